@@ -1,0 +1,5 @@
+pub mod Known
+pub mod Shown
+pub mod Splits
+pub mod Texts
+pub mod Words

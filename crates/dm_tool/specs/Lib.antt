@@ -1,0 +1,6 @@
+pub mod Choice
+pub mod Ending
+pub mod Lines
+pub mod OneText
+pub mod Show
+pub mod Text

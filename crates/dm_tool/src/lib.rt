@@ -1,0 +1,21 @@
+//! The library of the program `dmpeer`: what each of its commands reads and prints.
+#![tactic(auto)]
+
+mod choice;
+mod fault;
+mod hex_line;
+mod input;
+pub mod laws;
+mod line;
+mod output;
+mod show;
+mod status;
+#[cfg(test)]
+mod tests;
+mod text;
+
+pub use crate::choice::{Choice, choose};
+pub use crate::fault::ToolFault;
+pub use crate::input::INPUT_LIMIT;
+pub use crate::show::run_show;
+pub use crate::status::ending;

@@ -1,0 +1,166 @@
+//! Messages, AVPs and faults as text.
+ghost use Rattle.std.specs.Prelude.{◌≡◌, ◌≢◌, ◌∷◌, ◌++◌, [], OnOk, IfErr};
+ghost use Rattle.std.specs.Fmt.{decimal};
+ghost use Rattle.hex.specs.Hex.{encode_lower};
+ghost use Rattle.dm_tool.specs.Text.{mark, header_flags, header_text, avp_flags, vendor_text, data_text, avp_text, avp_line, message_text, fault_text};
+
+use crate::fault::ToolFault;
+use dm_wire::{Avp, Header, Message, WireFault};
+use std::alloc::AllocError;
+
+/// How many octets are turned into digits at once.
+const OCTETS_AT_ONCE: usize = 64;
+
+/// Appends a message's lines to the text.
+pub fn push_message(text: &mut Vec<u8>, message: &Message) -> Result<(), AllocError>
+    ensures { OnOk result (text.new.items ≡ text.old.items ++ message_text message.now) }
+{
+    push_header(text, &message.header)?;
+    text.push(b'\n')?;
+    for avp in message.avps.as_slice() {
+        push_avp_line(text, avp)?;
+    }
+    Ok(())
+}
+
+/// Appends the words for a fault. Want of memory has no words, and is answered as such.
+#[tactic(auto, unfolding(crate::specs::Text::fault_text))]
+pub fn push_fault(text: &mut Vec<u8>, fault: WireFault) -> Result<(), ToolFault>
+    ensures words { OnOk result (text.new.items ≡ text.old.items ++ fault_text fault) }
+    ensures known { OnOk result (fault ≢ WireFault.NoMemory) }
+    ensures memory { IfErr result (λ e. e ≡ ToolFault.Memory) }
+{
+    match fault {
+        WireFault::TooShort => text.extend_from_slice(b"fault 5015 TooShort")?,
+        WireFault::Version => text.extend_from_slice(b"fault 5011 Version")?,
+        WireFault::Length => text.extend_from_slice(b"fault 5015 Length")?,
+        WireFault::AvpLength(offset) => {
+            text.extend_from_slice(b"fault 5014 AvpLength ")?;
+            push_decimal(text, offset as u64)?;
+        }
+        WireFault::TooLong => text.extend_from_slice(b"fault TooLong")?,
+        WireFault::NoMemory => return Err(ToolFault::Memory),
+    }
+    Ok(())
+}
+
+/// Appends an AVP as text, without spaces before it.
+pub fn push_avp(text: &mut Vec<u8>, avp: &Avp) -> Result<(), AllocError>
+    ensures { OnOk result (text.new.items ≡ text.old.items ++ avp_text avp.now) }
+{
+    push_named(text, b"", avp.code)?;
+    push_vendor(text, avp.vendor)?;
+    push_avp_flags(text, avp)?;
+    push_data(text, avp.bytes.as_slice())?;
+    Ok(())
+}
+
+fn push_avp_flags(text: &mut Vec<u8>, avp: &Avp) -> Result<(), AllocError>
+    ensures { OnOk result (text.new.items ≡ text.old.items ++ 32 ∷ avp_flags avp.now ++ 32 ∷ []) }
+{
+    let flags = [
+        b' ',
+        letter(avp.vendor.is_some(), b'V'),
+        letter(avp.mandatory, b'M'),
+        letter(avp.protected, b'P'),
+        b' ',
+    ];
+    text.extend_from_slice(&flags)?;
+    Ok(())
+}
+
+fn push_avp_line(text: &mut Vec<u8>, avp: &Avp) -> Result<(), AllocError>
+    ensures { OnOk result (text.new.items ≡ text.old.items ++ avp_line avp.now) }
+{
+    text.extend_from_slice(b"  ")?;
+    push_avp(text, avp)?;
+    text.push(b'\n')?;
+    Ok(())
+}
+
+fn push_header(text: &mut Vec<u8>, header: &Header) -> Result<(), AllocError>
+    ensures { OnOk result (text.new.items ≡ text.old.items ++ header_text header.now) }
+{
+    push_named(text, b"message ", header.command)?;
+    push_flags(text, header)?;
+    push_named(text, b" app ", header.application)?;
+    push_named(text, b" hop ", header.hop_id)?;
+    push_named(text, b" end ", header.end_id)?;
+    Ok(())
+}
+
+fn push_flags(text: &mut Vec<u8>, header: &Header) -> Result<(), AllocError>
+    ensures { OnOk result (text.new.items ≡ text.old.items ++ 32 ∷ header_flags header.now) }
+{
+    let flags = [
+        b' ',
+        letter(header.request, b'R'),
+        letter(header.proxiable, b'P'),
+        letter(header.error, b'E'),
+        letter(header.retransmit, b'T'),
+    ];
+    text.extend_from_slice(&flags)?;
+    Ok(())
+}
+
+fn push_named(text: &mut Vec<u8>, name: &[u8], number: u32) -> Result<(), AllocError>
+    ensures { OnOk result (text.new.items ≡ (text.old.items ++ name.now) ++ decimal number) }
+{
+    text.extend_from_slice(name)?;
+    push_decimal(text, u64::from(number))?;
+    Ok(())
+}
+
+fn push_vendor(text: &mut Vec<u8>, vendor: Option<u32>) -> Result<(), AllocError>
+    ensures { OnOk result (text.new.items ≡ text.old.items ++ vendor_text vendor) }
+{
+    if let Some(vendor) = vendor {
+        push_named(text, b"/", vendor)?;
+    }
+    Ok(())
+}
+
+fn push_data(text: &mut Vec<u8>, octets: &[u8]) -> Result<(), AllocError>
+    ensures { OnOk result (text.new.items ≡ text.old.items ++ data_text octets.now) }
+{
+    if octets.is_empty() {
+        text.push(b'-')?;
+    } else {
+        push_hex(text, octets)?;
+    }
+    Ok(())
+}
+
+/// Appends the octets in lower case hexadecimal.
+pub fn push_hex(text: &mut Vec<u8>, octets: &[u8]) -> Result<(), AllocError>
+    ensures { OnOk result (text.new.items ≡ text.old.items ++ encode_lower octets.now) }
+{
+    let mut digits = [0; 2 * OCTETS_AT_ONCE];
+    let mut rest = octets;
+    while !rest.is_empty() {
+        let (some, more) = rest.split_at(rest.len().min(OCTETS_AT_ONCE));
+        let room = &mut digits[..2 * some.len()];
+        hex::encode_to_slice(some, room).unwrap();
+        text.extend_from_slice(room)?;
+        rest = more;
+    }
+    Ok(())
+}
+
+/// Appends the number in decimal, without leading zeros.
+pub fn push_decimal(text: &mut Vec<u8>, number: u64) -> Result<(), AllocError>
+    ensures { OnOk result (text.new.items ≡ text.old.items ++ decimal number) }
+{
+    if number >= 10 {
+        push_decimal(text, number / 10)?;
+    }
+    text.push(b'0' + (number % 10) as u8)?;
+    Ok(())
+}
+
+/// The flag's letter where it is set, else `-`.
+fn letter(is_set: bool, name: u8) -> u8
+    ensures { result ≡ mark is_set name }
+{
+    if is_set { name } else { b'-' }
+}

@@ -1,0 +1,4 @@
+pub mod AvpEquality
+pub mod OneAnswer
+pub mod Refusal
+pub mod Spelling

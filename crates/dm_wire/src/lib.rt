@@ -1,0 +1,19 @@
+//! The octets of Diameter messages and what they say: header, AVPs and messages (RFC 6733, 3 and 4.1).
+#![tactic(auto)]
+
+mod avp;
+mod decode;
+mod fault;
+pub mod laws;
+mod message;
+mod octets;
+mod read;
+mod walk;
+
+pub use avp::{Avp, AvpList};
+pub use fault::WireFault;
+pub use message::{Header, Message};
+pub use octets::Octets;
+
+#[cfg(test)]
+mod tests;

@@ -1,0 +1,129 @@
+//! The first AVP of octets, and the header of a message (RFC 6733, 3 and 4.1).
+ghost use Rattle.std.specs.Prelude.{◌≡◌, ◌<◌, ◌≤◌, ◌⊎◌, ◌↔◌, length, take, IfOk, IfErr, IfSome, IfNone, IsErrOf};
+ghost use Rattle.dm_wire.specs.Spelling.{SpellsAvp, SpellsHeader};
+ghost use Rattle.dm_wire.specs.Refusal.{BeginsWithNoAvp, IsTooShort, IsOtherVersion, IsOtherLength};
+
+use crate::{Avp, Header, Octets, WireFault};
+use byteorder::{BigEndian, ByteOrder};
+use std::alloc::{AllocError, Global};
+
+/// An AVP whose data lies in the octets that it was read from.
+#[derive(Clone, Copy, Debug)]
+pub(crate) struct AvpRef<'a> {
+    pub(crate) code: u32,
+    pub(crate) vendor: Option<u32>,
+    pub(crate) mandatory: bool,
+    pub(crate) protected: bool,
+    pub(crate) bytes: &'a [u8],
+}
+
+impl AvpRef<'_> {
+    /// The AVP with a copy of its data.
+    pub(crate) fn copied(&self, alloc: Global) -> Result<Avp, AllocError>
+        ensures { IfOk result (λ avp. avp ≡ record {
+          code = self.now.code;
+          vendor = self.now.vendor;
+          mandatory = self.now.mandatory;
+          protected = self.now.protected;
+          bytes = self.now.bytes.now;
+        }) }
+    {
+        Ok(Avp {
+            code: self.code,
+            vendor: self.vendor,
+            mandatory: self.mandatory,
+            protected: self.protected,
+            bytes: Octets::from_slice(alloc, self.bytes)?,
+        })
+    }
+}
+
+/// The AVP at the front, and how many octets it takes, padding included.
+///
+/// ```text
+///  0                   1                   2                   3
+///  0 1 2 3 4 5 6 7 8 9 0 1 2 3 4 5 6 7 8 9 0 1 2 3 4 5 6 7 8 9 0 1
+/// |                           AVP Code                            |
+/// |V M P r r r r r|                  AVP Length                   |
+/// |                        Vendor-ID (opt)                        |
+/// |    Data ...
+/// ```
+pub(crate) fn first_avp(octets: &[u8]) -> Option<(AvpRef<'_>, usize)>
+    ensures within { IfSome result (λ read. read.1 ≤ length octets.now) }
+    ensures moves { IfSome result (λ read. 0 < read.1) }
+    ensures found { IfSome result (λ read. SpellsAvp (record {
+      code = read.0.code;
+      vendor = read.0.vendor;
+      mandatory = read.0.mandatory;
+      protected = read.0.protected;
+      bytes = read.0.bytes.now;
+    }) (take read.1 octets.now)) }
+    ensures none { IfNone result (BeginsWithNoAvp octets.now) }
+{
+    if octets.len() < 8 {
+        return None;
+    }
+    let code = BigEndian::read_u32(octets);
+    let flags = octets[4];
+    let length = BigEndian::read_u24(&octets[5..]) as usize;
+    let (vendor, header_len) = if flags & 0x80 == 0 {
+        (None, 8)
+    } else if octets.len() < 12 {
+        return None;
+    } else {
+        (Some(BigEndian::read_u32(&octets[8..])), 12)
+    };
+    let size = (length + 3) / 4 * 4;
+    if length < header_len || octets.len() < size {
+        return None;
+    }
+    let avp = AvpRef {
+        code,
+        vendor,
+        mandatory: flags & 0x40 != 0,
+        protected: flags & 0x20 != 0,
+        bytes: &octets[header_len..length],
+    };
+    Some((avp, size))
+}
+
+/// The header of the whole message that the octets are.
+///
+/// ```text
+///  0                   1                   2                   3
+///  0 1 2 3 4 5 6 7 8 9 0 1 2 3 4 5 6 7 8 9 0 1 2 3 4 5 6 7 8 9 0 1
+/// |    Version    |                 Message Length                |
+/// |R P E T r r r r|                  Command Code                 |
+/// |                         Application-ID                        |
+/// |                      Hop-by-Hop Identifier                    |
+/// |                      End-to-End Identifier                    |
+/// ```
+pub(crate) fn read_header(octets: &[u8]) -> Result<Header, WireFault>
+    ensures found { IfOk result (λ header. SpellsHeader header (length octets.now) (take 20 octets.now)) }
+    ensures long { IfOk result (λ header. 20 ≤ length octets.now) }
+    ensures short { IsErrOf result WireFault.TooShort ↔ IsTooShort octets.now }
+    ensures version { IsErrOf result WireFault.Version ↔ IsOtherVersion octets.now }
+    ensures len { IsErrOf result WireFault.Length ↔ IsOtherLength octets.now }
+    ensures fault { IfErr result (λ fault. (fault ≡ WireFault.TooShort) ⊎ (fault ≡ WireFault.Version) ⊎ (fault ≡ WireFault.Length)) }
+{
+    if octets.len() < 20 {
+        return Err(WireFault::TooShort);
+    }
+    if octets[0] != 1 {
+        return Err(WireFault::Version);
+    }
+    if BigEndian::read_u24(&octets[1..]) as usize != octets.len() || octets.len() % 4 != 0 {
+        return Err(WireFault::Length);
+    }
+    let flags = octets[4];
+    Ok(Header {
+        request: flags & 0x80 != 0,
+        proxiable: flags & 0x40 != 0,
+        error: flags & 0x20 != 0,
+        retransmit: flags & 0x10 != 0,
+        command: BigEndian::read_u24(&octets[5..]),
+        application: BigEndian::read_u32(&octets[8..]),
+        hop_id: BigEndian::read_u32(&octets[12..]),
+        end_id: BigEndian::read_u32(&octets[16..]),
+    })
+}
