@@ -6,11 +6,11 @@ use Rattle.dm_wire.proofs.Messages.{one_message, one_refusal, no_refusal}
 use Rattle.dm_tool.specs.Text.{message_text, fault_text}
 use Rattle.dm_tool.specs.Show.{line_octets, ShowsMessage, ShowsFault, ShowsNoHex, ShowsLine, ShowsLines, ShowsText}
 
-and_assoc : (a b c : Bool) → ((a && b) && c) ≡ (a && (b && c))
+pub and_assoc : (a b c : Bool) → ((a && b) && c) ≡ (a && (b && c))
 and_assoc true b c = refl
 and_assoc false b c = refl
 
-and-true : (a : Bool) → (a && true) ≡ a
+pub and-true : (a : Bool) → (a && true) ≡ a
 and-true true = refl
 and-true false = refl
 

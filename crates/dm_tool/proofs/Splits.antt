@@ -21,11 +21,11 @@ parts-split x (b ∷ s) = by (nat_eq b 10) where
   by true = refl
   by false = parts-onto x b (slice_split (λ a. nat_eq a 10) s)
 
-first_is : (p n : ℕ) (size : ℕ) (v : Bool) → nat_lt p size ≡ v → cond v (Some p) None ≡ Some n → (p ≡ n) × (p < size)
+pub first_is : (p n : ℕ) (size : ℕ) (v : Bool) → nat_lt p size ≡ v → cond v (Some p) None ≡ Some n → (p ≡ n) × (p < size)
 first_is p n size true is found = (cc, ltb-true p size is)
 first_is p n size false is found = cc
 
-none_is : (p : ℕ) (size : ℕ) (v : Bool) → nat_lt p size ≡ v → cond v (Some p) None ≡ None → size ≤ p
+pub none_is : (p : ℕ) (size : ℕ) (v : Bool) → nat_lt p size ≡ v → cond v (Some p) None ≡ None → size ≤ p
 none_is p size true is found = cc
 none_is p size false is found = ltb-false p size is
 

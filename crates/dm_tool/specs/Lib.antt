@@ -1,6 +1,11 @@
+pub mod Build
 pub mod Choice
 pub mod Ending
 pub mod Lines
+pub mod Messages
 pub mod OneText
+pub mod Progress
+pub mod Run
 pub mod Show
 pub mod Text
+pub mod Words

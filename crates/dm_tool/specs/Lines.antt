@@ -16,6 +16,10 @@ abbrev pub is_skipped : List ℕ → Bool
 is_skipped [] = true
 is_skipped (b ∷ s) = b == 35
 
+-- those of the lines that stand for something, trimmed
+abbrev pub content : List (List ℕ) → List (List ℕ)
+content l = filter (λ s. not (is_skipped s)) (map trimmed l)
+
 -- the lines of the input that stand for something, trimmed
 abbrev pub content_lines : List ℕ → List (List ℕ)
-content_lines input = filter (λ s. not (is_skipped s)) (map trimmed (lines input))
+content_lines input = content (lines input)

@@ -1,7 +1,8 @@
--- The answer of show is the input's own.
+-- What a command answers is the input's own.
 use Rattle.std.specs.Prelude.{◌≡◌, ℕ, Bool, List}
-use Rattle.dm_tool.specs.Show.{ShowsText}
+use Rattle.dm_tool.specs.declared.choice.Choice.{Choice}
+use Rattle.dm_tool.specs.Run.{Prints}
 
--- an input has at most one text, and is either good or not
+-- under one command an input has at most one text, and is either good or not
 abbrev pub OneText : Type 0
-OneText = (input text other : List ℕ) (good fine : Bool) → ShowsText input text good → ShowsText input other fine → (text ≡ other) × (good ≡ fine)
+OneText = (choice : Choice) (input text other : List ℕ) (good fine : Bool) → Prints choice input text good → Prints choice input other fine → (text ≡ other) × (good ≡ fine)

@@ -9,6 +9,8 @@ ghost use Rattle.dm_tool.specs.Choice.{words_of};
 pub enum Choice {
     /// Prints each message of the input as text.
     Show,
+    /// Turns what show prints back into octets.
+    Build,
 }
 
 /// The command that these words choose, the program's name left out.
@@ -18,6 +20,7 @@ pub fn choose(words: &[String]) -> Option<Choice>
 {
     match words {
         [word] if word.as_str() == "show" => Some(Choice::Show),
+        [word] if word.as_str() == "build" => Some(Choice::Build),
         _ => None,
     }
 }

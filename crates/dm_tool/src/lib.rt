@@ -1,19 +1,26 @@
 //! The library of the program `dmpeer`: what each of its commands reads and prints.
 #![tactic(auto)]
 
+mod avp_line;
+mod build;
+mod building;
 mod choice;
 mod fault;
+mod header_line;
 mod hex_line;
 mod input;
 pub mod laws;
 mod line;
 mod output;
+mod run;
 mod show;
 mod status;
 #[cfg(test)]
 mod tests;
 mod text;
+mod word;
 
+pub use crate::build::run_build;
 pub use crate::choice::{Choice, choose};
 pub use crate::fault::ToolFault;
 pub use crate::input::INPUT_LIMIT;

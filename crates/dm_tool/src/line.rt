@@ -2,7 +2,7 @@
 ghost use Rattle.std.specs.Prelude.{◌≡◌, ◌==◌, position};
 ghost use Rattle.std.specs.Str.Lines.{lines, strip_carriage_return};
 ghost use Rattle.std.specs.Iterator.{YieldsFirstRef, item_count};
-ghost use Rattle.dm_tool.specs.Lines.{trimmed, is_skipped};
+ghost use Rattle.dm_tool.specs.Lines.{drop_spaces, trimmed, is_skipped};
 
 /// The lines of an input, in order.
 ///
@@ -66,11 +66,19 @@ fn without_carriage_return(line: &[u8]) -> &[u8]
 pub fn trim(line: &[u8]) -> &[u8]
     ensures { result.now ≡ trimmed line.now }
 {
-    let mut rest = line;
-    'front: while let [b' ', more @ ..] = rest {
+    let mut rest = after_spaces(line);
+    'back: while let [more @ .., b' '] = rest {
         rest = more;
     }
-    'back: while let [more @ .., b' '] = rest {
+    rest
+}
+
+/// The line from its first octet that is no space on.
+pub fn after_spaces(line: &[u8]) -> &[u8]
+    ensures { result.now ≡ drop_spaces line.now }
+{
+    let mut rest = line;
+    'front: while let [b' ', more @ ..] = rest {
         rest = more;
     }
     rest

@@ -3,11 +3,12 @@ ghost use Rattle.std.specs.Prelude.{◌≡◌, ◌<◌, ◌≤◌, ◌+◌, ◌+
 ghost use Rattle.std.specs.Io.KnownBytes.{Appends, Consumes, Keeps};
 ghost use Rattle.dm_tool.specs.Show.{ShowsMessage, ShowsFault, ShowsLine, ShowsText};
 
+use crate::choice::Choice;
 use crate::fault::ToolFault;
 use crate::hex_line::read_line;
-use crate::input::{INPUT_LIMIT, read_input};
+use crate::input::INPUT_LIMIT;
 use crate::line::{Lines, is_passed_over, trim};
-use crate::output::write_text;
+use crate::run::run;
 use crate::text::{push_fault, push_message};
 use dm_wire::Message;
 use std::alloc::Global;
@@ -39,14 +40,11 @@ pub fn run_show<R: Read, W: Write>(
     ensures taken { (octets : List ℕ) × (length octets ≤ INPUT_LIMIT + 1)
         × Consumes (R.remaining reader.old) (R.remaining reader.new) octets }
 {
-    let input = read_input(alloc, reader)?;
-    let (text, good) = show_text(alloc, input.as_slice())?;
-    write_text(writer, text.as_slice())?;
-    Ok(good)
+    run(alloc, Choice::Show, reader, writer)
 }
 
 /// The text for an input, and whether all of it is good.
-fn show_text(alloc: Global, input: &[u8]) -> Result<(Vec<u8>, bool), ToolFault>
+pub fn show_text(alloc: Global, input: &[u8]) -> Result<(Vec<u8>, bool), ToolFault>
     ensures shown { IfOk result (λ shown. ShowsText input.now shown.0.items shown.1) }
     ensures fault { IfErr result (λ e. e ≡ ToolFault.Memory) }
 {

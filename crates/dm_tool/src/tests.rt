@@ -3,6 +3,7 @@ use std::alloc::Global;
 use std::process::Abort;
 use std::test::Fail;
 
+mod build;
 mod devices;
 
 /// A Device-Watchdog-Request with Origin-Host a.example and Origin-Realm example.
@@ -111,6 +112,8 @@ fn empty_input(rt: HostRuntime) -> Result<(), Fail> {
         ("show x", None),
         ("", None),
         ("show", Some(Choice::Show)),
+        ("build", Some(Choice::Build)),
+        ("build x", None),
     ] {
         let mut list = Vec::new(rt.alloc());
         for word in words.split_whitespace() {

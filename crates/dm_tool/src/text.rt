@@ -159,7 +159,7 @@ pub fn push_decimal(text: &mut Vec<u8>, number: u64) -> Result<(), AllocError>
 }
 
 /// The flag's letter where it is set, else `-`.
-fn letter(is_set: bool, name: u8) -> u8
+pub fn letter(is_set: bool, name: u8) -> u8
     ensures { result ≡ mark is_set name }
 {
     if is_set { name } else { b'-' }

@@ -1,7 +1,10 @@
+pub mod Canonicals
 pub mod Cuts
 pub mod Fronts
 pub mod Headers
+pub mod Limit
 pub mod Lists
 pub mod Messages
 pub mod Numbers
+pub mod RoundTrips
 pub mod Spellings

@@ -1,8 +1,12 @@
 -- Spellings of lists of AVPs, one after the other.
-use Rattle.std.proofs.Common.{◌≡◌, ◌<◌, ◌≤◌, ℕ, ◌%◌, List, [], ◌∷◌, ◌++◌, length, refl, sym, ◌∙◌, ap, arith, append_assoc, append-nil, length-append}
+use Rattle.std.proofs.Common.{◌≡◌, ◌<◌, ◌≤◌, ◌⊎◌, inl, inr, Result, Ok, Err, IfOk, IfErr, MatchResult, ℕ, ◌%◌, List, [], ◌∷◌, ◌++◌, length, take, drop, refl, sym, ◌∙◌, ap, arith, append_assoc, append-nil, length-append}
 use Rattle.dm_wire.specs.declared.avp.Avp.{Avp}
 use Rattle.dm_wire.specs.Spelling.{avp_header_len, avp_length, SpellsAvp, SpellsList}
-use Rattle.dm_wire.specs.Refusal.{BeginsWithNoAvp}
+use Rattle.dm_wire.specs.declared.fault.WireFault.{WireFault}
+use Rattle.dm_wire.specs.declared.fault.WireFault.TheVariants.{AvpLength, NoMemory}
+use Rattle.dm_wire.specs.Refusal.{IsBadAt, BeginsWithNoAvp}
+use Rattle.std.proofs.lemmas.List.{length-drop}
+use Rattle.dm_wire.proofs.Cuts.{drop_cut}
 use Rattle.dm_wire.proofs.Fronts.{header_above}
 use Rattle.dm_wire.proofs.Spellings.{one_avp, front}
 
@@ -56,6 +60,13 @@ list_ends l k s t r h g n none = go (list_front l k s t h g) where
       at_first [] e = let z = ap length e in omega arith
       at_first (a ∷ m) e = none a e.0 (e.1 ++ r) e.3 (rw (e.2) (append_assoc e.0 e.1 r))
 
+-- where octets have a list behind n, no bad AVP begins
+pub no_bad_in_list : (n : ℕ) (l : List Avp) (s : List ℕ) (o : ℕ) → SpellsList l (drop n s) → IsBadAt n s o → ⊥
+no_bad_in_list n l s o sp bad =
+    let split = drop_cut n o s bad.above (omega (arith, bad.below)) in
+    list_ends (bad.before).0 l (drop n (take o s)) (drop o s) [] (bad.before).1
+    (rw (← split) sp) (let below = bad.below in omega (arith, length-drop o s)) (rw append-nil bad.bad)
+
 -- octets spell at most one list
 pub one_list : (l k : List Avp) (s : List ℕ) → SpellsList l s → SpellsList k s → l ≡ k
 one_list l k s h g =
@@ -70,3 +81,9 @@ one_list l k s h g =
 pub list_aligned : (l : List Avp) (s : List ℕ) → SpellsList l s → length s % 4 ≡ 0
 list_aligned [] s e = rw (e) refl
 list_aligned (a ∷ l) s h = rw (h.2, length-append h.0 h.1) (let e = list_aligned l h.1 h.4 in let f = (h.3).aligned in omega arith)
+
+-- what reads only a list that is spelled, and refuses for cause or want of memory, reads the list that is spelled
+pub only_list : {V : Type 0} (items : V → List Avp) (r : Result V WireFault) (s : List ℕ) (l : List Avp) → IfOk r (λ v. SpellsList (items v) s) → IfErr r (λ f. (f ≡ NoMemory) ⊎ ((o : ℕ) × (f ≡ AvpLength o) × IsBadAt 0 s o)) → SpellsList l s → MatchResult r (λ v. items v ≡ l) (λ f. f ≡ NoMemory)
+only_list items (Ok v) s l found fault sp = one_list (items v) l s found sp
+only_list items (Err f) s l found (inl e) sp = e
+only_list items (Err f) s l found (inr bad) sp = absurd (no_bad_in_list 0 l s bad.0 sp bad.2)

@@ -11,9 +11,9 @@ use Rattle.dm_wire.specs.declared.fault.WireFault.{WireFault}
 use Rattle.dm_wire.specs.declared.fault.WireFault.TheVariants.{TooShort, Version, Length, AvpLength, TooLong, NoMemory}
 use Rattle.dm_wire.specs.Spelling.{be, SpellsHeader, SpellsMessage}
 use Rattle.dm_wire.specs.Refusal.{IsBadAt, Refuses}
-use Rattle.dm_wire.proofs.Cuts.{drop-take-add, drop_cut}
+use Rattle.dm_wire.proofs.Cuts.{drop-take-add}
 use Rattle.dm_wire.proofs.Headers.{read_header}
-use Rattle.dm_wire.proofs.Lists.{list_ends, list_aligned, one_list}
+use Rattle.dm_wire.proofs.Lists.{list_ends, list_aligned, one_list, no_bad_in_list}
 use Rattle.dm_wire.proofs.Spellings.{same_halves}
 
 abbrev made : Bool → Bool → Bool → Bool → ℕ → ℕ → ℕ → ℕ → Header
@@ -94,10 +94,7 @@ one_message m k s t x y h g e =
 
 -- octets of a message aren't bad anywhere
 pub not_bad : (m : Message) (s : List ℕ) (o : ℕ) → SpellsMessage m s → IsBadAt 20 s o → ⊥
-not_bad m s o sp bad =
-    let split = drop_cut 20 o s bad.above (omega (arith, bad.below)) in
-    list_ends (bad.before).0 m.avps (drop 20 (take o s)) (drop o s) [] (bad.before).1
-    (rw (← split, ← message_rest m s sp) sp.avps) (let below = bad.below in omega (arith, length-drop o s)) (rw append-nil bad.bad)
+not_bad m s o sp bad = no_bad_in_list 20 m.avps s o (rw (← message_rest m s sp) sp.avps) bad
 
 -- octets of a message have no fault
 pub no_refusal : (m : Message) (s : List ℕ) (f : WireFault) → SpellsMessage m s → Refuses s f → ⊥

@@ -47,7 +47,7 @@ bytes_of : (code flags len : ℕ) (vendor : Option ℕ) (bytes padding rest : Li
 bytes_of code flags len None bytes padding rest = front_of bytes padding rest
 bytes_of code flags len (Some v) bytes padding rest = front_of bytes padding rest
 
-size_of : (code flags len : ℕ) (vendor : Option ℕ) (bytes padding : List ℕ) → length (layout code flags len vendor bytes padding) ≡ avp_header_len vendor + length bytes + length padding
+pub size_of : (code flags len : ℕ) (vendor : Option ℕ) (bytes padding : List ℕ) → length (layout code flags len vendor bytes padding) ≡ avp_header_len vendor + length bytes + length padding
 size_of code flags len None bytes padding = omega (arith, length-append bytes padding)
 size_of code flags len (Some v) bytes padding = omega (arith, length-append bytes padding)
 

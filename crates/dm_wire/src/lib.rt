@@ -3,14 +3,19 @@
 
 mod avp;
 mod decode;
+mod encode;
 mod fault;
 pub mod laws;
 mod message;
 mod octets;
+mod put;
 mod read;
+mod size;
 mod walk;
 
 pub use avp::{Avp, AvpList};
+pub use decode::decode_avps;
+pub use encode::encode_avps;
 pub use fault::WireFault;
 pub use message::{Header, Message};
 pub use octets::Octets;

@@ -2,6 +2,8 @@ use crate::{Avp, AvpList, Header, Message, Octets, WireFault};
 use std::alloc::{AllocError, Global};
 use std::test::Fail;
 
+mod encode;
+
 /// A Device-Watchdog-Request with Origin-Host a.example and Origin-Realm example.
 const WATCHDOG_REQUEST: [u8; 56] = [
     0x01, 0x00, 0x00, 0x38, 0x80, 0x00, 0x01, 0x18, 0x00, 0x00, 0x00, 0x00, 0x00, 0x00, 0x00, 0x01,

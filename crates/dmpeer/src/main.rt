@@ -1,10 +1,10 @@
 //! The program `dmpeer`: reads standard input as its words ask, and prints to standard output.
 //!
-//! Its words are `show`. What a run answers is dm_tool's; here are only the command line, the
+//! Its words are `show` or `build`. What a run answers is dm_tool's; here are only the command line, the
 //! standard streams and the status.
 #![tactic(auto)]
 
-use dm_tool::{Choice, ToolFault, choose, ending, run_show};
+use dm_tool::{Choice, ToolFault, choose, ending, run_build, run_show};
 use std::env;
 use std::io::ErrorKind;
 use std::process::ExitCode;
@@ -13,6 +13,7 @@ use std::rt::Env;
 fn main(rt: HostRuntime) -> ExitCode {
     let outcome = match chosen(&rt) {
         Ok(Some(Choice::Show)) => Some(run_show(rt.alloc(), &mut rt.stdin(), &mut rt.stdout())),
+        Ok(Some(Choice::Build)) => Some(run_build(rt.alloc(), &mut rt.stdin(), &mut rt.stdout())),
         Ok(None) => None,
         Err(fault) => Some(Err(fault)),
     };

@@ -1,7 +1,7 @@
 use Rattle.std.proofs.Common.{codes, sym, ◌∙◌}
 use Rattle.std.specs.String.{string_bytes}
 use Rattle.std.proofs.lemmas.Slice.Eq.{bytes_eq-Decides}
-use Rattle.dm_tool.proofs.Words.{map-one}
+use Rattle.dm_tool.proofs.Commands.{map-one}
 use Rattle.dm_tool.proofs.choice.choose.Goals as goal
 
 pub returns-in-len1-clause-chosen : goal.returns-in-len1-clause-chosen
@@ -9,3 +9,9 @@ returns-in-len1-clause-chosen c =
     let show = (bytes_eq-Decides c.as_str.result.now (codes "show")).0 (sym c.eq.ensures ∙ c.if-eq.true) in
     map-one string_bytes c.args.words.now c.word-item.result (codes "show") c.in-len1.len_at_least c.in-len1.len_below c.word-item.is
     (sym c.as_str.ensures.value ∙ show)
+
+pub returns-in-len1-2-clause-chosen : goal.returns-in-len1-2-clause-chosen
+returns-in-len1-2-clause-chosen c =
+    let build = (bytes_eq-Decides c.as_str-then-words-lt2.result.now (codes "build")).0 (sym c.eq-then-words-lt2.ensures ∙ c.if-eq-2.true) in
+    map-one string_bytes c.args.words.now c.word-item-then-words-lt2.result (codes "build") c.in-len1.len_at_least c.in-len1.len_below c.word-item-then-words-lt2.is
+    (sym c.as_str-then-words-lt2.ensures.value ∙ build)

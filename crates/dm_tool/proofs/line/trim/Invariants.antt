@@ -2,12 +2,6 @@ use Rattle.std.proofs.Common.{◌≡◌, length, reverse}
 use Rattle.dm_tool.specs.Lines.{drop_spaces}
 use Rattle.dm_tool.proofs.line.trim.Given as goal
 
-abbrev pub invariant-front : goal.invariant-front
-invariant-front l = drop_spaces l.rest ≡ drop_spaces l.fn.line
-
-abbrev pub decreases-front : goal.decreases-front
-decreases-front l = length l.rest
-
 abbrev pub invariant-back : goal.invariant-back
 invariant-back l = drop_spaces (reverse l.rest) ≡ drop_spaces (reverse (drop_spaces l.fn.line))
 

@@ -1,0 +1,12 @@
+pub mod Avps
+pub mod Entries
+pub mod Exits
+pub mod Heads
+pub mod Plain
+pub mod Rest
+pub mod RuleEntries
+pub mod Rules
+pub mod Scan
+pub mod Titles
+pub mod Syntax
+pub mod TextItems

@@ -1,0 +1,41 @@
+use Rattle.std.proofs.Common.{refl, ap, ◌∙◌}
+use Rattle.dm_grammar.specs.Places.Place.{FlaggedComma, HeadEnd, Rule}
+use Rattle.dm_grammar.specs.Places.Role.{SecondIs, Rules}
+use Rattle.dm_grammar.specs.Told.{filled, collect}
+use Rattle.dm_grammar.specs.Views.{view, view_words}
+use Rattle.dm_grammar.proofs.Exits.{handed_on}
+use Rattle.dm_grammar.proofs.Heads.{comma_number, a_second, plain_end, plain_fault}
+use Rattle.dm_grammar.proofs.head.head_end.Goals as goal
+
+pub returns-in_err-number-in-Some-clause-tells : goal.returns-in_err-number-in-Some-clause-tells
+returns-in_err-number-in-Some-clause-tells c =
+    let comma = rw c.in-Some.is at c.optional.ensures.tells in
+    handed_on _ _ c.from_residual.result _ c.from_residual.ensures.1
+    (comma_number c.args.last _ (view_words c.args.tokens.now) (view_words c.optional.result.1.now) comma.0 comma.1 ∙ c.in_err-number-in-Some.ensures.tells FlaggedComma HeadEnd SecondIs refl refl)
+
+pub returns-in_err-_close-in-Some-clause-tells : goal.returns-in_err-_close-in-Some-clause-tells
+returns-in_err-_close-in-Some-clause-tells c =
+    let comma = rw c.in-Some.is at c.optional.ensures.tells in
+    handed_on _ _ c.from_residual-in_err-_close-in-Some.result _ c.from_residual-in_err-_close-in-Some.ensures.1
+    (comma_number c.args.last _ (view_words c.args.tokens.now) (view_words c.optional.result.1.now) comma.0 comma.1
+    ∙ (c.in_ok-number-in-Some.ensures.tells FlaggedComma HeadEnd SecondIs refl refl
+    ∙ ap (filled SecondIs (view c.in_ok-number-in-Some.number)) (c.in_err-_close-in-Some.ensures.tells HeadEnd Rule Rules refl refl)))
+
+pub returns-in_ok-_close-in-Some-clause-tells : goal.returns-in_ok-_close-in-Some-clause-tells
+returns-in_ok-_close-in-Some-clause-tells c =
+    let comma = rw c.in-Some.is at c.optional.ensures.tells in
+    comma_number c.args.last _ (view_words c.args.tokens.now) (view_words c.optional.result.1.now) comma.0 comma.1
+    ∙ (c.in_ok-number-in-Some.ensures.tells FlaggedComma HeadEnd SecondIs refl refl
+    ∙ (ap (filled SecondIs (view c.in_ok-number-in-Some.number)) (c.in_ok-_close-in-Some.ensures.tells HeadEnd Rule Rules refl refl)
+    ∙ a_second (view c.in_ok-number-in-Some.number) (view c.in_ok-_close-in-Some._close) (collect c.args.last Rule (view_words c.in_ok-_close-in-Some.rest.now))))
+
+pub returns-in_err-_end-in-None-clause-tells : goal.returns-in_err-_end-in-None-clause-tells
+returns-in_err-_end-in-None-clause-tells c =
+    let comma = rw c.in-None.is at c.optional.ensures.tells in
+    handed_on _ _ c.from_residual-in_err-_end-in-None.result _ c.from_residual-in_err-_end-in-None.ensures.1
+    (plain_fault c.args.last _ (view_words c.args.tokens.now) (view_words c.optional-in-None.result.1.now) c.optional-in-None.result.0 comma.1 c.optional-in-None.ensures.tells (c.in_err-_end-in-None.ensures.tells HeadEnd Rule Rules refl refl))
+
+pub returns-in_ok-_end-in-None-clause-tells : goal.returns-in_ok-_end-in-None-clause-tells
+returns-in_ok-_end-in-None-clause-tells c =
+    let comma = rw c.in-None.is at c.optional.ensures.tells in
+    plain_end c.args.last (view_words c.args.tokens.now) (view_words c.optional-in-None.result.1.now) (view_words c.in_ok-_end-in-None.rest.now) c.optional-in-None.result.0 (view c.in_ok-_end-in-None._end) comma.1 c.optional-in-None.ensures.tells (c.in_ok-_end-in-None.ensures.tells HeadEnd Rule Rules refl refl)

@@ -1,0 +1,16 @@
+use Rattle.std.proofs.Common.{◌≡◌, ◌≤◌, length, map}
+use Rattle.dm_grammar.specs.Places.Place.{Rule}
+use Rattle.dm_grammar.specs.Told.{collect}
+use Rattle.dm_grammar.specs.Views.{view_entry, view_words}
+use Rattle.dm_grammar.proofs.RuleEntries.{with_entries}
+use Rattle.dm_grammar.proofs.rule.rule.Given as goal
+
+-- the entries read, and what the rest tells
+abbrev pub invariant-loop-rest : goal.invariant-loop-rest
+invariant-loop-rest l = record {
+  shorter : length l.rest ≤ length l.tokens;
+  tells : collect l.last Rule (view_words l.tokens) ≡ with_entries (map view_entry l.entries.items) (collect l.last Rule (view_words l.rest));
+}
+
+abbrev pub decreases-loop-rest : goal.decreases-loop-rest
+decreases-loop-rest l = length l.rest

@@ -1,0 +1,9 @@
+pub mod Symbols
+pub mod Syntax
+pub mod Tokens
+pub mod Places
+pub mod Grammar
+pub mod Items
+pub mod Told
+pub mod Views
+pub mod Readers

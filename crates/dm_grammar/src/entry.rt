@@ -1,0 +1,116 @@
+//! The entries of a rule.
+
+ghost use Rattle.std.specs.Prelude.{◌≡◌, ◌<◌, true, length, MatchResult, IfOk, Err, None};
+ghost use Rattle.dm_grammar.specs.Places.Place.{High, Low, Rule};
+ghost use Rattle.dm_grammar.specs.Readers.{begins_entry, close_of, low_before, opens, with_entry};
+ghost use Rattle.dm_grammar.specs.Told.{collect};
+ghost use Rattle.dm_grammar.specs.Views.{view_entry, view_option, view_words};
+
+use crate::item::{EntryItem, Form, Qualifier};
+use crate::step::{begins, begins_title, expect, optional};
+use crate::symbol::Symbol;
+use crate::terminal::Terminal;
+use crate::token::Token;
+
+/// The form of the entry that a bracket opens.
+fn opens(symbol: Symbol) -> Option<Form>
+    ensures { result ≡ opens symbol }
+{
+    match symbol {
+        Symbol::Less => Some(Form::Fixed),
+        Symbol::OpenBrace => Some(Form::Required),
+        Symbol::OpenSquare => Some(Form::Optional),
+        _ => None,
+    }
+}
+
+/// What closes the brackets of a form.
+fn close_of(form: Form) -> Symbol
+    ensures { result ≡ close_of form }
+{
+    match form {
+        Form::Fixed => Symbol::Greater,
+        Form::Required => Symbol::CloseBrace,
+        Form::Optional => Symbol::CloseSquare,
+    }
+}
+
+/// A name in brackets.
+fn bracketed<'t, 'a>(
+    tokens: &'t [Token<'a>],
+    last: usize,
+) -> Result<(EntryItem<'a>, &'t [Token<'a>]), usize>
+    ensures tells { MatchResult result
+        (λ x. collect last High (view_words tokens.now) ≡ with_entry (view_entry x.0) (collect last Rule (view_words x.1.now)))
+        (λ line. collect last High (view_words tokens.now) ≡ Err line) }
+    ensures plain { IfOk result (λ x. x.0.qualifier ≡ None) }
+    ensures shorter { IfOk result (λ x. length x.1.now < length tokens.now) }
+{
+    let Some((open, rest)) = tokens.split_first() else {
+        return Err(last);
+    };
+    let Some(form) = opens(open.symbol) else {
+        return Err(open.line);
+    };
+    let (name, rest) = expect(rest, last, Terminal::AnyName)?;
+    let (_close, rest) = expect(rest, last, Terminal::One(close_of(form)))?;
+    let entry = EntryItem {
+        form,
+        name,
+        qualifier: None,
+    };
+    Ok((entry, rest))
+}
+
+/// What follows the first number of an entry, or its place: `*` [number], and a name in brackets.
+fn starred<'t, 'a>(
+    low: Option<Token<'a>>,
+    tokens: &'t [Token<'a>],
+    last: usize,
+) -> Result<(EntryItem<'a>, &'t [Token<'a>]), usize>
+    ensures tells { MatchResult result
+        (λ x. low_before (view_option low.entry) (collect last Low (view_words tokens.now)) ≡ with_entry (view_entry x.0) (collect last Rule (view_words x.1.now)))
+        (λ line. low_before (view_option low.entry) (collect last Low (view_words tokens.now)) ≡ Err line) }
+    ensures shorter { IfOk result (λ x. length x.1.now < length tokens.now) }
+{
+    let (_star, rest) = expect(tokens, last, Terminal::One(Symbol::Star))?;
+    let (high, rest) = optional(rest, Terminal::One(Symbol::Number));
+    let (mut entry, rest) = bracketed(rest, last)?;
+    entry.qualifier = Some(Qualifier { low, high });
+    Ok((entry, rest))
+}
+
+/// Whether the tokens begin with an entry, and not with an item.
+pub(crate) fn begins_entry(tokens: &[Token<'_>]) -> bool
+    ensures { result ≡ begins_entry (view_words tokens.now) }
+{
+    begins(tokens, Terminal::One(Symbol::Number))
+        || begins(tokens, Terminal::One(Symbol::Star))
+        || begins(tokens, Terminal::One(Symbol::OpenBrace))
+        || begins(tokens, Terminal::One(Symbol::OpenSquare))
+        || (begins(tokens, Terminal::One(Symbol::Less)) && !begins_title(tokens))
+}
+
+/// The entry with which the tokens begin.
+pub(crate) fn entry<'t, 'a>(
+    tokens: &'t [Token<'a>],
+    last: usize,
+) -> Result<(EntryItem<'a>, &'t [Token<'a>]), usize>
+    requires { begins_entry (view_words tokens.now) ≡ true }
+    ensures tells { MatchResult result
+        (λ x. collect last Rule (view_words tokens.now) ≡ with_entry (view_entry x.0) (collect last Rule (view_words x.1.now)))
+        (λ line. collect last Rule (view_words tokens.now) ≡ Err line) }
+    ensures shorter { IfOk result (λ x. length x.1.now < length tokens.now) }
+{
+    let (low, rest) = optional(tokens, Terminal::One(Symbol::Number));
+    match low {
+        Some(_) => starred(low, rest, last),
+        None => {
+            if begins(tokens, Terminal::One(Symbol::Star)) {
+                starred(None, tokens, last)
+            } else {
+                bracketed(tokens, last)
+            }
+        }
+    }
+}

@@ -1,0 +1,116 @@
+//! The head of a command or a group.
+
+ghost use Rattle.std.specs.Prelude.{◌≡◌, ◌<◌, ◌≤◌, drop, length, MatchResult, IfOk, Err, if◌then◌else◌};
+ghost use Rattle.dm_grammar.specs.Places.Place.{CommandColon, Flagged, GroupColon, Head as HeadPlace, Rule};
+ghost use Rattle.dm_grammar.specs.Places.Role.{CommandHead, GroupHead};
+ghost use Rattle.dm_grammar.specs.Readers.{begins_flag, with_head, with_second};
+ghost use Rattle.dm_grammar.specs.Told.{collect, filled};
+ghost use Rattle.dm_grammar.specs.Tokens.{Word};
+ghost use Rattle.dm_grammar.specs.Views.{view_head, view_option, view_words};
+
+use crate::step::{expect, optional, stands_at};
+use crate::symbol::Symbol;
+use crate::terminal::Terminal;
+use crate::token::Token;
+
+/// What stands between `<` and `>`: the code, the flags of a command, and the second number.
+#[derive(Clone, Copy, Debug)]
+pub(crate) struct Head<'a> {
+    pub(crate) command: bool,
+    pub(crate) code: Token<'a>,
+    pub(crate) request: bool,
+    pub(crate) proxiable: bool,
+    pub(crate) error: bool,
+    pub(crate) second: Option<Token<'a>>,
+}
+
+/// `,` and a flag, where they are there.
+fn flag<'t, 'a>(tokens: &'t [Token<'a>], symbol: Symbol) -> (bool, &'t [Token<'a>])
+    ensures flag { result.0 ≡ begins_flag symbol (view_words tokens.now) }
+    ensures rest { view_words result.1.now ≡ (if result.0 then drop 2 (view_words tokens.now) else view_words tokens.now) }
+    ensures shorter { length result.1.now ≤ length tokens.now }
+{
+    if stands_at(tokens, 0, Terminal::One(Symbol::Comma))
+        && stands_at(tokens, 1, Terminal::One(symbol))
+    {
+        (true, &tokens[2..])
+    } else {
+        (false, tokens)
+    }
+}
+
+/// The end of a head: [[","] number] ">".
+fn head_end<'t, 'a>(
+    tokens: &'t [Token<'a>],
+    last: usize,
+) -> Result<(Option<Token<'a>>, &'t [Token<'a>]), usize>
+    ensures tells { MatchResult result
+        (λ x. collect last Flagged (view_words tokens.now) ≡ with_second (view_option x.0) (collect last Rule (view_words x.1.now)))
+        (λ line. collect last Flagged (view_words tokens.now) ≡ Err line) }
+    ensures shorter { IfOk result (λ x. length x.1.now < length tokens.now) }
+{
+    let (comma, rest) = optional(tokens, Terminal::One(Symbol::Comma));
+    match comma {
+        Some(_) => {
+            let (number, rest) = expect(rest, last, Terminal::One(Symbol::Number))?;
+            let (_close, rest) = expect(rest, last, Terminal::One(Symbol::Greater))?;
+            Ok((Some(number), rest))
+        }
+        None => {
+            let (found, rest) = optional(tokens, Terminal::One(Symbol::Number));
+            let (_end, rest) = expect(rest, last, Terminal::One(Symbol::Greater))?;
+            Ok((found, rest))
+        }
+    }
+}
+
+/// The rest of a command's head: ":" number ["," "REQ"] ["," "PXY"] ["," "ERR"] [[","] number] ">".
+pub(crate) fn command_head<'t, 'a>(
+    tokens: &'t [Token<'a>],
+    last: usize,
+) -> Result<(Head<'a>, &'t [Token<'a>]), usize>
+    ensures tells { (w : Word) → MatchResult result
+        (λ x. filled CommandHead w (collect last CommandColon (view_words tokens.now)) ≡ with_head (view_head x.0) (collect last Rule (view_words x.1.now)))
+        (λ line. collect last CommandColon (view_words tokens.now) ≡ Err line) }
+    ensures shorter { IfOk result (λ x. length x.1.now < length tokens.now) }
+{
+    let (_colon, rest) = expect(tokens, last, Terminal::One(Symbol::Colon))?;
+    let (code, rest) = expect(rest, last, Terminal::One(Symbol::Number))?;
+    let (request, rest) = flag(rest, Symbol::Req);
+    let (proxiable, rest) = flag(rest, Symbol::Pxy);
+    let (error, rest) = flag(rest, Symbol::Err);
+    let (second, rest) = head_end(rest, last)?;
+    let head = Head {
+        command: true,
+        code,
+        request,
+        proxiable,
+        error,
+        second,
+    };
+    Ok((head, rest))
+}
+
+/// The rest of a group's head: ":" number [[","] number] ">".
+pub(crate) fn group_head<'t, 'a>(
+    tokens: &'t [Token<'a>],
+    last: usize,
+) -> Result<(Head<'a>, &'t [Token<'a>]), usize>
+    ensures tells { MatchResult result
+        (λ x. collect last GroupColon (view_words tokens.now) ≡ with_head (view_head x.0) (collect last Rule (view_words x.1.now)))
+        (λ line. collect last GroupColon (view_words tokens.now) ≡ Err line) }
+    ensures shorter { IfOk result (λ x. length x.1.now < length tokens.now) }
+{
+    let (_colon, rest) = expect(tokens, last, Terminal::One(Symbol::Colon))?;
+    let (code, rest) = expect(rest, last, Terminal::One(Symbol::Number))?;
+    let (second, rest) = head_end(rest, last)?;
+    let head = Head {
+        command: false,
+        code,
+        request: false,
+        proxiable: false,
+        error: false,
+        second,
+    };
+    Ok((head, rest))
+}

@@ -1,0 +1,65 @@
+//! The items of a dictionary text, as they are written: each part is its token.
+
+use crate::token::Token;
+
+/// `@` name code type, and the vendor where one is written.
+#[derive(Clone, Copy, Debug)]
+pub struct AvpItem<'a> {
+    pub name: Token<'a>,
+    pub code: Token<'a>,
+    pub kind: Token<'a>,
+    pub vendor: Option<Token<'a>>,
+}
+
+/// How an entry is bracketed: `< >`, `{ }` or `[ ]`.
+#[derive(Clone, Copy, Debug, PartialEq, Eq)]
+pub enum Form {
+    Fixed,
+    Required,
+    Optional,
+}
+
+/// The `*` before an entry, with its numbers where they are written.
+#[derive(Clone, Copy, Debug)]
+pub struct Qualifier<'a> {
+    pub low: Option<Token<'a>>,
+    pub high: Option<Token<'a>>,
+}
+
+/// An entry of a rule.
+#[derive(Clone, Copy, Debug)]
+pub struct EntryItem<'a> {
+    pub form: Form,
+    pub name: Token<'a>,
+    pub qualifier: Option<Qualifier<'a>>,
+}
+
+/// A Grouped AVP: its name, its code, its vendor where one is written, and its rule.
+#[derive(Debug, Drop)]
+pub struct GroupItem<'a> {
+    pub name: Token<'a>,
+    pub code: Token<'a>,
+    pub vendor: Option<Token<'a>>,
+    pub rule: Vec<EntryItem<'a>>,
+}
+
+/// A command: its name, its code, its flags REQ, PXY and ERR, its Application-ID where one is written,
+/// and its rule.
+#[derive(Debug, Drop)]
+pub struct CommandItem<'a> {
+    pub name: Token<'a>,
+    pub code: Token<'a>,
+    pub request: bool,
+    pub proxiable: bool,
+    pub error: bool,
+    pub application: Option<Token<'a>>,
+    pub rule: Vec<EntryItem<'a>>,
+}
+
+/// An item of a dictionary text.
+#[derive(Debug, Drop)]
+pub enum Item<'a> {
+    Avp(AvpItem<'a>),
+    Group(GroupItem<'a>),
+    Command(CommandItem<'a>),
+}

@@ -1,0 +1,19 @@
+//! What the definitions say in the words of the grammar's steps.
+
+ghost use Rattle.std.specs.Prelude.{◌≡◌, ◌↔◌, ℕ, List, Ok, Err};
+ghost use Rattle.dm_grammar.specs.Items.{Written};
+ghost use Rattle.dm_grammar.specs.Places.{Place};
+ghost use Rattle.dm_grammar.specs.Places.Place.{Text};
+ghost use Rattle.dm_grammar.specs.Syntax.{IsGrammatical, IsSyntaxFault, Leads};
+ghost use Rattle.dm_grammar.specs.Told.{told};
+ghost use Rattle.dm_grammar.specs.Tokens.{Word};
+
+/// A law of the definitions, with nothing to run. A text has a Syntax fault at a line exactly where no step
+/// of the grammar takes the token there from the place to which the tokens before it lead, or where they run
+/// out in a place where no text may end; a text tells items exactly where steps take all its tokens; and the
+/// tokens lead to one place at most.
+pub fn syntax_law()
+    ensures fault { (text : List ℕ) (line : ℕ) → (told text ≡ Err line) ↔ IsSyntaxFault text line }
+    ensures good { (text : List ℕ) → IsGrammatical text ↔ ((items : List Written) × (told text ≡ Ok items)) }
+    ensures one_place { (ws : List Word) (p q : Place) → Leads Text ws p → Leads Text ws q → p ≡ q }
+{}

@@ -1,0 +1,125 @@
+//! The text's octets to its tokens.
+
+ghost use Rattle.std.specs.Prelude.{◌≡◌, ◌≤◌, ◌<◌, ◌+◌, length, drop, IfSome, IfOk, map};
+ghost use Rattle.std.specs.List.{prefix_len};
+ghost use Rattle.dm_grammar.specs.Symbols.{begins_word, goes_on, is_space, not_line_end};
+ghost use Rattle.dm_grammar.specs.Tokens.{lexeme_of, last_line, tokens, Sees};
+ghost use Rattle.dm_grammar.specs.Views.{view};
+
+use crate::symbol::{Symbol, mark_of, symbol_of_word};
+use crate::token::Token;
+use std::alloc::{AllocError, Global};
+
+fn begins_word(octet: u8) -> bool
+    ensures { result ≡ begins_word octet }
+{
+    octet.is_ascii_alphanumeric()
+}
+
+fn goes_on(octet: u8) -> bool
+    ensures { result ≡ goes_on octet }
+{
+    octet.is_ascii_alphanumeric() || octet == b'-'
+}
+
+fn is_space(octet: u8) -> bool
+    ensures { result ≡ is_space octet }
+{
+    octet == b' ' || octet == b'\t' || octet == b'\r'
+}
+
+/// How many octets of a word the text begins with.
+fn word_len(text: &[u8]) -> usize
+    ensures { result ≡ prefix_len goes_on text.now }
+{
+    let mut n = 0;
+    while n < text.len() && goes_on(text[n]) {
+        n += 1;
+    }
+    n
+}
+
+/// How many octets stand before the end of the line.
+fn line_len(text: &[u8]) -> usize
+    ensures value { result ≡ prefix_len not_line_end text.now }
+    ensures within { result ≤ length text.now }
+{
+    let mut n = 0;
+    while n < text.len() && text[n] != b'\n' {
+        n += 1;
+    }
+    n
+}
+
+/// The token with which the text begins, and its length in octets: the longest word, `::=`, or one octet.
+fn lexeme(text: &[u8]) -> (Symbol, usize)
+    requires { 0 < length text.now }
+    ensures value { result ≡ lexeme_of text.now }
+    ensures within { result.1 ≤ length text.now }
+    ensures some { 0 < result.1 }
+{
+    if begins_word(text[0]) {
+        let len = word_len(text);
+        (symbol_of_word(&text[..len]), len)
+    } else if text.starts_with(b"::=") {
+        (Symbol::Define, 3)
+    } else {
+        (mark_of(text[0]), 1)
+    }
+}
+
+/// The next token at or behind `at`, and where it ends; `line` is the line on which `at` stands.
+fn next_token(text: &[u8], at: usize, line: usize) -> Option<(Token<'_>, usize)>
+    requires within { at ≤ length text.now }
+    requires lines { line ≤ at + 1 }
+    ensures next { Sees line (drop at text.now) result (λ r. view r.0) (λ r. drop r.1 text.now) }
+    ensures moves { IfSome result (λ r. (at < r.1) × (r.1 ≤ length text.now) × (r.0.line ≤ r.1 + 1)) }
+{
+    let mut at = at;
+    let mut line = line;
+    while at < text.len() {
+        let first = text[at];
+        if first == b'\n' {
+            at += 1;
+            line += 1;
+        } else if is_space(first) {
+            at += 1;
+        } else if first == b';' {
+            at += line_len(&text[at..]);
+        } else {
+            let (symbol, len) = lexeme(&text[at..]);
+            let token = Token {
+                symbol,
+                text: &text[at..at + len],
+                line,
+            };
+            return Some((token, at + len));
+        }
+    }
+    None
+}
+
+/// All tokens of the text, in order.
+pub(crate) fn tokens(alloc: Global, text: &[u8]) -> Result<Vec<Token<'_>>, AllocError>
+    ensures { IfOk result (λ v. map view v.items ≡ tokens text.now) }
+{
+    let mut found = Vec::new(alloc);
+    let mut at = 0;
+    let mut line = 1;
+    while let Some((token, end)) = next_token(text, at, line) {
+        found.push(token)?;
+        at = end;
+        line = token.line;
+    }
+    Ok(found)
+}
+
+/// The line of the last octet, from 1: a last line feed begins no line.
+pub(crate) fn last_line(text: &[u8]) -> usize
+    ensures { result ≡ last_line text.now }
+{
+    match text.split_last() {
+        Some((_, front)) => front.iter().filter(|octet| **octet == b'\n').count() + 1,
+        None => 1,
+    }
+}

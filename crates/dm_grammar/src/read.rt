@@ -1,0 +1,115 @@
+//! A text's items.
+
+ghost use Rattle.std.specs.Prelude.{◌≡◌, ◌<◌, length, map, false, MatchResult, IfOk, IfErr, Ok, Err};
+ghost use Rattle.dm_grammar.specs.declared.symbol.Symbol.TheVariants.{At};
+ghost use Rattle.dm_grammar.specs.declared.terminal.Terminal.TheVariants.{One};
+ghost use Rattle.dm_grammar.specs.Places.Place.{Text};
+ghost use Rattle.dm_grammar.specs.Readers.{IfSyntax, begins, with_item};
+ghost use Rattle.dm_grammar.specs.Told.{collect, items_told, told};
+ghost use Rattle.dm_grammar.specs.Views.{view_item, view_words};
+
+use crate::avp::avp_item;
+use crate::fault::ItemFault;
+use crate::item::{CommandItem, GroupItem, Item};
+use crate::lex::{last_line, tokens};
+use crate::rule::rule;
+use crate::step::{optional, same};
+use crate::symbol::Symbol;
+use crate::terminal::Terminal;
+use crate::title::opening;
+use crate::token::Token;
+use std::alloc::Global;
+
+/// A command or a group: title "::=" "<" head ">" *entry.
+fn definition<'t, 'a>(
+    alloc: Global,
+    tokens: &'t [Token<'a>],
+    last: usize,
+) -> Result<(Item<'a>, &'t [Token<'a>]), ItemFault>
+    requires some { 0 < length tokens.now }
+    requires no_avp { begins (One At) (view_words tokens.now) ≡ false }
+    ensures tells { MatchResult result
+        (λ x. collect last Text (view_words tokens.now) ≡ with_item (view_item x.0) (collect last Text (view_words x.1.now)))
+        (λ fault. IfSyntax fault (λ line. collect last Text (view_words tokens.now) ≡ Err line)) }
+    ensures shorter { IfOk result (λ x. length x.1.now < length tokens.now) }
+{
+    match opening(tokens, last) {
+        Ok(((name, head), rest)) => {
+            let (rule, rest) = rule(alloc, rest, last)?;
+            let item = if head.command {
+                Item::Command(CommandItem {
+                    name,
+                    code: head.code,
+                    request: head.request,
+                    proxiable: head.proxiable,
+                    error: head.error,
+                    application: head.second,
+                    rule,
+                })
+            } else {
+                Item::Group(GroupItem {
+                    name,
+                    code: head.code,
+                    vendor: head.second,
+                    rule,
+                })
+            };
+            Ok((item, rest))
+        }
+        Err(line) => Err(ItemFault::Syntax(line)),
+    }
+}
+
+/// The next item.
+fn item<'t, 'a>(
+    alloc: Global,
+    tokens: &'t [Token<'a>],
+    last: usize,
+) -> Result<(Item<'a>, &'t [Token<'a>]), ItemFault>
+    requires { 0 < length tokens.now }
+    ensures tells { MatchResult result
+        (λ x. collect last Text (view_words tokens.now) ≡ with_item (view_item x.0) (collect last Text (view_words x.1.now)))
+        (λ fault. IfSyntax fault (λ line. collect last Text (view_words tokens.now) ≡ Err line)) }
+    ensures shorter { IfOk result (λ x. length x.1.now < length tokens.now) }
+{
+    let (at, rest) = optional(tokens, Terminal::One(Symbol::At));
+    match at {
+        Some(_) => match avp_item(rest, last) {
+            Ok((avp, rest)) => Ok((Item::Avp(avp), rest)),
+            Err(line) => Err(ItemFault::Syntax(line)),
+        },
+        None => definition(alloc, tokens, last),
+    }
+}
+
+/// All items, to the end of the tokens.
+fn items<'a>(alloc: Global, tokens: &[Token<'a>], last: usize) -> Result<Vec<Item<'a>>, ItemFault>
+    ensures items { IfOk result (λ items. items_told (collect last Text (view_words tokens.now)) ≡ Ok (map view_item items.items)) }
+    ensures fault { IfErr result (λ fault. IfSyntax fault (λ line. items_told (collect last Text (view_words tokens.now)) ≡ Err line)) }
+{
+    let mut found = Vec::new(alloc);
+    let mut rest = tokens;
+    while !rest.is_empty() {
+        let (item, after) = item(alloc, rest, last)?;
+        if found.push(item).is_err() {
+            return Err(ItemFault::NoMemory);
+        }
+        rest = same(after);
+    }
+    Ok(found)
+}
+
+/// The items of a dictionary text (RFC 6733 section 3.2), in order. The tokens are borrowed from the text.
+///
+/// # Errors
+///
+/// `Syntax` with the line of the first token that can't stand there, or the last line where the text ends
+/// too early; `NoMemory`.
+pub fn read_items(alloc: Global, text: &[u8]) -> Result<Vec<Item<'_>>, ItemFault>
+    ensures items { IfOk result (λ items. told text.now ≡ Ok (map view_item items.items)) }
+    ensures fault { IfErr result (λ fault. IfSyntax fault (λ line. told text.now ≡ Err line)) }
+{
+    let last = last_line(text);
+    let all = tokens(alloc, text).map_err(|_| ItemFault::NoMemory)?;
+    items(alloc, all.as_slice(), last)
+}

@@ -1,0 +1,39 @@
+//! The rule of a command or a group.
+
+ghost use Rattle.std.specs.Prelude.{◌≡◌, ◌≤◌, length, map, MatchResult, IfOk, Err};
+ghost use Rattle.dm_grammar.specs.Places.Place.{Rule, Text};
+ghost use Rattle.dm_grammar.specs.Readers.{IfSyntax, with_rule};
+ghost use Rattle.dm_grammar.specs.Told.{collect};
+ghost use Rattle.dm_grammar.specs.Views.{view_entry, view_words};
+
+use crate::entry::{begins_entry, entry};
+use crate::fault::ItemFault;
+use crate::item::EntryItem;
+use crate::step::same;
+use crate::token::Token;
+use std::alloc::Global;
+
+/// *entry: the entries up to the next item.
+pub(crate) fn rule<'t, 'a>(
+    alloc: Global,
+    tokens: &'t [Token<'a>],
+    last: usize,
+) -> Result<(Vec<EntryItem<'a>>, &'t [Token<'a>]), ItemFault>
+    ensures tells { MatchResult result
+        (λ x. collect last Rule (view_words tokens.now) ≡ with_rule (map view_entry x.0.items) (collect last Text (view_words x.1.now)))
+        (λ fault. IfSyntax fault (λ line. collect last Rule (view_words tokens.now) ≡ Err line)) }
+    ensures shorter { IfOk result (λ x. length x.1.now ≤ length tokens.now) }
+{
+    let mut entries = Vec::new(alloc);
+    let mut rest = tokens;
+    while begins_entry(rest) {
+        match entry(rest, last) {
+            Ok((entry, after)) => {
+                entries.push(entry).map_err(|_| ItemFault::NoMemory)?;
+                rest = same(after);
+            }
+            Err(line) => return Err(ItemFault::Syntax(line)),
+        }
+    }
+    Ok((entries, rest))
+}

@@ -1,0 +1,88 @@
+//! One token of the rest of a text.
+
+ghost use Rattle.std.specs.Prelude.{◌≡◌, ◌<◌, ◌≤◌, ◌∷◌, [], false, true, drop, length, MatchResult, MatchOption, IfOk, Err};
+ghost use Rattle.dm_grammar.specs.Grammar.{by, fits, may_end, steps};
+ghost use Rattle.dm_grammar.specs.Places.{Place, Role};
+ghost use Rattle.dm_grammar.specs.Readers.{begins, begins_title};
+ghost use Rattle.dm_grammar.specs.Told.{collect, filled};
+ghost use Rattle.dm_grammar.specs.Views.{view, view_words};
+
+use crate::symbol::Symbol;
+use crate::terminal::{Terminal, fits};
+use crate::token::Token;
+
+/// The same tokens. A loop's variable takes what is left from a call, since the proof can't follow a
+/// slice of tokens out of a tuple into it.
+pub(crate) fn same<'t, 'a>(tokens: &'t [Token<'a>]) -> &'t [Token<'a>]
+    ensures { result.now ≡ tokens.now }
+{
+    tokens
+}
+
+/// The first token, where it is the terminal that a place with one step wants, and the rest.
+pub(crate) fn expect<'t, 'a>(
+    tokens: &'t [Token<'a>],
+    last: usize,
+    terminal: Terminal,
+) -> Result<(Token<'a>, &'t [Token<'a>]), usize>
+    ensures tells { (p q : Place) (r : Role) → steps p ≡ by terminal q r → may_end p ≡ false →
+        MatchResult result (λ x. collect last p (view_words tokens.now) ≡ filled r (view x.0) (collect last q (view_words x.1.now)))
+        (λ line. collect last p (view_words tokens.now) ≡ Err line) }
+    ensures shorter { IfOk result (λ x. length x.1.now < length tokens.now) }
+{
+    match tokens.split_first() {
+        Some((first, rest)) => {
+            if fits(terminal, first.symbol) {
+                Ok((*first, rest))
+            } else {
+                Err(first.line)
+            }
+        }
+        None => Err(last),
+    }
+}
+
+/// The first token, where it is the terminal, and what is left.
+pub(crate) fn optional<'t, 'a>(
+    tokens: &'t [Token<'a>],
+    terminal: Terminal,
+) -> (Option<Token<'a>>, &'t [Token<'a>])
+    ensures tells { MatchOption result.0 ((view_words result.1.now ≡ view_words tokens.now) × (begins terminal (view_words tokens.now) ≡ false))
+        (λ t. (view_words tokens.now ≡ view t ∷ view_words result.1.now) × (fits terminal (view t).symbol ≡ true)) }
+    ensures shorter { length result.1.now ≤ length tokens.now }
+{
+    match tokens.split_first() {
+        Some((first, rest)) => {
+            if fits(terminal, first.symbol) {
+                (Some(*first), rest)
+            } else {
+                (None, tokens)
+            }
+        }
+        None => (None, tokens),
+    }
+}
+
+/// Whether the token at a place is there and is the terminal.
+pub(crate) fn stands_at(tokens: &[Token<'_>], place: usize, terminal: Terminal) -> bool
+    ensures { result ≡ begins terminal (drop place (view_words tokens.now)) }
+{
+    place < tokens.len() && fits(terminal, tokens[place].symbol)
+}
+
+/// Whether the tokens begin with the terminal.
+pub(crate) fn begins(tokens: &[Token<'_>], terminal: Terminal) -> bool
+    ensures { result ≡ begins terminal (view_words tokens.now) }
+{
+    stands_at(tokens, 0, terminal)
+}
+
+/// Whether the tokens begin with a name in `<` and `>` and `::=`, which is the title of an item.
+pub(crate) fn begins_title(tokens: &[Token<'_>]) -> bool
+    ensures { result ≡ begins_title (view_words tokens.now) }
+{
+    stands_at(tokens, 0, Terminal::One(Symbol::Less))
+        && stands_at(tokens, 1, Terminal::AnyName)
+        && stands_at(tokens, 2, Terminal::One(Symbol::Greater))
+        && stands_at(tokens, 3, Terminal::One(Symbol::Define))
+}

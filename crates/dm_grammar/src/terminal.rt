@@ -1,0 +1,41 @@
+//! What a step of the grammar takes.
+
+ghost use Rattle.std.specs.Prelude.{◌≡◌};
+ghost use Rattle.dm_grammar.specs.Grammar.{is_name, fits};
+
+use crate::symbol::Symbol;
+
+/// What a step of the grammar takes: any name, or the tokens of one symbol.
+#[derive(Clone, Copy, Debug)]
+pub(crate) enum Terminal {
+    AnyName,
+    One(Symbol),
+}
+
+/// Whether a token is a name; so is a word that has a place of its own elsewhere.
+fn is_name(symbol: Symbol) -> bool
+    ensures { result ≡ is_name symbol }
+{
+    match symbol {
+        Symbol::Name
+        | Symbol::Diameter
+        | Symbol::Header
+        | Symbol::DiameterHeader
+        | Symbol::Avp
+        | Symbol::AvpHeader
+        | Symbol::Req
+        | Symbol::Pxy
+        | Symbol::Err => true,
+        _ => false,
+    }
+}
+
+/// Whether a step that takes the terminal takes a token of the symbol.
+pub(crate) fn fits(terminal: Terminal, symbol: Symbol) -> bool
+    ensures { result ≡ fits terminal symbol }
+{
+    match terminal {
+        Terminal::AnyName => is_name(symbol),
+        Terminal::One(one) => one as u8 == symbol as u8,
+    }
+}

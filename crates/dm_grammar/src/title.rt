@@ -1,0 +1,113 @@
+//! What stands before the rule of a command or a group.
+
+ghost use Rattle.std.specs.Prelude.{◌≡◌, ◌<◌, false, length, MatchResult, IfOk, Err};
+ghost use Rattle.dm_grammar.specs.declared.symbol.Symbol.TheVariants.{At, Less};
+ghost use Rattle.dm_grammar.specs.declared.terminal.Terminal.TheVariants.{One};
+ghost use Rattle.dm_grammar.specs.Places.Place.{Head as HeadPlace, Rule, Text, Titled};
+ghost use Rattle.dm_grammar.specs.Places.Role.{TitleIs};
+ghost use Rattle.dm_grammar.specs.Readers.{begins, fault_line, with_head};
+ghost use Rattle.dm_grammar.specs.Told.{collect, filled};
+ghost use Rattle.dm_grammar.specs.Views.{view, view_head, view_words};
+
+use crate::head::{Head, command_head, group_head};
+use crate::step::{expect, optional};
+use crate::symbol::Symbol;
+use crate::terminal::Terminal;
+use crate::token::Token;
+
+/// The line of a fault at the next token.
+fn fault_line(tokens: &[Token<'_>], last: usize) -> usize
+    ensures { result ≡ fault_line last (view_words tokens.now) }
+{
+    match tokens.first() {
+        Some(token) => token.line,
+        None => last,
+    }
+}
+
+/// A head: ("Diameter" "Header" | "Diameter-Header") or ("AVP" "Header" | "AVP-Header"), and its rest.
+fn head<'t, 'a>(tokens: &'t [Token<'a>], last: usize) -> Result<(Head<'a>, &'t [Token<'a>]), usize>
+    ensures tells { MatchResult result
+        (λ x. collect last HeadPlace (view_words tokens.now) ≡ with_head (view_head x.0) (collect last Rule (view_words x.1.now)))
+        (λ line. collect last HeadPlace (view_words tokens.now) ≡ Err line) }
+    ensures shorter { IfOk result (λ x. length x.1.now < length tokens.now) }
+{
+    let Some((first, rest)) = tokens.split_first() else {
+        return Err(last);
+    };
+    match first.symbol {
+        Symbol::Diameter => {
+            let (_header, rest) = expect(rest, last, Terminal::One(Symbol::Header))?;
+            command_head(rest, last)
+        }
+        Symbol::DiameterHeader => command_head(rest, last),
+        Symbol::Avp => {
+            let (_group_header, rest) = expect(rest, last, Terminal::One(Symbol::Header))?;
+            group_head(rest, last)
+        }
+        Symbol::AvpHeader => group_head(rest, last),
+        _ => Err(first.line),
+    }
+}
+
+/// A title without brackets: name.
+fn bare_title<'t, 'a>(
+    tokens: &'t [Token<'a>],
+    last: usize,
+) -> Result<(Token<'a>, &'t [Token<'a>]), usize>
+    requires some { 0 < length tokens.now }
+    requires no_avp { begins (One At) (view_words tokens.now) ≡ false }
+    requires bare { begins (One Less) (view_words tokens.now) ≡ false }
+    ensures tells { MatchResult result
+        (λ x. collect last Text (view_words tokens.now) ≡ filled TitleIs (view x.0) (collect last Titled (view_words x.1.now)))
+        (λ line. collect last Text (view_words tokens.now) ≡ Err line) }
+    ensures shorter { IfOk result (λ x. length x.1.now < length tokens.now) }
+{
+    let (name, rest) = optional(tokens, Terminal::AnyName);
+    match name {
+        Some(name) => Ok((name, rest)),
+        None => Err(fault_line(tokens, last)),
+    }
+}
+
+/// The name of a command or a group: "<" name ">" | name.
+fn title<'t, 'a>(
+    tokens: &'t [Token<'a>],
+    last: usize,
+) -> Result<(Token<'a>, &'t [Token<'a>]), usize>
+    requires some { 0 < length tokens.now }
+    requires no_avp { begins (One At) (view_words tokens.now) ≡ false }
+    ensures tells { MatchResult result
+        (λ x. collect last Text (view_words tokens.now) ≡ filled TitleIs (view x.0) (collect last Titled (view_words x.1.now)))
+        (λ line. collect last Text (view_words tokens.now) ≡ Err line) }
+    ensures shorter { IfOk result (λ x. length x.1.now < length tokens.now) }
+{
+    let (less, rest) = optional(tokens, Terminal::One(Symbol::Less));
+    match less {
+        Some(_) => {
+            let (name, rest) = expect(rest, last, Terminal::AnyName)?;
+            let (_greater, rest) = expect(rest, last, Terminal::One(Symbol::Greater))?;
+            Ok((name, rest))
+        }
+        None => bare_title(tokens, last),
+    }
+}
+
+/// title "::=" "<" head ">"
+pub(crate) fn opening<'t, 'a>(
+    tokens: &'t [Token<'a>],
+    last: usize,
+) -> Result<((Token<'a>, Head<'a>), &'t [Token<'a>]), usize>
+    requires some { 0 < length tokens.now }
+    requires no_avp { begins (One At) (view_words tokens.now) ≡ false }
+    ensures tells { MatchResult result
+        (λ x. collect last Text (view_words tokens.now) ≡ filled TitleIs (view x.0.0) (with_head (view_head x.0.1) (collect last Rule (view_words x.1.now))))
+        (λ line. collect last Text (view_words tokens.now) ≡ Err line) }
+    ensures shorter { IfOk result (λ x. length x.1.now < length tokens.now) }
+{
+    let (name, rest) = title(tokens, last)?;
+    let (_define, rest) = expect(rest, last, Terminal::One(Symbol::Define))?;
+    let (_less, rest) = expect(rest, last, Terminal::One(Symbol::Less))?;
+    let (head, rest) = head(rest, last)?;
+    Ok(((name, head), rest))
+}

@@ -1,0 +1,4 @@
+pub mod ShapeLemmas
+pub mod ShapeLaw
+pub mod ConnectionLaw
+pub mod RowLemmas

@@ -1,0 +1,113 @@
+-- Each step keeps the shape of a node, state by state and input by input.
+use Rattle.std.proofs.Common.{Bool, IsTrue, sym, subst, arith}
+use Rattle.std.proofs.lemmas.Bool.Decides.{nat_tests}
+use Rattle.dm_peer.specs.declared.phase.Role.TheVariants.{Initiated, Accepted}
+use Rattle.dm_peer.specs.declared.phase.Phase.{Phase}
+use Rattle.dm_peer.specs.declared.phase.Phase.TheVariants as phase
+use Rattle.dm_peer.specs.declared.inputs.Input.{Input}
+use Rattle.dm_peer.specs.declared.inputs.Input.TheVariants.{Start, Stop, Timeout, Tick, Ack, Nack, Gone, Submit, Heard}
+use Rattle.dm_peer.specs.declared.inputs.Word.TheVariants.{Unreadable}
+use Rattle.dm_peer.specs.Node.{Node, is_shaped}
+use Rattle.dm_peer.specs.Moves.{outcome}
+use Rattle.dm_peer.specs.Shape.{KeepsShape, EachStepKeepsShape}
+use Rattle.dm_peer.specs.Phases.{node_of, phase_of, IsShaped}
+use Rattle.dm_peer.proofs.ShapeLemmas.{node_of-phase_of}
+
+keeps_at : (p : Phase) (i : Input) (wins : Bool) → IsShaped p → KeepsShape (outcome (node_of p) i wins)
+keeps_at phase.Closed (Start d) wins h = grind (arith, nat_tests)
+keeps_at phase.Closed Stop wins h = grind (arith, nat_tests)
+keeps_at phase.Closed Timeout wins h = grind (arith, nat_tests)
+keeps_at phase.Closed Tick wins h = grind (arith, nat_tests)
+keeps_at phase.Closed (Ack d) wins h = grind (arith, nat_tests)
+keeps_at phase.Closed (Nack d) wins h = grind (arith, nat_tests)
+keeps_at phase.Closed (Gone d) wins h = grind (arith, nat_tests)
+keeps_at phase.Closed Submit wins h = grind (arith, nat_tests)
+keeps_at phase.Closed (Heard d Unreadable) wins h = grind (arith, nat_tests)
+keeps_at phase.Closed (Heard d w) wins h = grind (arith, nat_tests)
+keeps_at (phase.WaitConnAck i) (Start d) wins h = grind (arith, nat_tests)
+keeps_at (phase.WaitConnAck i) Stop wins h = grind (arith, nat_tests)
+keeps_at (phase.WaitConnAck i) Timeout wins h = grind (arith, nat_tests)
+keeps_at (phase.WaitConnAck i) Tick wins h = grind (arith, nat_tests)
+keeps_at (phase.WaitConnAck i) (Ack d) wins h = grind (arith, nat_tests)
+keeps_at (phase.WaitConnAck i) (Nack d) wins h = grind (arith, nat_tests)
+keeps_at (phase.WaitConnAck i) (Gone d) wins h = grind (arith, nat_tests)
+keeps_at (phase.WaitConnAck i) Submit wins h = grind (arith, nat_tests)
+keeps_at (phase.WaitConnAck i) (Heard d Unreadable) wins h = grind (arith, nat_tests)
+keeps_at (phase.WaitConnAck i) (Heard d w) wins h = grind (arith, nat_tests)
+keeps_at (phase.WaitICea i) (Start d) wins h = grind (arith, nat_tests)
+keeps_at (phase.WaitICea i) Stop wins h = grind (arith, nat_tests)
+keeps_at (phase.WaitICea i) Timeout wins h = grind (arith, nat_tests)
+keeps_at (phase.WaitICea i) Tick wins h = grind (arith, nat_tests)
+keeps_at (phase.WaitICea i) (Ack d) wins h = grind (arith, nat_tests)
+keeps_at (phase.WaitICea i) (Nack d) wins h = grind (arith, nat_tests)
+keeps_at (phase.WaitICea i) (Gone d) wins h = grind (arith, nat_tests)
+keeps_at (phase.WaitICea i) Submit wins h = grind (arith, nat_tests)
+keeps_at (phase.WaitICea i) (Heard d Unreadable) wins h = grind (arith, nat_tests)
+keeps_at (phase.WaitICea i) (Heard d w) wins h = grind (arith, nat_tests)
+keeps_at (phase.WaitConnAckElect i r) (Start d) wins h = grind (arith, nat_tests)
+keeps_at (phase.WaitConnAckElect i r) Stop wins h = grind (arith, nat_tests)
+keeps_at (phase.WaitConnAckElect i r) Timeout wins h = grind (arith, nat_tests)
+keeps_at (phase.WaitConnAckElect i r) Tick wins h = grind (arith, nat_tests)
+keeps_at (phase.WaitConnAckElect i r) (Ack d) wins h = grind (arith, nat_tests)
+keeps_at (phase.WaitConnAckElect i r) (Nack d) wins h = grind (arith, nat_tests)
+keeps_at (phase.WaitConnAckElect i r) (Gone d) wins h = grind (arith, nat_tests)
+keeps_at (phase.WaitConnAckElect i r) Submit wins h = grind (arith, nat_tests)
+keeps_at (phase.WaitConnAckElect i r) (Heard d Unreadable) wins h = grind (arith, nat_tests)
+keeps_at (phase.WaitConnAckElect i r) (Heard d w) wins h = grind (arith, nat_tests)
+keeps_at (phase.WaitReturns i r) (Start d) wins h = grind (arith, nat_tests)
+keeps_at (phase.WaitReturns i r) Stop wins h = grind (arith, nat_tests)
+keeps_at (phase.WaitReturns i r) Timeout wins h = grind (arith, nat_tests)
+keeps_at (phase.WaitReturns i r) Tick wins h = grind (arith, nat_tests)
+keeps_at (phase.WaitReturns i r) (Ack d) wins h = grind (arith, nat_tests)
+keeps_at (phase.WaitReturns i r) (Nack d) wins h = grind (arith, nat_tests)
+keeps_at (phase.WaitReturns i r) (Gone d) wins h = grind (arith, nat_tests)
+keeps_at (phase.WaitReturns i r) Submit wins h = grind (arith, nat_tests)
+keeps_at (phase.WaitReturns i r) (Heard d Unreadable) wins h = grind (arith, nat_tests)
+keeps_at (phase.WaitReturns i r) (Heard d w) wins h = grind (arith, nat_tests)
+keeps_at (phase.ROpen r n) (Start d) wins h = grind (arith, nat_tests)
+keeps_at (phase.ROpen r n) Stop wins h = grind (arith, nat_tests)
+keeps_at (phase.ROpen r n) Timeout wins h = grind (arith, nat_tests)
+keeps_at (phase.ROpen r n) Tick wins h = grind (arith, nat_tests)
+keeps_at (phase.ROpen r n) (Ack d) wins h = grind (arith, nat_tests)
+keeps_at (phase.ROpen r n) (Nack d) wins h = grind (arith, nat_tests)
+keeps_at (phase.ROpen r n) (Gone d) wins h = grind (arith, nat_tests)
+keeps_at (phase.ROpen r n) Submit wins h = grind (arith, nat_tests)
+keeps_at (phase.ROpen r n) (Heard d Unreadable) wins h = grind (arith, nat_tests)
+keeps_at (phase.ROpen r n) (Heard d w) wins h = grind (arith, nat_tests)
+keeps_at (phase.IOpen i n) (Start d) wins h = grind (arith, nat_tests)
+keeps_at (phase.IOpen i n) Stop wins h = grind (arith, nat_tests)
+keeps_at (phase.IOpen i n) Timeout wins h = grind (arith, nat_tests)
+keeps_at (phase.IOpen i n) Tick wins h = grind (arith, nat_tests)
+keeps_at (phase.IOpen i n) (Ack d) wins h = grind (arith, nat_tests)
+keeps_at (phase.IOpen i n) (Nack d) wins h = grind (arith, nat_tests)
+keeps_at (phase.IOpen i n) (Gone d) wins h = grind (arith, nat_tests)
+keeps_at (phase.IOpen i n) Submit wins h = grind (arith, nat_tests)
+keeps_at (phase.IOpen i n) (Heard d Unreadable) wins h = grind (arith, nat_tests)
+keeps_at (phase.IOpen i n) (Heard d w) wins h = grind (arith, nat_tests)
+keeps_at (phase.Closing Initiated x) (Start d) wins h = grind (arith, nat_tests)
+keeps_at (phase.Closing Initiated x) Stop wins h = grind (arith, nat_tests)
+keeps_at (phase.Closing Initiated x) Timeout wins h = grind (arith, nat_tests)
+keeps_at (phase.Closing Initiated x) Tick wins h = grind (arith, nat_tests)
+keeps_at (phase.Closing Initiated x) (Ack d) wins h = grind (arith, nat_tests)
+keeps_at (phase.Closing Initiated x) (Nack d) wins h = grind (arith, nat_tests)
+keeps_at (phase.Closing Initiated x) (Gone d) wins h = grind (arith, nat_tests)
+keeps_at (phase.Closing Initiated x) Submit wins h = grind (arith, nat_tests)
+keeps_at (phase.Closing Initiated x) (Heard d Unreadable) wins h = grind (arith, nat_tests)
+keeps_at (phase.Closing Initiated x) (Heard d w) wins h = grind (arith, nat_tests)
+keeps_at (phase.Closing Accepted x) (Start d) wins h = grind (arith, nat_tests)
+keeps_at (phase.Closing Accepted x) Stop wins h = grind (arith, nat_tests)
+keeps_at (phase.Closing Accepted x) Timeout wins h = grind (arith, nat_tests)
+keeps_at (phase.Closing Accepted x) Tick wins h = grind (arith, nat_tests)
+keeps_at (phase.Closing Accepted x) (Ack d) wins h = grind (arith, nat_tests)
+keeps_at (phase.Closing Accepted x) (Nack d) wins h = grind (arith, nat_tests)
+keeps_at (phase.Closing Accepted x) (Gone d) wins h = grind (arith, nat_tests)
+keeps_at (phase.Closing Accepted x) Submit wins h = grind (arith, nat_tests)
+keeps_at (phase.Closing Accepted x) (Heard d Unreadable) wins h = grind (arith, nat_tests)
+keeps_at (phase.Closing Accepted x) (Heard d w) wins h = grind (arith, nat_tests)
+
+pub each_step : EachStepKeepsShape
+each_step n i wins h =
+    let P : Node → Type 0 = λ m. KeepsShape (outcome m i wins) in
+    let e = node_of-phase_of n h in
+    let S : Node → Type 0 = λ m. IsTrue (is_shaped m) in
+    subst P e (keeps_at (phase_of n) i wins (subst S (sym e) h))

@@ -1,0 +1,10 @@
+pub mod Table
+pub mod OwnRows
+pub mod Rows
+pub mod Node
+pub mod Reading
+pub mod Moves
+pub mod Connection
+pub mod Shape
+pub mod Phases
+pub mod Defaults

@@ -1,0 +1,115 @@
+//! The line of an AVP.
+ghost use Rattle.std.specs.Prelude.{◌≡◌, ◌==◌, ◌∷◌, [], ℕ, List, Option, Bool, position, is_some, IfOk, IfSome, IfNone, MatchOption};
+ghost use Rattle.dm_wire.specs.declared.avp.Avp.{Avp};
+ghost use Rattle.dm_tool.specs.Text.{mark};
+ghost use Rattle.dm_tool.specs.Words.{words, TellsCode, TellsData};
+ghost use Rattle.dm_tool.specs.Messages.{TellsAvp};
+
+use crate::header_line::read_flag;
+use crate::text::letter;
+use crate::word::{Words, read_number};
+use dm_wire::{Avp, Octets};
+use hex::FromHexError;
+use std::alloc::{AllocError, Global};
+
+/// The AVP that a line tells, as show prints it, with any number of spaces before it.
+pub fn read_avp(alloc: Global, line: &[u8]) -> Result<Option<Avp>, AllocError>
+    ensures { IfOk result (λ read. MatchOption read ((a : Avp) → TellsAvp a line.now → ⊥) (λ a. TellsAvp a line.now)) }
+{
+    let Some(parts) = read_parts(line) else {
+        return Ok(None);
+    };
+    let Some(bytes) = read_data(alloc, parts.word)? else {
+        return Ok(None);
+    };
+    Ok(Some(Avp {
+        code: parts.code,
+        vendor: parts.vendor,
+        mandatory: parts.mandatory,
+        protected: parts.protected,
+        bytes: Octets::from_vec(bytes),
+    }))
+}
+
+/// An AVP whose data is still a word.
+#[derive(Drop)]
+struct Parts<'a> {
+    code: u32,
+    vendor: Option<u32>,
+    mandatory: bool,
+    protected: bool,
+    word: &'a [u8],
+}
+
+fn read_parts(line: &[u8]) -> Option<Parts<'_>>
+    ensures told { IfSome result (λ p. (code : List ℕ) × TellsCode p.code p.vendor code
+        × (words line.now ≡ code ∷ (mark (is_some p.vendor) 86 ∷ mark p.mandatory 77 ∷ mark p.protected 80 ∷ []) ∷ p.word.now ∷ [])) }
+    ensures none { IfNone result ((a : Avp) → TellsAvp a line.now → ⊥) }
+{
+    let mut words = Words::new(line);
+    let (code, vendor) = read_code(words.next()?)?;
+    let (mandatory, protected) = read_flags(words.next()?, vendor.is_some())?;
+    let word = words.next()?;
+    if words.next().is_some() {
+        return None;
+    }
+    Some(Parts {
+        code,
+        vendor,
+        mandatory,
+        protected,
+        word,
+    })
+}
+
+/// The AVP Code that a word tells, and the vendor behind a `/`.
+fn read_code(word: &[u8]) -> Option<(u32, Option<u32>)>
+    ensures told { IfSome result (λ read. TellsCode read.0 read.1 word.now) }
+    ensures none { IfNone result ((code : ℕ) (vendor : Option ℕ) → TellsCode code vendor word.now → ⊥) }
+{
+    match slash(word) {
+        Some(at) => {
+            let code = read_number(&word[..at])?;
+            let vendor = read_number(&word[at + 1..])?;
+            Some((code, Some(vendor)))
+        }
+        None => {
+            let code = read_number(word)?;
+            Some((code, None))
+        }
+    }
+}
+
+fn slash(word: &[u8]) -> Option<usize>
+    ensures { result ≡ position (λ b. b == 47) word.now }
+{
+    word.iter().position(|b| *b == b'/')
+}
+
+/// Whether M and P are set. V stands just where there is a vendor.
+fn read_flags(word: &[u8], has_vendor: bool) -> Option<(bool, bool)>
+    ensures told { IfSome result (λ f. word.now ≡ mark has_vendor 86 ∷ mark f.0 77 ∷ mark f.1 80 ∷ []) }
+    ensures none { IfNone result ((m p : Bool) → word.now ≡ mark has_vendor 86 ∷ mark m 77 ∷ mark p 80 ∷ [] → ⊥) }
+{
+    let [vendor, mandatory, protected] = word else {
+        return None;
+    };
+    if *vendor != letter(has_vendor, b'V') {
+        return None;
+    }
+    Some((read_flag(*mandatory, b'M')?, read_flag(*protected, b'P')?))
+}
+
+/// The octets that a word tells: hexadecimal digits in either case, or `-` for none.
+fn read_data(alloc: Global, word: &[u8]) -> Result<Option<Vec<u8>>, AllocError>
+    ensures { IfOk result (λ read. MatchOption read ((bytes : List ℕ) → TellsData bytes word.now → ⊥) (λ bytes. TellsData bytes.items word.now)) }
+{
+    if word == b"-".as_slice() {
+        return Ok(Some(Vec::new(alloc)));
+    }
+    match hex::decode(alloc, word) {
+        Ok(bytes) => Ok(Some(bytes)),
+        Err(FromHexError::OutOfMemory) => Err(AllocError),
+        Err(_) => Ok(None),
+    }
+}

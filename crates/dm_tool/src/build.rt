@@ -1,0 +1,75 @@
+//! The command build: messages as show prints them, turned back into octets.
+ghost use Rattle.std.specs.Prelude.{◌≡◌, ◌<◌, ◌≤◌, ◌+◌, ◌++◌, ◌∷◌, [], ◌⊎◌, ℕ, Bool, List, length, IfSome, IfOk, IfErr, IsErrOf, OnOk, codes};
+ghost use Rattle.std.specs.Fmt.{decimal};
+ghost use Rattle.std.specs.Io.KnownBytes.{Appends, Consumes, Keeps};
+ghost use Rattle.dm_tool.specs.Build.{BuildsText};
+
+use crate::building::Building;
+use crate::choice::Choice;
+use crate::fault::ToolFault;
+use crate::input::INPUT_LIMIT;
+use crate::line::Lines;
+use crate::run::run;
+use crate::text::push_decimal;
+use std::alloc::{AllocError, Global};
+use std::io::{Read, Write};
+
+/// Reads Diameter messages as show prints them, and writes each as one line of lower case
+/// hexadecimal. True where all were written.
+///
+/// The whole input is read first. A message that has no spelling is written as `fault TooLong`, and
+/// the next message goes on. The first line that is neither of a message nor of an AVP, or of an
+/// AVP before any message, ends the run: it is written as `fault syntax` and its number, and the
+/// message that it interrupts isn't written. Where the reader fails, gives more than 67108864
+/// octets or isn't at its end after as many reads, that is Read, and nothing is written. Where
+/// memory runs out nothing is written either. Where the writer fails a front of the text was
+/// written.
+pub fn run_build<R: Read, W: Write>(
+    alloc: Global,
+    reader: &mut R,
+    writer: &mut W,
+) -> Result<bool, ToolFault>
+    ensures built { IfOk result (λ good. IfSome (R.remaining reader.old) (λ input. (text : List ℕ) × BuildsText input text good
+        × Appends (W.contents writer.old) (W.contents writer.new) text)) }
+
+    ensures unread { IsErrOf result ToolFault.Read → Keeps (W.contents writer.old) (W.contents writer.new) }
+    ensures memory { IsErrOf result ToolFault.Memory → Keeps (W.contents writer.old) (W.contents writer.new) }
+    ensures unwritten { IsErrOf result ToolFault.Write → IfSome (R.remaining reader.old) (λ input. (front rest : List ℕ) × (good : Bool)
+        × BuildsText input (front ++ rest) good × Appends (W.contents writer.old) (W.contents writer.new) front) }
+
+    // A longer input isn't read to its end.
+    ensures limit { IfSome (R.remaining reader.old) (λ input. INPUT_LIMIT < length input
+        → IsErrOf result ToolFault.Read ⊎ IsErrOf result ToolFault.Memory) }
+    ensures taken { (octets : List ℕ) × (length octets ≤ INPUT_LIMIT + 1)
+        × Consumes (R.remaining reader.old) (R.remaining reader.new) octets }
+{
+    run(alloc, Choice::Build, reader, writer)
+}
+
+/// The text for an input, and whether all of it is good.
+pub fn build_text(alloc: Global, input: &[u8]) -> Result<(Vec<u8>, bool), ToolFault>
+    ensures built { IfOk result (λ built. BuildsText input.now built.0.items built.1) }
+    ensures fault { IfErr result (λ e. e ≡ ToolFault.Memory) }
+{
+    let mut building = Building::new(alloc);
+    let mut before: u64 = 0;
+    for line in Lines::new(input) {
+        if !building.take_line(alloc, line)? {
+            let mut text = building.into_text();
+            push_syntax(&mut text, before + 1)?;
+            return Ok((text, false));
+        }
+        before += 1;
+    }
+    building.end(alloc)
+}
+
+/// Appends the words for the line of this number, which is out of place.
+fn push_syntax(text: &mut Vec<u8>, number: u64) -> Result<(), AllocError>
+    ensures { OnOk result (text.new.items ≡ text.old.items ++ codes "fault syntax " ++ decimal number ++ 10 ∷ []) }
+{
+    text.extend_from_slice(b"fault syntax ")?;
+    push_decimal(text, number)?;
+    text.push(b'\n')?;
+    Ok(())
+}

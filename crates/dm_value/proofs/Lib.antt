@@ -1,0 +1,5 @@
+pub mod Decided
+pub mod Flawed
+pub mod Lengths
+pub mod Meanings
+pub mod Writable

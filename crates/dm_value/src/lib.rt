@@ -1,0 +1,27 @@
+//! The values of AVPs: the basic and derived AVP data formats, read and written (RFC 6733, 4.2 to 4.4).
+#![tactic(auto)]
+
+mod address;
+mod avp_type;
+mod fault;
+mod judge;
+pub mod laws;
+mod numbers;
+mod read;
+mod text;
+mod time;
+mod value;
+mod write;
+
+pub use address::{Address, Ip};
+pub use avp_type::{AvpType, least_len};
+pub use fault::{NoMemory, ValueFault};
+pub use judge::value_fault;
+pub use read::read_value;
+pub use text::Text;
+pub use time::unix_seconds;
+pub use value::Value;
+pub use write::write_value;
+
+#[cfg(test)]
+mod tests;

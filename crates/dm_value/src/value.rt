@@ -1,0 +1,32 @@
+//! The values of AVPs (RFC 6733, 4.2 to 4.4).
+use crate::{Address, Text};
+use dm_wire::{AvpList, Octets};
+
+/// The value of an AVP: one variant for each type (RFC 6733, 4.2 to 4.4).
+#[derive(Debug, Drop, PartialEq, Eq)]
+pub enum Value {
+    /// OctetString: the octets.
+    Bytes(Octets),
+    /// Integer32.
+    Int32(i32),
+    /// Integer64.
+    Int64(i64),
+    /// Unsigned32.
+    Uint32(u32),
+    /// Unsigned64.
+    Uint64(u64),
+    /// Address.
+    Addr(Address),
+    /// Time: the 32 bits of an NTP timestamp, in seconds. `unix_seconds` gives them since 1970.
+    Time(u32),
+    /// UTF8String: the text.
+    Text(Text),
+    /// DiameterIdentity: the octets of the name.
+    Identity(Octets),
+    /// DiameterURI: the octets of the URI.
+    Uri(Octets),
+    /// Enumerated: the number.
+    Enumerated(i32),
+    /// Grouped: the AVPs in order.
+    Group(AvpList),
+}

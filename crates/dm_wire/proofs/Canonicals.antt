@@ -1,0 +1,84 @@
+-- Canonical spellings spell what they are made of.
+use Rattle.std.proofs.Common.{◌≡◌, ◌<◌, ◌≤◌, ℕ, ◌+◌, ◌-◌, ◌*◌, ◌/◌, ◌%◌, ◌^◌, Bool, true, false, IfSome, is_some, List, [], ◌∷◌, ◌++◌, length, get_or, take, replicate, refl, sym, ◌∙◌, ap, arith, append_assoc, append-nil, length-append}
+use Rattle.std.proofs.lemmas.List.{length-replicate, take_more, take-replicate}
+use Rattle.std.proofs.lemmas.Grind.{flat_map-append}
+use Rattle.std.specs.List.{flat_map}
+use Rattle.dm_wire.specs.declared.avp.Avp.{Avp}
+use Rattle.dm_wire.specs.Spelling.{be, is_set, avp_length, vendor_octets, SpellsAvp, SpellsList}
+use Rattle.dm_wire.specs.Canonical.{worth, avp_flags, zeros, canonical_avp, canonical_list}
+use Rattle.dm_wire.proofs.Lists.{list_push}
+use Rattle.dm_wire.proofs.Spellings.{front, size_of}
+
+-- the bits of a flag octet are those that it was made of
+avp_bits : (v m p : Bool) → (is_set (worth v 128 + worth m 64 + worth p 32) 128 ≡ v) × (is_set (worth v 128 + worth m 64 + worth p 32) 64 ≡ m) × (is_set (worth v 128 + worth m 64 + worth p 32) 32 ≡ p)
+avp_bits true true true = (refl, refl, refl)
+avp_bits true true false = (refl, refl, refl)
+avp_bits true false true = (refl, refl, refl)
+avp_bits true false false = (refl, refl, refl)
+avp_bits false true true = (refl, refl, refl)
+avp_bits false true false = (refl, refl, refl)
+avp_bits false false true = (refl, refl, refl)
+avp_bits false false false = (refl, refl, refl)
+
+-- the octets of a canonical spelling, padding included
+pub canonical_size : (a : Avp) → length (canonical_avp a) ≡ (avp_length a + 3) / 4 * 4
+canonical_size a =
+    let n = avp_length a in
+    let padding = length-replicate {A = ℕ} ((4 - n % 4) % 4) 0 in
+    let size = size_of a.code (avp_flags a) n a.vendor a.bytes (zeros n) in
+    size ∙ omega (arith, padding)
+
+-- every spelling of an AVP has as many octets
+pub spelled_size : (a : Avp) (s : List ℕ) → SpellsAvp a s → length s ≡ length (canonical_avp a)
+spelled_size a s sp =
+    let f = front a s [] (s ++ []) sp refl in
+    let size = canonical_size a in
+    omega (arith, f.least, f.most, f.aligned, size)
+
+-- where the fields have room, the canonical spelling spells the AVP
+pub avp_spelled : (a : Avp) → a.code < 256 ^ 4 → avp_length a < 256 ^ 3 → IfSome a.vendor (λ v. v < 256 ^ 4) → SpellsAvp a (canonical_avp a)
+avp_spelled a code len vendor =
+    let bits = avp_bits (is_some a.vendor) a.mandatory a.protected in
+    let n = avp_length a in
+    record {
+      flags = avp_flags a;
+      padding = zeros n;
+      whole = refl;
+      vendor_bit = bits.0;
+      mandatory_bit = bits.1;
+      protected_bit = bits.2;
+      least = rw (length-replicate {A = ℕ} ((4 - n % 4) % 4) 0) (omega arith);
+      aligned = rw (canonical_size a) (omega arith);
+      code_fits = code;
+      length_fits = len;
+      vendor_fits = vendor;
+    }
+
+-- every spelling of a list has as many octets as the canonical one
+pub list_size : (l : List Avp) (s : List ℕ) → SpellsList l s → length s ≡ length (canonical_list l)
+list_size [] s e = ap length e
+list_size (a ∷ l) s h =
+    let first = spelled_size a h.0 h.3 in
+    let rest = list_size l h.1 h.4 in
+    ap length h.2 ∙ omega (arith, length-append h.0 h.1, length-append (canonical_avp a) (canonical_list l), first, rest)
+
+flat_map_more : (f : Avp → List ℕ) (l : List Avp) (i : ℕ) (a : Avp) → i < length l → a ≡ get_or l i a → flat_map f (take (i + 1) l) ≡ flat_map f (take i l) ++ f a
+flat_map_more f l i a h e =
+    ap (flat_map f) (take_more l i a h) ∙ flat_map-append f (take i l) (get_or l i a ∷ []) ∙ rw (← e, append-nil) refl
+
+-- the octets of one AVP more
+pub list_more : (l : List Avp) (i : ℕ) (a : Avp) → i < length l → a ≡ get_or l i a → canonical_list (take (i + 1) l) ≡ canonical_list (take i l) ++ canonical_avp a
+list_more l i a h e = flat_map_more canonical_avp l i a h e
+
+-- one AVP more is spelled behind a list
+pub list_more_spelled : (l : List Avp) (i : ℕ) (a : Avp) → i < length l → a ≡ get_or l i a → SpellsList (take i l) (canonical_list (take i l)) → SpellsAvp a (canonical_avp a) → SpellsList (take (i + 1) l) (canonical_list (take (i + 1) l))
+list_more_spelled l i a h e sl sa =
+    let more : take (i + 1) l ≡ take i l ++ a ∷ [] = take_more l i a h ∙ ap (λ b. take i l ++ b ∷ []) (sym e) in
+    rw (list_more l i a h e, more) (list_push (take i l) a (canonical_list (take i l)) (canonical_avp a) sl sa)
+
+-- header, data and padding, appended in turn
+pub avp_put : (a : Avp) (n : ℕ) (o0 o1 o2 o3 header bytes : List ℕ) → n ≡ avp_length a → header ≡ be a.code 4 ++ avp_flags a ∷ be n 3 ++ vendor_octets a.vendor → bytes ≡ a.bytes → o1 ≡ o0 ++ header → o2 ≡ o1 ++ bytes → o3 ≡ o2 ++ take ((4 - n % 4) % 4) (replicate 3 0) → o3 ≡ o0 ++ canonical_avp a
+avp_put a n o0 o1 o2 o3 header bytes en eh ed e1 e2 e3 =
+    let three : (4 - avp_length a % 4) % 4 ≤ 3 = omega arith in
+    let padding : take ((4 - avp_length a % 4) % 4) (replicate 3 0) ≡ zeros (avp_length a) = take-replicate ((4 - avp_length a % 4) % 4) 3 0 three in
+    e3 ∙ rw (e2, e1, ed, eh, en, padding) (simp append_assoc)

@@ -1,0 +1,98 @@
+//! AVPs and headers to octets (RFC 6733, 3 and 4.1).
+ghost use Rattle.std.specs.Prelude.{◌≡◌, ◌-◌, ◌^◌, ◌<◌, ◌≤◌, ◌++◌, ◌∷◌, take, OnOk, IfSome, IfNone};
+ghost use Rattle.dm_wire.specs.Spelling.{be, avp_header_len, avp_length, vendor_octets, SpellsList, SpellsHeader};
+ghost use Rattle.dm_wire.specs.Canonical.{worth, avp_flags, canonical_avp, canonical_list, header_flags, canonical_header};
+
+use crate::size::header_len;
+use crate::{Avp, Header};
+use byteorder::{BigEndian, ByteOrder};
+use std::alloc::AllocError;
+
+/// What a bit of this value adds to the flag octet.
+fn bit(set: bool, value: u8) -> u8
+    ensures { result ≡ worth set value }
+{
+    if set { value } else { 0 }
+}
+
+/// The flag octet of the AVP, with zero reserved bits.
+fn avp_flag_octet(avp: &Avp) -> u8
+    ensures { result ≡ avp_flags avp.now }
+{
+    bit(avp.vendor.is_some(), 0x80) | bit(avp.mandatory, 0x40) | bit(avp.protected, 0x20)
+}
+
+/// The header of the AVP with this Length, and how many octets it takes.
+fn avp_header(avp: &Avp, length: u32) -> ([u8; 12], usize)
+    requires { length < 256 ^ 3 }
+    ensures size { result.1 ≡ avp_header_len avp.now.vendor }
+    ensures octets { take result.1 result.0 ≡ be avp.now.code 4 ++ avp_flags avp.now ∷ be length 3 ++ vendor_octets avp.now.vendor }
+{
+    let mut header = [0; 12];
+    BigEndian::write_u32(&mut header, avp.code);
+    header[4] = avp_flag_octet(avp);
+    BigEndian::write_u24(&mut header[5..], length);
+    match avp.vendor {
+        None => (header, 8),
+        Some(vendor) => {
+            BigEndian::write_u32(&mut header[8..], vendor);
+            (header, 12)
+        }
+    }
+}
+
+/// The AVP, appended with zero padding and zero reserved bits.
+fn put_avp(out: &mut Vec<u8>, avp: &Avp) -> Result<(), AllocError>
+    requires { avp_length avp.now < 256 ^ 3 }
+    ensures { OnOk result (out.new.items ≡ out.old.items ++ canonical_avp avp.now) }
+{
+    let data = avp.bytes.as_slice();
+    let length = header_len(avp.vendor) + data.len();
+    let (header, size) = avp_header(avp, length as u32);
+    out.extend_from_slice(&header[..size])?;
+    out.extend_from_slice(data)?;
+    out.extend_from_slice(&[0; 3][..(4 - length % 4) % 4])?;
+    Ok(())
+}
+
+/// The AVPs, appended one after the other.
+pub(crate) fn put_list(out: &mut Vec<u8>, avps: &[Avp]) -> Result<(), AllocError>
+    requires { SpellsList avps.now (canonical_list avps.now) }
+    ensures { OnOk result (out.new.items ≡ out.old.items ++ canonical_list avps.now) }
+{
+    for avp in avps {
+        put_avp(out, avp)?;
+    }
+    Ok(())
+}
+
+/// The flag octet of the message, with zero reserved bits.
+fn header_flag_octet(header: Header) -> u8
+    ensures { result ≡ header_flags header }
+{
+    bit(header.request, 0x80)
+        | bit(header.proxiable, 0x40)
+        | bit(header.error, 0x20)
+        | bit(header.retransmit, 0x10)
+}
+
+/// The header of a message of this many octets. `None` where the Command Code doesn't fit.
+pub(crate) fn header_octets(header: Header, size: u32) -> Option<[u8; 20]>
+    requires { size ≤ 16777212 }
+    ensures octets { IfSome result (λ octets. octets ≡ canonical_header header size) }
+    ensures spelled { IfSome result (λ octets. SpellsHeader header size octets) }
+    ensures none { IfNone result (16777215 < header.command) }
+{
+    if header.command > 0xff_ffff {
+        return None;
+    }
+    let mut octets = [0; 20];
+    octets[0] = 1;
+    BigEndian::write_u24(&mut octets[1..], size);
+    octets[4] = header_flag_octet(header);
+    BigEndian::write_u24(&mut octets[5..], header.command);
+    BigEndian::write_u32(&mut octets[8..], header.application);
+    BigEndian::write_u32(&mut octets[12..], header.hop_id);
+    BigEndian::write_u32(&mut octets[16..], header.end_id);
+    Some(octets)
+}
