@@ -1,5 +1,6 @@
 //! Tables of cases: what is done to a core, and what must come of it.
 
+mod messages;
 mod own_rules;
 mod rows;
 mod watchdog;

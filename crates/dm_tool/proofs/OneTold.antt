@@ -9,11 +9,11 @@ use Rattle.dm_tool.specs.Messages.{TellsHeader, TellsAvp}
 use Rattle.dm_tool.proofs.Slashes.{one_number, one_code}
 
 -- a character tells one flag
-one_mark : (a b : Bool) (letter : ℕ) → letter ≢ 45 → mark a letter ≡ mark b letter → a ≡ b
-one_mark true true letter other h = refl
-one_mark false false letter other h = refl
-one_mark true false letter other h = absurd (other h)
-one_mark false true letter other h = absurd (other (sym h))
+one_mark : (letter : ℕ) (a b : Bool) → letter ≢ 45 → mark a letter ≡ mark b letter → a ≡ b
+one_mark letter true true other h = refl
+one_mark letter false false other h = refl
+one_mark letter true false other h = absurd (other h)
+one_mark letter false true other h = absurd (other (sym h))
 
 abbrev made_header : Bool → Bool → Bool → Bool → ℕ → ℕ → ℕ → ℕ → Header
 made_header r p e t c a h n = record { request = r; proxiable = p; error = e; retransmit = t; command = c; application = a; hop_id = h; end_id = n }
@@ -43,10 +43,10 @@ pub one_header : (h k : Header) (line : List ℕ) → TellsHeader h line → Tel
 one_header h k line a b =
     let parts = header_words a.whole b.whole in
     let flags = cells_four parts.1 in
-    let e0 = one_mark h.request k.request 82 (λ e. absurd (omega (arith, e))) flags.0 in
-    let e1 = one_mark h.proxiable k.proxiable 80 (λ e. absurd (omega (arith, e))) flags.1 in
-    let e2 = one_mark h.error k.error 69 (λ e. absurd (omega (arith, e))) flags.2 in
-    let e3 = one_mark h.retransmit k.retransmit 84 (λ e. absurd (omega (arith, e))) flags.3 in
+    let e0 = one_mark 82 h.request k.request (λ e. absurd (omega (arith, e))) flags.0 in
+    let e1 = one_mark 80 h.proxiable k.proxiable (λ e. absurd (omega (arith, e))) flags.1 in
+    let e2 = one_mark 69 h.error k.error (λ e. absurd (omega (arith, e))) flags.2 in
+    let e3 = one_mark 84 h.retransmit k.retransmit (λ e. absurd (omega (arith, e))) flags.3 in
     let Command : List ℕ → Type 0 = λ w. TellsNumber h.command w in
     let Application : List ℕ → Type 0 = λ w. TellsNumber h.application w in
     let Hop : List ℕ → Type 0 = λ w. TellsNumber h.hop_id w in
@@ -80,8 +80,8 @@ one_avp a b line h k =
     let Code : List ℕ → Type 0 = λ w. TellsCode a.code a.vendor w in
     let Data : List ℕ → Type 0 = λ w. TellsData a.bytes w in
     let codes_are = one_code a.code b.code a.vendor b.vendor k.code (subst Code parts.0 h.tells_code) k.tells_code in
-    let e2 = one_mark a.mandatory b.mandatory 77 (λ e. absurd (omega (arith, e))) flags.1 in
-    let e3 = one_mark a.protected b.protected 80 (λ e. absurd (omega (arith, e))) flags.2 in
+    let e2 = one_mark 77 a.mandatory b.mandatory (λ e. absurd (omega (arith, e))) flags.1 in
+    let e3 = one_mark 80 a.protected b.protected (λ e. absurd (omega (arith, e))) flags.2 in
     let e4 = one_data a.bytes b.bytes k.bytes (subst Data parts.2 h.tells_bytes) k.tells_bytes in
     same_avp a b codes_are.0 codes_are.1 e2 e3 e4
   where

@@ -1,12 +1,11 @@
 -- The text of an input, from what stands behind its lines.
-use Rattle.std.proofs.Common.{◌≡◌, ◌≤◌, ◌+◌, inr, inl, Bool, false, Option, List, [], ◌∷◌, ◌++◌, ℕ, length, length-append, codes, append_assoc, append-nil, arith, ap, sym, ◌∙◌, refl, subst}
+use Rattle.std.proofs.Common.{◌≡◌, ◌≤◌, ◌+◌, inr, Bool, false, Option, List, [], ◌∷◌, ◌++◌, ℕ, length, length-append, codes, append_assoc, arith, ap, sym, ◌∙◌, refl, subst}
 use Rattle.std.specs.Fmt.{decimal}
 use Rattle.std.specs.Str.Lines.{lines}
 use Rattle.dm_wire.specs.declared.avp.Avp.{Avp}
 use Rattle.dm_wire.specs.declared.message.Header.{Header}
 use Rattle.dm_wire.specs.declared.message.Message.{Message}
 use Rattle.dm_tool.specs.Lines.{content, trimmed, is_skipped}
-use Rattle.dm_tool.specs.Messages.{TellsAll}
 use Rattle.dm_tool.specs.Build.{BuildsMessages, BuildsText}
 use Rattle.dm_tool.specs.Progress.{last_message, Stands, GoesOnNowhere}
 use Rattle.dm_tool.proofs.Buildings.{before_last, nowhere}
@@ -22,14 +21,6 @@ line_counts input line rest rest' before h k =
 -- the line behind those before it
 pub lines-next : (input line rest rest' : List ℕ) (before : List (List ℕ)) → lines input ≡ before ++ lines rest → lines rest ≡ line ∷ lines rest' → lines input ≡ (before ++ line ∷ []) ++ lines rest'
 lines-next input line rest rest' before h k = h ∙ ap (λ v. before ++ v) k ∙ sym (append_assoc before (line ∷ []) (lines rest'))
-
--- no lines are left
-pub built_all : (input rest text : List ℕ) (good : Bool) (before : List (List ℕ)) → lines input ≡ before ++ lines rest → lines rest ≡ []
-    → (l : List Message) × TellsAll l (content before) × BuildsMessages l text good → BuildsText input text good
-built_all input rest text good before h none told =
-    let all : lines input ≡ before = h ∙ ap (λ v. before ++ v) none ∙ append-nil before in
-    let Lines : List (List ℕ) → Type 0 = λ v. TellsAll told.0 (content v) in
-    inl (told.0, subst Lines (sym all) told.1, told.2)
 
 -- a line is out of place
 pub built_up_to : (input line rest rest' text new : List ℕ) (good : Bool) (last : Option Header) (avps : List Avp) (before : List (List ℕ)) (number : ℕ) → lines input ≡ before ++ lines rest → lines rest ≡ line ∷ lines rest'

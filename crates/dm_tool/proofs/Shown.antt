@@ -20,11 +20,6 @@ content-line s rest line h is =
     ap (λ l. filter (λ t. not (is_skipped t)) (map trimmed l)) h
     ∙ ap (λ b. cond (not b) (trimmed line ∷ content_lines rest) (content_lines rest)) is
 
-pub content-skipped : (s rest line : List ℕ) → lines s ≡ line ∷ lines rest → is_skipped (trimmed line) ≡ true → content_lines s ≡ content_lines rest
-content-skipped s rest line h is =
-    ap (λ l. filter (λ t. not (is_skipped t)) (map trimmed l)) h
-    ∙ ap (λ b. cond (not b) (trimmed line ∷ content_lines rest) (content_lines rest)) is
-
 -- what a line prints goes behind the text so far, and before what the lines to come print
 pub shows-next : (all rest rest' : List (List ℕ)) (line text first new : List ℕ) (good fine good' : Bool) → rest ≡ line ∷ rest' → ShowsLine line first fine → new ≡ text ++ first → good' ≡ (good && fine)
     → ((more : List ℕ) (others : Bool) → ShowsLines rest more others → ShowsLines all (text ++ more) (good && others))

@@ -13,9 +13,17 @@ use Rattle.dm_wire.specs.declared.fault.WireFault.TheVariants.{TooShort, Version
 abbrev pub mark : Bool → ℕ → ℕ
 mark set letter = if set then letter else 45
 
+-- `R` `P` `E` `T`, each in its place or `-`
+abbrev pub header_marks : Bool → Bool → Bool → Bool → List ℕ
+header_marks r p e t = mark r 82 ∷ mark p 80 ∷ mark e 69 ∷ mark t 84 ∷ []
+
+-- `V` `M` `P`, each in its place or `-`
+abbrev pub avp_marks : Bool → Bool → Bool → List ℕ
+avp_marks v m p = mark v 86 ∷ mark m 77 ∷ mark p 80 ∷ []
+
 -- the four characters `R` `P` `E` `T` or `-` of a header (RFC 6733, 3)
 abbrev pub header_flags : Header → List ℕ
-header_flags h = mark h.request 82 ∷ mark h.proxiable 80 ∷ mark h.error 69 ∷ mark h.retransmit 84 ∷ []
+header_flags h = header_marks h.request h.proxiable h.error h.retransmit
 
 -- a message's first line
 unfoldable pub header_text : Header → List ℕ
@@ -25,7 +33,7 @@ header_text h =
 
 -- the three characters `V` `M` `P` or `-` of an AVP (RFC 6733, 4.1)
 abbrev pub avp_flags : Avp → List ℕ
-avp_flags a = mark (is_some a.vendor) 86 ∷ mark a.mandatory 77 ∷ mark a.protected 80 ∷ []
+avp_flags a = avp_marks (is_some a.vendor) a.mandatory a.protected
 
 -- where there is a vendor, `/` and the vendor
 abbrev pub vendor_text : Option ℕ → List ℕ

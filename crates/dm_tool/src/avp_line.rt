@@ -1,7 +1,7 @@
 //! The line of an AVP.
 ghost use Rattle.std.specs.Prelude.{◌≡◌, ◌==◌, ◌∷◌, [], ℕ, List, Option, Bool, position, is_some, IfOk, IfSome, IfNone, MatchOption};
 ghost use Rattle.dm_wire.specs.declared.avp.Avp.{Avp};
-ghost use Rattle.dm_tool.specs.Text.{mark};
+ghost use Rattle.dm_tool.specs.Text.{avp_marks};
 ghost use Rattle.dm_tool.specs.Words.{words, TellsCode, TellsData};
 ghost use Rattle.dm_tool.specs.Messages.{TellsAvp};
 
@@ -43,7 +43,7 @@ struct Parts<'a> {
 
 fn read_parts(line: &[u8]) -> Option<Parts<'_>>
     ensures told { IfSome result (λ p. (code : List ℕ) × TellsCode p.code p.vendor code
-        × (words line.now ≡ code ∷ (mark (is_some p.vendor) 86 ∷ mark p.mandatory 77 ∷ mark p.protected 80 ∷ []) ∷ p.word.now ∷ [])) }
+        × (words line.now ≡ code ∷ avp_marks (is_some p.vendor) p.mandatory p.protected ∷ p.word.now ∷ [])) }
     ensures none { IfNone result ((a : Avp) → TellsAvp a line.now → ⊥) }
 {
     let mut words = Words::new(line);
@@ -88,8 +88,8 @@ fn slash(word: &[u8]) -> Option<usize>
 
 /// Whether M and P are set. V stands just where there is a vendor.
 fn read_flags(word: &[u8], has_vendor: bool) -> Option<(bool, bool)>
-    ensures told { IfSome result (λ f. word.now ≡ mark has_vendor 86 ∷ mark f.0 77 ∷ mark f.1 80 ∷ []) }
-    ensures none { IfNone result ((m p : Bool) → word.now ≡ mark has_vendor 86 ∷ mark m 77 ∷ mark p 80 ∷ [] → ⊥) }
+    ensures told { IfSome result (λ f. word.now ≡ avp_marks has_vendor f.0 f.1) }
+    ensures none { IfNone result ((m p : Bool) → word.now ≡ avp_marks has_vendor m p → ⊥) }
 {
     let [vendor, mandatory, protected] = word else {
         return None;

@@ -1,7 +1,7 @@
 //! The first line of a message.
 ghost use Rattle.std.specs.Prelude.{◌≡◌, ◌∷◌, [], Bool, IfSome, IfNone};
 ghost use Rattle.dm_wire.specs.declared.message.Header.{Header};
-ghost use Rattle.dm_tool.specs.Text.{mark};
+ghost use Rattle.dm_tool.specs.Text.{mark, header_marks};
 ghost use Rattle.dm_tool.specs.Messages.{TellsHeader};
 
 use crate::word::Words;
@@ -44,8 +44,8 @@ struct Flags {
 
 /// The flags that a word tells, each by its letter or `-` in its place.
 fn read_flags(word: &[u8]) -> Option<Flags>
-    ensures told { IfSome result (λ f. word.now ≡ mark f.request 82 ∷ mark f.proxiable 80 ∷ mark f.error 69 ∷ mark f.retransmit 84 ∷ []) }
-    ensures none { IfNone result ((r p e t : Bool) → word.now ≡ mark r 82 ∷ mark p 80 ∷ mark e 69 ∷ mark t 84 ∷ [] → ⊥) }
+    ensures told { IfSome result (λ f. word.now ≡ header_marks f.request f.proxiable f.error f.retransmit) }
+    ensures none { IfNone result ((r p e t : Bool) → word.now ≡ header_marks r p e t → ⊥) }
 {
     let [request, proxiable, error, retransmit] = word else {
         return None;

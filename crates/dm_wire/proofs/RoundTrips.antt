@@ -1,20 +1,17 @@
 -- What has a spelling has a canonical one, and that is read back.
-use Rattle.std.proofs.Common.{◌≡◌, ℕ, ◌+◌, Bool, true, false, List, [], ◌∷◌, length, refl, sym, ◌∙◌, arith}
+use Rattle.std.proofs.Common.{◌≡◌, ℕ, Bool, true, false, List, [], ◌∷◌, length, refl, sym, ◌∙◌, arith}
 use Rattle.dm_wire.specs.declared.avp.Avp.{Avp}
 use Rattle.dm_wire.specs.declared.message.Header.{Header}
 use Rattle.dm_wire.specs.declared.message.Message.{Message}
 use Rattle.dm_wire.specs.Spelling.{is_set, SpellsList, SpellsHeader, SpellsMessage}
-use Rattle.dm_wire.specs.Canonical.{worth, header_flags, canonical_avp, canonical_list, canonical_header, message_size, canonical_message}
+use Rattle.dm_wire.specs.Canonical.{flag_octet, header_flags, canonical_avp, canonical_list, canonical_header, message_size, canonical_message}
 use Rattle.dm_wire.proofs.Canonicals.{avp_spelled}
 use Rattle.dm_wire.proofs.Limit.{spelled_size}
 use Rattle.dm_wire.proofs.Messages.{one_message}
 use Rattle.dm_wire.proofs.Lists.{one_list}
 
-abbrev flags : Bool → Bool → Bool → Bool → ℕ
-flags r p e t = worth r 128 + worth p 64 + worth e 32 + worth t 16
-
 -- the bits of a flag octet are those that it was made of
-header_bits : (r p e t : Bool) → (is_set (flags r p e t) 128 ≡ r) × (is_set (flags r p e t) 64 ≡ p) × (is_set (flags r p e t) 32 ≡ e) × (is_set (flags r p e t) 16 ≡ t)
+header_bits : (r p e t : Bool) → (is_set (flag_octet r p e t) 128 ≡ r) × (is_set (flag_octet r p e t) 64 ≡ p) × (is_set (flag_octet r p e t) 32 ≡ e) × (is_set (flag_octet r p e t) 16 ≡ t)
 header_bits true true true true = (refl, refl, refl, refl)
 header_bits true true true false = (refl, refl, refl, refl)
 header_bits true true false true = (refl, refl, refl, refl)

@@ -26,9 +26,13 @@ canonical_avp a = be a.code 4 ++ avp_flags a ∷ be (avp_length a) 3 ++ vendor_o
 abbrev pub canonical_list : List Avp → List ℕ
 canonical_list l = flat_map canonical_avp l
 
--- the flag octet of a message: R P E T, then four zero bits (3)
+-- the flag octet R P E T, then four zero bits (3)
+abbrev pub flag_octet : Bool → Bool → Bool → Bool → ℕ
+flag_octet r p e t = worth r 128 + worth p 64 + worth e 32 + worth t 16
+
+-- the flag octet of a message (3)
 abbrev pub header_flags : Header → ℕ
-header_flags h = worth h.request 128 + worth h.proxiable 64 + worth h.error 32 + worth h.retransmit 16
+header_flags h = flag_octet h.request h.proxiable h.error h.retransmit
 
 -- the header of a message of this size, with zero reserved bits (3)
 abbrev pub canonical_header : Header → ℕ → List ℕ

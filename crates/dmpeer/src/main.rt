@@ -1,8 +1,10 @@
 //! The program `dmpeer`: reads standard input as its words ask, and prints to standard output.
 //!
-//! Its words are `show` or `build`. What a run answers is dm_tool's; here are only the command line, the
+//! Its word is `show` or `build`. What a run answers is dm_tool's; here are only the command line, the
 //! standard streams and the status.
 #![tactic(auto)]
+
+ghost use Rattle.std.specs.Prelude.{◌≡◌, IfErr};
 
 use dm_tool::{Choice, ToolFault, choose, ending, run_build, run_show};
 use std::env;
@@ -26,7 +28,10 @@ fn main(rt: HostRuntime) -> ExitCode {
 }
 
 /// The command that the words after the program's name choose. A word that isn't UTF-8 chooses none.
-fn chosen(rt: &(impl Env + AllocGlobal)) -> Result<Option<Choice>, ToolFault> {
+/// Where the words can't be had, that is want of memory.
+fn chosen(rt: &(impl Env + AllocGlobal)) -> Result<Option<Choice>, ToolFault>
+    ensures { IfErr result (λ fault. fault ≡ ToolFault.Memory) }
+{
     let words = match env::args(rt) {
         Ok(words) => words,
         Err(error) if error.kind() == ErrorKind::InvalidData => return Ok(None),

@@ -1,5 +1,5 @@
-use Rattle.std.proofs.Common.{◌∷◌, [], List, ℕ, ap, sym, ◌∙◌, subst, is_some}
-use Rattle.dm_tool.specs.Text.{mark}
+use Rattle.std.proofs.Common.{List, ℕ, ap, sym, ◌∙◌, subst, is_some}
+use Rattle.dm_tool.specs.Text.{avp_marks}
 use Rattle.dm_tool.specs.Words.{words, TellsCode}
 use Rattle.dm_tool.proofs.Options.{none-anyway}
 use Rattle.dm_tool.proofs.Places.{first, second}
@@ -13,4 +13,4 @@ returns-in_err-mandatory-clause-none c =
     let same = one_code a.code c.in_ok-code.code a.vendor c.in_ok-code.vendor c.in_ok-next.field-0.now (subst Code (first (ap words c.new-words.ensures ∙ told.whole) c.in_ok-next.ensures.steps) told.tells_code) c.in_ok-code.ensures.told in
     let flags = second c.in_ok-next.ensures.steps c.in_ok-next-2.ensures.steps (ap words c.new-words.ensures ∙ told.whole) in
     c.in_err-mandatory.ensures.none a.mandatory a.protected
-    (flags ∙ ap (λ v. mark (is_some v) 86 ∷ mark a.mandatory 77 ∷ mark a.protected 80 ∷ []) same.1 ∙ ap (λ v. mark v 86 ∷ mark a.mandatory 77 ∷ mark a.protected 80 ∷ []) (sym c.is_some.ensures)))
+    (flags ∙ ap (λ v. avp_marks (is_some v) a.mandatory a.protected) same.1 ∙ ap (λ v. avp_marks v a.mandatory a.protected) (sym c.is_some.ensures)))
