@@ -1,10 +1,25 @@
-//! What the AVPs of Diameter mean (RFC 6733, 4): the values of their types.
+//! What the AVPs and commands of Diameter mean (RFC 6733, 3.2 and 4): values, dictionaries, and the verdict
+//! on a message, which is its first fault in a stated order.
 #![tactic(auto)]
 
+mod counts;
+mod dictionary;
+mod entries;
+mod judge;
+mod judged;
+pub mod laws;
+mod list;
+mod message;
+mod rules;
+mod verdict;
+
+pub use dictionary::Dictionary;
+pub use dm_definitions::{AvpDef, CommandDef, DictFault, Entry, Form, Rule};
 pub use dm_value::{
     Address, AvpType, Ip, NoMemory, Text, Value, ValueFault, least_len, read_value, unix_seconds,
     value_fault, write_value,
 };
+pub use verdict::Verdict;
 
 #[cfg(test)]
 mod tests;

@@ -1,9 +1,11 @@
 pub mod Buildings
 pub mod Commands
 pub mod Contents
+pub mod Dividing
 pub mod Known
 pub mod Numerals
 pub mod OneBuilt
+pub mod OneChecked
 pub mod OneList
 pub mod OneTold
 pub mod Options

@@ -8,3 +8,8 @@ none-anyway (Some x) p = tt
 pub ok-then : {A E : Type 0} {P Q : A → Type 0} (r : Result A E) → ((x : A) → P x → Q x) → IfOk r P → IfOk r Q
 ok-then (Ok x) f h = f x h
 ok-then (Err e) f h = tt
+
+-- three facts of a value give a fourth
+pub ok-three : {A E : Type 0} {P Q R S : A → Type 0} (r : Result A E) → ((x : A) → P x → Q x → R x → S x) → IfOk r P → IfOk r Q → IfOk r R → IfOk r S
+ok-three (Ok x) f p q t = f x p q t
+ok-three (Err e) f p q t = tt

@@ -1,11 +1,15 @@
 pub mod Build
 pub mod Choice
+pub mod Check
 pub mod Ending
+pub mod HexLines
 pub mod Lines
 pub mod Messages
 pub mod OneText
+pub mod Parts
 pub mod Progress
 pub mod Run
 pub mod Show
+pub mod Tasks
 pub mod Text
 pub mod Words

@@ -9,6 +9,11 @@ ghost use Rattle.dm_tool.specs.Choice.{words_of};
 pub enum Choice {
     /// Prints each message of the input as text.
     Show,
+    /// Prints of each message of the input whether it is good, or its first fault.
+    Check {
+        /// Whether the input begins with a dictionary over the base one.
+        with_dict: bool,
+    },
     /// Turns what show prints back into octets.
     Build,
 }
@@ -20,7 +25,11 @@ pub fn choose(words: &[String]) -> Option<Choice>
 {
     match words {
         [word] if word.as_str() == "show" => Some(Choice::Show),
+        [word] if word.as_str() == "check" => Some(Choice::Check { with_dict: false }),
         [word] if word.as_str() == "build" => Some(Choice::Build),
+        [word, option] if word.as_str() == "check" && option.as_str() == "--dict" => {
+            Some(Choice::Check { with_dict: true })
+        }
         _ => None,
     }
 }

@@ -1,6 +1,7 @@
 //! Why a run of the program stops before its end.
 ghost use Rattle.std.specs.Prelude.{◌≡◌};
 
+use dm_dict::NoMemory;
 use std::alloc::{AllocError, AllocFailed};
 use thiserror::Error;
 
@@ -34,6 +35,16 @@ impl<T: Drop> From<AllocFailed<T>> for ToolFault {
     ghost from_gives = { λ _ e. e ≡ Memory };
 
     fn from(_e: AllocFailed<T>) -> ToolFault {
+        ToolFault::Memory
+    }
+}
+
+impl From<NoMemory> for ToolFault {
+    ghost use Rattle.dm_tool.specs.declared.fault.ToolFault.TheVariants.{Memory};
+
+    ghost from_gives = { λ _ e. e ≡ Memory };
+
+    fn from(_e: NoMemory) -> ToolFault {
         ToolFault::Memory
     }
 }

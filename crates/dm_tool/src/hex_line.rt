@@ -1,7 +1,7 @@
 //! Octets in hexadecimal, one run of them on a line.
 ghost use Rattle.std.specs.Prelude.{◌≡◌, OnOk, IfOk};
 ghost use Rattle.std.specs.Option.{option_map};
-ghost use Rattle.dm_tool.specs.Show.{without_spaces, line_octets};
+ghost use Rattle.dm_tool.specs.HexLines.{without_spaces, line_octets};
 
 use hex::FromHexError;
 use std::alloc::{AllocError, Global};

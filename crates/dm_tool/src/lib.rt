@@ -4,6 +4,7 @@
 mod avp_line;
 mod build;
 mod building;
+mod check;
 mod choice;
 mod fault;
 mod header_line;
@@ -11,16 +12,20 @@ mod hex_line;
 mod input;
 pub mod laws;
 mod line;
+mod messages;
 mod output;
+mod parts;
 mod run;
 mod show;
 mod status;
 #[cfg(test)]
 mod tests;
 mod text;
+mod verdict;
 mod word;
 
 pub use crate::build::run_build;
+pub use crate::check::run_check;
 pub use crate::choice::{Choice, choose};
 pub use crate::fault::ToolFault;
 pub use crate::input::INPUT_LIMIT;

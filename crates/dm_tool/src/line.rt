@@ -47,7 +47,8 @@ impl<'a> Iterator for Lines<'a> {
     }
 }
 
-fn line_feed(input: &[u8]) -> Option<usize>
+/// Where the first LF stands.
+pub fn line_feed(input: &[u8]) -> Option<usize>
     ensures { result ≡ position (λ b. b == 10) input.now }
 {
     input.iter().position(|b| *b == b'\n')

@@ -4,11 +4,12 @@ ghost use Rattle.std.specs.Io.KnownBytes.{Appends, Consumes, Keeps};
 ghost use Rattle.dm_tool.specs.Run.{Prints};
 
 use crate::build::build_text;
+use crate::check::{check_text, check_with_dictionary};
 use crate::choice::Choice;
 use crate::fault::ToolFault;
 use crate::input::{INPUT_LIMIT, read_input};
+use crate::messages::{Task, messages_text};
 use crate::output::write_text;
-use crate::show::show_text;
 use std::alloc::Global;
 use std::io::{Read, Write};
 
@@ -45,7 +46,9 @@ fn text_of(alloc: Global, choice: Choice, input: &[u8]) -> Result<(Vec<u8>, bool
     ensures fault { IfErr result (λ e. e ≡ ToolFault.Memory) }
 {
     match choice {
-        Choice::Show => show_text(alloc, input),
+        Choice::Show => messages_text(alloc, Task::Show, input),
+        Choice::Check { with_dict: false } => check_text(alloc, input),
+        Choice::Check { with_dict: true } => check_with_dictionary(alloc, input),
         Choice::Build => build_text(alloc, input),
     }
 }

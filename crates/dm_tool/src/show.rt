@@ -1,16 +1,12 @@
 //! The command show: messages in hexadecimal, one a line, printed as text.
 ghost use Rattle.std.specs.Prelude.{◌≡◌, ◌<◌, ◌≤◌, ◌+◌, ◌++◌, ◌⊎◌, ℕ, Bool, List, length, IfSome, IfOk, IfErr, IsErrOf};
 ghost use Rattle.std.specs.Io.KnownBytes.{Appends, Consumes, Keeps};
-ghost use Rattle.dm_tool.specs.Show.{ShowsMessage, ShowsFault, ShowsLine, ShowsText};
+ghost use Rattle.dm_tool.specs.Show.{ShowsText};
 
 use crate::choice::Choice;
 use crate::fault::ToolFault;
-use crate::hex_line::read_line;
 use crate::input::INPUT_LIMIT;
-use crate::line::{Lines, is_passed_over, trim};
 use crate::run::run;
-use crate::text::{push_fault, push_message};
-use dm_wire::Message;
 use std::alloc::Global;
 use std::io::{Read, Write};
 
@@ -41,60 +37,4 @@ pub fn run_show<R: Read, W: Write>(
         × Consumes (R.remaining reader.old) (R.remaining reader.new) octets }
 {
     run(alloc, Choice::Show, reader, writer)
-}
-
-/// The text for an input, and whether all of it is good.
-pub fn show_text(alloc: Global, input: &[u8]) -> Result<(Vec<u8>, bool), ToolFault>
-    ensures shown { IfOk result (λ shown. ShowsText input.now shown.0.items shown.1) }
-    ensures fault { IfErr result (λ e. e ≡ ToolFault.Memory) }
-{
-    let mut text = Vec::new(alloc);
-    let mut digits = Vec::new(alloc);
-    let mut good = true;
-    for line in Lines::new(input) {
-        let line = trim(line);
-        if !is_passed_over(line) {
-            let fine = show_line(alloc, line, &mut digits, &mut text)?;
-            good = good && fine;
-        }
-    }
-    Ok((text, good))
-}
-
-/// Appends the text for a line. `digits` is room that is used again from line to line.
-fn show_line(
-    alloc: Global,
-    line: &[u8],
-    digits: &mut Vec<u8>,
-    text: &mut Vec<u8>,
-) -> Result<bool, ToolFault>
-    ensures shown { IfOk result (λ good. (more : List ℕ) × (text.new.items ≡ text.old.items ++ more) × ShowsLine line.now more good) }
-    ensures fault { IfErr result (λ e. e ≡ ToolFault.Memory) }
-{
-    match read_line(alloc, line, digits)? {
-        Some(octets) => show_octets(alloc, octets.as_slice(), text),
-        None => {
-            text.extend_from_slice(b"fault hex\n")?;
-            Ok(false)
-        }
-    }
-}
-
-/// Appends the text for the octets of a line.
-fn show_octets(alloc: Global, octets: &[u8], text: &mut Vec<u8>) -> Result<bool, ToolFault>
-    ensures shown { IfOk result (λ good. (more : List ℕ) × (text.new.items ≡ text.old.items ++ more)
-        × (ShowsMessage octets.now more good ⊎ ShowsFault octets.now more good)) }
-    ensures fault { IfErr result (λ e. e ≡ ToolFault.Memory) }
-{
-    match Message::decode(alloc, octets) {
-        Ok(message) => {
-            push_message(text, &message)?;
-            Ok(true)
-        }
-        Err(fault) => {
-            push_fault(text, fault)?;
-            text.push(b'\n')?;
-            Ok(false)
-        }
-    }
 }

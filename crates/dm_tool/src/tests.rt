@@ -4,6 +4,7 @@ use std::process::Abort;
 use std::test::Fail;
 
 mod build;
+mod check;
 mod devices;
 mod lines;
 
@@ -113,6 +114,12 @@ fn empty_input(rt: HostRuntime) -> Result<(), Fail> {
         ("show x", None),
         ("", None),
         ("show", Some(Choice::Show)),
+        ("check", Some(Choice::Check { with_dict: false })),
+        ("check --dict", Some(Choice::Check { with_dict: true })),
+        ("check x", None),
+        ("check --dict x", None),
+        ("--dict check", None),
+        ("show --dict", None),
         ("build", Some(Choice::Build)),
         ("build x", None),
     ] {

@@ -19,6 +19,7 @@ pub use encode::encode_avps;
 pub use fault::WireFault;
 pub use message::{Header, Message};
 pub use octets::Octets;
+pub use read::{AvpRef, first_avp};
 
 #[cfg(test)]
 mod tests;

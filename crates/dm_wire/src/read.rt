@@ -7,19 +7,24 @@ use crate::{Avp, Header, Octets, WireFault};
 use byteorder::{BigEndian, ByteOrder};
 use std::alloc::{AllocError, Global};
 
-/// An AVP whose data lies in the octets that it was read from.
+/// An AVP whose data lies where it was read (RFC 6733, 4.1).
 #[derive(Clone, Copy, Debug)]
-pub(crate) struct AvpRef<'a> {
-    pub(crate) code: u32,
-    pub(crate) vendor: Option<u32>,
-    pub(crate) mandatory: bool,
-    pub(crate) protected: bool,
-    pub(crate) bytes: &'a [u8],
+pub struct AvpRef<'a> {
+    /// The AVP Code.
+    pub code: u32,
+    /// The Vendor-ID, where the V bit is set.
+    pub vendor: Option<u32>,
+    /// The M bit.
+    pub mandatory: bool,
+    /// The P bit.
+    pub protected: bool,
+    /// The data, without padding.
+    pub bytes: &'a [u8],
 }
 
 impl AvpRef<'_> {
-    /// The AVP with a copy of its data.
-    pub(crate) fn copied(&self, alloc: Global) -> Result<Avp, AllocError>
+    /// The AVP with a copy of its data, or want of memory.
+    pub fn copied(&self, alloc: Global) -> Result<Avp, AllocError>
         ensures { IfOk result (λ avp. avp ≡ record {
           code = self.now.code;
           vendor = self.now.vendor;
@@ -38,7 +43,8 @@ impl AvpRef<'_> {
     }
 }
 
-/// The AVP at the front, and how many octets it takes, padding included.
+/// The AVP at the front, and how many octets it takes, padding included; `None` where no AVP begins
+/// there. It takes no memory.
 ///
 /// ```text
 ///  0                   1                   2                   3
@@ -48,7 +54,7 @@ impl AvpRef<'_> {
 /// |                        Vendor-ID (opt)                        |
 /// |    Data ...
 /// ```
-pub(crate) fn first_avp(octets: &[u8]) -> Option<(AvpRef<'_>, usize)>
+pub fn first_avp(octets: &[u8]) -> Option<(AvpRef<'_>, usize)>
     ensures within { IfSome result (λ read. read.1 ≤ length octets.now) }
     ensures moves { IfSome result (λ read. 0 < read.1) }
     ensures found { IfSome result (λ read. SpellsAvp (record {

@@ -1,12 +1,12 @@
 //! The program `dmpeer`: reads standard input as its words ask, and prints to standard output.
 //!
-//! Its word is `show` or `build`. What a run answers is dm_tool's; here are only the command line, the
-//! standard streams and the status.
+//! Its words are `show`, `check`, `check --dict` or `build`. What a run answers is dm_tool's; here are only the
+//! command line, the standard streams and the status.
 #![tactic(auto)]
 
 ghost use Rattle.std.specs.Prelude.{◌≡◌, IfErr};
 
-use dm_tool::{Choice, ToolFault, choose, ending, run_build, run_show};
+use dm_tool::{Choice, ToolFault, choose, ending, run_build, run_check, run_show};
 use std::env;
 use std::io::ErrorKind;
 use std::process::ExitCode;
@@ -15,6 +15,9 @@ use std::rt::Env;
 fn main(rt: HostRuntime) -> ExitCode {
     let outcome = match chosen(&rt) {
         Ok(Some(Choice::Show)) => Some(run_show(rt.alloc(), &mut rt.stdin(), &mut rt.stdout())),
+        Ok(Some(Choice::Check { with_dict })) => {
+            Some(run_check(rt.alloc(), &mut rt.stdin(), &mut rt.stdout(), with_dict))
+        }
         Ok(Some(Choice::Build)) => Some(run_build(rt.alloc(), &mut rt.stdin(), &mut rt.stdout())),
         Ok(None) => None,
         Err(fault) => Some(Err(fault)),

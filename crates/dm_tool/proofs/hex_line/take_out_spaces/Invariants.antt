@@ -1,5 +1,5 @@
 use Rattle.std.proofs.Common.{◌≡◌, take}
-use Rattle.dm_tool.specs.Show.{without_spaces}
+use Rattle.dm_tool.specs.HexLines.{without_spaces}
 use Rattle.dm_tool.proofs.hex_line.take_out_spaces.Given as goal
 
 abbrev pub invariant-loop-octet : goal.invariant-loop-octet

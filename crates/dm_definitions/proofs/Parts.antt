@@ -1,0 +1,50 @@
+-- The parts of what a definition keeps to.
+use Rattle.std.proofs.Common.{◌≡◌, Bool, true, false, ◌||◌, not, nat_le, List, refl}
+use Rattle.std.proofs.lemmas.Bool.{and_parts}
+use Rattle.std.specs.List.{list_any}
+use Rattle.dm_definitions.specs.declared.def.AvpDef.{AvpDef}
+use Rattle.dm_definitions.specs.declared.def.CommandDef.{CommandDef}
+use Rattle.dm_definitions.specs.Definitions.{is_named, is_coded, is_titled, is_headed}
+use Rattle.dm_definitions.specs.Sound.{is_sound_avp, is_sound_command, is_name, is_any, fits, fits_option, is_sound_rule, is_grouped, is_empty_rule}
+
+pub is_not : (b : Bool) → not b ≡ true → b ≡ false
+is_not true e = cc
+is_not false e = refl
+
+pub record AvpParts (before : List AvpDef) (d : AvpDef) : Type 0 where
+  pub name : is_name d.name ≡ true
+  pub not_any : is_any d.name ≡ false
+  pub new_name : list_any (is_named d.name) before ≡ false
+  pub code : fits d.code ≡ true
+  pub vendor : fits_option d.vendor ≡ true
+  pub new_code : list_any (is_coded d.code d.vendor) before ≡ false
+  pub rule : is_sound_rule d.rule ≡ true
+  pub kind : (is_grouped d.kind || is_empty_rule d.rule) ≡ true
+
+pub avp_parts : (before : List AvpDef) (d : AvpDef) → is_sound_avp before d ≡ true → AvpParts before d
+avp_parts before d h =
+    let (h7, kind) = and_parts _ _ h in
+    let (h6, rule) = and_parts _ _ h7 in
+    let (h5, new_code) = and_parts _ _ h6 in
+    let (h4, vendor) = and_parts _ _ h5 in
+    let (h3, code) = and_parts _ _ h4 in
+    let (h2, new_name) = and_parts _ _ h3 in
+    let (name, not_any) = and_parts _ _ h2 in
+    record { name = name; not_any = is_not _ not_any; new_name = is_not _ new_name; code = code; vendor = vendor; new_code = is_not _ new_code; rule = rule; kind = kind }
+
+pub record CommandParts (before : List CommandDef) (d : CommandDef) : Type 0 where
+  pub name : is_name d.name ≡ true
+  pub new_name : list_any (is_titled d.name) before ≡ false
+  pub code : nat_le d.code 16777215 ≡ true
+  pub new_head : list_any (is_headed d.code d.request d.err) before ≡ false
+  pub application : fits d.application ≡ true
+  pub rule : is_sound_rule d.rule ≡ true
+
+pub command_parts : (before : List CommandDef) (d : CommandDef) → is_sound_command before d ≡ true → CommandParts before d
+command_parts before d h =
+    let (h5, rule) = and_parts _ _ h in
+    let (h4, application) = and_parts _ _ h5 in
+    let (h3, new_head) = and_parts _ _ h4 in
+    let (h2, code) = and_parts _ _ h3 in
+    let (name, new_name) = and_parts _ _ h2 in
+    record { name = name; new_name = is_not _ new_name; code = code; new_head = is_not _ new_head; application = application; rule = rule }

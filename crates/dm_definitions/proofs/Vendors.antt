@@ -1,0 +1,37 @@
+-- No AVP of a dictionary has a vendor above 32 bits.
+use Rattle.std.proofs.Common.{◌≡◌, ◌<◌, ◌≤◌, ℕ, Bool, true, false, ◌&&◌, nat_eq, List, [], ◌∷◌, ◌++◌, Option, Some, None, option_map, refl, ap, ◌∙◌, arith}
+use Rattle.std.proofs.lemmas.Bool.{and_parts, ltb-true, leb-true, ne_eqb}
+use Rattle.std.specs.List.{list_any}
+use Rattle.std.specs.Option.{option_eq}
+use Rattle.dm_grammar.specs.Tokens.{Word}
+use Rattle.dm_definitions.specs.declared.fault.DictFault.{DictFault}
+use Rattle.dm_definitions.specs.declared.def.AvpDef.{AvpDef}
+use Rattle.dm_definitions.specs.Definitions.{is_coded}
+use Rattle.dm_definitions.specs.Sound.{each_after, is_sound_avp, fits_option}
+use Rattle.dm_definitions.specs.Meaning.{number}
+use Rattle.dm_definitions.specs.Faults.{first_of, fault_if, option_faults, limit}
+use Rattle.dm_definitions.proofs.Parts.{avp_parts}
+
+and_false : (b : Bool) → (b && false) ≡ false
+and_false true = refl
+and_false false = refl
+
+other : (v : ℕ) (vendor : Option ℕ) → limit < v → fits_option vendor ≡ true → option_eq nat_eq (Some v) vendor ≡ false
+other v None above e = refl
+other v (Some u) above e = let small : u ≤ limit = leb-true u limit e in let apart : v ≡ u → ⊥ = λ same. omega arith in ne_eqb v u apart
+
+no_such_vendor : (code v : ℕ) (before avps : List AvpDef) → limit < v → each_after is_sound_avp before avps ≡ true → list_any (is_coded code (Some v)) avps ≡ false
+no_such_vendor code v before [] above sound = refl
+no_such_vendor code v before (d ∷ ds) above sound =
+    let (first, rest) = and_parts (is_sound_avp before d) (each_after is_sound_avp (before ++ d ∷ []) ds) sound in
+    let here : is_coded code (Some v) d ≡ false = ap (λ b. nat_eq code d.code && b) (other v d.vendor above (avp_parts before d first).vendor) ∙ and_false _ in
+    rw here (no_such_vendor code v (before ++ d ∷ []) ds above rest)
+
+above_limit : (b : Bool) (f g : DictFault) → first_of (fault_if b f) ≡ Some g → b ≡ true
+above_limit true f g e = refl
+above_limit false f g e = absurd cc
+
+pub vendor_above : (code : ℕ) (vendor : Option Word) (avps : List AvpDef) (f : DictFault) → each_after is_sound_avp [] avps ≡ true → first_of (option_faults limit vendor) ≡ Some f
+    → list_any (is_coded code (option_map number vendor)) avps ≡ false
+vendor_above code None avps f sound e = absurd cc
+vendor_above code (Some w) avps f sound e = no_such_vendor code (number w) [] avps (ltb-true limit (number w) (above_limit _ _ f e)) sound

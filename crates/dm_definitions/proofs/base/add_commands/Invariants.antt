@@ -1,0 +1,13 @@
+use Rattle.std.proofs.Common.{◌≡◌, ◌++◌, map, take, drop, true}
+use Rattle.dm_definitions.specs.Rows.{row_command}
+use Rattle.dm_definitions.specs.Sound.{each_after, is_sound_command}
+use Rattle.dm_definitions.specs.Tables.{IsTables}
+use Rattle.dm_definitions.proofs.base.add_commands.Given as goal
+
+abbrev pub invariant-loop-row : goal.invariant-loop-row
+invariant-loop-row l = record {
+  tables : IsTables l.tables;
+  sound : each_after is_sound_command l.tables.commands.items (map row_command (drop l.row-index l.rows)) ≡ true;
+  commands : l.tables.commands.items ≡ l.fn.tables.commands.items ++ map row_command (take l.row-index l.rows);
+  avps : l.tables.avps.items ≡ l.fn.tables.avps.items;
+}

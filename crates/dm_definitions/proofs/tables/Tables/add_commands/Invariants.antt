@@ -1,0 +1,12 @@
+use Rattle.std.proofs.Common.{◌≡◌, ◌++◌, drop, true}
+use Rattle.dm_definitions.specs.Sound.{each_after, is_sound_command}
+use Rattle.dm_definitions.specs.Tables.{IsTables}
+use Rattle.dm_definitions.proofs.tables.Tables.add_commands.Given as goal
+
+abbrev pub invariant-loop-command : goal.invariant-loop-command
+invariant-loop-command l = record {
+  tables : IsTables l.self;
+  sound : each_after is_sound_command l.self.commands.items (drop l.command-index l.commands) ≡ true;
+  commands : l.self.commands.items ++ drop l.command-index l.commands ≡ l.fn.self.commands.items ++ l.commands;
+  avps : l.self.avps.items ≡ l.fn.self.avps.items;
+}

@@ -1,0 +1,16 @@
+pub mod EntryEquality
+pub mod Definitions
+pub mod Sound
+pub mod Tables
+pub mod Base
+pub mod Rows
+pub mod Named
+pub mod Positions
+pub mod Printed
+pub mod Meaning
+pub mod Faults
+pub mod Outcome
+pub mod ItemFaults
+pub mod Numbers
+pub mod Entries
+pub mod Worded

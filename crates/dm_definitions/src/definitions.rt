@@ -1,0 +1,124 @@
+//! The definitions of a dictionary and their look-ups (RFC 6733, 3.2).
+ghost use Rattle.std.specs.Prelude.{◌≡◌, ◌⊎◌, true, IfOk, IfErr, Ok, Err, find, filter};
+ghost use Rattle.std.specs.Option.{option_copied, option_to_list};
+ghost use Rattle.dm_definitions.specs.declared.fault.DictFault.{DictFault};
+ghost use Rattle.dm_definitions.specs.declared.fault.DictFault.TheVariants as faults;
+ghost use Rattle.dm_definitions.specs.Definitions.{Definitions, nothing_defined, is_named, is_coded, is_headed};
+ghost use Rattle.dm_definitions.specs.Sound.{is_sound};
+ghost use Rattle.dm_definitions.specs.Base.{base_definitions};
+ghost use Rattle.dm_definitions.specs.Printed.{printed};
+ghost use Rattle.dm_definitions.specs.Outcome.{Defines, IsFirstFault};
+
+use crate::base::base_tables;
+use crate::print::{put_avps, put_commands};
+use crate::read::read_tables;
+use crate::tables::Tables;
+use crate::{AvpDef, CommandDef, DictFault, NoMemory};
+use std::alloc::Global;
+use std::marker::Model;
+
+/// Definitions of AVPs and commands.
+///
+/// A contract sees it as two lists of definitions, in order.
+#[derive(Debug, Drop)]
+pub struct Definitions {
+    tables: Tables,
+}
+
+impl Model for Definitions {
+    ghost use Rattle.dm_definitions.specs.Definitions.{Definitions};
+    ghost use Rattle.dm_definitions.specs.Tables.{defined, IsDictionary};
+
+    ghost Value = { Definitions };
+
+    ghost view = { λ dictionary. defined dictionary.tables };
+
+    ghost invariant = { λ dictionary. IsDictionary dictionary.tables };
+}
+
+impl Definitions {
+    /// No definitions. It takes no memory.
+    pub fn empty(alloc: Global) -> Definitions
+        ensures { result ≡ nothing_defined }
+    {
+        Definitions {
+            tables: Tables::new(alloc),
+        }
+    }
+
+    /// The base dictionary (RFC 6733, 4.5 and 5.3 to 7.5), or want of memory.
+    pub fn base(alloc: Global) -> Result<Definitions, NoMemory>
+        ensures { IfOk result (λ dictionary. dictionary ≡ base_definitions) }
+    {
+        Ok(Definitions {
+            tables: base_tables(alloc)?,
+        })
+    }
+
+    /// The definitions of the old dictionary, followed by those of the text in the command code format
+    /// (RFC 6733, 3.2). The old dictionary stays as it is.
+    ///
+    /// Refuses with the first `Syntax` of the whole text, at its last line where it ends too early; else,
+    /// token by token, with `Range`, `Duplicate` or `Order`; else with the first `UnknownName`. Where one
+    /// token shows two of them, they come in this order. `NoMemory` may come before any but `Syntax`.
+    pub fn read(alloc: Global, text: &[u8], old: &Definitions) -> Result<Definitions, DictFault>
+        ensures defines { IfOk result (λ new. Defines text.now old.now new) }
+        ensures fault { IfErr result (λ f. (f ≡ faults.NoMemory) ⊎ IsFirstFault text.now old.now f) }
+        // What the text defines is read, and its first fault is answered, unless memory runs out.
+        ensures only { (new : Definitions) → Defines text.now old.now new → (result ≡ Ok new) ⊎ (result ≡ Err faults.NoMemory) }
+        ensures refuses { (f : DictFault) → IsFirstFault text.now old.now f → (result ≡ Err f) ⊎ (result ≡ Err faults.NoMemory) }
+    {
+        Ok(Definitions {
+            tables: read_tables(alloc, text, &old.tables)?,
+        })
+    }
+
+    /// The text of the definitions (RFC 6733, 3.2): AVPs, then commands, each in order of definition and on
+    /// a line of its own; or want of memory.
+    pub fn print(&self, alloc: Global) -> Result<Vec<u8>, NoMemory>
+        ensures text { IfOk result (λ text. text.items ≡ printed self.now) }
+        // Read over the empty dictionary it gives this dictionary again.
+        ensures again { IfOk result (λ text. Defines text.items nothing_defined self.now) }
+    {
+        let mut text = Vec::new(alloc);
+        put_avps(alloc, &mut text, self.tables.avps.as_slice())?;
+        put_commands(alloc, &mut text, self.tables.commands.as_slice())?;
+        Ok(text)
+    }
+
+    /// The AVP of the name (RFC 6733, 3.2). It takes no memory.
+    pub fn avp_by_name(&self, name: &[u8]) -> Option<&AvpDef>
+        ensures found { option_copied result ≡ find (is_named name.now) self.now.avps }
+        // No other definition has the name.
+        ensures one { filter (is_named name.now) self.now.avps ≡ option_to_list (option_copied result) }
+    {
+        self.tables.avp_by_name(name)
+    }
+
+    /// The AVP of the AVP Code and Vendor-ID (4.1). No vendor and vendor 0 are two. It takes no memory.
+    pub fn avp_by_code(&self, code: u32, vendor: Option<u32>) -> Option<&AvpDef>
+        ensures found { option_copied result ≡ find (is_coded code vendor) self.now.avps }
+        // No other definition has the code with the vendor.
+        ensures one { filter (is_coded code vendor) self.now.avps ≡ option_to_list (option_copied result) }
+    {
+        self.tables.avp_by_code(code, vendor)
+    }
+
+    /// The command of the Command Code, for a request or an answer, with or without the E bit (3.1).
+    /// It takes no memory.
+    pub fn command(&self, code: u32, request: bool, err: bool) -> Option<&CommandDef>
+        ensures found { option_copied result ≡ find (is_headed code request err) self.now.commands }
+        // No other definition has the code with the bits.
+        ensures one { filter (is_headed code request err) self.now.commands ≡ option_to_list (option_copied result) }
+    {
+        self.tables.command_by_head(code, request, err)
+    }
+
+    /// The law that every dictionary keeps to: each definition is sound beside those before it. It does
+    /// nothing.
+    pub fn soundness(&self)
+        ensures { is_sound self.now ≡ true }
+    {
+        let _tables = &self.tables;
+    }
+}

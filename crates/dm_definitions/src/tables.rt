@@ -1,0 +1,190 @@
+//! The tables of a dictionary: its definitions in order, and an index for each key.
+ghost use Rattle.std.specs.Prelude.{◌≡◌, ◌++◌, OnOk, IfOk, true, slice_get, find};
+ghost use Rattle.std.specs.List.{list_any};
+ghost use Rattle.std.specs.Option.{option_copied, option_and_then};
+ghost use Rattle.dm_definitions.specs.Definitions.{is_named, is_coded, is_titled, is_headed, with_avp, with_command};
+ghost use Rattle.dm_definitions.specs.Sound.{each_after, is_sound_avp, is_sound_command};
+
+use crate::{AvpDef, CommandDef, NoMemory};
+use indexmap::IndexMap;
+use std::alloc::Global;
+
+/// Definitions in order, and where each stands among them by its keys.
+#[derive(Debug, Drop)]
+pub struct Tables {
+    pub avps: Vec<AvpDef>,
+    pub commands: Vec<CommandDef>,
+    pub names: IndexMap<Vec<u8>, usize>,
+    pub codes: IndexMap<(u32, Option<u32>), usize>,
+    pub titles: IndexMap<Vec<u8>, usize>,
+    pub heads: IndexMap<(u32, bool, bool), usize>,
+}
+
+/// The member at a place, where there is one.
+fn member_at<T>(members: &[T], place: Option<usize>) -> Option<&T>
+    ensures { option_copied result ≡ option_and_then (slice_get members.now) place }
+{
+    match place {
+        Some(place) if place < members.len() => Some(&members[place]),
+        _ => None,
+    }
+}
+
+impl Tables {
+    ghost use Rattle.dm_definitions.specs.Tables.{defined, IsIndexed, IsTables};
+    ghost use Rattle.dm_definitions.specs.Definitions.{nothing_defined};
+
+    /// No definitions. It takes no memory.
+    pub fn new(alloc: Global) -> Tables
+        ensures empty { defined result ≡ nothing_defined }
+        ensures indexed { IsTables result }
+    {
+        Tables {
+            avps: Vec::new(alloc),
+            commands: Vec::new(alloc),
+            names: IndexMap::new(alloc),
+            codes: IndexMap::new(alloc),
+            titles: IndexMap::new(alloc),
+            heads: IndexMap::new(alloc),
+        }
+    }
+
+    /// One AVP more, behind the others. After want of memory the tables are of no use.
+    pub fn add_avp(&mut self, alloc: Global, avp: AvpDef) -> Result<(), NoMemory>
+        requires tables { IsTables self.old }
+        requires sound { is_sound_avp self.old.avps.items avp ≡ true }
+        ensures added { OnOk result (defined self.new ≡ with_avp (defined self.old) avp) }
+        ensures tables { OnOk result (IsTables self.new) }
+    {
+        let place = self.avps.as_slice().len();
+        let name = Vec::from_slice(alloc, avp.name.as_slice())?;
+        self.names.insert(name, place)?;
+        self.codes.insert((avp.code, avp.vendor), place)?;
+        self.avps.push(avp)?;
+        Ok(())
+    }
+
+    /// One command more, behind the others. After want of memory the tables are of no use.
+    pub fn add_command(&mut self, alloc: Global, command: CommandDef) -> Result<(), NoMemory>
+        requires tables { IsTables self.old }
+        requires sound { is_sound_command self.old.commands.items command ≡ true }
+        ensures added { OnOk result (defined self.new ≡ with_command (defined self.old) command) }
+        ensures tables { OnOk result (IsTables self.new) }
+    {
+        let place = self.commands.as_slice().len();
+        let name = Vec::from_slice(alloc, command.name.as_slice())?;
+        self.titles.insert(name, place)?;
+        self.heads
+            .insert((command.code, command.request, command.err), place)?;
+        self.commands.push(command)?;
+        Ok(())
+    }
+
+    /// Copies of the AVPs, behind the others.
+    fn add_avps(&mut self, alloc: Global, avps: &[AvpDef]) -> Result<(), NoMemory>
+        requires tables { IsTables self.old }
+        requires sound { each_after is_sound_avp self.old.avps.items avps.now ≡ true }
+        ensures avps { OnOk result (self.new.avps.items ≡ self.old.avps.items ++ avps.now) }
+        ensures commands { OnOk result (self.new.commands.items ≡ self.old.commands.items) }
+        ensures tables { OnOk result (IsTables self.new) }
+    {
+        for avp in avps {
+            self.add_avp(alloc, avp.clone()?)?;
+        }
+        Ok(())
+    }
+
+    /// Copies of the commands, behind the others.
+    fn add_commands(&mut self, alloc: Global, commands: &[CommandDef]) -> Result<(), NoMemory>
+        requires tables { IsTables self.old }
+        requires sound { each_after is_sound_command self.old.commands.items commands.now ≡ true }
+        ensures avps { OnOk result (self.new.avps.items ≡ self.old.avps.items) }
+        ensures commands { OnOk result (self.new.commands.items ≡ self.old.commands.items ++ commands.now) }
+        ensures tables { OnOk result (IsTables self.new) }
+    {
+        for command in commands {
+            self.add_command(alloc, command.clone()?)?;
+        }
+        Ok(())
+    }
+
+    /// A copy of the tables, or want of memory.
+    pub fn copy(&self, alloc: Global) -> Result<Tables, NoMemory>
+        requires { IsTables self.now }
+        ensures copy { IfOk result (λ copy. defined copy ≡ defined self.now) }
+        ensures tables { IfOk result IsTables }
+    {
+        let mut copy = Tables::new(alloc);
+        copy.add_avps(alloc, self.avps.as_slice())?;
+        copy.add_commands(alloc, self.commands.as_slice())?;
+        Ok(copy)
+    }
+
+    /// The AVP of a name.
+    pub fn avp_by_name(&self, name: &[u8]) -> Option<&AvpDef>
+        requires { IsIndexed self.now }
+        ensures { option_copied result ≡ find (is_named name.now) self.now.avps.items }
+    {
+        let place = self.names.get(name).copied();
+        member_at(self.avps.as_slice(), place)
+    }
+
+    /// The AVP of a code and vendor.
+    pub fn avp_by_code(&self, code: u32, vendor: Option<u32>) -> Option<&AvpDef>
+        requires { IsIndexed self.now }
+        ensures { option_copied result ≡ find (is_coded code vendor) self.now.avps.items }
+    {
+        let place = self.codes.get(&(code, vendor)).copied();
+        member_at(self.avps.as_slice(), place)
+    }
+
+    /// The command of a name.
+    pub fn command_by_name(&self, name: &[u8]) -> Option<&CommandDef>
+        requires { IsIndexed self.now }
+        ensures { option_copied result ≡ find (is_titled name.now) self.now.commands.items }
+    {
+        let place = self.titles.get(name).copied();
+        member_at(self.commands.as_slice(), place)
+    }
+
+    /// The command of a code with REQ and ERR.
+    pub fn command_by_head(&self, code: u32, request: bool, err: bool) -> Option<&CommandDef>
+        requires { IsIndexed self.now }
+        ensures { option_copied result ≡ find (is_headed code request err) self.now.commands.items }
+    {
+        let place = self.heads.get(&(code, request, err)).copied();
+        member_at(self.commands.as_slice(), place)
+    }
+
+    /// Whether there is an AVP of the name.
+    pub fn has_name(&self, name: &[u8]) -> bool
+        requires { IsIndexed self.now }
+        ensures { result ≡ list_any (is_named name.now) self.now.avps.items }
+    {
+        self.avp_by_name(name).is_some()
+    }
+
+    /// Whether there is an AVP of the code and vendor.
+    pub fn has_code(&self, code: u32, vendor: Option<u32>) -> bool
+        requires { IsIndexed self.now }
+        ensures { result ≡ list_any (is_coded code vendor) self.now.avps.items }
+    {
+        self.avp_by_code(code, vendor).is_some()
+    }
+
+    /// Whether there is a command of the name.
+    pub fn has_title(&self, name: &[u8]) -> bool
+        requires { IsIndexed self.now }
+        ensures { result ≡ list_any (is_titled name.now) self.now.commands.items }
+    {
+        self.command_by_name(name).is_some()
+    }
+
+    /// Whether there is a command of the code with REQ and ERR.
+    pub fn has_head(&self, code: u32, request: bool, err: bool) -> bool
+        requires { IsIndexed self.now }
+        ensures { result ≡ list_any (is_headed code request err) self.now.commands.items }
+    {
+        self.command_by_head(code, request, err).is_some()
+    }
+}

@@ -1,0 +1,93 @@
+-- What a sound dictionary says of what is looked up in it.
+use Rattle.std.proofs.Common.{◌≡◌, ℕ, Bool, true, false, ◌||◌, not, nat_eq, Option, Some, List, [], ◌∷◌, ◌++◌, find, codes, refl, sym, ◌∙◌, ap}
+use Rattle.std.proofs.lemmas.Bool.{and_parts}
+use Rattle.std.proofs.lemmas.List.Folds.{list_any-append}
+use Rattle.std.specs.List.{list_any}
+use Rattle.std.specs.Cmp.Lexicographic.{pointwise, same_text}
+use Rattle.dm_definitions.specs.declared.rule.Entry.{Entry}
+use Rattle.dm_definitions.specs.declared.def.AvpDef.{AvpDef}
+use Rattle.dm_definitions.specs.declared.def.CommandDef.{CommandDef}
+use Rattle.dm_definitions.specs.Definitions.{Definitions, is_coded, is_headed}
+use Rattle.dm_definitions.specs.Sound.{each_after, is_sound, is_sound_avp, is_sound_command, is_sound_entry, is_sound_rule, is_any}
+use Rattle.dm_dict.specs.Rules.{is_called}
+use Rattle.dm_dict.specs.Apart.{AtMostOne, IsApart, IsFit, IsOwnName}
+
+is_not : (b : Bool) → not b ≡ true → b ≡ false
+is_not true e = cc
+is_not false e = refl
+
+-- what is found passed the test beside those before it
+pub found_sound : {D : Type 0} (test : List D → D → Bool) (p : D → Bool) (before ds : List D) (d : D) → each_after test before ds ≡ true → find p ds ≡ Some d → (b : List D) × (test b d ≡ true)
+found_sound test p before [] d h f = absurd (cc)
+found_sound {D = D} test p before (x ∷ ds) d h f =
+    let (first, rest) = and_parts (test before x) (each_after test (before ++ x ∷ []) ds) h in
+    by (p x) refl first (λ g. found_sound test p (before ++ x ∷ []) ds d rest g)
+  where
+    by : (b : Bool) → p x ≡ b → test before x ≡ true → (find p ds ≡ Some d → (b : List D) × (test b d ≡ true)) → (b : List D) × (test b d ≡ true)
+    by true e t later = let same : x ≡ d = (let g = rw e at f in cc) in (before, ap (test before) (sym same) ∙ t)
+    by false e t later = later (rw e at f)
+
+or_end : (b : Bool) → b || (true || false) ≡ true
+or_end true = refl
+or_end false = refl
+
+-- in a sound rule each name stands once, and no name of those before
+apart_by : (name : List ℕ) (before rule : List Entry) → each_after is_sound_entry before rule ≡ true → AtMostOne (is_called name) rule × (list_any (is_called name) before ≡ true → list_any (is_called name) rule ≡ false)
+apart_by name before [] h = (tt, λ some. refl)
+apart_by name before (e ∷ es) h =
+    let (first, rest) = and_parts (is_sound_entry before e) (each_after is_sound_entry (before ++ e ∷ []) es) h in
+    let (named, late) = and_parts _ _ first in
+    let (bounded, new) = and_parts _ _ named in
+    let (one, none) = apart_by name (before ++ e ∷ []) es rest in (
+      (λ t. none (list_any-append (is_called name) before (e ∷ []) ∙ rw t (or_end (list_any (is_called name) before))), one),
+      λ some. by (is_called name e) refl some (is_not _ new) none,
+    )
+  where
+    by : (b : Bool) → is_called name e ≡ b → list_any (is_called name) before ≡ true → list_any (is_called e.name) before ≡ false → (list_any (is_called name) (before ++ e ∷ []) ≡ true → list_any (is_called name) es ≡ false) → list_any (is_called name) (e ∷ es) ≡ false
+    by true t some new none =
+        let same : name ≡ e.name = same_text name e.name (sym t) in
+        let again : list_any (is_called e.name) before ≡ true = rw same at some in
+        absurd (cc)
+    by false t some new none = rw t (none (list_any-append (is_called name) before (e ∷ []) ∙ rw some refl))
+
+pub apart_rule : (rule : List Entry) → is_sound_rule rule ≡ true → IsApart rule
+apart_rule rule h = λ name. (apart_by name [] rule h).0
+
+own_name : (name : List ℕ) → is_any name ≡ false → IsOwnName name
+own_name name h = by (pointwise nat_eq (codes "AVP") name) refl where
+  by : (b : Bool) → pointwise nat_eq (codes "AVP") name ≡ b → pointwise nat_eq (codes "AVP") name ≡ false
+  by true t =
+      let same : codes "AVP" ≡ name = same_text (codes "AVP") name (sym t) in
+      let any : is_any name ≡ true = rw (← same) refl in
+      absurd (cc)
+  by false t = t
+
+-- a sound definition of an AVP
+sound_avp : (before : List AvpDef) (f : AvpDef) → is_sound_avp before f ≡ true → IsOwnName f.name × IsApart f.rule
+sound_avp before f h =
+    let (h7, kind) = and_parts _ _ h in
+    let (h6, rule) = and_parts _ _ h7 in
+    let (h5, new_code) = and_parts _ _ h6 in
+    let (h4, vendor) = and_parts _ _ h5 in
+    let (h3, code) = and_parts _ _ h4 in
+    let (h2, new_name) = and_parts _ _ h3 in
+    let (name, not_any) = and_parts _ _ h2 in
+    (own_name f.name (is_not _ not_any), apart_rule f.rule rule)
+
+-- the definitions of a sound dictionary
+pub fit : (d : Definitions) → is_sound d ≡ true → IsFit d.avps
+fit d h =
+    let (avps, commands) = and_parts (each_after is_sound_avp [] d.avps) (each_after is_sound_command [] d.commands) h in
+    let sound = λ (code : ℕ) (vendor : Option ℕ) (f : AvpDef) (e : find (is_coded code vendor) d.avps ≡ Some f). found_sound is_sound_avp (is_coded code vendor) [] d.avps f avps e in
+    record {
+      named = λ code vendor f e. let (before, s) = sound code vendor f e in (sound_avp before f s).0;
+      apart = λ code vendor f e. let (before, s) = sound code vendor f e in (sound_avp before f s).1;
+    }
+
+-- and its commands
+pub apart_command : (d : Definitions) (code : ℕ) (request err : Bool) (c : CommandDef) → is_sound d ≡ true → find (is_headed code request err) d.commands ≡ Some c → IsApart c.rule
+apart_command d code request err c h e =
+    let (avps, commands) = and_parts (each_after is_sound_avp [] d.avps) (each_after is_sound_command [] d.commands) h in
+    let (before, s) = found_sound is_sound_command (is_headed code request err) [] d.commands c commands e in
+    let (h5, rule) = and_parts _ _ s in
+    apart_rule c.rule rule

@@ -1,0 +1,121 @@
+-- What is wrong with a message under a dictionary: all its faults, in the order in which they are looked for. The codes are
+-- those of RFC 6733, 7.1; the order and the limit on groups inside each other are this project's own.
+use Rattle.std.specs.Prelude.{ℕ, suc, zero, Bool, true, false, not, ◌&&◌, ◌||◌, nat_eq, nat_lt, Option, None, Some, option_map, List, [], ◌∷◌, ◌++◌, length, find, flat_map, replicate, slice_get, if◌then◌else◌}
+use Rattle.std.specs.Option.{option_eq}
+use Rattle.dm_wire.specs.declared.avp.Avp.{Avp}
+use Rattle.dm_wire.specs.declared.message.Header.{Header}
+use Rattle.dm_wire.specs.declared.message.Message.{Message}
+use Rattle.dm_value.specs.declared.avp_type.AvpType.{AvpType}
+use Rattle.dm_value.specs.declared.avp_type.AvpType.TheVariants.{Grouped}
+use Rattle.dm_value.specs.declared.fault.ValueFault.{ValueFault}
+use Rattle.dm_value.specs.declared.fault.ValueFault.TheVariants.{WrongLength, WrongValue}
+use Rattle.dm_value.specs.Columns.{least_length}
+use Rattle.dm_value.specs.Flaws.{flaw}
+use Rattle.dm_definitions.specs.declared.rule.Entry.{Entry}
+use Rattle.dm_definitions.specs.declared.def.AvpDef.{AvpDef}
+use Rattle.dm_definitions.specs.declared.def.CommandDef.{CommandDef}
+use Rattle.dm_definitions.specs.Definitions.{Definitions, is_named, is_headed}
+use Rattle.dm_dict.specs.Members.{members}
+use Rattle.dm_dict.specs.Rules.{definition, stands_for_any, counted, count, entry_for, allows}
+
+-- a fault: its Result-Code and the failed AVP, which stands alone, without the groups round it (7.5)
+pub record Fault : Type 0 where
+  pub code : ℕ
+  pub failed : Option Avp
+
+abbrev pub fault_of : ℕ → Avp → List Fault
+fault_of code a = record { code = code; failed = Some a } ∷ []
+
+abbrev pub fault_without_avp : ℕ → List Fault
+fault_without_avp code = record { code = code; failed = None } ∷ []
+
+-- data of a wrong length 5014, of a wrong value 5004 (7.1.5)
+abbrev pub value_faults : Option ValueFault → Avp → List Fault
+value_faults (Some WrongLength) a = fault_of 5014 a
+value_faults (Some WrongValue) a = fault_of 5004 a
+value_faults _ a = []
+
+-- data of a type; of a Grouped AVP what is wrong with the group (4.4)
+abbrev pub data_faults : AvpType → List Fault → Avp → List Fault
+data_faults Grouped group a = group
+data_faults kind group a = value_faults (flaw kind a.bytes) a
+
+-- Failed-AVP, whose data holds what was wrong elsewhere and isn't read (7.5)
+abbrev pub is_failed_avp : Avp → Bool
+is_failed_avp a = nat_eq a.code 279 && option_eq nat_eq a.vendor None
+
+-- one AVP: 5001 where it has no definition and the M bit is set (4.1), 5008 where the rule doesn't allow it (7.1.5), and then
+-- its data
+abbrev pub avp_faults : (List Entry → Avp → List Fault) → Bool → Avp → Option AvpDef → List Fault
+avp_faults groups allowed a None = if a.mandatory then fault_of 5001 a else []
+avp_faults groups allowed a (Some f) =
+    (if allowed then [] else fault_of 5008 a) ++ (if is_failed_avp a then [] else data_faults f.kind (groups f.rule a) a)
+
+-- the example of an AVP that is missing: zeros of its type's least length (7.5); `AVP` has none
+abbrev pub example_of : AvpDef → Avp
+example_of f =
+    record {
+      code = f.code;
+      vendor = f.vendor;
+      mandatory = true;
+      protected = false;
+      bytes = replicate (least_length f.kind) 0;
+    }
+
+abbrev pub example : List AvpDef → Entry → Option Avp
+example avps e = if stands_for_any e then None else option_map example_of (find (is_named e.name) avps)
+
+-- more than max, where max isn't 0: 5009 with the first instance past the maximum (7.1.5)
+abbrev pub excess_faults : Option ℕ → List Avp → List Fault
+excess_faults None l = []
+excess_faults (Some max) l = if nat_lt 0 max && nat_lt max (length l) then record { code = 5009; failed = slice_get l max } ∷ [] else []
+
+-- one entry of the rule: 5005 where the list has fewer than min (7.1.5), 5009 where it has more than max
+abbrev pub entry_faults : List AvpDef → List Entry → List Avp → Entry → List Fault
+entry_faults avps rule l e =
+    (if nat_lt (count avps rule l e) e.min then record { code = 5005; failed = example avps e } ∷ [] else [])
+    ++ excess_faults e.max (counted avps rule l e)
+
+-- a list of AVPs under a rule: each AVP in order, and then each entry of the rule in order
+abbrev pub list_faults_by : (List Entry → Avp → List Fault) → List AvpDef → List Entry → List Avp → List Fault
+list_faults_by groups avps rule l =
+    flat_map (λ a. avp_faults groups (allows (entry_for rule (definition avps a))) a (definition avps a)) l
+    ++ flat_map (entry_faults avps rule l) rule
+
+-- the members of a group; 5014 with empty data where the octets are no AVPs one after the other
+abbrev pub member_faults : (List Avp → List Fault) → Avp → Option (List Avp) → List Fault
+member_faults inside a None = fault_of 5014 (record a { bytes = [] })
+member_faults inside a (Some l) = inside l
+
+-- a Grouped AVP of this rule, where n groups may stand inside each other: with none left 5004
+abbrev pub group_faults : ℕ → List AvpDef → List Entry → Avp → List Fault
+group_faults zero avps rule a = fault_of 5004 a
+group_faults (suc n) avps rule a = member_faults (list_faults_by (group_faults n avps) avps rule) a (members a.bytes)
+
+abbrev pub list_faults : ℕ → List AvpDef → List Entry → List Avp → List Fault
+list_faults n avps rule l = list_faults_by (group_faults n avps) avps rule l
+
+-- an answer that reports an error: all of them have one rule, that of command 0 with the E bit (own; 7.2)
+abbrev pub is_error_answer : Header → Bool
+is_error_answer h = not h.request && h.error
+
+-- the command whose rule the message has (3)
+abbrev pub command_for : Definitions → Header → Option CommandDef
+command_for d h = find (is_headed (if is_error_answer h then 0 else h.command) h.request (is_error_answer h)) d.commands
+
+-- the E bit in a request, or the T bit in an answer (3)
+abbrev pub wrong_bits : Header → Bool
+wrong_bits h = (h.request && h.error) || (not h.request && h.retransmit)
+
+-- 3001 where there is no rule; else 3008 for the header's bits, and then the AVPs, where eight groups may stand inside each
+-- other (7.1.3)
+abbrev pub message_faults : List AvpDef → Message → Option CommandDef → List Fault
+message_faults avps m None = fault_without_avp 3001
+message_faults avps m (Some c) = (if wrong_bits m.header then fault_without_avp 3008 else []) ++ list_faults 8 avps c.rule m.avps
+
+abbrev pub faults : Definitions → Message → List Fault
+faults d m = message_faults d.avps m (command_for d m.header)
+
+abbrev pub first : List Fault → Option Fault
+first [] = None
+first (f ∷ fs) = Some f

@@ -1,0 +1,139 @@
+//! Dictionaries: their look-ups, and the verdict on a message (RFC 6733, 3.2 and 7).
+ghost use Rattle.std.specs.Prelude.{◌≡◌, ◌⊎◌, IfOk, IfErr, Ok, Err, OnErr, IsSome, IsSomeAnd, find, filter};
+ghost use Rattle.std.specs.Option.{option_copied, option_to_list};
+ghost use Rattle.dm_definitions.specs.declared.fault.DictFault.{DictFault};
+ghost use Rattle.dm_definitions.specs.declared.fault.DictFault.TheVariants as faults_of;
+ghost use Rattle.dm_definitions.specs.Definitions.{Definitions, nothing_defined, is_named, is_coded, is_headed};
+ghost use Rattle.dm_definitions.specs.Base.{base_definitions};
+ghost use Rattle.dm_definitions.specs.Printed.{printed};
+ghost use Rattle.dm_definitions.specs.Outcome.{Defines, IsFirstFault};
+ghost use Rattle.dm_dict.specs.Faults.{faults, first};
+ghost use Rattle.dm_dict.specs.Judgement.{verdict_of};
+ghost use Rattle.dm_dict.specs.Typed.{AreTyped};
+
+use crate::list::AvpsRef;
+use crate::message::judge;
+use crate::{AvpDef, CommandDef, DictFault, NoMemory, Verdict};
+use dm_definitions::Definitions;
+use dm_wire::Message;
+use std::alloc::Global;
+use std::marker::Model;
+
+/// What AVPs and commands are defined, and what messages must keep to.
+///
+/// A contract sees it as two lists of definitions, in order.
+#[derive(Debug, Drop)]
+pub struct Dictionary {
+    definitions: Definitions,
+}
+
+impl Model for Dictionary {
+    ghost use Rattle.dm_definitions.specs.Definitions.{Definitions};
+
+    ghost Value = { Definitions };
+
+    ghost view = { λ dictionary. dictionary.definitions };
+}
+
+impl Dictionary {
+    /// No definitions. It takes no memory.
+    pub fn empty(alloc: Global) -> Dictionary
+        ensures { result ≡ nothing_defined }
+    {
+        Dictionary {
+            definitions: Definitions::empty(alloc),
+        }
+    }
+
+    /// The base dictionary (RFC 6733, 4.5 and 5.3 to 7.5), or want of memory.
+    pub fn base(alloc: Global) -> Result<Dictionary, NoMemory>
+        ensures { IfOk result (λ dictionary. dictionary ≡ base_definitions) }
+    {
+        Ok(Dictionary {
+            definitions: Definitions::base(alloc)?,
+        })
+    }
+
+    /// The definitions of the old dictionary, followed by those of the text in the command code format
+    /// (RFC 6733, 3.2). The old dictionary stays as it is.
+    ///
+    /// Refuses with the first `Syntax` of the whole text, at its last line where it ends too early; else,
+    /// token by token, with `Range`, `Duplicate` or `Order`; else with the first `UnknownName`. Where one
+    /// token shows two of them, they come in this order. `NoMemory` may come before any but `Syntax`.
+    pub fn read(alloc: Global, text: &[u8], old: &Dictionary) -> Result<Dictionary, DictFault>
+        ensures defines { IfOk result (λ new. Defines text.now old.now new) }
+        ensures fault { IfErr result (λ f. (f ≡ faults_of.NoMemory) ⊎ IsFirstFault text.now old.now f) }
+        // What the text defines is read, and its first fault is answered, unless memory runs out.
+        ensures only { (new : Definitions) → Defines text.now old.now new → (result ≡ Ok new) ⊎ (result ≡ Err faults_of.NoMemory) }
+        ensures refuses { (f : DictFault) → IsFirstFault text.now old.now f → (result ≡ Err f) ⊎ (result ≡ Err faults_of.NoMemory) }
+    {
+        match Definitions::read(alloc, text, &old.definitions) {
+            Ok(definitions) => Ok(Dictionary { definitions }),
+            Err(fault) => Err(fault),
+        }
+    }
+
+    /// The text of the definitions (RFC 6733, 3.2): AVPs, then commands, each in order of definition and on
+    /// a line of its own; or want of memory.
+    pub fn print(&self, alloc: Global) -> Result<Vec<u8>, NoMemory>
+        ensures text { IfOk result (λ text. text.items ≡ printed self.now) }
+        // Read over the empty dictionary it gives this dictionary again.
+        ensures again { IfOk result (λ text. Defines text.items nothing_defined self.now) }
+    {
+        self.definitions.print(alloc)
+    }
+
+    /// The AVP of the name (RFC 6733, 3.2). It takes no memory.
+    pub fn avp_by_name(&self, name: &[u8]) -> Option<&AvpDef>
+        ensures found { option_copied result ≡ find (is_named name.now) self.now.avps }
+        // No other definition has the name.
+        ensures one { filter (is_named name.now) self.now.avps ≡ option_to_list (option_copied result) }
+    {
+        self.definitions.avp_by_name(name)
+    }
+
+    /// The AVP of the AVP Code and Vendor-ID (4.1). No vendor and vendor 0 are two. It takes no memory.
+    pub fn avp_by_code(&self, code: u32, vendor: Option<u32>) -> Option<&AvpDef>
+        ensures found { option_copied result ≡ find (is_coded code vendor) self.now.avps }
+        // No other definition has the code with the vendor.
+        ensures one { filter (is_coded code vendor) self.now.avps ≡ option_to_list (option_copied result) }
+    {
+        self.definitions.avp_by_code(code, vendor)
+    }
+
+    /// The command of the Command Code, for a request or an answer, with or without the E bit (3.1).
+    /// It takes no memory.
+    pub fn command(&self, code: u32, request: bool, err: bool) -> Option<&CommandDef>
+        ensures found { option_copied result ≡ find (is_headed code request err) self.now.commands }
+        // No other definition has the code with the bits.
+        ensures one { filter (is_headed code request err) self.now.commands ≡ option_to_list (option_copied result) }
+    {
+        self.definitions.command(code, request, err)
+    }
+
+    /// What the dictionary says of the message: good, or its first fault in this order (own; the codes
+    /// are those of RFC 6733, 7.1).
+    ///
+    /// 1. 3001, where no command has the message's code with its R and E bits. An answer with the E bit
+    ///    goes by the rule of command 0 with ERR, whatever its command.
+    /// 2. 3008, for the E bit in a request or the T bit in an answer.
+    /// 3. For each AVP in order: 5001, where no definition has its code and vendor and the M bit is set;
+    ///    5008, where the rule doesn't allow it; then its data, that of Failed-AVP aside: of a group 5004
+    ///    inside eight others, 5014 with no data where it isn't AVPs one after the other, and then steps
+    ///    3 and 4 for its AVPs and its own rule; of another type 5014 for its length, 5004 for its value.
+    /// 4. For each entry of the rule in order: 5005 with an example of what is missing, 5009 with the
+    ///    first AVP past the maximum.
+    ///
+    /// It takes time by the message and the rules alone, and memory only for the failed AVP.
+    pub fn check(&self, alloc: Global, message: &Message) -> Result<Verdict, NoMemory>
+        // The first of all faults, or good where there is none.
+        ensures verdict { IfOk result (λ verdict. verdict ≡ verdict_of (first (faults self.now message.now))) }
+        // Where it is good each AVP that is defined has a value of its type, in eight groups inside each other too.
+        ensures typed { IfOk result (λ verdict. verdict ≡ Verdict.Good → AreTyped 9 self.now.avps message.now.avps) }
+        // Memory is wanted for the failed AVP alone.
+        ensures memory { OnErr result (IsSomeAnd (first (faults self.now message.now)) (λ fault. IsSome fault.failed)) }
+    {
+        let list = AvpsRef::Held(message.avps.as_slice());
+        judge(&self.definitions, &message.header, list).verdict(alloc)
+    }
+}

@@ -1,0 +1,51 @@
+//! The first fault of a message (RFC 6733, 3 and 7).
+ghost use Rattle.std.specs.Prelude.{◌≡◌, ◌<◌, ◌^◌, List};
+ghost use Rattle.std.specs.Option.{option_copied};
+ghost use Rattle.dm_wire.specs.declared.avp.Avp.{Avp};
+ghost use Rattle.dm_dict.specs.Borrowed.{Lists, size_of};
+ghost use Rattle.dm_dict.specs.Faults.{command_for, wrong_bits, faults, first};
+ghost use Rattle.dm_dict.specs.Judgement.{shown};
+
+use crate::judge::judge_list;
+use crate::judged::{Failed, Judged};
+use crate::list::AvpsRef;
+use dm_definitions::{CommandDef, Definitions};
+use dm_wire::Header;
+
+/// Groups that may stand inside each other.
+const GROUPS: u32 = 8;
+
+/// The command whose rule the message has. All answers that report an error have one rule, that of
+/// command 0 with ERR.
+fn command_of<'d>(dictionary: &'d Definitions, header: &Header) -> Option<&'d CommandDef>
+    ensures { option_copied result ≡ command_for dictionary.now header.now }
+{
+    let error_answer = !header.request && header.error;
+    let code = if error_answer { 0 } else { header.command };
+    dictionary.command(code, header.request, error_answer)
+}
+
+/// The first fault of a message of this header and these AVPs. It takes no memory.
+pub(crate) fn judge<'a>(dictionary: &Definitions, header: &Header, list: AvpsRef<'a>) -> Judged<'a>
+    requires listed { (l : List Avp) × Lists list l }
+    requires fits { size_of list < 2 ^ 64 }
+    ensures { (l : List Avp) → Lists list.entry l
+        → shown result ≡ first (faults dictionary.now (record { header = header.now; avps = l })) }
+{
+    let failed = Failed::Nothing;
+    let Some(command) = command_of(dictionary, header) else {
+        return Judged::Bad { code: 3001, failed };
+    };
+    if has_wrong_bits(header) {
+        return Judged::Bad { code: 3008, failed };
+    }
+    dictionary.soundness();
+    judge_list(dictionary, &command.rule, list, GROUPS)
+}
+
+/// Whether the E bit is set in a request, or the T bit in an answer.
+fn has_wrong_bits(header: &Header) -> bool
+    ensures { result ≡ wrong_bits header.now }
+{
+    (header.request && header.error) || (!header.request && header.retransmit)
+}

@@ -1,0 +1,47 @@
+-- What check prints for an input that begins with a dictionary, and that it is one text.
+use Rattle.std.proofs.Common.{◌≡◌, ◌≢◌, ◌⊎◌, inl, inr, ◌++◌, ◌∷◌, [], ℕ, Bool, false, List, ap, sym, ◌∙◌, subst}
+use Rattle.dm_definitions.specs.declared.fault.DictFault.{DictFault}
+use Rattle.dm_definitions.specs.declared.fault.DictFault.TheVariants.{NoMemory}
+use Rattle.dm_definitions.specs.Definitions.{Definitions}
+use Rattle.dm_definitions.specs.Outcome.{Defines, IsFirstFault}
+use Rattle.dm_definitions.proofs.OneOutcome.{one_definition, no_outcome, one_fault}
+use Rattle.dm_tool.specs.HexLines.{PrintsAll}
+use Rattle.dm_tool.specs.Check.{checked, dictionary_fault_text}
+use Rattle.dm_tool.specs.Parts.{dictionary_part, message_part}
+use Rattle.dm_tool.proofs.Shown.{one_text}
+
+-- what is printed where the dictionary is one over the definitions of `base`
+abbrev Under : Definitions → List ℕ → List ℕ → Bool → Type 0
+Under base input text good = (d : Definitions) × Defines (dictionary_part input) base d × PrintsAll (checked d) (message_part input) text good
+
+abbrev Nothing : Definitions → List ℕ → List ℕ → Bool → Type 0
+Nothing base input text good =
+    (f : DictFault) × IsFirstFault (dictionary_part input) base f × (text ≡ dictionary_fault_text f ++ 10 ∷ []) × (good ≡ false)
+
+pub one_checked : (base : Definitions) (input text other : List ℕ) (good fine : Bool) → Under base input text good ⊎ Nothing base input text good → Under base input other fine ⊎ Nothing base input other fine
+    → (text ≡ other) × (good ≡ fine)
+one_checked base input text other good fine (inl h) (inl k) =
+    let same = one_definition (dictionary_part input) base h.0 k.0 h.1 k.1 in
+    let Prints : Definitions → Type 0 = λ d. PrintsAll (checked d) (message_part input) text good in
+    one_text (checked k.0) (message_part input) text other good fine (subst Prints same h.2) k.2
+one_checked base input text other good fine (inl h) (inr k) = no_outcome (dictionary_part input) base h.0 k.0 h.1 k.1
+one_checked base input text other good fine (inr h) (inl k) = no_outcome (dictionary_part input) base k.0 h.0 k.1 h.1
+one_checked base input text other good fine (inr h) (inr k) =
+    let same = one_fault (dictionary_part input) base h.0 k.0 h.1 k.1 in
+    (h.2 ∙ ap (λ f. dictionary_fault_text f ++ 10 ∷ []) same ∙ sym k.2, h.3 ∙ sym k.3)
+
+-- the dictionary is read and the messages are printed under it
+pub checks_under : (input part messages text : List ℕ) (good : Bool) (old base d : Definitions) → part ≡ dictionary_part input → messages ≡ message_part input → old ≡ base → Defines part old d
+    → PrintsAll (checked d) messages text good → Under base input text good ⊎ Nothing base input text good
+checks_under input part messages text good old base d is behind over defines prints =
+    let Read : List ℕ → Definitions → Type 0 = λ s b. Defines s b d in
+    let Prints : List ℕ → Type 0 = λ s. PrintsAll (checked d) s text good in
+    inl (d, subst (λ s. Read s base) is (subst (λ b. Read part b) over defines), subst Prints behind prints)
+
+-- the dictionary is refused
+pub checks_nothing : (input part text : List ℕ) (good : Bool) (old base : Definitions) (f : DictFault) → part ≡ dictionary_part input → old ≡ base → (f ≡ NoMemory) ⊎ IsFirstFault part old f
+    → text ≡ dictionary_fault_text f ++ 10 ∷ [] → f ≢ NoMemory → good ≡ false → Under base input text good ⊎ Nothing base input text good
+checks_nothing input part text good old base f is over (inl none) words known bad = absurd (known none)
+checks_nothing input part text good old base f is over (inr first) words known bad =
+    let First : List ℕ → Definitions → Type 0 = λ s b. IsFirstFault s b f in
+    inr (f, subst (λ s. First s base) is (subst (λ b. First part b) over first), words, bad)

@@ -1,0 +1,111 @@
+//! Messages in hexadecimal, one a line, and what is printed for each.
+ghost use Rattle.std.specs.Prelude.{◌≡◌, ◌++◌, ◌⊎◌, ℕ, List, IfOk, IfErr};
+ghost use Rattle.dm_tool.specs.HexLines.{PrintsMessage, PrintsFault, PrintsLine, PrintsAll};
+ghost use Rattle.dm_tool.specs.Tasks.{answer_of};
+
+use crate::fault::ToolFault;
+use crate::hex_line::read_line;
+use crate::line::{Lines, is_passed_over, trim};
+use crate::text::{push_fault, push_message};
+use crate::verdict::push_verdict;
+use dm_dict::{Dictionary, Verdict};
+use dm_wire::Message;
+use std::alloc::Global;
+
+/// What is printed for a message.
+#[derive(Clone, Copy)]
+pub enum Task<'a> {
+    /// The message as text.
+    Show,
+    /// The verdict of the dictionary.
+    Check(&'a Dictionary),
+}
+
+/// The text for an input, and whether all of it is good.
+pub fn messages_text(
+    alloc: Global,
+    task: Task<'_>,
+    input: &[u8],
+) -> Result<(Vec<u8>, bool), ToolFault>
+    ensures printed { IfOk result (λ printed. PrintsAll (answer_of task.entry) input.now printed.0.items printed.1) }
+    ensures fault { IfErr result (λ e. e ≡ ToolFault.Memory) }
+{
+    let mut text = Vec::new(alloc);
+    let mut digits = Vec::new(alloc);
+    let mut good = true;
+    for line in Lines::new(input) {
+        let line = trim(line);
+        if !is_passed_over(line) {
+            let fine = print_line(alloc, task, line, &mut digits, &mut text)?;
+            good = good && fine;
+        }
+    }
+    Ok((text, good))
+}
+
+/// Appends the text for a line. `digits` is room that is used again from line to line.
+fn print_line(
+    alloc: Global,
+    task: Task<'_>,
+    line: &[u8],
+    digits: &mut Vec<u8>,
+    text: &mut Vec<u8>,
+) -> Result<bool, ToolFault>
+    ensures printed { IfOk result (λ good. (more : List ℕ) × (text.new.items ≡ text.old.items ++ more)
+        × PrintsLine (answer_of task.entry) line.now more good) }
+    ensures fault { IfErr result (λ e. e ≡ ToolFault.Memory) }
+{
+    match read_line(alloc, line, digits)? {
+        Some(octets) => print_octets(alloc, task, octets.as_slice(), text),
+        None => {
+            text.extend_from_slice(b"fault hex\n")?;
+            Ok(false)
+        }
+    }
+}
+
+/// Appends the text for the octets of a line.
+fn print_octets(
+    alloc: Global,
+    task: Task<'_>,
+    octets: &[u8],
+    text: &mut Vec<u8>,
+) -> Result<bool, ToolFault>
+    ensures printed { IfOk result (λ good. (more : List ℕ) × (text.new.items ≡ text.old.items ++ more)
+        × (PrintsMessage (answer_of task.entry) octets.now more good ⊎ PrintsFault octets.now more good)) }
+    ensures fault { IfErr result (λ e. e ≡ ToolFault.Memory) }
+{
+    match Message::decode(alloc, octets) {
+        Ok(message) => print_message(alloc, task, &message, text),
+        Err(fault) => {
+            push_fault(text, fault)?;
+            text.push(b'\n')?;
+            Ok(false)
+        }
+    }
+}
+
+/// Appends the text for a message.
+fn print_message(
+    alloc: Global,
+    task: Task<'_>,
+    message: &Message,
+    text: &mut Vec<u8>,
+) -> Result<bool, ToolFault>
+    ensures printed { IfOk result (λ good. text.new.items ≡ text.old.items ++ (answer_of task.entry message.now).0) }
+    ensures good { IfOk result (λ good. good ≡ (answer_of task.entry message.now).1) }
+    ensures fault { IfErr result (λ e. e ≡ ToolFault.Memory) }
+{
+    match task {
+        Task::Show => {
+            push_message(text, message)?;
+            Ok(true)
+        }
+        Task::Check(dictionary) => {
+            let verdict = dictionary.check(alloc, message)?;
+            push_verdict(text, &verdict)?;
+            text.push(b'\n')?;
+            Ok(matches!(verdict, Verdict::Good))
+        }
+    }
+}
