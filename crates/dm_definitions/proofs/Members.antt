@@ -4,7 +4,7 @@ use Rattle.std.proofs.lemmas.List.{map-append}
 use Rattle.std.proofs.Math.Seq.{drop-cons, take-suc}
 use Rattle.std.proofs.lemmas.Bool.{and_parts}
 use Rattle.std.proofs.lemmas.List.Folds.{list_any-append}
-use Rattle.std.specs.List.{list_any}
+use Rattle.std.specs.List.{list_any, list_all}
 use Rattle.std.specs.Option.{option_to_list}
 use Rattle.dm_definitions.specs.Sound.{each_after}
 
@@ -62,6 +62,13 @@ pub next_member : {D R : Type 0} (test : List D → D → Bool) (f : R → D) (b
 next_member test f before rows i d h sound =
     let here : drop i rows ≡ get_or rows i d ∷ drop (i + 1) rows = rw (add-one i) (drop-cons rows i d h) in
     and_parts _ _ (rw here at sound)
+
+-- the next of some items that all pass a test
+pub next_passes : {W I : Type 0} (p : W → Bool) (shown : I → W) (items : List I) (i : ℕ) (d x : I) → i < length items → x ≡ get_or items i d
+    → list_all p (map shown (drop i items)) ≡ true → (p (shown x) ≡ true) × (list_all p (map shown (drop (i + 1) items)) ≡ true)
+next_passes p shown items i d x h at all =
+    let here : drop i items ≡ x ∷ drop (i + 1) items = rw (at, add-one i) (drop-cons items i d h) in
+    and_parts _ _ (rw here at all)
 
 pub take_member : {D R : Type 0} (f : R → D) (rows : List R) (i : ℕ) (d : R) → i < length rows → map f (take (i + 1) rows) ≡ map f (take i rows) ++ f (get_or rows i d) ∷ []
 take_member f rows i d h = rw (add-one i) (ap (map f) (take-suc rows i d h) ∙ map-append f (take i rows) (get_or rows i d ∷ []))

@@ -1,11 +1,9 @@
 -- The places of definitions in an index.
-use Rattle.std.proofs.Common.{◌≡◌, ℕ, ◌+◌, Bool, true, false, ◌||◌, cond, List, [], ◌∷◌, ◌++◌, length, map, slice_get, find, Some, None, refl, sym, ap, subst, ◌∙◌, append_assoc, length-append, add-zero, arith, suc}
-use Rattle.std.proofs.lemmas.List.{map-append}
+use Rattle.std.proofs.Common.{◌≡◌, ℕ, ◌+◌, Bool, true, false, ◌||◌, cond, List, [], ◌∷◌, ◌++◌, length, map, slice_get, find, Some, None, refl, sym, ap, subst, ◌∙◌, append_assoc, length-append, add-zero, arith, suc, Result, Ok, Err, OnOk}
 use Rattle.std.specs.Option.{option_and_then}
 use Rattle.std.specs.Map.{lookup}
 use Rattle.std.specs.List.{list_any}
-use Rattle.indexmap.specs.IndexMap.{IndexMap, get, insert_entry}
-use Rattle.indexmap.proofs.CallerLemmas.{insert_entry-new}
+use Rattle.indexmap.specs.IndexMap.{insert_entry}
 use Rattle.dm_definitions.specs.Tables.{places}
 
 -- the member behind some others
@@ -53,28 +51,44 @@ places-append key n (e ∷ ds) d =
     let same : n + 1 + length ds ≡ n + suc (length ds) = omega arith in
     ap (λ r. (key e, n) ∷ r) (places-append key (n + 1) ds d ∙ ap (λ m. places key (n + 1) ds ++ (key d, m) ∷ []) same)
 
-module _ {D K S : Type 0} (same : K → K → Bool) (key : D → K) where
+-- at success more holds
+pub on_ok : {T E P Q : Type 0} (r : Result T E) → (P → Q) → OnOk r P → OnOk r Q
+on_ok (Ok x) f h = f h
+on_ok (Err e) f h = tt
+
+-- what is put in, as the keys show it
+pub insert_shown : {A K X : Type 0} (same : K → K → Bool) (shown : A → K) (es : List (A × X)) (a : A) (v : X)
+    → map (λ e. (shown e.0, e.1)) (insert_entry (λ x y. same (shown x) (shown y)) es a v) ≡ insert_entry same (map (λ e. (shown e.0, e.1)) es) (shown a) v
+insert_shown same shown [] a v = refl
+insert_shown {A} {K} {X} same shown (e ∷ es) a v = by (same (shown a) (shown e.0)) (insert_shown same shown es a v)
+  where
+    show : List (A × X) → List (K × X)
+    show = map (λ e. (shown e.0, e.1))
+
+    by : (b : Bool) → show (insert_entry (λ x y. same (shown x) (shown y)) es a v) ≡ insert_entry same (show es) (shown a) v
+        → show (cond b ((e.0, v) ∷ es) (e ∷ insert_entry (λ x y. same (shown x) (shown y)) es a v))
+        ≡ cond b ((shown e.0, v) ∷ show es) ((shown e.0, e.1) ∷ insert_entry same (show es) (shown a) v)
+    by true rest = refl
+    by false rest = ap (λ r. (shown e.0, e.1) ∷ r) rest
+
+module _ {D K : Type 0} (same : K → K → Bool) (key : D → K) where
+  -- a new key goes last
+  goes_last : (es : List (K × ℕ)) (k : K) (v : ℕ) → lookup (same k) es ≡ None → insert_entry same es k v ≡ es ++ (k, v) ∷ []
+  goes_last [] k v none = refl
+  goes_last (e ∷ es) k v none = by (same k e.0) none (goes_last es k v)
+    where
+      by : (b : Bool) → cond b (Some e.1) (lookup (same k) es) ≡ None → (lookup (same k) es ≡ None → insert_entry same es k v ≡ es ++ (k, v) ∷ [])
+          → cond b ((e.0, v) ∷ es) (e ∷ insert_entry same es k v) ≡ e ∷ es ++ (k, v) ∷ []
+      by true none rest = absurd cc
+      by false none rest = ap (λ r. e ∷ r) (rest none)
+
   -- an index after the next definition's key is put in
-  pub one_more : (old new : IndexMap K ℕ S) (k : K) (v : ℕ) (ds : List D) (d : D) → old.entries ≡ places key 0 ds → new.entries ≡ insert_entry same old.entries k v
-      → list_any (λ e. same (key d) (key e)) ds ≡ false → v ≡ length ds → k ≡ key d → new.entries ≡ places key 0 (ds ++ d ∷ [])
+  pub one_more : (old new : List (K × ℕ)) (k : K) (v : ℕ) (ds : List D) (d : D) → old ≡ places key 0 ds → new ≡ insert_entry same old k v
+      → list_any (λ e. same (key d) (key e)) ds ≡ false → v ≡ length ds → k ≡ key d → new ≡ places key 0 (ds ++ d ∷ [])
   one_more old new k v ds d had put fresh last named =
       let new_key : list_any (λ e. same k (key e)) ds ≡ false = subst (λ (x : K). list_any (λ e. same x (key e)) ds ≡ false) (sym named) fresh in
-      let none : get same old k ≡ None = ap (lookup (same k)) had ∙ absent (same k) key 0 ds new_key in
-      let goes_last : new.entries ≡ places key 0 ds ++ (k, v) ∷ [] = put ∙ insert_entry-new same old k v none ∙ ap (λ es. es ++ (k, v) ∷ []) had in
+      let none : lookup (same k) old ≡ None = ap (lookup (same k)) had ∙ absent (same k) key 0 ds new_key in
+      let behind : new ≡ places key 0 ds ++ (k, v) ∷ [] = put ∙ goes_last old k v none ∙ ap (λ es. es ++ (k, v) ∷ []) had in
       let at_end : v ≡ 0 + length ds = omega arith in
       let pair : (k, v) ∷ [] ≡ (key d, 0 + length ds) ∷ [] = λ i. (named i, at_end i) ∷ [] in
-      goes_last ∙ ap (λ p. places key 0 ds ++ p) pair ∙ sym (places-append key 0 ds d)
-
-  -- the same where the keys of the map show those of the definitions
-  pub one_more_shown : {A : Type 0} (shown : A → K) (old new : IndexMap A ℕ S) (a : A) (v : ℕ) (ds : List D) (d : D)
-      → map (λ e. (shown e.0, e.1)) old.entries ≡ places key 0 ds → new.entries ≡ insert_entry (λ x y. same (shown x) (shown y)) old.entries a v
-      → list_any (λ e. same (key d) (key e)) ds ≡ false → v ≡ length ds → shown a ≡ key d → map (λ e. (shown e.0, e.1)) new.entries ≡ places key 0 (ds ++ d ∷ [])
-  one_more_shown shown old new a v ds d had put fresh last named =
-      let new_key : list_any (λ e. same (shown a) (key e)) ds ≡ false = subst (λ (x : K). list_any (λ e. same x (key e)) ds ≡ false) (sym named) fresh in
-      let none : get (λ x y. same (shown x) (shown y)) old a ≡ None =
-      sym (lookup-map (same (shown a)) shown old.entries) ∙ ap (lookup (same (shown a))) had ∙ absent (same (shown a)) key 0 ds new_key in
-      let goes_last : new.entries ≡ old.entries ++ (a, v) ∷ [] = put ∙ insert_entry-new (λ x y. same (shown x) (shown y)) old a v none in
-      let at_end : v ≡ 0 + length ds = omega arith in
-      let pair : (shown a, v) ∷ [] ≡ (key d, 0 + length ds) ∷ [] = λ i. (named i, at_end i) ∷ [] in
-      ap (map (λ e. (shown e.0, e.1))) goes_last ∙ map-append (λ e. (shown e.0, e.1)) old.entries ((a, v) ∷ []) ∙ ap (λ es. es ++ (shown a, v) ∷ []) had
-      ∙ ap (λ p. places key 0 ds ++ p) pair ∙ sym (places-append key 0 ds d)
+      behind ∙ ap (λ p. places key 0 ds ++ p) pair ∙ sym (places-append key 0 ds d)

@@ -8,6 +8,7 @@ pub mod Named
 pub mod Positions
 pub mod Printed
 pub mod Meaning
+pub mod Kinds
 pub mod Faults
 pub mod Outcome
 pub mod ItemFaults

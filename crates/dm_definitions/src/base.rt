@@ -1,6 +1,7 @@
 //! The base dictionary (RFC 6733, 4.5 and 5.3 to 7.5).
 ghost use Rattle.std.specs.Prelude.{◌≡◌, ◌++◌, map, true, OnOk, IfOk};
 ghost use Rattle.dm_definitions.specs.Sound.{each_after, is_sound_avp, is_sound_command};
+ghost use Rattle.dm_definitions.specs.Definitions.{nothing_defined};
 ghost use Rattle.dm_definitions.specs.Tables.{defined, IsTables};
 ghost use Rattle.dm_definitions.specs.Base.{base_definitions};
 ghost use Rattle.dm_definitions.specs.Rows.{row_entry, row_avp, row_command};
@@ -104,13 +105,24 @@ fn command_rows() -> &'static [CommandRow]
     &COMMANDS
 }
 
+/// Adds the definitions of the base dictionary to tables without any.
+fn add_base(alloc: Global, tables: &mut Tables) -> Result<(), NoMemory>
+    requires tables { IsTables tables.old }
+    requires empty { defined tables.old ≡ nothing_defined }
+    ensures base { OnOk result (defined tables.new ≡ base_definitions) }
+    ensures tables { OnOk result (IsTables tables.new) }
+{
+    add_avps(alloc, tables, avp_rows())?;
+    add_commands(alloc, tables, command_rows())?;
+    Ok(())
+}
+
 /// The tables of the base dictionary.
 pub fn base_tables(alloc: Global) -> Result<Tables, NoMemory>
     ensures base { IfOk result (λ tables. defined tables ≡ base_definitions) }
     ensures tables { IfOk result IsTables }
 {
     let mut tables = Tables::new(alloc);
-    add_avps(alloc, &mut tables, avp_rows())?;
-    add_commands(alloc, &mut tables, command_rows())?;
-    Ok(tables)
+    let done = add_base(alloc, &mut tables);
+    done.and(Ok(tables))
 }

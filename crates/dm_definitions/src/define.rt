@@ -5,47 +5,17 @@ ghost use Rattle.dm_grammar.specs.Views.{view_avp, view_group, view_command, vie
 ghost use Rattle.dm_definitions.specs.Definitions.{with_avp, with_command};
 ghost use Rattle.dm_definitions.specs.Tables.{defined, IsTables};
 ghost use Rattle.dm_definitions.specs.Worded.{is_worded_avp, is_worded_group, is_worded_command, is_worded};
-ghost use Rattle.dm_definitions.specs.Meaning.{kind_of, avp_of, group_of, command_of, with_item, with_items};
+ghost use Rattle.dm_definitions.specs.Meaning.{avp_of, group_of, command_of, with_item, with_items};
 ghost use Rattle.dm_definitions.specs.Faults.{Stops, avp_faults, group_faults, command_faults, item_faults, items_faults};
 
 use crate::checks::{check_code, check_head, check_name, check_title};
 use crate::entries::rule;
+use crate::kind::kind_of;
 use crate::tables::Tables;
 use crate::{AvpDef, AvpType, CommandDef, DictFault, Rule};
 use dm_grammar::{AvpItem, CommandItem, GroupItem, Item};
 use dm_wire::Octets;
 use std::alloc::Global;
-
-/// The type of a name, but for Grouped.
-pub fn kind_of(name: &[u8]) -> Option<AvpType>
-    ensures { result ≡ kind_of name.now }
-{
-    if name == b"OctetString".as_slice() {
-        Some(AvpType::OctetString)
-    } else if name == b"Integer32".as_slice() {
-        Some(AvpType::Integer32)
-    } else if name == b"Integer64".as_slice() {
-        Some(AvpType::Integer64)
-    } else if name == b"Unsigned32".as_slice() {
-        Some(AvpType::Unsigned32)
-    } else if name == b"Unsigned64".as_slice() {
-        Some(AvpType::Unsigned64)
-    } else if name == b"Address".as_slice() {
-        Some(AvpType::Address)
-    } else if name == b"Time".as_slice() {
-        Some(AvpType::Time)
-    } else if name == b"UTF8String".as_slice() {
-        Some(AvpType::UTF8String)
-    } else if name == b"DiameterIdentity".as_slice() {
-        Some(AvpType::DiameterIdentity)
-    } else if name == b"DiameterURI".as_slice() {
-        Some(AvpType::DiameterURI)
-    } else if name == b"Enumerated".as_slice() {
-        Some(AvpType::Enumerated)
-    } else {
-        None
-    }
-}
 
 /// Defines an AVP. An unknown type is no fault here.
 fn define_avp(alloc: Global, tables: &mut Tables, item: &AvpItem<'_>) -> Result<(), DictFault>
@@ -81,11 +51,11 @@ fn define_group(alloc: Global, tables: &mut Tables, item: &GroupItem<'_>) -> Res
     check_name(tables, item.name)?;
     let (code, vendor) = check_code(tables, item.code, item.vendor)?;
     let avp = AvpDef {
-        rule: rule(alloc, item.rule.as_slice())?,
         name: Octets::from_slice(alloc, item.name.text)?,
         code,
         vendor,
         kind: AvpType::Grouped,
+        rule: rule(alloc, item.rule.as_slice())?,
     };
     tables.add_avp(alloc, avp)?;
     Ok(())
@@ -107,13 +77,13 @@ fn define_command(
     check_title(tables, item.name)?;
     let (code, application) = check_head(tables, item)?;
     let command = CommandDef {
-        rule: rule(alloc, item.rule.as_slice())?,
         name: Octets::from_slice(alloc, item.name.text)?,
         code,
         request: item.request,
         proxiable: item.proxiable,
         err: item.error,
         application,
+        rule: rule(alloc, item.rule.as_slice())?,
     };
     tables.add_command(alloc, command)?;
     Ok(())

@@ -1,7 +1,10 @@
 //! The rule of an item of a dictionary text (RFC 6733, 3.2).
-ghost use Rattle.std.specs.Prelude.{◌≡◌, ◌++◌, ◌∷◌, [], map, fold, OnOk, IfOk, IfErr};
+ghost use Rattle.std.specs.Prelude.{◌≡◌, [], false, map, fold, nat_eq, OnOk, IfOk, IfErr};
+ghost use Rattle.std.specs.Cmp.Lexicographic.{pointwise};
+ghost use Rattle.indexmap.specs.IndexSet.{contains_by};
 ghost use Rattle.dm_grammar.specs.Views.{view_entry};
 ghost use Rattle.dm_definitions.specs.EntryEquality.{form_number};
+ghost use Rattle.dm_definitions.specs.Meaning.{min_of, max_of};
 ghost use Rattle.dm_definitions.specs.Faults.{Stops, entry_faults, with_entry, rule_faults};
 
 use crate::bounds::bounds;
@@ -23,7 +26,7 @@ fn rank(form: Form) -> u8
 }
 
 /// The entries of a rule so far, their names, and the form that was reached.
-#[derive(Debug, Drop)]
+#[derive(Drop)]
 struct Entries<'a> {
     entries: Vec<Entry>,
     names: IndexSet<&'a [u8]>,
@@ -45,6 +48,27 @@ impl<'a> Entries<'a> {
         }
     }
 
+    /// The numbers of an entry that may stand behind the others.
+    fn check(&self, item: &EntryItem<'a>) -> Result<(u32, Option<u32>), DictFault>
+        requires { IsNoted self.now }
+        ensures min { IfOk result (λ b. b.0 ≡ min_of (view_entry item.now).form (view_entry item.now).qualifier) }
+        ensures max { IfOk result (λ b. b.1 ≡ max_of (view_entry item.now).qualifier) }
+        ensures good { IfOk result (λ _. entry_faults self.now.entries.items (view_entry item.now) ≡ []) }
+        ensures new { IfOk result (λ _.
+            contains_by (λ k. pointwise nat_eq item.now.name.text.now k.now) self.now.names ≡ false) }
+        ensures fault { IfErr result (Stops (entry_faults self.now.entries.items (view_entry item.now))) }
+    {
+        let range = bounds(item)?;
+        let word = item.name;
+        if self.names.contains(word.text) {
+            return Err(DictFault::Duplicate(word.line));
+        }
+        if rank(item.form) < rank(self.reached) {
+            return Err(DictFault::Order(word.line));
+        }
+        Ok(range)
+    }
+
     /// One entry more, behind the others.
     fn add(&mut self, alloc: Global, item: &EntryItem<'a>) -> Result<(), DictFault>
         requires { IsNoted self.old }
@@ -53,25 +77,46 @@ impl<'a> Entries<'a> {
         ensures noted { OnOk result (IsNoted self.new) }
         ensures fault { IfErr result (Stops (entry_faults self.old.entries.items (view_entry item.now))) }
     {
-        let (min, max) = bounds(item)?;
-        let word = item.name;
-        if self.names.contains(word.text) {
-            return Err(DictFault::Duplicate(word.line));
-        }
-        if rank(item.form) < rank(self.reached) {
-            return Err(DictFault::Order(word.line));
-        }
-        let entry = Entry {
-            form: item.form,
-            name: Octets::from_slice(alloc, word.text)?,
+        let (min, max) = self.check(item)?;
+        let form = item.form;
+        let word = item.name.text;
+        self.names.insert(word)?;
+        let name = Octets::from_slice(alloc, word)?;
+        self.entries.push(Entry {
+            form,
+            name,
             min,
             max,
-        };
-        self.names.insert(word.text)?;
-        self.entries.push(entry)?;
-        self.reached = item.form;
+        })?;
+        self.reached = form;
         Ok(())
     }
+
+    /// The entries of the items, in order, where there are none.
+    fn add_all(&mut self, alloc: Global, items: &[EntryItem<'a>]) -> Result<(), DictFault>
+        requires empty { self.old.entries.items ≡ [] }
+        requires noted { IsNoted self.old }
+        ensures added { OnOk result (self.new.entries.items ≡ fold with_entry [] (map view_entry items.now)) }
+        ensures good { OnOk result (rule_faults (map view_entry items.now) ≡ []) }
+        ensures fault { IfErr result (Stops (rule_faults (map view_entry items.now))) }
+    {
+        for item in items {
+            self.add(alloc, item)?;
+        }
+        Ok(())
+    }
+}
+
+/// The entries of the items.
+fn entries_of(alloc: Global, items: &[EntryItem<'_>]) -> Result<Vec<Entry>, DictFault>
+    ensures value { IfOk result (λ entries. entries.items ≡ fold with_entry [] (map view_entry items.now)) }
+    ensures good { IfOk result (λ _. rule_faults (map view_entry items.now) ≡ []) }
+    ensures fault { IfErr result (Stops (rule_faults (map view_entry items.now))) }
+{
+    let mut rule = Entries::new(alloc);
+    let done = rule.add_all(alloc, items);
+    let Entries { entries, .. } = rule;
+    done.and(Ok(entries))
 }
 
 /// The rule of the items.
@@ -80,10 +125,6 @@ pub fn rule(alloc: Global, items: &[EntryItem<'_>]) -> Result<Rule, DictFault>
     ensures good { IfOk result (λ _. rule_faults (map view_entry items.now) ≡ []) }
     ensures fault { IfErr result (Stops (rule_faults (map view_entry items.now))) }
 {
-    let mut rule = Entries::new(alloc);
-    for item in items {
-        rule.add(alloc, item)?;
-    }
-    let Entries { entries, .. } = rule;
+    let entries = entries_of(alloc, items)?;
     Ok(Rule::new(alloc, entries)?)
 }

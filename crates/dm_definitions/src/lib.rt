@@ -10,6 +10,7 @@ mod define;
 mod definitions;
 mod entries;
 mod fault;
+mod kind;
 mod number;
 mod print;
 mod read;
@@ -24,6 +25,3 @@ pub use dm_grammar::Form;
 pub use dm_value::{AvpType, NoMemory};
 pub use fault::DictFault;
 pub use rule::{Entry, Rule};
-
-#[cfg(test)]
-mod tests;

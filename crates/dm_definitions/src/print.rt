@@ -2,7 +2,7 @@
 ghost use Rattle.std.specs.Prelude.{◌≡◌, ◌++◌, ◌∷◌, [], OnOk};
 ghost use Rattle.std.specs.List.{flat_map};
 ghost use Rattle.std.specs.Fmt.{decimal};
-ghost use Rattle.dm_definitions.specs.Printed.{type_name, spaced_number, spaced_option, decimal_option, opening, closing, entry_text, rule_text, plain_line, rule_end, group_head, group_line, avp_line, flag_text, flags_text, command_head, command_line};
+ghost use Rattle.dm_definitions.specs.Printed.{type_name, spaced, spaced_number, spaced_option, decimal_option, opening, closing, entry_text, rule_text, plain_line, rule_end, group_head, group_line, avp_line, flag_text, flags_text, command_head, command_line};
 
 use crate::{AvpDef, AvpType, CommandDef, Entry, Form, NoMemory, Rule};
 use std::alloc::Global;
@@ -114,14 +114,20 @@ fn put_rule(alloc: Global, text: &mut Vec<u8>, rule: &Rule) -> Result<(), NoMemo
     put(text, b"\n")
 }
 
+fn put_kind(text: &mut Vec<u8>, kind: AvpType) -> Result<(), NoMemory>
+    ensures { OnOk result (text.new.items ≡ text.old.items ++ spaced (type_name kind)) }
+{
+    put(text, b" ")?;
+    put(text, type_word(kind))
+}
+
 fn put_plain(alloc: Global, text: &mut Vec<u8>, avp: &AvpDef) -> Result<(), NoMemory>
     ensures { OnOk result (text.new.items ≡ text.old.items ++ plain_line avp.now) }
 {
     put(text, b"@ ")?;
     put(text, avp.name.as_slice())?;
     put_number(alloc, text, avp.code)?;
-    put(text, b" ")?;
-    put(text, type_word(avp.kind))?;
+    put_kind(text, avp.kind)?;
     put_option(alloc, text, avp.vendor)?;
     put(text, b"\n")
 }

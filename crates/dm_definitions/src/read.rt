@@ -1,15 +1,59 @@
 //! A dictionary from a text (RFC 6733, 3.2).
-ghost use Rattle.std.specs.Prelude.{◌≡◌, ◌⊎◌, IfOk, IfErr};
+ghost use Rattle.std.specs.Prelude.{◌≡◌, ◌⊎◌, [], map, true, OnOk, IfOk, IfErr};
+ghost use Rattle.std.specs.List.{list_all};
+ghost use Rattle.dm_grammar.specs.Views.{view_item};
 ghost use Rattle.dm_definitions.specs.declared.fault.DictFault.TheVariants as faults;
-ghost use Rattle.dm_definitions.specs.Tables.{defined, IsDictionary};
-ghost use Rattle.dm_definitions.specs.Outcome.{Defines, IsFirstFault};
+ghost use Rattle.dm_definitions.specs.Definitions.{nothing_defined};
+ghost use Rattle.dm_definitions.specs.Tables.{defined, IsTables, IsDictionary};
+ghost use Rattle.dm_definitions.specs.Worded.{is_worded};
+ghost use Rattle.dm_definitions.specs.Meaning.{with_items};
+ghost use Rattle.dm_definitions.specs.Faults.{Stops};
+ghost use Rattle.dm_definitions.specs.Outcome.{Defines, IsFirstFault, all_faults};
 
 use crate::DictFault;
 use crate::define::define_all;
 use crate::tables::Tables;
 use crate::unknown::first_unknown;
-use dm_grammar::read_items;
+use dm_grammar::{Item, read_items};
 use std::alloc::Global;
+
+/// Adds the definitions of the old tables and those of the items to tables without any.
+fn add_items(
+    alloc: Global,
+    tables: &mut Tables,
+    old: &Tables,
+    items: &[Item<'_>],
+) -> Result<(), DictFault>
+    requires tables { IsTables tables.old }
+    requires empty { defined tables.old ≡ nothing_defined }
+    requires old { IsDictionary old.now }
+    requires worded { list_all is_worded (map view_item items.now) ≡ true }
+    ensures good { OnOk result (all_faults (defined old.now) (map view_item items.now) ≡ []) }
+    ensures added { OnOk result (defined tables.new ≡ with_items (defined old.now) (map view_item items.now)) }
+    ensures dictionary { OnOk result (IsDictionary tables.new) }
+    ensures fault { IfErr result (Stops (all_faults (defined old.now) (map view_item items.now))) }
+{
+    tables.add_all(alloc, old)?;
+    define_all(alloc, tables, items)?;
+    match first_unknown(tables, items) {
+        Some(fault) => Err(fault),
+        None => Ok(()),
+    }
+}
+
+/// The definitions of the old tables, followed by those of the items.
+fn tables_of(alloc: Global, old: &Tables, items: &[Item<'_>]) -> Result<Tables, DictFault>
+    requires old { IsDictionary old.now }
+    requires worded { list_all is_worded (map view_item items.now) ≡ true }
+    ensures good { IfOk result (λ _. all_faults (defined old.now) (map view_item items.now) ≡ []) }
+    ensures added { IfOk result (λ new. defined new ≡ with_items (defined old.now) (map view_item items.now)) }
+    ensures dictionary { IfOk result IsDictionary }
+    ensures fault { IfErr result (Stops (all_faults (defined old.now) (map view_item items.now))) }
+{
+    let mut tables = Tables::new(alloc);
+    let done = add_items(alloc, &mut tables, old, items);
+    done.and(Ok(tables))
+}
 
 /// The definitions of the old tables, followed by those of the text.
 pub fn read_tables(alloc: Global, text: &[u8], old: &Tables) -> Result<Tables, DictFault>
@@ -19,11 +63,7 @@ pub fn read_tables(alloc: Global, text: &[u8], old: &Tables) -> Result<Tables, D
     ensures fault { IfErr result (λ f. (f ≡ faults.NoMemory) ⊎ IsFirstFault text.now (defined old.now) f) }
 {
     let found = read_items(alloc, text)?;
-    let items = found.as_slice();
-    let mut tables = old.copy(alloc)?;
-    define_all(alloc, &mut tables, items)?;
-    match first_unknown(&tables, items) {
-        Some(fault) => Err(fault),
-        None => Ok(tables),
-    }
+    let tables = tables_of(alloc, old, found.as_slice());
+    drop(found);
+    tables
 }

@@ -2,7 +2,6 @@
 use crate::{AvpType, Form};
 
 /// An entry of a rule.
-#[derive(Clone, Copy, Debug)]
 pub struct EntryRow {
     pub form: Form,
     pub name: &'static [u8],
@@ -11,7 +10,6 @@ pub struct EntryRow {
 }
 
 /// An AVP without a vendor.
-#[derive(Clone, Copy, Debug)]
 pub struct AvpRow {
     pub name: &'static [u8],
     pub code: u32,
@@ -20,7 +18,6 @@ pub struct AvpRow {
 }
 
 /// A command of Application-ID 0 that isn't proxied.
-#[derive(Clone, Copy, Debug)]
 pub struct CommandRow {
     pub name: &'static [u8],
     pub code: u32,

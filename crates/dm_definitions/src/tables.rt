@@ -1,7 +1,9 @@
 //! The tables of a dictionary: its definitions in order, and an index for each key.
-ghost use Rattle.std.specs.Prelude.{◌≡◌, ◌++◌, OnOk, IfOk, true, slice_get, find};
+ghost use Rattle.std.specs.Prelude.{◌≡◌, ◌++◌, OnOk, true, map, nat_eq, slice_get, find};
 ghost use Rattle.std.specs.List.{list_any};
 ghost use Rattle.std.specs.Option.{option_copied, option_and_then};
+ghost use Rattle.std.specs.Cmp.Lexicographic.{pointwise};
+ghost use Rattle.indexmap.specs.IndexMap.{insert_entry};
 ghost use Rattle.dm_definitions.specs.Definitions.{is_named, is_coded, is_titled, is_headed, with_avp, with_command};
 ghost use Rattle.dm_definitions.specs.Sound.{each_after, is_sound_avp, is_sound_command};
 
@@ -18,6 +20,21 @@ pub struct Tables {
     pub codes: IndexMap<(u32, Option<u32>), usize>,
     pub titles: IndexMap<Vec<u8>, usize>,
     pub heads: IndexMap<(u32, bool, bool), usize>,
+}
+
+/// Puts the place of a definition under its name.
+fn note_name(
+    alloc: Global,
+    names: &mut IndexMap<Vec<u8>, usize>,
+    name: &[u8],
+    place: usize,
+) -> Result<(), NoMemory>
+    ensures { OnOk result (map (λ e. (e.0.items, e.1)) names.new.entries
+        ≡ insert_entry (pointwise nat_eq) (map (λ e. (e.0.items, e.1)) names.old.entries) name.now place) }
+{
+    let key = Vec::from_slice(alloc, name)?;
+    names.insert(key, place)?;
+    Ok(())
 }
 
 /// The member at a place, where there is one.
@@ -57,11 +74,11 @@ impl Tables {
         ensures tables { OnOk result (IsTables self.new) }
     {
         let place = self.avps.as_slice().len();
-        let name = Vec::from_slice(alloc, avp.name.as_slice())?;
-        self.names.insert(name, place)?;
-        self.codes.insert((avp.code, avp.vendor), place)?;
+        let code = (avp.code, avp.vendor);
+        let noted = note_name(alloc, &mut self.names, avp.name.as_slice(), place);
         self.avps.push(avp)?;
-        Ok(())
+        self.codes.insert(code, place)?;
+        noted
     }
 
     /// One command more, behind the others. After want of memory the tables are of no use.
@@ -72,12 +89,11 @@ impl Tables {
         ensures tables { OnOk result (IsTables self.new) }
     {
         let place = self.commands.as_slice().len();
-        let name = Vec::from_slice(alloc, command.name.as_slice())?;
-        self.titles.insert(name, place)?;
-        self.heads
-            .insert((command.code, command.request, command.err), place)?;
+        let head = (command.code, command.request, command.err);
+        let noted = note_name(alloc, &mut self.titles, command.name.as_slice(), place);
         self.commands.push(command)?;
-        Ok(())
+        self.heads.insert(head, place)?;
+        noted
     }
 
     /// Copies of the AVPs, behind the others.
@@ -108,16 +124,17 @@ impl Tables {
         Ok(())
     }
 
-    /// A copy of the tables, or want of memory.
-    pub fn copy(&self, alloc: Global) -> Result<Tables, NoMemory>
-        requires { IsTables self.now }
-        ensures copy { IfOk result (λ copy. defined copy ≡ defined self.now) }
-        ensures tables { IfOk result IsTables }
+    /// Copies of all definitions of the other tables, where these have none. After want of memory the
+    /// tables are of no use.
+    pub fn add_all(&mut self, alloc: Global, other: &Tables) -> Result<(), NoMemory>
+        requires tables { IsTables self.old }
+        requires empty { defined self.old ≡ nothing_defined }
+        requires other { IsTables other.now }
+        ensures copy { OnOk result (defined self.new ≡ defined other.now) }
+        ensures tables { OnOk result (IsTables self.new) }
     {
-        let mut copy = Tables::new(alloc);
-        copy.add_avps(alloc, self.avps.as_slice())?;
-        copy.add_commands(alloc, self.commands.as_slice())?;
-        Ok(copy)
+        self.add_avps(alloc, other.avps.as_slice())?;
+        self.add_commands(alloc, other.commands.as_slice())
     }
 
     /// The AVP of a name.

@@ -6,7 +6,7 @@ ghost use Rattle.dm_definitions.specs.Tables.{IsIndexed};
 ghost use Rattle.dm_definitions.specs.Faults.{first_of, entry_unknown, rule_unknown, unknown};
 
 use crate::DictFault;
-use crate::define::kind_of;
+use crate::kind::kind_of;
 use crate::tables::Tables;
 use dm_grammar::{EntryItem, Item};
 

@@ -8,7 +8,7 @@ use dm_wire::{Avp, AvpRef, Octets};
 use std::alloc::Global;
 
 /// A failed AVP (RFC 6733, 7.5).
-#[derive(Clone, Copy, Debug)]
+#[derive(Clone, Copy)]
 pub(crate) enum Failed<'a> {
     /// The fault has none.
     Nothing,
@@ -23,7 +23,7 @@ pub(crate) enum Failed<'a> {
 }
 
 /// The first fault, or that there is none.
-#[derive(Clone, Copy, Debug)]
+#[derive(Clone, Copy)]
 pub(crate) enum Judged<'a> {
     Good,
     Bad { code: u32, failed: Failed<'a> },

@@ -20,6 +20,3 @@ pub use dm_value::{
     value_fault, write_value,
 };
 pub use verdict::Verdict;
-
-#[cfg(test)]
-mod tests;

@@ -7,7 +7,7 @@ ghost use Rattle.dm_dict.specs.Borrowed.{avp_of, Lists, size_of};
 use dm_wire::{Avp, AvpRef, first_avp};
 
 /// AVPs in order, where they lie.
-#[derive(Clone, Copy, Debug)]
+#[derive(Clone, Copy)]
 pub(crate) enum AvpsRef<'a> {
     /// AVPs of a message.
     Held(&'a [Avp]),

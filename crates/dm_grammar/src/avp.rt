@@ -8,7 +8,7 @@ ghost use Rattle.dm_grammar.specs.Told.{collect};
 ghost use Rattle.dm_grammar.specs.Views.{view_avp, view_words};
 
 use crate::item::AvpItem;
-use crate::step::{expect, optional};
+use crate::step::{expect, expect_two, optional};
 use crate::symbol::Symbol;
 use crate::terminal::Terminal;
 use crate::token::Token;
@@ -23,14 +23,18 @@ pub(crate) fn avp_item<'t, 'a>(
         (λ line. collect last AtSign (view_words tokens.now) ≡ Err line) }
     ensures shorter { IfOk result (λ x. length x.1.now < length tokens.now) }
 {
-    let (name, rest) = expect(tokens, last, Terminal::AnyName)?;
-    let (code, rest) = expect(rest, last, Terminal::One(Symbol::Number))?;
+    let (words, rest) = expect_two(
+        tokens,
+        last,
+        Terminal::AnyName,
+        Terminal::One(Symbol::Number),
+    )?;
     let (kind, rest) = expect(rest, last, Terminal::AnyName)?;
     let (vendor, rest) = optional(rest, Terminal::One(Symbol::Number));
     Ok((
         AvpItem {
-            name,
-            code,
+            name: words.0,
+            code: words.1,
             kind,
             vendor,
         },

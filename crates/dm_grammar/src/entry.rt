@@ -7,7 +7,7 @@ ghost use Rattle.dm_grammar.specs.Told.{collect};
 ghost use Rattle.dm_grammar.specs.Views.{view_entry, view_option, view_words};
 
 use crate::item::{EntryItem, Form, Qualifier};
-use crate::step::{begins, begins_title, expect, optional};
+use crate::step::{begins, begins_title, expect, expect_two, optional};
 use crate::symbol::Symbol;
 use crate::terminal::Terminal;
 use crate::token::Token;
@@ -52,11 +52,11 @@ fn bracketed<'t, 'a>(
     let Some(form) = opens(open.symbol) else {
         return Err(open.line);
     };
-    let (name, rest) = expect(rest, last, Terminal::AnyName)?;
-    let (_close, rest) = expect(rest, last, Terminal::One(close_of(form)))?;
+    let close = Terminal::One(close_of(form));
+    let (words, rest) = expect_two(rest, last, Terminal::AnyName, close)?;
     let entry = EntryItem {
         form,
-        name,
+        name: words.0,
         qualifier: None,
     };
     Ok((entry, rest))

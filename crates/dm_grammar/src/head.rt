@@ -8,13 +8,13 @@ ghost use Rattle.dm_grammar.specs.Told.{collect, filled};
 ghost use Rattle.dm_grammar.specs.Tokens.{Word};
 ghost use Rattle.dm_grammar.specs.Views.{view_head, view_option, view_words};
 
-use crate::step::{expect, optional, stands_at};
+use crate::step::{expect, expect_two, optional, stands_at};
 use crate::symbol::Symbol;
 use crate::terminal::Terminal;
 use crate::token::Token;
 
 /// What stands between `<` and `>`: the code, the flags of a command, and the second number.
-#[derive(Clone, Copy, Debug)]
+#[derive(Clone, Copy)]
 pub(crate) struct Head<'a> {
     pub(crate) command: bool,
     pub(crate) code: Token<'a>,
@@ -52,9 +52,13 @@ fn head_end<'t, 'a>(
     let (comma, rest) = optional(tokens, Terminal::One(Symbol::Comma));
     match comma {
         Some(_) => {
-            let (number, rest) = expect(rest, last, Terminal::One(Symbol::Number))?;
-            let (_close, rest) = expect(rest, last, Terminal::One(Symbol::Greater))?;
-            Ok((Some(number), rest))
+            let (words, rest) = expect_two(
+                rest,
+                last,
+                Terminal::One(Symbol::Number),
+                Terminal::One(Symbol::Greater),
+            )?;
+            Ok((Some(words.0), rest))
         }
         None => {
             let (found, rest) = optional(tokens, Terminal::One(Symbol::Number));
@@ -74,15 +78,19 @@ pub(crate) fn command_head<'t, 'a>(
         (λ line. collect last CommandColon (view_words tokens.now) ≡ Err line) }
     ensures shorter { IfOk result (λ x. length x.1.now < length tokens.now) }
 {
-    let (_colon, rest) = expect(tokens, last, Terminal::One(Symbol::Colon))?;
-    let (code, rest) = expect(rest, last, Terminal::One(Symbol::Number))?;
+    let (words, rest) = expect_two(
+        tokens,
+        last,
+        Terminal::One(Symbol::Colon),
+        Terminal::One(Symbol::Number),
+    )?;
     let (request, rest) = flag(rest, Symbol::Req);
     let (proxiable, rest) = flag(rest, Symbol::Pxy);
     let (error, rest) = flag(rest, Symbol::Err);
     let (second, rest) = head_end(rest, last)?;
     let head = Head {
         command: true,
-        code,
+        code: words.1,
         request,
         proxiable,
         error,
@@ -101,12 +109,16 @@ pub(crate) fn group_head<'t, 'a>(
         (λ line. collect last GroupColon (view_words tokens.now) ≡ Err line) }
     ensures shorter { IfOk result (λ x. length x.1.now < length tokens.now) }
 {
-    let (_colon, rest) = expect(tokens, last, Terminal::One(Symbol::Colon))?;
-    let (code, rest) = expect(rest, last, Terminal::One(Symbol::Number))?;
+    let (words, rest) = expect_two(
+        tokens,
+        last,
+        Terminal::One(Symbol::Colon),
+        Terminal::One(Symbol::Number),
+    )?;
     let (second, rest) = head_end(rest, last)?;
     let head = Head {
         command: false,
-        code,
+        code: words.1,
         request: false,
         proxiable: false,
         error: false,

@@ -3,7 +3,7 @@
 use crate::token::Token;
 
 /// `@` name code type, and the vendor where one is written.
-#[derive(Clone, Copy, Debug)]
+#[derive(Clone, Copy)]
 pub struct AvpItem<'a> {
     pub name: Token<'a>,
     pub code: Token<'a>,
@@ -20,14 +20,14 @@ pub enum Form {
 }
 
 /// The `*` before an entry, with its numbers where they are written.
-#[derive(Clone, Copy, Debug)]
+#[derive(Clone, Copy)]
 pub struct Qualifier<'a> {
     pub low: Option<Token<'a>>,
     pub high: Option<Token<'a>>,
 }
 
 /// An entry of a rule.
-#[derive(Clone, Copy, Debug)]
+#[derive(Clone, Copy)]
 pub struct EntryItem<'a> {
     pub form: Form,
     pub name: Token<'a>,
@@ -35,7 +35,7 @@ pub struct EntryItem<'a> {
 }
 
 /// A Grouped AVP: its name, its code, its vendor where one is written, and its rule.
-#[derive(Debug, Drop)]
+#[derive(Drop)]
 pub struct GroupItem<'a> {
     pub name: Token<'a>,
     pub code: Token<'a>,
@@ -45,7 +45,7 @@ pub struct GroupItem<'a> {
 
 /// A command: its name, its code, its flags REQ, PXY and ERR, its Application-ID where one is written,
 /// and its rule.
-#[derive(Debug, Drop)]
+#[derive(Drop)]
 pub struct CommandItem<'a> {
     pub name: Token<'a>,
     pub code: Token<'a>,
@@ -57,7 +57,7 @@ pub struct CommandItem<'a> {
 }
 
 /// An item of a dictionary text.
-#[derive(Debug, Drop)]
+#[derive(Drop)]
 pub enum Item<'a> {
     Avp(AvpItem<'a>),
     Group(GroupItem<'a>),

@@ -13,8 +13,6 @@ mod rule;
 mod step;
 mod symbol;
 mod terminal;
-#[cfg(test)]
-mod tests;
 mod title;
 mod token;
 

@@ -1,6 +1,6 @@
 //! A text's items.
 
-ghost use Rattle.std.specs.Prelude.{◌≡◌, ◌<◌, length, map, false, MatchResult, IfOk, IfErr, Ok, Err};
+ghost use Rattle.std.specs.Prelude.{◌≡◌, ◌<◌, length, map, false, [], MatchResult, IfOk, IfErr, Ok, Err};
 ghost use Rattle.dm_grammar.specs.declared.symbol.Symbol.TheVariants.{At};
 ghost use Rattle.dm_grammar.specs.declared.terminal.Terminal.TheVariants.{One};
 ghost use Rattle.dm_grammar.specs.Places.Place.{Text};
@@ -82,12 +82,17 @@ fn item<'t, 'a>(
     }
 }
 
-/// All items, to the end of the tokens.
-fn items<'a>(alloc: Global, tokens: &[Token<'a>], last: usize) -> Result<Vec<Item<'a>>, ItemFault>
-    ensures items { IfOk result (λ items. items_told (collect last Text (view_words tokens.now)) ≡ Ok (map view_item items.items)) }
+/// Puts all items, to the end of the tokens, into a list that is empty.
+fn fill<'a>(
+    alloc: Global,
+    tokens: &[Token<'a>],
+    last: usize,
+    found: &mut Vec<Item<'a>>,
+) -> Result<(), ItemFault>
+    requires { found.old.items ≡ [] }
+    ensures items { IfOk result (λ _. items_told (collect last Text (view_words tokens.now)) ≡ Ok (map view_item found.new.items)) }
     ensures fault { IfErr result (λ fault. IfSyntax fault (λ line. items_told (collect last Text (view_words tokens.now)) ≡ Err line)) }
 {
-    let mut found = Vec::new(alloc);
     let mut rest = tokens;
     while !rest.is_empty() {
         let (item, after) = item(alloc, rest, last)?;
@@ -96,7 +101,17 @@ fn items<'a>(alloc: Global, tokens: &[Token<'a>], last: usize) -> Result<Vec<Ite
         }
         rest = same(after);
     }
-    Ok(found)
+    Ok(())
+}
+
+/// All items, to the end of the tokens.
+fn items<'a>(alloc: Global, tokens: &[Token<'a>], last: usize) -> Result<Vec<Item<'a>>, ItemFault>
+    ensures items { IfOk result (λ items. items_told (collect last Text (view_words tokens.now)) ≡ Ok (map view_item items.items)) }
+    ensures fault { IfErr result (λ fault. IfSyntax fault (λ line. items_told (collect last Text (view_words tokens.now)) ≡ Err line)) }
+{
+    let mut found = Vec::new(alloc);
+    let done = fill(alloc, tokens, last, &mut found);
+    done.and(Ok(found))
 }
 
 /// The items of a dictionary text (RFC 6733 section 3.2), in order. The tokens are borrowed from the text.
@@ -111,5 +126,7 @@ pub fn read_items(alloc: Global, text: &[u8]) -> Result<Vec<Item<'_>>, ItemFault
 {
     let last = last_line(text);
     let all = tokens(alloc, text).map_err(|_| ItemFault::NoMemory)?;
-    items(alloc, all.as_slice(), last)
+    let found = items(alloc, all.as_slice(), last);
+    drop(all);
+    found
 }

@@ -42,6 +42,24 @@ pub(crate) fn expect<'t, 'a>(
     }
 }
 
+/// The first two tokens, where they are the terminals that a place with one step and the next place want,
+/// and the rest.
+pub(crate) fn expect_two<'t, 'a>(
+    tokens: &'t [Token<'a>],
+    last: usize,
+    first: Terminal,
+    second: Terminal,
+) -> Result<((Token<'a>, Token<'a>), &'t [Token<'a>]), usize>
+    ensures tells { (p q s : Place) (r t : Role) → steps p ≡ by first q r → may_end p ≡ false → steps q ≡ by second s t → may_end q ≡ false →
+        MatchResult result (λ x. collect last p (view_words tokens.now) ≡ filled r (view x.0.0) (filled t (view x.0.1) (collect last s (view_words x.1.now))))
+        (λ line. collect last p (view_words tokens.now) ≡ Err line) }
+    ensures shorter { IfOk result (λ x. length x.1.now < length tokens.now) }
+{
+    let (one, rest) = expect(tokens, last, first)?;
+    let (two, rest) = expect(rest, last, second)?;
+    Ok(((one, two), rest))
+}
+
 /// The first token, where it is the terminal, and what is left.
 pub(crate) fn optional<'t, 'a>(
     tokens: &'t [Token<'a>],

@@ -5,7 +5,7 @@ ghost use Rattle.dm_grammar.specs.Symbols.{mark_of, symbol_of_word, is_number};
 
 /// What a token is. A word that has a place of its own in the grammar has a symbol of its own; in any
 /// other place it is a name.
-#[derive(Clone, Copy, Debug, PartialEq, Eq)]
+#[derive(Clone, Copy, PartialEq, Eq)]
 pub enum Symbol {
     Less,
     Greater,

@@ -6,7 +6,7 @@ ghost use Rattle.dm_grammar.specs.Grammar.{is_name, fits};
 use crate::symbol::Symbol;
 
 /// What a step of the grammar takes: any name, or the tokens of one symbol.
-#[derive(Clone, Copy, Debug)]
+#[derive(Clone, Copy)]
 pub(crate) enum Terminal {
     AnyName,
     One(Symbol),

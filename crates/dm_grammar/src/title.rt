@@ -10,7 +10,7 @@ ghost use Rattle.dm_grammar.specs.Told.{collect, filled};
 ghost use Rattle.dm_grammar.specs.Views.{view, view_head, view_words};
 
 use crate::head::{Head, command_head, group_head};
-use crate::step::{expect, optional};
+use crate::step::{expect, expect_two, optional};
 use crate::symbol::Symbol;
 use crate::terminal::Terminal;
 use crate::token::Token;
@@ -85,9 +85,13 @@ fn title<'t, 'a>(
     let (less, rest) = optional(tokens, Terminal::One(Symbol::Less));
     match less {
         Some(_) => {
-            let (name, rest) = expect(rest, last, Terminal::AnyName)?;
-            let (_greater, rest) = expect(rest, last, Terminal::One(Symbol::Greater))?;
-            Ok((name, rest))
+            let (words, rest) = expect_two(
+                rest,
+                last,
+                Terminal::AnyName,
+                Terminal::One(Symbol::Greater),
+            )?;
+            Ok((words.0, rest))
         }
         None => bare_title(tokens, last),
     }
@@ -106,8 +110,12 @@ pub(crate) fn opening<'t, 'a>(
     ensures shorter { IfOk result (λ x. length x.1.now < length tokens.now) }
 {
     let (name, rest) = title(tokens, last)?;
-    let (_define, rest) = expect(rest, last, Terminal::One(Symbol::Define))?;
-    let (_less, rest) = expect(rest, last, Terminal::One(Symbol::Less))?;
+    let (_marks, rest) = expect_two(
+        rest,
+        last,
+        Terminal::One(Symbol::Define),
+        Terminal::One(Symbol::Less),
+    )?;
     let (head, rest) = head(rest, last)?;
     Ok(((name, head), rest))
 }

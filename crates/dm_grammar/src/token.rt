@@ -3,7 +3,7 @@
 use crate::symbol::Symbol;
 
 /// A token: what it is, its octets, and the line on which it stands, from 1.
-#[derive(Clone, Copy, Debug)]
+#[derive(Clone, Copy)]
 pub struct Token<'a> {
     pub symbol: Symbol,
     pub text: &'a [u8],

@@ -1,113 +1,72 @@
--- Each step keeps the shape of a node, state by state and input by input.
-use Rattle.std.proofs.Common.{Bool, IsTrue, sym, subst, arith}
+-- Each step keeps the shape of a node: checked at each step as it looks from one connection.
+use Rattle.std.proofs.Common.{◌≡◌, ℕ, suc, Bool, true, false, not, ◌&&◌, ◌==◌, nat_le, List, [], ◌∷◌, length, refl, subst, ap, arith}
+use Rattle.std.proofs.lemmas.Bool.{and_parts}
 use Rattle.std.proofs.lemmas.Bool.Decides.{nat_tests}
+use Rattle.dm_peer.specs.declared.connection.Conn.{Conn}
+use Rattle.dm_peer.specs.declared.phase.Role.{Role}
 use Rattle.dm_peer.specs.declared.phase.Role.TheVariants.{Initiated, Accepted}
-use Rattle.dm_peer.specs.declared.phase.Phase.{Phase}
-use Rattle.dm_peer.specs.declared.phase.Phase.TheVariants as phase
+use Rattle.dm_peer.specs.declared.states.State.{State}
+use Rattle.dm_peer.specs.declared.states.State.TheVariants.{WaitConnAck, WaitICea, WaitConnAckElect, WaitReturns, ROpen, IOpen, Closed, Closing}
 use Rattle.dm_peer.specs.declared.inputs.Input.{Input}
-use Rattle.dm_peer.specs.declared.inputs.Input.TheVariants.{Start, Stop, Timeout, Tick, Ack, Nack, Gone, Submit, Heard}
-use Rattle.dm_peer.specs.declared.inputs.Word.TheVariants.{Unreadable}
-use Rattle.dm_peer.specs.Node.{Node, is_shaped}
-use Rattle.dm_peer.specs.Moves.{outcome}
+use Rattle.dm_peer.specs.declared.outputs.Command.{Command}
+use Rattle.dm_peer.specs.Node.{Node, is_held_in, is_count_of}
+use Rattle.dm_peer.specs.Moves.{Outcome, Moved, Refused, outcome}
 use Rattle.dm_peer.specs.Shape.{KeepsShape, EachStepKeepsShape}
-use Rattle.dm_peer.specs.Phases.{node_of, phase_of, IsShaped}
-use Rattle.dm_peer.proofs.ShapeLemmas.{node_of-phase_of}
+use Rattle.dm_peer.proofs.Renamed.{renamed_held, renamed_node, renamed_input, renamed_commands, renamed_outcome}
+use Rattle.dm_peer.proofs.Marks.{mark}
+use Rattle.dm_peer.proofs.Every.{all_true, every_bool, every_mark, every_count, every_place, every_word, every_input}
+use Rattle.dm_peer.proofs.Steps.{every_node, every_step, at_step}
 
-keeps_at : (p : Phase) (i : Input) (wins : Bool) → IsShaped p → KeepsShape (outcome (node_of p) i wins)
-keeps_at phase.Closed (Start d) wins h = grind (arith, nat_tests)
-keeps_at phase.Closed Stop wins h = grind (arith, nat_tests)
-keeps_at phase.Closed Timeout wins h = grind (arith, nat_tests)
-keeps_at phase.Closed Tick wins h = grind (arith, nat_tests)
-keeps_at phase.Closed (Ack d) wins h = grind (arith, nat_tests)
-keeps_at phase.Closed (Nack d) wins h = grind (arith, nat_tests)
-keeps_at phase.Closed (Gone d) wins h = grind (arith, nat_tests)
-keeps_at phase.Closed Submit wins h = grind (arith, nat_tests)
-keeps_at phase.Closed (Heard d Unreadable) wins h = grind (arith, nat_tests)
-keeps_at phase.Closed (Heard d w) wins h = grind (arith, nat_tests)
-keeps_at (phase.WaitConnAck i) (Start d) wins h = grind (arith, nat_tests)
-keeps_at (phase.WaitConnAck i) Stop wins h = grind (arith, nat_tests)
-keeps_at (phase.WaitConnAck i) Timeout wins h = grind (arith, nat_tests)
-keeps_at (phase.WaitConnAck i) Tick wins h = grind (arith, nat_tests)
-keeps_at (phase.WaitConnAck i) (Ack d) wins h = grind (arith, nat_tests)
-keeps_at (phase.WaitConnAck i) (Nack d) wins h = grind (arith, nat_tests)
-keeps_at (phase.WaitConnAck i) (Gone d) wins h = grind (arith, nat_tests)
-keeps_at (phase.WaitConnAck i) Submit wins h = grind (arith, nat_tests)
-keeps_at (phase.WaitConnAck i) (Heard d Unreadable) wins h = grind (arith, nat_tests)
-keeps_at (phase.WaitConnAck i) (Heard d w) wins h = grind (arith, nat_tests)
-keeps_at (phase.WaitICea i) (Start d) wins h = grind (arith, nat_tests)
-keeps_at (phase.WaitICea i) Stop wins h = grind (arith, nat_tests)
-keeps_at (phase.WaitICea i) Timeout wins h = grind (arith, nat_tests)
-keeps_at (phase.WaitICea i) Tick wins h = grind (arith, nat_tests)
-keeps_at (phase.WaitICea i) (Ack d) wins h = grind (arith, nat_tests)
-keeps_at (phase.WaitICea i) (Nack d) wins h = grind (arith, nat_tests)
-keeps_at (phase.WaitICea i) (Gone d) wins h = grind (arith, nat_tests)
-keeps_at (phase.WaitICea i) Submit wins h = grind (arith, nat_tests)
-keeps_at (phase.WaitICea i) (Heard d Unreadable) wins h = grind (arith, nat_tests)
-keeps_at (phase.WaitICea i) (Heard d w) wins h = grind (arith, nat_tests)
-keeps_at (phase.WaitConnAckElect i r) (Start d) wins h = grind (arith, nat_tests)
-keeps_at (phase.WaitConnAckElect i r) Stop wins h = grind (arith, nat_tests)
-keeps_at (phase.WaitConnAckElect i r) Timeout wins h = grind (arith, nat_tests)
-keeps_at (phase.WaitConnAckElect i r) Tick wins h = grind (arith, nat_tests)
-keeps_at (phase.WaitConnAckElect i r) (Ack d) wins h = grind (arith, nat_tests)
-keeps_at (phase.WaitConnAckElect i r) (Nack d) wins h = grind (arith, nat_tests)
-keeps_at (phase.WaitConnAckElect i r) (Gone d) wins h = grind (arith, nat_tests)
-keeps_at (phase.WaitConnAckElect i r) Submit wins h = grind (arith, nat_tests)
-keeps_at (phase.WaitConnAckElect i r) (Heard d Unreadable) wins h = grind (arith, nat_tests)
-keeps_at (phase.WaitConnAckElect i r) (Heard d w) wins h = grind (arith, nat_tests)
-keeps_at (phase.WaitReturns i r) (Start d) wins h = grind (arith, nat_tests)
-keeps_at (phase.WaitReturns i r) Stop wins h = grind (arith, nat_tests)
-keeps_at (phase.WaitReturns i r) Timeout wins h = grind (arith, nat_tests)
-keeps_at (phase.WaitReturns i r) Tick wins h = grind (arith, nat_tests)
-keeps_at (phase.WaitReturns i r) (Ack d) wins h = grind (arith, nat_tests)
-keeps_at (phase.WaitReturns i r) (Nack d) wins h = grind (arith, nat_tests)
-keeps_at (phase.WaitReturns i r) (Gone d) wins h = grind (arith, nat_tests)
-keeps_at (phase.WaitReturns i r) Submit wins h = grind (arith, nat_tests)
-keeps_at (phase.WaitReturns i r) (Heard d Unreadable) wins h = grind (arith, nat_tests)
-keeps_at (phase.WaitReturns i r) (Heard d w) wins h = grind (arith, nat_tests)
-keeps_at (phase.ROpen r n) (Start d) wins h = grind (arith, nat_tests)
-keeps_at (phase.ROpen r n) Stop wins h = grind (arith, nat_tests)
-keeps_at (phase.ROpen r n) Timeout wins h = grind (arith, nat_tests)
-keeps_at (phase.ROpen r n) Tick wins h = grind (arith, nat_tests)
-keeps_at (phase.ROpen r n) (Ack d) wins h = grind (arith, nat_tests)
-keeps_at (phase.ROpen r n) (Nack d) wins h = grind (arith, nat_tests)
-keeps_at (phase.ROpen r n) (Gone d) wins h = grind (arith, nat_tests)
-keeps_at (phase.ROpen r n) Submit wins h = grind (arith, nat_tests)
-keeps_at (phase.ROpen r n) (Heard d Unreadable) wins h = grind (arith, nat_tests)
-keeps_at (phase.ROpen r n) (Heard d w) wins h = grind (arith, nat_tests)
-keeps_at (phase.IOpen i n) (Start d) wins h = grind (arith, nat_tests)
-keeps_at (phase.IOpen i n) Stop wins h = grind (arith, nat_tests)
-keeps_at (phase.IOpen i n) Timeout wins h = grind (arith, nat_tests)
-keeps_at (phase.IOpen i n) Tick wins h = grind (arith, nat_tests)
-keeps_at (phase.IOpen i n) (Ack d) wins h = grind (arith, nat_tests)
-keeps_at (phase.IOpen i n) (Nack d) wins h = grind (arith, nat_tests)
-keeps_at (phase.IOpen i n) (Gone d) wins h = grind (arith, nat_tests)
-keeps_at (phase.IOpen i n) Submit wins h = grind (arith, nat_tests)
-keeps_at (phase.IOpen i n) (Heard d Unreadable) wins h = grind (arith, nat_tests)
-keeps_at (phase.IOpen i n) (Heard d w) wins h = grind (arith, nat_tests)
-keeps_at (phase.Closing Initiated x) (Start d) wins h = grind (arith, nat_tests)
-keeps_at (phase.Closing Initiated x) Stop wins h = grind (arith, nat_tests)
-keeps_at (phase.Closing Initiated x) Timeout wins h = grind (arith, nat_tests)
-keeps_at (phase.Closing Initiated x) Tick wins h = grind (arith, nat_tests)
-keeps_at (phase.Closing Initiated x) (Ack d) wins h = grind (arith, nat_tests)
-keeps_at (phase.Closing Initiated x) (Nack d) wins h = grind (arith, nat_tests)
-keeps_at (phase.Closing Initiated x) (Gone d) wins h = grind (arith, nat_tests)
-keeps_at (phase.Closing Initiated x) Submit wins h = grind (arith, nat_tests)
-keeps_at (phase.Closing Initiated x) (Heard d Unreadable) wins h = grind (arith, nat_tests)
-keeps_at (phase.Closing Initiated x) (Heard d w) wins h = grind (arith, nat_tests)
-keeps_at (phase.Closing Accepted x) (Start d) wins h = grind (arith, nat_tests)
-keeps_at (phase.Closing Accepted x) Stop wins h = grind (arith, nat_tests)
-keeps_at (phase.Closing Accepted x) Timeout wins h = grind (arith, nat_tests)
-keeps_at (phase.Closing Accepted x) Tick wins h = grind (arith, nat_tests)
-keeps_at (phase.Closing Accepted x) (Ack d) wins h = grind (arith, nat_tests)
-keeps_at (phase.Closing Accepted x) (Nack d) wins h = grind (arith, nat_tests)
-keeps_at (phase.Closing Accepted x) (Gone d) wins h = grind (arith, nat_tests)
-keeps_at (phase.Closing Accepted x) Submit wins h = grind (arith, nat_tests)
-keeps_at (phase.Closing Accepted x) (Heard d Unreadable) wins h = grind (arith, nat_tests)
-keeps_at (phase.Closing Accepted x) (Heard d w) wins h = grind (arith, nat_tests)
+-- two connections are told apart only if one of them is looked at
+abbrev is_held_seen : State → List (Role × Conn) → Bool
+is_held_seen WaitConnAckElect ((Initiated, i) ∷ (Accepted, r) ∷ []) = not ((i.0 == 1) && (r.0 == 1))
+is_held_seen WaitReturns ((Initiated, i) ∷ (Accepted, r) ∷ []) = not ((i.0 == 1) && (r.0 == 1))
+is_held_seen s held = is_held_in s held
+
+abbrev keeps : Node → Input → Outcome → Bool
+keeps n i (Moved commands next) = (is_held_seen next.state next.held && is_count_of next.state next.count) && nat_le (length commands) 4
+keeps n i (Refused r) = true
+
+checked : every_step keeps ≡ true
+unfolding all_true every_bool every_mark every_count every_place every_word every_input every_node
+checked = refl
+
+as_many : (f : Conn → Conn) (commands : List Command) → length (renamed_commands f commands) ≡ length commands
+as_many f [] = refl
+as_many f (a ∷ more) = ap (λ (k : ℕ). suc k) (as_many f more)
+
+apart : (i r : Conn) → not (((mark i i).0 == 1) && ((mark i r).0 == 1)) ≡ true → not (i.0 == r.0) ≡ true
+apart i r h = grind (arith, nat_tests)
+
+-- seen from each of its connections, a node is of the right shape
+held_from_seen : (s : State) (held : List (Role × Conn)) → ((c : Conn) → is_held_seen s (renamed_held (mark c) held) ≡ true) → is_held_in s held ≡ true
+held_from_seen Closed [] h = refl
+held_from_seen WaitConnAck ((Initiated, i) ∷ []) h = refl
+held_from_seen WaitICea ((Initiated, i) ∷ []) h = refl
+held_from_seen WaitConnAckElect ((Initiated, i) ∷ (Accepted, r) ∷ []) h = apart i r (h i)
+held_from_seen WaitReturns ((Initiated, i) ∷ (Accepted, r) ∷ []) h = apart i r (h i)
+held_from_seen ROpen ((Accepted, r) ∷ []) h = refl
+held_from_seen IOpen ((Initiated, i) ∷ []) h = refl
+held_from_seen Closing ((role, x) ∷ []) h = refl
+held_from_seen _ _ h = cc (h (record { 0 = 0 }))
+
+both_hold : (a b : Bool) → a ≡ true → b ≡ true → (a && b) ≡ true
+both_hold true b h g = g
+both_hold false b h g = cc
+
+from_marked : (o : Outcome) (n : Node) (i : Input) → ((c : Conn) → keeps (renamed_node (mark c) n) (renamed_input (mark c) i) (renamed_outcome (mark c) o) ≡ true) → KeepsShape o
+from_marked (Refused r) n i h = tt
+from_marked (Moved commands next) n i h =
+    let held = λ (c : Conn). is_held_seen next.state (renamed_held (mark c) next.held) in
+    let counted = is_count_of next.state next.count in
+    let few = λ (c : Conn). nat_le (length (renamed_commands (mark c) commands)) 4 in
+    let all = λ (c : Conn). and_parts (held c && counted) (few c) (h c) in
+    let shaped = λ (c : Conn). and_parts (held c) counted (all c).0 in
+    let c0 : Conn = record { 0 = 0 } in
+    let F : ℕ → Type 0 = λ k. nat_le k 4 ≡ true in (
+      both_hold (is_held_in next.state next.held) counted (held_from_seen next.state next.held (λ c. (shaped c).0)) (shaped c0).1,
+      subst F (as_many (mark c0) commands) (all c0).1,
+    )
 
 pub each_step : EachStepKeepsShape
-each_step n i wins h =
-    let P : Node → Type 0 = λ m. KeepsShape (outcome m i wins) in
-    let e = node_of-phase_of n h in
-    let S : Node → Type 0 = λ m. IsTrue (is_shaped m) in
-    subst P e (keeps_at (phase_of n) i wins (subst S (sym e) h))
+each_step n i wins h = from_marked (outcome n i wins) n i (λ c. at_step keeps checked n i wins c h)

@@ -38,7 +38,7 @@ pub enum Word {
 }
 
 /// One thing that happens to a peer.
-#[derive(Clone, Copy, Debug, PartialEq, Eq)]
+#[derive(Clone, Copy, Debug)]
 pub enum Input {
     /// Open a connection, under this new number.
     Start(Conn),

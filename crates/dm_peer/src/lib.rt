@@ -9,8 +9,6 @@ mod outputs;
 mod phase;
 mod states;
 mod table;
-#[cfg(test)]
-mod tests;
 
 pub use connection::Conn;
 pub use inputs::{Input, Word};

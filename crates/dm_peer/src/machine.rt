@@ -10,10 +10,11 @@ use crate::outputs::{Commands, Refusal};
 use crate::phase::{Phase, Role};
 use crate::states::State;
 use crate::table::from_phase;
+use std::fmt::{self, Debug, Formatter, Write};
 use std::marker::Model;
 
 /// A peer's state, the connections that it holds and the watchdog's count.
-#[derive(Clone, Copy, Debug, PartialEq, Eq)]
+#[derive(Clone, Copy, PartialEq, Eq)]
 pub struct Core {
     phase: Phase,
 }
@@ -103,6 +104,13 @@ impl Core {
             Phase::ROpen(_, count) | Phase::IOpen(_, count) => count,
             _ => 0,
         }
+    }
+}
+
+impl Debug for Core {
+    /// The state alone.
+    fn fmt<W: Write>(&self, f: &mut Formatter<W>) -> fmt::Result {
+        self.state().fmt(f)
     }
 }
 

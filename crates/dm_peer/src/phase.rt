@@ -3,7 +3,7 @@
 use crate::connection::Conn;
 
 /// Which side opened a connection.
-#[derive(Clone, Copy, Debug, PartialEq, Eq)]
+#[derive(Clone, Copy, PartialEq, Eq)]
 pub enum Role {
     /// This peer.
     Initiated,
@@ -12,7 +12,7 @@ pub enum Role {
 }
 
 /// A state with its connections, the initiated one first, and an open one with the watchdog's count.
-#[derive(Clone, Copy, Debug, PartialEq, Eq)]
+#[derive(Clone, Copy, PartialEq, Eq)]
 pub enum Phase {
     Closed,
     WaitConnAck(Conn),

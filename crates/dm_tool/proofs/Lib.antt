@@ -1,5 +1,4 @@
 pub mod Buildings
-pub mod Commands
 pub mod Contents
 pub mod Dividing
 pub mod Known

@@ -1,7 +1,6 @@
--- What check prints for an input that begins with a dictionary, and that it is one text.
-use Rattle.std.proofs.Common.{◌≡◌, ◌≢◌, ◌⊎◌, inl, inr, ◌++◌, ◌∷◌, [], ℕ, Bool, false, List, ap, sym, ◌∙◌, subst}
+-- What check prints for an input that begins with a dictionary is one text.
+use Rattle.std.proofs.Common.{◌≡◌, ◌⊎◌, inl, inr, ◌++◌, ◌∷◌, [], ℕ, Bool, false, List, ap, sym, ◌∙◌, subst}
 use Rattle.dm_definitions.specs.declared.fault.DictFault.{DictFault}
-use Rattle.dm_definitions.specs.declared.fault.DictFault.TheVariants.{NoMemory}
 use Rattle.dm_definitions.specs.Definitions.{Definitions}
 use Rattle.dm_definitions.specs.Outcome.{Defines, IsFirstFault}
 use Rattle.dm_definitions.proofs.OneOutcome.{one_definition, no_outcome, one_fault}
@@ -29,19 +28,3 @@ one_checked base input text other good fine (inr h) (inl k) = no_outcome (dictio
 one_checked base input text other good fine (inr h) (inr k) =
     let same = one_fault (dictionary_part input) base h.0 k.0 h.1 k.1 in
     (h.2 ∙ ap (λ f. dictionary_fault_text f ++ 10 ∷ []) same ∙ sym k.2, h.3 ∙ sym k.3)
-
--- the dictionary is read and the messages are printed under it
-pub checks_under : (input part messages text : List ℕ) (good : Bool) (old base d : Definitions) → part ≡ dictionary_part input → messages ≡ message_part input → old ≡ base → Defines part old d
-    → PrintsAll (checked d) messages text good → Under base input text good ⊎ Nothing base input text good
-checks_under input part messages text good old base d is behind over defines prints =
-    let Read : List ℕ → Definitions → Type 0 = λ s b. Defines s b d in
-    let Prints : List ℕ → Type 0 = λ s. PrintsAll (checked d) s text good in
-    inl (d, subst (λ s. Read s base) is (subst (λ b. Read part b) over defines), subst Prints behind prints)
-
--- the dictionary is refused
-pub checks_nothing : (input part text : List ℕ) (good : Bool) (old base : Definitions) (f : DictFault) → part ≡ dictionary_part input → old ≡ base → (f ≡ NoMemory) ⊎ IsFirstFault part old f
-    → text ≡ dictionary_fault_text f ++ 10 ∷ [] → f ≢ NoMemory → good ≡ false → Under base input text good ⊎ Nothing base input text good
-checks_nothing input part text good old base f is over (inl none) words known bad = absurd (known none)
-checks_nothing input part text good old base f is over (inr first) words known bad =
-    let First : List ℕ → Definitions → Type 0 = λ s b. IsFirstFault s b f in
-    inr (f, subst (λ s. First s base) is (subst (λ b. First part b) over first), words, bad)

@@ -18,6 +18,16 @@ pub record TellsHeader (h : Header) (line : List ℕ) : Type 0 where
   pub tells_hop_id : TellsNumber h.hop_id hop_id
   pub tells_end_id : TellsNumber h.end_id end_id
 
+-- the words behind the flags of a message's line: three numbers, each after its name, and no more
+pub record TellsNames (application hop_id end_id : ℕ) (behind : List (List ℕ)) : Type 0 where
+  pub application_word : List ℕ
+  pub hop_id_word : List ℕ
+  pub end_id_word : List ℕ
+  pub whole : behind ≡ codes "app" ∷ application_word ∷ codes "hop" ∷ hop_id_word ∷ codes "end" ∷ end_id_word ∷ []
+  pub tells_application : TellsNumber application application_word
+  pub tells_hop_id : TellsNumber hop_id hop_id_word
+  pub tells_end_id : TellsNumber end_id end_id_word
+
 -- the line of an AVP: its code, the flags in their places, V just where there is a vendor, and the data (4.1)
 pub record TellsAvp (a : Avp) (line : List ℕ) : Type 0 where
   pub code : List ℕ

@@ -5,7 +5,7 @@ ghost use Rattle.dm_tool.specs.Text.{avp_marks};
 ghost use Rattle.dm_tool.specs.Words.{words, TellsCode, TellsData};
 ghost use Rattle.dm_tool.specs.Messages.{TellsAvp};
 
-use crate::header_line::read_flag;
+use crate::header_line::read_two_flags;
 use crate::text::letter;
 use crate::word::{Words, read_number};
 use dm_wire::{Avp, Octets};
@@ -46,13 +46,9 @@ fn read_parts(line: &[u8]) -> Option<Parts<'_>>
         × (words line.now ≡ code ∷ avp_marks (is_some p.vendor) p.mandatory p.protected ∷ p.word.now ∷ [])) }
     ensures none { IfNone result ((a : Avp) → TellsAvp a line.now → ⊥) }
 {
-    let mut words = Words::new(line);
-    let (code, vendor) = read_code(words.next()?)?;
-    let (mandatory, protected) = read_flags(words.next()?, vendor.is_some())?;
-    let word = words.next()?;
-    if words.next().is_some() {
-        return None;
-    }
+    let (first, second, word) = three_words(line)?;
+    let (code, vendor) = read_code(first)?;
+    let (mandatory, protected) = read_flags(second, vendor.is_some())?;
     Some(Parts {
         code,
         vendor,
@@ -60,6 +56,21 @@ fn read_parts(line: &[u8]) -> Option<Parts<'_>>
         protected,
         word,
     })
+}
+
+/// The words of a line that has three.
+fn three_words(line: &[u8]) -> Option<(&[u8], &[u8], &[u8])>
+    ensures told { IfSome result (λ w. words line.now ≡ w.0.now ∷ w.1.now ∷ w.2.now ∷ []) }
+    ensures none { IfNone result ((a b c : List ℕ) → words line.now ≡ a ∷ b ∷ c ∷ [] → ⊥) }
+{
+    let mut words = Words::new(line);
+    let first = words.next()?;
+    let second = words.next()?;
+    let third = words.next()?;
+    if words.next().is_some() {
+        return None;
+    }
+    Some((first, second, third))
 }
 
 /// The AVP Code that a word tells, and the vendor behind a `/`.
@@ -97,7 +108,7 @@ fn read_flags(word: &[u8], has_vendor: bool) -> Option<(bool, bool)>
     if *vendor != letter(has_vendor, b'V') {
         return None;
     }
-    Some((read_flag(*mandatory, b'M')?, read_flag(*protected, b'P')?))
+    read_two_flags(*mandatory, b'M', *protected, b'P')
 }
 
 /// The octets that a word tells: hexadecimal digits in either case, or `-` for none.

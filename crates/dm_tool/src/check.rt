@@ -3,6 +3,7 @@ ghost use Rattle.std.specs.Prelude.{◌≡◌, ◌≢◌, ◌<◌, ◌≤◌, �
 ghost use Rattle.std.specs.Io.KnownBytes.{Appends, Consumes, Keeps};
 ghost use Rattle.dm_tool.specs.Check.{dictionary_fault_text, ChecksText, ChecksWithDictionary};
 ghost use Rattle.dm_tool.specs.Run.{Checks};
+ghost use Rattle.dm_definitions.specs.Base.{base_definitions};
 ghost use Rattle.dm_definitions.specs.declared.fault.DictFault.TheVariants as dict;
 
 use crate::choice::Choice;
@@ -57,7 +58,9 @@ pub fn check_text(alloc: Global, input: &[u8]) -> Result<(Vec<u8>, bool), ToolFa
     ensures fault { IfErr result (λ e. e ≡ ToolFault.Memory) }
 {
     let base = Dictionary::base(alloc)?;
-    messages_text(alloc, Task::Check(&base), input)
+    let checked = messages_text(alloc, Task::Check(&base), input);
+    drop(base);
+    checked
 }
 
 /// The text for an input that begins with a dictionary, and whether all of it is good.
@@ -65,10 +68,25 @@ pub fn check_with_dictionary(alloc: Global, input: &[u8]) -> Result<(Vec<u8>, bo
     ensures checked { IfOk result (λ checked. ChecksWithDictionary input.now checked.0.items checked.1) }
     ensures fault { IfErr result (λ e. e ≡ ToolFault.Memory) }
 {
-    let (definitions, messages) = parts(input);
     let base = Dictionary::base(alloc)?;
-    match Dictionary::read(alloc, definitions, &base) {
-        Ok(dictionary) => messages_text(alloc, Task::Check(&dictionary), messages),
+    let checked = check_over(alloc, &base, input);
+    drop(base);
+    checked
+}
+
+/// The text for an input that begins with a dictionary over the base one.
+fn check_over(alloc: Global, base: &Dictionary, input: &[u8]) -> Result<(Vec<u8>, bool), ToolFault>
+    requires base { base.now ≡ base_definitions }
+    ensures checked { IfOk result (λ checked. ChecksWithDictionary input.now checked.0.items checked.1) }
+    ensures fault { IfErr result (λ e. e ≡ ToolFault.Memory) }
+{
+    let (definitions, messages) = parts(input);
+    match Dictionary::read(alloc, definitions, base) {
+        Ok(dictionary) => {
+            let checked = messages_text(alloc, Task::Check(&dictionary), messages);
+            drop(dictionary);
+            checked
+        }
         Err(fault) => refused(alloc, fault),
     }
 }

@@ -1,5 +1,5 @@
 //! The commands of the program, and the words that choose them.
-ghost use Rattle.std.specs.Prelude.{◌≡◌, map, IfSome, IfNone};
+ghost use Rattle.std.specs.Prelude.{◌≡◌, ◌∷◌, [], map, IfSome, IfNone};
 ghost use Rattle.std.specs.String.{string_bytes};
 ghost use Rattle.dm_tool.specs.declared.choice.Choice.{Choice};
 ghost use Rattle.dm_tool.specs.Choice.{words_of};
@@ -24,12 +24,33 @@ pub fn choose(words: &[String]) -> Option<Choice>
     ensures refused { IfNone result ((choice : Choice) → map string_bytes words.now ≡ words_of choice → ⊥) }
 {
     match words {
-        [word] if word.as_str() == "show" => Some(Choice::Show),
-        [word] if word.as_str() == "check" => Some(Choice::Check { with_dict: false }),
-        [word] if word.as_str() == "build" => Some(Choice::Build),
-        [word, option] if word.as_str() == "check" && option.as_str() == "--dict" => {
-            Some(Choice::Check { with_dict: true })
-        }
+        [word] => of_word(word.as_str()),
+        [word, option] => with_option(word.as_str(), option.as_str()),
         _ => None,
+    }
+}
+
+/// The command that one word chooses.
+fn of_word(word: &str) -> Option<Choice>
+    ensures chosen { IfSome result (λ choice. word.now ∷ [] ≡ words_of choice) }
+    ensures refused { IfNone result ((choice : Choice) → word.now ∷ [] ≡ words_of choice → ⊥) }
+{
+    match word {
+        "show" => Some(Choice::Show),
+        "check" => Some(Choice::Check { with_dict: false }),
+        "build" => Some(Choice::Build),
+        _ => None,
+    }
+}
+
+/// The command that a word and its option choose.
+fn with_option(word: &str, option: &str) -> Option<Choice>
+    ensures chosen { IfSome result (λ choice. word.now ∷ option.now ∷ [] ≡ words_of choice) }
+    ensures refused { IfNone result ((choice : Choice) → word.now ∷ option.now ∷ [] ≡ words_of choice → ⊥) }
+{
+    if word == "check" && option == "--dict" {
+        Some(Choice::Check { with_dict: true })
+    } else {
+        None
     }
 }

@@ -1,8 +1,9 @@
 //! The first line of a message.
-ghost use Rattle.std.specs.Prelude.{◌≡◌, ◌∷◌, [], Bool, IfSome, IfNone};
+ghost use Rattle.std.specs.Prelude.{◌≡◌, ℕ, Bool, IfSome, IfNone};
 ghost use Rattle.dm_wire.specs.declared.message.Header.{Header};
 ghost use Rattle.dm_tool.specs.Text.{mark, header_marks};
-ghost use Rattle.dm_tool.specs.Messages.{TellsHeader};
+ghost use Rattle.dm_tool.specs.Words.{words};
+ghost use Rattle.dm_tool.specs.Messages.{TellsHeader, TellsNames};
 
 use crate::word::Words;
 use dm_wire::Header;
@@ -15,18 +16,39 @@ pub fn read_header(line: &[u8]) -> Option<Header>
     let mut words = Words::new(line);
     let command = words.number(b"message")?;
     let flags = read_flags(words.next()?)?;
-    let application = words.number(b"app")?;
-    let hop_id = words.number(b"hop")?;
-    let end_id = words.number(b"end")?;
-    if words.next().is_some() {
-        return None;
-    }
+    let names = read_names(&mut words)?;
     Some(Header {
         request: flags.request,
         proxiable: flags.proxiable,
         error: flags.error,
         retransmit: flags.retransmit,
         command,
+        application: names.application,
+        hop_id: names.hop_id,
+        end_id: names.end_id,
+    })
+}
+
+/// The numbers of a header behind its flags.
+#[derive(Drop)]
+struct Names {
+    application: u32,
+    hop_id: u32,
+    end_id: u32,
+}
+
+/// The numbers that the words left tell, each behind its name, where no more words are left.
+fn read_names(left: &mut Words<'_>) -> Option<Names>
+    ensures told { IfSome result (λ n. TellsNames n.application n.hop_id n.end_id (words left.old.rest.now)) }
+    ensures none { IfNone result ((a h e : ℕ) → TellsNames a h e (words left.old.rest.now) → ⊥) }
+{
+    let application = left.number(b"app")?;
+    let hop_id = left.number(b"hop")?;
+    let end_id = left.number(b"end")?;
+    if left.next().is_some() {
+        return None;
+    }
+    Some(Names {
         application,
         hop_id,
         end_id,
@@ -50,16 +72,29 @@ fn read_flags(word: &[u8]) -> Option<Flags>
     let [request, proxiable, error, retransmit] = word else {
         return None;
     };
+    let (request, proxiable) = read_two_flags(*request, b'R', *proxiable, b'P')?;
+    let (error, retransmit) = read_two_flags(*error, b'E', *retransmit, b'T')?;
     Some(Flags {
-        request: read_flag(*request, b'R')?,
-        proxiable: read_flag(*proxiable, b'P')?,
-        error: read_flag(*error, b'E')?,
-        retransmit: read_flag(*retransmit, b'T')?,
+        request,
+        proxiable,
+        error,
+        retransmit,
     })
 }
 
+/// Whether two flags are set: of each its letter stands there, or `-`.
+pub fn read_two_flags(first: u8, letter: u8, second: u8, other: u8) -> Option<(bool, bool)>
+    ensures first { IfSome result (λ set. first ≡ mark set.0 letter) }
+    ensures second { IfSome result (λ set. second ≡ mark set.1 other) }
+    ensures none { IfNone result ((f g : Bool) → first ≡ mark f letter → second ≡ mark g other → ⊥) }
+{
+    let first = read_flag(first, letter)?;
+    let second = read_flag(second, other)?;
+    Some((first, second))
+}
+
 /// Whether a flag is set: its letter stands there, or `-`.
-pub fn read_flag(octet: u8, letter: u8) -> Option<bool>
+fn read_flag(octet: u8, letter: u8) -> Option<bool>
     ensures told { IfSome result (λ set. octet ≡ mark set letter) }
     ensures none { IfNone result ((set : Bool) → octet ≡ mark set letter → ⊥) }
 {

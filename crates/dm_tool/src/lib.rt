@@ -18,8 +18,6 @@ mod parts;
 mod run;
 mod show;
 mod status;
-#[cfg(test)]
-mod tests;
 mod text;
 mod verdict;
 mod word;

@@ -1,6 +1,7 @@
 //! Messages in hexadecimal, one a line, and what is printed for each.
-ghost use Rattle.std.specs.Prelude.{◌≡◌, ◌++◌, ◌⊎◌, ℕ, List, IfOk, IfErr};
+ghost use Rattle.std.specs.Prelude.{◌≡◌, ◌++◌, ◌⊎◌, ℕ, List, OnOk, IfOk, IfErr};
 ghost use Rattle.dm_tool.specs.HexLines.{PrintsMessage, PrintsFault, PrintsLine, PrintsAll};
+ghost use Rattle.dm_tool.specs.Check.{is_good, verdict_line};
 ghost use Rattle.dm_tool.specs.Tasks.{answer_of};
 
 use crate::fault::ToolFault;
@@ -10,7 +11,7 @@ use crate::text::{push_fault, push_message};
 use crate::verdict::push_verdict;
 use dm_dict::{Dictionary, Verdict};
 use dm_wire::Message;
-use std::alloc::Global;
+use std::alloc::{AllocError, Global};
 
 /// What is printed for a message.
 #[derive(Clone, Copy)]
@@ -103,9 +104,19 @@ fn print_message(
         }
         Task::Check(dictionary) => {
             let verdict = dictionary.check(alloc, message)?;
-            push_verdict(text, &verdict)?;
-            text.push(b'\n')?;
-            Ok(matches!(verdict, Verdict::Good))
+            let good = print_verdict(&verdict, text);
+            drop(verdict);
+            Ok(good?)
         }
     }
+}
+
+/// Appends the line for a verdict, and tells whether it is good.
+fn print_verdict(verdict: &Verdict, text: &mut Vec<u8>) -> Result<bool, AllocError>
+    ensures printed { OnOk result (text.new.items ≡ text.old.items ++ (verdict_line verdict.now).0) }
+    ensures good { IfOk result (λ good. good ≡ is_good verdict.now) }
+{
+    push_verdict(text, verdict)?;
+    text.push(b'\n')?;
+    Ok(matches!(verdict, Verdict::Good))
 }

@@ -30,16 +30,17 @@ pub fn push_fault(text: &mut Vec<u8>, fault: WireFault) -> Result<(), ToolFault>
     ensures known { OnOk result (fault ≢ WireFault.NoMemory) }
     ensures memory { IfErr result (λ e. e ≡ ToolFault.Memory) }
 {
-    match fault {
-        WireFault::TooShort => text.extend_from_slice(b"fault 5015 TooShort")?,
-        WireFault::Version => text.extend_from_slice(b"fault 5011 Version")?,
-        WireFault::Length => text.extend_from_slice(b"fault 5015 Length")?,
-        WireFault::AvpLength(offset) => {
-            text.extend_from_slice(b"fault 5014 AvpLength ")?;
-            push_decimal(text, offset as u64)?;
-        }
-        WireFault::TooLong => text.extend_from_slice(b"fault TooLong")?,
+    let words: &[u8] = match fault {
+        WireFault::TooShort => b"fault 5015 TooShort",
+        WireFault::Version => b"fault 5011 Version",
+        WireFault::Length => b"fault 5015 Length",
+        WireFault::AvpLength(_) => b"fault 5014 AvpLength ",
+        WireFault::TooLong => b"fault TooLong",
         WireFault::NoMemory => return Err(ToolFault::Memory),
+    };
+    text.extend_from_slice(words)?;
+    if let WireFault::AvpLength(offset) = fault {
+        push_decimal(text, offset as u64)?;
     }
     Ok(())
 }

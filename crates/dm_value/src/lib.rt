@@ -22,6 +22,3 @@ pub use text::Text;
 pub use time::unix_seconds;
 pub use value::Value;
 pub use write::write_value;
-
-#[cfg(test)]
-mod tests;

@@ -20,6 +20,3 @@ pub use fault::WireFault;
 pub use message::{Header, Message};
 pub use octets::Octets;
 pub use read::{AvpRef, first_avp};
-
-#[cfg(test)]
-mod tests;

@@ -9,28 +9,20 @@ use Rattle.dm_grammar.proofs.Entries.{open_place, name_place, open_step, open_en
 use Rattle.dm_grammar.proofs.Exits.{handed_on}
 use Rattle.dm_grammar.proofs.entry.bracketed.Goals as goal
 
-pub returns-in_err-name-clause-tells : goal.returns-in_err-name-clause-tells
-returns-in_err-name-clause-tells c =
-    let form = c.in-Some-opens.form in
-    let bracket = opened (view c.in-Some.open.now) c.args.last (view_words c.in-Some.rest.now) form (sym c.in-Some-opens.ensures) in
-    handed_on _ _ c.from_residual.result _ c.from_residual.ensures.1 (ap (λ ts. collect c.args.last High (view_words ts)) c.in-Some.ensures.cases.0 ∙ (bracket
-    ∙ ap (filled Opens (view c.in-Some.open.now)) (c.in_err-name.ensures.tells (open_place form) (name_place form) (EntryIs form) (open_step form) (open_end form))))
-
-pub returns-in_err-_close-clause-tells : goal.returns-in_err-_close-clause-tells
-returns-in_err-_close-clause-tells c =
+pub returns-in_err-words-clause-tells : goal.returns-in_err-words-clause-tells
+returns-in_err-words-clause-tells c =
     let form = c.in-Some-opens.form in
     let bracket = opened (view c.in-Some.open.now) c.args.last (view_words c.in-Some.rest.now) form (sym c.in-Some-opens.ensures) in
     let close : steps (name_place form) ≡ by (One c.close_of.result) Rule Nothing = rw c.close_of.ensures (close_step form) in
-    handed_on _ _ c.from_residual-in_err-_close.result _ c.from_residual-in_err-_close.ensures.1 (ap (λ ts. collect c.args.last High (view_words ts)) c.in-Some.ensures.cases.0 ∙ (bracket
-    ∙ ap (filled Opens (view c.in-Some.open.now)) (c.in_ok-name.ensures.tells (open_place form) (name_place form) (EntryIs form) (open_step form) (open_end form)
-    ∙ ap (filled (EntryIs form) (view c.in_ok-name.name)) (c.in_err-_close.ensures.tells (name_place form) Rule Nothing close (close_end form)))))
+    handed_on _ _ c.from_residual.result _ c.from_residual.ensures.1 (ap (λ ts. collect c.args.last High (view_words ts)) c.in-Some.ensures.cases.0 ∙ (bracket
+    ∙ ap (filled Opens (view c.in-Some.open.now)) (c.in_err-words.ensures.tells (open_place form) (name_place form) Rule (EntryIs form) Nothing (open_step form) (open_end form) close (close_end form))))
 
 pub returns-clause-tells : goal.returns-clause-tells
 returns-clause-tells c =
     let form = c.in-Some-opens.form in
+    let words = c.in_ok-words.words in
     let bracket = opened (view c.in-Some.open.now) c.args.last (view_words c.in-Some.rest.now) form (sym c.in-Some-opens.ensures) in
     let close : steps (name_place form) ≡ by (One c.close_of.result) Rule Nothing = rw c.close_of.ensures (close_step form) in
     ap (λ ts. collect c.args.last High (view_words ts)) c.in-Some.ensures.cases.0 ∙ (bracket
-    ∙ ap (filled Opens (view c.in-Some.open.now)) (c.in_ok-name.ensures.tells (open_place form) (name_place form) (EntryIs form) (open_step form) (open_end form)
-    ∙ ap (filled (EntryIs form) (view c.in_ok-name.name)) (c.in_ok-_close.ensures.tells (name_place form) Rule Nothing close (close_end form)))
-    ∙ bracketed_entry form (view c.in-Some.open.now) (view c.in_ok-name.name) (view c.in_ok-_close._close) (collect c.args.last Rule (view_words c.in_ok-_close.rest.now)))
+    ∙ ap (filled Opens (view c.in-Some.open.now)) (c.in_ok-words.ensures.tells (open_place form) (name_place form) Rule (EntryIs form) Nothing (open_step form) (open_end form) close (close_end form))
+    ∙ bracketed_entry form (view c.in-Some.open.now) (view words.0) (view words.1) (collect c.args.last Rule (view_words c.in_ok-words.rest.now)))

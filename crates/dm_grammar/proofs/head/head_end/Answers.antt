@@ -1,33 +1,25 @@
-use Rattle.std.proofs.Common.{refl, ap, ◌∙◌}
+use Rattle.std.proofs.Common.{refl, ◌∙◌}
 use Rattle.dm_grammar.specs.Places.Place.{FlaggedComma, HeadEnd, Rule}
 use Rattle.dm_grammar.specs.Places.Role.{SecondIs, Rules}
-use Rattle.dm_grammar.specs.Told.{filled, collect}
+use Rattle.dm_grammar.specs.Told.{collect}
 use Rattle.dm_grammar.specs.Views.{view, view_words}
 use Rattle.dm_grammar.proofs.Exits.{handed_on}
 use Rattle.dm_grammar.proofs.Heads.{comma_number, a_second, plain_end, plain_fault}
 use Rattle.dm_grammar.proofs.head.head_end.Goals as goal
 
-pub returns-in_err-number-in-Some-clause-tells : goal.returns-in_err-number-in-Some-clause-tells
-returns-in_err-number-in-Some-clause-tells c =
+pub returns-in_err-words-in-Some-clause-tells : goal.returns-in_err-words-in-Some-clause-tells
+returns-in_err-words-in-Some-clause-tells c =
     let comma = rw c.in-Some.is at c.optional.ensures.tells in
     handed_on _ _ c.from_residual.result _ c.from_residual.ensures.1
-    (comma_number c.args.last _ (view_words c.args.tokens.now) (view_words c.optional.result.1.now) comma.0 comma.1 ∙ c.in_err-number-in-Some.ensures.tells FlaggedComma HeadEnd SecondIs refl refl)
+    (comma_number c.args.last _ (view_words c.args.tokens.now) (view_words c.optional.result.1.now) comma.0 comma.1 ∙ c.in_err-words-in-Some.ensures.tells FlaggedComma HeadEnd Rule SecondIs Rules refl refl refl refl)
 
-pub returns-in_err-_close-in-Some-clause-tells : goal.returns-in_err-_close-in-Some-clause-tells
-returns-in_err-_close-in-Some-clause-tells c =
+pub returns-in_ok-words-in-Some-clause-tells : goal.returns-in_ok-words-in-Some-clause-tells
+returns-in_ok-words-in-Some-clause-tells c =
     let comma = rw c.in-Some.is at c.optional.ensures.tells in
-    handed_on _ _ c.from_residual-in_err-_close-in-Some.result _ c.from_residual-in_err-_close-in-Some.ensures.1
-    (comma_number c.args.last _ (view_words c.args.tokens.now) (view_words c.optional.result.1.now) comma.0 comma.1
-    ∙ (c.in_ok-number-in-Some.ensures.tells FlaggedComma HeadEnd SecondIs refl refl
-    ∙ ap (filled SecondIs (view c.in_ok-number-in-Some.number)) (c.in_err-_close-in-Some.ensures.tells HeadEnd Rule Rules refl refl)))
-
-pub returns-in_ok-_close-in-Some-clause-tells : goal.returns-in_ok-_close-in-Some-clause-tells
-returns-in_ok-_close-in-Some-clause-tells c =
-    let comma = rw c.in-Some.is at c.optional.ensures.tells in
+    let words = c.in_ok-words-in-Some.words in
     comma_number c.args.last _ (view_words c.args.tokens.now) (view_words c.optional.result.1.now) comma.0 comma.1
-    ∙ (c.in_ok-number-in-Some.ensures.tells FlaggedComma HeadEnd SecondIs refl refl
-    ∙ (ap (filled SecondIs (view c.in_ok-number-in-Some.number)) (c.in_ok-_close-in-Some.ensures.tells HeadEnd Rule Rules refl refl)
-    ∙ a_second (view c.in_ok-number-in-Some.number) (view c.in_ok-_close-in-Some._close) (collect c.args.last Rule (view_words c.in_ok-_close-in-Some.rest.now))))
+    ∙ (c.in_ok-words-in-Some.ensures.tells FlaggedComma HeadEnd Rule SecondIs Rules refl refl refl refl
+    ∙ a_second (view words.0) (view words.1) (collect c.args.last Rule (view_words c.in_ok-words-in-Some.rest.now)))
 
 pub returns-in_err-_end-in-None-clause-tells : goal.returns-in_err-_end-in-None-clause-tells
 returns-in_err-_end-in-None-clause-tells c =

@@ -13,6 +13,12 @@ pub returns-in_err-extend_from_slice-in-Ok-clause-taken : goal.returns-in_err-ex
 returns-in_err-extend_from_slice-in-Ok-clause-taken g c =
     (c.loop.input.items ++ take c.in-Ok.count c.read.new.buf, simp (length-append, length-take) (omega (arith, c.in-Ok.ensures.bound.0, simp length-take at c.read.auto.buf)), Consumes-then _ _ _ _ _ c.loop.invariant.1 c.in-Ok.ensures.bytes.0)
 
+pub returns-then-ne-clause-taken : goal.returns-then-ne-clause-taken
+returns-then-ne-clause-taken g c = (c.loop.input.items, omega (arith, c.loop.invariant.0), Consumes-keeps _ _ _ _ c.loop.invariant.1 c.in-Err.ensures.bytes)
+
+pub returns-clause-taken : goal.returns-clause-taken
+returns-clause-taken g c = (c.loop.input.items, omega (arith, c.loop.invariant.0), c.loop.invariant.1)
+
 pub loop-preserved : goal.loop-preserved
 loop-preserved g c = elim c.match-read.branch [
   | in-Ok+else-count-len+in_ok-extend_from_slice-in-Ok w ↦

@@ -1,10 +1,10 @@
-use Rattle.std.proofs.Common.{nat_eq, ◌≡◌, ◌∙◌, ap, length, refl, ◌&&◌, []}
+use Rattle.std.proofs.Common.{nat_eq, ◌≡◌, ap, length, refl, ◌&&◌, []}
 use Rattle.std.proofs.lemmas.Bool.{and_parts}
 use Rattle.std.specs.Option.{option_eq}
 use Rattle.std.specs.Cmp.Lexicographic.{pointwise}
 use Rattle.dm_definitions.specs.Tables.{code_key}
 use Rattle.dm_definitions.specs.Sound.{is_sound_avp}
-use Rattle.dm_definitions.proofs.Places.{one_more, one_more_shown}
+use Rattle.dm_definitions.proofs.Places.{on_ok, one_more}
 use Rattle.dm_definitions.proofs.Members.{each_after-append}
 use Rattle.dm_definitions.proofs.Parts.{avp_parts}
 use Rattle.dm_definitions.proofs.tables.Tables.add_avp.Goals as goal
@@ -16,13 +16,12 @@ returns-clause-tables c =
     let had = c.requires.tables.indexed in
     let (avps_sound, commands_sound) = and_parts _ _ c.requires.tables.sound in
     let last : length c.as_slice-place.result.now ≡ length avps = ap length c.as_slice-place.ensures.value in
-    let named : c.in_ok-name.name.items ≡ c.args.avp.name = c.in_ok-name.ensures.items ∙ c.as_slice.ensures in
-    record {
+    on_ok c.note_name-noted.result (λ noted. record {
       indexed = record {
-        names = rw (c.in_ok-push.ensures.items) (one_more_shown (pointwise nat_eq) (λ d. d.name) (λ k. k.items) c.args.self.now.names c.insert.new.self c.in_ok-name.name _ avps c.args.avp had.names c.in_ok-insert.ensures.entries parts.new_name last named);
-        codes = rw (c.in_ok-push.ensures.items) (one_more (λ x y. nat_eq x.0 y.0 && option_eq nat_eq x.1 y.1) code_key c.args.self.now.codes c.insert-2.new.self _ _ avps c.args.avp had.codes c.in_ok-insert-2.ensures.entries parts.new_code last refl);
+        names = rw (c.in_ok-push.ensures.items) (one_more (pointwise nat_eq) (λ d. d.name) _ _ _ _ avps c.args.avp had.names noted parts.new_name last c.as_slice.ensures);
+        codes = rw (c.in_ok-push.ensures.items) (one_more (λ x y. nat_eq x.0 y.0 && option_eq nat_eq x.1 y.1) code_key _ _ _ _ avps c.args.avp had.codes c.in_ok-insert.ensures.entries parts.new_code last refl);
         titles = had.titles;
         heads = had.heads;
       };
       sound = rw (c.in_ok-push.ensures.items) (rw (each_after-append is_sound_avp [] avps c.args.avp avps_sound c.requires.sound) commands_sound);
-    }
+    }) c.note_name-noted.ensures

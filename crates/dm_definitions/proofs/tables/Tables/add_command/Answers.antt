@@ -1,10 +1,10 @@
-use Rattle.std.proofs.Common.{nat_eq, ◌≡◌, ◌∙◌, ap, length, refl, ◌&&◌, [], true}
+use Rattle.std.proofs.Common.{nat_eq, ◌≡◌, ap, length, refl, ◌&&◌, [], true}
 use Rattle.std.proofs.lemmas.Bool.{and_parts}
 use Rattle.std.specs.Bool.{beq}
 use Rattle.std.specs.Cmp.Lexicographic.{pointwise}
 use Rattle.dm_definitions.specs.Tables.{head_key}
 use Rattle.dm_definitions.specs.Sound.{each_after, is_sound_avp, is_sound_command}
-use Rattle.dm_definitions.proofs.Places.{one_more, one_more_shown}
+use Rattle.dm_definitions.proofs.Places.{on_ok, one_more}
 use Rattle.dm_definitions.proofs.Members.{each_after-append}
 use Rattle.dm_definitions.proofs.Parts.{command_parts}
 use Rattle.dm_definitions.proofs.tables.Tables.add_command.Goals as goal
@@ -18,13 +18,12 @@ returns-clause-tables c =
     let avps_sound : each_after is_sound_avp [] c.args.self.now.avps.items ≡ true = parts_sound.0 in
     let commands_sound : each_after is_sound_command [] commands ≡ true = parts_sound.1 in
     let last : length c.as_slice-place.result.now ≡ length commands = ap length c.as_slice-place.ensures.value in
-    let named : c.in_ok-name.name.items ≡ c.args.command.name = c.in_ok-name.ensures.items ∙ c.as_slice.ensures in
-    record {
+    on_ok c.note_name-noted.result (λ noted. record {
       indexed = record {
         names = had.names;
         codes = had.codes;
-        titles = rw (c.in_ok-push.ensures.items) (one_more_shown (pointwise nat_eq) (λ d. d.name) (λ k. k.items) c.args.self.now.titles c.insert.new.self c.in_ok-name.name _ commands c.args.command had.titles c.in_ok-insert.ensures.entries parts.new_name last named);
-        heads = rw (c.in_ok-push.ensures.items) (one_more (λ x y. (nat_eq x.0 y.0 && beq x.1 y.1) && beq x.2 y.2) head_key c.args.self.now.heads c.insert-2.new.self _ _ commands c.args.command had.heads c.in_ok-insert-2.ensures.entries parts.new_head last refl);
+        titles = rw (c.in_ok-push.ensures.items) (one_more (pointwise nat_eq) (λ d. d.name) _ _ _ _ commands c.args.command had.titles noted parts.new_name last c.as_slice.ensures);
+        heads = rw (c.in_ok-push.ensures.items) (one_more (λ x y. (nat_eq x.0 y.0 && beq x.1 y.1) && beq x.2 y.2) head_key _ _ _ _ commands c.args.command had.heads c.in_ok-insert.ensures.entries parts.new_head last refl);
       };
       sound = rw (c.in_ok-push.ensures.items) (rw avps_sound (each_after-append is_sound_command [] commands c.args.command commands_sound c.requires.sound));
-    }
+    }) c.note_name-noted.ensures

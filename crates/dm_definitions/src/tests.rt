@@ -1,2 +1,0 @@
-//! Tests of what no clause says.
-mod base;

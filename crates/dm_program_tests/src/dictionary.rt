@@ -1,0 +1,13 @@
+//! Tests of dictionaries, by subject.
+mod answers;
+mod edges;
+mod examples;
+mod failed;
+mod faults;
+mod groups;
+mod rows;
+mod rules;
+mod texts;
+mod types;
+mod values;
+mod verdicts;

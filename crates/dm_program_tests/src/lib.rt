@@ -1,0 +1,15 @@
+//! Tests of what no clause of the crates below says: values from outside, printed text, devices that fail, and
+//! that calls succeed with memory at hand.
+//!
+//! A test ends where memory is short. What is checked in a test are its steps, and not the values that it compares:
+//! so it is one call of a helper, which has one way out, and owns at most one dictionary.
+#![tactic(auto)]
+
+#[cfg(test)]
+mod definitions;
+#[cfg(test)]
+mod dictionary;
+#[cfg(test)]
+mod program;
+#[cfg(test)]
+mod text;

@@ -1,0 +1,158 @@
+"""Planted edits as text: which function of a crate an edit changes, and many edits put in place at once.
+
+The sources are as `rt fmt` lays them out (`rt ci` refuses others), so a function ends at the first line that has its
+closing brace, and nothing else, as far in as its head.
+"""
+import collections
+import os
+import re
+
+HEAD = re.compile(r"( *)(?:pub(?:\([\w: ]+\))? )?(?:const )?(?:unsafe )?fn (\w+)")
+IMPL = re.compile(r"( *)impl\b(.*)")
+
+# A function by the name that a check gives it, that of its proof (functions that call each other in a cycle have one
+# proof), and the lines, from 0, of its first comment or attribute, of the opening of its body and of its end.
+Function = collections.namedtuple("Function", "name proof file first body last")
+# One text that an edit changes: the file, where the old text starts there, the old text and the new one.
+Change = collections.namedtuple("Change", "file start old new")
+
+
+def end_of(lines, head, indent):
+    """Returns the line in which the item ends whose head is on this line, so far in."""
+    if lines[head].endswith(("{}", " }", ";")):
+        return head
+    ends = (indent + "}", indent + "{}")
+    return next((at for at in range(head, len(lines)) if lines[at] in ends), len(lines) - 1)
+
+
+def body_of(lines, head, last, indent):
+    """Returns the line in which the function's body opens. Its clauses stand further in than that line."""
+    opens = re.compile(indent + r"(\S.*)?(\{|\{\})")
+    return next((at for at in range(head, last + 1) if opens.fullmatch(lines[at])), head)
+
+
+def first_of(lines, head, indent):
+    """Returns the line of the first comment or attribute right above the function."""
+    while head > 0 and lines[head - 1].startswith((indent + "///", indent + "#[")):
+        head -= 1
+    return head
+
+
+def owner_in(head):
+    """Returns how a check names the methods of an impl with this head: by its type, and the trait behind it."""
+    head = head.partition("{")[0].partition(" where ")[0]
+    while re.search(r"<[^<>]*>", head):
+        head = re.sub(r"<[^<>]*>", "", head)
+    words = [it.strip("&").split("::")[-1] for it in head.split()]
+    return words[-1] + (words[0] if "for" in words else "")
+
+
+def functions_in(file, text):
+    """Returns the functions of a source file by their paths: the file's module, the type of an impl, the function."""
+    module = [it for it in file[len("src/") : -len(".rt")].split("/") if it not in ("lib", "main", "mod")]
+    lines, owner, owner_ends, found = text.split("\n"), "", -1, []
+    for at, line in enumerate(lines):
+        impl, head = IMPL.match(line), HEAD.match(line)
+        if impl:
+            owner, owner_ends = owner_in(impl[2]), end_of(lines, at, impl[1])
+        if head:
+            name = "::".join([*module, *([owner] if at <= owner_ends else []), head[2]])
+            last = end_of(lines, at, head[1])
+            first, body = first_of(lines, at, head[1]), body_of(lines, at, last, head[1])
+            cycle = re.search(r"#\[cycle\((\w+)\)\]", "\n".join(lines[first:at]))
+            found.append(Function(name, cycle and "+" + cycle[1], file, first, body, last))
+    return found
+
+
+def functions_of(texts, known):
+    """Returns the functions of a crate's texts by the names that a check printed, as far as there is one for each.
+
+    A check names a method by the module of its type, and the impl may stand in another: there the last two words count.
+    """
+    by_end = collections.defaultdict(list)
+    for name in known:
+        by_end[tuple(name.split("::")[-2:])].append(name)
+    found = {}
+    for file in (it for it in texts if it.startswith("src/") and it.endswith(".rt")):
+        for it in functions_in(file, texts[file]):
+            fits = [it.name] if it.name in known else by_end[tuple(it.name.split("::")[-2:])]
+            if len(fits) == 1:
+                *above, last = fits[0].split("::")
+                found[fits[0]] = it._replace(name=fits[0], proof="::".join([*above, it.proof or last]))
+    return found
+
+
+def texts_of(folder):
+    """Returns the texts of the crate's files by their paths in it."""
+    texts = {}
+    for part in ("src", "specs", "proofs"):
+        for at, _, names in os.walk(f"{folder}/{part}"):
+            for name in names:
+                with open(f"{at}/{name}", encoding="utf-8", errors="replace") as it:
+                    texts[os.path.relpath(f"{at}/{name}", folder)] = it.read()
+    return texts
+
+
+def changes_of(text, texts):
+    """Returns the changes that an edit file asks for; none where an old text isn't in the unedited file just once."""
+    changes, file, old = [], "", ""
+    for line in text.split("\n"):
+        if line.startswith("file: "):
+            file = line[len("file: ") :].strip()
+        elif line.startswith("old: "):
+            old = line[len("old: ") :]
+        elif line.startswith("new:"):
+            if texts[file].count(old) != 1:
+                return []
+            changes.append(Change(file, texts[file].index(old), old, re.sub(r"\A ", "", line[len("new:") :])))
+    return changes
+
+
+def function_of(changes, texts, functions):
+    """Returns the one function whose body holds all changes, but for those of `use` items; or None."""
+    found = set()
+    for it in changes:
+        before = texts[it.file][: it.start]
+        line = before.count("\n")
+        holds = [f for f in functions if f.file == it.file and f.body <= line <= f.last]
+        if holds:
+            found.add(holds[-1])
+        elif not re.match(r"(pub )?use ", before.rpartition("\n")[2] + it.old):
+            return None
+    return found.pop() if len(found) == 1 else None
+
+
+def joined(edits, texts):
+    """Returns the texts of the files that these edits change, with all of them in place."""
+    changed = {}
+    # (from the last change to the first, so that the places of the others stay)
+    for it in sorted({change for edit in edits for change in edit.changes}, key=lambda it: -it.start):
+        text = changed.get(it.file, texts[it.file])
+        changed[it.file] = text[: it.start] + it.new + text[it.start + len(it.old) :]
+    return changed
+
+
+def overlap(a, b):
+    """Returns whether two changes are unlike and touch the same text."""
+    return a != b and a.file == b.file and a.start < b.start + len(b.old) and b.start < a.start + len(a.old)
+
+
+def clash(edit, other):
+    """Returns whether the two can't be in one round: they change what has one proof, or one `use` item unlike."""
+    if edit.function.proof == other.function.proof:
+        return True
+    return any(overlap(a, b) for a in edit.changes for b in other.changes)
+
+
+def rounds_of(edits, largest):
+    """Returns the edits in rounds about equally long, none above the largest, in which none clashes with another."""
+    of_proof = collections.Counter(it.function.proof for it in edits)
+    rounds = [[] for _ in range(max([-(-len(edits) // largest), *of_proof.values()]))]
+    # (first those with the least choice)
+    for it in sorted(edits, key=lambda it: -of_proof[it.function.proof]):
+        fits = [there for there in rounds if not any(clash(it, other) for other in there)]
+        if not fits:
+            fits = [[]]
+            rounds += fits
+        min(fits, key=len).append(it)
+    return [it for it in rounds if it]

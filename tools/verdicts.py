@@ -1,0 +1,67 @@
+"""What a check of many edits says of each: the lines that decide, in the order in which they do."""
+import collections
+import re
+
+# REFUSED: a goal of the function isn't proved. ANSWER: only an answer file of its proof has an error.
+# The others are no refusal: NAMES (an answer file names what is gone), PROVED, WAITS (for a callee's proof), UNSAID.
+REFUSED, ANSWER, NAMES, PROVED, WAITS, UNSAID = "refused answer names proved waits unsaid".split()
+Verdict = collections.namedtuple("Verdict", "kind line")
+# A line of a check that stands at a place of the crate; its number there is counted from 0.
+Line = collections.namedtuple("Line", "text is_goal is_error file number")
+
+AT = re.compile(r"(note: )?(?:\./)?((?:src|proofs)/\S+?):(\d+):\d+: (.*)")
+GONE = re.compile(r"has no field|is not in scope|has no `|was not admitted")
+TRIED = "`search` did not prove"
+
+
+def lines_in(said):
+    """Yields the lines of a check that stand at a place of the crate."""
+    for text in said.split("\n"):
+        at = AT.match(text)
+        if at:
+            is_goal = bool(at[1]) and at[4].startswith("it is not proved that")
+            yield Line(text, is_goal, not at[1] and at[4].startswith("error"), at[2], int(at[3]) - 1)
+
+
+def is_in(line, function):
+    return line.file == function.file and function.first <= line.number <= function.last
+
+
+def judge(crate, function, said):
+    """Returns the verdict on the edit in this function, which stands there in the edited text."""
+    head = f"fn {crate}::{function.name}: "
+    end = next((it for it in said.split("\n") if it.startswith(head)), None)
+    if end is None:
+        return Verdict(UNSAID, "the check has no line of its function")
+    if end[len(head) :].startswith("proved"):
+        return Verdict(PROVED, end)
+    answers = f"proofs/{function.proof.replace('::', '/')}/"
+    own = [it for it in lines_in(said) if it.is_goal and is_in(it, function)]
+    errors = [it for it in lines_in(said) if it.is_error and it.file.startswith(answers)]
+    told = [it for it in errors if not GONE.search(it.text)]
+    if own or TRIED in end:
+        return Verdict(REFUSED, own[0].text if own else end)
+    if told:
+        return Verdict(ANSWER, told[0].text)
+    return Verdict(NAMES, errors[0].text) if errors else Verdict(WAITS, end)
+
+
+def holder_of(name):
+    """Returns the name of a function, for a closure with that of the function that holds it in front."""
+    return re.sub(r"(^|::)fn::", r"\1", name)
+
+
+def strangers(crate, functions, edited, said):
+    """Returns the functions that have a goal that isn't proved, though no edit of the round changes their proofs."""
+    found = {*re.findall(rf"(?m)^fn {crate}::(\S+): .*{TRIED}", said)}
+    for line in lines_in(said):
+        found |= {it.name for it in functions if line.is_goal and is_in(line, it)}
+    proofs = {it.proof for it in edited}
+    touched = tuple(f"{it.name}::" for it in functions if it.proof in proofs)
+    return sorted(it for it in found if not f"{holder_of(it)}::".startswith(touched))
+
+
+def culprits(edits, functions, said):
+    """Returns the edits in whose functions the front end found an error, where it stopped the whole round."""
+    errors = [it for it in lines_in(said) if it.is_error]
+    return [edit for edit in edits if any(is_in(it, functions[edit.function.name]) for it in errors)]
