@@ -3,6 +3,8 @@
 #![tactic(auto)]
 
 #[cfg(test)]
+mod framer;
+#[cfg(test)]
 mod grammar;
 #[cfg(test)]
 mod peer;

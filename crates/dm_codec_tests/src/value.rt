@@ -74,6 +74,8 @@ fn copies_and_texts_are_the_same(rt: HostRuntime) -> Result<(), Fail> {
     laws::one_type();
     laws::no_value_refused();
     laws::least_length();
+    laws::flaw_decides();
+    laws::value_or_fault();
     let other = Address::Other(3, octets(rt.alloc(), b"x")?);
     assert!(rt; is_copied_address(&other));
     Ok(())

@@ -9,6 +9,7 @@ pub mod Numbers
 pub mod Along
 pub mod EntryFaults
 pub mod Found
+pub mod SomeOutcomes
 pub mod Soundness
 pub mod Vendors
 pub mod Closed

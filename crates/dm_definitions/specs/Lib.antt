@@ -10,6 +10,7 @@ pub mod Printed
 pub mod Meaning
 pub mod Kinds
 pub mod Faults
+pub mod OneOutcome
 pub mod Outcome
 pub mod ItemFaults
 pub mod Numbers

@@ -4,7 +4,7 @@ ghost use Rattle.std.specs.Option.{option_copied, option_to_list};
 ghost use Rattle.dm_definitions.specs.declared.fault.DictFault.{DictFault};
 ghost use Rattle.dm_definitions.specs.declared.fault.DictFault.TheVariants as faults;
 ghost use Rattle.dm_definitions.specs.Definitions.{Definitions, nothing_defined, is_named, is_coded, is_headed};
-ghost use Rattle.dm_definitions.specs.Sound.{is_sound};
+ghost use Rattle.dm_definitions.specs.Sound.{is_sound, is_closed};
 ghost use Rattle.dm_definitions.specs.Base.{base_definitions};
 ghost use Rattle.dm_definitions.specs.Printed.{printed};
 ghost use Rattle.dm_definitions.specs.Outcome.{Defines, IsFirstFault};
@@ -60,7 +60,7 @@ impl Definitions {
     ///
     /// Refuses with the first `Syntax` of the whole text, at its last line where it ends too early; else,
     /// token by token, with `Range`, `Duplicate` or `Order`; else with the first `UnknownName`. Where one
-    /// token shows two of them, they come in this order. `NoMemory` may come before any but `Syntax`.
+    /// token shows two of them, they come in this order. `NoMemory` may come before any of them.
     pub fn read(alloc: Global, text: &[u8], old: &Definitions) -> Result<Definitions, DictFault>
         ensures defines { IfOk result (λ new. Defines text.now old.now new) }
         ensures fault { IfErr result (λ f. (f ≡ faults.NoMemory) ⊎ IsFirstFault text.now old.now f) }
@@ -114,10 +114,11 @@ impl Definitions {
         self.tables.command_by_head(code, request, err)
     }
 
-    /// The law that every dictionary keeps to: each definition is sound beside those before it. It does
-    /// nothing.
+    /// The laws that every dictionary keeps to: each definition is sound beside those before it, and each
+    /// entry of a rule is `AVP` or names an AVP that is defined (RFC 6733, 3.2). It does nothing.
     pub fn soundness(&self)
-        ensures { is_sound self.now ≡ true }
+        ensures sound { is_sound self.now ≡ true }
+        ensures closed { is_closed self.now ≡ true }
     {
         let _tables = &self.tables;
     }

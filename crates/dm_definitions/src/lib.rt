@@ -11,6 +11,7 @@ mod definitions;
 mod entries;
 mod fault;
 mod kind;
+pub mod laws;
 mod number;
 mod print;
 mod read;

@@ -15,7 +15,8 @@ use Rattle.dm_definitions.specs.declared.rule.Entry.{Entry}
 use Rattle.dm_definitions.specs.declared.def.AvpDef.{AvpDef}
 use Rattle.dm_definitions.specs.declared.def.CommandDef.{CommandDef}
 use Rattle.dm_definitions.specs.Definitions.{Definitions, is_named, is_headed}
-use Rattle.dm_dict.specs.Members.{members}
+use Rattle.dm_wire.specs.Members.{members}
+use Rattle.dm_dict.specs.Codes.{command_unsupported, invalid_hdr_bits, avp_unsupported, invalid_avp_value, missing_avp, avp_not_allowed, avp_occurs_too_many_times, invalid_avp_length, failed_avp}
 use Rattle.dm_dict.specs.Rules.{definition, stands_for_any, counted, count, entry_for, allows}
 
 -- a fault: its Result-Code and the failed AVP, which stands alone, without the groups round it (7.5)
@@ -31,8 +32,8 @@ fault_without_avp code = record { code = code; failed = None } ∷ []
 
 -- data of a wrong length 5014, of a wrong value 5004 (7.1.5)
 abbrev pub value_faults : Option ValueFault → Avp → List Fault
-value_faults (Some WrongLength) a = fault_of 5014 a
-value_faults (Some WrongValue) a = fault_of 5004 a
+value_faults (Some WrongLength) a = fault_of invalid_avp_length a
+value_faults (Some WrongValue) a = fault_of invalid_avp_value a
 value_faults _ a = []
 
 -- data of a type; of a Grouped AVP what is wrong with the group (4.4)
@@ -42,14 +43,14 @@ data_faults kind group a = value_faults (flaw kind a.bytes) a
 
 -- Failed-AVP, whose data holds what was wrong elsewhere and isn't read (7.5)
 abbrev pub is_failed_avp : Avp → Bool
-is_failed_avp a = nat_eq a.code 279 && option_eq nat_eq a.vendor None
+is_failed_avp a = nat_eq a.code failed_avp && option_eq nat_eq a.vendor None
 
 -- one AVP: 5001 where it has no definition and the M bit is set (4.1), 5008 where the rule doesn't allow it (7.1.5), and then
 -- its data
 abbrev pub avp_faults : (List Entry → Avp → List Fault) → Bool → Avp → Option AvpDef → List Fault
-avp_faults groups allowed a None = if a.mandatory then fault_of 5001 a else []
+avp_faults groups allowed a None = if a.mandatory then fault_of avp_unsupported a else []
 avp_faults groups allowed a (Some f) =
-    (if allowed then [] else fault_of 5008 a) ++ (if is_failed_avp a then [] else data_faults f.kind (groups f.rule a) a)
+    (if allowed then [] else fault_of avp_not_allowed a) ++ (if is_failed_avp a then [] else data_faults f.kind (groups f.rule a) a)
 
 -- the example of an AVP that is missing: zeros of its type's least length (7.5); `AVP` has none
 abbrev pub example_of : AvpDef → Avp
@@ -68,12 +69,12 @@ example avps e = if stands_for_any e then None else option_map example_of (find 
 -- more than max, where max isn't 0: 5009 with the first instance past the maximum (7.1.5)
 abbrev pub excess_faults : Option ℕ → List Avp → List Fault
 excess_faults None l = []
-excess_faults (Some max) l = if nat_lt 0 max && nat_lt max (length l) then record { code = 5009; failed = slice_get l max } ∷ [] else []
+excess_faults (Some max) l = if nat_lt 0 max && nat_lt max (length l) then record { code = avp_occurs_too_many_times; failed = slice_get l max } ∷ [] else []
 
 -- one entry of the rule: 5005 where the list has fewer than min (7.1.5), 5009 where it has more than max
 abbrev pub entry_faults : List AvpDef → List Entry → List Avp → Entry → List Fault
 entry_faults avps rule l e =
-    (if nat_lt (count avps rule l e) e.min then record { code = 5005; failed = example avps e } ∷ [] else [])
+    (if nat_lt (count avps rule l e) e.min then record { code = missing_avp; failed = example avps e } ∷ [] else [])
     ++ excess_faults e.max (counted avps rule l e)
 
 -- a list of AVPs under a rule: each AVP in order, and then each entry of the rule in order
@@ -84,12 +85,12 @@ list_faults_by groups avps rule l =
 
 -- the members of a group; 5014 with empty data where the octets are no AVPs one after the other
 abbrev pub member_faults : (List Avp → List Fault) → Avp → Option (List Avp) → List Fault
-member_faults inside a None = fault_of 5014 (record a { bytes = [] })
+member_faults inside a None = fault_of invalid_avp_length (record a { bytes = [] })
 member_faults inside a (Some l) = inside l
 
 -- a Grouped AVP of this rule, where n groups may stand inside each other: with none left 5004
 abbrev pub group_faults : ℕ → List AvpDef → List Entry → Avp → List Fault
-group_faults zero avps rule a = fault_of 5004 a
+group_faults zero avps rule a = fault_of invalid_avp_value a
 group_faults (suc n) avps rule a = member_faults (list_faults_by (group_faults n avps) avps rule) a (members a.bytes)
 
 abbrev pub list_faults : ℕ → List AvpDef → List Entry → List Avp → List Fault
@@ -110,8 +111,8 @@ wrong_bits h = (h.request && h.error) || (not h.request && h.retransmit)
 -- 3001 where there is no rule; else 3008 for the header's bits, and then the AVPs, where eight groups may stand inside each
 -- other (7.1.3)
 abbrev pub message_faults : List AvpDef → Message → Option CommandDef → List Fault
-message_faults avps m None = fault_without_avp 3001
-message_faults avps m (Some c) = (if wrong_bits m.header then fault_without_avp 3008 else []) ++ list_faults 8 avps c.rule m.avps
+message_faults avps m None = fault_without_avp command_unsupported
+message_faults avps m (Some c) = (if wrong_bits m.header then fault_without_avp invalid_hdr_bits else []) ++ list_faults 8 avps c.rule m.avps
 
 abbrev pub faults : Definitions → Message → List Fault
 faults d m = message_faults d.avps m (command_for d m.header)

@@ -6,8 +6,8 @@ use Rattle.dm_dict.specs.declared.verdict.Verdict.TheVariants as verdict
 use Rattle.dm_dict.specs.declared.judged.Judged.{Judged}
 use Rattle.dm_dict.specs.declared.judged.Judged.TheVariants as judged
 use Rattle.dm_dict.specs.declared.judged.Failed.{Failed}
-use Rattle.dm_dict.specs.declared.judged.Failed.TheVariants.{Nothing, Found, Missing}
-use Rattle.dm_dict.specs.Borrowed.{avp_of}
+use Rattle.dm_dict.specs.declared.judged.Failed.TheVariants.{Nothing, Found, Example}
+use Rattle.dm_wire.specs.Borrowed.{avp_of}
 use Rattle.dm_dict.specs.Faults.{Fault}
 
 -- the verdict on a message with these faults: the first, or Good
@@ -18,7 +18,7 @@ verdict_of (Some f) = verdict.Bad f.code f.failed
 abbrev pub failed_of : Failed → Option Avp
 failed_of Nothing = None
 failed_of (Found avp) = Some (avp_of avp)
-failed_of (Missing code vendor zeros) =
+failed_of (Example code vendor zeros) =
     Some (record { code = code; vendor = vendor; mandatory = true; protected = false; bytes = replicate zeros 0 })
 
 -- the fault that was found

@@ -1,8 +1,9 @@
 pub mod Apart
-pub mod Borrowed
+pub mod Codes
 pub mod Counters
+pub mod Examples
 pub mod Faults
 pub mod Judgement
-pub mod Members
+pub mod Keeping
 pub mod Rules
 pub mod Typed

@@ -9,7 +9,7 @@ use Rattle.dm_value.specs.Meaning.{Means}
 use Rattle.dm_definitions.specs.declared.def.AvpDef.{AvpDef}
 use Rattle.dm_definitions.specs.Definitions.{Definitions}
 use Rattle.dm_dict.specs.Faults.{is_failed_avp, faults, first}
-use Rattle.dm_dict.specs.Members.{members}
+use Rattle.dm_wire.specs.Members.{members}
 use Rattle.dm_dict.specs.Rules.{definition}
 
 -- the data has a value of its type; that of a group is AVPs, and they are as `inside` says
@@ -22,7 +22,7 @@ abbrev pub IsTypedAs : (List Avp → Type 0) → Avp → Option AvpDef → Type 
 IsTypedAs inside a None = Unit {0}
 IsTypedAs inside a (Some f) = is_failed_avp a ≡ false → IsTypedData inside f.kind a.bytes
 
-abbrev pub Each : (Avp → Type 0) → List Avp → Type 0
+abbrev pub Each : {A : Type 0} → (A → Type 0) → List A → Type 0
 Each P [] = Unit {0}
 Each P (a ∷ l) = P a × Each P l
 

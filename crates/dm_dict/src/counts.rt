@@ -2,13 +2,13 @@
 ghost use Rattle.std.specs.Prelude.{◌≡◌, ◌+◌, ◌<◌, ◌^◌, ℕ, List, slice_index, if◌then◌else◌};
 ghost use Rattle.dm_wire.specs.declared.avp.Avp.{Avp};
 ghost use Rattle.dm_dict.specs.Apart.{IsApart, IsFit};
-ghost use Rattle.dm_dict.specs.Borrowed.{Lists, size_of};
+ghost use Rattle.dm_wire.specs.Borrowed.{Lists, size_of};
 ghost use Rattle.dm_dict.specs.Counters.{IsCounted};
 ghost use Rattle.dm_dict.specs.Rules.{is_at};
 
-use crate::list::AvpsRef;
-use crate::rules::standing;
+use crate::rules::look_up;
 use dm_definitions::{Definitions, Rule};
+use dm_wire::AvpsRef;
 
 pub(crate) fn no_counts() -> [usize; 64]
     ensures { (i : ℕ) → slice_index result i ≡ 0 }
@@ -44,7 +44,7 @@ pub(crate) fn counts_from(
     let mut counts = no_counts();
     let mut left = list;
     while let Some((avp, rest)) = left.split_first() {
-        let (_, at) = standing(dictionary, rule, avp);
+        let (_, at) = look_up(dictionary, rule, avp);
         count_one(&mut counts, from, at);
         left = rest;
     }

@@ -1,21 +1,25 @@
 //! Dictionaries: their look-ups, and the verdict on a message (RFC 6733, 3.2 and 7).
-ghost use Rattle.std.specs.Prelude.{◌≡◌, ◌⊎◌, IfOk, IfErr, Ok, Err, OnErr, IsSome, IsSomeAnd, find, filter};
+ghost use Rattle.std.specs.Prelude.{◌≡◌, ◌⊎◌, true, List, IfOk, IfErr, Ok, Err, OnErr, IsSome, IsSomeAnd, find, filter};
 ghost use Rattle.std.specs.Option.{option_copied, option_to_list};
+ghost use Rattle.dm_wire.specs.declared.avp.Avp.{Avp};
+ghost use Rattle.dm_wire.specs.declared.message.Message.{Message};
+ghost use Rattle.dm_wire.specs.Spelling.{SpellsList};
 ghost use Rattle.dm_definitions.specs.declared.fault.DictFault.{DictFault};
 ghost use Rattle.dm_definitions.specs.declared.fault.DictFault.TheVariants as faults_of;
 ghost use Rattle.dm_definitions.specs.Definitions.{Definitions, nothing_defined, is_named, is_coded, is_headed};
+ghost use Rattle.dm_definitions.specs.Sound.{is_sound, is_closed};
 ghost use Rattle.dm_definitions.specs.Base.{base_definitions};
 ghost use Rattle.dm_definitions.specs.Printed.{printed};
 ghost use Rattle.dm_definitions.specs.Outcome.{Defines, IsFirstFault};
 ghost use Rattle.dm_dict.specs.Faults.{faults, first};
-ghost use Rattle.dm_dict.specs.Judgement.{verdict_of};
+ghost use Rattle.dm_dict.specs.Judgement.{shown, verdict_of};
 ghost use Rattle.dm_dict.specs.Typed.{AreTyped};
 
-use crate::list::AvpsRef;
-use crate::message::judge;
-use crate::{AvpDef, CommandDef, DictFault, NoMemory, Verdict};
+use crate::judge::{judge_message, judge_spelled};
+use crate::laws::good_is_typed;
+use crate::{AvpDef, CommandDef, DictFault, Judged, NoMemory, Verdict};
 use dm_definitions::Definitions;
-use dm_wire::Message;
+use dm_wire::{AvpsRef, Message, MessageRef};
 use std::alloc::Global;
 use std::marker::Model;
 
@@ -59,7 +63,7 @@ impl Dictionary {
     ///
     /// Refuses with the first `Syntax` of the whole text, at its last line where it ends too early; else,
     /// token by token, with `Range`, `Duplicate` or `Order`; else with the first `UnknownName`. Where one
-    /// token shows two of them, they come in this order. `NoMemory` may come before any but `Syntax`.
+    /// token shows two of them, they come in this order. `NoMemory` may come before any of them.
     pub fn read(alloc: Global, text: &[u8], old: &Dictionary) -> Result<Dictionary, DictFault>
         ensures defines { IfOk result (λ new. Defines text.now old.now new) }
         ensures fault { IfErr result (λ f. (f ≡ faults_of.NoMemory) ⊎ IsFirstFault text.now old.now f) }
@@ -111,6 +115,15 @@ impl Dictionary {
         self.definitions.command(code, request, err)
     }
 
+    /// The laws that every dictionary keeps to: each definition is sound beside those before it, and each entry
+    /// of a rule is `AVP` or names an AVP that is defined (RFC 6733, 3.2). It does nothing.
+    pub fn soundness(&self)
+        ensures sound { is_sound self.now ≡ true }
+        ensures closed { is_closed self.now ≡ true }
+    {
+        self.definitions.soundness();
+    }
+
     /// What the dictionary says of the message: good, or its first fault in this order (own; the codes
     /// are those of RFC 6733, 7.1).
     ///
@@ -124,7 +137,8 @@ impl Dictionary {
     /// 4. For each entry of the rule in order: 5005 with an example of what is missing, 5009 with the
     ///    first AVP past the maximum.
     ///
-    /// It takes time by the message and the rules alone, and memory only for the failed AVP.
+    /// It takes time by the message and the rules alone, and memory only for the failed AVP. `judge` says the
+    /// same of a message that isn't copied.
     pub fn check(&self, alloc: Global, message: &Message) -> Result<Verdict, NoMemory>
         // The first of all faults, or good where there is none.
         ensures verdict { IfOk result (λ verdict. verdict ≡ verdict_of (first (faults self.now message.now))) }
@@ -133,7 +147,22 @@ impl Dictionary {
         // Memory is wanted for the failed AVP alone.
         ensures memory { OnErr result (IsSomeAnd (first (faults self.now message.now)) (λ fault. IsSome fault.failed)) }
     {
+        good_is_typed();
         let list = AvpsRef::Held(message.avps.as_slice());
-        judge(&self.definitions, &message.header, list).verdict(alloc)
+        judge_message(&self.definitions, &message.header, list).verdict(alloc)
+    }
+
+    /// What the dictionary says of the message where it lies: the verdict of `check`, with the parts of the same
+    /// failed AVP. It takes no memory.
+    pub fn judge<'a>(&self, message: &MessageRef<'a>) -> Judged<'a>
+        // The first of all faults of the message that the reference stands for, or good where there is none.
+        ensures verdict { (l : List Avp) → SpellsList l message.now.rest.now
+            → shown result ≡ first (faults self.now (record { header = message.now.header; avps = l })) }
+        // It is what `check` says of the decoded message.
+        ensures checked { (decoded : Message) → decoded.header ≡ message.now.header
+            → SpellsList decoded.avps message.now.rest.now
+            → verdict_of (shown result) ≡ verdict_of (first (faults self.now decoded)) }
+    {
+        judge_spelled(&self.definitions, &message.header, message.rest)
     }
 }

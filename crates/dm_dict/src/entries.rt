@@ -3,18 +3,19 @@ ghost use Rattle.std.specs.Prelude.{◌≡◌, ◌+◌, ◌<◌, ◌≤◌, ◌^
 ghost use Rattle.dm_wire.specs.declared.avp.Avp.{Avp};
 ghost use Rattle.dm_definitions.specs.declared.rule.Entry.{Entry};
 ghost use Rattle.dm_dict.specs.Apart.{IsApart, IsFit};
-ghost use Rattle.dm_dict.specs.Borrowed.{Lists, size_of};
+ghost use Rattle.dm_wire.specs.Borrowed.{Lists, size_of};
 ghost use Rattle.dm_dict.specs.Counters.{IsCounted, before};
 ghost use Rattle.dm_dict.specs.Faults.{example, entry_faults, first};
 ghost use Rattle.dm_dict.specs.Judgement.{failed_of, shown};
 ghost use Rattle.dm_dict.specs.Rules.{count, counted};
 
+use crate::codes::{AVP_OCCURS_TOO_MANY_TIMES, MISSING_AVP};
 use crate::counts::counts_from;
 use crate::judged::{Failed, Judged};
-use crate::list::AvpsRef;
 use crate::rules::counts_avp;
 use dm_definitions::{Definitions, Entry, Rule};
 use dm_value::least_len;
+use dm_wire::AvpsRef;
 
 /// The example of an AVP that the entry names; `AVP` has none.
 fn example(dictionary: &Definitions, entry: &Entry) -> Failed<'static>
@@ -24,7 +25,7 @@ fn example(dictionary: &Definitions, entry: &Entry) -> Failed<'static>
         return Failed::Nothing;
     }
     match dictionary.avp_by_name(entry.name.as_slice()) {
-        Some(def) => Failed::Missing {
+        Some(def) => Failed::Example {
             code: def.code,
             vendor: def.vendor,
             zeros: least_len(def.kind),
@@ -34,7 +35,7 @@ fn example(dictionary: &Definitions, entry: &Entry) -> Failed<'static>
 }
 
 /// The AVP that has `max` before it among those that the entry at the place counts.
-fn past<'a>(
+fn first_past_max<'a>(
     dictionary: &Definitions,
     rule: &Rule,
     at: usize,
@@ -79,13 +80,19 @@ fn judge_entry<'a>(
     let entry = &rule.as_slice()[at];
     if number < entry.min as usize {
         let failed = example(dictionary, entry);
-        return Judged::Bad { code: 5005, failed };
+        return Judged::Bad {
+            code: MISSING_AVP,
+            failed,
+        };
     }
     match entry.max {
         Some(max) => {
             if max > 0 && number > max as usize {
-                let failed = past(dictionary, rule, at, max, list);
-                return Judged::Bad { code: 5009, failed };
+                let failed = first_past_max(dictionary, rule, at, max, list);
+                return Judged::Bad {
+                    code: AVP_OCCURS_TOO_MANY_TIMES,
+                    failed,
+                };
             }
             Judged::Good
         }

@@ -1,113 +1,78 @@
-//! The first fault of AVPs under a rule, groups and all (RFC 6733, 4.1, 4.4 and 7.1.5).
-ghost use Rattle.std.specs.Prelude.{◌≡◌, ◌<◌, ◌^◌, List};
+//! The first fault of a message (RFC 6733, 3 and 7).
+ghost use Rattle.std.specs.Prelude.{◌≡◌, ◌<◌, ◌^◌, true, List, is_some};
 ghost use Rattle.std.specs.Option.{option_copied};
 ghost use Rattle.dm_wire.specs.declared.avp.Avp.{Avp};
-ghost use Rattle.dm_dict.specs.Apart.{IsApart, IsFit};
-ghost use Rattle.dm_dict.specs.Borrowed.{avp_of, Lists, size_of};
-ghost use Rattle.dm_dict.specs.Faults.{is_failed_avp, avp_faults, group_faults, list_faults, first};
+ghost use Rattle.dm_wire.specs.Borrowed.{Lists, size_of};
+ghost use Rattle.dm_wire.specs.Members.{members};
+ghost use Rattle.dm_wire.specs.Spelling.{SpellsList};
+ghost use Rattle.dm_dict.specs.Faults.{command_for, wrong_bits, faults, first};
 ghost use Rattle.dm_dict.specs.Judgement.{shown};
-ghost use Rattle.dm_dict.specs.Rules.{definition};
 
-use crate::counts::{count_one, no_counts};
-use crate::entries::judge_entries;
+use crate::avps::judge_list;
+use crate::codes::{COMMAND_UNSUPPORTED, INVALID_HDR_BITS};
 use crate::judged::{Failed, Judged};
-use crate::list::{AvpsRef, frames};
-use crate::rules::{allows, standing};
-use dm_definitions::{AvpDef, Definitions, Rule};
-use dm_value::{AvpType, ValueFault, value_fault};
-use dm_wire::AvpRef;
+use dm_definitions::{CommandDef, Definitions};
+use dm_wire::laws::members_spell;
+use dm_wire::{AvpsRef, Header};
 
-/// Whether the AVP is Failed-AVP, whose data isn't read.
-fn is_failed_avp(avp: AvpRef<'_>) -> bool
-    ensures { result ≡ is_failed_avp (avp_of avp.entry) }
+/// Groups that may stand inside each other.
+const GROUPS: u32 = 8;
+
+/// The command whose rule the message has. All answers that report an error have one rule, that of
+/// command 0 with ERR.
+fn command_for<'d>(dictionary: &'d Definitions, header: &Header) -> Option<&'d CommandDef>
+    ensures { option_copied result ≡ command_for dictionary.now header.now }
 {
-    avp.code == 279 && avp.vendor == None
+    let error_answer = !header.request && header.error;
+    let code = if error_answer { 0 } else { header.command };
+    dictionary.command(code, header.request, error_answer)
 }
 
-/// The first fault of an AVP of this definition, inside which so many groups may stand.
-#[cycle(judge)]
-fn judge_avp<'a>(
+/// The first fault of a message of this header and these AVPs. It takes no memory.
+pub(crate) fn judge_message<'a>(
     dictionary: &Definitions,
-    def: Option<&AvpDef>,
-    allowed: bool,
-    avp: AvpRef<'a>,
-    depth: u32,
-) -> Judged<'a>
-    requires fit { IsFit dictionary.now.avps }
-    requires def { option_copied def ≡ definition dictionary.now.avps (avp_of avp) }
-    ensures { shown result
-        ≡ first (avp_faults (group_faults depth dictionary.now.avps) allowed (avp_of avp.entry) (option_copied def.entry)) }
-{
-    let failed = Failed::Found(avp);
-    let Some(def) = def else {
-        if avp.mandatory {
-            return Judged::Bad { code: 5001, failed };
-        }
-        return Judged::Good;
-    };
-    if !allowed {
-        return Judged::Bad { code: 5008, failed };
-    }
-    if is_failed_avp(avp) {
-        return Judged::Good;
-    }
-    if let AvpType::Grouped = def.kind {
-        return judge_group(dictionary, &def.rule, avp, depth);
-    }
-    match value_fault(def.kind, avp.bytes) {
-        Some(ValueFault::WrongLength) => Judged::Bad { code: 5014, failed },
-        Some(ValueFault::WrongValue) => Judged::Bad { code: 5004, failed },
-        _ => Judged::Good,
-    }
-}
-
-/// The first fault of a Grouped AVP of this rule, where so many groups may stand inside each other.
-#[cycle(judge)]
-fn judge_group<'a>(dictionary: &Definitions, rule: &Rule, avp: AvpRef<'a>, depth: u32) -> Judged<'a>
-    requires fit { IsFit dictionary.now.avps }
-    requires apart { IsApart rule.now }
-    ensures { shown result ≡ first (group_faults depth dictionary.now.avps rule.now (avp_of avp.entry)) }
-{
-    if depth == 0 {
-        return Judged::Bad {
-            code: 5004,
-            failed: Failed::Found(avp),
-        };
-    }
-    if !frames(avp.bytes) {
-        return Judged::Bad {
-            code: 5014,
-            failed: Failed::Found(AvpRef { bytes: &[], ..avp }),
-        };
-    }
-    judge_list(dictionary, rule, AvpsRef::Lying(avp.bytes), depth - 1)
-}
-
-/// The first fault of a list of AVPs under the rule, where so many groups may stand inside each other.
-#[cycle(judge)]
-pub(crate) fn judge_list<'a>(
-    dictionary: &Definitions,
-    rule: &Rule,
+    header: &Header,
     list: AvpsRef<'a>,
-    depth: u32,
 ) -> Judged<'a>
-    requires fit { IsFit dictionary.now.avps }
-    requires apart { IsApart rule.now }
     requires listed { (l : List Avp) × Lists list l }
     requires fits { size_of list < 2 ^ 64 }
     ensures { (l : List Avp) → Lists list.entry l
-        → shown result ≡ first (list_faults depth dictionary.now.avps rule.now l) }
+        → shown result ≡ first (faults dictionary.now (record { header = header.now; avps = l })) }
 {
-    let mut counts = no_counts();
-    let mut left = list;
-    while let Some((avp, rest)) = left.split_first() {
-        let (def, at) = standing(dictionary, rule, avp);
-        match judge_avp(dictionary, def, allows(rule, at), avp, depth) {
-            Judged::Good => {}
-            Judged::Bad { code, failed } => return Judged::Bad { code, failed },
-        }
-        count_one(&mut counts, 0, at);
-        left = rest;
+    let failed = Failed::Nothing;
+    let Some(command) = command_for(dictionary, header) else {
+        return Judged::Bad {
+            code: COMMAND_UNSUPPORTED,
+            failed,
+        };
+    };
+    if has_wrong_bits(header) {
+        return Judged::Bad {
+            code: INVALID_HDR_BITS,
+            failed,
+        };
     }
-    judge_entries(dictionary, rule, counts, list)
+    dictionary.soundness();
+    judge_list(dictionary, &command.rule, list, GROUPS)
+}
+
+/// The first fault of a message of this header, whose AVPs the octets spell. It takes no memory.
+pub(crate) fn judge_spelled<'a>(
+    dictionary: &Definitions,
+    header: &Header,
+    octets: &'a [u8],
+) -> Judged<'a>
+    requires { is_some (members octets.now) ≡ true }
+    ensures { (l : List Avp) → SpellsList l octets.now
+        → shown result ≡ first (faults dictionary.now (record { header = header.now; avps = l })) }
+{
+    members_spell();
+    judge_message(dictionary, header, AvpsRef::Spelled(octets))
+}
+
+/// Whether the E bit is set in a request, or the T bit in an answer.
+fn has_wrong_bits(header: &Header) -> bool
+    ensures { result ≡ wrong_bits header.now }
+{
+    (header.request && header.error) || (!header.request && header.retransmit)
 }

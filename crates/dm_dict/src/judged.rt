@@ -7,26 +7,37 @@ use dm_value::NoMemory;
 use dm_wire::{Avp, AvpRef, Octets};
 use std::alloc::Global;
 
-/// A failed AVP (RFC 6733, 7.5).
-#[derive(Clone, Copy)]
-pub(crate) enum Failed<'a> {
+/// The failed AVP of a fault (RFC 6733, 7.5), where it lies.
+#[derive(Clone, Copy, Debug)]
+pub enum Failed<'a> {
     /// The fault has none.
     Nothing,
-    /// An AVP of the message.
+    /// An AVP of the message as it stands there, alone; with empty data where it is a group whose data
+    /// isn't AVPs one after the other.
     Found(AvpRef<'a>),
-    /// An AVP that the message lacks: M is set, P clear, and the data is as many zeros.
-    Missing {
+    /// An example of an AVP that the message lacks: M is set, P clear, and the data is zeros.
+    Example {
+        /// The AVP Code.
         code: u32,
+        /// The Vendor-ID, where it has one.
         vendor: Option<u32>,
+        /// How many octets of zero the data is: the least that its type takes.
         zeros: u32,
     },
 }
 
-/// The first fault, or that there is none.
-#[derive(Clone, Copy)]
-pub(crate) enum Judged<'a> {
+/// What a dictionary says of a message that it doesn't copy: good, or its first fault (RFC 6733, 7).
+#[derive(Clone, Copy, Debug)]
+pub enum Judged<'a> {
+    /// Nothing is wrong.
     Good,
-    Bad { code: u32, failed: Failed<'a> },
+    /// The first fault.
+    Bad {
+        /// The Result-Code (RFC 6733, 7.1).
+        code: u32,
+        /// The failed AVP (7.5).
+        failed: Failed<'a>,
+    },
 }
 
 impl Failed<'_> {
@@ -38,7 +49,7 @@ impl Failed<'_> {
         Ok(match self {
             Failed::Nothing => None,
             Failed::Found(avp) => Some(avp.copied(alloc)?),
-            Failed::Missing {
+            Failed::Example {
                 code,
                 vendor,
                 zeros,
@@ -54,8 +65,8 @@ impl Failed<'_> {
 }
 
 impl Judged<'_> {
-    /// The verdict, with a copy of the failed AVP.
-    pub(crate) fn verdict(self, alloc: Global) -> Result<Verdict, NoMemory>
+    /// The verdict, with a copy of the failed AVP, or want of memory for it.
+    pub fn verdict(self, alloc: Global) -> Result<Verdict, NoMemory>
         ensures found { IfOk result (λ verdict. verdict ≡ verdict_of (shown self.entry)) }
         ensures memory { OnErr result (IsSomeAnd (shown self.entry) (λ fault. IsSome fault.failed)) }
     {

@@ -1,15 +1,30 @@
-//! Laws of what a message has wrong. Each function is a law: it does nothing, and its contract is the
-//! law.
-ghost use Rattle.dm_dict.specs.Members.{MembersSpell};
+//! Laws of what a message has wrong. Each function is a law: it does nothing but call the laws that it stands
+//! on, and its contract is the law.
+ghost use Rattle.dm_dict.specs.Examples.{MissingHasExample};
+ghost use Rattle.dm_dict.specs.Keeping.{GoodKeepsRules};
 ghost use Rattle.dm_dict.specs.Typed.{GoodIsTyped};
 
-/// The members of octets are just the AVPs that the octets spell, one after the other (RFC 6733, 4.4).
-pub fn members_spell()
-    ensures { MembersSpell }
-{}
+use dm_value::laws::flaw_decides;
 
 /// Where nothing is wrong with a message, each AVP that is defined has a value of its type, in its
 /// groups too, the data of Failed-AVP aside.
 pub fn good_is_typed()
     ensures { GoodIsTyped }
+{
+    flaw_decides();
+}
+
+/// Where nothing is wrong with a message, its command is defined, the bits of its header are right, each AVP
+/// that is defined may stand where it stands and has a value of its type, and each entry of the rule counts
+/// as many AVPs as its bounds allow; so in its groups under their rules. It stands for users.
+pub fn good_keeps_rules()
+    ensures { GoodKeepsRules }
+{
+    flaw_decides();
+}
+
+/// Where each entry is `AVP` or names an AVP that is defined, as in every `Dictionary`, each entry other than
+/// `AVP` has an example, so that 5005 for it has a failed AVP (RFC 6733, 7.5). It stands for users.
+pub fn missing_has_example()
+    ensures { MissingHasExample }
 {}

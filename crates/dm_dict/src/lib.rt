@@ -2,14 +2,14 @@
 //! on a message, which is its first fault in a stated order.
 #![tactic(auto)]
 
+mod avps;
+pub mod codes;
 mod counts;
 mod dictionary;
 mod entries;
 mod judge;
 mod judged;
 pub mod laws;
-mod list;
-mod message;
 mod rules;
 mod verdict;
 
@@ -19,4 +19,5 @@ pub use dm_value::{
     Address, AvpType, Ip, NoMemory, Text, Value, ValueFault, least_len, read_value, unix_seconds,
     value_fault, write_value,
 };
+pub use judged::{Failed, Judged};
 pub use verdict::Verdict;

@@ -5,7 +5,7 @@ ghost use Rattle.std.specs.Option.{option_copied, option_and_then};
 ghost use Rattle.dm_definitions.specs.declared.rule.Entry.{Entry};
 ghost use Rattle.dm_dict.specs.Rules.{definition, names, is_at, counts, entry_for, allows};
 ghost use Rattle.dm_dict.specs.Apart.{IsApart, IsFit, IsOwnName};
-ghost use Rattle.dm_dict.specs.Borrowed.{avp_of};
+ghost use Rattle.dm_wire.specs.Borrowed.{avp_of};
 
 use dm_definitions::{AvpDef, Definitions, Rule};
 use dm_wire::AvpRef;
@@ -46,7 +46,7 @@ pub(crate) fn allows(rule: &Rule, at: Option<usize>) -> bool
 }
 
 /// The definition of the AVP, and where under the rule the AVP stands.
-pub(crate) fn standing<'d>(
+pub(crate) fn look_up<'d>(
     dictionary: &'d Definitions,
     rule: &Rule,
     avp: AvpRef<'_>,
@@ -72,7 +72,7 @@ pub(crate) fn counts_avp(dictionary: &Definitions, rule: &Rule, at: usize, avp: 
     ensures { (e : Entry) → e ≡ slice_index_or rule.now at e
         → result ≡ counts rule.now e (definition dictionary.now.avps (avp_of avp.entry)) }
 {
-    let (_, place) = standing(dictionary, rule, avp);
+    let (_, place) = look_up(dictionary, rule, avp);
     match place {
         Some(place) => place == at,
         None => false,

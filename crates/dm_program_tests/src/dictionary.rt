@@ -5,6 +5,7 @@ mod examples;
 mod failed;
 mod faults;
 mod groups;
+mod judged;
 mod rows;
 mod rules;
 mod texts;

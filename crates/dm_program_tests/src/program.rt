@@ -5,6 +5,7 @@ mod devices;
 mod dictionary;
 mod lines;
 mod show;
+mod words;
 
 /// A Device-Watchdog-Request with Origin-Host a.example and Origin-Realm example.
 const WATCHDOG_REQUEST: &str =

@@ -12,7 +12,7 @@ use Rattle.dm_tool.specs.Text.{fault_text}
 use Rattle.dm_tool.specs.Messages.{TellsHeader, TellsAvp, TellsAll}
 use Rattle.dm_tool.specs.Build.{BuildsOctets, BuildsTooLong, BuildsMessages, but_last, IsOutOfPlace}
 use Rattle.dm_tool.specs.Progress.{last_message, Stands, GoesOnNowhere}
-use Rattle.dm_tool.proofs.Shown.{and_assoc, and-true}
+use mathlib.Core.Bool.{and_assoc, and-true}
 use Rattle.dm_tool.proofs.Tellings.{tells-one, tells-append, tells-split, message-push}
 
 -- the text of a message that has a spelling

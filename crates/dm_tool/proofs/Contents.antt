@@ -6,7 +6,7 @@ use Rattle.std.proofs.lemmas.List.{map-append}
 use Rattle.std.proofs.lemmas.List.Elements.{filter-append}
 use Rattle.std.proofs.lemmas.List.Sums.{count_by-le-length}
 use Rattle.std.proofs.lemmas.List.Splits.{length-slice_split}
-use Rattle.dm_tool.specs.Lines.{trimmed, is_skipped, content}
+use Rattle.dm_text.specs.Lines.{trimmed, is_skipped, content}
 
 pub content-append : (s t : List (List ℕ)) → content (s ++ t) ≡ content s ++ content t
 content-append s t = ap (filter (λ l. not (is_skipped l))) (map-append trimmed s t) ∙ filter-append (λ l. not (is_skipped l)) (map trimmed s) (map trimmed t)

@@ -3,8 +3,8 @@ use Rattle.std.proofs.Common.{◌≡◌, ◌<◌, ◌≤◌, ◌+◌, ℕ, suc, 
 use Rattle.std.specs.List.{concat, onto_first, position, position_or_len}
 use Rattle.std.proofs.Math.Seq.{take-length, drop-length, take-add}
 use Rattle.std.proofs.lemmas.List.{take-append-drop, drop-drop}
-use Rattle.dm_tool.specs.Parts.{whole_lines, is_divider, before_divider, behind_divider, dictionary_part, message_part}
-use Rattle.dm_tool.proofs.Splits.{first_is, none_is}
+use Rattle.dm_tool.specs.Divided.{whole_lines, is_divider, before_divider, behind_divider, dictionary_part, message_part}
+use Rattle.dm_tool.proofs.Positions.{place_of, no_place}
 
 abbrev feeds : ℕ → Bool
 feeds b = nat_eq b 10
@@ -40,14 +40,14 @@ whole-rest b (c ∷ s) most = by (nat_eq b 10) (whole-rest c s) most where
 
 pub line-fed : (s : List ℕ) (n : ℕ) → position feeds s ≡ Some n → whole_lines s ≡ take (n + 1) s ∷ whole_lines (drop (n + 1) s)
 line-fed s n found =
-    let at = first_is (position_or_len feeds s) n (length s) _ refl found in
+    let at = place_of feeds s n found in
     let Line : ℕ → Type 0 = λ k. whole_lines s ≡ take (k + 1) s ∷ whole_lines (drop (k + 1) s) in
     subst Line at.0 (whole-upto s at.1)
 
 pub line-last : (s : List ℕ) → position feeds s ≡ None → nat_eq (length s) 0 ≡ false → whole_lines s ≡ take (length s) s ∷ whole_lines (drop (length s) s)
 line-last [] found some = absurd (cc)
 line-last (b ∷ s) found some =
-    let whole = whole-rest b s (none_is (position_or_len feeds (b ∷ s)) (length (b ∷ s)) _ refl found) in
+    let whole = whole-rest b s (no_place feeds (b ∷ s) found) in
     whole ∙ rw (take-length (b ∷ s), drop-length (b ∷ s)) refl
 
 -- all lines make up the octets
@@ -95,10 +95,3 @@ pub divided : (s : List ℕ) (n m : ℕ) → whole_lines (drop n s) ≡ take m (
 divided s n m whole divider dictionary messages =
     let here = ends-here (drop n s) m whole divider in
     (sym (dictionary ∙ ap (λ v. take n s ++ v) here.0 ∙ append-nil (take n s)), sym (messages ∙ here.1 ∙ drop-drop m n s))
-
--- all lines belong to the dictionary
-pub undivided : (s : List ℕ) (n : ℕ) → drop n s ≡ [] → dictionary_part s ≡ take n s ++ dictionary_part (drop n s) → message_part s ≡ message_part (drop n s)
-    → (s ≡ dictionary_part s) × ([] ≡ message_part s)
-undivided s n none dictionary messages =
-    let whole : take n s ≡ s = sym (append-nil (take n s)) ∙ ap (λ v. take n s ++ v) (sym none) ∙ take-append-drop n s in
-    (sym (dictionary ∙ ap (λ v. take n s ++ dictionary_part v) none ∙ append-nil (take n s) ∙ whole), sym (messages ∙ ap message_part none))

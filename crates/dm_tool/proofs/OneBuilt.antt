@@ -3,7 +3,7 @@ use Rattle.std.proofs.Common.{◌≡◌, ◌⊎◌, inl, inr, ◌&&◌, Bool, Li
 use Rattle.std.specs.Fmt.{decimal}
 use Rattle.dm_wire.specs.declared.message.Message.{Message}
 use Rattle.dm_wire.specs.Canonical.{canonical_message}
-use Rattle.dm_tool.specs.Lines.{content, content_lines, trimmed}
+use Rattle.dm_text.specs.Lines.{content, content_lines, trimmed}
 use Rattle.dm_tool.specs.Messages.{TellsAll}
 use Rattle.dm_tool.specs.Build.{BuildsOctets, BuildsTooLong, BuildsMessages, BuildsAll, BuildsUpTo, BuildsText, but_last}
 use Rattle.dm_tool.proofs.Contents.{content-cut}

@@ -4,7 +4,8 @@ use Rattle.hex.specs.Hex.{decode_of}
 use Rattle.dm_wire.specs.declared.avp.Avp.{Avp}
 use Rattle.dm_wire.specs.declared.message.Header.{Header}
 use Rattle.dm_tool.specs.Text.{mark}
-use Rattle.dm_tool.specs.Words.{TellsNumber, TellsCode, TellsData}
+use Rattle.dm_text.specs.Numbers.{TellsNumber}
+use Rattle.dm_tool.specs.AvpWords.{TellsCode, TellsData}
 use Rattle.dm_tool.specs.Messages.{TellsHeader, TellsAvp}
 use Rattle.dm_tool.proofs.Slashes.{one_number, one_code}
 

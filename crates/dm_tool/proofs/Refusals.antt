@@ -5,7 +5,7 @@ use Rattle.std.specs.Str.Lines.{lines}
 use Rattle.dm_wire.specs.declared.avp.Avp.{Avp}
 use Rattle.dm_wire.specs.declared.message.Header.{Header}
 use Rattle.dm_wire.specs.declared.message.Message.{Message}
-use Rattle.dm_tool.specs.Lines.{content, trimmed, is_skipped}
+use Rattle.dm_text.specs.Lines.{content, trimmed, is_skipped}
 use Rattle.dm_tool.specs.Build.{BuildsMessages, BuildsText}
 use Rattle.dm_tool.specs.Progress.{last_message, Stands, GoesOnNowhere}
 use Rattle.dm_tool.proofs.Buildings.{before_last, nowhere}

@@ -7,8 +7,9 @@ use Rattle.std.proofs.lemmas.List.{take_rest, take-append-drop, drop_more}
 use Rattle.std.proofs.lemmas.List.Quantifiers.{position-Some}
 use Rattle.std.proofs.lemmas.Str.Parse.{digit_from_value}
 use Rattle.std.proofs.Math.Seq.{take-append_seam, drop-append-add}
-use Rattle.dm_tool.specs.Words.{TellsNumber, TellsCode}
-use Rattle.dm_tool.proofs.Splits.{first_is, none_is}
+use Rattle.dm_text.specs.Numbers.{TellsNumber}
+use Rattle.dm_tool.specs.AvpWords.{TellsCode}
+use Rattle.dm_tool.proofs.Positions.{place_of, no_place}
 
 no_slash : (b : ℕ) (s : List ℕ) → AllDigits 10 (b ∷ s) → nat_eq b 47 ≡ false
 no_slash b s digits = ne_eqb b 47 (λ is. let range = digit_from_value b digits.0 in absurd (omega (arith, is, range)))
@@ -28,11 +29,11 @@ slash-nowhere (b ∷ s) digits =
 pub with_slash : (word : List ℕ) (n code : ℕ) (vendor : Option ℕ) → position (λ b. nat_eq b 47) word ≡ Some n → TellsCode code vendor word
     → (v : ℕ) × (vendor ≡ Some v) × TellsNumber code (take n word) × TellsNumber v (take (length word - (n + 1)) (drop (n + 1) word))
 with_slash word n code None found told =
-    let at = first_is (position_or_len (λ b. nat_eq b 47) word) n (length word) _ refl found in
+    let at = place_of (λ b. nat_eq b 47) word n found in
     let place = slash-nowhere word told.0.1 in
     absurd (omega (arith, at.1, place))
 with_slash word n code (Some v) found told =
-    let at = first_is (position_or_len (λ b. nat_eq b 47) word) n (length word) _ refl found in
+    let at = place_of (λ b. nat_eq b 47) word n found in
     let same : n ≡ length told.0 = sym at.0 ∙ ap (position_or_len (λ b. nat_eq b 47)) told.2 ∙ slash-place told.0 told.1 told.3.0.1 in
     let front : take n word ≡ told.0 = ap (λ k. take k word) same ∙ ap (take (length told.0)) told.2 ∙ take-append_seam told.0 (47 ∷ told.1) in
     let back : drop (n + 1) word ≡ told.1 = ap (λ k. drop (k + 1) word) same ∙ ap (drop (length told.0 + 1)) told.2 ∙ drop-append-add told.0 (47 ∷ told.1) 1 in
@@ -44,7 +45,7 @@ with_slash word n code (Some v) found told =
 pub without_slash : (word : List ℕ) (code : ℕ) (vendor : Option ℕ) → position (λ b. nat_eq b 47) word ≡ None → TellsCode code vendor word → (vendor ≡ None) × TellsNumber code word
 without_slash word code None found told = (refl, told)
 without_slash word code (Some v) found told =
-    let most = none_is (position_or_len (λ b. nat_eq b 47) word) (length word) _ refl found in
+    let most = no_place (λ b. nat_eq b 47) word found in
     let place = ap (position_or_len (λ b. nat_eq b 47)) told.2 ∙ slash-place told.0 told.1 told.3.0.1 in
     let size = ap length told.2 ∙ length-append told.0 (47 ∷ told.1) in
     absurd (omega (arith, most, place, size))

@@ -8,7 +8,7 @@ use Rattle.dm_wire.specs.declared.message.Header.{Header}
 use Rattle.dm_wire.specs.declared.message.Message.{Message}
 use Rattle.dm_wire.specs.Spelling.{SpellsMessage}
 use Rattle.dm_wire.specs.Canonical.{canonical_message}
-use Rattle.dm_tool.specs.Lines.{content, content_lines, trimmed, is_skipped}
+use Rattle.dm_text.specs.Lines.{content, content_lines, trimmed, is_skipped}
 use Rattle.dm_tool.specs.Messages.{TellsHeader, TellsAvp, TellsAll}
 
 -- a message that has a spelling is printed as its canonical octets in lower case hexadecimal, and is good

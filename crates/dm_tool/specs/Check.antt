@@ -14,7 +14,7 @@ use Rattle.dm_dict.specs.Faults.{faults, first}
 use Rattle.dm_dict.specs.Judgement.{verdict_of}
 use Rattle.dm_tool.specs.Text.{avp_text}
 use Rattle.dm_tool.specs.HexLines.{PrintsAll}
-use Rattle.dm_tool.specs.Parts.{dictionary_part, message_part}
+use Rattle.dm_tool.specs.Divided.{dictionary_part, message_part}
 
 -- where there is a failed AVP, a space and the AVP
 abbrev pub failed_text : Option Avp → List ℕ

@@ -1,21 +1,12 @@
 -- What is printed for lines of messages in hexadecimal, and whether all was good: of each message its answer, a text and whether it is good.
-use Rattle.std.specs.Prelude.{◌≡◌, ◌⊎◌, ℕ, Bool, true, false, ◌&&◌, not, nat_eq, filter, Option, MatchOption, List, [], ◌∷◌, ◌++◌, codes}
-use Rattle.std.specs.Result.{result_ok}
-use Rattle.hex.specs.Hex.{decode_of}
+use Rattle.std.specs.Prelude.{◌≡◌, ◌⊎◌, ℕ, Bool, true, false, ◌&&◌, MatchOption, List, [], ◌∷◌, ◌++◌, codes}
 use Rattle.dm_wire.specs.declared.message.Message.{Message}
 use Rattle.dm_wire.specs.declared.fault.WireFault.{WireFault}
 use Rattle.dm_wire.specs.Spelling.{SpellsMessage}
 use Rattle.dm_wire.specs.Refusal.{Refuses}
-use Rattle.dm_tool.specs.Lines.{content_lines}
+use Rattle.dm_text.specs.Hexadecimal.{line_octets}
+use Rattle.dm_text.specs.Lines.{content_lines}
 use Rattle.dm_tool.specs.Text.{fault_text}
-
--- the line with its spaces taken out
-abbrev pub without_spaces : List ℕ → List ℕ
-without_spaces line = filter (λ b. not (nat_eq b 32)) line
-
--- the octets that a line stands for in hexadecimal, where it is an even number of digits, spaces aside
-abbrev pub line_octets : List ℕ → Option (List ℕ)
-line_octets line = result_ok (decode_of (without_spaces line))
 
 -- octets that spell a message are answered by the message's answer
 abbrev pub PrintsMessage : (Message → List ℕ × Bool) → List ℕ → List ℕ → Bool → Type 0

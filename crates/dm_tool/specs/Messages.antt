@@ -4,7 +4,9 @@ use Rattle.dm_wire.specs.declared.avp.Avp.{Avp}
 use Rattle.dm_wire.specs.declared.message.Header.{Header}
 use Rattle.dm_wire.specs.declared.message.Message.{Message}
 use Rattle.dm_tool.specs.Text.{header_flags, avp_flags}
-use Rattle.dm_tool.specs.Words.{words, TellsNumber, TellsCode, TellsData}
+use Rattle.dm_text.specs.Words.{words}
+use Rattle.dm_text.specs.Numbers.{TellsNumber}
+use Rattle.dm_tool.specs.AvpWords.{TellsCode, TellsData}
 
 -- the line of a message: `message`, the Command Code, the flags in their places, and three more numbers, each after its name (RFC 6733, 3)
 pub record TellsHeader (h : Header) (line : List ℕ) : Type 0 where

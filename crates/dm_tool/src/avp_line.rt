@@ -2,38 +2,38 @@
 ghost use Rattle.std.specs.Prelude.{◌≡◌, ◌==◌, ◌∷◌, [], ℕ, List, Option, Bool, position, is_some, IfOk, IfSome, IfNone, MatchOption};
 ghost use Rattle.dm_wire.specs.declared.avp.Avp.{Avp};
 ghost use Rattle.dm_tool.specs.Text.{avp_marks};
-ghost use Rattle.dm_tool.specs.Words.{words, TellsCode, TellsData};
+ghost use Rattle.dm_text.specs.Words.{words};
+ghost use Rattle.dm_tool.specs.AvpWords.{TellsCode, TellsData};
 ghost use Rattle.dm_tool.specs.Messages.{TellsAvp};
 
 use crate::header_line::read_two_flags;
 use crate::text::letter;
-use crate::word::{Words, read_number};
+use dm_text::{Words, read_hex_word, read_number};
 use dm_wire::{Avp, Octets};
-use hex::FromHexError;
 use std::alloc::{AllocError, Global};
 
 /// The AVP that a line tells, as show prints it, with any number of spaces before it.
 pub fn read_avp(alloc: Global, line: &[u8]) -> Result<Option<Avp>, AllocError>
     ensures { IfOk result (λ read. MatchOption read ((a : Avp) → TellsAvp a line.now → ⊥) (λ a. TellsAvp a line.now)) }
 {
-    let Some(parts) = read_parts(line) else {
+    let Some(told) = read_words(line) else {
         return Ok(None);
     };
-    let Some(bytes) = read_data(alloc, parts.word)? else {
+    let Some(bytes) = read_data(alloc, told.word)? else {
         return Ok(None);
     };
     Ok(Some(Avp {
-        code: parts.code,
-        vendor: parts.vendor,
-        mandatory: parts.mandatory,
-        protected: parts.protected,
+        code: told.code,
+        vendor: told.vendor,
+        mandatory: told.mandatory,
+        protected: told.protected,
         bytes: Octets::from_vec(bytes),
     }))
 }
 
-/// An AVP whose data is still a word.
+/// What the words of an AVP tell, and its data, which is still a word.
 #[derive(Drop)]
-struct Parts<'a> {
+struct AvpWords<'a> {
     code: u32,
     vendor: Option<u32>,
     mandatory: bool,
@@ -41,7 +41,7 @@ struct Parts<'a> {
     word: &'a [u8],
 }
 
-fn read_parts(line: &[u8]) -> Option<Parts<'_>>
+fn read_words(line: &[u8]) -> Option<AvpWords<'_>>
     ensures told { IfSome result (λ p. (code : List ℕ) × TellsCode p.code p.vendor code
         × (words line.now ≡ code ∷ avp_marks (is_some p.vendor) p.mandatory p.protected ∷ p.word.now ∷ [])) }
     ensures none { IfNone result ((a : Avp) → TellsAvp a line.now → ⊥) }
@@ -49,7 +49,7 @@ fn read_parts(line: &[u8]) -> Option<Parts<'_>>
     let (first, second, word) = three_words(line)?;
     let (code, vendor) = read_code(first)?;
     let (mandatory, protected) = read_flags(second, vendor.is_some())?;
-    Some(Parts {
+    Some(AvpWords {
         code,
         vendor,
         mandatory,
@@ -118,9 +118,5 @@ fn read_data(alloc: Global, word: &[u8]) -> Result<Option<Vec<u8>>, AllocError>
     if word == b"-".as_slice() {
         return Ok(Some(Vec::new(alloc)));
     }
-    match hex::decode(alloc, word) {
-        Ok(bytes) => Ok(Some(bytes)),
-        Err(FromHexError::OutOfMemory) => Err(AllocError),
-        Err(_) => Ok(None),
-    }
+    read_hex_word(alloc, word)
 }

@@ -1,16 +1,14 @@
 //! The command build: messages as show prints them, turned back into octets.
-ghost use Rattle.std.specs.Prelude.{◌≡◌, ◌<◌, ◌≤◌, ◌+◌, ◌++◌, ◌∷◌, [], ◌⊎◌, ℕ, Bool, List, length, IfSome, IfOk, IfErr, IsErrOf, OnOk, codes};
+ghost use Rattle.std.specs.Prelude.{◌≡◌, ◌++◌, ◌∷◌, [], IfOk, IfErr, OnOk, codes};
 ghost use Rattle.std.specs.Fmt.{decimal};
-ghost use Rattle.std.specs.Io.KnownBytes.{Appends, Consumes, Keeps};
 ghost use Rattle.dm_tool.specs.Build.{BuildsText};
+ghost use Rattle.dm_tool.specs.Run.{Ran};
 
 use crate::building::Building;
 use crate::choice::Choice;
 use crate::fault::ToolFault;
-use crate::input::INPUT_LIMIT;
-use crate::line::Lines;
 use crate::run::run;
-use crate::text::push_decimal;
+use dm_text::{Lines, push_decimal};
 use std::alloc::{AllocError, Global};
 use std::io::{Read, Write};
 
@@ -29,19 +27,7 @@ pub fn run_build<R: Read, W: Write>(
     reader: &mut R,
     writer: &mut W,
 ) -> Result<bool, ToolFault>
-    ensures built { IfOk result (λ good. IfSome (R.remaining reader.old) (λ input. (text : List ℕ) × BuildsText input text good
-        × Appends (W.contents writer.old) (W.contents writer.new) text)) }
-
-    ensures unread { IsErrOf result ToolFault.Read → Keeps (W.contents writer.old) (W.contents writer.new) }
-    ensures memory { IsErrOf result ToolFault.Memory → Keeps (W.contents writer.old) (W.contents writer.new) }
-    ensures unwritten { IsErrOf result ToolFault.Write → IfSome (R.remaining reader.old) (λ input. (front rest : List ℕ) × (good : Bool)
-        × BuildsText input (front ++ rest) good × Appends (W.contents writer.old) (W.contents writer.new) front) }
-
-    // A longer input isn't read to its end.
-    ensures limit { IfSome (R.remaining reader.old) (λ input. INPUT_LIMIT < length input
-        → IsErrOf result ToolFault.Read ⊎ IsErrOf result ToolFault.Memory) }
-    ensures taken { (octets : List ℕ) × (length octets ≤ INPUT_LIMIT + 1)
-        × Consumes (R.remaining reader.old) (R.remaining reader.new) octets }
+    ensures { Ran BuildsText (R.remaining reader.old) (R.remaining reader.new) (W.contents writer.old) (W.contents writer.new) result }
 {
     run(alloc, Choice::Build, reader, writer)
 }

@@ -2,7 +2,7 @@
 ghost use Rattle.std.specs.Prelude.{◌≡◌, ◌++◌, ◌∷◌, [], ◌⊎◌, ◌&&◌, ◌≢◌, ℕ, Bool, true, false, None, List, IfOk, IfErr, OnOk};
 ghost use Rattle.dm_wire.specs.declared.avp.Avp.{Avp};
 ghost use Rattle.dm_wire.specs.declared.message.Message.{Message};
-ghost use Rattle.dm_tool.specs.Lines.{content, trimmed, is_skipped};
+ghost use Rattle.dm_text.specs.Lines.{content, trimmed, is_skipped};
 ghost use Rattle.dm_tool.specs.Messages.{TellsAvp, TellsAll};
 ghost use Rattle.dm_tool.specs.Build.{BuildsOctets, BuildsTooLong, BuildsMessages};
 ghost use Rattle.dm_tool.specs.Progress.{last_message, Stands, GoesOnNowhere};
@@ -10,8 +10,8 @@ ghost use Rattle.dm_tool.specs.Progress.{last_message, Stands, GoesOnNowhere};
 use crate::avp_line::read_avp;
 use crate::fault::ToolFault;
 use crate::header_line::read_header;
-use crate::line::{is_passed_over, trim};
-use crate::text::{push_fault, push_hex};
+use crate::text::push_fault;
+use dm_text::{is_passed_over, push_hex, trim};
 use dm_wire::{Avp, AvpList, Header, Message};
 use std::alloc::Global;
 use std::mem;
@@ -111,7 +111,7 @@ impl Building {
                 header,
                 avps: AvpList::from_vec(avps),
             };
-            let fine = push_message(alloc, &mut self.text, &message)?;
+            let fine = push_octets_line(alloc, &mut self.text, &message)?;
             self.good &= fine;
             self.avps = message.avps.into_vec();
         }
@@ -122,7 +122,7 @@ impl Building {
 
 /// Appends the octets of a message in hexadecimal, or its fault.
 #[tactic(auto, unfolding(crate::specs::Text::fault_text))]
-fn push_message(alloc: Global, text: &mut Vec<u8>, message: &Message) -> Result<bool, ToolFault>
+fn push_octets_line(alloc: Global, text: &mut Vec<u8>, message: &Message) -> Result<bool, ToolFault>
     ensures built { IfOk result (λ good. (more : List ℕ) × (text.new.items ≡ text.old.items ++ more)
         × (BuildsOctets message.now more good ⊎ BuildsTooLong message.now more good)) }
     ensures fault { IfErr result (λ e. e ≡ ToolFault.Memory) }

@@ -1,16 +1,14 @@
 //! The command check: messages in hexadecimal, one a line, judged by a dictionary.
-ghost use Rattle.std.specs.Prelude.{◌≡◌, ◌≢◌, ◌<◌, ◌≤◌, ◌+◌, ◌++◌, ◌∷◌, [], ◌⊎◌, ℕ, Bool, false, List, length, IfSome, IfOk, IfErr, IsErrOf};
-ghost use Rattle.std.specs.Io.KnownBytes.{Appends, Consumes, Keeps};
+ghost use Rattle.std.specs.Prelude.{◌≡◌, ◌≢◌, ◌++◌, ◌∷◌, [], false, IfOk, IfErr};
 ghost use Rattle.dm_tool.specs.Check.{dictionary_fault_text, ChecksText, ChecksWithDictionary};
-ghost use Rattle.dm_tool.specs.Run.{Checks};
+ghost use Rattle.dm_tool.specs.Run.{Checks, Ran};
 ghost use Rattle.dm_definitions.specs.Base.{base_definitions};
 ghost use Rattle.dm_definitions.specs.declared.fault.DictFault.TheVariants as dict;
 
 use crate::choice::Choice;
+use crate::divide::divide;
 use crate::fault::ToolFault;
-use crate::input::INPUT_LIMIT;
 use crate::messages::{Task, messages_text};
-use crate::parts::parts;
 use crate::run::run;
 use crate::verdict::push_dictionary_fault;
 use dm_dict::{DictFault, Dictionary};
@@ -35,19 +33,7 @@ pub fn run_check<R: Read, W: Write>(
     writer: &mut W,
     with_dict: bool,
 ) -> Result<bool, ToolFault>
-    ensures checked { IfOk result (λ good. IfSome (R.remaining reader.old) (λ input. (text : List ℕ) × Checks with_dict input text good
-        × Appends (W.contents writer.old) (W.contents writer.new) text)) }
-
-    ensures unread { IsErrOf result ToolFault.Read → Keeps (W.contents writer.old) (W.contents writer.new) }
-    ensures memory { IsErrOf result ToolFault.Memory → Keeps (W.contents writer.old) (W.contents writer.new) }
-    ensures unwritten { IsErrOf result ToolFault.Write → IfSome (R.remaining reader.old) (λ input. (front rest : List ℕ) × (good : Bool)
-        × Checks with_dict input (front ++ rest) good × Appends (W.contents writer.old) (W.contents writer.new) front) }
-
-    // A longer input isn't read to its end.
-    ensures limit { IfSome (R.remaining reader.old) (λ input. INPUT_LIMIT < length input
-        → IsErrOf result ToolFault.Read ⊎ IsErrOf result ToolFault.Memory) }
-    ensures taken { (octets : List ℕ) × (length octets ≤ INPUT_LIMIT + 1)
-        × Consumes (R.remaining reader.old) (R.remaining reader.new) octets }
+    ensures { Ran (Checks with_dict) (R.remaining reader.old) (R.remaining reader.new) (W.contents writer.old) (W.contents writer.new) result }
 {
     run(alloc, Choice::Check { with_dict }, reader, writer)
 }
@@ -80,10 +66,10 @@ fn check_over(alloc: Global, base: &Dictionary, input: &[u8]) -> Result<(Vec<u8>
     ensures checked { IfOk result (λ checked. ChecksWithDictionary input.now checked.0.items checked.1) }
     ensures fault { IfErr result (λ e. e ≡ ToolFault.Memory) }
 {
-    let (definitions, messages) = parts(input);
-    match Dictionary::read(alloc, definitions, base) {
+    let divided = divide(input);
+    match Dictionary::read(alloc, divided.dictionary, base) {
         Ok(dictionary) => {
-            let checked = messages_text(alloc, Task::Check(&dictionary), messages);
+            let checked = messages_text(alloc, Task::Check(&dictionary), divided.messages);
             drop(dictionary);
             checked
         }

@@ -1,11 +1,12 @@
 //! The first line of a message.
-ghost use Rattle.std.specs.Prelude.{◌≡◌, ℕ, Bool, IfSome, IfNone};
+ghost use Rattle.std.specs.Prelude.{◌≡◌, ◌∷◌, ℕ, Bool, List, IfSome, IfNone};
 ghost use Rattle.dm_wire.specs.declared.message.Header.{Header};
 ghost use Rattle.dm_tool.specs.Text.{mark, header_marks};
-ghost use Rattle.dm_tool.specs.Words.{words};
+ghost use Rattle.dm_text.specs.Numbers.{TellsNumber};
+ghost use Rattle.dm_text.specs.Words.{words};
 ghost use Rattle.dm_tool.specs.Messages.{TellsHeader, TellsNames};
 
-use crate::word::Words;
+use dm_text::{Words, read_number};
 use dm_wire::Header;
 
 /// The header that a line tells, as show prints it.
@@ -14,7 +15,7 @@ pub fn read_header(line: &[u8]) -> Option<Header>
     ensures none { IfNone result ((h : Header) → TellsHeader h line.now → ⊥) }
 {
     let mut words = Words::new(line);
-    let command = words.number(b"message")?;
+    let command = named_number(&mut words, b"message")?;
     let flags = read_flags(words.next()?)?;
     let names = read_names(&mut words)?;
     Some(Header {
@@ -42,9 +43,9 @@ fn read_names(left: &mut Words<'_>) -> Option<Names>
     ensures told { IfSome result (λ n. TellsNames n.application n.hop_id n.end_id (words left.old.rest.now)) }
     ensures none { IfNone result ((a h e : ℕ) → TellsNames a h e (words left.old.rest.now) → ⊥) }
 {
-    let application = left.number(b"app")?;
-    let hop_id = left.number(b"hop")?;
-    let end_id = left.number(b"end")?;
+    let application = named_number(left, b"app")?;
+    let hop_id = named_number(left, b"hop")?;
+    let end_id = named_number(left, b"end")?;
     if left.next().is_some() {
         return None;
     }
@@ -53,6 +54,18 @@ fn read_names(left: &mut Words<'_>) -> Option<Names>
         hop_id,
         end_id,
     })
+}
+
+/// The number behind this name, where these are the next two words.
+fn named_number(left: &mut Words<'_>, name: &[u8]) -> Option<u32>
+    ensures told { IfSome result (λ n. (digits : List ℕ) × (words left.old.rest.now ≡ name.now ∷ digits ∷ words left.new.rest.now) × TellsNumber n digits) }
+    ensures none { IfNone result ((n : ℕ) (digits : List ℕ) (more : List (List ℕ)) → words left.old.rest.now ≡ name.now ∷ digits ∷ more → TellsNumber n digits → ⊥) }
+{
+    let word = left.next()?;
+    if word != name {
+        return None;
+    }
+    read_number(left.next()?)
 }
 
 /// The flags of a header.

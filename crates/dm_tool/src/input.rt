@@ -1,15 +1,38 @@
 //! The whole input of a run, read before anything is printed.
-ghost use Rattle.std.specs.Prelude.{◌≡◌, ◌<◌, ◌≤◌, ◌+◌, ◌⊎◌, ℕ, List, length, IfSome, IfOk, IfErr, OnOk, vec_len};
+ghost use Rattle.std.specs.Prelude.{◌≡◌, ◌<◌, ◌≤◌, ◌+◌, ◌⊎◌, [], ℕ, List, length, IfSome, IfOk, IfErr, OnOk, vec_len};
 ghost use Rattle.std.specs.Io.KnownBytes.{Consumes, IsAtEnd};
+ghost use Rattle.dm_tool.specs.Limits.{input_limit, read_limit};
 
 use crate::fault::ToolFault;
-use std::alloc::Global;
+use std::alloc::{AllocError, Global};
 use std::io::{ErrorKind, Read};
 
-/// The most octets that a run takes, and the most reads.
+/// The most octets that a run takes.
 pub const INPUT_LIMIT: usize = 67_108_864;
 
+const READ_LIMIT: usize = 67_108_864;
+
 const CHUNK: usize = 65_536;
+
+/// The most reads that a run makes.
+fn most_reads() -> usize
+    ensures { result ≡ read_limit }
+{
+    READ_LIMIT
+}
+
+/// How reading stops.
+#[derive(Clone, Copy, Drop)]
+enum Stop {
+    /// At the end of the input.
+    End,
+    /// At a read that failed.
+    Failed,
+    /// Behind more octets than a run may take.
+    TooLong,
+    /// Behind as many reads as a run may make.
+    TooMany,
+}
 
 /// All octets that the reader gives, up to its end.
 ///
@@ -18,29 +41,45 @@ const CHUNK: usize = 65_536;
 pub fn read_input<R: Read>(alloc: Global, reader: &mut R) -> Result<Vec<u8>, ToolFault>
     ensures whole { IfOk result (λ input. IfSome (R.remaining reader.old) (λ octets. input.items ≡ octets)) }
     ensures end { OnOk result (IsAtEnd (R.remaining reader.new)) }
-    ensures within { IfOk result (λ input. vec_len input ≤ INPUT_LIMIT) }
-    ensures taken { (octets : List ℕ) × (length octets ≤ INPUT_LIMIT + 1)
+    ensures within { IfOk result (λ input. vec_len input ≤ input_limit) }
+    ensures taken { (octets : List ℕ) × (length octets ≤ input_limit + 1)
         × Consumes (R.remaining reader.old) (R.remaining reader.new) octets }
     ensures fault { IfErr result (λ e. (e ≡ ToolFault.Read) ⊎ (e ≡ ToolFault.Memory)) }
 {
     let mut input = Vec::new(alloc);
+    match fill(reader, &mut input)? {
+        Stop::End => Ok(input),
+        Stop::Failed | Stop::TooLong | Stop::TooMany => Err(ToolFault::Read),
+    }
+}
+
+/// Reads up to the end, or to where reading stops before it.
+fn fill<R: Read>(reader: &mut R, input: &mut Vec<u8>) -> Result<Stop, AllocError>
+    requires { input.old.items ≡ [] }
+    ensures held { OnOk result (Consumes (R.remaining reader.old) (R.remaining reader.new) input.new.items) }
+    ensures end { IfOk result (λ stop. stop ≡ Stop.End → IsAtEnd (R.remaining reader.new)) }
+    ensures within { IfOk result (λ stop. stop ≡ Stop.End → vec_len input.new ≤ input_limit) }
+    ensures long { IfOk result (λ stop. stop ≡ Stop.TooLong → input_limit < vec_len input.new) }
+    ensures taken { (octets : List ℕ) × (length octets ≤ input_limit + 1)
+        × Consumes (R.remaining reader.old) (R.remaining reader.new) octets }
+{
     let mut chunk = [0; CHUNK];
-    for _ in 0..INPUT_LIMIT {
+    for _ in 0..most_reads() {
         let room = CHUNK.min(INPUT_LIMIT + 1 - input.len());
         match reader.read(&mut chunk[..room]) {
-            Ok(0) => return Ok(input),
+            Ok(0) => return Ok(Stop::End),
             Ok(count) => {
-                if count > INPUT_LIMIT - input.len() {
-                    return Err(ToolFault::Read);
-                }
                 input.extend_from_slice(&chunk[..count])?;
+                if input.len() > INPUT_LIMIT {
+                    return Ok(Stop::TooLong);
+                }
             }
             Err(error) => {
                 if error.kind() != ErrorKind::Interrupted {
-                    return Err(ToolFault::Read);
+                    return Ok(Stop::Failed);
                 }
             }
         }
     }
-    Err(ToolFault::Read)
+    Ok(Stop::TooMany)
 }

@@ -1,7 +1,14 @@
-//! Laws of what the program prints. Each function is a law: it does nothing, and its contract is the law.
+//! Laws of what the program prints. Each function is a law: it calls the laws that it stands on, and its contract is the law.
 ghost use Rattle.dm_tool.specs.OneText.{OneText};
 
-/// Under one command an input has at most one text and one status.
+/// Under one command an input has at most one text and one status. The law stands for users.
 pub fn one_text()
     ensures { OneText }
-{}
+{
+    dm_wire::laws::one_message();
+    dm_wire::laws::one_refusal();
+    dm_wire::laws::no_message_refused();
+    dm_definitions::laws::one_definition();
+    dm_definitions::laws::one_fault();
+    dm_definitions::laws::no_definition_refused();
+}

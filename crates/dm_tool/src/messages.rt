@@ -5,11 +5,10 @@ ghost use Rattle.dm_tool.specs.Check.{is_good, verdict_line};
 ghost use Rattle.dm_tool.specs.Tasks.{answer_of};
 
 use crate::fault::ToolFault;
-use crate::hex_line::read_line;
-use crate::line::{Lines, is_passed_over, trim};
-use crate::text::{push_fault, push_message};
+use crate::text::{push_fault, push_message_text};
 use crate::verdict::push_verdict;
 use dm_dict::{Dictionary, Verdict};
+use dm_text::{Lines, is_passed_over, read_hex_line, trim};
 use dm_wire::Message;
 use std::alloc::{AllocError, Global};
 
@@ -56,7 +55,7 @@ fn print_line(
         × PrintsLine (answer_of task.entry) line.now more good) }
     ensures fault { IfErr result (λ e. e ≡ ToolFault.Memory) }
 {
-    match read_line(alloc, line, digits)? {
+    match read_hex_line(alloc, line, digits)? {
         Some(octets) => print_octets(alloc, task, octets.as_slice(), text),
         None => {
             text.extend_from_slice(b"fault hex\n")?;
@@ -99,7 +98,7 @@ fn print_message(
 {
     match task {
         Task::Show => {
-            push_message(text, message)?;
+            push_message_text(text, message)?;
             Ok(true)
         }
         Task::Check(dictionary) => {

@@ -1,17 +1,39 @@
 //! A run of a command: all is read, then the text is made, then it is written.
-ghost use Rattle.std.specs.Prelude.{◌≡◌, ◌<◌, ◌≤◌, ◌+◌, ◌++◌, ◌⊎◌, ℕ, Bool, List, length, IfSome, IfOk, IfErr, IsErrOf};
-ghost use Rattle.std.specs.Io.KnownBytes.{Appends, Consumes, Keeps};
-ghost use Rattle.dm_tool.specs.Run.{Prints};
+ghost use Rattle.std.specs.Prelude.{◌≡◌, map, IfSome, IfNone, IfOk, IfErr};
+ghost use Rattle.std.specs.String.{string_bytes};
+ghost use Rattle.dm_tool.specs.declared.choice.Choice.{Choice};
+ghost use Rattle.dm_tool.specs.Choice.{words_of};
+ghost use Rattle.dm_tool.specs.Run.{Prints, Ran};
 
 use crate::build::build_text;
 use crate::check::{check_text, check_with_dictionary};
-use crate::choice::Choice;
+use crate::choice::{Choice, choose};
 use crate::fault::ToolFault;
-use crate::input::{INPUT_LIMIT, read_input};
+use crate::input::read_input;
 use crate::messages::{Task, messages_text};
 use crate::output::write_text;
 use std::alloc::Global;
 use std::io::{Read, Write};
+
+/// Runs the command that the words of the command line choose, the program's name left out. None, and nothing is read or
+/// written, where they choose none.
+///
+/// A run tells whether all of its input was good; [`ending`](crate::ending) gives the program's status for what comes of it.
+pub fn run_words<R: Read, W: Write>(
+    alloc: Global,
+    words: &[String],
+    reader: &mut R,
+    writer: &mut W,
+) -> Option<Result<bool, ToolFault>>
+    ensures ran { IfSome result (λ outcome. (choice : Choice) × (map string_bytes words.now ≡ words_of choice)
+        × Ran (Prints choice) (R.remaining reader.old) (R.remaining reader.new) (W.contents writer.old) (W.contents writer.new) outcome) }
+    ensures refused { IfNone result ((choice : Choice) → map string_bytes words.now ≡ words_of choice → ⊥) }
+    ensures unread { IfNone result (reader.new ≡ reader.old) }
+    ensures unwritten { IfNone result (writer.new ≡ writer.old) }
+{
+    let choice = choose(words)?;
+    Some(run(alloc, choice, reader, writer))
+}
 
 /// Runs the command over all that the reader gives. True where all of it was good.
 pub fn run<R: Read, W: Write>(
@@ -20,19 +42,7 @@ pub fn run<R: Read, W: Write>(
     reader: &mut R,
     writer: &mut W,
 ) -> Result<bool, ToolFault>
-    ensures printed { IfOk result (λ good. IfSome (R.remaining reader.old) (λ input. (text : List ℕ) × Prints choice input text good
-        × Appends (W.contents writer.old) (W.contents writer.new) text)) }
-
-    ensures unread { IsErrOf result ToolFault.Read → Keeps (W.contents writer.old) (W.contents writer.new) }
-    ensures memory { IsErrOf result ToolFault.Memory → Keeps (W.contents writer.old) (W.contents writer.new) }
-    ensures unwritten { IsErrOf result ToolFault.Write → IfSome (R.remaining reader.old) (λ input. (front rest : List ℕ) × (good : Bool)
-        × Prints choice input (front ++ rest) good × Appends (W.contents writer.old) (W.contents writer.new) front) }
-
-    // A longer input isn't read to its end.
-    ensures limit { IfSome (R.remaining reader.old) (λ input. INPUT_LIMIT < length input
-        → IsErrOf result ToolFault.Read ⊎ IsErrOf result ToolFault.Memory) }
-    ensures taken { (octets : List ℕ) × (length octets ≤ INPUT_LIMIT + 1)
-        × Consumes (R.remaining reader.old) (R.remaining reader.new) octets }
+    ensures { Ran (Prints choice) (R.remaining reader.old) (R.remaining reader.new) (W.contents writer.old) (W.contents writer.new) result }
 {
     let input = read_input(alloc, reader)?;
     let (text, good) = text_of(alloc, choice, input.as_slice())?;

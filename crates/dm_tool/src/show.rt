@@ -1,11 +1,9 @@
 //! The command show: messages in hexadecimal, one a line, printed as text.
-ghost use Rattle.std.specs.Prelude.{◌≡◌, ◌<◌, ◌≤◌, ◌+◌, ◌++◌, ◌⊎◌, ℕ, Bool, List, length, IfSome, IfOk, IfErr, IsErrOf};
-ghost use Rattle.std.specs.Io.KnownBytes.{Appends, Consumes, Keeps};
+ghost use Rattle.dm_tool.specs.Run.{Ran};
 ghost use Rattle.dm_tool.specs.Show.{ShowsText};
 
 use crate::choice::Choice;
 use crate::fault::ToolFault;
-use crate::input::INPUT_LIMIT;
 use crate::run::run;
 use std::alloc::Global;
 use std::io::{Read, Write};
@@ -22,19 +20,7 @@ pub fn run_show<R: Read, W: Write>(
     reader: &mut R,
     writer: &mut W,
 ) -> Result<bool, ToolFault>
-    ensures shown { IfOk result (λ good. IfSome (R.remaining reader.old) (λ input. (text : List ℕ) × ShowsText input text good
-        × Appends (W.contents writer.old) (W.contents writer.new) text)) }
-
-    ensures unread { IsErrOf result ToolFault.Read → Keeps (W.contents writer.old) (W.contents writer.new) }
-    ensures memory { IsErrOf result ToolFault.Memory → Keeps (W.contents writer.old) (W.contents writer.new) }
-    ensures unwritten { IsErrOf result ToolFault.Write → IfSome (R.remaining reader.old) (λ input. (front rest : List ℕ) × (good : Bool)
-        × ShowsText input (front ++ rest) good × Appends (W.contents writer.old) (W.contents writer.new) front) }
-
-    // A longer input isn't read to its end.
-    ensures limit { IfSome (R.remaining reader.old) (λ input. INPUT_LIMIT < length input
-        → IsErrOf result ToolFault.Read ⊎ IsErrOf result ToolFault.Memory) }
-    ensures taken { (octets : List ℕ) × (length octets ≤ INPUT_LIMIT + 1)
-        × Consumes (R.remaining reader.old) (R.remaining reader.new) octets }
+    ensures { Ran ShowsText (R.remaining reader.old) (R.remaining reader.new) (W.contents writer.old) (W.contents writer.new) result }
 {
     run(alloc, Choice::Show, reader, writer)
 }

@@ -1,18 +1,15 @@
 //! Messages, AVPs and faults as text.
 ghost use Rattle.std.specs.Prelude.{◌≡◌, ◌≢◌, ◌∷◌, ◌++◌, [], OnOk, IfErr};
 ghost use Rattle.std.specs.Fmt.{decimal};
-ghost use Rattle.hex.specs.Hex.{encode_lower};
 ghost use Rattle.dm_tool.specs.Text.{mark, header_flags, header_text, avp_flags, vendor_text, data_text, avp_text, avp_line, message_text, fault_text};
 
 use crate::fault::ToolFault;
+use dm_text::{push_decimal, push_hex};
 use dm_wire::{Avp, Header, Message, WireFault};
 use std::alloc::AllocError;
 
-/// How many octets are turned into digits at once.
-const OCTETS_AT_ONCE: usize = 64;
-
 /// Appends a message's lines to the text.
-pub fn push_message(text: &mut Vec<u8>, message: &Message) -> Result<(), AllocError>
+pub fn push_message_text(text: &mut Vec<u8>, message: &Message) -> Result<(), AllocError>
     ensures { OnOk result (text.new.items ≡ text.old.items ++ message_text message.now) }
 {
     push_header(text, &message.header)?;
@@ -129,33 +126,6 @@ fn push_data(text: &mut Vec<u8>, octets: &[u8]) -> Result<(), AllocError>
     } else {
         push_hex(text, octets)?;
     }
-    Ok(())
-}
-
-/// Appends the octets in lower case hexadecimal.
-pub fn push_hex(text: &mut Vec<u8>, octets: &[u8]) -> Result<(), AllocError>
-    ensures { OnOk result (text.new.items ≡ text.old.items ++ encode_lower octets.now) }
-{
-    let mut digits = [0; 2 * OCTETS_AT_ONCE];
-    let mut rest = octets;
-    while !rest.is_empty() {
-        let (some, more) = rest.split_at(rest.len().min(OCTETS_AT_ONCE));
-        let room = &mut digits[..2 * some.len()];
-        hex::encode_to_slice(some, room).unwrap();
-        text.extend_from_slice(room)?;
-        rest = more;
-    }
-    Ok(())
-}
-
-/// Appends the number in decimal, without leading zeros.
-pub fn push_decimal(text: &mut Vec<u8>, number: u64) -> Result<(), AllocError>
-    ensures { OnOk result (text.new.items ≡ text.old.items ++ decimal number) }
-{
-    if number >= 10 {
-        push_decimal(text, number / 10)?;
-    }
-    text.push(b'0' + (number % 10) as u8)?;
     Ok(())
 }
 

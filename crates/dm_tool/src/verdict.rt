@@ -5,8 +5,9 @@ ghost use Rattle.dm_definitions.specs.declared.fault.DictFault.TheVariants as di
 ghost use Rattle.dm_tool.specs.Check.{failed_text, verdict_text, dictionary_fault_text};
 
 use crate::fault::ToolFault;
-use crate::text::{push_avp, push_decimal};
+use crate::text::push_avp;
 use dm_dict::{DictFault, Verdict};
+use dm_text::push_decimal;
 use dm_wire::Avp;
 use std::alloc::AllocError;
 

@@ -1,13 +1,16 @@
--- A flaw is what the columns say, for a type other than Grouped.
+-- A flaw is what the columns say.
 use Rattle.std.proofs.Common.{◌≡◌, ◌≢◌, ◌<◌, ◌⊎◌, inl, inr, ℕ, Bool, true, false, nat_eq, nat_lt, Option, Some, None, List, [], ◌∷◌, length, refl, sym, subst, ap, ◌∙◌, arith, eqb-true}
-use Rattle.std.specs.Prelude.{◌↔◌, IfSome, if◌then◌else◌}
+use Rattle.std.specs.Prelude.{IfSome, is_some, if◌then◌else◌}
 use Rattle.std.specs.List.{All, list_all}
 use Rattle.std.proofs.lemmas.Bool.{ltb-true, lt-ltb, eqb-false, false≢true}
+use Rattle.dm_wire.specs.declared.avp.Avp.{Avp}
+use Rattle.dm_wire.specs.Members.{members, MembersSpell}
 use Rattle.dm_value.specs.declared.avp_type.AvpType.{AvpType}
 use Rattle.dm_value.specs.declared.avp_type.AvpType.TheVariants.{OctetString, Integer32, Integer64, Unsigned32, Unsigned64, Address, Time, UTF8String, DiameterIdentity, DiameterURI, Enumerated, Grouped}
 use Rattle.dm_value.specs.declared.fault.ValueFault.{ValueFault}
 use Rattle.dm_value.specs.declared.fault.ValueFault.TheVariants.{WrongLength, WrongValue}
 use Rattle.dm_value.specs.Columns.{IsVisible, IsUri, HasWrongLength, HasWrongValue, Refuses}
+use Rattle.dm_value.specs.Decided.{AreOctets}
 use Rattle.dm_value.specs.Flaws.{flaw, is_visible, is_uri, sized, tested}
 use Rattle.dm_value.proofs.Decided.{Refutes, Refutes-from_Decides, Refutes-size, Decides-utf8, Decides-all_visible, Decides-uri}
 
@@ -72,22 +75,31 @@ flaw_tells DiameterURI s g = tested_tells 7 _ s (Refutes-from_Decides _ (Decides
 flaw_tells Enumerated s g = sized_tells 4 s
 flaw_tells Grouped s g = absurd (g refl)
 
--- an answer that is the flaw tells of both columns
-pub value_by_flaw : (r : Option ValueFault) (kind : AvpType) (s : List ℕ) → r ≡ flaw kind s → (r ≡ Some WrongValue) ↔ Refuses kind s WrongValue
-value_by_flaw r Grouped s e = (λ h. (cc), λ h. absurd h.1)
-value_by_flaw r kind s e = let t = (flaw_tells kind s (λ g. (cc))).1 in (λ h. t.0 (sym e ∙ h), λ h. e ∙ t.1 h.0 h.1)
+-- a group has a wrong length just where its octets aren't AVPs
+group_tells : MembersSpell → (s : List ℕ) → AreOctets s → Tells (flaw Grouped s) (HasWrongLength Grouped s) (HasWrongValue Grouped s)
+group_tells law s o = by (members s) refl where
+  by : (m : Option (List Avp)) → members s ≡ m → Tells (if is_some m then None else Some WrongLength) (HasWrongLength Grouped s) ⊥
+  by None e =
+      let never : HasWrongLength Grouped s = (λ l h. let some = (law s l o).1 h in absurd (cc)) in
+      ((λ f. never, λ h. refl), (λ f. (cc), λ h v. absurd v), inl refl)
+  by (Some l) e = ((λ f. (cc), λ h. absurd (h l ((law s l o).0 e))), (λ f. (cc), λ h v. absurd v), tt)
+
+-- of octets of any type
+pub any_tells : MembersSpell → (kind : AvpType) (s : List ℕ) → AreOctets s → Tells (flaw kind s) (HasWrongLength kind s) (HasWrongValue kind s)
+any_tells law Grouped s o = group_tells law s o
+any_tells law kind s o = flaw_tells kind s (λ g. (cc))
+
+-- an answer that tells of both columns is a fault of the octets
+pub told_fault : (r : Option ValueFault) (kind : AvpType) (s : List ℕ) → Tells r (HasWrongLength kind s) (HasWrongValue kind s) → IfSome r (λ f. Refuses kind s f)
+told_fault None kind s t = tt
+told_fault (Some f) kind s t = elim t.2 [
+  | inl w ↦ subst (Refuses kind s) (sym w) (t.0.0 (ap Some w))
+  | inr w ↦ subst (Refuses kind s) (sym w) (t.1.0 (ap Some w))
+]
 
 -- an answer that is the flaw is a fault of the octets
-pub fault_by_flaw : (r : Option ValueFault) (kind : AvpType) (s : List ℕ) → r ≡ flaw kind s → IfSome r (λ f. Refuses kind s f)
-fault_by_flaw None kind s e = tt
-fault_by_flaw (Some f) Grouped s e = (cc)
-fault_by_flaw (Some f) kind s e =
-    let told = flaw_tells kind s (λ g. (cc)) in
-    let one : (f ≡ WrongLength) ⊎ (f ≡ WrongValue) = subst IsOfColumns (sym e) told.2 in
-    elim one [
-      | inl w ↦ subst (Refuses kind s) (sym w) (told.0.0 (sym e ∙ ap Some w))
-      | inr w ↦ subst (Refuses kind s) (sym w) (told.1.0 (sym e ∙ ap Some w))
-    ]
+pub fault_by_flaw : (r : Option ValueFault) (kind : AvpType) (s : List ℕ) → kind ≢ Grouped → r ≡ flaw kind s → IfSome r (λ f. Refuses kind s f)
+fault_by_flaw r kind s g e = told_fault r kind s (subst (λ (x : Option ValueFault). Tells x (HasWrongLength kind s) (HasWrongValue kind s)) (sym e) (flaw_tells kind s g))
 
 -- octets with no flaw pass the test of their type
 tested_none : (n : ℕ) (right : Bool) (s : List ℕ) → tested n right s ≡ None → right ≡ true

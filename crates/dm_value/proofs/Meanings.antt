@@ -1,7 +1,7 @@
 -- Octets of a type have one value at most, and a value rules a fault out.
-use Rattle.std.proofs.Common.{◌≡◌, ◌≢◌, ◌<◌, ◌≤◌, ◌⊎◌, inl, inr, ℕ, ◌+◌, List, [], ◌∷◌, length, refl, sym, ◌∙◌, ap, arith, length-append}
-use Rattle.std.specs.Prelude.{Result, Ok, Err, IfOk, IfErr, codes}
-use Rattle.dm_wire.proofs.Lists.{one_list}
+use Rattle.std.proofs.Common.{◌≡◌, ◌≢◌, ◌<◌, ◌≤◌, inl, inr, ℕ, ◌+◌, List, [], ◌∷◌, length, refl, sym, ◌∙◌, ap, arith, length-append}
+use Rattle.std.specs.Prelude.{Result, Ok, Err, IfOk, codes}
+use Rattle.dm_wire.specs.OneAnswer.{OneList}
 use Rattle.dm_value.specs.declared.avp_type.AvpType.{AvpType}
 use Rattle.dm_value.specs.declared.avp_type.AvpType.TheVariants.{OctetString, Integer32, Integer64, Unsigned32, Unsigned64, Address, Time, UTF8String, DiameterIdentity, DiameterURI, Enumerated, Grouped}
 use Rattle.dm_value.specs.declared.fault.ValueFault.{ValueFault}
@@ -13,6 +13,7 @@ use Rattle.dm_value.specs.declared.address.Address.TheVariants as address
 use Rattle.dm_value.specs.declared.address.Ip.TheVariants.{V4, V6}
 use Rattle.dm_value.specs.Columns.{family, IsUri, HasWrongLength, HasWrongValue, Refuses}
 use Rattle.dm_value.specs.Meaning.{Means, type_of}
+use Rattle.dm_value.specs.OneValue.{OneValue}
 
 -- the octets of addresses of families 1 and 2
 family-4 : (s a : List ℕ) → s ≡ 0 ∷ 1 ∷ a → family s ≡ 1
@@ -35,43 +36,43 @@ same_address s (address.Other n r) (address.Ip (V6 a)) h g = absurd (h.4 (h.1 �
 same_address s (address.Other n r) (address.Other m t) h g = (cc)
 
 -- octets of a type have at most one value
-pub one_value : (kind : AvpType) (s : List ℕ) (v w : Value) → Means kind s v → Means kind s w → v ≡ w
-one_value OctetString s (value.Bytes b) (value.Bytes c) h g = ap value.Bytes (h ∙ sym g)
-one_value OctetString s (value.Bytes b) _ h g = absurd g
-one_value OctetString s _ w h g = absurd h
-one_value Integer32 s (value.Int32 n) (value.Int32 m) h g = ap value.Int32 (h.1 ∙ sym g.1)
-one_value Integer32 s (value.Int32 n) _ h g = absurd g
-one_value Integer32 s _ w h g = absurd h
-one_value Integer64 s (value.Int64 n) (value.Int64 m) h g = ap value.Int64 (h.1 ∙ sym g.1)
-one_value Integer64 s (value.Int64 n) _ h g = absurd g
-one_value Integer64 s _ w h g = absurd h
-one_value Unsigned32 s (value.Uint32 n) (value.Uint32 m) h g = ap value.Uint32 (h.1 ∙ sym g.1)
-one_value Unsigned32 s (value.Uint32 n) _ h g = absurd g
-one_value Unsigned32 s _ w h g = absurd h
-one_value Unsigned64 s (value.Uint64 n) (value.Uint64 m) h g = ap value.Uint64 (h.1 ∙ sym g.1)
-one_value Unsigned64 s (value.Uint64 n) _ h g = absurd g
-one_value Unsigned64 s _ w h g = absurd h
-one_value Address s (value.Addr a) (value.Addr b) h g = ap value.Addr (same_address s a b h g)
-one_value Address s (value.Addr a) _ h g = absurd g
-one_value Address s _ w h g = absurd h
-one_value Time s (value.Time n) (value.Time m) h g = ap value.Time (h.1 ∙ sym g.1)
-one_value Time s (value.Time n) _ h g = absurd g
-one_value Time s _ w h g = absurd h
-one_value UTF8String s (value.Text t) (value.Text u) h g = ap value.Text (h.0 ∙ sym g.0)
-one_value UTF8String s (value.Text t) _ h g = absurd g
-one_value UTF8String s _ w h g = absurd h
-one_value DiameterIdentity s (value.Identity b) (value.Identity c) h g = ap value.Identity (h.0 ∙ sym g.0)
-one_value DiameterIdentity s (value.Identity b) _ h g = absurd g
-one_value DiameterIdentity s _ w h g = absurd h
-one_value DiameterURI s (value.Uri b) (value.Uri c) h g = ap value.Uri (h.0 ∙ sym g.0)
-one_value DiameterURI s (value.Uri b) _ h g = absurd g
-one_value DiameterURI s _ w h g = absurd h
-one_value Enumerated s (value.Enumerated n) (value.Enumerated m) h g = ap value.Enumerated (h.1 ∙ sym g.1)
-one_value Enumerated s (value.Enumerated n) _ h g = absurd g
-one_value Enumerated s _ w h g = absurd h
-one_value Grouped s (value.Group l) (value.Group k) h g = ap value.Group (one_list l k s h g)
-one_value Grouped s (value.Group l) _ h g = absurd g
-one_value Grouped s _ w h g = absurd h
+pub one_value : OneList → (kind : AvpType) (s : List ℕ) (v w : Value) → Means kind s v → Means kind s w → v ≡ w
+one_value one_list OctetString s (value.Bytes b) (value.Bytes c) h g = ap value.Bytes (h ∙ sym g)
+one_value one_list OctetString s (value.Bytes b) _ h g = absurd g
+one_value one_list OctetString s _ w h g = absurd h
+one_value one_list Integer32 s (value.Int32 n) (value.Int32 m) h g = ap value.Int32 (h.1 ∙ sym g.1)
+one_value one_list Integer32 s (value.Int32 n) _ h g = absurd g
+one_value one_list Integer32 s _ w h g = absurd h
+one_value one_list Integer64 s (value.Int64 n) (value.Int64 m) h g = ap value.Int64 (h.1 ∙ sym g.1)
+one_value one_list Integer64 s (value.Int64 n) _ h g = absurd g
+one_value one_list Integer64 s _ w h g = absurd h
+one_value one_list Unsigned32 s (value.Uint32 n) (value.Uint32 m) h g = ap value.Uint32 (h.1 ∙ sym g.1)
+one_value one_list Unsigned32 s (value.Uint32 n) _ h g = absurd g
+one_value one_list Unsigned32 s _ w h g = absurd h
+one_value one_list Unsigned64 s (value.Uint64 n) (value.Uint64 m) h g = ap value.Uint64 (h.1 ∙ sym g.1)
+one_value one_list Unsigned64 s (value.Uint64 n) _ h g = absurd g
+one_value one_list Unsigned64 s _ w h g = absurd h
+one_value one_list Address s (value.Addr a) (value.Addr b) h g = ap value.Addr (same_address s a b h g)
+one_value one_list Address s (value.Addr a) _ h g = absurd g
+one_value one_list Address s _ w h g = absurd h
+one_value one_list Time s (value.Time n) (value.Time m) h g = ap value.Time (h.1 ∙ sym g.1)
+one_value one_list Time s (value.Time n) _ h g = absurd g
+one_value one_list Time s _ w h g = absurd h
+one_value one_list UTF8String s (value.Text t) (value.Text u) h g = ap value.Text (h.0 ∙ sym g.0)
+one_value one_list UTF8String s (value.Text t) _ h g = absurd g
+one_value one_list UTF8String s _ w h g = absurd h
+one_value one_list DiameterIdentity s (value.Identity b) (value.Identity c) h g = ap value.Identity (h.0 ∙ sym g.0)
+one_value one_list DiameterIdentity s (value.Identity b) _ h g = absurd g
+one_value one_list DiameterIdentity s _ w h g = absurd h
+one_value one_list DiameterURI s (value.Uri b) (value.Uri c) h g = ap value.Uri (h.0 ∙ sym g.0)
+one_value one_list DiameterURI s (value.Uri b) _ h g = absurd g
+one_value one_list DiameterURI s _ w h g = absurd h
+one_value one_list Enumerated s (value.Enumerated n) (value.Enumerated m) h g = ap value.Enumerated (h.1 ∙ sym g.1)
+one_value one_list Enumerated s (value.Enumerated n) _ h g = absurd g
+one_value one_list Enumerated s _ w h g = absurd h
+one_value one_list Grouped s (value.Group l) (value.Group k) h g = ap value.Group (one_list l k s h g)
+one_value one_list Grouped s (value.Group l) _ h g = absurd g
+one_value one_list Grouped s _ w h g = absurd h
 
 -- a value is of the one type whose octets have it
 pub one_type : (kind : AvpType) (s : List ℕ) (v : Value) → Means kind s v → kind ≡ type_of v
@@ -141,13 +142,7 @@ not_refused fault.WrongValue kind s v r h = (no_fault kind s v h).1 r.1
 not_refused fault.TooLong kind s v r h = r
 not_refused fault.NoMemory kind s v r h = r
 
--- what reads only what is meant, and refuses for cause or want of memory, reads all that is meant
-pub only_meant : (r : Result Value ValueFault) (kind : AvpType) (s : List ℕ) (v : Value) → IfOk r (λ w. Means kind s w) → IfErr r (λ f. (f ≡ fault.NoMemory) ⊎ Refuses kind s f) → Means kind s v → (r ≡ Ok v) ⊎ (r ≡ Err fault.NoMemory)
-only_meant (Ok w) kind s v found why h = inl (ap Ok (one_value kind s w v found h))
-only_meant (Err f) kind s v found (inl e) h = inr (ap Err e)
-only_meant (Err f) kind s v found (inr r) h = absurd (not_refused f kind s v r h)
-
 -- octets that have a value have no other
-pub only_one : {T E : Type 0} (r : Result T E) (octets : T → List ℕ) (kind : AvpType) (v : Value) → IfOk r (λ t. Means kind (octets t) v) → IfOk r (λ t. (w : Value) → Means kind (octets t) w → w ≡ v)
-only_one (Ok t) octets kind v h = λ w g. one_value kind (octets t) w v g h
-only_one (Err e) octets kind v h = tt
+pub only_one : {T E : Type 0} → OneValue → (r : Result T E) (octets : T → List ℕ) (kind : AvpType) (v : Value) → IfOk r (λ t. Means kind (octets t) v) → IfOk r (λ t. (w : Value) → Means kind (octets t) w → w ≡ v)
+only_one one (Ok t) octets kind v h = λ w g. one kind (octets t) w v g h
+only_one one (Err e) octets kind v h = tt

@@ -10,7 +10,7 @@ use Rattle.dm_wire.specs.declared.avp.Avp.{Avp}
 use Rattle.dm_wire.specs.Spelling.{be}
 use Rattle.dm_wire.specs.Limits.{IsLongList}
 use Rattle.dm_value.specs.declared.avp_type.AvpType.{AvpType}
-use Rattle.dm_value.specs.declared.avp_type.AvpType.TheVariants.{DiameterIdentity, DiameterURI}
+use Rattle.dm_value.specs.declared.avp_type.AvpType.TheVariants.{DiameterIdentity, DiameterURI, Grouped}
 use Rattle.dm_value.specs.declared.fault.ValueFault.{ValueFault}
 use Rattle.dm_value.specs.declared.fault.ValueFault.TheVariants as fault
 use Rattle.dm_value.specs.declared.value.Value.{Value}
@@ -24,11 +24,11 @@ use Rattle.dm_value.proofs.Flawed.{fault_by_flaw, uri_from_none, identity_from_n
 use Rattle.dm_value.proofs.Meanings.{not_refused}
 
 -- what has a value has no flaw
-no_flaw : (kind : AvpType) (s : List ℕ) (v : Value) → Means kind s v → flaw kind s ≡ None
-no_flaw kind s v h = by (flaw kind s) refl where
+no_flaw : (kind : AvpType) (s : List ℕ) (v : Value) → kind ≢ Grouped → Means kind s v → flaw kind s ≡ None
+no_flaw kind s v g h = by (flaw kind s) refl where
   by : (r : Option ValueFault) → r ≡ flaw kind s → r ≡ None
   by None e = refl
-  by (Some f) e = absurd (not_refused f kind s v (fault_by_flaw (Some f) kind s e) h)
+  by (Some f) e = absurd (not_refused f kind s v (fault_by_flaw (Some f) kind s g e) h)
 
 none_by : (r : Option ValueFault) → ((r ≢ None) → ⊥) → r ≡ None
 none_by None h = refl
@@ -45,8 +45,8 @@ misshapen_none : (v : Value) → IsMisshapen v → HasNoOctets v
 misshapen_none (value.Addr (address.Other n rest)) (inl e) s h = h.3 e
 misshapen_none (value.Addr (address.Other n rest)) (inr e) s h = h.4 e
 misshapen_none (value.Identity b) m s h =
-    m (ap (flaw DiameterIdentity) h.0 ∙ no_flaw DiameterIdentity s (value.Identity b) h)
-misshapen_none (value.Uri b) m s h = m (ap (flaw DiameterURI) h.0 ∙ no_flaw DiameterURI s (value.Uri b) h)
+    m (ap (flaw DiameterIdentity) h.0 ∙ no_flaw DiameterIdentity s (value.Identity b) (λ e. (cc)) h)
+misshapen_none (value.Uri b) m s h = m (ap (flaw DiameterURI) h.0 ∙ no_flaw DiameterURI s (value.Uri b) (λ e. (cc)) h)
 misshapen_none _ m s h = absurd m
 
 misshapen_short : (v : Value) → IsMisshapen v → HasLongMember v → ⊥

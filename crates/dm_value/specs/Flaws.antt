@@ -1,8 +1,8 @@
--- What is wrong with octets of a type, as an answer: the columns of `Columns`, the length first. Whether the octets of a
--- group are AVPs one after the other isn't looked at here.
-use Rattle.std.specs.Prelude.{ℕ, Bool, true, ◌&&◌, ◌||◌, nat_eq, nat_lt, nat_le, if◌then◌else◌, Option, None, Some, List, length, take, drop, codes, bytes_eq}
+-- What is wrong with octets of a type, as an answer: the columns of `Columns`, the length first.
+use Rattle.std.specs.Prelude.{ℕ, Bool, true, ◌&&◌, ◌||◌, nat_eq, nat_lt, nat_le, if◌then◌else◌, Option, None, Some, is_some, List, length, take, drop, codes, bytes_eq}
 use Rattle.std.specs.List.{list_all}
 use Rattle.std.specs.Str.{is_utf8}
+use Rattle.dm_wire.specs.Members.{members}
 use Rattle.dm_value.specs.declared.avp_type.AvpType.{AvpType}
 use Rattle.dm_value.specs.declared.avp_type.AvpType.TheVariants.{OctetString, Integer32, Integer64, Unsigned32, Unsigned64, Address, Time, UTF8String, DiameterIdentity, DiameterURI, Enumerated, Grouped}
 use Rattle.dm_value.specs.declared.fault.ValueFault.{ValueFault}
@@ -50,4 +50,4 @@ flaw UTF8String s = tested 0 (is_utf8 s) s
 flaw DiameterIdentity s = tested 1 (list_all is_visible s) s
 flaw DiameterURI s = tested 7 (is_uri s) s
 flaw Enumerated s = sized 4 s
-flaw Grouped s = None
+flaw Grouped s = if is_some (members s) then None else Some WrongLength

@@ -1,4 +1,5 @@
 pub mod Columns
+pub mod Decided
 pub mod Flaws
 pub mod Meaning
 pub mod OneValue

@@ -1,30 +1,43 @@
 //! Whether octets are data of a type (RFC 6733, 4.2 to 4.4).
-ghost use Rattle.std.specs.Prelude.{◌≡◌, ◌≢◌, ◌↔◌, ◌⊎◌, ℕ, length, Some, None, IfSome};
+ghost use Rattle.std.specs.Prelude.{◌≡◌, ◌≢◌, ◌↔◌, ◌⊎◌, ℕ, length, Some, None, IfSome, IfNone};
 ghost use Rattle.std.specs.List.{list_all};
 ghost use Rattle.std.specs.Str.{is_utf8};
 ghost use Rattle.dm_value.specs.Columns.{HasWrongLength, HasWrongValue, Refuses};
+ghost use Rattle.dm_value.specs.Meaning.{Means};
+ghost use Rattle.dm_value.specs.declared.value.Value.{Value};
 ghost use Rattle.dm_value.specs.Flaws.{flaw, is_visible, is_uri, is_under, has_its_size, sized, tested};
 
 use crate::{AvpType, ValueFault};
 use byteorder::{BigEndian, ByteOrder};
+use dm_wire::laws::members_spell;
+use dm_wire::spells_avps;
 
 /// What is wrong with octets of the type, or `None` where they have a value. It takes no memory.
 ///
-/// It answers `WrongLength` or `WrongValue`, the length first. Of a group it answers `None`: whether
-/// its octets are AVPs one after the other is for the caller to look at.
+/// It answers `WrongLength` or `WrongValue`, the length first. A group has a wrong length where its
+/// octets aren't AVPs one after the other.
 pub fn value_fault(kind: AvpType, octets: &[u8]) -> Option<ValueFault>
     // The answer, as a table by the type.
     ensures flaw { result ≡ flaw kind octets.now }
 
-    ensures length { kind ≢ AvpType.Grouped → ((result ≡ Some ValueFault.WrongLength) ↔ HasWrongLength kind octets.now) }
+    ensures length { (result ≡ Some ValueFault.WrongLength) ↔ HasWrongLength kind octets.now }
     ensures value { (result ≡ Some ValueFault.WrongValue)
         ↔ ((HasWrongLength kind octets.now → ⊥) × HasWrongValue kind octets.now) }
-    // Every answer is the octets' own.
+    // Every answer is the octets' own, and octets without one have a value.
     ensures fault { IfSome result (λ fault. Refuses kind octets.now fault) }
-    ensures group { kind ≡ AvpType.Grouped → result ≡ None }
+    ensures good { IfNone result ((value : Value) × Means kind octets.now value) }
+{
+    members_spell();
+    flaw_of(kind, octets)
+}
+
+/// The table by the type.
+fn flaw_of(kind: AvpType, octets: &[u8]) -> Option<ValueFault>
+    ensures { result ≡ flaw kind octets.now }
 {
     match kind {
-        AvpType::OctetString | AvpType::Grouped => None,
+        AvpType::OctetString => None,
+        AvpType::Grouped => group_fault(octets),
         AvpType::Integer32 | AvpType::Unsigned32 | AvpType::Time | AvpType::Enumerated => {
             size_fault(octets, 4)
         }
@@ -33,6 +46,17 @@ pub fn value_fault(kind: AvpType, octets: &[u8]) -> Option<ValueFault>
         AvpType::UTF8String => form_fault(octets, 0, is_text(octets)),
         AvpType::DiameterIdentity => form_fault(octets, 1, is_visible(octets)),
         AvpType::DiameterURI => form_fault(octets, 7, is_uri(octets)),
+    }
+}
+
+/// What is wrong with a group: whether its octets are AVPs is seen without memory.
+fn group_fault(octets: &[u8]) -> Option<ValueFault>
+    ensures { result ≡ flaw AvpType.Grouped octets.now }
+{
+    if spells_avps(octets) {
+        None
+    } else {
+        Some(ValueFault::WrongLength)
     }
 }
 

@@ -1,11 +1,16 @@
-//! Laws of what octets of a type mean. Each function is a law: it does nothing, and its contract is
-//! the law.
+//! Laws of what octets of a type mean. Each function is a law: it does nothing but call the laws that it
+//! stands on, and its contract is the law.
+ghost use Rattle.dm_value.specs.Decided.{FlawDecides, ValueOrFault};
 ghost use Rattle.dm_value.specs.OneValue.{OneValue, OneType, NoValueRefused, LeastLength};
+
+use dm_wire::laws::{members_spell, one_list};
 
 /// Octets of a type have at most one value (RFC 6733, 4.2 to 4.4).
 pub fn one_value()
     ensures { OneValue }
-{}
+{
+    one_list();
+}
 
 /// A value is of one type.
 pub fn one_type()
@@ -21,3 +26,17 @@ pub fn no_value_refused()
 pub fn least_length()
     ensures { LeastLength }
 {}
+
+/// What `flaw` answers for octets of a type is their fault, or that they have a value (7.1.5).
+pub fn flaw_decides()
+    ensures { FlawDecides }
+{
+    members_spell();
+}
+
+/// Octets of a type have a value or a fault. It stands for users.
+pub fn value_or_fault()
+    ensures { ValueOrFault }
+{
+    flaw_decides();
+}

@@ -5,15 +5,17 @@ ghost use Rattle.dm_value.specs.Flaws.{flaw};
 ghost use Rattle.dm_value.specs.Meaning.{Means};
 ghost use Rattle.dm_value.specs.declared.value.Value.{Value};
 
+use crate::laws::one_value;
 use crate::{Address, AvpType, Ip, Text, Value, ValueFault, value_fault};
 use byteorder::{BigEndian, ByteOrder};
-use dm_wire::{AvpList, Octets, WireFault, decode_avps};
+use dm_wire::{AvpList, Octets, decode_avps};
 use std::alloc::{AllocError, Global};
 
 /// The value that octets of the type have.
 ///
-/// Refuses with `WrongLength`, then with `WrongValue`. `NoMemory` comes only where the value holds
-/// octets of its own: numbers, times and IP addresses take no memory.
+/// Refuses with `WrongLength`, then with `WrongValue`, whatever memory there is: whether the octets of a
+/// group are AVPs is seen before any memory is taken. `NoMemory` comes only where the octets have a value
+/// and it holds octets of its own: numbers, times and IP addresses take no memory.
 pub fn read_value(alloc: Global, kind: AvpType, octets: &[u8]) -> Result<Value, ValueFault>
     // What is read is what the octets mean.
     ensures found { IfOk result (λ value. Means kind octets.now value) }
@@ -21,27 +23,31 @@ pub fn read_value(alloc: Global, kind: AvpType, octets: &[u8]) -> Result<Value, 
     ensures only { (value : Value) → Means kind octets.now value
         → (result ≡ Ok value) ⊎ (result ≡ Err ValueFault.NoMemory) }
 
-    ensures length { kind ≢ AvpType.Grouped
-        → (IsErrOf result ValueFault.WrongLength ↔ HasWrongLength kind octets.now) }
+    // What is wrong with the octets is answered, whatever memory there is.
+    ensures refuses { (fault : ValueFault) → Refuses kind octets.now fault → result ≡ Err fault }
+
+    ensures length { IsErrOf result ValueFault.WrongLength ↔ HasWrongLength kind octets.now }
     ensures value { IsErrOf result ValueFault.WrongValue
         ↔ ((HasWrongLength kind octets.now → ⊥) × HasWrongValue kind octets.now) }
+    // Memory is wanted only where the octets have a value, and it holds octets.
     ensures memory { IsErrOf result ValueFault.NoMemory → HoldsOctets kind octets.now }
+    ensures sound { IsErrOf result ValueFault.NoMemory → (value : Value) × Means kind octets.now value }
     // Every refusal but want of memory is the octets' own.
     ensures fault { IfErr result (λ fault. (fault ≡ ValueFault.NoMemory) ⊎ Refuses kind octets.now fault) }
 {
+    one_value();
     match value_fault(kind, octets) {
         Some(fault) => Err(fault),
         None => read_sound(alloc, kind, octets),
     }
 }
 
-/// The value of octets with which nothing is wrong, other than that those of a group may be no AVPs.
+/// The value of octets with which nothing is wrong.
 fn read_sound(alloc: Global, kind: AvpType, octets: &[u8]) -> Result<Value, ValueFault>
     requires { flaw kind octets.now ≡ None }
     ensures found { IfOk result (λ value. Means kind octets.now value) }
     ensures memory { IsErrOf result ValueFault.NoMemory → HoldsOctets kind octets.now }
-    ensures fault { IfErr result (λ fault. (fault ≡ ValueFault.NoMemory)
-        ⊎ ((fault ≡ ValueFault.WrongLength) × (kind ≡ AvpType.Grouped) × HasWrongLength AvpType.Grouped octets.now)) }
+    ensures fault { IfErr result (λ fault. fault ≡ ValueFault.NoMemory) }
 {
     match kind {
         AvpType::OctetString => Ok(Value::Bytes(Octets::from_slice(alloc, octets)?)),
@@ -78,18 +84,15 @@ fn read_address(alloc: Global, octets: &[u8]) -> Result<Address, AllocError>
     }
 }
 
-/// The AVPs that the octets spell (RFC 6733, 4.4).
+/// The AVPs that the octets spell (RFC 6733, 4.4): as they are AVPs, only memory can be wanted.
 fn read_group(alloc: Global, octets: &[u8]) -> Result<AvpList, ValueFault>
+    requires { flaw AvpType.Grouped octets.now ≡ None }
     ensures found { IfOk result (λ avps. Means AvpType.Grouped octets.now (Value.Group avps)) }
-    ensures fault { IfErr result (λ fault. (fault ≡ ValueFault.NoMemory)
-        ⊎ ((fault ≡ ValueFault.WrongLength) × HasWrongLength AvpType.Grouped octets.now)) }
+    ensures memory { IfErr result (λ fault. fault ≡ ValueFault.NoMemory) }
 {
     match decode_avps(alloc, octets) {
         Ok(avps) => Ok(AvpList::from_vec(avps)),
-        Err(fault) => Err(match fault {
-            WireFault::NoMemory => ValueFault::NoMemory,
-            _ => ValueFault::WrongLength,
-        }),
+        Err(_) => Err(ValueFault::NoMemory),
     }
 }
 

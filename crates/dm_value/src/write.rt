@@ -6,6 +6,7 @@ ghost use Rattle.dm_wire.specs.Limits.{IsLongList};
 ghost use Rattle.dm_value.specs.Meaning.{Means, type_of, IsInRange, HasNoOctets, HasLongMember, IsMisshapen};
 ghost use Rattle.dm_value.specs.declared.value.Value.{Value};
 
+use crate::laws::one_value;
 use crate::numbers::{
     write_family, write_signed_32, write_signed_64, write_unsigned_32, write_unsigned_64,
 };
@@ -30,6 +31,7 @@ pub fn write_value(alloc: Global, value: &Value) -> Result<Vec<u8>, ValueFault>
         ↔ (HasNoOctets value.now × (HasLongMember value.now → ⊥)) }
     ensures length { result ≢ Err ValueFault.WrongLength }
 {
+    one_value();
     if is_misshapen(value) {
         return Err(ValueFault::WrongValue);
     }

@@ -1,6 +1,6 @@
 -- Canonical spellings spell what they are made of.
-use Rattle.std.proofs.Common.{◌≡◌, ◌<◌, ◌≤◌, ℕ, ◌+◌, ◌-◌, ◌*◌, ◌/◌, ◌%◌, ◌^◌, Bool, true, false, IfSome, is_some, List, [], ◌∷◌, ◌++◌, length, get_or, take, replicate, refl, sym, ◌∙◌, ap, arith, append_assoc, append-nil, length-append}
-use Rattle.std.proofs.lemmas.List.{length-replicate, take_more, take-replicate}
+use Rattle.std.proofs.Common.{◌≡◌, ◌<◌, ℕ, ◌+◌, ◌-◌, ◌*◌, ◌/◌, ◌%◌, ◌^◌, Bool, true, false, IfSome, is_some, List, [], ◌∷◌, ◌++◌, length, get_or, take, refl, sym, ◌∙◌, ap, arith, append_assoc, append-nil, length-append}
+use Rattle.std.proofs.lemmas.List.{length-replicate, take_more}
 use Rattle.std.proofs.lemmas.Grind.{flat_map-append}
 use Rattle.std.specs.List.{flat_map}
 use Rattle.dm_wire.specs.declared.avp.Avp.{Avp}
@@ -76,9 +76,7 @@ list_more_spelled l i a h e sl sa =
     let more : take (i + 1) l ≡ take i l ++ a ∷ [] = take_more l i a h ∙ ap (λ b. take i l ++ b ∷ []) (sym e) in
     rw (list_more l i a h e, more) (list_push (take i l) a (canonical_list (take i l)) (canonical_avp a) sl sa)
 
--- header, data and padding, appended in turn
-pub avp_put : (a : Avp) (n : ℕ) (o0 o1 o2 o3 header bytes : List ℕ) → n ≡ avp_length a → header ≡ be a.code 4 ++ avp_flags a ∷ be n 3 ++ vendor_octets a.vendor → bytes ≡ a.bytes → o1 ≡ o0 ++ header → o2 ≡ o1 ++ bytes → o3 ≡ o2 ++ take ((4 - n % 4) % 4) (replicate 3 0) → o3 ≡ o0 ++ canonical_avp a
-avp_put a n o0 o1 o2 o3 header bytes en eh ed e1 e2 e3 =
-    let three : (4 - avp_length a % 4) % 4 ≤ 3 = omega arith in
-    let padding : take ((4 - avp_length a % 4) % 4) (replicate 3 0) ≡ zeros (avp_length a) = take-replicate ((4 - avp_length a % 4) % 4) 3 0 three in
-    e3 ∙ rw (e2, e1, ed, eh, en, padding) (simp append_assoc)
+-- header, Vendor-ID, data and padding, appended in turn
+pub avp_put : (a : Avp) (n : ℕ) (o0 o1 o2 o3 o4 header bytes : List ℕ) → n ≡ avp_length a → header ≡ be a.code 4 ++ avp_flags a ∷ be n 3 → bytes ≡ a.bytes
+    → o1 ≡ o0 ++ header → o2 ≡ o1 ++ vendor_octets a.vendor → o3 ≡ o2 ++ bytes → o4 ≡ o3 ++ zeros n → o4 ≡ o0 ++ canonical_avp a
+avp_put a n o0 o1 o2 o3 o4 header bytes en eh ed e1 e2 e3 e4 = e4 ∙ rw (e3, e2, e1, ed, eh, en) (simp append_assoc)

@@ -1,10 +1,15 @@
 pub mod Canonicals
 pub mod Cuts
+pub mod Equalities
+pub mod Existence
 pub mod Fronts
 pub mod Headers
 pub mod Limit
 pub mod Lists
+pub mod Members
 pub mod Messages
 pub mod Numbers
+pub mod Reading
 pub mod RoundTrips
 pub mod Spellings
+pub mod Walking

@@ -16,11 +16,11 @@ use Rattle.dm_wire.proofs.Headers.{read_header}
 use Rattle.dm_wire.proofs.Lists.{list_ends, list_aligned, one_list, no_bad_in_list}
 use Rattle.dm_wire.proofs.Spellings.{same_halves}
 
-abbrev made : Bool → Bool → Bool → Bool → ℕ → ℕ → ℕ → ℕ → Header
+abbrev pub made : Bool → Bool → Bool → Bool → ℕ → ℕ → ℕ → ℕ → Header
 made r p e t c a h n =
     record { request = r; proxiable = p; error = e; retransmit = t; command = c; application = a; hop_id = h; end_id = n }
 
-same_made : (r p e t r' p' e' t' : Bool) (c a h n c' a' h' n' : ℕ) → r ≡ r' → p ≡ p' → e ≡ e' → t ≡ t' → c ≡ c' → a ≡ a' → h ≡ h' → n ≡ n' → made r p e t c a h n ≡ made r' p' e' t' c' a' h' n'
+pub same_made : (r p e t r' p' e' t' : Bool) (c a h n c' a' h' n' : ℕ) → r ≡ r' → p ≡ p' → e ≡ e' → t ≡ t' → c ≡ c' → a ≡ a' → h ≡ h' → n ≡ n' → made r p e t c a h n ≡ made r' p' e' t' c' a' h' n'
 same_made r p e t r' p' e' t' c a h n c' a' h' n' e0 e1 e2 e3 e4 e5 e6 e7 = rw (e0, e1, e2, e3, e4, e5, e6, e7) refl
 
 -- the octets of a header with this flag octet
@@ -33,7 +33,7 @@ pub record HeaderFront (h : Header) (size : ℕ) (s : List ℕ) : Type 0 where
   pub size_is : size ≡ big_number 3 (drop 1 s)
   pub header_is : h ≡ read_header s
 
-header_front : (h : Header) (size : ℕ) (front rest : List ℕ) → SpellsHeader h size front → HeaderFront h size (front ++ rest)
+pub header_front : (h : Header) (size : ℕ) (front rest : List ℕ) → SpellsHeader h size front → HeaderFront h size (front ++ rest)
 header_front h size front rest sp =
     let fits : size < 256 ^ 3 = (let n : size ≤ 16777212 = sp.size_fits in omega arith) in
     rw (sp.whole) (record {
@@ -75,7 +75,7 @@ message_rest m s sp =
 abbrev whole : Header → List Avp → Message
 whole h l = record { header = h; avps = l }
 
-same_message : (m k : Message) → m.header ≡ k.header → m.avps ≡ k.avps → m ≡ k
+pub same_message : (m k : Message) → m.header ≡ k.header → m.avps ≡ k.avps → m ≡ k
 same_message m k e f = go m.header k.header m.avps k.avps e f where
   go : (h h' : Header) (l l' : List Avp) → h ≡ h' → l ≡ l' → whole h l ≡ whole h' l'
   go h h' l l' e f = rw (e, f) refl

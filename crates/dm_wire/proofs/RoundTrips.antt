@@ -1,5 +1,5 @@
 -- What has a spelling has a canonical one, and that is read back.
-use Rattle.std.proofs.Common.{◌≡◌, ℕ, Bool, true, false, List, [], ◌∷◌, length, refl, sym, ◌∙◌, arith}
+use Rattle.std.proofs.Common.{◌≡◌, ℕ, ◌^◌, ◌<◌, ◌≤◌, Bool, true, false, List, [], ◌∷◌, length, refl, sym, ◌∙◌, arith}
 use Rattle.dm_wire.specs.declared.avp.Avp.{Avp}
 use Rattle.dm_wire.specs.declared.message.Header.{Header}
 use Rattle.dm_wire.specs.declared.message.Message.{Message}
@@ -35,8 +35,9 @@ canonical_list_spells (a ∷ l) s sp =
     let first = sp.3 in
     (canonical_avp a, canonical_list l, refl, avp_spelled a first.code_fits first.length_fits first.vendor_fits, canonical_list_spells l sp.1 sp.4)
 
-canonical_header_spells : (h : Header) (size : ℕ) (s : List ℕ) → SpellsHeader h size s → SpellsHeader h size (canonical_header h size)
-canonical_header_spells h size s sp =
+pub canonical_header_spelled : (h : Header) (size : ℕ) → size ≤ 16777212 → h.command < 256 ^ 3 → h.application < 256 ^ 4 → h.hop_id < 256 ^ 4 → h.end_id < 256 ^ 4
+    → SpellsHeader h size (canonical_header h size)
+canonical_header_spelled h size fits command application hop end =
     let bits = header_bits h.request h.proxiable h.error h.retransmit in
     record {
       flags = header_flags h;
@@ -45,12 +46,15 @@ canonical_header_spells h size s sp =
       proxiable_bit = bits.1;
       error_bit = bits.2;
       retransmit_bit = bits.3;
-      size_fits = sp.size_fits;
-      command_fits = sp.command_fits;
-      application_fits = sp.application_fits;
-      hop_fits = sp.hop_fits;
-      end_fits = sp.end_fits;
+      size_fits = fits;
+      command_fits = command;
+      application_fits = application;
+      hop_fits = hop;
+      end_fits = end;
     }
+
+canonical_header_spells : (h : Header) (size : ℕ) (s : List ℕ) → SpellsHeader h size s → SpellsHeader h size (canonical_header h size)
+canonical_header_spells h size s sp = canonical_header_spelled h size sp.size_fits sp.command_fits sp.application_fits sp.hop_fits sp.end_fits
 
 whole_size : (m : Message) → length (canonical_message m) ≡ message_size m
 whole_size m = omega arith

@@ -71,10 +71,10 @@ front a first rest s sp e =
       within = omega (arith, length-append first rest);
     })
 
-abbrev made : ℕ → Option ℕ → Bool → Bool → List ℕ → Avp
+abbrev pub made : ℕ → Option ℕ → Bool → Bool → List ℕ → Avp
 made c v m p b = record { code = c; vendor = v; mandatory = m; protected = p; bytes = b }
 
-same_made : (c e : ℕ) (v w : Option ℕ) (m n p q : Bool) (b d : List ℕ) → c ≡ e → v ≡ w → m ≡ n → p ≡ q → b ≡ d → made c v m p b ≡ made e w n q d
+pub same_made : (c e : ℕ) (v w : Option ℕ) (m n p q : Bool) (b d : List ℕ) → c ≡ e → v ≡ w → m ≡ n → p ≡ q → b ≡ d → made c v m p b ≡ made e w n q d
 same_made c e v w m n p q b d e0 e1 e2 e3 e4 = rw (e0, e1, e2, e3, e4) refl
 
 same_vendor : (v w : Option ℕ) (n : ℕ) → is_some v ≡ is_some w → IfSome v (λ x. x ≡ n) → IfSome w (λ x. x ≡ n) → v ≡ w

@@ -1,7 +1,11 @@
 pub mod AvpEquality
+pub mod Borrowed
 pub mod Canonical
 pub mod Limits
+pub mod Members
 pub mod OneAnswer
 pub mod Refusal
 pub mod RoundTrip
 pub mod Spelling
+pub mod WalkStates
+pub mod Walks

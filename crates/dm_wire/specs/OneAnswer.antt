@@ -1,5 +1,5 @@
--- Octets say one thing: at most one message at a front, at most one fault.
-use Rattle.std.specs.Prelude.{◌≡◌, ℕ, List, ◌++◌}
+-- Octets say one thing: at most one message at a front, a message or a fault, and at most one fault.
+use Rattle.std.specs.Prelude.{◌≡◌, ◌<◌, ◌⊎◌, ℕ, List, ◌++◌, slice_index}
 use Rattle.dm_wire.specs.declared.avp.Avp.{Avp}
 use Rattle.dm_wire.specs.declared.message.Message.{Message}
 use Rattle.dm_wire.specs.declared.fault.WireFault.{WireFault}
@@ -29,3 +29,11 @@ OneRefusal = (s : List ℕ) (f g : WireFault) → Refuses s f → Refuses s g �
 -- octets that spell a message have no fault
 abbrev pub NoMessageRefused : Type 0
 NoMessageRefused = (m : Message) (s : List ℕ) (f : WireFault) → SpellsMessage m s → Refuses s f → ⊥
+
+-- octets spell a list of AVPs, or there is a first bad one
+abbrev pub ListOrBadOctet : Type 0
+ListOrBadOctet = (s : List ℕ) → ((i : ℕ) → slice_index s i < 256) → ((l : List Avp) × SpellsList l s) ⊎ ((o : ℕ) × IsBadAt 0 s o)
+
+-- octets spell a message, or have a fault
+abbrev pub MessageOrFault : Type 0
+MessageOrFault = (s : List ℕ) → ((i : ℕ) → slice_index s i < 256) → ((m : Message) × SpellsMessage m s) ⊎ ((f : WireFault) × Refuses s f)

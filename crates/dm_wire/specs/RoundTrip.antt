@@ -1,9 +1,10 @@
 -- What is written is read back (RFC 6733, 3 and 4.1).
-use Rattle.std.specs.Prelude.{◌≡◌, ℕ, List, length}
+use Rattle.std.specs.Prelude.{◌≡◌, ℕ, ◌^◌, ◌<◌, ◌≤◌, List, length}
 use Rattle.dm_wire.specs.declared.avp.Avp.{Avp}
+use Rattle.dm_wire.specs.declared.message.Header.{Header}
 use Rattle.dm_wire.specs.declared.message.Message.{Message}
-use Rattle.dm_wire.specs.Spelling.{SpellsList, SpellsMessage}
-use Rattle.dm_wire.specs.Canonical.{canonical_list, canonical_message}
+use Rattle.dm_wire.specs.Spelling.{SpellsList, SpellsHeader, SpellsMessage}
+use Rattle.dm_wire.specs.Canonical.{canonical_list, canonical_header, canonical_message}
 
 -- a message that has a spelling is spelled by its canonical octets
 abbrev pub CanonicalSpells : Type 0
@@ -24,3 +25,9 @@ CanonicalListSpells = (l : List Avp) (s : List ℕ) → SpellsList l s → Spell
 -- they spell no other list: decode_avps(encode_avps(l)) is l
 abbrev pub ListReadsBack : Type 0
 ListReadsBack = (l k : List Avp) (s : List ℕ) → SpellsList l s → SpellsList k (canonical_list l) → k ≡ l
+
+-- a header whose fields have room is spelled by its canonical octets
+abbrev pub CanonicalHeaderSpelled : Type 0
+CanonicalHeaderSpelled =
+    (h : Header) (size : ℕ) → size ≤ 16777212 → h.command < 256 ^ 3 → h.application < 256 ^ 4 → h.hop_id < 256 ^ 4 → h.end_id < 256 ^ 4
+    → SpellsHeader h size (canonical_header h size)

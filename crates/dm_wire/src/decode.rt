@@ -1,21 +1,62 @@
 //! Messages and lists of AVPs from octets (RFC 6733, 3 and 4.1).
-ghost use Rattle.std.specs.Prelude.{◌≡◌, ◌≢◌, ◌⊎◌, ◌↔◌, ℕ, List, IfOk, IfErr, IsErrOf, MatchResult};
+ghost use Rattle.std.specs.Prelude.{◌≡◌, ◌≢◌, ◌⊎◌, ◌↔◌, true, ℕ, List, [], is_some, IfOk, OnOk, IfErr, IsErrOf, MatchResult};
 ghost use Rattle.dm_wire.specs.declared.avp.Avp.{Avp};
+ghost use Rattle.dm_wire.specs.declared.fault.WireFault.{WireFault};
+ghost use Rattle.dm_wire.specs.Members.{members};
 ghost use Rattle.dm_wire.specs.Spelling.{SpellsList, SpellsMessage};
 ghost use Rattle.dm_wire.specs.Refusal.{IsTooShort, IsOtherVersion, IsOtherLength, IsBadAt, Refuses};
 
-use crate::read::read_header;
-use crate::walk::read_list;
+use crate::list::first_member;
+use crate::message_ref::read_counted;
+use crate::walk::count_avps;
 use crate::{Avp, AvpList, Message, WireFault};
-use std::alloc::Global;
+use std::alloc::{AllocError, Global};
+
+/// Copies of the AVPs that the octets are, pushed one after the other.
+fn push_avps(alloc: Global, avps: &mut Vec<Avp>, octets: &[u8]) -> Result<(), AllocError>
+    requires spelled { is_some (members octets.now) ≡ true }
+    requires empty { avps.old.items ≡ [] }
+    ensures { OnOk result (SpellsList avps.new.items octets.now) }
+{
+    let mut left = octets;
+    while let Some((avp, size)) = first_member(left) {
+        avps.push(avp.copied(alloc)?)?;
+        left = &left[size..];
+    }
+    Ok(())
+}
+
+/// Copies of the AVPs that the octets are, of which there are so many.
+fn copy_avps(alloc: Global, octets: &[u8], count: usize) -> Result<Vec<Avp>, AllocError>
+    requires { is_some (members octets.now) ≡ true }
+    ensures { IfOk result (λ avps. SpellsList avps.items octets.now) }
+{
+    let mut avps = Vec::with_capacity(alloc, count)?;
+    let done = push_avps(alloc, &mut avps, octets);
+    done.and(Ok(avps))
+}
+
+/// The message that the octets spell, or why they spell none. A first walk finds a bad AVP and counts the others.
+fn read_message(alloc: Global, octets: &[u8]) -> Result<Message, WireFault>
+    ensures found { IfOk result (λ message. SpellsMessage message octets.now) }
+    ensures fault { IfErr result (λ fault.
+        ((m : Message) × (fault ≡ WireFault.NoMemory) × SpellsMessage m octets.now) ⊎ Refuses octets.now fault) }
+{
+    let (read, count) = read_counted(octets)?;
+    let avps = copy_avps(alloc, read.rest, count)?;
+    Ok(Message {
+        header: read.header,
+        avps: AvpList::from_vec(avps),
+    })
+}
 
 impl Message {
     /// The message that the octets spell. Padding octets and reserved bits may hold anything, and
     /// are not kept.
     ///
-    /// Refuses in this order: `TooShort`, `Version`, `Length`, `AvpLength` with the offset of the
-    /// first bad AVP from the first octet of the message. `NoMemory` may come before an `AvpLength`
-    /// further on. It never answers `TooLong`.
+    /// Refuses in this order, whatever memory there is: `TooShort`, `Version`, `Length`, `AvpLength` with the
+    /// offset of the first bad AVP from the first octet of the message. `NoMemory` comes only where the octets
+    /// spell a message. It never answers `TooLong`.
     pub fn decode(alloc: Global, octets: &[u8]) -> Result<Message, WireFault>
         // What is read is spelled so.
         ensures found { IfOk result (λ message. SpellsMessage message octets.now) }
@@ -31,22 +72,20 @@ impl Message {
         ensures fits { result ≢ Err WireFault.TooLong }
         // Every refusal but want of memory is the octets' own.
         ensures fault { IfErr result (λ fault. (fault ≡ WireFault.NoMemory) ⊎ Refuses octets.now fault) }
+        // What is wrong with the octets is answered, whatever memory there is.
+        ensures refuses { (fault : WireFault) → Refuses octets.now fault → IsErrOf result fault }
+        // Memory is wanted only for a message that is spelled.
+        ensures memory { IsErrOf result WireFault.NoMemory → (m : Message) × SpellsMessage m octets.now }
     {
-        let header = read_header(octets)?;
-        let avps = read_list(alloc, octets, 20)?;
-        Ok(Message {
-            header,
-            avps: AvpList::from_vec(avps),
-        })
+        read_message(alloc, octets)
     }
 }
 
 /// The AVPs that the octets spell, one after the other, as the data of a Grouped AVP (RFC 6733,
 /// 4.4). Padding octets and reserved bits may hold anything, and are not kept.
 ///
-/// Refuses with `AvpLength` and the offset of the first bad AVP from the first octet; a last AVP
-/// without its padding is bad. `NoMemory` may come before an `AvpLength` further on. There is no
-/// other refusal.
+/// Refuses with `AvpLength` and the offset of the first bad AVP from the first octet, whatever memory there is; a last
+/// AVP without its padding is bad. `NoMemory` comes only where the octets spell a list. There is no other refusal.
 pub fn decode_avps(alloc: Global, octets: &[u8]) -> Result<Vec<Avp>, WireFault>
     // What is read is spelled so.
     ensures found { IfOk result (λ avps. SpellsList avps.items octets.now) }
@@ -59,6 +98,13 @@ pub fn decode_avps(alloc: Global, octets: &[u8]) -> Result<Vec<Avp>, WireFault>
     // Every refusal but want of memory is the octets' own.
     ensures fault { IfErr result (λ fault. (fault ≡ WireFault.NoMemory)
         ⊎ ((o : ℕ) × (fault ≡ WireFault.AvpLength o) × IsBadAt 0 octets.now o)) }
+    // A bad AVP is answered, whatever memory there is.
+    ensures refuses { (o : ℕ) → IsBadAt 0 octets.now o → IsErrOf result (WireFault.AvpLength o) }
+    // Memory is wanted only for a list that is spelled.
+    ensures memory { IsErrOf result WireFault.NoMemory → (l : List Avp) × SpellsList l octets.now }
 {
-    read_list(alloc, octets, 0)
+    match count_avps(octets) {
+        Ok(count) => Ok(copy_avps(alloc, octets, count)?),
+        Err(offset) => Err(WireFault::AvpLength(offset)),
+    }
 }

@@ -1,6 +1,9 @@
 //! Laws of what octets spell. Each function is a law: it does nothing, and its contract is the law.
-ghost use Rattle.dm_wire.specs.OneAnswer.{OneMessage, OneAvp, OneList, OneBadOctet, OneRefusal, NoMessageRefused};
-ghost use Rattle.dm_wire.specs.RoundTrip.{CanonicalSpells, ReadsBack, OneSize, CanonicalListSpells, ListReadsBack};
+ghost use Rattle.dm_wire.specs.Members.{MembersSpell};
+ghost use Rattle.dm_wire.specs.AvpEquality.{EqualAvps, EqualLists, EqualMessages};
+ghost use Rattle.dm_wire.specs.OneAnswer.{OneMessage, OneAvp, OneList, OneBadOctet, OneRefusal, NoMessageRefused, ListOrBadOctet, MessageOrFault};
+ghost use Rattle.dm_wire.specs.RoundTrip.{CanonicalSpells, ReadsBack, OneSize, CanonicalListSpells, ListReadsBack, CanonicalHeaderSpelled};
+ghost use Rattle.dm_wire.specs.Walks.{WalkTells};
 
 /// Of two spellings of messages that begin one text neither is longer, and both spell one message.
 /// So where a stream of messages is cut doesn't depend on who cuts it (RFC 6733, 3).
@@ -11,6 +14,11 @@ pub fn one_message()
 /// Of two spellings of AVPs that begin one text neither is longer, and both spell one AVP (4.1).
 pub fn one_avp()
     ensures { OneAvp }
+{}
+
+/// The members of octets are just the AVPs that the octets spell, one after the other (4.1 and 4.4).
+pub fn members_spell()
+    ensures { MembersSpell }
 {}
 
 /// Octets spell at most one list of AVPs.
@@ -31,6 +39,21 @@ pub fn one_refusal()
 /// Octets that spell a message have no fault.
 pub fn no_message_refused()
     ensures { NoMessageRefused }
+{}
+
+/// Octets spell a list of AVPs, or there is a first bad one.
+pub fn list_or_bad_octet()
+    ensures { ListOrBadOctet }
+{}
+
+/// Octets spell a message, or have a fault.
+pub fn message_or_fault()
+    ensures { MessageOrFault }
+{}
+
+/// A header whose fields have room is spelled by its canonical octets. It stands for users.
+pub fn canonical_header_spelled()
+    ensures { CanonicalHeaderSpelled }
 {}
 
 /// A message that has a spelling is spelled by its canonical octets.
@@ -57,4 +80,25 @@ pub fn canonical_list_spells()
 /// was.
 pub fn list_reads_back()
     ensures { ListReadsBack }
+{}
+
+/// The answers of a whole walk are the AVPs that the octets spell, in order; where they spell none, the AVPs up to the
+/// first bad octet and then that octet. So a walk that is collected is what `decode_avps` answers. It stands for users.
+pub fn walk_tells()
+    ensures { WalkTells }
+{}
+
+/// What `==` of AVPs computes is true just where they are equal.
+pub fn equal_avps()
+    ensures { EqualAvps }
+{}
+
+/// What `==` of lists of AVPs computes is true just where they are equal.
+pub fn equal_lists()
+    ensures { EqualLists }
+{}
+
+/// What `==` of messages computes is true just where they are equal.
+pub fn equal_messages()
+    ensures { EqualMessages }
 {}

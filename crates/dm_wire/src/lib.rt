@@ -2,11 +2,14 @@
 #![tactic(auto)]
 
 mod avp;
+mod borrowed;
 mod decode;
 mod encode;
 mod fault;
 pub mod laws;
+mod list;
 mod message;
+mod message_ref;
 mod octets;
 mod put;
 mod read;
@@ -14,9 +17,14 @@ mod size;
 mod walk;
 
 pub use avp::{Avp, AvpList};
+pub use borrowed::AvpRef;
 pub use decode::decode_avps;
+pub use dm_framer::{FrameFault, Framer};
 pub use encode::encode_avps;
 pub use fault::WireFault;
+pub use list::{AvpsRef, spells_avps};
 pub use message::{Header, Message};
+pub use message_ref::MessageRef;
 pub use octets::Octets;
-pub use read::{AvpRef, first_avp};
+pub use read::first_avp;
+pub use walk::AvpWalk;

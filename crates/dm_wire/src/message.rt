@@ -23,10 +23,31 @@ pub struct Header {
 }
 
 /// A message: its header and its AVPs in order (RFC 6733, 3).
-#[derive(Debug, Drop, PartialEq, Eq)]
+#[derive(Debug, Drop)]
 pub struct Message {
     /// The header.
     pub header: Header,
     /// The AVPs.
     pub avps: AvpList,
+}
+
+impl PartialEq for Message {
+    ghost use Rattle.std.specs.Cmp.Rules.{comparing};
+    ghost use Rattle.std.proofs.Common.{rules};
+    ghost use Rattle.dm_wire.specs.AvpEquality.{message_eq};
+
+    ghost eq = { message_eq };
+
+    ghost laws = { Prim.search (comparing, rules) depth 24 };
+
+    fn eq(&self, other: &Message) -> bool {
+        self.header == other.header && self.avps == other.avps
+    }
+}
+
+impl Eq for Message {
+    ghost use Rattle.std.specs.Cmp.Rules.{comparing};
+    ghost use Rattle.std.proofs.Common.{rules};
+
+    ghost laws = { Prim.search (comparing, rules) depth 24 };
 }

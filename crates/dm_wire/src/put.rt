@@ -1,7 +1,7 @@
 //! AVPs and headers to octets (RFC 6733, 3 and 4.1).
-ghost use Rattle.std.specs.Prelude.{◌≡◌, ◌-◌, ◌^◌, ◌<◌, ◌≤◌, ◌++◌, ◌∷◌, take, OnOk, IfSome, IfNone};
-ghost use Rattle.dm_wire.specs.Spelling.{be, avp_header_len, avp_length, vendor_octets, SpellsList, SpellsHeader};
-ghost use Rattle.dm_wire.specs.Canonical.{worth, avp_flags, canonical_avp, canonical_list, header_flags, canonical_header};
+ghost use Rattle.std.specs.Prelude.{◌≡◌, ◌^◌, ◌<◌, ◌≤◌, ◌++◌, ◌∷◌, OnOk, IfSome, IfNone};
+ghost use Rattle.dm_wire.specs.Spelling.{be, avp_length, vendor_octets, SpellsList, SpellsHeader};
+ghost use Rattle.dm_wire.specs.Canonical.{worth, avp_flags, zeros, canonical_avp, canonical_list, header_flags, canonical_header};
 
 use crate::size::header_len;
 use crate::{Avp, Header};
@@ -22,23 +22,41 @@ fn avp_flag_octet(avp: &Avp) -> u8
     bit(avp.vendor.is_some(), 0x80) | bit(avp.mandatory, 0x40) | bit(avp.protected, 0x20)
 }
 
-/// The header of the AVP with this Length, and how many octets it takes.
-fn avp_header(avp: &Avp, length: u32) -> ([u8; 12], usize)
+/// The first eight octets of the header of the AVP with this Length.
+fn avp_header(avp: &Avp, length: u32) -> [u8; 8]
     requires { length < 256 ^ 3 }
-    ensures size { result.1 ≡ avp_header_len avp.now.vendor }
-    ensures octets { take result.1 result.0 ≡ be avp.now.code 4 ++ avp_flags avp.now ∷ be length 3 ++ vendor_octets avp.now.vendor }
+    ensures { result ≡ be avp.now.code 4 ++ avp_flags avp.now ∷ be length 3 }
 {
-    let mut header = [0; 12];
+    let mut header = [0; 8];
     BigEndian::write_u32(&mut header, avp.code);
     header[4] = avp_flag_octet(avp);
     BigEndian::write_u24(&mut header[5..], length);
-    match avp.vendor {
-        None => (header, 8),
-        Some(vendor) => {
-            BigEndian::write_u32(&mut header[8..], vendor);
-            (header, 12)
-        }
+    header
+}
+
+/// The Vendor-ID field, appended where there is one.
+fn put_vendor(out: &mut Vec<u8>, vendor: Option<u32>) -> Result<(), AllocError>
+    ensures { OnOk result (out.new.items ≡ out.old.items ++ vendor_octets vendor) }
+{
+    if let Some(vendor) = vendor {
+        let mut octets = [0; 4];
+        BigEndian::write_u32(&mut octets, vendor);
+        out.extend_from_slice(&octets)?;
     }
+    Ok(())
+}
+
+/// The zero octets that fill up an AVP of this Length to a multiple of 4, appended.
+fn put_padding(out: &mut Vec<u8>, length: usize) -> Result<(), AllocError>
+    ensures { OnOk result (out.new.items ≡ out.old.items ++ zeros length) }
+{
+    match length % 4 {
+        0 => {}
+        1 => out.extend_from_slice(&[0, 0, 0])?,
+        2 => out.extend_from_slice(&[0, 0])?,
+        _ => out.extend_from_slice(&[0])?,
+    }
+    Ok(())
 }
 
 /// The AVP, appended with zero padding and zero reserved bits.
@@ -48,10 +66,11 @@ fn put_avp(out: &mut Vec<u8>, avp: &Avp) -> Result<(), AllocError>
 {
     let data = avp.bytes.as_slice();
     let length = header_len(avp.vendor) + data.len();
-    let (header, size) = avp_header(avp, length as u32);
-    out.extend_from_slice(&header[..size])?;
+    let header = avp_header(avp, length as u32);
+    out.extend_from_slice(&header)?;
+    put_vendor(out, avp.vendor)?;
     out.extend_from_slice(data)?;
-    out.extend_from_slice(&[0; 3][..(4 - length % 4) % 4])?;
+    put_padding(out, length)?;
     Ok(())
 }
 

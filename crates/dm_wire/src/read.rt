@@ -1,47 +1,11 @@
 //! The first AVP of octets, and the header of a message (RFC 6733, 3 and 4.1).
 ghost use Rattle.std.specs.Prelude.{◌≡◌, ◌<◌, ◌≤◌, ◌⊎◌, ◌↔◌, length, take, IfOk, IfErr, IfSome, IfNone, IsErrOf};
 ghost use Rattle.dm_wire.specs.Spelling.{SpellsAvp, SpellsHeader};
+ghost use Rattle.dm_wire.specs.Borrowed.{avp_of};
 ghost use Rattle.dm_wire.specs.Refusal.{BeginsWithNoAvp, IsTooShort, IsOtherVersion, IsOtherLength};
 
-use crate::{Avp, Header, Octets, WireFault};
+use crate::{AvpRef, Header, WireFault};
 use byteorder::{BigEndian, ByteOrder};
-use std::alloc::{AllocError, Global};
-
-/// An AVP whose data lies where it was read (RFC 6733, 4.1).
-#[derive(Clone, Copy, Debug)]
-pub struct AvpRef<'a> {
-    /// The AVP Code.
-    pub code: u32,
-    /// The Vendor-ID, where the V bit is set.
-    pub vendor: Option<u32>,
-    /// The M bit.
-    pub mandatory: bool,
-    /// The P bit.
-    pub protected: bool,
-    /// The data, without padding.
-    pub bytes: &'a [u8],
-}
-
-impl AvpRef<'_> {
-    /// The AVP with a copy of its data, or want of memory.
-    pub fn copied(&self, alloc: Global) -> Result<Avp, AllocError>
-        ensures { IfOk result (λ avp. avp ≡ record {
-          code = self.now.code;
-          vendor = self.now.vendor;
-          mandatory = self.now.mandatory;
-          protected = self.now.protected;
-          bytes = self.now.bytes.now;
-        }) }
-    {
-        Ok(Avp {
-            code: self.code,
-            vendor: self.vendor,
-            mandatory: self.mandatory,
-            protected: self.protected,
-            bytes: Octets::from_slice(alloc, self.bytes)?,
-        })
-    }
-}
 
 /// The AVP at the front, and how many octets it takes, padding included; `None` where no AVP begins
 /// there. It takes no memory.
@@ -57,13 +21,7 @@ impl AvpRef<'_> {
 pub fn first_avp(octets: &[u8]) -> Option<(AvpRef<'_>, usize)>
     ensures within { IfSome result (λ read. read.1 ≤ length octets.now) }
     ensures moves { IfSome result (λ read. 0 < read.1) }
-    ensures found { IfSome result (λ read. SpellsAvp (record {
-      code = read.0.code;
-      vendor = read.0.vendor;
-      mandatory = read.0.mandatory;
-      protected = read.0.protected;
-      bytes = read.0.bytes.now;
-    }) (take read.1 octets.now)) }
+    ensures found { IfSome result (λ read. SpellsAvp (avp_of read.0) (take read.1 octets.now)) }
     ensures none { IfNone result (BeginsWithNoAvp octets.now) }
 {
     if octets.len() < 8 {

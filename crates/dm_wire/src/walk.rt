@@ -1,27 +1,90 @@
-//! The AVPs of octets, one after the other (RFC 6733, 4.1).
-ghost use Rattle.std.specs.Prelude.{◌≡◌, ◌≤◌, ◌⊎◌, ℕ, length, drop, IfOk, IfErr};
+//! The AVPs of octets, one after the other, where they lie (RFC 6733, 4.1).
+ghost use Rattle.std.specs.Prelude.{◌≡◌, true, false, List, length, is_some, IfOk, OnOk, IfErr, OnErr};
+ghost use Rattle.dm_wire.specs.declared.avp.Avp.{Avp};
 ghost use Rattle.dm_wire.specs.Spelling.{SpellsList};
 ghost use Rattle.dm_wire.specs.Refusal.{IsBadAt};
+ghost use Rattle.dm_wire.specs.Members.{members};
+ghost use Rattle.dm_wire.specs.Walks.{walk_over};
 
+use crate::AvpRef;
 use crate::read::first_avp;
-use crate::{Avp, WireFault};
-use std::alloc::Global;
+use std::marker::Model;
 
-/// The AVPs from octet `start` to the end.
-pub(crate) fn read_list(alloc: Global, octets: &[u8], start: usize) -> Result<Vec<Avp>, WireFault>
-    requires { start ≤ length octets.now }
-    ensures found { IfOk result (λ avps. SpellsList avps.items (drop start octets.now)) }
-    ensures fault { IfErr result (λ fault. (fault ≡ WireFault.NoMemory)
-        ⊎ ((o : ℕ) × (fault ≡ WireFault.AvpLength o) × IsBadAt start octets.now o)) }
-{
-    let mut avps = Vec::new(alloc);
-    let mut at = start;
-    while at < octets.len() {
-        let Some((avp, size)) = first_avp(&octets[at..]) else {
-            return Err(WireFault::AvpLength(at));
-        };
-        avps.push(avp.copied(alloc)?)?;
-        at += size;
+/// A walk over octets, one AVP at a time. It takes no memory.
+///
+/// A contract sees it as the octets that it has not passed, their offset and whether it has met a bad AVP.
+#[derive(Debug, Drop)]
+pub struct AvpWalk<'a> {
+    left: &'a [u8],
+    offset: usize,
+    ended: bool,
+}
+
+impl<'a> Model for AvpWalk<'a> {
+    ghost use Rattle.std.specs.Prelude.{◌+◌, ◌<◌, ◌^◌, length};
+    ghost use Rattle.dm_wire.specs.WalkStates.{Walk};
+
+    ghost Value = { Walk };
+
+    ghost view = { λ w. record { left = w.left.now; offset = w.offset; ended = w.ended } };
+
+    ghost invariant = { λ w. w.offset + length w.left.now < 2 ^ 64 };
+}
+
+impl<'a> AvpWalk<'a> {
+    /// A walk over these octets, from the first on.
+    pub fn new(octets: &'a [u8]) -> AvpWalk<'a>
+        ensures { result ≡ walk_over octets.now }
+    {
+        AvpWalk {
+            left: octets,
+            offset: 0,
+            ended: false,
+        }
     }
-    Ok(avps)
+}
+
+/// Each call gives the next AVP, and `None` behind the last. Where an AVP is bad it gives the offset of that AVP from
+/// the first octet once, and then `None`.
+impl<'a> Iterator for AvpWalk<'a> {
+    type Item = Result<AvpRef<'a>, usize>;
+
+    ghost use Rattle.std.specs.Prelude.{length};
+    ghost use Rattle.std.specs.Iterator.{at_most, count_unless};
+    ghost use Rattle.dm_wire.specs.Walks.{WalkStep};
+
+    ghost next_gives = { WalkStep };
+
+    ghost remaining = { λ w. count_unless w.ended (at_most (length w.left)) };
+
+    fn next(&mut self) -> Option<Result<AvpRef<'a>, usize>> {
+        if self.ended || self.left.is_empty() {
+            return None;
+        }
+        let left = self.left;
+        let Some((avp, size)) = first_avp(left) else {
+            self.ended = true;
+            return Some(Err(self.offset));
+        };
+        self.left = &left[size..];
+        self.offset += size;
+        Some(Ok(avp))
+    }
+}
+
+/// How many AVPs the octets are, one after the other, or the first bad octet. It takes no memory.
+pub(crate) fn count_avps(octets: &[u8]) -> Result<usize, usize>
+    ensures count { IfOk result (λ n. (l : List Avp) × SpellsList l octets.now × (length l ≡ n)) }
+    ensures some { OnOk result (is_some (members octets.now) ≡ true) }
+    ensures bad { IfErr result (IsBadAt 0 octets.now) }
+    ensures none { OnErr result (is_some (members octets.now) ≡ false) }
+{
+    let mut count = 0;
+    for read in AvpWalk::new(octets) {
+        match read {
+            Ok(_) => count += 1,
+            Err(offset) => return Err(offset),
+        }
+    }
+    Ok(count)
 }

@@ -1,26 +1,26 @@
 //! The program `dmpeer`: reads standard input as its words ask, and prints to standard output.
 //!
-//! Its words are `show`, `check`, `check --dict` or `build`. What a run answers is dm_tool's; here are only the
+//! Its words are `show`, `check`, `check --dict` or `build`. What comes of them is dm_tool's; here are only the
 //! command line, the standard streams and the status.
 #![tactic(auto)]
 
-ghost use Rattle.std.specs.Prelude.{◌≡◌, IfErr};
+ghost use Rattle.std.specs.Prelude.{◌≡◌, ◌⊎◌, Ok, Err, None, Some, IfErr};
 
-use dm_tool::{Choice, ToolFault, choose, ending, run_build, run_check, run_show};
+use dm_tool::{ToolFault, ending, run_words};
 use std::env;
 use std::io::ErrorKind;
 use std::process::ExitCode;
 use std::rt::Env;
 
 fn main(rt: HostRuntime) -> ExitCode {
-    let outcome = match chosen(&rt) {
-        Ok(Some(Choice::Show)) => Some(run_show(rt.alloc(), &mut rt.stdin(), &mut rt.stdout())),
-        Ok(Some(Choice::Check { with_dict })) => {
-            Some(run_check(rt.alloc(), &mut rt.stdin(), &mut rt.stdout(), with_dict))
-        }
-        Ok(Some(Choice::Build)) => Some(run_build(rt.alloc(), &mut rt.stdin(), &mut rt.stdout())),
-        Ok(None) => None,
-        Err(fault) => Some(Err(fault)),
+    let outcome = match words(&rt) {
+        Ok(words) => run_words(
+            rt.alloc(),
+            words.as_slice(),
+            &mut rt.stdin(),
+            &mut rt.stdout(),
+        ),
+        Err(outcome) => outcome,
     };
     let (status, words) = ending(outcome);
     if !words.is_empty() {
@@ -30,16 +30,18 @@ fn main(rt: HostRuntime) -> ExitCode {
     ExitCode::from(status)
 }
 
-/// The command that the words after the program's name choose. A word that isn't UTF-8 chooses none.
-/// Where the words can't be had, that is want of memory.
-fn chosen(rt: &(impl Env + AllocGlobal)) -> Result<Option<Choice>, ToolFault>
-    ensures { IfErr result (λ fault. fault ≡ ToolFault.Memory) }
+/// The words after the program's name, or what the run comes to where they can't be had: words of which one isn't
+/// UTF-8 choose no command, and all else is want of memory.
+fn words(rt: &(impl Env + AllocGlobal)) -> Result<Vec<String>, Option<Result<bool, ToolFault>>>
+    ensures { IfErr result (λ outcome. (outcome ≡ None) ⊎ (outcome ≡ Some (Err ToolFault.Memory))) }
 {
     let words = match env::args(rt) {
         Ok(words) => words,
-        Err(error) if error.kind() == ErrorKind::InvalidData => return Ok(None),
-        Err(_) => return Err(ToolFault::Memory),
+        Err(error) if error.kind() == ErrorKind::InvalidData => return Err(None),
+        Err(_) => return Err(Some(Err(ToolFault::Memory))),
     };
-    let words: Vec<String> = words.skip(1).collect(rt.alloc())?;
-    Ok(choose(words.as_slice()))
+    match words.skip(1).collect(rt.alloc()) {
+        Ok(words) => Ok(words),
+        Err(_) => Err(Some(Err(ToolFault::Memory))),
+    }
 }

@@ -1,6 +1,6 @@
 //! Messages in hexadecimal, and the verdicts on them in words.
 use dm_dict::{Dictionary, Verdict};
-use dm_wire::{Avp, Message};
+use dm_wire::{Avp, Message, MessageRef};
 use std::process::Abort;
 
 /// The vendor, and V where there is one.
@@ -46,6 +46,27 @@ fn verdict_text(rt: &(impl Abort + AllocGlobal), verdict: &Verdict) -> String {
 fn decoded(rt: &(impl Abort + AllocGlobal), message: &str) -> Message {
     let octets = hex::decode(rt.alloc(), message.as_bytes()).expect(rt, "hexadecimal");
     Message::decode(rt.alloc(), octets.as_slice()).expect(rt, "a message")
+}
+
+/// What the dictionary says of the octets where they lie.
+fn judged_words(rt: &(impl Abort + AllocGlobal), dictionary: &Dictionary, octets: &[u8]) -> String {
+    let message = MessageRef::read(octets).expect(rt, "a message");
+    let verdict = dictionary
+        .judge(&message)
+        .verdict(rt.alloc())
+        .expect(rt, "memory");
+    verdict_text(rt, &verdict)
+}
+
+/// Each row is a message and its verdict under the base dictionary, judged where it lies.
+pub fn assert_judged_under_base(rt: &(impl Abort + AllocGlobal), rows: &[(&str, &str)]) {
+    let base = Dictionary::base(rt.alloc()).expect(rt, "a dictionary");
+    for (message, want) in rows {
+        let octets = hex::decode(rt.alloc(), message.as_bytes()).expect(rt, "hexadecimal");
+        let words = judged_words(rt, &base, octets.as_slice());
+        assert_eq!(rt; words.as_str(), *want, "of {message}");
+    }
+    drop(base);
 }
 
 /// What the dictionary says of the message.

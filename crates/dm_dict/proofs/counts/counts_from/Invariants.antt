@@ -1,6 +1,6 @@
 use Rattle.std.proofs.Common.{◌+◌, ◌<◌, ◌≤◌, ℕ, List, slice_index}
 use Rattle.dm_wire.specs.declared.avp.Avp.{Avp}
-use Rattle.dm_dict.specs.Borrowed.{Lists, size_of}
+use Rattle.dm_wire.specs.Borrowed.{Lists, size_of}
 use Rattle.dm_dict.specs.Counters.{IsCountedBut}
 use Rattle.dm_dict.proofs.counts.counts_from.Given as goal
 

@@ -1,6 +1,6 @@
 use Rattle.std.proofs.Common.{◌≡◌, ◌≤◌, ◌-◌, List, length, drop, flat_map}
 use Rattle.dm_wire.specs.declared.avp.Avp.{Avp}
-use Rattle.dm_dict.specs.Borrowed.{Lists}
+use Rattle.dm_wire.specs.Borrowed.{Lists}
 use Rattle.dm_dict.specs.Counters.{IsCounted}
 use Rattle.dm_dict.specs.Faults.{entry_faults, first}
 use Rattle.dm_dict.proofs.entries.judge_entries.Given as goal

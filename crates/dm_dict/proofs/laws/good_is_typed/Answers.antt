@@ -3,4 +3,4 @@ use Rattle.dm_dict.proofs.Good.{good_typed}
 use Rattle.dm_dict.proofs.laws.good_is_typed.Goals as goal
 
 pub returns : goal.returns
-returns c = good_typed
+returns c = good_typed c.flaw_decides.ensures

@@ -1,5 +1,5 @@
 use Rattle.std.proofs.Common.{List, ℕ, subst}
-use Rattle.dm_tool.specs.Words.{TellsData}
+use Rattle.dm_tool.specs.AvpWords.{TellsData}
 use Rattle.dm_tool.proofs.Places.{third_of}
 use Rattle.dm_tool.proofs.avp_line.read_avp.Goals as goal
 

@@ -1,6 +1,6 @@
 use Rattle.std.proofs.Common.{◌+◌, codes, ◌++◌, ◌∷◌, [], ℕ, List, length-append, ap, sym, ◌∙◌, subst, arith}
 use Rattle.std.specs.Fmt.{decimal}
-use Rattle.dm_tool.specs.Lines.{content}
+use Rattle.dm_text.specs.Lines.{content}
 use Rattle.dm_tool.specs.Progress.{Stands}
 use Rattle.dm_tool.proofs.Contents.{content-append}
 use Rattle.dm_tool.proofs.Refusals.{line_counts, lines-next, built_up_to}

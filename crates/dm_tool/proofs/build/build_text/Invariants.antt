@@ -1,6 +1,6 @@
 use Rattle.std.proofs.Common.{◌≡◌, ◌++◌, ℕ, List, length}
 use Rattle.std.specs.Str.Lines.{lines}
-use Rattle.dm_tool.specs.Lines.{content}
+use Rattle.dm_text.specs.Lines.{content}
 use Rattle.dm_tool.specs.Progress.{Stands}
 use Rattle.dm_tool.proofs.build.build_text.Given as goal
 

@@ -1,5 +1,5 @@
 use Rattle.std.proofs.Common.{ap, ◌∙◌}
-use Rattle.dm_tool.specs.Words.{words}
+use Rattle.dm_text.specs.Words.{words}
 use Rattle.dm_tool.proofs.Options.{none-anyway}
 use Rattle.dm_tool.proofs.Places.{third, behind_third}
 use Rattle.dm_tool.proofs.header_line.read_header.Goals as goal

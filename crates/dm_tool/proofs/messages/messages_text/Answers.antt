@@ -1,5 +1,5 @@
 use Rattle.std.proofs.Common.{◌≡◌, ◌&&◌, List, [], ℕ, ap, sym, ◌∙◌, subst, true, false}
-use Rattle.dm_tool.specs.Lines.{trimmed, is_skipped, content_lines}
+use Rattle.dm_text.specs.Lines.{trimmed, is_skipped, content_lines}
 use Rattle.dm_tool.specs.HexLines.{PrintsLine}
 use Rattle.dm_tool.specs.Tasks.{answer_of}
 use Rattle.dm_tool.proofs.Shown.{content-line, prints-next, prints-none, prints-all}

@@ -1,5 +1,5 @@
 use Rattle.std.proofs.Common.{◌++◌, ◌&&◌, ℕ, List, Bool}
-use Rattle.dm_tool.specs.Lines.{content_lines}
+use Rattle.dm_text.specs.Lines.{content_lines}
 use Rattle.dm_tool.specs.HexLines.{PrintsLines}
 use Rattle.dm_tool.specs.Tasks.{answer_of}
 use Rattle.dm_tool.proofs.messages.messages_text.Given as goal

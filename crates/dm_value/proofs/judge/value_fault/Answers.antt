@@ -1,22 +1,35 @@
 -- The table by the type is the two columns.
-use Rattle.std.proofs.Common.{rules}
-use Rattle.dm_value.proofs.Flawed.{value_by_flaw, fault_by_flaw}
+use Rattle.std.proofs.Common.{◌≡◌, Option, None, Some, refl, sym, subst, ◌∙◌}
+use Rattle.std.specs.Prelude.{IfNone}
+use Rattle.std.proofs.Math.Facts.{Fits-lt-pow}
+use Rattle.dm_value.specs.declared.fault.ValueFault.{ValueFault}
+use Rattle.dm_value.specs.Columns.{HasWrongLength, HasWrongValue}
+use Rattle.dm_value.proofs.Flawed.{Tells, any_tells, told_fault}
+use Rattle.dm_value.proofs.Valued.{valued}
 use Rattle.dm_value.proofs.judge.value_fault.Goals as goal
 
-pub returns-in-UTF8String-clause-value : goal.returns-in-UTF8String-clause-value
-returns-in-UTF8String-clause-value c = value_by_flaw _ c.args.kind c.args.octets.now (search rules)
+pub returns-clause-length : goal.returns-clause-length
+returns-clause-length c =
+    let t = any_tells c.members_spell.ensures c.args.kind c.args.octets.now (λ i. Fits-lt-pow (c.type_inv.octets i)) in
+    let e = c.flaw_of.ensures in
+    (λ h. t.0.0 (sym e ∙ h), λ h. e ∙ t.0.1 h)
 
-pub returns-in-UTF8String-clause-fault : goal.returns-in-UTF8String-clause-fault
-returns-in-UTF8String-clause-fault c = fault_by_flaw _ c.args.kind c.args.octets.now (search rules)
+pub returns-clause-value : goal.returns-clause-value
+returns-clause-value c =
+    let t = any_tells c.members_spell.ensures c.args.kind c.args.octets.now (λ i. Fits-lt-pow (c.type_inv.octets i)) in
+    let e = c.flaw_of.ensures in
+    (λ h. t.1.0 (sym e ∙ h), λ h. e ∙ t.1.1 h.0 h.1)
 
-pub returns-in-DiameterIdentity-clause-value : goal.returns-in-DiameterIdentity-clause-value
-returns-in-DiameterIdentity-clause-value c = value_by_flaw _ c.args.kind c.args.octets.now (search rules)
+pub returns-clause-fault : goal.returns-clause-fault
+returns-clause-fault c =
+    let t = any_tells c.members_spell.ensures c.args.kind c.args.octets.now (λ i. Fits-lt-pow (c.type_inv.octets i)) in
+    let T : Option ValueFault → Type 0 = λ r. Tells r (HasWrongLength c.args.kind c.args.octets.now) (HasWrongValue c.args.kind c.args.octets.now) in
+    told_fault c.flaw_of.result c.args.kind c.args.octets.now (subst T (sym c.flaw_of.ensures) t)
 
-pub returns-in-DiameterIdentity-clause-fault : goal.returns-in-DiameterIdentity-clause-fault
-returns-in-DiameterIdentity-clause-fault c = fault_by_flaw _ c.args.kind c.args.octets.now (search rules)
+none_valued : (r : Option ValueFault) (P : Type 0) → (r ≡ None → P) → IfNone r P
+none_valued None P h = h refl
+none_valued (Some f) P h = tt
 
-pub returns-in-DiameterURI-clause-value : goal.returns-in-DiameterURI-clause-value
-returns-in-DiameterURI-clause-value c = value_by_flaw _ c.args.kind c.args.octets.now (search rules)
-
-pub returns-in-DiameterURI-clause-fault : goal.returns-in-DiameterURI-clause-fault
-returns-in-DiameterURI-clause-fault c = fault_by_flaw _ c.args.kind c.args.octets.now (search rules)
+pub returns-clause-good : goal.returns-clause-good
+returns-clause-good c =
+    none_valued c.flaw_of.result _ (λ none. valued c.members_spell.ensures c.args.kind c.args.octets.now (λ g i. Fits-lt-pow (c.type_inv.octets i)) (sym c.flaw_of.ensures ∙ none))

@@ -1,6 +1,6 @@
 use Rattle.std.proofs.Common.{ap, sym, ◌∙◌, true, [], append-nil}
 use Rattle.dm_tool.proofs.Buildings.{built_last, built_none}
-use Rattle.dm_tool.proofs.Shown.{and-true}
+use mathlib.Core.Bool.{and-true}
 use Rattle.dm_tool.proofs.building.Building.end_message.Goals as goal
 use Rattle.dm_tool.proofs.building.Building.end_message.Goals.{in-Some+in_ok-fine, in_default}
 

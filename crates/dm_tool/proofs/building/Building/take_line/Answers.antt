@@ -1,7 +1,7 @@
 use Rattle.std.proofs.Common.{◌≡◌, ◌≢◌, ◌++◌, ◌∷◌, [], List, ℕ, Some, None, false, ap, sym, ◌∙◌, subst}
 use Rattle.dm_wire.specs.declared.avp.Avp.{Avp}
 use Rattle.dm_wire.specs.declared.message.Header.{Header}
-use Rattle.dm_tool.specs.Lines.{trimmed, is_skipped}
+use Rattle.dm_text.specs.Lines.{trimmed, is_skipped}
 use Rattle.dm_tool.specs.Messages.{TellsHeader, TellsAvp}
 use Rattle.dm_tool.specs.Progress.{Stands}
 use Rattle.dm_tool.proofs.Buildings.{stands-header}

@@ -1,0 +1,101 @@
+//! Does one operation a number of times, by the proved crates or by plain Rust, and prints a sum of what came.
+//!
+//! driver WHO OPERATION INPUT TIMES [SIZE]
+
+mod plain;
+
+extern "C" {
+    fn ours_walk(octets: *const u8, len: usize, times: u32) -> usize;
+    fn ours_decode(octets: *const u8, len: usize, times: u32) -> usize;
+    fn ours_check(octets: *const u8, len: usize, times: u32) -> usize;
+    fn ours_encode(octets: *const u8, len: usize, times: u32) -> usize;
+    fn ours_frame(octets: *const u8, len: usize, size: usize, times: u32) -> usize;
+}
+
+fn avp(code: u32, mandatory: bool, data: &[u8]) -> Vec<u8> {
+    let mut octets = code.to_be_bytes().to_vec();
+    octets.push(if mandatory { 0x40 } else { 0 });
+    octets.extend_from_slice(&(8 + data.len() as u32).to_be_bytes()[1..]);
+    octets.extend_from_slice(data);
+    octets.resize(octets.len().next_multiple_of(4), 0);
+    octets
+}
+
+fn message(command: u32, avps: &[Vec<u8>]) -> Vec<u8> {
+    let body = avps.concat();
+    let mut octets = (0x0100_0000u32 + 20 + body.len() as u32).to_be_bytes().to_vec();
+    octets.extend_from_slice(&(0x8000_0000u32 + command).to_be_bytes());
+    octets.extend_from_slice(&[0, 0, 0, 0, 0, 0, 0, 1, 0, 0, 0, 1]);
+    octets.extend_from_slice(&body);
+    octets
+}
+
+/// A Vendor-Specific-Application-Id of a vendor and an application.
+fn application(vendor: u32, id: u32) -> Vec<u8> {
+    let members = [avp(266, true, &vendor.to_be_bytes()), avp(258, true, &id.to_be_bytes())];
+    avp(260, true, &members.concat())
+}
+
+/// A Capabilities-Exchange-Request with this many groups of two.
+fn capabilities(groups: u32) -> Vec<u8> {
+    let mut avps = vec![
+        avp(264, true, b"a.example"),
+        avp(296, true, b"example"),
+        avp(257, true, &[0, 1, 127, 0, 0, 1]),
+        avp(257, true, &[0, 2, 0, 0, 0, 0, 0, 0, 0, 0, 0, 0, 0, 0, 0, 0, 0, 1]),
+        avp(266, true, &[0; 4]),
+        avp(269, false, b"dmpeer"),
+        avp(258, true, &4u32.to_be_bytes()),
+    ];
+    avps.extend((0..groups).map(|k| application(10415, 16777216 + k)));
+    message(257, &avps)
+}
+
+/// A Device-Watchdog-Request with 998 AVPs that no dictionary knows.
+fn watchdog() -> Vec<u8> {
+    let mut avps = vec![avp(264, true, b"a.example"), avp(296, true, b"example")];
+    avps.extend((0..998).map(|k| avp(70000 + k % 10, false, &[k as u8; 52])));
+    message(280, &avps)
+}
+
+/// 5,000 messages of 200 octets, a megabyte.
+fn stream() -> Vec<u8> {
+    message(280, &[avp(70000, false, &[7; 172])]).repeat(5000)
+}
+
+fn input(name: &str) -> Vec<u8> {
+    match name {
+        "capabilities" => capabilities(1),
+        "groups" => capabilities(18),
+        "thousand" => watchdog(),
+        "stream" => stream(),
+        _ => panic!("no input {name}"),
+    }
+}
+
+fn ours(operation: &str, octets: &[u8], times: u32, size: usize) -> usize {
+    let (at, len) = (octets.as_ptr(), octets.len());
+    // Each takes a slice of octets as a pointer and a length, and only reads.
+    unsafe {
+        match operation {
+            "walk" => ours_walk(at, len, times),
+            "decode" => ours_decode(at, len, times),
+            "check" => ours_check(at, len, times),
+            "encode" => ours_encode(at, len, times),
+            "frame" => ours_frame(at, len, size, times),
+            _ => panic!("no operation {operation}"),
+        }
+    }
+}
+
+fn main() {
+    let words: Vec<String> = std::env::args().skip(1).collect();
+    let octets = input(&words[2]);
+    let times = words[3].parse().unwrap();
+    let size = words.get(4).map_or(1460, |word| word.parse().unwrap());
+    let sum = match words[0].as_str() {
+        "ours" => ours(&words[1], &octets, times, size),
+        _ => plain::run(&words[1], &octets, times, size),
+    };
+    println!("{sum}");
+}

@@ -1,0 +1,22 @@
+//! Laws of what a text says as a dictionary. Each function is a law: it does nothing, and its contract is the law.
+ghost use Rattle.dm_definitions.specs.OneOutcome.{OneDefinition, OneFault, NoDefinitionRefused, SomeOutcome};
+
+/// Behind the same old definitions a text defines one whole at most (RFC 6733, 3.2).
+pub fn one_definition()
+    ensures { OneDefinition }
+{}
+
+/// One fault at most is a text's first.
+pub fn one_fault()
+    ensures { OneFault }
+{}
+
+/// A text that defines something has no first fault.
+pub fn no_definition_refused()
+    ensures { NoDefinitionRefused }
+{}
+
+/// A text defines something or has a first fault. The law stands for users.
+pub fn some_outcome()
+    ensures { SomeOutcome }
+{}

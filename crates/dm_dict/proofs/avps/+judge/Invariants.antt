@@ -1,0 +1,28 @@
+use Rattle.std.proofs.Common.{◌≡◌, ◌+◌, ◌*◌, ◌<◌, ◌≤◌, ℕ, List, ◌++◌, flat_map, slice_index}
+use Rattle.dm_wire.specs.declared.avp.Avp.{Avp}
+use Rattle.dm_wire.specs.Borrowed.{Lists, size_of}
+use Rattle.dm_dict.specs.Counters.{IsCountedBut}
+use Rattle.dm_dict.specs.Faults.{avp_faults, entry_faults, group_faults, list_faults, first}
+use Rattle.dm_dict.specs.Rules.{definition, entry_for, allows}
+use Rattle.dm_dict.proofs.avps.+judge.Given as goal
+
+abbrev pub decreases-judge_list : goal.decreases-judge_list
+decreases-judge_list l = 3 * l.depth + 2
+
+abbrev pub decreases-judge_avp : goal.decreases-judge_avp
+decreases-judge_avp l = 3 * l.depth + 1
+
+abbrev pub decreases-judge_group : goal.decreases-judge_group
+decreases-judge_group l = 3 * l.depth
+
+abbrev pub invariant-judge_list-loop-avp : goal.invariant-judge_list-loop-avp
+invariant-judge_list-loop-avp l =
+    ((all : List Avp) → Lists l.list all → (m : List Avp) × Lists l.left m
+    × (first (list_faults l.depth l.dictionary.avps l.rule all)
+    ≡ first (flat_map (λ a. avp_faults (group_faults l.depth l.dictionary.avps) (allows (entry_for l.rule (definition l.dictionary.avps a))) a (definition l.dictionary.avps a)) m
+    ++ flat_map (entry_faults l.dictionary.avps l.rule all) l.rule))
+    × IsCountedBut l.dictionary.avps l.rule all m 0 l.counts)
+    × ((i : ℕ) → i < 64 → slice_index l.counts i + size_of l.left ≤ size_of l.list)
+
+abbrev pub decreases-judge_list-loop-avp : goal.decreases-judge_list-loop-avp
+decreases-judge_list-loop-avp l = size_of l.left

@@ -1,0 +1,14 @@
+use Rattle.std.proofs.Common.{◌≡◌, List, slice_index_or, slice_get}
+use Rattle.dm_wire.specs.declared.avp.Avp.{Avp}
+use Rattle.dm_definitions.specs.declared.rule.Entry.{Entry}
+use Rattle.dm_wire.specs.Borrowed.{Lists, size_of}
+use Rattle.dm_dict.specs.Rules.{counted}
+use Rattle.dm_dict.proofs.entries.first_past_max.Given as goal
+
+abbrev pub invariant-loop-avp : goal.invariant-loop-avp
+invariant-loop-avp l =
+    (all : List Avp) (e : Entry) → Lists l.list all → e ≡ slice_index_or l.rule l.at e → (m : List Avp) × Lists l.left m
+    × (slice_get (counted l.dictionary.avps l.rule all e) l.max ≡ slice_get (counted l.dictionary.avps l.rule m e) l.before)
+
+abbrev pub decreases-loop-avp : goal.decreases-loop-avp
+decreases-loop-avp l = size_of l.left

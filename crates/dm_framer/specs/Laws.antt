@@ -1,0 +1,36 @@
+-- A stream is cut into messages in one way, whatever pieces it comes in (RFC 6733, 3).
+use Rattle.std.specs.Prelude.{◌≡◌, ℕ, Option, None, Some, List, [], ◌++◌}
+use Rattle.std.specs.List.{AllByRecursion, concat}
+use Rattle.dm_framer.specs.declared.fault.FrameFault.{FrameFault}
+use Rattle.dm_framer.specs.Frames.{IsFrame, Framed}
+
+-- each list of octets has frames, a rest, and a fault of the rest or none
+abbrev pub EachStreamIsFramed : Type 0
+EachStreamIsFramed =
+    (max : ℕ) (s : List ℕ)
+    → (frames : List (List ℕ)) × (rest : List ℕ) × (fault : Option FrameFault) × Framed max s frames rest fault
+
+-- and in one way only
+abbrev pub OneFraming : Type 0
+OneFraming =
+    (max : ℕ) (s : List ℕ) (frames others : List (List ℕ)) (rest left : List ℕ) (fault other : Option FrameFault)
+    → Framed max s frames rest fault → Framed max s others left other
+    → (frames ≡ others) × (rest ≡ left) × (fault ≡ other)
+
+-- the frames of s and then t are those of s, and then those of s's rest and then t, with the same rest and fault
+abbrev pub Cuts : Type 0
+Cuts =
+    (max : ℕ) (s t : List ℕ) (frames more : List (List ℕ)) (rest left : List ℕ) (fault : Option FrameFault)
+    → Framed max s frames rest None → Framed max (rest ++ t) more left fault
+    → Framed max (s ++ t) (frames ++ more) left fault
+
+-- a fault stays, and so do the frames before it, whatever comes behind
+abbrev pub FaultStays : Type 0
+FaultStays =
+    (max : ℕ) (s t : List ℕ) (frames : List (List ℕ)) (rest : List ℕ) (fault : FrameFault)
+    → Framed max s frames rest (Some fault) → Framed max (s ++ t) frames (rest ++ t) (Some fault)
+
+-- frames, one after the other, are just these frames
+abbrev pub WholeFrames : Type 0
+WholeFrames =
+    (max : ℕ) (frames : List (List ℕ)) → AllByRecursion (IsFrame max) frames → Framed max (concat frames) frames [] None

@@ -1,0 +1,131 @@
+//! A stream of octets, cut into messages.
+ghost use Rattle.std.specs.Prelude.{◌≡◌, ◌++◌, ℕ, List, [], ◌∷◌, Option, None, Some, IfSome, IfNone, IsSomeAnd, IfOk, IfErr, OnOk, OnErr, MatchResult};
+ghost use Rattle.std.specs.List.{concat};
+ghost use Rattle.dm_framer.specs.declared.fault.FrameFault.{FrameFault};
+ghost use Rattle.dm_framer.specs.Frames.{HasFault, Framed};
+ghost use Rattle.dm_framer.specs.Stream.{Stream, new_stream};
+
+use crate::FrameFault;
+use crate::buffer::drop_taken;
+use crate::front::front_len;
+use std::alloc::Global;
+use std::marker::Model;
+
+/// The octets of a stream that were fed and not yet handed out as messages (RFC 6733, 3).
+///
+/// A contract sees it as these octets, the greatest Message Length, and the fault that is kept.
+///
+/// Feeding and taking cost a number of steps linear in the octets fed: a message is copied once, and what is left
+/// behind it is moved only where it is no longer than what was taken. The buffer is never asked for more than twice
+/// the octets that are held then, which a `Vec` may round up to twice as much.
+#[derive(Debug, Drop)]
+pub struct Framer {
+    buffer: Vec<u8>,
+    taken: usize,
+    max: u32,
+    fault: Option<FrameFault>,
+}
+
+impl Model for Framer {
+    ghost use Rattle.std.specs.Prelude.{drop};
+    ghost use Rattle.dm_framer.specs.Stream.{Stream, IsSound};
+
+    ghost Value = { Stream };
+
+    ghost view = { λ f. record { octets = drop f.taken f.buffer.items; max = f.max; fault = f.fault } };
+
+    ghost invariant = { λ f. IsSound f.buffer.items f.taken f.max f.fault };
+}
+
+impl Framer {
+    /// A framer that holds nothing, for messages of at most `max` octets. It takes no memory.
+    pub fn new(alloc: Global, max: u32) -> Framer
+        ensures { result ≡ new_stream max }
+    {
+        Framer {
+            buffer: Vec::new(alloc),
+            taken: 0,
+            max,
+            fault: None,
+        }
+    }
+
+    /// Adds the next piece of the stream, however it was cut.
+    ///
+    /// Answers the fault that `next` found, if it found one; a fault in the piece is left to `next`. `NoMemory` may
+    /// come without one. After each `Err` the framer is unchanged.
+    pub fn feed(&mut self, piece: &[u8]) -> Result<(), FrameFault>
+        // The piece is appended to the octets held.
+        ensures fed { OnOk result (self.new ≡ record self.old { octets = self.old.octets ++ piece.now }) }
+        ensures err { OnErr result (self.new ≡ self.old) }
+        // A kept fault is answered, and there is no other refusal but want of memory.
+        ensures kept { IfSome self.old.fault (λ fault. result ≡ Err fault) }
+        ensures memory { IfNone self.old.fault (IfErr result (λ fault. fault ≡ FrameFault.NoMemory)) }
+    {
+        if let Some(fault) = self.fault {
+            return Err(fault);
+        }
+        self.taken = drop_taken(&mut self.buffer, self.taken);
+        self.buffer.extend_from_slice(piece)?;
+        Ok(())
+    }
+
+    /// Hands out the next whole message; `None` where it isn't whole yet.
+    ///
+    /// Answers `BadVersion` where the next octet isn't 1, and, once four octets are there, `BadLength` where the
+    /// Message Length is below 20 or no multiple of 4, else `TooLong` where it is above the maximum. These three are
+    /// kept: `feed` and `next` answer the same from then on. `NoMemory` changes nothing, and comes only in the place
+    /// of a message.
+    pub fn next(&mut self) -> Result<Option<Vec<u8>>, FrameFault>
+        // The first frame is handed out and the others stay, or memory runs out and nothing changes.
+        ensures frame { (message : List ℕ) (frames : List (List ℕ)) (rest : List ℕ) (fault : Option FrameFault)
+            → Framed self.old.max self.old.octets (message ∷ frames) rest fault
+            → MatchResult result
+            (λ found. IsSomeAnd found (λ handed. handed.items ≡ message)
+            × (self.new ≡ record self.old { octets = concat frames ++ rest }))
+            (λ refused. (refused ≡ FrameFault.NoMemory) × (self.new ≡ self.old)) }
+
+        // Where there is neither frame nor fault nothing is handed out.
+        ensures none { (rest : List ℕ) → Framed self.old.max self.old.octets [] rest None
+            → (result ≡ Ok None) × (self.new ≡ self.old) }
+        // A fault is answered where no frame is left before it, and kept.
+        ensures fault { (rest : List ℕ) (fault : FrameFault) → Framed self.old.max self.old.octets [] rest (Some fault)
+            → (result ≡ Err fault) × (self.new ≡ record self.old { fault = Some fault }) }
+
+        // A kept fault is answered again, and nothing changes. It is the one that stands at the front.
+        ensures kept { IfSome self.old.fault (λ fault. (result ≡ Err fault) × (self.new ≡ self.old)) }
+        ensures stands { IfSome self.old.fault (λ fault. HasFault self.old.max self.old.octets fault) }
+    {
+        if let Some(fault) = self.fault {
+            return Err(fault);
+        }
+        match front_len(&self.buffer[self.taken..], self.max) {
+            Ok(Some(size)) => {
+                let end = self.taken + size;
+                let octets = &self.buffer[self.taken..end];
+                let message = Vec::from_slice(*self.buffer.allocator(), octets)?;
+                self.taken = end;
+                Ok(Some(message))
+            }
+            Ok(None) => Ok(None),
+            Err(fault) => {
+                self.fault = Some(fault);
+                Err(fault)
+            }
+        }
+    }
+
+    /// A framer of the same octets, maximum and kept fault, or `NoMemory`.
+    pub fn copy(&self) -> Result<Framer, FrameFault>
+        ensures copied { IfOk result (λ copy. copy ≡ self.now) }
+        ensures memory { IfErr result (λ fault. fault ≡ FrameFault.NoMemory) }
+    {
+        let octets = &self.buffer[self.taken..];
+        Ok(Framer {
+            buffer: Vec::from_slice(*self.buffer.allocator(), octets)?,
+            taken: 0,
+            max: self.max,
+            fault: self.fault,
+        })
+    }
+}

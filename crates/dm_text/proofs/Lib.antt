@@ -1,0 +1,4 @@
+pub mod Numerals
+pub mod Splits
+pub mod Texts
+pub mod Wordings

@@ -1,0 +1,16 @@
+-- The octets that hexadecimal digits stand for.
+use Rattle.std.specs.Prelude.{ℕ, not, nat_eq, filter, Option, List}
+use Rattle.std.specs.Result.{result_ok}
+use Rattle.hex.specs.Hex.{decode_of}
+
+-- the octets that a word stands for, where it is an even number of digits in either case
+abbrev pub word_octets : List ℕ → Option (List ℕ)
+word_octets word = result_ok (decode_of word)
+
+-- the line with its spaces taken out
+abbrev pub without_spaces : List ℕ → List ℕ
+without_spaces line = filter (λ b. not (nat_eq b 32)) line
+
+-- the octets that a line stands for, spaces aside
+abbrev pub line_octets : List ℕ → Option (List ℕ)
+line_octets line = word_octets (without_spaces line)

@@ -1,0 +1,5 @@
+pub mod Hexadecimal
+pub mod Lines
+pub mod Numbers
+pub mod ReadBack
+pub mod Words

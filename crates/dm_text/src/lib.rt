@@ -1,0 +1,15 @@
+//! Texts as lines, words and numbers: what the program reads, and the numbers that it prints.
+#![tactic(auto)]
+
+mod decimal;
+mod hexadecimal;
+pub mod laws;
+mod line;
+mod number;
+mod word;
+
+pub use crate::decimal::push_decimal;
+pub use crate::hexadecimal::{push_hex, read_hex_line, read_hex_word};
+pub use crate::line::{Lines, is_passed_over, line_feed, trim};
+pub use crate::number::{read_long_number, read_number};
+pub use crate::word::Words;

@@ -1,0 +1,93 @@
+//! The lines of an input.
+ghost use Rattle.std.specs.Prelude.{◌≡◌, ◌==◌, position};
+ghost use Rattle.std.specs.Str.Lines.{lines, strip_carriage_return};
+ghost use Rattle.std.specs.Iterator.{YieldsFirstRef, item_count};
+ghost use Rattle.dm_text.specs.Lines.{drop_spaces, trimmed, is_skipped};
+
+/// The lines of an input, in order.
+///
+/// LF ends a line, and the last LF may be missing. One CR directly before an LF isn't part of
+/// the line.
+#[derive(Drop)]
+pub struct Lines<'a> {
+    rest: &'a [u8],
+}
+
+impl<'a> Lines<'a> {
+    /// The lines of these octets.
+    pub fn new(input: &'a [u8]) -> Lines<'a>
+        ensures { result.rest.now ≡ input.now }
+    {
+        Lines { rest: input }
+    }
+}
+
+impl<'a> Iterator for Lines<'a> {
+    type Item = &'a [u8];
+
+    ghost next_gives = { YieldsFirstRef (λ s. lines s.rest.now) };
+
+    ghost remaining = { item_count (λ s. lines s.rest.now) };
+
+    fn next(&mut self) -> Option<&'a [u8]> {
+        if self.rest.is_empty() {
+            return None;
+        }
+        let rest = self.rest;
+        match line_feed(rest) {
+            Some(end) => {
+                self.rest = &rest[end + 1..];
+                Some(without_carriage_return(&rest[..end]))
+            }
+            None => {
+                self.rest = &[];
+                Some(rest)
+            }
+        }
+    }
+}
+
+/// Where the first LF stands.
+pub fn line_feed(input: &[u8]) -> Option<usize>
+    ensures { result ≡ position (λ b. b == 10) input.now }
+{
+    input.iter().position(|b| *b == b'\n')
+}
+
+fn without_carriage_return(line: &[u8]) -> &[u8]
+    ensures { result.now ≡ strip_carriage_return line.now }
+{
+    match line {
+        [front @ .., b'\r'] => front,
+        _ => line,
+    }
+}
+
+/// The line without the spaces at its ends. A tab is no space.
+pub fn trim(line: &[u8]) -> &[u8]
+    ensures { result.now ≡ trimmed line.now }
+{
+    let mut rest = after_spaces(line);
+    'back: while let [more @ .., b' '] = rest {
+        rest = more;
+    }
+    rest
+}
+
+/// The line from its first octet that is no space on.
+pub fn after_spaces(line: &[u8]) -> &[u8]
+    ensures { result.now ≡ drop_spaces line.now }
+{
+    let mut rest = line;
+    'front: while let [b' ', more @ ..] = rest {
+        rest = more;
+    }
+    rest
+}
+
+/// Whether a trimmed line is empty or a comment.
+pub fn is_passed_over(line: &[u8]) -> bool
+    ensures { result ≡ is_skipped line.now }
+{
+    matches!(line, [] | [b'#', ..])
+}

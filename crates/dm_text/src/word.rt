@@ -1,0 +1,53 @@
+//! The words of a line.
+ghost use Rattle.std.specs.Prelude.{◌≡◌, ◌==◌, position};
+ghost use Rattle.std.specs.Iterator.{YieldsFirstRef, item_count};
+ghost use Rattle.dm_text.specs.Words.{words};
+
+use crate::line::after_spaces;
+
+/// The words of a line, in order: its parts between spaces. A tab is no space.
+#[derive(Drop)]
+pub struct Words<'a> {
+    rest: &'a [u8],
+}
+
+impl<'a> Words<'a> {
+    /// The words of this line.
+    pub fn new(line: &'a [u8]) -> Words<'a>
+        ensures { result.rest.now ≡ line.now }
+    {
+        Words { rest: line }
+    }
+}
+
+impl<'a> Iterator for Words<'a> {
+    type Item = &'a [u8];
+
+    ghost next_gives = { YieldsFirstRef (λ s. words s.rest.now) };
+
+    ghost remaining = { item_count (λ s. words s.rest.now) };
+
+    fn next(&mut self) -> Option<&'a [u8]> {
+        let rest = after_spaces(self.rest);
+        if rest.is_empty() {
+            self.rest = rest;
+            return None;
+        }
+        match space(rest) {
+            Some(end) => {
+                self.rest = &rest[end + 1..];
+                Some(&rest[..end])
+            }
+            None => {
+                self.rest = &[];
+                Some(rest)
+            }
+        }
+    }
+}
+
+fn space(line: &[u8]) -> Option<usize>
+    ensures { result ≡ position (λ b. b == 32) line.now }
+{
+    line.iter().position(|b| *b == b' ')
+}

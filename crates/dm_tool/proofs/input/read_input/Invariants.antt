@@ -1,8 +1,0 @@
-use Rattle.std.proofs.Common.{◌≤◌, vec_len}
-use Rattle.std.specs.Io.KnownBytes.{Consumes}
-use Rattle.dm_tool.specs.declared.input.TheConstants.{INPUT_LIMIT}
-use Rattle.dm_tool.proofs.input.read_input.Given as goal
-
--- what was read is what was taken
-abbrev pub invariant-loop : goal.invariant-loop
-invariant-loop g l = (vec_len l.input ≤ INPUT_LIMIT) × Consumes (g.R.Read.remaining l.fn.reader) (g.R.Read.remaining l.reader) l.input.items

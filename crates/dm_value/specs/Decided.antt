@@ -1,0 +1,24 @@
+-- Octets of a type say something: they have a value or a fault.
+use Rattle.std.specs.Prelude.{◌≡◌, ℕ, ◌<◌, ◌⊎◌, MatchOption, List, slice_index}
+use Rattle.dm_value.specs.declared.avp_type.AvpType.{AvpType}
+use Rattle.dm_value.specs.declared.avp_type.AvpType.TheVariants.{Grouped}
+use Rattle.dm_value.specs.declared.fault.ValueFault.{ValueFault}
+use Rattle.dm_value.specs.declared.value.Value.{Value}
+use Rattle.dm_value.specs.Columns.{Refuses}
+use Rattle.dm_value.specs.Flaws.{flaw}
+use Rattle.dm_value.specs.Meaning.{Means}
+
+-- each number of the list is below 256
+abbrev pub AreOctets : List ℕ → Type 0
+AreOctets s = (i : ℕ) → slice_index s i < 256
+
+-- `flaw` answers for octets of a type: None where they have a value, else their fault. Only for a group does it matter that the
+-- numbers are below 256
+abbrev pub FlawDecides : Type 0
+FlawDecides =
+    (kind : AvpType) (s : List ℕ) → (kind ≡ Grouped → AreOctets s)
+    → MatchOption (flaw kind s) ((v : Value) × Means kind s v) (λ fault. Refuses kind s fault)
+
+-- octets of a type have a value or a fault
+abbrev pub ValueOrFault : Type 0
+ValueOrFault = (kind : AvpType) (s : List ℕ) → AreOctets s → ((v : Value) × Means kind s v) ⊎ ((fault : ValueFault) × Refuses kind s fault)
