@@ -3,44 +3,6 @@
 use dm_grammar::{AvpItem, CommandItem, EntryItem, Form, Item, ItemFault, read_items, syntax_law};
 use std::alloc::{AllocError, Global};
 
-const BASE: &str = "@ User-Name 1 UTF8String
-@ Class 25 OctetString
-@ Proxy-State 33 OctetString
-@ Event-Timestamp 55 Time
-@ Host-IP-Address 257 Address
-@ Auth-Application-Id 258 Unsigned32
-@ Acct-Application-Id 259 Unsigned32
-@ Session-Id 263 UTF8String
-@ Origin-Host 264 DiameterIdentity
-@ Supported-Vendor-Id 265 Unsigned32
-@ Vendor-Id 266 Unsigned32
-@ Firmware-Revision 267 Unsigned32
-@ Result-Code 268 Unsigned32
-@ Product-Name 269 UTF8String
-@ Disconnect-Cause 273 Enumerated
-@ Origin-State-Id 278 Unsigned32
-@ Proxy-Host 280 DiameterIdentity
-@ Error-Message 281 UTF8String
-@ Destination-Realm 283 DiameterIdentity
-@ Redirect-Host 292 DiameterURI
-@ Destination-Host 293 DiameterIdentity
-@ Error-Reporting-Host 294 DiameterIdentity
-@ Origin-Realm 296 DiameterIdentity
-@ Experimental-Result-Code 298 Unsigned32
-@ Inband-Security-Id 299 Unsigned32
-< Vendor-Specific-Application-Id > ::= < AVP Header: 260 > 1*{ Vendor-Id } [ Auth-Application-Id ] [ Acct-Application-Id ]
-< Failed-AVP > ::= < AVP Header: 279 > 1*{ AVP }
-< Proxy-Info > ::= < AVP Header: 284 > { Proxy-Host } { Proxy-State } *[ AVP ]
-< Experimental-Result > ::= < AVP Header: 297 > { Vendor-Id } { Experimental-Result-Code }
-< CER > ::= < Diameter Header: 257, REQ > { Origin-Host } { Origin-Realm } 1*{ Host-IP-Address } { Vendor-Id } { Product-Name } [ Origin-State-Id ] *[ Supported-Vendor-Id ] *[ Auth-Application-Id ] *[ Inband-Security-Id ] *[ Acct-Application-Id ] *[ Vendor-Specific-Application-Id ] [ Firmware-Revision ] *[ AVP ]
-< CEA > ::= < Diameter Header: 257 > { Result-Code } { Origin-Host } { Origin-Realm } 1*{ Host-IP-Address } { Vendor-Id } { Product-Name } [ Origin-State-Id ] [ Error-Message ] *[ Failed-AVP ] *[ Supported-Vendor-Id ] *[ Auth-Application-Id ] *[ Inband-Security-Id ] *[ Acct-Application-Id ] *[ Vendor-Specific-Application-Id ] [ Firmware-Revision ] *[ AVP ]
-< DWR > ::= < Diameter Header: 280, REQ > { Origin-Host } { Origin-Realm } [ Origin-State-Id ] *[ AVP ]
-< DWA > ::= < Diameter Header: 280 > { Result-Code } { Origin-Host } { Origin-Realm } [ Error-Message ] *[ Failed-AVP ] [ Origin-State-Id ] *[ AVP ]
-< DPR > ::= < Diameter Header: 282, REQ > { Origin-Host } { Origin-Realm } { Disconnect-Cause } *[ AVP ]
-< DPA > ::= < Diameter Header: 282 > { Result-Code } { Origin-Host } { Origin-Realm } [ Error-Message ] *[ Failed-AVP ] *[ AVP ]
-< answer-message > ::= < Diameter Header: 0, ERR > 0*1 < Session-Id > { Origin-Host } { Origin-Realm } { Result-Code } [ Origin-State-Id ] [ Error-Message ] [ Error-Reporting-Host ] *[ Failed-AVP ] [ Experimental-Result ] *[ Proxy-Info ] *[ AVP ]
-";
-
 /// How many items a text has, or the line of its fault; 0 stands for want of memory.
 fn outcome(alloc: Global, text: &[u8]) -> Result<usize, usize> {
     match read_items(alloc, text) {
@@ -51,10 +13,9 @@ fn outcome(alloc: Global, text: &[u8]) -> Result<usize, usize> {
 }
 
 /// Texts, with how many items each has, or the line of its fault.
-const EDGES: [(&str, Result<usize, usize>); 36] = [
+const EDGES: [(&str, Result<usize, usize>); 35] = [
     ("", Ok(0)),
     (" \t\r\n; a comment alone", Ok(0)),
-    (BASE, Ok(36)),
     ("@ A 1 Time ; the end", Ok(1)),
     ("@ A 1 Time\r\n@ B\r2 Time\r", Ok(2)),
     ("@ A 1 Time 7 @ B 2 Time", Ok(2)),

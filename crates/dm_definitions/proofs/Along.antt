@@ -9,7 +9,8 @@ pub first_left : (xs ys : List DictFault) (f : DictFault) → first_of xs ≡ So
 first_left [] ys f e = absurd cc
 first_left (x ∷ xs) ys f e = e
 
-pub first_right : (xs ys : List DictFault) (f : DictFault) → xs ≡ [] → first_of ys ≡ Some f → first_of (xs ++ ys) ≡ Some f
+pub first_right : (xs ys : List DictFault) (f : DictFault) → xs ≡ [] → first_of ys ≡ Some f
+    → first_of (xs ++ ys) ≡ Some f
 first_right xs ys f none e = rw none e
 
 pub stops_left : (xs ys : List DictFault) (f : DictFault) → Stops xs f → Stops (xs ++ ys) f
@@ -36,26 +37,34 @@ pub record Along {S W : Type 0} (faults : S → W → List DictFault) (next : S 
   pub end_left : fold next start all ≡ fold next s rest
 
 module _ {S W I : Type 0} (faults : S → W → List DictFault) (next : S → W → S) (shown : I → W) where
-  pub along_next : (start s t : S) (all : List W) (items : List I) (i : ℕ) (d x : I) → i < length items → x ≡ get_or items i d
+  pub along_next : (start s t : S) (all : List W) (items : List I) (i : ℕ) (d x : I) → i < length items
+      → x ≡ get_or items i d
       → Along faults next start all s (map shown (drop i items)) → faults s (shown x) ≡ [] → t ≡ next s (shown x)
       → Along faults next start all t (map shown (drop (i + 1) items))
   along_next start s t all items i d x h at along none e =
       let here : drop i items ≡ x ∷ drop (i + 1) items = rw (at, add-one i) (drop-cons items i d h) in
-      let said : Along faults next start all s (map shown (x ∷ drop (i + 1) items)) = subst (λ (l : List I). Along faults next start all s (map shown l)) here along in
+      let said : Along faults next start all s (map shown (x ∷ drop (i + 1) items)) = subst
+      (λ (l : List I). Along faults next start all s (map shown l)) here along in
       record {
         faults_left = said.faults_left ∙ ap (λ fs. fs ++ faults_along faults next (next s (shown x)) (map shown (drop (i + 1) items))) none ∙ ap (λ u. faults_along faults next u (map shown (drop (i + 1) items))) (sym e);
         end_left = said.end_left ∙ ap (λ u. fold next u (map shown (drop (i + 1) items))) (sym e);
       }
 
-  pub along_stops : (start s : S) (all : List W) (items : List I) (i : ℕ) (d x : I) (f : DictFault) → i < length items → x ≡ get_or items i d
-      → Along faults next start all s (map shown (drop i items)) → Stops (faults s (shown x)) f → Stops (faults_along faults next start all) f
+  pub along_stops : (start s : S) (all : List W) (items : List I) (i : ℕ) (d x : I) (f : DictFault) → i < length items
+      → x ≡ get_or items i d
+      → Along faults next start all s (map shown (drop i items)) → Stops (faults s (shown x)) f
+      → Stops (faults_along faults next start all) f
   along_stops start s all items i d x f h at along stops =
       let here : drop i items ≡ x ∷ drop (i + 1) items = rw (at, add-one i) (drop-cons items i d h) in
-      let said : Along faults next start all s (map shown (x ∷ drop (i + 1) items)) = subst (λ (l : List I). Along faults next start all s (map shown l)) here along in
+      let said : Along faults next start all s (map shown (x ∷ drop (i + 1) items)) = subst
+      (λ (l : List I). Along faults next start all s (map shown l)) here along in
       rw (said.faults_left) (stops_left _ _ f stops)
 
-  pub along_end : (start s : S) (all : List W) (items : List I) (i : ℕ) → length items ≤ i → Along faults next start all s (map shown (drop i items)) → (faults_along faults next start all ≡ []) × (s ≡ fold next start all)
+  pub along_end : (start s : S) (all : List W) (items : List I) (i : ℕ) → length items ≤ i
+      → Along faults next start all s (map shown (drop i items))
+      → (faults_along faults next start all ≡ []) × (s ≡ fold next start all)
   along_end start s all items i h along =
       let none : drop i items ≡ [] = drop_of_length-le items h in
-      let said : Along faults next start all s (map shown []) = subst (λ (l : List I). Along faults next start all s (map shown l)) none along in
+      let said : Along faults next start all s (map shown []) = subst
+      (λ (l : List I). Along faults next start all s (map shown l)) none along in
       (said.faults_left, sym (said.end_left))

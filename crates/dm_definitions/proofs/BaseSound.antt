@@ -15,14 +15,17 @@ commands_sound = refl
 base_closed : is_closed base_definitions ≡ true
 base_closed = refl
 
-pub avp_rows_sound : (before rows : List AvpDef) → before ≡ [] → rows ≡ base_avps → each_after is_sound_avp before rows ≡ true
+pub avp_rows_sound : (before rows : List AvpDef) → before ≡ [] → rows ≡ base_avps
+    → each_after is_sound_avp before rows ≡ true
 avp_rows_sound before rows e f = rw (e, f) avps_sound
 
-pub command_rows_sound : (before rows : List CommandDef) → before ≡ [] → rows ≡ base_commands → each_after is_sound_command before rows ≡ true
+pub command_rows_sound : (before rows : List CommandDef) → before ≡ [] → rows ≡ base_commands
+    → each_after is_sound_command before rows ≡ true
 command_rows_sound before rows e f = rw (e, f) commands_sound
 
 pub closed_base : (d : Definitions) → d ≡ base_definitions → is_closed d ≡ true
 closed_base d e = rw e base_closed
 
-pub both_base : (avps : List AvpDef) (commands : List CommandDef) → avps ≡ base_avps → commands ≡ base_commands → record { avps = avps; commands = commands } ≡ base_definitions
+pub both_base : (avps : List AvpDef) (commands : List CommandDef) → avps ≡ base_avps → commands ≡ base_commands
+    → record { avps = avps; commands = commands } ≡ base_definitions
 both_base avps commands e f = λ i. record { avps = e i; commands = f i }

@@ -15,5 +15,6 @@ is_some-copied : {D : Type 0} (o : Option (Bor D)) → is_some o ≡ is_some (op
 is_some-copied None = refl
 is_some-copied (Some x) = refl
 
-pub is_found : {D : Type 0} (p : D → Bool) (ds : List D) (o : Option (Bor D)) → option_copied o ≡ find p ds → is_some o ≡ list_any p ds
+pub is_found : {D : Type 0} (p : D → Bool) (ds : List D) (o : Option (Bor D)) → option_copied o ≡ find p ds
+    → is_some o ≡ list_any p ds
 is_found p ds o e = is_some-copied o ∙ ap is_some e ∙ is_some-find p ds

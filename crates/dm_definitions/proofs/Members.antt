@@ -9,13 +9,15 @@ use Rattle.std.specs.Option.{option_to_list}
 use Rattle.dm_definitions.specs.Sound.{each_after}
 
 -- one more at the end
-pub each_after-append : {D : Type 0} (test : List D → D → Bool) (before ds : List D) (d : D) → each_after test before ds ≡ true → test (before ++ ds) d ≡ true → each_after test before (ds ++ d ∷ []) ≡ true
+pub each_after-append : {D : Type 0} (test : List D → D → Bool) (before ds : List D) (d : D)
+    → each_after test before ds ≡ true → test (before ++ ds) d ≡ true → each_after test before (ds ++ d ∷ []) ≡ true
 each_after-append test before [] d h t =
     let here : test before d ≡ true = subst (λ b. test b d ≡ true) (append-nil before) t in
     rw here refl
 each_after-append test before (e ∷ ds) d h t =
     let (first, rest) = and_parts (test before e) (each_after test (before ++ e ∷ []) ds) h in
-    let behind : test (before ++ e ∷ [] ++ ds) d ≡ true = subst (λ b. test b d ≡ true) (sym (append_assoc before (e ∷ []) ds)) t in
+    let behind : test (before ++ e ∷ [] ++ ds) d ≡ true = subst (λ b. test b d ≡ true)
+    (sym (append_assoc before (e ∷ []) ds)) t in
     rw first (each_after-append test (before ++ e ∷ []) ds d rest behind)
 
 or_true : (b : Bool) → (b || true) ≡ true
@@ -25,7 +27,8 @@ or_true false = refl
 any_last : {D : Type 0} (p : D → Bool) (before : List D) (d : D) → p d ≡ true → list_any p (before ++ d ∷ []) ≡ true
 any_last p before d h = list_any-append p before (d ∷ []) ∙ ap (λ b. list_any p before || (b || false)) h ∙ or_true _
 
-any_more : {D : Type 0} (p : D → Bool) (before ds : List D) → list_any p before ≡ true → list_any p (before ++ ds) ≡ true
+any_more : {D : Type 0} (p : D → Bool) (before ds : List D) → list_any p before ≡ true
+    → list_any p (before ++ ds) ≡ true
 any_more p before ds h = list_any-append p before ds ∙ ap (λ b. b || list_any p ds) h
 
 module _ {D : Type 0} (test : List D → D → Bool) (same : D → D → Bool) (p : D → Bool)
@@ -51,7 +54,8 @@ module _ {D : Type 0} (test : List D → D → Bool) (same : D → D → Bool) (
       let (first, rest) = and_parts _ _ h in
       by (p d) refl rest (only_one (before ++ d ∷ []) ds rest)
     where
-      by : (b : Bool) → p d ≡ b → each_after test (before ++ d ∷ []) ds ≡ true → filter p ds ≡ option_to_list (find p ds)
+      by : (b : Bool) → p d ≡ b → each_after test (before ++ d ∷ []) ds ≡ true
+          → filter p ds ≡ option_to_list (find p ds)
           → cond b (d ∷ filter p ds) (filter p ds) ≡ option_to_list (cond b (Some d) (find p ds))
       by true e behind rest = ap (λ r. d ∷ r) (none_behind (before ++ d ∷ []) ds behind (any_last p before d e))
       by false e behind rest = rest
@@ -64,27 +68,36 @@ next_member test f before rows i d h sound =
     and_parts _ _ (rw here at sound)
 
 -- the next of some items that all pass a test
-pub next_passes : {W I : Type 0} (p : W → Bool) (shown : I → W) (items : List I) (i : ℕ) (d x : I) → i < length items → x ≡ get_or items i d
-    → list_all p (map shown (drop i items)) ≡ true → (p (shown x) ≡ true) × (list_all p (map shown (drop (i + 1) items)) ≡ true)
+pub next_passes : {W I : Type 0} (p : W → Bool) (shown : I → W) (items : List I) (i : ℕ) (d x : I) → i < length items
+    → x ≡ get_or items i d
+    → list_all p (map shown (drop i items)) ≡ true
+    → (p (shown x) ≡ true) × (list_all p (map shown (drop (i + 1) items)) ≡ true)
 next_passes p shown items i d x h at all =
     let here : drop i items ≡ x ∷ drop (i + 1) items = rw (at, add-one i) (drop-cons items i d h) in
     and_parts _ _ (rw here at all)
 
-pub take_member : {D R : Type 0} (f : R → D) (rows : List R) (i : ℕ) (d : R) → i < length rows → map f (take (i + 1) rows) ≡ map f (take i rows) ++ f (get_or rows i d) ∷ []
-take_member f rows i d h = rw (add-one i) (ap (map f) (take-suc rows i d h) ∙ map-append f (take i rows) (get_or rows i d ∷ []))
+pub take_member : {D R : Type 0} (f : R → D) (rows : List R) (i : ℕ) (d : R) → i < length rows
+    → map f (take (i + 1) rows) ≡ map f (take i rows) ++ f (get_or rows i d) ∷ []
+take_member f rows i d h =
+    rw (add-one i) (ap (map f) (take-suc rows i d h) ∙ map-append f (take i rows) (get_or rows i d ∷ []))
 
-pub member_pushed : {D R : Type 0} (f : R → D) (old : List D) (rows : List R) (i : ℕ) (d : R) → i < length rows → old ++ map f (take i rows) ++ f (get_or rows i d) ∷ [] ≡ old ++ map f (take (i + 1) rows)
-member_pushed f old rows i d h = append_assoc old (map f (take i rows)) (f (get_or rows i d) ∷ []) ∙ ap (λ r. old ++ r) (sym (take_member f rows i d h))
+pub member_pushed : {D R : Type 0} (f : R → D) (old : List D) (rows : List R) (i : ℕ) (d : R) → i < length rows
+    → old ++ map f (take i rows) ++ f (get_or rows i d) ∷ [] ≡ old ++ map f (take (i + 1) rows)
+member_pushed f old rows i d h =
+    append_assoc old (map f (take i rows)) (f (get_or rows i d) ∷ []) ∙ ap (λ r. old ++ r)
+    (sym (take_member f rows i d h))
 
 -- the next of some definitions
-pub next_def : {D : Type 0} (test : List D → D → Bool) (before ds : List D) (i : ℕ) (d x : D) → i < length ds → x ≡ get_or ds i d → each_after test before (drop i ds) ≡ true
+pub next_def : {D : Type 0} (test : List D → D → Bool) (before ds : List D) (i : ℕ) (d x : D) → i < length ds
+    → x ≡ get_or ds i d → each_after test before (drop i ds) ≡ true
     → (test before x ≡ true) × (each_after test (before ++ x ∷ []) (drop (i + 1) ds) ≡ true)
 next_def test before ds i d x h at sound =
     let here : drop i ds ≡ x ∷ drop (i + 1) ds = rw (at, add-one i) (drop-cons ds i d h) in
     and_parts _ _ (rw here at sound)
 
 -- one of the definitions that are left moves over
-pub moved : {D : Type 0} (old new all ds : List D) (i : ℕ) (d x : D) → i < length ds → x ≡ get_or ds i d → old ++ drop i ds ≡ all → new ≡ old ++ x ∷ [] → new ++ drop (i + 1) ds ≡ all
+pub moved : {D : Type 0} (old new all ds : List D) (i : ℕ) (d x : D) → i < length ds → x ≡ get_or ds i d
+    → old ++ drop i ds ≡ all → new ≡ old ++ x ∷ [] → new ++ drop (i + 1) ds ≡ all
 moved old new all ds i d x h at e g =
     let here : drop i ds ≡ x ∷ drop (i + 1) ds = rw (at, add-one i) (drop-cons ds i d h) in
     ap (λ l. l ++ drop (i + 1) ds) g ∙ append_assoc old (x ∷ []) (drop (i + 1) ds) ∙ ap (λ l. old ++ l) (sym here) ∙ e

@@ -24,17 +24,23 @@ head_eq a b = (nat_eq a.0 b.0 && beq a.1 b.1) && beq a.2 b.2
 head_laws : IsEquivalence head_eq
 head_laws = search (comparing, rules)
 
-pub one_named : (avps : List AvpDef) (name : List ℕ) → each_after is_sound_avp [] avps ≡ true → filter (is_named name) avps ≡ option_to_list (find (is_named name) avps)
+pub one_named : (avps : List AvpDef) (name : List ℕ) → each_after is_sound_avp [] avps ≡ true
+    → filter (is_named name) avps ≡ option_to_list (find (is_named name) avps)
 one_named avps name h =
     only_one is_sound_avp (λ a. is_named a.name) (is_named name) (λ before a s. (avp_parts before a s).new_name)
     (λ a b e. nat_list_eq_equiv.congr name a.name b.name e) [] avps h
 
-pub one_coded : (avps : List AvpDef) (code : ℕ) (vendor : Option ℕ) → each_after is_sound_avp [] avps ≡ true → filter (is_coded code vendor) avps ≡ option_to_list (find (is_coded code vendor) avps)
+pub one_coded : (avps : List AvpDef) (code : ℕ) (vendor : Option ℕ) → each_after is_sound_avp [] avps ≡ true
+    → filter (is_coded code vendor) avps ≡ option_to_list (find (is_coded code vendor) avps)
 one_coded avps code vendor h =
-    only_one is_sound_avp (λ a. is_coded a.code a.vendor) (is_coded code vendor) (λ before a s. (avp_parts before a s).new_code)
+    only_one is_sound_avp (λ a. is_coded a.code a.vendor) (is_coded code vendor)
+    (λ before a s. (avp_parts before a s).new_code)
     (λ a b e. code_laws.congr (code, vendor) (a.code, a.vendor) (b.code, b.vendor) e) [] avps h
 
-pub one_headed : (commands : List CommandDef) (code : ℕ) (request err : Bool) → each_after is_sound_command [] commands ≡ true → filter (is_headed code request err) commands ≡ option_to_list (find (is_headed code request err) commands)
+pub one_headed : (commands : List CommandDef) (code : ℕ) (request err : Bool)
+    → each_after is_sound_command [] commands ≡ true
+    → filter (is_headed code request err) commands ≡ option_to_list (find (is_headed code request err) commands)
 one_headed commands code request err h =
-    only_one is_sound_command (λ c. is_headed c.code c.request c.err) (is_headed code request err) (λ before c s. (command_parts before c s).new_head)
+    only_one is_sound_command (λ c. is_headed c.code c.request c.err) (is_headed code request err)
+    (λ before c s. (command_parts before c s).new_head)
     (λ a b e. head_laws.congr (code, request, err) (a.code, a.request, a.err) (b.code, b.request, b.err) e) [] commands h

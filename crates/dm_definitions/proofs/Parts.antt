@@ -5,14 +5,14 @@ use Rattle.std.specs.List.{list_any}
 use Rattle.dm_definitions.specs.declared.def.AvpDef.{AvpDef}
 use Rattle.dm_definitions.specs.declared.def.CommandDef.{CommandDef}
 use Rattle.dm_definitions.specs.Definitions.{is_named, is_coded, is_titled, is_headed}
-use Rattle.dm_definitions.specs.Sound.{is_sound_avp, is_sound_command, is_name, is_any, fits, fits_option, is_sound_rule, is_grouped, is_empty_rule}
+use Rattle.dm_definitions.specs.Sound.{is_sound_avp, is_sound_command, is_proper_name, is_any, fits, fits_option, is_sound_rule, is_grouped, is_empty_rule}
 
 pub is_not : (b : Bool) → not b ≡ true → b ≡ false
 is_not true e = cc
 is_not false e = refl
 
 pub record AvpParts (before : List AvpDef) (d : AvpDef) : Type 0 where
-  pub name : is_name d.name ≡ true
+  pub name : is_proper_name d.name ≡ true
   pub not_any : is_any d.name ≡ false
   pub new_name : list_any (is_named d.name) before ≡ false
   pub code : fits d.code ≡ true
@@ -33,14 +33,15 @@ avp_parts before d h =
     record { name = name; not_any = is_not _ not_any; new_name = is_not _ new_name; code = code; vendor = vendor; new_code = is_not _ new_code; rule = rule; kind = kind }
 
 pub record CommandParts (before : List CommandDef) (d : CommandDef) : Type 0 where
-  pub name : is_name d.name ≡ true
+  pub name : is_proper_name d.name ≡ true
   pub new_name : list_any (is_titled d.name) before ≡ false
   pub code : nat_le d.code 16777215 ≡ true
   pub new_head : list_any (is_headed d.code d.request d.err) before ≡ false
   pub application : fits d.application ≡ true
   pub rule : is_sound_rule d.rule ≡ true
 
-pub command_parts : (before : List CommandDef) (d : CommandDef) → is_sound_command before d ≡ true → CommandParts before d
+pub command_parts : (before : List CommandDef) (d : CommandDef) → is_sound_command before d ≡ true
+    → CommandParts before d
 command_parts before d h =
     let (h5, rule) = and_parts _ _ h in
     let (h4, application) = and_parts _ _ h5 in

@@ -7,22 +7,28 @@ use Rattle.indexmap.specs.IndexMap.{insert_entry}
 use Rattle.dm_definitions.specs.Tables.{places}
 
 -- the member behind some others
-member_behind : {D : Type 0} (before : List D) (d : D) (ds : List D) → slice_get (before ++ d ∷ ds) (length before) ≡ Some d
+member_behind : {D : Type 0} (before : List D) (d : D) (ds : List D)
+    → slice_get (before ++ d ∷ ds) (length before) ≡ Some d
 member_behind [] d ds = refl
 member_behind (b ∷ before) d ds = member_behind before d ds
 
 module _ {D K : Type 0} (test : K → Bool) (key : D → K) where
   -- the member at the place of a key is the first that has it
-  found_from : (before ds : List D) → option_and_then (slice_get (before ++ ds)) (lookup test (places key (length before) ds)) ≡ find (λ d. test (key d)) ds
+  found_from : (before ds : List D)
+      → option_and_then (slice_get (before ++ ds)) (lookup test (places key (length before) ds)) ≡ find (λ d. test (key d)) ds
   found_from before [] = refl
-  found_from before (d ∷ ds) = by (test (key d)) (rw (append_assoc before (d ∷ []) ds, length-append before (d ∷ [])) at (found_from (before ++ d ∷ []) ds))
+  found_from before (d ∷ ds) =
+      by (test (key d))
+      (rw (append_assoc before (d ∷ []) ds, length-append before (d ∷ [])) at (found_from (before ++ d ∷ []) ds))
     where
-      by : (b : Bool) → option_and_then (slice_get (before ++ d ∷ ds)) (lookup test (places key (length before + 1) ds)) ≡ find (λ e. test (key e)) ds
+      by : (b : Bool)
+          → option_and_then (slice_get (before ++ d ∷ ds)) (lookup test (places key (length before + 1) ds)) ≡ find (λ e. test (key e)) ds
           → option_and_then (slice_get (before ++ d ∷ ds)) (cond b (Some (length before)) (lookup test (places key (length before + 1) ds))) ≡ cond b (Some d) (find (λ e. test (key e)) ds)
       by true rest = member_behind before d ds
       by false rest = rest
 
-  pub found : (ds : List D) (es : List (K × ℕ)) → es ≡ places key 0 ds → option_and_then (slice_get ds) (lookup test es) ≡ find (λ d. test (key d)) ds
+  pub found : (ds : List D) (es : List (K × ℕ)) → es ≡ places key 0 ds
+      → option_and_then (slice_get ds) (lookup test es) ≡ find (λ d. test (key d)) ds
   found ds es e = rw e (found_from [] ds)
 
   -- no member has the key, so it isn't there
@@ -30,22 +36,27 @@ module _ {D K : Type 0} (test : K → Bool) (key : D → K) where
   absent n [] h = refl
   absent n (d ∷ ds) h = by (test (key d)) h (absent (n + 1) ds)
     where
-      by : (b : Bool) → (b || list_any (λ e. test (key e)) ds) ≡ false → (list_any (λ e. test (key e)) ds ≡ false → lookup test (places key (n + 1) ds) ≡ None)
+      by : (b : Bool) → (b || list_any (λ e. test (key e)) ds) ≡ false
+          → (list_any (λ e. test (key e)) ds ≡ false → lookup test (places key (n + 1) ds) ≡ None)
           → cond b (Some n) (lookup test (places key (n + 1) ds)) ≡ None
       by true h rest = absurd cc
       by false h rest = rest h
 
 -- a look-up by what the keys show
-lookup-map : {A K X : Type 0} (test : K → Bool) (shown : A → K) (es : List (A × X)) → lookup test (map (λ e. (shown e.0, e.1)) es) ≡ lookup (λ a. test (shown a)) es
+lookup-map : {A K X : Type 0} (test : K → Bool) (shown : A → K) (es : List (A × X))
+    → lookup test (map (λ e. (shown e.0, e.1)) es) ≡ lookup (λ a. test (shown a)) es
 lookup-map test shown [] = refl
 lookup-map test shown (e ∷ es) = ap (λ r. cond (test (shown e.0)) (Some e.1) r) (lookup-map test shown es)
 
 pub found_shown : {A D K : Type 0} (test : K → Bool) (key : D → K) (shown : A → K) (ds : List D) (es : List (A × ℕ))
-    → map (λ e. (shown e.0, e.1)) es ≡ places key 0 ds → option_and_then (slice_get ds) (lookup (λ a. test (shown a)) es) ≡ find (λ d. test (key d)) ds
-found_shown test key shown ds es e = sym (ap (option_and_then (slice_get ds)) (lookup-map test shown es)) ∙ found test key ds _ e
+    → map (λ e. (shown e.0, e.1)) es ≡ places key 0 ds
+    → option_and_then (slice_get ds) (lookup (λ a. test (shown a)) es) ≡ find (λ d. test (key d)) ds
+found_shown test key shown ds es e =
+    sym (ap (option_and_then (slice_get ds)) (lookup-map test shown es)) ∙ found test key ds _ e
 
 -- one more at the end
-places-append : {D K : Type 0} (key : D → K) (n : ℕ) (ds : List D) (d : D) → places key n (ds ++ d ∷ []) ≡ places key n ds ++ (key d, n + length ds) ∷ []
+places-append : {D K : Type 0} (key : D → K) (n : ℕ) (ds : List D) (d : D)
+    → places key n (ds ++ d ∷ []) ≡ places key n ds ++ (key d, n + length ds) ∷ []
 places-append key n [] d = ap (λ m. (key d, m) ∷ []) (sym (add-zero n))
 places-append key n (e ∷ ds) d =
     let same : n + 1 + length ds ≡ n + suc (length ds) = omega arith in
@@ -65,7 +76,8 @@ insert_shown {A} {K} {X} same shown (e ∷ es) a v = by (same (shown a) (shown e
     show : List (A × X) → List (K × X)
     show = map (λ e. (shown e.0, e.1))
 
-    by : (b : Bool) → show (insert_entry (λ x y. same (shown x) (shown y)) es a v) ≡ insert_entry same (show es) (shown a) v
+    by : (b : Bool)
+        → show (insert_entry (λ x y. same (shown x) (shown y)) es a v) ≡ insert_entry same (show es) (shown a) v
         → show (cond b ((e.0, v) ∷ es) (e ∷ insert_entry (λ x y. same (shown x) (shown y)) es a v))
         ≡ cond b ((shown e.0, v) ∷ show es) ((shown e.0, e.1) ∷ insert_entry same (show es) (shown a) v)
     by true rest = refl
@@ -73,22 +85,27 @@ insert_shown {A} {K} {X} same shown (e ∷ es) a v = by (same (shown a) (shown e
 
 module _ {D K : Type 0} (same : K → K → Bool) (key : D → K) where
   -- a new key goes last
-  goes_last : (es : List (K × ℕ)) (k : K) (v : ℕ) → lookup (same k) es ≡ None → insert_entry same es k v ≡ es ++ (k, v) ∷ []
+  goes_last : (es : List (K × ℕ)) (k : K) (v : ℕ) → lookup (same k) es ≡ None
+      → insert_entry same es k v ≡ es ++ (k, v) ∷ []
   goes_last [] k v none = refl
   goes_last (e ∷ es) k v none = by (same k e.0) none (goes_last es k v)
     where
-      by : (b : Bool) → cond b (Some e.1) (lookup (same k) es) ≡ None → (lookup (same k) es ≡ None → insert_entry same es k v ≡ es ++ (k, v) ∷ [])
+      by : (b : Bool) → cond b (Some e.1) (lookup (same k) es) ≡ None
+          → (lookup (same k) es ≡ None → insert_entry same es k v ≡ es ++ (k, v) ∷ [])
           → cond b ((e.0, v) ∷ es) (e ∷ insert_entry same es k v) ≡ e ∷ es ++ (k, v) ∷ []
       by true none rest = absurd cc
       by false none rest = ap (λ r. e ∷ r) (rest none)
 
   -- an index after the next definition's key is put in
-  pub one_more : (old new : List (K × ℕ)) (k : K) (v : ℕ) (ds : List D) (d : D) → old ≡ places key 0 ds → new ≡ insert_entry same old k v
+  pub one_more : (old new : List (K × ℕ)) (k : K) (v : ℕ) (ds : List D) (d : D) → old ≡ places key 0 ds
+      → new ≡ insert_entry same old k v
       → list_any (λ e. same (key d) (key e)) ds ≡ false → v ≡ length ds → k ≡ key d → new ≡ places key 0 (ds ++ d ∷ [])
   one_more old new k v ds d had put fresh last named =
-      let new_key : list_any (λ e. same k (key e)) ds ≡ false = subst (λ (x : K). list_any (λ e. same x (key e)) ds ≡ false) (sym named) fresh in
+      let new_key : list_any (λ e. same k (key e)) ds ≡ false = subst
+      (λ (x : K). list_any (λ e. same x (key e)) ds ≡ false) (sym named) fresh in
       let none : lookup (same k) old ≡ None = ap (lookup (same k)) had ∙ absent (same k) key 0 ds new_key in
-      let behind : new ≡ places key 0 ds ++ (k, v) ∷ [] = put ∙ goes_last old k v none ∙ ap (λ es. es ++ (k, v) ∷ []) had in
+      let behind : new ≡ places key 0 ds ++ (k, v) ∷ [] = put ∙ goes_last old k v none ∙ ap
+      (λ es. es ++ (k, v) ∷ []) had in
       let at_end : v ≡ 0 + length ds = omega arith in
       let pair : (k, v) ∷ [] ≡ (key d, 0 + length ds) ∷ [] = λ i. (named i, at_end i) ∷ [] in
       behind ∙ ap (λ p. places key 0 ds ++ p) pair ∙ sym (places-append key 0 ds d)

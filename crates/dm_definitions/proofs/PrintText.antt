@@ -74,7 +74,8 @@ bound-then : (o : Option ℕ) (s : List ℕ) → decimal_option o ++ s ≡ bound
 bound-then None s = refl
 bound-then (Some n) s = refl
 
-bracket-then : (form : Form) (name s : List ℕ) → opening form ++ (name ++ (closing form ++ s)) ≡ bracket_then form name s
+bracket-then : (form : Form) (name s : List ℕ)
+    → opening form ++ (name ++ (closing form ++ s)) ≡ bracket_then form name s
 bracket-then Fixed name s = refl
 bracket-then Required name s = refl
 bracket-then Optional name s = refl
@@ -104,7 +105,9 @@ entry-then e s =
 
 rule-then : (rule : List Entry) (s : List ℕ) → rule_text rule ++ s ≡ rule_then rule s
 rule-then [] s = refl
-rule-then (e ∷ rule) s = append_assoc (entry_text e) (rule_text rule) s ∙ ap (λ t. entry_text e ++ t) (rule-then rule s) ∙ entry-then e (rule_then rule s)
+rule-then (e ∷ rule) s =
+    append_assoc (entry_text e) (rule_text rule) s ∙ ap (λ t. entry_text e ++ t) (rule-then rule s) ∙ entry-then e
+    (rule_then rule s)
 
 end-then : (rule : List Entry) (s : List ℕ) → rule_end rule ++ s ≡ end_then rule s
 end-then rule s = three (codes " >") (rule_text rule) line_end s ∙ ap (λ t. 32 ∷ 62 ∷ t) (rule-then rule (10 ∷ s))
@@ -126,7 +129,9 @@ by_kind true x y s = refl
 by_kind false x y s = refl
 
 avp-then : (a : AvpDef) (s : List ℕ) → avp_line a ++ s ≡ avp_then a s
-avp-then a s = by_kind (is_grouped a.kind) (group_line a) (plain_line a) s ∙ (λ i. if is_grouped a.kind then group-then a s i else plain-then a s i)
+avp-then a s =
+    by_kind (is_grouped a.kind) (group_line a) (plain_line a) s ∙
+    (λ i. if is_grouped a.kind then group-then a s i else plain-then a s i)
 
 flags-then : (c : CommandDef) (s : List ℕ) → flags_text c ++ s ≡ flags_then c s
 flags-then c s =
@@ -143,11 +148,15 @@ command-then c s =
 
 avps-then : (avps : List AvpDef) (s : List ℕ) → flat_map avp_line avps ++ s ≡ avps_then avps s
 avps-then [] s = refl
-avps-then (a ∷ avps) s = append_assoc (avp_line a) (flat_map avp_line avps) s ∙ ap (λ t. avp_line a ++ t) (avps-then avps s) ∙ avp-then a (avps_then avps s)
+avps-then (a ∷ avps) s =
+    append_assoc (avp_line a) (flat_map avp_line avps) s ∙ ap (λ t. avp_line a ++ t) (avps-then avps s) ∙ avp-then a
+    (avps_then avps s)
 
 commands-then : (commands : List CommandDef) → flat_map command_line commands ≡ commands_then commands
 commands-then [] = refl
-commands-then (c ∷ commands) = ap (λ t. command_line c ++ t) (commands-then commands) ∙ command-then c (commands_then commands)
+commands-then (c ∷ commands) =
+    ap (λ t. command_line c ++ t) (commands-then commands) ∙ command-then c (commands_then commands)
 
 pub printed-then : (d : Definitions) → printed d ≡ avps_then d.avps (commands_then d.commands)
-printed-then d = ap (λ t. flat_map avp_line d.avps ++ t) (commands-then d.commands) ∙ avps-then d.avps (commands_then d.commands)
+printed-then d =
+    ap (λ t. flat_map avp_line d.avps ++ t) (commands-then d.commands) ∙ avps-then d.avps (commands_then d.commands)

@@ -15,7 +15,7 @@ use Rattle.dm_value.specs.declared.avp_type.AvpType.TheVariants.{OctetString, In
 use Rattle.dm_definitions.specs.declared.rule.Entry.{Entry}
 use Rattle.dm_definitions.specs.declared.def.AvpDef.{AvpDef}
 use Rattle.dm_definitions.specs.declared.def.CommandDef.{CommandDef}
-use Rattle.dm_definitions.specs.Sound.{is_name, fits, fits_option, bounds, is_grouped, each_after, is_sound_entry, is_sound_rule, is_sound_avp, is_sound_command}
+use Rattle.dm_definitions.specs.Sound.{is_proper_name, fits, fits_option, bounds, is_grouped, each_after, is_sound_entry, is_sound_rule, is_sound_avp, is_sound_command}
 use Rattle.dm_definitions.specs.Printed.{type_name}
 use Rattle.dm_definitions.proofs.Parts.{avp_parts, command_parts}
 use Rattle.dm_definitions.proofs.PrintText.{number_then, option_then, bound_then, bracket_then, entry_then, rule_then, end_then, title_then, plain_then, group_then, avp_then, flag_then, flags_then, command_then, avps_then, commands_then}
@@ -28,11 +28,14 @@ option_words line (Some n) ws = number_word line n ∷ ws
 
 abbrev pub bracket_words : ℕ → Form → List ℕ → List Word → List Word
 bracket_words line Fixed name ws = word Less (60 ∷ []) line ∷ word_of line name ∷ word Greater (62 ∷ []) line ∷ ws
-bracket_words line Required name ws = word OpenBrace (123 ∷ []) line ∷ word_of line name ∷ word CloseBrace (125 ∷ []) line ∷ ws
-bracket_words line Optional name ws = word OpenSquare (91 ∷ []) line ∷ word_of line name ∷ word CloseSquare (93 ∷ []) line ∷ ws
+bracket_words line Required name ws =
+    word OpenBrace (123 ∷ []) line ∷ word_of line name ∷ word CloseBrace (125 ∷ []) line ∷ ws
+bracket_words line Optional name ws =
+    word OpenSquare (91 ∷ []) line ∷ word_of line name ∷ word CloseSquare (93 ∷ []) line ∷ ws
 
 abbrev pub entry_words : ℕ → Entry → List Word → List Word
-entry_words line e ws = number_word line e.min ∷ word Star (42 ∷ []) line ∷ option_words line e.max (bracket_words line e.form e.name ws)
+entry_words line e ws =
+    number_word line e.min ∷ word Star (42 ∷ []) line ∷ option_words line e.max (bracket_words line e.form e.name ws)
 
 abbrev pub rule_words : ℕ → List Entry → List Word → List Word
 rule_words line [] ws = ws
@@ -45,7 +48,9 @@ abbrev pub title_words : ℕ → List ℕ → List Word → List Word
 title_words line name ws = word Less (60 ∷ []) line ∷ word_of line name ∷ word Greater (62 ∷ []) line ∷ word Define (codes "::=") line ∷ word Less (60 ∷ []) line ∷ ws
 
 abbrev pub plain_words : ℕ → AvpDef → List Word → List Word
-plain_words line a ws = word At (64 ∷ []) line ∷ word_of line a.name ∷ number_word line a.code ∷ word_of line (type_name a.kind) ∷ option_words line a.vendor ws
+plain_words line a ws =
+    word At (64 ∷ []) line ∷ word_of line a.name ∷ number_word line a.code ∷ word_of line
+    (type_name a.kind) ∷ option_words line a.vendor ws
 
 abbrev pub group_words : ℕ → AvpDef → List Word → List Word
 group_words line a ws =
@@ -76,9 +81,10 @@ small : (n : ℕ) → fits n ≡ true → n ≤ 4294967295
 small n h = leb-true n 4294967295 h
 
 -- a name is a word
-name_wordish : (name : List ℕ) → is_name name ≡ true → is_wordish name ≡ true
+name_wordish : (name : List ℕ) → is_proper_name name ≡ true → is_wordish name ≡ true
 name_wordish [] h = absurd cc
-name_wordish (c ∷ s) h = (and_parts (is_ascii_alphanumeric c && list_all goes_on s) (not (list_all is_ascii_digit (c ∷ s))) h).0
+name_wordish (c ∷ s) h =
+    (and_parts (is_ascii_alphanumeric c && list_all goes_on s) (not (list_all is_ascii_digit (c ∷ s))) h).0
 
 type_wordish : (kind : AvpType) → is_wordish (type_name kind) ≡ true
 type_wordish OctetString = refl
@@ -98,7 +104,8 @@ option_breaks : (o : Option ℕ) (s : List ℕ) → breaks s ≡ true → breaks
 option_breaks None s h = h
 option_breaks (Some n) s h = refl
 
-option_tokens : (line : ℕ) (o : Option ℕ) (s : List ℕ) → fits_option o ≡ true → breaks s ≡ true → tokens_from 0 line (option_then o s) ≡ option_words line o (tokens_from 0 line s)
+option_tokens : (line : ℕ) (o : Option ℕ) (s : List ℕ) → fits_option o ≡ true → breaks s ≡ true
+    → tokens_from 0 line (option_then o s) ≡ option_words line o (tokens_from 0 line s)
 option_tokens line None s h b = refl
 option_tokens line (Some n) s h b = number_tokens line n s (small n h) b
 
@@ -107,17 +114,22 @@ bracket_breaks Fixed name s = refl
 bracket_breaks Required name s = refl
 bracket_breaks Optional name s = refl
 
-bracket_tokens : (line : ℕ) (form : Form) (name s : List ℕ) → is_wordish name ≡ true → tokens_from 0 line (bracket_then form name s) ≡ bracket_words line form name (tokens_from 0 line s)
-bracket_tokens line Fixed name s h = ap (λ ws. word Less (60 ∷ []) line ∷ ws) (word_tokens line name (32 ∷ 62 ∷ s) h refl)
-bracket_tokens line Required name s h = ap (λ ws. word OpenBrace (123 ∷ []) line ∷ ws) (word_tokens line name (32 ∷ 125 ∷ s) h refl)
-bracket_tokens line Optional name s h = ap (λ ws. word OpenSquare (91 ∷ []) line ∷ ws) (word_tokens line name (32 ∷ 93 ∷ s) h refl)
+bracket_tokens : (line : ℕ) (form : Form) (name s : List ℕ) → is_wordish name ≡ true
+    → tokens_from 0 line (bracket_then form name s) ≡ bracket_words line form name (tokens_from 0 line s)
+bracket_tokens line Fixed name s h =
+    ap (λ ws. word Less (60 ∷ []) line ∷ ws) (word_tokens line name (32 ∷ 62 ∷ s) h refl)
+bracket_tokens line Required name s h =
+    ap (λ ws. word OpenBrace (123 ∷ []) line ∷ ws) (word_tokens line name (32 ∷ 125 ∷ s) h refl)
+bracket_tokens line Optional name s h =
+    ap (λ ws. word OpenSquare (91 ∷ []) line ∷ ws) (word_tokens line name (32 ∷ 93 ∷ s) h refl)
 
-bound_tokens : (line min : ℕ) (max : Option ℕ) (s : List ℕ) → bounds min max ≡ true → breaks s ≡ true → tokens_from 0 line (bound_then max s) ≡ option_words line max (tokens_from 0 line s)
+bound_tokens : (line min : ℕ) (max : Option ℕ) (s : List ℕ) → bounds min max ≡ true → breaks s ≡ true
+    → tokens_from 0 line (bound_then max s) ≡ option_words line max (tokens_from 0 line s)
 bound_tokens line min None s h b = refl
 bound_tokens line min (Some n) s h b = number_tokens line n s (small n (and_parts (fits n) (nat_le min n) h).0) b
 
 pub record EntryParts (e : Entry) : Type 0 where
-  pub name : is_name e.name ≡ true
+  pub name : is_proper_name e.name ≡ true
   pub min : fits e.min ≡ true
   pub bound : bounds e.min e.max ≡ true
 
@@ -129,26 +141,35 @@ entry_parts before e h =
     let (name, min) = and_parts _ _ h2 in
     record { name = name; min = min; bound = bound }
 
-entry_tokens : (line : ℕ) (e : Entry) (s : List ℕ) → EntryParts e → tokens_from 0 line (entry_then e s) ≡ entry_words line e (tokens_from 0 line s)
+entry_tokens : (line : ℕ) (e : Entry) (s : List ℕ) → EntryParts e
+    → tokens_from 0 line (entry_then e s) ≡ entry_words line e (tokens_from 0 line s)
 entry_tokens line e s p =
     number_tokens line e.min (42 ∷ bound_then e.max (bracket_then e.form e.name s)) (small e.min p.min) refl
     ∙ ap (λ ws. number_word line e.min ∷ word Star (42 ∷ []) line ∷ ws)
     (bound_tokens line e.min e.max (bracket_then e.form e.name s) p.bound (bracket_breaks e.form e.name s)
     ∙ ap (option_words line e.max) (bracket_tokens line e.form e.name s (name_wordish e.name p.name)))
 
-rule_tokens : (line : ℕ) (before rule : List Entry) (s : List ℕ) → each_after is_sound_entry before rule ≡ true → tokens_from 0 line (rule_then rule s) ≡ rule_words line rule (tokens_from 0 line s)
+rule_tokens : (line : ℕ) (before rule : List Entry) (s : List ℕ) → each_after is_sound_entry before rule ≡ true
+    → tokens_from 0 line (rule_then rule s) ≡ rule_words line rule (tokens_from 0 line s)
 rule_tokens line before [] s h = refl
 rule_tokens line before (e ∷ rule) s h =
     let (first, rest) = and_parts (is_sound_entry before e) (each_after is_sound_entry (before ++ e ∷ []) rule) h in
-    entry_tokens line e (rule_then rule s) (entry_parts before e first) ∙ ap (entry_words line e) (rule_tokens line (before ++ e ∷ []) rule s rest)
+    entry_tokens line e (rule_then rule s) (entry_parts before e first) ∙ ap (entry_words line e)
+    (rule_tokens line (before ++ e ∷ []) rule s rest)
 
-end_tokens : (line : ℕ) (rule : List Entry) (s : List ℕ) → is_sound_rule rule ≡ true → tokens_from 0 line (end_then rule s) ≡ end_words line rule (tokens_from 0 (line + 1) s)
+end_tokens : (line : ℕ) (rule : List Entry) (s : List ℕ) → is_sound_rule rule ≡ true
+    → tokens_from 0 line (end_then rule s) ≡ end_words line rule (tokens_from 0 (line + 1) s)
 end_tokens line rule s h = ap (λ ws. word Greater (62 ∷ []) line ∷ ws) (rule_tokens line [] rule (10 ∷ s) h)
 
-title_tokens : (line : ℕ) (name s : List ℕ) → is_wordish name ≡ true → tokens_from 0 line (title_then name s) ≡ title_words line name (tokens_from 0 line s)
-title_tokens line name s h = ap (λ ws. word Less (60 ∷ []) line ∷ ws) (word_tokens line name (32 ∷ 62 ∷ 32 ∷ 58 ∷ 58 ∷ 61 ∷ 32 ∷ 60 ∷ 32 ∷ s) h refl)
+title_tokens : (line : ℕ) (name s : List ℕ) → is_wordish name ≡ true
+    → tokens_from 0 line (title_then name s) ≡ title_words line name (tokens_from 0 line s)
+title_tokens line name s h =
+    ap (λ ws. word Less (60 ∷ []) line ∷ ws)
+    (word_tokens line name (32 ∷ 62 ∷ 32 ∷ 58 ∷ 58 ∷ 61 ∷ 32 ∷ 60 ∷ 32 ∷ s) h refl)
 
-plain_tokens : (line : ℕ) (a : AvpDef) (s : List ℕ) → is_wordish a.name ≡ true → fits a.code ≡ true → fits_option a.vendor ≡ true → tokens_from 0 line (plain_then a s) ≡ plain_words line a (tokens_from 0 (line + 1) s)
+plain_tokens : (line : ℕ) (a : AvpDef) (s : List ℕ) → is_wordish a.name ≡ true → fits a.code ≡ true
+    → fits_option a.vendor ≡ true
+    → tokens_from 0 line (plain_then a s) ≡ plain_words line a (tokens_from 0 (line + 1) s)
 plain_tokens line a s named code vendor =
     ap (λ ws. word At (64 ∷ []) line ∷ ws)
     (word_tokens line a.name (number_then a.code (32 ∷ (type_name a.kind ++ option_then a.vendor (10 ∷ s)))) named refl
@@ -158,13 +179,16 @@ plain_tokens line a s named code vendor =
     (word_tokens line (type_name a.kind) (option_then a.vendor (10 ∷ s)) (type_wordish a.kind) (option_breaks a.vendor (10 ∷ s) refl)
     ∙ ap (λ ws. word_of line (type_name a.kind) ∷ ws) (option_tokens line a.vendor (10 ∷ s) vendor refl))))
 
-avp_header_tokens : (line : ℕ) (s : List ℕ) → tokens_from 0 line (codes "AVP Header:" ++ 32 ∷ s) ≡ word Avp (codes "AVP") line ∷ word Header (codes "Header") line ∷ word Colon (58 ∷ []) line ∷ tokens_from 0 line s
+avp_header_tokens : (line : ℕ) (s : List ℕ)
+    → tokens_from 0 line (codes "AVP Header:" ++ 32 ∷ s) ≡ word Avp (codes "AVP") line ∷ word Header (codes "Header") line ∷ word Colon (58 ∷ []) line ∷ tokens_from 0 line s
 avp_header_tokens line s = refl
 
-diameter_header_tokens : (line : ℕ) (s : List ℕ) → tokens_from 0 line (codes "Diameter Header:" ++ 32 ∷ s) ≡ word Diameter (codes "Diameter") line ∷ word Header (codes "Header") line ∷ word Colon (58 ∷ []) line ∷ tokens_from 0 line s
+diameter_header_tokens : (line : ℕ) (s : List ℕ)
+    → tokens_from 0 line (codes "Diameter Header:" ++ 32 ∷ s) ≡ word Diameter (codes "Diameter") line ∷ word Header (codes "Header") line ∷ word Colon (58 ∷ []) line ∷ tokens_from 0 line s
 diameter_header_tokens line s = refl
 
-group_tokens : (line : ℕ) (a : AvpDef) (s : List ℕ) → is_wordish a.name ≡ true → fits a.code ≡ true → fits_option a.vendor ≡ true → is_sound_rule a.rule ≡ true
+group_tokens : (line : ℕ) (a : AvpDef) (s : List ℕ) → is_wordish a.name ≡ true → fits a.code ≡ true
+    → fits_option a.vendor ≡ true → is_sound_rule a.rule ≡ true
     → tokens_from 0 line (group_then a s) ≡ group_words line a (tokens_from 0 (line + 1) s)
 group_tokens line a s named code vendor rule =
     title_tokens line a.name (codes "AVP Header:" ++ number_then a.code (option_then a.vendor (end_then a.rule s))) named
@@ -175,23 +199,28 @@ group_tokens line a s named code vendor rule =
     ∙ ap (λ ws. number_word line a.code ∷ ws)
     (option_tokens line a.vendor (end_then a.rule s) vendor refl ∙ ap (option_words line a.vendor) (end_tokens line a.rule s rule))))
 
-flag_breaks : (flag : Bool) (w : ℕ) (ws s : List ℕ) → breaks (w ∷ ws) ≡ true → breaks s ≡ true → breaks (flag_then flag (w ∷ ws) s) ≡ true
+flag_breaks : (flag : Bool) (w : ℕ) (ws s : List ℕ) → breaks (w ∷ ws) ≡ true → breaks s ≡ true
+    → breaks (flag_then flag (w ∷ ws) s) ≡ true
 flag_breaks true w ws s h g = h
 flag_breaks false w ws s h g = g
 
-req_tokens : (line : ℕ) (flag : Bool) (s : List ℕ) → breaks s ≡ true → tokens_from 0 line (flag_then flag (codes ", REQ") s) ≡ flag_words line flag Req (codes "REQ") (tokens_from 0 line s)
+req_tokens : (line : ℕ) (flag : Bool) (s : List ℕ) → breaks s ≡ true
+    → tokens_from 0 line (flag_then flag (codes ", REQ") s) ≡ flag_words line flag Req (codes "REQ") (tokens_from 0 line s)
 req_tokens line true s h = ap (λ ws. word Comma (44 ∷ []) line ∷ ws) (word_tokens line (codes "REQ") s refl h)
 req_tokens line false s h = refl
 
-pxy_tokens : (line : ℕ) (flag : Bool) (s : List ℕ) → breaks s ≡ true → tokens_from 0 line (flag_then flag (codes ", PXY") s) ≡ flag_words line flag Pxy (codes "PXY") (tokens_from 0 line s)
+pxy_tokens : (line : ℕ) (flag : Bool) (s : List ℕ) → breaks s ≡ true
+    → tokens_from 0 line (flag_then flag (codes ", PXY") s) ≡ flag_words line flag Pxy (codes "PXY") (tokens_from 0 line s)
 pxy_tokens line true s h = ap (λ ws. word Comma (44 ∷ []) line ∷ ws) (word_tokens line (codes "PXY") s refl h)
 pxy_tokens line false s h = refl
 
-err_tokens : (line : ℕ) (flag : Bool) (s : List ℕ) → breaks s ≡ true → tokens_from 0 line (flag_then flag (codes ", ERR") s) ≡ flag_words line flag Err (codes "ERR") (tokens_from 0 line s)
+err_tokens : (line : ℕ) (flag : Bool) (s : List ℕ) → breaks s ≡ true
+    → tokens_from 0 line (flag_then flag (codes ", ERR") s) ≡ flag_words line flag Err (codes "ERR") (tokens_from 0 line s)
 err_tokens line true s h = ap (λ ws. word Comma (44 ∷ []) line ∷ ws) (word_tokens line (codes "ERR") s refl h)
 err_tokens line false s h = refl
 
-flags_tokens : (line : ℕ) (c : CommandDef) (s : List ℕ) → breaks s ≡ true → tokens_from 0 line (flags_then c s) ≡ flags_words line c (tokens_from 0 line s)
+flags_tokens : (line : ℕ) (c : CommandDef) (s : List ℕ) → breaks s ≡ true
+    → tokens_from 0 line (flags_then c s) ≡ flags_words line c (tokens_from 0 line s)
 flags_tokens line c s h =
     let err = flag_breaks c.err 44 (codes " ERR") s refl h in
     let pxy = flag_breaks c.proxiable 44 (codes " PXY") (flag_then c.err (codes ", ERR") s) refl err in
@@ -204,7 +233,8 @@ flags_break c s h =
     flag_breaks c.request 44 (codes " REQ") (flag_then c.proxiable (codes ", PXY") (flag_then c.err (codes ", ERR") s)) refl
     (flag_breaks c.proxiable 44 (codes " PXY") (flag_then c.err (codes ", ERR") s) refl (flag_breaks c.err 44 (codes " ERR") s refl h))
 
-command_tokens : (line : ℕ) (c : CommandDef) (s : List ℕ) → is_wordish c.name ≡ true → c.code ≤ 4294967295 → c.application ≤ 4294967295 → is_sound_rule c.rule ≡ true
+command_tokens : (line : ℕ) (c : CommandDef) (s : List ℕ) → is_wordish c.name ≡ true → c.code ≤ 4294967295
+    → c.application ≤ 4294967295 → is_sound_rule c.rule ≡ true
     → tokens_from 0 line (command_then c s) ≡ command_words line c (tokens_from 0 (line + 1) s)
 command_tokens line c s named code application rule =
     let behind : List ℕ = number_then c.application (end_then c.rule s) in
@@ -218,28 +248,37 @@ command_tokens line c s named code application rule =
     ∙ ap (flags_words line c)
     (number_tokens line c.application (end_then c.rule s) application refl ∙ ap (λ ws. number_word line c.application ∷ ws) (end_tokens line c.rule s rule)))))
 
-avp_tokens : (line : ℕ) (before : List AvpDef) (a : AvpDef) (s : List ℕ) → is_sound_avp before a ≡ true → tokens_from 0 line (avp_then a s) ≡ avp_words line a (tokens_from 0 (line + 1) s)
+avp_tokens : (line : ℕ) (before : List AvpDef) (a : AvpDef) (s : List ℕ) → is_sound_avp before a ≡ true
+    → tokens_from 0 line (avp_then a s) ≡ avp_words line a (tokens_from 0 (line + 1) s)
 avp_tokens line before a s h =
     let p = avp_parts before a h in
-    by (is_grouped a.kind) (group_tokens line a s (name_wordish a.name p.name) p.code p.vendor p.rule) (plain_tokens line a s (name_wordish a.name p.name) p.code p.vendor)
+    by (is_grouped a.kind) (group_tokens line a s (name_wordish a.name p.name) p.code p.vendor p.rule)
+    (plain_tokens line a s (name_wordish a.name p.name) p.code p.vendor)
   where
-    by : (b : Bool) → tokens_from 0 line (group_then a s) ≡ group_words line a (tokens_from 0 (line + 1) s) → tokens_from 0 line (plain_then a s) ≡ plain_words line a (tokens_from 0 (line + 1) s)
+    by : (b : Bool) → tokens_from 0 line (group_then a s) ≡ group_words line a (tokens_from 0 (line + 1) s)
+        → tokens_from 0 line (plain_then a s) ≡ plain_words line a (tokens_from 0 (line + 1) s)
         → tokens_from 0 line (if b then group_then a s else plain_then a s) ≡ (if b then group_words line a (tokens_from 0 (line + 1) s) else plain_words line a (tokens_from 0 (line + 1) s))
     by true e g = e
     by false e g = g
 
-pub avps_tokens : (line : ℕ) (before avps : List AvpDef) (s : List ℕ) (ws : ℕ → List Word) → each_after is_sound_avp before avps ≡ true → ((n : ℕ) → tokens_from 0 n s ≡ ws n)
+pub avps_tokens : (line : ℕ) (before avps : List AvpDef) (s : List ℕ) (ws : ℕ → List Word)
+    → each_after is_sound_avp before avps ≡ true → ((n : ℕ) → tokens_from 0 n s ≡ ws n)
     → tokens_from 0 line (avps_then avps s) ≡ avps_words line avps ws
 avps_tokens line before [] s ws h e = e line
 avps_tokens line before (a ∷ avps) s ws h e =
     let (first, rest) = and_parts (is_sound_avp before a) (each_after is_sound_avp (before ++ a ∷ []) avps) h in
-    avp_tokens line before a (avps_then avps s) first ∙ ap (avp_words line a) (avps_tokens (line + 1) (before ++ a ∷ []) avps s ws rest e)
+    avp_tokens line before a (avps_then avps s) first ∙ ap (avp_words line a)
+    (avps_tokens (line + 1) (before ++ a ∷ []) avps s ws rest e)
 
-pub commands_tokens : (line : ℕ) (before commands : List CommandDef) → each_after is_sound_command before commands ≡ true → tokens_from 0 line (commands_then commands) ≡ commands_words commands line
+pub commands_tokens : (line : ℕ) (before commands : List CommandDef)
+    → each_after is_sound_command before commands ≡ true
+    → tokens_from 0 line (commands_then commands) ≡ commands_words commands line
 commands_tokens line before [] h = refl
 commands_tokens line before (c ∷ commands) h =
-    let (first, rest) = and_parts (is_sound_command before c) (each_after is_sound_command (before ++ c ∷ []) commands) h in
+    let (first, rest) = and_parts (is_sound_command before c)
+    (each_after is_sound_command (before ++ c ∷ []) commands) h in
     let p = command_parts before c first in
     let code : c.code ≤ 16777215 = leb-true c.code 16777215 p.code in
-    command_tokens line c (commands_then commands) (name_wordish c.name p.name) (omega arith) (small c.application p.application) p.rule
+    command_tokens line c (commands_then commands) (name_wordish c.name p.name) (omega arith)
+    (small c.application p.application) p.rule
     ∙ ap (command_words line c) (commands_tokens (line + 1) (before ++ c ∷ []) commands rest)

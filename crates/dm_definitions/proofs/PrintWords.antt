@@ -63,33 +63,42 @@ prefix_word [] (c ∷ s) h b = ap (λ x. cond x (1 + prefix_len goes_on s) 0) (i
     is_not false e = refl
 prefix_word (a ∷ w) s h b =
     let (first, rest) = and_parts (goes_on a) (list_all goes_on w) h in
-    let one : 1 + prefix_len goes_on (w ++ s) ≡ suc (length w) = ap (λ n. 1 + n) (prefix_word w s rest b) ∙ omega arith in
+    let one : 1 + prefix_len goes_on (w ++ s) ≡ suc (length w) = ap (λ n. 1 + n) (prefix_word w s rest b)
+    ∙ omega arith in
     ap (λ x. cond x (1 + prefix_len goes_on (w ++ s)) 0) first ∙ one
 
 -- the token that a lexeme tells, and those behind it
 abbrev lexed : ℕ → Symbol × ℕ → ℕ → List ℕ → List Word
 lexed line l c s = word l.0 (take l.1 (c ∷ s)) line ∷ tokens_from (l.1 - 1) line s
 
-no_other : (b d e : Bool) → b ≡ false → d ≡ false → e ≡ false → (w x y z : List Word) → (if b then w else if d then x else if e then y else z) ≡ z
+no_other : (b d e : Bool) → b ≡ false → d ≡ false → e ≡ false → (w x y z : List Word)
+    → (if b then w else if d then x else if e then y else z) ≡ z
 no_other b d e h g k w x y z = rw (h, g, k) refl
 
-is_lexed : (line a : ℕ) (s : List ℕ) → is_ascii_alphanumeric a ≡ true → tokens_from 0 line (a ∷ s) ≡ lexed line (lexeme_of (a ∷ s)) a s
-is_lexed line a s h = no_other (nat_eq a 10) (is_space a) (nat_eq a 59) (not_this a 10 refl h) (no_space a h) (not_this a 59 refl h) _ _ _ _
+is_lexed : (line a : ℕ) (s : List ℕ) → is_ascii_alphanumeric a ≡ true
+    → tokens_from 0 line (a ∷ s) ≡ lexed line (lexeme_of (a ∷ s)) a s
+is_lexed line a s h =
+    no_other (nat_eq a 10) (is_space a) (nat_eq a 59) (not_this a 10 refl h) (no_space a h)
+    (not_this a 59 refl h) _ _ _ _
 
 first_if : (b : Bool) (x y : Symbol × ℕ) → b ≡ true → (if b then x else y) ≡ x
 first_if b x y h = rw h refl
 
-word_lexeme : (a : ℕ) (s : List ℕ) → is_ascii_alphanumeric a ≡ true → lexeme_of (a ∷ s) ≡ (symbol_of_word (take (prefix_len goes_on (a ∷ s)) (a ∷ s)), prefix_len goes_on (a ∷ s))
+word_lexeme : (a : ℕ) (s : List ℕ) → is_ascii_alphanumeric a ≡ true
+    → lexeme_of (a ∷ s) ≡ (symbol_of_word (take (prefix_len goes_on (a ∷ s)) (a ∷ s)), prefix_len goes_on (a ∷ s))
 word_lexeme a s h = first_if (begins_word a) _ _ h
 
-pub word_tokens : (line : ℕ) (w s : List ℕ) → is_wordish w ≡ true → breaks s ≡ true → tokens_from 0 line (w ++ s) ≡ word_of line w ∷ tokens_from 0 line s
+pub word_tokens : (line : ℕ) (w s : List ℕ) → is_wordish w ≡ true → breaks s ≡ true
+    → tokens_from 0 line (w ++ s) ≡ word_of line w ∷ tokens_from 0 line s
 word_tokens line [] s h b = absurd cc
 word_tokens line (a ∷ w) s h b =
     let (begins, rest) = and_parts (is_ascii_alphanumeric a) (list_all goes_on w) h in
     let goes : goes_on a ≡ true = ap (λ x. x || nat_eq a 45) begins in
     let len : prefix_len goes_on (a ∷ (w ++ s)) ≡ suc (length w) = prefix_word (a ∷ w) s (both _ _ goes rest) b in
-    let whole : take (prefix_len goes_on (a ∷ (w ++ s))) (a ∷ (w ++ s)) ≡ a ∷ w = ap (λ n. take n (a ∷ (w ++ s))) len ∙ take-append_seam (a ∷ w) s in
-    let lexeme : lexeme_of (a ∷ (w ++ s)) ≡ (symbol_of_word (a ∷ w), suc (length w)) = word_lexeme a (w ++ s) begins ∙ (λ i. (symbol_of_word (whole i), len i)) in
+    let whole : take (prefix_len goes_on (a ∷ (w ++ s))) (a ∷ (w ++ s)) ≡ a ∷ w = ap (λ n. take n (a ∷ (w ++ s))) len
+    ∙ take-append_seam (a ∷ w) s in
+    let lexeme : lexeme_of (a ∷ (w ++ s)) ≡ (symbol_of_word (a ∷ w), suc (length w)) = word_lexeme a (w ++ s) begins ∙
+    (λ i. (symbol_of_word (whole i), len i)) in
     let less : suc (length w) - 1 ≡ length w = omega arith in
     is_lexed line a (w ++ s) begins
     ∙ ap (λ (l : Symbol × ℕ). lexed line l a (w ++ s)) lexeme
@@ -108,7 +117,8 @@ digits_of_decimal n h = digits_decimal own n (omega arith)
 
 all_digits : (ds : List ℕ) → all_ascii_digits ds ≡ true → is_number ds ≡ true
 all_digits [] h = refl
-all_digits (c ∷ ds) h = let (first, rest) = and_parts (is_ascii_digit c) (all_ascii_digits ds) h in both _ _ first (all_digits ds rest)
+all_digits (c ∷ ds) h =
+    let (first, rest) = and_parts (is_ascii_digit c) (all_ascii_digits ds) h in both _ _ first (all_digits ds rest)
 
 digit_goes_on : (c : ℕ) → is_ascii_digit c ≡ true → is_ascii_alphanumeric c ≡ true
 digit_goes_on c h = rw h refl
@@ -132,9 +142,11 @@ number_symbol ds h = first (is_number ds) _ h
     first : (b : Bool) (x : Symbol) → b ≡ true → (if b then Number else x) ≡ Number
     first b x e = rw e refl
 
-pub number_tokens : (line n : ℕ) (s : List ℕ) → n ≤ 4294967295 → breaks s ≡ true → tokens_from 0 line (decimal n ++ s) ≡ number_word line n ∷ tokens_from 0 line s
+pub number_tokens : (line n : ℕ) (s : List ℕ) → n ≤ 4294967295 → breaks s ≡ true
+    → tokens_from 0 line (decimal n ++ s) ≡ number_word line n ∷ tokens_from 0 line s
 number_tokens line n s h b =
     let digits = digits_of_decimal n h in
     let some : 0 < length (decimal n) = decimal_nonempty n (omega arith) in
     word_tokens line (decimal n) s (digits_wordish (decimal n) digits some) b
-    ∙ ap (λ x. word x (decimal n) line ∷ tokens_from 0 line s) (number_symbol (decimal n) (all_digits (decimal n) digits))
+    ∙ ap (λ x. word x (decimal n) line ∷ tokens_from 0 line s)
+    (number_symbol (decimal n) (all_digits (decimal n) digits))

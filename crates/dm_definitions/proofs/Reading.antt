@@ -17,7 +17,8 @@ use Rattle.dm_definitions.specs.Outcome.{Defines, IsFirstFault, all_faults}
 use Rattle.dm_definitions.proofs.Along.{stops_left, first_right, none_both}
 use Rattle.dm_definitions.proofs.Closed.{closed_with}
 
-pub seen : (text : List ℕ) (found items : List Item) → told text ≡ Ok (map view_item found) → items ≡ found → told text ≡ Ok (map view_item items)
+pub seen : (text : List ℕ) (found items : List Item) → told text ≡ Ok (map view_item found) → items ≡ found
+    → told text ≡ Ok (map view_item items)
 seen text found items e same = subst (λ (l : List Item). told text ≡ Ok (map view_item l)) (sym same) e
 
 no_first : (fs : List DictFault) → first_of fs ≡ None → fs ≡ []
@@ -26,8 +27,10 @@ no_first (f ∷ fs) e = absurd cc
 
 module _ (old : Definitions) (items : List Written) where
   -- a fault of the items beside the copies comes first
-  pub item_stops : (copy : Definitions) (f : DictFault) → copy ≡ old → Stops (items_faults copy items) f → Stops (all_faults old items) f
-  item_stops copy f e h = stops_left (items_faults old items) _ f (subst (λ (d : Definitions). Stops (items_faults d items) f) e h)
+  pub item_stops : (copy : Definitions) (f : DictFault) → copy ≡ old → Stops (items_faults copy items) f
+      → Stops (all_faults old items) f
+  item_stops copy f e h =
+      stops_left (items_faults old items) _ f (subst (λ (d : Definitions). Stops (items_faults d items) f) e h)
 
   module _ (copy new : Definitions) (same : copy ≡ old) (none : items_faults copy items ≡ []) (added : new ≡ with_items copy items) where
     none_here : items_faults old items ≡ []
@@ -36,22 +39,28 @@ module _ (old : Definitions) (items : List Written) where
     pub added_here : new ≡ with_items old items
     added_here = added ∙ ap (λ d. with_items d items) same
 
-    pub unknown_stops : (f : DictFault) → Some f ≡ first_of (flat_map (unknown new.avps) items) → Stops (all_faults old items) f
+    pub unknown_stops : (f : DictFault) → Some f ≡ first_of (flat_map (unknown new.avps) items)
+        → Stops (all_faults old items) f
     unknown_stops f e =
-        let here : first_of (flat_map (unknown (with_items old items).avps) items) ≡ Some f = subst (λ (d : Definitions). first_of (flat_map (unknown d.avps) items) ≡ Some f) added_here (sym e) in
+        let here : first_of (flat_map (unknown (with_items old items).avps) items) ≡ Some f = subst
+        (λ (d : Definitions). first_of (flat_map (unknown d.avps) items) ≡ Some f) added_here (sym e) in
         inr (first_right (items_faults old items) _ f none_here here)
 
-    none_unknown : None ≡ first_of (flat_map (unknown new.avps) items) → flat_map (unknown (with_items old items).avps) items ≡ []
-    none_unknown e = no_first _ (subst (λ (d : Definitions). first_of (flat_map (unknown d.avps) items) ≡ None) added_here (sym e))
+    none_unknown : None ≡ first_of (flat_map (unknown new.avps) items)
+        → flat_map (unknown (with_items old items).avps) items ≡ []
+    none_unknown e =
+        no_first _ (subst (λ (d : Definitions). first_of (flat_map (unknown d.avps) items) ≡ None) added_here (sym e))
 
     pub faultless : None ≡ first_of (flat_map (unknown new.avps) items) → all_faults old items ≡ []
     faultless e = none_both (items_faults old items) _ none_here (none_unknown e)
 
     pub closes : None ≡ first_of (flat_map (unknown new.avps) items) → is_closed old ≡ true → is_closed new ≡ true
-    closes e h = subst (λ (d : Definitions). is_closed d ≡ true) (sym added_here) (closed_with old items h (none_unknown e))
+    closes e h =
+        subst (λ (d : Definitions). is_closed d ≡ true) (sym added_here) (closed_with old items h (none_unknown e))
 
   module _ (text : List ℕ) (grammatical : told text ≡ Ok items) where
-    pub reads : (r : Result Tables DictFault) → IfOk r (λ _. all_faults old items ≡ []) → IfOk r (λ new. defined new ≡ with_items old items) → IfOk r (λ new. Defines text old (defined new))
+    pub reads : (r : Result Tables DictFault) → IfOk r (λ _. all_faults old items ≡ [])
+        → IfOk r (λ new. defined new ≡ with_items old items) → IfOk r (λ new. Defines text old (defined new))
     reads (Ok new) none added = record { items = items; grammatical = grammatical; faultless = none; followed = added }
     reads (Err f) none added = tt
 
@@ -59,6 +68,7 @@ module _ (old : Definitions) (items : List Written) where
     first_here f (inl e) = inl e
     first_here f (inr e) = inr (inr (record { items = items; grammatical = grammatical; first = e }))
 
-    pub refuses : (r : Result Tables DictFault) → IfErr r (Stops (all_faults old items)) → IfErr r (λ f. (f ≡ NoMemory) ⊎ IsFirstFault text old f)
+    pub refuses : (r : Result Tables DictFault) → IfErr r (Stops (all_faults old items))
+        → IfErr r (λ f. (f ≡ NoMemory) ⊎ IsFirstFault text old f)
     refuses (Ok new) h = tt
     refuses (Err f) h = first_here f h

@@ -20,14 +20,20 @@ use Rattle.dm_definitions.proofs.PrintDefined.{AreAdded, avps_added, no_unknown}
 
 pub printed_again : (d : Definitions) → is_sound d ≡ true → is_closed d ≡ true → Defines (printed d) nothing_defined d
 printed_again d sound closed =
-    let (avps, commands) = and_parts (each_after is_sound_avp [] d.avps) (each_after is_sound_command [] d.commands) sound in
-    let (known, known_too) = and_parts (list_all (λ a. knows_rule d.avps a.rule) d.avps) (list_all (λ c. knows_rule d.avps c.rule) d.commands) closed in
+    let (avps, commands) = and_parts (each_after is_sound_avp [] d.avps)
+    (each_after is_sound_command [] d.commands) sound in
+    let (known, known_too) = and_parts (list_all (λ a. knows_rule d.avps a.rule) d.avps)
+    (list_all (λ c. knows_rule d.avps c.rule) d.commands) closed in
     let items : List Written = written_avps 1 d.avps (written_commands d.commands) in
     let words : tokens (printed d) ≡ avps_words 1 d.avps (commands_words d.commands) =
-    ap tokens (printed-then d) ∙ avps_tokens 1 [] d.avps (commands_then d.commands) (commands_words d.commands) avps (λ n. commands_tokens n [] d.commands commands) in
-    let tells = avps_tell (last_line (printed d)) 1 [] d.avps (commands_words d.commands) (written_commands d.commands) avps (λ n. commands_tell (last_line (printed d)) n [] d.commands commands) in
-    let grammatical : told (printed d) ≡ Ok items = ap (λ ws. items_told (collect (last_line (printed d)) Text ws)) words ∙ ap items_told tells.text in
+    ap tokens (printed-then d) ∙ avps_tokens 1 [] d.avps (commands_then d.commands) (commands_words d.commands) avps
+    (λ n. commands_tokens n [] d.commands commands) in
+    let tells = avps_tell (last_line (printed d)) 1 [] d.avps (commands_words d.commands)
+    (written_commands d.commands) avps (λ n. commands_tell (last_line (printed d)) n [] d.commands commands) in
+    let grammatical : told (printed d) ≡ Ok items = ap
+    (λ ws. items_told (collect (last_line (printed d)) Text ws)) words ∙ ap items_told tells.text in
     let added : AreAdded nothing_defined items d = avps_added 1 nothing_defined d.avps d.commands avps commands in
     let none : flat_map (unknown d.avps) items ≡ [] = no_unknown 1 d.avps d.avps d.commands known known_too in
-    let nothing_unknown : flat_map (unknown (with_items nothing_defined items).avps) items ≡ [] = ap (λ x. flat_map (unknown x.avps) items) added.added ∙ none in
+    let nothing_unknown : flat_map (unknown (with_items nothing_defined items).avps) items ≡ [] = ap
+    (λ x. flat_map (unknown x.avps) items) added.added ∙ none in
     record { items = items; grammatical = grammatical; faultless = none_both (items_faults nothing_defined items) _ added.faultless nothing_unknown; followed = sym added.added }

@@ -13,9 +13,12 @@ abbrev Outcome : List ℕ → Definitions → Type 0
 Outcome text old = ((new : Definitions) × Defines text old new) ⊎ ((f : DictFault) × IsFirstFault text old f)
 
 -- the text has items, and these faults
-by_faults : (text : List ℕ) (old : Definitions) (items : List Written) → told text ≡ Ok items → (faults : List DictFault) → all_faults old items ≡ faults → Outcome text old
-by_faults text old items grammatical [] none = inl (with_items old items, record { items = items; grammatical = grammatical; faultless = none; followed = refl })
-by_faults text old items grammatical (f ∷ faults) some = inr (f, inr (record { items = items; grammatical = grammatical; first = ap first_of some }))
+by_faults : (text : List ℕ) (old : Definitions) (items : List Written) → told text ≡ Ok items
+    → (faults : List DictFault) → all_faults old items ≡ faults → Outcome text old
+by_faults text old items grammatical [] none =
+    inl (with_items old items, record { items = items; grammatical = grammatical; faultless = none; followed = refl })
+by_faults text old items grammatical (f ∷ faults) some =
+    inr (f, inr (record { items = items; grammatical = grammatical; first = ap first_of some }))
 
 by_items : (text : List ℕ) (old : Definitions) (r : Result (List Written) ℕ) → told text ≡ r → Outcome text old
 by_items text old (Ok items) grammatical = by_faults text old items grammatical (all_faults old items) refl

@@ -18,20 +18,25 @@ and_false false = refl
 
 other : (v : ℕ) (vendor : Option ℕ) → limit < v → fits_option vendor ≡ true → option_eq nat_eq (Some v) vendor ≡ false
 other v None above e = refl
-other v (Some u) above e = let small : u ≤ limit = leb-true u limit e in let apart : v ≡ u → ⊥ = λ same. omega arith in ne_eqb v u apart
+other v (Some u) above e =
+    let small : u ≤ limit = leb-true u limit e in let apart : v ≡ u → ⊥ = λ same. omega arith in ne_eqb v u apart
 
-no_such_vendor : (code v : ℕ) (before avps : List AvpDef) → limit < v → each_after is_sound_avp before avps ≡ true → list_any (is_coded code (Some v)) avps ≡ false
+no_such_vendor : (code v : ℕ) (before avps : List AvpDef) → limit < v → each_after is_sound_avp before avps ≡ true
+    → list_any (is_coded code (Some v)) avps ≡ false
 no_such_vendor code v before [] above sound = refl
 no_such_vendor code v before (d ∷ ds) above sound =
     let (first, rest) = and_parts (is_sound_avp before d) (each_after is_sound_avp (before ++ d ∷ []) ds) sound in
-    let here : is_coded code (Some v) d ≡ false = ap (λ b. nat_eq code d.code && b) (other v d.vendor above (avp_parts before d first).vendor) ∙ and_false _ in
+    let here : is_coded code (Some v) d ≡ false = ap (λ b. nat_eq code d.code && b)
+    (other v d.vendor above (avp_parts before d first).vendor) ∙ and_false _ in
     rw here (no_such_vendor code v (before ++ d ∷ []) ds above rest)
 
 above_limit : (b : Bool) (f g : DictFault) → first_of (fault_if b f) ≡ Some g → b ≡ true
 above_limit true f g e = refl
 above_limit false f g e = absurd cc
 
-pub vendor_above : (code : ℕ) (vendor : Option Word) (avps : List AvpDef) (f : DictFault) → each_after is_sound_avp [] avps ≡ true → first_of (option_faults limit vendor) ≡ Some f
+pub vendor_above : (code : ℕ) (vendor : Option Word) (avps : List AvpDef) (f : DictFault)
+    → each_after is_sound_avp [] avps ≡ true → first_of (option_faults limit vendor) ≡ Some f
     → list_any (is_coded code (option_map number vendor)) avps ≡ false
 vendor_above code None avps f sound e = absurd cc
-vendor_above code (Some w) avps f sound e = no_such_vendor code (number w) [] avps (ltb-true limit (number w) (above_limit _ _ f e)) sound
+vendor_above code (Some w) avps f sound e =
+    no_such_vendor code (number w) [] avps (ltb-true limit (number w) (above_limit _ _ f e)) sound

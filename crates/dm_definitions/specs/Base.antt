@@ -1,6 +1,5 @@
--- The definitions of the base dictionary, one by one (RFC 6733, 4.5 and 5.3 to 7.5). Two entries are wider than there, so
--- that older producers pass: `*[ Failed-AVP ]`, and `1*{ Vendor-Id }` in Vendor-Specific-Application-Id. Command 0 with ERR
--- is this project's place for the rule of every answer with the E bit.
+-- The definitions of the base dictionary, one by one (RFC 6733, 4.5 and 5.3 to 7.5). Where they depart from it, that stands
+-- beside them.
 use Rattle.std.specs.Prelude.{ℕ, Bool, true, false, List, [], ◌∷◌, ◌++◌, codes, Some, None}
 use Rattle.dm_grammar.specs.declared.item.Form.TheVariants.{Fixed, Required, Optional}
 use Rattle.dm_value.specs.declared.avp_type.AvpType.{AvpType}
@@ -11,8 +10,8 @@ use Rattle.dm_definitions.specs.declared.def.CommandDef.{CommandDef}
 use Rattle.dm_definitions.specs.Definitions.{Definitions}
 
 -- 0*1 < NAME >
-abbrev pub first : List ℕ → Entry
-first name = record { form = Fixed; name = name; min = 0; max = Some 1 }
+abbrev pub fixed_optional : List ℕ → Entry
+fixed_optional name = record { form = Fixed; name = name; min = 0; max = Some 1 }
 
 -- { NAME }
 abbrev pub one : List ℕ → Entry
@@ -71,6 +70,8 @@ plain_avps =
     ∷ (avp (codes "Inband-Security-Id") 299 Unsigned32)
     ∷ []
 
+-- Wider than RFC 6733 (6.11), which has `{ Vendor-Id }`: RFC 3588 had `1*`, and what was made after it is to pass. That just
+-- one of the two ids stands there (6.11) no rule can say, and it isn't looked at.
 abbrev pub vendor_specific_application_id : AvpDef
 vendor_specific_application_id = group (codes "Vendor-Specific-Application-Id") 260 ((some (codes "Vendor-Id")) ∷ (optional (codes "Auth-Application-Id")) ∷ (optional (codes "Acct-Application-Id")) ∷ [])
 
@@ -100,6 +101,8 @@ cer = command (codes "CER") 257 true false
     ∷ (any (codes "AVP"))
     ∷ [])
 
+-- `*[ Failed-AVP ]`, here and in DWA, DPA and answer-message, is wider than RFC 6733 (5.3.2, 5.4.2, 5.5.2, 7.2), which has
+-- `[ Failed-AVP ]`: RFC 3588 had `*`, and what was made after it is to pass.
 abbrev pub cea : CommandDef
 cea = command (codes "CEA") 257 false false
     ((one (codes "Result-Code"))
@@ -157,9 +160,12 @@ dpa = command (codes "DPA") 282 false false
     ∷ (any (codes "AVP"))
     ∷ [])
 
+-- The rule of every answer with the E bit: such an answer doesn't follow the rule of its command but
+-- this one (7.2), whose header there has `code` for whatever command was asked. A dictionary holds one code, so it stands
+-- at 0, which is no command's.
 abbrev pub answer_message : CommandDef
 answer_message = command (codes "answer-message") 0 false true
-    ((first (codes "Session-Id"))
+    ((fixed_optional (codes "Session-Id"))
     ∷ (one (codes "Origin-Host"))
     ∷ (one (codes "Origin-Realm"))
     ∷ (one (codes "Result-Code"))

@@ -62,6 +62,8 @@ abbrev pub high_faults : ℕ → Option Range → List DictFault
 high_faults min None = []
 high_faults min (Some q) = above_faults min q.high
 
+-- The numbers of an entry. RFC 6733 (3.2) also wants a least number of 1 or more of a required entry, and 0 of an optional one;
+-- a text that breaks that is taken (own): what it says can be counted as well.
 abbrev pub bound_faults : written.Entry → List DictFault
 bound_faults e = low_faults e.qualifier ++ high_faults (min_of e.form e.qualifier) e.qualifier
 
@@ -69,14 +71,14 @@ bound_faults e = low_faults e.qualifier ++ high_faults (min_of e.form e.qualifie
 abbrev pub place_faults : List Entry → written.Entry → List DictFault
 place_faults before e = fault_if (is_repeated before e.name.text) (is.Duplicate e.name.line) ++ fault_if (is_late before (form_number e.form)) (is.Order e.name.line)
 
-abbrev pub entry_faults : List Entry → written.Entry → List DictFault
-entry_faults before e = bound_faults e ++ place_faults before e
+abbrev pub rule_entry_faults : List Entry → written.Entry → List DictFault
+rule_entry_faults before e = bound_faults e ++ place_faults before e
 
 abbrev pub with_entry : List Entry → written.Entry → List Entry
 with_entry before e = before ++ entry_of e ∷ []
 
 abbrev pub rule_faults : List written.Entry → List DictFault
-rule_faults rule = faults_along entry_faults with_entry [] rule
+rule_faults rule = faults_along rule_entry_faults with_entry [] rule
 
 -- an AVP called AVP, or by a name that is there already
 abbrev pub name_faults : List AvpDef → Word → List DictFault
@@ -87,11 +89,11 @@ abbrev pub code_faults : List AvpDef → Word → Option Word → List DictFault
 code_faults avps code vendor =
     range_faults limit code ++ fault_if (list_any (is_coded (number code) (option_map number vendor)) avps) (is.Duplicate code.line) ++ option_faults limit vendor
 
-abbrev pub avp_faults : List AvpDef → AvpParts → List DictFault
-avp_faults avps p = name_faults avps p.name ++ code_faults avps p.code p.vendor
+abbrev pub avp_item_faults : List AvpDef → AvpParts → List DictFault
+avp_item_faults avps p = name_faults avps p.name ++ code_faults avps p.code p.vendor
 
-abbrev pub group_faults : List AvpDef → GroupParts → List DictFault
-group_faults avps p = name_faults avps p.name ++ code_faults avps p.code p.vendor ++ rule_faults p.rule
+abbrev pub group_item_faults : List AvpDef → GroupParts → List DictFault
+group_item_faults avps p = name_faults avps p.name ++ code_faults avps p.code p.vendor ++ rule_faults p.rule
 
 -- a command whose name, or whose code with REQ and ERR, is there already
 abbrev pub title_faults : List CommandDef → Word → List DictFault
@@ -101,13 +103,13 @@ abbrev pub head_faults : List CommandDef → CommandParts → List DictFault
 head_faults commands p =
     range_faults command_limit p.code ++ fault_if (list_any (is_headed (number p.code) p.request p.error) commands) (is.Duplicate p.code.line) ++ option_faults limit p.application
 
-abbrev pub command_faults : List CommandDef → CommandParts → List DictFault
-command_faults commands p = title_faults commands p.name ++ head_faults commands p ++ rule_faults p.rule
+abbrev pub command_item_faults : List CommandDef → CommandParts → List DictFault
+command_item_faults commands p = title_faults commands p.name ++ head_faults commands p ++ rule_faults p.rule
 
 abbrev pub item_faults : Definitions → Written → List DictFault
-item_faults d (AvpIs p) = avp_faults d.avps p
-item_faults d (GroupIs p) = group_faults d.avps p
-item_faults d (CommandIs p) = command_faults d.commands p
+item_faults d (AvpIs p) = avp_item_faults d.avps p
+item_faults d (GroupIs p) = group_item_faults d.avps p
+item_faults d (CommandIs p) = command_item_faults d.commands p
 
 -- each item beside the definitions before it
 abbrev pub items_faults : Definitions → List Written → List DictFault

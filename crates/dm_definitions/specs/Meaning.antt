@@ -68,20 +68,20 @@ abbrev pub entry_of : written.Entry → Entry
 entry_of e = record { form = e.form; name = e.name.text; min = min_of e.form e.qualifier; max = max_of e.qualifier }
 
 -- an unknown type is a fault elsewhere
-abbrev pub avp_of : AvpParts → AvpDef
-avp_of p = record { name = p.name.text; code = number p.code; vendor = option_map number p.vendor; kind = unwrap_or (kind_of p.kind.text) OctetString; rule = [] }
+abbrev pub avp_def_of : AvpParts → AvpDef
+avp_def_of p = record { name = p.name.text; code = number p.code; vendor = option_map number p.vendor; kind = unwrap_or (kind_of p.kind.text) OctetString; rule = [] }
 
-abbrev pub group_of : GroupParts → AvpDef
-group_of p = record { name = p.name.text; code = number p.code; vendor = option_map number p.vendor; kind = Grouped; rule = map entry_of p.rule }
+abbrev pub group_def_of : GroupParts → AvpDef
+group_def_of p = record { name = p.name.text; code = number p.code; vendor = option_map number p.vendor; kind = Grouped; rule = map entry_of p.rule }
 
-abbrev pub command_of : CommandParts → CommandDef
-command_of p = record { name = p.name.text; code = number p.code; request = p.request; proxiable = p.proxiable; err = p.error; application = unwrap_or (option_map number p.application) 0; rule = map entry_of p.rule }
+abbrev pub command_def_of : CommandParts → CommandDef
+command_def_of p = record { name = p.name.text; code = number p.code; request = p.request; proxiable = p.proxiable; err = p.error; application = unwrap_or (option_map number p.application) 0; rule = map entry_of p.rule }
 
 -- the definition of an item, behind the others
 abbrev pub with_item : Definitions → Written → Definitions
-with_item d (AvpIs p) = with_avp d (avp_of p)
-with_item d (GroupIs p) = with_avp d (group_of p)
-with_item d (CommandIs p) = with_command d (command_of p)
+with_item d (AvpIs p) = with_avp d (avp_def_of p)
+with_item d (GroupIs p) = with_avp d (group_def_of p)
+with_item d (CommandIs p) = with_command d (command_def_of p)
 
 -- the definitions of the items, in order
 abbrev pub with_items : Definitions → List Written → Definitions

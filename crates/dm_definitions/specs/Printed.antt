@@ -52,7 +52,7 @@ closing Fixed = codes " >"
 closing Required = codes " }"
 closing Optional = codes " ]"
 
--- MIN*MAX { NAME }
+-- MIN*MAX { NAME }, both numbers in full (3.2 lets either be left out)
 abbrev pub entry_text : Entry → List ℕ
 entry_text e = spaced_number e.min ++ codes "*" ++ decimal_option e.max ++ opening e.form ++ e.name ++ closing e.form
 
@@ -62,7 +62,7 @@ rule_text rule = flat_map entry_text rule
 abbrev pub line_end : List ℕ
 line_end = 10 ∷ []
 
--- @ NAME CODE TYPE VENDOR
+-- @ NAME CODE TYPE VENDOR (own: RFC 6733 has no grammar for an AVP that is no group; its definitions are prose, 4.5)
 abbrev pub plain_line : AvpDef → List ℕ
 plain_line d = codes "@ " ++ d.name ++ spaced_number d.code ++ spaced (type_name d.kind) ++ spaced_option d.vendor ++ line_end
 

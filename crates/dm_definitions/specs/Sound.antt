@@ -11,13 +11,14 @@ use Rattle.dm_value.specs.declared.avp_type.AvpType.TheVariants.{Grouped}
 use Rattle.dm_definitions.specs.EntryEquality.{form_number}
 use Rattle.dm_definitions.specs.Definitions.{Definitions, is_named, is_coded, is_titled, is_headed}
 
--- letters, digits and hyphens, no hyphen first, and not digits alone
+-- Letters, digits and hyphens, no hyphen first, and not digits alone. Wider than RFC 6733 (3.2), where a diameter-name is
+-- `ALPHA *(ALPHA / DIGIT / "-")`: names in use begin with a digit, as 3GPP-IMSI. Digits alone are a number.
 abbrev pub goes_on : ℕ → Bool
 goes_on c = is_ascii_alphanumeric c || nat_eq c 45
 
-abbrev pub is_name : List ℕ → Bool
-is_name [] = false
-is_name (c ∷ s) = is_ascii_alphanumeric c && list_all goes_on s && not (list_all is_ascii_digit (c ∷ s))
+abbrev pub is_proper_name : List ℕ → Bool
+is_proper_name [] = false
+is_proper_name (c ∷ s) = is_ascii_alphanumeric c && list_all goes_on s && not (list_all is_ascii_digit (c ∷ s))
 
 -- the entry that stands for every AVP that no other entry of the rule names
 abbrev pub is_any : List ℕ → Bool
@@ -50,7 +51,7 @@ each_after test before [] = true
 each_after test before (d ∷ ds) = test before d && each_after test (before ++ d ∷ []) ds
 
 abbrev pub is_sound_entry : List Entry → Entry → Bool
-is_sound_entry before e = is_name e.name && fits e.min && bounds e.min e.max && not (is_repeated before e.name) && not (is_late before (form_number e.form))
+is_sound_entry before e = is_proper_name e.name && fits e.min && bounds e.min e.max && not (is_repeated before e.name) && not (is_late before (form_number e.form))
 
 abbrev pub is_sound_rule : List Entry → Bool
 is_sound_rule rule = each_after is_sound_entry [] rule
@@ -66,14 +67,14 @@ is_empty_rule (e ∷ es) = false
 -- a name of its own that isn't AVP, a code and vendor of its own, and a rule only where Grouped
 abbrev pub is_sound_avp : List AvpDef → AvpDef → Bool
 is_sound_avp before d =
-    is_name d.name && not (is_any d.name) && not (list_any (is_named d.name) before)
+    is_proper_name d.name && not (is_any d.name) && not (list_any (is_named d.name) before)
     && fits d.code && fits_option d.vendor && not (list_any (is_coded d.code d.vendor) before)
     && is_sound_rule d.rule && (is_grouped d.kind || is_empty_rule d.rule)
 
 -- a name of its own, and a code of 24 bits of its own with REQ and ERR
 abbrev pub is_sound_command : List CommandDef → CommandDef → Bool
 is_sound_command before c =
-    is_name c.name && not (list_any (is_titled c.name) before)
+    is_proper_name c.name && not (list_any (is_titled c.name) before)
     && nat_le c.code 16777215 && not (list_any (is_headed c.code c.request c.err) before)
     && fits c.application && is_sound_rule c.rule
 

@@ -5,8 +5,8 @@ ghost use Rattle.dm_grammar.specs.Views.{view_avp, view_group, view_command, vie
 ghost use Rattle.dm_definitions.specs.Definitions.{with_avp, with_command};
 ghost use Rattle.dm_definitions.specs.Tables.{defined, IsTables};
 ghost use Rattle.dm_definitions.specs.Worded.{is_worded_avp, is_worded_group, is_worded_command, is_worded};
-ghost use Rattle.dm_definitions.specs.Meaning.{avp_of, group_of, command_of, with_item, with_items};
-ghost use Rattle.dm_definitions.specs.Faults.{Stops, avp_faults, group_faults, command_faults, item_faults, items_faults};
+ghost use Rattle.dm_definitions.specs.Meaning.{avp_def_of, group_def_of, command_def_of, with_item, with_items};
+ghost use Rattle.dm_definitions.specs.Faults.{Stops, avp_item_faults, group_item_faults, command_item_faults, item_faults, items_faults};
 
 use crate::checks::{check_code, check_head, check_name, check_title};
 use crate::entries::rule;
@@ -21,10 +21,10 @@ use std::alloc::Global;
 fn define_avp(alloc: Global, tables: &mut Tables, item: &AvpItem<'_>) -> Result<(), DictFault>
     requires tables { IsTables tables.old }
     requires worded { is_worded_avp (view_avp item.now) ≡ true }
-    ensures good { OnOk result (avp_faults tables.old.avps.items (view_avp item.now) ≡ []) }
-    ensures added { OnOk result (defined tables.new ≡ with_avp (defined tables.old) (avp_of (view_avp item.now))) }
+    ensures good { OnOk result (avp_item_faults tables.old.avps.items (view_avp item.now) ≡ []) }
+    ensures added { OnOk result (defined tables.new ≡ with_avp (defined tables.old) (avp_def_of (view_avp item.now))) }
     ensures tables { OnOk result (IsTables tables.new) }
-    ensures fault { IfErr result (Stops (avp_faults tables.old.avps.items (view_avp item.now))) }
+    ensures fault { IfErr result (Stops (avp_item_faults tables.old.avps.items (view_avp item.now))) }
 {
     check_name(tables, item.name)?;
     let (code, vendor) = check_code(tables, item.code, item.vendor)?;
@@ -43,10 +43,10 @@ fn define_avp(alloc: Global, tables: &mut Tables, item: &AvpItem<'_>) -> Result<
 fn define_group(alloc: Global, tables: &mut Tables, item: &GroupItem<'_>) -> Result<(), DictFault>
     requires tables { IsTables tables.old }
     requires worded { is_worded_group (view_group item.now) ≡ true }
-    ensures good { OnOk result (group_faults tables.old.avps.items (view_group item.now) ≡ []) }
-    ensures added { OnOk result (defined tables.new ≡ with_avp (defined tables.old) (group_of (view_group item.now))) }
+    ensures good { OnOk result (group_item_faults tables.old.avps.items (view_group item.now) ≡ []) }
+    ensures added { OnOk result (defined tables.new ≡ with_avp (defined tables.old) (group_def_of (view_group item.now))) }
     ensures tables { OnOk result (IsTables tables.new) }
-    ensures fault { IfErr result (Stops (group_faults tables.old.avps.items (view_group item.now))) }
+    ensures fault { IfErr result (Stops (group_item_faults tables.old.avps.items (view_group item.now))) }
 {
     check_name(tables, item.name)?;
     let (code, vendor) = check_code(tables, item.code, item.vendor)?;
@@ -69,10 +69,10 @@ fn define_command(
 ) -> Result<(), DictFault>
     requires tables { IsTables tables.old }
     requires worded { is_worded_command (view_command item.now) ≡ true }
-    ensures good { OnOk result (command_faults tables.old.commands.items (view_command item.now) ≡ []) }
-    ensures added { OnOk result (defined tables.new ≡ with_command (defined tables.old) (command_of (view_command item.now))) }
+    ensures good { OnOk result (command_item_faults tables.old.commands.items (view_command item.now) ≡ []) }
+    ensures added { OnOk result (defined tables.new ≡ with_command (defined tables.old) (command_def_of (view_command item.now))) }
     ensures tables { OnOk result (IsTables tables.new) }
-    ensures fault { IfErr result (Stops (command_faults tables.old.commands.items (view_command item.now))) }
+    ensures fault { IfErr result (Stops (command_item_faults tables.old.commands.items (view_command item.now))) }
 {
     check_title(tables, item.name)?;
     let (code, application) = check_head(tables, item)?;

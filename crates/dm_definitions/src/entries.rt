@@ -5,7 +5,7 @@ ghost use Rattle.indexmap.specs.IndexSet.{contains_by};
 ghost use Rattle.dm_grammar.specs.Views.{view_entry};
 ghost use Rattle.dm_definitions.specs.EntryEquality.{form_number};
 ghost use Rattle.dm_definitions.specs.Meaning.{min_of, max_of};
-ghost use Rattle.dm_definitions.specs.Faults.{Stops, entry_faults, with_entry, rule_faults};
+ghost use Rattle.dm_definitions.specs.Faults.{Stops, rule_entry_faults, with_entry, rule_faults};
 
 use crate::bounds::bounds;
 use crate::{DictFault, Entry, Form, Rule};
@@ -53,10 +53,10 @@ impl<'a> Entries<'a> {
         requires { IsNoted self.now }
         ensures min { IfOk result (λ b. b.0 ≡ min_of (view_entry item.now).form (view_entry item.now).qualifier) }
         ensures max { IfOk result (λ b. b.1 ≡ max_of (view_entry item.now).qualifier) }
-        ensures good { IfOk result (λ _. entry_faults self.now.entries.items (view_entry item.now) ≡ []) }
+        ensures good { IfOk result (λ _. rule_entry_faults self.now.entries.items (view_entry item.now) ≡ []) }
         ensures new { IfOk result (λ _.
             contains_by (λ k. pointwise nat_eq item.now.name.text.now k.now) self.now.names ≡ false) }
-        ensures fault { IfErr result (Stops (entry_faults self.now.entries.items (view_entry item.now))) }
+        ensures fault { IfErr result (Stops (rule_entry_faults self.now.entries.items (view_entry item.now))) }
     {
         let range = bounds(item)?;
         let word = item.name;
@@ -72,10 +72,10 @@ impl<'a> Entries<'a> {
     /// One entry more, behind the others.
     fn add(&mut self, alloc: Global, item: &EntryItem<'a>) -> Result<(), DictFault>
         requires { IsNoted self.old }
-        ensures good { OnOk result (entry_faults self.old.entries.items (view_entry item.now) ≡ []) }
+        ensures good { OnOk result (rule_entry_faults self.old.entries.items (view_entry item.now) ≡ []) }
         ensures added { OnOk result (self.new.entries.items ≡ with_entry self.old.entries.items (view_entry item.now)) }
         ensures noted { OnOk result (IsNoted self.new) }
-        ensures fault { IfErr result (Stops (entry_faults self.old.entries.items (view_entry item.now))) }
+        ensures fault { IfErr result (Stops (rule_entry_faults self.old.entries.items (view_entry item.now))) }
     {
         let (min, max) = self.check(item)?;
         let form = item.form;

@@ -26,9 +26,9 @@ pub struct CommandRow {
     pub rule: &'static [EntryRow],
 }
 
-// first: 0*1 < NAME >, one: { NAME }, some: 1*{ NAME }, optional: [ NAME ], any: *[ NAME ]
+// fixed_optional: 0*1 < NAME >, one: { NAME }, some: 1*{ NAME }, optional: [ NAME ], any: *[ NAME ]
 macro_rules! entry {
-    (first $name:literal) => {
+    (fixed_optional $name:literal) => {
         entry!(Fixed, $name, 0, Some(1))
     };
     (one $name:literal) => {
@@ -169,7 +169,7 @@ const DPA: [EntryRow; 6] = [
 ];
 
 const ANSWER_MESSAGE: [EntryRow; 11] = [
-    entry!(first b"Session-Id"),
+    entry!(fixed_optional b"Session-Id"),
     entry!(one b"Origin-Host"),
     entry!(one b"Origin-Realm"),
     entry!(one b"Result-Code"),

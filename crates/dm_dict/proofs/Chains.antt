@@ -8,7 +8,8 @@ use Rattle.dm_dict.specs.Faults.{Fault, first, avp_faults}
 use Rattle.dm_dict.specs.Counters.{IsCountedBut}
 
 -- the element at i, and what is behind it
-pub element : {A : Type 0} (xs : List A) (i : ℕ) → i < length xs → (x : A) × (x ≡ get_or xs i x) × (drop i xs ≡ x ∷ drop (i + 1) xs)
+pub element : {A : Type 0} (xs : List A) (i : ℕ) → i < length xs
+    → (x : A) × (x ≡ get_or xs i x) × (drop i xs ≡ x ∷ drop (i + 1) xs)
 element [] i h = absurd (omega arith)
 element (x ∷ xs) zero h = (x, refl, refl)
 element (x ∷ xs) (suc i) h =
@@ -25,36 +26,52 @@ good_step [] gs h = refl
 good_step (g ∷ fs) gs h = absurd (cc)
 
 -- a bad element of a list, where those before it are good
-pub bad_element : {A : Type 0} (F : A → List Fault) (xs : List A) (o : Option Fault) (i : ℕ) (f : Fault) → i < length xs → o ≡ first (flat_map F (drop i xs)) → ((x : A) → x ≡ get_or xs i x → Some f ≡ first (F x)) → o ≡ Some f
+pub bad_element : {A : Type 0} (F : A → List Fault) (xs : List A) (o : Option Fault) (i : ℕ) (f : Fault)
+    → i < length xs → o ≡ first (flat_map F (drop i xs)) → ((x : A) → x ≡ get_or xs i x → Some f ≡ first (F x))
+    → o ≡ Some f
 bad_element F xs o i f h e bad =
     let (x, at, cut) = element xs i h in
     e ∙ (rw cut (bad_step (F x) (flat_map F (drop (i + 1) xs)) f (bad x at)))
 
 -- a good one
-pub good_element : {A : Type 0} (F : A → List Fault) (xs : List A) (o : Option Fault) (i : ℕ) → i < length xs → o ≡ first (flat_map F (drop i xs)) → ((x : A) → x ≡ get_or xs i x → None ≡ first (F x)) → o ≡ first (flat_map F (drop (i + 1) xs))
+pub good_element : {A : Type 0} (F : A → List Fault) (xs : List A) (o : Option Fault) (i : ℕ) → i < length xs
+    → o ≡ first (flat_map F (drop i xs)) → ((x : A) → x ≡ get_or xs i x → None ≡ first (F x))
+    → o ≡ first (flat_map F (drop (i + 1) xs))
 good_element F xs o i h e good =
     let (x, at, cut) = element xs i h in
     e ∙ (rw cut (good_step (F x) (flat_map F (drop (i + 1) xs)) (good x at)))
 
 -- the first of a list of AVPs is good
-pub good_member : (A : Avp → List Fault) (C : List Fault) (o : Option Fault) (a : Avp) (m k : List Avp) → o ≡ first (flat_map A m ++ C) → m ≡ a ∷ k → None ≡ first (A a) → o ≡ first (flat_map A k ++ C)
+pub good_member : (A : Avp → List Fault) (C : List Fault) (o : Option Fault) (a : Avp) (m k : List Avp)
+    → o ≡ first (flat_map A m ++ C) → m ≡ a ∷ k → None ≡ first (A a) → o ≡ first (flat_map A k ++ C)
 good_member A C o a m k e is good =
     e ∙ (rw (is, append_assoc (A a) (flat_map A k) C) (good_step (A a) (flat_map A k ++ C) good))
 
 -- the faults of an AVP, by what was looked up
-pub looked_up : (G : List Entry → Avp → List Fault) (b c : Bool) (a : Avp) (f g : Option AvpDef) (o : Option Fault) → b ≡ c → f ≡ g → o ≡ first (avp_faults G b a f) → o ≡ first (avp_faults G c a g)
+pub looked_up : (G : List Entry → Avp → List Fault) (b c : Bool) (a : Avp) (f g : Option AvpDef) (o : Option Fault)
+    → b ≡ c → f ≡ g → o ≡ first (avp_faults G b a f) → o ≡ first (avp_faults G c a g)
 looked_up G b c a f g o eb ef h = rw (← eb, ← ef) h
 
 -- one AVP more is counted
 pub counted_step : (avps : List AvpDef) (rule : List Entry) (all m k : List Avp) (a : Avp) (start : ℕ) (old new : List ℕ) (at : Option ℕ) → IsCountedBut avps rule all m start old → m ≡ a ∷ k → ((i : ℕ) → i < 64 → slice_index new i ≡ slice_index old i + (if is_at at (start + i) then 1 else 0)) → ((i : ℕ) (e : Entry) → i < length rule → e ≡ slice_index_or rule i e → is_at at i ≡ counts rule e (definition avps a)) → IsCountedBut avps rule all k start new
 counted_step avps rule all m k a start old new at before_one is one place = λ i e b w here.
-    by i e (counts rule e (definition avps a)) refl (one i b) (place (start + i) e w here) (rw is at (before_one i e b w here))
+    by i e (counts rule e (definition avps a)) refl (one i b) (place (start + i) e w here)
+    (rw is at (before_one i e b w here))
   where
-    by : (i : ℕ) (e : Entry) (t : Bool) → counts rule e (definition avps a) ≡ t → slice_index new i ≡ slice_index old i + (if is_at at (start + i) then 1 else 0) → is_at at (start + i) ≡ counts rule e (definition avps a) → slice_index old i + count avps rule (a ∷ k) e ≡ count avps rule all e → slice_index new i + count avps rule k e ≡ count avps rule all e
-    by i e true t n p o = let plus : slice_index new i ≡ slice_index old i + 1 = n ∙ rw (p, t) refl in let whole = rw t at o in omega arith
-    by i e false t n p o = let same : slice_index new i ≡ slice_index old i + 0 = n ∙ rw (p, t) refl in let whole = rw t at o in omega arith
+    by : (i : ℕ) (e : Entry) (t : Bool) → counts rule e (definition avps a) ≡ t
+        → slice_index new i ≡ slice_index old i + (if is_at at (start + i) then 1 else 0)
+        → is_at at (start + i) ≡ counts rule e (definition avps a)
+        → slice_index old i + count avps rule (a ∷ k) e ≡ count avps rule all e
+        → slice_index new i + count avps rule k e ≡ count avps rule all e
+    by i e true t n p o =
+        let plus : slice_index new i ≡ slice_index old i + 1 = n ∙ rw
+        (p, t) refl in let whole = rw t at o in omega arith
+    by i e false t n p o =
+        let same : slice_index new i ≡ slice_index old i + 0 = n ∙ rw
+        (p, t) refl in let whole = rw t at o in omega arith
 
 -- and no counter runs ahead of the AVPs
-pub room_step : (old new left rest all : ℕ) (b : Bool) → new ≡ old + (if b then 1 else 0) → old + left ≤ all → rest < left → new + rest ≤ all
+pub room_step : (old new left rest all : ℕ) (b : Bool) → new ≡ old + (if b then 1 else 0) → old + left ≤ all
+    → rest < left → new + rest ≤ all
 room_step old new left rest all true e h l = omega arith
 room_step old new left rest all false e h l = omega arith

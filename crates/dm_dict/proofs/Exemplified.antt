@@ -17,7 +17,8 @@ use Rattle.dm_dict.specs.Typed.{Each}
 there : (p : AvpDef → Bool) (ds : List AvpDef) → list_any p ds ≡ true → is_some (find p ds) ≡ true
 there p [] h = absurd (cc)
 there p (d ∷ ds) h = by (p d) refl h (there p ds) where
-  by : (b : Bool) → p d ≡ b → list_any p (d ∷ ds) ≡ true → (list_any p ds ≡ true → is_some (find p ds) ≡ true) → is_some (find p (d ∷ ds)) ≡ true
+  by : (b : Bool) → p d ≡ b → list_any p (d ∷ ds) ≡ true → (list_any p ds ≡ true → is_some (find p ds) ≡ true)
+      → is_some (find p (d ∷ ds)) ≡ true
   by true e g later = rw e refl
   by false e g later = rw e (later (rw e at g))
 
@@ -35,14 +36,17 @@ either : (a b : Bool) → (a || b) ≡ true → a ≡ false → b ≡ true
 either true b h e = absurd (cc)
 either false b h e = h
 
-mapped : (b : Bool) (o : Option AvpDef) → b ≡ false → is_some o ≡ true → IsSome (if b then None else option_map example_of o)
+mapped : (b : Bool) (o : Option AvpDef) → b ≡ false → is_some o ≡ true
+    → IsSome (if b then None else option_map example_of o)
 mapped true o e h = absurd (cc)
 mapped false None e h = absurd (cc)
 mapped false (Some f) e h = search
 
-known_example : (avps : List AvpDef) (e : Entry) → is_known avps e ≡ true → stands_for_any e ≡ false → IsSome (example avps e)
+known_example : (avps : List AvpDef) (e : Entry) → is_known avps e ≡ true → stands_for_any e ≡ false
+    → IsSome (example avps e)
 known_example avps e k other =
-    mapped (stands_for_any e) (find (is_named e.name) avps) other (there (is_named e.name) avps (either (is_any e.name) (list_any (is_named e.name) avps) k (other_name e other)))
+    mapped (stands_for_any e) (find (is_named e.name) avps) other
+    (there (is_named e.name) avps (either (is_any e.name) (list_any (is_named e.name) avps) k (other_name e other)))
 
 rule_examples : (avps : List AvpDef) (rule : List Entry) → knows_rule avps rule ≡ true → HasExamples avps rule
 rule_examples avps [] h = tt
@@ -50,7 +54,8 @@ rule_examples avps (e ∷ rule) h =
     let (here, rest) = and_parts (is_known avps e) (knows_rule avps rule) h in
     (known_example avps e here, rule_examples avps rule rest)
 
-each_example : {D : Type 0} (avps : List AvpDef) (rule : D → List Entry) (ds : List D) → list_all (λ d. knows_rule avps (rule d)) ds ≡ true → Each (λ d. HasExamples avps (rule d)) ds
+each_example : {D : Type 0} (avps : List AvpDef) (rule : D → List Entry) (ds : List D)
+    → list_all (λ d. knows_rule avps (rule d)) ds ≡ true → Each (λ d. HasExamples avps (rule d)) ds
 each_example avps rule [] h = tt
 each_example avps rule (d ∷ ds) h =
     let (here, rest) = and_parts (knows_rule avps (rule d)) (list_all (λ x. knows_rule avps (rule x)) ds) h in
@@ -58,5 +63,6 @@ each_example avps rule (d ∷ ds) h =
 
 pub missing_examples : MissingHasExample
 missing_examples d h =
-    let (avps, commands) = and_parts (list_all (λ a. knows_rule d.avps a.rule) d.avps) (list_all (λ c. knows_rule d.avps c.rule) d.commands) h in
+    let (avps, commands) = and_parts (list_all (λ a. knows_rule d.avps a.rule) d.avps)
+    (list_all (λ c. knows_rule d.avps c.rule) d.commands) h in
     (each_example d.avps (λ a. a.rule) d.avps avps, each_example d.avps (λ c. c.rule) d.commands commands)

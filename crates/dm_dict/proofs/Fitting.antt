@@ -17,13 +17,15 @@ is_not true e = cc
 is_not false e = refl
 
 -- what is found passed the test beside those before it
-pub found_sound : {D : Type 0} (test : List D → D → Bool) (p : D → Bool) (before ds : List D) (d : D) → each_after test before ds ≡ true → find p ds ≡ Some d → (b : List D) × (test b d ≡ true)
+pub found_sound : {D : Type 0} (test : List D → D → Bool) (p : D → Bool) (before ds : List D) (d : D)
+    → each_after test before ds ≡ true → find p ds ≡ Some d → (b : List D) × (test b d ≡ true)
 found_sound test p before [] d h f = absurd (cc)
 found_sound {D = D} test p before (x ∷ ds) d h f =
     let (first, rest) = and_parts (test before x) (each_after test (before ++ x ∷ []) ds) h in
     by (p x) refl first (λ g. found_sound test p (before ++ x ∷ []) ds d rest g)
   where
-    by : (b : Bool) → p x ≡ b → test before x ≡ true → (find p ds ≡ Some d → (b : List D) × (test b d ≡ true)) → (b : List D) × (test b d ≡ true)
+    by : (b : Bool) → p x ≡ b → test before x ≡ true → (find p ds ≡ Some d → (b : List D) × (test b d ≡ true))
+        → (b : List D) × (test b d ≡ true)
     by true e t later = let same : x ≡ d = (let g = rw e at f in cc) in (before, ap (test before) (sym same) ∙ t)
     by false e t later = later (rw e at f)
 
@@ -32,7 +34,8 @@ or_end true = refl
 or_end false = refl
 
 -- in a sound rule each name stands once, and no name of those before
-apart_by : (name : List ℕ) (before rule : List Entry) → each_after is_sound_entry before rule ≡ true → AtMostOne (is_called name) rule × (list_any (is_called name) before ≡ true → list_any (is_called name) rule ≡ false)
+apart_by : (name : List ℕ) (before rule : List Entry) → each_after is_sound_entry before rule ≡ true
+    → AtMostOne (is_called name) rule × (list_any (is_called name) before ≡ true → list_any (is_called name) rule ≡ false)
 apart_by name before [] h = (tt, λ some. refl)
 apart_by name before (e ∷ es) h =
     let (first, rest) = and_parts (is_sound_entry before e) (each_after is_sound_entry (before ++ e ∷ []) es) h in
@@ -43,7 +46,10 @@ apart_by name before (e ∷ es) h =
       λ some. by (is_called name e) refl some (is_not _ new) none,
     )
   where
-    by : (b : Bool) → is_called name e ≡ b → list_any (is_called name) before ≡ true → list_any (is_called e.name) before ≡ false → (list_any (is_called name) (before ++ e ∷ []) ≡ true → list_any (is_called name) es ≡ false) → list_any (is_called name) (e ∷ es) ≡ false
+    by : (b : Bool) → is_called name e ≡ b → list_any (is_called name) before ≡ true
+        → list_any (is_called e.name) before ≡ false
+        → (list_any (is_called name) (before ++ e ∷ []) ≡ true → list_any (is_called name) es ≡ false)
+        → list_any (is_called name) (e ∷ es) ≡ false
     by true t some new none =
         let same : name ≡ e.name = same_text name e.name (sym t) in
         let again : list_any (is_called e.name) before ≡ true = rw same at some in
@@ -77,17 +83,22 @@ sound_avp before f h =
 -- the definitions of a sound dictionary
 pub fit : (d : Definitions) → is_sound d ≡ true → IsFit d.avps
 fit d h =
-    let (avps, commands) = and_parts (each_after is_sound_avp [] d.avps) (each_after is_sound_command [] d.commands) h in
-    let sound = λ (code : ℕ) (vendor : Option ℕ) (f : AvpDef) (e : find (is_coded code vendor) d.avps ≡ Some f). found_sound is_sound_avp (is_coded code vendor) [] d.avps f avps e in
+    let (avps, commands) = and_parts (each_after is_sound_avp [] d.avps)
+    (each_after is_sound_command [] d.commands) h in
+    let sound = λ (code : ℕ) (vendor : Option ℕ) (f : AvpDef)
+    (e : find (is_coded code vendor) d.avps ≡ Some f). found_sound is_sound_avp
+    (is_coded code vendor) [] d.avps f avps e in
     record {
       named = λ code vendor f e. let (before, s) = sound code vendor f e in (sound_avp before f s).0;
       apart = λ code vendor f e. let (before, s) = sound code vendor f e in (sound_avp before f s).1;
     }
 
 -- and its commands
-pub apart_command : (d : Definitions) (code : ℕ) (request err : Bool) (c : CommandDef) → is_sound d ≡ true → find (is_headed code request err) d.commands ≡ Some c → IsApart c.rule
+pub apart_command : (d : Definitions) (code : ℕ) (request err : Bool) (c : CommandDef) → is_sound d ≡ true
+    → find (is_headed code request err) d.commands ≡ Some c → IsApart c.rule
 apart_command d code request err c h e =
-    let (avps, commands) = and_parts (each_after is_sound_avp [] d.avps) (each_after is_sound_command [] d.commands) h in
+    let (avps, commands) = and_parts (each_after is_sound_avp [] d.avps)
+    (each_after is_sound_command [] d.commands) h in
     let (before, s) = found_sound is_sound_command (is_headed code request err) [] d.commands c commands e in
     let (h5, rule) = and_parts _ _ s in
     apart_rule c.rule rule

@@ -24,25 +24,29 @@ same_at j = grind arith
 not_below : (p : Entry → Bool) (es : List Entry) (j k : ℕ) → k < j → is_at (position_from p j es) k ≡ false
 not_below p [] j k h = refl
 not_below p (e ∷ es) j k h = by (p e) refl (not_below p es (j + 1) k (omega arith)) where
-  by : (b : Bool) → p e ≡ b → is_at (position_from p (j + 1) es) k ≡ false → is_at (position_from p j (e ∷ es)) k ≡ false
+  by : (b : Bool) → p e ≡ b → is_at (position_from p (j + 1) es) k ≡ false
+      → is_at (position_from p j (e ∷ es)) k ≡ false
   by true e ih = rw e (grind arith)
   by false e ih = rw e ih
 
-none_at : (p : Entry → Bool) (es : List Entry) (i : ℕ) (d : Entry) → i < length es → list_any p es ≡ false → p (get_or es i d) ≡ false
+none_at : (p : Entry → Bool) (es : List Entry) (i : ℕ) (d : Entry) → i < length es → list_any p es ≡ false
+    → p (get_or es i d) ≡ false
 none_at p es i d h n = by (p (get_or es i d)) refl where
   by : (b : Bool) → p (get_or es i d) ≡ b → p (get_or es i d) ≡ false
   by true t = let some = list_any_at p es i d h t in cc
   by false t = t
 
 -- where at most one passes, the place of the first tells of each whether it passes
-pub spot : (p : Entry → Bool) (j : ℕ) (es : List Entry) (i : ℕ) (d : Entry) → i < length es → AtMostOne p es → is_at (position_from p j es) (j + i) ≡ p (get_or es i d)
+pub spot : (p : Entry → Bool) (j : ℕ) (es : List Entry) (i : ℕ) (d : Entry) → i < length es → AtMostOne p es
+    → is_at (position_from p j es) (j + i) ≡ p (get_or es i d)
 spot p j [] i d h a = absurd (omega arith)
 spot p j (e ∷ es) zero d h a = by (p e) refl where
   by : (b : Bool) → p e ≡ b → is_at (position_from p j (e ∷ es)) (j + 0) ≡ p e
   by true t = rw t (grind arith)
   by false t = rw t (not_below p es (j + 1) (j + 0) (omega arith))
 spot p j (e ∷ es) (suc i) d h a = by (p e) refl (spot p (j + 1) es i d (omega arith) a.1) where
-  by : (b : Bool) → p e ≡ b → is_at (position_from p (j + 1) es) (j + 1 + i) ≡ p (get_or es i d) → is_at (position_from p j (e ∷ es)) (j + suc i) ≡ p (get_or es i d)
+  by : (b : Bool) → p e ≡ b → is_at (position_from p (j + 1) es) (j + 1 + i) ≡ p (get_or es i d)
+      → is_at (position_from p j (e ∷ es)) (j + suc i) ≡ p (get_or es i d)
   by true t ih = let none = none_at p es i d (omega arith) (a.0 t) in rw (t, none) (grind arith)
   by false t ih = let same : j + 1 + i ≡ j + suc i = omega arith in rw t (rw same at ih)
 
@@ -50,7 +54,8 @@ spot p j (e ∷ es) (suc i) d h a = by (p e) refl (spot p (j + 1) es i d (omega 
 is_found : (p : Entry → Bool) (j : ℕ) (es : List Entry) → is_some (position_from p j es) ≡ list_any p es
 is_found p j [] = refl
 is_found p j (e ∷ es) = by (p e) refl (is_found p (j + 1) es) where
-  by : (b : Bool) → p e ≡ b → is_some (position_from p (j + 1) es) ≡ list_any p es → is_some (position_from p j (e ∷ es)) ≡ list_any p (e ∷ es)
+  by : (b : Bool) → p e ≡ b → is_some (position_from p (j + 1) es) ≡ list_any p es
+      → is_some (position_from p j (e ∷ es)) ≡ list_any p (e ∷ es)
   by true t ih = rw t refl
   by false t ih = rw t ih
 
@@ -62,13 +67,16 @@ is_seen p (e ∷ es) = by (p e) refl (is_seen p es) where
   by false t ih = rw t ih
 
 -- what is found stands at its place
-found_at : (p : Entry → Bool) (es : List Entry) (j : ℕ) (all : List Entry) → ((i : ℕ) → slice_get es i ≡ slice_get all (j + i)) → option_and_then (slice_get all) (position_from p j es) ≡ find p es
+found_at : (p : Entry → Bool) (es : List Entry) (j : ℕ) (all : List Entry)
+    → ((i : ℕ) → slice_get es i ≡ slice_get all (j + i))
+    → option_and_then (slice_get all) (position_from p j es) ≡ find p es
 found_at p [] j all h = refl
 found_at p (e ∷ es) j all h = by (p e) refl (found_at p es (j + 1) all (λ i. behind i)) where
   behind : (i : ℕ) → slice_get es i ≡ slice_get all (j + 1 + i)
   behind i = let same : j + suc i ≡ j + 1 + i = omega arith in rw same at (h (suc i))
 
-  by : (b : Bool) → p e ≡ b → option_and_then (slice_get all) (position_from p (j + 1) es) ≡ find p es → option_and_then (slice_get all) (position_from p j (e ∷ es)) ≡ find p (e ∷ es)
+  by : (b : Bool) → p e ≡ b → option_and_then (slice_get all) (position_from p (j + 1) es) ≡ find p es
+      → option_and_then (slice_get all) (position_from p j (e ∷ es)) ≡ find p (e ∷ es)
   by true t ih = let same : j + 0 ≡ j = omega arith in rw t (sym (rw same at (h 0)))
   by false t ih = rw t ih
 
@@ -81,10 +89,12 @@ none_named j [] = refl
 none_named j (e ∷ es) = none_named (j + 1) es
 
 -- the entry at the place of an AVP
-pub entry_at_place : (rule : List Entry) (f : Option AvpDef) (p q : Option ℕ) → p ≡ position_from (names f) 0 rule → q ≡ position_from stands_for_any 0 rule → option_and_then (slice_get rule) (or_place p q) ≡ entry_for rule f
+pub entry_at_place : (rule : List Entry) (f : Option AvpDef) (p q : Option ℕ) → p ≡ position_from (names f) 0 rule
+    → q ≡ position_from stands_for_any 0 rule → option_and_then (slice_get rule) (or_place p q) ≡ entry_for rule f
 entry_at_place rule f None q e g =
     let named : None ≡ find (names f) rule = ap (option_and_then (slice_get rule)) e ∙ found (names f) rule in
-    let any : option_and_then (slice_get rule) q ≡ find stands_for_any rule = ap (option_and_then (slice_get rule)) g ∙ found stands_for_any rule in
+    let any : option_and_then (slice_get rule) q ≡ find stands_for_any rule = ap (option_and_then (slice_get rule)) g
+    ∙ found stands_for_any rule in
     rw (← named) any
 entry_at_place rule f (Some i) q e g = by (find (names f) rule) refl where
   named : slice_get rule i ≡ find (names f) rule
@@ -107,7 +117,8 @@ one_named None rule a = none_passes rule
 one_named (Some d) rule a = a d.name
 
 -- `AVP` names nothing
-not_both : (f : Option AvpDef) (e : Entry) → IfSome f (λ d. IsOwnName d.name) → stands_for_any e ≡ true → names f e ≡ false
+not_both : (f : Option AvpDef) (e : Entry) → IfSome f (λ d. IsOwnName d.name) → stands_for_any e ≡ true
+    → names f e ≡ false
 not_both None e own any = refl
 not_both (Some d) e own any = by (is_called d.name e) refl where
   by : (b : Bool) → is_called d.name e ≡ b → is_called d.name e ≡ false
@@ -118,7 +129,9 @@ not_both (Some d) e own any = by (is_called d.name e) refl where
   by false t = t
 
 -- the place of an AVP tells of each entry whether it counts the AVP
-pub counts_at_place : (rule : List Entry) (f : Option AvpDef) (p q : Option ℕ) → IsApart rule → IfSome f (λ d. IsOwnName d.name) → p ≡ position_from (names f) 0 rule → q ≡ position_from stands_for_any 0 rule → (i : ℕ) (e : Entry) → i < length rule → e ≡ get_or rule i e → is_at (or_place p q) i ≡ counts rule e f
+pub counts_at_place : (rule : List Entry) (f : Option AvpDef) (p q : Option ℕ) → IsApart rule
+    → IfSome f (λ d. IsOwnName d.name) → p ≡ position_from (names f) 0 rule → q ≡ position_from stands_for_any 0 rule
+    → (i : ℕ) (e : Entry) → i < length rule → e ≡ get_or rule i e → is_at (or_place p q) i ≡ counts rule e f
 counts_at_place rule f p q apart own pe qe i e h at = by (stands_for_any e) refl p pe where
   from_zero : 0 + i ≡ i
   from_zero = omega arith
@@ -132,7 +145,8 @@ counts_at_place rule f p q apart own pe qe i e h at = by (stands_for_any e) refl
   some : is_some (position_from (names f) 0 rule) ≡ list_any (names f) rule
   some = is_found (names f) 0 rule
 
-  by : (b : Bool) → stands_for_any e ≡ b → (o : Option ℕ) → o ≡ position_from (names f) 0 rule → is_at (or_place o q) i ≡ counts rule e f
+  by : (b : Bool) → stands_for_any e ≡ b → (o : Option ℕ) → o ≡ position_from (names f) 0 rule
+      → is_at (or_place o q) i ≡ counts rule e f
   by true t None oe = let none : false ≡ list_any (names f) rule = ap is_some oe ∙ some in rw (t, ← none) (any ∙ t)
   by false t None oe = rw t (any ∙ t ∙ ap (λ o. is_at o i) oe ∙ named)
   by true t (Some k) oe =

@@ -19,7 +19,8 @@ use Rattle.dm_wire.specs.Members.{members}
 use Rattle.dm_dict.specs.Codes.{command_unsupported, invalid_hdr_bits, avp_unsupported, invalid_avp_value, missing_avp, avp_not_allowed, avp_occurs_too_many_times, invalid_avp_length, failed_avp}
 use Rattle.dm_dict.specs.Rules.{definition, stands_for_any, counted, count, entry_for, allows}
 
--- a fault: its Result-Code and the failed AVP, which stands alone, without the groups round it (7.5)
+-- A fault: its Result-Code and the failed AVP, which stands alone, without the groups round it: that Failed-AVP has them too
+-- is a MAY (7.5).
 pub record Fault : Type 0 where
   pub code : ℕ
   pub failed : Option Avp
@@ -45,8 +46,9 @@ data_faults kind group a = value_faults (flaw kind a.bytes) a
 abbrev pub is_failed_avp : Avp → Bool
 is_failed_avp a = nat_eq a.code failed_avp && option_eq nat_eq a.vendor None
 
--- one AVP: 5001 where it has no definition and the M bit is set (4.1), 5008 where the rule doesn't allow it (7.1.5), and then
--- its data
+-- One AVP: 5001 where it has no definition and the M bit is set (4.1), 5008 where the rule doesn't allow it (7.1.5), and then
+-- its data. One that has no definition passes without the M bit in every rule, also where no `AVP` stands: a receiver 'MAY
+-- simply ignore the AVP' (4.1).
 abbrev pub avp_faults : (List Entry → Avp → List Fault) → Bool → Avp → Option AvpDef → List Fault
 avp_faults groups allowed a None = if a.mandatory then fault_of avp_unsupported a else []
 avp_faults groups allowed a (Some f) =
@@ -71,7 +73,9 @@ abbrev pub excess_faults : Option ℕ → List Avp → List Fault
 excess_faults None l = []
 excess_faults (Some max) l = if nat_lt 0 max && nat_lt max (length l) then record { code = avp_occurs_too_many_times; failed = slice_get l max } ∷ [] else []
 
--- one entry of the rule: 5005 where the list has fewer than min (7.1.5), 5009 where it has more than max
+-- One entry of the rule: 5005 where the list has fewer than min (7.1.5), 5009 where it has more than max. That a fixed entry
+-- 'defines the fixed position of an AVP' (3.2) isn't looked at: section 7.1 has no Result-Code for it, and Session-Id, the
+-- only one in the base dictionary, SHOULD come first (8.8), no more.
 abbrev pub entry_faults : List AvpDef → List Entry → List Avp → Entry → List Fault
 entry_faults avps rule l e =
     (if nat_lt (count avps rule l e) e.min then record { code = missing_avp; failed = example avps e } ∷ [] else [])
@@ -83,12 +87,14 @@ list_faults_by groups avps rule l =
     flat_map (λ a. avp_faults groups (allows (entry_for rule (definition avps a))) a (definition avps a)) l
     ++ flat_map (entry_faults avps rule l) rule
 
--- the members of a group; 5014 with empty data where the octets are no AVPs one after the other
+-- the members of a group; 5014 where the octets are no AVPs one after the other, with 'an empty payload', which is enough for a
+-- Grouped AVP (7.1.5)
 abbrev pub member_faults : (List Avp → List Fault) → Avp → Option (List Avp) → List Fault
 member_faults inside a None = fault_of invalid_avp_length (record a { bytes = [] })
 member_faults inside a (Some l) = inside l
 
--- a Grouped AVP of this rule, where n groups may stand inside each other: with none left 5004
+-- A Grouped AVP of this rule, where n groups may stand inside each other: with none left 5004. RFC 6733 (4.4) lets groups be
+-- nested and has no limit; here there is one (own), so that no message sets how deep the walk goes.
 abbrev pub group_faults : ℕ → List AvpDef → List Entry → Avp → List Fault
 group_faults zero avps rule a = fault_of invalid_avp_value a
 group_faults (suc n) avps rule a = member_faults (list_faults_by (group_faults n avps) avps rule) a (members a.bytes)
@@ -96,7 +102,7 @@ group_faults (suc n) avps rule a = member_faults (list_faults_by (group_faults n
 abbrev pub list_faults : ℕ → List AvpDef → List Entry → List Avp → List Fault
 list_faults n avps rule l = list_faults_by (group_faults n avps) avps rule l
 
--- an answer that reports an error: all of them have one rule, that of command 0 with the E bit (own; 7.2)
+-- an answer that reports an error: all of them have one rule (7.2), which stands at command 0 with the E bit (own)
 abbrev pub is_error_answer : Header → Bool
 is_error_answer h = not h.request && h.error
 

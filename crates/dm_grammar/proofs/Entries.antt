@@ -49,16 +49,25 @@ close_end Required = refl
 close_end Optional = refl
 
 -- the token that opens a bracket
-opened_by : (s : Symbol) (text : List ℕ) (line last : ℕ) (ws : List Word) (form : Form) → opens s ≡ Some form → collect last High (word s text line ∷ ws) ≡ filled Opens (word s text line) (collect last (open_place form) ws)
-opened_by symbols.Less text line last ws form e = let same : Fixed ≡ form = cc in ap (λ (f : Form). filled Opens (word symbols.Less text line) (collect last (open_place f) ws)) same
-opened_by symbols.OpenBrace text line last ws form e = let same : Required ≡ form = cc in ap (λ (f : Form). filled Opens (word symbols.OpenBrace text line) (collect last (open_place f) ws)) same
-opened_by symbols.OpenSquare text line last ws form e = let same : Optional ≡ form = cc in ap (λ (f : Form). filled Opens (word symbols.OpenSquare text line) (collect last (open_place f) ws)) same
+opened_by : (s : Symbol) (text : List ℕ) (line last : ℕ) (ws : List Word) (form : Form) → opens s ≡ Some form
+    → collect last High (word s text line ∷ ws) ≡ filled Opens (word s text line) (collect last (open_place form) ws)
+opened_by symbols.Less text line last ws form e =
+    let same : Fixed ≡ form = cc in ap
+    (λ (f : Form). filled Opens (word symbols.Less text line) (collect last (open_place f) ws)) same
+opened_by symbols.OpenBrace text line last ws form e =
+    let same : Required ≡ form = cc in ap
+    (λ (f : Form). filled Opens (word symbols.OpenBrace text line) (collect last (open_place f) ws)) same
+opened_by symbols.OpenSquare text line last ws form e =
+    let same : Optional ≡ form = cc in ap
+    (λ (f : Form). filled Opens (word symbols.OpenSquare text line) (collect last (open_place f) ws)) same
 opened_by _ text line last ws form e = absurd cc
 
-pub opened : (w : Word) (last : ℕ) (ws : List Word) (form : Form) → opens w.symbol ≡ Some form → collect last High (w ∷ ws) ≡ filled Opens w (collect last (open_place form) ws)
+pub opened : (w : Word) (last : ℕ) (ws : List Word) (form : Form) → opens w.symbol ≡ Some form
+    → collect last High (w ∷ ws) ≡ filled Opens w (collect last (open_place form) ws)
 opened w last ws form e = opened_by w.symbol w.text w.line last ws form e
 
-unopened_by : (s : Symbol) (text : List ℕ) (line last : ℕ) (ws : List Word) → opens s ≡ None → collect last High (word s text line ∷ ws) ≡ Err line
+unopened_by : (s : Symbol) (text : List ℕ) (line last : ℕ) (ws : List Word) → opens s ≡ None
+    → collect last High (word s text line ∷ ws) ≡ Err line
 unopened_by symbols.Less text line last ws e = absurd cc
 unopened_by symbols.OpenBrace text line last ws e = absurd cc
 unopened_by symbols.OpenSquare text line last ws e = absurd cc
@@ -68,7 +77,8 @@ pub unopened : (w : Word) (last : ℕ) (ws : List Word) → opens w.symbol ≡ N
 unopened w last ws e = unopened_by w.symbol w.text w.line last ws e
 
 -- a name in brackets makes an entry
-pub bracketed_entry : (form : Form) (o n c : Word) (r : Result Told ℕ) → filled Opens o (filled (EntryIs form) n (filled Nothing c r)) ≡ with_entry (entry form n) r
+pub bracketed_entry : (form : Form) (o n c : Word) (r : Result Told ℕ)
+    → filled Opens o (filled (EntryIs form) n (filled Nothing c r)) ≡ with_entry (entry form n) r
 bracketed_entry form o n c (Ok told) = refl
 bracketed_entry form o n c (Err line) = refl
 
@@ -76,52 +86,70 @@ bracketed_entry form o n c (Err line) = refl
 abbrev pub low_entry : Option Word → Option Word → Entry → Entry
 low_entry low high e = record e { qualifier = Some (record { low = low; high = high }) }
 
-without_high : (low : Option Word) (star : Word) (e : Entry) (r : Result Told ℕ) → e.qualifier ≡ None → low_before low (filled StarIs star (with_entry e r)) ≡ with_entry (low_entry low None e) r
+without_high : (low : Option Word) (star : Word) (e : Entry) (r : Result Told ℕ) → e.qualifier ≡ None
+    → low_before low (filled StarIs star (with_entry e r)) ≡ with_entry (low_entry low None e) r
 without_high None star e (Ok told) h = rw h refl
 without_high (Some w) star e (Ok told) h = rw h refl
 without_high None star e (Err line) h = refl
 without_high (Some w) star e (Err line) h = refl
 
-with_high : (low : Option Word) (star w : Word) (e : Entry) (r : Result Told ℕ) → low_before low (filled StarIs star (filled HighIs w (with_entry e r))) ≡ with_entry (low_entry low (Some w) e) r
+with_high : (low : Option Word) (star w : Word) (e : Entry) (r : Result Told ℕ)
+    → low_before low (filled StarIs star (filled HighIs w (with_entry e r))) ≡ with_entry (low_entry low (Some w) e) r
 with_high None star w e (Ok told) = refl
 with_high (Some v) star w e (Ok told) = refl
 with_high None star w e (Err line) = refl
 with_high (Some v) star w e (Err line) = refl
 
 -- from behind the `*` to the bracket
-no_number : (last : ℕ) (ws : List Word) → begins (One symbols.Number) ws ≡ false → collect last Starred ws ≡ collect last High ws
+no_number : (last : ℕ) (ws : List Word) → begins (One symbols.Number) ws ≡ false
+    → collect last Starred ws ≡ collect last High ws
 no_number last [] h = refl
 no_number last (w ∷ ws) h = rw (collect, h) refl
 
-a_number : (last : ℕ) (ws rest : List Word) (w : Word) → ws ≡ w ∷ rest → fits (One symbols.Number) w.symbol ≡ true → collect last Starred ws ≡ filled HighIs w (collect last High rest)
+a_number : (last : ℕ) (ws rest : List Word) (w : Word) → ws ≡ w ∷ rest → fits (One symbols.Number) w.symbol ≡ true
+    → collect last Starred ws ≡ filled HighIs w (collect last High rest)
 a_number last ws rest w e h = rw (e, collect, h) refl
 
 -- what `optional` answers of a number
 abbrev pub Number? : Option Token → List Word → List Word → Type 0
-Number? v ws rest = MatchOption v ((rest ≡ ws) × (begins (One symbols.Number) ws ≡ false)) (λ t. (ws ≡ view t ∷ rest) × (fits (One symbols.Number) (view t).symbol ≡ true))
+Number? v ws rest =
+    MatchOption v ((rest ≡ ws) × (begins (One symbols.Number) ws ≡ false))
+    (λ t. (ws ≡ view t ∷ rest) × (fits (One symbols.Number) (view t).symbol ≡ true))
 
-starred_entry : (last : ℕ) (low : Option Word) (star : Word) (ws rest end : List Word) (v : Option Token) (e : Entry) → Number? v ws rest → e.qualifier ≡ None → collect last High rest ≡ with_entry e (collect last Rule end) →
-    low_before low (filled StarIs star (collect last Starred ws)) ≡ with_entry (low_entry low (view_option v) e) (collect last Rule end)
+starred_entry : (last : ℕ) (low : Option Word) (star : Word) (ws rest end : List Word) (v : Option Token) (e : Entry)
+    → Number? v ws rest → e.qualifier ≡ None → collect last High rest ≡ with_entry e (collect last Rule end) →
+    low_before low (filled StarIs star (collect last Starred ws)) ≡ with_entry (low_entry low (view_option v) e)
+    (collect last Rule end)
 starred_entry last low star ws rest end None e n q h =
-    ap (λ (r : Result Told ℕ). low_before low (filled StarIs star r)) (no_number last ws n.1 ∙ subst (λ (s : List Word). collect last High s ≡ with_entry e (collect last Rule end)) n.0 h) ∙ without_high low star e (collect last Rule end) q
+    ap (λ (r : Result Told ℕ). low_before low (filled StarIs star r))
+    (no_number last ws n.1 ∙ subst (λ (s : List Word). collect last High s ≡ with_entry e (collect last Rule end)) n.0 h) ∙ without_high low star e (collect last Rule end) q
 starred_entry last low star ws rest end (Some v) e n q h =
-    ap (λ (r : Result Told ℕ). low_before low (filled StarIs star r)) (a_number last ws rest (view v) n.0 n.1 ∙ ap (filled HighIs (view v)) h) ∙ with_high low star (view v) e (collect last Rule end)
+    ap (λ (r : Result Told ℕ). low_before low (filled StarIs star r))
+    (a_number last ws rest (view v) n.0 n.1 ∙ ap (filled HighIs (view v)) h) ∙ with_high low star (view v) e
+    (collect last Rule end)
 
 -- `*` [number] and an entry in brackets, where `*` is taken
 pub low_to_entry : (last : ℕ) (low : Option Word) (star : Word) (all ws rest end : List Word) (v : Option Token) (e : Entry) → collect last Low all ≡ filled StarIs star (collect last Starred ws) → Number? v ws rest → e.qualifier ≡ None → collect last High rest ≡ with_entry e (collect last Rule end) →
     low_before low (collect last Low all) ≡ with_entry (low_entry low (view_option v) e) (collect last Rule end)
-low_to_entry last low star all ws rest end v e s n q h = ap (low_before low) s ∙ starred_entry last low star ws rest end v e n q h
+low_to_entry last low star all ws rest end v e s n q h =
+    ap (low_before low) s ∙ starred_entry last low star ws rest end v e n q h
 
 low_fault : (low : Option Word) (line : ℕ) (r : Result Told ℕ) → r ≡ Err line → low_before low r ≡ Err line
 low_fault None line r h = h
 low_fault (Some w) line r h = rw h refl
 
-starred_fault : (last : ℕ) (line : ℕ) (ws rest : List Word) (v : Option Token) → Number? v ws rest → collect last High rest ≡ Err line → collect last Starred ws ≡ Err line
-starred_fault last line ws rest None n h = no_number last ws n.1 ∙ subst (λ (s : List Word). collect last High s ≡ Err line) n.0 h
+starred_fault : (last : ℕ) (line : ℕ) (ws rest : List Word) (v : Option Token) → Number? v ws rest
+    → collect last High rest ≡ Err line → collect last Starred ws ≡ Err line
+starred_fault last line ws rest None n h =
+    no_number last ws n.1 ∙ subst (λ (s : List Word). collect last High s ≡ Err line) n.0 h
 starred_fault last line ws rest (Some v) n h = a_number last ws rest (view v) n.0 n.1 ∙ ap (filled HighIs (view v)) h
 
-pub no_star : (last : ℕ) (low : Option Word) (line : ℕ) (all : List Word) → collect last Low all ≡ Err line → low_before low (collect last Low all) ≡ Err line
+pub no_star : (last : ℕ) (low : Option Word) (line : ℕ) (all : List Word) → collect last Low all ≡ Err line
+    → low_before low (collect last Low all) ≡ Err line
 no_star last low line all h = low_fault low line (collect last Low all) h
 
-pub no_bracket : (last : ℕ) (low : Option Word) (line : ℕ) (star : Word) (all ws rest : List Word) (v : Option Token) → collect last Low all ≡ filled StarIs star (collect last Starred ws) → Number? v ws rest → collect last High rest ≡ Err line → low_before low (collect last Low all) ≡ Err line
-no_bracket last low line star all ws rest v s n h = low_fault low line (collect last Low all) (s ∙ ap (filled StarIs star) (starred_fault last line ws rest v n h))
+pub no_bracket : (last : ℕ) (low : Option Word) (line : ℕ) (star : Word) (all ws rest : List Word) (v : Option Token)
+    → collect last Low all ≡ filled StarIs star (collect last Starred ws) → Number? v ws rest
+    → collect last High rest ≡ Err line → low_before low (collect last Low all) ≡ Err line
+no_bracket last low line star all ws rest v s n h =
+    low_fault low line (collect last Low all) (s ∙ ap (filled StarIs star) (starred_fault last line ws rest v n h))

@@ -22,7 +22,8 @@ titles : (w : Word) (r : Result Told ℕ) → IfOk (filled TitleIs w r) IsPlain
 titles w (Ok told) = refl
 titles w (Err line) = tt
 
-plain_from : (s : Symbol) (text : List ℕ) (line last : ℕ) (ws : List Word) → IfOk (collect last Text (word s text line ∷ ws)) IsPlain
+plain_from : (s : Symbol) (text : List ℕ) (line last : ℕ) (ws : List Word)
+    → IfOk (collect last Text (word s text line ∷ ws)) IsPlain
 plain_from At text line last ws = begins (word At text line) (collect last AtSign ws)
 plain_from Less text line last ws = begins (word Less text line) (collect last TitleLess ws)
 plain_from Name text line last ws = titles (word Name text line) (collect last Titled ws)

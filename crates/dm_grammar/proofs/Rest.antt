@@ -7,7 +7,8 @@ use Rattle.dm_grammar.specs.Readers.{begins}
 use Rattle.dm_grammar.specs.Views.{view_words}
 
 -- the token at a place begins what is left from there on
-pub begins_at : (d : Token) (ts : List Token) (place : ℕ) (t : Terminal) → place < length ts → fits t (get_or ts place d).symbol ≡ begins t (drop place (view_words ts))
+pub begins_at : (d : Token) (ts : List Token) (place : ℕ) (t : Terminal) → place < length ts
+    → fits t (get_or ts place d).symbol ≡ begins t (drop place (view_words ts))
 begins_at d [] place t h = absurd (omega arith)
 begins_at d (x ∷ ts) zero t h = refl
 begins_at d (x ∷ ts) (suc place) t h = begins_at d ts place t (omega arith)

@@ -10,7 +10,8 @@ with_entries [] r = r
 with_entries (e ∷ es) r = with_entry e (with_entries es r)
 
 -- one more entry at the end
-pub with_entries-push : (es : List Entry) (e : Entry) (r : Result Told ℕ) → with_entries (es ++ e ∷ []) r ≡ with_entries es (with_entry e r)
+pub with_entries-push : (es : List Entry) (e : Entry) (r : Result Told ℕ)
+    → with_entries (es ++ e ∷ []) r ≡ with_entries es (with_entry e r)
 with_entries-push [] e r = refl
 with_entries-push (d ∷ es) e r = ap (with_entry d) (with_entries-push es e r)
 

@@ -15,7 +15,9 @@ use Rattle.dm_grammar.specs.Told.{Told, nothing, fill, filled, collect, items_to
 use Rattle.dm_grammar.specs.Syntax.{SomeStep, Takes, Leads, StandsAtToken, StandsAtEnd, IsSyntaxFault, IsGrammatical}
 
 -- the step that is taken is one of the list, and without one there is none
-taken : (b : Bool) (rs : List Step) (s : Symbol) (r0 r : Step) → fits r0.wants s ≡ b → (if b then Some r0 else taking rs s) ≡ Some r → (taking rs s ≡ Some r → SomeStep rs s r.leads) → SomeStep (r0 ∷ rs) s r.leads
+taken : (b : Bool) (rs : List Step) (s : Symbol) (r0 r : Step) → fits r0.wants s ≡ b
+    → (if b then Some r0 else taking rs s) ≡ Some r → (taking rs s ≡ Some r → SomeStep rs s r.leads)
+    → SomeStep (r0 ∷ rs) s r.leads
 taken true rs s r0 r f e h = let same : r0 ≡ r = cc in inl (f, ap (λ (r : Step). r.leads) same)
 taken false rs s r0 r f e h = inr (h e)
 
@@ -23,7 +25,9 @@ some_taken : (rs : List Step) (s : Symbol) (r : Step) → taking rs s ≡ Some r
 some_taken [] s r e = absurd cc
 some_taken (r0 ∷ rs) s r e = taken (fits r0.wants s) rs s r0 r refl e (some_taken rs s r)
 
-not_taken : (b : Bool) (rs : List Step) (s : Symbol) (r0 : Step) (q : Place) → fits r0.wants s ≡ b → (if b then Some r0 else taking rs s) ≡ None → (taking rs s ≡ None → SomeStep rs s q → ⊥) → SomeStep (r0 ∷ rs) s q → ⊥
+not_taken : (b : Bool) (rs : List Step) (s : Symbol) (r0 : Step) (q : Place) → fits r0.wants s ≡ b
+    → (if b then Some r0 else taking rs s) ≡ None → (taking rs s ≡ None → SomeStep rs s q → ⊥) → SomeStep (r0 ∷ rs) s q
+    → ⊥
 not_taken true rs s r0 q f e h some = absurd cc
 not_taken false rs s r0 q f e h (inl x) = absurd cc
 not_taken false rs s r0 q f e h (inr x) = h e x
@@ -50,7 +54,8 @@ apart (r ∷ rs) = clear r.wants rs && apart rs
 
 -- a symbol by its number
 abbrev symbol_of : ℕ → Symbol
-symbol_of n = get_or (symbols.Less ∷ symbols.Greater ∷ symbols.OpenBrace ∷ symbols.CloseBrace ∷ symbols.OpenSquare ∷ symbols.CloseSquare ∷ symbols.Star ∷ symbols.Comma ∷ symbols.Colon ∷ symbols.At ∷ symbols.Define ∷ symbols.Number ∷ symbols.Name ∷ symbols.Diameter ∷ symbols.Header ∷ symbols.DiameterHeader ∷ symbols.Avp ∷ symbols.AvpHeader ∷ symbols.Req ∷ symbols.Pxy ∷ symbols.Err ∷ symbols.Stray ∷ []) n symbols.Stray
+symbol_of n =
+    get_or (symbols.Less ∷ symbols.Greater ∷ symbols.OpenBrace ∷ symbols.CloseBrace ∷ symbols.OpenSquare ∷ symbols.CloseSquare ∷ symbols.Star ∷ symbols.Comma ∷ symbols.Colon ∷ symbols.At ∷ symbols.Define ∷ symbols.Number ∷ symbols.Name ∷ symbols.Diameter ∷ symbols.Header ∷ symbols.DiameterHeader ∷ symbols.Avp ∷ symbols.AvpHeader ∷ symbols.Req ∷ symbols.Pxy ∷ symbols.Err ∷ symbols.Stray ∷ []) n symbols.Stray
 
 back : (s : Symbol) → symbol_of (symbol_number s) ≡ s
 back symbols.Less = refl
@@ -93,7 +98,8 @@ disjoint_ok (One a) (One b) s d f g =
     let n : symbol_number a ≡ symbol_number b = ap symbol_number e in
     absurd (grind (arith, nat_tests))
 
-clear_ok : (t : Terminal) (rs : List Step) (s : Symbol) (q : Place) → clear t rs ≡ true → fits t s ≡ true → SomeStep rs s q → ⊥
+clear_ok : (t : Terminal) (rs : List Step) (s : Symbol) (q : Place) → clear t rs ≡ true → fits t s ≡ true
+    → SomeStep rs s q → ⊥
 clear_ok t [] s q c f some = some
 clear_ok t (r ∷ rs) s q c f (inl x) = disjoint_ok t r.wants s (and_parts (disjoint t r.wants) (clear t rs) c).0 f x.0
 clear_ok t (r ∷ rs) s q c f (inr x) = clear_ok t rs s q (and_parts (disjoint t r.wants) (clear t rs) c).1 f x
@@ -101,7 +107,8 @@ clear_ok t (r ∷ rs) s q c f (inr x) = clear_ok t rs s q (and_parts (disjoint t
 abbrev IsTaken : List Step → Symbol → Place → Type 0
 IsTaken rs s q = (r : Step) × ((taking rs s ≡ Some r) × (r.leads ≡ q))
 
-later : (b : Bool) (rs : List Step) (s : Symbol) (q : Place) (r0 : Step) → fits r0.wants s ≡ b → (fits r0.wants s ≡ true → ⊥) → IsTaken rs s q → IsTaken (r0 ∷ rs) s q
+later : (b : Bool) (rs : List Step) (s : Symbol) (q : Place) (r0 : Step) → fits r0.wants s ≡ b
+    → (fits r0.wants s ≡ true → ⊥) → IsTaken rs s q → IsTaken (r0 ∷ rs) s q
 later true rs s q r0 f bars t = absurd (bars f)
 later false rs s q r0 f bars t = (t.0, (rw f t.1.0, t.1.1))
 
@@ -172,34 +179,42 @@ one_place (w ∷ ws) o p q e f =
 filled_fault : (r : Role) (w : Word) (t : Result Told ℕ) (line : ℕ) → t ≡ Err line → filled r w t ≡ Err line
 filled_fault r w t line h = rw h refl
 
-pub led_fault : (last line : ℕ) (front rest : List Word) (p q : Place) → Leads p front q → collect last q rest ≡ Err line → collect last p (front ++ rest) ≡ Err line
+pub led_fault : (last line : ℕ) (front rest : List Word) (p q : Place) → Leads p front q
+    → collect last q rest ≡ Err line → collect last p (front ++ rest) ≡ Err line
 led_fault last line [] rest p q l h = subst (λ (q : Place). collect last q rest ≡ Err line) (sym l) h
 led_fault last line (w ∷ front) rest p q l h =
     let t = the_step p w l.0 l.1.0 in
-    rw (collect, t.1.0) (filled_fault t.0.role w (collect last t.0.leads (front ++ rest)) line (led_fault last line front rest t.0.leads q (subst (λ (m : Place). Leads m front q) (sym t.1.1) l.1.1) h))
+    rw (collect, t.1.0)
+    (filled_fault t.0.role w (collect last t.0.leads (front ++ rest)) line (led_fault last line front rest t.0.leads q (subst (λ (m : Place). Leads m front q) (sym t.1.1) l.1.1) h))
 
-stuck_here : (last : ℕ) (p : Place) (w : Word) (ws : List Word) (o : Option Step) → taking (steps p) w.symbol ≡ o → ((q : Place) → Takes p w q → ⊥) → collect last p (w ∷ ws) ≡ Err w.line
+stuck_here : (last : ℕ) (p : Place) (w : Word) (ws : List Word) (o : Option Step) → taking (steps p) w.symbol ≡ o
+    → ((q : Place) → Takes p w q → ⊥) → collect last p (w ∷ ws) ≡ Err w.line
 stuck_here last p w ws None e bars = rw (collect, e) refl
 stuck_here last p w ws (Some r) e bars = absurd (bars r.leads (some_taken (steps p) w.symbol r e))
 
 pub from_token : (last line : ℕ) (ws : List Word) (p : Place) → StandsAtToken p ws line → collect last p ws ≡ Err line
 from_token last line ws p b =
-    ap (collect last p) b.whole ∙ (led_fault last b.bad.line b.before (b.bad ∷ b.behind) p b.place b.led (stuck_here last b.place b.bad b.behind (taking (steps b.place) b.bad.symbol) refl b.stuck) ∙ ap Err (sym b.its_line))
+    ap (collect last p) b.whole ∙
+    (led_fault last b.bad.line b.before (b.bad ∷ b.behind) p b.place b.led (stuck_here last b.place b.bad b.behind (taking (steps b.place) b.bad.symbol) refl b.stuck) ∙ ap Err (sym b.its_line))
 
 end_here : (last : ℕ) (p : Place) → may_end p ≡ false → collect last p [] ≡ Err last
 end_here last p h = rw (collect, h) refl
 
 pub from_end : (last line : ℕ) (ws : List Word) (p : Place) → StandsAtEnd p ws last line → collect last p ws ≡ Err line
 from_end last line ws p b =
-    ap (collect last p) (sym (append-nil ws)) ∙ (led_fault last last ws [] p b.place b.led (end_here last b.place b.no_end) ∙ ap Err (sym b.its_line))
+    ap (collect last p) (sym (append-nil ws)) ∙
+    (led_fault last last ws [] p b.place b.led (end_here last b.place b.no_end) ∙ ap Err (sym b.its_line))
 
 -- and each fault stands there
 abbrev Stands : ℕ → Place → List Word → ℕ → Type 0
 Stands last p ws line = StandsAtToken p ws line ⊎ StandsAtEnd p ws last line
 
-one_more : (last line : ℕ) (p m : Place) (w : Word) (ws : List Word) → Takes p w m → Stands last m ws line → Stands last p (w ∷ ws) line
-one_more last line p m w ws t (inl b) = inl (record { before = w ∷ b.before; bad = b.bad; behind = b.behind; place = b.place; whole = ap (λ (ws : List Word). w ∷ ws) b.whole; led = (m, (t, b.led)); stuck = b.stuck; its_line = b.its_line })
-one_more last line p m w ws t (inr b) = inr (record { place = b.place; led = (m, (t, b.led)); no_end = b.no_end; its_line = b.its_line })
+one_more : (last line : ℕ) (p m : Place) (w : Word) (ws : List Word) → Takes p w m → Stands last m ws line
+    → Stands last p (w ∷ ws) line
+one_more last line p m w ws t (inl b) =
+    inl (record { before = w ∷ b.before; bad = b.bad; behind = b.behind; place = b.place; whole = ap (λ (ws : List Word). w ∷ ws) b.whole; led = (m, (t, b.led)); stuck = b.stuck; its_line = b.its_line })
+one_more last line p m w ws t (inr b) =
+    inr (record { place = b.place; led = (m, (t, b.led)); no_end = b.no_end; its_line = b.its_line })
 
 err_inside : (r : Role) (w : Word) (t : Result Told ℕ) (line : ℕ) → filled r w t ≡ Err line → t ≡ Err line
 err_inside r w (Ok told) line h = absurd cc
@@ -208,32 +223,41 @@ err_inside r w (Err l) line h = h
 same_line : (a b : ℕ) (r : Result Told ℕ) → r ≡ Err a → r ≡ Err b → b ≡ a
 same_line a b r e f = cc
 
-at_step : (last line : ℕ) (p : Place) (w : Word) (ws : List Word) (o : Option Step) → taking (steps p) w.symbol ≡ o → collect last p (w ∷ ws) ≡ Err line → ((r : Step) → collect last r.leads ws ≡ Err line → Stands last r.leads ws line) → Stands last p (w ∷ ws) line
+at_step : (last line : ℕ) (p : Place) (w : Word) (ws : List Word) (o : Option Step) → taking (steps p) w.symbol ≡ o
+    → collect last p (w ∷ ws) ≡ Err line
+    → ((r : Step) → collect last r.leads ws ≡ Err line → Stands last r.leads ws line) → Stands last p (w ∷ ws) line
 at_step last line p w ws None e h go =
     let here : collect last p (w ∷ ws) ≡ Err w.line = rw (collect, e) refl in
     inl (record { before = []; bad = w; behind = ws; place = p; whole = refl; led = refl; stuck = λ q t. none_taken (steps p) w.symbol q e t; its_line = same_line w.line line (collect last p (w ∷ ws)) here h })
 at_step last line p w ws (Some r) e h go =
     let there : collect last p (w ∷ ws) ≡ filled r.role w (collect last r.leads ws) = rw (collect, e) refl in
-    one_more last line p r.leads w ws (some_taken (steps p) w.symbol r e) (go r (err_inside r.role w (collect last r.leads ws) line (sym there ∙ h)))
+    one_more last line p r.leads w ws (some_taken (steps p) w.symbol r e)
+    (go r (err_inside r.role w (collect last r.leads ws) line (sym there ∙ h)))
 
 at_end : (last line : ℕ) (p : Place) (b : Bool) → may_end p ≡ b → collect last p [] ≡ Err line → Stands last p [] line
 at_end last line p true e h = let good : collect last p [] ≡ Ok nothing = rw (collect, e) refl in absurd cc
-at_end last line p false e h = inr (record { place = p; led = refl; no_end = e; its_line = same_line last line (collect last p []) (end_here last p e) h })
+at_end last line p false e h =
+    inr (record { place = p; led = refl; no_end = e; its_line = same_line last line (collect last p []) (end_here last p e) h })
 
 pub stands : (last line : ℕ) (ws : List Word) (p : Place) → collect last p ws ≡ Err line → Stands last p ws line
 stands last line [] p h = at_end last line p (may_end p) refl h
-stands last line (w ∷ ws) p h = at_step last line p w ws (taking (steps p) w.symbol) refl h (λ r g. stands last line ws r.leads g)
+stands last line (w ∷ ws) p h =
+    at_step last line p w ws (taking (steps p) w.symbol) refl h (λ r g. stands last line ws r.leads g)
 
 -- all tokens are taken
 abbrev AllTaken : Place → List Word → Type 0
 AllTaken p ws = (q : Place) × (Leads p ws q × (may_end q ≡ true))
 
-ok_inside : (r : Role) (w : Word) (t : Result Told ℕ) (told : Told) → filled r w t ≡ Ok told → (inner : Told) × (t ≡ Ok inner)
+ok_inside : (r : Role) (w : Word) (t : Result Told ℕ) (told : Told) → filled r w t ≡ Ok told
+    → (inner : Told) × (t ≡ Ok inner)
 ok_inside r w (Ok inner) told h = (inner, refl)
 ok_inside r w (Err l) told h = absurd cc
 
-ok_step : (last : ℕ) (told : Told) (p : Place) (w : Word) (ws : List Word) (o : Option Step) → taking (steps p) w.symbol ≡ o → collect last p (w ∷ ws) ≡ Ok told → ((r : Step) (inner : Told) → collect last r.leads ws ≡ Ok inner → AllTaken r.leads ws) → AllTaken p (w ∷ ws)
-ok_step last told p w ws None e h go = let here : collect last p (w ∷ ws) ≡ Err w.line = rw (collect, e) refl in absurd cc
+ok_step : (last : ℕ) (told : Told) (p : Place) (w : Word) (ws : List Word) (o : Option Step)
+    → taking (steps p) w.symbol ≡ o → collect last p (w ∷ ws) ≡ Ok told
+    → ((r : Step) (inner : Told) → collect last r.leads ws ≡ Ok inner → AllTaken r.leads ws) → AllTaken p (w ∷ ws)
+ok_step last told p w ws None e h go =
+    let here : collect last p (w ∷ ws) ≡ Err w.line = rw (collect, e) refl in absurd cc
 ok_step last told p w ws (Some r) e h go =
     let there : collect last p (w ∷ ws) ≡ filled r.role w (collect last r.leads ws) = rw (collect, e) refl in
     let inside = ok_inside r.role w (collect last r.leads ws) told (sym there ∙ h) in
@@ -246,9 +270,11 @@ ok_end last told p false e h = let bad : collect last p [] ≡ Err last = end_he
 
 ok_taken : (last : ℕ) (told : Told) (ws : List Word) (p : Place) → collect last p ws ≡ Ok told → AllTaken p ws
 ok_taken last told [] p h = ok_end last told p (may_end p) refl h
-ok_taken last told (w ∷ ws) p h = ok_step last told p w ws (taking (steps p) w.symbol) refl h (λ r inner g. ok_taken last inner ws r.leads g)
+ok_taken last told (w ∷ ws) p h =
+    ok_step last told p w ws (taking (steps p) w.symbol) refl h (λ r inner g. ok_taken last inner ws r.leads g)
 
-taken_ok : (last : ℕ) (ws : List Word) (p q : Place) → Leads p ws q → may_end q ≡ true → (told : Told) × (collect last p ws ≡ Ok told)
+taken_ok : (last : ℕ) (ws : List Word) (p q : Place) → Leads p ws q → may_end q ≡ true
+    → (told : Told) × (collect last p ws ≡ Ok told)
 taken_ok last [] p q l e = let here : may_end p ≡ true = ap may_end l ∙ e in (nothing, rw (collect, here) refl)
 taken_ok last (w ∷ ws) p q l e =
     let t = the_step p w l.0 l.1.0 in
@@ -277,5 +303,6 @@ fault_law text line = (
 pub good_law : (text : List ℕ) → IsGrammatical text ↔ ((items : List Written) × (told text ≡ Ok items))
 good_law text = (
   λ g. let t = taken_ok (last_line text) (tokens text) Text g.0 g.1.0 g.1.1 in (t.0.items, ap items_told t.1),
-  λ k. let t = ok_told (collect (last_line text) Text (tokens text)) k.0 k.1 in ok_taken (last_line text) t.0 (tokens text) Text t.1,
+  λ k. let t = ok_told (collect (last_line text) Text (tokens text)) k.0 k.1 in ok_taken (last_line text) t.0
+      (tokens text) Text t.1,
 )

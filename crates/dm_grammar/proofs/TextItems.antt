@@ -13,7 +13,8 @@ with_items [] r = r
 with_items (i ∷ is) r = with_item i (with_items is r)
 
 -- one more item at the end
-pub with_items-push : (is : List Written) (i : Written) (r : Result Told ℕ) → with_items (is ++ i ∷ []) r ≡ with_items is (with_item i r)
+pub with_items-push : (is : List Written) (i : Written) (r : Result Told ℕ)
+    → with_items (is ++ i ∷ []) r ≡ with_items is (with_item i r)
 with_items-push [] i r = refl
 with_items-push (j ∷ is) i r = ap (with_item j) (with_items-push is i r)
 
@@ -21,7 +22,8 @@ with_items-err : (is : List Written) (r : Result Told ℕ) (line : ℕ) → r �
 with_items-err [] r line h = h
 with_items-err (i ∷ is) r line h = ap (with_item i) (with_items-err is r line h)
 
-pub with_items-fault : (is : List Written) (r : Result Told ℕ) (line : ℕ) → r ≡ Err line → items_told (with_items is r) ≡ Err line
+pub with_items-fault : (is : List Written) (r : Result Told ℕ) (line : ℕ) → r ≡ Err line
+    → items_told (with_items is r) ≡ Err line
 with_items-fault is r line h = ap items_told (with_items-err is r line h)
 
 with_items-ok : (is : List Written) → with_items is (Ok nothing) ≡ Ok (record nothing { items = is })
@@ -33,10 +35,13 @@ pub with_items-end : (is : List Written) → items_told (with_items is (Ok nothi
 with_items-end is = ap items_told (with_items-ok is)
 
 -- a fault of what is left is one of the text
-pub fault_through : (is : List Written) (all r : Result Told ℕ) (fault : ItemFault) → all ≡ with_items is r → IfSyntax fault (λ line. r ≡ Err line) → IfSyntax fault (λ line. items_told all ≡ Err line)
+pub fault_through : (is : List Written) (all r : Result Told ℕ) (fault : ItemFault) → all ≡ with_items is r
+    → IfSyntax fault (λ line. r ≡ Err line) → IfSyntax fault (λ line. items_told all ≡ Err line)
 fault_through is all r (Syntax line) e h = ap items_told e ∙ with_items-fault is r line h
 fault_through is all r NoMemory e h = tt
 
 -- where nothing is left the items are all
-pub all_read : (last : ℕ) (is : List Written) (all : Result Told ℕ) (ws : List Word) → ws ≡ [] → all ≡ with_items is (collect last Text ws) → items_told all ≡ Ok is
-all_read last is all ws n e = ap items_told (e ∙ ap (λ (ws : List Word). with_items is (collect last Text ws)) n) ∙ with_items-end is
+pub all_read : (last : ℕ) (is : List Written) (all : Result Told ℕ) (ws : List Word) → ws ≡ []
+    → all ≡ with_items is (collect last Text ws) → items_told all ≡ Ok is
+all_read last is all ws n e =
+    ap items_told (e ∙ ap (λ (ws : List Word). with_items is (collect last Text ws)) n) ∙ with_items-end is

@@ -1,10 +1,11 @@
 //! The base dictionary, told from outside, and that its calls succeed with memory at hand.
+use crate::text::joined;
 use dm_definitions::{AvpType, Definitions, Form};
 use std::alloc::Global;
 use std::process::Abort;
 
-/// The text of the base dictionary, in the printed form.
-const BASE: &[u8] = b"\
+/// The AVPs of the base dictionary that aren't groups.
+const PLAIN: &str = "\
 @ User-Name 1 UTF8String
 @ Class 25 OctetString
 @ Proxy-State 33 OctetString
@@ -30,6 +31,10 @@ const BASE: &[u8] = b"\
 @ Origin-Realm 296 DiameterIdentity
 @ Experimental-Result-Code 298 Unsigned32
 @ Inband-Security-Id 299 Unsigned32
+";
+
+/// Its groups and commands, in the printed form.
+const PRINTED: &str = "\
 < Vendor-Specific-Application-Id > ::= < AVP Header: 260 > 1* { Vendor-Id } 0*1 [ Auth-Application-Id ] 0*1 [ Acct-Application-Id ]
 < Failed-AVP > ::= < AVP Header: 279 > 1* { AVP }
 < Proxy-Info > ::= < AVP Header: 284 > 1*1 { Proxy-Host } 1*1 { Proxy-State } 0* [ AVP ]
@@ -43,33 +48,8 @@ const BASE: &[u8] = b"\
 < answer-message > ::= < Diameter Header: 0, ERR 0 > 0*1 < Session-Id > 1*1 { Origin-Host } 1*1 { Origin-Realm } 1*1 { Result-Code } 0*1 [ Origin-State-Id ] 0*1 [ Error-Message ] 0*1 [ Error-Reporting-Host ] 0* [ Failed-AVP ] 0*1 [ Experimental-Result ] 0* [ Proxy-Info ] 0* [ AVP ]
 ";
 
-/// The same text as a person writes it.
-const WRITTEN: &[u8] = b"\
-@ User-Name 1 UTF8String
-@ Class 25 OctetString
-@ Proxy-State 33 OctetString
-@ Event-Timestamp 55 Time
-@ Host-IP-Address 257 Address
-@ Auth-Application-Id 258 Unsigned32
-@ Acct-Application-Id 259 Unsigned32
-@ Session-Id 263 UTF8String
-@ Origin-Host 264 DiameterIdentity
-@ Supported-Vendor-Id 265 Unsigned32
-@ Vendor-Id 266 Unsigned32
-@ Firmware-Revision 267 Unsigned32
-@ Result-Code 268 Unsigned32
-@ Product-Name 269 UTF8String
-@ Disconnect-Cause 273 Enumerated
-@ Origin-State-Id 278 Unsigned32
-@ Proxy-Host 280 DiameterIdentity
-@ Error-Message 281 UTF8String
-@ Destination-Realm 283 DiameterIdentity
-@ Redirect-Host 292 DiameterURI
-@ Destination-Host 293 DiameterIdentity
-@ Error-Reporting-Host 294 DiameterIdentity
-@ Origin-Realm 296 DiameterIdentity
-@ Experimental-Result-Code 298 Unsigned32
-@ Inband-Security-Id 299 Unsigned32
+/// The same as a person writes them.
+const WRITTEN: &str = "\
 < Vendor-Specific-Application-Id > ::= < AVP Header: 260 > 1*{ Vendor-Id } [ Auth-Application-Id ] [ Acct-Application-Id ]
 < Failed-AVP > ::= < AVP Header: 279 > 1*{ AVP }
 < Proxy-Info > ::= < AVP Header: 284 > { Proxy-Host } { Proxy-State } *[ AVP ]
@@ -83,14 +63,9 @@ const WRITTEN: &[u8] = b"\
 < answer-message > ::= < Diameter Header: 0, ERR > 0*1 < Session-Id > { Origin-Host } { Origin-Realm } { Result-Code } [ Origin-State-Id ] [ Error-Message ] [ Error-Reporting-Host ] *[ Failed-AVP ] [ Experimental-Result ] *[ Proxy-Info ] *[ AVP ]
 ";
 
-// These helpers have no clause, so that the check of a test looks into no definition and no text.
-
-fn base_text() -> &'static [u8] {
-    BASE
-}
-
-fn written_text() -> &'static [u8] {
-    WRITTEN
+/// The text of the base dictionary, with its groups and commands in this form.
+fn base_text(rt: &(impl Abort + AllocGlobal), others: &str) -> String {
+    joined(rt, &[PLAIN, others])
 }
 
 fn prints(alloc: Global, definitions: &Definitions, text: &[u8]) -> bool {
@@ -111,9 +86,19 @@ fn read(rt: &(impl Abort + AllocGlobal), text: &[u8]) -> Definitions {
     read.expect(rt, "definitions")
 }
 
-fn reads_as_base(rt: &(impl Abort + AllocGlobal), text: &[u8]) -> bool {
-    let definitions = read(rt, text);
-    let same = prints(rt.alloc(), &definitions, base_text());
+/// Whether the definitions are printed as the base dictionary's.
+fn prints_base(rt: &(impl Abort + AllocGlobal), definitions: &Definitions) -> bool {
+    let text = base_text(rt, PRINTED);
+    let same = prints(rt.alloc(), definitions, text.as_bytes());
+    drop(text);
+    same
+}
+
+fn reads_as_base(rt: &(impl Abort + AllocGlobal), others: &str) -> bool {
+    let text = base_text(rt, others);
+    let definitions = read(rt, text.as_bytes());
+    drop(text);
+    let same = prints_base(rt, &definitions);
     drop(definitions);
     same
 }
@@ -150,7 +135,7 @@ fn copies(base: &Definitions) -> Option<bool> {
 }
 
 fn assert_base(rt: &(impl Abort + AllocGlobal), base: &Definitions) {
-    assert!(rt; prints(rt.alloc(), base, base_text()), "printed");
+    assert!(rt; prints_base(rt, base), "printed");
     assert!(rt; finds_avps(base) == Some(true), "AVPs");
     assert!(rt; finds_no_others(base), "no others");
     assert!(rt; finds_place(base) == Some(true), "a place");
@@ -159,8 +144,8 @@ fn assert_base(rt: &(impl Abort + AllocGlobal), base: &Definitions) {
 
 #[test]
 fn base_is_read(rt: HostRuntime) {
-    assert!(rt; reads_as_base(&rt, written_text()));
-    assert!(rt; reads_as_base(&rt, base_text()));
+    assert!(rt; reads_as_base(&rt, WRITTEN));
+    assert!(rt; reads_as_base(&rt, PRINTED));
 }
 
 #[test]

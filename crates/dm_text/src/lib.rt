@@ -10,6 +10,6 @@ mod word;
 
 pub use crate::decimal::push_decimal;
 pub use crate::hexadecimal::{push_hex, read_hex_line, read_hex_word};
-pub use crate::line::{Lines, is_passed_over, line_feed, trim};
+pub use crate::line::{Lines, is_skipped, line_feed, trim};
 pub use crate::number::{read_long_number, read_number};
 pub use crate::word::Words;

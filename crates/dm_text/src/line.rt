@@ -4,19 +4,31 @@ ghost use Rattle.std.specs.Str.Lines.{lines, strip_carriage_return};
 ghost use Rattle.std.specs.Iterator.{YieldsFirstRef, item_count};
 ghost use Rattle.dm_text.specs.Lines.{drop_spaces, trimmed, is_skipped};
 
+use std::marker::Model;
+
 /// The lines of an input, in order.
 ///
 /// LF ends a line, and the last LF may be missing. One CR directly before an LF isn't part of
 /// the line.
+///
+/// A contract sees it as the octets that are left.
 #[derive(Drop)]
 pub struct Lines<'a> {
     rest: &'a [u8],
 }
 
+impl<'a> Model for Lines<'a> {
+    ghost use Rattle.std.specs.Prelude.{ℕ, List};
+
+    ghost Value = { List ℕ };
+
+    ghost view = { λ lines. lines.rest.now };
+}
+
 impl<'a> Lines<'a> {
     /// The lines of these octets.
     pub fn new(input: &'a [u8]) -> Lines<'a>
-        ensures { result.rest.now ≡ input.now }
+        ensures { result ≡ input.now }
     {
         Lines { rest: input }
     }
@@ -25,9 +37,9 @@ impl<'a> Lines<'a> {
 impl<'a> Iterator for Lines<'a> {
     type Item = &'a [u8];
 
-    ghost next_gives = { YieldsFirstRef (λ s. lines s.rest.now) };
+    ghost next_gives = { YieldsFirstRef (λ s. lines s) };
 
-    ghost remaining = { item_count (λ s. lines s.rest.now) };
+    ghost remaining = { item_count (λ s. lines s) };
 
     fn next(&mut self) -> Option<&'a [u8]> {
         if self.rest.is_empty() {
@@ -86,7 +98,7 @@ pub fn after_spaces(line: &[u8]) -> &[u8]
 }
 
 /// Whether a trimmed line is empty or a comment.
-pub fn is_passed_over(line: &[u8]) -> bool
+pub fn is_skipped(line: &[u8]) -> bool
     ensures { result ≡ is_skipped line.now }
 {
     matches!(line, [] | [b'#', ..])

@@ -4,17 +4,28 @@ ghost use Rattle.std.specs.Iterator.{YieldsFirstRef, item_count};
 ghost use Rattle.dm_text.specs.Words.{words};
 
 use crate::line::after_spaces;
+use std::marker::Model;
 
 /// The words of a line, in order: its parts between spaces. A tab is no space.
+///
+/// A contract sees it as the octets that are left.
 #[derive(Drop)]
 pub struct Words<'a> {
     rest: &'a [u8],
 }
 
+impl<'a> Model for Words<'a> {
+    ghost use Rattle.std.specs.Prelude.{ℕ, List};
+
+    ghost Value = { List ℕ };
+
+    ghost view = { λ words. words.rest.now };
+}
+
 impl<'a> Words<'a> {
     /// The words of this line.
     pub fn new(line: &'a [u8]) -> Words<'a>
-        ensures { result.rest.now ≡ line.now }
+        ensures { result ≡ line.now }
     {
         Words { rest: line }
     }
@@ -23,9 +34,9 @@ impl<'a> Words<'a> {
 impl<'a> Iterator for Words<'a> {
     type Item = &'a [u8];
 
-    ghost next_gives = { YieldsFirstRef (λ s. words s.rest.now) };
+    ghost next_gives = { YieldsFirstRef (λ s. words s) };
 
-    ghost remaining = { item_count (λ s. words s.rest.now) };
+    ghost remaining = { item_count (λ s. words s) };
 
     fn next(&mut self) -> Option<&'a [u8]> {
         let rest = after_spaces(self.rest);

@@ -9,9 +9,12 @@ use Rattle.std.proofs.lemmas.List.Splits.{length-slice_split}
 use Rattle.dm_text.specs.Lines.{trimmed, is_skipped, content}
 
 pub content-append : (s t : List (List ℕ)) → content (s ++ t) ≡ content s ++ content t
-content-append s t = ap (filter (λ l. not (is_skipped l))) (map-append trimmed s t) ∙ filter-append (λ l. not (is_skipped l)) (map trimmed s) (map trimmed t)
+content-append s t =
+    ap (filter (λ l. not (is_skipped l))) (map-append trimmed s t) ∙ filter-append (λ l. not (is_skipped l))
+    (map trimmed s) (map trimmed t)
 
-pub content-one : (line : List ℕ) (b : Bool) → is_skipped (trimmed line) ≡ b → content (line ∷ []) ≡ cond (not b) (trimmed line ∷ []) []
+pub content-one : (line : List ℕ) (b : Bool) → is_skipped (trimmed line) ≡ b
+    → content (line ∷ []) ≡ cond (not b) (trimmed line ∷ []) []
 content-one line b is = ap (λ v. cond (not v) (trimmed line ∷ []) []) is
 
 parts-count : (parts : List (List ℕ)) → length (lines_of_parts parts) ≤ length parts
@@ -30,6 +33,8 @@ lines-count s =
     let few = count_by-le-length (λ b. nat_eq b 10) s in
     omega (arith, most, size, few)
 
-pub content-cut : (before : List (List ℕ)) (line : List ℕ) (after : List (List ℕ)) → is_skipped (trimmed line) ≡ false → content (before ++ line ∷ after) ≡ content before ++ trimmed line ∷ content after
+pub content-cut : (before : List (List ℕ)) (line : List ℕ) (after : List (List ℕ)) → is_skipped (trimmed line) ≡ false
+    → content (before ++ line ∷ after) ≡ content before ++ trimmed line ∷ content after
 content-cut before line after counts =
-    content-append before (line ∷ after) ∙ ap (λ b. content before ++ cond (not b) (trimmed line ∷ content after) (content after)) counts
+    content-append before (line ∷ after) ∙ ap
+    (λ b. content before ++ cond (not b) (trimmed line ∷ content after) (content after)) counts

@@ -1,6 +1,10 @@
 pub mod Buildings
+pub mod CanonicalOctets
 pub mod Contents
+pub mod Decided
+pub mod DecidedLines
 pub mod Dividing
+pub mod Joins
 pub mod Known
 pub mod OneBuilt
 pub mod OneChecked
@@ -13,4 +17,6 @@ pub mod Positions
 pub mod Refusals
 pub mod Shown
 pub mod Slashes
+pub mod SomeBuilt
+pub mod SomeShown
 pub mod Tellings

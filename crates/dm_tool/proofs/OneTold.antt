@@ -17,23 +17,27 @@ one_mark letter true false other h = absurd (other h)
 one_mark letter false true other h = absurd (other (sym h))
 
 abbrev made_header : Bool → Bool → Bool → Bool → ℕ → ℕ → ℕ → ℕ → Header
-made_header r p e t c a h n = record { request = r; proxiable = p; error = e; retransmit = t; command = c; application = a; hop_id = h; end_id = n }
+made_header r p e t c a h n =
+    record { request = r; proxiable = p; error = e; retransmit = t; command = c; application = a; hop_id = h; end_id = n }
 
 abbrev made_avp : ℕ → Option ℕ → Bool → Bool → List ℕ → Avp
 made_avp c v m p d = record { code = c; vendor = v; mandatory = m; protected = p; bytes = d }
 
 -- the octets of two lists of characters, one by one
-cells_four : {X : Type 0} {a b c d e f g h : X} → a ∷ b ∷ c ∷ d ∷ [] ≡ e ∷ f ∷ g ∷ h ∷ [] → (a ≡ e) × (b ≡ f) × (c ≡ g) × (d ≡ h)
+cells_four : {X : Type 0} {a b c d e f g h : X} → a ∷ b ∷ c ∷ d ∷ [] ≡ e ∷ f ∷ g ∷ h ∷ []
+    → (a ≡ e) × (b ≡ f) × (c ≡ g) × (d ≡ h)
 cells_four k = (cc, cc, cc, cc)
 
 cells_three : {X : Type 0} {a b c e f g : X} → a ∷ b ∷ c ∷ [] ≡ e ∷ f ∷ g ∷ [] → (a ≡ e) × (b ≡ f) × (c ≡ g)
 cells_three k = (cc, cc, cc)
 
-header_words : {X : Type 0} {w : List X} {m c f a x h y e z n g i j k : X} → w ≡ m ∷ c ∷ f ∷ a ∷ x ∷ h ∷ y ∷ e ∷ z ∷ [] → w ≡ m ∷ n ∷ g ∷ a ∷ i ∷ h ∷ j ∷ e ∷ k ∷ []
+header_words : {X : Type 0} {w : List X} {m c f a x h y e z n g i j k : X} → w ≡ m ∷ c ∷ f ∷ a ∷ x ∷ h ∷ y ∷ e ∷ z ∷ []
+    → w ≡ m ∷ n ∷ g ∷ a ∷ i ∷ h ∷ j ∷ e ∷ k ∷ []
     → (c ≡ n) × (f ≡ g) × (x ≡ i) × (y ≡ j) × (z ≡ k)
 header_words p q = (cc, cc, cc, cc, cc)
 
-avp_words : {X : Type 0} {w : List X} {a b c d e f : X} → w ≡ a ∷ b ∷ c ∷ [] → w ≡ d ∷ e ∷ f ∷ [] → (a ≡ d) × (b ≡ e) × (c ≡ f)
+avp_words : {X : Type 0} {w : List X} {a b c d e f : X} → w ≡ a ∷ b ∷ c ∷ [] → w ≡ d ∷ e ∷ f ∷ []
+    → (a ≡ d) × (b ≡ e) × (c ≡ f)
 avp_words p q = (cc, cc, cc)
 
 too_many : {X : Type 0} {w r : List X} {a b c d e f g : X} → w ≡ a ∷ b ∷ c ∷ d ∷ r → w ≡ e ∷ f ∷ g ∷ [] → ⊥
@@ -53,13 +57,16 @@ one_header h k line a b =
     let Hop : List ℕ → Type 0 = λ w. TellsNumber h.hop_id w in
     let End : List ℕ → Type 0 = λ w. TellsNumber h.end_id w in
     let e4 = one_number h.command k.command b.command (subst Command parts.0 a.tells_command) b.tells_command in
-    let e5 = one_number h.application k.application b.application (subst Application parts.2 a.tells_application) b.tells_application in
+    let e5 = one_number h.application k.application b.application
+    (subst Application parts.2 a.tells_application) b.tells_application in
     let e6 = one_number h.hop_id k.hop_id b.hop_id (subst Hop parts.3 a.tells_hop_id) b.tells_hop_id in
     let e7 = one_number h.end_id k.end_id b.end_id (subst End parts.4 a.tells_end_id) b.tells_end_id in
     same_header h k e0 e1 e2 e3 e4 e5 e6 e7
   where
-    same_header : (h k : Header) → h.request ≡ k.request → h.proxiable ≡ k.proxiable → h.error ≡ k.error → h.retransmit ≡ k.retransmit → h.command ≡ k.command → h.application ≡ k.application → h.hop_id ≡ k.hop_id
-        → h.end_id ≡ k.end_id → made_header h.request h.proxiable h.error h.retransmit h.command h.application h.hop_id h.end_id ≡ made_header k.request k.proxiable k.error k.retransmit k.command k.application k.hop_id k.end_id
+    same_header : (h k : Header) → h.request ≡ k.request → h.proxiable ≡ k.proxiable → h.error ≡ k.error
+        → h.retransmit ≡ k.retransmit → h.command ≡ k.command → h.application ≡ k.application → h.hop_id ≡ k.hop_id
+        → h.end_id ≡ k.end_id
+        → made_header h.request h.proxiable h.error h.retransmit h.command h.application h.hop_id h.end_id ≡ made_header k.request k.proxiable k.error k.retransmit k.command k.application k.hop_id k.end_id
     same_header h k e0 e1 e2 e3 e4 e5 e6 e7 = rw (e0, e1, e2, e3, e4, e5, e6, e7) refl
 
 -- `-` is no hexadecimal
@@ -86,7 +93,8 @@ one_avp a b line h k =
     let e4 = one_data a.bytes b.bytes k.bytes (subst Data parts.2 h.tells_bytes) k.tells_bytes in
     same_avp a b codes_are.0 codes_are.1 e2 e3 e4
   where
-    same_avp : (a b : Avp) → a.code ≡ b.code → a.vendor ≡ b.vendor → a.mandatory ≡ b.mandatory → a.protected ≡ b.protected → a.bytes ≡ b.bytes
+    same_avp : (a b : Avp) → a.code ≡ b.code → a.vendor ≡ b.vendor → a.mandatory ≡ b.mandatory
+        → a.protected ≡ b.protected → a.bytes ≡ b.bytes
         → made_avp a.code a.vendor a.mandatory a.protected a.bytes ≡ made_avp b.code b.vendor b.mandatory b.protected b.bytes
     same_avp a b e0 e1 e2 e3 e4 = rw (e0, e1, e2, e3, e4) refl
 

@@ -5,7 +5,8 @@ use Rattle.std.proofs.lemmas.Bool.{ltb-false}
 use Rattle.std.proofs.lemmas.List.Quantifiers.{position-Some}
 use Rattle.std.proofs.lemmas.List.Sums.{position_or_len_is}
 
-pub place_of : (p : ℕ → Bool) (s : List ℕ) (n : ℕ) → position p s ≡ Some n → (position_or_len p s ≡ n) × (position_or_len p s < length s)
+pub place_of : (p : ℕ → Bool) (s : List ℕ) (n : ℕ) → position p s ≡ Some n
+    → (position_or_len p s ≡ n) × (position_or_len p s < length s)
 place_of p s n found =
     let at = position-Some p s n 0 found in
     let is = position_or_len_is p s n 0 (omega (arith, at.0)) at.2 (λ below. at.1) in
@@ -13,6 +14,7 @@ place_of p s n found =
 
 pub no_place : (p : ℕ → Bool) (s : List ℕ) → position p s ≡ None → length s ≤ position_or_len p s
 no_place p s found = by (nat_lt (position_or_len p s) (length s)) refl found where
-  by : (v : Bool) → nat_lt (position_or_len p s) (length s) ≡ v → cond v (Some (position_or_len p s)) None ≡ None → length s ≤ position_or_len p s
+  by : (v : Bool) → nat_lt (position_or_len p s) (length s) ≡ v → cond v (Some (position_or_len p s)) None ≡ None
+      → length s ≤ position_or_len p s
   by true is none = absurd (cc)
   by false is none = ltb-false (position_or_len p s) (length s) is

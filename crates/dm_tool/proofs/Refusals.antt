@@ -12,19 +12,24 @@ use Rattle.dm_tool.proofs.Buildings.{before_last, nowhere}
 use Rattle.dm_tool.proofs.Contents.{lines-count}
 
 -- a line that is there has a number that fits
-pub line_counts : (input line rest rest' : List ℕ) (before : List (List ℕ)) → lines input ≡ before ++ lines rest → lines rest ≡ line ∷ lines rest' → length before ≤ length input
+pub line_counts : (input line rest rest' : List ℕ) (before : List (List ℕ)) → lines input ≡ before ++ lines rest
+    → lines rest ≡ line ∷ lines rest' → length before ≤ length input
 line_counts input line rest rest' before h k =
     let size = ap length (h ∙ ap (λ v. before ++ v) k) ∙ length-append before (line ∷ lines rest') in
     let most = lines-count input in
     omega (arith, size, most)
 
 -- the line behind those before it
-pub lines-next : (input line rest rest' : List ℕ) (before : List (List ℕ)) → lines input ≡ before ++ lines rest → lines rest ≡ line ∷ lines rest' → lines input ≡ (before ++ line ∷ []) ++ lines rest'
-lines-next input line rest rest' before h k = h ∙ ap (λ v. before ++ v) k ∙ sym (append_assoc before (line ∷ []) (lines rest'))
+pub lines-next : (input line rest rest' : List ℕ) (before : List (List ℕ)) → lines input ≡ before ++ lines rest
+    → lines rest ≡ line ∷ lines rest' → lines input ≡ (before ++ line ∷ []) ++ lines rest'
+lines-next input line rest rest' before h k =
+    h ∙ ap (λ v. before ++ v) k ∙ sym (append_assoc before (line ∷ []) (lines rest'))
 
 -- a line is out of place
 pub built_up_to : (input line rest rest' text new : List ℕ) (good : Bool) (last : Option Header) (avps : List Avp) (before : List (List ℕ)) (number : ℕ) → lines input ≡ before ++ lines rest → lines rest ≡ line ∷ lines rest'
-    → Stands (content before) last avps text good → is_skipped (trimmed line) ≡ false → GoesOnNowhere last (trimmed line) → number ≡ length before + 1 → new ≡ text ++ codes "fault syntax " ++ decimal number ++ 10 ∷ []
+    → Stands (content before) last avps text good → is_skipped (trimmed line) ≡ false
+    → GoesOnNowhere last (trimmed line) → number ≡ length before + 1
+    → new ≡ text ++ codes "fault syntax " ++ decimal number ++ 10 ∷ []
     → BuildsText input new false
 built_up_to input line rest rest' text new good last avps before number h k stands counts none is text_is =
     let Built : List Message → Type 0 = λ l. BuildsMessages l text good in

@@ -1,5 +1,5 @@
 -- What build prints for an input, and whether all of it was good.
-use Rattle.std.specs.Prelude.{◌≡◌, ◌≢◌, ◌⊎◌, ℕ, ◌+◌, Bool, true, false, ◌&&◌, length, List, [], ◌∷◌, ◌++◌, codes}
+use Rattle.std.specs.Prelude.{◌≡◌, ◌≢◌, ◌⊎◌, ℕ, ◌+◌, Bool, true, false, length, List, [], ◌∷◌, ◌++◌, codes}
 use Rattle.std.specs.Str.Lines.{lines}
 use Rattle.std.specs.Fmt.{decimal}
 use Rattle.hex.specs.Hex.{encode_lower}
@@ -9,6 +9,7 @@ use Rattle.dm_wire.specs.declared.message.Message.{Message}
 use Rattle.dm_wire.specs.Spelling.{SpellsMessage}
 use Rattle.dm_wire.specs.Canonical.{canonical_message}
 use Rattle.dm_text.specs.Lines.{content, content_lines, trimmed, is_skipped}
+use Rattle.dm_tool.specs.Joined.{Joined}
 use Rattle.dm_tool.specs.Messages.{TellsHeader, TellsAvp, TellsAll}
 
 -- a message that has a spelling is printed as its canonical octets in lower case hexadecimal, and is good
@@ -19,12 +20,14 @@ BuildsOctets m text good = SpellsMessage m (canonical_message m) × (text ≡ en
 abbrev pub BuildsTooLong : Message → List ℕ → Bool → Type 0
 BuildsTooLong m text good = ((s : List ℕ) → SpellsMessage m s → ⊥) × (text ≡ codes "fault TooLong" ++ 10 ∷ []) × (good ≡ false)
 
+-- what is printed for a message, and whether it is good
+abbrev pub BuildsMessage : Message → List ℕ → Bool → Type 0
+BuildsMessage m text good = BuildsOctets m text good ⊎ BuildsTooLong m text good
+
 -- what is printed for these messages, one after the other, and whether all are good
 abbrev pub BuildsMessages : List Message → List ℕ → Bool → Type 0
 BuildsMessages [] text good = (text ≡ []) × (good ≡ true)
-BuildsMessages (m ∷ l) text good =
-    (first rest : List ℕ) × (fine others : Bool) × (BuildsOctets m first fine ⊎ BuildsTooLong m first fine) × BuildsMessages l rest others
-    × (text ≡ first ++ rest) × (good ≡ (fine && others))
+BuildsMessages (m ∷ l) text good = Joined (BuildsMessage m) (BuildsMessages l) text good
 
 -- all but the last message
 abbrev pub but_last : List Message → List Message

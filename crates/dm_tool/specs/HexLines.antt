@@ -1,5 +1,6 @@
--- What is printed for lines of messages in hexadecimal, and whether all was good: of each message its answer, a text and whether it is good.
-use Rattle.std.specs.Prelude.{◌≡◌, ◌⊎◌, ℕ, Bool, true, false, ◌&&◌, MatchOption, List, [], ◌∷◌, ◌++◌, codes}
+-- What is printed for lines of messages in hexadecimal, and whether all was good: of each message its answer, a text and
+-- whether it is good.
+use Rattle.std.specs.Prelude.{◌≡◌, ◌⊎◌, ℕ, Bool, true, false, MatchOption, List, [], ◌∷◌, ◌++◌, codes}
 use Rattle.dm_wire.specs.declared.message.Message.{Message}
 use Rattle.dm_wire.specs.declared.fault.WireFault.{WireFault}
 use Rattle.dm_wire.specs.Spelling.{SpellsMessage}
@@ -7,6 +8,7 @@ use Rattle.dm_wire.specs.Refusal.{Refuses}
 use Rattle.dm_text.specs.Hexadecimal.{line_octets}
 use Rattle.dm_text.specs.Lines.{content_lines}
 use Rattle.dm_tool.specs.Text.{fault_text}
+use Rattle.dm_tool.specs.Joined.{Joined}
 
 -- octets that spell a message are answered by the message's answer
 abbrev pub PrintsMessage : (Message → List ℕ × Bool) → List ℕ → List ℕ → Bool → Type 0
@@ -28,9 +30,7 @@ PrintsLine answer line text good =
 -- what is printed for these lines, one after the other, and whether all are good
 abbrev pub PrintsLines : (Message → List ℕ × Bool) → List (List ℕ) → List ℕ → Bool → Type 0
 PrintsLines answer [] text good = (text ≡ []) × (good ≡ true)
-PrintsLines answer (line ∷ lines) text good =
-    (first rest : List ℕ) × (fine others : Bool) × PrintsLine answer line first fine × PrintsLines answer lines rest others
-    × (text ≡ first ++ rest) × (good ≡ (fine && others))
+PrintsLines answer (line ∷ lines) text good = Joined (PrintsLine answer line) (PrintsLines answer lines) text good
 
 -- what is printed for the lines of an input, and whether all are good
 abbrev pub PrintsAll : (Message → List ℕ × Bool) → List ℕ → List ℕ → Bool → Type 0

@@ -5,6 +5,7 @@ pub mod Check
 pub mod Divided
 pub mod Ending
 pub mod HexLines
+pub mod Joined
 pub mod Limits
 pub mod Messages
 pub mod OneText

@@ -5,6 +5,6 @@ use Rattle.std.specs.Prelude.{ℕ}
 abbrev pub input_limit : ℕ
 input_limit = 67108864
 
--- the most reads
+-- the most turns of the loop that reads
 abbrev pub read_limit : ℕ
 read_limit = 67108864

@@ -11,7 +11,7 @@ use crate::avp_line::read_avp;
 use crate::fault::ToolFault;
 use crate::header_line::read_header;
 use crate::text::push_fault;
-use dm_text::{is_passed_over, push_hex, trim};
+use dm_text::{is_skipped, push_hex, trim};
 use dm_wire::{Avp, AvpList, Header, Message};
 use std::alloc::Global;
 use std::mem;
@@ -65,7 +65,7 @@ impl Building {
         ensures fault { IfErr result (λ e. e ≡ ToolFault.Memory) }
     {
         let line = trim(line);
-        if is_passed_over(line) {
+        if is_skipped(line) {
             return Ok(true);
         }
         match read_header(line) {

@@ -40,8 +40,8 @@ struct Names {
 
 /// The numbers that the words left tell, each behind its name, where no more words are left.
 fn read_names(left: &mut Words<'_>) -> Option<Names>
-    ensures told { IfSome result (λ n. TellsNames n.application n.hop_id n.end_id (words left.old.rest.now)) }
-    ensures none { IfNone result ((a h e : ℕ) → TellsNames a h e (words left.old.rest.now) → ⊥) }
+    ensures told { IfSome result (λ n. TellsNames n.application n.hop_id n.end_id (words left.old)) }
+    ensures none { IfNone result ((a h e : ℕ) → TellsNames a h e (words left.old) → ⊥) }
 {
     let application = named_number(left, b"app")?;
     let hop_id = named_number(left, b"hop")?;
@@ -58,8 +58,8 @@ fn read_names(left: &mut Words<'_>) -> Option<Names>
 
 /// The number behind this name, where these are the next two words.
 fn named_number(left: &mut Words<'_>, name: &[u8]) -> Option<u32>
-    ensures told { IfSome result (λ n. (digits : List ℕ) × (words left.old.rest.now ≡ name.now ∷ digits ∷ words left.new.rest.now) × TellsNumber n digits) }
-    ensures none { IfNone result ((n : ℕ) (digits : List ℕ) (more : List (List ℕ)) → words left.old.rest.now ≡ name.now ∷ digits ∷ more → TellsNumber n digits → ⊥) }
+    ensures told { IfSome result (λ n. (digits : List ℕ) × (words left.old ≡ name.now ∷ digits ∷ words left.new) × TellsNumber n digits) }
+    ensures none { IfNone result ((n : ℕ) (digits : List ℕ) (more : List (List ℕ)) → words left.old ≡ name.now ∷ digits ∷ more → TellsNumber n digits → ⊥) }
 {
     let word = left.next()?;
     if word != name {

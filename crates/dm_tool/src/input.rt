@@ -14,7 +14,7 @@ const READ_LIMIT: usize = 67_108_864;
 
 const CHUNK: usize = 65_536;
 
-/// The most reads that a run makes.
+/// The most turns of the loop that reads, each of which makes one read.
 fn most_reads() -> usize
     ensures { result ≡ read_limit }
 {

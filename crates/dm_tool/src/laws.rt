@@ -1,5 +1,5 @@
 //! Laws of what the program prints. Each function is a law: it calls the laws that it stands on, and its contract is the law.
-ghost use Rattle.dm_tool.specs.OneText.{OneText};
+ghost use Rattle.dm_tool.specs.OneText.{OneText, SomeText};
 
 /// Under one command an input has at most one text and one status. The law stands for users.
 pub fn one_text()
@@ -11,4 +11,16 @@ pub fn one_text()
     dm_definitions::laws::one_definition();
     dm_definitions::laws::one_fault();
     dm_definitions::laws::no_definition_refused();
+}
+
+/// Under one command each input has a text and a status. The law stands for users.
+pub fn some_text()
+    ensures { SomeText }
+{
+    dm_wire::laws::message_or_fault();
+    dm_wire::laws::canonical_spells();
+    dm_wire::laws::reads_back();
+    dm_wire::laws::equal_messages();
+    dm_wire::laws::no_message_refused();
+    dm_definitions::laws::some_outcome();
 }

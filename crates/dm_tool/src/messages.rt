@@ -8,7 +8,7 @@ use crate::fault::ToolFault;
 use crate::text::{push_fault, push_message_text};
 use crate::verdict::push_verdict;
 use dm_dict::{Dictionary, Verdict};
-use dm_text::{Lines, is_passed_over, read_hex_line, trim};
+use dm_text::{Lines, is_skipped, read_hex_line, trim};
 use dm_wire::Message;
 use std::alloc::{AllocError, Global};
 
@@ -35,7 +35,7 @@ pub fn messages_text(
     let mut good = true;
     for line in Lines::new(input) {
         let line = trim(line);
-        if !is_passed_over(line) {
+        if !is_skipped(line) {
             let fine = print_line(alloc, task, line, &mut digits, &mut text)?;
             good = good && fine;
         }

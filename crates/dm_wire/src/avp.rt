@@ -9,7 +9,8 @@ use std::marker::Model;
 pub struct Avp {
     /// The AVP Code.
     pub code: u32,
-    /// The Vendor-ID, where the V bit is set. `Some(0)` is a set V bit with Vendor-ID 0.
+    /// The Vendor-ID, where the V bit is set (4.1). RFC 6733 gives 0 to no vendor: AVPs of the IETF's own have no V bit. Here it is
+    /// kept as `Some(0)`, which isn't `None`, so that what was read can be written again.
     pub vendor: Option<u32>,
     /// The M bit: a receiver that doesn't know the AVP refuses the message.
     pub mandatory: bool,

@@ -9,7 +9,7 @@ use crate::walk::count_avps;
 use crate::{Avp, AvpRef};
 
 /// AVPs in order, where they lie.
-#[derive(Clone, Copy)]
+#[derive(Clone, Copy, Debug)]
 pub enum AvpsRef<'a> {
     /// AVPs that are held, as those of a message.
     Held(&'a [Avp]),

@@ -5,11 +5,14 @@ use Rattle.dm_definitions.proofs.Members.{next_member, member_pushed}
 use Rattle.dm_definitions.proofs.base.add_avps.Goals as goal
 
 pub add_avp-requires-clause-sound : goal.add_avp-requires-clause-sound
-add_avp-requires-clause-sound c = rw c.in_ok-avp_of_row.ensures (next_member is_sound_avp row_avp c.loop-row.tables.avps.items c.args.rows.now c.loop-row.row-index _ c.loop-row-test.true c.loop-row.invariant.sound).0
+add_avp-requires-clause-sound c =
+    rw c.in_ok-avp_of_row.ensures
+    (next_member is_sound_avp row_avp c.loop-row.tables.avps.items c.args.rows.now c.loop-row.row-index _ c.loop-row-test.true c.loop-row.invariant.sound).0
 
 pub loop-row-preserved : goal.loop-row-preserved
 loop-row-preserved c =
-    let avps : c.add_avp.new.self.avps.items ≡ c.loop-row.tables.avps.items ++ c.in_ok-avp_of_row.field-0 ∷ [] = ap (λ d. d.avps) c.in_ok-add_avp.ensures.added in
+    let avps : c.add_avp.new.self.avps.items ≡ c.loop-row.tables.avps.items ++ c.in_ok-avp_of_row.field-0 ∷ [] = ap
+    (λ d. d.avps) c.in_ok-add_avp.ensures.added in
     record {
       tables = c.in_ok-add_avp.ensures.tables;
       sound = rw (avps, c.in_ok-avp_of_row.ensures) (next_member is_sound_avp row_avp c.loop-row.tables.avps.items c.args.rows.now c.loop-row.row-index _ c.loop-row-test.true c.loop-row.invariant.sound).1;

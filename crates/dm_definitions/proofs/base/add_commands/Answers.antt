@@ -5,7 +5,9 @@ use Rattle.dm_definitions.proofs.Members.{next_member, member_pushed}
 use Rattle.dm_definitions.proofs.base.add_commands.Goals as goal
 
 pub add_command-requires-clause-sound : goal.add_command-requires-clause-sound
-add_command-requires-clause-sound c = rw c.in_ok-command_of_row.ensures (next_member is_sound_command row_command c.loop-row.tables.commands.items c.args.rows.now c.loop-row.row-index _ c.loop-row-test.true c.loop-row.invariant.sound).0
+add_command-requires-clause-sound c =
+    rw c.in_ok-command_of_row.ensures
+    (next_member is_sound_command row_command c.loop-row.tables.commands.items c.args.rows.now c.loop-row.row-index _ c.loop-row-test.true c.loop-row.invariant.sound).0
 
 pub loop-row-preserved : goal.loop-row-preserved
 loop-row-preserved c =

@@ -9,5 +9,8 @@ use Rattle.dm_definitions.proofs.checks.check_code.Goals as goal
 
 pub returns-in-Err-clause-fault : goal.returns-in-Err-clause-fault
 returns-in-Err-clause-fault c =
-    let vendor = vendor_above (number (view c.args.code)) (view_option c.args.vendor) c.args.tables.now.avps.items c.in-Err.fault (and_parts _ _ c.requires.sound).0 c.in-Err.ensures.fault in
-    first_right _ (option_faults limit (view_option c.args.vendor)) c.in-Err.fault (none_both _ _ c.in_ok-code.ensures.good (rw vendor refl)) c.in-Err.ensures.fault
+    let vendor = vendor_above (number (view c.args.code))
+    (view_option c.args.vendor) c.args.tables.now.avps.items c.in-Err.fault
+    (and_parts _ _ c.requires.sound).0 c.in-Err.ensures.fault in
+    first_right _ (option_faults limit (view_option c.args.vendor)) c.in-Err.fault
+    (none_both _ _ c.in_ok-code.ensures.good (rw vendor refl)) c.in-Err.ensures.fault

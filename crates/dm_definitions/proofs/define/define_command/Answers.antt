@@ -14,8 +14,10 @@ add_command-requires-clause-sound c =
     let words = and_parts _ _ c.requires.worded in
     let entries = map view_entry c.args.item.now.rule.items in
     let seen : map view_entry c.as_slice.result.now ≡ entries = ap (map view_entry) c.as_slice.ensures.value in
-    let rule : c.in_ok-rule.field-0 ≡ fold with_entry [] entries = c.in_ok-rule.ensures.value ∙ ap (fold with_entry []) seen in
-    let good : rule_faults entries ≡ [] = subst (λ (es : List written.Entry). rule_faults es ≡ []) seen c.in_ok-rule.ensures.good in
+    let rule : c.in_ok-rule.field-0 ≡ fold with_entry [] entries = c.in_ok-rule.ensures.value ∙ ap
+    (fold with_entry []) seen in
+    let good : rule_faults entries ≡ [] = subst
+    (λ (es : List written.Entry). rule_faults es ≡ []) seen c.in_ok-rule.ensures.good in
     let item = c.args.item.now in
     let command : CommandDef = record { name = c.in_ok-from_slice.field-0; code = c.in_ok-code.code; request = item.request; proxiable = item.proxiable; err = item.error; application = c.in_ok-code.application; rule = c.in_ok-rule.field-0 } in
     sound_command c.args.tables.now.commands.items command (view_command c.args.item.now)

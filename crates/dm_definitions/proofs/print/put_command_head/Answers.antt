@@ -6,6 +6,10 @@ use Rattle.dm_definitions.proofs.print.put_command_head.Goals as goal
 pub returns : goal.returns
 returns c =
     let opening = codes " > ::= < Diameter Header:" in
-    let head = then_put c.args.text.now.items _ _ opening (spaced_number c.args.command.now.code) c.in_ok-put.ensures c.in_ok-put_number.ensures in
-    let flagged = then_put c.args.text.now.items _ _ (opening ++ spaced_number c.args.command.now.code) (flags_text c.args.command.now) head c.in_ok-put_flags.ensures in
-    last_put _ c.args.text.now.items _ _ (opening ++ spaced_number c.args.command.now.code ++ flags_text c.args.command.now) (spaced_number c.args.command.now.application) flagged c.put_number-2.ensures
+    let head = then_put c.args.text.now.items _ _ opening
+    (spaced_number c.args.command.now.code) c.in_ok-put.ensures c.in_ok-put_number.ensures in
+    let flagged = then_put c.args.text.now.items _ _ (opening ++ spaced_number c.args.command.now.code)
+    (flags_text c.args.command.now) head c.in_ok-put_flags.ensures in
+    last_put _ c.args.text.now.items _ _
+    (opening ++ spaced_number c.args.command.now.code ++ flags_text c.args.command.now)
+    (spaced_number c.args.command.now.application) flagged c.put_number-2.ensures

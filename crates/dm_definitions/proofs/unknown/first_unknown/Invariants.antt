@@ -5,4 +5,6 @@ use Rattle.dm_definitions.specs.Faults.{unknown}
 use Rattle.dm_definitions.proofs.unknown.first_unknown.Given as goal
 
 abbrev pub invariant-loop-item : goal.invariant-loop-item
-invariant-loop-item l = flat_map (unknown l.tables.avps.items) (map view_item l.items) ≡ flat_map (unknown l.tables.avps.items) (map view_item (drop l.item-index l.items))
+invariant-loop-item l =
+    flat_map (unknown l.tables.avps.items) (map view_item l.items) ≡ flat_map (unknown l.tables.avps.items)
+    (map view_item (drop l.item-index l.items))

@@ -4,4 +4,6 @@ use Rattle.dm_definitions.specs.Faults.{rule_unknown}
 use Rattle.dm_definitions.proofs.unknown.unknown_in_rule.Given as goal
 
 abbrev pub invariant-loop-entry : goal.invariant-loop-entry
-invariant-loop-entry l = rule_unknown l.tables.avps.items (map view_entry l.rule) ≡ rule_unknown l.tables.avps.items (map view_entry (drop l.entry-index l.rule))
+invariant-loop-entry l =
+    rule_unknown l.tables.avps.items (map view_entry l.rule) ≡ rule_unknown l.tables.avps.items
+    (map view_entry (drop l.entry-index l.rule))

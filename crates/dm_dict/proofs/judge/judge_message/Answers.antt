@@ -7,4 +7,5 @@ pub judge_list-requires-clause-fit : goal.judge_list-requires-clause-fit
 judge_list-requires-clause-fit c = fit c.args.dictionary.now c.soundness.ensures.sound
 
 pub judge_list-requires-clause-apart : goal.judge_list-requires-clause-apart
-judge_list-requires-clause-apart c = apart_command c.args.dictionary.now _ _ _ c.in-Some.command.now c.soundness.ensures.sound (sym c.in-Some.ensures)
+judge_list-requires-clause-apart c =
+    apart_command c.args.dictionary.now _ _ _ c.in-Some.command.now c.soundness.ensures.sound (sym c.in-Some.ensures)

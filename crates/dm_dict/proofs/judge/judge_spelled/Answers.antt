@@ -13,4 +13,6 @@ pub judge_message-requires-clause-listed : goal.judge_message-requires-clause-li
 judge_message-requires-clause-listed c = of_some (members c.args.octets.now) c.requires
 
 pub returns : goal.returns
-returns c = λ l spelled. c.judge_message.ensures l ((c.members_spell.ensures c.args.octets.now l (λ i. Fits-lt-pow (c.type_inv.octets i))).1 spelled)
+returns c =
+    λ l spelled. c.judge_message.ensures l
+    ((c.members_spell.ensures c.args.octets.now l (λ i. Fits-lt-pow (c.type_inv.octets i))).1 spelled)

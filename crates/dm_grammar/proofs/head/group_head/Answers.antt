@@ -9,7 +9,8 @@ use Rattle.dm_grammar.proofs.head.group_head.Goals as goal
 
 pub returns-in_err-words-clause-tells : goal.returns-in_err-words-clause-tells
 returns-in_err-words-clause-tells c =
-    handed_on _ _ c.from_residual.result _ c.from_residual.ensures.1 (c.in_err-words.ensures.tells GroupColon GroupCode Flagged Nothing CodeIs refl refl refl refl)
+    handed_on _ _ c.from_residual.result _ c.from_residual.ensures.1
+    (c.in_err-words.ensures.tells GroupColon GroupCode Flagged Nothing CodeIs refl refl refl refl)
 
 pub returns-in_err-second-clause-tells : goal.returns-in_err-second-clause-tells
 returns-in_err-second-clause-tells c =
@@ -24,4 +25,5 @@ returns-clause-tells c =
     c.in_ok-words.ensures.tells GroupColon GroupCode Flagged Nothing CodeIs refl refl refl refl
     ∙ (nothing_told (view words.0) _
     ∙ (ap (filled CodeIs (view words.1)) c.in_ok-second.ensures.tells
-    ∙ group_told (view words.1) (view_option c.in_ok-second.second) (collect c.args.last Rule (view_words c.in_ok-second.rest.now))))
+    ∙ group_told (view words.1) (view_option c.in_ok-second.second)
+    (collect c.args.last Rule (view_words c.in_ok-second.rest.now))))

@@ -30,4 +30,7 @@ returns-in_err-_end-in-None-clause-tells c =
 pub returns-in_ok-_end-in-None-clause-tells : goal.returns-in_ok-_end-in-None-clause-tells
 returns-in_ok-_end-in-None-clause-tells c =
     let comma = rw c.in-None.is at c.optional.ensures.tells in
-    plain_end c.args.last (view_words c.args.tokens.now) (view_words c.optional-in-None.result.1.now) (view_words c.in_ok-_end-in-None.rest.now) c.optional-in-None.result.0 (view c.in_ok-_end-in-None._end) comma.1 c.optional-in-None.ensures.tells (c.in_ok-_end-in-None.ensures.tells HeadEnd Rule Rules refl refl)
+    plain_end c.args.last (view_words c.args.tokens.now) (view_words c.optional-in-None.result.1.now)
+    (view_words c.in_ok-_end-in-None.rest.now) c.optional-in-None.result.0
+    (view c.in_ok-_end-in-None._end) comma.1 c.optional-in-None.ensures.tells
+    (c.in_ok-_end-in-None.ensures.tells HeadEnd Rule Rules refl refl)

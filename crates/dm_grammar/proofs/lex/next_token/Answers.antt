@@ -9,7 +9,8 @@ use Rattle.dm_grammar.proofs.lex.next_token.Goals as goal
 
 pub loop-at-preserved : goal.loop-at-preserved
 loop-at-preserved c =
-    let len : c.line_len-at.result ≡ prefix_len not_line_end (drop c.loop-at.at c.args.text.now) = rw take_rest at c.line_len-at.ensures.value in
+    let len : c.line_len-at.result ≡ prefix_len not_line_end
+    (drop c.loop-at.at c.args.text.now) = rw take_rest at c.line_len-at.ensures.value in
     record {
       within = omega arith;
       ahead = omega arith;
@@ -19,7 +20,8 @@ loop-at-preserved c =
 
 pub returns-else-first-eq59-clause-next : goal.returns-else-first-eq59-clause-next
 returns-else-first-eq59-clause-next c =
-    let lex : c.lexeme-symbol.result ≡ lexeme_of (drop c.loop-at.at c.args.text.now) = rw take_rest at c.lexeme-symbol.ensures.value in
+    let lex : c.lexeme-symbol.result ≡ lexeme_of
+    (drop c.loop-at.at c.args.text.now) = rw take_rest at c.lexeme-symbol.ensures.value in
     let space : is_space (slice_index_or c.args.text.now c.loop-at.at 0) ≡ false = grind (arith, common_steps) in
     let some : 0 < (lexeme_of (drop c.loop-at.at c.args.text.now)).1 = rw (← lex) c.lexeme-symbol.ensures.some in
     let len : c.loop-at.at + c.lexeme-symbol.result.1 - c.loop-at.at ≡ c.lexeme-symbol.result.1 = omega arith in

@@ -25,4 +25,6 @@ loop-rest-preserved c =
 pub returns-clause-items : goal.returns-clause-items
 returns-clause-items c =
     let none : c.loop-rest.rest.now ≡ [] = nil_from_length c.loop-rest.rest.now (grind (arith, nat_tests)) in
-    all_read c.args.last (map view_item c.loop-rest.found.items) (collect c.args.last Text (view_words c.args.tokens.now)) (view_words c.loop-rest.rest.now) (ap view_words none) c.loop-rest.invariant
+    all_read c.args.last (map view_item c.loop-rest.found.items)
+    (collect c.args.last Text (view_words c.args.tokens.now)) (view_words c.loop-rest.rest.now)
+    (ap view_words none) c.loop-rest.invariant

@@ -23,11 +23,13 @@ loop-rest-preserved c =
 
 pub returns-in-Err-clause-tells : goal.returns-in-Err-clause-tells
 returns-in-Err-clause-tells c =
-    c.loop-rest.invariant.tells ∙ with_entries-fault (map view_entry c.loop-rest.entries.items) (collect c.args.last Rule (view_words c.loop-rest.rest.now)) c.in-Err.line c.in-Err.ensures.tells
+    c.loop-rest.invariant.tells ∙ with_entries-fault (map view_entry c.loop-rest.entries.items)
+    (collect c.args.last Rule (view_words c.loop-rest.rest.now)) c.in-Err.line c.in-Err.ensures.tells
 
 pub returns-clause-tells : goal.returns-clause-tells
 returns-clause-tells c =
     let none : begins_entry (view_words c.loop-rest.rest.now) ≡ false = cc in
     c.loop-rest.invariant.tells
     ∙ (ap (with_entries (map view_entry c.loop-rest.entries.items)) (no_entry c.args.last (view_words c.loop-rest.rest.now) none)
-    ∙ with_entries-rule (map view_entry c.loop-rest.entries.items) (collect c.args.last Text (view_words c.loop-rest.rest.now)) (plain c.args.last (view_words c.loop-rest.rest.now)))
+    ∙ with_entries-rule (map view_entry c.loop-rest.entries.items)
+    (collect c.args.last Text (view_words c.loop-rest.rest.now)) (plain c.args.last (view_words c.loop-rest.rest.now)))

@@ -22,5 +22,6 @@ returns-in_err-head-clause-tells c =
 pub returns-clause-tells : goal.returns-clause-tells
 returns-clause-tells c =
     let marks = c.in_ok-_marks._marks in
-    c.in_ok-name.ensures.tells ∙ ap (filled TitleIs (view c.in_ok-name.name)) (c.in_ok-_marks.ensures.tells Titled Defined Head Nothing Nothing refl refl refl refl
+    c.in_ok-name.ensures.tells ∙ ap (filled TitleIs (view c.in_ok-name.name))
+    (c.in_ok-_marks.ensures.tells Titled Defined Head Nothing Nothing refl refl refl refl
     ∙ (nothing_told (view marks.0) _ ∙ (nothing_told (view marks.1) _ ∙ c.in_ok-head.ensures.tells)))

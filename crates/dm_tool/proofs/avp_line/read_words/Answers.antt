@@ -10,7 +10,8 @@ pub returns-in_err-mandatory-clause-none : goal.returns-in_err-mandatory-clause-
 returns-in_err-mandatory-clause-none c =
     none-anyway c.from_residual-in_err-mandatory.result (λ a told.
     let Code : List ℕ → Type 0 = λ w. TellsCode a.code a.vendor w in
-    let same = one_code a.code c.in_ok-code.code a.vendor c.in_ok-code.vendor c.in_ok-first.first.now (subst Code (first told.whole c.in_ok-first.ensures.told) told.tells_code) c.in_ok-code.ensures.told in
+    let same = one_code a.code c.in_ok-code.code a.vendor c.in_ok-code.vendor c.in_ok-first.first.now
+    (subst Code (first told.whole c.in_ok-first.ensures.told) told.tells_code) c.in_ok-code.ensures.told in
     let flags = second_of c.in_ok-first.ensures.told told.whole in
     c.in_err-mandatory.ensures.none a.mandatory a.protected
     (flags ∙ ap (λ v. avp_marks (is_some v) a.mandatory a.protected) same.1 ∙ ap (λ v. avp_marks v a.mandatory a.protected) (sym c.is_some.ensures)))

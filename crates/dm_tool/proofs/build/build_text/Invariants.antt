@@ -7,5 +7,5 @@ use Rattle.dm_tool.proofs.build.build_text.Given as goal
 -- what stands behind the lines so far
 abbrev pub invariant-loop-line : goal.invariant-loop-line
 invariant-loop-line l =
-    (before : List (List ℕ)) × (lines l.input ≡ before ++ lines l.line-iterator.rest.now) × (l.before ≡ length before)
+    (before : List (List ℕ)) × (lines l.input ≡ before ++ lines l.line-iterator) × (l.before ≡ length before)
     × Stands (content before) l.building.last l.building.avps.items l.building.text.items l.building.good

@@ -6,4 +6,5 @@ pub returns-in-Some-clause-some : goal.returns-in-Some-clause-some
 returns-in-Some-clause-some c = line-fed c.args.input.now c.in-Some.at (sym c.line_feed.ensures ∙ c.in-Some.is)
 
 pub returns-in-None-clause-some : goal.returns-in-None-clause-some
-returns-in-None-clause-some c = line-last c.args.input.now (sym c.line_feed.ensures ∙ c.in-None.is) (sym c.is_empty.ensures ∙ c.if-is_empty.false)
+returns-in-None-clause-some c =
+    line-last c.args.input.now (sym c.line_feed.ensures ∙ c.in-None.is) (sym c.is_empty.ensures ∙ c.if-is_empty.false)

@@ -15,9 +15,11 @@ loop-preserved g c = elim c.match-read.branch [
   | in-Ok+in_ok-extend_from_slice-in-Ok+else-len-gt-INPUT_LIMIT w ↦
       let P : Vec ℕ Global → Type 0 = λ v. vec_len v ≤ input_limit in (
         subst P (sym w.input-is) (omega (arith, w.len-in-Ok.ensures, w.if-len-gt-INPUT_LIMIT.false)),
-        Consumes-more _ _ _ _ _ _ _ w.in-Ok.count w.in-Ok.ensures.bound.0 c.loop.invariant.1 w.in-Ok.ensures.bytes.0 (ap (λ v. v.items) w.input-is ∙ w.in_ok-extend_from_slice-in-Ok.ensures.items),
+        Consumes-more _ _ _ _ _ _ _ w.in-Ok.count w.in-Ok.ensures.bound.0 c.loop.invariant.1 w.in-Ok.ensures.bytes.0
+            (ap (λ v. v.items) w.input-is ∙ w.in_ok-extend_from_slice-in-Ok.ensures.items),
       )
   | in-Err+else-ne w ↦
-      let P : Vec ℕ Global → Type 0 = λ v. (vec_len v ≤ input_limit) × Consumes (g.R.Read.remaining c.args.reader.now) (g.R.Read.remaining c.read.new.self) v.items in
+      let P : Vec ℕ Global → Type 0 = λ v. (vec_len v ≤ input_limit) × Consumes (g.R.Read.remaining c.args.reader.now)
+      (g.R.Read.remaining c.read.new.self) v.items in
       subst P (sym w.input-is) (c.loop.invariant.0, Consumes-kept _ _ _ _ c.loop.invariant.1 w.in-Err.ensures.bytes)
 ]

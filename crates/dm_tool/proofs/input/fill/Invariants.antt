@@ -5,4 +5,6 @@ use Rattle.dm_tool.proofs.input.fill.Given as goal
 
 -- what was read is what was taken
 abbrev pub invariant-loop : goal.invariant-loop
-invariant-loop g l = (vec_len l.input ≤ input_limit) × Consumes (g.R.Read.remaining l.fn.reader) (g.R.Read.remaining l.reader) l.input.items
+invariant-loop g l =
+    (vec_len l.input ≤ input_limit) × Consumes (g.R.Read.remaining l.fn.reader)
+    (g.R.Read.remaining l.reader) l.input.items

@@ -7,5 +7,5 @@ use Rattle.dm_tool.proofs.messages.messages_text.Given as goal
 -- whatever the lines to come print, behind the text so far it is what all lines print
 abbrev pub invariant-loop-line : goal.invariant-loop-line
 invariant-loop-line l =
-    (more : List ℕ) (fine : Bool) → PrintsLines (answer_of l.fn.task) (content_lines l.line-iterator.rest.now) more fine
+    (more : List ℕ) (fine : Bool) → PrintsLines (answer_of l.fn.task) (content_lines l.line-iterator) more fine
     → PrintsLines (answer_of l.fn.task) (content_lines l.input) (l.text.items ++ more) (l.good && fine)

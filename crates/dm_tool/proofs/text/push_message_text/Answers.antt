@@ -8,4 +8,5 @@ pub returns : goal.returns
 unfolding message_text
 returns c =
     c.loop-avp.invariant
-    ∙ ap (λ l. c.args.text.now.items ++ (header_text c.args.message.now.header ++ 10 ∷ flat_map avp_line l)) (take_all _ _ c.loop-avp-test.false ∙ c.as_slice-avp-items.ensures)
+    ∙ ap (λ l. c.args.text.now.items ++ (header_text c.args.message.now.header ++ 10 ∷ flat_map avp_line l))
+    (take_all _ _ c.loop-avp-test.false ∙ c.as_slice-avp-items.ensures)

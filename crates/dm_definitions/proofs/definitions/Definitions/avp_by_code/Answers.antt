@@ -3,4 +3,6 @@ use Rattle.dm_definitions.proofs.Only.{one_coded}
 use Rattle.dm_definitions.proofs.definitions.Definitions.avp_by_code.Goals as goal
 
 pub returns-clause-one : goal.returns-clause-one
-returns-clause-one c = rw (c.avp_by_code.ensures, ← c.self.view_is) (one_coded c.self.inside.tables.avps.items c.args.code c.args.vendor (and_parts _ _ c.self.invariant.tables.sound).0)
+returns-clause-one c =
+    rw (c.avp_by_code.ensures, ← c.self.view_is)
+    (one_coded c.self.inside.tables.avps.items c.args.code c.args.vendor (and_parts _ _ c.self.invariant.tables.sound).0)

@@ -9,7 +9,8 @@ add_avp-requires-clause-sound c =
 
 pub loop-avp-preserved : goal.loop-avp-preserved
 loop-avp-preserved c =
-    let added : c.add_avp.new.self.avps.items ≡ c.loop-avp.self.avps.items ++ c.in_ok-clone.field-0 ∷ [] = ap (λ d. d.avps) c.in_ok-add_avp.ensures.added in
+    let added : c.add_avp.new.self.avps.items ≡ c.loop-avp.self.avps.items ++ c.in_ok-clone.field-0 ∷ [] = ap
+    (λ d. d.avps) c.in_ok-add_avp.ensures.added in
     let sound = (next_def is_sound_avp c.loop-avp.self.avps.items c.args.avps.now c.loop-avp.avp-index _ c.in_ok-clone.field-0 c.loop-avp-test.true (c.in_ok-clone.ensures.cases ∙ c.avp-item.is) c.loop-avp.invariant.sound).1 in
     record {
       tables = c.in_ok-add_avp.ensures.tables;

@@ -4,4 +4,6 @@ use Rattle.dm_definitions.proofs.Found.{is_found}
 use Rattle.dm_definitions.proofs.tables.Tables.has_head.Goals as goal
 
 pub returns : goal.returns
-returns c = c.is_some.ensures ∙ is_found (is_headed c.args.code c.args.request c.args.err) c.args.self.now.commands.items _ c.command_by_head.ensures
+returns c =
+    c.is_some.ensures ∙ is_found
+    (is_headed c.args.code c.args.request c.args.err) c.args.self.now.commands.items _ c.command_by_head.ensures

@@ -4,4 +4,5 @@ use Rattle.dm_definitions.proofs.Found.{is_found}
 use Rattle.dm_definitions.proofs.tables.Tables.has_title.Goals as goal
 
 pub returns : goal.returns
-returns c = c.is_some.ensures ∙ is_found (is_titled c.args.name.now) c.args.self.now.commands.items _ c.command_by_name.ensures
+returns c =
+    c.is_some.ensures ∙ is_found (is_titled c.args.name.now) c.args.self.now.commands.items _ c.command_by_name.ensures
