@@ -7,7 +7,7 @@ mod framer;
 #[cfg(test)]
 mod grammar;
 #[cfg(test)]
-mod peer;
+mod machine;
 #[cfg(test)]
 mod value;
 #[cfg(test)]

@@ -1,0 +1,12 @@
+pub mod Renamed
+pub mod Marks
+pub mod Every
+pub mod FormLemmas
+pub mod Steps
+pub mod ChangeLemmas
+pub mod StepFacts
+pub mod ShapeLaw
+pub mod ConnectionLaw
+pub mod OpeningLaw
+pub mod UnreadLaw
+pub mod RowLemmas

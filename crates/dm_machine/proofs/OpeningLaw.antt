@@ -1,0 +1,168 @@
+-- What the listed changes come to: each fact is computed at every one of them.
+use Rattle.std.proofs.Common.{◌≡◌, Bool, true, false, not, ◌&&◌, IsTrue, List, [], ◌∷◌, refl}
+use Rattle.std.proofs.lemmas.Bool.{and_parts}
+use Rattle.std.proofs.lemmas.List.Elements.{All-contains}
+use Rattle.std.proofs.lemmas.List.Sums.{AllPass-from_list_all}
+use Rattle.std.specs.List.{list_all}
+use Rattle.std.specs.Prelude.{Contains}
+use Rattle.dm_machine.specs.declared.connection.Conn.{Conn}
+use Rattle.dm_machine.specs.declared.inputs.Input.{Input}
+use Rattle.dm_machine.specs.Node.{Node}
+use Rattle.dm_machine.specs.Moves.{Outcome, Moved, Refused, outcome}
+use Rattle.dm_machine.specs.Connection.{Hold, NotHeld, Pending, Made, OpenAsI, ClosingAsI, Taken, OpenAsR, ClosingAsR, Concern, NamesAnother, Stops, TimesOut, Ticks, Submits, StartsIt, AcksIt, NacksIt, EndsIt, HeardOnIt, hold_of, concern_of, Order, SendsCer, SendsCea, Closes, orders_to, AtConnection, AtEachStep}
+use Rattle.dm_machine.specs.Changes.{Change, change, allowed}
+use Rattle.dm_machine.specs.Openings.{is_hold, has_order, is_entered, is_ack, is_good_cea, is_named, is_left_unclosed, OpensAcceptedWithCea, OpensInitiatedAtCea, SendsCerAtAck, ClosesWhatItGivesUp, LeavesOthersAlone}
+use Rattle.dm_machine.proofs.Every.{all_true, at, every_word, at_word}
+use Rattle.dm_machine.proofs.Steps.{when, is_when}
+use Rattle.dm_machine.proofs.ChangeLemmas.{same_hold, are_orders, same_orders}
+use Rattle.dm_machine.proofs.ConnectionLaw.{each_connection}
+
+abbrev holds : (Hold → Bool) → List Bool
+holds f = f NotHeld ∷ f Pending ∷ f Made ∷ f OpenAsI ∷ f ClosingAsI ∷ f Taken ∷ f OpenAsR ∷ f ClosingAsR ∷ []
+
+unfoldable every_hold : (Hold → Bool) → Bool
+every_hold f = all_true (holds f)
+
+at_hold : (f : Hold → Bool) → every_hold f ≡ true → (h : Hold) → f h ≡ true
+unfolding every_hold
+at_hold f e NotHeld = at (holds f) 0 e
+at_hold f e Pending = at (holds f) 1 e
+at_hold f e Made = at (holds f) 2 e
+at_hold f e OpenAsI = at (holds f) 3 e
+at_hold f e ClosingAsI = at (holds f) 4 e
+at_hold f e Taken = at (holds f) 5 e
+at_hold f e OpenAsR = at (holds f) 6 e
+at_hold f e ClosingAsR = at (holds f) 7 e
+
+abbrev concerns : (Concern → Bool) → List Bool
+concerns f =
+    f NamesAnother ∷ f Stops ∷ f TimesOut ∷ f Ticks ∷ f Submits ∷ f StartsIt ∷ f AcksIt ∷ f NacksIt ∷ f EndsIt ∷ every_word (λ w. f (HeardOnIt w)) ∷ []
+
+unfoldable every_concern : (Concern → Bool) → Bool
+every_concern f = all_true (concerns f)
+
+at_concern : (f : Concern → Bool) → every_concern f ≡ true → (k : Concern) → f k ≡ true
+unfolding every_concern
+at_concern f e NamesAnother = at (concerns f) 0 e
+at_concern f e Stops = at (concerns f) 1 e
+at_concern f e TimesOut = at (concerns f) 2 e
+at_concern f e Ticks = at (concerns f) 3 e
+at_concern f e Submits = at (concerns f) 4 e
+at_concern f e StartsIt = at (concerns f) 5 e
+at_concern f e AcksIt = at (concerns f) 6 e
+at_concern f e NacksIt = at (concerns f) 7 e
+at_concern f e EndsIt = at (concerns f) 8 e
+at_concern f e (HeardOnIt w) = at_word (λ v. f (HeardOnIt v)) (at (concerns f) 9 e) w
+
+-- a fact of each listed change, by how it concerns the connection and what that was
+abbrev OfListed : (Concern → Hold → Change → Type 0) → Type 0
+OfListed P = (k : Concern) (h : Hold) (x : Change) → Contains (allowed k h) x → P k h x
+
+abbrev ChangeTest : Type 0
+ChangeTest = Concern → Hold → Change → Bool
+
+abbrev every_change : ChangeTest → Bool
+every_change test = every_concern (λ k. every_hold (λ h. list_all (test k h) (allowed k h)))
+
+passes : (test : ChangeTest) → every_change test ≡ true → OfListed (λ k h x. test k h x ≡ true)
+passes test e k h x m =
+    let at_k = at_concern (λ j. every_hold (λ g. list_all (test j g) (allowed j g))) e k in
+    let at_h = at_hold (λ g. list_all (test k g) (allowed k g)) at_k h in
+    All-contains (λ y. test k h y ≡ true) (allowed k h) x (AllPass-from_list_all (test k h) (allowed k h) at_h) m
+
+-- a fact of how a step looks from one connection
+abbrev Fact : Type 1
+Fact = Concern → Hold → Hold → List Order → Type 0
+
+from_outcome : (P : Fact) → OfListed (λ k h x. P k h x.next x.orders) → (n : Node) (i : Input) (c : Conn) (o : Outcome) →
+    AtConnection (λ k before after orders. Contains (allowed k before) (change after orders)) n i c o → AtConnection P n i c o
+from_outcome P f n i c (Refused r) m = tt
+from_outcome P f n i c (Moved commands next) m =
+    f (concern_of i c) (hold_of n c) (change (hold_of next c) (orders_to c commands)) m
+
+-- what holds of each listed change holds of each connection at each step
+from_changes : (P : Fact) → OfListed (λ k h x. P k h x.next x.orders) → AtEachStep P
+from_changes P f n i wins c h = from_outcome P f n i c (outcome n i wins) (each_connection n i wins c h)
+
+-- that two tests agree, as one
+abbrev agree : Bool → Bool → Bool
+agree true b = b
+agree false b = not b
+
+agreed : (a b : Bool) → agree a b ≡ true → a ≡ b
+agreed true true e = refl
+agreed false false e = refl
+agreed true false e = cc
+agreed false true e = cc
+
+abbrev SeenTest : Type 0
+SeenTest = Concern → Hold → Hold → List Order → Bool
+
+abbrev agree_at : SeenTest → SeenTest → ChangeTest
+agree_at f g k h x = agree (f k h x.next x.orders) (g k h x.next x.orders)
+
+-- two tests that agree at each listed change agree at each step
+from_agreed : (f g : SeenTest) → every_change (agree_at f g) ≡ true →
+    AtEachStep (λ k before after orders. f k before after orders ≡ g k before after orders)
+from_agreed f g e = from_changes (λ k before after orders. f k before after orders ≡ g k before after orders)
+    (λ k h x m. agreed (f k h x.next x.orders) (g k h x.next x.orders) (passes (agree_at f g) e k h x m))
+
+abbrev enters_open_as_r : SeenTest
+enters_open_as_r k before after orders = is_entered OpenAsR before after
+
+abbrev enters_open_as_i : SeenTest
+enters_open_as_i k before after orders = is_entered OpenAsI before after
+
+abbrev has_cea : SeenTest
+has_cea k before after orders = has_order SendsCea orders
+
+abbrev is_answered : SeenTest
+is_answered k before after orders = is_good_cea k && is_hold Made before
+
+abbrev has_cer : SeenTest
+has_cer k before after orders = has_order SendsCer orders
+
+abbrev is_made : SeenTest
+is_made k before after orders = is_ack k && is_hold Pending before
+
+abbrev has_close : SeenTest
+has_close k before after orders = has_order Closes orders
+
+abbrev is_gone : SeenTest
+is_gone k before after orders = is_hold NotHeld after && not (is_left_unclosed k before)
+
+pub accepted : OpensAcceptedWithCea
+unfolding all_true every_word every_hold every_concern
+accepted = from_agreed enters_open_as_r has_cea refl
+
+pub initiated : OpensInitiatedAtCea
+unfolding all_true every_word every_hold every_concern
+initiated = from_agreed enters_open_as_i is_answered refl
+
+pub asked : SendsCerAtAck
+unfolding all_true every_word every_hold every_concern
+asked = from_agreed has_cer is_made refl
+
+pub closed : ClosesWhatItGivesUp
+unfolding all_true every_word every_hold every_concern
+closed = from_agreed has_close is_gone refl
+
+abbrev is_other : Concern → Hold → Bool
+is_other k h = is_hold NotHeld h && not (is_named k)
+
+abbrev leaves_alone : ChangeTest
+leaves_alone k h x = when (is_other k h) (is_hold x.next NotHeld && are_orders x.orders [])
+
+left_checked : every_change leaves_alone ≡ true
+unfolding all_true every_word every_hold every_concern
+left_checked = refl
+
+left_alone : OfListed (λ k h x. IsTrue (is_other k h) → (x.next ≡ NotHeld) × (x.orders ≡ []))
+left_alone k h x m other =
+    let stays = is_hold x.next NotHeld && are_orders x.orders [] in
+    let both = is_when (is_other k h) stays (passes leaves_alone left_checked k h x m) other in
+    let parts = and_parts (is_hold x.next NotHeld) (are_orders x.orders []) both in
+    (same_hold x.next NotHeld parts.0, same_orders x.orders [] parts.1)
+
+pub alone : LeavesOthersAlone
+alone = from_changes (λ k before after orders. IsTrue (is_other k before) → (after ≡ NotHeld) × (orders ≡ [])) left_alone

@@ -1,0 +1,14 @@
+pub mod Table
+pub mod OwnRows
+pub mod Rows
+pub mod Node
+pub mod Forms
+pub mod Reading
+pub mod Moves
+pub mod Connection
+pub mod Changes
+pub mod Openings
+pub mod Unread
+pub mod Shape
+pub mod Phases
+pub mod Defaults

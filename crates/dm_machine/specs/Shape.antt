@@ -1,0 +1,13 @@
+-- Every step keeps the shape of a node.
+use Rattle.std.specs.Prelude.{Bool, nat_le, IsTrue, ⊤, length}
+use Rattle.dm_machine.specs.declared.inputs.Input.{Input}
+use Rattle.dm_machine.specs.Node.{Node, is_shaped}
+use Rattle.dm_machine.specs.Moves.{Outcome, Moved, Refused, outcome}
+
+-- the node after the outcome has its shape, and there are at most four commands
+abbrev pub KeepsShape : Outcome → Type 0
+KeepsShape (Moved commands next) = IsTrue (is_shaped next) × IsTrue (nat_le (length commands) 4)
+KeepsShape (Refused r) = ⊤
+
+abbrev pub EachStepKeepsShape : Type 0
+EachStepKeepsShape = (n : Node) (i : Input) (wins : Bool) → IsTrue (is_shaped n) → KeepsShape (outcome n i wins)

@@ -1,0 +1,61 @@
+//! The laws of one step, for those who build on `step`; no code here calls them. Each is the contract of a function
+//! that does nothing.
+ghost use Rattle.dm_machine.specs.Changes.{EachConnectionChangesAsAllowed};
+ghost use Rattle.dm_machine.specs.Forms.{EachShapeIsAForm, EachFormIsShaped};
+ghost use Rattle.dm_machine.specs.Openings.{
+  OpensAcceptedWithCea,
+  OpensInitiatedAtCea,
+  SendsCerAtAck,
+  ClosesWhatItGivesUp,
+  LeavesOthersAlone,
+};
+ghost use Rattle.dm_machine.specs.Rows.{HasOneRowEach};
+ghost use Rattle.dm_machine.specs.Shape.{EachStepKeepsShape};
+ghost use Rattle.dm_machine.specs.Unread.{
+  ClosesUnread,
+  DropsBeforeAck,
+  ReadsAsPeerDisc,
+  EndsAtWord,
+};
+
+/// What one step does to one connection: by how the input concerns it and what it is to the node, what it may become
+/// and what it is ordered.
+pub fn each_connection_changes_as_allowed()
+    ensures { EachConnectionChangesAsAllowed }
+{}
+
+/// What those changes come to: which command or message goes with each opening, when a CER goes out, what is closed,
+/// and what is left alone.
+pub fn each_opening_has_its_message()
+    ensures accepted { OpensAcceptedWithCea }
+    ensures initiated { OpensInitiatedAtCea }
+    ensures asked { SendsCerAtAck }
+    ensures closed { ClosesWhatItGivesUp }
+    ensures alone { LeavesOthersAlone }
+{}
+
+/// A node of the right shape is one of eight forms: each state with the connections that it holds, and the counts of
+/// the open ones.
+pub fn each_node_has_its_form()
+    ensures formed { EachShapeIsAForm }
+    ensures shaped { EachFormIsShaped }
+{}
+
+/// What shape a node keeps: which connections each state holds, and which counts. A step gives at most four commands.
+pub fn each_step_keeps_shape()
+    ensures { EachStepKeepsShape }
+{}
+
+/// Where what a message says makes no difference: on a new connection in a state that reads no first message, before an
+/// Ack, and on an accepted connection that waits for its CEA.
+pub fn unread_words_are_alike()
+    ensures rejected { ClosesUnread }
+    ensures dropped { DropsBeforeAck }
+    ensures read { ReadsAsPeerDisc }
+    ensures ended { EndsAtWord }
+{}
+
+/// The state table with the own rows: a state and an event have at most one row, and it is the one that is followed.
+pub fn each_state_and_event_has_one_row()
+    ensures { HasOneRowEach }
+{}

@@ -1,0 +1,40 @@
+//! The state table: one function for each state, with the table's row in words above each arm.
+ghost use Rattle.dm_machine.specs.Phases.{IsShaped, Steps};
+
+mod closed;
+mod closing;
+mod open;
+mod wait_conn_ack;
+mod wait_conn_ack_elect;
+mod wait_i_cea;
+mod wait_returns;
+
+use crate::inputs::Input;
+use crate::outputs::{Commands, Refusal};
+use crate::phase::Phase;
+use closed::from_closed;
+use closing::from_closing;
+use open::from_open;
+use wait_conn_ack::from_wait_conn_ack;
+use wait_conn_ack_elect::from_wait_conn_ack_elect;
+use wait_i_cea::from_wait_i_cea;
+use wait_returns::from_wait_returns;
+
+/// The next state with its commands, or the refusal of the input.
+pub type Stepped = Result<(Phase, Commands), Refusal>;
+
+/// One step of the state table.
+pub fn from_phase(phase: Phase, input: Input, wins: bool) -> Stepped
+    requires { IsShaped phase }
+    ensures { Steps phase input wins result }
+{
+    match phase {
+        Phase::Closed => from_closed(input),
+        Phase::WaitConnAck(i) => from_wait_conn_ack(i, input),
+        Phase::WaitICea(i) => from_wait_i_cea(i, input, wins),
+        Phase::WaitConnAckElect(i, r) => from_wait_conn_ack_elect(i, r, input, wins),
+        Phase::WaitReturns(i, r) => from_wait_returns(i, r, input),
+        Phase::Open(role, x, count) => from_open(role, x, count, input),
+        Phase::Closing(role, x) => from_closing(role, x, input),
+    }
+}
