@@ -9,10 +9,11 @@ use Rattle.dm_wire.specs.declared.fault.WireFault.{WireFault}
 use Rattle.dm_wire.specs.declared.fault.WireFault.TheVariants.{TooShort, Version, Length, AvpLength}
 use Rattle.dm_wire.specs.Members.{length_at, padded, avp_at, begins_with_avp}
 use Rattle.dm_wire.specs.Spelling.{SpellsAvp, SpellsList, SpellsMessage}
+use Rattle.dm_wire.specs.Whole.{header_in}
 use Rattle.dm_wire.specs.Refusal.{BeginsWithNoAvp, IsBadAt, Refuses}
 use Rattle.dm_wire.proofs.Cuts.{take-add}
 use Rattle.dm_wire.proofs.Fronts.{octets_behind}
-use Rattle.dm_wire.proofs.Headers.{IsTested, read_header, header_spelled}
+use Rattle.dm_wire.proofs.Headers.{IsTested, header_spelled}
 use Rattle.dm_wire.proofs.Members.{begins, begins_test, begun, front_begins, moved}
 use Rattle.dm_wire.proofs.Numbers.{IsOctets}
 use Rattle.dm_wire.proofs.Reading.{bad_behind}
@@ -78,7 +79,7 @@ IsJudged s = ((m : Message) × SpellsMessage m s) ⊎ ((f : WireFault) × Refuse
 
 framed : (s : List ℕ) → IsTested s → IsTold (drop 20 s) → IsJudged s
 framed s t (inl l) =
-    inl (record { header = read_header s; avps = l.0 }, record { front = take 20 s; rest = drop 20 s; whole = sym (take-append-drop 20 s); header = header_spelled s t; avps = l.1 })
+    inl (record { header = header_in s; avps = l.0 }, record { front = take 20 s; rest = drop 20 s; whole = sym (take-append-drop 20 s); header = header_spelled s t; avps = l.1 })
 framed s t (inr bad) = inr (AvpLength (20 + bad.0), (t.version, t.size, t.aligned, bad_behind 20 s bad.0 t.long bad.1))
 
 pub message_or_fault : (s : List ℕ) → IsOctets s → ((m : Message) × SpellsMessage m s) ⊎ ((f : WireFault) × Refuses s f)

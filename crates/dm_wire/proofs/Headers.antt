@@ -3,8 +3,8 @@ use Rattle.std.proofs.Common.{◌≡◌, ◌<◌, ◌≤◌, ℕ, ◌%◌, ◌^�
 use Rattle.std.proofs.lemmas.List.{take_more, length-drop}
 use Rattle.byteorder.specs.Endian.{big_number}
 use Rattle.byteorder.specs.Numbers.{big_from-lt}
-use Rattle.dm_wire.specs.declared.message.Header.{Header}
-use Rattle.dm_wire.specs.Spelling.{be, is_set, SpellsHeader}
+use Rattle.dm_wire.specs.Spelling.{be, SpellsHeader}
+use Rattle.dm_wire.specs.Whole.{header_in}
 use Rattle.dm_wire.proofs.Numbers.{IsOctets, be-big_number-3, be-big_number-4}
 use Rattle.dm_wire.proofs.Cuts.{take_cut}
 use Rattle.dm_wire.proofs.Fronts.{octets_behind}
@@ -16,20 +16,6 @@ pub record IsTested (s : List ℕ) : Type 0 where
   pub version : slice_index s 0 ≡ 1
   pub size : big_number 3 (drop 1 s) ≡ length s
   pub aligned : length s % 4 ≡ 0
-
--- the header that such a reader takes
-abbrev pub read_header : List ℕ → Header
-read_header s =
-    record {
-      request = is_set (slice_index s 4) 128;
-      proxiable = is_set (slice_index s 4) 64;
-      error = is_set (slice_index s 4) 32;
-      retransmit = is_set (slice_index s 4) 16;
-      command = big_number 3 (drop 5 s);
-      application = big_number 4 (drop 8 s);
-      hop_id = big_number 4 (drop 12 s);
-      end_id = big_number 4 (drop 16 s);
-    }
 
 -- the first 20 octets, as the parts of a header
 header_parts : (s : List ℕ) → 20 ≤ length s → take 20 s ≡ slice_index s 0 ∷ take 3 (drop 1 s) ++ slice_index s 4 ∷ take 3 (drop 5 s) ++ take 4 (drop 8 s) ++ take 4 (drop 12 s) ++ take 4 (drop 16 s)
@@ -45,7 +31,7 @@ fields_for : (t x1 y1 x5 y5 x8 y8 x12 y12 x16 y16 : List ℕ) (v f : ℕ) → v 
 fields_for t x1 y1 x5 y5 x8 y8 x12 y12 x16 y16 v f ev e1 e5 e8 e12 e16 e = rw (e1, e5, e8, e12, e16, ← ev) e
 
 -- what was tested is spelled
-pub header_spelled : (s : List ℕ) → IsTested s → SpellsHeader (read_header s) (length s) (take 20 s)
+pub header_spelled : (s : List ℕ) → IsTested s → SpellsHeader (header_in s) (length s) (take 20 s)
 header_spelled s t =
     let long : 20 ≤ length s = t.long in
     let behind : (n : ℕ) → IsOctets (drop n s) = λ n. octets_behind n s t.octets in

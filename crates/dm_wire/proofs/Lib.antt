@@ -2,6 +2,7 @@ pub mod Canonicals
 pub mod Cuts
 pub mod Equalities
 pub mod Existence
+pub mod Fitting
 pub mod Fronts
 pub mod Headers
 pub mod Limit
@@ -13,3 +14,4 @@ pub mod Reading
 pub mod RoundTrips
 pub mod Spellings
 pub mod Walking
+pub mod Wholes

@@ -9,7 +9,7 @@ use Rattle.dm_wire.specs.Spelling.{is_set, avp_header_len, SpellsAvp, SpellsList
 use Rattle.dm_wire.specs.Refusal.{BeginsWithNoAvp}
 use Rattle.dm_wire.proofs.Numbers.{IsOctets}
 use Rattle.dm_wire.proofs.Fronts.{spelled, header_above, octets_behind}
-use Rattle.dm_wire.proofs.Spellings.{front, one_avp}
+use Rattle.dm_wire.proofs.Spellings.{front, same_made}
 use Rattle.dm_wire.specs.declared.borrowed.AvpRef.{AvpRef}
 use Rattle.dm_wire.specs.Borrowed.{avp_of}
 use Rattle.dm_wire.specs.Members.{vendor_at, length_at, padded, avp_at, begins_with_avp, members_by, members}
@@ -121,14 +121,24 @@ unfolding members
 members_stop [] h e = absurd (omega arith)
 members_stop (x ∷ s) h e = rw e refl
 
+-- what begins there is what is spelled there
+front_is : (s : List ℕ) (a : Avp) (n : ℕ) → n ≤ length s → SpellsAvp a (take n s) → avp_at s ≡ a
+front_is s a n in_s sp =
+    let f = front a (take n s) (drop n s) s sp (sym (take-append-drop n s)) in
+    let vendor = vendor_is (is_set (slice_index s 4) 128) (big_number 4 (drop 8 s)) a.vendor f.vendor_bit f.vendor in
+    let header : avp_header_len (vendor_at s) ≡ avp_header_len a.vendor = ap avp_header_len vendor in
+    let len : avp_header_len a.vendor + length a.bytes ≡ length_at s = f.len in
+    let size : length_at s - avp_header_len (vendor_at s) ≡ length a.bytes = omega (arith, header, len) in
+    let bytes : take (length_at s - avp_header_len (vendor_at s)) (drop (avp_header_len (vendor_at s)) s) ≡ a.bytes = rw (size, header) (sym f.bytes) in
+    same_made _ _ _ _ _ _ _ _ _ _ (sym f.code) vendor f.mandatory_bit f.protected_bit bytes
+
 -- the members of octets at whose front an AVP is spelled
-pub member_found : (s : List ℕ) (a : Avp) (n : ℕ) → IsOctets s → n ≤ length s → SpellsAvp a (take n s) → members s ≡ option_map (λ l. a ∷ l) (members (drop n s))
-member_found s a n o in_s sp =
+pub member_found : (s : List ℕ) (a : Avp) (n : ℕ) → n ≤ length s → SpellsAvp a (take n s) → members s ≡ option_map (λ l. a ∷ l) (members (drop n s))
+member_found s a n in_s sp =
     let (b, pad) = front_begins s a n in_s sp in
     let m = padded (length_at s) in
-    let both : take m s ++ drop m s ≡ take n s ++ drop n s = take-append-drop m s ∙ sym (take-append-drop n s) in
-    let same = one_avp (avp_at s) a (take m s) (take n s) (drop m s) (drop n s) (begun s o b) sp both in
-    members_begun s b ∙ ap (λ x. option_map (λ l. x ∷ l) (members (drop m s))) same.0 ∙ ap (λ k. option_map (λ l. a ∷ l) (members (drop k s))) pad
+    members_begun s b ∙ ap (λ x. option_map (λ l. x ∷ l) (members (drop m s))) (front_is s a n in_s sp)
+    ∙ ap (λ k. option_map (λ l. a ∷ l) (members (drop k s))) pad
 
 -- the members of octets at whose front no AVP is spelled
 pub no_member : (s : List ℕ) → IsOctets s → BeginsWithNoAvp s → (s ≡ []) ⊎ (members s ≡ None)
@@ -143,7 +153,7 @@ no_member (x ∷ s) o none = inr (by (begins_with_avp (x ∷ s)) refl) where
 -- the same of an answer
 pub found_member : (s : List ℕ) (r : Option (AvpRef × ℕ)) → IsOctets s → IfSome r (λ read. read.1 ≤ length s) → IfSome r (λ read. SpellsAvp (avp_of read.0) (take read.1 s)) → IfSome r (λ read. members s ≡ option_map (λ l. avp_of read.0 ∷ l) (members (drop read.1 s)))
 found_member s None o w f = tt
-found_member s (Some x) o w f = member_found s (avp_of x.0) x.1 o w f
+found_member s (Some x) o w f = member_found s (avp_of x.0) x.1 w f
 
 pub none_member : (s : List ℕ) (r : Option (AvpRef × ℕ)) → IsOctets s → IfNone r (BeginsWithNoAvp s) → IfNone r ((s ≡ []) ⊎ (members s ≡ None))
 none_member s None o none = no_member s o none
@@ -182,13 +192,13 @@ members_spelled (suc n) (x ∷ s) l h o e = by (begins_with_avp (x ∷ s)) refl 
   by false t ih = absurd (let none : members (x ∷ s) ≡ None = members_stop (x ∷ s) (omega arith) t in cc)
 
 -- what is spelled are the members
-pub spelled_members : (l : List Avp) (s : List ℕ) → IsOctets s → SpellsList l s → members s ≡ Some l
-spelled_members [] s o e = ap members e ∙ members_nil
-spelled_members (a ∷ l) s o h =
+pub spelled_members : (l : List Avp) (s : List ℕ) → SpellsList l s → members s ≡ Some l
+spelled_members [] s e = ap members e ∙ members_nil
+spelled_members (a ∷ l) s h =
     let n = length h.0 in
     let front_is : take n s ≡ h.0 = rw (h.2) (take-append_seam h.0 h.1) in
     let rest_is : drop n s ≡ h.1 = rw (h.2) (drop-append_seam h.0 h.1) in
     let within : n ≤ length s = (let whole = ap length (h.2) ∙ length-append h.0 h.1 in omega arith) in
     let spells : SpellsAvp a (take n s) = rw front_is (h.3) in
     let behind : SpellsList l (drop n s) = rw rest_is (h.4) in
-    member_found s a n o within spells ∙ ap (option_map (λ k. a ∷ k)) (spelled_members l (drop n s) (octets_behind n s o) behind)
+    member_found s a n within spells ∙ ap (option_map (λ k. a ∷ k)) (spelled_members l (drop n s) behind)

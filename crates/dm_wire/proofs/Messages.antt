@@ -10,9 +10,9 @@ use Rattle.dm_wire.specs.declared.message.Message.{Message}
 use Rattle.dm_wire.specs.declared.fault.WireFault.{WireFault}
 use Rattle.dm_wire.specs.declared.fault.WireFault.TheVariants.{TooShort, Version, Length, AvpLength, TooLong, NoMemory}
 use Rattle.dm_wire.specs.Spelling.{be, SpellsHeader, SpellsMessage}
+use Rattle.dm_wire.specs.Whole.{header_in}
 use Rattle.dm_wire.specs.Refusal.{IsBadAt, Refuses}
 use Rattle.dm_wire.proofs.Cuts.{drop-take-add}
-use Rattle.dm_wire.proofs.Headers.{read_header}
 use Rattle.dm_wire.proofs.Lists.{list_ends, list_aligned, one_list, no_bad_in_list}
 use Rattle.dm_wire.proofs.Spellings.{same_halves}
 
@@ -31,7 +31,7 @@ layout flags size h = 1 ∷ be size 3 ++ flags ∷ be h.command 3 ++ be h.applic
 pub record HeaderFront (h : Header) (size : ℕ) (s : List ℕ) : Type 0 where
   pub version : slice_index s 0 ≡ 1
   pub size_is : size ≡ big_number 3 (drop 1 s)
-  pub header_is : h ≡ read_header s
+  pub header_is : h ≡ header_in s
 
 pub header_front : (h : Header) (size : ℕ) (front rest : List ℕ) → SpellsHeader h size front → HeaderFront h size (front ++ rest)
 header_front h size front rest sp =

@@ -17,7 +17,7 @@ use Rattle.dm_wire.proofs.Messages.{HeaderFront, header_front, one_message, no_r
 
 -- octets that spell a list have members
 pub some_members : (s : List ℕ) (l : List Avp) → IsOctets s → SpellsList l s → is_some (members s) ≡ true
-some_members s l o sp = ap is_some (spelled_members l s o sp)
+some_members s l o sp = ap is_some (spelled_members l s sp)
 
 -- octets with a bad AVP have none
 pub no_members : (s : List ℕ) (o : ℕ) → IsOctets s → IsBadAt 0 s o → is_some (members s) ≡ false

@@ -1,6 +1,7 @@
 pub mod AvpEquality
 pub mod Borrowed
 pub mod Canonical
+pub mod Fitting
 pub mod Limits
 pub mod Members
 pub mod OneAnswer
@@ -9,3 +10,4 @@ pub mod RoundTrip
 pub mod Spelling
 pub mod WalkStates
 pub mod Walks
+pub mod Whole

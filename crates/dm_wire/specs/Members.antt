@@ -45,3 +45,7 @@ members s = members_by (length s) s
 -- octets have just the members that they spell
 abbrev pub MembersSpell : Type 0
 MembersSpell = (s : List ℕ) (l : List Avp) → ((i : ℕ) → slice_index s i < 256) → (members s ≡ Some l) ↔ SpellsList l s
+
+-- and those that are spelled are the members, even where a number of the list is no octet
+abbrev pub SpelledAreMembers : Type 0
+SpelledAreMembers = (s : List ℕ) (l : List Avp) → SpellsList l s → members s ≡ Some l

@@ -1,9 +1,11 @@
 //! Laws of what octets spell. Each function is a law: it does nothing, and its contract is the law.
-ghost use Rattle.dm_wire.specs.Members.{MembersSpell};
+ghost use Rattle.dm_wire.specs.Members.{MembersSpell, SpelledAreMembers};
 ghost use Rattle.dm_wire.specs.AvpEquality.{EqualAvps, EqualLists, EqualMessages};
 ghost use Rattle.dm_wire.specs.OneAnswer.{OneMessage, OneAvp, OneList, OneBadOctet, OneRefusal, NoMessageRefused, ListOrBadOctet, MessageOrFault};
 ghost use Rattle.dm_wire.specs.RoundTrip.{CanonicalSpells, ReadsBack, OneSize, CanonicalListSpells, ListReadsBack, CanonicalHeaderSpelled};
 ghost use Rattle.dm_wire.specs.Walks.{WalkTells};
+ghost use Rattle.dm_wire.specs.Fitting.{AvpSpelled, AvpSized, ListSpelled, MessageSpelled};
+ghost use Rattle.dm_wire.specs.Whole.{MessageInSpells, SpelledIsIn};
 
 /// Of two spellings of messages that begin one text neither is longer, and both spell one message.
 /// So where a stream of messages is cut doesn't depend on who cuts it (RFC 6733, 3).
@@ -19,6 +21,11 @@ pub fn one_avp()
 /// The members of octets are just the AVPs that the octets spell, one after the other (4.1 and 4.4).
 pub fn members_spell()
     ensures { MembersSpell }
+{}
+
+/// AVPs that are spelled, one after the other, are the members. It stands for the layers above.
+pub fn spelled_are_members()
+    ensures { SpelledAreMembers }
 {}
 
 /// Octets spell at most one list of AVPs.
@@ -101,4 +108,35 @@ pub fn equal_lists()
 /// What `==` of messages computes is true just where they are equal.
 pub fn equal_messages()
     ensures { EqualMessages }
+{}
+
+/// The message in octets is just the one that they spell (3). It stands for the layers above.
+pub fn message_in_spells()
+    ensures { MessageInSpells }
+{}
+
+/// A message that is spelled is the message in the octets (3). It stands for the layers above.
+pub fn spelled_is_in()
+    ensures { SpelledIsIn }
+{}
+
+/// An AVP whose code, Length and Vendor-ID fit their fields is spelled by its canonical octets (4.1).
+pub fn avp_spelled()
+    ensures { AvpSpelled }
+{}
+
+/// The canonical octets of an AVP are as many as its Length, filled up to a multiple of 4 (4.1).
+pub fn avp_sized()
+    ensures { AvpSized }
+{}
+
+/// A list of such AVPs is spelled by its canonical octets.
+pub fn list_spelled()
+    ensures { ListSpelled }
+{}
+
+/// A message of such AVPs whose header's numbers fit their fields, and which has at most 16777212 octets, is spelled by
+/// its canonical octets (3). So `encode` refuses such a message for want of memory alone.
+pub fn message_spelled()
+    ensures { MessageSpelled }
 {}

@@ -1,0 +1,209 @@
+-- What a node builds is good under the base dictionary.
+use Rattle.std.proofs.Common.{◌≡◌, ℕ, Bool, true, false, nat_lt, nat_le, Option, None, Some, List, [], ◌∷◌, ◌++◌, map, length, refl, sym, arith, eqb-true, append-nil, if◌then◌else◌}
+use Rattle.std.specs.List.{list_all}
+use Rattle.std.specs.Str.{is_utf8}
+use Rattle.std.proofs.lemmas.Bool.{and_parts, ltb-true, le-ltb}
+use Rattle.dm_wire.specs.Spelling.{avp_length}
+use Rattle.dm_wire.specs.Canonical.{canonical_avp}
+use Rattle.dm_wire.specs.declared.avp.Avp.{Avp}
+use Rattle.dm_wire.specs.declared.message.Header.{Header}
+use Rattle.dm_value.specs.declared.address.Ip.{Ip}
+use Rattle.dm_value.specs.declared.address.Ip.TheVariants.{V4, V6}
+use Rattle.dm_value.specs.Flaws.{is_visible, is_visible_text}
+use Rattle.dm_definitions.specs.declared.def.CommandDef.{CommandDef}
+use Rattle.dm_definitions.specs.Base.{base_avps, base_definitions}
+use Rattle.dm_definitions.specs.Base as base
+use Rattle.dm_dict.specs.Faults.{faults, wrong_bits, command_for, group_faults}
+use Rattle.dm_base.specs.declared.node.Node.{Node}
+use Rattle.dm_base.specs.Fit.{is_name, is_sized, are_addresses, is_product}
+use Rattle.dm_base.specs.declared.kind.Cause.{Cause}
+use Rattle.dm_base.specs.Built.{avp, number_avp, address_avp, product_avp, origin, application_avps, behind_addresses, capabilities, failed_avps, result_avp, request_header, answer_header, cause_number, built_cer, built_dwr, built_dpr, built_cea, built_answer, built_error}
+use Rattle.dm_base.proofs.Shapes.{Part, One, Many, IsRight, Each, IsShaped, keeps, shaped_right}
+
+abbrev Right : ℕ → Avp → Type 0
+Right code a = IsRight base_avps code a
+
+-- the text has an octet, and all are visible
+visible : (s : List ℕ) → is_name s ≡ true → (nat_lt (length s) 1 ≡ false) × (list_all is_visible s ≡ true)
+visible s h =
+    let (text, short) = and_parts (is_visible_text s) (nat_le (length s) 255) h in
+    let (some, all) = and_parts (nat_lt 0 (length s)) (list_all is_visible s) text in
+    (le-ltb (length s) 1 (let k = ltb-true 0 (length s) some in omega arith), all)
+
+pub host_right : (s : List ℕ) → is_name s ≡ true → Right 264 (avp 264 s)
+host_right s h =
+    let (some, all) = visible s h in record { is_defined = refl; faultless = λ groups. rw (some, all) refl }
+
+pub realm_right : (s : List ℕ) → is_name s ≡ true → Right 296 (avp 296 s)
+realm_right s h =
+    let (some, all) = visible s h in record { is_defined = refl; faultless = λ groups. rw (some, all) refl }
+
+pub address_right : (a : Ip) → is_sized a ≡ true → Right 257 (address_avp a)
+address_right (V4 a) h =
+    let four : length a ≡ 4 = eqb-true (length a) 4 h in
+    record { is_defined = refl; faultless = λ groups. rw four refl }
+address_right (V6 a) h =
+    let four : length a ≡ 16 = eqb-true (length a) 16 h in
+    record { is_defined = refl; faultless = λ groups. rw four refl }
+
+pub addresses_right : (l : List Ip) → list_all is_sized l ≡ true → Each (Right 257) (map address_avp l)
+addresses_right [] h = tt
+addresses_right (a ∷ l) h =
+    let (here, behind) = and_parts (is_sized a) (list_all is_sized l) h in
+    (address_right a here, addresses_right l behind)
+
+pub vendor_right : (n : ℕ) → Right 266 (number_avp 266 n)
+vendor_right n = record { is_defined = refl; faultless = λ groups. refl }
+
+pub product_right : (s : List ℕ) → is_product s ≡ true → Right 269 (product_avp s)
+product_right s h =
+    let (text, short) = and_parts (is_utf8 s) (nat_le (length s) 255) h in
+    let none : nat_lt (length s) 0 ≡ false = le-ltb (length s) 0 (omega arith) in
+    record { is_defined = refl; faultless = λ groups. rw (none, text) refl }
+
+pub auth_right : (l : List ℕ) → Each (Right 258) (map (number_avp 258) l)
+auth_right [] = tt
+auth_right (n ∷ l) = (record { is_defined = refl; faultless = λ groups. refl }, auth_right l)
+
+pub acct_right : (l : List ℕ) → Each (Right 259) (map (number_avp 259) l)
+acct_right [] = tt
+acct_right (n ∷ l) = (record { is_defined = refl; faultless = λ groups. refl }, acct_right l)
+
+pub result_right : (n : ℕ) → Right 268 (number_avp 268 n)
+result_right n = record { is_defined = refl; faultless = λ groups. refl }
+
+pub cause_right : (n : ℕ) → Right 273 (number_avp 273 n)
+cause_right n = record { is_defined = refl; faultless = λ groups. refl }
+
+pub failed_right : (s : List ℕ) → Right 279 (avp 279 s)
+failed_right s = record { is_defined = refl; faultless = λ groups. refl }
+
+abbrev two_shape : List Part → List Part
+two_shape ps = One 264 ∷ One 296 ∷ ps
+
+abbrev Shaped : List Part → List Avp → Type 0
+Shaped ps l = IsShaped base_avps ps l
+
+pub origin_shaped : (n : Node) (ps : List Part) (rest : List Avp) → Shaped ps rest
+    → Shaped (two_shape ps) (origin n rest)
+origin_shaped n ps rest s =
+    let realm = realm_right n.realm n.fit_realm in
+    (avp 264 n.host, _, refl, host_right n.host n.fit_host, (avp 296 n.realm, rest, refl, realm, s))
+
+pub addresses_shaped : (l : List Ip) (ps : List Part) (rest : List Avp) → are_addresses l ≡ true → Shaped ps rest
+    → Shaped (One 257 ∷ Many 257 ∷ ps) (map address_avp l ++ rest)
+addresses_shaped [] ps rest h s = absurd (cc)
+addresses_shaped (a ∷ l) ps rest h s =
+    let (both, sized) = and_parts _ _ h in
+    let (here, behind) = and_parts (is_sized a) (list_all is_sized l) sized in
+    (address_avp a, _, refl, address_right a here, (map address_avp l, rest, refl, addresses_right l behind, s))
+
+abbrev caps_shape : List Part
+caps_shape = One 264 ∷ One 296 ∷ One 257 ∷ Many 257 ∷ One 266 ∷ One 269 ∷ Many 279 ∷ Many 258 ∷ Many 259 ∷ []
+
+pub failed_shaped : (f : Option Avp) → Each (Right 279) (failed_avps f)
+failed_shaped None = tt
+failed_shaped (Some a) = by (nat_le (avp_length a) 4096) where
+  by : (b : Bool) → Each (Right 279) (if b then avp 279 (canonical_avp a) ∷ [] else [])
+  by true = (failed_right (canonical_avp a), tt)
+  by false = tt
+
+abbrev behind_shape : List Part
+behind_shape = One 266 ∷ One 269 ∷ Many 279 ∷ Many 258 ∷ Many 259 ∷ []
+
+behind_shaped : (n : Node) (failed : List Avp) → Each (Right 279) failed
+    → Shaped behind_shape (behind_addresses n failed)
+behind_shaped n failed f =
+    let acct : Shaped (Many 259 ∷ []) (map (number_avp 259) n.acct) =
+    (map (number_avp 259) n.acct, [], sym (append-nil (map (number_avp 259) n.acct)), acct_right n.acct, refl) in
+    let auth : Shaped (Many 258 ∷ Many 259 ∷ []) (application_avps n) =
+    (map (number_avp 258) n.auth, map (number_avp 259) n.acct, refl, auth_right n.auth, acct) in
+    let inner : Shaped (Many 279 ∷ Many 258 ∷ Many 259 ∷ []) (failed ++ application_avps n) =
+    (failed, application_avps n, refl, f, auth) in
+    let product = product_right n.product n.fit_product in
+    (number_avp 266 n.vendor, _, refl, vendor_right n.vendor, (product_avp n.product, _, refl, product, inner))
+
+pub capabilities_shaped : (n : Node) (failed : List Avp) → Each (Right 279) failed
+    → Shaped caps_shape (capabilities n failed)
+capabilities_shaped n failed f =
+    let behind = behind_shaped n failed f in
+    let addresses = addresses_shaped n.addresses behind_shape (behind_addresses n failed) n.fit_addresses behind in
+    origin_shaped n (One 257 ∷ Many 257 ∷ behind_shape)
+    (map address_avp n.addresses ++ behind_addresses n failed) addresses
+
+-- the messages whose AVPs are of a shape that keeps to the command's rule
+pub good : (h : Header) (c : CommandDef) (ps : List Part) (l : List Avp) → command_for base_definitions h ≡ Some c
+    → wrong_bits h ≡ false → Shaped ps l → keeps base_avps c.rule ps ≡ true
+    → faults base_definitions (record { header = h; avps = l }) ≡ []
+good h c ps l found bits s k = rw (found, bits) (shaped_right (group_faults 8 base_avps) base_avps c.rule ps l s k)
+
+cer_rule : keeps base_avps base.cer.rule caps_shape ≡ true
+cer_rule = refl
+
+pub good_cer : (n : Node) (id : ℕ) → faults base_definitions (built_cer n id) ≡ []
+good_cer n id =
+    good (request_header 257 id) base.cer caps_shape (capabilities n []) refl refl
+    (capabilities_shaped n [] tt) cer_rule
+
+dwr_rule : keeps base_avps base.dwr.rule (two_shape []) ≡ true
+dwr_rule = refl
+
+pub good_dwr : (n : Node) (id : ℕ) → faults base_definitions (built_dwr n id) ≡ []
+good_dwr n id = good (request_header 280 id) base.dwr (two_shape []) _ refl refl (origin_shaped n [] [] refl) dwr_rule
+
+dpr_rule : keeps base_avps base.dpr.rule (two_shape (One 273 ∷ [])) ≡ true
+dpr_rule = refl
+
+pub good_dpr : (n : Node) (id : ℕ) (cause : Cause) → faults base_definitions (built_dpr n id cause) ≡ []
+good_dpr n id cause =
+    good (request_header 282 id) base.dpr (two_shape (One 273 ∷ [])) _ refl refl
+    (origin_shaped n (One 273 ∷ []) _
+    (number_avp 273 (cause_number cause), [], refl, cause_right (cause_number cause), refl)) dpr_rule
+
+cea_rule : keeps base_avps base.cea.rule (One 268 ∷ caps_shape) ≡ true
+cea_rule = refl
+
+pub good_cea : (n : Node) (to : Header) (code : ℕ) (failed : Option Avp) → to.command ≡ 257
+    → faults base_definitions (built_cea n to code failed) ≡ []
+good_cea n to code failed h =
+    good (answer_header false to) base.cea (One 268 ∷ caps_shape) (built_cea n to code failed).avps (rw h refl) refl
+    (result_avp code, _, refl, result_right code, capabilities_shaped n (failed_avps failed) (failed_shaped failed))
+    cea_rule
+
+abbrev answer_shape : List Part
+answer_shape = One 268 ∷ two_shape (Many 279 ∷ [])
+
+answer_shaped : (n : Node) (to : Header) (code : ℕ) (failed : Option Avp)
+    → Shaped answer_shape (built_answer n to code failed).avps
+answer_shaped n to code failed = (
+  result_avp code,
+  _,
+  refl,
+  result_right code,
+  origin_shaped n (Many 279 ∷ []) _
+      (failed_avps failed, [], sym (append-nil (failed_avps failed)), failed_shaped failed, refl),
+)
+
+dwa_rule : keeps base_avps base.dwa.rule answer_shape ≡ true
+dwa_rule = refl
+
+dpa_rule : keeps base_avps base.dpa.rule answer_shape ≡ true
+dpa_rule = refl
+
+pub good_dwa : (n : Node) (to : Header) (code : ℕ) (failed : Option Avp) → to.command ≡ 280
+    → faults base_definitions (built_answer n to code failed) ≡ []
+good_dwa n to code failed h =
+    good (answer_header false to) base.dwa answer_shape _ (rw h refl) refl (answer_shaped n to code failed) dwa_rule
+
+pub good_dpa : (n : Node) (to : Header) (code : ℕ) (failed : Option Avp) → to.command ≡ 282
+    → faults base_definitions (built_answer n to code failed) ≡ []
+good_dpa n to code failed h =
+    good (answer_header false to) base.dpa answer_shape _ (rw h refl) refl (answer_shaped n to code failed) dpa_rule
+
+error_rule : keeps base_avps base.answer_message.rule (two_shape (One 268 ∷ [])) ≡ true
+error_rule = refl
+
+pub good_error : (n : Node) (to : Header) (code : ℕ) → faults base_definitions (built_error n to code) ≡ []
+good_error n to code =
+    good (answer_header true to) base.answer_message (two_shape (One 268 ∷ [])) _ refl refl
+    (origin_shaped n (One 268 ∷ []) _ (result_avp code, [], refl, result_right code, refl)) error_rule

@@ -1,0 +1,12 @@
+pub mod BadMessages
+pub mod Fitting
+pub mod Good
+pub mod Ids
+pub mod Orders
+pub mod Own
+pub mod Searching
+pub mod Securing
+pub mod Shapes
+pub mod Sharing
+pub mod Sized
+pub mod Viewing

@@ -1,0 +1,190 @@
+-- What a node builds has a spelling: no AVP is long, and there are few.
+use Rattle.std.proofs.Common.{◌≡◌, ◌<◌, ◌≤◌, ◌^◌, ℕ, zero, suc, ◌*◌, Bool, true, false, ◌&&◌, nat_lt, nat_le, Option, None, Some, List, [], ◌∷◌, ◌++◌, map, length, refl, arith, length-append, eqb-true, if◌then◌else◌}
+use Rattle.std.specs.List.{All, list_all}
+use Rattle.std.specs.Str.{is_utf8}
+use Rattle.std.proofs.lemmas.List.{length-map}
+use Rattle.std.proofs.lemmas.Bool.{and_parts, leb-true}
+use Rattle.dm_wire.specs.Spelling.{avp_length}
+use Rattle.dm_wire.specs.Canonical.{canonical_avp, canonical_list, canonical_message}
+use Rattle.dm_wire.specs.Limits.{AvpFits, HeaderFits}
+use Rattle.dm_wire.specs.Fitting.{AvpSized, MessageSpelled}
+use Rattle.dm_wire.specs.declared.avp.Avp.{Avp}
+use Rattle.dm_wire.specs.declared.message.Header.{Header}
+use Rattle.dm_wire.specs.declared.message.Message.{Message}
+use Rattle.dm_value.specs.declared.address.Ip.{Ip}
+use Rattle.dm_value.specs.declared.address.Ip.TheVariants.{V4, V6}
+use Rattle.dm_value.specs.Flaws.{is_visible_text}
+use Rattle.dm_base.specs.declared.node.Node.{Node}
+use Rattle.dm_base.specs.Spelled.{HasSpelling}
+use Rattle.dm_base.specs.Fit.{is_name, is_sized, is_product, is_number}
+use Rattle.dm_base.specs.Built.{avp, number_avp, address_avp, product_avp, origin, application_avps, behind_addresses, capabilities, failed_avps, result_avp, request_header, answer_header, cause_number, built_cer, built_dwr, built_dpr, built_cea, built_answer, built_error}
+use Rattle.dm_base.specs.Laws.{CerIsSpelled, CeaIsSpelled, DwrIsSpelled, DprIsSpelled, AnswerIsSpelled, ErrorIsSpelled}
+use Rattle.dm_base.proofs.Shapes.{Each}
+
+-- the laws of spellings that are used here
+pub record Laws : Type 0 where
+  pub spelled : MessageSpelled
+  pub sized : AvpSized
+
+-- an AVP of the base messages: a small code, no vendor, and little data
+pub record IsSmall (a : Avp) : Type 0 where
+  pub code : a.code ≤ 299
+  pub length : length a.bytes ≤ 4100
+  pub vendor : a.vendor ≡ None
+
+small_length : (a : Avp) → IsSmall a → avp_length a ≤ 4108
+small_length a s = let l = s.length in rw s.vendor (omega arith)
+
+small_fits : (a : Avp) → IsSmall a → AvpFits a
+small_fits a s =
+    let l = small_length a s in
+    let c = s.code in
+    record { code = omega arith; length = omega arith; vendor = rw s.vendor tt }
+
+all_fit : (l : List Avp) → Each IsSmall l → All AvpFits l
+all_fit [] s k d below = absurd (omega arith)
+all_fit (a ∷ l) s zero d below = small_fits a s.0
+all_fit (a ∷ l) s (suc k) d below = all_fit l s.1 k d (omega arith)
+
+small_size : AvpSized → (a : Avp) → IsSmall a → length (canonical_avp a) ≤ 4112
+small_size sized a s = let l = small_length a s in let size = sized a in omega arith
+
+list_size : AvpSized → (l : List Avp) → Each IsSmall l → length (canonical_list l) ≤ 4112 * length l
+list_size sized [] s = omega arith
+list_size sized (a ∷ l) s =
+    let here = small_size sized a s.0 in
+    let behind = list_size sized l s.1 in
+    omega (arith, length-append (canonical_avp a) (canonical_list l))
+
+-- a message of few small AVPs has a spelling
+message_spelled : Laws → (m : Message) → HeaderFits m.header → Each IsSmall m.avps → length m.avps ≤ 1000
+    → HasSpelling m
+message_spelled laws m h s few =
+    let size = list_size laws.sized m.avps s in
+    record { octets = canonical_message m; spelled = laws.spelled m h (all_fit m.avps s) (omega arith) }
+
+each_both : (P : Avp → Type 0) (l k : List Avp) → Each P l → Each P k → Each P (l ++ k)
+each_both P [] k h g = g
+each_both P (a ∷ l) k h g = (h.0, each_both P l k h.1 g)
+
+numbers_small : (code : ℕ) (l : List ℕ) → code ≤ 299 → Each IsSmall (map (number_avp code) l)
+numbers_small code [] h = tt
+numbers_small code (n ∷ l) h = (record { code = h; length = omega arith; vendor = refl }, numbers_small code l h)
+
+addresses_small : (l : List Ip) → list_all is_sized l ≡ true → Each IsSmall (map address_avp l)
+addresses_small [] h = tt
+addresses_small (V4 a ∷ l) h =
+    let (here, behind) = and_parts (is_sized (V4 a)) (list_all is_sized l) h in
+    let four : length a ≡ 4 = eqb-true (length a) 4 here in
+    (record { code = omega arith; length = omega arith; vendor = refl }, addresses_small l behind)
+addresses_small (V6 a ∷ l) h =
+    let (here, behind) = and_parts (is_sized (V6 a)) (list_all is_sized l) h in
+    let four : length a ≡ 16 = eqb-true (length a) 16 here in
+    (record { code = omega arith; length = omega arith; vendor = refl }, addresses_small l behind)
+
+name_small : (code : ℕ) (s : List ℕ) → code ≤ 299 → is_name s ≡ true → IsSmall (avp code s)
+name_small code s h name =
+    let (text, short) = and_parts (is_visible_text s) (nat_le (length s) 255) name in
+    let few = leb-true (length s) 255 short in
+    record { code = h; length = omega arith; vendor = refl }
+
+product_small : (s : List ℕ) → is_product s ≡ true → IsSmall (product_avp s)
+product_small s name =
+    let (text, short) = and_parts (is_utf8 s) (nat_le (length s) 255) name in
+    let few = leb-true (length s) 255 short in
+    record { code = omega arith; length = omega arith; vendor = refl }
+
+number_small : (code n : ℕ) → code ≤ 299 → IsSmall (number_avp code n)
+number_small code n h = record { code = h; length = omega arith; vendor = refl }
+
+failed_small : AvpSized → (f : Option Avp) → Each IsSmall (failed_avps f) × (length (failed_avps f) ≤ 1)
+failed_small sized None = (tt, omega arith)
+failed_small sized (Some a) = by (nat_le (avp_length a) 4096) refl where
+  failed : Bool → List Avp
+  failed b = if b then avp 279 (canonical_avp a) ∷ [] else []
+
+  by : (b : Bool) → nat_le (avp_length a) 4096 ≡ b → Each IsSmall (failed b) × (length (failed b) ≤ 1)
+  by true e =
+      let few = leb-true (avp_length a) 4096 e in
+      let size = sized a in
+      ((record { code = omega arith; length = omega arith; vendor = refl }, tt), omega arith)
+  by false e = (tt, omega arith)
+
+origin_small : (n : Node) (rest : List Avp) → Each IsSmall rest → Each IsSmall (origin n rest)
+origin_small n rest s =
+    (name_small 264 n.host (omega arith) n.fit_host, (name_small 296 n.realm (omega arith) n.fit_realm, s))
+
+applications_small : (n : Node) → Each IsSmall (application_avps n)
+applications_small n =
+    each_both IsSmall (map (number_avp 258) n.auth) (map (number_avp 259) n.acct)
+    (numbers_small 258 n.auth (omega arith)) (numbers_small 259 n.acct (omega arith))
+
+capabilities_small : (n : Node) (failed : List Avp) → Each IsSmall failed → Each IsSmall (capabilities n failed)
+capabilities_small n failed f =
+    let behind : Each IsSmall (failed ++ application_avps n) =
+    each_both IsSmall failed (application_avps n) f (applications_small n) in
+    let parts : Each IsSmall (behind_addresses n failed) =
+    (number_small 266 n.vendor (omega arith), (product_small n.product n.fit_product, behind)) in
+    let (some, sized) =
+    and_parts (nat_lt 0 (length n.addresses) && nat_le (length n.addresses) 64) (list_all is_sized n.addresses)
+    n.fit_addresses in
+    origin_small n (map address_avp n.addresses ++ behind_addresses n failed)
+    (each_both IsSmall (map address_avp n.addresses) (behind_addresses n failed)
+    (addresses_small n.addresses sized) parts)
+
+capabilities_few : (n : Node) (failed : List Avp) → length failed ≤ 1 → length (capabilities n failed) ≤ 600
+capabilities_few n failed f =
+    let (both, sized) =
+    and_parts (nat_lt 0 (length n.addresses) && nat_le (length n.addresses) 64) (list_all is_sized n.addresses)
+    n.fit_addresses in
+    let (some, addresses) = and_parts (nat_lt 0 (length n.addresses)) (nat_le (length n.addresses) 64) both in
+    let (auth, x) = and_parts (nat_le (length n.auth) 256) (list_all is_number n.auth) n.fit_auth in
+    let (acct, y) = and_parts (nat_le (length n.acct) 256) (list_all is_number n.acct) n.fit_acct in
+    let a = leb-true (length n.addresses) 64 addresses in
+    let b = leb-true (length n.auth) 256 auth in
+    let c = leb-true (length n.acct) 256 acct in
+    simp (length-append, length-map) (omega arith)
+
+-- the header of a request
+request_fits : (command id : ℕ) → command < 256 ^ 3 → id < 256 ^ 4 → HeaderFits (request_header command id)
+request_fits command id c i = record { command = c; application = omega arith; hop = i; end = i }
+
+-- and that of an answer, whose numbers are those of the request
+answer_fits : (error : Bool) (to : Header) → HeaderFits to → HeaderFits (answer_header error to)
+answer_fits error to h = record { command = h.command; application = h.application; hop = h.hop; end = h.end }
+
+pub cer_spelled : Laws → CerIsSpelled
+cer_spelled laws n id i =
+    let few = capabilities_few n [] (omega arith) in
+    message_spelled laws (built_cer n id) (request_fits 257 id (omega arith) i) (capabilities_small n [] tt)
+    (omega arith)
+
+pub cea_spelled : Laws → CeaIsSpelled
+cea_spelled laws n to code failed h =
+    let (small, one) = failed_small laws.sized failed in
+    let few = capabilities_few n (failed_avps failed) one in
+    message_spelled laws (built_cea n to code failed) (answer_fits false to h)
+    (number_small 268 code (omega arith), capabilities_small n (failed_avps failed) small) (omega arith)
+
+pub dwr_spelled : Laws → DwrIsSpelled
+dwr_spelled laws n id i =
+    message_spelled laws (built_dwr n id) (request_fits 280 id (omega arith) i) (origin_small n [] tt) (omega arith)
+
+pub dpr_spelled : Laws → DprIsSpelled
+dpr_spelled laws n id cause i =
+    let cause_avp = number_avp 273 (cause_number cause) in
+    let one : Each IsSmall (cause_avp ∷ []) = (number_small 273 (cause_number cause) (omega arith), tt) in
+    message_spelled laws (built_dpr n id cause) (request_fits 282 id (omega arith) i)
+    (origin_small n (cause_avp ∷ []) one) (omega arith)
+
+pub answer_spelled : Laws → AnswerIsSpelled
+answer_spelled laws n to code failed h =
+    let (small, one) = failed_small laws.sized failed in
+    message_spelled laws (built_answer n to code failed) (answer_fits false to h)
+    (number_small 268 code (omega arith), origin_small n (failed_avps failed) small) (omega arith)
+
+pub error_spelled : Laws → ErrorIsSpelled
+error_spelled laws n to code h =
+    let one : Each IsSmall (result_avp code ∷ []) = (number_small 268 code (omega arith), tt) in
+    message_spelled laws (built_error n to code) (answer_fits true to h) (origin_small n (result_avp code ∷ []) one)
+    (omega arith)

@@ -1,0 +1,23 @@
+-- The sorted ids are the own ones, and the node is no relay.
+use Rattle.std.proofs.Common.{◌≡◌, false, ◌||◌, ℕ, List, sym, ◌∙◌, ap, subst}
+use Rattle.std.specs.List.{flat_map}
+use Rattle.std.specs.List.Sorted.{IsPermutation}
+use Rattle.dm_base.specs.Common.{is_relay, meets}
+use Rattle.dm_base.specs.Kinds.{application_ids}
+use Rattle.dm_base.proofs.Searching.{same_own, or_behind}
+use Rattle.dm_base.proofs.caps_ref.CapsRef.common.Goals as goal
+
+pub returns : goal.returns
+returns c = λ caps shows.
+    let n = c.args.node.now in
+    let told = flat_map application_ids shows.avps in
+    let auth : IsPermutation n.auth c.sorted_in-auth.result.now =
+    subst (λ (s : List ℕ). IsPermutation s c.sorted_in-auth.result.now) c.as_slice.ensures
+    c.sorted_in-auth.ensures.same in
+    let acct : IsPermutation n.acct c.sorted_in-acct.result.now =
+    subst (λ (s : List ℕ). IsPermutation s c.sorted_in-acct.result.now) c.as_slice-2.ensures
+    c.sorted_in-acct.ensures.same in
+    let relay : is_relay n ≡ false = sym c.is_relay.ensures ∙ c.if-is_relay.false in
+    c.list_meets.ensures shows.avps shows.listed ∙ same_own _ _ _ _ told auth acct
+    ∙ or_behind (is_relay n) (meets n told) relay
+    ∙ ap (λ (ids : List ℕ). is_relay n || meets n ids) (sym shows.applications)

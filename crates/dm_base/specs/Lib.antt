@@ -1,0 +1,10 @@
+pub mod Before
+pub mod Built
+pub mod Codes
+pub mod Common
+pub mod Fit
+pub mod Kinds
+pub mod Laws
+pub mod Refusals
+pub mod Shown
+pub mod Spelled

@@ -1,0 +1,131 @@
+//! The answers that a node sends to a peer (RFC 6733, 5.3 to 5.5 and 7.2).
+ghost use Rattle.std.specs.Prelude.{◌≡◌, false, ◌<◌, ◌^◌, IfOk};
+ghost use Rattle.std.specs.Option.{option_copied};
+ghost use Rattle.dm_wire.specs.Limits.{HeaderFits};
+ghost use Rattle.dm_base.specs.Spelled.{HasSpelling};
+ghost use Rattle.dm_base.specs.declared.kind.Kind.TheVariants as kinds;
+ghost use Rattle.dm_base.specs.Kinds.{IsBase};
+ghost use Rattle.dm_base.specs.Built.{answer_header, built_cea, built_answer, built_error};
+
+use crate::Node;
+use crate::codes::RESULT_CODE;
+use crate::headers::answer;
+use crate::laws::built_is_spelled;
+use crate::parts::{most_avps, number, put_capabilities, put_failed, put_origin};
+use dm_dict::NoMemory;
+use dm_wire::{Avp, AvpList, Header, Message};
+use std::alloc::Global;
+
+/// The Capabilities-Exchange-Answer to a request of this header (RFC 6733, 5.3.2): the Result-Code, the
+/// node's capabilities, and the failed AVP where there is one of at most 4096 octets; or want of memory.
+#[tactic(auto, using(crate::proofs::Own::kind_cea))]
+pub fn cea(
+    alloc: Global,
+    node: &Node,
+    to: &Header,
+    code: u32,
+    failed: Option<&Avp>,
+) -> Result<Message, NoMemory>
+    ensures built { IfOk result (λ m. m ≡ built_cea node.now to.now code (option_copied failed.entry)) }
+    ensures spelled { to.now.command < 256 ^ 3
+        → HasSpelling (built_cea node.now to.now code (option_copied failed.entry)) }
+    ensures kind { to.now.command ≡ 257
+        → IsBase (built_cea node.now to.now code (option_copied failed.entry)) (kinds.Cea code) }
+{
+    built_is_spelled();
+    let header = answer(false, to);
+    let mut avps = Vec::with_capacity(alloc, most_avps(node))?;
+    avps.push(number(alloc, RESULT_CODE, code)?)?;
+    put_capabilities(alloc, &mut avps, node, failed)?;
+    Ok(Message {
+        header,
+        avps: AvpList::from_vec(avps),
+    })
+}
+
+/// The answer to a Device-Watchdog-Request or Disconnect-Peer-Request of this header.
+fn plain_answer(
+    alloc: Global,
+    node: &Node,
+    to: &Header,
+    code: u32,
+    failed: Option<&Avp>,
+) -> Result<Message, NoMemory>
+    ensures built { IfOk result (λ m. m ≡ built_answer node.now to.now code (option_copied failed.entry)) }
+    ensures fits { to.now.command < 256 ^ 3 → HeaderFits to.now }
+{
+    let header = answer(false, to);
+    let mut avps = Vec::with_capacity(alloc, 4)?;
+    avps.push(number(alloc, RESULT_CODE, code)?)?;
+    put_origin(alloc, &mut avps, node)?;
+    put_failed(alloc, &mut avps, failed)?;
+    Ok(Message {
+        header,
+        avps: AvpList::from_vec(avps),
+    })
+}
+
+/// The Device-Watchdog-Answer to a request of this header (RFC 6733, 5.5.2): the Result-Code, and the
+/// failed AVP where there is one of at most 4096 octets; or want of memory.
+#[tactic(auto, using(crate::proofs::Own::kind_dwa))]
+pub fn dwa(
+    alloc: Global,
+    node: &Node,
+    to: &Header,
+    code: u32,
+    failed: Option<&Avp>,
+) -> Result<Message, NoMemory>
+    ensures built { IfOk result (λ m. m ≡ built_answer node.now to.now code (option_copied failed.entry)) }
+    ensures spelled { to.now.command < 256 ^ 3
+        → HasSpelling (built_answer node.now to.now code (option_copied failed.entry)) }
+    ensures kind { to.now.command ≡ 280
+        → IsBase (built_answer node.now to.now code (option_copied failed.entry)) kinds.Dwa }
+{
+    built_is_spelled();
+    plain_answer(alloc, node, to, code, failed)
+}
+
+/// The Disconnect-Peer-Answer to a request of this header (RFC 6733, 5.4.2): the Result-Code, and the
+/// failed AVP where there is one of at most 4096 octets; or want of memory.
+#[tactic(auto, using(crate::proofs::Own::kind_dpa))]
+pub fn dpa(
+    alloc: Global,
+    node: &Node,
+    to: &Header,
+    code: u32,
+    failed: Option<&Avp>,
+) -> Result<Message, NoMemory>
+    ensures built { IfOk result (λ m. m ≡ built_answer node.now to.now code (option_copied failed.entry)) }
+    ensures spelled { to.now.command < 256 ^ 3
+        → HasSpelling (built_answer node.now to.now code (option_copied failed.entry)) }
+    ensures kind { to.now.command ≡ 282
+        → IsBase (built_answer node.now to.now code (option_copied failed.entry)) kinds.Dpa }
+{
+    built_is_spelled();
+    plain_answer(alloc, node, to, code, failed)
+}
+
+/// The answer with the E bit to a request of this header.
+fn plain_error(alloc: Global, node: &Node, to: &Header, code: u32) -> Result<Message, NoMemory>
+    ensures built { IfOk result (λ m. m ≡ built_error node.now to.now code) }
+    ensures fits { to.now.command < 256 ^ 3 → HeaderFits to.now }
+{
+    let header = answer(true, to);
+    let mut avps = Vec::with_capacity(alloc, 3)?;
+    put_origin(alloc, &mut avps, node)?;
+    avps.push(number(alloc, RESULT_CODE, code)?)?;
+    Ok(Message {
+        header,
+        avps: AvpList::from_vec(avps),
+    })
+}
+
+/// The answer with the E bit to a request of this header (RFC 6733, 7.2), as for a Result-Code of 3000 to
+/// 3999; or want of memory.
+pub fn error_answer(alloc: Global, node: &Node, to: &Header, code: u32) -> Result<Message, NoMemory>
+    ensures built { IfOk result (λ m. m ≡ built_error node.now to.now code) }
+    ensures spelled { to.now.command < 256 ^ 3 → HasSpelling (built_error node.now to.now code) }
+{
+    built_is_spelled();
+    plain_error(alloc, node, to, code)
+}

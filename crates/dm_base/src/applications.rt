@@ -1,0 +1,99 @@
+//! Applications that two sides have in common, and connections without security (RFC 6733, 2.4, 5.3 and 6.10).
+ghost use Rattle.std.specs.Prelude.{◌≡◌, ◌≤◌, length};
+ghost use Rattle.std.specs.List.{list_any};
+ghost use Rattle.std.specs.List.Sorted.{IsNonDecreasing, IsPermutation};
+ghost use Rattle.dm_base.specs.Common.{holds, is_own, is_relay, meets, is_common, are_common, is_secure};
+
+use crate::codes::{NO_INBAND_SECURITY, RELAY};
+use crate::{Caps, Node};
+
+/// Whether the id is among ids that rise.
+fn finds(sorted: &[u32], id: u32) -> bool
+    requires { IsNonDecreasing sorted.now }
+    ensures { result ≡ holds sorted.now id }
+{
+    match sorted.binary_search(&id) {
+        Ok(_) => true,
+        Err(_) => false,
+    }
+}
+
+/// The ids, sorted in the space.
+pub(crate) fn sorted_in<'a>(space: &'a mut [u32; 256], ids: &[u32]) -> &'a [u32]
+    requires { length ids.now ≤ 256 }
+    ensures rising { IsNonDecreasing result.now }
+    ensures same { IsPermutation ids.now result.now }
+{
+    let sorted = &mut space[..ids.len()];
+    sorted.copy_from_slice(ids);
+    sorted.sort_unstable();
+    sorted
+}
+
+/// Whether the id is among own ids that rise, or a relay's.
+pub(crate) fn is_own(auth: &[u32], acct: &[u32], id: u32) -> bool
+    requires auth { IsNonDecreasing auth.now }
+    requires acct { IsNonDecreasing acct.now }
+    ensures { result ≡ is_own auth.now acct.now id }
+{
+    id == RELAY || finds(auth, id) || finds(acct, id)
+}
+
+/// Whether some id is among own ids that rise, or a relay's.
+fn meets_sorted(auth: &[u32], acct: &[u32], theirs: &[u32]) -> bool
+    requires auth { IsNonDecreasing auth.now }
+    requires acct { IsNonDecreasing acct.now }
+    ensures { result ≡ list_any (is_own auth.now acct.now) theirs.now }
+{
+    for id in theirs {
+        if is_own(auth, acct, *id) {
+            return true;
+        }
+    }
+    false
+}
+
+/// Whether the node has a relay's Application-ID.
+pub(crate) fn is_relay(node: &Node) -> bool
+    ensures { result ≡ is_relay node.now }
+{
+    node.auth.as_slice().contains(&RELAY) || node.acct.as_slice().contains(&RELAY)
+}
+
+/// Whether some of the ids is the node's, or a relay's. The node's ids are sorted once, on the stack.
+fn meets(node: &Node, theirs: &[u32]) -> bool
+    ensures { result ≡ meets node.now theirs.now }
+{
+    let (mut auth, mut acct) = ([0; 256], [0; 256]);
+    let auth = sorted_in(&mut auth, node.auth.as_slice());
+    let acct = sorted_in(&mut acct, node.acct.as_slice());
+    meets_sorted(auth, acct, theirs)
+}
+
+/// Whether some Application-ID is on both sides, or one side is a relay (RFC 6733, 5.3). It takes no
+/// memory, and time by the number of ids.
+pub fn common(caps: &Caps, node: &Node) -> bool
+    ensures { result ≡ is_common caps.now node.now }
+{
+    is_relay(node) || meets(node, caps.applications.as_slice())
+}
+
+/// Whether some Application-ID is on both nodes, or one is a relay (RFC 6733, 5.3). It takes no memory, and
+/// time by the number of ids.
+pub fn common_nodes(one: &Node, other: &Node) -> bool
+    ensures { result ≡ are_common one.now other.now }
+{
+    is_relay(one)
+        || is_relay(other)
+        || meets(one, other.auth.as_slice())
+        || meets(one, other.acct.as_slice())
+}
+
+/// Whether the other side takes a connection without security: it names no Inband-Security-Id, or
+/// NO_INBAND_SECURITY among them (RFC 6733, 6.10). It takes no memory.
+pub fn secure(caps: &Caps) -> bool
+    ensures { result ≡ is_secure caps.now }
+{
+    let ids = caps.security.as_slice();
+    ids.len() == 0 || ids.contains(&NO_INBAND_SECURITY)
+}

@@ -1,0 +1,135 @@
+//! Capabilities where they lie in a message (RFC 6733, 5.3).
+ghost use Rattle.std.specs.Prelude.{◌≡◌, List, true, is_some};
+ghost use Rattle.std.specs.List.{list_any, flat_map};
+ghost use Rattle.std.specs.List.Sorted.{IsNonDecreasing};
+ghost use Rattle.dm_wire.specs.declared.avp.Avp.{Avp};
+ghost use Rattle.dm_wire.specs.Borrowed.{avp_of};
+ghost use Rattle.dm_wire.specs.Members.{members};
+ghost use Rattle.dm_base.specs.Common.{is_own, is_common, are_secure, is_secure};
+ghost use Rattle.dm_base.specs.Kinds.{plain_ids, security_ids, application_ids};
+ghost use Rattle.dm_wire.specs.Borrowed.{Lists};
+
+use crate::Node;
+use crate::applications::{is_own, is_relay, sorted_in};
+use crate::codes::NO_INBAND_SECURITY;
+use crate::reading::{is_vendor_specific, plain_id, security_id};
+use dm_wire::{AvpRef, AvpsRef, spells_avps};
+
+/// Whether the id that an Auth-Application-Id or Acct-Application-Id tells is an own one.
+fn plain_meets(auth: &[u32], acct: &[u32], avp: AvpRef<'_>) -> bool
+    requires auth { IsNonDecreasing auth.now }
+    requires acct { IsNonDecreasing acct.now }
+    ensures { result ≡ list_any (is_own auth.now acct.now) (plain_ids (avp_of avp.entry)) }
+{
+    match plain_id(avp) {
+        Some(id) => is_own(auth, acct, id),
+        None => false,
+    }
+}
+
+/// Whether an id that the AVPs of a Vendor-Specific-Application-Id tell is an own one.
+fn inside_meets(auth: &[u32], acct: &[u32], avps: AvpsRef<'_>) -> bool
+    requires auth { IsNonDecreasing auth.now }
+    requires acct { IsNonDecreasing acct.now }
+    ensures { (l : List Avp) → Lists avps.entry l
+        → result ≡ list_any (is_own auth.now acct.now) (flat_map plain_ids l) }
+{
+    let mut left = avps;
+    while let Some((avp, rest)) = left.split_first() {
+        if plain_meets(auth, acct, avp) {
+            return true;
+        }
+        left = rest;
+    }
+    false
+}
+
+/// Whether an id that an AVP tells is an own one.
+#[tactic(auto, using(crate::proofs::Ids::none_met, crate::proofs::Ids::some_met))]
+fn avp_meets(auth: &[u32], acct: &[u32], avp: AvpRef<'_>) -> bool
+    requires auth { IsNonDecreasing auth.now }
+    requires acct { IsNonDecreasing acct.now }
+    ensures { result ≡ list_any (is_own auth.now acct.now) (application_ids (avp_of avp.entry)) }
+{
+    if !is_vendor_specific(avp) {
+        return plain_meets(auth, acct, avp);
+    }
+    if !spells_avps(avp.bytes) {
+        return false;
+    }
+    inside_meets(auth, acct, AvpsRef::Spelled(avp.bytes))
+}
+
+/// Whether an id that AVPs tell is an own one.
+fn list_meets(auth: &[u32], acct: &[u32], avps: AvpsRef<'_>) -> bool
+    requires auth { IsNonDecreasing auth.now }
+    requires acct { IsNonDecreasing acct.now }
+    ensures { (l : List Avp) → Lists avps.entry l
+        → result ≡ list_any (is_own auth.now acct.now) (flat_map application_ids l) }
+{
+    let mut left = avps;
+    while let Some((avp, rest)) = left.split_first() {
+        if avp_meets(auth, acct, avp) {
+            return true;
+        }
+        left = rest;
+    }
+    false
+}
+
+/// Whether AVPs name no Inband-Security-Id, or NO_INBAND_SECURITY among them.
+#[tactic(auto, using(crate::proofs::Securing::none_named, crate::proofs::Securing::other_named, crate::proofs::Securing::zero_named))]
+fn list_secure(avps: AvpsRef<'_>) -> bool
+    ensures { (l : List Avp) → Lists avps.entry l → result ≡ are_secure (flat_map security_ids l) }
+{
+    let mut named = false;
+    let mut left = avps;
+    while let Some((avp, rest)) = left.split_first() {
+        if let Some(id) = security_id(avp) {
+            if id == NO_INBAND_SECURITY {
+                return true;
+            }
+            named = true;
+        }
+        left = rest;
+    }
+    !named
+}
+
+/// What a message says of capabilities, where it lies (RFC 6733, 5.3).
+#[derive(Clone, Copy, Debug)]
+pub struct CapsRef<'a> {
+    /// Origin-Host.
+    pub host: &'a [u8],
+    /// Origin-Realm.
+    pub realm: &'a [u8],
+    /// The octets of the message's AVPs.
+    pub rest: &'a [u8],
+    pub ghost framed: { is_some (members rest.now) ≡ true },
+}
+
+impl CapsRef<'_> {
+    ghost use Rattle.dm_base.specs.declared.kind.Caps.{Caps};
+    ghost use Rattle.dm_base.specs.Shown.{ShowsCaps};
+
+    /// Whether some Application-ID is on both sides, or one side is a relay (RFC 6733, 5.3). It takes no
+    /// memory, and time by the number of octets.
+    pub fn common(&self, node: &Node) -> bool
+        ensures { (caps : Caps) → ShowsCaps self.now caps → result ≡ is_common caps node.now }
+    {
+        if is_relay(node) {
+            return true;
+        }
+        let (mut auth, mut acct) = ([0; 256], [0; 256]);
+        let auth = sorted_in(&mut auth, node.auth.as_slice());
+        let acct = sorted_in(&mut acct, node.acct.as_slice());
+        list_meets(auth, acct, AvpsRef::Spelled(self.rest))
+    }
+
+    /// Whether the other side takes a connection without security (RFC 6733, 6.10). It takes no memory.
+    pub fn secure(&self) -> bool
+        ensures { (caps : Caps) → ShowsCaps self.now caps → result ≡ is_secure caps }
+    {
+        list_secure(AvpsRef::Spelled(self.rest))
+    }
+}

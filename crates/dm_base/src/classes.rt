@@ -1,0 +1,75 @@
+//! What kind of message a message is (RFC 6733, 5.3 to 5.5).
+ghost use Rattle.std.specs.Prelude.{◌≡◌, ◌⊎◌, List, Some, Ok, Err, IfOk, IfErr};
+ghost use Rattle.dm_wire.specs.declared.avp.Avp.{Avp};
+ghost use Rattle.dm_dict.specs.Faults.{Fault};
+ghost use Rattle.dm_dict.specs.Judgement.{verdict_of};
+ghost use Rattle.dm_wire.specs.Borrowed.{Lists};
+ghost use Rattle.dm_base.specs.Kinds.{is_base_command, kind_of, kind};
+ghost use Rattle.dm_base.specs.declared.base_fault.BaseFault.TheVariants as faults_of;
+
+use crate::codes::{
+    CAPABILITIES_EXCHANGE, DEVICE_WATCHDOG, DISCONNECT_CAUSE, DISCONNECT_PEER, RESULT_CODE,
+};
+use crate::reading::{caps_of, number_at};
+use crate::{BaseFault, Kind};
+use dm_dict::{Dictionary, NoMemory, Verdict};
+use dm_wire::{AvpsRef, Message};
+use std::alloc::Global;
+
+/// Whether messages of the command are read.
+pub(crate) fn is_base(command: u32) -> bool
+    ensures { result ≡ is_base_command command }
+{
+    command == CAPABILITIES_EXCHANGE || command == DEVICE_WATCHDOG || command == DISCONNECT_PEER
+}
+
+/// The kind by the command and the R bit.
+fn kind_by(alloc: Global, command: u32, request: bool, avps: AvpsRef<'_>) -> Result<Kind, NoMemory>
+    ensures { (l : List Avp) → Lists avps.entry l → IfOk result (λ k. k ≡ kind_of command request l) }
+{
+    if command == CAPABILITIES_EXCHANGE {
+        if request {
+            Ok(Kind::Cer(caps_of(alloc, avps)?))
+        } else {
+            Ok(Kind::Cea(number_at(avps, RESULT_CODE)))
+        }
+    } else if command == DEVICE_WATCHDOG {
+        Ok(if request { Kind::Dwr } else { Kind::Dwa })
+    } else if command == DISCONNECT_PEER {
+        Ok(if request {
+            Kind::Dpr(number_at(avps, DISCONNECT_CAUSE).cast_signed())
+        } else {
+            Kind::Dpa
+        })
+    } else {
+        Ok(Kind::Other)
+    }
+}
+
+/// What kind of message the message is. One of the commands 257, 280 and 282 is checked by the dictionary,
+/// and its command and R bit tell the kind then; one of another command is `Other`, and isn't checked.
+///
+/// Refuses with `Bad` and the verdict where such a message is bad, else with `NoMemory`.
+pub fn classify(
+    alloc: Global,
+    dictionary: &Dictionary,
+    message: &Message,
+) -> Result<Kind, BaseFault>
+    ensures found { IfOk result (λ k. kind dictionary.now message.now ≡ Ok k) }
+    ensures fault { IfErr result (λ f. (f ≡ faults_of.NoMemory)
+        ⊎ ((e : Fault) × (kind dictionary.now message.now ≡ Err e) × (f ≡ faults_of.Bad (verdict_of (Some e))))) }
+{
+    let command = message.header.command;
+    if !is_base(command) {
+        return Ok(Kind::Other);
+    }
+    match dictionary.check(alloc, message)? {
+        Verdict::Good => Ok(kind_by(
+            alloc,
+            command,
+            message.header.request,
+            AvpsRef::Held(message.avps.as_slice()),
+        )?),
+        bad => Err(BaseFault::Bad(bad)),
+    }
+}

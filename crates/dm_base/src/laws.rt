@@ -1,0 +1,58 @@
+//! Laws of the base messages. Each function is a law: it does nothing, and its contract is the law. All stand for users
+//! and the layers above.
+ghost use Rattle.dm_base.specs.Before.{OneComesFirst};
+ghost use Rattle.dm_base.specs.Common.{CommonIsShared, NodesShare, OwnInCommon, CommonBothWays, SecureNamesNone};
+ghost use Rattle.dm_base.specs.Laws.{CerIsOwn, CeaIsOwn, DwrIsOwn, DwaIsOwn, DprIsOwn, DpaIsOwn, ErrorIsGood};
+ghost use Rattle.dm_base.specs.Laws.{CerIsSpelled, CeaIsSpelled, DwrIsSpelled, DprIsSpelled, AnswerIsSpelled, ErrorIsSpelled};
+
+use dm_wire::laws::{avp_sized, message_spelled};
+
+/// Of two hosts that differ in lower case just one comes before the other, so just one side wins an election
+/// (RFC 6733, 5.6.4).
+pub fn one_comes_first()
+    ensures { OneComesFirst }
+{}
+
+/// The messages that a node builds are good under the base dictionary, and of their kind: the capabilities are
+/// the node's own, and the cause and the Result-Code those that were asked for (5.3 to 5.5).
+pub fn built_is_own()
+    ensures cer { CerIsOwn }
+    ensures cea { CeaIsOwn }
+    ensures dwr { DwrIsOwn }
+    ensures dwa { DwaIsOwn }
+    ensures dpr { DprIsOwn }
+    ensures dpa { DpaIsOwn }
+    // An answer with the E bit is good, whatever its command and Result-Code.
+    ensures error { ErrorIsGood }
+{}
+
+/// Octets spell the messages that a node builds; an answer, where the numbers of the request's header fit their fields.
+/// So `encode` refuses them for want of memory alone (3).
+pub fn built_is_spelled()
+    ensures cer { CerIsSpelled }
+    ensures cea { CeaIsSpelled }
+    ensures dwr { DwrIsSpelled }
+    ensures dpr { DprIsSpelled }
+    // A Device-Watchdog-Answer and a Disconnect-Peer-Answer.
+    ensures answer { AnswerIsSpelled }
+    ensures error { ErrorIsSpelled }
+{
+    message_spelled();
+    avp_sized();
+}
+
+/// Two sides have an application in common just where some Application-ID is on both, or one side is a relay
+/// (5.3).
+pub fn common_is_shared()
+    ensures caps { CommonIsShared }
+    ensures nodes { NodesShare }
+    // What a node says of itself tells the same of it.
+    ensures own { OwnInCommon }
+    ensures both { CommonBothWays }
+{}
+
+/// A side takes connections without security just where it names no Inband-Security-Id, or
+/// NO_INBAND_SECURITY among them (6.10).
+pub fn secure_names_none()
+    ensures { SecureNamesNone }
+{}

@@ -1,0 +1,36 @@
+//! The base messages of a Diameter peer (RFC 6733, 5.3 to 5.6 and 7): what kind of message one is, the messages that
+//! a node builds, the applications that two sides have in common, and the order of their hosts.
+#![tactic(auto)]
+
+mod answers;
+mod applications;
+mod base_fault;
+mod caps_ref;
+mod classes;
+pub mod codes;
+mod headers;
+mod kind;
+mod kind_ref;
+pub mod laws;
+mod lists;
+mod node;
+mod node_fault;
+mod order;
+mod parts;
+mod reading;
+mod requests;
+mod views;
+
+pub use answers::{cea, dpa, dwa, error_answer};
+pub use applications::{common, common_nodes, secure};
+pub use base_fault::BaseFault;
+pub use caps_ref::CapsRef;
+pub use classes::classify;
+pub use kind::{Caps, Cause, Kind};
+pub use kind_ref::KindRef;
+pub use lists::{IdList, IpList};
+pub use node::Node;
+pub use node_fault::NodeFault;
+pub use order::host_order;
+pub use requests::{cer, dpr, dwr};
+pub use views::view;

@@ -1,0 +1,166 @@
+//! Nodes.
+ghost use Rattle.std.specs.Prelude.{◌≡◌, true, IfOk, string_bytes, length};
+ghost use Rattle.std.specs.Result.{result_err};
+ghost use Rattle.std.specs.List.{list_all};
+ghost use Rattle.std.specs.Str.{is_utf8};
+ghost use Rattle.dm_value.specs.Flaws.{is_visible_text};
+ghost use Rattle.dm_base.specs.Refusals.{node_fault};
+ghost use Rattle.dm_base.specs.Fit.{is_sized, is_name, are_addresses, is_number, is_product, are_ids};
+
+use crate::{IdList, IpList, NodeFault};
+use dm_dict::{AvpType, Ip, Text, value_fault};
+use dm_wire::Octets;
+
+/// What a node says of itself (RFC 6733, 5.3).
+#[derive(Debug, Drop)]
+pub struct Node {
+    pub(crate) host: Octets,
+    pub(crate) realm: Octets,
+    pub(crate) addresses: IpList,
+    pub(crate) vendor: u32,
+    pub(crate) product: Text,
+    pub(crate) auth: IdList,
+    pub(crate) acct: IdList,
+    pub ghost fit_host: { is_name host ≡ true },
+    pub ghost fit_realm: { is_name realm ≡ true },
+    pub ghost fit_addresses: { are_addresses addresses ≡ true },
+    pub ghost fit_vendor: { is_number vendor ≡ true },
+    pub ghost fit_product: { is_product product ≡ true },
+    pub ghost fit_auth: { are_ids auth ≡ true },
+    pub ghost fit_acct: { are_ids acct ≡ true },
+}
+
+/// Whether the octets are a name: at least one, and all visible (RFC 6733, 4.3.1).
+fn is_name(octets: &[u8]) -> bool
+    ensures { result ≡ is_visible_text octets.now }
+{
+    value_fault(AvpType::DiameterIdentity, octets).is_none()
+}
+
+/// Why there is no node of these parts.
+fn fault_of(
+    host: &[u8],
+    realm: &[u8],
+    addresses: &[Ip],
+    product: &str,
+    auth: &[u32],
+    acct: &[u32],
+) -> Option<NodeFault>
+    ensures { result ≡ node_fault host.now realm.now addresses.now product.now auth.now acct.now }
+{
+    if !(is_name(host) && is_name(realm)) {
+        return Some(NodeFault::BadHost);
+    }
+    if addresses.len() == 0 {
+        return Some(NodeFault::NoAddress);
+    }
+    if host.len() > 255
+        || realm.len() > 255
+        || product.len() > 255
+        || addresses.len() > 64
+        || auth.len() > 256
+        || acct.len() > 256
+    {
+        return Some(NodeFault::TooLong);
+    }
+    None
+}
+
+fn of_4(address: &[u8; 4])
+    ensures { length address.now ≡ 4 }
+{}
+
+fn of_16(address: &[u8; 16])
+    ensures { length address.now ≡ 16 }
+{}
+
+/// The address has the octets of its family, as its type says.
+fn sized(ip: &Ip)
+    ensures { is_sized ip.now ≡ true }
+{
+    match ip {
+        Ip::V4(address) => of_4(address),
+        Ip::V6(address) => of_16(address),
+    }
+}
+
+/// So have all addresses.
+fn all_sized(addresses: &[Ip])
+    ensures { list_all is_sized addresses.now ≡ true }
+{
+    for ip in addresses {
+        sized(ip);
+    }
+}
+
+/// The ids fit 32 bits, as their type says.
+#[tactic(auto, using(crate::proofs::Fitting::all_numbers))]
+fn all_numbers(ids: &[u32])
+    ensures { list_all is_number ids.now ≡ true }
+{}
+
+/// The text is UTF-8, as its type says.
+#[tactic(auto, using(crate::proofs::Fitting::is_text))]
+fn is_text(text: &Text)
+    ensures { is_utf8 text.now ≡ true }
+{
+    let _text = text.as_str();
+}
+
+impl Node {
+    /// A node of these parts, which are moved and not copied. Refuses, in this order, with `BadHost`,
+    /// `NoAddress` and `TooLong`, and drops them then. It takes no memory.
+    pub fn new(
+        host: Vec<u8>,
+        realm: Vec<u8>,
+        addresses: Vec<Ip>,
+        vendor: u32,
+        product: String,
+        auth: Vec<u32>,
+        acct: Vec<u32>,
+    ) -> Result<Node, NodeFault>
+        ensures fault { result_err result
+            ≡ node_fault host.items realm.items addresses.items (string_bytes product) auth.items acct.items }
+        ensures host { IfOk result (λ node. node.host ≡ host.items) }
+        ensures realm { IfOk result (λ node. node.realm ≡ realm.items) }
+        ensures addresses { IfOk result (λ node. node.addresses ≡ addresses.items) }
+        ensures vendor { IfOk result (λ node. node.vendor ≡ vendor) }
+        ensures product { IfOk result (λ node. node.product ≡ string_bytes product) }
+        ensures auth { IfOk result (λ node. node.auth ≡ auth.items) }
+        ensures acct { IfOk result (λ node. node.acct ≡ acct.items) }
+    {
+        let product = Text::from_string(product);
+        match fault_of(
+            host.as_slice(),
+            realm.as_slice(),
+            addresses.as_slice(),
+            product.as_str(),
+            auth.as_slice(),
+            acct.as_slice(),
+        ) {
+            Some(fault) => Err(fault),
+            None => {
+                all_sized(addresses.as_slice());
+                all_numbers(auth.as_slice());
+                all_numbers(acct.as_slice());
+                is_text(&product);
+                Ok(Node {
+                    host: Octets::from_vec(host),
+                    realm: Octets::from_vec(realm),
+                    addresses: IpList::from_vec(addresses),
+                    vendor,
+                    product,
+                    auth: IdList::from_vec(auth),
+                    acct: IdList::from_vec(acct),
+                })
+            }
+        }
+    }
+
+    /// The host. It takes no memory.
+    pub fn host(&self) -> &[u8]
+        ensures { result.now ≡ self.now.host }
+    {
+        self.host.as_slice()
+    }
+}

@@ -1,0 +1,177 @@
+//! What the AVPs of a message say (RFC 6733, 5.3 and 5.4.3).
+ghost use Rattle.std.specs.Prelude.{◌≡◌, ◌++◌, List, OnOk, IfOk};
+ghost use Rattle.std.specs.List.{flat_map};
+ghost use Rattle.std.specs.Option.{option_to_list};
+ghost use Rattle.dm_wire.specs.declared.avp.Avp.{Avp};
+ghost use Rattle.dm_wire.specs.Borrowed.{avp_of};
+ghost use Rattle.dm_wire.specs.Borrowed.{Lists};
+ghost use Rattle.dm_base.specs.Kinds.{is_plain, data_at, number_in, number_at, plain_id, plain_ids, security_id, security_ids, application_ids, caps_of};
+
+use crate::codes::{
+    ACCT_APPLICATION_ID, AUTH_APPLICATION_ID, INBAND_SECURITY_ID, ORIGIN_HOST, ORIGIN_REALM,
+    VENDOR_SPECIFIC_APPLICATION_ID,
+};
+use crate::{Caps, IdList};
+use byteorder::{BigEndian, ByteOrder};
+use dm_dict::NoMemory;
+use dm_wire::{AvpRef, AvpsRef, Octets, spells_avps};
+use std::alloc::Global;
+
+/// Whether the AVP has this code and no vendor.
+pub(crate) fn is_plain(avp: AvpRef<'_>, code: u32) -> bool
+    ensures { result ≡ is_plain code (avp_of avp.entry) }
+{
+    avp.code == code && avp.vendor.is_none()
+}
+
+/// The data of the first AVP of this code; where there is none, no octets.
+pub(crate) fn data_at<'a>(avps: AvpsRef<'a>, code: u32) -> &'a [u8]
+    ensures { (l : List Avp) → Lists avps.entry l → result.now ≡ data_at code l }
+{
+    let mut left = avps;
+    while let Some((avp, rest)) = left.split_first() {
+        if is_plain(avp, code) {
+            return avp.bytes;
+        }
+        left = rest;
+    }
+    &[]
+}
+
+/// The number of four octets.
+fn number_in(octets: &[u8]) -> Option<u32>
+    ensures { result ≡ number_in octets.now }
+{
+    if octets.len() == 4 {
+        Some(BigEndian::read_u32(octets))
+    } else {
+        None
+    }
+}
+
+/// The number of the first AVP of this code, or 0.
+pub(crate) fn number_at(avps: AvpsRef<'_>, code: u32) -> u32
+    ensures { (l : List Avp) → Lists avps.entry l → result ≡ number_at code l }
+{
+    number_in(data_at(avps, code)).unwrap_or(0)
+}
+
+/// The id that an Auth-Application-Id or Acct-Application-Id tells.
+pub(crate) fn plain_id(avp: AvpRef<'_>) -> Option<u32>
+    ensures { result ≡ plain_id (avp_of avp.entry) }
+{
+    if is_plain(avp, AUTH_APPLICATION_ID) || is_plain(avp, ACCT_APPLICATION_ID) {
+        number_in(avp.bytes)
+    } else {
+        None
+    }
+}
+
+/// The id that an Inband-Security-Id tells.
+pub(crate) fn security_id(avp: AvpRef<'_>) -> Option<u32>
+    ensures { result ≡ security_id (avp_of avp.entry) }
+{
+    if is_plain(avp, INBAND_SECURITY_ID) {
+        number_in(avp.bytes)
+    } else {
+        None
+    }
+}
+
+/// Whether the AVP is a Vendor-Specific-Application-Id.
+pub(crate) fn is_vendor_specific(avp: AvpRef<'_>) -> bool
+    ensures { result ≡ is_plain 260 (avp_of avp.entry) }
+{
+    is_plain(avp, VENDOR_SPECIFIC_APPLICATION_ID)
+}
+
+/// The id, appended, where there is one.
+fn put_id(ids: &mut Vec<u32>, id: Option<u32>) -> Result<(), NoMemory>
+    ensures { OnOk result (ids.new.items ≡ ids.old.items ++ option_to_list id) }
+{
+    if let Some(id) = id {
+        ids.push(id)?;
+    }
+    Ok(())
+}
+
+/// The ids of the AVPs of a Vendor-Specific-Application-Id, appended.
+fn put_inside(ids: &mut Vec<u32>, avps: AvpsRef<'_>) -> Result<(), NoMemory>
+    ensures { (l : List Avp) → Lists avps.entry l
+        → OnOk result (ids.new.items ≡ ids.old.items ++ flat_map plain_ids l) }
+{
+    let mut left = avps;
+    while let Some((avp, rest)) = left.split_first() {
+        put_id(ids, plain_id(avp))?;
+        left = rest;
+    }
+    Ok(())
+}
+
+/// The ids of applications that an AVP tells, appended.
+#[tactic(auto, using(crate::proofs::Ids::none_inside, crate::proofs::Ids::all_inside))]
+fn put_told(ids: &mut Vec<u32>, avp: AvpRef<'_>) -> Result<(), NoMemory>
+    ensures { OnOk result (ids.new.items ≡ ids.old.items ++ application_ids (avp_of avp.entry)) }
+{
+    if !is_vendor_specific(avp) {
+        return put_id(ids, plain_id(avp));
+    }
+    if !spells_avps(avp.bytes) {
+        return Ok(());
+    }
+    put_inside(ids, AvpsRef::Spelled(avp.bytes))
+}
+
+/// The ids of applications that AVPs tell, appended.
+fn put_applications(ids: &mut Vec<u32>, avps: AvpsRef<'_>) -> Result<(), NoMemory>
+    ensures { (l : List Avp) → Lists avps.entry l
+        → OnOk result (ids.new.items ≡ ids.old.items ++ flat_map application_ids l) }
+{
+    let mut left = avps;
+    while let Some((avp, rest)) = left.split_first() {
+        put_told(ids, avp)?;
+        left = rest;
+    }
+    Ok(())
+}
+
+/// The Inband-Security-Ids that AVPs tell, appended.
+fn put_security(ids: &mut Vec<u32>, avps: AvpsRef<'_>) -> Result<(), NoMemory>
+    ensures { (l : List Avp) → Lists avps.entry l
+        → OnOk result (ids.new.items ≡ ids.old.items ++ flat_map security_ids l) }
+{
+    let mut left = avps;
+    while let Some((avp, rest)) = left.split_first() {
+        put_id(ids, security_id(avp))?;
+        left = rest;
+    }
+    Ok(())
+}
+
+fn applications(alloc: Global, avps: AvpsRef<'_>) -> Result<IdList, NoMemory>
+    ensures { (l : List Avp) → Lists avps.entry l → IfOk result (λ ids. ids ≡ flat_map application_ids l) }
+{
+    let mut ids = Vec::new(alloc);
+    put_applications(&mut ids, avps)?;
+    Ok(IdList::from_vec(ids))
+}
+
+fn security(alloc: Global, avps: AvpsRef<'_>) -> Result<IdList, NoMemory>
+    ensures { (l : List Avp) → Lists avps.entry l → IfOk result (λ ids. ids ≡ flat_map security_ids l) }
+{
+    let mut ids = Vec::new(alloc);
+    put_security(&mut ids, avps)?;
+    Ok(IdList::from_vec(ids))
+}
+
+/// The capabilities that AVPs tell, copied.
+pub(crate) fn caps_of(alloc: Global, avps: AvpsRef<'_>) -> Result<Caps, NoMemory>
+    ensures { (l : List Avp) → Lists avps.entry l → IfOk result (λ caps. caps ≡ caps_of l) }
+{
+    Ok(Caps {
+        host: Octets::from_slice(alloc, data_at(avps, ORIGIN_HOST))?,
+        realm: Octets::from_slice(alloc, data_at(avps, ORIGIN_REALM))?,
+        applications: applications(alloc, avps)?,
+        security: security(alloc, avps)?,
+    })
+}

@@ -1,0 +1,87 @@
+//! What kind of message a message is, where it lies (RFC 6733, 5.3 to 5.5).
+ghost use Rattle.std.specs.Prelude.{◌≡◌, List, true, is_some, Some, Ok, Err, IfOk, IfErr};
+ghost use Rattle.dm_wire.specs.declared.avp.Avp.{Avp};
+ghost use Rattle.dm_wire.specs.Members.{members};
+ghost use Rattle.dm_wire.specs.Spelling.{SpellsList};
+ghost use Rattle.dm_dict.specs.Faults.{Fault};
+ghost use Rattle.dm_dict.specs.Judgement.{shown};
+ghost use Rattle.dm_base.specs.declared.kind.Kind.{Kind};
+ghost use Rattle.dm_base.specs.Kinds.{kind, kind_of};
+ghost use Rattle.dm_base.specs.Shown.{ShowsKind, LiesIn, kind_with};
+
+use crate::caps_ref::CapsRef;
+use crate::classes::is_base;
+use crate::codes::{
+    CAPABILITIES_EXCHANGE, DEVICE_WATCHDOG, DISCONNECT_CAUSE, DISCONNECT_PEER, ORIGIN_HOST,
+    ORIGIN_REALM, RESULT_CODE,
+};
+use crate::kind_ref::KindRef;
+use crate::reading::{data_at, number_at};
+use dm_dict::{Dictionary, Judged};
+use dm_wire::laws::members_spell;
+use dm_wire::{AvpsRef, MessageRef};
+
+/// The octets that spell AVPs have them as their members.
+fn spells_members(octets: &[u8])
+    ensures { (l : List Avp) → SpellsList l octets.now → members octets.now ≡ Some l }
+{
+    members_spell();
+}
+
+/// The kind by the command and the R bit, with the AVPs in these octets.
+fn kind_in<'a>(command: u32, request: bool, rest: &'a [u8]) -> KindRef<'a>
+    requires { is_some (members rest.now) ≡ true }
+    ensures told { (l : List Avp) → members rest.now ≡ Some l → kind_with l result ≡ kind_of command request l }
+    ensures lies { LiesIn result rest.now }
+{
+    let avps = AvpsRef::Spelled(rest);
+    if command == CAPABILITIES_EXCHANGE {
+        if request {
+            KindRef::Cer(CapsRef {
+                host: data_at(avps, ORIGIN_HOST),
+                realm: data_at(avps, ORIGIN_REALM),
+                rest,
+            })
+        } else {
+            KindRef::Cea(number_at(avps, RESULT_CODE))
+        }
+    } else if command == DEVICE_WATCHDOG {
+        if request { KindRef::Dwr } else { KindRef::Dwa }
+    } else if command == DISCONNECT_PEER {
+        if request {
+            KindRef::Dpr(number_at(avps, DISCONNECT_CAUSE).cast_signed())
+        } else {
+            KindRef::Dpa
+        }
+    } else {
+        KindRef::Other
+    }
+}
+
+/// What kind of message the message is, with its parts where they lie: what `classify` tells of the message that
+/// it stands for. It takes no memory.
+///
+/// Refuses with the first fault where a message of the commands 257, 280 and 282 is bad.
+pub fn view<'a>(
+    dictionary: &Dictionary,
+    message: &MessageRef<'a>,
+) -> Result<KindRef<'a>, Judged<'a>>
+    ensures found { (l : List Avp) → SpellsList l message.now.rest.now
+        → IfOk result (λ shows. (k : Kind)
+        × (kind dictionary.now (record { header = message.now.header; avps = l }) ≡ Ok k) × ShowsKind shows k) }
+    ensures fault { (l : List Avp) → SpellsList l message.now.rest.now
+        → IfErr result (λ judged. (e : Fault)
+        × (kind dictionary.now (record { header = message.now.header; avps = l }) ≡ Err e) × (shown judged ≡ Some e)) }
+{
+    let header = message.header;
+    if !is_base(header.command) {
+        return Ok(KindRef::Other);
+    }
+    match dictionary.judge(message) {
+        Judged::Good => {
+            spells_members(message.rest);
+            Ok(kind_in(header.command, header.request, message.rest))
+        }
+        bad => Err(bad),
+    }
+}
