@@ -1,6 +1,8 @@
 //! The items of a dictionary text.
 
-use dm_grammar::{AvpItem, CommandItem, EntryItem, Form, Item, ItemFault, read_items, syntax_law};
+use dm_grammar::{
+    AvpItem, CommandItem, EntryItem, Form, Item, ItemFault, items_law, read_items, syntax_law,
+};
 use std::alloc::{AllocError, Global};
 
 /// How many items a text has, or the line of its fault; 0 stands for want of memory.
@@ -63,6 +65,7 @@ const EDGES: [(&str, Result<usize, usize>); 35] = [
 #[test]
 fn syntax_edges(rt: HostRuntime) {
     syntax_law();
+    items_law();
     for (text, want) in &EDGES {
         assert!(rt;
             outcome(rt.alloc(), text.as_bytes()) == *want,

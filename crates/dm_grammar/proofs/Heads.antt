@@ -72,14 +72,14 @@ plain_fault last line ws rest (Some v) c n h =
     ap (collect last Flagged) n.0 ∙ (number_there last (view v) rest n.1 ∙ ap (filled SecondIs (view v)) h)
 
 -- a place where a flag may stand behind a comma, and the place behind the flag
-record FlagPlace (p pc q qc : Place) (s : Symbol) (role : Role) (after : List Step) : Type 0 where
-  here : steps p ≡ on symbols.Comma pc Nothing ++ after
-  there : steps q ≡ on symbols.Comma qc Nothing ++ after
-  behind : steps pc ≡ on s q role ++ steps qc
-  no_end : may_end p ≡ false
-  no_end_there : may_end q ≡ false
-  no_end_behind : may_end pc ≡ false
-  no_end_comma : may_end qc ≡ false
+pub record FlagPlace (p pc q qc : Place) (s : Symbol) (role : Role) (after : List Step) : Type 0 where
+  pub here : steps p ≡ on symbols.Comma pc Nothing ++ after
+  pub there : steps q ≡ on symbols.Comma qc Nothing ++ after
+  pub behind : steps pc ≡ on s q role ++ steps qc
+  pub no_end : may_end p ≡ false
+  pub no_end_there : may_end q ≡ false
+  pub no_end_behind : may_end pc ≡ false
+  pub no_end_comma : may_end qc ≡ false
 
 -- a flag sets its part
 abbrev pub flag_told : Role → Told → Told
@@ -136,7 +136,7 @@ flag_read last p pc q qc s role after f sets true (c ∷ w ∷ ws) h =
     a_flag last p pc q qc s role after f c w ws e.0 e.1 ∙
     (nothing_told c (filled role w (collect last q ws)) ∙ sets w (collect last q ws))
 
-abbrev after_flags : List Step
+abbrev pub after_flags : List Step
 after_flags = on symbols.Number HeadEnd SecondIs ++ on symbols.Greater Rule Rules
 
 sets_request : (w : Word) (r : Result Told ℕ) → filled Request w r ≡ flagged Request true r
@@ -151,15 +151,15 @@ sets_error : (w : Word) (r : Result Told ℕ) → filled Error w r ≡ flagged E
 sets_error w (Ok told) = refl
 sets_error w (Err line) = refl
 
-request_place : FlagPlace Coded CodedComma Requested RequestedComma symbols.Req Request after_flags
+pub request_place : FlagPlace Coded CodedComma Requested RequestedComma symbols.Req Request after_flags
 request_place =
     record { here = refl; there = refl; behind = refl; no_end = refl; no_end_there = refl; no_end_behind = refl; no_end_comma = refl }
 
-proxiable_place : FlagPlace Requested RequestedComma Proxied ProxiedComma symbols.Pxy Proxiable after_flags
+pub proxiable_place : FlagPlace Requested RequestedComma Proxied ProxiedComma symbols.Pxy Proxiable after_flags
 proxiable_place =
     record { here = refl; there = refl; behind = refl; no_end = refl; no_end_there = refl; no_end_behind = refl; no_end_comma = refl }
 
-error_place : FlagPlace Proxied ProxiedComma Flagged FlaggedComma symbols.Err Error after_flags
+pub error_place : FlagPlace Proxied ProxiedComma Flagged FlaggedComma symbols.Err Error after_flags
 error_place =
     record { here = refl; there = refl; behind = refl; no_end = refl; no_end_there = refl; no_end_behind = refl; no_end_comma = refl }
 

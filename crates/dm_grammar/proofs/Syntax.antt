@@ -37,18 +37,18 @@ none_taken [] s q e some = some
 none_taken (r0 ∷ rs) s q e some = not_taken (fits r0.wants s) rs s r0 q refl e (none_taken rs s q) some
 
 -- two terminals that take no token in common
-abbrev disjoint : Terminal → Terminal → Bool
+abbrev pub disjoint : Terminal → Terminal → Bool
 disjoint AnyName AnyName = false
 disjoint AnyName (One b) = not (is_name b)
 disjoint (One a) AnyName = not (is_name a)
 disjoint (One a) (One b) = not (nat_eq (symbol_number a) (symbol_number b))
 
-abbrev clear : Terminal → List Step → Bool
+abbrev pub clear : Terminal → List Step → Bool
 clear t [] = true
 clear t (r ∷ rs) = disjoint t r.wants && clear t rs
 
 -- no two steps of a list take one token
-abbrev apart : List Step → Bool
+abbrev pub apart : List Step → Bool
 apart [] = true
 apart (r ∷ rs) = clear r.wants rs && apart rs
 
@@ -98,7 +98,7 @@ disjoint_ok (One a) (One b) s d f g =
     let n : symbol_number a ≡ symbol_number b = ap symbol_number e in
     absurd (grind (arith, nat_tests))
 
-clear_ok : (t : Terminal) (rs : List Step) (s : Symbol) (q : Place) → clear t rs ≡ true → fits t s ≡ true
+pub clear_ok : (t : Terminal) (rs : List Step) (s : Symbol) (q : Place) → clear t rs ≡ true → fits t s ≡ true
     → SomeStep rs s q → ⊥
 clear_ok t [] s q c f some = some
 clear_ok t (r ∷ rs) s q c f (inl x) = disjoint_ok t r.wants s (and_parts (disjoint t r.wants) (clear t rs) c).0 f x.0
@@ -119,7 +119,7 @@ only_taken (r0 ∷ rs) s q a (inr x) =
     let parts = and_parts (clear r0.wants rs) (apart rs) a in
     later (fits r0.wants s) rs s q r0 refl (λ f. clear_ok r0.wants rs s q parts.0 f x) (only_taken rs s q parts.1 x)
 
-steps_apart : (p : Place) → apart (steps p) ≡ true
+pub steps_apart : (p : Place) → apart (steps p) ≡ true
 steps_apart Text = refl
 steps_apart AtSign = refl
 steps_apart AvpName = refl
@@ -197,7 +197,7 @@ from_token last line ws p b =
     ap (collect last p) b.whole ∙
     (led_fault last b.bad.line b.before (b.bad ∷ b.behind) p b.place b.led (stuck_here last b.place b.bad b.behind (taking (steps b.place) b.bad.symbol) refl b.stuck) ∙ ap Err (sym b.its_line))
 
-end_here : (last : ℕ) (p : Place) → may_end p ≡ false → collect last p [] ≡ Err last
+pub end_here : (last : ℕ) (p : Place) → may_end p ≡ false → collect last p [] ≡ Err last
 end_here last p h = rw (collect, h) refl
 
 pub from_end : (last line : ℕ) (ws : List Word) (p : Place) → StandsAtEnd p ws last line → collect last p ws ≡ Err line
@@ -245,10 +245,10 @@ stands last line (w ∷ ws) p h =
     at_step last line p w ws (taking (steps p) w.symbol) refl h (λ r g. stands last line ws r.leads g)
 
 -- all tokens are taken
-abbrev AllTaken : Place → List Word → Type 0
+abbrev pub AllTaken : Place → List Word → Type 0
 AllTaken p ws = (q : Place) × (Leads p ws q × (may_end q ≡ true))
 
-ok_inside : (r : Role) (w : Word) (t : Result Told ℕ) (told : Told) → filled r w t ≡ Ok told
+pub ok_inside : (r : Role) (w : Word) (t : Result Told ℕ) (told : Told) → filled r w t ≡ Ok told
     → (inner : Told) × (t ≡ Ok inner)
 ok_inside r w (Ok inner) told h = (inner, refl)
 ok_inside r w (Err l) told h = absurd cc
@@ -268,7 +268,7 @@ ok_end : (last : ℕ) (told : Told) (p : Place) (b : Bool) → may_end p ≡ b �
 ok_end last told p true e h = (p, (refl, e))
 ok_end last told p false e h = let bad : collect last p [] ≡ Err last = end_here last p e in absurd cc
 
-ok_taken : (last : ℕ) (told : Told) (ws : List Word) (p : Place) → collect last p ws ≡ Ok told → AllTaken p ws
+pub ok_taken : (last : ℕ) (told : Told) (ws : List Word) (p : Place) → collect last p ws ≡ Ok told → AllTaken p ws
 ok_taken last told [] p h = ok_end last told p (may_end p) refl h
 ok_taken last told (w ∷ ws) p h =
     ok_step last told p w ws (taking (steps p) w.symbol) refl h (λ r inner g. ok_taken last inner ws r.leads g)
@@ -290,7 +290,7 @@ err_told : (r : Result Told ℕ) (line : ℕ) → items_told r ≡ Err line → 
 err_told (Ok t) line h = absurd cc
 err_told (Err l) line h = let e : l ≡ line = cc in ap Err e
 
-ok_told : (r : Result Told ℕ) (items : List Written) → items_told r ≡ Ok items → (t : Told) × (r ≡ Ok t)
+pub ok_told : (r : Result Told ℕ) (items : List Written) → items_told r ≡ Ok items → (t : Told) × (r ≡ Ok t)
 ok_told (Ok t) items h = (t, refl)
 ok_told (Err l) items h = absurd cc
 

@@ -5,5 +5,6 @@ pub mod Places
 pub mod Grammar
 pub mod Items
 pub mod Told
+pub mod Spelling
 pub mod Views
 pub mod Readers

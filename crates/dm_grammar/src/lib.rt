@@ -18,7 +18,7 @@ mod token;
 
 pub use fault::ItemFault;
 pub use item::{AvpItem, CommandItem, EntryItem, Form, GroupItem, Item, Qualifier};
-pub use law::syntax_law;
+pub use law::{items_law, syntax_law};
 pub use read::read_items;
 pub use symbol::Symbol;
 pub use token::Token;

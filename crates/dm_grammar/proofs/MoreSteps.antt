@@ -1,0 +1,107 @@
+-- What a place with more steps tells.
+use Rattle.std.proofs.Common.{◌≡◌, ℕ, List, [], ◌∷◌, ◌++◌, Ok, Err, Option, Some, None, refl, Bool, true, false, ap, sym, ◌∙◌, ◌⊎◌, inl, inr, if◌then◌else◌}
+use Rattle.std.proofs.lemmas.Bool.{and_parts}
+use Rattle.dm_grammar.specs.declared.symbol.Symbol.{Symbol}
+use Rattle.dm_grammar.specs.declared.symbol.Symbol.TheVariants as symbols
+use Rattle.dm_grammar.specs.declared.terminal.Terminal.TheVariants.{One}
+use Rattle.dm_grammar.specs.Tokens.{Word}
+use Rattle.dm_grammar.specs.Places.{Place, Role}
+use Rattle.dm_grammar.specs.Places.Role.{Nothing}
+use Rattle.dm_grammar.specs.Grammar.{Step, on, fits, steps, taking, may_end}
+use Rattle.dm_grammar.specs.Told.{Told, nothing, fill, filled, collect}
+use Rattle.dm_grammar.specs.Syntax.{SomeStep}
+use Rattle.dm_grammar.specs.Spelling.Phrase.{◌then◌}
+use Rattle.dm_grammar.proofs.Syntax.{apart, clear, clear_ok, steps_apart, end_here}
+use Rattle.dm_grammar.proofs.Heads.{FlagPlace, nothing_told}
+
+-- the step is one of the list and takes a token of the symbol
+abbrev pub Among : List Step → Symbol → Step → Type 0
+Among [] s r = ⊥
+Among (r0 ∷ rs) s r = ((fits r0.wants s ≡ true) × (r0 ≡ r)) ⊎ Among rs s r
+
+among_some : (rs : List Step) (s : Symbol) (r : Step) → Among rs s r → SomeStep rs s r.leads
+among_some [] s r m = m
+among_some (r0 ∷ rs) s r (inl x) = inl (x.0, ap (λ (r : Step). r.leads) x.1)
+among_some (r0 ∷ rs) s r (inr x) = inr (among_some rs s r x)
+
+passed : (b : Bool) (rs : List Step) (s : Symbol) (r0 r : Step) → fits r0.wants s ≡ b
+    → (fits r0.wants s ≡ true → ⊥) → taking rs s ≡ Some r → taking (r0 ∷ rs) s ≡ Some r
+passed true rs s r0 r f bars t = absurd (bars f)
+passed false rs s r0 r f bars t = rw f t
+
+among_taken : (rs : List Step) (s : Symbol) (r : Step) → apart rs ≡ true → Among rs s r → taking rs s ≡ Some r
+among_taken [] s r a m = absurd m
+among_taken (r0 ∷ rs) s r a (inl x) = rw x.0 (ap Some x.1)
+among_taken (r0 ∷ rs) s r a (inr x) =
+    let parts = and_parts (clear r0.wants rs) (apart rs) a in
+    passed (fits r0.wants s) rs s r0 r refl (λ f. clear_ok r0.wants rs s r.leads parts.0 f (among_some rs s r x))
+    (among_taken rs s r parts.1 x)
+
+found : (b : Bool) (rs : List Step) (s : Symbol) (r0 r : Step) → fits r0.wants s ≡ b
+    → (if b then Some r0 else taking rs s) ≡ Some r → (taking rs s ≡ Some r → Among rs s r) → Among (r0 ∷ rs) s r
+found true rs s r0 r f e h = let same : r0 ≡ r = cc in inl (f, same)
+found false rs s r0 r f e h = inr (h e)
+
+taken_among : (rs : List Step) (s : Symbol) (r : Step) → taking rs s ≡ Some r → Among rs s r
+taken_among [] s r e = absurd cc
+taken_among (r0 ∷ rs) s r e = found (fits r0.wants s) rs s r0 r refl e (taken_among rs s r)
+
+among_more : (extra rs : List Step) (s : Symbol) (r : Step) → Among rs s r → Among (extra ++ rs) s r
+among_more [] rs s r m = m
+among_more (r0 ∷ extra) rs s r m = inr (among_more extra rs s r m)
+
+-- the tokens from a place on tell these
+abbrev pub Tells : ℕ → Place → Told → List Word → Type 0
+Tells last p t ws = collect last p ws ≡ Ok t
+
+pub by_step : (last : ℕ) (p : Place) (w : Word) (ws : List Word) (r : Step) (t : Told) → Among (steps p) w.symbol r
+    → Tells last r.leads t ws → Tells last p (fill r.role w t) (w ∷ ws)
+by_step last p w ws r t m h = rw (collect, among_taken (steps p) w.symbol r (steps_apart p) m, h) refl
+
+-- where a place has the steps of another and more, it tells what the other does
+more_steps : (last : ℕ) (p q : Place) (extra : List Step) (t : Told) (w : Word) (ws : List Word) (o : Option Step)
+    → steps p ≡ extra ++ steps q → taking (steps q) w.symbol ≡ o → Tells last q t (w ∷ ws) → Tells last p t (w ∷ ws)
+more_steps last p q extra t w ws None e k h =
+    let bad : collect last q (w ∷ ws) ≡ Err w.line = rw (collect, k) refl in absurd cc
+more_steps last p q extra t w ws (Some r) e k h =
+    let m = among_more extra (steps q) w.symbol r (taken_among (steps q) w.symbol r k) in
+    let k2 : taking (steps p) w.symbol ≡ Some r =
+    among_taken (steps p) w.symbol r (steps_apart p) (rw e m) in
+    let there : collect last q (w ∷ ws) ≡ filled r.role w (collect last r.leads ws) = rw (collect, k) refl in
+    let here : collect last p (w ∷ ws) ≡ filled r.role w (collect last r.leads ws) = rw (collect, k2) refl in
+    here ∙ (sym there ∙ h)
+
+more_ends : (last : ℕ) (p q : Place) (t : Told) (b : Bool) → may_end q ≡ b → (may_end q ≡ true → may_end p ≡ true)
+    → Tells last q t [] → Tells last p t []
+more_ends last p q t true e ends h =
+    let k = ends e in
+    let there : collect last q [] ≡ Ok nothing = rw (collect, e) refl in
+    let here : collect last p [] ≡ Ok nothing = rw (collect, k) refl in
+    here ∙ (sym there ∙ h)
+more_ends last p q t false e ends h = let bad : collect last q [] ≡ Err last = end_here last q e in absurd cc
+
+pub more : (last : ℕ) (p q : Place) (extra : List Step) (t : Told) (ws : List Word) → steps p ≡ extra ++ steps q
+    → (may_end q ≡ true → may_end p ≡ true) → Tells last q t ws → Tells last p t ws
+more last p q extra t [] e ends h = more_ends last p q t (may_end q) refl ends h
+more last p q extra t (w ∷ ws) e ends h = more_steps last p q extra t w ws (taking (steps q) w.symbol) e refl h
+
+-- and so does a place where a flag may stand, where it doesn't
+flags_at : (b : Bool) (last : ℕ) (p pc q qc : Place) (s : Symbol) (role : Role) (after : List Step) (t : Told)
+    (w : Word) (ws : List Word) → FlagPlace p pc q qc s role after → fits (One symbols.Comma) w.symbol ≡ b
+    → Tells last q t (w ∷ ws) → Tells last p t (w ∷ ws)
+flags_at true last p pc q qc s role after t w ws f c h =
+    let there : collect last q (w ∷ ws) ≡ filled Nothing w (collect last qc ws) = rw (collect, f.there, c) refl in
+    let here : collect last p (w ∷ ws) ≡ filled Nothing w (collect last pc ws) = rw (collect, f.here, c) refl in
+    let inside : collect last qc ws ≡ Ok t = sym (nothing_told w (collect last qc ws)) ∙ (sym there ∙ h) in
+    here ∙ (nothing_told w (collect last pc ws)
+    ∙ more last pc qc (on s q role) t ws f.behind (λ e. let bad = sym f.no_end_comma ∙ e in absurd cc) inside)
+flags_at false last p pc q qc s role after t w ws f c h =
+    let same : collect last p (w ∷ ws) ≡ collect last q (w ∷ ws) = rw (collect, f.here, f.there, c) refl in
+    same ∙ h
+
+pub more_flags : (last : ℕ) (p pc q qc : Place) (s : Symbol) (role : Role) (after : List Step) (t : Told)
+    (ws : List Word) → FlagPlace p pc q qc s role after → Tells last q t ws → Tells last p t ws
+more_flags last p pc q qc s role after t [] f h =
+    let bad : collect last q [] ≡ Err last = end_here last q f.no_end_there in absurd cc
+more_flags last p pc q qc s role after t (w ∷ ws) f h =
+    flags_at (fits (One symbols.Comma) w.symbol) last p pc q qc s role after t w ws f refl h
