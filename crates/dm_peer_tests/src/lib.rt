@@ -7,3 +7,5 @@
 
 #[cfg(test)]
 mod base;
+#[cfg(test)]
+mod peer;

@@ -1,0 +1,248 @@
+-- An event that a side's peer takes keeps the links sound.
+use Rattle.std.proofs.Common.{◌≡◌, ℕ, zero, suc, ◌+◌, ◌≤◌, Bool, true, false, ◌&&◌, Some, List, [], ◌∷◌, ◌++◌, length, map, slice_get, refl, sym, ap, subst, ◌∙◌, arith, ◌⊎◌, inl, inr, append-nil, length-append}
+use Rattle.std.proofs.lemmas.Bool.Decides.{nat_tests}
+use Rattle.std.proofs.lemmas.Option.{slice_get_within}
+use Rattle.dm_links.specs.Machine.{conn, Node, Concern, Elsewhere, StartsIt, AcksIt, NacksIt, EndsIt, HeardOnIt, Tie, Unheld, Connecting, Made, MadeOpen, Taken, tie_of, is_held}
+use Rattle.dm_links.specs.Links.{Side, A, B, flip, opens, LinkPhase, Pending, Up, Cancelled, Mark, NoMark, Coming, Delivered, Link, View, view_of, link_of, by_side, new_link}
+use Rattle.dm_links.specs.Peers.{Event, Start, Action, order_of, closes_at, sends_at, concern_by}
+use Rattle.dm_links.specs.Steps.{phase_at, messages_at, outgoing_mark_at, added, entered, summed, acted, words_at, is_closed_at, settled, stepped}
+use Rattle.dm_links.specs.Worlds.{takes, enter, perform, settle}
+use Rattle.dm_links.specs.Facts.{turned, is_empty, is_sound, standing, IsSoundView, IsSoundLink, AreSound}
+use Rattle.dm_links.proofs.Every.{at_bool}
+use Rattle.dm_links.proofs.Checks.{is_ready, is_allowed, is_handed, after_pop, after_put, puts_in, standing_after, step_at}
+use Rattle.dm_links.proofs.Ties.{KeepsTies}
+use Rattle.dm_links.proofs.Views.{acted_summed, unsent_unsaid}
+use Rattle.dm_links.proofs.Lists.{IsStart, view_link, mapped_some, performed_at, length-perform, length-enter, length-settle, stepped_at}
+
+popped : {M : Type 0} (k : Concern) (f : Bool → Bool) (ms : List M) → after_pop k (is_empty ms) f ≡ true →
+    f (is_empty (messages_at k ms)) ≡ true
+popped HeardOnIt f ms h = at_bool f h (is_empty (messages_at HeardOnIt ms))
+popped Elsewhere f ms h = h
+popped StartsIt f ms h = h
+popped AcksIt f ms h = h
+popped NacksIt f ms h = h
+popped EndsIt f ms h = h
+
+none_put : {M : Type 0} (f : Bool → Bool) (words old : List M) → f (is_empty old) ≡ true → is_empty words ≡ true →
+    f (is_empty (old ++ words)) ≡ true
+none_put f [] old h e = subst (λ xs. f (is_empty xs) ≡ true) (sym (append-nil old)) h
+none_put f (x ∷ xs) old h e = cc
+
+pub put_in : {M : Type 0} (sent : Bool) (p : LinkPhase) (mark : Mark) (f : Bool → Bool) (words old : List M) →
+    after_put (sent && takes p mark) (is_empty old) f ≡ true → (sent ≡ false → is_empty words ≡ true) →
+    f (is_empty (added p mark words old)) ≡ true
+put_in true Up NoMark f words old h g = at_bool f h (is_empty (old ++ words))
+put_in false Up NoMark f words old h g = none_put f words old h (g refl)
+put_in true Up Coming f words old h g = h
+put_in false Up Coming f words old h g = h
+put_in true Up Delivered f words old h g = h
+put_in false Up Delivered f words old h g = h
+put_in true Pending mark f words old h g = h
+put_in false Pending mark f words old h g = h
+put_in true Cancelled mark f words old h g = h
+put_in false Cancelled mark f words old h g = h
+
+-- a step keeps a link sound, in the view of the side that steps
+view_keeps : {M : Type 0} (mine : Bool) (k : Concern) (own own' other : Tie) (d : ℕ) (actions : List (Action M))
+    (v : View M) →
+    IsSoundView mine own other v → is_handed mine k (standing own other v) ≡ true →
+    (is_ready k own ≡ true →
+    is_allowed k own own' (closes_at d (map order_of actions)) (sends_at d (map order_of actions)) ≡ true) →
+    IsSoundView mine own' other (stepped k (is_held own') d actions v)
+view_keeps mine k own own' other d actions v good handed law =
+    let s = standing own other v in
+    let closed = is_closed_at d actions in
+    let sent = sends_at d (map order_of actions) in
+    let words = words_at d actions in
+    let step = step_at mine k s good handed in
+    let result : Bool → Bool → Bool = λ ie oe. is_sound (turned mine (standing_after k own' closed ie oe s)) in
+    let pop = popped k (λ ie. after_put (puts_in k sent s) s.out_empty (λ oe. result ie oe)) v.incoming.messages
+    (step.after own' closed sent (law step.ready)) in
+    let put = put_in sent (phase_at k v.phase) (outgoing_mark_at k v.own v.outgoing.mark)
+    (λ oe. result (is_empty (messages_at k v.incoming.messages)) oe) words v.outgoing.messages pop
+    (unsent_unsaid d actions) in
+    subst (λ x. IsSoundView mine own' other (settled k (is_held own') x))
+    (sym (acted_summed d actions (entered k v))) put
+
+pub link_keeps : {M : Type 0} (s : Side) (own own' other : Node) (e : Event M) (actions : List (Action M)) (d : ℕ)
+    (l : Link M) →
+    IsSoundLink s own other d l →
+    is_handed (opens s l.opener) (concern_by e (conn d))
+    (standing (tie_of own d) (tie_of other d) (view_of (opens s l.opener) l)) ≡ true →
+    KeepsTies own e actions own' →
+    IsSoundLink s own' other d
+    (by_side s (stepped (concern_by e (conn d)) (is_held (tie_of own' d)) d actions) l)
+link_keeps s own own' other e actions d l good handed ties =
+    let mine = opens s l.opener in
+    let k = concern_by e (conn d) in
+    let v = view_of mine l in
+    let after = view_keeps mine k (tie_of own d) (tie_of own' d) (tie_of other d) d actions v good handed
+    (ties.changes d) in
+    subst (λ x. IsSoundView mine (tie_of own' d) (tie_of other d) x)
+    (sym (view_link mine l.opener (stepped k (is_held (tie_of own' d)) d actions v))) after
+
+-- what the world looked at, of each link
+pub record Hands {M : Type 0} (s : Side) (own other : Node) (e : Event M) (links : List (Link M)) : Type 0 where
+  pub handed : (d : ℕ) (l : Link M) → slice_get links d ≡ Some l →
+      is_handed (opens s l.opener) (concern_by e (conn d))
+      (standing (tie_of own d) (tie_of other d) (view_of (opens s l.opener) l)) ≡ true
+
+stays_unheld : (t : Tie) (closed sent : Bool) → is_allowed Elsewhere Unheld t closed sent ≡ true → t ≡ Unheld
+stays_unheld Unheld closed sent h = refl
+stays_unheld Connecting true sent h = cc
+stays_unheld Connecting false sent h = cc
+stays_unheld Made true sent h = cc
+stays_unheld Made false sent h = cc
+stays_unheld MadeOpen true sent h = cc
+stays_unheld MadeOpen false sent h = cc
+stays_unheld Taken true sent h = cc
+stays_unheld Taken false sent h = cc
+
+pub unheld_later : {M : Type 0} (own own' : Node) (e : Event M) (actions : List (Action M)) (c : ℕ) →
+    KeepsTies own e actions own' → tie_of own c ≡ Unheld → concern_by e (conn c) ≡ Elsewhere →
+    tie_of own' c ≡ Unheld
+unheld_later own own' e actions c ties none k =
+    let closed = closes_at c (map order_of actions) in
+    let sent = sends_at c (map order_of actions) in
+    let F : Concern → Tie → Type 0 = λ x t. is_ready x t ≡ true →
+    is_allowed x t (tie_of own' c) closed sent ≡ true in
+    let law : F Elsewhere Unheld = subst (λ t. F Elsewhere t) none
+    (subst (λ x. F x (tie_of own c)) k (ties.changes c)) in
+    stays_unheld (tie_of own' c) closed sent (law refl)
+
+pub step_keeps : {M : Type 0} (s : Side) (own own' other : Node) (e : Event M) (actions : List (Action M))
+    (links : List (Link M)) →
+    AreSound s own other links → Hands s own other e links → KeepsTies own e actions own' → (IsStart e → ⊥) →
+    ((c : ℕ) → length links ≤ c → concern_by e (conn c) ≡ Elsewhere) →
+    AreSound s own' other (settle s e own' (perform s actions (enter s e links)))
+step_keeps s own own' other e actions links good hands ties no_start later =
+    let len = length-settle s e own' (perform s actions (enter s e links))
+    ∙ (length-perform s actions (enter s e links) ∙ length-enter s e links no_start) in
+    record {
+      own_shaped = ties.shaped;
+      other_shaped = good.other_shaped;
+      each = λ c l at.
+          let f = by_side s (stepped (concern_by e (conn c)) (is_held (tie_of own' c)) c actions) in
+          let old = mapped_some f (slice_get links c) l (sym (stepped_at s e actions own' c links no_start) ∙ at) in
+          subst (λ x. IsSoundLink s own' other c x) (sym old.2)
+          (link_keeps s own own' other e actions c old.0 (good.each c old.0 old.1)
+          (hands.handed c old.0 old.1) ties);
+      own_later = λ c h.
+          let h' : length links ≤ c = omega (arith, len, h) in
+          unheld_later own own' e actions c ties (good.own_later c h') (later c h');
+      other_later = λ c h. let h' : length links ≤ c = omega (arith, len, h) in good.other_later c h';
+    }
+
+-- a Start makes the next link
+is_start : (t : Tie) (closed sent : Bool) → is_allowed StartsIt Unheld t closed sent ≡ true →
+    (t ≡ Connecting) × (closed ≡ false) × (sent ≡ false)
+is_start Connecting false false h = (refl, refl, refl)
+is_start Connecting false true h = cc
+is_start Connecting true sent h = cc
+is_start Unheld true sent h = cc
+is_start Unheld false sent h = cc
+is_start Made true sent h = cc
+is_start Made false sent h = cc
+is_start MadeOpen true sent h = cc
+is_start MadeOpen false sent h = cc
+is_start Taken true sent h = cc
+is_start Taken false sent h = cc
+
+new_sound : (M : Type 0) (s : Side) (own other : Tie) → own ≡ Connecting → other ≡ Unheld →
+    IsSoundView {M = M} (opens s s) own other (view_of (opens s s) (new_link s))
+new_sound M A own other p q = rw (p, q) refl
+new_sound M B own other p q = rw (p, q) refl
+
+new_acted : {M : Type 0} (s : Side) (closed : Bool) (words : List M) → closed ≡ false →
+    by_side s (summed closed words) (new_link s) ≡ new_link s
+new_acted A true words h = cc
+new_acted A false words h = refl
+new_acted B true words h = cc
+new_acted B false words h = refl
+
+pub start_at : (c d : ℕ) → (d ≡ c → ⊥) → concern_by {M = ℕ} (Start (conn c)) (conn d) ≡ Elsewhere
+start_at c d h = grind (arith, nat_tests)
+
+start_here : (c : ℕ) → concern_by {M = ℕ} (Start (conn c)) (conn c) ≡ StartsIt
+start_here c = grind (arith, nat_tests)
+
+pub appended_at : {X : Type 0} (xs : List X) (y : X) (c : ℕ) (x : X) → slice_get (xs ++ y ∷ []) c ≡ Some x →
+    (slice_get xs c ≡ Some x) ⊎ ((c ≡ length xs) × (x ≡ y))
+appended_at [] y zero x h = inr (refl, cc)
+appended_at [] y (suc c) x h = cc
+appended_at (z ∷ xs) y zero x h = inl h
+appended_at (z ∷ xs) y (suc c) x h = elim (appended_at xs y c x h) [ inl e ↦ inl e | inr p ↦ inr (ap suc p.0, p.1) ]
+
+pub start_keeps : {M : Type 0} (s : Side) (own own' other : Node) (actions : List (Action M))
+    (links : List (Link M)) →
+    AreSound s own other links → KeepsTies own (Start (conn (length links))) actions own' →
+    AreSound s own' other (perform s actions (links ++ new_link s ∷ []))
+start_keeps {M} s own own' other actions links good ties =
+    let c0 = length links in
+    let e : Event M = Start (conn c0) in
+    let made = links ++ new_link s ∷ [] in
+    let len : length (perform s actions made) ≡ c0 + 1 = omega
+    (arith, length-perform s actions made, length-append links (new_link s ∷ [])) in
+    let closed = closes_at c0 (map order_of actions) in
+    let sent = sends_at c0 (map order_of actions) in
+    let F : Concern → Tie → Type 0 = λ x t. is_ready x t ≡ true →
+    is_allowed x t (tie_of own' c0) closed sent ≡ true in
+    let law : F StartsIt Unheld = subst (λ t. F StartsIt t) (good.own_later c0 (omega arith))
+    (subst (λ x. F x (tie_of own c0)) (start_here c0) (ties.changes c0)) in
+    let new = is_start (tie_of own' c0) closed sent (law refl) in
+    record {
+      own_shaped = ties.shaped;
+      other_shaped = good.other_shaped;
+      each = λ c l at.
+          let old = mapped_some (by_side s (acted c actions)) (slice_get made c) l
+          (sym (performed_at s actions c made) ∙ at) in
+          elim (appended_at links (new_link s) c old.0 old.1) [
+            | inl there ↦
+                let lt = slice_get_within links c old.0 there in
+                let k : concern_by e (conn c) ≡ Elsewhere = start_at c0 c
+                (λ (q : c ≡ c0). absurd (omega (arith, lt, q))) in
+                let mine = opens s old.0.opener in
+                let G : Concern → Type 0 = λ x. IsSoundLink s own' other c
+                (by_side s (stepped x (is_held (tie_of own' c)) c actions) old.0) in
+                let handed : is_handed mine (concern_by e (conn c))
+                (standing (tie_of own c) (tie_of other c) (view_of mine old.0)) ≡ true = rw k refl in
+                let kept = subst G k
+                (link_keeps s own own' other e actions c old.0 (good.each c old.0 there) handed ties) in
+                subst (λ x. IsSoundLink s own' other c x) (sym old.2) kept
+            | inr q ↦
+                let is : l ≡ new_link s =
+                old.2 ∙ (ap (by_side s (acted c actions)) q.1
+                ∙ (ap (λ n. by_side s (acted n actions) (new_link s)) q.0
+                ∙ (ap (λ v. link_of (opens s s) s v) (acted_summed c0 actions (view_of (opens s s) (new_link s)))
+                ∙ new_acted s closed (words_at c0 actions) new.1))) in
+                let here = new_sound M s (tie_of own' c0) (tie_of other c0) new.0
+                (good.other_later c0 (omega arith)) in
+                subst (λ x. IsSoundLink s own' other c x) (sym is)
+                (subst (λ n. IsSoundLink {M = M} s own' other n (new_link s)) (sym q.0) here)
+          ];
+      own_later = λ c h.
+          let h' : c0 + 1 ≤ c = omega (arith, len, h) in
+          unheld_later own own' e actions c ties (good.own_later c (omega (arith, h')))
+          (start_at c0 c (λ (q : c ≡ c0). absurd (omega (arith, h', q))));
+      other_later = λ c h. let h' : c0 ≤ c = omega (arith, len, h) in good.other_later c h';
+    }
+
+-- the two sides
+pub flip_link : {M : Type 0} (s o : Side) (own other : Tie) (l : Link M) →
+    IsSoundView (opens s o) own other (view_of (opens s o) l) →
+    IsSoundView (opens (flip s) o) other own (view_of (opens (flip s) o) l)
+flip_link A A own other l h = h
+flip_link A B own other l h = h
+flip_link B A own other l h = h
+flip_link B B own other l h = h
+
+pub sound_flip : {M : Type 0} (s : Side) (own other : Node) (links : List (Link M)) → AreSound s own other links →
+    AreSound (flip s) other own links
+sound_flip s own other links good =
+    record {
+      own_shaped = good.other_shaped;
+      other_shaped = good.own_shaped;
+      each = λ c l at. flip_link s l.opener (tie_of own c) (tie_of other c) l (good.each c l at);
+      own_later = good.other_later;
+      other_later = good.own_later;
+    }

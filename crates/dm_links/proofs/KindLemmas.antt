@@ -1,0 +1,66 @@
+-- The state machine as peers moves as the state machine.
+use Rattle.std.proofs.Common.{◌≡◌, ◌==◌, Bool, true, false, if◌then◌else◌, List, [], ◌∷◌, map, refl, ap, ◌∙◌, inl}
+use Rattle.dm_machine.specs.Connection as machine
+use Rattle.dm_links.specs.Machine.{Conn, Command, outcome, Elsewhere, concern_as, concern_of}
+use Rattle.dm_machine.specs.declared.inputs.Word.{Word}
+use Rattle.dm_machine.specs.declared.outputs.Command.TheVariants as command
+use Rattle.dm_machine.specs.Moves.{Outcome, Moved, Refused}
+use Rattle.dm_links.specs.Peers.{Event, Start, Stop, Timeout, Tick, Ack, Nack, Gone, Submit, Arrived, Order, concern_by, order_of, order_of_command}
+use Rattle.dm_links.specs.Follows.{Follows}
+use Rattle.dm_links.specs.Kinds.{Kin, input_of, action_of, reply_by, kinds, KindsAreAMachine, TwoRuns}
+
+same_order : (a : Command) → order_of (action_of a) ≡ order_of_command a
+same_order (command.Connect c) = refl
+same_order (command.SendCer c) = refl
+same_order (command.SendCea c) = refl
+same_order (command.SendRefusal c) = refl
+same_order (command.SendDwr c) = refl
+same_order (command.SendDwa c) = refl
+same_order (command.SendDpr c) = refl
+same_order (command.SendDpa c) = refl
+same_order (command.SendSubmit c) = refl
+same_order (command.Close c) = refl
+same_order command.Up = refl
+
+same_orders : (commands : List Command) → map order_of (map action_of commands) ≡ map order_of_command commands
+same_orders [] = refl
+same_orders (a ∷ more) =
+    ap (λ (o : Order). o ∷ map order_of (map action_of more)) (same_order a)
+    ∙ ap (λ (os : List Order). order_of_command a ∷ os) (same_orders more)
+
+named_as : (b : Bool) (k : machine.Concern) →
+    concern_as (machine.if_named b k) ≡ (if b then concern_as k else Elsewhere)
+named_as true k = refl
+named_as false k = refl
+
+same_concern : (e : Event Word) (c : Conn) → concern_of (input_of e) c ≡ concern_by e c
+same_concern (Start d) c = named_as (d.0 == c.0) machine.StartsIt
+same_concern (Stop cause) c = refl
+same_concern Timeout c = refl
+same_concern Tick c = refl
+same_concern (Ack d) c = named_as (d.0 == c.0) machine.AcksIt
+same_concern (Nack d) c = named_as (d.0 == c.0) machine.NacksIt
+same_concern (Gone d) c = named_as (d.0 == c.0) machine.EndsIt
+same_concern (Submit w) c = refl
+same_concern (Arrived d w) c = named_as (d.0 == c.0) (machine.HeardOnIt w)
+
+follows_by : (p : Kin) (e : Event Word) (o : Outcome) → outcome p.node (input_of e) p.wins ≡ o →
+    Follows kinds p e (reply_by p.wins o)
+follows_by p e (Refused r) h = tt
+follows_by p e (Moved commands n) h =
+    inl (record {
+      input = input_of e;
+      wins = p.wins;
+      commands = commands;
+      concerns = same_concern e;
+      moves =
+          h;
+      orders = same_orders commands;
+    })
+
+pub kinds_are_a_machine : KindsAreAMachine
+kinds_are_a_machine =
+    record { follows = λ p e. follows_by p e (outcome p.node (input_of e) p.wins) refl; resets = λ p. refl }
+
+pub two_runs : TwoRuns
+two_runs = record { one_side = (refl, refl); both_sides = (refl, refl) }

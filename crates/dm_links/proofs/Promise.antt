@@ -1,0 +1,274 @@
+-- What a sound world has.
+use Rattle.std.proofs.Common.{◌≡◌, ℕ, zero, suc, ◌<◌, Bool, true, false, not, ◌&&◌, ◌||◌, IsTrue, Option, Some, None, IfSome, List, [], ◌∷◌, length, slice_get, refl, sym, ap, subst, arith, ◌⊎◌, inl, inr}
+use Rattle.std.proofs.lemmas.Bool.{cases_eq, cases_lt, and_parts, and_from, or_cases}
+use Rattle.std.proofs.lemmas.Bool.Decides.{nat_tests}
+use Rattle.std.proofs.lemmas.Option.{IfSome_then}
+use Rattle.dm_machine.specs.declared.state_name.State.{State}
+use Rattle.dm_machine.specs.declared.state_name.State.TheVariants.{ROpen, IOpen}
+use Rattle.dm_machine.specs.Node.{is_held_in, is_count_of}
+use Rattle.dm_links.specs.Machine.{Conn, conn, Role, Initiated, Accepted, Node, node_at, held_as, is_shaped, is_same_role, is_open, Tie, Unheld, tie_of, is_held}
+use Rattle.dm_links.specs.Links.{Side, A, B, flip, opens, LinkPhase, Pending, Up, Cancelled, End, Fresh, Open, Shut, Mark, NoMark, Coming, Delivered, Link}
+use Rattle.dm_links.specs.Peers.{Peers}
+use Rattle.dm_links.specs.Worlds.{World, peer_at, After, Done, Ignored, NoLink}
+use Rattle.dm_links.specs.Happens.{Happening, happens, world_after, Ran, ran_on, run_from, run}
+use Rattle.dm_links.specs.Follows.{IsMachine}
+use Rattle.dm_links.specs.Facts.{is_up, is_pending, is_open_end, is_coming, AreSound, IsSound}
+use Rattle.dm_links.specs.Agreement.{IsOpenOn, IsComing, Agreed, EndsAreHeld, HeldAreLinks, OpenIsMatched}
+use Rattle.dm_links.specs.Laws.{Promised}
+use Rattle.dm_links.proofs.Checks.{is_when, is_open_tie, is_taken, same_bool, conclusion}
+use Rattle.dm_links.proofs.Ties.{MachineLaws}
+use Rattle.dm_links.proofs.Events.{side_sound, standing_at}
+use Rattle.dm_links.proofs.Happenings.{happens_sound}
+
+-- an open node holds one connection, in the role of its state
+record Opens (n : Node) (r : Role) (c : ℕ) : Type 0 where
+  pub tie : is_open_tie (tie_of n c) ≡ true
+  pub role : is_taken (tie_of n c) ≡ is_same_role r Accepted
+  pub only : (d : ℕ) → is_held (tie_of n d) ≡ true → c ≡ d
+
+opens_r : (c n : ℕ) → Opens (node_at ROpen ((Accepted, conn c) ∷ []) n) Accepted c
+opens_r c n = record {
+  tie = grind (arith, nat_tests);
+  role = grind (arith, nat_tests);
+  only = λ d h. grind
+      (arith, nat_tests, h);
+}
+
+opens_i : (c n : ℕ) → Opens (node_at IOpen ((Initiated, conn c) ∷ []) n) Initiated c
+opens_i c n = record {
+  tie = grind (arith, nat_tests);
+  role = grind (arith, nat_tests);
+  only = λ d h. grind
+      (arith, nat_tests, h);
+}
+
+some_is : (x y : Conn) → Some x ≡ Some y → x ≡ y
+some_is x y h = cc
+
+opens_at : (s : State) (held : List (Role × Conn)) (n : ℕ) (r : Role) (c : ℕ) → IsTrue (is_held_in s held) →
+    IsTrue (is_open s) → held_as r held ≡ Some (conn c) → Opens (node_at s held n) r c
+opens_at ROpen ((Accepted, x) ∷ []) n Accepted c h o e =
+    subst (λ y. Opens (node_at ROpen ((Accepted, y) ∷ []) n) Accepted c) (sym (some_is x (conn c) e)) (opens_r c n)
+opens_at ROpen ((Accepted, x) ∷ []) n Initiated c h o e = cc
+opens_at IOpen ((Initiated, x) ∷ []) n Initiated c h o e =
+    subst (λ y. Opens (node_at IOpen ((Initiated, y) ∷ []) n) Initiated c) (sym (some_is x (conn c) e))
+    (opens_i c n)
+opens_at IOpen ((Initiated, x) ∷ []) n Accepted c h o e = cc
+opens_at _ _ n r c h o e = cc
+
+opens_on : (n : Node) (r : Role) (c : ℕ) → IsTrue (is_shaped n) → IsOpenOn n r c → Opens n r c
+opens_on n r c h o = opens_at n.state n.held n.count r c
+    (and_parts (is_held_in n.state n.held) (is_count_of n.state n.count) h).0 o.is_open o.holds
+
+-- the link of a number
+there_below : {X : Type 0} (xs : List X) (c : ℕ) → c < length xs → (x : X) × (slice_get xs c ≡ Some x)
+there_below [] c h = absurd (omega (arith, h))
+there_below (x ∷ xs) zero h = (x, refl)
+there_below (x ∷ xs) (suc c) h = there_below xs c (omega (arith, h))
+
+not_held : (t : Tie) → t ≡ Unheld → is_held t ≡ true → ⊥
+not_held t e h = cc (ap is_held e, h)
+
+held_there : {M : Type 0} (s : Side) (own other : Node) (links : List (Link M)) (c : ℕ) →
+    AreSound s own other links → is_held (tie_of own c) ≡ true → (l : Link M) × (slice_get links c ≡ Some l)
+held_there s own other links c good held =
+    elim (cases_lt c (length links)) [
+      | inl lt ↦ there_below links c lt
+      | inr late ↦ absurd (not_held (tie_of own c) (good.own_later c late) held)
+    ]
+
+open_held : (t : Tie) → is_open_tie t ≡ true → is_held t ≡ true
+open_held Unheld h = cc
+open_held _ h = refl
+
+open_is : (e : End) → is_open_end e ≡ true → e ≡ Open
+open_is Open h = refl
+open_is Fresh h = cc
+open_is Shut h = cc
+
+coming_is : (k : Mark) → is_coming k ≡ true → k ≡ Coming
+coming_is Coming h = refl
+coming_is NoMark h = cc
+coming_is Delivered h = cc
+
+up_is : (p : LinkPhase) → is_up p ≡ true → p ≡ Up
+up_is Up h = refl
+up_is Pending h = cc
+up_is Cancelled h = cc
+
+is_up_at : (p : LinkPhase) → p ≡ Up → is_up p ≡ true
+is_up_at p h = rw h refl
+
+pending_is : (p : LinkPhase) → is_pending p ≡ true → p ≡ Pending
+pending_is Pending h = refl
+pending_is Up h = cc
+pending_is Cancelled h = cc
+
+opener_is : (s o : Side) → opens s o ≡ true → o ≡ s
+opener_is A A h = refl
+opener_is B B h = refl
+opener_is A B h = cc
+opener_is B A h = cc
+
+same_left : (a b : Bool) → same_bool a b ≡ true → b ≡ true → a ≡ true
+same_left true b h g = refl
+same_left false true h g = cc
+same_left false false h g = cc
+
+same_right : (a b : Bool) → same_bool a b ≡ true → a ≡ true → b ≡ true
+same_right true b h g = h
+same_right false b h g = cc
+
+is_open_at : (e : End) → e ≡ Open → is_open_end e ≡ true
+is_open_at e h = rw h refl
+
+-- a side's open ends are what it holds
+ends_are_held : {P M : Type 0} (m : Peers P M) (w : World P M) → IsSound m w → EndsAreHeld m w
+ends_are_held m w good s c l at up =
+    let st = standing_at m s w c l in
+    let both = is_when (is_up st.phase) _
+    (conclusion 0 (opens s l.opener) st ((side_sound m s w good).each c l at)) (is_up_at l.phase up) in (
+      λ h. same_right (is_open_end st.own) (is_held st.own_tie) both (is_open_at st.own h),
+      λ h. open_is st.own (same_left (is_open_end st.own) (is_held st.own_tie) both h),
+    )
+
+held_are_links : {P M : Type 0} (m : Peers P M) (w : World P M) → IsSound m w → HeldAreLinks m w
+held_are_links m w good s c held =
+    let g = side_sound m s w good in
+    let at = held_there s (m.node_of (peer_at s w)) (m.node_of (peer_at (flip s) w)) w.links c g held in
+    let l = at.0 in
+    let st = standing_at m s w c l in
+    let mine = opens s l.opener in
+    let here = is_when (is_held st.own_tie) _ (conclusion 1 mine st (g.each c l at.1)) held in
+    record {
+      link = l;
+      there = at.1;
+      stands = elim (or_cases (is_up st.phase) (is_pending st.phase && mine) here) [
+        | inl up ↦ inl (up_is l.phase up)
+        | inr rest ↦
+            let parts = and_parts (is_pending st.phase) mine rest in
+            inr (pending_is l.phase parts.0, opener_is s l.opener parts.1)
+      ];
+    }
+
+-- where a node is open, the other end is open or a disconnect is coming
+open_is_matched : {P M : Type 0} (m : Peers P M) (w : World P M) → IsSound m w → OpenIsMatched m w
+open_is_matched m w good s r c o =
+    let g = side_sound m s w good in
+    let own = m.node_of (peer_at s w) in
+    let tie = (opens_on own r c g.own_shaped o).tie in
+    let at = held_there s own (m.node_of (peer_at (flip s) w)) w.links c g (open_held (tie_of own c) tie) in
+    let l = at.0 in
+    let st = standing_at m s w c l in
+    let here = is_when (is_open_tie st.own_tie) _ (conclusion 2 (opens s l.opener) st (g.each c l at.1)) tie in
+    let parts = and_parts (is_up st.phase) (is_open_end st.other || is_coming st.in_mark) here in
+    record {
+      link = l;
+      there = at.1;
+      up = up_is l.phase parts.0;
+      matched = elim (or_cases (is_open_end st.other) (is_coming st.in_mark) parts.1) [
+        | inl e ↦ inl (open_is st.other e)
+        | inr e ↦ inr (coming_is st.in_mark e)
+      ];
+    }
+
+-- the other side holds it, or a disconnect is coming
+other_holds : {P M : Type 0} (m : Peers P M) (w : World P M) → IsSound m w → (s : Side) (r : Role) (c : ℕ) →
+    IsOpenOn (m.node_of (peer_at s w)) r c →
+    (is_held (tie_of (m.node_of (peer_at (flip s) w)) c) ≡ true) ⊎ IsComing w c s
+other_holds m w good s r c o =
+    let match = open_is_matched m w good s r c o in
+    let l = match.link in
+    let st = standing_at m s w c l in
+    elim match.matched [
+      | inl e ↦ inl (is_when (is_open_end st.other && is_up st.phase) _
+          (conclusion 4 (opens s l.opener) st ((side_sound m s w good).each c l match.there))
+          (and_from (is_open_end st.other) (is_up st.phase) (is_open_at st.other e) (is_up_at l.phase match.up)))
+      | inr e ↦ inr (record { link = l; there = match.there; coming = e })
+    ]
+
+roles_apart : (r r' : Role) (a b : Bool) → a ≡ is_same_role r Accepted → b ≡ is_same_role r' Accepted →
+    not (same_bool a b) ≡ true → is_same_role r r' ≡ false
+roles_apart Initiated Accepted a b p q h = refl
+roles_apart Accepted Initiated a b p q h = refl
+roles_apart Initiated Initiated a b p q h =
+    cc (subst (λ x. not (same_bool x (is_same_role Initiated Accepted)) ≡ true) p
+    (subst (λ y. not (same_bool a y) ≡ true) q h))
+roles_apart Accepted Accepted a b p q h =
+    cc (subst (λ x. not (same_bool x (is_same_role Accepted Accepted)) ≡ true) p
+    (subst (λ y. not (same_bool a y) ≡ true) q h))
+
+opposite : {P M : Type 0} (m : Peers P M) (w : World P M) → IsSound m w → (r r' : Role) (c : ℕ) →
+    IsOpenOn (m.node_of w.a) r c → IsOpenOn (m.node_of w.b) r' c → is_same_role r r' ≡ false
+opposite m w good r r' c o o' =
+    let mine = opens_on (m.node_of w.a) r c good.own_shaped o in
+    let other = opens_on (m.node_of w.b) r' c good.other_shaped o' in
+    let match = open_is_matched m w good A r c o in
+    let st = standing_at m A w c match.link in
+    let here = is_when (is_held st.own_tie && is_held st.other_tie) _
+    (conclusion 3 (opens A match.link.opener) st (good.each c match.link match.there))
+    (and_from (is_held st.own_tie) (is_held st.other_tie) (open_held st.own_tie mine.tie)
+    (open_held st.other_tie other.tie)) in
+    roles_apart r r' (is_taken st.own_tie) (is_taken st.other_tie) mine.role other.role here
+
+agreed : {P M : Type 0} (m : Peers P M) (w : World P M) → IsSound m w → Agreed m w
+agreed m w good =
+    record {
+      one_a = λ r r' c d o o'.
+          (opens_on (m.node_of w.a) r c good.own_shaped o).only d
+          (open_held (tie_of (m.node_of w.a) d) (opens_on (m.node_of w.a) r' d good.own_shaped o').tie);
+      one_b = λ r r' c d o o'.
+          (opens_on (m.node_of w.b) r c good.other_shaped o).only d
+          (open_held (tie_of (m.node_of w.b) d) (opens_on (m.node_of w.b) r' d good.other_shaped o').tie);
+      both = λ r r' c d o o'.
+          elim (cases_eq c d) [
+            | inl same ↦ inl (record {
+              same = same;
+              opposite = opposite m w good r r' c o
+                  (subst (λ n. IsOpenOn (m.node_of w.b) r' n) (sym same) o');
+            })
+            | inr apart ↦ inr (record {
+              apart = apart;
+              to_a = elim (other_holds m w good A r c o) [
+                | inl held ↦ absurd (apart (sym ((opens_on (m.node_of w.b) r' d good.other_shaped o').only c held)))
+                | inr coming ↦ coming
+              ];
+              to_b = elim (other_holds m w good B r' d o') [
+                | inl held ↦ absurd (apart ((opens_on (m.node_of w.a) r c good.own_shaped o).only d held))
+                | inr coming ↦ coming
+              ];
+            })
+          ];
+    }
+
+pub promised : {P M : Type 0} (m : Peers P M) (w : World P M) → IsSound m w → Promised m w
+promised m w good =
+    record {
+      agreed = agreed m w good;
+      ends_are_held = ends_are_held m w good;
+      held_are_links =
+          held_are_links m w good;
+      open_is_matched = open_is_matched m w good;
+    }
+
+-- runs
+ran_sound : {P M : Type 0} (m : Peers P M) (r : Ran P M) (o : After P M) → IsSound m (world_after r.world o) →
+    IfSome (ran_on r o) (λ r. IsSound m r.world)
+ran_sound m r (Done next put) good = good
+ran_sound m r Ignored good = good
+ran_sound m r NoLink good = tt
+
+pub run_sound : {P M : Type 0} (m : Peers P M) → MachineLaws → IsMachine m →
+    (o : Option (Ran P M)) (hs : List (Happening M)) → IfSome o (λ r. IsSound m r.world) →
+    IfSome (run_from m o hs) (λ r. IsSound m r.world)
+run_sound m laws is None hs good = tt
+run_sound m laws is (Some r) [] good = good
+run_sound m laws is (Some r) (h ∷ hs) good =
+    run_sound m laws is (ran_on r (happens m r.world h)) hs
+    (ran_sound m r (happens m r.world h) (happens_sound m laws is r.world h good))
+
+pub run_promised : {P M : Type 0} (m : Peers P M) → MachineLaws → IsMachine m →
+    (w : World P M) (hs : List (Happening M)) → IsSound m w → IfSome (run m w hs) (λ r. Promised m r.world)
+run_promised m laws is w hs good =
+    IfSome_then (run m w hs) (run_sound m laws is (Some (record { world = w; put = [] })) hs good)
+    (λ r sound. promised m r.world sound)

@@ -1,0 +1,273 @@
+-- Each happening of a clean run leads from phase to phase, and so does a run.
+use Rattle.std.proofs.Common.{◌≡◌, ℕ, ◌+◌, ◌==◌, true, false, if◌then◌else◌, Option, Some, None, IfSome, List, [], ◌∷◌, ◌++◌, slice_get, refl, sym, ap, subst, ◌∙◌, arith, append-nil, append_assoc, ◌⊎◌, inl, inr, ◌≤◌}
+use Rattle.std.specs.Prelude.{option_map}
+use Rattle.std.proofs.lemmas.Bool.{cases_Bool, and_parts, eqb-true}
+use Rattle.dm_links.specs.Machine.{conn}
+use Rattle.dm_links.specs.Links.{Side, A, B, Link}
+use Rattle.dm_links.specs.Peers.{Ack, Peers}
+use Rattle.dm_links.specs.Worlds.{World, Put, After, Ignored, told}
+use Rattle.dm_links.specs.Happens.{Happening, Starts, Stops, TimesOut, Ticks, Restarts, Acks, Nacks, Delivers, Pieces, Loses, Submits, next_in, delivered, pieced, if_up, if_pending, at_link, own_view, happens, world_after, Ran, ran_on, run_from}
+use Rattle.dm_links.specs.Quiet.{is_quiet_link, is_clean_one, is_clean, makes, made, cost, steps_of, steps}
+use Rattle.dm_links.specs.Electing.{Talks, IsElecting}
+use Rattle.dm_links.specs.Settled.{Tally, nothing, cer, cea, disconnect}
+use Rattle.dm_links.proofs.Pairs.{IsPair, ab, ba, swapped, mirror}
+use Rattle.dm_links.proofs.Acting.{own_at}
+use Rattle.dm_links.proofs.Phases.{Phase, stage_g, stage_l, cers, ceas, ends, depth, present, InPhase, Went, stays, is_lost, moves}
+use Rattle.dm_links.proofs.Phasing.{acked_own, arrives_own, arrives_other, pieces_own, pieces_other, flip_in}
+use Rattle.dm_links.proofs.Table.{ack_g, ack_l, arrive_gg, arrive_gl, arrive_ll, arrive_lg, start_g, start_l}
+use Rattle.dm_links.proofs.Pieces.{lighter, take_gg, take_gl, take_ll, take_lg, pieces_went, quiet_ack, quiet_arrives, quiet_pieces}
+
+pub either_side : (g l : Side) → IsPair g l → (s : Side) → (s ≡ g) ⊎ (s ≡ l)
+either_side g l ab A = inl refl
+either_side g l ab B = inr refl
+either_side g l ba A = inr refl
+either_side g l ba B = inl refl
+
+-- what the link of a number is, as a happening asks
+abbrev ack_of : {P M : Type 0} → Peers P M → ℕ → World P M → Link M → After P M
+ack_of m c w l = if_pending l.phase (told m l.opener (Ack (conn c)) w) Ignored
+
+abbrev delivery_of : {P M : Type 0} → Peers P M → ℕ → Side → World P M → Link M → After P M
+delivery_of m c s w l = let v = own_view s l in if_up l.phase
+    (delivered m c s v.own (next_in v.incoming.messages v.incoming.mark) w) Ignored
+
+abbrev piece_of : {P M : Type 0} → Peers P M → ℕ → Side → ℕ → World P M → Link M → After P M
+piece_of m c s n w l =
+    let v = own_view s l in if_up l.phase
+    (if n == 0 then Ignored else pieced m c s n v.own v.incoming.taken
+    (next_in v.incoming.messages v.incoming.mark) w) Ignored
+
+module _ {P M C H : Type 0} (m : Peers P M) (t : Talks P M C H) where
+  abbrev WentAt : (g l : Side) (k : Phase) (x y b : ℕ) → After P M → Type 0
+  WentAt g l k x y b after = Went m t g l k x y b after [] []
+
+  -- the link that is named: one of the two, another, or none
+  other_link : (b : ℕ) (g l : Side) (w : World P M) (k : Phase) (x y : ℕ) → InPhase m t g l w k x y →
+      (f : Link M → After P M) → ((q : Link M) → is_quiet_link q ≡ true → WentAt g l k x y b (f q)) →
+      (c : ℕ) (o : Option (Link M)) → slice_get w.links c ≡ o → (x == c) ≡ false → (y == c) ≡ false →
+      WentAt g l k x y b (at_link o f)
+  other_link b g l w k x y q f quiet c None e hx hy = is_lost
+  other_link b g l w k x y q f quiet c (Some z) e hx hy = quiet z (q.at.others c z e hx hy)
+
+  which_link : (b : ℕ) (g l : Side) (w : World P M) (k : Phase) (x y : ℕ) → InPhase m t g l w k x y →
+      (f : ℕ → Link M → After P M) → ((c : ℕ) (q : Link M) → is_quiet_link q ≡ true → WentAt g l k x y b (f c q)) →
+      WentAt g l k x y b (at_link (slice_get w.links x) (f x)) →
+      WentAt g l k x y b (at_link (slice_get w.links y) (f y)) → (c : ℕ) →
+      WentAt g l k x y b (at_link (slice_get w.links c) (f c))
+  which_link b g l w k x y q f quiet at_x at_y c =
+      elim (cases_Bool (x == c)) [
+        | inl hx ↦ subst (λ d. WentAt g l k x y b (at_link (slice_get w.links d) (f d))) (eqb-true x c hx) at_x
+        | inr hx ↦ elim (cases_Bool (y == c)) [
+          | inl hy ↦ subst (λ d. WentAt g l k x y b (at_link (slice_get w.links d) (f d))) (eqb-true y c hy) at_y
+          | inr hy ↦ other_link b g l w k x y q (f c) (quiet c) c (slice_get w.links c) refl hx hy
+        ]
+      ]
+
+  ack_went : IsElecting m t → (g l : Side) → IsPair g l → t.wins g ≡ true → t.wins l ≡ false →
+      (w : World P M) (k : Phase) (x y : ℕ) → InPhase m t g l w k x y → (c : ℕ) →
+      WentAt g l k x y 1 (happens m w (Acks c))
+  ack_went el g l pair wins loses w k x y q c =
+      let f = flip_in m t g l w k x y q in
+      which_link 1 g l w k x y q (λ d. ack_of m d w)
+      (λ d z h. quiet_ack m t g l k x y z (told m z.opener (Ack (conn d)) w) h)
+      (subst (λ a. WentAt g l k x y 1 a)
+      (sym (ap (λ o. at_link o (ack_of m x w)) q.at.at_x
+      ∙ acked_own m g x w (own_at m t g l (stage_g k) q.h q.i q.j)))
+      (ack_g m t el g l pair wins loses w k x y q))
+      (subst (λ a. WentAt g l k x y 1 a)
+      (sym (ap (λ o. at_link o (ack_of m y w)) f.at_x
+      ∙ acked_own m l y w (own_at m t l g (stage_l k) q.h' q.i' q.j')))
+      (ack_l m t el g l pair wins loses w k x y q))
+      c
+
+  delivery_g : IsElecting m t → (g l : Side) → IsPair g l → t.wins g ≡ true → t.wins l ≡ false →
+      (w : World P M) (k : Phase) (x y : ℕ) → InPhase m t g l w k x y → (c : ℕ) →
+      WentAt g l k x y 1 (happens m w (Delivers c g))
+  delivery_g el g l pair wins loses w k x y q c =
+      which_link 1 g l w k x y q (λ d. delivery_of m d g w) (λ d z h. quiet_arrives m t g l k x y g d w z h)
+      (subst (λ a. WentAt g l k x y 1 a)
+      (sym (ap (λ o. at_link o (delivery_of m x g w)) q.at.at_x
+      ∙ arrives_own m g l pair x w (own_at m t g l (stage_g k) q.h q.i q.j)))
+      (arrive_gg m t el g l pair wins loses w k x y q))
+      (subst (λ a. WentAt g l k x y 1 a)
+      (sym (ap (λ o. at_link o (delivery_of m y g w)) q.at.at_y
+      ∙ arrives_other m g l pair y w (option_map mirror (own_at m t l g (stage_l k) q.h' q.i' q.j'))))
+      (arrive_lg m t el g l pair wins loses w k x y q))
+      c
+
+  delivery_l : IsElecting m t → (g l : Side) → IsPair g l → t.wins g ≡ true → t.wins l ≡ false →
+      (w : World P M) (k : Phase) (x y : ℕ) → InPhase m t g l w k x y → (c : ℕ) →
+      WentAt g l k x y 1 (happens m w (Delivers c l))
+  delivery_l el g l pair wins loses w k x y q c =
+      let f = flip_in m t g l w k x y q in
+      which_link 1 g l w k x y q (λ d. delivery_of m d l w) (λ d z h. quiet_arrives m t g l k x y l d w z h)
+      (subst (λ a. WentAt g l k x y 1 a)
+      (sym (ap (λ o. at_link o (delivery_of m x l w)) f.at_y
+      ∙ arrives_other m l g (swapped pair) x w (option_map mirror (own_at m t g l (stage_g k) q.h q.i q.j))))
+      (arrive_gl m t el g l pair wins loses w k x y q))
+      (subst (λ a. WentAt g l k x y 1 a)
+      (sym (ap (λ o. at_link o (delivery_of m y l w)) f.at_x
+      ∙ arrives_own m l g (swapped pair) y w (own_at m t l g (stage_l k) q.h' q.i' q.j')))
+      (arrive_ll m t el g l pair wins loses w k x y q))
+      c
+
+  piece_g : IsElecting m t → (g l : Side) → IsPair g l → t.wins g ≡ true → t.wins l ≡ false →
+      (w : World P M) (k : Phase) (x y : ℕ) → InPhase m t g l w k x y → (c n : ℕ) →
+      WentAt g l k x y 0 (happens m w (Pieces c g n))
+  piece_g el g l pair wins loses w k x y q c n =
+      let u = own_at m t g l (stage_g k) q.h q.i q.j in
+      let v = option_map mirror (own_at m t l g (stage_l k) q.h' q.i' q.j') in
+      which_link 0 g l w k x y q (λ d. piece_of m d g n w) (λ d z h. quiet_pieces m t g l k x y g d n w z h)
+      (subst (λ a. WentAt g l k x y 0 a)
+      (sym (ap (λ o. at_link o (piece_of m x g n w)) q.at.at_x ∙ pieces_own m g l pair x n w u))
+      (pieces_went m t g l k x y g x n w u (take_gg m t g l pair w k x y n q)
+      (lighter m t g l k x y _ [] [] (arrive_gg m t el g l pair wins loses w k x y q))))
+      (subst (λ a. WentAt g l k x y 0 a)
+      (sym (ap (λ o. at_link o (piece_of m y g n w)) q.at.at_y ∙ pieces_other m g l pair y n w v))
+      (pieces_went m t g l k x y g y n w v (take_lg m t g l pair w k x y n q)
+      (lighter m t g l k x y _ [] [] (arrive_lg m t el g l pair wins loses w k x y q))))
+      c
+
+  piece_l : IsElecting m t → (g l : Side) → IsPair g l → t.wins g ≡ true → t.wins l ≡ false →
+      (w : World P M) (k : Phase) (x y : ℕ) → InPhase m t g l w k x y → (c n : ℕ) →
+      WentAt g l k x y 0 (happens m w (Pieces c l n))
+  piece_l el g l pair wins loses w k x y q c n =
+      let f = flip_in m t g l w k x y q in
+      let u = option_map mirror (own_at m t g l (stage_g k) q.h q.i q.j) in
+      let v = own_at m t l g (stage_l k) q.h' q.i' q.j' in
+      which_link 0 g l w k x y q (λ d. piece_of m d l n w) (λ d z h. quiet_pieces m t g l k x y l d n w z h)
+      (subst (λ a. WentAt g l k x y 0 a)
+      (sym (ap (λ o. at_link o (piece_of m x l n w)) f.at_y ∙ pieces_other m l g (swapped pair) x n w u))
+      (pieces_went m t g l k x y l x n w u (take_gl m t g l (swapped pair) w k x y n q)
+      (lighter m t g l k x y _ [] [] (arrive_gl m t el g l pair wins loses w k x y q))))
+      (subst (λ a. WentAt g l k x y 0 a)
+      (sym (ap (λ o. at_link o (piece_of m y l n w)) f.at_x ∙ pieces_own m l g (swapped pair) y n w v))
+      (pieces_went m t g l k x y l y n w v (take_ll m t g l (swapped pair) w k x y n q)
+      (lighter m t g l k x y _ [] [] (arrive_ll m t el g l pair wins loses w k x y q))))
+      c
+
+  -- one happening
+  abbrev HappensTo : (g l : Side) (k : Phase) (x y : ℕ) (w : World P M) → Happening M → Type 0
+  HappensTo g l k x y w h = Went m t g l k x y (cost h) (happens m w h) (makes g w h (happens m w h))
+      (makes l w h (happens m w h))
+
+  at_side : (g l : Side) → IsPair g l → (k : Phase) (x y : ℕ) (w : World P M) (f : Side → Happening M) →
+      HappensTo g l k x y w (f g) → HappensTo g l k x y w (f l) → (s : Side) → HappensTo g l k x y w (f s)
+  at_side g l pair k x y w f at_g at_l s =
+      elim (either_side g l pair s) [
+        | inl e ↦ subst (λ z. HappensTo g l k x y w (f z)) (sym e) at_g
+        | inr e ↦ subst (λ z. HappensTo g l k x y w (f z)) (sym e) at_l
+      ]
+
+  happening_went : IsElecting m t → (g l : Side) → IsPair g l → t.wins g ≡ true → t.wins l ≡ false →
+      (w : World P M) (k : Phase) (x y : ℕ) → InPhase m t g l w k x y → (h : Happening M) → is_clean_one h ≡ true →
+      HappensTo g l k x y w h
+  happening_went el g l pair wins loses w k x y q (Starts s) c = at_side g l pair k x y w (λ z. Starts z)
+      (start_g m t el g l pair w k x y q) (start_l m t el g l pair w k x y q) s
+  happening_went el g l pair wins loses w k x y q (Acks d) c = ack_went el g l pair wins loses w k x y q d
+  happening_went el g l pair wins loses w k x y q (Delivers d s) c =
+      at_side g l pair k x y w (λ z. Delivers d z) (delivery_g el g l pair wins loses w k x y q d)
+      (delivery_l el g l pair wins loses w k x y q d) s
+  happening_went el g l pair wins loses w k x y q (Pieces d s n) c =
+      at_side g l pair k x y w (λ z. Pieces d z n) (piece_g el g l pair wins loses w k x y q d n)
+      (piece_l el g l pair wins loses w k x y q d n) s
+  happening_went el g l pair wins loses w k x y q (Stops s z) c = cc
+  happening_went el g l pair wins loses w k x y q (TimesOut s) c = cc
+  happening_went el g l pair wins loses w k x y q (Ticks s) c = cc
+  happening_went el g l pair wins loses w k x y q (Restarts s) c = cc
+  happening_went el g l pair wins loses w k x y q (Nacks d) c = cc
+  happening_went el g l pair wins loses w k x y q (Loses d i j) c = cc
+  happening_went el g l pair wins loses w k x y q (Submits s z) c = cc
+
+  -- what is put in, one after the other
+  tally_as : (ps : List (Put M)) (a b d a' b' d' : ℕ) → Tally t ps a b d → a ≡ a' → b ≡ b' → d ≡ d' →
+      Tally t ps a' b' d'
+  tally_as ps a b d a' b' d' h e1 e2 e3 = subst (λ n. Tally t ps n b' d') e1
+      (subst (λ n. Tally t ps a n d') e2 (subst (λ n. Tally t ps a b n) e3 h))
+
+  tally_append : (ps qs : List (Put M)) (a b d a' b' d' : ℕ) → Tally t ps a b d → Tally t qs a' b' d' →
+      Tally t (ps ++ qs) (a + a') (b + b') (d + d')
+  tally_append ps qs a b d a' b' d' nothing h = tally_as qs a' b' d' (0 + a') (0 + b') (0 + d') h (omega arith)
+      (omega arith) (omega arith)
+  tally_append ps qs a b d a' b' d' (cer c s n more i j k rest) h =
+      tally_as (ps ++ qs) (1 + (i + a')) (j + b') (k + d') (1 + i + a') (j + b') (k + d')
+      (cer c s n (more ++ qs) (i + a') (j + b') (k + d') (tally_append more qs i j k a' b' d' rest h))
+      (omega arith) refl refl
+  tally_append ps qs a b d a' b' d' (cea c s n more i j k rest) h =
+      tally_as (ps ++ qs) (i + a') (1 + (j + b')) (k + d') (i + a') (1 + j + b') (k + d')
+      (cea c s n (more ++ qs) (i + a') (j + b') (k + d') (tally_append more qs i j k a' b' d' rest h)) refl
+      (omega arith) refl
+  tally_append ps qs a b d a' b' d' (disconnect c s more i j k rest) h =
+      tally_as (ps ++ qs) (i + a') (j + b') (1 + (k + d')) (i + a') (j + b') (1 + k + d')
+      (disconnect c s (more ++ qs) (i + a') (j + b') (k + d') (tally_append more qs i j k a' b' d' rest h))
+      refl refl (omega arith)
+
+  -- what a run has come to, with its steps and the links that it made
+  pub record Ended (g l : Side) (n : ℕ) (gs ls : List ℕ) (r : Ran P M) : Type 0 where
+    pub k : Phase
+    pub x : ℕ
+    pub y : ℕ
+    pub phase : InPhase m t g l r.world k x y
+    pub counted : Tally t r.put (cers k) (ceas k) (ends k)
+    pub reached : n ≤ depth k
+    pub made_g : gs ≡ present (stage_g k) x
+    pub made_l : ls ≡ present (stage_l k) y
+
+  abbrev RunsFrom : (g l : Side) → List (Happening M) → Type 0
+  RunsFrom g l hs =
+      (k : Phase) (x y n : ℕ) (r : Ran P M) → InPhase m t g l r.world k x y →
+      Tally t r.put (cers k) (ceas k) (ends k) → n ≤ depth k →
+      IfSome (run_from m (Some r) hs) (λ z. Ended g l (n + steps m r.world hs)
+      (present (stage_g k) x ++ made m g r.world hs) (present (stage_l k) y ++ made m l r.world hs) z)
+
+  went_on : (g l : Side) (h : Happening M) (hs : List (Happening M)) → RunsFrom g l hs → (k : Phase) (x y n : ℕ)
+      (r : Ran P M) → InPhase m t g l r.world k x y → Tally t r.put (cers k) (ceas k) (ends k) → n ≤ depth k →
+      (after : After P M) (gs ls : List ℕ) → Went m t g l k x y (cost h) after gs ls →
+      IfSome (run_from m (ran_on r after) hs) (λ z. Ended g l
+      (n + (steps_of h after + steps m (world_after r.world after) hs))
+      (present (stage_g k) x ++ (gs ++ made m g (world_after r.world after) hs))
+      (present (stage_l k) y ++ (ls ++ made m l (world_after r.world after) hs)) z)
+  went_on g l h hs ih k x y n r q tally low after gs ls stays =
+      let same : n + steps m r.world hs ≡ n + (0 + steps m r.world hs) = omega arith in
+      subst (λ (j : ℕ). IfSome (run_from m (Some r) hs) (λ z. Ended g l j
+      (present (stage_g k) x ++ made m g r.world hs) (present (stage_l k) y ++ made m l r.world hs) z)) same
+      (ih k x y n r q tally low)
+  went_on g l h hs ih k x y n r q tally low after gs ls is_lost = tt
+  went_on g l h hs ih k x y n r q tally low after gs ls
+      (moves w put gs0 ls0 k' x' y' a b d q' tally' e1 e2 e3 e0 e4 e5) =
+      let r' : Ran P M = record { world = w; put = r.put ++ put } in
+      let counted = tally_as (r.put ++ put) (cers k + a) (ceas k + b) (ends k + d) (cers k') (ceas k') (ends k')
+      (tally_append r.put put (cers k) (ceas k) (ends k) a b d tally tally') e1 e2 e3 in
+      let next = ih k' x' y' (n + cost h) r' q' counted (omega (arith, low, e0)) in
+      let same_g : present (stage_g k') x' ++ made m g w hs ≡ present (stage_g k) x ++ (gs0 ++ made m g w hs) =
+      ap (λ (ns : List ℕ). ns ++ made m g w hs) (sym e4)
+      ∙ append_assoc (present (stage_g k) x) gs0 (made m g w hs) in
+      let same_l : present (stage_l k') y' ++ made m l w hs ≡ present (stage_l k) y ++ (ls0 ++ made m l w hs) =
+      ap (λ (ns : List ℕ). ns ++ made m l w hs) (sym e5)
+      ∙ append_assoc (present (stage_l k) y) ls0 (made m l w hs) in
+      let same_n : n + cost h + steps m w hs ≡ n + (cost h + steps m w hs) = omega arith in
+      subst (λ (j : ℕ). IfSome (run_from m (Some r') hs) (λ z. Ended g l j
+      (present (stage_g k) x ++ (gs0 ++ made m g w hs)) (present (stage_l k) y ++ (ls0 ++ made m l w hs)) z)) same_n
+      (subst (λ (ns : List ℕ). IfSome (run_from m (Some r') hs) (λ z. Ended g l (n + cost h + steps m w hs)
+      (present (stage_g k) x ++ (gs0 ++ made m g w hs)) ns z)) same_l
+      (subst (λ (ns : List ℕ). IfSome (run_from m (Some r') hs) (λ z. Ended g l (n + cost h + steps m w hs) ns
+      (present (stage_l k') y' ++ made m l w hs) z)) same_g next))
+
+  pub runs : IsElecting m t → (g l : Side) → IsPair g l → t.wins g ≡ true → t.wins l ≡ false →
+      (hs : List (Happening M)) → is_clean hs ≡ true → RunsFrom g l hs
+  runs el g l pair wins loses [] clean k x y n r q tally low =
+      record {
+        k = k;
+        x = x;
+        y = y;
+        phase = q;
+        counted = tally;
+        reached = omega (arith, low);
+        made_g = append-nil (present (stage_g k) x);
+        made_l = append-nil (present (stage_l k) y);
+      }
+  runs el g l pair wins loses (h ∷ hs) clean k x y n r q tally low =
+      let parts = and_parts (is_clean_one h) (is_clean hs) clean in
+      went_on g l h hs (runs el g l pair wins loses hs parts.1) k x y n r q tally low (happens m r.world h)
+      (makes g r.world h (happens m r.world h)) (makes l r.world h (happens m r.world h))
+      (happening_went el g l pair wins loses r.world k x y q h parts.0)

@@ -1,0 +1,301 @@
+-- What a clean run comes to.
+use Rattle.std.proofs.Common.{◌≡◌, ℕ, zero, suc, ◌+◌, Bool, true, false, nat_le, Option, Some, None, IfSome, List, [], ◌∷◌, length, slice_get, refl, sym, ap, subst, ◌∙◌, arith, inl, inr, ◌≤◌, ◌⊎◌}
+use Rattle.std.specs.Prelude.{option_map}
+use Rattle.std.specs.List.{list_all}
+use Rattle.std.proofs.lemmas.Bool.{cases_Bool, and_parts, eqb-true, leb-true, ne_eqb, not-true, not-false}
+use Rattle.std.proofs.lemmas.Option.{IfSome_then}
+use Rattle.dm_machine.specs.declared.state_name.State.{State}
+use Rattle.dm_machine.specs.declared.state_name.State.TheVariants.{Closed}
+use Rattle.dm_machine.specs.Node.{is_held_in, is_count_of}
+use Rattle.dm_links.specs.Machine.{Conn, Role, Initiated, Accepted, Node, node_at, is_shaped, closed_node}
+use Rattle.dm_links.specs.Links.{Side, A, B, NoMark, Coming, Delivered, link_of}
+use Rattle.dm_links.specs.Peers.{Peers}
+use Rattle.dm_links.specs.Worlds.{World, peer_at}
+use Rattle.dm_links.specs.Happens.{Happening, Ran, run}
+use Rattle.dm_links.specs.Facts.{IsSound}
+use Rattle.dm_links.specs.Agreement.{IsOpenOn}
+use Rattle.dm_links.specs.Quiet.{is_quiet_link, is_quiet, is_clean, made, Kept, kept_of, kept, steps}
+use Rattle.dm_links.specs.Electing.{Talks, IsPeerOf, IsElecting}
+use Rattle.dm_links.specs.Settled.{Tally, nothing, disconnects, AreOpenOn, FellQuiet, Settled, IsAtRest}
+use Rattle.dm_links.proofs.Pairs.{IsPair, ab, ba, swapped, Stands}
+use Rattle.dm_links.proofs.Turns.{i_open, r_open}
+use Rattle.dm_links.proofs.Stages.{Stage, Unmade, Dialled, Asked, Accepted, Answered, Dropped, Halved, Parted}
+use Rattle.dm_links.proofs.Acting.{own_at}
+use Rattle.dm_links.proofs.Phases.{Phase, C1, C2, C3, C4, C5, C6, C7, C8, C9, C25, stage_g, stage_l, cers, ceas, ends, depth, present, InPhase}
+use Rattle.dm_links.proofs.Phasing.{flip_in}
+use Rattle.dm_links.proofs.Running.{Ended, runs}
+use Rattle.dm_links.proofs.Matching.{phase_matches}
+
+all_at : {X : Type 0} (f : X → Bool) (xs : List X) (d : ℕ) (x : X) → list_all f xs ≡ true →
+    slice_get xs d ≡ Some x → f x ≡ true
+all_at f [] d x h e = cc
+all_at f (z ∷ zs) zero x h e = subst (λ o. elim o [ None ↦ true | Some q ↦ f q ] ≡ true) e
+    (and_parts (f z) (list_all f zs) h).0
+all_at f (z ∷ zs) (suc d) x h e = all_at f zs d x (and_parts (f z) (list_all f zs) h).1 e
+
+past_end : {X : Type 0} (xs : List X) → slice_get xs (length xs) ≡ None
+past_end [] = refl
+past_end (x ∷ xs) = past_end xs
+
+past_more : {X : Type 0} (xs : List X) → slice_get xs (suc (length xs)) ≡ None
+past_more [] = refl
+past_more (x ∷ xs) = past_more xs
+
+-- a link on which nothing is under way
+abbrev still : Stage → Bool
+still Unmade = true
+still Accepted = true
+still (Parted Coming o) = false
+still (Parted i Coming) = false
+still (Parted i o) = true
+still _ = false
+
+-- the counts are bounded
+two_cers : (k : Phase) → nat_le (cers k) 2 ≡ true
+two_cers C1 = refl
+two_cers _ = refl
+
+one_cea : (k : Phase) → nat_le (ceas k) 1 ≡ true
+one_cea C1 = refl
+one_cea _ = refl
+
+two_ends : (k : Phase) → nat_le (ends k) 2 ≡ true
+two_ends C1 = refl
+two_ends _ = refl
+
+-- so many steps lead to a phase, and to one with the link of one side alone
+nine_depth : (k : Phase) → nat_le (depth k) 9 ≡ true
+nine_depth C1 = refl
+nine_depth _ = refl
+
+nine_by : (k : Phase) (n : ℕ) → 0 + n ≤ depth k → n ≤ 9
+nine_by k n h = let low = leb-true (depth k) 9 (nine_depth k) in omega (arith, h, low)
+
+alone_l : (k : Phase) (x : ℕ) → present (stage_g k) x ≡ [] → nat_le (depth k) 4 ≡ true
+alone_l C1 x h = refl
+alone_l C3 x h = refl
+alone_l C5 x h = refl
+alone_l C7 x h = refl
+alone_l C9 x h = refl
+alone_l _ x h = cc
+
+alone_g : (k : Phase) (y : ℕ) → present (stage_l k) y ≡ [] → nat_le (depth k) 4 ≡ true
+alone_g C1 y h = refl
+alone_g C2 y h = refl
+alone_g C4 y h = refl
+alone_g C6 y h = refl
+alone_g C8 y h = refl
+alone_g _ y h = cc
+
+four_low : (k : Phase) (n : ℕ) → nat_le (depth k) 4 ≡ true → 0 + n ≤ depth k → n ≤ 4
+four_low k n e h = let low = leb-true (depth k) 4 e in omega (arith, h, low)
+
+-- where a run may fall quiet
+data Rests : Phase → Type 0 where
+  idle : Rests C1
+  only_g : Rests C8
+  only_l : Rests C9
+  both : Rests C25
+
+rests : (k : Phase) → still (stage_g k) ≡ true → still (stage_l k) ≡ true → Rests k
+rests C1 p q = idle
+rests C8 p q = only_g
+rests C9 p q = only_l
+rests C25 p q = both
+rests _ p q = cc
+
+opens_as_i : (n : Node) (x : ℕ) → n ≡ i_open x → IsOpenOn n Initiated x
+opens_as_i n x e = subst (λ k. IsOpenOn k Initiated x) (sym e) (record { is_open = refl; holds = refl })
+
+opens_as_r : (n : Node) (x : ℕ) → n ≡ r_open x → IsOpenOn n Accepted x
+opens_as_r n x e = subst (λ k. IsOpenOn k Accepted x) (sym e) (record { is_open = refl; holds = refl })
+
+-- a Closed node has no connections
+no_count : (held : List (Role × Conn)) (n : ℕ) → is_count_of Closed n ≡ true → node_at Closed [] n ≡ closed_node
+no_count held n h = ap (λ (k : ℕ). node_at Closed [] k) (eqb-true n 0 h)
+
+bare_at : (s : State) (held : List (Role × Conn)) (n : ℕ) → is_held_in s held ≡ true → is_count_of s n ≡ true →
+    s ≡ Closed → node_at s held n ≡ closed_node
+bare_at Closed [] n h c e = no_count [] n c
+bare_at Closed (p ∷ ps) n h c e = cc
+bare_at _ held n h c e = cc
+
+bare : (n : Node) → is_shaped n ≡ true → n.state ≡ Closed → n ≡ closed_node
+bare n h e =
+    let parts = and_parts (is_held_in n.state n.held) (is_count_of n.state n.count) h in
+    bare_at n.state n.held n.count parts.0 parts.1 e
+
+module _ {P M C H : Type 0} (m : Peers P M) (t : Talks P M C H) where
+  quiet_at : (s o : Side) (w : World P M) (d : ℕ) (st : Stage) (h i j : ℕ) → is_quiet w ≡ true →
+      slice_get w.links d ≡ option_map (link_of true s) (own_at m t s o st h i j) → still st ≡ true
+  quiet_at s o w d Unmade h i j q e = refl
+  quiet_at s o w d Dialled h i j q e = all_at (λ l. is_quiet_link l) w.links d _ q e
+  quiet_at s o w d Asked h i j q e = all_at (λ l. is_quiet_link l) w.links d _ q e
+  quiet_at s o w d Accepted h i j q e = refl
+  quiet_at s o w d Answered h i j q e = all_at (λ l. is_quiet_link l) w.links d _ q e
+  quiet_at s o w d Dropped h i j q e = all_at (λ l. is_quiet_link l) w.links d _ q e
+  quiet_at s o w d Halved h i j q e = all_at (λ l. is_quiet_link l) w.links d _ q e
+  quiet_at s o w d (Parted Coming b) h i j q e = all_at (λ l. is_quiet_link l) w.links d _ q e
+  quiet_at s o w d (Parted NoMark Coming) h i j q e = all_at (λ l. is_quiet_link l) w.links d _ q e
+  quiet_at s o w d (Parted Delivered Coming) h i j q e = all_at (λ l. is_quiet_link l) w.links d _ q e
+  quiet_at s o w d (Parted NoMark NoMark) h i j q e = refl
+  quiet_at s o w d (Parted NoMark Delivered) h i j q e = refl
+  quiet_at s o w d (Parted Delivered NoMark) h i j q e = refl
+  quiet_at s o w d (Parted Delivered Delivered) h i j q e = refl
+
+  are_open : (g l : Side) → IsPair g l → (w : World P M) (x : ℕ) → m.node_of (peer_at g w) ≡ i_open x →
+      m.node_of (peer_at l w) ≡ r_open x → AreOpenOn m w (record { opener = g; link = x })
+  are_open g l ab w x e e' =
+      record {
+        opener = opens_as_i (m.node_of (peer_at g w)) x e;
+        other = opens_as_r
+            (m.node_of (peer_at l w)) x e';
+      }
+  are_open g l ba w x e e' =
+      record {
+        opener = opens_as_i (m.node_of (peer_at g w)) x e;
+        other = opens_as_r
+            (m.node_of (peer_at l w)) x e';
+      }
+
+  -- the link that is kept, by who wins
+  kept_by : (g l : Side) → IsPair g l → t.wins g ≡ true → t.wins l ≡ false →
+      (w : World P M) (hs : List (Happening M)) →
+      kept m t.wins w hs ≡ kept_of l (made m l w hs) (kept_of g (made m g w hs) None)
+  kept_by g l ab wins loses w hs = rw wins refl
+  kept_by g l ba wins loses w hs = rw loses refl
+
+  -- the counts by sides
+  abbrev CountedBy : Ran P M → List ℕ → List ℕ → Type 0
+  CountedBy r gs ls = Tally t r.put (length gs + length ls) 1 (disconnects gs ls)
+
+  by_sides : (g l : Side) → IsPair g l → (w : World P M) (hs : List (Happening M)) (r : Ran P M) (gs ls : List ℕ) →
+      made m g w hs ≡ gs → made m l w hs ≡ ls → CountedBy r gs ls → CountedBy r ls gs →
+      CountedBy r (made m A w hs) (made m B w hs)
+  by_sides g l ab w hs r gs ls e e' c c' = subst (λ ns. CountedBy r ns (made m B w hs)) (sym e)
+      (subst (λ ns. CountedBy r gs ns) (sym e') c)
+  by_sides g l ba w hs r gs ls e e' c c' = subst (λ ns. CountedBy r ns (made m B w hs)) (sym e')
+      (subst (λ ns. CountedBy r ls ns) (sym e) c')
+
+  abbrev QuietlyEnds : (w : World P M) (hs : List (Happening M)) (r : Ran P M) → Option Kept → Type 0
+  QuietlyEnds w hs r o = IfSome o (λ k. FellQuiet m t w hs r k)
+
+  fell : (g l : Side) → IsPair g l →
+      (w : World P M) (hs : List (Happening M)) (r : Ran P M) (k : Phase) (x y : ℕ) → Rests k →
+      InPhase m t g l r.world k x y → Tally t r.put (cers k) (ceas k) (ends k) →
+      made m g w hs ≡ present (stage_g k) x → made m l w hs ≡ present (stage_l k) y →
+      QuietlyEnds w hs r (kept_of l (present (stage_l k) y) (kept_of g (present (stage_g k) x) None))
+  fell g l pair w hs r k x y idle q tally e e' = tt
+  fell g l pair w hs r k x y only_g q tally e e' =
+      record {
+        opened = are_open g l pair r.world x q.at.own.node q.at.other.node;
+        counted =
+            by_sides g l pair w hs r (x ∷ []) [] e e' tally tally;
+      }
+  fell g l pair w hs r k x y only_l q tally e e' =
+      record {
+        opened = are_open l g (swapped pair) r.world y q.at.other.node q.at.own.node;
+        counted =
+            by_sides g l pair w hs r [] (y ∷ []) e e' tally tally;
+      }
+  fell g l pair w hs r k x y both q tally e e' =
+      record {
+        opened = are_open l g (swapped pair) r.world y q.at.other.node q.at.own.node;
+        counted =
+            by_sides g l pair w hs r (x ∷ []) (y ∷ []) e e' tally tally;
+      }
+
+  by_pair : (g l : Side) → IsPair g l → (w : World P M) (hs : List (Happening M)) →
+      (made m A w hs ≡ []) ⊎ (made m B w hs ≡ []) → (made m g w hs ≡ []) ⊎ (made m l w hs ≡ [])
+  by_pair g l ab w hs h = h
+  by_pair g l ba w hs h = elim h [ inl e ↦ inr e | inr e ↦ inl e ]
+
+  four_by : (g l : Side) (w : World P M) (hs : List (Happening M)) (k : Phase) (x y : ℕ) →
+      made m g w hs ≡ present (stage_g k) x → made m l w hs ≡ present (stage_l k) y →
+      (made m g w hs ≡ []) ⊎ (made m l w hs ≡ []) → 0 + steps m w hs ≤ depth k → steps m w hs ≤ 4
+  four_by g l w hs k x y e e' alone h =
+      elim alone [
+        | inl none ↦ four_low k (steps m w hs) (alone_l k x (sym e ∙ none)) h
+        | inr none ↦ four_low k (steps m w hs) (alone_g k y (sym e' ∙ none)) h
+      ]
+
+  settled : (g l : Side) → IsPair g l → t.wins g ≡ true → t.wins l ≡ false →
+      (w : World P M) (hs : List (Happening M)) (r : Ran P M) →
+      Ended m t g l (0 + steps m w hs) (made m g w hs) (made m l w hs) r →
+      Settled m t w hs r
+  settled g l pair wins loses w hs r z =
+      record {
+        put = record {
+          cers = cers z.k;
+          ceas = ceas z.k;
+          ends = ends z.k;
+          counted = z.counted;
+          two_cers = leb-true (cers z.k) 2 (two_cers z.k);
+          one_cea = leb-true (ceas z.k) 1 (one_cea z.k);
+          two_ends = leb-true (ends z.k) 2 (two_ends z.k);
+        };
+        quiet = λ quiet.
+            let q = z.phase in
+            let rest = rests z.k (quiet_at g l r.world z.x (stage_g z.k) q.h q.i q.j quiet q.at.at_x)
+            (quiet_at l g r.world z.y (stage_l z.k) q.h' q.i' q.j' quiet
+            (flip_in m t g l r.world z.k z.x z.y q).at_x) in
+            let here = fell g l pair w hs r z.k z.x z.y rest q z.counted z.made_g z.made_l in
+            let named : kept m t.wins w hs ≡ kept_of l (present (stage_l z.k) z.y)
+            (kept_of g (present (stage_g z.k) z.x) None) =
+            kept_by g l pair wins loses w hs
+            ∙ (ap (λ ns. kept_of l ns (kept_of g (made m g w hs) None)) z.made_l
+            ∙ ap (λ ns. kept_of l (present (stage_l z.k) z.y) (kept_of g ns None)) z.made_g) in
+            subst (λ o. QuietlyEnds w hs r o) (sym named) here;
+        matched = phase_matches m t g l pair r.world z.k z.x z.y z.phase;
+        nine = nine_by z.k (steps m w hs) z.reached;
+        four = λ alone. four_by g l w hs z.k z.x z.y z.made_g z.made_l (by_pair g l pair w hs alone) z.reached;
+      }
+
+  -- how it begins
+  at_rest : IsElecting m t → (s : Side) (p : P) (h' : ℕ) → IsPeerOf t s p → m.node_of p ≡ closed_node →
+      Stands m t s p closed_node (t.next_of p) h'
+  at_rest el s p h' is closed =
+      record { peer = is; node = closed; awaits = λ b. cc; waits = λ b. cc; number = el.numbers p is.stands }
+
+  begins : IsElecting m t → (g l : Side) (w : World P M) → IsPeerOf t g (peer_at g w) →
+      IsPeerOf t l (peer_at l w) → m.node_of (peer_at g w) ≡ closed_node → m.node_of (peer_at l w) ≡ closed_node →
+      is_quiet w ≡ true →
+      InPhase m t g l w C1 (length w.links) (suc (length w.links))
+  begins el g l w is is' closed closed' quiet =
+      record {
+        h = t.next_of (peer_at g w);
+        h' = t.next_of (peer_at l w);
+        i = 0;
+        j = 0;
+        i' = 0;
+        j' = 0;
+        at = record {
+          own = at_rest el g (peer_at g w) (t.next_of (peer_at l w)) is closed;
+          other = at_rest el l (peer_at l w) (t.next_of (peer_at g w)) is' closed';
+          at_x = past_end w.links;
+          at_y = past_more w.links;
+          apart = ne_eqb _ _ (λ e. absurd (omega (arith, e)));
+          others = λ d q at hx hy. all_at (λ z. is_quiet_link z) w.links d q quiet at;
+        };
+      }
+
+  run_settles : IsElecting m t → (g l : Side) → IsPair g l → t.wins g ≡ true → t.wins l ≡ false → (w : World P M) →
+      InPhase m t g l w C1 (length w.links) (suc (length w.links)) → (hs : List (Happening M)) →
+      is_clean hs ≡ true →
+      IfSome (run m w hs) (λ r. Settled m t w hs r)
+  run_settles el g l pair wins loses w q hs clean =
+      IfSome_then (run m w hs)
+      (runs m t el g l pair wins loses hs clean C1 (length w.links) (suc (length w.links)) 0
+      (record { world = w; put = [] }) q nothing (omega arith)) (λ r z. settled g l pair wins loses w hs r z)
+
+  pub each_settles : IsElecting m t → (w : World P M) → IsSound m w → IsAtRest m t w → (hs : List (Happening M)) →
+      is_clean hs ≡ true → IfSome (run m w hs) (λ r. Settled m t w hs r)
+  each_settles el w good c hs clean =
+      let a = bare (m.node_of w.a) good.own_shaped c.closed_a in
+      let b = bare (m.node_of w.b) good.other_shaped c.closed_b in
+      elim (cases_Bool (t.wins A)) [
+        | inl wins ↦ run_settles el A B ab wins (not-true (t.wins B) (sym el.one_wins ∙ wins)) w
+            (begins el A B w c.a c.b a b c.quiet) hs clean
+        | inr loses ↦ run_settles el B A ba (not-false (t.wins B) (sym el.one_wins ∙ loses)) loses w
+            (begins el B A w c.b c.a b a c.quiet) hs clean
+      ]

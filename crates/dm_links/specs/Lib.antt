@@ -1,0 +1,16 @@
+pub mod Machine
+pub mod Links
+pub mod Peers
+pub mod Steps
+pub mod Worlds
+pub mod Happens
+pub mod Follows
+pub mod Facts
+pub mod Agreement
+pub mod Laws
+pub mod Kinds
+pub mod Quiet
+pub mod Electing
+pub mod Settled
+pub mod Talkers
+pub mod Streams

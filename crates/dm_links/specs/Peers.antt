@@ -1,0 +1,84 @@
+-- A peer in a world: whatever answers an event with actions. Its state is of any type P, its messages of any type M.
+use Rattle.std.specs.Prelude.{ℕ, Bool, false, ◌||◌, ◌==◌, List, [], ◌∷◌}
+use Rattle.dm_links.specs.Machine.{Conn, Command, Node, Concern, Elsewhere, StartsIt, AcksIt, NacksIt, EndsIt, HeardOnIt, if_named}
+use Rattle.dm_machine.specs.declared.outputs.Command.TheVariants as command
+
+-- why a peer is told to disconnect [5.4.3]
+pub data Cause : Type 0 where
+  Rebooting : Cause
+  Busy : Cause
+  DoNotWantToTalkToYou : Cause
+
+pub data Event (M : Type 0) : Type 0 where
+  Start : Conn → Event M
+  Stop : Cause → Event M
+  Timeout : Event M
+  Tick : Event M
+  Ack : Conn → Event M
+  Nack : Conn → Event M
+  Gone : Conn → Event M
+  Submit : M → Event M
+  Arrived : Conn → M → Event M
+
+pub data Action (M : Type 0) : Type 0 where
+  Connect : Conn → Action M
+  Send : Conn → M → Action M
+  Close : Conn → Action M
+  Up : M → Action M
+
+pub data Reply (P M : Type 0) : Type 0 where
+  Acts : List (Action M) → P → Reply P M
+  Declines : Reply P M
+
+-- the node that a peer is in, its reply to an event, its state after a restart, and how many octets a message has
+pub record Peers (P M : Type 0) : Type 0 where
+  pub node_of : P → Node
+  pub reply : P → Event M → Reply P M
+  pub reset : P → P
+  pub size : M → ℕ
+
+-- how an event concerns a connection
+abbrev pub concern_by : {M : Type 0} → Event M → Conn → Concern
+concern_by (Start d) c = if_named d c StartsIt
+concern_by (Ack d) c = if_named d c AcksIt
+concern_by (Nack d) c = if_named d c NacksIt
+concern_by (Gone d) c = if_named d c EndsIt
+concern_by (Arrived d m) c = if_named d c HeardOnIt
+concern_by _ c = Elsewhere
+
+-- an action, or a command of the machine, but for what is said
+pub data Order : Type 0 where
+  Connects : Conn → Order
+  Sends : Conn → Order
+  Closes : Conn → Order
+  HandsUp : Order
+
+abbrev pub order_of : {M : Type 0} → Action M → Order
+order_of (Connect c) = Connects c
+order_of (Send c m) = Sends c
+order_of (Close c) = Closes c
+order_of (Up m) = HandsUp
+
+abbrev pub order_of_command : Command → Order
+order_of_command (command.Connect c) = Connects c
+order_of_command (command.SendCer c) = Sends c
+order_of_command (command.SendCea c) = Sends c
+order_of_command (command.SendRefusal c) = Sends c
+order_of_command (command.SendDwr c) = Sends c
+order_of_command (command.SendDwa c) = Sends c
+order_of_command (command.SendDpr c) = Sends c
+order_of_command (command.SendDpa c) = Sends c
+order_of_command (command.SendSubmit c) = Sends c
+order_of_command (command.Close c) = Closes c
+order_of_command command.Up = HandsUp
+
+-- whether one of the orders closes a link, or sends on it
+abbrev pub closes_at : ℕ → List Order → Bool
+closes_at d [] = false
+closes_at d (Closes c ∷ os) = (c.0 == d) || closes_at d os
+closes_at d (_ ∷ os) = closes_at d os
+
+abbrev pub sends_at : ℕ → List Order → Bool
+sends_at d [] = false
+sends_at d (Sends c ∷ os) = (c.0 == d) || sends_at d os
+sends_at d (_ ∷ os) = sends_at d os

@@ -1,0 +1,68 @@
+-- When nothing is under way, runs without losses, and the connection that is kept.
+use Rattle.std.specs.Prelude.{ℕ, ◌+◌, Bool, true, false, ◌&&◌, if◌then◌else◌, Option, Some, None, List, [], ◌∷◌, ◌++◌, length}
+use Rattle.std.specs.List.{list_all}
+use Rattle.dm_links.specs.Links.{Side, A, B, opens, Pending, Coming, Direction, Link}
+use Rattle.dm_links.specs.Peers.{Peers}
+use Rattle.dm_links.specs.Worlds.{World, After, Done}
+use Rattle.dm_links.specs.Happens.{Happening, Starts, Acks, Delivers, Pieces, happens, world_after}
+
+-- nothing is under way in a direction
+abbrev pub is_still : {M : Type 0} → Direction M → Bool
+is_still d = elim d.messages [ [] ↦ elim d.mark [ Coming ↦ false | _ ↦ true ] | x ∷ xs ↦ false ]
+
+abbrev pub is_quiet_link : {M : Type 0} → Link M → Bool
+is_quiet_link l = elim l.phase [ Pending ↦ false | _ ↦ is_still l.to_near && is_still l.to_far ]
+
+-- no link is pending, and no direction has a message or a disconnect that is coming
+abbrev pub is_quiet : {P M : Type 0} → World P M → Bool
+is_quiet w = list_all (λ l. is_quiet_link l) w.links
+
+-- only Starts, Acks and deliveries
+abbrev pub is_clean_one : {M : Type 0} → Happening M → Bool
+is_clean_one (Starts s) = true
+is_clean_one (Acks c) = true
+is_clean_one (Delivers c s) = true
+is_clean_one (Pieces c s k) = true
+is_clean_one _ = false
+
+abbrev pub is_clean : {M : Type 0} → List (Happening M) → Bool
+is_clean hs = list_all (λ h. is_clean_one h) hs
+
+-- the link that a happening makes, where it is a taken Start of the side
+abbrev pub makes : {P M : Type 0} → Side → World P M → Happening M → After P M → List ℕ
+makes s w (Starts t) (Done next put) = if opens s t then length w.links ∷ [] else []
+makes s w _ _ = []
+
+-- the links that the taken Starts of a side make in a run
+abbrev pub made : {P M : Type 0} → Peers P M → Side → World P M → List (Happening M) → List ℕ
+made m s w [] = []
+made m s w (h ∷ hs) = makes s w h (happens m w h) ++ made m s (world_after w (happens m w h)) hs
+
+-- how many happenings of a run aren't ignored, pieces not counted
+abbrev pub cost : {M : Type 0} → Happening M → ℕ
+cost (Pieces c s k) = 0
+cost _ = 1
+
+abbrev pub steps_of : {P M : Type 0} → Happening M → After P M → ℕ
+steps_of h (Done next put) = cost h
+steps_of h _ = 0
+
+abbrev pub steps : {P M : Type 0} → Peers P M → World P M → List (Happening M) → ℕ
+steps m w [] = 0
+steps m w (h ∷ hs) = steps_of h (happens m w h) + steps m (world_after w (happens m w h)) hs
+
+-- a link and its opener
+pub record Kept : Type 0 where
+  pub opener : Side
+  pub link : ℕ
+
+abbrev pub kept_of : Side → List ℕ → Option Kept → Option Kept
+kept_of s [] else_kept = else_kept
+kept_of s (c ∷ cs) else_kept = Some (record { opener = s; link = c })
+
+-- of the links that taken Starts make: the only one, or, where both sides made one, that of the side whose host comes
+-- first, which doesn't win the election [5.6.4]
+abbrev pub kept : {P M : Type 0} → Peers P M → (Side → Bool) → World P M → List (Happening M) → Option Kept
+kept m wins w hs =
+    if wins A then kept_of B (made m B w hs) (kept_of A (made m A w hs) None)
+    else kept_of A (made m A w hs) (kept_of B (made m B w hs) None)

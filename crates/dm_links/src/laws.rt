@@ -1,0 +1,80 @@
+//! The laws of two peers that move as the state machine: each is the contract of a function that does nothing but call other
+//! laws. They stand for the users of this crate.
+//!
+//! `P` is the state of a peer and `M` a message: a world of peers over octets takes its own types for them.
+ghost use Rattle.dm_links.specs.Kinds.{KindsAreAMachine, TwoRuns};
+ghost use Rattle.dm_links.specs.Laws.{ClosedIsSound, HappeningKeepsSound, SoundIsPromised, EachRunIsPromised};
+ghost use Rattle.dm_links.specs.Settled.{EachCleanRunSettles};
+ghost use Rattle.dm_links.specs.Streams.{HappeningKeepsCut, EachRunIsCut, EachPieceAddsUp, EachLossAddsUp};
+ghost use Rattle.dm_links.specs.Talkers.{TalkersAreElecting, TwoTalks};
+
+use dm_machine::laws::{each_connection_changes_as_allowed, each_step_keeps_shape};
+
+/// Two closed peers without links make a sound world.
+pub fn closed_is_sound<P, M>()
+    ensures { ClosedIsSound P M }
+{}
+
+/// Whatever happens keeps a world sound.
+pub fn each_happening_keeps_sound<P, M>()
+    ensures { HappeningKeepsSound P M }
+{
+    each_connection_changes_as_allowed();
+    each_step_keeps_shape();
+}
+
+/// In a sound world two peers agree, and what one holds the other holds, or is told of.
+pub fn sound_is_promised<P, M>()
+    ensures { SoundIsPromised P M }
+{}
+
+/// Two closed peers agree after every list of happenings.
+pub fn each_run_is_promised<P, M>()
+    ensures { EachRunIsPromised P M }
+{
+    closed_is_sound::<P, M>();
+    each_connection_changes_as_allowed();
+    each_step_keeps_shape();
+}
+
+/// A run without losses of two closed peers, from where nothing is under way, puts in at most two CERs, one CEA and two
+/// disconnects; where a Start is taken and it falls quiet, both are open on the connection that the election keeps.
+///
+/// `C` is what a peer is configured with, `H` the header of a message.
+pub fn each_clean_run_settles<P, M, C, H>()
+    ensures { EachCleanRunSettles P M C H }
+{}
+
+/// After every list of happenings fewer octets are delivered of a message than it has.
+pub fn each_run_is_cut<P, M>()
+    ensures step { HappeningKeepsCut P M }
+    ensures run { EachRunIsCut P M }
+{}
+
+/// It makes no difference how messages were cut: a piece that ends no message changes nothing but the octets delivered, one
+/// that ends its message is the delivery, and a loss is the one of whole messages.
+pub fn pieces_add_up<P, M>()
+    ensures pieces { EachPieceAddsUp P M }
+    ensures losses { EachLossAddsUp P M }
+{}
+
+/// The state machine itself, with a word for a message, makes peers as these laws ask for them.
+pub fn kinds_are_a_machine()
+    ensures { KindsAreAMachine }
+{}
+
+/// What the definitions say of two runs: one side starts, and it is the initiator; both start, and the connection that the greater
+/// host accepts is kept (RFC 6733, 5.6.4).
+pub fn two_runs()
+    ensures { TwoRuns }
+{}
+
+/// The state machine with numbers makes peers as the law of clean runs asks for them.
+pub fn talkers_are_electing()
+    ensures { TalkersAreElecting }
+{}
+
+/// What the definitions say of two clean runs: how many messages each costs, and which link is kept.
+pub fn two_talks()
+    ensures { TwoTalks }
+{}

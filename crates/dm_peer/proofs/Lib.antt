@@ -1,0 +1,8 @@
+mod Whole
+mod Entries
+mod Asking
+mod Following
+mod Silent
+mod Refusing
+mod Settling
+mod Exchange

@@ -1,0 +1,16 @@
+pub mod Defaults
+pub mod Events
+pub mod Faults
+pub mod Hosts
+pub mod Configs
+pub mod Octets
+pub mod Places
+pub mod Said
+pub mod Sent
+pub mod After
+pub mod Acts
+pub mod Silence
+pub mod Refusing
+pub mod Settled
+pub mod Steps
+pub mod Laws

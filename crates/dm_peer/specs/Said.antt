@@ -1,0 +1,86 @@
+-- What a message says to a peer: its word, and why it is refused (RFC 6733, 5.3 and 5.6).
+use Rattle.std.specs.Prelude.{ℕ, not, ◌&&◌, nat_eq, nat_le, Option, None, Some, option_map, List, Result, Ok, Err, if◌then◌else◌}
+use Rattle.dm_base.specs.Codes.{capabilities_exchange, device_watchdog}
+use Rattle.dm_wire.specs.declared.message.Header.{Header}
+use Rattle.dm_wire.specs.declared.message.Message.{Message}
+use Rattle.dm_dict.specs.Faults.{Fault}
+use Rattle.dm_dict.specs.Judgement.{shown}
+use Rattle.dm_base.specs.declared.kind.Caps.{Caps}
+use Rattle.dm_base.specs.declared.kind.Kind.{Kind}
+use Rattle.dm_base.specs.declared.kind.Kind.TheVariants as kinds
+use Rattle.dm_base.specs.Kinds.{kind}
+use Rattle.dm_base.specs.Common.{is_common, is_secure}
+use Rattle.dm_machine.specs.declared.inputs.Word.{Word}
+use Rattle.dm_machine.specs.declared.inputs.Word.TheVariants.{Unreadable, Cer, CerRefused, Cea, CeaFailed, Dwr, DwrBad, Dwa, DwaBad, Dpr, DprBad, Dpa, DpaBad, Other}
+use Rattle.dm_peer.specs.declared.config.Config.{Config}
+use Rattle.dm_peer.specs.declared.reading.HeardRef.{HeardRef}
+use Rattle.dm_peer.specs.Hosts.{is_same_host}
+use Rattle.dm_wire.specs.Whole.{message_in}
+
+-- a message that was read: its header, its word, and why it is refused, where it is
+pub record Heard : Type 0 where
+  pub header : Header
+  pub word : Word
+  pub failure : Option Fault
+
+-- what the code's parts of a message, which lie in its octets, stand for
+abbrev pub heard_of : HeardRef → Heard
+heard_of r = record { header = r.header; word = r.word; failure = shown r.judged }
+
+abbrev pub good : Header → Word → Heard
+good h word = record { header = h; word = word; failure = None }
+
+abbrev pub refused : Header → Word → Fault → Heard
+refused h word failure = record { header = h; word = word; failure = Some failure }
+
+-- a message that fails its check: of a CER or CEA, a DWR or DWA, a DPR or DPA
+abbrev pub word_of_bad : Header → Word
+word_of_bad h =
+    if nat_eq h.command capabilities_exchange then (if h.request then CerRefused else CeaFailed)
+    else (if nat_eq h.command device_watchdog then (if h.request then DwrBad else DwaBad)
+    else (if h.request then DprBad else DpaBad))
+
+-- why the capabilities of a peer are refused, in this order: 3010 where it isn't the configured one, 5010 where no
+-- application is common, 5017 where it wants a security mechanism (5.3)
+abbrev pub refusal_of_caps : Config → Caps → Option ℕ
+refusal_of_caps c caps =
+    if not (is_same_host caps.host c.peer) then Some 3010
+    else (if not (is_common caps c.node) then Some 5010 else (if not (is_secure caps) then Some 5017 else None))
+
+abbrev pub heard_caps : Header → Option ℕ → Heard
+heard_caps h None = good h Cer
+heard_caps h (Some code) = refused h CerRefused (record { code = code; failed = None })
+
+-- a CEA is good with a Result-Code of success (7.1.2)
+abbrev pub word_of_code : ℕ → Word
+word_of_code code = if nat_le 2000 code && nat_le code 2999 then Cea else CeaFailed
+
+abbrev pub said_by_kind : Config → Header → Kind → Heard
+said_by_kind c h (kinds.Cer caps) = heard_caps h (refusal_of_caps c caps)
+said_by_kind c h (kinds.Cea code) = good h (word_of_code code)
+said_by_kind c h kinds.Dwr = good h Dwr
+said_by_kind c h kinds.Dwa = good h Dwa
+said_by_kind c h (kinds.Dpr cause) = good h Dpr
+said_by_kind c h kinds.Dpa = good h Dpa
+said_by_kind c h kinds.Other = good h Other
+
+abbrev pub said : Config → Header → Result Kind Fault → Heard
+said c h (Ok k) = said_by_kind c h k
+said c h (Err f) = refused h (word_of_bad h) f
+
+-- the kind of a message under the configuration's dictionary, which is the base one
+unfoldable pub kind_under : Config → Message → Result Kind Fault
+kind_under c m = kind c.dictionary m
+
+-- what a message says to a peer of this configuration
+abbrev pub heard_in : Config → Message → Heard
+heard_in c m = said c m.header (kind_under c m)
+
+-- what octets say, where they spell a message
+abbrev pub heard_at : Config → List ℕ → Option Heard
+heard_at c s = option_map (heard_in c) (message_in s)
+
+-- the word of what was heard; nothing is heard of octets that are no message, or that aren't looked at
+abbrev pub word_heard : Option Heard → Word
+word_heard None = Unreadable
+word_heard (Some h) = h.word

@@ -1,0 +1,188 @@
+//! What commands ask for: the octets of the messages that a peer sends (RFC 6733, 5.3 to 5.6).
+ghost use Rattle.std.specs.Prelude.{◌≡◌, ◌≤◌, ◌+◌, ◌++◌, IfOk, OnOk, OnErr, IsTrue, Some, length, option_map};
+ghost use Rattle.std.specs.List.{list_any};
+ghost use Rattle.arrayvec.specs.ArrayVec.{array_vec_len};
+ghost use Rattle.dm_dict.specs.Judgement.{shown};
+ghost use Rattle.dm_peer.specs.Events.{told, octets_in, cause_in};
+ghost use Rattle.dm_peer.specs.Said.{heard_of};
+ghost use Rattle.dm_peer.specs.Sent.{sent, refusal, header_of, fault_in, cer_to_answer, action_of, actions_of, takes_memory};
+
+use crate::reading::HeardRef;
+use crate::sending::{
+    Sending, refusal, send_cea, send_cer, send_dpa, send_dpr, send_dwa, send_dwr, sent,
+};
+use crate::{Action, Actions, Event, Peer};
+use arrayvec::ArrayVec;
+use dm_base::{Cause, Node};
+use dm_dict::{Failed, Judged, NoMemory, Verdict};
+use dm_machine::{Command, Commands, Conn};
+use dm_wire::{Header, Octets};
+use std::alloc::Global;
+
+/// What a refusal without a fault would have (7.1.5: DIAMETER_UNABLE_TO_COMPLY): there is none.
+const UNABLE_TO_COMPLY: u32 = 5012;
+
+/// The header of what was heard.
+fn header_of(heard: Option<HeardRef<'_>>) -> Header
+    ensures { result ≡ header_of (option_map heard_of heard.entry) }
+{
+    match heard {
+        Some(heard) => heard.header,
+        None => Header {
+            request: false,
+            proxiable: false,
+            error: false,
+            retransmit: false,
+            command: 0,
+            application: 0,
+            hop_id: 0,
+            end_id: 0,
+        },
+    }
+}
+
+/// Why what was heard is refused, where it lies.
+fn fault_in(heard: Option<HeardRef<'_>>) -> Judged<'_>
+    ensures { shown result ≡ Some (fault_in (option_map heard_of heard.entry)) }
+{
+    let none = Judged::Bad {
+        code: UNABLE_TO_COMPLY,
+        failed: Failed::Nothing,
+    };
+    match heard {
+        Some(heard) => match heard.judged {
+            Judged::Good => none,
+            bad => bad,
+        },
+        None => none,
+    }
+}
+
+/// The answer that refuses what was heard is to be sent.
+fn send_refusal(alloc: Global, conn: Conn, node: &Node, heard: Option<HeardRef<'_>>) -> Sending
+    ensures { IfOk result (λ action. action
+        ≡ sent conn (refusal node.now (header_of (option_map heard_of heard.entry))
+        (fault_in (option_map heard_of heard.entry)))) }
+{
+    let to = header_of(heard);
+    match fault_in(heard).verdict(alloc)? {
+        Verdict::Bad { code, failed } => sent(
+            alloc,
+            conn,
+            refusal(alloc, node, &to, code, failed.as_ref())?,
+        ),
+        Verdict::Good => unreachable!(),
+    }
+}
+
+/// The CER that a CEA answers: the one that waits, else the one just heard.
+fn cer_to_answer(waiting: Option<Header>, heard: Option<HeardRef<'_>>) -> Header
+    ensures { result ≡ cer_to_answer waiting (option_map heard_of heard.entry) }
+{
+    match waiting {
+        Some(to) => to,
+        None => header_of(heard),
+    }
+}
+
+/// A copy of the octets that the event brings.
+fn copied(alloc: Global, event: Event<'_>) -> Result<Octets, NoMemory>
+    ensures { IfOk result (λ octets. octets ≡ octets_in (told event.entry)) }
+{
+    let octets = match event {
+        Event::Arrived(_, octets) | Event::Submit(octets) => octets,
+        _ => &[],
+    };
+    Ok(Octets::from_slice(alloc, octets)?)
+}
+
+/// The cause of a Stop, which alone has one.
+fn cause_in(event: Event<'_>) -> Cause
+    ensures { result ≡ cause_in (told event.entry) }
+{
+    match event {
+        Event::Stop(cause) => cause,
+        _ => Cause::Rebooting,
+    }
+}
+
+/// What a command asks for; or want of memory, which only what is sent or handed up takes.
+fn action_of(
+    alloc: Global,
+    peer: &Peer,
+    event: Event<'_>,
+    heard: Option<HeardRef<'_>>,
+    command: Command,
+) -> Sending
+    ensures found { IfOk result (λ action. action
+        ≡ action_of peer.now (told event.entry) (option_map heard_of heard.entry) command) }
+    ensures memory { OnErr result (IsTrue (takes_memory
+        (action_of peer.now (told event.entry) (option_map heard_of heard.entry) command))) }
+{
+    let node = &peer.config.node;
+    let next = peer.standing.next;
+    match command {
+        Command::Connect(conn) => Ok(Action::Connect(conn)),
+        Command::Close(conn) => Ok(Action::Close(conn)),
+        Command::SendCer(conn) => send_cer(alloc, conn, node, next),
+        Command::SendDwr(conn) => send_dwr(alloc, conn, node, next),
+        Command::SendDpr(conn) => send_dpr(alloc, conn, node, next, cause_in(event)),
+        Command::SendCea(conn) => {
+            send_cea(
+                alloc,
+                conn,
+                node,
+                &cer_to_answer(peer.standing.waiting, heard),
+            )
+        }
+        Command::SendDwa(conn) => send_dwa(alloc, conn, node, &header_of(heard)),
+        Command::SendDpa(conn) => send_dpa(alloc, conn, node, &header_of(heard)),
+        Command::SendRefusal(conn) => send_refusal(alloc, conn, node, heard),
+        Command::SendSubmit(conn) => Ok(Action::Send(conn, copied(alloc, event)?)),
+        Command::Up => Ok(Action::Up(copied(alloc, event)?)),
+    }
+}
+
+/// Appends what the commands ask for, in order.
+fn put_actions(
+    alloc: Global,
+    peer: &Peer,
+    event: Event<'_>,
+    heard: Option<HeardRef<'_>>,
+    commands: &[Command],
+    actions: &mut Actions,
+) -> Result<(), NoMemory>
+    requires { array_vec_len actions.old + length commands.now ≤ 4 }
+    ensures found { OnOk result (actions.new.items ≡ actions.old.items
+        ++ actions_of peer.now (told event.entry) (option_map heard_of heard.entry) commands.now) }
+    ensures memory { OnErr result (IsTrue (list_any takes_memory
+        (actions_of peer.now (told event.entry) (option_map heard_of heard.entry) commands.now))) }
+{
+    let mut left = commands;
+    while let [command, rest @ ..] = left {
+        actions.push(action_of(alloc, peer, event, heard, *command)?);
+        left = rest;
+    }
+    Ok(())
+}
+
+/// What the commands ask for, in order; or want of memory, which only what is sent or handed up takes.
+pub(crate) fn actions_of(
+    alloc: Global,
+    peer: &Peer,
+    event: Event<'_>,
+    heard: Option<HeardRef<'_>>,
+    commands: &Commands,
+) -> Result<Actions, NoMemory>
+    ensures found { IfOk result (λ actions. actions.items
+        ≡ actions_of peer.now (told event.entry) (option_map heard_of heard.entry) commands.now.items) }
+    ensures memory { OnErr result (IsTrue (list_any takes_memory
+        (actions_of peer.now (told event.entry) (option_map heard_of heard.entry) commands.now.items))) }
+{
+    let mut actions = ArrayVec::new();
+    let done = put_actions(alloc, peer, event, heard, commands.as_slice(), &mut actions);
+    match done {
+        Ok(()) => Ok(actions),
+        Err(fault) => Err(fault),
+    }
+}

@@ -1,0 +1,120 @@
+//! Configurations: a node and the peer that it is configured for.
+ghost use Rattle.std.specs.Prelude.{◌≡◌, ◌⊎◌, IfOk, IfErr, Some, None, Err, true, false};
+ghost use Rattle.dm_base.specs.Fit.{is_name};
+ghost use Rattle.dm_definitions.specs.Base.{base_definitions};
+ghost use Rattle.dm_peer.specs.declared.fault.ConfigFault.{ConfigFault};
+ghost use Rattle.dm_peer.specs.declared.fault.ConfigFault.TheVariants as config_faults;
+ghost use Rattle.dm_peer.specs.Hosts.{is_same_host, config_fault};
+
+use crate::ConfigFault;
+use dm_base::{Node, host_order};
+use dm_dict::{AvpType, Dictionary, value_fault};
+use dm_wire::Octets;
+use std::alloc::Global;
+use std::cmp::Ordering;
+
+/// The octets that a name may have at most.
+const MAX_NAME_LEN: usize = 255;
+
+/// A node, the host that it is configured for, and where its numbers begin.
+#[derive(Debug, Drop)]
+pub struct Config {
+    pub(crate) node: Node,
+    pub(crate) peer: Octets,
+    pub(crate) first_id: u32,
+    pub(crate) dictionary: Dictionary,
+    pub ghost fit_peer: { is_name peer ≡ true },
+    pub ghost other_host: { is_same_host node.host peer ≡ false },
+    pub ghost based: { dictionary ≡ base_definitions },
+}
+
+/// Whether the octets are a name of a host or realm.
+fn is_name(octets: &[u8]) -> bool
+    ensures { result ≡ is_name octets.now }
+{
+    value_fault(AvpType::DiameterIdentity, octets).is_none() && octets.len() <= MAX_NAME_LEN
+}
+
+/// Whether the octets are two names of one host.
+pub(crate) fn is_same_host(one: &[u8], other: &[u8]) -> bool
+    ensures { result ≡ is_same_host one.now other.now }
+{
+    match host_order(one, other) {
+        Ordering::Equal => true,
+        _ => false,
+    }
+}
+
+/// Why a node of this host can't have this peer.
+fn fault_of(host: &[u8], peer: &[u8]) -> Option<ConfigFault>
+    ensures { result ≡ config_fault host.now peer.now }
+{
+    if !is_name(peer) {
+        return Some(ConfigFault::BadHost);
+    }
+    if is_same_host(host, peer) {
+        return Some(ConfigFault::SameHost);
+    }
+    None
+}
+
+impl Config {
+    ghost use Rattle.dm_peer.specs.Configs.{wins};
+
+    /// A configuration of these parts, with the base dictionary. `first_id` is the number of the first request.
+    ///
+    /// Refuses, in this order, with `BadHost` (the peer's name is empty, has an octet outside 0x21 to 0x7E, or is over
+    /// 255 octets), `SameHost` (it is the node's own, upper and lower case taken as one) and `NoMemory`, and drops the
+    /// parts then.
+    pub fn new(
+        alloc: Global,
+        node: Node,
+        peer: Vec<u8>,
+        first_id: u32,
+    ) -> Result<Config, ConfigFault>
+        ensures fault { IfErr result (λ f. (f ≡ config_faults.NoMemory)
+            ⊎ (config_fault node.host peer.items ≡ Some f)) }
+        ensures refuses { (f : ConfigFault) → config_fault node.host peer.items ≡ Some f → result ≡ Err f }
+        ensures node { IfOk result (λ config. config.node ≡ node) }
+        ensures peer { IfOk result (λ config. config.peer ≡ peer.items) }
+        ensures first_id { IfOk result (λ config. config.first_id ≡ first_id) }
+        ensures dictionary { IfOk result (λ config. config.dictionary ≡ base_definitions) }
+    {
+        if let Some(fault) = fault_of(node.host(), peer.as_slice()) {
+            return Err(fault);
+        }
+        match Dictionary::base(alloc) {
+            Ok(dictionary) => Ok(Config {
+                node,
+                peer: Octets::from_vec(peer),
+                first_id,
+                dictionary,
+            }),
+            Err(_) => Err(ConfigFault::NoMemory),
+        }
+    }
+
+    /// The node. It takes no memory.
+    pub fn node(&self) -> &Node
+        ensures { result.now ≡ self.now.node }
+    {
+        &self.node
+    }
+
+    /// The host of the configured peer. It takes no memory.
+    pub fn peer_host(&self) -> &[u8]
+        ensures { result.now ≡ self.now.peer }
+    {
+        self.peer.as_slice()
+    }
+
+    /// Whether the own side wins an election: the own host comes later (RFC 6733, 5.6.4).
+    pub(crate) fn wins(&self) -> bool
+        ensures { result ≡ wins self.now }
+    {
+        match host_order(self.node.host(), self.peer_host()) {
+            Ordering::Greater => true,
+            _ => false,
+        }
+    }
+}

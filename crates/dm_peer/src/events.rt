@@ -1,0 +1,26 @@
+//! What a peer is told: commands of its user, the passing of time, and what happens on connections.
+use dm_base::Cause;
+use dm_machine::Conn;
+
+/// One thing that happens to a peer.
+#[derive(Clone, Copy, Debug)]
+pub enum Event<'a> {
+    /// Open a connection, under this new number.
+    Start(Conn),
+    /// Disconnect, for this cause (RFC 6733, 5.4).
+    Stop(Cause),
+    /// The state's time is over.
+    Timeout,
+    /// The watchdog's time is over (RFC 3539, 3.4.1).
+    Tick,
+    /// The connection that was asked for is made.
+    Ack(Conn),
+    /// The connection that was asked for can't be made.
+    Nack(Conn),
+    /// The octets of a message came on a connection.
+    Arrived(Conn, &'a [u8]),
+    /// The other side closed the connection, or it was lost.
+    Gone(Conn),
+    /// Send a message of the user, as octets.
+    Submit(&'a [u8]),
+}

@@ -1,0 +1,71 @@
+//! Laws of peers. Each function is a law: it does nothing, and its contract is the law.
+ghost use Rattle.dm_peer.specs.Laws.{SentIsHeard, CerIsGood, CeaIsGood, DwrIsGood, DwaIsGood, DprIsGood, DpaIsGood};
+ghost use Rattle.dm_peer.specs.Refusing.{RefusesByRule};
+ghost use Rattle.dm_peer.specs.Settled.{FreshIsSettled, EachEventKeepsSettled};
+ghost use Rattle.dm_peer.specs.Silence.{SilentTakesNone};
+ghost use Rattle.dm_peer.specs.Steps.{EachEventIsOneStep};
+
+use dm_base::laws::{built_is_own, built_is_spelled, common_is_shared};
+use dm_machine::laws::{each_node_has_its_form, each_step_keeps_shape, unread_words_are_alike};
+use dm_wire::laws::{canonical_spells, spelled_is_in};
+
+/// Each event is one step of the state machine, with an action for each command, which says what is there: an answer
+/// its request, a refusal its fault; or an answer that nothing awaits is dropped, and nothing changes. The law stands
+/// for users.
+pub fn each_event_is_one_step()
+    ensures { EachEventIsOneStep }
+{
+    each_node_has_its_form();
+}
+
+/// What a peer waits for goes by its state: a new peer's, one's after `reset`, and each event keeps it so. The law
+/// stands for users.
+pub fn each_event_keeps_settled()
+    ensures fresh { FreshIsSettled }
+    ensures kept { EachEventKeepsSettled }
+{
+    each_node_has_its_form();
+    each_step_keeps_shape();
+}
+
+/// At a Start, at a Timeout, where octets aren't looked at, and where an answer is dropped, nothing is sent or handed
+/// up.
+pub fn silent_takes_none()
+    ensures { SilentTakesNone }
+{
+    each_node_has_its_form();
+    unread_words_are_alike();
+}
+
+/// An event is refused just by these rules: a Start outside Closed, a Stop or Submit outside the open states, and in
+/// them a Submit of what is no message of the user.
+pub fn refusals_go_by_rule()
+    ensures { RefusesByRule }
+{
+    each_node_has_its_form();
+}
+
+/// The octets that a message is sent as are heard as that message. The law stands for users.
+pub fn what_is_sent_is_heard()
+    ensures { SentIsHeard }
+{
+    canonical_spells();
+    spelled_is_in();
+}
+
+/// The octets that a node sends are good to the other side: a CER to a peer that is configured for it and has an
+/// application in common with it, the CEA that accepts it, a watchdog, a disconnect and their answers to every peer
+/// (RFC 6733, 5.3 to 5.5). The law stands for users: two peers rest on it.
+pub fn sent_is_good()
+    ensures cer { CerIsGood }
+    ensures cea { CeaIsGood }
+    ensures dwr { DwrIsGood }
+    ensures dwa { DwaIsGood }
+    ensures dpr { DprIsGood }
+    ensures dpa { DpaIsGood }
+{
+    what_is_sent_is_heard();
+    built_is_own();
+    built_is_spelled();
+    common_is_shared();
+}

@@ -1,0 +1,27 @@
+//! A Diameter peer over octets (RFC 6733, 5.3 to 5.6): an event is read, takes one row of the state table, and gives
+//! what is to be sent, closed and handed up.
+#![tactic(auto)]
+
+mod actions;
+mod answer;
+mod arrivals;
+mod commands;
+mod config;
+mod events;
+mod fault;
+pub mod laws;
+mod message;
+mod peer;
+mod reading;
+mod sending;
+mod standing;
+mod steps;
+
+pub use actions::{Action, Actions};
+pub use config::Config;
+pub use dm_base::{Cause, Node};
+pub use dm_machine::{Command, Commands, Conn, Core, Input, Refusal, State, Word, step};
+pub use events::Event;
+pub use fault::{ConfigFault, PeerFault};
+pub use peer::Peer;
+pub use standing::{Awaited, Standing};

@@ -1,0 +1,38 @@
+//! Messages where they lie in octets, and octets of messages.
+ghost use Rattle.std.specs.Prelude.{◌≡◌, IfOk, List, Some, None};
+ghost use Rattle.std.specs.Option.{MatchOption};
+ghost use Rattle.dm_wire.specs.declared.avp.Avp.{Avp};
+ghost use Rattle.dm_wire.specs.Spelling.{SpellsList};
+ghost use Rattle.dm_wire.specs.Whole.{message_in};
+ghost use Rattle.dm_peer.specs.Octets.{octets_of};
+
+use dm_dict::NoMemory;
+use dm_wire::laws::{message_in_spells, no_message_refused};
+use dm_wire::{Message, MessageRef, Octets};
+use std::alloc::Global;
+
+/// The message that the octets spell, where they spell one. It takes no memory.
+pub(crate) fn read_message(octets: &[u8]) -> Option<MessageRef<'_>>
+    ensures { MatchOption result
+        (message_in octets.now ≡ None)
+        (λ read. (l : List Avp) × SpellsList l read.rest.now
+        × (message_in octets.now ≡ Some (record { header = read.header; avps = l }))) }
+{
+    message_in_spells();
+    no_message_refused();
+    match MessageRef::read(octets) {
+        Ok(message) => Some(message),
+        Err(_) => None,
+    }
+}
+
+/// The octets that the message is sent as; or want of memory.
+#[tactic(auto, unfolding(crate::specs::Octets::octets_of))]
+pub(crate) fn sent_octets(alloc: Global, message: &Message) -> Result<Octets, NoMemory>
+    ensures { IfOk result (λ octets. octets ≡ octets_of message.now) }
+{
+    match message.encode(alloc) {
+        Ok(octets) => Ok(Octets::from_vec(octets)),
+        Err(_) => Err(NoMemory),
+    }
+}

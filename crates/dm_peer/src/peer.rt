@@ -1,0 +1,112 @@
+//! Peers: one event is one step.
+ghost use Rattle.std.specs.Prelude.{◌≡◌, ◌<◌, ◌^◌, ◌⊎◌, IfOk, IfErr, OnErr, IsTrue, true, Some, Err};
+ghost use Rattle.dm_machine.specs.Moves as moves;
+ghost use Rattle.dm_machine.specs.Node.{held_as, is_shaped};
+ghost use Rattle.dm_machine.specs.declared.phase.Role.TheVariants.{Initiated, Accepted};
+ghost use Rattle.dm_peer.specs.Acts.{Moved, Refused, acts, standing_at, IsRefused};
+ghost use Rattle.dm_peer.specs.After.{awaited_of, fresh};
+ghost use Rattle.dm_peer.specs.Events.{told};
+ghost use Rattle.dm_peer.specs.Refusing.{refusal_of};
+ghost use Rattle.dm_peer.specs.Silence.{is_silent};
+ghost use Rattle.dm_peer.specs.declared.fault.PeerFault.{PeerFault};
+ghost use Rattle.dm_peer.specs.declared.fault.PeerFault.TheVariants.{NoMemory};
+
+use crate::laws::{refusals_go_by_rule, silent_takes_none};
+use crate::steps::answer;
+use crate::{Actions, Config, Event, PeerFault, Standing};
+use dm_machine::{Conn, State};
+use std::alloc::Global;
+
+/// A peer: its configuration, and where it stands.
+#[derive(Debug, Drop)]
+pub struct Peer {
+    pub(crate) config: Config,
+    pub(crate) standing: Standing,
+}
+
+impl Peer {
+    /// A closed peer of the configuration. It takes no memory.
+    pub fn new(config: Config) -> Peer
+        ensures config { result.config ≡ config }
+        ensures standing { result.standing ≡ fresh config.first_id }
+        // The first number is one of four octets.
+        ensures number { config.first_id < 2 ^ 32 }
+    {
+        let standing = Standing::new(config.first_id);
+        Peer { config, standing }
+    }
+
+    /// Back to Closed, with no connections and awaiting nothing. The numbers go on. It takes no memory.
+    pub fn reset(&mut self)
+        ensures { self.new ≡ standing_at self.old (fresh self.old.standing.next) }
+    {
+        self.standing = Standing::new(self.standing.next);
+    }
+
+    /// What the peer does at the event.
+    ///
+    /// # Errors
+    /// `NotClosed` for a Start outside Closed, `NotOpen` for a Stop or Submit outside R-Open and I-Open, `BadSubmit`
+    /// for octets that are no message, or one of command 257, 280 or 282, and `NoMemory`, which comes only where
+    /// something is sent or handed up. The peer is as it was after each.
+    pub fn on(&mut self, alloc: Global, event: Event<'_>) -> Result<Actions, PeerFault>
+        ensures acts { IfOk result (λ actions. acts self.old (told event.entry) ≡ Moved actions.items self.new) }
+        ensures refused { IfErr result (IsRefused (acts self.old (told event.entry))) }
+        ensures unchanged { OnErr result (self.new ≡ self.old) }
+        // But for want of memory the rules alone refuse, and what they refuse is refused so.
+        ensures ruled { IfErr result (λ f. (f ≡ NoMemory)
+            ⊎ (refusal_of self.old.standing.core.state (told event.entry) ≡ Some f)) }
+        ensures refuses { (f : PeerFault) → refusal_of self.old.standing.core.state (told event.entry) ≡ Some f
+            → result ≡ Err f }
+        // A Start, a Timeout, octets that aren't looked at and an answer that is dropped never want memory.
+        ensures silent { is_silent self.old (told event.entry) ≡ true
+            → IfErr result (λ f. acts self.old (told event.entry) ≡ Refused f) }
+    {
+        silent_takes_none();
+        refusals_go_by_rule();
+        let _shaped = self.state();
+        let (standing, actions) = answer(alloc, self, event)?;
+        self.standing = standing;
+        Ok(actions)
+    }
+
+    /// The state. It takes no memory.
+    pub fn state(&self) -> State
+        ensures value { result ≡ self.now.standing.core.state }
+        ensures shaped { IsTrue (is_shaped self.now.standing.core) }
+    {
+        self.standing.core.state()
+    }
+
+    /// The connection that this peer opened. It takes no memory.
+    pub fn initiated(&self) -> Option<Conn>
+        ensures { result ≡ held_as Initiated self.now.standing.core.held }
+    {
+        self.standing.core.initiated()
+    }
+
+    /// The connection that the other side opened. It takes no memory.
+    pub fn accepted(&self) -> Option<Conn>
+        ensures { result ≡ held_as Accepted self.now.standing.core.held }
+    {
+        self.standing.core.accepted()
+    }
+
+    /// Whether the state is R-Open or I-Open. It takes no memory.
+    pub fn is_open(&self) -> bool
+        ensures { result ≡ moves.is_open self.now.standing.core.state }
+    {
+        match self.state() {
+            State::ROpen | State::IOpen => true,
+            _ => false,
+        }
+    }
+
+    /// The Hop-by-Hop Identifier of the last request of the command, 257, 280 or 282, that awaits its answer. None for
+    /// other commands. It takes no memory.
+    pub fn awaited(&self, command: u32) -> Option<u32>
+        ensures { result ≡ awaited_of self.now.standing.awaited command }
+    {
+        self.standing.awaited.of(command)
+    }
+}

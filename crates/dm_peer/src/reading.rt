@@ -1,0 +1,137 @@
+//! What a message says to a peer: its word, and why it is refused (RFC 6733, 5.3 and 5.6).
+ghost use Rattle.std.specs.Prelude.{◌≡◌, List};
+ghost use Rattle.dm_wire.specs.declared.avp.Avp.{Avp};
+ghost use Rattle.dm_wire.specs.Spelling.{SpellsList};
+ghost use Rattle.dm_base.specs.declared.kind.Caps.{Caps};
+ghost use Rattle.dm_base.specs.declared.kind.Kind.{Kind};
+ghost use Rattle.dm_base.specs.Shown.{ShowsCaps, ShowsKind};
+ghost use Rattle.dm_peer.specs.Said.{good, heard_of, heard_in, kind_under, said_by_kind, word_of_bad, word_of_code, refusal_of_caps, heard_caps};
+
+use crate::Config;
+use crate::config::is_same_host;
+use dm_base::codes::{
+    CAPABILITIES_EXCHANGE, DEVICE_WATCHDOG, NO_COMMON_APPLICATION, NO_COMMON_SECURITY, UNKNOWN_PEER,
+};
+use dm_base::{CapsRef, KindRef, view};
+use dm_dict::{Failed, Judged};
+use dm_machine::Word;
+use dm_wire::{Header, MessageRef};
+
+/// A message that was read, with its parts where they lie: its header, its word, and why it is refused, where it is
+/// (RFC 6733, 7.1 and 7.5).
+#[derive(Clone, Copy, Debug)]
+pub(crate) struct HeardRef<'a> {
+    pub(crate) header: Header,
+    pub(crate) word: Word,
+    pub(crate) judged: Judged<'a>,
+}
+
+/// The word of a message that fails its check.
+fn word_of_bad(header: &Header) -> Word
+    ensures { result ≡ word_of_bad header.now }
+{
+    if header.command == CAPABILITIES_EXCHANGE {
+        if header.request {
+            Word::CerRefused
+        } else {
+            Word::CeaFailed
+        }
+    } else if header.command == DEVICE_WATCHDOG {
+        if header.request {
+            Word::DwrBad
+        } else {
+            Word::DwaBad
+        }
+    } else if header.request {
+        Word::DprBad
+    } else {
+        Word::DpaBad
+    }
+}
+
+/// Why the capabilities of a peer are refused: the Result-Code.
+fn refusal_of_caps(config: &Config, caps: &CapsRef<'_>) -> Option<u32>
+    ensures { (theirs : Caps) → ShowsCaps caps.now theirs → result ≡ refusal_of_caps config.now theirs }
+{
+    if !is_same_host(caps.host, config.peer.as_slice()) {
+        return Some(UNKNOWN_PEER);
+    }
+    if !caps.common(&config.node) {
+        return Some(NO_COMMON_APPLICATION);
+    }
+    if !caps.secure() {
+        return Some(NO_COMMON_SECURITY);
+    }
+    None
+}
+
+/// A message that isn't refused.
+fn good<'a>(header: Header, word: Word) -> HeardRef<'a>
+    ensures { heard_of result ≡ good header word }
+{
+    HeardRef {
+        header,
+        word,
+        judged: Judged::Good,
+    }
+}
+
+/// A CER that passes its check.
+fn heard_caps<'a>(config: &Config, header: Header, caps: &CapsRef<'_>) -> HeardRef<'a>
+    ensures { (theirs : Caps) → ShowsCaps caps.now theirs
+        → heard_of result ≡ heard_caps header (refusal_of_caps config.now theirs) }
+{
+    match refusal_of_caps(config, caps) {
+        None => good(header, Word::Cer),
+        Some(code) => HeardRef {
+            header,
+            word: Word::CerRefused,
+            judged: Judged::Bad {
+                code,
+                failed: Failed::Nothing,
+            },
+        },
+    }
+}
+
+/// The word of a CEA of this Result-Code.
+fn word_of_code(code: u32) -> Word
+    ensures { result ≡ word_of_code code }
+{
+    if code >= 2000 && code <= 2999 {
+        Word::Cea
+    } else {
+        Word::CeaFailed
+    }
+}
+
+/// A message of this kind.
+fn said_by_kind<'a>(config: &Config, header: Header, kind: &KindRef<'_>) -> HeardRef<'a>
+    ensures { (k : Kind) → ShowsKind kind.now k → heard_of result ≡ said_by_kind config.now header k }
+{
+    match kind {
+        KindRef::Cer(caps) => heard_caps(config, header, caps),
+        KindRef::Cea(code) => good(header, word_of_code(*code)),
+        KindRef::Dwr => good(header, Word::Dwr),
+        KindRef::Dwa => good(header, Word::Dwa),
+        KindRef::Dpr(_) => good(header, Word::Dpr),
+        KindRef::Dpa => good(header, Word::Dpa),
+        KindRef::Other => good(header, Word::Other),
+    }
+}
+
+/// What the message says to a peer of this configuration. It takes no memory.
+#[tactic(auto, unfolding(crate::specs::Said::kind_under))]
+pub(crate) fn hear<'a>(config: &Config, message: &MessageRef<'a>) -> HeardRef<'a>
+    ensures { (l : List Avp) → SpellsList l message.now.rest.now
+        → heard_of result ≡ heard_in config.now (record { header = message.now.header; avps = l }) }
+{
+    match view(&config.dictionary, message) {
+        Ok(kind) => said_by_kind(config, message.header, &kind),
+        Err(judged) => HeardRef {
+            header: message.header,
+            word: word_of_bad(&message.header),
+            judged,
+        },
+    }
+}

@@ -1,0 +1,97 @@
+//! The messages that a peer sends, as octets (RFC 6733, 5.3 to 5.6).
+ghost use Rattle.std.specs.Prelude.{◌≡◌, IfOk, None};
+ghost use Rattle.std.specs.Option.{option_copied};
+ghost use Rattle.dm_base.specs.Built.{built_cer, built_cea, built_dwr, built_dpr, built_answer};
+ghost use Rattle.dm_peer.specs.Sent.{sent, is_protocol_error, refusal};
+
+use crate::Action;
+use crate::message::sent_octets;
+use dm_base::codes::{CAPABILITIES_EXCHANGE, DEVICE_WATCHDOG, SUCCESS};
+use dm_base::{Cause, Node, cea, cer, dpa, dpr, dwa, dwr, error_answer};
+use dm_dict::NoMemory;
+use dm_machine::Conn;
+use dm_wire::{Avp, Header, Message};
+use std::alloc::Global;
+
+/// An action to send, or want of memory.
+pub(crate) type Sending = Result<Action, NoMemory>;
+
+/// The message is to be sent.
+pub(crate) fn sent(alloc: Global, conn: Conn, message: Message) -> Sending
+    ensures { IfOk result (λ action. action ≡ sent conn message) }
+{
+    let octets = sent_octets(alloc, &message)?;
+    Ok(Action::Send(conn, octets))
+}
+
+/// A CER with the next number is to be sent.
+pub(crate) fn send_cer(alloc: Global, conn: Conn, node: &Node, next: u32) -> Sending
+    ensures { IfOk result (λ action. action ≡ sent conn (built_cer node.now next)) }
+{
+    sent(alloc, conn, cer(alloc, node, next)?)
+}
+
+/// A DWR with the next number is to be sent.
+pub(crate) fn send_dwr(alloc: Global, conn: Conn, node: &Node, next: u32) -> Sending
+    ensures { IfOk result (λ action. action ≡ sent conn (built_dwr node.now next)) }
+{
+    sent(alloc, conn, dwr(alloc, node, next)?)
+}
+
+/// A DPR with the next number is to be sent.
+pub(crate) fn send_dpr(alloc: Global, conn: Conn, node: &Node, next: u32, cause: Cause) -> Sending
+    ensures { IfOk result (λ action. action ≡ sent conn (built_dpr node.now next cause)) }
+{
+    sent(alloc, conn, dpr(alloc, node, next, cause)?)
+}
+
+/// A CEA of success is to be sent.
+pub(crate) fn send_cea(alloc: Global, conn: Conn, node: &Node, to: &Header) -> Sending
+    ensures { IfOk result (λ action. action ≡ sent conn (built_cea node.now to.now 2001 None)) }
+{
+    sent(alloc, conn, cea(alloc, node, to, SUCCESS, None)?)
+}
+
+/// A DWA of success is to be sent.
+pub(crate) fn send_dwa(alloc: Global, conn: Conn, node: &Node, to: &Header) -> Sending
+    ensures { IfOk result (λ action. action ≡ sent conn (built_answer node.now to.now 2001 None)) }
+{
+    sent(alloc, conn, dwa(alloc, node, to, SUCCESS, None)?)
+}
+
+/// A DPA of success is to be sent.
+pub(crate) fn send_dpa(alloc: Global, conn: Conn, node: &Node, to: &Header) -> Sending
+    ensures { IfOk result (λ action. action ≡ sent conn (built_answer node.now to.now 2001 None)) }
+{
+    sent(alloc, conn, dpa(alloc, node, to, SUCCESS, None)?)
+}
+
+/// Whether the Result-Code is that of a protocol error (RFC 6733, 7.1.3).
+fn is_protocol_error(code: u32) -> bool
+    ensures { result ≡ is_protocol_error code }
+{
+    code >= 3000 && code < 4000
+}
+
+/// The answer that refuses a message.
+pub(crate) fn refusal(
+    alloc: Global,
+    node: &Node,
+    to: &Header,
+    code: u32,
+    failed: Option<&Avp>,
+) -> Result<Message, NoMemory>
+    ensures { IfOk result (λ message. message
+        ≡ refusal node.now to.now (record { code = code; failed = option_copied failed.entry })) }
+{
+    if is_protocol_error(code) {
+        return error_answer(alloc, node, to, code);
+    }
+    if to.command == CAPABILITIES_EXCHANGE {
+        cea(alloc, node, to, code, failed)
+    } else if to.command == DEVICE_WATCHDOG {
+        dwa(alloc, node, to, code, failed)
+    } else {
+        dpa(alloc, node, to, code, failed)
+    }
+}

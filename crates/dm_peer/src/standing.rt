@@ -1,0 +1,79 @@
+//! Where a peer stands: its core, its next number, and what it waits for.
+ghost use Rattle.std.specs.Prelude.{◌≡◌, None};
+ghost use Rattle.dm_peer.specs.After.{awaited_of, nothing_awaited, fresh};
+
+use dm_base::codes::{CAPABILITIES_EXCHANGE, DEVICE_WATCHDOG, DISCONNECT_PEER};
+use dm_machine::Core;
+use dm_wire::Header;
+
+/// The Hop-by-Hop Identifiers of the requests that await their answers (RFC 6733, 3).
+#[derive(Clone, Copy, Debug)]
+pub struct Awaited {
+    /// That of the CER.
+    pub cea: Option<u32>,
+    /// That of the last DWR.
+    pub dwa: Option<u32>,
+    /// That of the DPR.
+    pub dpa: Option<u32>,
+}
+
+/// Where a peer stands.
+#[derive(Clone, Copy, Debug)]
+pub struct Standing {
+    /// Its state, its connections and the watchdog's count.
+    pub core: Core,
+    /// The number of its next request.
+    pub next: u32,
+    /// The header of a CER that waits for its CEA.
+    pub waiting: Option<Header>,
+    /// The numbers of the requests that await their answers.
+    pub awaited: Awaited,
+}
+
+impl Awaited {
+    ghost use Rattle.std.specs.Prelude.{◌≡◌};
+    ghost use Rattle.dm_peer.specs.After.{awaited_of, nothing_awaited};
+
+    /// No request awaits an answer.
+    pub(crate) fn nothing() -> Awaited
+        ensures { result ≡ nothing_awaited }
+    {
+        Awaited {
+            cea: None,
+            dwa: None,
+            dpa: None,
+        }
+    }
+
+    /// The number of the request of the command that awaits its answer: 257, 280 or 282. None for other commands.
+    pub(crate) fn of(&self, command: u32) -> Option<u32>
+        ensures { result ≡ awaited_of self.now command }
+    {
+        if command == CAPABILITIES_EXCHANGE {
+            self.cea
+        } else if command == DEVICE_WATCHDOG {
+            self.dwa
+        } else if command == DISCONNECT_PEER {
+            self.dpa
+        } else {
+            None
+        }
+    }
+}
+
+impl Standing {
+    ghost use Rattle.std.specs.Prelude.{◌≡◌};
+    ghost use Rattle.dm_peer.specs.After.{fresh};
+
+    /// Closed with no connections, awaiting nothing, with this next number.
+    pub(crate) fn new(next: u32) -> Standing
+        ensures { result ≡ fresh next }
+    {
+        Standing {
+            core: Core::new(),
+            next,
+            waiting: None,
+            awaited: Awaited::nothing(),
+        }
+    }
+}

@@ -1,0 +1,155 @@
+//! What an event comes to: the octets that it brings are read, and the state machine takes one step.
+ghost use Rattle.std.specs.Prelude.{◌≡◌, IfOk, IfErr, List, Some, None, option_map};
+ghost use Rattle.dm_wire.specs.declared.avp.Avp.{Avp};
+ghost use Rattle.dm_wire.specs.Spelling.{SpellsList};
+ghost use Rattle.dm_wire.specs.Whole.{message_in};
+ghost use Rattle.dm_machine.specs.Moves as moves;
+ghost use Rattle.dm_machine.specs.declared.outputs.Refusal.{Refusal};
+ghost use Rattle.dm_peer.specs.Acts.{
+  Moved,
+  acts,
+  steps,
+  heard,
+  turned,
+  input_of,
+  standing_at,
+  IsRefused,
+  can_submit,
+};
+ghost use Rattle.dm_peer.specs.Events.{told, Arrived, Submit};
+ghost use Rattle.dm_peer.specs.Faults.{fault_of};
+ghost use Rattle.dm_peer.specs.Said.{heard_of};
+
+use crate::answer::actions_of;
+use crate::arrivals::{is_base, is_dropped, is_unread};
+use crate::commands::{request_in, standing_after, word_heard};
+use crate::message::read_message;
+use crate::reading::{HeardRef, hear};
+use crate::{Actions, Event, Peer, PeerFault, Standing};
+use arrayvec::ArrayVec;
+use dm_machine::{Commands, Conn, Core, Input, step};
+use dm_wire::MessageRef;
+use std::alloc::Global;
+
+/// What an event comes to: where the peer stands then, and what is to be done.
+pub(crate) type Answer = Result<(Standing, Actions), PeerFault>;
+
+/// One step of the state machine.
+#[tactic(auto, unfolding(crate::specs::Acts::turned))]
+fn turned(core: &Core, input: Input, wins: bool) -> Result<(Core, Commands), PeerFault>
+    ensures moved { IfOk result (λ r. turned core.now input wins ≡ moves.Moved r.1.items r.0) }
+    ensures refused { IfErr result (λ f. (r : Refusal)
+        × (turned core.now input wins ≡ moves.Refused r) × (f ≡ fault_of r)) }
+{
+    match step(core, input, wins) {
+        Ok(turn) => Ok(turn),
+        Err(refusal) => Err(PeerFault::from(refusal)),
+    }
+}
+
+/// The event as the state machine's input.
+fn input_of(event: Event<'_>, heard: Option<HeardRef<'_>>) -> Input
+    ensures { result ≡ input_of (told event.entry) (option_map heard_of heard.entry) }
+{
+    match event {
+        Event::Start(conn) => Input::Start(conn),
+        Event::Stop(_) => Input::Stop,
+        Event::Timeout => Input::Timeout,
+        Event::Tick => Input::Tick,
+        Event::Ack(conn) => Input::Ack(conn),
+        Event::Nack(conn) => Input::Nack(conn),
+        Event::Arrived(conn, _) => Input::Heard(conn, word_heard(heard)),
+        Event::Gone(conn) => Input::Gone(conn),
+        Event::Submit(_) => Input::Submit,
+    }
+}
+
+/// One step at the event, after what was heard.
+fn steps(alloc: Global, peer: &Peer, event: Event<'_>, heard: Option<HeardRef<'_>>) -> Answer
+    ensures moved { IfOk result (λ r. steps peer.now (told event.entry) (option_map heard_of heard.entry)
+        ≡ Moved r.1.items (standing_at peer.now r.0)) }
+    ensures refused { IfErr result (IsRefused (steps peer.now (told event.entry) (option_map heard_of heard.entry))) }
+{
+    let input = input_of(event, heard);
+    let (core, commands) = turned(&peer.standing.core, input, peer.config.wins())?;
+    let sent = request_in(commands.as_slice());
+    let standing = standing_after(&peer.standing, heard, sent, core);
+    let actions = actions_of(alloc, peer, event, heard, &commands)?;
+    Ok((standing, actions))
+}
+
+/// A message that came on the connection.
+fn heard(
+    alloc: Global,
+    peer: &Peer,
+    event: Event<'_>,
+    conn: Conn,
+    message: &MessageRef<'_>,
+) -> Answer
+    ensures moved { (l : List Avp) → SpellsList l message.now.rest.now
+        → IfOk result (λ r.
+        heard peer.now (told event.entry) conn (Some (record { header = message.now.header; avps = l }))
+        ≡ Moved r.1.items (standing_at peer.now r.0)) }
+    ensures refused { (l : List Avp) → SpellsList l message.now.rest.now
+        → IfErr result (IsRefused
+        (heard peer.now (told event.entry) conn (Some (record { header = message.now.header; avps = l })))) }
+{
+    if is_dropped(peer, conn, &message.header) {
+        return Ok((peer.standing, ArrayVec::new()));
+    }
+    steps(alloc, peer, event, Some(hear(&peer.config, message)))
+}
+
+/// Octets that came on the connection.
+fn arrived(alloc: Global, peer: &Peer, conn: Conn, octets: &[u8]) -> Answer
+    ensures moved { IfOk result (λ r. acts peer.now (Arrived conn octets.now)
+        ≡ Moved r.1.items (standing_at peer.now r.0)) }
+    ensures refused { IfErr result (IsRefused (acts peer.now (Arrived conn octets.now))) }
+{
+    let event = Event::Arrived(conn, octets);
+    if is_unread(&peer.standing.core, conn) {
+        return steps(alloc, peer, event, None);
+    }
+    match read_message(octets) {
+        Some(message) => heard(alloc, peer, event, conn, &message),
+        None => steps(alloc, peer, event, None),
+    }
+}
+
+/// Whether the octets are a message that may be submitted: of another command than 257, 280 and 282.
+fn can_submit(octets: &[u8]) -> bool
+    ensures { result ≡ can_submit (message_in octets.now) }
+{
+    match read_message(octets) {
+        Some(message) => !is_base(message.header.command),
+        None => false,
+    }
+}
+
+/// Octets that the user submits.
+fn submitted(alloc: Global, peer: &Peer, octets: &[u8]) -> Answer
+    ensures moved { IfOk result (λ r. acts peer.now (Submit octets.now)
+        ≡ Moved r.1.items (standing_at peer.now r.0)) }
+    ensures refused { IfErr result (IsRefused (acts peer.now (Submit octets.now))) }
+{
+    if !peer.is_open() {
+        return Err(PeerFault::NotOpen);
+    }
+    if !can_submit(octets) {
+        return Err(PeerFault::BadSubmit);
+    }
+    steps(alloc, peer, Event::Submit(octets), None)
+}
+
+/// What the event comes to.
+pub(crate) fn answer(alloc: Global, peer: &Peer, event: Event<'_>) -> Answer
+    ensures moved { IfOk result (λ r. acts peer.now (told event.entry)
+        ≡ Moved r.1.items (standing_at peer.now r.0)) }
+    ensures refused { IfErr result (IsRefused (acts peer.now (told event.entry))) }
+{
+    match event {
+        Event::Arrived(conn, octets) => arrived(alloc, peer, conn, octets),
+        Event::Submit(octets) => submitted(alloc, peer, octets),
+        other => steps(alloc, peer, other, None),
+    }
+}
