@@ -8,6 +8,8 @@ extern "C" {
     fn ours_walk(octets: *const u8, len: usize, times: u32) -> usize;
     fn ours_decode(octets: *const u8, len: usize, times: u32) -> usize;
     fn ours_check(octets: *const u8, len: usize, times: u32) -> usize;
+    fn ours_judge(octets: *const u8, len: usize, times: u32) -> usize;
+    fn ours_rule(text: *const u8, len: usize, octets: *const u8, octets_len: usize, times: u32) -> usize;
     fn ours_encode(octets: *const u8, len: usize, times: u32) -> usize;
     fn ours_frame(octets: *const u8, len: usize, size: usize, times: u32) -> usize;
 }
@@ -63,12 +65,25 @@ fn stream() -> Vec<u8> {
     message(280, &[avp(70000, false, &[7; 172])]).repeat(5000)
 }
 
+/// A dictionary of a command with so many entries, each of at most 9 AVPs.
+fn bounded_rule(size: usize) -> String {
+    let avps: String = (0..size).map(|k| format!("@ A{k} {} Unsigned32\n", 80000 + k)).collect();
+    let entries: String = (0..size).map(|k| format!(" *9 [ A{k} ]")).collect();
+    format!("{avps}< Q > ::= < Diameter Header: 300, REQ >{entries}\n")
+}
+
+/// A request of that command with 60 AVPs of the first ten entries.
+fn ruled() -> Vec<u8> {
+    message(300, &(0..60).map(|k| avp(80000 + k % 10, true, &[0; 4])).collect::<Vec<_>>())
+}
+
 fn input(name: &str) -> Vec<u8> {
     match name {
         "capabilities" => capabilities(1),
         "groups" => capabilities(18),
         "thousand" => watchdog(),
         "stream" => stream(),
+        "ruled" => ruled(),
         _ => panic!("no input {name}"),
     }
 }
@@ -81,6 +96,11 @@ fn ours(operation: &str, octets: &[u8], times: u32, size: usize) -> usize {
             "walk" => ours_walk(at, len, times),
             "decode" => ours_decode(at, len, times),
             "check" => ours_check(at, len, times),
+            "judge" => ours_judge(at, len, times),
+            "rule" => {
+                let text = bounded_rule(size);
+                ours_rule(text.as_ptr(), text.len(), at, len, times)
+            }
             "encode" => ours_encode(at, len, times),
             "frame" => ours_frame(at, len, size, times),
             _ => panic!("no operation {operation}"),

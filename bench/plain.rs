@@ -282,6 +282,11 @@ pub fn run(operation: &str, octets: &[u8], times: u32, size: usize) -> usize {
             let (dictionary, message) = (dictionary(), message());
             (0..times).map(|_| usize::from(dictionary.check(black_box(&message)))).sum()
         }
+        "judge" => {
+            let dictionary = dictionary();
+            let is_good = |octets| decode(octets).is_some_and(|message| dictionary.check(&message));
+            (0..times).map(|_| usize::from(is_good(black_box(octets)))).sum()
+        }
         "encode" => {
             let message = message();
             (0..times).map(|_| black_box(encode(black_box(&message)).unwrap()).len()).sum()

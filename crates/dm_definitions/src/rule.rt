@@ -60,6 +60,9 @@ impl Model for Rule {
     ghost invariant = { IsNamed };
 }
 
+/// The most entries among which a name is sooner found one by one than by its hash.
+const SHORT_RULE: usize = 16;
+
 /// The name has the place, unless it has one.
 fn note_place(
     alloc: Global,
@@ -88,6 +91,25 @@ fn places(alloc: Global, entries: &[Entry]) -> Result<IndexMap<Vec<u8>, usize>, 
         note_place(alloc, &mut names, entry.name.as_slice(), place)?;
     }
     Ok(names)
+}
+
+/// The place of the first of the entries that has the name, from 0, by their names one after the other.
+fn place_among(entries: &[Entry], name: &[u8]) -> Option<usize>
+    ensures { result ≡ position_from (λ e. pointwise nat_eq name.now e.name) 0 entries.now }
+{
+    for (place, entry) in entries.iter().enumerate() {
+        if name == entry.name.as_slice() {
+            return Some(place);
+        }
+    }
+    None
+}
+
+/// The place that the name has.
+fn place_noted(names: &IndexMap<Vec<u8>, usize>, name: &[u8]) -> Option<usize>
+    ensures { result ≡ get_by (λ k. pointwise nat_eq name.now k.items) names.now }
+{
+    names.get(name).copied()
 }
 
 impl Rule {
@@ -125,7 +147,11 @@ impl Rule {
     pub fn place(&self, name: &[u8]) -> Option<usize>
         ensures { result ≡ position_from (λ e. pointwise nat_eq name.now e.name) 0 self.now }
     {
-        self.names.get(name).copied()
+        if self.items.len() <= SHORT_RULE {
+            place_among(self.as_slice(), name)
+        } else {
+            place_noted(&self.names, name)
+        }
     }
 }
 

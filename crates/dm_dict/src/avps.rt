@@ -123,5 +123,5 @@ pub(crate) fn judge_list<'a>(
         count_one(&mut counts, 0, at);
         left = rest;
     }
-    judge_entries(dictionary, rule, counts, list)
+    judge_entries(dictionary, rule, &counts, list)
 }

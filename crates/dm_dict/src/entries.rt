@@ -100,23 +100,23 @@ fn judge_entry<'a>(
     }
 }
 
-/// The end of the 64 entries from `from` on, or of the entries.
+/// The end of the 128 entries from `from` on, or of the entries.
 fn window_end(size: usize, from: usize) -> usize
     requires { from ≤ size }
     ensures above { from ≤ result }
     ensures within { result ≤ size }
-    ensures most { result ≤ from + 64 }
-    ensures last { (result ≡ size) ⊎ (result ≡ from + 64) }
+    ensures most { result ≤ from + 128 }
+    ensures last { (result ≡ size) ⊎ (result ≡ from + 128) }
 {
-    if size - from < 64 { size } else { from + 64 }
+    if size - from < 128 { size } else { from + 128 }
 }
 
-/// The first fault of the 64 entries from `from` on.
+/// The first fault of the 128 entries from `from` on.
 fn judge_window<'a>(
     dictionary: &Definitions,
     rule: &Rule,
     from: usize,
-    counts: &[usize; 64],
+    counts: &[usize; 128],
     list: AvpsRef<'a>,
 ) -> Judged<'a>
     requires fit { IsFit dictionary.now.avps }
@@ -124,7 +124,7 @@ fn judge_window<'a>(
     requires within { from ≤ length rule.now }
     ensures { (l : List Avp) → Lists list.entry l → IsCounted dictionary.now.avps rule.now l from counts.now
         → first (flat_map (entry_faults dictionary.now.avps rule.now l) (drop from rule.now))
-        ≡ before (shown result) (first (flat_map (entry_faults dictionary.now.avps rule.now l) (drop (from + 64) rule.now))) }
+        ≡ before (shown result) (first (flat_map (entry_faults dictionary.now.avps rule.now l) (drop (from + 128) rule.now))) }
 {
     for at in from..window_end(rule.as_slice().len(), from) {
         match judge_entry(dictionary, rule, at, counts[at - from], list) {
@@ -135,31 +135,49 @@ fn judge_window<'a>(
     Judged::Good
 }
 
-/// The first fault of the entries of the rule, where the first 64 count so many AVPs of the list.
+/// The first fault of the entries from the 128th on. Each 128 of them look all AVPs up once more.
+fn judge_further<'a>(dictionary: &Definitions, rule: &Rule, list: AvpsRef<'a>) -> Judged<'a>
+    requires fit { IsFit dictionary.now.avps }
+    requires apart { IsApart rule.now }
+    requires fits { size_of list < 2 ^ 64 }
+    requires many { 128 < length rule.now }
+    ensures { (l : List Avp) → Lists list.entry l
+        → shown result ≡ first (flat_map (entry_faults dictionary.now.avps rule.now l) (drop 128 rule.now)) }
+{
+    let size = rule.as_slice().len();
+    let mut from = 128;
+    loop {
+        let counts = counts_from(dictionary, rule, from, list);
+        match judge_window(dictionary, rule, from, &counts, list) {
+            Judged::Good => {}
+            Judged::Bad { code, failed } => return Judged::Bad { code, failed },
+        }
+        if size - from <= 128 {
+            return Judged::Good;
+        }
+        from += 128;
+    }
+}
+
+/// The first fault of the entries of the rule, where the first 128 count so many AVPs of the list.
 pub(crate) fn judge_entries<'a>(
     dictionary: &Definitions,
     rule: &Rule,
-    counts: [usize; 64],
+    counts: &[usize; 128],
     list: AvpsRef<'a>,
 ) -> Judged<'a>
     requires fit { IsFit dictionary.now.avps }
     requires apart { IsApart rule.now }
     requires fits { size_of list < 2 ^ 64 }
-    ensures { (l : List Avp) → Lists list.entry l → IsCounted dictionary.now.avps rule.now l 0 counts
+    ensures { (l : List Avp) → Lists list.entry l → IsCounted dictionary.now.avps rule.now l 0 counts.now
         → shown result ≡ first (flat_map (entry_faults dictionary.now.avps rule.now l) rule.now) }
 {
-    let size = rule.as_slice().len();
-    let mut counts = counts;
-    let mut from = 0;
-    loop {
-        match judge_window(dictionary, rule, from, &counts, list) {
-            Judged::Good => {}
-            Judged::Bad { code, failed } => return Judged::Bad { code, failed },
-        }
-        if size - from <= 64 {
-            return Judged::Good;
-        }
-        from += 64;
-        counts = counts_from(dictionary, rule, from, list);
+    match judge_window(dictionary, rule, 0, counts, list) {
+        Judged::Good => {}
+        Judged::Bad { code, failed } => return Judged::Bad { code, failed },
     }
+    if rule.as_slice().len() <= 128 {
+        return Judged::Good;
+    }
+    judge_further(dictionary, rule, list)
 }

@@ -1,7 +1,10 @@
 //! Messages in hexadecimal, one a line, and what is printed for each.
-ghost use Rattle.std.specs.Prelude.{◌≡◌, ◌++◌, ◌⊎◌, ℕ, List, OnOk, IfOk, IfErr};
+ghost use Rattle.std.specs.Prelude.{◌≡◌, ◌≢◌, ◌++◌, ◌∷◌, ◌⊎◌, [], false, ℕ, List, OnOk, IfOk, IfErr};
 ghost use Rattle.dm_tool.specs.HexLines.{PrintsMessage, PrintsFault, PrintsLine, PrintsAll};
-ghost use Rattle.dm_tool.specs.Check.{is_good, verdict_line};
+ghost use Rattle.dm_wire.specs.declared.fault.WireFault.TheVariants as wire;
+ghost use Rattle.dm_tool.specs.Check.{checked, is_good, verdict_line};
+ghost use Rattle.dm_tool.specs.Show.{shown};
+ghost use Rattle.dm_tool.specs.Text.{fault_text};
 ghost use Rattle.dm_tool.specs.Tasks.{answer_of};
 
 use crate::fault::ToolFault;
@@ -9,7 +12,7 @@ use crate::text::{push_fault, push_message_text};
 use crate::verdict::push_verdict;
 use dm_dict::{Dictionary, Verdict};
 use dm_text::{Lines, is_skipped, read_hex_line, trim};
-use dm_wire::Message;
+use dm_wire::{Message, MessageRef, WireFault};
 use std::alloc::{AllocError, Global};
 
 /// What is printed for a message.
@@ -75,39 +78,60 @@ fn print_octets(
         × (PrintsMessage (answer_of task.entry) octets.now more good ⊎ PrintsFault octets.now more good)) }
     ensures fault { IfErr result (λ e. e ≡ ToolFault.Memory) }
 {
-    match Message::decode(alloc, octets) {
-        Ok(message) => print_message(alloc, task, &message, text),
-        Err(fault) => {
-            push_fault(text, fault)?;
-            text.push(b'\n')?;
-            Ok(false)
-        }
+    match task {
+        Task::Show => show_octets(alloc, octets, text),
+        Task::Check(dictionary) => check_octets(alloc, dictionary, octets, text),
     }
 }
 
-/// Appends the text for a message.
-fn print_message(
-    alloc: Global,
-    task: Task<'_>,
-    message: &Message,
-    text: &mut Vec<u8>,
-) -> Result<bool, ToolFault>
-    ensures printed { IfOk result (λ good. text.new.items ≡ text.old.items ++ (answer_of task.entry message.now).0) }
-    ensures good { IfOk result (λ good. good ≡ (answer_of task.entry message.now).1) }
+/// Appends the text of the message that the octets spell, or of their fault.
+fn show_octets(alloc: Global, octets: &[u8], text: &mut Vec<u8>) -> Result<bool, ToolFault>
+    ensures printed { IfOk result (λ good. (more : List ℕ) × (text.new.items ≡ text.old.items ++ more)
+        × (PrintsMessage shown octets.now more good ⊎ PrintsFault octets.now more good)) }
     ensures fault { IfErr result (λ e. e ≡ ToolFault.Memory) }
 {
-    match task {
-        Task::Show => {
-            push_message_text(text, message)?;
+    match Message::decode(alloc, octets) {
+        Ok(message) => {
+            push_message_text(text, &message)?;
             Ok(true)
         }
-        Task::Check(dictionary) => {
-            let verdict = dictionary.check(alloc, message)?;
+        Err(fault) => Ok(print_fault(text, fault)?),
+    }
+}
+
+/// Appends the verdict on the message that the octets spell, or their fault. Of the message nothing is copied but the
+/// failed AVP, which is printed.
+fn check_octets(
+    alloc: Global,
+    dictionary: &Dictionary,
+    octets: &[u8],
+    text: &mut Vec<u8>,
+) -> Result<bool, ToolFault>
+    ensures printed { IfOk result (λ good. (more : List ℕ) × (text.new.items ≡ text.old.items ++ more)
+        × (PrintsMessage (checked dictionary.now) octets.now more good ⊎ PrintsFault octets.now more good)) }
+    ensures fault { IfErr result (λ e. e ≡ ToolFault.Memory) }
+{
+    match MessageRef::read(octets) {
+        Ok(message) => {
+            let verdict = dictionary.judge(&message).verdict(alloc)?;
             let good = print_verdict(&verdict, text);
             drop(verdict);
             Ok(good?)
         }
+        Err(fault) => print_fault(text, fault),
     }
+}
+
+/// Appends the line for a fault of octets, which aren't good.
+fn print_fault(text: &mut Vec<u8>, fault: WireFault) -> Result<bool, ToolFault>
+    ensures words { IfOk result (λ good. text.new.items ≡ text.old.items ++ fault_text fault ++ 10 ∷ []) }
+    ensures known { IfOk result (λ good. fault ≢ wire.NoMemory) }
+    ensures bad { IfOk result (λ good. good ≡ false) }
+    ensures fault { IfErr result (λ e. e ≡ ToolFault.Memory) }
+{
+    push_fault(text, fault)?;
+    text.push(b'\n')?;
+    Ok(false)
 }
 
 /// Appends the line for a verdict, and tells whether it is good.

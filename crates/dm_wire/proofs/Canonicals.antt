@@ -1,11 +1,12 @@
 -- Canonical spellings spell what they are made of.
-use Rattle.std.proofs.Common.{◌≡◌, ◌<◌, ℕ, ◌+◌, ◌-◌, ◌*◌, ◌/◌, ◌%◌, ◌^◌, Bool, true, false, IfSome, is_some, List, [], ◌∷◌, ◌++◌, length, get_or, take, refl, sym, ◌∙◌, ap, arith, append_assoc, append-nil, length-append}
+use Rattle.std.proofs.Common.{◌≡◌, ◌<◌, ◌≤◌, ℕ, zero, suc, ◌+◌, ◌-◌, ◌*◌, ◌/◌, ◌%◌, ◌^◌, Bool, true, false, IfSome, is_some, List, [], ◌∷◌, ◌++◌, length, get_or, take, refl, sym, ◌∙◌, ap, arith, append_assoc, append-nil, length-append}
 use Rattle.std.proofs.lemmas.List.{length-replicate, take_more}
 use Rattle.std.proofs.lemmas.Grind.{flat_map-append}
 use Rattle.std.specs.List.{flat_map}
 use Rattle.dm_wire.specs.declared.avp.Avp.{Avp}
 use Rattle.dm_wire.specs.Spelling.{be, is_set, avp_length, vendor_octets, SpellsAvp, SpellsList}
 use Rattle.dm_wire.specs.Canonical.{worth, avp_flags, zeros, canonical_avp, canonical_list}
+use Rattle.dm_wire.proofs.Fronts.{header_above}
 use Rattle.dm_wire.proofs.Lists.{list_push}
 use Rattle.dm_wire.proofs.Spellings.{front, size_of}
 
@@ -75,6 +76,29 @@ pub list_more_spelled : (l : List Avp) (i : ℕ) (a : Avp) → i < length l → 
 list_more_spelled l i a h e sl sa =
     let more : take (i + 1) l ≡ take i l ++ a ∷ [] = take_more l i a h ∙ ap (λ b. take i l ++ b ∷ []) (sym e) in
     rw (list_more l i a h e, more) (list_push (take i l) a (canonical_list (take i l)) (canonical_avp a) sl sa)
+
+-- each AVP takes at least 8 octets
+pub list_least : (l : List Avp) → 8 * length l ≤ length (canonical_list l)
+list_least [] = omega arith
+list_least (a ∷ l) =
+    let behind = list_least l in
+    let size = canonical_size a in
+    let above = header_above a.vendor in
+    omega (arith, length-append (canonical_avp a) (canonical_list l), size, above, behind)
+
+-- and at most 16777216, where it has a spelling
+pub list_most : (l : List Avp) (s : List ℕ) → SpellsList l s → length (canonical_list l) ≤ 16777216 * length l
+list_most [] s sp = omega arith
+list_most (a ∷ l) s sp =
+    let behind = list_most l sp.1 sp.4 in
+    let size = canonical_size a in
+    let fits : avp_length a < 256 ^ 3 = (sp.3).length_fits in
+    omega (arith, length-append (canonical_avp a) (canonical_list l), size, behind)
+
+-- one of two counts that add up to some
+pub either : {P : Type 0} (n k : ℕ) → 0 < n + k → (0 < n → P) → (0 < k → P) → P
+either zero k h f g = g (omega arith)
+either (suc n) k h f g = f (omega arith)
 
 -- header, Vendor-ID, data and padding, appended in turn
 pub avp_put : (a : Avp) (n : ℕ) (o0 o1 o2 o3 o4 header bytes : List ℕ) → n ≡ avp_length a → header ≡ be a.code 4 ++ avp_flags a ∷ be n 3 → bytes ≡ a.bytes

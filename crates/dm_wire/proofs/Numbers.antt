@@ -1,5 +1,5 @@
 -- Numbers in network byte order, read and written again.
-use Rattle.std.proofs.Common.{◌≡◌, ◌<◌, ◌≤◌, ℕ, ◌+◌, ◌*◌, ◌/◌, ◌%◌, List, [], ◌∷◌, length, take, refl, arith, slice_index, Fits, w8, Bool, true, false, not, nat_eq, ap, eqb-true}
+use Rattle.std.proofs.Common.{◌≡◌, ◌<◌, ◌≤◌, ℕ, ◌+◌, ◌*◌, ◌/◌, ◌%◌, List, [], ◌∷◌, length, take, drop, refl, arith, slice_index, Fits, w8, Bool, true, false, not, nat_eq, ap, eqb-true}
 use Rattle.std.proofs.Math.Facts.{Fits-lt-pow}
 use Rattle.byteorder.specs.Endian.{big_number}
 use Rattle.dm_wire.specs.Spelling.{be}
@@ -51,3 +51,18 @@ not_zero n h = go (nat_eq n 0) refl where
   go : (b : Bool) → nat_eq n 0 ≡ b → not (nat_eq n 0) ≡ true
   go true e = absurd (h (eqb-true n 0 e))
   go false e = ap not e
+
+-- a number of four octets, parted behind the first
+pub parted : (s : List ℕ) → IsOctets s → 4 ≤ length s → (big_number 4 s / 16777216 ≡ slice_index s 0) × (big_number 4 s % 16777216 ≡ big_number 3 (drop 1 s))
+parted [] o h = absurd (omega arith)
+parted (a ∷ []) o h = absurd (omega arith)
+parted (a ∷ b ∷ []) o h = absurd (omega arith)
+parted (a ∷ b ∷ c ∷ []) o h = absurd (omega arith)
+parted (a ∷ b ∷ c ∷ d ∷ r) o h =
+    let hb : b < 256 = o 1 in
+    let hc : c < 256 = o 2 in
+    let hd : d < 256 = o 3 in
+    let n : ℕ = a * 16777216 + (b * 65536 + (c * 256 + (d * 1 + 0))) in
+    let front : n / 16777216 ≡ a = omega arith in
+    let behind : n % 16777216 ≡ b * 65536 + (c * 256 + (d * 1 + 0)) = omega arith in
+    (front, behind)

@@ -1,5 +1,5 @@
 -- What is read of octets, and why they are refused.
-use Rattle.std.proofs.Common.{◌≡◌, ◌<◌, ◌≤◌, ◌⊎◌, inl, inr, ◌↔◌, Result, Ok, Err, IfOk, IfErr, IsOkAnd, IsErr, IsErrOf, ℕ, ◌+◌, ◌%◌, Bool, true, false, Option, None, Some, is_some, option_map, List, [], ◌++◌, length, take, drop, slice_index, nat_eq, eqb-true, refl, sym, ◌∙◌, ap, subst, arith, append-nil}
+use Rattle.std.proofs.Common.{◌≡◌, ◌<◌, ◌≤◌, ◌⊎◌, inl, inr, ◌↔◌, Result, Ok, Err, IfOk, IfErr, IsOkAnd, IsErr, IsErrOf, ℕ, ◌+◌, ◌%◌, Bool, true, false, Option, None, Some, is_some, option_map, List, [], ◌∷◌, ◌++◌, length, take, drop, slice_index, nat_eq, eqb-true, refl, sym, ◌∙◌, ap, subst, arith, append-nil}
 use Rattle.std.proofs.lemmas.List.{take-append-drop, length-drop, drop-drop, drop-take}
 use Rattle.byteorder.specs.Endian.{big_number}
 use Rattle.dm_wire.specs.declared.avp.Avp.{Avp}
@@ -69,24 +69,22 @@ pub exactly : {V : Type 0} (r : Result V WireFault) (s : List ℕ) (f : WireFaul
     → IfErr r (λ g. ((m : Message) × (g ≡ NoMemory) × SpellsMessage m s) ⊎ Refuses s g) → (f ≡ NoMemory → ⊥) → IsErrOf r f ↔ Refuses s f
 exactly r s f ok err n = (told r s f err n, refused r s f ok err)
 
--- memory is wanted only for octets that are spelled
-pub memory_for : {V : Type 0} (r : Result V WireFault) (s : List ℕ)
-    → IfErr r (λ g. ((m : Message) × (g ≡ NoMemory) × SpellsMessage m s) ⊎ Refuses s g) → IsErrOf r NoMemory → (m : Message) × SpellsMessage m s
-memory_for (Ok v) s err e = absurd (cc)
-memory_for (Err g) s (inl m) e = (m.0, m.2)
-memory_for (Err g) s (inr k) e = absurd (let is : g ≡ NoMemory = cc in rw is at k)
-
 -- what is read is spelled
 pub spelled_ok : (r : Result Message WireFault) (s : List ℕ) → IfOk r (λ m. SpellsMessage m s) → IfOk r (λ _. (m : Message) × SpellsMessage m s)
 spelled_ok (Ok m) s h = (m, h)
 spelled_ok (Err f) s h = tt
 
--- of a list, the same
-pub refused_list : {V : Type 0} (items : V → List Avp) (r : Result V WireFault) (s : List ℕ) (o : ℕ) → IfOk r (λ v. SpellsList (items v) s)
-    → IfErr r (λ g. ((l : List Avp) × (g ≡ NoMemory) × SpellsList l s) ⊎ ((p : ℕ) × (g ≡ AvpLength p) × IsBadAt 0 s p)) → IsBadAt 0 s o → IsErrOf r (AvpLength o)
-refused_list items (Ok v) s o ok err h = absurd (no_bad_in_list 0 (items v) s o ok h)
-refused_list items (Err g) s o ok (inl l) h = absurd (no_bad_in_list 0 l.0 s o l.2 h)
-refused_list items (Err g) s o ok (inr k) h = ap Err (k.1 ∙ ap AvpLength (one_bad 0 s k.0 o k.2 h))
+-- why a list isn't read: want of memory where one is spelled, else the first bad AVP
+abbrev pub ListCause : List ℕ → WireFault → Type 0
+ListCause s g = ((l : List Avp) × (g ≡ NoMemory) × SpellsList l s) ⊎ ((o : ℕ) × (g ≡ AvpLength o) × IsBadAt 0 s o)
+
+pub list_memory : (g : WireFault) (s : List ℕ) (l : List Avp) → ListCause s g → SpellsList l s → g ≡ NoMemory
+list_memory g s l (inl m) sp = m.1
+list_memory g s l (inr k) sp = absurd (no_bad_in_list 0 l s k.0 sp k.2)
+
+pub bad_told : (g : WireFault) (s : List ℕ) (o : ℕ) → ListCause s g → IsBadAt 0 s o → g ≡ AvpLength o
+bad_told g s o (inl m) bad = absurd (no_bad_in_list 0 m.0 s o m.2 bad)
+bad_told g s o (inr k) bad = k.1 ∙ ap AvpLength (one_bad 0 s k.0 o k.2 bad)
 
 -- a message that is spelled is read
 pub only_read : (h : Header) (rest s : List ℕ) (m k : Message) → SpellsMessage k s → k.header ≡ h → SpellsList k.avps rest → SpellsMessage m s
@@ -112,10 +110,8 @@ by_cause (Ok v) s err = tt
 by_cause (Err g) s (inl m) = inl m.1
 by_cause (Err g) s (inr k) = inr k
 
--- where octets have members, and those in front of the rest were pushed and the rest has none, all were
-pub all_pushed : (s rest : List ℕ) (l : List Avp) → IsOctets s → is_some (members s) ≡ true → members s ≡ option_map (λ k. l ++ k) (members rest)
-    → (rest ≡ []) ⊎ (members rest ≡ None) → SpellsList l s
-all_pushed s rest l i some e (inl nil) =
-    members_spelled (length s) s l (omega arith) i (e ∙ ap (option_map (λ k. l ++ k)) (ap members nil ∙ members_nil) ∙ ap Some (append-nil l))
-all_pushed s rest l i some e (inr none) =
-    absurd (let gone : members s ≡ None = e ∙ ap (option_map (λ k. l ++ k)) none in let t = rw gone at some in cc)
+-- where nothing is left behind the members that were pushed, they are all
+pub all_pushed : (s rest : List ℕ) (l : List Avp) → IsOctets s → members s ≡ option_map (λ k. l ++ k) (members rest) → nat_eq (length rest) 0 ≡ true → SpellsList l s
+all_pushed s [] l i e nil =
+    members_spelled (length s) s l (omega arith) i (e ∙ ap (option_map (λ k. l ++ k)) members_nil ∙ ap Some (append-nil l))
+all_pushed s (x ∷ rest) l i e nil = absurd (let none : length (x ∷ rest) ≡ 0 = eqb-true (length (x ∷ rest)) 0 nil in omega arith)

@@ -1,51 +1,93 @@
 //! Messages and lists of AVPs from octets (RFC 6733, 3 and 4.1).
-ghost use Rattle.std.specs.Prelude.{◌≡◌, ◌≢◌, ◌⊎◌, ◌↔◌, true, ℕ, List, [], is_some, IfOk, OnOk, IfErr, IsErrOf, MatchResult};
+ghost use Rattle.std.specs.Prelude.{◌≡◌, ◌≢◌, ◌≤◌, ◌⊎◌, ◌↔◌, true, ℕ, List, [], Ok, IfOk, IfErr, IsErrOf, IfSome, MatchResult};
 ghost use Rattle.dm_wire.specs.declared.avp.Avp.{Avp};
 ghost use Rattle.dm_wire.specs.declared.fault.WireFault.{WireFault};
-ghost use Rattle.dm_wire.specs.Members.{members};
 ghost use Rattle.dm_wire.specs.Spelling.{SpellsList, SpellsMessage};
 ghost use Rattle.dm_wire.specs.Refusal.{IsTooShort, IsOtherVersion, IsOtherLength, IsBadAt, Refuses};
 
 use crate::list::first_member;
-use crate::message_ref::read_counted;
-use crate::walk::count_avps;
-use crate::{Avp, AvpList, Message, WireFault};
+use crate::message_ref::HEADER_LEN;
+use crate::read::{first_avp, read_header};
+use crate::walk::walk_avps;
+use crate::{Avp, AvpList, Message, MessageRef, WireFault};
 use std::alloc::{AllocError, Global};
 
-/// Copies of the AVPs that the octets are, pushed one after the other.
-fn push_avps(alloc: Global, avps: &mut Vec<Avp>, octets: &[u8]) -> Result<(), AllocError>
-    requires spelled { is_some (members octets.now) ≡ true }
+/// The most AVPs that are counted ahead, so that their list takes its room at once. A longer one grows as it is read.
+const SHORT_LIST: usize = 25;
+
+/// How many AVPs the octets begin with, or 0 where they are more than a short list has.
+fn short_count(octets: &[u8]) -> usize
+    ensures { result ≤ 25 }
+{
+    let mut left = octets;
+    for count in 0..SHORT_LIST + 1 {
+        let Some((_, size)) = first_avp(left) else {
+            return count;
+        };
+        left = &left[size..];
+    }
+    0
+}
+
+/// Copies of the AVPs at the front of the octets, pushed one after the other, and whether the octets are no more.
+// (A function of its own in the machine's code too: among its caller's values the loop would lack registers.)
+#[inline(never)]
+fn push_avps(alloc: Global, avps: &mut Vec<Avp>, octets: &[u8]) -> Result<bool, AllocError>
     requires empty { avps.old.items ≡ [] }
-    ensures { OnOk result (SpellsList avps.new.items octets.now) }
+    ensures { result ≡ Ok true → SpellsList avps.new.items octets.now }
 {
     let mut left = octets;
     while let Some((avp, size)) = first_member(left) {
         avps.push(avp.copied(alloc)?)?;
         left = &left[size..];
     }
-    Ok(())
+    Ok(left.is_empty())
 }
 
-/// Copies of the AVPs that the octets are, of which there are so many.
-fn copy_avps(alloc: Global, octets: &[u8], count: usize) -> Result<Vec<Avp>, AllocError>
-    requires { is_some (members octets.now) ≡ true }
-    ensures { IfOk result (λ avps. SpellsList avps.items octets.now) }
+/// Copies of the AVPs that the octets are. `None` where they are no AVPs, or memory runs out.
+fn copy_avps(alloc: Global, octets: &[u8]) -> Option<Vec<Avp>>
+    ensures { IfSome result (λ avps. SpellsList avps.items octets.now) }
 {
-    let mut avps = Vec::with_capacity(alloc, count)?;
-    let done = push_avps(alloc, &mut avps, octets);
-    done.and(Ok(avps))
+    let mut avps = Vec::with_capacity(alloc, short_count(octets)).ok()?;
+    match push_avps(alloc, &mut avps, octets) {
+        Ok(true) => Some(avps),
+        _ => None,
+    }
 }
 
-/// The message that the octets spell, or why they spell none. A first walk finds a bad AVP and counts the others.
+/// Why no AVPs came of these octets: a bad one, or want of memory.
+fn list_fault(octets: &[u8]) -> WireFault
+    ensures { ((l : List Avp) × (result ≡ WireFault.NoMemory) × SpellsList l octets.now)
+        ⊎ ((o : ℕ) × (result ≡ WireFault.AvpLength o) × IsBadAt 0 octets.now o) }
+{
+    match walk_avps(octets) {
+        Ok(_) => WireFault::NoMemory,
+        Err(offset) => WireFault::AvpLength(offset),
+    }
+}
+
+/// Why no message came of these octets: what is wrong with them, or want of memory.
+fn message_fault(octets: &[u8]) -> WireFault
+    ensures { ((m : Message) × (result ≡ WireFault.NoMemory) × SpellsMessage m octets.now) ⊎ Refuses octets.now result }
+{
+    match MessageRef::read(octets) {
+        Ok(_) => WireFault::NoMemory,
+        Err(fault) => fault,
+    }
+}
+
+/// The message that the octets spell, or why they spell none. Where its AVPs can't be copied, a walk tells why.
 fn read_message(alloc: Global, octets: &[u8]) -> Result<Message, WireFault>
     ensures found { IfOk result (λ message. SpellsMessage message octets.now) }
     ensures fault { IfErr result (λ fault.
         ((m : Message) × (fault ≡ WireFault.NoMemory) × SpellsMessage m octets.now) ⊎ Refuses octets.now fault) }
 {
-    let (read, count) = read_counted(octets)?;
-    let avps = copy_avps(alloc, read.rest, count)?;
+    let header = read_header(octets)?;
+    let Some(avps) = copy_avps(alloc, &octets[HEADER_LEN..]) else {
+        return Err(message_fault(octets));
+    };
     Ok(Message {
-        header: read.header,
+        header,
         avps: AvpList::from_vec(avps),
     })
 }
@@ -103,8 +145,8 @@ pub fn decode_avps(alloc: Global, octets: &[u8]) -> Result<Vec<Avp>, WireFault>
     // Memory is wanted only for a list that is spelled.
     ensures memory { IsErrOf result WireFault.NoMemory → (l : List Avp) × SpellsList l octets.now }
 {
-    match count_avps(octets) {
-        Ok(count) => Ok(copy_avps(alloc, octets, count)?),
-        Err(offset) => Err(WireFault::AvpLength(offset)),
+    match copy_avps(alloc, octets) {
+        Some(avps) => Ok(avps),
+        None => Err(list_fault(octets)),
     }
 }

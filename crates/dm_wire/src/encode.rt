@@ -1,5 +1,5 @@
 //! Messages and lists of AVPs to octets (RFC 6733, 3 and 4.1).
-ghost use Rattle.std.specs.Prelude.{◌≡◌, ◌⊎◌, ◌↔◌, ℕ, List, IfOk, IfErr, IfSome, IfNone, IsErrOf};
+ghost use Rattle.std.specs.Prelude.{◌≡◌, ◌<◌, ◌≤◌, ◌⊎◌, ◌↔◌, ℕ, List, length, IfOk, IfErr, IfSome, IfNone, IsErrOf};
 ghost use Rattle.dm_wire.specs.Spelling.{SpellsList, SpellsMessage};
 ghost use Rattle.dm_wire.specs.Canonical.{canonical_list, canonical_header, canonical_message, message_size};
 ghost use Rattle.dm_wire.specs.Limits.{IsLongList, IsLongMessage};
@@ -14,6 +14,9 @@ const MAX_MESSAGE_LEN: usize = 0xff_fffc;
 
 /// The octets that a header takes.
 const HEADER_LEN: usize = 20;
+
+/// The most AVPs of a message: each takes at least 8 octets.
+const MAX_AVPS: usize = (MAX_MESSAGE_LEN - HEADER_LEN) / 8;
 
 /// The AVPs as octets, one after the other, with zero padding and zero reserved bits, as the data of
 /// a Grouped AVP (RFC 6733, 4.4).
@@ -37,6 +40,24 @@ pub fn encode_avps(alloc: Global, avps: &[Avp]) -> Result<Vec<u8>, WireFault>
     Ok(list)
 }
 
+/// How many octets the AVPs of a message take. `None` where the Length of one, or the Message Length, doesn't fit.
+fn message_rest(avps: &[Avp]) -> Option<usize>
+    ensures size { IfSome result (λ n. n ≡ length (canonical_list avps.now)) }
+    ensures fits { IfSome result (λ n. n ≤ 16777192) }
+    ensures spelled { IfSome result (λ n. SpellsList avps.now (canonical_list avps.now)) }
+    ensures none { IfNone result (IsLongList avps.now ⊎ (16777192 < length (canonical_list avps.now))) }
+{
+    // So few AVPs that the sum of their sizes is exact.
+    if avps.len() > MAX_AVPS {
+        return None;
+    }
+    let rest = list_size(avps)?;
+    if rest > MAX_MESSAGE_LEN - HEADER_LEN {
+        return None;
+    }
+    Some(rest)
+}
+
 /// The header of the message as octets, and how many octets the whole takes. `None` where a field is
 /// too small for what it must hold.
 fn sized_header(message: &Message) -> Option<([u8; 20], usize)>
@@ -46,10 +67,7 @@ fn sized_header(message: &Message) -> Option<([u8; 20], usize)>
     ensures spelled { IfSome result (λ sized. SpellsMessage message.now (canonical_message message.now)) }
     ensures none { IfNone result (IsLongMessage message.now) }
 {
-    let rest = list_size(message.avps.as_slice())?;
-    if rest > MAX_MESSAGE_LEN - HEADER_LEN {
-        return None;
-    }
+    let rest = message_rest(message.avps.as_slice())?;
     let size = HEADER_LEN + rest;
     let header = header_octets(message.header, size as u32)?;
     Some((header, size))

@@ -1,5 +1,5 @@
 //! Messages where they lie (RFC 6733, 3).
-ghost use Rattle.std.specs.Prelude.{◌≡◌, ◌≢◌, ◌↔◌, true, ℕ, List, length, drop, is_some, IfOk, IsOkAnd, IfErr, IsErrOf};
+ghost use Rattle.std.specs.Prelude.{◌≡◌, ◌≢◌, ◌↔◌, true, ℕ, List, drop, is_some, IfOk, IsOkAnd, IfErr, IsErrOf};
 ghost use Rattle.dm_wire.specs.declared.avp.Avp.{Avp};
 ghost use Rattle.dm_wire.specs.declared.fault.WireFault.{WireFault};
 ghost use Rattle.dm_wire.specs.declared.message.Message.{Message};
@@ -8,11 +8,11 @@ ghost use Rattle.dm_wire.specs.Spelling.{SpellsList, SpellsMessage};
 ghost use Rattle.dm_wire.specs.Refusal.{IsTooShort, IsOtherVersion, IsOtherLength, IsBadAt, Refuses};
 
 use crate::read::read_header;
-use crate::walk::count_avps;
+use crate::walk::walk_avps;
 use crate::{Header, WireFault};
 
 /// The octets that a header takes.
-const HEADER_LEN: usize = 20;
+pub(crate) const HEADER_LEN: usize = 20;
 
 /// A message where it lies: its header, and the octets that spell its AVPs (RFC 6733, 3).
 #[derive(Clone, Copy, Debug)]
@@ -24,19 +24,19 @@ pub struct MessageRef<'a> {
     pub ghost framed: { is_some (members rest.now) ≡ true },
 }
 
-/// The message that the octets spell, and how many AVPs it has.
-pub(crate) fn read_counted(octets: &[u8]) -> Result<(MessageRef<'_>, usize), WireFault>
-    ensures found { IfOk result (λ read. (avps : List Avp) × SpellsList avps read.0.rest.now × (length avps ≡ read.1)
-        × SpellsMessage (record { header = read.0.header; avps = avps }) octets.now) }
-    ensures rest { IfOk result (λ read. read.0.rest.now ≡ drop 20 octets.now) }
-    ensures each { IfOk result (λ read. (avps : List Avp) → SpellsList avps read.0.rest.now
-        → SpellsMessage (record { header = read.0.header; avps = avps }) octets.now) }
+/// The message that the octets spell, or what is wrong with them.
+fn read_spelled(octets: &[u8]) -> Result<MessageRef<'_>, WireFault>
+    ensures found { IfOk result (λ read. (avps : List Avp) × SpellsList avps read.rest.now
+        × SpellsMessage (record { header = read.header; avps = avps }) octets.now) }
+    ensures rest { IfOk result (λ read. read.rest.now ≡ drop 20 octets.now) }
+    ensures each { IfOk result (λ read. (avps : List Avp) → SpellsList avps read.rest.now
+        → SpellsMessage (record { header = read.header; avps = avps }) octets.now) }
     ensures fault { IfErr result (Refuses octets.now) }
 {
     let header = read_header(octets)?;
     let rest = &octets[HEADER_LEN..];
-    match count_avps(rest) {
-        Ok(count) => Ok((MessageRef { header, rest }, count)),
+    match walk_avps(rest) {
+        Ok(()) => Ok(MessageRef { header, rest }),
         Err(offset) => Err(WireFault::AvpLength(HEADER_LEN + offset)),
     }
 }
@@ -64,7 +64,7 @@ impl<'a> MessageRef<'a> {
         ensures fault { IfErr result (Refuses octets.now) }
         ensures refuses { (fault : WireFault) → Refuses octets.now fault → IsErrOf result fault }
     {
-        let (read, _) = read_counted(octets)?;
+        let read = read_spelled(octets)?;
         Ok(read)
     }
 }

@@ -29,8 +29,10 @@ fn avp_header(avp: &Avp, length: u32) -> [u8; 8]
 {
     let mut header = [0; 8];
     BigEndian::write_u32(&mut header, avp.code);
-    header[4] = avp_flag_octet(avp);
-    BigEndian::write_u24(&mut header[5..], length);
+    BigEndian::write_u32(
+        &mut header[4..],
+        u32::from(avp_flag_octet(avp)) * 0x100_0000 + length,
+    );
     header
 }
 
@@ -79,8 +81,10 @@ pub(crate) fn put_list(out: &mut Vec<u8>, avps: &[Avp]) -> Result<(), AllocError
     requires { SpellsList avps.now (canonical_list avps.now) }
     ensures { OnOk result (out.new.items ≡ out.old.items ++ canonical_list avps.now) }
 {
-    for avp in avps {
+    let mut left = avps;
+    while let [avp, rest @ ..] = left {
         put_avp(out, avp)?;
+        left = rest;
     }
     Ok(())
 }

@@ -1,11 +1,23 @@
 //! The first AVP of octets, and the header of a message (RFC 6733, 3 and 4.1).
-ghost use Rattle.std.specs.Prelude.{◌≡◌, ◌<◌, ◌≤◌, ◌⊎◌, ◌↔◌, length, take, IfOk, IfErr, IfSome, IfNone, IsErrOf};
+ghost use Rattle.std.specs.Prelude.{◌≡◌, ◌^◌, ◌<◌, ◌≤◌, ◌⊎◌, ◌↔◌, length, take, drop, slice_index, IfOk, IfErr, IfSome, IfNone, IsErrOf};
+ghost use Rattle.byteorder.specs.Endian.{big_number};
 ghost use Rattle.dm_wire.specs.Spelling.{SpellsAvp, SpellsHeader};
 ghost use Rattle.dm_wire.specs.Borrowed.{avp_of};
 ghost use Rattle.dm_wire.specs.Refusal.{BeginsWithNoAvp, IsTooShort, IsOtherVersion, IsOtherLength};
 
 use crate::{AvpRef, Header, WireFault};
 use byteorder::{BigEndian, ByteOrder};
+
+/// The flag octet and the AVP Length of an AVP's header: one number is read, and parted.
+fn flags_and_length(octets: &[u8]) -> (u8, usize)
+    requires { 8 ≤ length octets.now }
+    ensures flags { result.0 ≡ slice_index octets.now 4 }
+    ensures len { result.1 ≡ big_number 3 (drop 5 octets.now) }
+    ensures fits { result.1 < 256 ^ 3 }
+{
+    let word = BigEndian::read_u32(&octets[4..]);
+    ((word / 0x100_0000) as u8, (word % 0x100_0000) as usize)
+}
 
 /// The AVP at the front, and how many octets it takes, padding included; `None` where no AVP begins
 /// there. It takes no memory.
@@ -28,8 +40,7 @@ pub fn first_avp(octets: &[u8]) -> Option<(AvpRef<'_>, usize)>
         return None;
     }
     let code = BigEndian::read_u32(octets);
-    let flags = octets[4];
-    let length = BigEndian::read_u24(&octets[5..]) as usize;
+    let (flags, length) = flags_and_length(octets);
     let (vendor, header_len) = if flags & 0x80 == 0 {
         (None, 8)
     } else if octets.len() < 12 {

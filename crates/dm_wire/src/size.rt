@@ -1,5 +1,5 @@
 //! How many octets AVPs take (RFC 6733, 4.1).
-ghost use Rattle.std.specs.Prelude.{◌≡◌, ℕ, ◌+◌, ◌-◌, ◌^◌, ◌<◌, ◌≤◌, List, length, min, IfSome, IfNone};
+ghost use Rattle.std.specs.Prelude.{◌≡◌, ◌-◌, ◌%◌, ◌^◌, ◌<◌, ◌≤◌, length, IfSome, IfNone};
 ghost use Rattle.dm_wire.specs.Spelling.{avp_header_len, avp_length, SpellsAvp, SpellsList};
 ghost use Rattle.dm_wire.specs.Canonical.{canonical_avp, canonical_list};
 ghost use Rattle.dm_wire.specs.Limits.{IsLongAvp, IsLongList};
@@ -16,7 +16,11 @@ impl Avp {
         ensures some { IfSome result (λ n. (n ≡ avp_length self.now) × (n ≤ 16777215)) }
         ensures none { IfNone result (IsLongAvp self.now) }
     {
-        spelled_len(self)
+        let length = avp_len(self);
+        if length > MAX_AVP_LEN {
+            return None;
+        }
+        Some(length as u32)
     }
 }
 
@@ -31,33 +35,40 @@ pub(crate) fn header_len(vendor: Option<u32>) -> usize
     }
 }
 
-/// The AVP Length, where its field holds it: the AVP then has a spelling.
-fn spelled_len(avp: &Avp) -> Option<u32>
-    ensures some { IfSome result (λ n. (n ≡ avp_length avp.now) × (n ≤ 16777215)) }
-    ensures spelled { IfSome result (λ n. SpellsAvp avp.now (canonical_avp avp.now)) }
-    ensures none { IfNone result (IsLongAvp avp.now) }
+/// The octets of header and data.
+fn avp_len(avp: &Avp) -> usize
+    ensures len { result ≡ avp_length avp.now }
+    ensures fits { result < 2 ^ 64 - 3 }
+    ensures spelled { result ≤ 16777215 → SpellsAvp avp.now (canonical_avp avp.now) }
 {
     // The contract speaks of the code, whose range is known once it is read.
     let _code = avp.code;
-    let header = header_len(avp.vendor);
-    let data = avp.bytes.as_slice().len();
-    if data > MAX_AVP_LEN - header {
-        return None;
-    }
-    Some((header + data) as u32)
+    header_len(avp.vendor) + avp.bytes.as_slice().len()
 }
 
-/// The octets that the AVPs take, or the greatest `usize` where they are more. `None` where the
-/// Length of one doesn't fit.
+/// 1 for a Length that its field doesn't hold, else 0: a number to add up, and no branch.
+fn too_long(length: usize) -> usize
+    ensures one { result ≤ 1 }
+    ensures none { result ≡ 0 → length ≤ 16777215 }
+    ensures some { 0 < result → 16777215 < length }
+{
+    usize::from(length > MAX_AVP_LEN)
+}
+
+/// The octets that the AVPs take, of which the lowest 64 bits are told. `None` where the Length of one doesn't fit.
+///
+/// The loop has neither a branch nor an end before the last AVP, so that it becomes vector code.
 pub(crate) fn list_size(avps: &[Avp]) -> Option<usize>
-    ensures some { IfSome result (λ n. n ≡ min (length (canonical_list avps.now)) (2 ^ 64 - 1)) }
+    ensures some { IfSome result (λ n. n ≡ length (canonical_list avps.now) % 2 ^ 64) }
     ensures spelled { IfSome result (λ n. SpellsList avps.now (canonical_list avps.now)) }
     ensures none { IfNone result (IsLongList avps.now) }
 {
     let mut size: usize = 0;
+    let mut long: usize = 0;
     for avp in avps {
-        let length = spelled_len(avp)? as usize;
-        size = size.saturating_add((length + 3) / 4 * 4);
+        let length = avp_len(avp);
+        long += too_long(length);
+        size = size.wrapping_add((length + 3) / 4 * 4);
     }
-    Some(size)
+    if long == 0 { Some(size) } else { None }
 }

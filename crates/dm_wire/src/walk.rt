@@ -1,5 +1,5 @@
 //! The AVPs of octets, one after the other, where they lie (RFC 6733, 4.1).
-ghost use Rattle.std.specs.Prelude.{◌≡◌, true, false, List, length, is_some, IfOk, OnOk, IfErr, OnErr};
+ghost use Rattle.std.specs.Prelude.{◌≡◌, true, false, List, is_some, OnOk, IfErr, OnErr};
 ghost use Rattle.dm_wire.specs.declared.avp.Avp.{Avp};
 ghost use Rattle.dm_wire.specs.Spelling.{SpellsList};
 ghost use Rattle.dm_wire.specs.Refusal.{IsBadAt};
@@ -72,19 +72,18 @@ impl<'a> Iterator for AvpWalk<'a> {
     }
 }
 
-/// How many AVPs the octets are, one after the other, or the first bad octet. It takes no memory.
-pub(crate) fn count_avps(octets: &[u8]) -> Result<usize, usize>
-    ensures count { IfOk result (λ n. (l : List Avp) × SpellsList l octets.now × (length l ≡ n)) }
+/// Whether the octets are AVPs, one after the other; else the first bad octet. It takes no memory.
+pub(crate) fn walk_avps(octets: &[u8]) -> Result<(), usize>
+    ensures list { OnOk result ((l : List Avp) × SpellsList l octets.now) }
     ensures some { OnOk result (is_some (members octets.now) ≡ true) }
     ensures bad { IfErr result (IsBadAt 0 octets.now) }
     ensures none { OnErr result (is_some (members octets.now) ≡ false) }
 {
-    let mut count = 0;
     for read in AvpWalk::new(octets) {
         match read {
-            Ok(_) => count += 1,
+            Ok(_) => {}
             Err(offset) => return Err(offset),
         }
     }
-    Ok(count)
+    Ok(())
 }

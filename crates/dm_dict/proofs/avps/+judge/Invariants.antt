@@ -22,7 +22,7 @@ invariant-judge_list-loop-avp l =
     ≡ first (flat_map (λ a. avp_faults (group_faults l.depth l.dictionary.avps) (allows (entry_for l.rule (definition l.dictionary.avps a))) a (definition l.dictionary.avps a)) m
     ++ flat_map (entry_faults l.dictionary.avps l.rule all) l.rule))
     × IsCountedBut l.dictionary.avps l.rule all m 0 l.counts)
-    × ((i : ℕ) → i < 64 → slice_index l.counts i + size_of l.left ≤ size_of l.list)
+    × ((i : ℕ) → i < 128 → slice_index l.counts i + size_of l.left ≤ size_of l.list)
 
 abbrev pub decreases-judge_list-loop-avp : goal.decreases-judge_list-loop-avp
 decreases-judge_list-loop-avp l = size_of l.left

@@ -2,10 +2,10 @@
 use Rattle.std.proofs.Common.{◌<◌, ◌^◌, arith}
 use Rattle.dm_wire.specs.Spelling.{avp_length}
 use Rattle.dm_wire.proofs.Canonicals.{avp_spelled}
-use Rattle.dm_wire.proofs.size.spelled_len.Goals as goal
+use Rattle.dm_wire.proofs.size.avp_len.Goals as goal
 
 pub returns-clause-spelled : goal.returns-clause-spelled
-returns-clause-spelled c =
+returns-clause-spelled c = λ h.
     let code : c.args.avp.now.code < 256 ^ 4 = omega arith in
-    let len : avp_length c.args.avp.now < 256 ^ 3 = grind (arith, c.header_len-header.ensures, c.as_slice-data.ensures) in
-    avp_spelled c.args.avp.now code len c.header_len-header.ensures.fits
+    let len : avp_length c.args.avp.now < 256 ^ 3 = grind (arith, h, c.header_len.ensures, c.as_slice.ensures) in
+    avp_spelled c.args.avp.now code len c.header_len.ensures.fits
