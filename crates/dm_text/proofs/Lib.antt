@@ -1,4 +1,6 @@
+pub mod Contents
 pub mod Numerals
 pub mod Splits
+pub mod Telling
 pub mod Texts
 pub mod Wordings

@@ -1,4 +1,5 @@
 pub mod Hexadecimal
+pub mod Joined
 pub mod Lines
 pub mod Numbers
 pub mod ReadBack

@@ -1,9 +1,15 @@
-//! Laws of numbers and octets as text. Each function is a law: it does nothing, and its contract is the law.
-ghost use Rattle.dm_text.specs.ReadBack.{OneNumber, NumberReadBack, OctetsReadBack};
+//! Laws of lines, and of numbers and octets as text. Each function is a law: it does nothing, and its contract is the law.
+ghost use Rattle.dm_text.specs.Joined.{ContentIsJoined, LinesAreFew};
+ghost use Rattle.dm_text.specs.ReadBack.{OneNumber, NumberOrNone, NumberReadBack, OctetsReadBack};
 
 /// A word tells one number at most.
 pub fn one_number()
     ensures { OneNumber }
+{}
+
+/// Each word tells a number or none. The law stands for users.
+pub fn number_or_none()
+    ensures { NumberOrNone }
 {}
 
 /// The decimal text of a number tells it. The law stands for users.
@@ -14,4 +20,11 @@ pub fn number_read_back()
 /// Octets in lower case hexadecimal are read as what they were. The law stands for users.
 pub fn octets_read_back()
     ensures { OctetsReadBack }
+{}
+
+/// The lines that stand for something are those of a front and then those of the rest, and there are at most as many lines as
+/// octets, and one.
+pub fn lines_are_joined()
+    ensures content { ContentIsJoined }
+    ensures few { LinesAreFew }
 {}

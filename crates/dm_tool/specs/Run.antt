@@ -2,13 +2,14 @@
 use Rattle.std.specs.Prelude.{ℕ, ◌+◌, ◌<◌, ◌≤◌, ◌++◌, ◌⊎◌, Bool, true, false, List, length, Option, Result, IfOk, IfSome, IsErrOf}
 use Rattle.std.specs.Io.KnownBytes.{Appends, Consumes, Keeps}
 use Rattle.dm_tool.specs.declared.choice.Choice.{Choice}
-use Rattle.dm_tool.specs.declared.choice.Choice.TheVariants.{Show, Check, Build}
+use Rattle.dm_tool.specs.declared.choice.Choice.TheVariants.{Show, Check, Build, Replay}
 use Rattle.dm_tool.specs.declared.fault.ToolFault.{ToolFault}
 use Rattle.dm_tool.specs.declared.fault.ToolFault.TheVariants as fault
 use Rattle.dm_tool.specs.Limits.{input_limit}
 use Rattle.dm_tool.specs.Show.{ShowsText}
 use Rattle.dm_tool.specs.Check.{ChecksText, ChecksWithDictionary}
 use Rattle.dm_tool.specs.Build.{BuildsText}
+use Rattle.dm_replay.specs.Replay.{ReplaysText}
 
 -- what check prints, with a dictionary in the input or without
 abbrev pub Checks : Bool → List ℕ → List ℕ → Bool → Type 0
@@ -20,6 +21,7 @@ abbrev pub Prints : Choice → List ℕ → List ℕ → Bool → Type 0
 Prints Show = ShowsText
 Prints (Check with_dict) = Checks with_dict
 Prints Build = BuildsText
+Prints Replay = ReplaysText
 
 -- A run whose texts are these, over what the reader has left (input, then rest) and what the writer holds (before, after).
 pub record Ran (Texts : List ℕ → List ℕ → Bool → Type 0) (input rest before after : Option (List ℕ)) (outcome : Result Bool ToolFault) : Type 0 where

@@ -16,6 +16,8 @@ pub enum Choice {
     },
     /// Turns what show prints back into octets.
     Build,
+    /// Prints what becomes of two peers along a script.
+    Replay,
 }
 
 /// The command that these words choose, the program's name left out.
@@ -39,6 +41,7 @@ fn of_word(word: &str) -> Option<Choice>
         "show" => Some(Choice::Show),
         "check" => Some(Choice::Check { with_dict: false }),
         "build" => Some(Choice::Build),
+        "replay" => Some(Choice::Replay),
         _ => None,
     }
 }

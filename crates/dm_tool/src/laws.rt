@@ -11,6 +11,7 @@ pub fn one_text()
     dm_definitions::laws::one_definition();
     dm_definitions::laws::one_fault();
     dm_definitions::laws::no_definition_refused();
+    dm_replay::laws::one_replay();
 }
 
 /// Under one command each input has a text and a status. The law stands for users.
@@ -23,4 +24,5 @@ pub fn some_text()
     dm_wire::laws::equal_messages();
     dm_wire::laws::no_message_refused();
     dm_definitions::laws::some_outcome();
+    dm_replay::laws::some_replay();
 }

@@ -12,6 +12,7 @@ use crate::fault::ToolFault;
 use crate::input::read_input;
 use crate::messages::{Task, messages_text};
 use crate::output::write_text;
+use dm_replay::replay_text;
 use std::alloc::Global;
 use std::io::{Read, Write};
 
@@ -60,5 +61,6 @@ fn text_of(alloc: Global, choice: Choice, input: &[u8]) -> Result<(Vec<u8>, bool
         Choice::Check { with_dict: false } => check_text(alloc, input),
         Choice::Check { with_dict: true } => check_with_dictionary(alloc, input),
         Choice::Build => build_text(alloc, input),
+        Choice::Replay => Ok(replay_text(alloc, input)?),
     }
 }

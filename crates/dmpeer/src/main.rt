@@ -1,6 +1,6 @@
 //! The program `dmpeer`: reads standard input as its words ask, and prints to standard output.
 //!
-//! Its words are `show`, `check`, `check --dict` or `build`. What comes of them is dm_tool's; here are only the
+//! Its words are `show`, `check`, `check --dict`, `build` or `replay`. What comes of them is dm_tool's; here are only the
 //! command line, the standard streams and the status.
 #![tactic(auto)]
 

@@ -123,6 +123,8 @@ fn empty_input(rt: HostRuntime) {
         ("show --dict", None),
         ("build", Some(Choice::Build)),
         ("build x", None),
+        ("replay", Some(Choice::Replay)),
+        ("replay x", None),
     ];
     assert_chosen(&rt, rows);
 }

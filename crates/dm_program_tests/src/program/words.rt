@@ -75,6 +75,8 @@ fn words_run_their_command(rt: HostRuntime) {
             "",
         ),
         ("build", SHORT, "fault syntax 1\n", 1, ""),
+        ("replay", "", "", 0, ""),
+        ("replay", "start A", "fault syntax 1\n", 1, ""),
     ];
     assert_ends(&rt, rows);
 }

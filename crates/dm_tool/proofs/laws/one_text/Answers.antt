@@ -1,22 +1,25 @@
 use Rattle.std.proofs.Common.{true, false}
 use Rattle.dm_definitions.specs.Base.{base_definitions}
-use Rattle.dm_tool.specs.declared.choice.Choice.TheVariants.{Show, Check, Build}
+use Rattle.dm_tool.specs.declared.choice.Choice.TheVariants.{Show, Check, Build, Replay}
 use Rattle.dm_tool.specs.Show.{shown}
 use Rattle.dm_tool.specs.Check.{checked}
+use Rattle.dm_replay.specs.OneReplay.{OneReplay}
 use Rattle.dm_tool.specs.OneText.{OneText}
 use Rattle.dm_tool.proofs.OneShown.{OctetLaws, one_text}
 use Rattle.dm_tool.proofs.OneChecked.{DefinitionLaws, one_checked}
 use Rattle.dm_tool.proofs.OneBuilt.{one_built}
 use Rattle.dm_tool.proofs.laws.one_text.Goals as goal
 
-one : OctetLaws → DefinitionLaws → OneText
-one octets definitions Show = one_text octets shown
-one octets definitions (Check false) = one_text octets (checked base_definitions)
-one octets definitions (Check true) = one_checked octets definitions base_definitions
-one octets definitions Build = one_built
+one : OctetLaws → DefinitionLaws → OneReplay → OneText
+one octets definitions replay Show = one_text octets shown
+one octets definitions replay (Check false) = one_text octets (checked base_definitions)
+one octets definitions replay (Check true) = one_checked octets definitions base_definitions
+one octets definitions replay Build = one_built
+one octets definitions replay Replay = replay
 
 pub returns : goal.returns
 returns c =
     one
     (record { one_message = c.one_message.ensures; one_refusal = c.one_refusal.ensures; no_message_refused = c.no_message_refused.ensures })
     (record { one_definition = c.one_definition.ensures; one_fault = c.one_fault.ensures; no_definition_refused = c.no_definition_refused.ensures })
+    c.one_replay.ensures.replay

@@ -1,0 +1,224 @@
+-- Whatever happens keeps two peers over octets as the laws of clean runs ask for them.
+use Rattle.std.proofs.Common.{◌≡◌, ℕ, ◌+◌, ◌==◌, Bool, true, false, nat_lt, Option, Some, None, List, [], length, slice_get, if◌then◌else◌, refl, sym, subst, ◌<◌, ◌^◌, arith}
+use Rattle.std.specs.Prelude.{⊤, ◌&&◌, ◌||◌, is_none}
+use Rattle.std.proofs.lemmas.Bool.{and_parts, and_from}
+use Rattle.std.proofs.lemmas.Bool.Decides.{nat_tests}
+use Rattle.dm_wire.specs.declared.message.Message.{Message}
+use Rattle.dm_wire.specs.Whole.{message_in}
+use Rattle.dm_machine.specs.declared.connection.Conn.{Conn}
+use Rattle.dm_machine.specs.Node.{is_shaped}
+use Rattle.dm_machine.specs.Shape.{KeepsShape, EachStepKeepsShape}
+use Rattle.dm_machine.specs.Connection.{hold_of}
+use Rattle.dm_machine.specs.Moves as moves
+use Rattle.dm_machine.specs.Moves.{is_open, outcome}
+use Rattle.dm_peer.specs.declared.config.Config.{Config}
+use Rattle.dm_peer.specs.declared.fault.PeerFault.TheVariants.{NotOpen, BadSubmit}
+use Rattle.dm_peer.specs.declared.peer.Peer.{Peer}
+use Rattle.dm_peer.specs.Events as told
+use Rattle.dm_peer.specs.Configs.{wins}
+use Rattle.dm_peer.specs.Said.{Heard, heard_in}
+use Rattle.dm_peer.specs.Acts.{Outcome, Moved, Refused, turned, input_of, outcome_of, steps, is_unread, is_dropped, heard, can_submit, acts}
+use Rattle.dm_peer.specs.After.{fresh}
+use Rattle.dm_links.specs.Machine.{conn}
+use Rattle.dm_links.specs.Links.{Side, A, B, LinkPhase, Pending, Up, Cancelled, End, Fresh, Open, Shut, Link}
+use Rattle.dm_links.specs.Peers.{Event, Start, Stop, Timeout, Tick, Ack, Nack, Gone, Submit, Arrived}
+use Rattle.dm_links.specs.Worlds.{World, peer_at, with_peer, with_links, After, Done, Ignored, answered}
+use Rattle.dm_links.specs.Worlds as worlds
+use Rattle.dm_links.specs.Happens.{Starts, Stops, TimesOut, Ticks, Restarts, Acks, Nacks, Delivers, Pieces, Loses, Submits, Next, NextMessage, NextDisconnect, NextNothing, next_in, comes, delivered, pieced, are_shut, restart_links, if_up, if_pending, at_link, own_view, world_after}
+use Rattle.dm_links.specs.Electing.{holds_cer}
+use Rattle.dm_pair.specs.Octets.{of_event, as_reply, octet_peers}
+use Rattle.dm_pair.specs.Talking.{ArePaired, is_number, is_standing, ArePeers}
+use Rattle.dm_pair.specs.Laws.{FreshArePeers, HappeningKeepsPeers}
+use Rattle.dm_pair.proofs.Replying.{stands_after, turned_is, shaped_of}
+
+-- a peer after its outcome: configured as before, and it stands
+abbrev Keeps : Peer → Outcome → Type 0
+Keeps p (Moved actions next) = (next.config ≡ p.config) × (is_standing next ≡ true)
+Keeps p (Refused f) = ⊤
+
+by_outcome : (p : Peer) (e : told.PeerEvent) (h : Option Heard) (o : moves.Outcome) → is_standing p ≡ true →
+    KeepsShape o → Keeps p (outcome_of p e h o)
+by_outcome p e h (moves.Refused r) was kept = tt
+by_outcome p e h (moves.Moved commands core) was kept = (refl, stands_after p h commands core was kept.0)
+
+step_keeps : EachStepKeepsShape → (p : Peer) (e : told.PeerEvent) (h : Option Heard) → is_standing p ≡ true →
+    Keeps p (steps p e h)
+step_keeps shape p e h was =
+    let n = p.standing.core in
+    let i = input_of e h in
+    let w = wins p.config in
+    by_outcome p e h (turned n i w) was (subst KeepsShape (sym (turned_is n i w)) (shape n i w (shaped_of p was)))
+
+acts_keep : EachStepKeepsShape → (p : Peer) (e : told.PeerEvent) → is_standing p ≡ true → Keeps p (acts p e)
+acts_keep shape = kept where
+  moved : (p : Peer) (e : told.PeerEvent) (h : Option Heard) → is_standing p ≡ true → Keeps p (steps p e h)
+  moved = step_keeps shape
+
+  dropped : (p : Peer) (c : Conn) (s : List ℕ) (m : Message) (b : Bool) → is_standing p ≡ true →
+      Keeps p (if b then Moved [] p else steps p (told.Arrived c s) (Some (heard_in p.config m)))
+  dropped p c s m true was = (refl, was)
+  dropped p c s m false was = moved p (told.Arrived c s) (Some (heard_in p.config m)) was
+
+  read : (p : Peer) (c : Conn) (s : List ℕ) (o : Option Message) → is_standing p ≡ true →
+      Keeps p (heard p (told.Arrived c s) c o)
+  read p c s None was = moved p (told.Arrived c s) None was
+  read p c s (Some m) was = dropped p c s m (is_dropped p c m.header) was
+
+  arrived : (p : Peer) (c : Conn) (s : List ℕ) (unread : Bool) → is_standing p ≡ true →
+      Keeps p (if unread then steps p (told.Arrived c s) None else heard p (told.Arrived c s) c (message_in s))
+  arrived p c s true was = moved p (told.Arrived c s) None was
+  arrived p c s false was = read p c s (message_in s) was
+
+  submits : (p : Peer) (s : List ℕ) (is_open_now can : Bool) → is_standing p ≡ true →
+      Keeps p
+      (if is_open_now then (if can then steps p (told.Submit s) None else Refused BadSubmit) else Refused NotOpen)
+  submits p s false can was = tt
+  submits p s true false was = tt
+  submits p s true true was = moved p (told.Submit s) None was
+
+  kept : (p : Peer) (e : told.PeerEvent) → is_standing p ≡ true → Keeps p (acts p e)
+  kept p (told.Arrived c s) was = arrived p c s (is_unread p.standing.core.state (hold_of p.standing.core c)) was
+  kept p (told.Submit s) was = submits p s (is_open p.standing.core.state) (can_submit (message_in s)) was
+  kept p (told.Start c) was = moved p (told.Start c) None was
+  kept p (told.Stop cause) was = moved p (told.Stop cause) None was
+  kept p told.Timeout was = moved p told.Timeout None was
+  kept p told.Tick was = moved p told.Tick None was
+  kept p (told.Ack c) was = moved p (told.Ack c) None was
+  kept p (told.Nack c) was = moved p (told.Nack c) None was
+  kept p (told.Gone c) was = moved p (told.Gone c) None was
+
+-- a side's peer in a world of two
+stands_at : (s : Side) (w : World Peer (List ℕ)) → ArePeers w → is_standing (peer_at s w) ≡ true
+stands_at A w are = are.left
+stands_at B w are = are.right
+
+peer_kept : (s : Side) (next : Peer) (links : List (Link (List ℕ))) (w : World Peer (List ℕ)) → ArePeers w →
+    next.config ≡ (peer_at s w).config → is_standing next ≡ true → ArePeers (with_peer s next links w)
+peer_kept A next links w are same stands =
+    record {
+      paired = subst (λ c. ArePaired c w.b.config) (sym same) are.paired;
+      left = stands;
+      right = are.right;
+    }
+peer_kept B next links w are same stands =
+    record {
+      paired = subst (λ c. ArePaired w.a.config c) (sym same) are.paired;
+      left = are.left;
+      right = stands;
+    }
+
+links_kept : (links : List (Link (List ℕ))) (w : World Peer (List ℕ)) → ArePeers w → ArePeers (with_links links w)
+links_kept links w are = record { paired = are.paired; left = are.left; right = are.right }
+
+answered_kept : (s : Side) (e : Event (List ℕ)) (w : World Peer (List ℕ)) (o : Outcome) → ArePeers w →
+    Keeps (peer_at s w) o → ArePeers (world_after w (answered octet_peers s e w (as_reply o)))
+answered_kept s e w (Moved actions next) are keeps = peer_kept s next _ w are keeps.0 keeps.1
+answered_kept s e w (Refused f) are keeps = are
+
+told_kept : EachStepKeepsShape → (s : Side) (e : Event (List ℕ)) (w : World Peer (List ℕ)) → ArePeers w →
+    ArePeers (world_after w (worlds.told octet_peers s e w))
+told_kept shape s e w are =
+    answered_kept s e w (acts (peer_at s w) (of_event e)) are
+    (acts_keep shape (peer_at s w) (of_event e) (stands_at s w are))
+
+comes_kept : EachStepKeepsShape → (s : Side) (e : Event (List ℕ)) (end : End) (w : World Peer (List ℕ)) →
+    ArePeers w → ArePeers (world_after w (comes octet_peers s e end w))
+comes_kept shape s e Shut w are = links_kept _ w are
+comes_kept shape s e Fresh w are = told_kept shape s e w are
+comes_kept shape s e Open w are = told_kept shape s e w are
+
+delivered_kept : EachStepKeepsShape → (c : ℕ) (s : Side) (end : End) (n : Next (List ℕ)) (w : World Peer (List ℕ)) →
+    ArePeers w → ArePeers (world_after w (delivered octet_peers c s end n w))
+delivered_kept shape c s end NextNothing w are = are
+delivered_kept shape c s end (NextMessage x) w are = comes_kept shape s (Arrived (conn c) x) end w are
+delivered_kept shape c s end NextDisconnect w are = comes_kept shape s (Gone (conn c)) end w are
+
+-- of two outcomes, or one at a link
+abbrev AfterKept : World Peer (List ℕ) → After Peer (List ℕ) → Type 0
+AfterKept w after = ArePeers (world_after w after)
+
+if_kept : (w : World Peer (List ℕ)) (b : Bool) (x y : After Peer (List ℕ)) → AfterKept w x → AfterKept w y →
+    AfterKept w (if b then x else y)
+if_kept w true x y at_x at_y = at_x
+if_kept w false x y at_x at_y = at_y
+
+up_kept : (w : World Peer (List ℕ)) (p : LinkPhase) (x : After Peer (List ℕ)) → ArePeers w → AfterKept w x →
+    AfterKept w (if_up p x Ignored)
+up_kept w Up x are at_x = at_x
+up_kept w Pending x are at_x = are
+up_kept w Cancelled x are at_x = are
+
+pending_kept : (w : World Peer (List ℕ)) (p : LinkPhase) (x : After Peer (List ℕ)) → ArePeers w → AfterKept w x →
+    AfterKept w (if_pending p x Ignored)
+pending_kept w Pending x are at_x = at_x
+pending_kept w Up x are at_x = are
+pending_kept w Cancelled x are at_x = are
+
+there_kept : (w : World Peer (List ℕ)) (o : Option (Link (List ℕ))) (f : Link (List ℕ) → After Peer (List ℕ)) →
+    ArePeers w → ((l : Link (List ℕ)) → AfterKept w (f l)) → AfterKept w (at_link o f)
+there_kept w None f are each = are
+there_kept w (Some l) f are each = each l
+
+pieced_kept : EachStepKeepsShape → (c : ℕ) (s : Side) (k : ℕ) (end : End) (taken : ℕ) (n : Next (List ℕ))
+    (w : World Peer (List ℕ)) → ArePeers w → AfterKept w (pieced octet_peers c s k end taken n w)
+pieced_kept shape c s k end taken NextNothing w are = are
+pieced_kept shape c s k end taken NextDisconnect w are = are
+pieced_kept shape c s k end taken (NextMessage x) w are =
+    if_kept w (nat_lt (taken + k) (octet_peers.size x)) _ _ (links_kept _ w are)
+    (comes_kept shape s (Arrived (conn c) x) end w are)
+
+-- a new peer stands, and so does one after a restart
+number_stands : (n : ℕ) (rest : Bool) → is_number n ≡ true → rest ≡ true → (is_number n && rest) ≡ true
+number_stands n rest fits stands = and_from (is_number n) rest fits stands
+
+fresh_stands : (c : Config) (next : ℕ) → is_number next ≡ true →
+    is_standing (record { config = c; standing = fresh next }) ≡ true
+fresh_stands c next fits = number_stands next true fits refl
+
+next_of : (p : Peer) → is_standing p ≡ true → is_number p.standing.next ≡ true
+next_of p was = (and_parts (is_number p.standing.next) (is_shaped p.standing.core &&
+    (holds_cer p.standing.core.state || is_none p.standing.waiting)) was).0
+
+reset_kept : (s : Side) (w : World Peer (List ℕ)) → ArePeers w →
+    ArePeers (with_peer s (octet_peers.reset (peer_at s w)) (restart_links s w.links) w)
+reset_kept s w are = peer_kept s _ _ w are refl
+    (fresh_stands (peer_at s w).config (peer_at s w).standing.next (next_of (peer_at s w) (stands_at s w are)))
+
+is_below : {n : ℕ} → n < 2 ^ 32 → is_number n ≡ true
+is_below h = grind (arith, nat_tests)
+
+pub fresh_are_peers : FreshArePeers
+fresh_are_peers a b paired left right =
+    record {
+      paired = paired;
+      left = fresh_stands a a.first_id (is_below left);
+      right = fresh_stands b b.first_id (is_below right);
+    }
+
+pub happening_keeps_peers : EachStepKeepsShape → HappeningKeepsPeers
+happening_keeps_peers shape w (Starts s) are = told_kept shape s (Start (conn (length w.links))) w are
+happening_keeps_peers shape w (Stops s cause) are = told_kept shape s (Stop cause) w are
+happening_keeps_peers shape w (TimesOut s) are = told_kept shape s Timeout w are
+happening_keeps_peers shape w (Ticks s) are = told_kept shape s Tick w are
+happening_keeps_peers shape w (Submits s x) are = told_kept shape s (Submit x) w are
+happening_keeps_peers shape w (Restarts s) are = reset_kept s w are
+happening_keeps_peers shape w (Acks c) are =
+    there_kept w (slice_get w.links c) _ are (λ l.
+    pending_kept w l.phase _ are (told_kept shape l.opener (Ack (conn c)) w are))
+happening_keeps_peers shape w (Nacks c) are =
+    there_kept w (slice_get w.links c) _ are (λ l.
+    pending_kept w l.phase _ are (told_kept shape l.opener (Nack (conn c)) w are))
+happening_keeps_peers shape w (Delivers c s) are =
+    there_kept w (slice_get w.links c) _ are (λ l.
+    let v = own_view s l in
+    up_kept w l.phase _ are
+    (delivered_kept shape c s v.own (next_in v.incoming.messages v.incoming.mark) w are))
+happening_keeps_peers shape w (Pieces c s k) are =
+    there_kept w (slice_get w.links c) _ are (λ l.
+    let v = own_view s l in
+    up_kept w l.phase _ are
+    (if_kept w (k == 0) Ignored _ are
+    (pieced_kept shape c s k v.own v.incoming.taken (next_in v.incoming.messages v.incoming.mark) w are)))
+happening_keeps_peers shape w (Loses c a b) are =
+    there_kept w (slice_get w.links c) _ are (λ l.
+    up_kept w l.phase _ are (if_kept w (are_shut l.near l.far) Ignored _ are (links_kept _ w are)))

@@ -1,0 +1,141 @@
+-- Peers over octets move as the state machine.
+use Rattle.std.proofs.Common.{◌≡◌, ℕ, ◌==◌, Bool, true, false, if◌then◌else◌, Option, List, [], ◌∷◌, map, refl, sym, ap, subst, ◌∙◌, inl, inr, arith}
+use Rattle.std.proofs.lemmas.Bool.Decides.{nat_tests}
+use Rattle.dm_machine.specs.declared.connection.Conn.{Conn}
+use Rattle.dm_machine.specs.declared.outputs.Command.{Command}
+use Rattle.dm_machine.specs.declared.outputs.Command.TheVariants as command
+use Rattle.dm_machine.specs.Connection as machine
+use Rattle.dm_peer.specs.declared.actions.Action as declared_action
+use Rattle.dm_peer.specs.declared.actions.Action.TheVariants as action
+use Rattle.dm_peer.specs.declared.peer.Peer.{Peer}
+use Rattle.dm_peer.specs.Events as told
+use Rattle.dm_peer.specs.Configs.{wins}
+use Rattle.dm_peer.specs.Said.{Heard, word_heard}
+use Rattle.dm_peer.specs.Acts.{Outcome, Moved, Refused, acts, input_of, is_made}
+use Rattle.dm_peer.specs.Steps as peer
+use Rattle.dm_links.specs.Machine.{conn, Elsewhere, HeardOnIt, concern_as, concern_of, tie_as, tie_of}
+use Rattle.dm_links.specs.Peers.{Event, Start, Stop, Timeout, Tick, Ack, Nack, Gone, Submit, Arrived, concern_by, Order, Connects, Sends, Closes, HandsUp, order_of, order_of_command}
+use Rattle.dm_links.specs.Follows.{Steps, Drops, is_droppable, Follows, IsMachine}
+use Rattle.dm_pair.specs.Octets.{of_event, as_action, as_actions, as_reply, octet_peers}
+
+-- orders are the same on both sides
+as_order : peer.Order → Order
+as_order (peer.Connects c) = Connects c
+as_order (peer.Sends c) = Sends c
+as_order (peer.Closes c) = Closes c
+as_order peer.HandsUp = HandsUp
+
+action_ordered : (a : declared_action.Action) → order_of (as_action a) ≡ as_order (peer.order_of a)
+unfolding as_order
+action_ordered (action.Connect c) = refl
+action_ordered (action.Send c s) = refl
+action_ordered (action.Close c) = refl
+action_ordered (action.Up s) = refl
+
+command_ordered : (a : Command) → order_of_command a ≡ as_order (peer.order_of_command a)
+unfolding as_order
+command_ordered (command.Connect c) = refl
+command_ordered (command.Close c) = refl
+command_ordered command.Up = refl
+command_ordered _ = refl
+
+actions_ordered : (l : List declared_action.Action) →
+    map order_of (as_actions l) ≡ map as_order (map peer.order_of l)
+actions_ordered [] = refl
+actions_ordered (a ∷ l) = ap (λ o. o ∷ map order_of (as_actions l)) (action_ordered a)
+    ∙ ap (λ os. as_order (peer.order_of a) ∷ os) (actions_ordered l)
+
+commands_ordered : (l : List Command) → map order_of_command l ≡ map as_order (map peer.order_of_command l)
+commands_ordered [] = refl
+commands_ordered (a ∷ l) = ap (λ o. o ∷ map order_of_command l) (command_ordered a)
+    ∙ ap (λ os. as_order (peer.order_of_command a) ∷ os) (commands_ordered l)
+
+-- an event concerns a connection as its input does
+named_as : (b : Bool) (k : machine.Concern) →
+    concern_as (machine.if_named b k) ≡ (if b then concern_as k else Elsewhere)
+named_as true k = refl
+named_as false k = refl
+
+concerns_same : (e : Event (List ℕ)) (h : Option Heard) (c : Conn) →
+    concern_of (input_of (of_event e) h) c ≡ concern_by e c
+concerns_same (Start d) h c = named_as (d.0 == c.0) machine.StartsIt
+concerns_same (Stop cause) h c = refl
+concerns_same Timeout h c = refl
+concerns_same Tick h c = refl
+concerns_same (Ack d) h c = named_as (d.0 == c.0) machine.AcksIt
+concerns_same (Nack d) h c = named_as (d.0 == c.0) machine.NacksIt
+concerns_same (Gone d) h c = named_as (d.0 == c.0) machine.EndsIt
+concerns_same (Submit s) h c = refl
+concerns_same (Arrived d s) h c = named_as (d.0 == c.0) (machine.HeardOnIt (word_heard h))
+
+step_taken : (p next : Peer) (e : Event (List ℕ)) (actions : List declared_action.Action) →
+    peer.IsStep p (of_event e) actions next → Steps octet_peers p e (as_actions actions) next
+step_taken p next e actions step =
+    record {
+      input = input_of (of_event e) step.heard;
+      wins = wins p.config;
+      commands = step.commands;
+      concerns = concerns_same e step.heard;
+      moves = step.moves;
+      orders = actions_ordered actions ∙ ap (λ l. map as_order l) step.orders
+          ∙ sym (commands_ordered step.commands);
+    }
+
+-- what is dropped may be
+made_droppable : (h : machine.Hold) → is_made h ≡ true → is_droppable HeardOnIt (tie_as h) ≡ true
+made_droppable machine.NotHeld m = cc
+made_droppable machine.Pending m = cc
+made_droppable machine.Made m = refl
+made_droppable machine.OpenAsI m = refl
+made_droppable machine.ClosingAsI m = refl
+made_droppable machine.Taken m = refl
+made_droppable machine.OpenAsR m = refl
+made_droppable machine.ClosingAsR m = refl
+
+same_number : (a b : ℕ) → (a == b) ≡ true → a ≡ b
+same_number a b h = grind (arith, nat_tests)
+
+dropped_at : (p : Peer) (d : Conn) (c : ℕ) (b : Bool) → (d.0 == c) ≡ b →
+    is_made (machine.hold_of p.standing.core d) ≡ true →
+    is_droppable (if b then HeardOnIt else Elsewhere) (tie_of p.standing.core c) ≡ true
+dropped_at p d c true e made =
+    let at_d = made_droppable (machine.hold_of p.standing.core d) made in
+    subst (λ n. is_droppable HeardOnIt (tie_of p.standing.core n) ≡ true) (same_number d.0 c e) at_d
+dropped_at p d c false e made = refl
+
+drop_heard : (p : Peer) (e : Event (List ℕ)) (d : Conn) (s : List ℕ) (c : ℕ) → of_event e ≡ told.Arrived d s →
+    is_made (machine.hold_of p.standing.core d) ≡ true →
+    is_droppable (concern_by e (conn c)) (tie_of p.standing.core c) ≡ true
+drop_heard p (Arrived d' s') d s c is made =
+    let same : d ≡ d' = cc in
+    dropped_at p d' c (d'.0 == c) refl (subst (λ x. is_made (machine.hold_of p.standing.core x) ≡ true) same made)
+drop_heard p (Start d') d s c is made = cc
+drop_heard p (Stop cause) d s c is made = cc
+drop_heard p Timeout d s c is made = cc
+drop_heard p Tick d s c is made = cc
+drop_heard p (Ack d') d s c is made = cc
+drop_heard p (Nack d') d s c is made = cc
+drop_heard p (Gone d') d s c is made = cc
+drop_heard p (Submit s') d s c is made = cc
+
+drop_taken : (p next : Peer) (e : Event (List ℕ)) (actions : List declared_action.Action) →
+    peer.IsDrop p (of_event e) actions next → Drops octet_peers p e (as_actions actions) next
+drop_taken p next e actions drop =
+    record {
+      heard = λ c. drop_heard p e drop.conn drop.octets c drop.arrived drop.made;
+      silent = ap as_actions drop.silent;
+      stays = ap (λ (q : Peer). q.standing.core) drop.same;
+    }
+
+reply_follows : (p : Peer) (e : Event (List ℕ)) (o : Outcome) → peer.Follows p (of_event e) o →
+    Follows octet_peers p e (as_reply o)
+reply_follows p e (Moved actions next) (inl step) = inl (step_taken p next e actions step)
+reply_follows p e (Moved actions next) (inr drop) = inr (drop_taken p next e actions drop)
+reply_follows p e (Refused fault) h = tt
+
+pub octets_follow : peer.EachEventIsOneStep → IsMachine octet_peers
+octets_follow law =
+    record {
+      follows = λ p e. reply_follows p e (acts p (of_event e)) (law p (of_event e));
+      resets = λ p. refl;
+    }

@@ -1,0 +1,8 @@
+use Rattle.dm_pair.proofs.Keeping.{fresh_are_peers, happening_keeps_peers}
+use Rattle.dm_pair.proofs.laws.each_happening_keeps_peers.Goals as goal
+
+pub returns-clause-fresh : goal.returns-clause-fresh
+returns-clause-fresh c = fresh_are_peers
+
+pub returns-clause-kept : goal.returns-clause-kept
+returns-clause-kept c = happening_keeps_peers c.each_step_keeps_shape.ensures

@@ -1,0 +1,19 @@
+use Rattle.std.proofs.Common.{refl}
+use Rattle.dm_pair.specs.Octets.{octet_peers}
+use Rattle.dm_pair.specs.Talking.{octet_talks}
+use Rattle.dm_pair.proofs.laws.each_octet_run_settles.Goals as goal
+
+pub returns : goal.returns
+returns c =
+    λ w sound peers closed hs clean.
+    let a = w.a.config in
+    let b = w.b.config in
+    c.each_clean_run_settles.ensures octet_peers (octet_talks a b)
+    (c.octets_are_electing.ensures a b peers.paired) w sound
+    (record {
+      a = record { configured = refl; stands = peers.left };
+      b = record { configured = refl; stands = peers.right };
+      closed_a = closed.left;
+      closed_b = closed.right;
+      quiet = closed.quiet;
+    }) hs clean

@@ -1,0 +1,13 @@
+use Rattle.dm_pair.proofs.Electing.{octets_are_electing}
+use Rattle.dm_pair.proofs.laws.octets_are_electing.Goals as goal
+
+pub returns : goal.returns
+returns c =
+    octets_are_electing
+    (record {
+      form = c.each_node_has_its_form.ensures.formed;
+      shape = c.each_step_keeps_shape.ensures;
+      both = c.common_is_shared.ensures.both;
+      cer = c.sent_is_good.ensures.cer;
+      cea = c.sent_is_good.ensures.cea;
+    })

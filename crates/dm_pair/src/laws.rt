@@ -1,0 +1,53 @@
+//! Laws of two peers over octets. Each function is a law: it does nothing, and its contract is the law. They stand for
+//! the world of two peers.
+ghost use Rattle.dm_links.specs.Follows.{IsMachine};
+ghost use Rattle.dm_pair.specs.Laws.{OctetsAreElecting, FreshArePeers, HappeningKeepsPeers, OctetsAreSized, EachOctetRunSettles};
+ghost use Rattle.dm_pair.specs.Octets.{octet_peers};
+
+use dm_base::laws::common_is_shared;
+use dm_links::laws::each_clean_run_settles;
+use dm_machine::laws::{each_node_has_its_form, each_step_keeps_shape};
+use dm_peer::laws::{each_event_is_one_step, sent_is_good};
+use dm_peer::{Config, Peer};
+use dm_wire::{Header, Octets};
+
+/// Peers over octets move as the state machine.
+pub fn octets_are_a_machine()
+    ensures { IsMachine octet_peers }
+{
+    each_event_is_one_step();
+}
+
+/// Of two peers that are configured for each other and have an application in common one wins the election, and each
+/// reads the other's CER and CEA as good ones (RFC 6733, 5.3 and 5.6.4).
+pub fn octets_are_electing()
+    ensures { OctetsAreElecting }
+{
+    common_is_shared();
+    each_node_has_its_form();
+    each_step_keeps_shape();
+    sent_is_good();
+}
+
+/// Two new peers that are configured for each other are peers as these laws ask for them, and whatever happens keeps it
+/// so.
+pub fn each_happening_keeps_peers()
+    ensures fresh { FreshArePeers }
+    ensures kept { HappeningKeepsPeers }
+{
+    each_step_keeps_shape();
+}
+
+/// Every message that a peer over octets sends has octets.
+pub fn octets_are_sized()
+    ensures { OctetsAreSized }
+{}
+
+/// What each clean run of two such peers comes to: at most two CERs, one CEA and two disconnects are put in; where a
+/// Start is taken and it falls quiet, both are open on the connection that the election keeps (5.6.4).
+pub fn each_octet_run_settles()
+    ensures { EachOctetRunSettles }
+{
+    each_clean_run_settles::<Peer, Octets, Config, Header>();
+    octets_are_electing();
+}

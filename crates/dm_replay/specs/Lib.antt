@@ -1,0 +1,5 @@
+pub mod Faults
+pub mod OneReplay
+pub mod Read
+pub mod Replay
+pub mod Text

@@ -1,0 +1,43 @@
+//! Why there is no script.
+ghost use Rattle.std.specs.Prelude.{◌≡◌};
+
+use dm_script::LinesFault;
+use std::alloc::AllocError;
+use thiserror::Error;
+
+/// Why a text is no script.
+#[derive(Clone, Copy, Debug, PartialEq, Eq, Error)]
+pub enum ScriptFault {
+    /// The line of this number, from 1, is the first bad one.
+    #[error("line {0} is out of place")]
+    Syntax(usize),
+    /// The two peers have one name, upper and lower case taken as one.
+    #[error("the two peers have one name")]
+    SameHost,
+    /// A growth was refused.
+    #[error("out of memory")]
+    NoMemory,
+}
+
+impl From<AllocError> for ScriptFault {
+    ghost use Rattle.dm_replay.specs.declared.fault.ScriptFault.TheVariants.{NoMemory};
+
+    ghost from_gives = { λ _ fault. fault ≡ NoMemory };
+
+    fn from(_e: AllocError) -> ScriptFault {
+        ScriptFault::NoMemory
+    }
+}
+
+impl From<LinesFault> for ScriptFault {
+    ghost use Rattle.dm_replay.specs.Faults.{fault_of};
+
+    ghost from_gives = { λ lines fault. fault ≡ fault_of lines };
+
+    fn from(fault: LinesFault) -> ScriptFault {
+        match fault {
+            LinesFault::Syntax(line) => ScriptFault::Syntax(line),
+            LinesFault::NoMemory => ScriptFault::NoMemory,
+        }
+    }
+}

@@ -1,0 +1,101 @@
+//! A script, replayed.
+ghost use Rattle.std.specs.Prelude.{◌≡◌, ◌++◌, ◌∷◌, [], true, false, codes, IfOk, OnOk, Ok, Err, Some, None, Option, Result};
+ghost use Rattle.dm_peer.specs.Hosts.{is_same_host};
+ghost use Rattle.dm_world.specs.Views.{as_world};
+ghost use Rattle.dm_replay.specs.declared.fault.ScriptFault.{ScriptFault};
+ghost use Rattle.dm_replay.specs.declared.script.Script.{Script};
+ghost use Rattle.dm_replay.specs.Replay.{replay_from, script_text, text_of, ReplaysText};
+
+use crate::fault::ScriptFault;
+use crate::lines::{push_end, push_nolink, push_trace};
+use crate::read::read_script;
+use crate::script::Script;
+use dm_dict::NoMemory;
+use dm_text::push_decimal;
+use dm_world::{Happening, NewFault, World, WorldFault};
+use std::alloc::Global;
+
+/// The text of a replay: of each happening of the script that the text is, what became of it, and what stands at the end. And
+/// whether all of it was good.
+///
+/// The script is read whole before its first happening. A text that is no script, or whose peers have no application in common,
+/// has its fault as text alone. A happening that names a link that isn't there ends the run.
+pub fn replay_text(alloc: Global, text: &[u8]) -> Result<(Vec<u8>, bool), NoMemory>
+    ensures { IfOk result (λ r. ReplaysText text.now r.0.items r.1) }
+{
+    match read_script(alloc, text) {
+        Ok(read) => match read {
+            Some(script) => script_text(alloc, script),
+            None => Ok((Vec::new(alloc), true)),
+        },
+        Err(fault) => fault_text(alloc, fault),
+    }
+}
+
+/// The text of a script.
+fn script_text(alloc: Global, script: Script) -> Result<(Vec<u8>, bool), NoMemory>
+    requires left { is_same_host script.left.peer script.right.node.host ≡ true }
+    requires right { is_same_host script.right.peer script.left.node.host ≡ true }
+    ensures { IfOk result (λ r. (r.0.items, r.1) ≡ script_text script) }
+{
+    let Script { left, right, list } = script;
+    match World::new(alloc, left, right) {
+        Ok(mut world) => {
+            let mut text = Vec::new(alloc);
+            let good = replay(alloc, &mut world, list.as_slice(), &mut text);
+            drop(world);
+            Ok((text, good?))
+        }
+        Err(NewFault::NothingCommon) => {
+            let text = Vec::from_slice(alloc, b"fault NothingCommon\n")?;
+            Ok((text, false))
+        }
+        Err(NewFault::NotPeers) => unreachable!(),
+    }
+}
+
+/// Appends the lines for these happenings and the last line. False where one names a link that isn't there.
+fn replay(
+    alloc: Global,
+    world: &mut World,
+    list: &[Happening],
+    text: &mut Vec<u8>,
+) -> Result<bool, NoMemory>
+    ensures text { OnOk result (text.new.items ≡ text.old.items ++ (replay_from 1 (as_world world.old.net) list.now).0) }
+    ensures good { IfOk result (λ good. good ≡ (replay_from 1 (as_world world.old.net) list.now).1) }
+{
+    let mut count = 0;
+    let mut rest = list;
+    'script: while let [happening, more @ ..] = rest {
+        count += 1;
+        match world.apply(alloc, happening) {
+            Ok(effect) => push_trace(text, count, effect, world)?,
+            Err(WorldFault::NoLink) => {
+                push_nolink(text, count)?;
+                return Ok(false);
+            }
+            Err(WorldFault::NoMemory) => return Err(NoMemory),
+        }
+        rest = more;
+    }
+    push_end(text, world)?;
+    Ok(true)
+}
+
+/// The text of a fault. Want of memory has none, and is answered as such.
+fn fault_text(alloc: Global, fault: ScriptFault) -> Result<(Vec<u8>, bool), NoMemory>
+    ensures text { IfOk result (λ r. (r.0.items, r.1) ≡ text_of (Err fault)) }
+    ensures known { IfOk result (λ r. fault ≡ ScriptFault.NoMemory → ⊥) }
+{
+    let mut text = Vec::new(alloc);
+    match fault {
+        ScriptFault::Syntax(line) => {
+            text.extend_from_slice(b"fault syntax ")?;
+            push_decimal(&mut text, line as u64)?;
+            text.push(b'\n')?;
+        }
+        ScriptFault::SameHost => text.extend_from_slice(b"fault SameHost\n")?,
+        ScriptFault::NoMemory => return Err(NoMemory),
+    }
+    Ok((text, false))
+}

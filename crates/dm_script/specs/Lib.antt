@@ -1,0 +1,5 @@
+pub mod Happenings
+pub mod Hosts
+pub mod OneScript
+pub mod Progress
+pub mod Scripts

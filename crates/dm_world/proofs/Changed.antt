@@ -1,0 +1,83 @@
+-- One link of many is changed.
+use Rattle.std.proofs.Common.{◌≡◌, ℕ, zero, suc, ◌+◌, ◌<◌, ◌≤◌, List, [], ◌∷◌, length, get_or, refl, sym, ap, subst, ◌∙◌, arith, add-one}
+use Rattle.std.specs.Prelude.{OnOk, Result, Ok, Err}
+use Rattle.std.proofs.Math.ListN.{set}
+use Rattle.dm_links.specs.Links as links
+use Rattle.dm_links.specs.Worlds.{change_at}
+use Rattle.dm_links.specs.Happens.{restart_links}
+use Rattle.dm_world.specs.declared.link.Link.{Link}
+use Rattle.dm_world.specs.Seen.{as_link, as_links, out_room, restart_link}
+use Rattle.dm_world.specs.Rooms.{HasRoom}
+
+pub changed : (f : links.Link (List ℕ) → links.Link (List ℕ)) (c : ℕ) (ls : List Link) (x y : Link) → x ≡ get_or ls c x → c < length ls → as_link y ≡ f (as_link x) → as_links (set ls c y) ≡ change_at c f (as_links ls)
+changed f c [] x y at lt is = absurd (omega arith)
+changed f zero (l ∷ ls) x y at lt is = ap (λ z. z ∷ as_links ls) (is ∙ ap (λ z. f (as_link z)) at)
+changed f (suc c) (l ∷ ls) x y at lt is = ap (λ z. as_link l ∷ z) (changed f c ls x y at (omega arith) is)
+
+pub not_changed : (f : links.Link (List ℕ) → links.Link (List ℕ)) (c : ℕ) (ls : List Link) → length ls ≤ c → as_links ls ≡ change_at c f (as_links ls)
+not_changed f c [] h = refl
+not_changed f zero (l ∷ ls) h = absurd (omega arith)
+not_changed f (suc c) (l ∷ ls) h = ap (λ z. as_link l ∷ z) (not_changed f c ls (omega arith))
+
+le_trans : (a b c : ℕ) → a ≤ b → b ≤ c → a ≤ c
+le_trans a b c h g = omega arith
+
+pub less : (s : links.Side) (n m d : ℕ) (ls : List Link) → n ≤ m → HasRoom s ls m d → HasRoom s ls n d
+less s n m d [] le has = has
+less s n m zero (l ∷ ls) le has = le_trans n m (out_room s l) le has
+less s n m (suc d) (l ∷ ls) le has = less s n m d ls le has
+
+pub room_moves : (s : links.Side) (n m c d : ℕ) (ls : List Link) (x y : Link) → x ≡ get_or ls c x → n ≤ m → (m ≤ out_room s x → n ≤ out_room s y) → HasRoom s ls m d → HasRoom s (set ls c y) n d
+room_moves s n m c d [] x y at le moves has = has
+room_moves s n m zero zero (l ∷ ls) x y at le moves has = moves (subst (λ z. m ≤ out_room s z) (sym at) has)
+room_moves s n m zero (suc d) (l ∷ ls) x y at le moves has = less s n m d ls le has
+room_moves s n m (suc c) zero (l ∷ ls) x y at le moves has = le_trans n m (out_room s l) le has
+room_moves s n m (suc c) (suc d) (l ∷ ls) x y at le moves has = room_moves s n m c d ls x y at le moves has
+
+pub same_links : (c : ℕ) (ls : List Link) (x y : Link) → x ≡ get_or ls c x → as_link y ≡ as_link x → as_links (set ls c y) ≡ as_links ls
+same_links c [] x y at is = refl
+same_links zero (l ∷ ls) x y at is = ap (λ z. z ∷ as_links ls) (is ∙ ap (λ z. as_link z) at)
+same_links (suc c) (l ∷ ls) x y at is = ap (λ z. as_link l ∷ z) (same_links c ls x y at is)
+
+pub room_here : (s : links.Side) (n c : ℕ) (ls : List Link) (y : Link) → n ≤ out_room s y → HasRoom s (set ls c y) n c
+room_here s n c [] y h = tt
+room_here s n zero (l ∷ ls) y h = h
+room_here s n (suc c) (l ∷ ls) y h = room_here s n c ls y h
+
+pub room_past : (s : links.Side) (n c : ℕ) (ls : List Link) → length ls ≤ c → HasRoom s ls n c
+room_past s n c [] h = tt
+room_past s n zero (l ∷ ls) h = absurd (omega arith)
+room_past s n (suc c) (l ∷ ls) h = room_past s n c ls (omega arith)
+
+-- the first links have started anew
+abbrev pub anew_below : links.Side → ℕ → List (links.Link (List ℕ)) → List (links.Link (List ℕ))
+anew_below s i [] = []
+anew_below s zero (l ∷ ls) = l ∷ ls
+anew_below s (suc i) (l ∷ ls) = restart_link s l ∷ anew_below s i ls
+
+pub anew_none : (s : links.Side) (ls : List (links.Link (List ℕ))) → ls ≡ anew_below s 0 ls
+anew_none s [] = refl
+anew_none s (l ∷ ls) = refl
+
+anew_suc : (s : links.Side) (i : ℕ) (ls : List (links.Link (List ℕ))) → change_at i (restart_link s) (anew_below s i ls) ≡ anew_below s (suc i) ls
+anew_suc s i [] = refl
+anew_suc s zero (l ∷ []) = refl
+anew_suc s zero (l ∷ k ∷ ls) = refl
+anew_suc s (suc i) (l ∷ ls) = ap (λ z. restart_link s l ∷ z) (anew_suc s i ls)
+
+pub anew_more : (s : links.Side) (i : ℕ) (old now next : List (links.Link (List ℕ))) → now ≡ anew_below s i old → next ≡ change_at i (restart_link s) now → next ≡ anew_below s (i + 1) old
+anew_more s i old now next so is =
+    is ∙ ap (λ z. change_at i (restart_link s) z) so ∙ anew_suc s i old ∙ ap (λ n. anew_below s n old) (sym (add-one i))
+
+pub anew_all : (s : links.Side) (i : ℕ) (old : List (links.Link (List ℕ))) → length old ≤ i → anew_below s i old ≡ restart_links s old
+anew_all s i [] h = refl
+anew_all s zero (l ∷ ls) h = absurd (omega arith)
+anew_all s (suc i) (l ∷ ls) h = ap (λ z. restart_link s l ∷ z) (anew_all s i ls (omega arith))
+
+pub length_links : (ls : List Link) → length (as_links ls) ≡ length ls
+length_links [] = refl
+length_links (l ∷ ls) = ap suc (length_links ls)
+
+pub on_ok : {T E : Type 0} {P Q : Type 0} (r : Result T E) → (P → Q) → OnOk r P → OnOk r Q
+on_ok (Ok x) f h = f h
+on_ok (Err e) f h = h

@@ -1,0 +1,14 @@
+pub mod Whole
+pub mod Changed
+pub mod Quiets
+pub mod Agrees
+pub mod Performs
+pub mod Held
+pub mod Sending
+pub mod Telling
+pub mod Silent
+pub mod Hearing
+pub mod Deliveries
+pub mod Happenings
+pub mod Runs
+pub mod Paired

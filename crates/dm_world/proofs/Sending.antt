@@ -1,0 +1,178 @@
+-- A peer sends on the links that it holds, and on the one that the event names.
+use Rattle.std.proofs.Common.{◌≡◌, ℕ, suc, ◌≤◌, Bool, true, false, not, ◌&&◌, ◌||◌, ◌==◌, if◌then◌else◌, List, [], ◌∷◌, length, map, refl, sym, ap, subst, ◌∙◌, inl, inr, arith}
+use Rattle.std.specs.Prelude.{◌⊎◌, IsTrue, nat_le}
+use Rattle.std.proofs.lemmas.Bool.Decides.{nat_tests}
+use Rattle.dm_machine.specs.declared.outputs.Command.{Command}
+use Rattle.dm_machine.specs.declared.outputs.Command.TheVariants as command
+use Rattle.dm_machine.specs.Moves.{outcome}
+use Rattle.dm_machine.specs.Moves as moves
+use Rattle.dm_machine.specs.Connection as machine
+use Rattle.dm_machine.specs.Connection.{Hold, AtConnection, if_ordered, order_to, with_order, orders_to, hold_of}
+use Rattle.dm_machine.specs.Openings.{LeavesOthersAlone, is_hold, is_named}
+use Rattle.dm_machine.specs.Shape.{KeepsShape}
+use Rattle.dm_peer.specs.declared.actions.Action as declared_action
+use Rattle.dm_peer.specs.declared.peer.Peer.{Peer}
+use Rattle.dm_links.specs.Machine.{conn, Node, is_shaped, Concern, Elsewhere, StartsIt, AcksIt, NacksIt, EndsIt, HeardOnIt, concern_as, EachStepKeepsShape, Tie, Unheld, Connecting, Made, MadeOpen, Taken, tie_as, tie_of, is_held, held_as, Initiated, Accepted}
+use Rattle.dm_links.specs.Links.{Side}
+use Rattle.dm_links.specs.Peers.{Event, Start, Stop, Timeout, Tick, Ack, Nack, Gone, Submit, Arrived, concern_by, Order, order_of, order_of_command, sends_at, Reply, Acts}
+use Rattle.dm_links.specs.Follows.{Steps, Follows, IsMachine}
+use Rattle.dm_world.specs.declared.link.Link.{Link}
+use Rattle.dm_pair.specs.Octets.{as_actions, octet_peers}
+use Rattle.dm_world.specs.Rooms.{HasRoomFor, is_on, named, HasRoomToSend}
+use Rattle.dm_world.proofs.Changed.{less}
+use Rattle.dm_world.proofs.Held.{held_by_role}
+
+-- the three laws that it rests on
+pub record SendLaws : Type 0 where
+  pub machine : IsMachine octet_peers
+  pub alone : LeavesOthersAlone
+  pub keeps : EachStepKeepsShape
+
+-- no order, no message
+send_case : (b : Bool) (o : machine.Order) (more : List machine.Order) (rest : Bool) → with_order (if_ordered b o) more ≡ [] → (more ≡ [] → rest ≡ false) → (b || rest) ≡ false
+send_case true o more rest h f = cc
+send_case false o more rest h f = f h
+
+other_case : (b : Bool) (o : machine.Order) (more : List machine.Order) (rest : Bool) → with_order (if_ordered b o) more ≡ [] → (more ≡ [] → rest ≡ false) → rest ≡ false
+other_case true o more rest h f = cc
+other_case false o more rest h f = f h
+
+unordered : (c : ℕ) (l : List Command) → orders_to (conn c) l ≡ [] → sends_at c (map order_of_command l) ≡ false
+unordered c [] h = refl
+unordered c (command.Connect d ∷ l) h = other_case (d.0 == c) machine.Connects (orders_to (conn c) l) _ h (unordered c l)
+unordered c (command.SendCer d ∷ l) h = send_case (d.0 == c) machine.SendsCer (orders_to (conn c) l) _ h (unordered c l)
+unordered c (command.SendCea d ∷ l) h = send_case (d.0 == c) machine.SendsCea (orders_to (conn c) l) _ h (unordered c l)
+unordered c (command.SendRefusal d ∷ l) h = send_case (d.0 == c) machine.SendsRefusal (orders_to (conn c) l) _ h (unordered c l)
+unordered c (command.SendDwr d ∷ l) h = send_case (d.0 == c) machine.SendsDwr (orders_to (conn c) l) _ h (unordered c l)
+unordered c (command.SendDwa d ∷ l) h = send_case (d.0 == c) machine.SendsDwa (orders_to (conn c) l) _ h (unordered c l)
+unordered c (command.SendDpr d ∷ l) h = send_case (d.0 == c) machine.SendsDpr (orders_to (conn c) l) _ h (unordered c l)
+unordered c (command.SendDpa d ∷ l) h = send_case (d.0 == c) machine.SendsDpa (orders_to (conn c) l) _ h (unordered c l)
+unordered c (command.SendSubmit d ∷ l) h = send_case (d.0 == c) machine.SendsSubmit (orders_to (conn c) l) _ h (unordered c l)
+unordered c (command.Close d ∷ l) h = other_case (d.0 == c) machine.Closes (orders_to (conn c) l) _ h (unordered c l)
+unordered c (command.Up ∷ l) h = unordered c l h
+
+-- a connection that isn't held and isn't named is ordered nothing
+unheld_is : (h : Hold) → tie_as h ≡ Unheld → is_hold machine.NotHeld h ≡ true
+unheld_is machine.NotHeld e = refl
+unheld_is machine.Pending e = cc
+unheld_is machine.Made e = cc
+unheld_is machine.OpenAsI e = cc
+unheld_is machine.ClosingAsI e = cc
+unheld_is machine.Taken e = cc
+unheld_is machine.OpenAsR e = cc
+unheld_is machine.ClosingAsR e = cc
+
+elsewhere_is : (k : machine.Concern) → concern_as k ≡ Elsewhere → not (is_named k) ≡ true
+elsewhere_is machine.StartsIt e = cc
+elsewhere_is machine.AcksIt e = cc
+elsewhere_is machine.NacksIt e = cc
+elsewhere_is machine.EndsIt e = cc
+elsewhere_is (machine.HeardOnIt w) e = cc
+elsewhere_is machine.NamesAnother e = refl
+elsewhere_is machine.Stops e = refl
+elsewhere_is machine.TimesOut e = refl
+elsewhere_is machine.Ticks e = refl
+elsewhere_is machine.Submits e = refl
+
+both_true : (a b : Bool) → a ≡ true → b ≡ true → (a && b) ≡ true
+both_true true b h g = g
+both_true false b h g = cc
+
+abbrev Alone : machine.Concern → Hold → Hold → List machine.Order → Type 0
+Alone k before after orders = IsTrue (is_hold machine.NotHeld before && not (is_named k)) → (after ≡ machine.NotHeld) × (orders ≡ [])
+
+step_unsent : (p next : Peer) (e : Event (List ℕ)) (actions : List declared_action.Action) (c : ℕ) → LeavesOthersAlone → IsTrue (is_shaped p.standing.core) → Steps octet_peers p e (as_actions actions) next → tie_of p.standing.core c ≡ Unheld → concern_by e (conn c) ≡ Elsewhere → sends_at c (map order_of (as_actions actions)) ≡ false
+step_unsent p next e actions c law shaped step unheld elsewhere =
+    let at : AtConnection Alone p.standing.core step.input (conn c) (moves.Moved step.commands next.standing.core) =
+    subst (λ (o : moves.Outcome). AtConnection Alone p.standing.core step.input (conn c) o) step.moves (law p.standing.core step.input step.wins (conn c) shaped) in
+    let orders = (at (both_true (is_hold machine.NotHeld (hold_of p.standing.core (conn c))) (not (is_named (machine.concern_of step.input (conn c))))
+    (unheld_is (hold_of p.standing.core (conn c)) unheld)
+    (elsewhere_is (machine.concern_of step.input (conn c)) (step.concerns (conn c) ∙ elsewhere)))).1 in
+    ap (λ (os : List Order). sends_at c os) step.orders ∙ unordered c step.commands orders
+
+reply_unsent : (p next : Peer) (e : Event (List ℕ)) (actions : List declared_action.Action) (c : ℕ) → SendLaws → IsTrue (is_shaped p.standing.core) → octet_peers.reply p e ≡ Acts (as_actions actions) next → tie_of p.standing.core c ≡ Unheld → concern_by e (conn c) ≡ Elsewhere → sends_at c (map order_of (as_actions actions)) ≡ false
+reply_unsent p next e actions c laws shaped is unheld elsewhere =
+    let follows : Follows octet_peers p e (Acts (as_actions actions) next) = subst (λ (r : Reply Peer (List ℕ)). Follows octet_peers p e r) is (laws.machine.follows p e) in
+    elim follows [
+      | inl step ↦ step_unsent p next e actions c laws.alone shaped step unheld elsewhere
+      | inr drop ↦ ap (λ l. sends_at c (map order_of l)) drop.silent
+    ]
+
+-- at most four actions
+length_mapped : {X Y : Type 0} (f : X → Y) (xs : List X) → length (map f xs) ≡ length xs
+length_mapped f [] = refl
+length_mapped f (x ∷ xs) = ap (λ n. suc n) (length_mapped f xs)
+
+le_of : (a b : ℕ) → nat_le a b ≡ true → a ≤ b
+le_of a b h = grind (arith, nat_tests)
+
+step_few : (p next : Peer) (e : Event (List ℕ)) (actions : List declared_action.Action) → EachStepKeepsShape → IsTrue (is_shaped p.standing.core) → Steps octet_peers p e (as_actions actions) next → length (as_actions actions) ≤ 4
+step_few p next e actions law shaped step =
+    let keeps : KeepsShape (moves.Moved step.commands next.standing.core) = subst (λ (o : moves.Outcome). KeepsShape o) step.moves (law p.standing.core step.input step.wins shaped) in
+    let few = le_of (length step.commands) 4 keeps.1 in
+    let same = sym (length_mapped order_of (as_actions actions)) ∙ ap (λ (os : List Order). length os) step.orders ∙ length_mapped order_of_command step.commands in
+    subst (λ n. n ≤ 4) (sym same) few
+
+reply_few : (p next : Peer) (e : Event (List ℕ)) (actions : List declared_action.Action) → SendLaws → IsTrue (is_shaped p.standing.core) → octet_peers.reply p e ≡ Acts (as_actions actions) next → length (as_actions actions) ≤ 4
+reply_few p next e actions laws shaped is =
+    let follows : Follows octet_peers p e (Acts (as_actions actions) next) = subst (λ (r : Reply Peer (List ℕ)). Follows octet_peers p e r) is (laws.machine.follows p e) in
+    elim follows [
+      | inl step ↦ step_few p next e actions laws.keeps shaped step
+      | inr drop ↦ let none : length (as_actions actions) ≡ 0 = ap (λ l. length l) drop.silent in omega arith
+    ]
+
+-- a link that is held or named
+tie_decided : (t : Tie) → (is_held t ≡ true) ⊎ (t ≡ Unheld)
+tie_decided Unheld = inr refl
+tie_decided Connecting = inl refl
+tie_decided Made = inl refl
+tie_decided MadeOpen = inl refl
+tie_decided Taken = inl refl
+
+if_decided : (b : Bool) (k : Concern) → (b ≡ true) ⊎ ((if b then k else Elsewhere) ≡ Elsewhere)
+if_decided true k = inl refl
+if_decided false k = inr refl
+
+named_decided : (e : Event (List ℕ)) (c : ℕ) → (is_on (named e) c ≡ true) ⊎ (concern_by e (conn c) ≡ Elsewhere)
+named_decided (Start d) c = if_decided (d.0 == c) StartsIt
+named_decided (Ack d) c = if_decided (d.0 == c) AcksIt
+named_decided (Nack d) c = if_decided (d.0 == c) NacksIt
+named_decided (Gone d) c = if_decided (d.0 == c) EndsIt
+named_decided (Arrived d s) c = if_decided (d.0 == c) HeardOnIt
+named_decided (Stop cause) c = inr refl
+named_decided Timeout c = inr refl
+named_decided Tick c = inr refl
+named_decided (Submit s) c = inr refl
+
+or_left : (a b : Bool) → a ≡ true → (a || b) ≡ true
+or_left true b h = refl
+or_left false b h = cc
+
+or_right : (a b : Bool) → b ≡ true → (a || b) ≡ true
+or_right true b h = refl
+or_right false b h = h
+
+-- what is sent at an event has room
+pub room_for_reply : (s : Side) (ls : List Link) (p next : Peer) (e : Event (List ℕ)) (actions : List declared_action.Action) → SendLaws → IsTrue (is_shaped p.standing.core) → HasRoomToSend s ls p.standing.core (named e) → octet_peers.reply p e ≡ Acts (as_actions actions) next → HasRoomFor s ls (as_actions actions)
+room_for_reply s ls p next e actions laws shaped room is c sends =
+    let n = p.standing.core in
+    let held = is_on (held_as Initiated n.held) c || is_on (held_as Accepted n.held) c in
+    let few = reply_few p next e actions laws shaped is in
+    less s (length (as_actions actions)) 4 c ls few
+    (elim (tie_decided (tie_of n c)) [
+      | inl held_there ↦ room c (or_left held (is_on (named e) c) (sym (held_by_role n c shaped) ∙ held_there))
+      | inr unheld ↦
+          elim (named_decided e c) [
+            | inl there ↦ room c (or_right held (is_on (named e) c) there)
+            | inr elsewhere ↦ let clash : true ≡ false = sym sends ∙ reply_unsent p next e actions c laws shaped is unheld elsewhere in absurd (cc)
+          ]
+    ])
+
+-- a reply keeps the node's shape
+pub reply_shaped : (p next : Peer) (e : Event (List ℕ)) (actions : List declared_action.Action) → SendLaws → IsTrue (is_shaped p.standing.core) → octet_peers.reply p e ≡ Acts (as_actions actions) next → IsTrue (is_shaped next.standing.core)
+reply_shaped p next e actions laws shaped is =
+    let follows : Follows octet_peers p e (Acts (as_actions actions) next) = subst (λ (r : Reply Peer (List ℕ)). Follows octet_peers p e r) is (laws.machine.follows p e) in
+    elim follows [
+      | inl step ↦ (subst (λ (o : moves.Outcome). KeepsShape o) step.moves (laws.keeps p.standing.core step.input step.wins shaped)).0
+      | inr drop ↦ subst (λ (n : Node). IsTrue (is_shaped n)) (sym drop.stays) shaped
+    ]

@@ -1,0 +1,18 @@
+use Rattle.std.proofs.Common.{◌<◌, length, sym, ◌∙◌, arith}
+use Rattle.dm_world.specs.Seen.{as_link}
+use Rattle.dm_world.specs.Views.{as_world}
+use Rattle.dm_world.proofs.Hearing.{link_at}
+use Rattle.dm_world.proofs.Happenings.{ack_step, ack_ignored}
+use Rattle.dm_world.proofs.net.Net.ack.Goals as goal
+
+pub returns-then-not-is_pending-clause-step : goal.returns-then-not-is_pending-clause-step
+returns-then-not-is_pending-clause-step c =
+    let lt : c.args.conn.0 < length c.args.self.now.links.items = omega (arith, c.args.self.now.links.ok.0) in
+    ack_ignored (as_world c.args.self.now) c.args.conn.0 (as_link c.index-link.result.now)
+    (link_at c.args.conn.0 c.args.self.now.links.items c.index-link.result.now lt c.index-link.ensures) (sym c.is_pending.ensures ∙ c.if-not-is_pending.true)
+
+pub returns-clause-step : goal.returns-clause-step
+returns-clause-step c =
+    let lt : c.args.conn.0 < length c.args.self.now.links.items = omega (arith, c.args.self.now.links.ok.0) in
+    ack_step c.in_ok-tell.field-0 (as_world c.args.self.now) (as_world c.tell.new.self) c.args.conn.0 (as_link c.index-link.result.now)
+    (link_at c.args.conn.0 c.args.self.now.links.items c.index-link.result.now lt c.index-link.ensures) (sym c.is_pending.ensures ∙ c.if-not-is_pending.false) c.in_ok-tell.ensures.step

@@ -1,0 +1,15 @@
+use Rattle.std.proofs.Common.{sym, ap, subst, ◌∙◌}
+use Rattle.std.specs.Prelude.{Bool, IsTrue, ◌↔◌}
+use Rattle.dm_links.specs.Agreement.{Agreed}
+use Rattle.dm_world.specs.Agreeing.{agrees}
+use Rattle.dm_pair.specs.Octets.{octet_peers}
+use Rattle.dm_world.specs.Seen.{as_links}
+use Rattle.dm_world.specs.Views.{as_world}
+use Rattle.dm_world.proofs.Agrees.{agrees_as}
+use Rattle.dm_world.proofs.net.Net.agreed.Goals as goal
+
+pub returns : goal.returns
+returns c =
+    let w = as_world c.args.self.now in
+    let is = c.agree.ensures ∙ ap (λ ls. agrees w.a.standing.core w.b.standing.core (as_links ls)) c.as_slice.ensures.value in
+    record { value = is; meaning = subst (λ (b : Bool). IsTrue b ↔ Agreed octet_peers w) (sym is) (agrees_as octet_peers w) }

@@ -1,0 +1,12 @@
+pub mod Way
+pub mod Ways
+pub mod WayOf
+pub mod Seen
+pub mod Rooms
+pub mod Agreeing
+pub mod Asking
+pub mod Views
+pub mod Next
+pub mod Happening
+pub mod New
+pub mod Settling

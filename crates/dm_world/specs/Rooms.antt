@@ -1,0 +1,41 @@
+-- Room for what a side sends.
+use Rattle.std.specs.Prelude.{ℕ, ◌≤◌, ◌==◌, Bool, false, ◌||◌, IsTrue, Option, Some, None, List, IfSome, slice_get, map, length}
+use Rattle.dm_links.specs.Links.{Side}
+use Rattle.dm_links.specs.Machine.{Conn, Initiated, Accepted, Node, held_as}
+use Rattle.dm_links.specs.Peers.{Event, Start, Ack, Nack, Gone, Arrived, Action, order_of, sends_at}
+use Rattle.dm_world.specs.declared.link.Link.{Link}
+use Rattle.dm_world.specs.Seen.{out_room}
+
+-- the link of a number, if there is one, has room for n more messages of a side
+abbrev pub HasRoom : Side → List Link → ℕ → ℕ → Type 0
+HasRoom s ls n c = IfSome (slice_get ls c) (λ l. n ≤ out_room s l)
+
+-- each link has room for all actions, where one of them is sent on it
+abbrev pub HasRoomFor : Side → List Link → List (Action (List ℕ)) → Type 0
+HasRoomFor s ls actions = (c : ℕ) → IsTrue (sends_at c (map order_of actions)) → HasRoom s ls (length actions) c
+
+-- the connection, if there is one, is the link of a number
+abbrev pub is_on : Option Conn → ℕ → Bool
+is_on None c = false
+is_on (Some d) c = d.0 == c
+
+-- the link that an event names
+abbrev pub named : Event (List ℕ) → Option Conn
+named (Start c) = Some c
+named (Ack c) = Some c
+named (Nack c) = Some c
+named (Gone c) = Some c
+named (Arrived c s) = Some c
+named _ = None
+
+-- the links that a node holds
+abbrev pub holds : Node → ℕ → Bool
+holds n c = is_on (held_as Initiated n.held) c || is_on (held_as Accepted n.held) c
+
+-- the links on which a node may send at an event: those that it holds, and the one that is named
+abbrev pub may_send : Node → Option Conn → ℕ → Bool
+may_send n named c = holds n c || is_on named c
+
+-- each of them has room for what a node sends at most, four messages
+abbrev pub HasRoomToSend : Side → List Link → Node → Option Conn → Type 0
+HasRoomToSend s ls n named = (c : ℕ) → IsTrue (may_send n named c) → HasRoom s ls 4 c

@@ -1,0 +1,22 @@
+-- What clean happenings come to.
+use Rattle.std.specs.Prelude.{ℕ, IsTrue, IfSome, List, map}
+use Rattle.dm_peer.specs.declared.peer.Peer.{Peer}
+use Rattle.dm_links.specs.Worlds.{World}
+use Rattle.dm_links.specs.Happens.{run}
+use Rattle.dm_links.specs.Quiet.{is_clean}
+use Rattle.dm_links.specs.Settled.{Settled}
+use Rattle.dm_pair.specs.Octets.{octet_peers}
+use Rattle.dm_pair.specs.Talking.{octet_talks}
+use Rattle.dm_world.specs.declared.happening.Happening.{Happening}
+use Rattle.dm_world.specs.Happening.{as_happening}
+
+-- they are Starts, connects that come about, and what is delivered
+abbrev pub AreClean : List Happening → Type 0
+AreClean list = IsTrue (is_clean (map as_happening list))
+
+-- what their run comes to: at most two CERs, one CEA and two disconnects are put in, and where it falls quiet after a
+-- taken Start, both sides are open on the connection that the election keeps (RFC 6733, 5.6.4)
+abbrev pub RunSettles : World Peer (List ℕ) → List Happening → Type 0
+RunSettles w list =
+    IfSome (run octet_peers w (map as_happening list))
+    (λ r. Settled octet_peers (octet_talks w.a.config w.b.config) w (map as_happening list) r)

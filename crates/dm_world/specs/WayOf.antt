@@ -1,0 +1,13 @@
+-- A direction as contracts see it.
+use Rattle.std.specs.Prelude.{◌-◌}
+use Rattle.std.specs.VecDeque.{deque_capacity, deque_len}
+use Rattle.dm_world.specs.declared.direction.Direction.TheInside.{Inside}
+use Rattle.dm_world.specs.Way.{Way}
+use Rattle.dm_world.specs.Ways.{mark_of}
+
+abbrev pub way_of : Inside → Way
+way_of d =
+    record {
+      direction = record { messages = d.queue.items; taken = 0; mark = mark_of d.mark };
+      room = deque_capacity d.queue - deque_len d.queue;
+    }

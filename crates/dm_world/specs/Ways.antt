@@ -1,0 +1,28 @@
+-- What goes into a direction, and what leaves it.
+use Rattle.std.specs.Prelude.{ℕ, List, [], ◌∷◌, drop}
+use Rattle.dm_links.specs.Links.{Direction, LinkPhase, Up, NoMark, Coming, Delivered}
+use Rattle.dm_links.specs.Links as links
+use Rattle.dm_links.specs.Steps.{added, marked}
+use Rattle.dm_world.specs.declared.direction.Mark.{Mark}
+use Rattle.dm_world.specs.declared.direction.Mark.TheVariants as mark
+
+abbrev pub mark_of : Mark → links.Mark
+mark_of mark.Absent = NoMark
+mark_of mark.Coming = Coming
+mark_of mark.Delivered = Delivered
+
+-- a message is put in behind the others, unless the disconnect is in
+abbrev pub with_message : List ℕ → Direction (List ℕ) → Direction (List ℕ)
+with_message m d = record { messages = added Up d.mark (m ∷ []) d.messages; taken = d.taken; mark = d.mark }
+
+-- a disconnect is put in, where none is
+abbrev pub with_disconnect : Direction (List ℕ) → Direction (List ℕ)
+with_disconnect d = record { messages = d.messages; taken = d.taken; mark = marked d.mark }
+
+-- the front message has left
+abbrev pub without_front : Direction (List ℕ) → Direction (List ℕ)
+without_front d = record { messages = drop 1 d.messages; taken = 0; mark = d.mark }
+
+-- the disconnect has left
+abbrev pub with_disconnect_delivered : Direction (List ℕ) → Direction (List ℕ)
+with_disconnect_delivered d = record { messages = d.messages; taken = d.taken; mark = Delivered }

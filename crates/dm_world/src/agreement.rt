@@ -1,0 +1,120 @@
+//! What two sides are open on.
+ghost use Rattle.std.specs.Prelude.{◌≡◌, ℕ, IfSome};
+ghost use Rattle.std.specs.Option.{IfNone};
+ghost use Rattle.dm_links.specs.Machine.{Initiated, Accepted};
+ghost use Rattle.dm_world.specs.Agreeing.{open_as, are_one, are_agreed, shared, first, agrees, open_on_both, AreOpenOn};
+ghost use Rattle.dm_world.specs.Seen.{as_links};
+
+use crate::link::Link;
+use crate::{Side, links};
+use dm_peer::{Conn, Peer};
+
+/// Whether the two, where both are there, are one.
+pub(crate) fn are_one(one: Option<Conn>, other: Option<Conn>) -> bool
+    ensures { result ≡ are_one one other }
+{
+    match (one, other) {
+        (Some(one), Some(other)) => one.0 == other.0,
+        _ => true,
+    }
+}
+
+/// Whether what A is open on and what B is open on, in opposite roles or in the same, fit: it is one link in opposite roles, or it is
+/// two, with a disconnect coming to each side on its own.
+pub(crate) fn are_agreed(
+    opposite: bool,
+    links: &[Link],
+    of_a: Option<Conn>,
+    of_b: Option<Conn>,
+) -> bool
+    ensures { result ≡ are_agreed opposite (as_links links.now) of_a of_b }
+{
+    match (of_a, of_b) {
+        (Some(of_a), Some(of_b)) => {
+            if of_a.0 == of_b.0 {
+                opposite
+            } else {
+                links::is_coming(links, Side::A, of_a.0 as usize)
+                    && links::is_coming(links, Side::B, of_b.0 as usize)
+            }
+        }
+        _ => true,
+    }
+}
+
+/// The connection that both are, if both are one.
+pub(crate) fn shared(one: Option<Conn>, other: Option<Conn>) -> Option<Conn>
+    ensures { result ≡ shared one other }
+{
+    match (one, other) {
+        (Some(one), Some(other)) => { if one.0 == other.0 { Some(one) } else { None } }
+        _ => None,
+    }
+}
+
+/// What the peer is open on as the one that opened it.
+fn open_initiated(peer: &Peer) -> Option<Conn>
+    ensures { result ≡ open_as Initiated peer.now.standing.core }
+{
+    if peer.is_open() {
+        peer.initiated()
+    } else {
+        None
+    }
+}
+
+/// What the peer is open on as the one that accepted it.
+fn open_accepted(peer: &Peer) -> Option<Conn>
+    ensures { result ≡ open_as Accepted peer.now.standing.core }
+{
+    if peer.is_open() {
+        peer.accepted()
+    } else {
+        None
+    }
+}
+
+/// Whether the two peers agree.
+pub(crate) fn agree(a: &Peer, b: &Peer, links: &[Link]) -> bool
+    ensures { result ≡ agrees a.now.standing.core b.now.standing.core (as_links links.now) }
+{
+    let (initiated_a, accepted_a) = (open_initiated(a), open_accepted(a));
+    let (initiated_b, accepted_b) = (open_initiated(b), open_accepted(b));
+    are_one(initiated_a, accepted_a)
+        && are_one(initiated_b, accepted_b)
+        && are_agreed(false, links, initiated_a, initiated_b)
+        && are_agreed(true, links, initiated_a, accepted_b)
+        && are_agreed(true, links, accepted_a, initiated_b)
+        && are_agreed(false, links, accepted_a, accepted_b)
+}
+
+/// The connection that both peers are open on.
+pub(crate) fn open_on_both(a: &Peer, b: &Peer) -> Option<Conn>
+    ensures value { result ≡ open_on_both a.now.standing.core b.now.standing.core }
+    ensures found { IfSome result (λ c. AreOpenOn a.now.standing.core b.now.standing.core c.0) }
+    ensures none { IfNone result ((c : ℕ) → AreOpenOn a.now.standing.core b.now.standing.core c → ⊥) }
+{
+    let (initiated_a, accepted_a) = (open_initiated(a), open_accepted(a));
+    let (initiated_b, accepted_b) = (open_initiated(b), open_accepted(b));
+    let opposite = first(
+        shared(initiated_a, accepted_b),
+        shared(accepted_a, initiated_b),
+    );
+    first(
+        opposite,
+        first(
+            shared(initiated_a, initiated_b),
+            shared(accepted_a, accepted_b),
+        ),
+    )
+}
+
+/// The first of the two that is there.
+fn first(one: Option<Conn>, other: Option<Conn>) -> Option<Conn>
+    ensures { result ≡ first one other }
+{
+    match one {
+        Some(conn) => Some(conn),
+        None => other,
+    }
+}

@@ -1,0 +1,100 @@
+//! One happening is one step of the world.
+ghost use Rattle.std.specs.Prelude.{◌≡◌, true, false, IfOk, IfErr, OnErr};
+ghost use Rattle.dm_links.specs.Happens.{happens, Acks, Nacks, Loses};
+ghost use Rattle.dm_pair.specs.Octets.{octet_peers};
+ghost use Rattle.dm_world.specs.Happening.{as_happening, may_want};
+ghost use Rattle.dm_world.specs.Views.{as_world, Effects, AreShaped, IsFault};
+
+use crate::net::Net;
+use crate::{Effect, Happening, WorldFault, links};
+use dm_peer::{Conn, Event};
+use std::alloc::Global;
+
+impl Net {
+    /// The link's connect comes about.
+    fn ack(&mut self, alloc: Global, conn: Conn) -> Result<Effect, WorldFault>
+        requires { AreShaped self.old }
+        ensures step { IfOk result (λ effect. Effects effect (happens octet_peers (as_world self.old) (Acks conn.0)) (as_world self.old) (as_world self.new)) }
+        ensures fault { IfErr result (λ f. IsFault f true (happens octet_peers (as_world self.old) (Acks conn.0))) }
+        ensures unchanged { OnErr result (as_world self.new ≡ as_world self.old) }
+    {
+        let index = conn.0 as usize;
+        if index >= self.links.len() {
+            return Err(WorldFault::NoLink);
+        }
+        let link = &self.links[index];
+        if !link.is_pending() {
+            return Ok(Effect::Ignored);
+        }
+        let opener = link.opener;
+        Ok(self.tell(alloc, opener, Event::Ack(conn))?)
+    }
+
+    /// The link's connect can't come about.
+    fn nack(&mut self, alloc: Global, conn: Conn) -> Result<Effect, WorldFault>
+        requires { AreShaped self.old }
+        ensures step { IfOk result (λ effect. Effects effect (happens octet_peers (as_world self.old) (Nacks conn.0)) (as_world self.old) (as_world self.new)) }
+        ensures fault { IfErr result (λ f. IsFault f true (happens octet_peers (as_world self.old) (Nacks conn.0))) }
+        ensures unchanged { OnErr result (as_world self.new ≡ as_world self.old) }
+    {
+        let index = conn.0 as usize;
+        if index >= self.links.len() {
+            return Err(WorldFault::NoLink);
+        }
+        let link = &self.links[index];
+        if !link.is_pending() {
+            return Ok(Effect::Ignored);
+        }
+        let opener = link.opener;
+        Ok(self.tell(alloc, opener, Event::Nack(conn))?)
+    }
+
+    /// The link is lost, but for so many first octets towards A and towards B.
+    fn lose(&mut self, conn: Conn, to_a: u32, to_b: u32) -> Result<Effect, WorldFault>
+        ensures step { IfOk result (λ effect. Effects effect (happens octet_peers (as_world self.old) (Loses conn.0 to_a to_b)) (as_world self.old) (as_world self.new)) }
+        ensures fault { IfErr result (λ f. IsFault f false (happens octet_peers (as_world self.old) (Loses conn.0 to_a to_b))) }
+        ensures unchanged { OnErr result (as_world self.new ≡ as_world self.old) }
+    {
+        let index = conn.0 as usize;
+        if index >= self.links.len() {
+            return Err(WorldFault::NoLink);
+        }
+        if self.links[index].is_past_loss() {
+            return Ok(Effect::Ignored);
+        }
+        links::lose(&mut self.links, index, to_a, to_b);
+        Ok(Effect::Done)
+    }
+
+    /// One happening.
+    pub(crate) fn apply(
+        &mut self,
+        alloc: Global,
+        happening: &Happening,
+    ) -> Result<Effect, WorldFault>
+        requires { AreShaped self.old }
+        ensures step { IfOk result (λ effect. Effects effect (happens octet_peers (as_world self.old) (as_happening happening.now)) (as_world self.old) (as_world self.new)) }
+        ensures fault { IfErr result (λ f. IsFault f (may_want happening.now) (happens octet_peers (as_world self.old) (as_happening happening.now))) }
+        ensures unchanged { OnErr result (as_world self.new ≡ as_world self.old) }
+    {
+        match happening {
+            Happening::Start(side) => Ok(self.start(alloc, *side)?),
+            Happening::Stop(side, cause) => Ok(self.tell(alloc, *side, Event::Stop(*cause))?),
+            Happening::Timeout(side) => Ok(self.time_out(alloc, *side)),
+            Happening::Tick(side) => Ok(self.tell(alloc, *side, Event::Tick)?),
+            Happening::Restart(side) => {
+                self.restart(*side);
+                Ok(Effect::Done)
+            }
+            Happening::Ack(conn) => self.ack(alloc, *conn),
+            Happening::Nack(conn) => self.nack(alloc, *conn),
+            Happening::Deliver(conn, side) => self.deliver(alloc, *conn, *side),
+            Happening::Lose(conn, to_a, to_b) => self.lose(*conn, *to_a, *to_b),
+            Happening::Submit(side, octets) => Ok(self.tell(
+                alloc,
+                *side,
+                Event::Submit(octets.as_slice()),
+            )?),
+        }
+    }
+}

@@ -1,0 +1,117 @@
+//! What reaches a side on a link.
+ghost use Rattle.std.specs.Prelude.{◌≡◌, ◌<◌, ℕ, List, Some, true, IfOk, IfErr, OnErr, length, slice_get};
+ghost use Rattle.dm_links.specs.Machine.{conn};
+ghost use Rattle.dm_links.specs.Happens.{happens, Delivers, comes, own_view};
+ghost use Rattle.dm_links.specs.Links.{Link};
+ghost use Rattle.dm_links.specs.Worlds as worlds;
+ghost use Rattle.dm_links.specs.Peers.{Arrived, Gone};
+ghost use Rattle.dm_pair.specs.Octets.{octet_peers};
+ghost use Rattle.dm_world.specs.Seen.{as_side, as_links};
+ghost use Rattle.dm_world.specs.Views.{as_world, Effects, AreShaped, IsFault, front_of};
+
+use crate::link::{End, Next};
+use crate::net::Net;
+use crate::pair::holds;
+use crate::performing::perform;
+use crate::rooms::make_room;
+use crate::{Effect, Side, WorldFault, links};
+use dm_dict::NoMemory;
+use dm_machine::laws::{each_opening_has_its_message, each_step_keeps_shape};
+use dm_pair::laws::octets_are_a_machine;
+use dm_peer::{Conn, Event};
+use std::alloc::Global;
+
+impl Net {
+    /// The side hears the front message of the link.
+    pub(crate) fn hear(
+        &mut self,
+        alloc: Global,
+        side: Side,
+        index: usize,
+    ) -> Result<Effect, NoMemory>
+        requires shaped { AreShaped self.old }
+        requires there { index < length self.old.links.items }
+        ensures step { IfOk result (λ effect. (x : List ℕ) → front_of (as_side side) (slice_get (as_links self.old.links.items) index) ≡ Some x → Effects effect (worlds.told octet_peers (as_side side) (Arrived (conn index) x) (as_world self.old)) (as_world self.old) (as_world self.new)) }
+        ensures unchanged { OnErr result (as_world self.new ≡ as_world self.old) }
+    {
+        octets_are_a_machine();
+        each_opening_has_its_message();
+        each_step_keeps_shape();
+        let conn = Conn(index as u64);
+        make_room(&mut self.links, side, self.pair.of(side), Some(conn))?;
+        let answer = match self.links[index].front(side) {
+            Some(octets) => self.pair.ask(alloc, side, Event::Arrived(conn, octets))?,
+            None => return Ok(Effect::Ignored),
+        };
+        match answer {
+            None => Ok(Effect::Ignored),
+            Some(actions) => {
+                links::enter_message(&mut self.links, side, index);
+                perform(&mut self.links, side, actions);
+                let held = holds(self.pair.of(side), conn);
+                links::settle(&mut self.links, side, index, held);
+                Ok(Effect::Done)
+            }
+        }
+    }
+
+    /// The front message comes to the side's end of the link. A shut end drops it.
+    fn message_comes(&mut self, alloc: Global, side: Side, index: usize) -> Result<Effect, NoMemory>
+        requires shaped { AreShaped self.old }
+        requires there { index < length self.old.links.items }
+        ensures step { IfOk result (λ effect. (l : Link (List ℕ)) (x : List ℕ) → slice_get (as_links self.old.links.items) index ≡ Some l → slice_get (own_view (as_side side) l).incoming.messages 0 ≡ Some x → Effects effect (comes octet_peers (as_side side) (Arrived (conn index) x) (own_view (as_side side) l).own (as_world self.old)) (as_world self.old) (as_world self.new)) }
+        ensures unchanged { OnErr result (as_world self.new ≡ as_world self.old) }
+    {
+        match self.links[index].own_end(side) {
+            End::Shut => {
+                links::enter_message(&mut self.links, side, index);
+                Ok(Effect::Done)
+            }
+            End::Fresh | End::Open => self.hear(alloc, side, index),
+        }
+    }
+
+    /// The disconnect comes to the side's end of the link. A shut end drops it.
+    fn disconnect_comes(
+        &mut self,
+        alloc: Global,
+        side: Side,
+        index: usize,
+    ) -> Result<Effect, NoMemory>
+        requires shaped { AreShaped self.old }
+        requires there { index < length self.old.links.items }
+        ensures step { IfOk result (λ effect. (l : Link (List ℕ)) → slice_get (as_links self.old.links.items) index ≡ Some l → Effects effect (comes octet_peers (as_side side) (Gone (conn index)) (own_view (as_side side) l).own (as_world self.old)) (as_world self.old) (as_world self.new)) }
+        ensures unchanged { OnErr result (as_world self.new ≡ as_world self.old) }
+    {
+        match self.links[index].own_end(side) {
+            End::Shut => {
+                links::enter_gone(&mut self.links, side, index);
+                Ok(Effect::Done)
+            }
+            End::Fresh | End::Open => self.tell(alloc, side, Event::Gone(Conn(index as u64))),
+        }
+    }
+
+    /// What is next on the link comes to the side.
+    pub(crate) fn deliver(
+        &mut self,
+        alloc: Global,
+        conn: Conn,
+        side: Side,
+    ) -> Result<Effect, WorldFault>
+        requires { AreShaped self.old }
+        ensures step { IfOk result (λ effect. Effects effect (happens octet_peers (as_world self.old) (Delivers conn.0 (as_side side))) (as_world self.old) (as_world self.new)) }
+        ensures fault { IfErr result (λ f. IsFault f true (happens octet_peers (as_world self.old) (Delivers conn.0 (as_side side)))) }
+        ensures unchanged { OnErr result (as_world self.new ≡ as_world self.old) }
+    {
+        let index = conn.0 as usize;
+        if index >= self.links.len() {
+            return Err(WorldFault::NoLink);
+        }
+        match self.links[index].next(side) {
+            Next::Nothing => Ok(Effect::Ignored),
+            Next::Message => Ok(self.message_comes(alloc, side, index)?),
+            Next::Disconnect => Ok(self.disconnect_comes(alloc, side, index)?),
+        }
+    }
+}

@@ -1,0 +1,24 @@
+//! Two peers and the links between them: whatever happens to them, in whatever order, they agree on what is open.
+#![tactic(auto)]
+
+mod agreement;
+mod applying;
+mod delivering;
+mod direction;
+mod fault;
+mod happening;
+mod link;
+mod links;
+mod net;
+mod pair;
+mod performing;
+mod rooms;
+mod side;
+mod starting;
+mod world;
+
+pub use dm_peer::{Cause, Config, Conn, Node, Peer};
+pub use fault::{Effect, NewFault, WorldFault};
+pub use happening::Happening;
+pub use side::Side;
+pub use world::World;

@@ -1,0 +1,317 @@
+//! A link: what a connection is to both sides.
+ghost use Rattle.std.specs.Prelude.{◌≡◌, ◌+◌, ◌<◌, ◌≤◌, Bool, true, false, length, drop, slice_get, OnOk, option_map};
+ghost use Rattle.dm_links.specs.Links.{new_link, opens, by_side, view_of};
+ghost use Rattle.dm_links.specs.Machine.{AcksIt, NacksIt, EndsIt, HeardOnIt};
+ghost use Rattle.dm_links.specs.Steps.{said, shut, entered, settled};
+ghost use Rattle.dm_links.specs.Happens.{lost_link, own_view, are_shut};
+ghost use Rattle.dm_links.specs.Facts.{is_pending};
+ghost use Rattle.dm_links.specs.Quiet.{is_quiet_link};
+ghost use Rattle.dm_world.specs.Seen.{as_side, as_end, as_link, out_room, restart_link};
+ghost use Rattle.dm_world.specs.Next.{next_to, is_past_loss};
+ghost use Rattle.dm_world.specs.Ways.{mark_of};
+
+use crate::Side;
+use crate::direction::{Direction, Mark};
+use dm_wire::Octets;
+use std::alloc::{AllocError, Global};
+
+/// How far a link has come.
+#[derive(Clone, Copy, Debug, PartialEq, Eq)]
+pub(crate) enum Phase {
+    /// Its connect is pending.
+    Pending,
+    /// It is up.
+    Up,
+    /// It is cancelled.
+    Cancelled,
+}
+
+/// An end of a link that is up.
+#[derive(Clone, Copy, Debug, PartialEq, Eq)]
+pub(crate) enum End {
+    /// No message came yet.
+    Fresh,
+    /// It is open.
+    Open,
+    /// It is shut. So is written too what is no end yet, or never was.
+    Shut,
+}
+
+/// What comes next to a side.
+#[derive(Clone, Copy, Debug, PartialEq, Eq)]
+pub(crate) enum Next {
+    /// A message.
+    Message,
+    /// The disconnect.
+    Disconnect,
+    /// Nothing.
+    Nothing,
+}
+
+/// A link. The near end is the opener's.
+#[derive(Debug, Drop)]
+pub(crate) struct Link {
+    pub(crate) opener: Side,
+    pub(crate) phase: Phase,
+    near: End,
+    far: End,
+    to_near: Direction,
+    to_far: Direction,
+}
+
+impl Link {
+    /// A link whose connect is pending.
+    pub(crate) fn new(alloc: Global, opener: Side) -> Link
+        ensures { as_link result ≡ new_link (as_side opener) }
+    {
+        Link {
+            opener,
+            phase: Phase::Pending,
+            near: End::Shut,
+            far: End::Shut,
+            to_near: Direction::new(alloc),
+            to_far: Direction::new(alloc),
+        }
+    }
+
+    /// Whether the side opened the link.
+    fn is_opener(&self, side: Side) -> bool
+        ensures { result ≡ opens (as_side side) (as_side self.now.opener) }
+    {
+        match (side, self.opener) {
+            (Side::A, Side::A) | (Side::B, Side::B) => true,
+            _ => false,
+        }
+    }
+
+    /// Room for so many messages that the side sends.
+    pub(crate) fn reserve(&mut self, side: Side, count: usize) -> Result<(), AllocError>
+        ensures same { as_link self.new ≡ as_link self.old }
+        ensures room { OnOk result (count ≤ out_room (as_side side) self.new) }
+        ensures kept { out_room (as_side side) self.old ≤ out_room (as_side side) self.new }
+    {
+        if self.is_opener(side) {
+            self.to_far.reserve(count)
+        } else {
+            self.to_near.reserve(count)
+        }
+    }
+
+    /// The side sends a message.
+    pub(crate) fn say(&mut self, side: Side, message: Octets)
+        requires { 0 < out_room (as_side side) self.old }
+        ensures said { as_link self.new ≡ by_side (as_side side) (said message) (as_link self.old) }
+        ensures room { out_room (as_side side) self.old ≤ out_room (as_side side) self.new + 1 }
+    {
+        let mine = self.is_opener(side);
+        match (self.phase, mine) {
+            (Phase::Up, true) => self.to_far.put(message),
+            (Phase::Up, false) => self.to_near.put(message),
+            _ => {}
+        }
+    }
+
+    /// The side closes the link.
+    pub(crate) fn close(&mut self, side: Side)
+        ensures closed { as_link self.new ≡ by_side (as_side side) shut (as_link self.old) }
+        ensures room { out_room (as_side side) self.old ≤ out_room (as_side side) self.new }
+    {
+        let mine = self.is_opener(side);
+        match (self.phase, mine) {
+            (Phase::Up, true) => {
+                self.near = End::Shut;
+                self.to_far.put_disconnect();
+            }
+            (Phase::Up, false) => {
+                self.far = End::Shut;
+                self.to_near.put_disconnect();
+            }
+            (Phase::Pending, _) => self.phase = Phase::Cancelled,
+            _ => {}
+        }
+    }
+
+    /// The end of the side.
+    pub(crate) fn own_end(&self, side: Side) -> End
+        ensures { as_end result ≡ (own_view (as_side side) (as_link self.now)).own }
+    {
+        if self.is_opener(side) {
+            self.near
+        } else {
+            self.far
+        }
+    }
+
+    /// The front message towards the side.
+    pub(crate) fn front(&self, side: Side) -> Option<&[u8]>
+        ensures { option_map (λ octets. octets.now) result ≡ slice_get (own_view (as_side side) (as_link self.now)).incoming.messages 0 }
+    {
+        if self.is_opener(side) {
+            self.to_near.front()
+        } else {
+            self.to_far.front()
+        }
+    }
+
+    /// The mark of the direction towards the side.
+    pub(crate) fn incoming_mark(&self, side: Side) -> Mark
+        ensures { mark_of result ≡ (own_view (as_side side) (as_link self.now)).incoming.mark }
+    {
+        if self.is_opener(side) {
+            self.to_near.mark()
+        } else {
+            self.to_far.mark()
+        }
+    }
+
+    /// The connect came about: both ends are made, and that of the side, the opener, is open.
+    pub(crate) fn enter_ack(&mut self, side: Side)
+        ensures entered { as_link self.new ≡ by_side (as_side side) (entered AcksIt) (as_link self.old) }
+        ensures room { out_room (as_side side) self.old ≤ out_room (as_side side) self.new }
+    {
+        self.phase = Phase::Up;
+        if self.is_opener(side) {
+            self.near = End::Open;
+            self.far = End::Fresh;
+        } else {
+            self.far = End::Open;
+            self.near = End::Fresh;
+        }
+    }
+
+    /// The connect can't come about.
+    pub(crate) fn enter_nack(&mut self, side: Side)
+        ensures entered { as_link self.new ≡ by_side (as_side side) (entered NacksIt) (as_link self.old) }
+        ensures room { out_room (as_side side) self.old ≤ out_room (as_side side) self.new }
+    {
+        self.phase = Phase::Cancelled;
+    }
+
+    /// The front message comes to the side.
+    pub(crate) fn enter_message(&mut self, side: Side)
+        ensures entered { as_link self.new ≡ by_side (as_side side) (entered HeardOnIt) (as_link self.old) }
+        ensures room { out_room (as_side side) self.old ≤ out_room (as_side side) self.new }
+    {
+        if self.is_opener(side) {
+            self.to_near.take_front();
+        } else {
+            self.to_far.take_front();
+        }
+    }
+
+    /// The disconnect comes to the side: its end is shut. Where that was fresh, a disconnect goes back.
+    pub(crate) fn enter_gone(&mut self, side: Side)
+        ensures entered { as_link self.new ≡ by_side (as_side side) (entered EndsIt) (as_link self.old) }
+        ensures room { out_room (as_side side) self.old ≤ out_room (as_side side) self.new }
+    {
+        let mine = self.is_opener(side);
+        if mine {
+            self.to_near.deliver_disconnect();
+            if let End::Fresh = self.near {
+                self.to_far.put_disconnect();
+            }
+            self.near = End::Shut;
+        } else {
+            self.to_far.deliver_disconnect();
+            if let End::Fresh = self.far {
+                self.to_near.put_disconnect();
+            }
+            self.far = End::Shut;
+        }
+    }
+
+    /// A fresh end that was heard on is open where its peer holds the link, else shut.
+    pub(crate) fn settle(&mut self, side: Side, holds: bool)
+        ensures { as_link self.new ≡ by_side (as_side side) (settled HeardOnIt holds) (as_link self.old) }
+    {
+        let settled = if holds { End::Open } else { End::Shut };
+        let mine = self.is_opener(side);
+        match (mine, self.near, self.far) {
+            (true, End::Fresh, _) => self.near = settled,
+            (false, _, End::Fresh) => self.far = settled,
+            _ => {}
+        }
+    }
+
+    /// The link is lost: so many first octets towards A and towards B stay.
+    pub(crate) fn lose(&mut self, to_a: u32, to_b: u32)
+        ensures { as_link self.new ≡ lost_link length to_a to_b (as_link self.old) }
+    {
+        match self.opener {
+            Side::A => {
+                self.to_near.lose(to_a);
+                self.to_far.lose(to_b);
+            }
+            Side::B => {
+                self.to_near.lose(to_b);
+                self.to_far.lose(to_a);
+            }
+        }
+    }
+
+    /// The side starts anew: its end is shut, and a connect that it asked for is cancelled.
+    pub(crate) fn restart(&mut self, side: Side)
+        ensures { as_link self.new ≡ restart_link (as_side side) (as_link self.old) }
+    {
+        let mine = self.is_opener(side);
+        match (self.phase, mine) {
+            (Phase::Pending, false) => {}
+            _ => self.close(side),
+        }
+    }
+
+    /// Whether both ends are shut.
+    pub(crate) fn is_shut(&self) -> bool
+        ensures { result ≡ are_shut (as_end self.now.near) (as_end self.now.far) }
+    {
+        match (self.near, self.far) {
+            (End::Shut, End::Shut) => true,
+            _ => false,
+        }
+    }
+
+    /// Whether nothing is under way: the link isn't pending, and both directions are still.
+    pub(crate) fn is_quiet(&self) -> bool
+        ensures { result ≡ is_quiet_link (as_link self.now) }
+    {
+        match self.phase {
+            Phase::Pending => false,
+            _ => self.to_near.is_still() && self.to_far.is_still(),
+        }
+    }
+
+    /// What comes next to the side.
+    pub(crate) fn next(&self, side: Side) -> Next
+        ensures { result ≡ next_to (as_side side) (as_link self.now) }
+    {
+        match (
+            self.phase,
+            self.front(side).is_some(),
+            self.incoming_mark(side),
+        ) {
+            (Phase::Up, true, _) => Next::Message,
+            (Phase::Up, false, Mark::Coming) => Next::Disconnect,
+            _ => Next::Nothing,
+        }
+    }
+
+    /// Whether a loss changes nothing: the link isn't up, or both ends are shut.
+    pub(crate) fn is_past_loss(&self) -> bool
+        ensures { result ≡ is_past_loss (as_link self.now) }
+    {
+        match self.phase {
+            Phase::Up => self.is_shut(),
+            _ => true,
+        }
+    }
+
+    /// Whether its connect is pending.
+    pub(crate) fn is_pending(&self) -> bool
+        ensures { result ≡ is_pending (as_link self.now).phase }
+    {
+        match self.phase {
+            Phase::Pending => true,
+            _ => false,
+        }
+    }
+}

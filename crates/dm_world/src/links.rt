@@ -1,0 +1,159 @@
+//! The links of a world, by number.
+ghost use Rattle.std.specs.Prelude.{◌≡◌, ℕ, ◌+◌, ◌<◌, ◌≤◌, OnOk, length, vec_len, slice_get};
+ghost use Rattle.dm_links.specs.Links.{by_side};
+ghost use Rattle.dm_links.specs.Machine.{AcksIt, NacksIt, EndsIt, HeardOnIt};
+ghost use Rattle.dm_links.specs.Steps.{said, shut, entered, settled};
+ghost use Rattle.dm_links.specs.Worlds.{change_at};
+ghost use Rattle.dm_links.specs.Happens.{lost_link, restart_links};
+ghost use Rattle.std.specs.List.{list_all};
+ghost use Rattle.dm_links.specs.Quiet.{is_quiet_link};
+ghost use Rattle.dm_world.specs.Agreeing.{is_coming_at};
+ghost use Rattle.dm_world.specs.Seen.{as_side, as_links, restart_link};
+ghost use Rattle.dm_world.specs.Rooms.{HasRoom};
+
+use crate::Side;
+use crate::direction::Mark;
+use crate::link::Link;
+use dm_wire::Octets;
+use std::alloc::AllocError;
+
+/// Makes room for so many messages that the side sends on the link, if there is one.
+pub(crate) fn reserve(
+    links: &mut Vec<Link>,
+    side: Side,
+    index: usize,
+    count: usize,
+) -> Result<(), AllocError>
+    ensures same { as_links links.new.items ≡ as_links links.old.items }
+    ensures room { OnOk result (HasRoom (as_side side) links.new.items count index) }
+    ensures kept { (n c : ℕ) → HasRoom (as_side side) links.old.items n c → HasRoom (as_side side) links.new.items n c }
+{
+    if index < links.len() {
+        links[index].reserve(side, count)
+    } else {
+        Ok(())
+    }
+}
+
+/// The side sends a message on the link, if there is one.
+pub(crate) fn say(links: &mut Vec<Link>, side: Side, index: usize, message: Octets)
+    requires { HasRoom (as_side side) links.old.items 1 index }
+    ensures said { as_links links.new.items ≡ change_at index (by_side (as_side side) (said message)) (as_links links.old.items) }
+    ensures room { (n c : ℕ) → HasRoom (as_side side) links.old.items (n + 1) c → HasRoom (as_side side) links.new.items n c }
+{
+    if index < links.len() {
+        links[index].say(side, message);
+    }
+}
+
+/// The side closes the link, if there is one.
+pub(crate) fn close(links: &mut Vec<Link>, side: Side, index: usize)
+    ensures closed { as_links links.new.items ≡ change_at index (by_side (as_side side) shut) (as_links links.old.items) }
+    ensures room { (n c : ℕ) → HasRoom (as_side side) links.old.items n c → HasRoom (as_side side) links.new.items n c }
+{
+    if index < links.len() {
+        links[index].close(side);
+    }
+}
+
+/// The connect of the link came about, which the side opened.
+pub(crate) fn enter_ack(links: &mut Vec<Link>, side: Side, index: usize)
+    ensures entered { as_links links.new.items ≡ change_at index (by_side (as_side side) (entered AcksIt)) (as_links links.old.items) }
+    ensures room { (n c : ℕ) → HasRoom (as_side side) links.old.items n c → HasRoom (as_side side) links.new.items n c }
+{
+    if index < links.len() {
+        links[index].enter_ack(side);
+    }
+}
+
+/// The connect of the link, which the side opened, can't come about.
+pub(crate) fn enter_nack(links: &mut Vec<Link>, side: Side, index: usize)
+    ensures entered { as_links links.new.items ≡ change_at index (by_side (as_side side) (entered NacksIt)) (as_links links.old.items) }
+    ensures room { (n c : ℕ) → HasRoom (as_side side) links.old.items n c → HasRoom (as_side side) links.new.items n c }
+{
+    if index < links.len() {
+        links[index].enter_nack(side);
+    }
+}
+
+/// The front message of the link comes to the side.
+pub(crate) fn enter_message(links: &mut Vec<Link>, side: Side, index: usize)
+    ensures entered { as_links links.new.items ≡ change_at index (by_side (as_side side) (entered HeardOnIt)) (as_links links.old.items) }
+    ensures room { (n c : ℕ) → HasRoom (as_side side) links.old.items n c → HasRoom (as_side side) links.new.items n c }
+{
+    if index < links.len() {
+        links[index].enter_message(side);
+    }
+}
+
+/// The disconnect of the link comes to the side.
+pub(crate) fn enter_gone(links: &mut Vec<Link>, side: Side, index: usize)
+    ensures entered { as_links links.new.items ≡ change_at index (by_side (as_side side) (entered EndsIt)) (as_links links.old.items) }
+    ensures room { (n c : ℕ) → HasRoom (as_side side) links.old.items n c → HasRoom (as_side side) links.new.items n c }
+{
+    if index < links.len() {
+        links[index].enter_gone(side);
+    }
+}
+
+/// A fresh end of the side that was heard on is open where its peer holds the link, else shut.
+pub(crate) fn settle(links: &mut Vec<Link>, side: Side, index: usize, holds: bool)
+    ensures { as_links links.new.items ≡ change_at index (by_side (as_side side) (settled HeardOnIt holds)) (as_links links.old.items) }
+{
+    if index < links.len() {
+        links[index].settle(side, holds);
+    }
+}
+
+/// The link is lost: so many first octets towards A and towards B stay.
+pub(crate) fn lose(links: &mut Vec<Link>, index: usize, to_a: u32, to_b: u32)
+    ensures { as_links links.new.items ≡ change_at index (lost_link length to_a to_b) (as_links links.old.items) }
+{
+    if index < links.len() {
+        links[index].lose(to_a, to_b);
+    }
+}
+
+/// The side starts anew, as far as the link goes.
+fn restart_at(links: &mut Vec<Link>, side: Side, index: usize)
+    ensures anew { as_links links.new.items ≡ change_at index (restart_link (as_side side)) (as_links links.old.items) }
+    ensures length { vec_len links.new ≡ vec_len links.old }
+{
+    if index < links.len() {
+        links[index].restart(side);
+    }
+}
+
+/// The side starts anew.
+pub(crate) fn restart(links: &mut Vec<Link>, side: Side)
+    ensures { as_links links.new.items ≡ restart_links (as_side side) (as_links links.old.items) }
+{
+    for index in 0..links.len() {
+        restart_at(links, side, index);
+    }
+}
+
+/// Whether nothing is under way on any link.
+pub(crate) fn are_quiet(links: &[Link]) -> bool
+    ensures { result ≡ list_all is_quiet_link (as_links links.now) }
+{
+    for link in links {
+        if !link.is_quiet() {
+            return false;
+        }
+    }
+    true
+}
+
+/// Whether a disconnect is coming to the side on the link.
+pub(crate) fn is_coming(links: &[Link], side: Side, index: usize) -> bool
+    ensures { result ≡ is_coming_at (as_side side) (slice_get (as_links links.now) index) }
+{
+    match links.get(index) {
+        Some(link) => match link.incoming_mark(side) {
+            Mark::Coming => true,
+            _ => false,
+        },
+        None => false,
+    }
+}

@@ -1,0 +1,42 @@
+//! Room for what a side's peer sends, made before the peer is asked.
+ghost use Rattle.std.specs.Prelude.{◌≡◌, ℕ, IsTrue, OnOk};
+ghost use Rattle.dm_world.specs.Rooms.{HasRoom, is_on, HasRoomToSend};
+ghost use Rattle.dm_world.specs.Seen.{as_side, as_links};
+
+use crate::link::Link;
+use crate::{Side, links};
+use dm_dict::NoMemory;
+use dm_peer::{Conn, Peer};
+
+/// How many messages a peer sends at one event at most.
+const MAX_SENDS: usize = 4;
+
+/// Room on the link of a connection, if there is one.
+fn room_on(links: &mut Vec<Link>, side: Side, conn: Option<Conn>) -> Result<(), NoMemory>
+    ensures same { as_links links.new.items ≡ as_links links.old.items }
+    ensures room { OnOk result ((c : ℕ) → IsTrue (is_on conn c) → HasRoom (as_side side) links.new.items 4 c) }
+    ensures kept { (n c : ℕ) → HasRoom (as_side side) links.old.items n c → HasRoom (as_side side) links.new.items n c }
+{
+    match conn {
+        Some(conn) => match links::reserve(links, side, conn.0 as usize, MAX_SENDS) {
+            Ok(()) => Ok(()),
+            Err(_) => Err(NoMemory),
+        },
+        None => Ok(()),
+    }
+}
+
+/// Room on the links that the side's peer holds, and on the one that is named.
+pub(crate) fn make_room(
+    links: &mut Vec<Link>,
+    side: Side,
+    peer: &Peer,
+    named: Option<Conn>,
+) -> Result<(), NoMemory>
+    ensures same { as_links links.new.items ≡ as_links links.old.items }
+    ensures room { OnOk result (HasRoomToSend (as_side side) links.new.items peer.now.standing.core named) }
+{
+    room_on(links, side, peer.initiated())?;
+    room_on(links, side, peer.accepted())?;
+    room_on(links, side, named)
+}

@@ -1,0 +1,64 @@
+//! What takes no messages: a Start, a Timeout and a Restart of a side, and the loss of a link.
+ghost use Rattle.std.specs.Prelude.{◌≡◌, IfOk, OnErr};
+ghost use Rattle.dm_links.specs.Happens.{happens, Starts, TimesOut, restart_links};
+ghost use Rattle.dm_links.specs.Worlds.{with_peer, peer_at};
+ghost use Rattle.dm_world.specs.Asking.{reset_of};
+ghost use Rattle.dm_pair.specs.Octets.{octet_peers};
+ghost use Rattle.dm_world.specs.Seen.{as_side, as_links};
+ghost use Rattle.dm_world.specs.Views.{as_world, Effects, AreShaped};
+
+use crate::link::Link;
+use crate::net::Net;
+use crate::performing::perform;
+use crate::{Effect, Side, links};
+use dm_dict::NoMemory;
+use dm_peer::laws::silent_takes_none;
+use dm_peer::{Conn, Event};
+use std::alloc::Global;
+
+impl Net {
+    /// The side is asked to open a connection: the next link.
+    pub(crate) fn start(&mut self, alloc: Global, side: Side) -> Result<Effect, NoMemory>
+        requires { AreShaped self.old }
+        ensures step { IfOk result (λ effect. Effects effect (happens octet_peers (as_world self.old) (Starts (as_side side))) (as_world self.old) (as_world self.new)) }
+        ensures unchanged { OnErr result (as_world self.new ≡ as_world self.old) }
+    {
+        silent_takes_none();
+        if self.links.reserve(1).is_err() {
+            return Err(NoMemory);
+        }
+        let conn = Conn(self.links.len() as u64);
+        match self.pair.ask(alloc, side, Event::Start(conn))? {
+            None => Ok(Effect::Ignored),
+            Some(actions) => {
+                self.links.push_reserved(Link::new(alloc, side));
+                perform(&mut self.links, side, actions);
+                Ok(Effect::Done)
+            }
+        }
+    }
+
+    /// The side's state has had its time.
+    pub(crate) fn time_out(&mut self, alloc: Global, side: Side) -> Effect
+        requires { AreShaped self.old }
+        ensures { Effects result (happens octet_peers (as_world self.old) (TimesOut (as_side side))) (as_world self.old) (as_world self.new) }
+    {
+        silent_takes_none();
+        match self.pair.ask(alloc, side, Event::Timeout) {
+            Ok(None) => Effect::Ignored,
+            Ok(Some(actions)) => {
+                perform(&mut self.links, side, actions);
+                Effect::Done
+            }
+            Err(_) => unreachable!(),
+        }
+    }
+
+    /// The side starts anew.
+    pub(crate) fn restart(&mut self, side: Side)
+        ensures { as_world self.new ≡ with_peer (as_side side) (reset_of (peer_at (as_side side) (as_world self.old))) (restart_links (as_side side) (as_links self.old.links.items)) (as_world self.old) }
+    {
+        self.pair.reset(side);
+        links::restart(&mut self.links, side);
+    }
+}
