@@ -71,7 +71,10 @@ impl World {
     ghost use Rattle.dm_world.specs.Settling.{AreClean, RunSettles};
     ghost use Rattle.dm_world.specs.Views.{Effects, IsFault, IsEnd};
 
-    /// One happening.
+    /// One happening: it is done, or ignored with nothing changed.
+    ///
+    /// Refuses with `NoLink` where it names a link that isn't there, and with `NoMemory` where a growth was refused, which no
+    /// Timeout, Restart or Lose meets. The world is then what it was.
     pub fn apply(&mut self, alloc: Global, happening: &Happening) -> Result<Effect, WorldFault>
         ensures step { IfOk result (λ effect. Effects effect (happens octet_peers (as_world self.old.net) (as_happening happening.now)) (as_world self.old.net) (as_world self.new.net)) }
         ensures fault { IfErr result (λ f. IsFault f (may_want happening.now) (happens octet_peers (as_world self.old.net) (as_happening happening.now))) }
