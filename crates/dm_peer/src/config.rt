@@ -35,8 +35,8 @@ fn is_name(octets: &[u8]) -> bool
     value_fault(AvpType::DiameterIdentity, octets).is_none() && octets.len() <= MAX_NAME_LEN
 }
 
-/// Whether the octets are two names of one host.
-pub(crate) fn is_same_host(one: &[u8], other: &[u8]) -> bool
+/// Whether the octets are two names of one host, upper and lower case taken as one (RFC 6733, 5.6.4). It takes no memory.
+pub fn is_same_host(one: &[u8], other: &[u8]) -> bool
     ensures { result ≡ is_same_host one.now other.now }
 {
     match host_order(one, other) {

@@ -18,7 +18,7 @@ mod standing;
 mod steps;
 
 pub use actions::{Action, Actions};
-pub use config::Config;
+pub use config::{Config, is_same_host};
 pub use dm_base::{Cause, Node};
 pub use dm_machine::{Command, Commands, Conn, Core, Input, Refusal, State, Word, step};
 pub use events::Event;

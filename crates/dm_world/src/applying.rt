@@ -14,7 +14,8 @@ impl Net {
     /// The link's connect comes about.
     fn ack(&mut self, alloc: Global, conn: Conn) -> Result<Effect, WorldFault>
         requires { AreShaped self.old }
-        ensures step { IfOk result (λ effect. Effects effect (happens octet_peers (as_world self.old) (Acks conn.0)) (as_world self.old) (as_world self.new)) }
+        ensures step { IfOk result (λ effect. Effects effect (happens octet_peers (as_world self.old) (Acks conn.0))
+            (as_world self.old) (as_world self.new)) }
         ensures fault { IfErr result (λ f. IsFault f true (happens octet_peers (as_world self.old) (Acks conn.0))) }
         ensures unchanged { OnErr result (as_world self.new ≡ as_world self.old) }
     {
@@ -33,7 +34,8 @@ impl Net {
     /// The link's connect can't come about.
     fn nack(&mut self, alloc: Global, conn: Conn) -> Result<Effect, WorldFault>
         requires { AreShaped self.old }
-        ensures step { IfOk result (λ effect. Effects effect (happens octet_peers (as_world self.old) (Nacks conn.0)) (as_world self.old) (as_world self.new)) }
+        ensures step { IfOk result (λ effect. Effects effect (happens octet_peers (as_world self.old) (Nacks conn.0))
+            (as_world self.old) (as_world self.new)) }
         ensures fault { IfErr result (λ f. IsFault f true (happens octet_peers (as_world self.old) (Nacks conn.0))) }
         ensures unchanged { OnErr result (as_world self.new ≡ as_world self.old) }
     {
@@ -51,8 +53,11 @@ impl Net {
 
     /// The link is lost, but for so many first octets towards A and towards B.
     fn lose(&mut self, conn: Conn, to_a: u32, to_b: u32) -> Result<Effect, WorldFault>
-        ensures step { IfOk result (λ effect. Effects effect (happens octet_peers (as_world self.old) (Loses conn.0 to_a to_b)) (as_world self.old) (as_world self.new)) }
-        ensures fault { IfErr result (λ f. IsFault f false (happens octet_peers (as_world self.old) (Loses conn.0 to_a to_b))) }
+        ensures step { IfOk result (λ effect. Effects effect
+            (happens octet_peers (as_world self.old) (Loses conn.0 to_a to_b)) (as_world self.old)
+            (as_world self.new)) }
+        ensures fault { IfErr result (λ f. IsFault f false
+            (happens octet_peers (as_world self.old) (Loses conn.0 to_a to_b))) }
         ensures unchanged { OnErr result (as_world self.new ≡ as_world self.old) }
     {
         let index = conn.0 as usize;
@@ -73,8 +78,11 @@ impl Net {
         happening: &Happening,
     ) -> Result<Effect, WorldFault>
         requires { AreShaped self.old }
-        ensures step { IfOk result (λ effect. Effects effect (happens octet_peers (as_world self.old) (as_happening happening.now)) (as_world self.old) (as_world self.new)) }
-        ensures fault { IfErr result (λ f. IsFault f (may_want happening.now) (happens octet_peers (as_world self.old) (as_happening happening.now))) }
+        ensures step { IfOk result (λ effect. Effects effect
+            (happens octet_peers (as_world self.old) (as_happening happening.now)) (as_world self.old)
+            (as_world self.new)) }
+        ensures fault { IfErr result (λ f. IsFault f (may_want happening.now)
+            (happens octet_peers (as_world self.old) (as_happening happening.now))) }
         ensures unchanged { OnErr result (as_world self.new ≡ as_world self.old) }
     {
         match happening {

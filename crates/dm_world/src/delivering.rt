@@ -31,7 +31,10 @@ impl Net {
     ) -> Result<Effect, NoMemory>
         requires shaped { AreShaped self.old }
         requires there { index < length self.old.links.items }
-        ensures step { IfOk result (λ effect. (x : List ℕ) → front_of (as_side side) (slice_get (as_links self.old.links.items) index) ≡ Some x → Effects effect (worlds.told octet_peers (as_side side) (Arrived (conn index) x) (as_world self.old)) (as_world self.old) (as_world self.new)) }
+        ensures step { IfOk result (λ effect. (x : List ℕ) →
+            front_of (as_side side) (slice_get (as_links self.old.links.items) index) ≡ Some x →
+            Effects effect (worlds.told octet_peers (as_side side) (Arrived (conn index) x) (as_world self.old))
+            (as_world self.old) (as_world self.new)) }
         ensures unchanged { OnErr result (as_world self.new ≡ as_world self.old) }
     {
         octets_are_a_machine();
@@ -59,7 +62,11 @@ impl Net {
     fn message_comes(&mut self, alloc: Global, side: Side, index: usize) -> Result<Effect, NoMemory>
         requires shaped { AreShaped self.old }
         requires there { index < length self.old.links.items }
-        ensures step { IfOk result (λ effect. (l : Link (List ℕ)) (x : List ℕ) → slice_get (as_links self.old.links.items) index ≡ Some l → slice_get (own_view (as_side side) l).incoming.messages 0 ≡ Some x → Effects effect (comes octet_peers (as_side side) (Arrived (conn index) x) (own_view (as_side side) l).own (as_world self.old)) (as_world self.old) (as_world self.new)) }
+        ensures step { IfOk result (λ effect. (l : Link (List ℕ)) (x : List ℕ) →
+            slice_get (as_links self.old.links.items) index ≡ Some l →
+            slice_get (own_view (as_side side) l).incoming.messages 0 ≡ Some x →
+            Effects effect (comes octet_peers (as_side side) (Arrived (conn index) x) (own_view (as_side side) l).own
+            (as_world self.old)) (as_world self.old) (as_world self.new)) }
         ensures unchanged { OnErr result (as_world self.new ≡ as_world self.old) }
     {
         match self.links[index].own_end(side) {
@@ -80,7 +87,10 @@ impl Net {
     ) -> Result<Effect, NoMemory>
         requires shaped { AreShaped self.old }
         requires there { index < length self.old.links.items }
-        ensures step { IfOk result (λ effect. (l : Link (List ℕ)) → slice_get (as_links self.old.links.items) index ≡ Some l → Effects effect (comes octet_peers (as_side side) (Gone (conn index)) (own_view (as_side side) l).own (as_world self.old)) (as_world self.old) (as_world self.new)) }
+        ensures step { IfOk result (λ effect. (l : Link (List ℕ)) →
+            slice_get (as_links self.old.links.items) index ≡ Some l →
+            Effects effect (comes octet_peers (as_side side) (Gone (conn index)) (own_view (as_side side) l).own
+            (as_world self.old)) (as_world self.old) (as_world self.new)) }
         ensures unchanged { OnErr result (as_world self.new ≡ as_world self.old) }
     {
         match self.links[index].own_end(side) {
@@ -100,8 +110,11 @@ impl Net {
         side: Side,
     ) -> Result<Effect, WorldFault>
         requires { AreShaped self.old }
-        ensures step { IfOk result (λ effect. Effects effect (happens octet_peers (as_world self.old) (Delivers conn.0 (as_side side))) (as_world self.old) (as_world self.new)) }
-        ensures fault { IfErr result (λ f. IsFault f true (happens octet_peers (as_world self.old) (Delivers conn.0 (as_side side)))) }
+        ensures step { IfOk result (λ effect. Effects effect
+            (happens octet_peers (as_world self.old) (Delivers conn.0 (as_side side))) (as_world self.old)
+            (as_world self.new)) }
+        ensures fault { IfErr result (λ f. IsFault f true
+            (happens octet_peers (as_world self.old) (Delivers conn.0 (as_side side)))) }
         ensures unchanged { OnErr result (as_world self.new ≡ as_world self.old) }
     {
         let index = conn.0 as usize;

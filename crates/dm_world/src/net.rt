@@ -47,8 +47,10 @@ fn named(event: Event<'_>) -> Option<Conn>
 /// The event reaches the side.
 fn enter(links: &mut Vec<Link>, side: Side, event: Event<'_>)
     requires { is_plain (told event) ≡ true }
-    ensures entered { as_links links.new.items ≡ enter (as_side side) (as_event (told event.entry)) (as_links links.old.items) }
-    ensures room { (n c : ℕ) → HasRoom (as_side side) links.old.items n c → HasRoom (as_side side) links.new.items n c }
+    ensures entered { as_links links.new.items ≡ enter (as_side side) (as_event (told event.entry))
+        (as_links links.old.items) }
+    ensures room { (n c : ℕ) → HasRoom (as_side side) links.old.items n c →
+        HasRoom (as_side side) links.new.items n c }
 {
     match event {
         Event::Ack(conn) => links::enter_ack(links, side, conn.0 as usize),
@@ -68,7 +70,9 @@ impl Net {
     ) -> Result<Effect, NoMemory>
         requires shaped { AreShaped self.old }
         requires plain { is_plain (told event) ≡ true }
-        ensures step { IfOk result (λ effect. Effects effect (worlds.told octet_peers (as_side side) (as_event (told event.entry)) (as_world self.old)) (as_world self.old) (as_world self.new)) }
+        ensures step { IfOk result (λ effect. Effects effect
+            (worlds.told octet_peers (as_side side) (as_event (told event.entry)) (as_world self.old))
+            (as_world self.old) (as_world self.new)) }
         ensures unchanged { OnErr result (as_world self.new ≡ as_world self.old) }
     {
         octets_are_a_machine();

@@ -20,7 +20,8 @@ impl Net {
     /// The side is asked to open a connection: the next link.
     pub(crate) fn start(&mut self, alloc: Global, side: Side) -> Result<Effect, NoMemory>
         requires { AreShaped self.old }
-        ensures step { IfOk result (λ effect. Effects effect (happens octet_peers (as_world self.old) (Starts (as_side side))) (as_world self.old) (as_world self.new)) }
+        ensures step { IfOk result (λ effect. Effects effect
+            (happens octet_peers (as_world self.old) (Starts (as_side side))) (as_world self.old) (as_world self.new)) }
         ensures unchanged { OnErr result (as_world self.new ≡ as_world self.old) }
     {
         silent_takes_none();
@@ -41,7 +42,8 @@ impl Net {
     /// The side's state has had its time.
     pub(crate) fn time_out(&mut self, alloc: Global, side: Side) -> Effect
         requires { AreShaped self.old }
-        ensures { Effects result (happens octet_peers (as_world self.old) (TimesOut (as_side side))) (as_world self.old) (as_world self.new) }
+        ensures { Effects result (happens octet_peers (as_world self.old) (TimesOut (as_side side)))
+            (as_world self.old) (as_world self.new) }
     {
         silent_takes_none();
         match self.pair.ask(alloc, side, Event::Timeout) {
@@ -56,7 +58,8 @@ impl Net {
 
     /// The side starts anew.
     pub(crate) fn restart(&mut self, side: Side)
-        ensures { as_world self.new ≡ with_peer (as_side side) (reset_of (peer_at (as_side side) (as_world self.old))) (restart_links (as_side side) (as_links self.old.links.items)) (as_world self.old) }
+        ensures { as_world self.new ≡ with_peer (as_side side) (reset_of (peer_at (as_side side) (as_world self.old)))
+            (restart_links (as_side side) (as_links self.old.links.items)) (as_world self.old) }
     {
         self.pair.reset(side);
         links::restart(&mut self.links, side);

@@ -5,20 +5,18 @@ ghost use Rattle.dm_pair.specs.Talking.{ArePeers};
 ghost use Rattle.dm_world.specs.Views.{as_world};
 ghost use Rattle.std.proofs.Props.{props};
 ghost use Rattle.std.specs.Prelude.{◌≡◌};
-ghost use Rattle.dm_peer.specs.Hosts.{is_same_host};
 ghost use Rattle.dm_world.specs.New.{new_fault};
 
 use crate::agreement::open_on_both;
 use crate::net::Net;
 use crate::pair::Pair;
 use crate::{Effect, Happening, NewFault, Side, WorldFault};
-use dm_base::{common_nodes, host_order};
+use dm_base::common_nodes;
 use dm_links::laws::{closed_is_sound, each_happening_keeps_sound, sound_is_promised};
 use dm_pair::laws::{each_happening_keeps_peers, each_octet_run_settles, octets_are_a_machine};
-use dm_peer::{Config, Conn, Peer};
+use dm_peer::{Config, Conn, Peer, is_same_host};
 use dm_wire::Octets;
 use std::alloc::Global;
-use std::cmp::Ordering;
 
 /// Two peers, each configured for the other, and the links between them.
 #[derive(Debug, Drop)]
@@ -26,16 +24,6 @@ pub struct World {
     pub(crate) net: Net,
     pub ghost sound: { IsSound octet_peers (as_world net) } by { Prim.hlevel props },
     pub ghost peers: { ArePeers (as_world net) } by { Prim.hlevel props },
-}
-
-/// Whether the octets are two names of one host.
-fn is_same_host(one: &[u8], other: &[u8]) -> bool
-    ensures { result ≡ is_same_host one.now other.now }
-{
-    match host_order(one, other) {
-        Ordering::Equal => true,
-        _ => false,
-    }
 }
 
 /// Why there is no world of these configurations.
@@ -76,8 +64,11 @@ impl World {
     /// Refuses with `NoLink` where it names a link that isn't there, and with `NoMemory` where a growth was refused, which no
     /// Timeout, Restart or Lose meets. The world is then what it was.
     pub fn apply(&mut self, alloc: Global, happening: &Happening) -> Result<Effect, WorldFault>
-        ensures step { IfOk result (λ effect. Effects effect (happens octet_peers (as_world self.old.net) (as_happening happening.now)) (as_world self.old.net) (as_world self.new.net)) }
-        ensures fault { IfErr result (λ f. IsFault f (may_want happening.now) (happens octet_peers (as_world self.old.net) (as_happening happening.now))) }
+        ensures step { IfOk result (λ effect. Effects effect
+            (happens octet_peers (as_world self.old.net) (as_happening happening.now)) (as_world self.old.net)
+            (as_world self.new.net)) }
+        ensures fault { IfErr result (λ f. IsFault f (may_want happening.now)
+            (happens octet_peers (as_world self.old.net) (as_happening happening.now))) }
         ensures unchanged { OnErr result (as_world self.new.net ≡ as_world self.old.net) }
     {
         octets_are_a_machine();
@@ -103,11 +94,14 @@ impl World {
     /// most two CERs, one CEA and two disconnects are put in; and where it falls quiet after a Start that was taken, both
     /// are open on the connection that the election keeps (RFC 6733, 5.6.4), with the counts of that case.
     pub fn run(&mut self, alloc: Global, list: &[Happening]) -> (usize, Option<WorldFault>)
-        ensures ran { (put : List (Put (List ℕ))) × (run octet_peers (as_world self.old.net) (map as_happening (take result.0 list.now)) ≡ Some (record { world = as_world self.new.net; put = put })) }
+        ensures ran { (put : List (Put (List ℕ))) ×
+            (run octet_peers (as_world self.old.net) (map as_happening (take result.0 list.now)) ≡ Some
+            (record { world = as_world self.new.net; put = put })) }
         ensures agreed { Agreed octet_peers (as_world self.new.net) }
         ensures ends { EndsAreHeld octet_peers (as_world self.new.net) }
         ensures matched { OpenIsMatched octet_peers (as_world self.new.net) }
-        ensures settled { AreClosed (as_world self.old.net) → AreClean (take result.0 list.now) → RunSettles (as_world self.old.net) (take result.0 list.now) }
+        ensures settled { AreClosed (as_world self.old.net) → AreClean (take result.0 list.now) →
+            RunSettles (as_world self.old.net) (take result.0 list.now) }
         ensures whole { result.1 ≡ None → result.0 ≡ length list.now }
         ensures ended { IfSome result.1 (λ f. IsEnd f (slice_get list.now result.0) (as_world self.new.net)) }
     {
@@ -139,8 +133,10 @@ impl World {
     /// The connection that both sides are open on. It takes no memory.
     pub fn open_link(&self) -> Option<Conn>
         ensures value { result ≡ open_link (as_world self.now.net) }
-        ensures found { IfSome result (λ c. AreOpenOn self.now.net.pair.a.standing.core self.now.net.pair.b.standing.core c.0) }
-        ensures none { IfNone result ((c : ℕ) → AreOpenOn self.now.net.pair.a.standing.core self.now.net.pair.b.standing.core c → ⊥) }
+        ensures found { IfSome result (λ c. AreOpenOn self.now.net.pair.a.standing.core
+            self.now.net.pair.b.standing.core c.0) }
+        ensures none { IfNone result ((c : ℕ) →
+            AreOpenOn self.now.net.pair.a.standing.core self.now.net.pair.b.standing.core c → ⊥) }
     {
         open_on_both(&self.net.pair.a, &self.net.pair.b)
     }
