@@ -25,13 +25,7 @@ const LONGEST_FAILED: u32 = 4096;
 fn holding(code: u32, octets: Vec<u8>) -> Avp
     ensures { result ≡ avp code octets.items }
 {
-    Avp {
-        code,
-        vendor: None,
-        mandatory: true,
-        protected: false,
-        bytes: Octets::from_vec(octets),
-    }
+    Avp::new(code, None, true, Octets::from_vec(octets))
 }
 
 /// An AVP without vendor, with the M bit.

@@ -2,6 +2,7 @@
 
 mod messages;
 mod own_rules;
+mod printed;
 mod rows;
 mod watchdog;
 mod worked;

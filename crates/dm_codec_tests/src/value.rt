@@ -1,5 +1,6 @@
 //! Values.
 
+mod printed;
 mod refused;
 mod rows;
 mod types;

@@ -2,6 +2,7 @@
 
 mod decode;
 mod encode;
+mod parts;
 mod walk;
 
 use dm_wire::{Avp, AvpList, Header, Message, Octets};

@@ -4,4 +4,5 @@ pub mod Fitting
 pub mod Good
 pub mod Kept
 pub mod Standing
+pub mod Texts
 pub mod Valued

@@ -5,5 +5,7 @@ pub mod Examples
 pub mod Faults
 pub mod Judgement
 pub mod Keeping
+pub mod Printed
 pub mod Rules
+pub mod Texts
 pub mod Typed

@@ -2,6 +2,7 @@
 //! on, and its contract is the law.
 ghost use Rattle.dm_dict.specs.Examples.{MissingHasExample};
 ghost use Rattle.dm_dict.specs.Keeping.{GoodKeepsRules};
+ghost use Rattle.dm_dict.specs.Texts.{NamesAreText};
 ghost use Rattle.dm_dict.specs.Typed.{GoodIsTyped};
 
 use dm_value::laws::flaw_decides;
@@ -27,4 +28,10 @@ pub fn good_keeps_rules()
 /// `AVP` has an example, so that 5005 for it has a failed AVP (RFC 6733, 7.5). It stands for users.
 pub fn missing_has_example()
     ensures { MissingHasExample }
+{}
+
+/// Where each definition is sound, as in every `Dictionary`, the names of the AVPs and of the commands are UTF-8, so
+/// that `as_str` of a name has its text. It stands for users.
+pub fn names_are_text()
+    ensures { NamesAreText }
 {}

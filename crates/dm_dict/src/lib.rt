@@ -10,14 +10,15 @@ mod entries;
 mod judge;
 mod judged;
 pub mod laws;
+mod printing;
 mod rules;
 mod verdict;
 
 pub use dictionary::Dictionary;
 pub use dm_definitions::{AvpDef, CommandDef, DictFault, Entry, Form, Rule};
 pub use dm_value::{
-    Address, AvpType, Ip, NoMemory, Text, Value, ValueFault, least_len, read_value, unix_seconds,
-    value_fault, write_value,
+    Address, AvpType, Ip, NoMemory, Text, Utc, Value, ValueFault, least_len, read_value,
+    unix_seconds, utc_date, value_fault, write_value,
 };
 pub use judged::{Failed, Judged};
 pub use verdict::Verdict;

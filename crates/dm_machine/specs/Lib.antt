@@ -12,3 +12,4 @@ pub mod Unread
 pub mod Shape
 pub mod Phases
 pub mod Defaults
+pub mod Printed

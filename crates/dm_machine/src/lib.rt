@@ -7,6 +7,7 @@ pub mod laws;
 mod outputs;
 mod peer_core;
 mod phase;
+mod printing;
 mod state_name;
 mod table;
 

@@ -16,11 +16,9 @@ use arrayvec::ArrayVec;
 use dm_base::{Cause, Node};
 use dm_dict::{Failed, Judged, NoMemory, Verdict};
 use dm_machine::{Command, Commands, Conn};
+use dm_wire::codes::results::UNABLE_TO_COMPLY;
 use dm_wire::{Header, Octets};
 use std::alloc::Global;
-
-/// What a refusal without a fault would have (7.1.5: DIAMETER_UNABLE_TO_COMPLY): there is none.
-const UNABLE_TO_COMPLY: u32 = 5012;
 
 /// The header of what was heard.
 fn header_of(heard: Option<HeardRef<'_>>) -> Header
@@ -41,7 +39,7 @@ fn header_of(heard: Option<HeardRef<'_>>) -> Header
     }
 }
 
-/// Why what was heard is refused, where it lies.
+/// Why what was heard is refused, where it lies. A refusal without a fault, of which there is none, would have 5012.
 fn fault_in(heard: Option<HeardRef<'_>>) -> Judged<'_>
     ensures { shown result ≡ Some (fault_in (option_map heard_of heard.entry)) }
 {

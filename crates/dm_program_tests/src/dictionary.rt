@@ -6,6 +6,7 @@ mod failed;
 mod faults;
 mod groups;
 mod judged;
+mod printed;
 mod rows;
 mod rules;
 mod texts;

@@ -3,9 +3,8 @@ use Rattle.std.specs.Prelude.{ℕ, Bool, true, false, Option, None, Some, List, 
 use Rattle.std.specs.Fmt.{decimal}
 use Rattle.dm_machine.specs.declared.connection.Conn.{Conn}
 use Rattle.dm_machine.specs.declared.phase.Role.TheVariants.{Initiated, Accepted}
-use Rattle.dm_machine.specs.declared.state_name.State.{State}
-use Rattle.dm_machine.specs.declared.state_name.State.TheVariants.{Closed, WaitConnAck, WaitICea, WaitConnAckElect, WaitReturns, ROpen, IOpen, Closing}
 use Rattle.dm_machine.specs.Node.{Node, held_as}
+use Rattle.dm_machine.specs.Printed.{state_text}
 use Rattle.dm_peer.specs.declared.peer.Peer.{Peer}
 use Rattle.dm_links.specs.Quiet.{is_quiet}
 use Rattle.dm_links.specs.Worlds.{World}
@@ -13,25 +12,16 @@ use Rattle.dm_world.specs.declared.fault.Effect.{Effect}
 use Rattle.dm_world.specs.declared.fault.Effect.TheVariants.{Done, Ignored}
 use Rattle.dm_world.specs.Agreeing.{is_agreed, open_link}
 
--- the name of a state (RFC 6733, 5.6)
-abbrev pub state_name : State → List ℕ
-state_name Closed = codes "Closed"
-state_name WaitConnAck = codes "Wait-Conn-Ack"
-state_name WaitICea = codes "Wait-I-CEA"
-state_name WaitConnAckElect = codes "Wait-Conn-Ack/Elect"
-state_name WaitReturns = codes "Wait-Returns"
-state_name ROpen = codes "R-Open"
-state_name IOpen = codes "I-Open"
-state_name Closing = codes "Closing"
-
 -- where a connection is held, a space, the letter of its role and its number
 abbrev pub held_text : List ℕ → Option Conn → List ℕ
 held_text letter None = []
 held_text letter (Some c) = letter ++ decimal c.0
 
--- how a peer stands: its state, and the connections that it holds
+-- how a peer stands: the name of its state, and the connections that it holds
 unfoldable pub node_text : Node → List ℕ
-node_text n = state_name n.state ++ held_text (codes " i") (held_as Initiated n.held) ++ held_text (codes " r") (held_as Accepted n.held)
+node_text n =
+    state_text n.state ++ held_text (codes " i") (held_as Initiated n.held)
+    ++ held_text (codes " r") (held_as Accepted n.held)
 
 -- what became of a happening, and the word before the peer A
 abbrev pub effect_text : Effect → List ℕ

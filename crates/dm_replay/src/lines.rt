@@ -1,7 +1,8 @@
 //! The lines of a replay.
 ghost use Rattle.std.specs.Prelude.{◌≡◌, ◌++◌, IfOk, OnOk};
+ghost use Rattle.dm_machine.specs.Printed.{state_text};
 ghost use Rattle.dm_world.specs.Views.{as_world};
-ghost use Rattle.dm_replay.specs.Text.{state_name, held_text, node_text, effect_text, trace_line, nolink_line, answer_text, link_text, end_line};
+ghost use Rattle.dm_replay.specs.Text.{held_text, node_text, effect_text, trace_line, nolink_line, answer_text, link_text, end_line};
 
 use dm_dict::NoMemory;
 use dm_machine::{Conn, State};
@@ -84,20 +85,10 @@ fn push_peer(text: &mut Vec<u8>, peer: &Peer) -> Result<(), AllocError>
     Ok(())
 }
 
-/// The name of a state (RFC 6733, 5.6).
 fn state_name(state: State) -> &'static [u8]
-    ensures { result.now ≡ state_name state }
+    ensures { result.now ≡ state_text state }
 {
-    match state {
-        State::Closed => b"Closed",
-        State::WaitConnAck => b"Wait-Conn-Ack",
-        State::WaitICea => b"Wait-I-CEA",
-        State::WaitConnAckElect => b"Wait-Conn-Ack/Elect",
-        State::WaitReturns => b"Wait-Returns",
-        State::ROpen => b"R-Open",
-        State::IOpen => b"I-Open",
-        State::Closing => b"Closing",
-    }
+    state.name().as_bytes()
 }
 
 fn push_held(text: &mut Vec<u8>, letter: &[u8], held: Option<Conn>) -> Result<(), AllocError>

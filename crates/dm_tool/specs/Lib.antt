@@ -8,6 +8,7 @@ pub mod HexLines
 pub mod Joined
 pub mod Limits
 pub mod Messages
+pub mod OnePrint
 pub mod OneText
 pub mod Progress
 pub mod Run

@@ -1,4 +1,6 @@
-//! Laws of what the program prints. Each function is a law: it calls the laws that it stands on, and its contract is the law.
+//! Laws of what the program prints. Each function is a law: it calls the laws that it stands on, and its contract is
+//! the law.
+ghost use Rattle.dm_tool.specs.OnePrint.{OnePrint};
 ghost use Rattle.dm_tool.specs.OneText.{OneText, SomeText};
 
 /// Under one command an input has at most one text and one status. The law stands for users.
@@ -26,3 +28,8 @@ pub fn some_text()
     dm_definitions::laws::some_outcome();
     dm_replay::laws::some_replay();
 }
+
+/// Headers, AVPs and verdicts are printed just as their `Display` prints them. The law stands for users.
+pub fn one_print()
+    ensures { OnePrint }
+{}

@@ -1,6 +1,9 @@
 pub mod Decided
 pub mod Flawed
+pub mod Instants
 pub mod Lengths
 pub mod Meanings
+pub mod Names
+pub mod Spans
 pub mod Valued
 pub mod Writable

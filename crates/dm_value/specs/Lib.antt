@@ -1,6 +1,9 @@
 pub mod Columns
+pub mod Dates
 pub mod Decided
 pub mod Flaws
+pub mod Making
 pub mod Meaning
 pub mod OneValue
+pub mod Printed
 pub mod Times

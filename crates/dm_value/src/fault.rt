@@ -58,3 +58,19 @@ impl<T: Drop> From<AllocFailed<T>> for NoMemory {
         NoMemory
     }
 }
+
+impl From<NoMemory> for ValueFault {
+    ghost use Rattle.dm_value.specs.declared.fault.ValueFault.TheVariants.{NoMemory};
+
+    ghost from_gives = { λ _ fault. fault ≡ NoMemory };
+
+    fn from(_: NoMemory) -> ValueFault {
+        ValueFault::NoMemory
+    }
+}
+
+impl From<NoMemory> for AllocError {
+    fn from(_: NoMemory) -> AllocError {
+        AllocError
+    }
+}

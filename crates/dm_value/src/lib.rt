@@ -3,10 +3,13 @@
 
 mod address;
 mod avp_type;
+mod date;
 mod fault;
 mod judge;
 pub mod laws;
+mod making;
 mod numbers;
+mod printing;
 mod read;
 mod text;
 mod time;
@@ -15,6 +18,7 @@ mod write;
 
 pub use address::{Address, Ip};
 pub use avp_type::{AvpType, least_len};
+pub use date::{Utc, utc_date};
 pub use fault::{NoMemory, ValueFault};
 pub use judge::value_fault;
 pub use read::read_value;

@@ -1,8 +1,10 @@
 pub mod Canonicals
 pub mod Cuts
+pub mod Digits
 pub mod Equalities
 pub mod Existence
 pub mod Fitting
+pub mod Findings
 pub mod Fronts
 pub mod Headers
 pub mod Limit

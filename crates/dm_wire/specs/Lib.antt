@@ -2,9 +2,12 @@ pub mod AvpEquality
 pub mod Borrowed
 pub mod Canonical
 pub mod Fitting
+pub mod Finding
 pub mod Limits
+pub mod Making
 pub mod Members
 pub mod OneAnswer
+pub mod Printed
 pub mod Refusal
 pub mod RoundTrip
 pub mod Spelling

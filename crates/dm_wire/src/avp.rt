@@ -2,6 +2,7 @@
 ghost use Rattle.std.specs.Prelude.{◌≡◌, ◌∷◌, []};
 
 use crate::Octets;
+use std::alloc::AllocError;
 use std::marker::Model;
 
 /// An Attribute-Value Pair (RFC 6733, 4.1).
@@ -9,8 +10,8 @@ use std::marker::Model;
 pub struct Avp {
     /// The AVP Code.
     pub code: u32,
-    /// The Vendor-ID, where the V bit is set (4.1). RFC 6733 gives 0 to no vendor: AVPs of the IETF's own have no V bit. Here it is
-    /// kept as `Some(0)`, which isn't `None`, so that what was read can be written again.
+    /// The Vendor-ID, where the V bit is set (4.1). RFC 6733 gives 0 to no vendor: AVPs of the IETF's own have no V
+    /// bit. Here it is kept as `Some(0)`, which isn't `None`, so that what was read can be written again.
     pub vendor: Option<u32>,
     /// The M bit: a receiver that doesn't know the AVP refuses the message.
     pub mandatory: bool,
@@ -58,6 +59,16 @@ impl AvpList {
     {
         let AvpList { items } = self;
         items
+    }
+}
+
+impl Clone for AvpList {
+    ghost is_clone = { λ avps copy. copy ≡ avps };
+
+    fn clone(&self) -> Result<AvpList, AllocError> {
+        Ok(AvpList {
+            items: self.items.clone()?,
+        })
     }
 }
 

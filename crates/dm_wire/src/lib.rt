@@ -3,14 +3,19 @@
 
 mod avp;
 mod borrowed;
+pub mod codes;
+mod contents;
 mod decode;
 mod encode;
 mod fault;
+mod finding;
 pub mod laws;
 mod list;
+mod making;
 mod message;
 mod message_ref;
 mod octets;
+mod printing;
 mod put;
 mod read;
 mod size;
@@ -22,6 +27,7 @@ pub use decode::decode_avps;
 pub use dm_framer::{FrameFault, Framer};
 pub use encode::encode_avps;
 pub use fault::WireFault;
+pub use finding::AvpsOf;
 pub use list::{AvpsRef, spells_avps};
 pub use message::{Header, Message};
 pub use message_ref::MessageRef;

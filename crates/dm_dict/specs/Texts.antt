@@ -1,0 +1,13 @@
+-- Names are text.
+use Rattle.std.specs.Prelude.{◌≡◌, true, All}
+use Rattle.std.specs.Str.{IsUtf8}
+use Rattle.dm_definitions.specs.Definitions.{Definitions}
+use Rattle.dm_definitions.specs.Sound.{is_sound}
+
+-- the names of the AVPs and of the commands are UTF-8
+pub record HasTextNames (d : Definitions) : Type 0 where
+  pub avps : All (λ a. IsUtf8 a.name) d.avps
+  pub commands : All (λ c. IsUtf8 c.name) d.commands
+
+abbrev pub NamesAreText : Type 0
+NamesAreText = (d : Definitions) → is_sound d ≡ true → HasTextNames d

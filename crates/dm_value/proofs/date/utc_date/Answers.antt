@@ -1,0 +1,13 @@
+use Rattle.std.proofs.Common.{rules, arith}
+use Rattle.dm_value.proofs.Instants.{instant, day_fits, early}
+use Rattle.dm_value.proofs.date.utc_date.Goals as goal
+
+pub overflow_add-result : goal.overflow_add-result
+overflow_add-result c =
+    let year = c.year_at-year.ensures in
+    let month = c.month_at-month.ensures in
+    let fits = day_fits c.args.seconds _ _ _ (search rules) c.from_1900-instant.ensures year month in
+    omega arith
+
+pub returns-clause-instant : goal.returns-clause-instant
+returns-clause-instant c = search (rules, instant, early)

@@ -1,0 +1,11 @@
+-- The Result-Codes of what data has wrong (RFC 6733, 7.1.5).
+use Rattle.std.specs.Prelude.{ℕ, Option, None, Some}
+use Rattle.dm_value.specs.declared.fault.ValueFault.{ValueFault}
+use Rattle.dm_value.specs.declared.fault.ValueFault.TheVariants.{WrongLength, WrongValue, TooLong, NoMemory}
+
+-- what an answer tells of the fault: invalid AVP length or invalid AVP value
+abbrev pub fault_code : ValueFault → Option ℕ
+fault_code WrongLength = Some 5014
+fault_code WrongValue = Some 5004
+fault_code TooLong = None
+fault_code NoMemory = None

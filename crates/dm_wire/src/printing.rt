@@ -1,0 +1,120 @@
+//! Octets, AVPs and headers as text.
+ghost use Rattle.std.specs.Prelude.{◌≡◌, ◌≤◌, Some, codes, length, if◌then◌else◌};
+ghost use Rattle.std.specs.Fmt.{WritesOnOk};
+ghost use Rattle.hex.specs.Hex.{encode_lower};
+ghost use Rattle.dm_wire.specs.Printed.{avp_text, list_text, header_text, vendor_text, data_text};
+
+use crate::{Avp, AvpList, Header, Octets};
+use std::{fmt, str};
+
+/// How many octets are turned into digits at once.
+const OCTETS_AT_ONCE: usize = 64;
+
+/// In lower case hexadecimal.
+impl fmt::Display for Octets {
+    ghost output = { λ octets. Some (encode_lower octets) };
+
+    fn fmt<W: fmt::Write>(&self, f: &mut fmt::Formatter<W>) -> fmt::Result {
+        let mut rest = self.as_slice();
+        while !rest.is_empty() {
+            let (some, more) = rest.split_at(rest.len().min(OCTETS_AT_ONCE));
+            write_digits(f, some)?;
+            rest = more;
+        }
+        Ok(())
+    }
+}
+
+/// Writes so many octets at most.
+fn write_digits<W: fmt::Write>(f: &mut fmt::Formatter<W>, octets: &[u8]) -> fmt::Result
+    requires { length octets.now ≤ 64 }
+    ensures { WritesOnOk W.Write.write_str_gives f.old result (encode_lower octets.now) f.new }
+{
+    let mut digits = [0; 2 * OCTETS_AT_ONCE];
+    let room = &mut digits[..2 * octets.len()];
+    hex::encode_to_slice(octets, room).unwrap();
+    f.write_str(str::from_utf8(room).map_err(|_| fmt::Error)?)
+}
+
+/// As `264 -M- 612e6578616d706c65`: the code, behind a `/` the vendor where there is one, the flags `V` `M` `P` (or
+/// `-`), and the data in hexadecimal (or `-` where there is none).
+impl fmt::Display for Avp {
+    ghost output = { λ avp. Some (avp_text avp) };
+
+    #[tactic(auto, unfolding(crate::specs::Printed::avp_text))]
+    fn fmt<W: fmt::Write>(&self, f: &mut fmt::Formatter<W>) -> fmt::Result {
+        let vendor = VendorText(self.vendor);
+        let (v, m, p) = (
+            mark(self.vendor.is_some(), "V"),
+            mark(self.mandatory, "M"),
+            mark(self.protected, "P"),
+        );
+        let data = DataText(&self.bytes);
+        write!(f, "{}{vendor} {v}{m}{p} {data}", self.code)
+    }
+}
+
+/// As `{ 264 -M- 612e6578616d706c65; 296 -M- 6578616d706c65; }`.
+impl fmt::Display for AvpList {
+    ghost output = { λ avps. Some (list_text avps) };
+
+    fn fmt<W: fmt::Write>(&self, f: &mut fmt::Formatter<W>) -> fmt::Result {
+        f.write_str("{")?;
+        for avp in self.as_slice() {
+            write!(f, " {avp};")?;
+        }
+        f.write_str(" }")
+    }
+}
+
+/// As `message 280 R--- app 0 hop 1 end 1`: command, the flags `R` `P` `E` `T` (or `-`), application and identifiers.
+impl fmt::Display for Header {
+    ghost output = { λ header. Some (header_text header) };
+
+    #[tactic(auto, unfolding(crate::specs::Printed::header_text))]
+    fn fmt<W: fmt::Write>(&self, f: &mut fmt::Formatter<W>) -> fmt::Result {
+        let (r, p) = (mark(self.request, "R"), mark(self.proxiable, "P"));
+        let (e, t) = (mark(self.error, "E"), mark(self.retransmit, "T"));
+        write!(f, "message {} {r}{p}{e}{t}", self.command)?;
+        write!(f, " app {}", self.application)?;
+        write!(f, " hop {} end {}", self.hop_id, self.end_id)
+    }
+}
+
+/// The flag's letter where it is set, else `-`.
+fn mark(is_set: bool, letter: &'static str) -> &'static str
+    ensures { result.now ≡ (if is_set then letter.now else codes "-") }
+{
+    if is_set { letter } else { "-" }
+}
+
+/// The vendor of an AVP behind a `/`, where there is one.
+#[derive(Clone, Copy)]
+struct VendorText(Option<u32>);
+
+impl fmt::Display for VendorText {
+    ghost output = { λ v. Some (vendor_text v.0) };
+
+    fn fmt<W: fmt::Write>(&self, f: &mut fmt::Formatter<W>) -> fmt::Result {
+        match self.0 {
+            Some(vendor) => write!(f, "/{vendor}"),
+            None => Ok(()),
+        }
+    }
+}
+
+/// The data of an AVP, or `-` where there is none.
+#[derive(Clone, Copy)]
+struct DataText<'a>(&'a Octets);
+
+impl fmt::Display for DataText<'_> {
+    ghost output = { λ d. Some (data_text d.0.now) };
+
+    fn fmt<W: fmt::Write>(&self, f: &mut fmt::Formatter<W>) -> fmt::Result {
+        if self.0.is_empty() {
+            f.write_str("-")
+        } else {
+            write!(f, "{}", self.0)
+        }
+    }
+}
