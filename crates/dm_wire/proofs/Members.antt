@@ -12,6 +12,8 @@ use Rattle.dm_wire.proofs.Fronts.{spelled, header_above, octets_behind}
 use Rattle.dm_wire.proofs.Spellings.{front, same_made}
 use Rattle.dm_wire.specs.declared.borrowed.AvpRef.{AvpRef}
 use Rattle.dm_wire.specs.Borrowed.{avp_of}
+use Rattle.dm_wire.specs.declared.front.Extent.{Extent}
+use Rattle.dm_wire.specs.Extents.{IsExtent}
 use Rattle.dm_wire.specs.Members.{vendor_at, length_at, padded, avp_at, begins_with_avp, members_by, members}
 
 -- an AVP begins s, as numbers
@@ -62,6 +64,18 @@ begun s o b =
 vendor_is : (b : Bool) (n : ℕ) (v : Option ℕ) → b ≡ is_some v → IfSome v (λ x. x ≡ n) → (if b then Some n else None) ≡ v
 vendor_is b n None e h = rw e refl
 vendor_is b n (Some x) e h = rw e (ap Some (sym h))
+
+-- the AVP of an extent begins there and is spelled up to its end
+pub extent_spelled : (x : Extent) (s : List ℕ) → IsOctets s → IsExtent x s → SpellsAvp (avp_at s) (take x.size s)
+extent_spelled x s o e =
+    let header = e.header_is in
+    let length = e.length_is in
+    let size = e.size_is in
+    let long = e.long in
+    let above = e.above in
+    let padded = e.padded in
+    let within = e.within in
+    rw size (begun s o (record { long = omega arith; above = omega arith; within = omega arith }))
 
 -- what is spelled at the front begins there
 pub front_begins : (s : List ℕ) (a : Avp) (n : ℕ) → n ≤ length s → SpellsAvp a (take n s) → Begins s × (padded (length_at s) ≡ n)

@@ -1,5 +1,5 @@
 -- What is read of octets, and why they are refused.
-use Rattle.std.proofs.Common.{◌≡◌, ◌<◌, ◌≤◌, ◌⊎◌, inl, inr, ◌↔◌, Result, Ok, Err, IfOk, IfErr, IsOkAnd, IsErr, IsErrOf, ℕ, ◌+◌, ◌%◌, Bool, true, false, Option, None, Some, is_some, option_map, List, [], ◌∷◌, ◌++◌, length, take, drop, slice_index, nat_eq, eqb-true, refl, sym, ◌∙◌, ap, subst, arith, append-nil}
+use Rattle.std.proofs.Common.{◌≡◌, ◌<◌, ◌≤◌, ◌⊎◌, inl, inr, ◌↔◌, Result, Ok, Err, IfOk, IfErr, IsOkAnd, IsErr, IsErrOf, ℕ, ◌+◌, ◌%◌, Bool, true, false, Option, None, Some, is_some, option_map, List, [], ◌∷◌, ◌++◌, length, take, drop, slice_index, nat_eq, eqb-true, refl, sym, ◌∙◌, ap, subst, arith, append-nil, append_assoc}
 use Rattle.std.proofs.lemmas.List.{take-append-drop, length-drop, drop-drop, drop-take}
 use Rattle.byteorder.specs.Endian.{big_number}
 use Rattle.dm_wire.specs.declared.avp.Avp.{Avp}
@@ -109,6 +109,15 @@ pub by_cause : (r : Result Message WireFault) (s : List ℕ) → IfErr r (λ g. 
 by_cause (Ok v) s err = tt
 by_cause (Err g) s (inl m) = inl m.1
 by_cause (Err g) s (inr k) = inr k
+
+-- one AVP more stands in front of what is left
+pub pushed : (s left : List ℕ) (n : ℕ) (l k : List Avp) (a b : Avp) → members s ≡ option_map (λ m. l ++ m) (members left)
+    → members left ≡ option_map (λ m. a ∷ m) (members (drop n left)) → b ≡ a → k ≡ l ++ b ∷ []
+    → members s ≡ option_map (λ m. k ++ m) (members (drop n left))
+pushed s left n l k a b before first is added = before ∙ ap (option_map (λ m. l ++ m)) first ∙ by (members (drop n left)) where
+  by : (o : Option (List Avp)) → option_map (λ m. l ++ m) (option_map (λ m. a ∷ m) o) ≡ option_map (λ m. k ++ m) o
+  by None = refl
+  by (Some m) = rw (added, is, append_assoc) refl
 
 -- where nothing is left behind the members that were pushed, they are all
 pub all_pushed : (s rest : List ℕ) (l : List Avp) → IsOctets s → members s ≡ option_map (λ k. l ++ k) (members rest) → nat_eq (length rest) 0 ≡ true → SpellsList l s

@@ -5,9 +5,9 @@ ghost use Rattle.dm_wire.specs.declared.fault.WireFault.{WireFault};
 ghost use Rattle.dm_wire.specs.Spelling.{SpellsList, SpellsMessage};
 ghost use Rattle.dm_wire.specs.Refusal.{IsTooShort, IsOtherVersion, IsOtherLength, IsBadAt, Refuses};
 
-use crate::list::first_member;
+use crate::front::{copy_extent, first_extent};
 use crate::message_ref::HEADER_LEN;
-use crate::read::{first_avp, read_header};
+use crate::read::read_header;
 use crate::walk::walk_avps;
 use crate::{Avp, AvpList, Message, MessageRef, WireFault};
 use std::alloc::{AllocError, Global};
@@ -21,10 +21,10 @@ fn short_count(octets: &[u8]) -> usize
 {
     let mut left = octets;
     for count in 0..SHORT_LIST + 1 {
-        let Some((_, size)) = first_avp(left) else {
+        let Some(extent) = first_extent(left) else {
             return count;
         };
-        left = &left[size..];
+        left = &left[extent.size..];
     }
     0
 }
@@ -37,9 +37,10 @@ fn push_avps(alloc: Global, avps: &mut Vec<Avp>, octets: &[u8]) -> Result<bool, 
     ensures { result ≡ Ok true → SpellsList avps.new.items octets.now }
 {
     let mut left = octets;
-    while let Some((avp, size)) = first_member(left) {
-        avps.push(avp.copied(alloc)?)?;
-        left = &left[size..];
+    while let Some(extent) = first_extent(left) {
+        avps.reserve(1)?;
+        avps.push_reserved(copy_extent(alloc, left, extent)?);
+        left = &left[extent.size..];
     }
     Ok(left.is_empty())
 }

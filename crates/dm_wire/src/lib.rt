@@ -9,6 +9,7 @@ mod decode;
 mod encode;
 mod fault;
 mod finding;
+mod front;
 pub mod laws;
 mod list;
 mod making;

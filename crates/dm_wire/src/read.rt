@@ -5,19 +5,9 @@ ghost use Rattle.dm_wire.specs.Spelling.{SpellsAvp, SpellsHeader};
 ghost use Rattle.dm_wire.specs.Borrowed.{avp_of};
 ghost use Rattle.dm_wire.specs.Refusal.{BeginsWithNoAvp, IsTooShort, IsOtherVersion, IsOtherLength};
 
+use crate::front::{avp_of_extent, first_extent};
 use crate::{AvpRef, Header, WireFault};
 use byteorder::{BigEndian, ByteOrder};
-
-/// The flag octet and the AVP Length of an AVP's header: one number is read, and parted.
-fn flags_and_length(octets: &[u8]) -> (u8, usize)
-    requires { 8 ≤ length octets.now }
-    ensures flags { result.0 ≡ slice_index octets.now 4 }
-    ensures len { result.1 ≡ big_number 3 (drop 5 octets.now) }
-    ensures fits { result.1 < 256 ^ 3 }
-{
-    let word = BigEndian::read_u32(&octets[4..]);
-    ((word / 0x100_0000) as u8, (word % 0x100_0000) as usize)
-}
 
 /// The AVP at the front, and how many octets it takes, padding included; `None` where no AVP begins
 /// there. It takes no memory.
@@ -36,30 +26,8 @@ pub fn first_avp(octets: &[u8]) -> Option<(AvpRef<'_>, usize)>
     ensures found { IfSome result (λ read. SpellsAvp (avp_of read.0) (take read.1 octets.now)) }
     ensures none { IfNone result (BeginsWithNoAvp octets.now) }
 {
-    if octets.len() < 8 {
-        return None;
-    }
-    let code = BigEndian::read_u32(octets);
-    let (flags, length) = flags_and_length(octets);
-    let (vendor, header_len) = if flags & 0x80 == 0 {
-        (None, 8)
-    } else if octets.len() < 12 {
-        return None;
-    } else {
-        (Some(BigEndian::read_u32(&octets[8..])), 12)
-    };
-    let size = (length + 3) / 4 * 4;
-    if length < header_len || octets.len() < size {
-        return None;
-    }
-    let avp = AvpRef {
-        code,
-        vendor,
-        mandatory: flags & 0x40 != 0,
-        protected: flags & 0x20 != 0,
-        bytes: &octets[header_len..length],
-    };
-    Some((avp, size))
+    let extent = first_extent(octets)?;
+    Some((avp_of_extent(octets, extent), extent.size))
 }
 
 /// The header of the whole message that the octets are.

@@ -3,8 +3,8 @@ use Rattle.std.proofs.Common.{◌≡◌, ◌++◌, length, option_map}
 use Rattle.dm_wire.specs.Members.{members}
 use Rattle.dm_wire.proofs.decode.push_avps.Given as goal
 
-abbrev pub invariant-loop-avp : goal.invariant-loop-avp
-invariant-loop-avp l = members l.octets ≡ option_map (λ k. l.avps.items ++ k) (members l.left)
+abbrev pub invariant-loop-extent : goal.invariant-loop-extent
+invariant-loop-extent l = members l.octets ≡ option_map (λ k. l.avps.items ++ k) (members l.left)
 
-abbrev pub decreases-loop-avp : goal.decreases-loop-avp
-decreases-loop-avp l = length l.left
+abbrev pub decreases-loop-extent : goal.decreases-loop-extent
+decreases-loop-extent l = length l.left

@@ -4,7 +4,7 @@ use Rattle.std.proofs.lemmas.List.{take_rest, get_or-drop, drop-drop, length-dro
 use Rattle.byteorder.specs.Endian.{big_number}
 use Rattle.dm_wire.proofs.Fronts.{octets_behind}
 use Rattle.dm_wire.proofs.Numbers.{fit-octets, parted}
-use Rattle.dm_wire.proofs.read.flags_and_length.Goals as goal
+use Rattle.dm_wire.proofs.front.flags_and_length.Goals as goal
 
 pub returns : goal.returns
 returns c =
