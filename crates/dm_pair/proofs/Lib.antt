@@ -6,3 +6,4 @@ mod Electing
 mod Keeping
 mod Plain
 mod Sized
+mod Framing

@@ -1,3 +1,4 @@
 pub mod Octets
 pub mod Talking
 pub mod Laws
+pub mod Frames

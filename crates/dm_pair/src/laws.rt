@@ -2,13 +2,15 @@
 //! the world of two peers.
 ghost use Rattle.dm_links.specs.Follows.{IsMachine};
 ghost use Rattle.dm_pair.specs.Laws.{OctetsAreElecting, FreshArePeers, HappeningKeepsPeers, OctetsAreSized, EachOctetRunSettles};
+ghost use Rattle.dm_pair.specs.Frames.{OctetsAreFrames};
 ghost use Rattle.dm_pair.specs.Octets.{octet_peers};
 
-use dm_base::laws::common_is_shared;
+use dm_base::laws::{built_is_spelled, common_is_shared};
 use dm_links::laws::each_clean_run_settles;
 use dm_machine::laws::{each_node_has_its_form, each_step_keeps_shape};
 use dm_peer::laws::{each_event_is_one_step, sent_is_good};
 use dm_peer::{Config, Peer};
+use dm_wire::laws::{message_in_spells, spelled_is_framed};
 use dm_wire::{Header, Octets};
 
 /// Peers over octets move as the state machine.
@@ -42,6 +44,16 @@ pub fn each_happening_keeps_peers()
 pub fn octets_are_sized()
     ensures { OctetsAreSized }
 {}
+
+/// Every message that a peer over octets sends is a frame, at most 16777212 octets long: a framer hands it out whole
+/// (3).
+pub fn octets_are_frames()
+    ensures { OctetsAreFrames }
+{
+    built_is_spelled();
+    message_in_spells();
+    spelled_is_framed();
+}
 
 /// What each clean run of two such peers comes to: at most two CERs, one CEA and two disconnects are put in; where a
 /// Start is taken and it falls quiet, both are open on the connection that the election keeps (5.6.4).

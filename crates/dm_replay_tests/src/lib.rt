@@ -4,6 +4,8 @@
 #[cfg(test)]
 mod calls;
 #[cfg(test)]
+mod pieces;
+#[cfg(test)]
 mod rows;
 #[cfg(test)]
 mod syntax;

@@ -23,7 +23,7 @@ pub fn assert_replayed(rt: &(impl Abort + AllocGlobal), rows: &[(&str, &str, boo
     }
 }
 
-const ONE_SIDE_STARTS: (&str, &str, bool) = (
+pub const ONE_SIDE_STARTS: (&str, &str, bool) = (
     "\
 peer A b.example 4
 peer B a.example 4
@@ -47,7 +47,7 @@ fn one_side_starts(rt: HostRuntime) {
     assert_replayed(&rt, &[ONE_SIDE_STARTS]);
 }
 
-const BOTH_START: (&str, &str, bool) = (
+pub const BOTH_START: (&str, &str, bool) = (
     "\
 peer A B.example 4
 peer B a.example 4
@@ -81,7 +81,7 @@ fn both_start(rt: HostRuntime) {
     assert_replayed(&rt, &[BOTH_START]);
 }
 
-const CROSSED_OPEN: (&str, &str, bool) = (
+pub const CROSSED_OPEN: (&str, &str, bool) = (
     "\
 peer A B.example 4
 peer B a.example 4
@@ -115,7 +115,7 @@ fn crossed_open(rt: HostRuntime) {
     assert_replayed(&rt, &[CROSSED_OPEN]);
 }
 
-const CUT_ANSWER: (&str, &str, bool) = (
+pub const CUT_ANSWER: (&str, &str, bool) = (
     "\
 peer A b.example 4
 peer B a.example 4
@@ -143,7 +143,7 @@ fn cut_answer(rt: HostRuntime) {
     assert_replayed(&rt, &[CUT_ANSWER]);
 }
 
-const STOPS: (&str, &str, bool) = (
+pub const STOPS: (&str, &str, bool) = (
     "\
 peer A b.example 4
 peer B a.example 4
@@ -178,7 +178,7 @@ end agreed=yes quiet=yes open=-
     true,
 );
 
-const TICKS: (&str, &str, bool) = (
+pub const TICKS: (&str, &str, bool) = (
     "\
 peer A b.example 4
 peer B a.example 4
@@ -208,7 +208,7 @@ fn stops_and_ticks(rt: HostRuntime) {
     assert_replayed(&rt, &[STOPS, TICKS]);
 }
 
-const RESTART_FRESH_END: (&str, &str, bool) = (
+pub const RESTART_FRESH_END: (&str, &str, bool) = (
     "\
 peer A b.example 4
 peer B a.example 4
@@ -285,7 +285,7 @@ fn refusals(rt: HostRuntime) {
     assert_replayed(&rt, &[REFUSALS, NOTHING_COMMON, SAME_HOST]);
 }
 
-const SUBMIT_BETWEEN: (&str, &str, bool) = (
+pub const SUBMIT_BETWEEN: (&str, &str, bool) = (
     "\
 peer A b.example 4
 peer B a.example 4
@@ -313,7 +313,7 @@ fn submit_between(rt: HostRuntime) {
     assert_replayed(&rt, &[SUBMIT_BETWEEN]);
 }
 
-const WINNER_FIRST: (&str, &str, bool) = (
+pub const WINNER_FIRST: (&str, &str, bool) = (
     "\
 peer A B.example 4
 peer B a.example 4
@@ -347,7 +347,7 @@ fn winner_first(rt: HostRuntime) {
     assert_replayed(&rt, &[WINNER_FIRST]);
 }
 
-const ELECT_BEFORE_ACK: (&str, &str, bool) = (
+pub const ELECT_BEFORE_ACK: (&str, &str, bool) = (
     "\
 peer A B.example 4
 peer B a.example 4
@@ -395,4 +395,150 @@ end agreed=yes quiet=yes open=-
 #[test]
 fn two_peers_alone(rt: HostRuntime) {
     assert_replayed(&rt, &[TWO_PEERS_ALONE]);
+}
+
+const PIECES: (&str, &str, bool) = (
+    "\
+peer A b.example 4
+peer B a.example 4
+start A
+ack 0
+piece 0 B 1
+piece 0 B 200
+deliver 0 A
+",
+    "\
+1 done A Wait-Conn-Ack i0 B Closed
+2 done A Wait-I-CEA i0 B Closed
+3 done A Wait-I-CEA i0 B Closed
+4 done A Wait-I-CEA i0 B R-Open r0
+5 done A I-Open i0 B R-Open r0
+end agreed=yes quiet=yes open=0
+",
+    true,
+);
+
+#[test]
+fn pieces(rt: HostRuntime) {
+    assert_replayed(&rt, &[PIECES]);
+}
+
+const CUT_IN_PIECE: (&str, &str, bool) = (
+    "\
+peer A b.example 4
+peer B a.example 4
+start A
+ack 0
+piece 0 B 40
+lose 0 0 71
+deliver 0 B
+deliver 0 A
+",
+    "\
+1 done A Wait-Conn-Ack i0 B Closed
+2 done A Wait-I-CEA i0 B Closed
+3 done A Wait-I-CEA i0 B Closed
+4 done A Wait-I-CEA i0 B Closed
+5 done A Wait-I-CEA i0 B Closed
+6 done A Closed B Closed
+end agreed=yes quiet=yes open=-
+",
+    true,
+);
+
+const KEPT_AFTER_PIECE: (&str, &str, bool) = (
+    "\
+peer A b.example 4
+peer B a.example 4
+start A
+ack 0
+piece 0 B 40
+lose 0 0 72
+deliver 0 B
+deliver 0 A
+deliver 0 B
+",
+    "\
+1 done A Wait-Conn-Ack i0 B Closed
+2 done A Wait-I-CEA i0 B Closed
+3 done A Wait-I-CEA i0 B Closed
+4 done A Wait-I-CEA i0 B Closed
+5 done A Wait-I-CEA i0 B R-Open r0
+6 done A Closed B R-Open r0
+7 done A Closed B Closed
+end agreed=yes quiet=yes open=-
+",
+    true,
+);
+
+#[test]
+fn lost_in_a_piece(rt: HostRuntime) {
+    assert_replayed(&rt, &[CUT_IN_PIECE, KEPT_AFTER_PIECE]);
+}
+
+const PIECE_IGNORED: (&str, &str, bool) = (
+    "\
+peer A b.example 4
+peer B a.example 4
+start A
+ack 0
+piece 0 B 1
+piece 0 B 200
+deliver 0 A
+piece 0 B 0
+piece 0 B 5
+piece 1 B 5
+",
+    "\
+1 done A Wait-Conn-Ack i0 B Closed
+2 done A Wait-I-CEA i0 B Closed
+3 done A Wait-I-CEA i0 B Closed
+4 done A Wait-I-CEA i0 B R-Open r0
+5 done A I-Open i0 B R-Open r0
+6 ignored A I-Open i0 B R-Open r0
+7 ignored A I-Open i0 B R-Open r0
+8 nolink
+",
+    false,
+);
+
+#[test]
+fn piece_ignored(rt: HostRuntime) {
+    assert_replayed(&rt, &[PIECE_IGNORED]);
+}
+
+const RESTART_IN_A_PIECE: (&str, &str, bool) = (
+    "\
+peer A b.example 4
+peer B a.example 4
+start A
+ack 0
+piece 0 B 111
+restart B
+piece 0 B 0
+piece 0 B 1
+piece 0 B 1
+deliver 0 B
+deliver 0 A
+deliver 0 B
+",
+    "\
+1 done A Wait-Conn-Ack i0 B Closed
+2 done A Wait-I-CEA i0 B Closed
+3 done A Wait-I-CEA i0 B Closed
+4 done A Wait-I-CEA i0 B Closed
+5 ignored A Wait-I-CEA i0 B Closed
+6 done A Wait-I-CEA i0 B Closed
+7 ignored A Wait-I-CEA i0 B Closed
+8 ignored A Wait-I-CEA i0 B Closed
+9 done A Closed B Closed
+10 done A Closed B Closed
+end agreed=yes quiet=yes open=-
+",
+    true,
+);
+
+#[test]
+fn restart_in_a_piece(rt: HostRuntime) {
+    assert_replayed(&rt, &[RESTART_IN_A_PIECE]);
 }

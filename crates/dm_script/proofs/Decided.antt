@@ -12,7 +12,7 @@ use Rattle.dm_machine.specs.declared.connection.Conn.{Conn}
 use Rattle.dm_world.specs.declared.side.Side.{Side}
 use Rattle.dm_world.specs.declared.side.Side.TheVariants.{A, B}
 use Rattle.dm_world.specs.declared.happening.Happening.{Happening}
-use Rattle.dm_world.specs.declared.happening.Happening.TheVariants.{Start, Stop, Timeout, Tick, Restart, Ack, Nack, Deliver, Lose, Submit}
+use Rattle.dm_world.specs.declared.happening.Happening.TheVariants.{Start, Stop, Timeout, Tick, Restart, Ack, Nack, Deliver, Piece, Lose, Submit}
 use Rattle.dm_script.specs.declared.verb.Verb.{Verb}
 use Rattle.dm_script.specs.declared.verb.Verb.TheVariants as verbs
 use Rattle.dm_base.specs.Built.{cause_number}
@@ -215,6 +215,15 @@ deliver_told args (inr none) = inr no where
   no (Deliver c s) is told = none (c.0, s) (told.0, name s, told.1, told.2, refl)
   no h is told = absurd (cc)
 
+piece_told : (args : List (List ℕ)) → Told {X = ℕ × Side × ℕ} (Three TellsLongNumber Names TellsNumber args) →
+    ArgumentsTold verbs.Piece args
+piece_told args (inl h) = inl
+    (Piece (conn h.0.0) h.0.1 h.0.2, refl, (h.1.0, h.1.2, h.1.3 ∙ ap (λ v. h.1.0 ∷ v ∷ h.1.2 ∷ []) h.1.5, h.1.4, h.1.6))
+piece_told args (inr none) = inr no where
+  no : (h : Happening) → verb_of h ≡ verbs.Piece → TellsArguments h args → ⊥
+  no (Piece c s k) is told = none (c.0, s, k) (told.0, name s, told.1, told.2, told.3, refl, told.4)
+  no h is told = absurd (cc)
+
 lose_told : (args : List (List ℕ)) → Told {X = ℕ × ℕ × ℕ} (Three TellsLongNumber TellsNumber TellsNumber args) →
     ArgumentsTold verbs.Lose args
 lose_told args (inl h) = inl (Lose (conn h.0.0) h.0.1 h.0.2, refl, h.1)
@@ -241,6 +250,9 @@ arguments_told numbers verbs.Ack args = ack_told args (one TellsLongNumber (numb
 arguments_told numbers verbs.Nack args = nack_told args (one TellsLongNumber (numbers 18446744073709551615) args)
 arguments_told numbers verbs.Deliver args = deliver_told args
     (two TellsLongNumber Names (numbers 18446744073709551615) side_told args)
+arguments_told numbers verbs.Piece args =
+    piece_told args
+    (three TellsLongNumber Names TellsNumber (numbers 18446744073709551615) side_told (numbers 4294967295) args)
 arguments_told numbers verbs.Lose args =
     lose_told args
     (three TellsLongNumber TellsNumber TellsNumber (numbers 18446744073709551615) (numbers 4294967295)

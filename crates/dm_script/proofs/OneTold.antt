@@ -9,7 +9,7 @@ use Rattle.dm_machine.specs.declared.connection.Conn.{Conn}
 use Rattle.dm_world.specs.declared.side.Side.{Side}
 use Rattle.dm_world.specs.declared.side.Side.TheVariants.{A, B}
 use Rattle.dm_world.specs.declared.happening.Happening.{Happening}
-use Rattle.dm_world.specs.declared.happening.Happening.TheVariants.{Start, Stop, Timeout, Tick, Restart, Ack, Nack, Deliver, Lose, Submit}
+use Rattle.dm_world.specs.declared.happening.Happening.TheVariants.{Start, Stop, Timeout, Tick, Restart, Ack, Nack, Deliver, Piece, Lose, Submit}
 use Rattle.dm_script.specs.declared.verb.Verb.{Verb}
 use Rattle.dm_script.specs.declared.verb.Verb.TheVariants as verbs
 use Rattle.dm_base.specs.Built.{cause_number}
@@ -45,7 +45,8 @@ verb_in word =
     else (if is word (codes "timeout") then verbs.Timeout else (if is word (codes "tick") then verbs.Tick
     else (if is word (codes "restart") then verbs.Restart else (if is word (codes "ack") then verbs.Ack
     else (if is word (codes "nack") then verbs.Nack else (if is word (codes "deliver") then verbs.Deliver
-    else (if is word (codes "lose") then verbs.Lose else verbs.Submit))))))))
+    else (if is word (codes "piece") then verbs.Piece else (if is word (codes "lose") then verbs.Lose
+    else verbs.Submit)))))))))
 
 pub verb_in-word : (v : Verb) → verb_in (word_of v) ≡ v
 verb_in-word verbs.Start = refl
@@ -56,6 +57,7 @@ verb_in-word verbs.Restart = refl
 verb_in-word verbs.Ack = refl
 verb_in-word verbs.Nack = refl
 verb_in-word verbs.Deliver = refl
+verb_in-word verbs.Piece = refl
 verb_in-word verbs.Lose = refl
 verb_in-word verbs.Submit = refl
 
@@ -110,6 +112,12 @@ one_arguments (Deliver c s) (Deliver d t) args is h g =
     ap (λ v. Deliver v s) (same_conn c d (one_number 18446744073709551615 _ _ h.0 g.0 (same_head e) h.2 g.2)) ∙ ap
     (λ v. Deliver d v) (one_name s t (same_second e))
 one_arguments (Deliver c s) k args is h g = absurd (cc)
+one_arguments (Piece c s k) (Piece d t m) args is h g =
+    let e = sym h.2 ∙ g.2 in
+    ap (λ v. Piece v s k) (same_conn c d (one_number 18446744073709551615 _ _ h.0 g.0 (same_head e) h.3 g.3))
+    ∙ ap (λ v. Piece d v k) (one_name s t (same_second e)) ∙ ap (λ v. Piece d t v)
+    (one_number 4294967295 _ _ h.1 g.1 (same_third e) h.4 g.4)
+one_arguments (Piece c s k) j args is h g = absurd (cc)
 one_arguments (Lose c a b) (Lose d x y) args is h g =
     let e = sym h.3 ∙ g.3 in
     ap (λ v. Lose v a b) (same_conn c d (one_number 18446744073709551615 _ _ h.0 g.0 (same_head e) h.4 g.4))

@@ -7,7 +7,7 @@ use Rattle.dm_base.specs.Built.{cause_number}
 use Rattle.dm_world.specs.declared.side.Side.{Side}
 use Rattle.dm_world.specs.declared.side.Side.TheVariants.{A, B}
 use Rattle.dm_world.specs.declared.happening.Happening.{Happening}
-use Rattle.dm_world.specs.declared.happening.Happening.TheVariants.{Start, Stop, Timeout, Tick, Restart, Ack, Nack, Deliver, Lose, Submit}
+use Rattle.dm_world.specs.declared.happening.Happening.TheVariants.{Start, Stop, Timeout, Tick, Restart, Ack, Nack, Deliver, Piece, Lose, Submit}
 use Rattle.dm_script.specs.declared.verb.Verb.{Verb}
 use Rattle.dm_script.specs.declared.verb.Verb.TheVariants as verbs
 
@@ -26,6 +26,7 @@ word_of verbs.Restart = codes "restart"
 word_of verbs.Ack = codes "ack"
 word_of verbs.Nack = codes "nack"
 word_of verbs.Deliver = codes "deliver"
+word_of verbs.Piece = codes "piece"
 word_of verbs.Lose = codes "lose"
 word_of verbs.Submit = codes "submit"
 
@@ -39,6 +40,7 @@ verb_of (Restart side) = verbs.Restart
 verb_of (Ack link) = verbs.Ack
 verb_of (Nack link) = verbs.Nack
 verb_of (Deliver link side) = verbs.Deliver
+verb_of (Piece link side count) = verbs.Piece
 verb_of (Lose link to_a to_b) = verbs.Lose
 verb_of (Submit side octets) = verbs.Submit
 
@@ -54,6 +56,9 @@ TellsArguments (Ack link) args = (number : List ℕ) × (args ≡ number ∷ [])
 TellsArguments (Nack link) args = (number : List ℕ) × (args ≡ number ∷ []) × TellsLongNumber link.0 number
 TellsArguments (Deliver link side) args =
     (number : List ℕ) × (args ≡ number ∷ name side ∷ []) × TellsLongNumber link.0 number
+TellsArguments (Piece link side count) args =
+    (number k : List ℕ) × (args ≡ number ∷ name side ∷ k ∷ [])
+    × TellsLongNumber link.0 number × TellsNumber count k
 TellsArguments (Lose link to_a to_b) args =
     (number a b : List ℕ) × (args ≡ number ∷ a ∷ b ∷ [])
     × TellsLongNumber link.0 number × TellsNumber to_a a × TellsNumber to_b b

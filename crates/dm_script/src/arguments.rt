@@ -113,6 +113,32 @@ pub fn link_and_side(left: &mut Words<'_>) -> Option<(u64, Side)>
     Some((link, side))
 }
 
+/// A side and a number.
+fn side_and_number(left: &mut Words<'_>) -> Option<(Side, u32)>
+    ensures told { IfSome result (λ r. (a : List ℕ) × (words left.old ≡ name r.0 ∷ a ∷ []) × TellsNumber r.1 a) }
+    ensures none { IfNone result ((side : Side) (n : ℕ) (a : List ℕ) → words left.old ≡ name side ∷ a ∷ []
+        → TellsNumber n a → ⊥) }
+{
+    let side = next_side(left)?;
+    let number = next_number(left)?;
+    if left.next().is_some() {
+        return None;
+    }
+    Some((side, number))
+}
+
+/// A link, a side and a number.
+pub fn link_side_and_number(left: &mut Words<'_>) -> Option<(u64, Side, u32)>
+    ensures told { IfSome result (λ r. (number a : List ℕ) × (words left.old ≡ number ∷ name r.1 ∷ a ∷ [])
+        × TellsLongNumber r.0 number × TellsNumber r.2 a) }
+    ensures none { IfNone result ((m : ℕ) (side : Side) (n : ℕ) (number a : List ℕ)
+        → words left.old ≡ number ∷ name side ∷ a ∷ [] → TellsLongNumber m number → TellsNumber n a → ⊥) }
+{
+    let link = next_link(left)?;
+    let (side, number) = side_and_number(left)?;
+    Some((link, side, number))
+}
+
 /// Two numbers.
 fn two_numbers(left: &mut Words<'_>) -> Option<(u32, u32)>
     ensures told { IfSome result (λ r. (a b : List ℕ) × (words left.old ≡ a ∷ b ∷ []) × TellsNumber r.0 a

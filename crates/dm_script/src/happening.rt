@@ -5,7 +5,8 @@ ghost use Rattle.dm_world.specs.declared.happening.Happening.{Happening};
 ghost use Rattle.dm_script.specs.Happenings.{verb_of, TellsArguments, TellsHappening};
 
 use crate::arguments::{
-    link_alone, link_and_numbers, link_and_side, side_alone, side_and_cause, side_and_word,
+    link_alone, link_and_numbers, link_and_side, link_side_and_number, side_alone, side_and_cause,
+    side_and_word,
 };
 use crate::verb::{Verb, read_verb};
 use dm_machine::Conn;
@@ -51,6 +52,10 @@ fn read_arguments(verb: Verb, left: &mut Words<'_>) -> Option<Happening>
         Verb::Deliver => {
             let (link, side) = link_and_side(left)?;
             Some(Happening::Deliver(Conn(link), side))
+        }
+        Verb::Piece => {
+            let (link, side, count) = link_side_and_number(left)?;
+            Some(Happening::Piece(Conn(link), side, count))
         }
         Verb::Lose => {
             let (link, to_a, to_b) = link_and_numbers(left)?;

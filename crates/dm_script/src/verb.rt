@@ -14,6 +14,7 @@ pub enum Verb {
     Ack,
     Nack,
     Deliver,
+    Piece,
     Lose,
     Submit,
 }
@@ -32,6 +33,7 @@ pub fn read_verb(word: &[u8]) -> Option<Verb>
         b"ack" => Some(Verb::Ack),
         b"nack" => Some(Verb::Nack),
         b"deliver" => Some(Verb::Deliver),
+        b"piece" => Some(Verb::Piece),
         b"lose" => Some(Verb::Lose),
         b"submit" => Some(Verb::Submit),
         _ => None,

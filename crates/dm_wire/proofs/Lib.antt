@@ -5,6 +5,7 @@ pub mod Equalities
 pub mod Existence
 pub mod Fitting
 pub mod Findings
+pub mod Framing
 pub mod Fronts
 pub mod Headers
 pub mod Limit

@@ -4,6 +4,7 @@ pub mod Canonical
 pub mod Extents
 pub mod Fitting
 pub mod Finding
+pub mod Framing
 pub mod Limits
 pub mod Making
 pub mod Members

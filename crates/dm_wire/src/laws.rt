@@ -5,6 +5,7 @@ ghost use Rattle.dm_wire.specs.OneAnswer.{OneMessage, OneAvp, OneList, OneBadOct
 ghost use Rattle.dm_wire.specs.RoundTrip.{CanonicalSpells, ReadsBack, OneSize, CanonicalListSpells, ListReadsBack, CanonicalHeaderSpelled};
 ghost use Rattle.dm_wire.specs.Walks.{WalkTells};
 ghost use Rattle.dm_wire.specs.Fitting.{AvpSpelled, AvpSized, ListSpelled, MessageSpelled};
+ghost use Rattle.dm_wire.specs.Framing.{SpelledIsFramed, CanonicalIsFramed};
 ghost use Rattle.dm_wire.specs.Whole.{MessageInSpells, SpelledIsIn};
 
 /// Of two spellings of messages that begin one text neither is longer, and both spell one message.
@@ -139,4 +140,11 @@ pub fn list_spelled()
 /// its canonical octets (3). So `encode` refuses such a message for want of memory alone.
 pub fn message_spelled()
     ensures { MessageSpelled }
+{}
+
+/// Octets that spell a message are a frame, for the greatest Message Length: a framer hands them out whole (3). So are
+/// the canonical octets of a message whose AVPs stand in one that is spelled. It stands for the layers above.
+pub fn spelled_is_framed()
+    ensures spelled { SpelledIsFramed }
+    ensures canonical { CanonicalIsFramed }
 {}

@@ -1,6 +1,6 @@
 -- One link of many is changed.
 use Rattle.std.proofs.Common.{◌≡◌, ℕ, zero, suc, ◌+◌, ◌<◌, ◌≤◌, List, [], ◌∷◌, length, get_or, refl, sym, ap, subst, ◌∙◌, arith, add-one}
-use Rattle.std.specs.Prelude.{OnOk, Result, Ok, Err}
+use Rattle.std.specs.Prelude.{OnOk, OnErr, IfSome, slice_get, Result, Ok, Err}
 use Rattle.std.proofs.Math.ListN.{set}
 use Rattle.dm_links.specs.Links as links
 use Rattle.dm_links.specs.Worlds.{change_at}
@@ -81,3 +81,14 @@ length_links (l ∷ ls) = ap suc (length_links ls)
 pub on_ok : {T E : Type 0} {P Q : Type 0} (r : Result T E) → (P → Q) → OnOk r P → OnOk r Q
 on_ok (Ok x) f h = f h
 on_ok (Err e) f h = h
+
+pub on_err : {T E : Type 0} {P Q : Type 0} (r : Result T E) → (P → Q) → OnErr r P → OnErr r Q
+on_err (Ok x) f h = h
+on_err (Err e) f h = f h
+
+-- what is said of the link of a number
+pub at_number : (P : links.Link (List ℕ) → Type 0) (c : ℕ) (ls : List Link) (x : Link) → x ≡ get_or ls c x → c < length ls →
+    IfSome (slice_get (as_links ls) c) P → P (as_link x)
+at_number P c [] x at lt has = absurd (omega arith)
+at_number P zero (l ∷ ls) x at lt has = subst (λ z. P (as_link z)) (sym at) has
+at_number P (suc c) (l ∷ ls) x at lt has = at_number P c ls x at (omega arith) has

@@ -1,16 +1,20 @@
 -- A delivery comes to what is next.
-use Rattle.std.proofs.Common.{◌≡◌, ℕ, Some, List, [], ◌∷◌, slice_get, refl, sym, ap, subst, ◌∙◌}
+use Rattle.std.proofs.Common.{◌≡◌, ℕ, ◌+◌, ◌-◌, ◌<◌, ◌≤◌, ◌==◌, Bool, true, false, nat_lt, Some, List, [], ◌∷◌, length, slice_get, refl, sym, ap, subst, ◌∙◌, ◌⊎◌, inl, inr, arith}
+use Rattle.std.specs.Prelude.{if◌then◌else◌}
+use Rattle.std.proofs.lemmas.Bool.Decides.{nat_tests}
 use Rattle.dm_peer.specs.declared.peer.Peer.{Peer}
 use Rattle.dm_links.specs.Machine.{conn}
-use Rattle.dm_links.specs.Links.{Side, Link, LinkPhase, Pending, Up, Cancelled, End, Mark, NoMark, Coming, Delivered}
+use Rattle.dm_links.specs.Links.{Side, Link, by_side, LinkPhase, Pending, Up, Cancelled, End, Mark, NoMark, Coming, Delivered}
 use Rattle.dm_links.specs.Peers.{Arrived, Gone}
-use Rattle.dm_links.specs.Worlds.{World, After, Ignored}
-use Rattle.dm_links.specs.Happens.{happens, Delivers, delivered, comes, own_view, next_in, if_up, at_link, NextMessage, NextDisconnect, NextNothing}
+use Rattle.dm_links.specs.Worlds.{World, After, Done, Ignored, with_links, change_at}
+use Rattle.dm_links.specs.Happens.{happens, Delivers, Pieces, delivered, pieced, taking, comes, own_view, next_in, if_up, at_link, NextMessage, NextDisconnect, NextNothing}
 use Rattle.dm_links.specs.Happens as happens
 use Rattle.dm_world.specs.declared.fault.Effect.{Effect}
+use Rattle.dm_world.specs.declared.fault.Effect.TheVariants as effect
 use Rattle.dm_world.specs.declared.link.Next.TheVariants as next
 use Rattle.dm_pair.specs.Octets.{octet_peers}
-use Rattle.dm_world.specs.Next.{kind_of, next_to}
+use Rattle.dm_world.specs.Fed.{front_in}
+use Rattle.dm_world.specs.Next.{kind_of, next_to, left_to}
 use Rattle.dm_world.specs.Views.{Effects}
 
 record IsNextMessage (ms : List (List ℕ)) (n : happens.Next (List ℕ)) : Type 0 where
@@ -59,3 +63,113 @@ disconnect_step s c effect w w' l there next step =
     let n = disconnect_next l.phase (own_view s l).incoming.messages (own_view s l).incoming.mark next in
     let is = delivers_is w c s l there ∙ ap (λ n. delivered octet_peers c s (own_view s l).own n w) n in
     subst (λ (a : After Peer (List ℕ)). Effects effect a w w') (sym is) (step l there)
+
+-- a piece: of no octets, none
+none_pieced : {X : Type 0} (k : ℕ) (p : LinkPhase) (x y : X) → k ≡ 0 → if_up p (if k == 0 then x else y) x ≡ x
+none_pieced k p x y none = rw none (by p)
+  where
+    by : (p : LinkPhase) → if_up p x x ≡ x
+    by Up = refl
+    by Pending = refl
+    by Cancelled = refl
+
+not_none : (k : ℕ) → 0 < k → (k == 0) ≡ false
+not_none k some = grind (arith, nat_tests)
+
+only_up_piece : (w : World Peer (List ℕ)) (c : ℕ) (s : Side) (k : ℕ) (end : End) (taken : ℕ) (p : LinkPhase)
+    (n : happens.Next (List ℕ)) (b : Bool) → b ≡ false →
+    if_up p (if b then Ignored else pieced octet_peers c s k end taken n w) Ignored
+    ≡ pieced octet_peers c s k end taken (if_up p n NextNothing) w
+only_up_piece w c s k end taken Up n b some = rw some refl
+only_up_piece w c s k end taken Pending n b some = refl
+only_up_piece w c s k end taken Cancelled n b some = refl
+
+-- as it is cut from the direction of a link
+abbrev piece_of : World Peer (List ℕ) → ℕ → Side → ℕ → Link (List ℕ) → After Peer (List ℕ)
+piece_of w c s k l =
+    pieced octet_peers c s k (own_view s l).own (own_view s l).incoming.taken
+    (next_in (own_view s l).incoming.messages (own_view s l).incoming.mark) w
+
+pieces_is : (w : World Peer (List ℕ)) (c : ℕ) (s : Side) (k : ℕ) (l : Link (List ℕ)) → slice_get w.links c ≡ Some l →
+    0 < k →
+    happens octet_peers w (Pieces c s k)
+    ≡ pieced octet_peers c s k (own_view s l).own (own_view s l).incoming.taken
+    (if_up l.phase (next_in (own_view s l).incoming.messages (own_view s l).incoming.mark) NextNothing) w
+pieces_is w c s k l there some =
+    ap (λ o. at_link o (λ j. if_up j.phase (if k == 0 then Ignored else piece_of w c s k j) Ignored)) there
+    ∙ only_up_piece w c s k (own_view s l).own (own_view s l).incoming.taken l.phase
+    (next_in (own_view s l).incoming.messages (own_view s l).incoming.mark) (k == 0) (not_none k some)
+
+pub no_piece : (s : Side) (c k : ℕ) (w : World Peer (List ℕ)) (l : Link (List ℕ)) → slice_get w.links c ≡ Some l →
+    k ≡ 0 → Effects effect.Ignored (happens octet_peers w (Pieces c s k)) w w
+no_piece s c k w l there none = (
+  ap (λ o. at_link o (λ j. if_up j.phase (if k == 0 then Ignored else piece_of w c s k j) Ignored)) there
+      ∙ none_pieced k l.phase Ignored (piece_of w c s k l) none,
+  refl,
+)
+
+-- where no message is next, none
+none_next : (w : World Peer (List ℕ)) (c : ℕ) (s : Side) (k : ℕ) (end : End) (taken : ℕ) (n : happens.Next (List ℕ)) →
+    (kind_of n ≡ next.Disconnect) ⊎ (kind_of n ≡ next.Nothing) → pieced octet_peers c s k end taken n w ≡ Ignored
+none_next w c s k end taken (NextMessage x) (inl is) = cc
+none_next w c s k end taken (NextMessage x) (inr is) = cc
+none_next w c s k end taken NextDisconnect is = refl
+none_next w c s k end taken NextNothing is = refl
+
+pub no_message : (s : Side) (c k : ℕ) (w : World Peer (List ℕ)) (l : Link (List ℕ)) → slice_get w.links c ≡ Some l →
+    0 < k → (next_to s l ≡ next.Disconnect) ⊎ (next_to s l ≡ next.Nothing) →
+    Effects effect.Ignored (happens octet_peers w (Pieces c s k)) w w
+no_message s c k w l there some is = (
+  pieces_is w c s k l there some
+      ∙ none_next w c s k (own_view s l).own (own_view s l).incoming.taken
+      (if_up l.phase (next_in (own_view s l).incoming.messages (own_view s l).incoming.mark) NextNothing) is,
+  refl,
+)
+
+-- the front message, and how much of it is left
+front_is : (ms : List (List ℕ)) (x : List ℕ) → slice_get ms 0 ≡ Some x → front_in ms ≡ x
+front_is [] x is = cc
+front_is (y ∷ ys) x is = cc
+
+cut_true : (n k a : ℕ) → k < a - n → nat_lt (n + k) a ≡ true
+cut_true n k a h = let below : n + k < a = omega arith in grind (arith, nat_tests)
+
+cut_false : (n k a : ℕ) → a - n ≤ k → nat_lt (n + k) a ≡ false
+cut_false n k a h = let above : a ≤ n + k = omega arith in grind (arith, nat_tests)
+
+-- a piece that ends no message
+pub part_step : (s : Side) (c k : ℕ) (w w' : World Peer (List ℕ)) (l : Link (List ℕ)) → slice_get w.links c ≡ Some l →
+    next_to s l ≡ next.Message → 0 < k → k < left_to s l →
+    w' ≡ with_links (change_at c (by_side s (taking k)) w.links) w →
+    Effects effect.Done (happens octet_peers w (Pieces c s k)) w w'
+part_step s c k w w' l there is_next some below is =
+    let v = own_view s l in
+    let n = message_next l.phase v.incoming.messages v.incoming.mark is_next in
+    let front = front_is v.incoming.messages n.message n.front in
+    let cut = cut_true v.incoming.taken k (length n.message) (rw (← front) below) in
+    let done = with_links (change_at c (by_side s (taking k)) w.links) w in
+    let last = comes octet_peers s (Arrived (conn c) n.message) v.own w in (
+      [],
+      pieces_is w c s k l there some
+          ∙ ap (λ x. pieced octet_peers c s k v.own v.incoming.taken x w) n.next
+          ∙ ap (λ b. if b then Done done [] else last) cut
+          ∙ ap (λ (a : World Peer (List ℕ)). Done a []) (sym is),
+    )
+
+-- a piece that ends its message is the delivery
+pub last_step : (s : Side) (c k : ℕ) (outcome : Effect) (w w' : World Peer (List ℕ)) (l : Link (List ℕ)) →
+    slice_get w.links c ≡ Some l → next_to s l ≡ next.Message → 0 < k → left_to s l ≤ k →
+    ((l : Link (List ℕ)) (x : List ℕ) → slice_get w.links c ≡ Some l → slice_get (own_view s l).incoming.messages 0 ≡ Some x → Effects outcome (comes octet_peers s (Arrived (conn c) x) (own_view s l).own w) w w') →
+    Effects outcome (happens octet_peers w (Pieces c s k)) w w'
+last_step s c k outcome w w' l there is_next some above step =
+    let v = own_view s l in
+    let n = message_next l.phase v.incoming.messages v.incoming.mark is_next in
+    let front = front_is v.incoming.messages n.message n.front in
+    let cut = cut_false v.incoming.taken k (length n.message) (rw (← front) above) in
+    let done = with_links (change_at c (by_side s (taking k)) w.links) w in
+    let last = comes octet_peers s (Arrived (conn c) n.message) v.own w in
+    let is =
+    pieces_is w c s k l there some
+    ∙ ap (λ x. pieced octet_peers c s k v.own v.incoming.taken x w) n.next
+    ∙ ap (λ b. if b then Done done [] else last) cut in
+    subst (λ (a : After Peer (List ℕ)). Effects outcome a w w') (sym is) (step l n.message there n.front)

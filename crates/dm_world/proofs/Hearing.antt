@@ -1,5 +1,5 @@
 -- What a side hears comes to one step of the world.
-use Rattle.std.proofs.Common.{◌≡◌, ℕ, ◌<◌, Bool, Some, List, [], ◌∷◌, length, get_or, slice_get, zero, suc, sym, ap, subst, ◌∙◌, arith}
+use Rattle.std.proofs.Common.{◌≡◌, ℕ, ◌<◌, Bool, None, Some, List, [], ◌∷◌, length, get_or, slice_get, zero, suc, sym, ap, subst, ◌∙◌, arith}
 use Rattle.arrayvec.specs.ArrayVec.{ArrayVec}
 use Rattle.dm_peer.specs.declared.actions.Action as declared_action
 use Rattle.dm_peer.specs.Acts.{Moved}
@@ -22,7 +22,7 @@ use Rattle.dm_world.specs.Seen.{as_link, as_links}
 use Rattle.dm_world.specs.Views.{as_world, Effects, AreShaped, front_of}
 use Rattle.dm_world.proofs.Held.{held_by_role}
 use Rattle.dm_world.proofs.Sending.{SendLaws, reply_shaped}
-use Rattle.dm_world.proofs.Telling.{reply_is, shaped_of, links_after, done_step}
+use Rattle.dm_world.proofs.Telling.{reply_is, shaped_of, links_after, done_step, ignored_step}
 
 -- a link by its number
 pub link_at : (i : ℕ) (ls : List declared_link.Link) (x : declared_link.Link) → i < length ls → x ≡ get_or ls i x → slice_get (as_links ls) i ≡ Some (as_link x)
@@ -55,3 +55,12 @@ pub heard_step : (s : Side) (c : ℕ) (x y : List ℕ) (actions : ArrayVec decla
 heard_step s c x y actions old new same answer links =
     subst (λ z. Effects effect.Done (worlds.told octet_peers s (Arrived (conn c) z) (as_world old)) (as_world old) (as_world new)) same
     (done_step s (told.Arrived (conn c) y) old new actions answer links)
+
+-- the same where the peer refuses it
+pub heard_none : (s : Side) (c : ℕ) (x y : List ℕ) (old new : Net) → y ≡ x →
+    IsAnswerOf s (told.Arrived (conn c) y) None old.pair new.pair →
+    as_links new.links.items ≡ as_links old.links.items →
+    Effects effect.Ignored (worlds.told octet_peers s (Arrived (conn c) x) (as_world old)) (as_world old) (as_world new)
+heard_none s c x y old new same answer links =
+    subst (λ z. Effects effect.Ignored (worlds.told octet_peers s (Arrived (conn c) z) (as_world old)) (as_world old) (as_world new)) same
+    (ignored_step s (told.Arrived (conn c) y) old new answer links)

@@ -1,4 +1,5 @@
 pub mod Whole
+pub mod Fed
 pub mod Changed
 pub mod Quiets
 pub mod Agrees

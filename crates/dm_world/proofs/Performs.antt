@@ -8,6 +8,7 @@ use Rattle.dm_links.specs.Peers.{Action, Connect, Send, Close, Up, Order, Sends,
 use Rattle.dm_links.specs.Worlds.{perform}
 use Rattle.dm_world.specs.declared.link.Link.{Link}
 use Rattle.dm_peer.specs.declared.actions.Action as declared_action
+use Rattle.dm_pair.specs.Frames.{SendFrames}
 use Rattle.dm_pair.specs.Octets.{as_action, as_actions}
 use Rattle.dm_world.specs.Rooms.{HasRoom, HasRoomFor}
 use Rattle.dm_world.proofs.Changed.{less}
@@ -67,3 +68,20 @@ none_left (x ∷ xs) h = cc
 
 pub performed_end : (s : Side) (items : List declared_action.Action) (ls : List (links.Link (List ℕ))) → None ≡ slice_get items 0 → ls ≡ perform s (as_actions items) ls
 performed_end s items ls h = ap (λ l. perform s (as_actions l) ls) (sym (none_left items h))
+
+-- what is sent are frames, the first action's and the others'
+pub frames_now : (items new : List declared_action.Action) (x : declared_action.Action) → items ≡ x ∷ new →
+    SendFrames (as_actions items) → SendFrames (as_action x ∷ as_actions new)
+frames_now items new x is frames = subst (λ l. SendFrames (as_actions l)) is frames
+
+pub frames_one : (a : Action (List ℕ)) (rest : List (Action (List ℕ))) → SendFrames (a ∷ rest) → SendFrames (a ∷ [])
+frames_one (Connect c) rest frames = tt
+frames_one (Send c m) rest frames = (frames.0, tt)
+frames_one (Close c) rest frames = tt
+frames_one (Up m) rest frames = tt
+
+pub frames_rest : (a : Action (List ℕ)) (rest : List (Action (List ℕ))) → SendFrames (a ∷ rest) → SendFrames rest
+frames_rest (Connect c) rest frames = frames
+frames_rest (Send c m) rest frames = frames.1
+frames_rest (Close c) rest frames = frames
+frames_rest (Up m) rest frames = frames

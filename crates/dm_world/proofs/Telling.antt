@@ -1,5 +1,5 @@
 -- What a side is told comes to one step of the world.
-use Rattle.std.proofs.Common.{◌≡◌, ℕ, true, Option, Some, None, List, [], ◌∷◌, ◌++◌, length, refl, ap, subst, ◌∙◌}
+use Rattle.std.proofs.Common.{◌≡◌, ℕ, true, Option, Some, None, List, [], ◌∷◌, ◌++◌, length, refl, ap, subst, ◌∙◌, arith}
 use Rattle.std.specs.Prelude.{IsTrue}
 use Rattle.arrayvec.specs.ArrayVec.{ArrayVec}
 use Rattle.dm_machine.specs.Node.{is_shaped}
@@ -17,6 +17,7 @@ use Rattle.dm_world.specs.declared.fault.Effect.TheVariants as effect
 use Rattle.dm_world.specs.declared.net.Net.{Net}
 use Rattle.dm_world.specs.declared.pair.Pair.{Pair}
 use Rattle.dm_world.specs.Asking.{peer_of, IsAnswerOf}
+use Rattle.dm_pair.specs.Frames.{AreOctets, submitted_in, SendFrames, OctetsAreFrames}
 use Rattle.dm_pair.specs.Octets.{as_cause, of_cause, of_event, as_event, as_actions, as_reply, octet_peers}
 use Rattle.dm_world.specs.declared.link.Link as declared_link
 use Rattle.dm_world.specs.Rooms.{HasRoom, HasRoomFor, HasRoomToSend, named}
@@ -139,3 +140,14 @@ start_links s actions old roomy pushed done l room pushes new performs =
     performs
     ∙ ap (λ ls. perform s (as_actions actions) (as_links ls)) (pushes ∙ ap (λ ls. ls ++ l ∷ []) room)
     ∙ ap (λ ls. perform s (as_actions actions) ls) (links_append old l ∙ ap (λ z. as_links old ++ z ∷ []) new)
+
+-- no octets are octets
+pub no_octets : AreOctets []
+no_octets i = omega arith
+
+-- what is sent are frames
+pub sends_frames : (s : Side) (e : told.PeerEvent) (old : Net) (new : Pair) (actions : ArrayVec declared_action.Action) →
+    OctetsAreFrames → AreOctets (submitted_in e) → IsAnswerOf s e (Some actions) old.pair new →
+    SendFrames (as_actions actions.items)
+sends_frames s e old new actions law octets answer =
+    law (peer_of s old.pair) (peer_of s new) e actions.items octets answer.0

@@ -1,6 +1,6 @@
 -- A happening as the laws of two peers see it.
 use Rattle.std.specs.Prelude.{ℕ, Bool, true, false, List}
-use Rattle.dm_links.specs.Happens.{Happening, Starts, Stops, TimesOut, Ticks, Restarts, Acks, Nacks, Delivers, Loses, Submits}
+use Rattle.dm_links.specs.Happens.{Happening, Starts, Stops, TimesOut, Ticks, Restarts, Acks, Nacks, Delivers, Pieces, Loses, Submits}
 use Rattle.dm_world.specs.declared.happening.Happening as declared_happening
 use Rattle.dm_world.specs.declared.happening.Happening.TheVariants as happening
 use Rattle.dm_pair.specs.Octets.{as_cause}
@@ -15,6 +15,7 @@ as_happening (happening.Restart s) = Restarts (as_side s)
 as_happening (happening.Ack c) = Acks c.0
 as_happening (happening.Nack c) = Nacks c.0
 as_happening (happening.Deliver c s) = Delivers c.0 (as_side s)
+as_happening (happening.Piece c s k) = Pieces c.0 (as_side s) k
 as_happening (happening.Lose c a b) = Loses c.0 a b
 as_happening (happening.Submit s x) = Submits (as_side s) x
 

@@ -1,5 +1,6 @@
 pub mod Way
 pub mod Ways
+pub mod Fed
 pub mod WayOf
 pub mod Seen
 pub mod Rooms

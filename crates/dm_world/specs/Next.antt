@@ -3,6 +3,7 @@ use Rattle.std.specs.Prelude.{ℕ, Bool, true, List}
 use Rattle.dm_links.specs.Links.{Side, Link}
 use Rattle.dm_links.specs.Happens.{NextMessage, NextDisconnect, NextNothing, next_in, if_up, own_view, are_shut}
 use Rattle.dm_links.specs.Happens as happens
+use Rattle.dm_world.specs.Fed.{left_in}
 use Rattle.dm_world.specs.declared.link.Next.{Next}
 use Rattle.dm_world.specs.declared.link.Next.TheVariants as next
 
@@ -19,3 +20,7 @@ next_to s l =
 -- a link that isn't up, or both of whose ends are shut
 abbrev pub is_past_loss : Link (List ℕ) → Bool
 is_past_loss l = if_up l.phase (are_shut l.near l.far) true
+
+-- how many octets of the front message are still to come to a side
+abbrev pub left_to : Side → Link (List ℕ) → ℕ
+left_to s l = left_in (own_view s l).incoming.messages (own_view s l).incoming.taken

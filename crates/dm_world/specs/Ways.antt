@@ -1,5 +1,5 @@
 -- What goes into a direction, and what leaves it.
-use Rattle.std.specs.Prelude.{ℕ, List, [], ◌∷◌, drop}
+use Rattle.std.specs.Prelude.{ℕ, ◌+◌, List, [], ◌∷◌, drop}
 use Rattle.dm_links.specs.Links.{Direction, LinkPhase, Up, NoMark, Coming, Delivered}
 use Rattle.dm_links.specs.Links as links
 use Rattle.dm_links.specs.Steps.{added, marked}
@@ -26,3 +26,7 @@ without_front d = record { messages = drop 1 d.messages; taken = 0; mark = d.mar
 -- the disconnect has left
 abbrev pub with_disconnect_delivered : Direction (List ℕ) → Direction (List ℕ)
 with_disconnect_delivered d = record { messages = d.messages; taken = d.taken; mark = Delivered }
+
+-- some octets of the front message have left, and not its last
+abbrev pub with_taken : ℕ → Direction (List ℕ) → Direction (List ℕ)
+with_taken k d = record { messages = d.messages; taken = d.taken + k; mark = d.mark }

@@ -1,12 +1,14 @@
 //! One happening is one step of the world.
 ghost use Rattle.std.specs.Prelude.{◌≡◌, true, false, IfOk, IfErr, OnErr};
-ghost use Rattle.dm_links.specs.Happens.{happens, Acks, Nacks, Loses};
+ghost use Rattle.dm_links.specs.Happens.{happens, Acks, Nacks, Loses, Submits};
 ghost use Rattle.dm_pair.specs.Octets.{octet_peers};
 ghost use Rattle.dm_world.specs.Happening.{as_happening, may_want};
+ghost use Rattle.dm_world.specs.Seen.{as_side};
 ghost use Rattle.dm_world.specs.Views.{as_world, Effects, AreShaped, IsFault};
 
 use crate::net::Net;
-use crate::{Effect, Happening, WorldFault, links};
+use crate::{Effect, Happening, Side, WorldFault, links};
+use dm_dict::NoMemory;
 use dm_peer::{Conn, Event};
 use std::alloc::Global;
 
@@ -71,6 +73,17 @@ impl Net {
         Ok(Effect::Done)
     }
 
+    /// The user of the side submits octets.
+    fn submit(&mut self, alloc: Global, side: Side, octets: &[u8]) -> Result<Effect, NoMemory>
+        requires { AreShaped self.old }
+        ensures step { IfOk result (λ effect. Effects effect
+            (happens octet_peers (as_world self.old) (Submits (as_side side) octets.now)) (as_world self.old)
+            (as_world self.new)) }
+        ensures unchanged { OnErr result (as_world self.new ≡ as_world self.old) }
+    {
+        self.tell(alloc, side, Event::Submit(octets))
+    }
+
     /// One happening.
     pub(crate) fn apply(
         &mut self,
@@ -97,12 +110,9 @@ impl Net {
             Happening::Ack(conn) => self.ack(alloc, *conn),
             Happening::Nack(conn) => self.nack(alloc, *conn),
             Happening::Deliver(conn, side) => self.deliver(alloc, *conn, *side),
+            Happening::Piece(conn, side, count) => self.piece(alloc, *conn, *side, *count),
             Happening::Lose(conn, to_a, to_b) => self.lose(*conn, *to_a, *to_b),
-            Happening::Submit(side, octets) => Ok(self.tell(
-                alloc,
-                *side,
-                Event::Submit(octets.as_slice()),
-            )?),
+            Happening::Submit(side, octets) => Ok(self.submit(alloc, *side, octets.as_slice())?),
         }
     }
 }

@@ -1,7 +1,7 @@
 //! What reaches a side on a link.
 ghost use Rattle.std.specs.Prelude.{◌≡◌, ◌<◌, ℕ, List, Some, true, IfOk, IfErr, OnErr, length, slice_get};
 ghost use Rattle.dm_links.specs.Machine.{conn};
-ghost use Rattle.dm_links.specs.Happens.{happens, Delivers, comes, own_view};
+ghost use Rattle.dm_links.specs.Happens.{happens, Delivers, Pieces, comes, own_view};
 ghost use Rattle.dm_links.specs.Links.{Link};
 ghost use Rattle.dm_links.specs.Worlds as worlds;
 ghost use Rattle.dm_links.specs.Peers.{Arrived, Gone};
@@ -9,6 +9,7 @@ ghost use Rattle.dm_pair.specs.Octets.{octet_peers};
 ghost use Rattle.dm_world.specs.Seen.{as_side, as_links};
 ghost use Rattle.dm_world.specs.Views.{as_world, Effects, AreShaped, IsFault, front_of};
 
+use crate::direction::{Handed, empty_framer};
 use crate::link::{End, Next};
 use crate::net::Net;
 use crate::pair::holds;
@@ -17,12 +18,13 @@ use crate::rooms::make_room;
 use crate::{Effect, Side, WorldFault, links};
 use dm_dict::NoMemory;
 use dm_machine::laws::{each_opening_has_its_message, each_step_keeps_shape};
-use dm_pair::laws::octets_are_a_machine;
+use dm_pair::laws::{octets_are_a_machine, octets_are_frames};
 use dm_peer::{Conn, Event};
 use std::alloc::Global;
 
 impl Net {
-    /// The side hears the front message of the link.
+    /// The side hears the front message of the link: its framer's copy hands it out, and takes the framer's place once
+    /// the peer has answered.
     pub(crate) fn hear(
         &mut self,
         alloc: Global,
@@ -38,18 +40,22 @@ impl Net {
         ensures unchanged { OnErr result (as_world self.new ≡ as_world self.old) }
     {
         octets_are_a_machine();
+        octets_are_frames();
         each_opening_has_its_message();
         each_step_keeps_shape();
         let conn = Conn(index as u64);
         make_room(&mut self.links, side, self.pair.of(side), Some(conn))?;
-        let answer = match self.links[index].front(side) {
-            Some(octets) => self.pair.ask(alloc, side, Event::Arrived(conn, octets))?,
+        let Handed { message, framer } = match self.links[index].hand_out(side)? {
+            Some(handed) => handed,
             None => return Ok(Effect::Ignored),
         };
+        let answer = self
+            .pair
+            .ask(alloc, side, Event::Arrived(conn, message.as_slice()))?;
         match answer {
             None => Ok(Effect::Ignored),
             Some(actions) => {
-                links::enter_message(&mut self.links, side, index);
+                links::enter_message(&mut self.links, side, index, framer);
                 perform(&mut self.links, side, actions);
                 let held = holds(self.pair.of(side), conn);
                 links::settle(&mut self.links, side, index, held);
@@ -71,7 +77,7 @@ impl Net {
     {
         match self.links[index].own_end(side) {
             End::Shut => {
-                links::enter_message(&mut self.links, side, index);
+                links::enter_message(&mut self.links, side, index, empty_framer(alloc));
                 Ok(Effect::Done)
             }
             End::Fresh | End::Open => self.hear(alloc, side, index),
@@ -125,6 +131,42 @@ impl Net {
             Next::Nothing => Ok(Effect::Ignored),
             Next::Message => Ok(self.message_comes(alloc, side, index)?),
             Next::Disconnect => Ok(self.disconnect_comes(alloc, side, index)?),
+        }
+    }
+
+    /// So many next octets on the link come to the side, up to the end of the front message.
+    pub(crate) fn piece(
+        &mut self,
+        alloc: Global,
+        conn: Conn,
+        side: Side,
+        count: u32,
+    ) -> Result<Effect, WorldFault>
+        requires { AreShaped self.old }
+        ensures step { IfOk result (λ effect. Effects effect
+            (happens octet_peers (as_world self.old) (Pieces conn.0 (as_side side) count)) (as_world self.old)
+            (as_world self.new)) }
+        ensures fault { IfErr result (λ f. IsFault f true
+            (happens octet_peers (as_world self.old) (Pieces conn.0 (as_side side) count))) }
+        ensures unchanged { OnErr result (as_world self.new ≡ as_world self.old) }
+    {
+        let index = conn.0 as usize;
+        if self.links.len() <= index {
+            return Err(WorldFault::NoLink);
+        }
+        if count == 0 {
+            return Ok(Effect::Ignored);
+        }
+        let link = &self.links[index];
+        match link.next(side) {
+            Next::Disconnect | Next::Nothing => Ok(Effect::Ignored),
+            Next::Message => {
+                if link.left(side) <= count as usize {
+                    return Ok(self.message_comes(alloc, side, index)?);
+                }
+                links::take(&mut self.links, side, index, count as usize)?;
+                Ok(Effect::Done)
+            }
         }
     }
 }

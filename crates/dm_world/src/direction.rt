@@ -1,10 +1,16 @@
 //! One direction of a link: what was sent and not delivered, in order, and the disconnect behind it.
-ghost use Rattle.std.specs.Prelude.{◌≡◌, ℕ, ◌+◌, ◌<◌, ◌≤◌, Bool, List, length, take, slice_get, OnOk, option_map};
+ghost use Rattle.std.specs.Prelude.{◌≡◌, ℕ, ◌+◌, ◌<◌, ◌≤◌, Bool, List, [], length, take, slice_get, IfOk, IfErr, IfSome, OnOk, OnErr, option_map};
+ghost use Rattle.dm_framer.specs.declared.fault.FrameFault.{FrameFault};
+ghost use Rattle.dm_framer.specs.Frames.{IsFrame};
+ghost use Rattle.dm_world.specs.Fed.{holding, left_in};
 ghost use Rattle.dm_links.specs.Links.{nothing};
 ghost use Rattle.dm_links.specs.Happens.{whole_in, lost};
-ghost use Rattle.dm_world.specs.Ways.{with_message, with_disconnect, without_front, with_disconnect_delivered, mark_of};
+ghost use Rattle.dm_world.specs.Ways.{with_message, with_disconnect, with_taken, without_front, with_disconnect_delivered, mark_of};
 ghost use Rattle.dm_links.specs.Quiet.{is_still};
 
+use dm_dict::NoMemory;
+use dm_framer::laws::whole_frames;
+use dm_framer::{FrameFault, Framer};
 use dm_wire::Octets;
 use std::alloc::{AllocError, Global};
 use std::collections::VecDeque;
@@ -21,11 +27,24 @@ pub(crate) enum Mark {
     Delivered,
 }
 
-/// One direction of a link.
+/// The greatest Message Length: a multiple of 4 that three octets hold (RFC 6733, 3).
+const GREATEST: u32 = 16777212;
+
+/// One direction of a link: the messages as they were sent, and a framer with the octets of the front one that were
+/// delivered, so many.
 #[derive(Debug, Drop)]
 pub(crate) struct Direction {
     queue: VecDeque<Octets>,
+    framer: Framer,
+    taken: usize,
     mark: Mark,
+}
+
+/// A message that a framer handed out, and the framer as it stands then.
+#[derive(Debug, Drop)]
+pub(crate) struct Handed {
+    pub(crate) message: Vec<u8>,
+    pub(crate) framer: Framer,
 }
 
 impl Model for Direction {
@@ -33,9 +52,37 @@ impl Model for Direction {
 
     ghost Value = { Way };
 
-    ghost use Rattle.dm_world.specs.WayOf.{way_of};
+    ghost use Rattle.dm_world.specs.WayOf.{way_of, IsSound};
 
     ghost view = { way_of };
+
+    ghost invariant = { IsSound };
+}
+
+/// A framer that holds nothing, for messages of any size. It takes no memory.
+pub(crate) fn empty_framer(alloc: Global) -> Framer
+    ensures { result ≡ holding [] }
+{
+    Framer::new(alloc, GREATEST)
+}
+
+/// The message that a framer hands out which is fed the rest of it, behind the first octets that it holds. The framer
+/// that is handed in stays as it is.
+fn frame_out(framer: &Framer, message: &[u8], taken: usize) -> Result<Handed, FrameFault>
+    requires frame { IsFrame 16777212 message.now }
+    requires within { taken ≤ length message.now }
+    requires held { framer.now ≡ holding (take taken message.now) }
+    ensures message { IfOk result (λ handed. handed.message.items ≡ message.now) }
+    ensures framer { IfOk result (λ handed. handed.framer ≡ holding []) }
+    ensures memory { IfErr result (λ fault. fault ≡ FrameFault.NoMemory) }
+{
+    whole_frames();
+    let mut framer = framer.copy()?;
+    framer.feed(&message[taken..])?;
+    match framer.next()? {
+        Some(message) => Ok(Handed { message, framer }),
+        None => unreachable!(),
+    }
 }
 
 /// How many of the messages lie wholly in so many first octets.
@@ -60,6 +107,8 @@ impl Direction {
     {
         Direction {
             queue: VecDeque::new(alloc),
+            framer: empty_framer(alloc),
+            taken: 0,
             mark: Mark::Absent,
         }
     }
@@ -75,7 +124,8 @@ impl Direction {
 
     /// Puts a message in behind the others. Where the disconnect is in, it goes nowhere.
     pub(crate) fn put(&mut self, message: Octets)
-        requires { 0 < self.old.room }
+        requires room { 0 < self.old.room }
+        requires frame { IsFrame 16777212 message }
         ensures put { self.new.direction ≡ with_message message self.old.direction }
         ensures room { self.old.room ≤ self.new.room + 1 }
     {
@@ -106,12 +156,65 @@ impl Direction {
         }
     }
 
-    /// Takes the front message away.
-    pub(crate) fn take_front(&mut self)
+    /// The front message, as a framer hands it out which was fed the octets that were delivered, and then the rest. The
+    /// direction stays as it is.
+    pub(crate) fn hand_out(&self) -> Result<Option<Handed>, NoMemory>
+        ensures message { IfOk result (λ found.
+            option_map (λ handed. handed.message.items) found ≡ slice_get self.now.direction.messages 0) }
+        ensures framer { IfOk result (λ found. IfSome found (λ handed. handed.framer ≡ holding [])) }
+    {
+        let message = match self.queue.front() {
+            Some(message) => message.as_slice(),
+            None => return Ok(None),
+        };
+        match frame_out(&self.framer, message, self.taken) {
+            Ok(handed) => Ok(Some(handed)),
+            Err(FrameFault::NoMemory) => Err(NoMemory),
+            Err(_) => unreachable!(),
+        }
+    }
+
+    /// Takes the front message away, with its octets that were delivered. The framer takes the place of the one that
+    /// holds them.
+    pub(crate) fn take_front(&mut self, framer: Framer)
+        requires { framer ≡ holding [] }
         ensures taken { self.new.direction ≡ without_front self.old.direction }
         ensures room { self.old.room ≤ self.new.room }
     {
         let _front = self.queue.pop_front();
+        self.framer = framer;
+        self.taken = 0;
+    }
+
+    /// How many octets of the front message are still to come; 0 where there is none.
+    pub(crate) fn left(&self) -> usize
+        ensures { result ≡ left_in self.now.direction.messages self.now.direction.taken }
+    {
+        match self.queue.front() {
+            Some(message) => message.as_slice().len() - self.taken,
+            None => 0,
+        }
+    }
+
+    /// Delivers so many octets of the front message, and not its last: they go to the framer. Where memory is wanted,
+    /// nothing changes.
+    pub(crate) fn take(&mut self, count: usize) -> Result<(), NoMemory>
+        requires { count < left_in self.old.direction.messages self.old.direction.taken }
+        ensures taken { OnOk result (self.new.direction ≡ with_taken count self.old.direction) }
+        ensures unchanged { OnErr result (self.new.direction ≡ self.old.direction) }
+    {
+        let end = self.taken + count;
+        match self.queue.front() {
+            Some(message) => match self.framer.feed(&message.as_slice()[self.taken..end]) {
+                Ok(()) => {
+                    self.taken = end;
+                    Ok(())
+                }
+                Err(FrameFault::NoMemory) => Err(NoMemory),
+                Err(_) => unreachable!(),
+            },
+            None => unreachable!(),
+        }
     }
 
     /// The disconnect was delivered.
@@ -122,16 +225,21 @@ impl Direction {
         self.mark = Mark::Delivered;
     }
 
-    /// Keeps the messages that lie wholly in so many first octets, and puts a disconnect behind them. Where the disconnect was
-    /// delivered, nothing changes.
+    /// Keeps the messages that lie wholly in so many of the octets to come, and puts a disconnect behind them. A front
+    /// message that goes takes its octets with it that were delivered. Where the disconnect was delivered, nothing
+    /// changes.
     pub(crate) fn lose(&mut self, kept: u32)
         ensures { self.new.direction ≡ lost length kept self.old.direction }
     {
         match self.mark {
             Mark::Delivered => {}
             _ => {
-                let count = whole_messages(&self.queue, kept as usize);
+                let count = whole_messages(&self.queue, kept as usize + self.taken);
                 self.queue.truncate(count);
+                if count == 0 {
+                    self.framer = empty_framer(*self.queue.allocator());
+                    self.taken = 0;
+                }
                 self.mark = Mark::Coming;
             }
         }

@@ -20,9 +20,12 @@ pub enum Happening {
     Ack(Conn),
     /// The link's connect can't come about.
     Nack(Conn),
-    /// What is next on the link towards the side comes there: a message, or the disconnect.
+    /// What is next on the link towards the side comes there: the rest of a message, or the disconnect.
     Deliver(Conn, Side),
-    /// The link is lost: the messages stay that lie wholly in so many first octets towards A, and towards B.
+    /// So many next octets on the link towards the side come there, up to the end of their message.
+    Piece(Conn, Side, u32),
+    /// The link is lost: of what is still to come the messages stay that lie wholly in so many first octets towards A,
+    /// and towards B. A message that doesn't stay takes the octets with it that came before.
     Lose(Conn, u32, u32),
     /// The user of a side submits the octets of a message.
     Submit(Side, Octets),

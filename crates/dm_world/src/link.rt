@@ -1,17 +1,21 @@
 //! A link: what a connection is to both sides.
-ghost use Rattle.std.specs.Prelude.{◌≡◌, ◌+◌, ◌<◌, ◌≤◌, Bool, true, false, length, drop, slice_get, OnOk, option_map};
+ghost use Rattle.std.specs.Prelude.{◌≡◌, ◌+◌, ◌<◌, ◌≤◌, Bool, true, false, [], length, drop, slice_get, IfOk, IfSome, OnOk, OnErr, option_map};
+ghost use Rattle.dm_framer.specs.Frames.{IsFrame};
 ghost use Rattle.dm_links.specs.Links.{new_link, opens, by_side, view_of};
 ghost use Rattle.dm_links.specs.Machine.{AcksIt, NacksIt, EndsIt, HeardOnIt};
 ghost use Rattle.dm_links.specs.Steps.{said, shut, entered, settled};
-ghost use Rattle.dm_links.specs.Happens.{lost_link, own_view, are_shut};
+ghost use Rattle.dm_links.specs.Happens.{taking, lost_link, own_view, are_shut};
 ghost use Rattle.dm_links.specs.Facts.{is_pending};
 ghost use Rattle.dm_links.specs.Quiet.{is_quiet_link};
 ghost use Rattle.dm_world.specs.Seen.{as_side, as_end, as_link, out_room, restart_link};
-ghost use Rattle.dm_world.specs.Next.{next_to, is_past_loss};
+ghost use Rattle.dm_world.specs.Fed.{holding};
+ghost use Rattle.dm_world.specs.Next.{next_to, left_to, is_past_loss};
 ghost use Rattle.dm_world.specs.Ways.{mark_of};
 
 use crate::Side;
-use crate::direction::{Direction, Mark};
+use crate::direction::{Direction, Handed, Mark};
+use dm_dict::NoMemory;
+use dm_framer::Framer;
 use dm_wire::Octets;
 use std::alloc::{AllocError, Global};
 
@@ -99,7 +103,8 @@ impl Link {
 
     /// The side sends a message.
     pub(crate) fn say(&mut self, side: Side, message: Octets)
-        requires { 0 < out_room (as_side side) self.old }
+        requires room { 0 < out_room (as_side side) self.old }
+        requires frame { IsFrame 16777212 message }
         ensures said { as_link self.new ≡ by_side (as_side side) (said message) (as_link self.old) }
         ensures room { out_room (as_side side) self.old ≤ out_room (as_side side) self.new + 1 }
     {
@@ -153,6 +158,43 @@ impl Link {
         }
     }
 
+    /// The front message towards the side, as its framer hands it out. The link stays as it is.
+    pub(crate) fn hand_out(&self, side: Side) -> Result<Option<Handed>, NoMemory>
+        ensures message { IfOk result (λ found. option_map (λ handed. handed.message.items) found
+            ≡ slice_get (own_view (as_side side) (as_link self.now)).incoming.messages 0) }
+        ensures framer { IfOk result (λ found. IfSome found (λ handed. handed.framer ≡ holding [])) }
+    {
+        if self.is_opener(side) {
+            self.to_near.hand_out()
+        } else {
+            self.to_far.hand_out()
+        }
+    }
+
+    /// How many octets of the front message are still to come to the side; 0 where there is none.
+    pub(crate) fn left(&self, side: Side) -> usize
+        ensures { result ≡ left_to (as_side side) (as_link self.now) }
+    {
+        if self.is_opener(side) {
+            self.to_near.left()
+        } else {
+            self.to_far.left()
+        }
+    }
+
+    /// So many octets of the front message come to the side, and not its last. Where memory is wanted, nothing changes.
+    pub(crate) fn take(&mut self, side: Side, count: usize) -> Result<(), NoMemory>
+        requires { count < left_to (as_side side) (as_link self.old) }
+        ensures taken { OnOk result (as_link self.new ≡ by_side (as_side side) (taking count) (as_link self.old)) }
+        ensures unchanged { OnErr result (as_link self.new ≡ as_link self.old) }
+    {
+        if self.is_opener(side) {
+            self.to_near.take(count)
+        } else {
+            self.to_far.take(count)
+        }
+    }
+
     /// The mark of the direction towards the side.
     pub(crate) fn incoming_mark(&self, side: Side) -> Mark
         ensures { mark_of result ≡ (own_view (as_side side) (as_link self.now)).incoming.mark }
@@ -187,15 +229,16 @@ impl Link {
         self.phase = Phase::Cancelled;
     }
 
-    /// The front message comes to the side.
-    pub(crate) fn enter_message(&mut self, side: Side)
+    /// The front message comes to the side. The framer takes the place of the one that holds octets of it.
+    pub(crate) fn enter_message(&mut self, side: Side, framer: Framer)
+        requires { framer ≡ holding [] }
         ensures entered { as_link self.new ≡ by_side (as_side side) (entered HeardOnIt) (as_link self.old) }
         ensures room { out_room (as_side side) self.old ≤ out_room (as_side side) self.new }
     {
         if self.is_opener(side) {
-            self.to_near.take_front();
+            self.to_near.take_front(framer);
         } else {
-            self.to_far.take_front();
+            self.to_far.take_front(framer);
         }
     }
 
@@ -233,7 +276,7 @@ impl Link {
         }
     }
 
-    /// The link is lost: so many first octets towards A and towards B stay.
+    /// The link is lost: so many first octets of those to come towards A and towards B stay.
     pub(crate) fn lose(&mut self, to_a: u32, to_b: u32)
         ensures { as_link self.new ≡ lost_link length to_a to_b (as_link self.old) }
     {

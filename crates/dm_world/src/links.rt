@@ -1,19 +1,24 @@
 //! The links of a world, by number.
-ghost use Rattle.std.specs.Prelude.{◌≡◌, ℕ, ◌+◌, ◌<◌, ◌≤◌, OnOk, length, vec_len, slice_get};
+ghost use Rattle.std.specs.Prelude.{◌≡◌, ℕ, ◌+◌, ◌<◌, ◌≤◌, [], IfSome, OnOk, OnErr, length, vec_len, slice_get};
+ghost use Rattle.dm_framer.specs.Frames.{IsFrame};
 ghost use Rattle.dm_links.specs.Links.{by_side};
 ghost use Rattle.dm_links.specs.Machine.{AcksIt, NacksIt, EndsIt, HeardOnIt};
 ghost use Rattle.dm_links.specs.Steps.{said, shut, entered, settled};
 ghost use Rattle.dm_links.specs.Worlds.{change_at};
-ghost use Rattle.dm_links.specs.Happens.{lost_link, restart_links};
+ghost use Rattle.dm_links.specs.Happens.{taking, lost_link, restart_links};
 ghost use Rattle.std.specs.List.{list_all};
 ghost use Rattle.dm_links.specs.Quiet.{is_quiet_link};
 ghost use Rattle.dm_world.specs.Agreeing.{is_coming_at};
+ghost use Rattle.dm_world.specs.Fed.{holding};
+ghost use Rattle.dm_world.specs.Next.{left_to};
 ghost use Rattle.dm_world.specs.Seen.{as_side, as_links, restart_link};
 ghost use Rattle.dm_world.specs.Rooms.{HasRoom};
 
 use crate::Side;
 use crate::direction::Mark;
 use crate::link::Link;
+use dm_dict::NoMemory;
+use dm_framer::Framer;
 use dm_wire::Octets;
 use std::alloc::AllocError;
 
@@ -37,7 +42,8 @@ pub(crate) fn reserve(
 
 /// The side sends a message on the link, if there is one.
 pub(crate) fn say(links: &mut Vec<Link>, side: Side, index: usize, message: Octets)
-    requires { HasRoom (as_side side) links.old.items 1 index }
+    requires room { HasRoom (as_side side) links.old.items 1 index }
+    requires frame { IsFrame 16777212 message }
     ensures said { as_links links.new.items ≡ change_at index (by_side (as_side side) (said message)) (as_links links.old.items) }
     ensures room { (n c : ℕ) → HasRoom (as_side side) links.old.items (n + 1) c → HasRoom (as_side side) links.new.items n c }
 {
@@ -76,13 +82,34 @@ pub(crate) fn enter_nack(links: &mut Vec<Link>, side: Side, index: usize)
     }
 }
 
-/// The front message of the link comes to the side.
-pub(crate) fn enter_message(links: &mut Vec<Link>, side: Side, index: usize)
+/// So many octets of the front message of the link come to the side, and not its last. Where memory is wanted, nothing
+/// changes.
+pub(crate) fn take(
+    links: &mut Vec<Link>,
+    side: Side,
+    index: usize,
+    count: usize,
+) -> Result<(), NoMemory>
+    requires { IfSome (slice_get (as_links links.old.items) index) (λ link. count < left_to (as_side side) link) }
+    ensures taken { OnOk result (as_links links.new.items
+        ≡ change_at index (by_side (as_side side) (taking count)) (as_links links.old.items)) }
+    ensures unchanged { OnErr result (as_links links.new.items ≡ as_links links.old.items) }
+{
+    if index < links.len() {
+        links[index].take(side, count)
+    } else {
+        Ok(())
+    }
+}
+
+/// The front message of the link comes to the side. The framer takes the place of the one that holds octets of it.
+pub(crate) fn enter_message(links: &mut Vec<Link>, side: Side, index: usize, framer: Framer)
+    requires { framer ≡ holding [] }
     ensures entered { as_links links.new.items ≡ change_at index (by_side (as_side side) (entered HeardOnIt)) (as_links links.old.items) }
     ensures room { (n c : ℕ) → HasRoom (as_side side) links.old.items n c → HasRoom (as_side side) links.new.items n c }
 {
     if index < links.len() {
-        links[index].enter_message(side);
+        links[index].enter_message(side, framer);
     }
 }
 
@@ -105,7 +132,7 @@ pub(crate) fn settle(links: &mut Vec<Link>, side: Side, index: usize, holds: boo
     }
 }
 
-/// The link is lost: so many first octets towards A and towards B stay.
+/// The link is lost: so many first octets of those to come towards A and towards B stay.
 pub(crate) fn lose(links: &mut Vec<Link>, index: usize, to_a: u32, to_b: u32)
     ensures { as_links links.new.items ≡ change_at index (lost_link length to_a to_b) (as_links links.old.items) }
 {

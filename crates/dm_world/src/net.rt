@@ -6,6 +6,7 @@ ghost use Rattle.dm_links.specs.Quiet.{is_quiet};
 ghost use Rattle.dm_links.specs.Worlds.{enter};
 ghost use Rattle.dm_links.specs.Worlds as worlds;
 ghost use Rattle.dm_world.specs.Agreeing.{is_agreed};
+ghost use Rattle.dm_pair.specs.Frames.{AreOctets, submitted_in};
 ghost use Rattle.dm_pair.specs.Octets.{as_event, octet_peers};
 ghost use Rattle.dm_world.specs.Rooms.{HasRoom, named};
 ghost use Rattle.dm_world.specs.Seen.{as_side, as_links};
@@ -19,7 +20,7 @@ use crate::rooms::make_room;
 use crate::{Effect, Side, links};
 use dm_dict::NoMemory;
 use dm_machine::laws::{each_opening_has_its_message, each_step_keeps_shape};
-use dm_pair::laws::octets_are_a_machine;
+use dm_pair::laws::{octets_are_a_machine, octets_are_frames};
 use dm_peer::{Conn, Event};
 use std::alloc::Global;
 
@@ -70,12 +71,14 @@ impl Net {
     ) -> Result<Effect, NoMemory>
         requires shaped { AreShaped self.old }
         requires plain { is_plain (told event) ≡ true }
+        requires octets { AreOctets (submitted_in (told event)) }
         ensures step { IfOk result (λ effect. Effects effect
             (worlds.told octet_peers (as_side side) (as_event (told event.entry)) (as_world self.old))
             (as_world self.old) (as_world self.new)) }
         ensures unchanged { OnErr result (as_world self.new ≡ as_world self.old) }
     {
         octets_are_a_machine();
+        octets_are_frames();
         each_opening_has_its_message();
         each_step_keeps_shape();
         make_room(&mut self.links, side, self.pair.of(side), named(event))?;

@@ -12,6 +12,7 @@ use crate::net::Net;
 use crate::performing::perform;
 use crate::{Effect, Side, links};
 use dm_dict::NoMemory;
+use dm_pair::laws::octets_are_frames;
 use dm_peer::laws::silent_takes_none;
 use dm_peer::{Conn, Event};
 use std::alloc::Global;
@@ -25,6 +26,7 @@ impl Net {
         ensures unchanged { OnErr result (as_world self.new ≡ as_world self.old) }
     {
         silent_takes_none();
+        octets_are_frames();
         if self.links.reserve(1).is_err() {
             return Err(NoMemory);
         }
@@ -46,6 +48,7 @@ impl Net {
             (as_world self.old) (as_world self.new) }
     {
         silent_takes_none();
+        octets_are_frames();
         match self.pair.ask(alloc, side, Event::Timeout) {
             Ok(None) => Effect::Ignored,
             Ok(Some(actions)) => {

@@ -1,5 +1,6 @@
 //! A world: two peers and the links between them.
 ghost use Rattle.dm_links.specs.Facts.{IsSound};
+ghost use Rattle.dm_links.specs.Streams.{AreCut};
 ghost use Rattle.dm_pair.specs.Octets.{octet_peers};
 ghost use Rattle.dm_pair.specs.Talking.{ArePeers};
 ghost use Rattle.dm_world.specs.Views.{as_world};
@@ -12,8 +13,12 @@ use crate::net::Net;
 use crate::pair::Pair;
 use crate::{Effect, Happening, NewFault, Side, WorldFault};
 use dm_base::common_nodes;
-use dm_links::laws::{closed_is_sound, each_happening_keeps_sound, sound_is_promised};
-use dm_pair::laws::{each_happening_keeps_peers, each_octet_run_settles, octets_are_a_machine};
+use dm_links::laws::{
+    closed_is_sound, each_happening_keeps_sound, each_run_is_cut, sound_is_promised,
+};
+use dm_pair::laws::{
+    each_happening_keeps_peers, each_octet_run_settles, octets_are_a_machine, octets_are_sized,
+};
 use dm_peer::{Config, Conn, Peer, is_same_host};
 use dm_wire::Octets;
 use std::alloc::Global;
@@ -24,6 +29,7 @@ pub struct World {
     pub(crate) net: Net,
     pub ghost sound: { IsSound octet_peers (as_world net) } by { Prim.hlevel props },
     pub ghost peers: { ArePeers (as_world net) } by { Prim.hlevel props },
+    pub ghost cut: { AreCut octet_peers (as_world net) } by { Prim.hlevel props },
 }
 
 /// Why there is no world of these configurations.
@@ -49,6 +55,7 @@ impl World {
     ghost use Rattle.dm_links.specs.Happens.{happens, run};
     ghost use Rattle.dm_links.specs.Laws.{world_of};
     ghost use Rattle.dm_links.specs.Quiet.{is_quiet};
+    ghost use Rattle.dm_links.specs.Streams.{AreCut};
     ghost use Rattle.dm_links.specs.Worlds.{Put, peer_at};
     ghost use Rattle.dm_pair.specs.Laws.{AreClosed, fresh_peer};
     ghost use Rattle.dm_world.specs.Agreeing.{is_agreed, open_link, AreOpenOn};
@@ -74,6 +81,8 @@ impl World {
         octets_are_a_machine();
         each_happening_keeps_sound::<Peer, Octets>();
         each_happening_keeps_peers();
+        each_run_is_cut::<Peer, Octets>();
+        octets_are_sized();
         self.net.apply(alloc, happening)
     }
 
@@ -88,11 +97,12 @@ impl World {
     /// wasn't.
     ///
     /// Whatever happens, in whatever order: neither side is open on two connections, and if both are open, it is on one
-    /// connection in opposite roles, or a disconnect is coming to each on its own.
+    /// connection in opposite roles, or a disconnect is coming to each on its own. Fewer octets are delivered of a front
+    /// message than it has.
     ///
-    /// Where both were Closed with nothing under way, and only Starts, connects that come about and deliveries happen, at
-    /// most two CERs, one CEA and two disconnects are put in; and where it falls quiet after a Start that was taken, both
-    /// are open on the connection that the election keeps (RFC 6733, 5.6.4), with the counts of that case.
+    /// Where both were Closed with nothing under way, and only Starts, connects that come about, deliveries and pieces
+    /// happen, at most two CERs, one CEA and two disconnects are put in; and where it falls quiet after a Start that was
+    /// taken, both are open on the connection that the election keeps (RFC 6733, 5.6.4), with the counts of that case.
     pub fn run(&mut self, alloc: Global, list: &[Happening]) -> (usize, Option<WorldFault>)
         ensures ran { (put : List (Put (List ℕ))) ×
             (run octet_peers (as_world self.old.net) (map as_happening (take result.0 list.now)) ≡ Some
@@ -100,6 +110,7 @@ impl World {
         ensures agreed { Agreed octet_peers (as_world self.new.net) }
         ensures ends { EndsAreHeld octet_peers (as_world self.new.net) }
         ensures matched { OpenIsMatched octet_peers (as_world self.new.net) }
+        ensures cut { AreCut octet_peers (as_world self.new.net) }
         ensures settled { AreClosed (as_world self.old.net) → AreClean (take result.0 list.now) →
             RunSettles (as_world self.old.net) (take result.0 list.now) }
         ensures whole { result.1 ≡ None → result.0 ≡ length list.now }

@@ -4,11 +4,16 @@ use Rattle.dm_peer.specs.Events.{Start}
 use Rattle.dm_world.specs.Seen.{as_side, as_links}
 use Rattle.dm_world.proofs.Changed.{length_links}
 use Rattle.dm_world.proofs.Silent.{silent_room}
-use Rattle.dm_world.proofs.Telling.{started, not_started, start_links}
+use Rattle.dm_world.proofs.Telling.{started, not_started, start_links, sends_frames, no_octets}
 use Rattle.dm_world.proofs.net.Net.start.Goals as goal
 
-pub perform-requires : goal.perform-requires
-perform-requires c =
+pub perform-requires-clause-frames : goal.perform-requires-clause-frames
+perform-requires-clause-frames c =
+    let answer = rw c.in-Some.is at c.in_ok-ask.ensures.answer in
+    sends_frames (as_side c.args.side) (Start (conn c.len.result)) c.args.self.now c.ask.new.self c.in-Some.actions c.octets_are_frames.ensures no_octets answer
+
+pub perform-requires-clause-room : goal.perform-requires-clause-room
+perform-requires-clause-room c =
     let answer = rw c.in-Some.is at c.in_ok-ask.ensures.answer in
     silent_room (as_side c.args.side) (Start (conn c.len.result)) c.args.self.now c.ask.new.self c.in-Some.actions c.push_reserved.new.self.items c.silent_takes_none.ensures c.requires refl answer
 

@@ -2,11 +2,16 @@ use Rattle.std.proofs.Common.{refl}
 use Rattle.dm_peer.specs.Events.{Timeout}
 use Rattle.dm_world.specs.Seen.{as_side}
 use Rattle.dm_world.proofs.Silent.{silent_room, timeout_wants_none}
-use Rattle.dm_world.proofs.Telling.{done_step}
+use Rattle.dm_world.proofs.Telling.{done_step, sends_frames, no_octets}
 use Rattle.dm_world.proofs.net.Net.time_out.Goals as goal
 
-pub perform-requires : goal.perform-requires
-perform-requires c =
+pub perform-requires-clause-frames : goal.perform-requires-clause-frames
+perform-requires-clause-frames c =
+    let answer = rw c.in-Ok-Some.field-0-is at c.in-Ok-Some.ensures.answer in
+    sends_frames (as_side c.args.side) Timeout c.args.self.now c.ask.new.self c.in-Ok-Some.actions c.octets_are_frames.ensures no_octets answer
+
+pub perform-requires-clause-room : goal.perform-requires-clause-room
+perform-requires-clause-room c =
     let answer = rw c.in-Ok-Some.field-0-is at c.in-Ok-Some.ensures.answer in
     silent_room (as_side c.args.side) Timeout c.args.self.now c.ask.new.self c.in-Ok-Some.actions c.args.self.now.links.items c.silent_takes_none.ensures c.requires refl answer
 

@@ -5,6 +5,7 @@ use Rattle.dm_peer.specs.declared.standing.Standing.{Standing}
 use Rattle.dm_peer.specs.After.{fresh}
 use Rattle.dm_links.specs.Facts.{AreSound}
 use Rattle.dm_links.specs.Laws.{world_of}
+use Rattle.dm_links.specs.Streams.{AreCut}
 use Rattle.dm_links.specs.Links.{A}
 use Rattle.dm_pair.specs.Laws.{fresh_peer}
 use Rattle.dm_pair.specs.Octets.{octet_peers}
@@ -35,4 +36,5 @@ invariant_of-result c =
     record {
       sound = subst (λ ls. AreSound A a.standing.core b.standing.core (as_links ls)) (sym c.new-3.ensures.items) closed;
       peers = subst (λ ls. ArePeers (record { a = a; b = b; links = as_links ls })) (sym c.new-3.ensures.items) made;
+      cut = subst (λ ls. AreCut octet_peers (record { a = a; b = b; links = as_links ls })) (sym c.new-3.ensures.items) (λ k l is. cc);
     }
