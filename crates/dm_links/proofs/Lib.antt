@@ -24,3 +24,4 @@ mod Settling
 mod TalkLemmas
 mod Cuts
 mod Wholes
+mod Makes

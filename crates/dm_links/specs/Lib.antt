@@ -14,3 +14,4 @@ pub mod Electing
 pub mod Settled
 pub mod Talkers
 pub mod Streams
+pub mod Making

@@ -4,6 +4,7 @@
 //! `P` is the state of a peer and `M` a message: a world of peers over octets takes its own types for them.
 ghost use Rattle.dm_links.specs.Kinds.{KindsAreAMachine, TwoRuns};
 ghost use Rattle.dm_links.specs.Laws.{ClosedIsSound, HappeningKeepsSound, SoundIsPromised, EachRunIsPromised};
+ghost use Rattle.dm_links.specs.Making.{AcksMakeEnds};
 ghost use Rattle.dm_links.specs.Settled.{EachCleanRunSettles};
 ghost use Rattle.dm_links.specs.Streams.{HappeningKeepsCut, EachRunIsCut, EachPieceAddsUp, EachLossAddsUp};
 ghost use Rattle.dm_links.specs.Talkers.{TalkersAreElecting, TwoTalks};
@@ -49,6 +50,11 @@ pub fn each_clean_run_settles<P, M, C, H>()
 pub fn each_run_is_cut<P, M>()
     ensures step { HappeningKeepsCut P M }
     ensures run { EachRunIsCut P M }
+{}
+
+/// No happening makes an end fresh but the Ack of its link, which makes that of the side that didn't open it.
+pub fn acks_make_ends<P, M>()
+    ensures { AcksMakeEnds P M }
 {}
 
 /// It makes no difference how messages were cut: a piece that ends no message changes nothing but the octets delivered, one

@@ -4,9 +4,8 @@ use Rattle.std.specs.Prelude.{OnOk, OnErr, IfSome, slice_get, Result, Ok, Err}
 use Rattle.std.proofs.Math.ListN.{set}
 use Rattle.dm_links.specs.Links as links
 use Rattle.dm_links.specs.Worlds.{change_at}
-use Rattle.dm_links.specs.Happens.{restart_links}
 use Rattle.dm_world.specs.declared.link.Link.{Link}
-use Rattle.dm_world.specs.Seen.{as_link, as_links, out_room, restart_link}
+use Rattle.dm_world.specs.Seen.{as_link, as_links, out_room}
 use Rattle.dm_world.specs.Rooms.{HasRoom}
 
 pub changed : (f : links.Link (List ℕ) → links.Link (List ℕ)) (c : ℕ) (ls : List Link) (x y : Link) → x ≡ get_or ls c x → c < length ls → as_link y ≡ f (as_link x) → as_links (set ls c y) ≡ change_at c f (as_links ls)
@@ -48,31 +47,6 @@ pub room_past : (s : links.Side) (n c : ℕ) (ls : List Link) → length ls ≤ 
 room_past s n c [] h = tt
 room_past s n zero (l ∷ ls) h = absurd (omega arith)
 room_past s n (suc c) (l ∷ ls) h = room_past s n c ls (omega arith)
-
--- the first links have started anew
-abbrev pub anew_below : links.Side → ℕ → List (links.Link (List ℕ)) → List (links.Link (List ℕ))
-anew_below s i [] = []
-anew_below s zero (l ∷ ls) = l ∷ ls
-anew_below s (suc i) (l ∷ ls) = restart_link s l ∷ anew_below s i ls
-
-pub anew_none : (s : links.Side) (ls : List (links.Link (List ℕ))) → ls ≡ anew_below s 0 ls
-anew_none s [] = refl
-anew_none s (l ∷ ls) = refl
-
-anew_suc : (s : links.Side) (i : ℕ) (ls : List (links.Link (List ℕ))) → change_at i (restart_link s) (anew_below s i ls) ≡ anew_below s (suc i) ls
-anew_suc s i [] = refl
-anew_suc s zero (l ∷ []) = refl
-anew_suc s zero (l ∷ k ∷ ls) = refl
-anew_suc s (suc i) (l ∷ ls) = ap (λ z. restart_link s l ∷ z) (anew_suc s i ls)
-
-pub anew_more : (s : links.Side) (i : ℕ) (old now next : List (links.Link (List ℕ))) → now ≡ anew_below s i old → next ≡ change_at i (restart_link s) now → next ≡ anew_below s (i + 1) old
-anew_more s i old now next so is =
-    is ∙ ap (λ z. change_at i (restart_link s) z) so ∙ anew_suc s i old ∙ ap (λ n. anew_below s n old) (sym (add-one i))
-
-pub anew_all : (s : links.Side) (i : ℕ) (old : List (links.Link (List ℕ))) → length old ≤ i → anew_below s i old ≡ restart_links s old
-anew_all s i [] h = refl
-anew_all s zero (l ∷ ls) h = absurd (omega arith)
-anew_all s (suc i) (l ∷ ls) h = ap (λ z. restart_link s l ∷ z) (anew_all s i ls (omega arith))
 
 pub length_links : (ls : List Link) → length (as_links ls) ≡ length ls
 length_links [] = refl

@@ -1,6 +1,7 @@
 pub mod Whole
 pub mod Fed
 pub mod Changed
+pub mod Cuts
 pub mod Quiets
 pub mod Agrees
 pub mod Performs
@@ -13,3 +14,6 @@ pub mod Deliveries
 pub mod Happenings
 pub mod Runs
 pub mod Paired
+pub mod Anew
+pub mod Restarts
+pub mod Named

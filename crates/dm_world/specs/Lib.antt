@@ -11,3 +11,4 @@ pub mod Next
 pub mod Happening
 pub mod New
 pub mod Settling
+pub mod Ends

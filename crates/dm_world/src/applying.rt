@@ -1,11 +1,14 @@
 //! One happening is one step of the world.
 ghost use Rattle.std.specs.Prelude.{◌≡◌, true, false, IfOk, IfErr, OnErr};
-ghost use Rattle.dm_links.specs.Happens.{happens, Acks, Nacks, Loses, Submits};
+ghost use Rattle.dm_links.specs.Facts.{IsSound};
+ghost use Rattle.dm_links.specs.Happens.{happens, Nacks, Loses, Submits};
 ghost use Rattle.dm_pair.specs.Octets.{octet_peers};
+ghost use Rattle.dm_world.specs.Ends.{AreNamed, AreSameEnds, AreEndsAfter};
 ghost use Rattle.dm_world.specs.Happening.{as_happening, may_want};
-ghost use Rattle.dm_world.specs.Seen.{as_side};
+ghost use Rattle.dm_world.specs.Seen.{as_links, as_side};
 ghost use Rattle.dm_world.specs.Views.{as_world, Effects, AreShaped, IsFault};
 
+use crate::made::MadeEnds;
 use crate::net::Net;
 use crate::{Effect, Happening, Side, WorldFault, links};
 use dm_dict::NoMemory;
@@ -13,26 +16,6 @@ use dm_peer::{Conn, Event};
 use std::alloc::Global;
 
 impl Net {
-    /// The link's connect comes about.
-    fn ack(&mut self, alloc: Global, conn: Conn) -> Result<Effect, WorldFault>
-        requires { AreShaped self.old }
-        ensures step { IfOk result (λ effect. Effects effect (happens octet_peers (as_world self.old) (Acks conn.0))
-            (as_world self.old) (as_world self.new)) }
-        ensures fault { IfErr result (λ f. IsFault f true (happens octet_peers (as_world self.old) (Acks conn.0))) }
-        ensures unchanged { OnErr result (as_world self.new ≡ as_world self.old) }
-    {
-        let index = conn.0 as usize;
-        if index >= self.links.len() {
-            return Err(WorldFault::NoLink);
-        }
-        let link = &self.links[index];
-        if !link.is_pending() {
-            return Ok(Effect::Ignored);
-        }
-        let opener = link.opener;
-        Ok(self.tell(alloc, opener, Event::Ack(conn))?)
-    }
-
     /// The link's connect can't come about.
     fn nack(&mut self, alloc: Global, conn: Conn) -> Result<Effect, WorldFault>
         requires { AreShaped self.old }
@@ -88,15 +71,21 @@ impl Net {
     pub(crate) fn apply(
         &mut self,
         alloc: Global,
+        made: &mut MadeEnds,
         happening: &Happening,
     ) -> Result<Effect, WorldFault>
-        requires { AreShaped self.old }
+        requires shaped { AreShaped self.old }
+        requires sound { IsSound octet_peers (as_world self.old) }
+        requires named { AreNamed made.old (as_links self.old.links.items) }
         ensures step { IfOk result (λ effect. Effects effect
             (happens octet_peers (as_world self.old) (as_happening happening.now)) (as_world self.old)
             (as_world self.new)) }
         ensures fault { IfErr result (λ f. IsFault f (may_want happening.now)
             (happens octet_peers (as_world self.old) (as_happening happening.now))) }
         ensures unchanged { OnErr result (as_world self.new ≡ as_world self.old) }
+        ensures made { IfOk result (λ effect. AreEndsAfter effect happening.now (as_links self.old.links.items)
+            made.old made.new) }
+        ensures same { OnErr result (AreSameEnds made.old made.new) }
     {
         match happening {
             Happening::Start(side) => Ok(self.start(alloc, *side)?),
@@ -104,10 +93,10 @@ impl Net {
             Happening::Timeout(side) => Ok(self.time_out(alloc, *side)),
             Happening::Tick(side) => Ok(self.tell(alloc, *side, Event::Tick)?),
             Happening::Restart(side) => {
-                self.restart(*side);
+                self.restart(made, *side);
                 Ok(Effect::Done)
             }
-            Happening::Ack(conn) => self.ack(alloc, *conn),
+            Happening::Ack(conn) => self.ack(alloc, made, *conn),
             Happening::Nack(conn) => self.nack(alloc, *conn),
             Happening::Deliver(conn, side) => self.deliver(alloc, *conn, *side),
             Happening::Piece(conn, side, count) => self.piece(alloc, *conn, *side, *count),

@@ -1,11 +1,11 @@
 //! The links of a world, by number.
-ghost use Rattle.std.specs.Prelude.{◌≡◌, ℕ, ◌+◌, ◌<◌, ◌≤◌, [], IfSome, OnOk, OnErr, length, vec_len, slice_get};
+ghost use Rattle.std.specs.Prelude.{◌≡◌, ℕ, ◌+◌, ◌<◌, ◌≤◌, [], IfSome, OnOk, OnErr, length, slice_get};
 ghost use Rattle.dm_framer.specs.Frames.{IsFrame};
 ghost use Rattle.dm_links.specs.Links.{by_side};
 ghost use Rattle.dm_links.specs.Machine.{AcksIt, NacksIt, EndsIt, HeardOnIt};
 ghost use Rattle.dm_links.specs.Steps.{said, shut, entered, settled};
 ghost use Rattle.dm_links.specs.Worlds.{change_at};
-ghost use Rattle.dm_links.specs.Happens.{taking, lost_link, restart_links};
+ghost use Rattle.dm_links.specs.Happens.{taking, lost_link};
 ghost use Rattle.std.specs.List.{list_all};
 ghost use Rattle.dm_links.specs.Quiet.{is_quiet_link};
 ghost use Rattle.dm_world.specs.Agreeing.{is_coming_at};
@@ -142,21 +142,11 @@ pub(crate) fn lose(links: &mut Vec<Link>, index: usize, to_a: u32, to_b: u32)
 }
 
 /// The side starts anew, as far as the link goes.
-fn restart_at(links: &mut Vec<Link>, side: Side, index: usize)
-    ensures anew { as_links links.new.items ≡ change_at index (restart_link (as_side side)) (as_links links.old.items) }
-    ensures length { vec_len links.new ≡ vec_len links.old }
+pub(crate) fn restart_at(links: &mut Vec<Link>, side: Side, index: usize)
+    ensures { as_links links.new.items ≡ change_at index (restart_link (as_side side)) (as_links links.old.items) }
 {
     if index < links.len() {
         links[index].restart(side);
-    }
-}
-
-/// The side starts anew.
-pub(crate) fn restart(links: &mut Vec<Link>, side: Side)
-    ensures { as_links links.new.items ≡ restart_links (as_side side) (as_links links.old.items) }
-{
-    for index in 0..links.len() {
-        restart_at(links, side, index);
     }
 }
 

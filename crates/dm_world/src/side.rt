@@ -1,4 +1,7 @@
 //! The two sides of a world.
+ghost use Rattle.std.specs.Prelude.{◌≡◌};
+ghost use Rattle.dm_links.specs.Links.{flip};
+ghost use Rattle.dm_world.specs.Seen.{as_side};
 
 /// One of the two sides.
 #[derive(Clone, Copy, Debug, PartialEq, Eq)]
@@ -7,4 +10,16 @@ pub enum Side {
     A,
     /// The side of the second.
     B,
+}
+
+impl Side {
+    /// The other side.
+    pub(crate) fn other(self) -> Side
+        ensures { as_side result ≡ flip (as_side self) }
+    {
+        match self {
+            Side::A => Side::B,
+            Side::B => Side::A,
+        }
+    }
 }

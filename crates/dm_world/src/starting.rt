@@ -1,16 +1,14 @@
-//! What takes no messages: a Start, a Timeout and a Restart of a side, and the loss of a link.
+//! What brings no message: a Start and a Timeout of a side.
 ghost use Rattle.std.specs.Prelude.{◌≡◌, IfOk, OnErr};
-ghost use Rattle.dm_links.specs.Happens.{happens, Starts, TimesOut, restart_links};
-ghost use Rattle.dm_links.specs.Worlds.{with_peer, peer_at};
-ghost use Rattle.dm_world.specs.Asking.{reset_of};
+ghost use Rattle.dm_links.specs.Happens.{happens, Starts, TimesOut};
 ghost use Rattle.dm_pair.specs.Octets.{octet_peers};
-ghost use Rattle.dm_world.specs.Seen.{as_side, as_links};
+ghost use Rattle.dm_world.specs.Seen.{as_side};
 ghost use Rattle.dm_world.specs.Views.{as_world, Effects, AreShaped};
 
 use crate::link::Link;
 use crate::net::Net;
 use crate::performing::perform;
-use crate::{Effect, Side, links};
+use crate::{Effect, Side};
 use dm_dict::NoMemory;
 use dm_pair::laws::octets_are_frames;
 use dm_peer::laws::silent_takes_none;
@@ -57,14 +55,5 @@ impl Net {
             }
             Err(_) => unreachable!(),
         }
-    }
-
-    /// The side starts anew.
-    pub(crate) fn restart(&mut self, side: Side)
-        ensures { as_world self.new ≡ with_peer (as_side side) (reset_of (peer_at (as_side side) (as_world self.old)))
-            (restart_links (as_side side) (as_links self.old.links.items)) (as_world self.old) }
-    {
-        self.pair.reset(side);
-        links::restart(&mut self.links, side);
     }
 }

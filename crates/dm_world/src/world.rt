@@ -3,18 +3,21 @@ ghost use Rattle.dm_links.specs.Facts.{IsSound};
 ghost use Rattle.dm_links.specs.Streams.{AreCut};
 ghost use Rattle.dm_pair.specs.Octets.{octet_peers};
 ghost use Rattle.dm_pair.specs.Talking.{ArePeers};
+ghost use Rattle.dm_world.specs.Ends.{AreNamed};
+ghost use Rattle.dm_world.specs.Seen.{as_links};
 ghost use Rattle.dm_world.specs.Views.{as_world};
 ghost use Rattle.std.proofs.Props.{props};
 ghost use Rattle.std.specs.Prelude.{◌≡◌};
 ghost use Rattle.dm_world.specs.New.{new_fault};
 
 use crate::agreement::open_on_both;
+use crate::made::MadeEnds;
 use crate::net::Net;
 use crate::pair::Pair;
 use crate::{Effect, Happening, NewFault, Side, WorldFault};
 use dm_base::common_nodes;
 use dm_links::laws::{
-    closed_is_sound, each_happening_keeps_sound, each_run_is_cut, sound_is_promised,
+    acks_make_ends, closed_is_sound, each_happening_keeps_sound, each_run_is_cut, sound_is_promised,
 };
 use dm_pair::laws::{
     each_happening_keeps_peers, each_octet_run_settles, octets_are_a_machine, octets_are_sized,
@@ -27,9 +30,11 @@ use std::alloc::Global;
 #[derive(Debug, Drop)]
 pub struct World {
     pub(crate) net: Net,
+    made: MadeEnds,
     pub ghost sound: { IsSound octet_peers (as_world net) } by { Prim.hlevel props },
     pub ghost peers: { ArePeers (as_world net) } by { Prim.hlevel props },
     pub ghost cut: { AreCut octet_peers (as_world net) } by { Prim.hlevel props },
+    pub ghost named: { AreNamed made (as_links net.links.items) } by { Prim.hlevel props },
 }
 
 /// Why there is no world of these configurations.
@@ -83,7 +88,8 @@ impl World {
         each_happening_keeps_peers();
         each_run_is_cut::<Peer, Octets>();
         octets_are_sized();
-        self.net.apply(alloc, happening)
+        acks_make_ends::<Peer, Octets>();
+        self.net.apply(alloc, &mut self.made, happening)
     }
 
     /// The peer of a side. It takes no memory.
@@ -175,6 +181,7 @@ impl World {
                 },
                 links: Vec::new(alloc),
             },
+            made: MadeEnds::new(alloc),
         })
     }
 }

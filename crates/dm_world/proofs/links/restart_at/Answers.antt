@@ -2,9 +2,9 @@ use Rattle.std.proofs.Common.{arith}
 use Rattle.dm_world.proofs.Changed.{changed, not_changed}
 use Rattle.dm_world.proofs.links.restart_at.Goals as goal
 
-pub returns-then-index-len-clause-anew : goal.returns-then-index-len-clause-anew
-returns-then-index-len-clause-anew c =
+pub returns-then-index-len : goal.returns-then-index-len
+returns-then-index-len c =
     changed _ _ _ _ _ c.index_mut.ensures.value (omega (arith, c.args.links.now.ok.0)) c.restart.ensures
 
-pub returns-else-index-len-clause-anew : goal.returns-else-index-len-clause-anew
-returns-else-index-len-clause-anew c = not_changed _ _ _ (omega (arith, c.args.links.now.ok.0))
+pub returns-else-index-len : goal.returns-else-index-len
+returns-else-index-len c = not_changed _ _ _ (omega (arith, c.args.links.now.ok.0))

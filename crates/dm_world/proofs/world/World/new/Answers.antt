@@ -10,7 +10,9 @@ use Rattle.dm_links.specs.Links.{A}
 use Rattle.dm_pair.specs.Laws.{fresh_peer}
 use Rattle.dm_pair.specs.Octets.{octet_peers}
 use Rattle.dm_pair.specs.Talking.{ArePeers}
+use Rattle.dm_world.specs.Ends.{AreNamed}
 use Rattle.dm_world.specs.Seen.{as_links}
+use Rattle.dm_world.proofs.Named.{none_named}
 use Rattle.dm_world.proofs.Paired.{no_fault_pairs}
 use Rattle.dm_world.proofs.world.World.new.Goals as goal
 
@@ -37,4 +39,5 @@ invariant_of-result c =
       sound = subst (λ ls. AreSound A a.standing.core b.standing.core (as_links ls)) (sym c.new-3.ensures.items) closed;
       peers = subst (λ ls. ArePeers (record { a = a; b = b; links = as_links ls })) (sym c.new-3.ensures.items) made;
       cut = subst (λ ls. AreCut octet_peers (record { a = a; b = b; links = as_links ls })) (sym c.new-3.ensures.items) (λ k l is. cc);
+      named = subst (λ ls. AreNamed c.new-4.result (as_links ls)) (sym c.new-3.ensures.items) (none_named c.new-4.result);
     }

@@ -1,0 +1,83 @@
+//! The ends that were made for each side.
+ghost use Rattle.std.specs.Prelude.{◌≡◌, ◌<◌, [], ◌∷◌, ◌++◌, OnOk, vec_len, vec_capacity};
+ghost use Rattle.dm_links.specs.Links.{flip, Side as LinkSide};
+ghost use Rattle.dm_world.specs.Ends.{ends_of, AreSameEnds, HasRoomForEnd};
+ghost use Rattle.dm_world.specs.Seen.{as_side};
+
+use crate::Side;
+use dm_dict::NoMemory;
+use std::alloc::Global;
+
+/// For each side the links, by number, on which an end was made for it since it last started anew.
+#[derive(Debug, Drop)]
+pub(crate) struct MadeEnds {
+    of_a: Vec<usize>,
+    of_b: Vec<usize>,
+}
+
+/// Room for one more in the list.
+fn reserve_one(list: &mut Vec<usize>) -> Result<(), NoMemory>
+    ensures same { list.new.items ≡ list.old.items }
+    ensures room { OnOk result (vec_len list.new < vec_capacity list.new) }
+{
+    match list.reserve(1) {
+        Ok(()) => Ok(()),
+        Err(_) => Err(NoMemory),
+    }
+}
+
+impl MadeEnds {
+    /// None for either side. It takes no memory.
+    pub(crate) fn new(alloc: Global) -> MadeEnds
+        ensures { (s : LinkSide) → ends_of s result ≡ [] }
+    {
+        MadeEnds {
+            of_a: Vec::new(alloc),
+            of_b: Vec::new(alloc),
+        }
+    }
+
+    /// Those of the side, the earliest first.
+    pub(crate) fn of(&self, side: Side) -> &[usize]
+        ensures { result.now ≡ ends_of (as_side side) self.now }
+    {
+        match side {
+            Side::A => self.of_a.as_slice(),
+            Side::B => self.of_b.as_slice(),
+        }
+    }
+
+    /// Room for one more of the side.
+    pub(crate) fn reserve(&mut self, side: Side) -> Result<(), NoMemory>
+        ensures same { AreSameEnds self.old self.new }
+        ensures room { OnOk result (HasRoomForEnd (as_side side) self.new) }
+    {
+        match side {
+            Side::A => reserve_one(&mut self.of_a),
+            Side::B => reserve_one(&mut self.of_b),
+        }
+    }
+
+    /// One more of the side.
+    pub(crate) fn add(&mut self, side: Side, index: usize)
+        requires { HasRoomForEnd (as_side side) self.old }
+        ensures added { ends_of (as_side side) self.new ≡ ends_of (as_side side) self.old ++ index ∷ [] }
+        ensures other { ends_of (flip (as_side side)) self.new ≡ ends_of (flip (as_side side)) self.old }
+    {
+        match side {
+            Side::A => self.of_a.push_reserved(index),
+            Side::B => self.of_b.push_reserved(index),
+        }
+    }
+
+    /// None for the side any more.
+    pub(crate) fn clear(&mut self, side: Side)
+        ensures cleared { ends_of (as_side side) self.new ≡ [] }
+        ensures other { ends_of (flip (as_side side)) self.new ≡ ends_of (flip (as_side side)) self.old }
+    {
+        match side {
+            Side::A => self.of_a.clear(),
+            Side::B => self.of_b.clear(),
+        }
+    }
+}

@@ -1,0 +1,96 @@
+//! The connect of a link that comes about, which makes an end, and a Restart, which goes over the ends that were made.
+ghost use Rattle.std.specs.Prelude.{◌≡◌, ◌++◌, true, IfOk, IfErr, OnErr, slice_get};
+ghost use Rattle.dm_links.specs.Facts.{IsSound};
+ghost use Rattle.dm_links.specs.Happens.{happens, Acks, restart_links};
+ghost use Rattle.dm_links.specs.Worlds.{with_peer, peer_at};
+ghost use Rattle.dm_pair.specs.Octets.{octet_peers};
+ghost use Rattle.dm_world.specs.Asking.{reset_of};
+ghost use Rattle.dm_world.specs.Ends.{AreNamed, AreSameEnds, AreCleared, IsMade, restart_each, numbers, held_numbers};
+ghost use Rattle.dm_world.specs.Seen.{as_side, as_links};
+ghost use Rattle.dm_world.specs.Views.{as_world, Effects, AreShaped, IsFault};
+
+use crate::link::Link;
+use crate::made::MadeEnds;
+use crate::net::Net;
+use crate::{Effect, Side, WorldFault, links};
+use dm_peer::{Conn, Event, Peer};
+use std::alloc::Global;
+
+/// The side starts anew, as far as these links go.
+fn restart_each(links: &mut Vec<Link>, side: Side, indexes: &[usize])
+    ensures { as_links links.new.items ≡ restart_each (as_side side) indexes.now (as_links links.old.items) }
+{
+    for index in indexes {
+        links::restart_at(links, side, *index);
+    }
+}
+
+/// The side starts anew, as far as the link of a connection goes, if there is one.
+fn restart_on(links: &mut Vec<Link>, side: Side, conn: Option<Conn>)
+    ensures { as_links links.new.items ≡ restart_each (as_side side) (numbers conn) (as_links links.old.items) }
+{
+    match conn {
+        Some(conn) => links::restart_at(links, side, conn.0 as usize),
+        None => {}
+    }
+}
+
+/// The side starts anew, as far as the links go that its peer holds.
+fn restart_held(links: &mut Vec<Link>, side: Side, peer: &Peer)
+    ensures { as_links links.new.items ≡ restart_each (as_side side) (held_numbers peer.now.standing.core)
+        (as_links links.old.items) }
+{
+    restart_on(links, side, peer.initiated());
+    restart_on(links, side, peer.accepted());
+}
+
+impl Net {
+    /// The link's connect comes about: an end is made for the side that didn't open it.
+    pub(crate) fn ack(
+        &mut self,
+        alloc: Global,
+        made: &mut MadeEnds,
+        conn: Conn,
+    ) -> Result<Effect, WorldFault>
+        requires { AreShaped self.old }
+        ensures step { IfOk result (λ effect. Effects effect (happens octet_peers (as_world self.old) (Acks conn.0))
+            (as_world self.old) (as_world self.new)) }
+        ensures fault { IfErr result (λ f. IsFault f true (happens octet_peers (as_world self.old) (Acks conn.0))) }
+        ensures unchanged { OnErr result (as_world self.new ≡ as_world self.old) }
+        ensures made { IfOk result (λ effect. IsMade effect (slice_get (as_links self.old.links.items) conn.0) conn.0
+            made.old made.new) }
+        ensures same { OnErr result (AreSameEnds made.old made.new) }
+    {
+        let index = conn.0 as usize;
+        if index >= self.links.len() {
+            return Err(WorldFault::NoLink);
+        }
+        let link = &self.links[index];
+        if !link.is_pending() {
+            return Ok(Effect::Ignored);
+        }
+        let opener = link.opener;
+        made.reserve(opener.other())?;
+        let effect = self.tell(alloc, opener, Event::Ack(conn))?;
+        if let Effect::Done = effect {
+            made.add(opener.other(), index);
+        }
+        Ok(effect)
+    }
+
+    /// The side starts anew. That changes no links but those on which an end was made for it, and those that its peer
+    /// holds.
+    pub(crate) fn restart(&mut self, made: &mut MadeEnds, side: Side)
+        requires sound { IsSound octet_peers (as_world self.old) }
+        requires named { AreNamed made.old (as_links self.old.links.items) }
+        ensures anew { as_world self.new ≡ with_peer (as_side side)
+            (reset_of (peer_at (as_side side) (as_world self.old)))
+            (restart_links (as_side side) (as_links self.old.links.items)) (as_world self.old) }
+        ensures cleared { AreCleared (as_side side) made.old made.new }
+    {
+        restart_each(&mut self.links, side, made.of(side));
+        restart_held(&mut self.links, side, self.pair.of(side));
+        made.clear(side);
+        self.pair.reset(side);
+    }
+}
