@@ -12,6 +12,7 @@ extern "C" {
     fn ours_rule(text: *const u8, len: usize, octets: *const u8, octets_len: usize, times: u32) -> usize;
     fn ours_encode(octets: *const u8, len: usize, times: u32) -> usize;
     fn ours_frame(octets: *const u8, len: usize, size: usize, times: u32) -> usize;
+    fn ours_on(first: *const u8, len: usize, octets: *const u8, octets_len: usize, times: u32) -> usize;
 }
 
 fn avp(code: u32, mandatory: bool, data: &[u8]) -> Vec<u8> {
@@ -53,11 +54,27 @@ fn capabilities(groups: u32) -> Vec<u8> {
     message(257, &avps)
 }
 
-/// A Device-Watchdog-Request with 998 AVPs that no dictionary knows.
-fn watchdog() -> Vec<u8> {
+/// A Device-Watchdog-Request with so many further AVPs that no dictionary knows.
+fn watchdog(further: u32) -> Vec<u8> {
     let mut avps = vec![avp(264, true, b"a.example"), avp(296, true, b"example")];
-    avps.extend((0..998).map(|k| avp(70000 + k % 10, false, &[k as u8; 52])));
+    avps.extend((0..further).map(|k| avp(70000 + k % 10, false, &[k as u8; 52])));
     message(280, &avps)
+}
+
+/// A Credit-Control-Request, which no peer checks, with so many further AVPs.
+fn credit(further: u32) -> Vec<u8> {
+    let mut avps = vec![
+        avp(263, true, b"a.example;1;1"),
+        avp(264, true, b"a.example"),
+        avp(296, true, b"example"),
+        avp(283, true, b"example"),
+        avp(258, true, &4u32.to_be_bytes()),
+        avp(461, true, b"32251@3gpp.org"),
+        avp(416, true, &1u32.to_be_bytes()),
+        avp(415, true, &0u32.to_be_bytes()),
+    ];
+    avps.extend((0..further).map(|k| avp(70000 + k % 10, false, &[k as u8; 52])));
+    message(272, &avps)
 }
 
 /// 5,000 messages of 200 octets, a megabyte.
@@ -81,7 +98,10 @@ fn input(name: &str) -> Vec<u8> {
     match name {
         "capabilities" => capabilities(1),
         "groups" => capabilities(18),
-        "thousand" => watchdog(),
+        "thousand" => watchdog(998),
+        "alive" => watchdog(0),
+        "credit" => credit(0),
+        "credits" => credit(992),
         "stream" => stream(),
         "ruled" => ruled(),
         _ => panic!("no input {name}"),
@@ -103,6 +123,10 @@ fn ours(operation: &str, octets: &[u8], times: u32, size: usize) -> usize {
             }
             "encode" => ours_encode(at, len, times),
             "frame" => ours_frame(at, len, size, times),
+            "on" => {
+                let first = capabilities(1);
+                ours_on(first.as_ptr(), first.len(), at, len, times)
+            }
             _ => panic!("no operation {operation}"),
         }
     }

@@ -10,3 +10,4 @@ pub mod Shapes
 pub mod Sharing
 pub mod Sized
 pub mod Viewing
+pub mod Written

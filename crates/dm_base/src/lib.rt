@@ -19,6 +19,7 @@ mod order;
 mod parts;
 mod reading;
 mod requests;
+mod success;
 mod views;
 
 pub use answers::{cea, dpa, dwa, error_answer};
@@ -33,4 +34,5 @@ pub use node::Node;
 pub use node_fault::NodeFault;
 pub use order::host_order;
 pub use requests::{cer, dpr, dwr};
+pub use success::success_octets;
 pub use views::view;

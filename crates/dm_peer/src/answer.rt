@@ -9,7 +9,7 @@ ghost use Rattle.dm_peer.specs.Sent.{sent, refusal, header_of, fault_in, cer_to_
 
 use crate::reading::HeardRef;
 use crate::sending::{
-    Sending, refusal, send_cea, send_cer, send_dpa, send_dpr, send_dwa, send_dwr, sent,
+    Sending, refusal, send_cea, send_cer, send_dpr, send_dwr, send_success, sent,
 };
 use crate::{Action, Actions, Event, Peer};
 use arrayvec::ArrayVec;
@@ -133,8 +133,9 @@ fn action_of(
                 &cer_to_answer(peer.standing.waiting, heard),
             )
         }
-        Command::SendDwa(conn) => send_dwa(alloc, conn, node, &header_of(heard)),
-        Command::SendDpa(conn) => send_dpa(alloc, conn, node, &header_of(heard)),
+        Command::SendDwa(conn) | Command::SendDpa(conn) => {
+            send_success(alloc, conn, node, &header_of(heard))
+        }
         Command::SendRefusal(conn) => send_refusal(alloc, conn, node, heard),
         Command::SendSubmit(conn) => Ok(Action::Send(conn, copied(alloc, event)?)),
         Command::Up => Ok(Action::Up(copied(alloc, event)?)),

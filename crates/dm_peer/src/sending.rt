@@ -7,10 +7,10 @@ ghost use Rattle.dm_peer.specs.Sent.{sent, is_protocol_error, refusal};
 use crate::Action;
 use crate::message::sent_octets;
 use dm_base::codes::{CAPABILITIES_EXCHANGE, DEVICE_WATCHDOG, SUCCESS};
-use dm_base::{Cause, Node, cea, cer, dpa, dpr, dwa, dwr, error_answer};
+use dm_base::{Cause, Node, cea, cer, dpa, dpr, dwa, dwr, error_answer, success_octets};
 use dm_dict::NoMemory;
 use dm_machine::Conn;
-use dm_wire::{Avp, Header, Message};
+use dm_wire::{Avp, Header, Message, Octets};
 use std::alloc::Global;
 
 /// An action to send, or want of memory.
@@ -52,18 +52,15 @@ pub(crate) fn send_cea(alloc: Global, conn: Conn, node: &Node, to: &Header) -> S
     sent(alloc, conn, cea(alloc, node, to, SUCCESS, None)?)
 }
 
-/// A DWA of success is to be sent.
-pub(crate) fn send_dwa(alloc: Global, conn: Conn, node: &Node, to: &Header) -> Sending
+/// A DWA or DPA of success is to be sent.
+#[tactic(auto, unfolding(crate::specs::Octets::octets_of))]
+pub(crate) fn send_success(alloc: Global, conn: Conn, node: &Node, to: &Header) -> Sending
     ensures { IfOk result (λ action. action ≡ sent conn (built_answer node.now to.now 2001 None)) }
 {
-    sent(alloc, conn, dwa(alloc, node, to, SUCCESS, None)?)
-}
-
-/// A DPA of success is to be sent.
-pub(crate) fn send_dpa(alloc: Global, conn: Conn, node: &Node, to: &Header) -> Sending
-    ensures { IfOk result (λ action. action ≡ sent conn (built_answer node.now to.now 2001 None)) }
-{
-    sent(alloc, conn, dpa(alloc, node, to, SUCCESS, None)?)
+    match success_octets(alloc, node, to) {
+        Ok(octets) => Ok(Action::Send(conn, Octets::from_vec(octets))),
+        Err(_) => Err(NoMemory),
+    }
 }
 
 /// Whether the Result-Code is that of a protocol error (RFC 6733, 7.1.3).

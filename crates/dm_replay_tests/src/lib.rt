@@ -9,3 +9,5 @@ mod pieces;
 mod rows;
 #[cfg(test)]
 mod syntax;
+#[cfg(test)]
+mod worlds;

@@ -1,0 +1,55 @@
+-- The parts of the answer of success, written one behind the other.
+use Rattle.std.proofs.Common.{◌≡◌, ◌≤◌, ℕ, ◌+◌, true, nat_le, List, [], ◌∷◌, ◌++◌, length, refl, ◌∙◌, ap, arith, append_assoc, append-nil, length-append}
+use Rattle.std.proofs.lemmas.Bool.{and_parts, leb-true}
+use Rattle.dm_value.specs.Flaws.{is_visible_text}
+use Rattle.dm_wire.specs.declared.avp.Avp.{Avp}
+use Rattle.dm_wire.specs.Spelling.{be, avp_length}
+use Rattle.dm_wire.specs.Canonical.{zeros, canonical_avp, canonical_list}
+use Rattle.dm_wire.specs.Fitting.{AvpSized}
+use Rattle.dm_wire.specs.Members.{padded}
+use Rattle.dm_base.specs.Codes.{origin_host, origin_realm}
+use Rattle.dm_base.specs.Fit.{is_name}
+use Rattle.dm_base.specs.Built.{avp, origin, result_avp}
+use Rattle.dm_base.specs.declared.node.Node.{Node}
+
+-- a name is short
+pub short : (s : List ℕ) → is_name s ≡ true → length s ≤ 255
+short s h =
+    let (_, few) = and_parts (is_visible_text s) (nat_le (length s) 255) h in
+    leb-true (length s) 255 few
+
+pub short_host : (n : Node) → length n.host ≤ 255
+short_host n = short n.host n.fit_host
+
+pub short_realm : (n : Node) → length n.realm ≤ 255
+short_realm n = short n.realm n.fit_realm
+
+-- header, data and padding, appended in turn
+pub avp_put : (code : ℕ) (bytes o0 o1 o2 o3 header : List ℕ) → header ≡ be code 4 ++ 64 ∷ be (8 + length bytes) 3
+    → o1 ≡ o0 ++ header → o2 ≡ o1 ++ bytes → o3 ≡ o2 ++ zeros (8 + length bytes)
+    → o3 ≡ o0 ++ canonical_avp (avp code bytes)
+avp_put code bytes o0 o1 o2 o3 header eh e1 e2 e3 = e3 ∙ rw (e2, e1, eh) (simp append_assoc)
+
+-- three lists, appended in turn
+appended : (x y z o0 o1 o2 o3 : List ℕ) → o1 ≡ o0 ++ x → o2 ≡ o1 ++ y → o3 ≡ o2 ++ z
+    → o3 ≡ o0 ++ (x ++ (y ++ (z ++ [])))
+appended x y z o0 o1 o2 o3 e1 e2 e3 = e3 ∙ rw (e2, e1) (simp (append_assoc, append-nil))
+
+-- Result-Code, Origin-Host and Origin-Realm, appended in turn
+pub list_put : (n : Node) (host realm o0 o1 o2 o3 : List ℕ) → host ≡ n.host → realm ≡ n.realm
+    → o1 ≡ o0 ++ canonical_avp (result_avp 2001) → o2 ≡ o1 ++ canonical_avp (avp origin_host host)
+    → o3 ≡ o2 ++ canonical_avp (avp origin_realm realm) → o3 ≡ o0 ++ canonical_list (result_avp 2001 ∷ origin n [])
+list_put n host realm o0 o1 o2 o3 eh er e1 e2 e3 =
+    appended (canonical_avp (result_avp 2001)) (canonical_avp (avp origin_host n.host))
+    (canonical_avp (avp origin_realm n.realm)) o0 o1 o2 o3 e1
+    (e2 ∙ ap (λ s. o1 ++ canonical_avp (avp origin_host s)) eh) (e3 ∙ ap (λ s. o2 ++ canonical_avp (avp origin_realm s)) er)
+
+-- how long three lists are together
+summed : (x y z : List ℕ) → length (x ++ (y ++ (z ++ []))) ≡ length x + length y + length z
+summed x y z = simp (length-append, append-nil) (omega arith)
+
+-- how many octets they take
+pub list_sized : AvpSized → (a b c : Avp)
+    → length (canonical_list (a ∷ b ∷ c ∷ [])) ≡ padded (avp_length a) + padded (avp_length b) + padded (avp_length c)
+list_sized sized a b c =
+    summed (canonical_avp a) (canonical_avp b) (canonical_avp c) ∙ rw (sized a, sized b, sized c) refl
