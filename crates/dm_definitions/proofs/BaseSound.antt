@@ -1,5 +1,6 @@
 -- The definitions of the base dictionary are sound, and each entry names one.
 use Rattle.std.proofs.Common.{◌≡◌, true, List, [], refl}
+use Rattle.dm_definitions.specs.declared.def.VendorDef.{VendorDef}
 use Rattle.dm_definitions.specs.declared.def.AvpDef.{AvpDef}
 use Rattle.dm_definitions.specs.declared.def.CommandDef.{CommandDef}
 use Rattle.dm_definitions.specs.Definitions.{Definitions}
@@ -26,6 +27,7 @@ command_rows_sound before rows e f = rw (e, f) commands_sound
 pub closed_base : (d : Definitions) → d ≡ base_definitions → is_closed d ≡ true
 closed_base d e = rw e base_closed
 
-pub both_base : (avps : List AvpDef) (commands : List CommandDef) → avps ≡ base_avps → commands ≡ base_commands
-    → record { avps = avps; commands = commands } ≡ base_definitions
-both_base avps commands e f = λ i. record { avps = e i; commands = f i }
+pub both_base : (vendors : List VendorDef) (avps : List AvpDef) (commands : List CommandDef) → vendors ≡ []
+    → avps ≡ base_avps → commands ≡ base_commands
+    → record { vendors = vendors; avps = avps; commands = commands } ≡ base_definitions
+both_base vendors avps commands none e f = λ i. record { vendors = none i; avps = e i; commands = f i }

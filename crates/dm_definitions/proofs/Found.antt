@@ -3,7 +3,7 @@ use Rattle.std.proofs.Common.{◌≡◌, Bool, true, false, ◌||◌, cond, List
 use Rattle.std.specs.List.{list_any}
 use Rattle.std.specs.Option.{option_copied}
 
-is_some-find : {D : Type 0} (p : D → Bool) (ds : List D) → is_some (find p ds) ≡ list_any p ds
+pub is_some-find : {D : Type 0} (p : D → Bool) (ds : List D) → is_some (find p ds) ≡ list_any p ds
 is_some-find p [] = refl
 is_some-find p (d ∷ ds) = by (p d) (is_some-find p ds)
   where

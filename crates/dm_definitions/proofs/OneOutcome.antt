@@ -5,7 +5,7 @@ use Rattle.dm_grammar.specs.Told.{told}
 use Rattle.dm_definitions.specs.declared.fault.DictFault.{DictFault}
 use Rattle.dm_definitions.specs.declared.fault.DictFault.TheVariants.{NoMemory, Syntax}
 use Rattle.dm_definitions.specs.Definitions.{Definitions}
-use Rattle.dm_definitions.specs.Meaning.{with_items}
+use Rattle.dm_definitions.specs.Meaning.{made, with_items}
 use Rattle.dm_definitions.specs.Faults.{first_of}
 use Rattle.dm_definitions.specs.Outcome.{all_faults, Defines, IsFirstFault}
 
@@ -26,7 +26,7 @@ one_first o f g e h = cc
 
 pub one_definition : (text : List ℕ) (old a b : Definitions) → Defines text old a → Defines text old b → a ≡ b
 one_definition text old a b d e =
-    d.followed ∙ ap (with_items old) (same_items text d.items e.items d.grammatical e.grammatical) ∙ sym e.followed
+    d.followed ∙ ap (λ is. (with_items (made old) is).definitions) (same_items text d.items e.items d.grammatical e.grammatical) ∙ sym e.followed
 
 pub no_outcome : {P : Type 0} (text : List ℕ) (old new : Definitions) (f : DictFault) → Defines text old new
     → IsFirstFault text old f → P

@@ -5,12 +5,13 @@ use Rattle.std.specs.Option.{option_eq, option_to_list}
 use Rattle.std.specs.Cmp.{IsEquivalence}
 use Rattle.std.specs.Cmp.Rules.{comparing}
 use Rattle.std.specs.Cmp.Lexicographic.{nat_list_eq_equiv}
+use Rattle.dm_definitions.specs.declared.def.VendorDef.{VendorDef}
 use Rattle.dm_definitions.specs.declared.def.AvpDef.{AvpDef}
 use Rattle.dm_definitions.specs.declared.def.CommandDef.{CommandDef}
-use Rattle.dm_definitions.specs.Definitions.{is_named, is_coded, is_headed}
-use Rattle.dm_definitions.specs.Sound.{each_after, is_sound_avp, is_sound_command}
+use Rattle.dm_definitions.specs.Definitions.{is_vendor, is_named, is_coded, is_headed}
+use Rattle.dm_definitions.specs.Sound.{each_after, is_sound_vendor, is_sound_avp, is_sound_command}
 use Rattle.dm_definitions.proofs.Members.{only_one}
-use Rattle.dm_definitions.proofs.Parts.{avp_parts, command_parts}
+use Rattle.dm_definitions.proofs.Parts.{vendor_parts, avp_parts, command_parts}
 
 abbrev code_eq : ℕ × Option ℕ → ℕ × Option ℕ → Bool
 code_eq a b = nat_eq a.0 b.0 && option_eq nat_eq a.1 b.1
@@ -23,6 +24,12 @@ head_eq a b = (nat_eq a.0 b.0 && beq a.1 b.1) && beq a.2 b.2
 
 head_laws : IsEquivalence head_eq
 head_laws = search (comparing, rules)
+
+pub one_vendor : (vendors : List VendorDef) (name : List ℕ) → each_after is_sound_vendor [] vendors ≡ true
+    → filter (is_vendor name) vendors ≡ option_to_list (find (is_vendor name) vendors)
+one_vendor vendors name h =
+    only_one is_sound_vendor (λ v. is_vendor v.name) (is_vendor name) (λ before v s. (vendor_parts before v s).new_name)
+    (λ a b e. nat_list_eq_equiv.congr name a.name b.name e) [] vendors h
 
 pub one_named : (avps : List AvpDef) (name : List ℕ) → each_after is_sound_avp [] avps ≡ true
     → filter (is_named name) avps ≡ option_to_list (find (is_named name) avps)

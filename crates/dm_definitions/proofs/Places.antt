@@ -4,7 +4,7 @@ use Rattle.std.specs.Option.{option_and_then}
 use Rattle.std.specs.Map.{lookup}
 use Rattle.std.specs.List.{list_any}
 use Rattle.indexmap.specs.IndexMap.{insert_entry}
-use Rattle.dm_definitions.specs.Tables.{places}
+use Rattle.dm_definitions.specs.Positions.{places}
 
 -- the member behind some others
 member_behind : {D : Type 0} (before : List D) (d : D) (ds : List D)
@@ -43,7 +43,7 @@ module _ {D K : Type 0} (test : K → Bool) (key : D → K) where
       by false h rest = rest h
 
 -- a look-up by what the keys show
-lookup-map : {A K X : Type 0} (test : K → Bool) (shown : A → K) (es : List (A × X))
+pub lookup-map : {A K X : Type 0} (test : K → Bool) (shown : A → K) (es : List (A × X))
     → lookup test (map (λ e. (shown e.0, e.1)) es) ≡ lookup (λ a. test (shown a)) es
 lookup-map test shown [] = refl
 lookup-map test shown (e ∷ es) = ap (λ r. cond (test (shown e.0)) (Some e.1) r) (lookup-map test shown es)
@@ -66,6 +66,10 @@ places-append key n (e ∷ ds) d =
 pub on_ok : {T E P Q : Type 0} (r : Result T E) → (P → Q) → OnOk r P → OnOk r Q
 on_ok (Ok x) f h = f h
 on_ok (Err e) f h = tt
+
+pub on_both : {T E P Q R : Type 0} (r : Result T E) → (P → Q → R) → OnOk r P → OnOk r Q → OnOk r R
+on_both (Ok x) f h g = f h g
+on_both (Err e) f h g = tt
 
 -- what is put in, as the keys show it
 pub insert_shown : {A K X : Type 0} (same : K → K → Bool) (shown : A → K) (es : List (A × X)) (a : A) (v : X)

@@ -1,37 +1,46 @@
--- The items that the printed words tell.
-use Rattle.std.proofs.Common.{◌≡◌, ℕ, ◌+◌, Bool, true, false, ◌&&◌, not, List, [], ◌∷◌, ◌++◌, map, codes, nat_eq, Option, Some, None, Result, Ok, Err, if◌then◌else◌, refl, ap, ◌∙◌}
+-- The items that the printed words spell.
+use Rattle.std.proofs.Common.{◌≡◌, inl, inr, ℕ, ◌+◌, unsigned_abs, Bool, true, false, ◌&&◌, ◌||◌, not, List, [], ◌∷◌, ◌++◌, map, codes, Option, Some, None, if◌then◌else◌, refl}
 use Rattle.std.proofs.lemmas.Bool.{and_parts}
 use Rattle.std.specs.Char.{is_ascii_alphanumeric, is_ascii_digit}
 use Rattle.std.specs.List.{list_all}
-use Rattle.std.specs.Cmp.Lexicographic.{pointwise}
 use Rattle.dm_grammar.specs.declared.item.Form.{Form}
 use Rattle.dm_grammar.specs.declared.item.Form.TheVariants.{Fixed, Required, Optional}
+use Rattle.dm_grammar.specs.declared.reading.Version.{Version}
+use Rattle.dm_grammar.specs.declared.reading.Version.TheVariants.{First, Second}
 use Rattle.dm_grammar.specs.declared.symbol.Symbol.TheVariants as symbols
+use Rattle.dm_grammar.specs.declared.terminal.Terminal.TheVariants.{One}
 use Rattle.dm_grammar.specs.Symbols.{goes_on, is_number, symbol_of_word}
 use Rattle.dm_grammar.specs.Tokens.{Word}
-use Rattle.dm_grammar.specs.Grammar.{taking, steps, may_end}
+use Rattle.dm_grammar.specs.Grammar.{fits}
 use Rattle.dm_grammar.specs.Grammar as grammar
 use Rattle.dm_grammar.specs.Items as written
-use Rattle.dm_grammar.specs.Items.{Written, AvpParts, GroupParts, CommandParts, Range}
-use Rattle.dm_grammar.specs.Items.Written.{AvpIs, GroupIs, CommandIs}
-use Rattle.dm_grammar.specs.Places.Place.{Text, AtSign, AvpName, AvpCode, Typed, TitleLess, TitleName, Head, Rule, Starred, High, Angle, AngleName, FixedOpen, FixedName, BraceOpen, BraceName, SquareOpen, SquareName}
-use Rattle.dm_grammar.specs.Places.Role.{Nothing, Begins, NameOfAvp, CodeIs, KindIs, SecondIs, TitleIs, TitleOrFixed, DefineIs, CommandHead, GroupHead, Request, Proxiable, Error, Rules, Opens, LowIs, StarIs, HighIs, EntryIs}
-use Rattle.dm_grammar.specs.Told.{Told, nothing, filled, collect}
-use Rattle.dm_grammar.specs.Readers.{with_entry}
+use Rattle.dm_grammar.specs.Items.{Written, Vend}
+use Rattle.dm_grammar.specs.Items.Vend.{NumberedBy}
+use Rattle.dm_grammar.specs.Items.Written.{VendorIs, AvpIs, GroupIs, CommandIs}
+use Rattle.dm_grammar.specs.Spelling.{Phrase, Spells, Ends, AreItems}
+use Rattle.dm_grammar.specs.Spelling as spelling
+use Rattle.dm_grammar.specs.Spelling.Phrase.{Mark, ◌then◌}
 use Rattle.dm_definitions.specs.declared.rule.Entry.{Entry}
+use Rattle.dm_definitions.specs.declared.values.EnumValue.{EnumValue}
+use Rattle.dm_definitions.specs.declared.def.VendorDef.{VendorDef}
 use Rattle.dm_definitions.specs.declared.def.AvpDef.{AvpDef}
 use Rattle.dm_definitions.specs.declared.def.CommandDef.{CommandDef}
 use Rattle.dm_value.specs.declared.avp_type.AvpType.{AvpType}
 use Rattle.dm_value.specs.declared.avp_type.AvpType.TheVariants as kinds
-use Rattle.dm_definitions.specs.Sound.{is_proper_name, is_grouped, each_after, is_sound_entry, is_sound_rule, is_sound_avp, is_sound_command}
-use Rattle.dm_definitions.specs.Printed.{type_name}
-use Rattle.dm_definitions.proofs.Parts.{avp_parts, command_parts}
-use Rattle.dm_definitions.proofs.PrintWords.{word, word_of, number_word}
-use Rattle.dm_definitions.proofs.PrintTokens.{option_words, bracket_words, rule_words, end_words, title_words, plain_words, group_words, avp_words, flag_words, command_words, avps_words, commands_words, entry_parts}
+use Rattle.dm_definitions.specs.Definitions.{Definitions}
+use Rattle.dm_definitions.specs.Sound.{is_proper_name, is_grouped, is_enumerated, is_empty_list, each_after, is_sound_entry, is_sound_rule, is_sound_value, is_sound_list, is_sound_vendor, is_sound_avp, is_sound_command}
+use Rattle.dm_definitions.specs.Printed.{type_name, has_none, is_first_version}
+use Rattle.dm_definitions.proofs.Parts.{avp_parts, command_parts, value_parts, vendor_parts}
+use Rattle.dm_definitions.proofs.PrintWords.{word_of, number_word}
+use Rattle.dm_definitions.proofs.PrintTokens.{option_words, bracket_words, rule_words, more_words, list_words, plain_words, group_words, avp_words, vendors_words, version_words, flag_words, command_words, avps_words, commands_words, entry_parts}
 
 abbrev pub written_option : ℕ → Option ℕ → Option Word
 written_option line None = None
 written_option line (Some n) = Some (number_word line n)
+
+abbrev pub written_vend : ℕ → Option ℕ → Option Vend
+written_vend line None = None
+written_vend line (Some n) = Some (NumberedBy (number_word line n))
 
 abbrev pub written_entry : ℕ → Entry → written.Entry
 written_entry line e =
@@ -40,13 +49,19 @@ written_entry line e =
 abbrev pub written_rule : ℕ → List Entry → List written.Entry
 written_rule line rule = map (written_entry line) rule
 
+abbrev pub written_value : ℕ → EnumValue → written.Value
+written_value line v = record { name = word_of line v.name; number = number_word line (unsigned_abs v.number) }
+
+abbrev pub written_list : ℕ → List EnumValue → List written.Value
+written_list line values = map (written_value line) values
+
 abbrev pub written_plain : ℕ → AvpDef → Written
 written_plain line a =
-    AvpIs (record { name = word_of line a.name; code = number_word line a.code; kind = word_of line (type_name a.kind); vendor = written_option line a.vendor })
+    AvpIs (record { name = word_of line a.name; code = number_word line a.code; kind = word_of line (type_name a.kind); vendor = written_vend line a.vendor; values = written_list line a.values })
 
 abbrev pub written_group : ℕ → AvpDef → Written
 written_group line a =
-    GroupIs (record { name = word_of line a.name; code = number_word line a.code; vendor = written_option line a.vendor; rule = written_rule line a.rule })
+    GroupIs (record { name = word_of line a.name; code = number_word line a.code; vendor = written_vend line a.vendor; rule = written_rule line a.rule })
 
 abbrev pub written_avp : ℕ → AvpDef → Written
 written_avp line a = if is_grouped a.kind then written_group line a else written_plain line a
@@ -54,6 +69,13 @@ written_avp line a = if is_grouped a.kind then written_group line a else written
 abbrev pub written_command : ℕ → CommandDef → Written
 written_command line c =
     CommandIs (record { name = word_of line c.name; code = number_word line c.code; request = c.request; proxiable = c.proxiable; error = c.err; application = Some (number_word line c.application); rule = written_rule line c.rule })
+
+abbrev pub written_vendor : ℕ → VendorDef → Written
+written_vendor line v = VendorIs (record { name = word_of line v.name; number = number_word line v.number })
+
+abbrev pub written_vendors : ℕ → List VendorDef → (ℕ → List Written) → List Written
+written_vendors line [] items = items line
+written_vendors line (v ∷ vendors) items = written_vendor line v ∷ written_vendors (line + 1) vendors items
 
 abbrev pub written_avps : ℕ → List AvpDef → (ℕ → List Written) → List Written
 written_avps line [] items = items line
@@ -63,7 +85,23 @@ abbrev pub written_commands : List CommandDef → ℕ → List Written
 written_commands [] line = []
 written_commands (c ∷ commands) line = written_command line c ∷ written_commands commands (line + 1)
 
--- the symbol of a name is one of a name
+-- the items of the definitions, from a line on
+abbrev pub written_all : Definitions → ℕ → List Written
+written_all d line = written_vendors line d.vendors (λ n. written_avps n d.avps (written_commands d.commands))
+
+-- and their words
+abbrev pub all_words : Definitions → ℕ → List Word
+all_words d line = vendors_words line d.vendors (λ n. avps_words n d.avps (commands_words d.commands))
+
+-- the line at which they begin
+abbrev pub first_line : Bool → ℕ
+first_line first = if first then 1 else 2
+
+-- a list may stand in a text of the version
+abbrev may_list : Version → List EnumValue → Bool
+may_list First values = has_none values
+may_list Second values = true
+
 not_number : (name : List ℕ) → is_proper_name name ≡ true → is_number name ≡ false
 not_number [] h = absurd cc
 not_number (c ∷ s) h =
@@ -73,22 +111,6 @@ not_number (c ∷ s) h =
     is_not : (b : Bool) → not b ≡ true → b ≡ false
     is_not true e = absurd cc
     is_not false e = refl
-
-name_symbol : (name : List ℕ) → is_proper_name name ≡ true → grammar.is_name (symbol_of_word name) ≡ true
-name_symbol name h = by (is_number name) (not_number name h) (pointwise nat_eq name (codes "Diameter")) (pointwise nat_eq name (codes "Header")) (pointwise nat_eq name (codes "Diameter-Header")) (pointwise nat_eq name (codes "AVP")) (pointwise nat_eq name (codes "AVP-Header")) (pointwise nat_eq name (codes "REQ")) (pointwise nat_eq name (codes "PXY")) (pointwise nat_eq name (codes "ERR"))
-  where
-    by : (n : Bool) → n ≡ false → (b1 b2 b3 b4 b5 b6 b7 b8 : Bool)
-        → grammar.is_name (if n then symbols.Number else if b1 then symbols.Diameter else if b2 then symbols.Header else if b3 then symbols.DiameterHeader else if b4 then symbols.Avp else if b5 then symbols.AvpHeader else if b6 then symbols.Req else if b7 then symbols.Pxy else if b8 then symbols.Err else symbols.Name) ≡ true
-    by true e b1 b2 b3 b4 b5 b6 b7 b8 = absurd cc
-    by false e true b2 b3 b4 b5 b6 b7 b8 = refl
-    by false e false true b3 b4 b5 b6 b7 b8 = refl
-    by false e false false true b4 b5 b6 b7 b8 = refl
-    by false e false false false true b5 b6 b7 b8 = refl
-    by false e false false false false true b6 b7 b8 = refl
-    by false e false false false false false true b7 b8 = refl
-    by false e false false false false false false true b8 = refl
-    by false e false false false false false false false true = refl
-    by false e false false false false false false false false = refl
 
 type_symbol : (kind : AvpType) → grammar.is_name (symbol_of_word (type_name kind)) ≡ true
 type_symbol kinds.OctetString = refl
@@ -104,312 +126,293 @@ type_symbol kinds.DiameterURI = refl
 type_symbol kinds.Enumerated = refl
 type_symbol kinds.Grouped = refl
 
--- the steps that take a name
-at_sign : (last : ℕ) (w : Word) (ws : List Word) → grammar.is_name w.symbol ≡ true
-    → collect last AtSign (w ∷ ws) ≡ filled NameOfAvp w (collect last AvpName ws)
-at_sign last w ws h = rw (collect, h) refl
+enumerated_symbol : (kind : AvpType) → is_enumerated kind ≡ true
+    → fits (One symbols.Enumerated) (symbol_of_word (type_name kind)) ≡ true
+enumerated_symbol kinds.OctetString h = absurd cc
+enumerated_symbol kinds.Integer32 h = absurd cc
+enumerated_symbol kinds.Integer64 h = absurd cc
+enumerated_symbol kinds.Unsigned32 h = absurd cc
+enumerated_symbol kinds.Unsigned64 h = absurd cc
+enumerated_symbol kinds.Address h = absurd cc
+enumerated_symbol kinds.Time h = absurd cc
+enumerated_symbol kinds.UTF8String h = absurd cc
+enumerated_symbol kinds.DiameterIdentity h = absurd cc
+enumerated_symbol kinds.DiameterURI h = absurd cc
+enumerated_symbol kinds.Enumerated h = refl
+enumerated_symbol kinds.Grouped h = absurd cc
 
-at_kind : (last : ℕ) (w : Word) (ws : List Word) → grammar.is_name w.symbol ≡ true
-    → collect last AvpCode (w ∷ ws) ≡ filled KindIs w (collect last Typed ws)
-at_kind last w ws h = rw (collect, h) refl
+is_listing : (b : Bool) → (b || false) ≡ true → b ≡ true
+is_listing true h = refl
+is_listing false h = absurd cc
 
-at_title : (last : ℕ) (w : Word) (ws : List Word) → grammar.is_name w.symbol ≡ true
-    → collect last TitleLess (w ∷ ws) ≡ filled TitleIs w (collect last TitleName ws)
-at_title last w ws h = rw (collect, h) refl
+module _ (names : (w : List ℕ) → is_number w ≡ false → grammar.is_name (symbol_of_word w) ≡ true) where
+  named : (name : List ℕ) → is_proper_name name ≡ true → grammar.is_name (symbol_of_word name) ≡ true
+  named name h = names name (not_number name h)
 
-at_angle : (last : ℕ) (w : Word) (ws : List Word) → grammar.is_name w.symbol ≡ true
-    → collect last Angle (w ∷ ws) ≡ filled TitleOrFixed w (collect last AngleName ws)
-at_angle last w ws h = rw (collect, h) refl
+  bracketed : (line : ℕ) (form : Form) (name : List ℕ) (ws : List Word) (Behind : List Word → Type 0)
+      → is_proper_name name ≡ true → Behind ws
+      → Spells (spelling.bracketed form (word_of line name)) Behind (bracket_words line form name ws)
+  bracketed line Fixed name ws Behind h b = (refl, (named name h, (refl, (refl, b))))
+  bracketed line Required name ws Behind h b = (refl, (named name h, (refl, (refl, b))))
+  bracketed line Optional name ws Behind h b = (refl, (named name h, (refl, (refl, b))))
 
-at_fixed : (last : ℕ) (w : Word) (ws : List Word) → grammar.is_name w.symbol ≡ true
-    → collect last FixedOpen (w ∷ ws) ≡ filled (EntryIs Fixed) w (collect last FixedName ws)
-at_fixed last w ws h = rw (collect, h) refl
+  number_may : (line : ℕ) (n : Option ℕ) (ws : List Word) (Behind : List Word → Type 0) → Behind ws
+      → Spells (spelling.number_may (written_option line n)) Behind (option_words line n ws)
+  number_may line None ws Behind b = b
+  number_may line (Some n) ws Behind b = (refl, (refl, b))
 
-at_brace : (last : ℕ) (w : Word) (ws : List Word) → grammar.is_name w.symbol ≡ true
-    → collect last BraceOpen (w ∷ ws) ≡ filled (EntryIs Required) w (collect last BraceName ws)
-at_brace last w ws h = rw (collect, h) refl
+  entries : (line : ℕ) (before rule : List Entry) (ws : List Word) (Behind : List Word → Type 0)
+      → each_after is_sound_entry before rule ≡ true → Behind ws
+      → Spells (spelling.entries (written_rule line rule)) Behind (rule_words line rule ws)
+  entries line before [] ws Behind h b = b
+  entries line before (e ∷ rule) ws Behind h b =
+      let (first, rest) = and_parts (is_sound_entry before e) (each_after is_sound_entry (before ++ e ∷ []) rule) h in
+      let Rest = Spells (spelling.entries (written_rule line rule)) Behind in (
+        refl,
+        (
+          refl,
+          (
+            refl,
+            number_may line e.max _ (Spells (spelling.bracketed e.form (word_of line e.name)) Rest)
+                (bracketed line e.form e.name _ Rest (entry_parts before e first).name (entries line (before ++ e ∷ []) rule ws Behind rest b)),
+          ),
+        ),
+      )
 
-at_square : (last : ℕ) (w : Word) (ws : List Word) → grammar.is_name w.symbol ≡ true
-    → collect last SquareOpen (w ∷ ws) ≡ filled (EntryIs Optional) w (collect last SquareName ws)
-at_square last w ws h = rw (collect, h) refl
+  value_more : (line : ℕ) (before values : List EnumValue) (ws : List Word) (Behind : List Word → Type 0)
+      → each_after is_sound_value before values ≡ true → Behind ws
+      → Spells (spelling.more_values (written_list line values)) Behind (more_words line values ws)
+  value_more line before [] ws Behind h b = b
+  value_more line before (v ∷ values) ws Behind h b =
+      let (first, rest) = and_parts (is_sound_value before v) (each_after is_sound_value (before ++ v ∷ []) values) h in
+      (refl, (named v.name (value_parts before v first).name, (refl, (refl, (refl, value_more line (before ++ v ∷ []) values ws Behind rest b)))))
 
-abbrev opening_word : ℕ → Form → Word
-opening_word line Fixed = word symbols.Less (60 ∷ []) line
-opening_word line Required = word symbols.OpenBrace (123 ∷ []) line
-opening_word line Optional = word symbols.OpenSquare (91 ∷ []) line
+  vend_may : (v : Version) (line : ℕ) (n : Option ℕ) (ws : List Word) (Behind : List Word → Type 0) → Behind ws
+      → Spells (spelling.vend_may v (written_vend line n)) Behind (option_words line n ws)
+  vend_may v line None ws Behind b = b
+  vend_may v line (Some n) ws Behind b = (refl, (refl, b))
 
-abbrev closing_word : ℕ → Form → Word
-closing_word line Fixed = word symbols.Greater (62 ∷ []) line
-closing_word line Required = word symbols.CloseBrace (125 ∷ []) line
-closing_word line Optional = word symbols.CloseSquare (93 ∷ []) line
+  group_vendor : (v : Version) (line : ℕ) (n : Option ℕ) (ws : List Word) (Behind : List Word → Type 0) → Behind ws
+      → Spells (spelling.group_vendor v (written_vend line n)) Behind (option_words line n ws)
+  group_vendor v line None ws Behind b = b
+  group_vendor v line (Some n) ws Behind b = inr (refl, (refl, b))
 
-abbrev plain_entry : Form → Word → written.Entry
-plain_entry form w = record { form = form; name = w; qualifier = None }
+  -- the type of an AVP, its vendor and its list
+  type_of : (v : Version) (line : ℕ) (name : List ℕ) (code : ℕ) (kind : AvpType) (vendor : Option ℕ) (values : List EnumValue) (ws : List Word)
+      (Behind : List Word → Type 0) → is_sound_list values ≡ true → (is_enumerated kind || is_empty_list values) ≡ true
+      → may_list v values ≡ true → Behind ws
+      → Spells (spelling.type_of v (record { name = word_of line name; code = number_word line code; kind = word_of line (type_name kind); vendor = written_vend line vendor; values = written_list line values })) Behind (word_of line (type_name kind) ∷ option_words line vendor (list_words line values ws))
+  type_of v line name code kind vendor [] ws Behind sound listing may b =
+      (type_symbol kind, (refl, vend_may v line vendor ws Behind b))
+  type_of First line name code kind vendor (x ∷ values) ws Behind sound listing may b = absurd cc
+  type_of Second line name code kind vendor (x ∷ values) ws Behind sound listing may b =
+      let (first, rest) = and_parts (is_sound_value [] x) (each_after is_sound_value (x ∷ []) values) sound in
+      let more = spelling.more_values (written_list line values) then Mark symbols.CloseBrace in (
+        enumerated_symbol kind (is_listing (is_enumerated kind) listing),
+        (
+          refl,
+          vend_may Second line vendor _ (Spells (spelling.list (written_value line x) (written_list line values)) Behind) (
+            refl,
+            (
+              named x.name (value_parts [] x first).name,
+              (
+                refl,
+                (
+                  refl,
+                  (
+                    refl,
+                    value_more line (x ∷ []) values _ (Spells (Mark symbols.CloseBrace) Behind) rest (refl, b),
+                  ),
+                ),
+              ),
+            ),
+          ),
+        ),
+      )
 
-in_bracket : (form : Form) (o n c : Word) (r : Result Told ℕ)
-    → filled Opens o (filled (EntryIs form) n (filled Nothing c r)) ≡ with_entry (plain_entry form n) r
-in_bracket form o n c (Ok told) = refl
-in_bracket form o n c (Err l) = refl
+  plain : (v : Version) (line : ℕ) (a : AvpDef) (ws : List Word) (Behind : List Word → Type 0)
+      → is_proper_name a.name ≡ true → is_sound_list a.values ≡ true
+      → (is_enumerated a.kind || is_empty_list a.values) ≡ true → may_list v a.values ≡ true → Behind ws
+      → Spells (spelling.item v (written_plain line a)) Behind (plain_words line a ws)
+  plain v line a ws Behind h sound listing may b =
+      (refl, (named a.name h, (refl, (refl, (refl, type_of v line a.name a.code a.kind a.vendor a.values ws Behind sound listing may b)))))
 
--- a bracket behind `*`, or behind the greatest number
-bracket_star : (last line : ℕ) (form : Form) (name : List ℕ) (ws : List Word) → is_proper_name name ≡ true
-    → collect last Starred (bracket_words line form name ws) ≡ with_entry (plain_entry form (word_of line name)) (collect last Rule ws)
-bracket_star last line Fixed name ws h =
-    ap (filled Opens (opening_word line Fixed))
-    (at_fixed last (word_of line name) (closing_word line Fixed ∷ ws) (name_symbol name h)) ∙ in_bracket Fixed
-    (opening_word line Fixed) (word_of line name) (closing_word line Fixed) (collect last Rule ws)
-bracket_star last line Required name ws h =
-    ap (filled Opens (opening_word line Required))
-    (at_brace last (word_of line name) (closing_word line Required ∷ ws) (name_symbol name h)) ∙ in_bracket Required
-    (opening_word line Required) (word_of line name) (closing_word line Required) (collect last Rule ws)
-bracket_star last line Optional name ws h =
-    ap (filled Opens (opening_word line Optional))
-    (at_square last (word_of line name) (closing_word line Optional ∷ ws) (name_symbol name h)) ∙ in_bracket Optional
-    (opening_word line Optional) (word_of line name) (closing_word line Optional) (collect last Rule ws)
+  group : (v : Version) (line : ℕ) (a : AvpDef) (ws : List Word) (Behind : List Word → Type 0)
+      → is_proper_name a.name ≡ true → is_sound_rule a.rule ≡ true → Behind ws
+      → Spells (spelling.item v (written_group line a)) Behind (group_words line a ws)
+  group v line a ws Behind h sound b =
+      inl (
+        refl,
+        (
+          named a.name h,
+          (
+            refl,
+            (
+              refl,
+              (
+                refl,
+                (
+                  refl,
+                  inl (
+                    refl,
+                    (
+                      refl,
+                      (
+                        refl,
+                        (
+                          refl,
+                          (
+                            refl,
+                            group_vendor v line a.vendor _ (Spells (Mark symbols.Greater then spelling.entries (written_rule line a.rule)) Behind)
+                                (refl, entries line [] a.rule ws Behind sound b),
+                          ),
+                        ),
+                      ),
+                    ),
+                  ),
+                ),
+              ),
+            ),
+          ),
+        ),
+      )
 
-bracket_high : (last line : ℕ) (form : Form) (name : List ℕ) (ws : List Word) → is_proper_name name ≡ true
-    → collect last High (bracket_words line form name ws) ≡ with_entry (plain_entry form (word_of line name)) (collect last Rule ws)
-bracket_high last line Fixed name ws h =
-    ap (filled Opens (opening_word line Fixed))
-    (at_fixed last (word_of line name) (closing_word line Fixed ∷ ws) (name_symbol name h)) ∙ in_bracket Fixed
-    (opening_word line Fixed) (word_of line name) (closing_word line Fixed) (collect last Rule ws)
-bracket_high last line Required name ws h =
-    ap (filled Opens (opening_word line Required))
-    (at_brace last (word_of line name) (closing_word line Required ∷ ws) (name_symbol name h)) ∙ in_bracket Required
-    (opening_word line Required) (word_of line name) (closing_word line Required) (collect last Rule ws)
-bracket_high last line Optional name ws h =
-    ap (filled Opens (opening_word line Optional))
-    (at_square last (word_of line name) (closing_word line Optional ∷ ws) (name_symbol name h)) ∙ in_bracket Optional
-    (opening_word line Optional) (word_of line name) (closing_word line Optional) (collect last Rule ws)
+  flag_req : (line : ℕ) (flag : Bool) (ws : List Word) (Behind : List Word → Type 0) → Behind ws
+      → Spells (spelling.flag symbols.Req flag) Behind (flag_words line flag symbols.Req (codes "REQ") ws)
+  flag_req line true ws Behind b = (refl, (refl, b))
+  flag_req line false ws Behind b = b
 
-with_low_alone : (form : Form) (n low star : Word) (r : Result Told ℕ)
-    → filled LowIs low (filled StarIs star (with_entry (plain_entry form n) r)) ≡ with_entry (record { form = form; name = n; qualifier = Some (record { low = Some low; high = None }) }) r
-with_low_alone form n low star (Ok told) = refl
-with_low_alone form n low star (Err l) = refl
+  flag_pxy : (line : ℕ) (flag : Bool) (ws : List Word) (Behind : List Word → Type 0) → Behind ws
+      → Spells (spelling.flag symbols.Pxy flag) Behind (flag_words line flag symbols.Pxy (codes "PXY") ws)
+  flag_pxy line true ws Behind b = (refl, (refl, b))
+  flag_pxy line false ws Behind b = b
 
-with_low_and_high : (form : Form) (n low star high : Word) (r : Result Told ℕ)
-    → filled LowIs low (filled StarIs star (filled HighIs high (with_entry (plain_entry form n) r))) ≡ with_entry (record { form = form; name = n; qualifier = Some (record { low = Some low; high = Some high }) }) r
-with_low_and_high form n low star high (Ok told) = refl
-with_low_and_high form n low star high (Err l) = refl
+  flag_err : (line : ℕ) (flag : Bool) (ws : List Word) (Behind : List Word → Type 0) → Behind ws
+      → Spells (spelling.flag symbols.Err flag) Behind (flag_words line flag symbols.Err (codes "ERR") ws)
+  flag_err line true ws Behind b = (refl, (refl, b))
+  flag_err line false ws Behind b = b
 
-entry_by : (last line min : ℕ) (max : Option ℕ) (form : Form) (name : List ℕ) (ws : List Word)
-    → is_proper_name name ≡ true
-    → collect last Rule (number_word line min ∷ word symbols.Star (42 ∷ []) line ∷ option_words line max (bracket_words line form name ws))
-    ≡ with_entry (record { form = form; name = word_of line name; qualifier = Some (record { low = Some (number_word line min); high = written_option line max }) }) (collect last Rule ws)
-entry_by last line min None form name ws h =
-    ap (λ r. filled LowIs (number_word line min) (filled StarIs (word symbols.Star (42 ∷ []) line) r))
-    (bracket_star last line form name ws h)
-    ∙ with_low_alone form (word_of line name) (number_word line min) (word symbols.Star (42 ∷ []) line)
-    (collect last Rule ws)
-entry_by last line min (Some max) form name ws h =
-    ap (λ r. filled LowIs (number_word line min) (filled StarIs (word symbols.Star (42 ∷ []) line) (filled HighIs (number_word line max) r))) (bracket_high last line form name ws h)
-    ∙ with_low_and_high form (word_of line name) (number_word line min) (word symbols.Star (42 ∷ []) line)
-    (number_word line max) (collect last Rule ws)
+  command : (v : Version) (line : ℕ) (c : CommandDef) (ws : List Word) (Behind : List Word → Type 0)
+      → is_proper_name c.name ≡ true → is_sound_rule c.rule ≡ true → Behind ws
+      → Spells (spelling.item v (written_command line c)) Behind (command_words line c ws)
+  command v line c ws Behind h sound b =
+      let End = Spells (Mark symbols.Greater then spelling.entries (written_rule line c.rule)) Behind in
+      let Second = Spells (spelling.second (Some (number_word line c.application))) End in
+      let Error = Spells (spelling.flag symbols.Err c.err) Second in
+      let Proxy = Spells (spelling.flag symbols.Pxy c.proxiable) Error in
+      inl (
+        refl,
+        (
+          named c.name h,
+          (
+            refl,
+            (
+              refl,
+              (
+                refl,
+                (
+                  refl,
+                  inl (
+                    refl,
+                    (
+                      refl,
+                      (
+                        refl,
+                        (
+                          refl,
+                          (
+                            refl,
+                            flag_req line c.request _ Proxy
+                                (flag_pxy line c.proxiable _ Error (flag_err line c.err _ Second (inr (refl, (refl, (refl, entries line [] c.rule ws Behind sound b)))))),
+                          ),
+                        ),
+                      ),
+                    ),
+                  ),
+                ),
+              ),
+            ),
+          ),
+        ),
+      )
 
-abbrev items_only : List Written → Told
-items_only items = record nothing { items = items }
+  avp : (v : Version) (line : ℕ) (before : List AvpDef) (a : AvpDef) (ws : List Word) (Behind : List Word → Type 0)
+      → is_sound_avp before a ≡ true → may_list v a.values ≡ true → Behind ws
+      → Spells (spelling.item v (written_avp line a)) Behind (avp_words line a ws)
+  avp v line before a ws Behind h may b =
+      let p = avp_parts before a h in
+      by (is_grouped a.kind) (group v line a ws Behind p.name p.rule b)
+      (plain v line a ws Behind p.name p.list p.listing may b)
+    where
+      by : (g : Bool) → Spells (spelling.item v (written_group line a)) Behind (group_words line a ws)
+          → Spells (spelling.item v (written_plain line a)) Behind (plain_words line a ws)
+          → Spells (spelling.item v (if g then written_group line a else written_plain line a)) Behind (if g then group_words line a ws else plain_words line a ws)
+      by true e f = e
+      by false e f = f
 
-abbrev items_and_rule : List Written → List written.Entry → Told
-items_and_rule items rule = record nothing { items = items; rule = rule }
+  commands : (v : Version) (line : ℕ) (before cs : List CommandDef) → each_after is_sound_command before cs ≡ true
+      → Spells (spelling.items v (written_commands cs line)) Ends (commands_words cs line)
+  commands v line before [] h = refl
+  commands v line before (c ∷ cs) h =
+      let (first, rest) = and_parts (is_sound_command before c) (each_after is_sound_command (before ++ c ∷ []) cs) h in
+      let p = command_parts before c first in
+      command v line c (commands_words cs (line + 1)) (Spells (spelling.items v (written_commands cs (line + 1))) Ends)
+      p.name p.rule (commands v (line + 1) (before ++ c ∷ []) cs rest)
 
--- the words tell these items, wherever an item may begin
-pub record Tells (last : ℕ) (ws : List Word) (items : List Written) : Type 0 where
-  pub text : collect last Text ws ≡ Ok (items_only items)
-  pub typed : collect last Typed ws ≡ Ok (items_only items)
-  pub rule : collect last Rule ws ≡ Ok (items_only items)
+  avps : (v : Version) (line : ℕ) (before ds : List AvpDef) (cs : List CommandDef)
+      → each_after is_sound_avp before ds ≡ true → list_all (λ a. may_list v a.values) ds ≡ true
+      → each_after is_sound_command [] cs ≡ true
+      → Spells (spelling.items v (written_avps line ds (written_commands cs))) Ends (avps_words line ds (commands_words cs))
+  avps v line before [] cs h may k = commands v line [] cs k
+  avps v line before (a ∷ ds) cs h may k =
+      let (first, rest) = and_parts (is_sound_avp before a) (each_after is_sound_avp (before ++ a ∷ []) ds) h in
+      let (one, others) = and_parts (may_list v a.values) (list_all (λ x. may_list v x.values) ds) may in
+      avp v line before a _ (Spells (spelling.items v (written_avps (line + 1) ds (written_commands cs))) Ends) first one
+      (avps v (line + 1) (before ++ a ∷ []) ds cs rest others k)
 
-pub tells_nothing : (last : ℕ) → Tells last [] []
-tells_nothing last = record { text = refl; typed = refl; rule = refl }
+  vendors : (line : ℕ) (before vs : List VendorDef) (ds : List AvpDef) (cs : List CommandDef)
+      → each_after is_sound_vendor before vs ≡ true → each_after is_sound_avp [] ds ≡ true
+      → list_all (λ a. may_list Second a.values) ds ≡ true → each_after is_sound_command [] cs ≡ true
+      → Spells (spelling.items Second (written_vendors line vs (λ n. written_avps n ds (written_commands cs)))) Ends (vendors_words line vs (λ n. avps_words n ds (commands_words cs)))
+  vendors line before [] ds cs g h may k = avps Second line [] ds cs h may k
+  vendors line before (v ∷ vs) ds cs g h may k =
+      let (first, rest) = and_parts (is_sound_vendor before v) (each_after is_sound_vendor (before ++ v ∷ []) vs) g in (
+        refl,
+        (
+          refl,
+          (
+            named v.name (vendor_parts before v first).name,
+            (
+              refl,
+              (
+                refl,
+                (
+                  refl,
+                  vendors (line + 1) (before ++ v ∷ []) vs ds cs rest h may k,
+                ),
+              ),
+            ),
+          ),
+        ),
+      )
 
-rule_tells : (last line : ℕ) (before rule : List Entry) (ws : List Word) (items : List Written)
-    → each_after is_sound_entry before rule ≡ true → Tells last ws items
-    → collect last Rule (rule_words line rule ws) ≡ Ok (items_and_rule items (written_rule line rule))
-rule_tells last line before [] ws items h t = t.rule
-rule_tells last line before (e ∷ rule) ws items h t =
-    let (first, rest) = and_parts (is_sound_entry before e) (each_after is_sound_entry (before ++ e ∷ []) rule) h in
-    entry_by last line e.min e.max e.form e.name (rule_words line rule ws) (entry_parts before e first).name
-    ∙ ap (with_entry (written_entry line e)) (rule_tells last line (before ++ e ∷ []) rule ws items rest t)
+  all_may : (ds : List AvpDef) → list_all (λ a. may_list Second a.values) ds ≡ true
+  all_may [] = refl
+  all_may (a ∷ ds) = all_may ds
 
--- a title is the same at the head of a text and behind a rule
-same_title : (o n g d : Word) (r : Result Told ℕ)
-    → filled Opens o (filled TitleOrFixed n (filled Nothing g (filled DefineIs d r))) ≡ filled Begins o (filled TitleIs n (filled Nothing g (filled Nothing d r)))
-same_title o n g d (Ok told) = by told.command told
-  where
-    by : (b : Bool) (t : Told)
-        → filled Opens o (filled TitleOrFixed n (filled Nothing g (filled DefineIs d (Ok (record t { command = b }))))) ≡ filled Begins o (filled TitleIs n (filled Nothing g (filled Nothing d (Ok (record t { command = b })))))
-    by true t = refl
-    by false t = refl
-same_title o n g d (Err l) = refl
+  no_vendors : (vs : List VendorDef) → has_none vs ≡ true → vs ≡ []
+  no_vendors [] h = refl
+  no_vendors (v ∷ vs) h = absurd cc
 
-title_tells : (last line : ℕ) (name : List ℕ) (ws : List Word) (items : List Written) → is_proper_name name ≡ true
-    → filled Begins (word symbols.Less (60 ∷ []) line) (filled TitleIs (word_of line name) (filled Nothing (word symbols.Greater (62 ∷ []) line) (filled Nothing (word symbols.Define (codes "::=") line) (filled Nothing (word symbols.Less (60 ∷ []) line) (collect last Head ws))))) ≡ Ok (items_only items)
-    → Tells last (title_words line name ws) items
-title_tells last line name ws items h e =
-    let less = word symbols.Less (60 ∷ []) line in
-    let greater = word symbols.Greater (62 ∷ []) line in
-    let define = word symbols.Define (codes "::=") line in
-    let behind : Result Told ℕ = filled Nothing less (collect last Head ws) in
-    let text : collect last Text (title_words line name ws) ≡ Ok (items_only items) =
-    ap (filled Begins less) (at_title last (word_of line name) (greater ∷ define ∷ less ∷ ws) (name_symbol name h))
-    ∙ e in
-    let rule : collect last Rule (title_words line name ws) ≡ Ok (items_only items) =
-    ap (filled Opens less) (at_angle last (word_of line name) (greater ∷ define ∷ less ∷ ws) (name_symbol name h))
-    ∙ same_title less (word_of line name) greater define behind ∙ e in
-    record { text = text; typed = text; rule = rule }
-
-plain_tells : (last line : ℕ) (a : AvpDef) (ws : List Word) (items : List Written) → is_proper_name a.name ≡ true
-    → Tells last ws items → Tells last (plain_words line a ws) (written_plain line a ∷ items)
-plain_tells last line a ws items h t =
-    let text : collect last Text (plain_words line a ws) ≡ Ok
-    (items_only (written_plain line a ∷ items)) = by a.vendor in
-    record { text = text; typed = text; rule = text }
-  where
-    at_word : Word
-    at_word = word symbols.At (64 ∷ []) line
-
-    by : (vendor : Option ℕ)
-        → collect last Text (at_word ∷ word_of line a.name ∷ number_word line a.code ∷ word_of line (type_name a.kind) ∷ option_words line vendor ws)
-        ≡ Ok (items_only (AvpIs (record { name = word_of line a.name; code = number_word line a.code; kind = word_of line (type_name a.kind); vendor = written_option line vendor }) ∷ items))
-    by None =
-        ap (filled Begins at_word)
-        (at_sign last (word_of line a.name) (number_word line a.code ∷ word_of line (type_name a.kind) ∷ ws) (name_symbol a.name h)
-        ∙ ap (λ r. filled NameOfAvp (word_of line a.name) (filled CodeIs (number_word line a.code) r))
-        (at_kind last (word_of line (type_name a.kind)) ws (type_symbol a.kind)
-        ∙ ap (filled KindIs (word_of line (type_name a.kind))) t.typed))
-    by (Some v) =
-        ap (filled Begins at_word)
-        (at_sign last (word_of line a.name) (number_word line a.code ∷ word_of line (type_name a.kind) ∷ number_word line v ∷ ws) (name_symbol a.name h)
-        ∙ ap (λ r. filled NameOfAvp (word_of line a.name) (filled CodeIs (number_word line a.code) r))
-        (at_kind last (word_of line (type_name a.kind)) (number_word line v ∷ ws) (type_symbol a.kind)
-        ∙ ap (λ r. filled KindIs (word_of line (type_name a.kind)) (filled SecondIs (number_word line v) r)) t.text))
-
-group_tells : (last line : ℕ) (a : AvpDef) (ws : List Word) (items : List Written) → is_proper_name a.name ≡ true
-    → is_sound_rule a.rule ≡ true → Tells last ws items
-    → Tells last (group_words line a ws) (written_group line a ∷ items)
-group_tells last line a ws items h g t = by a.vendor
-  where
-    less : Word
-    less = word symbols.Less (60 ∷ []) line
-
-    greater : Word
-    greater = word symbols.Greater (62 ∷ []) line
-
-    define : Word
-    define = word symbols.Define (codes "::=") line
-
-    title : Result Told ℕ → Result Told ℕ
-    title r =
-        filled Begins less
-        (filled TitleIs (word_of line a.name) (filled Nothing greater (filled Nothing define (filled Nothing less r))))
-
-    head : Result Told ℕ → Result Told ℕ
-    head r = filled GroupHead (word symbols.Avp (codes "AVP") line) (filled Nothing (word symbols.Header (codes "Header") line) (filled Nothing (word symbols.Colon (58 ∷ []) line) (filled CodeIs (number_word line a.code) r)))
-
-    by : (vendor : Option ℕ)
-        → Tells last (title_words line a.name (word symbols.Avp (codes "AVP") line ∷ word symbols.Header (codes "Header") line ∷ word symbols.Colon (58 ∷ []) line ∷ number_word line a.code ∷ option_words line vendor (end_words line a.rule ws)))
-        (GroupIs (record { name = word_of line a.name; code = number_word line a.code; vendor = written_option line vendor; rule = written_rule line a.rule }) ∷ items)
-    by None =
-        title_tells last line a.name _ _ h
-        (ap (λ r. title (head (filled Rules greater r))) (rule_tells last line [] a.rule ws items g t))
-    by (Some v) =
-        title_tells last line a.name _ _ h
-        (ap (λ r. title (head (filled SecondIs (number_word line v) (filled Rules greater r)))) (rule_tells last line [] a.rule ws items g t))
-
-command_tells : (last line : ℕ) (c : CommandDef) (ws : List Word) (items : List Written) → is_proper_name c.name ≡ true
-    → is_sound_rule c.rule ≡ true → Tells last ws items
-    → Tells last (command_words line c ws) (written_command line c ∷ items)
-command_tells last line c ws items h g t = by c.request c.proxiable c.err
-  where
-    less : Word
-    less = word symbols.Less (60 ∷ []) line
-
-    greater : Word
-    greater = word symbols.Greater (62 ∷ []) line
-
-    define : Word
-    define = word symbols.Define (codes "::=") line
-
-    comma : Word
-    comma = word symbols.Comma (44 ∷ []) line
-
-    title : Result Told ℕ → Result Told ℕ
-    title r =
-        filled Begins less
-        (filled TitleIs (word_of line c.name) (filled Nothing greater (filled Nothing define (filled Nothing less r))))
-
-    head : Result Told ℕ → Result Told ℕ
-    head r = filled CommandHead (word symbols.Diameter (codes "Diameter") line) (filled Nothing (word symbols.Header (codes "Header") line) (filled Nothing (word symbols.Colon (58 ∷ []) line) (filled CodeIs (number_word line c.code) r)))
-
-    req : Result Told ℕ → Result Told ℕ
-    req r = filled Nothing comma (filled Request (word symbols.Req (codes "REQ") line) r)
-
-    pxy : Result Told ℕ → Result Told ℕ
-    pxy r = filled Nothing comma (filled Proxiable (word symbols.Pxy (codes "PXY") line) r)
-
-    err : Result Told ℕ → Result Told ℕ
-    err r = filled Nothing comma (filled Error (word symbols.Err (codes "ERR") line) r)
-
-    tail : Result Told ℕ → Result Told ℕ
-    tail r = filled SecondIs (number_word line c.application) (filled Rules greater r)
-
-    by : (request proxiable error : Bool)
-        → Tells last (title_words line c.name (word symbols.Diameter (codes "Diameter") line ∷ word symbols.Header (codes "Header") line ∷ word symbols.Colon (58 ∷ []) line ∷ number_word line c.code
-        ∷ flag_words line request symbols.Req (codes "REQ") (flag_words line proxiable symbols.Pxy (codes "PXY") (flag_words line error symbols.Err (codes "ERR") (number_word line c.application ∷ end_words line c.rule ws)))))
-        (CommandIs (record { name = word_of line c.name; code = number_word line c.code; request = request; proxiable = proxiable; error = error; application = Some (number_word line c.application); rule = written_rule line c.rule }) ∷ items)
-    by true true true =
-        title_tells last line c.name _ _ h
-        (ap (λ r. title (head (req (pxy (err (tail r)))))) (rule_tells last line [] c.rule ws items g t))
-    by true true false =
-        title_tells last line c.name _ _ h
-        (ap (λ r. title (head (req (pxy (tail r))))) (rule_tells last line [] c.rule ws items g t))
-    by true false true =
-        title_tells last line c.name _ _ h
-        (ap (λ r. title (head (req (err (tail r))))) (rule_tells last line [] c.rule ws items g t))
-    by true false false =
-        title_tells last line c.name _ _ h
-        (ap (λ r. title (head (req (tail r)))) (rule_tells last line [] c.rule ws items g t))
-    by false true true =
-        title_tells last line c.name _ _ h
-        (ap (λ r. title (head (pxy (err (tail r))))) (rule_tells last line [] c.rule ws items g t))
-    by false true false =
-        title_tells last line c.name _ _ h
-        (ap (λ r. title (head (pxy (tail r)))) (rule_tells last line [] c.rule ws items g t))
-    by false false true =
-        title_tells last line c.name _ _ h
-        (ap (λ r. title (head (err (tail r)))) (rule_tells last line [] c.rule ws items g t))
-    by false false false =
-        title_tells last line c.name _ _ h
-        (ap (λ r. title (head (tail r))) (rule_tells last line [] c.rule ws items g t))
-
-avp_tells : (last line : ℕ) (before : List AvpDef) (a : AvpDef) (ws : List Word) (items : List Written)
-    → is_sound_avp before a ≡ true → Tells last ws items → Tells last (avp_words line a ws) (written_avp line a ∷ items)
-avp_tells last line before a ws items h t =
-    let p = avp_parts before a h in
-    by (is_grouped a.kind) (group_tells last line a ws items p.name p.rule t)
-    (plain_tells last line a ws items p.name t)
-  where
-    by : (b : Bool) → Tells last (group_words line a ws) (written_group line a ∷ items)
-        → Tells last (plain_words line a ws) (written_plain line a ∷ items)
-        → Tells last (if b then group_words line a ws else plain_words line a ws) ((if b then written_group line a else written_plain line a) ∷ items)
-    by true e g = e
-    by false e g = g
-
-pub avps_tell : (last line : ℕ) (before avps : List AvpDef) (ws : ℕ → List Word) (items : ℕ → List Written)
-    → each_after is_sound_avp before avps ≡ true → ((n : ℕ) → Tells last (ws n) (items n))
-    → Tells last (avps_words line avps ws) (written_avps line avps items)
-avps_tell last line before [] ws items h t = t line
-avps_tell last line before (a ∷ avps) ws items h t =
-    let (first, rest) = and_parts (is_sound_avp before a) (each_after is_sound_avp (before ++ a ∷ []) avps) h in
-    avp_tells last line before a (avps_words (line + 1) avps ws) (written_avps (line + 1) avps items) first
-    (avps_tell last (line + 1) (before ++ a ∷ []) avps ws items rest t)
-
-pub commands_tell : (last line : ℕ) (before commands : List CommandDef)
-    → each_after is_sound_command before commands ≡ true
-    → Tells last (commands_words commands line) (written_commands commands line)
-commands_tell last line before [] h = tells_nothing last
-commands_tell last line before (c ∷ commands) h =
-    let (first, rest) = and_parts (is_sound_command before c)
-    (each_after is_sound_command (before ++ c ∷ []) commands) h in
-    let p = command_parts before c first in
-    command_tells last line c (commands_words commands (line + 1)) (written_commands commands (line + 1)) p.name p.rule
-    (commands_tell last (line + 1) (before ++ c ∷ []) commands rest)
+  -- the printed words are the items
+  pub are_items : (d : Definitions) → each_after is_sound_vendor [] d.vendors ≡ true
+      → each_after is_sound_avp [] d.avps ≡ true → each_after is_sound_command [] d.commands ≡ true
+      → AreItems (written_all d (first_line (is_first_version d))) (version_words (is_first_version d) (all_words d))
+  are_items d g h k = by (is_first_version d) refl
+    where
+      by : (b : Bool) → is_first_version d ≡ b → AreItems (written_all d (first_line b)) (version_words b (all_words d))
+      by true e =
+          let (none, may) = and_parts (has_none d.vendors) (list_all (λ a. has_none a.values) d.avps) e in
+          let same : d.vendors ≡ [] = no_vendors d.vendors none in
+          inl (rw same (avps First 1 [] d.avps d.commands h may k))
+      by false e = inr (refl, (refl, (refl, vendors 2 [] d.vendors d.avps d.commands g h (all_may d.avps) k)))

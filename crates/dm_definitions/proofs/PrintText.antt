@@ -1,15 +1,17 @@
 -- The printed text piece by piece, each before what follows it.
-use Rattle.std.proofs.Common.{◌≡◌, ℕ, Bool, true, false, List, [], ◌∷◌, ◌++◌, codes, Option, Some, None, if◌then◌else◌, refl, ap, ◌∙◌, append_assoc}
+use Rattle.std.proofs.Common.{◌≡◌, ℕ, unsigned_abs, Bool, true, false, List, [], ◌∷◌, ◌++◌, codes, Option, Some, None, if◌then◌else◌, refl, ap, ◌∙◌, append_assoc}
 use Rattle.std.specs.Fmt.{decimal}
 use Rattle.std.specs.List.{flat_map}
 use Rattle.dm_grammar.specs.declared.item.Form.{Form}
 use Rattle.dm_grammar.specs.declared.item.Form.TheVariants.{Fixed, Required, Optional}
 use Rattle.dm_definitions.specs.declared.rule.Entry.{Entry}
+use Rattle.dm_definitions.specs.declared.values.EnumValue.{EnumValue}
+use Rattle.dm_definitions.specs.declared.def.VendorDef.{VendorDef}
 use Rattle.dm_definitions.specs.declared.def.AvpDef.{AvpDef}
 use Rattle.dm_definitions.specs.declared.def.CommandDef.{CommandDef}
 use Rattle.dm_definitions.specs.Definitions.{Definitions}
 use Rattle.dm_definitions.specs.Sound.{is_grouped}
-use Rattle.dm_definitions.specs.Printed.{type_name, spaced, spaced_number, spaced_option, decimal_option, opening, closing, entry_text, rule_text, line_end, plain_line, rule_end, group_head, group_line, avp_line, flag_text, flags_text, command_head, command_line, printed}
+use Rattle.dm_definitions.specs.Printed.{type_name, spaced, spaced_number, spaced_option, decimal_option, opening, closing, entry_text, rule_text, line_end, vendor_line, value_text, next_value, list_text, plain_end, plain_line, rule_end, group_head, group_line, avp_line, flag_text, flags_text, command_head, command_line, is_first_version, version_line, printed}
 
 abbrev pub number_then : ℕ → List ℕ → List ℕ
 number_then n s = 32 ∷ (decimal n ++ s)
@@ -40,8 +42,22 @@ end_then rule s = 32 ∷ 62 ∷ rule_then rule (10 ∷ s)
 abbrev pub title_then : List ℕ → List ℕ → List ℕ
 title_then name s = 60 ∷ 32 ∷ (name ++ 32 ∷ 62 ∷ 32 ∷ 58 ∷ 58 ∷ 61 ∷ 32 ∷ 60 ∷ 32 ∷ s)
 
+abbrev pub value_then : EnumValue → List ℕ → List ℕ
+value_then v s = 32 ∷ (v.name ++ number_then (unsigned_abs v.number) s)
+
+abbrev pub more_then : List EnumValue → List ℕ → List ℕ
+more_then [] s = s
+more_then (v ∷ vs) s = 44 ∷ value_then v (more_then vs s)
+
+abbrev pub list_then : List EnumValue → List ℕ → List ℕ
+list_then [] s = s
+list_then (v ∷ vs) s = 32 ∷ 123 ∷ value_then v (more_then vs (32 ∷ 125 ∷ s))
+
 abbrev pub plain_then : AvpDef → List ℕ → List ℕ
-plain_then a s = 64 ∷ 32 ∷ (a.name ++ number_then a.code (32 ∷ (type_name a.kind ++ option_then a.vendor (10 ∷ s))))
+plain_then a s = 64 ∷ 32 ∷ (a.name ++ number_then a.code (32 ∷ (type_name a.kind ++ option_then a.vendor (list_then a.values (10 ∷ s)))))
+
+abbrev pub vendor_then : VendorDef → List ℕ → List ℕ
+vendor_then v s = 64 ∷ 32 ∷ (codes "vendor" ++ 32 ∷ (v.name ++ number_then v.number (10 ∷ s)))
 
 abbrev pub group_then : AvpDef → List ℕ → List ℕ
 group_then a s = title_then a.name (codes "AVP Header:" ++ number_then a.code (option_then a.vendor (end_then a.rule s)))
@@ -61,6 +77,13 @@ command_then c s = title_then c.name (codes "Diameter Header:" ++ number_then c.
 abbrev pub avps_then : List AvpDef → List ℕ → List ℕ
 avps_then [] s = s
 avps_then (a ∷ avps) s = avp_then a (avps_then avps s)
+
+abbrev pub vendors_then : List VendorDef → List ℕ → List ℕ
+vendors_then [] s = s
+vendors_then (v ∷ vendors) s = vendor_then v (vendors_then vendors s)
+
+abbrev pub version_then : Bool → List ℕ → List ℕ
+version_then first s = if first then s else 64 ∷ 32 ∷ 50 ∷ 10 ∷ s
 
 abbrev pub commands_then : List CommandDef → List ℕ
 commands_then [] = []
@@ -112,10 +135,47 @@ rule-then (e ∷ rule) s =
 end-then : (rule : List Entry) (s : List ℕ) → rule_end rule ++ s ≡ end_then rule s
 end-then rule s = three (codes " >") (rule_text rule) line_end s ∙ ap (λ t. 32 ∷ 62 ∷ t) (rule-then rule (10 ∷ s))
 
+value-then : (v : EnumValue) (s : List ℕ) → value_text v ++ s ≡ value_then v s
+value-then v s = append_assoc (spaced v.name) (spaced_number (unsigned_abs v.number)) s
+
+more-then : (vs : List EnumValue) (s : List ℕ) → flat_map next_value vs ++ s ≡ more_then vs s
+more-then [] s = refl
+more-then (v ∷ vs) s =
+    append_assoc (next_value v) (flat_map next_value vs) s ∙ ap (λ t. next_value v ++ t) (more-then vs s) ∙ ap
+    (λ t. 44 ∷ t) (value-then v (more_then vs s))
+
+list-then : (vs : List EnumValue) (s : List ℕ) → list_text vs ++ s ≡ list_then vs s
+list-then [] s = refl
+list-then (v ∷ vs) s =
+    four (codes " {") (value_text v) (flat_map next_value vs) (codes " }") s
+    ∙ ap (λ t. 32 ∷ 123 ∷ (value_text v ++ t)) (more-then vs (32 ∷ 125 ∷ s))
+    ∙ ap (λ t. 32 ∷ 123 ∷ t) (value-then v (more_then vs (32 ∷ 125 ∷ s)))
+
+plain-end : (a : AvpDef) (s : List ℕ)
+    → plain_end a ++ s ≡ 32 ∷ (type_name a.kind ++ option_then a.vendor (list_then a.values (10 ∷ s)))
+plain-end a s =
+    four (spaced (type_name a.kind)) (spaced_option a.vendor) (list_text a.values) line_end s
+    ∙ ap (λ t. 32 ∷ (type_name a.kind ++ (spaced_option a.vendor ++ t))) (list-then a.values (10 ∷ s))
+    ∙ ap (λ t. 32 ∷ (type_name a.kind ++ t)) (option-then a.vendor (list_then a.values (10 ∷ s)))
+
 plain-then : (a : AvpDef) (s : List ℕ) → plain_line a ++ s ≡ plain_then a s
 plain-then a s =
-    six (codes "@ ") a.name (spaced_number a.code) (spaced (type_name a.kind)) (spaced_option a.vendor) line_end s
-    ∙ ap (λ t. 64 ∷ 32 ∷ (a.name ++ number_then a.code (32 ∷ (type_name a.kind ++ t)))) (option-then a.vendor (10 ∷ s))
+    four (codes "@ ") a.name (spaced_number a.code) (plain_end a) s ∙ ap
+    (λ t. 64 ∷ 32 ∷ (a.name ++ number_then a.code t)) (plain-end a s)
+
+vendor-then : (v : VendorDef) (s : List ℕ) → vendor_line v ++ s ≡ vendor_then v s
+vendor-then v s = four (codes "@ vendor ") v.name (spaced_number v.number) line_end s
+
+vendors-then : (vendors : List VendorDef) (s : List ℕ) → flat_map vendor_line vendors ++ s ≡ vendors_then vendors s
+vendors-then [] s = refl
+vendors-then (v ∷ vendors) s =
+    append_assoc (vendor_line v) (flat_map vendor_line vendors) s ∙ ap (λ t. vendor_line v ++ t) (vendors-then vendors s)
+    ∙ vendor-then v (vendors_then vendors s)
+
+version-then : (first : Bool) (s : List ℕ)
+    → (if first then [] else codes "@ 2" ++ line_end) ++ s ≡ version_then first s
+version-then true s = refl
+version-then false s = refl
 
 group-then : (a : AvpDef) (s : List ℕ) → group_line a ++ s ≡ group_then a s
 group-then a s =
@@ -157,6 +217,11 @@ commands-then [] = refl
 commands-then (c ∷ commands) =
     ap (λ t. command_line c ++ t) (commands-then commands) ∙ command-then c (commands_then commands)
 
-pub printed-then : (d : Definitions) → printed d ≡ avps_then d.avps (commands_then d.commands)
+pub printed-then : (d : Definitions)
+    → printed d ≡ version_then (is_first_version d) (vendors_then d.vendors (avps_then d.avps (commands_then d.commands)))
 printed-then d =
-    ap (λ t. flat_map avp_line d.avps ++ t) (commands-then d.commands) ∙ avps-then d.avps (commands_then d.commands)
+    three (version_line d) (flat_map vendor_line d.vendors) (flat_map avp_line d.avps) (flat_map command_line d.commands)
+    ∙ ap (λ t. version_line d ++ (flat_map vendor_line d.vendors ++ t))
+    (ap (λ t. flat_map avp_line d.avps ++ t) (commands-then d.commands) ∙ avps-then d.avps (commands_then d.commands))
+    ∙ ap (λ t. version_line d ++ t) (vendors-then d.vendors (avps_then d.avps (commands_then d.commands)))
+    ∙ version-then (is_first_version d) (vendors_then d.vendors (avps_then d.avps (commands_then d.commands)))

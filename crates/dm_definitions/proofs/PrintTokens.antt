@@ -1,5 +1,5 @@
 -- The tokens of each printed line.
-use Rattle.std.proofs.Common.{◌≡◌, ◌≤◌, ℕ, ◌+◌, Bool, true, false, ◌&&◌, not, nat_le, List, [], ◌∷◌, ◌++◌, codes, Option, Some, None, if◌then◌else◌, refl, ap, ◌∙◌, arith}
+use Rattle.std.proofs.Common.{◌≡◌, ◌≤◌, ℕ, ℤ, pos, negsuc, unsigned_abs, ◌+◌, Bool, true, false, ◌&&◌, not, nat_le, List, [], ◌∷◌, ◌++◌, codes, Option, Some, None, if◌then◌else◌, refl, ap, ◌∙◌, arith}
 use Rattle.std.proofs.lemmas.Bool.{and_parts, leb-true}
 use Rattle.std.specs.Char.{is_ascii_alphanumeric, is_ascii_digit}
 use Rattle.std.specs.Fmt.{decimal}
@@ -13,12 +13,14 @@ use Rattle.dm_grammar.specs.Tokens.{Word, tokens_from}
 use Rattle.dm_value.specs.declared.avp_type.AvpType.{AvpType}
 use Rattle.dm_value.specs.declared.avp_type.AvpType.TheVariants.{OctetString, Integer32, Integer64, Unsigned32, Unsigned64, Address, Time, UTF8String, DiameterIdentity, DiameterURI, Enumerated, Grouped}
 use Rattle.dm_definitions.specs.declared.rule.Entry.{Entry}
+use Rattle.dm_definitions.specs.declared.values.EnumValue.{EnumValue}
+use Rattle.dm_definitions.specs.declared.def.VendorDef.{VendorDef}
 use Rattle.dm_definitions.specs.declared.def.AvpDef.{AvpDef}
 use Rattle.dm_definitions.specs.declared.def.CommandDef.{CommandDef}
-use Rattle.dm_definitions.specs.Sound.{is_proper_name, fits, fits_option, bounds, is_grouped, each_after, is_sound_entry, is_sound_rule, is_sound_avp, is_sound_command}
+use Rattle.dm_definitions.specs.Sound.{is_proper_name, fits, fits_option, bounds, is_grouped, each_after, is_sound_entry, is_sound_rule, is_sound_avp, is_sound_command, is_listable, is_sound_value, is_sound_list, is_sound_vendor}
 use Rattle.dm_definitions.specs.Printed.{type_name}
-use Rattle.dm_definitions.proofs.Parts.{avp_parts, command_parts}
-use Rattle.dm_definitions.proofs.PrintText.{number_then, option_then, bound_then, bracket_then, entry_then, rule_then, end_then, title_then, plain_then, group_then, avp_then, flag_then, flags_then, command_then, avps_then, commands_then}
+use Rattle.dm_definitions.proofs.Parts.{avp_parts, command_parts, value_parts, vendor_parts}
+use Rattle.dm_definitions.proofs.PrintText.{number_then, option_then, value_then, more_then, list_then, vendor_then, vendors_then, version_then, bound_then, bracket_then, entry_then, rule_then, end_then, title_then, plain_then, group_then, avp_then, flag_then, flags_then, command_then, avps_then, commands_then}
 use Rattle.dm_definitions.proofs.PrintWords.{word, word_of, number_word, is_wordish, breaks, word_tokens, number_tokens}
 
 -- the words of each piece, before those that follow
@@ -47,10 +49,34 @@ end_words line rule ws = word Greater (62 ∷ []) line ∷ rule_words line rule 
 abbrev pub title_words : ℕ → List ℕ → List Word → List Word
 title_words line name ws = word Less (60 ∷ []) line ∷ word_of line name ∷ word Greater (62 ∷ []) line ∷ word Define (codes "::=") line ∷ word Less (60 ∷ []) line ∷ ws
 
+abbrev pub value_words : ℕ → EnumValue → List Word → List Word
+value_words line v ws = word_of line v.name ∷ number_word line (unsigned_abs v.number) ∷ ws
+
+abbrev pub more_words : ℕ → List EnumValue → List Word → List Word
+more_words line [] ws = ws
+more_words line (v ∷ vs) ws = word Comma (44 ∷ []) line ∷ value_words line v (more_words line vs ws)
+
+abbrev pub list_words : ℕ → List EnumValue → List Word → List Word
+list_words line [] ws = ws
+list_words line (v ∷ vs) ws =
+    word OpenBrace (123 ∷ []) line ∷ value_words line v (more_words line vs (word CloseBrace (125 ∷ []) line ∷ ws))
+
+abbrev pub vendor_words : ℕ → VendorDef → List Word → List Word
+vendor_words line v ws =
+    word At (64 ∷ []) line ∷ word_of line (codes "vendor") ∷ word_of line v.name ∷ number_word line v.number ∷ ws
+
+abbrev pub vendors_words : ℕ → List VendorDef → (ℕ → List Word) → List Word
+vendors_words line [] ws = ws line
+vendors_words line (v ∷ vendors) ws = vendor_words line v (vendors_words (line + 1) vendors ws)
+
+-- the words from line 1, behind the version
+abbrev pub version_words : Bool → (ℕ → List Word) → List Word
+version_words first ws = if first then ws 1 else word At (64 ∷ []) 1 ∷ word_of 1 (codes "2") ∷ ws 2
+
 abbrev pub plain_words : ℕ → AvpDef → List Word → List Word
 plain_words line a ws =
     word At (64 ∷ []) line ∷ word_of line a.name ∷ number_word line a.code ∷ word_of line
-    (type_name a.kind) ∷ option_words line a.vendor ws
+    (type_name a.kind) ∷ option_words line a.vendor (list_words line a.values ws)
 
 abbrev pub group_words : ℕ → AvpDef → List Word → List Word
 group_words line a ws =
@@ -167,17 +193,65 @@ title_tokens line name s h =
     ap (λ ws. word Less (60 ∷ []) line ∷ ws)
     (word_tokens line name (32 ∷ 62 ∷ 32 ∷ 58 ∷ 58 ∷ 61 ∷ 32 ∷ 60 ∷ 32 ∷ s) h refl)
 
-plain_tokens : (line : ℕ) (a : AvpDef) (s : List ℕ) → is_wordish a.name ≡ true → fits a.code ≡ true
-    → fits_option a.vendor ≡ true
-    → tokens_from 0 line (plain_then a s) ≡ plain_words line a (tokens_from 0 (line + 1) s)
-plain_tokens line a s named code vendor =
+listable_small : (z : ℤ) → is_listable z ≡ true → unsigned_abs z ≤ 4294967295
+listable_small (pos n) h = let small : n ≤ 2147483647 = leb-true n 2147483647 h in omega arith
+listable_small (negsuc n) h = absurd cc
+
+value_tokens : (line : ℕ) (v : EnumValue) (s : List ℕ) → is_proper_name v.name ≡ true → is_listable v.number ≡ true
+    → breaks s ≡ true → tokens_from 0 line (value_then v s) ≡ value_words line v (tokens_from 0 line s)
+value_tokens line v s named number b =
+    word_tokens line v.name (number_then (unsigned_abs v.number) s) (name_wordish v.name named) refl
+    ∙ ap (λ ws. word_of line v.name ∷ ws)
+    (number_tokens line (unsigned_abs v.number) s (listable_small v.number number) b)
+
+more_breaks : (vs : List EnumValue) (s : List ℕ) → breaks s ≡ true → breaks (more_then vs s) ≡ true
+more_breaks [] s b = b
+more_breaks (v ∷ vs) s b = refl
+
+more_tokens : (line : ℕ) (before vs : List EnumValue) (s : List ℕ) → each_after is_sound_value before vs ≡ true
+    → breaks s ≡ true → tokens_from 0 line (more_then vs s) ≡ more_words line vs (tokens_from 0 line s)
+more_tokens line before [] s h b = refl
+more_tokens line before (v ∷ vs) s h b =
+    let (first, rest) = and_parts (is_sound_value before v) (each_after is_sound_value (before ++ v ∷ []) vs) h in
+    let p = value_parts before v first in
+    ap (λ ws. word Comma (44 ∷ []) line ∷ ws)
+    (value_tokens line v (more_then vs s) p.name p.number (more_breaks vs s b) ∙ ap (value_words line v) (more_tokens line (before ++ v ∷ []) vs s rest b))
+
+list_breaks : (vs : List EnumValue) (s : List ℕ) → breaks s ≡ true → breaks (list_then vs s) ≡ true
+list_breaks [] s b = b
+list_breaks (v ∷ vs) s b = refl
+
+list_tokens : (line : ℕ) (vs : List EnumValue) (s : List ℕ) → is_sound_list vs ≡ true
+    → tokens_from 0 line (list_then vs s) ≡ list_words line vs (tokens_from 0 line s)
+list_tokens line [] s h = refl
+list_tokens line (v ∷ vs) s h =
+    let (first, rest) = and_parts (is_sound_value [] v) (each_after is_sound_value (v ∷ []) vs) h in
+    let p = value_parts [] v first in
+    ap (λ ws. word OpenBrace (123 ∷ []) line ∷ ws)
+    (value_tokens line v (more_then vs (32 ∷ 125 ∷ s)) p.name p.number (more_breaks vs (32 ∷ 125 ∷ s) refl) ∙ ap (value_words line v) (more_tokens line (v ∷ []) vs (32 ∷ 125 ∷ s) rest refl))
+
+vendor_tokens : (line : ℕ) (v : VendorDef) (s : List ℕ) → is_wordish v.name ≡ true → fits v.number ≡ true
+    → tokens_from 0 line (vendor_then v s) ≡ vendor_words line v (tokens_from 0 (line + 1) s)
+vendor_tokens line v s named number =
     ap (λ ws. word At (64 ∷ []) line ∷ ws)
-    (word_tokens line a.name (number_then a.code (32 ∷ (type_name a.kind ++ option_then a.vendor (10 ∷ s)))) named refl
+    (word_tokens line (codes "vendor") (32 ∷ (v.name ++ number_then v.number (10 ∷ s))) refl refl
+    ∙ ap (λ ws. word_of line (codes "vendor") ∷ ws)
+    (word_tokens line v.name (number_then v.number (10 ∷ s)) named refl
+    ∙ ap (λ ws. word_of line v.name ∷ ws) (number_tokens line v.number (10 ∷ s) (small v.number number) refl)))
+
+plain_tokens : (line : ℕ) (a : AvpDef) (s : List ℕ) → is_wordish a.name ≡ true → fits a.code ≡ true
+    → fits_option a.vendor ≡ true → is_sound_list a.values ≡ true
+    → tokens_from 0 line (plain_then a s) ≡ plain_words line a (tokens_from 0 (line + 1) s)
+plain_tokens line a s named code vendor listed =
+    let list : List ℕ = list_then a.values (10 ∷ s) in
+    ap (λ ws. word At (64 ∷ []) line ∷ ws)
+    (word_tokens line a.name (number_then a.code (32 ∷ (type_name a.kind ++ option_then a.vendor list))) named refl
     ∙ ap (λ ws. word_of line a.name ∷ ws)
-    (number_tokens line a.code (32 ∷ (type_name a.kind ++ option_then a.vendor (10 ∷ s))) (small a.code code) refl
+    (number_tokens line a.code (32 ∷ (type_name a.kind ++ option_then a.vendor list)) (small a.code code) refl
     ∙ ap (λ ws. number_word line a.code ∷ ws)
-    (word_tokens line (type_name a.kind) (option_then a.vendor (10 ∷ s)) (type_wordish a.kind) (option_breaks a.vendor (10 ∷ s) refl)
-    ∙ ap (λ ws. word_of line (type_name a.kind) ∷ ws) (option_tokens line a.vendor (10 ∷ s) vendor refl))))
+    (word_tokens line (type_name a.kind) (option_then a.vendor list) (type_wordish a.kind) (option_breaks a.vendor list (list_breaks a.values (10 ∷ s) refl))
+    ∙ ap (λ ws. word_of line (type_name a.kind) ∷ ws)
+    (option_tokens line a.vendor list vendor (list_breaks a.values (10 ∷ s) refl) ∙ ap (option_words line a.vendor) (list_tokens line a.values (10 ∷ s) listed)))))
 
 avp_header_tokens : (line : ℕ) (s : List ℕ)
     → tokens_from 0 line (codes "AVP Header:" ++ 32 ∷ s) ≡ word Avp (codes "AVP") line ∷ word Header (codes "Header") line ∷ word Colon (58 ∷ []) line ∷ tokens_from 0 line s
@@ -253,7 +327,7 @@ avp_tokens : (line : ℕ) (before : List AvpDef) (a : AvpDef) (s : List ℕ) →
 avp_tokens line before a s h =
     let p = avp_parts before a h in
     by (is_grouped a.kind) (group_tokens line a s (name_wordish a.name p.name) p.code p.vendor p.rule)
-    (plain_tokens line a s (name_wordish a.name p.name) p.code p.vendor)
+    (plain_tokens line a s (name_wordish a.name p.name) p.code p.vendor p.list)
   where
     by : (b : Bool) → tokens_from 0 line (group_then a s) ≡ group_words line a (tokens_from 0 (line + 1) s)
         → tokens_from 0 line (plain_then a s) ≡ plain_words line a (tokens_from 0 (line + 1) s)
@@ -269,6 +343,21 @@ avps_tokens line before (a ∷ avps) s ws h e =
     let (first, rest) = and_parts (is_sound_avp before a) (each_after is_sound_avp (before ++ a ∷ []) avps) h in
     avp_tokens line before a (avps_then avps s) first ∙ ap (avp_words line a)
     (avps_tokens (line + 1) (before ++ a ∷ []) avps s ws rest e)
+
+pub vendors_tokens : (line : ℕ) (before vendors : List VendorDef) (s : List ℕ) (ws : ℕ → List Word)
+    → each_after is_sound_vendor before vendors ≡ true → ((n : ℕ) → tokens_from 0 n s ≡ ws n)
+    → tokens_from 0 line (vendors_then vendors s) ≡ vendors_words line vendors ws
+vendors_tokens line before [] s ws h e = e line
+vendors_tokens line before (v ∷ vendors) s ws h e =
+    let (first, rest) = and_parts (is_sound_vendor before v) (each_after is_sound_vendor (before ++ v ∷ []) vendors) h in
+    let p = vendor_parts before v first in
+    vendor_tokens line v (vendors_then vendors s) (name_wordish v.name p.name) p.number ∙ ap (vendor_words line v)
+    (vendors_tokens (line + 1) (before ++ v ∷ []) vendors s ws rest e)
+
+pub version_tokens : (first : Bool) (s : List ℕ) (ws : ℕ → List Word) → ((n : ℕ) → tokens_from 0 n s ≡ ws n)
+    → tokens_from 0 1 (version_then first s) ≡ version_words first ws
+version_tokens true s ws e = e 1
+version_tokens false s ws e = ap (λ l. word At (64 ∷ []) 1 ∷ word_of 1 (codes "2") ∷ l) (e 2)
 
 pub commands_tokens : (line : ℕ) (before commands : List CommandDef)
     → each_after is_sound_command before commands ≡ true

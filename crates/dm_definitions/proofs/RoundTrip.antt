@@ -1,39 +1,44 @@
 -- The printed text of a dictionary defines the same dictionary.
-use Rattle.std.proofs.Common.{◌≡◌, true, List, [], Ok, sym, ap, ◌∙◌}
+use Rattle.std.proofs.Common.{◌≡◌, ◌↔◌, ℕ, true, false, List, [], Ok, sym, ap, subst, ◌∙◌}
 use Rattle.std.proofs.lemmas.Bool.{and_parts}
-use Rattle.std.specs.List.{list_all, flat_map}
-use Rattle.dm_grammar.specs.Tokens.{tokens, last_line}
+use Rattle.std.specs.List.{list_all}
+use Rattle.dm_grammar.specs.Grammar as grammar
+use Rattle.dm_grammar.specs.Symbols.{is_number, symbol_of_word}
+use Rattle.dm_grammar.specs.Tokens.{Word, tokens}
 use Rattle.dm_grammar.specs.Items.{Written}
-use Rattle.dm_grammar.specs.Places.Place.{Text}
-use Rattle.dm_grammar.specs.Told.{collect, items_told, told}
+use Rattle.dm_grammar.specs.Spelling.{AreItems}
+use Rattle.dm_grammar.specs.Told.{told}
 use Rattle.dm_definitions.specs.Definitions.{Definitions, nothing_defined}
-use Rattle.dm_definitions.specs.Sound.{each_after, is_sound, is_sound_avp, is_sound_command, is_closed, knows_rule}
-use Rattle.dm_definitions.specs.Printed.{printed}
-use Rattle.dm_definitions.specs.Meaning.{with_items}
-use Rattle.dm_definitions.specs.Faults.{items_faults, unknown}
+use Rattle.dm_definitions.specs.Sound.{is_sound, is_closed, knows_rule}
+use Rattle.dm_definitions.specs.Printed.{printed, is_first_version}
+use Rattle.dm_definitions.specs.Meaning.{made, with_items}
+use Rattle.dm_definitions.specs.Faults.{items_faults, items_unknown}
 use Rattle.dm_definitions.specs.Outcome.{Defines}
 use Rattle.dm_definitions.proofs.Along.{none_both}
-use Rattle.dm_definitions.proofs.PrintText.{printed-then, commands_then}
-use Rattle.dm_definitions.proofs.PrintTokens.{avps_words, commands_words, avps_tokens, commands_tokens}
-use Rattle.dm_definitions.proofs.PrintItems.{written_avps, written_commands, avps_tell, commands_tell}
-use Rattle.dm_definitions.proofs.PrintDefined.{AreAdded, avps_added, no_unknown}
+use Rattle.dm_definitions.proofs.Parts.{sound_parts}
+use Rattle.dm_definitions.proofs.PrintText.{printed-then, vendors_then, avps_then, commands_then}
+use Rattle.dm_definitions.proofs.PrintTokens.{version_words, version_tokens, vendors_tokens, avps_tokens, commands_tokens, avps_words, commands_words}
+use Rattle.dm_definitions.proofs.PrintItems.{written_all, all_words, first_line, are_items}
+use Rattle.dm_definitions.proofs.PrintDefined.{AreAdded, all_added, no_unknown}
 
-pub printed_again : (d : Definitions) → is_sound d ≡ true → is_closed d ≡ true → Defines (printed d) nothing_defined d
-printed_again d sound closed =
-    let (avps, commands) = and_parts (each_after is_sound_avp [] d.avps)
-    (each_after is_sound_command [] d.commands) sound in
+pub printed_again : ((w : List ℕ) → is_number w ≡ false → grammar.is_name (symbol_of_word w) ≡ true)
+    → ((text : List ℕ) (items : List Written) → (told text ≡ Ok items) ↔ AreItems items (tokens text))
+    → (d : Definitions) → is_sound d ≡ true → is_closed d ≡ true → Defines (printed d) nothing_defined d
+printed_again names law d sound closed =
+    let parts = sound_parts d sound in
     let (known, known_too) = and_parts (list_all (λ a. knows_rule d.avps a.rule) d.avps)
     (list_all (λ c. knows_rule d.avps c.rule) d.commands) closed in
-    let items : List Written = written_avps 1 d.avps (written_commands d.commands) in
-    let words : tokens (printed d) ≡ avps_words 1 d.avps (commands_words d.commands) =
-    ap tokens (printed-then d) ∙ avps_tokens 1 [] d.avps (commands_then d.commands) (commands_words d.commands) avps
-    (λ n. commands_tokens n [] d.commands commands) in
-    let tells = avps_tell (last_line (printed d)) 1 [] d.avps (commands_words d.commands)
-    (written_commands d.commands) avps (λ n. commands_tell (last_line (printed d)) n [] d.commands commands) in
-    let grammatical : told (printed d) ≡ Ok items = ap
-    (λ ws. items_told (collect (last_line (printed d)) Text ws)) words ∙ ap items_told tells.text in
-    let added : AreAdded nothing_defined items d = avps_added 1 nothing_defined d.avps d.commands avps commands in
-    let none : flat_map (unknown d.avps) items ≡ [] = no_unknown 1 d.avps d.avps d.commands known known_too in
-    let nothing_unknown : flat_map (unknown (with_items nothing_defined items).avps) items ≡ [] = ap
-    (λ x. flat_map (unknown x.avps) items) added.added ∙ none in
-    record { items = items; grammatical = grammatical; faultless = none_both (items_faults nothing_defined items) _ added.faultless nothing_unknown; followed = sym added.added }
+    let first = is_first_version d in
+    let items : List Written = written_all d (first_line first) in
+    let words : tokens (printed d) ≡ version_words first (all_words d) =
+    ap tokens (printed-then d) ∙ version_tokens first (vendors_then d.vendors (avps_then d.avps (commands_then d.commands))) (all_words d)
+    (λ m. vendors_tokens m [] d.vendors (avps_then d.avps (commands_then d.commands)) (λ n. avps_words n d.avps (commands_words d.commands)) parts.vendors
+    (λ n. avps_tokens n [] d.avps (commands_then d.commands) (commands_words d.commands) parts.avps
+    (λ k. commands_tokens k [] d.commands parts.commands))) in
+    let spelled : AreItems items (tokens (printed d)) = subst (λ (ws : List Word). AreItems items ws) (sym words)
+    (are_items names d parts.vendors parts.avps parts.commands) in
+    let grammatical : told (printed d) ≡ Ok items = (law (printed d) items).1 spelled in
+    let added : AreAdded nothing_defined items d = all_added (first_line first) d parts.vendors parts.avps parts.commands in
+    let nothing_unknown : items_unknown (with_items (made nothing_defined) items) [] items ≡ [] = ap
+    (λ m. items_unknown m [] items) added.added ∙ no_unknown (first_line first) d known known_too in
+    record { items = items; grammatical = grammatical; faultless = none_both (items_faults (made nothing_defined) items) _ added.faultless nothing_unknown; followed = ap (λ m. m.definitions) (sym added.added) }

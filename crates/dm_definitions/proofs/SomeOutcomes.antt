@@ -5,7 +5,7 @@ use Rattle.dm_grammar.specs.Told.{told}
 use Rattle.dm_definitions.specs.declared.fault.DictFault.{DictFault}
 use Rattle.dm_definitions.specs.declared.fault.DictFault.TheVariants.{Syntax}
 use Rattle.dm_definitions.specs.Definitions.{Definitions}
-use Rattle.dm_definitions.specs.Meaning.{with_items}
+use Rattle.dm_definitions.specs.Meaning.{made, with_items}
 use Rattle.dm_definitions.specs.Faults.{first_of}
 use Rattle.dm_definitions.specs.Outcome.{all_faults, Defines, IsFirstFault}
 
@@ -16,7 +16,7 @@ Outcome text old = ((new : Definitions) × Defines text old new) ⊎ ((f : DictF
 by_faults : (text : List ℕ) (old : Definitions) (items : List Written) → told text ≡ Ok items
     → (faults : List DictFault) → all_faults old items ≡ faults → Outcome text old
 by_faults text old items grammatical [] none =
-    inl (with_items old items, record { items = items; grammatical = grammatical; faultless = none; followed = refl })
+    inl ((with_items (made old) items).definitions, record { items = items; grammatical = grammatical; faultless = none; followed = refl })
 by_faults text old items grammatical (f ∷ faults) some =
     inr (f, inr (record { items = items; grammatical = grammatical; first = ap first_of some }))
 

@@ -1,25 +1,32 @@
 -- Items without fault give sound definitions.
-use Rattle.std.proofs.Common.{◌≡◌, ℕ, Bool, true, false, ◌&&◌, ◌||◌, not, nat_lt, List, [], ◌∷◌, ◌++◌, map, fold, Option, Some, None, option_map, unwrap_or, refl, sym, subst, ◌∙◌, append_assoc, append-nil}
+use Rattle.std.proofs.Common.{◌≡◌, ℕ, pos, cond, codes, find, ap, Bool, true, false, ◌&&◌, ◌||◌, not, nat_lt, List, [], ◌∷◌, ◌++◌, map, fold, Option, Some, None, option_map, unwrap_or, refl, sym, subst, ◌∙◌, append_assoc, append-nil}
 use Rattle.std.proofs.lemmas.Bool.{and_parts, ltb-false, le-leb}
 use Rattle.std.specs.List.{list_any, list_all}
+use Rattle.std.specs.Cmp.Lexicographic.{same_text}
 use Rattle.dm_grammar.specs.declared.item.Form.{Form}
 use Rattle.dm_grammar.specs.declared.item.Form.TheVariants.{Fixed, Required, Optional}
 use Rattle.dm_grammar.specs.Tokens.{Word}
 use Rattle.dm_grammar.specs.Items as written
-use Rattle.dm_grammar.specs.Items.{AvpParts, GroupParts, CommandParts, Range}
+use Rattle.dm_grammar.specs.Items.{VendorParts, CommandParts, Vend, Range}
+use Rattle.dm_grammar.specs.Items.Vend.{NumberedBy, NamedBy}
 use Rattle.dm_definitions.specs.declared.fault.DictFault.{DictFault}
 use Rattle.dm_definitions.specs.declared.fault.DictFault.TheVariants.{Duplicate}
 use Rattle.dm_value.specs.declared.avp_type.AvpType.{AvpType}
+use Rattle.dm_value.specs.declared.avp_type.AvpType.TheVariants.{OctetString, Enumerated}
 use Rattle.dm_definitions.specs.declared.rule.Entry.{Entry}
+use Rattle.dm_definitions.specs.declared.values.EnumValue.{EnumValue}
+use Rattle.dm_definitions.specs.declared.def.VendorDef.{VendorDef}
 use Rattle.dm_definitions.specs.declared.def.AvpDef.{AvpDef}
 use Rattle.dm_definitions.specs.declared.def.CommandDef.{CommandDef}
 use Rattle.dm_definitions.specs.EntryEquality.{form_number}
-use Rattle.dm_definitions.specs.Sound.{each_after, is_sound_entry, is_sound_rule, is_sound_avp, is_sound_command, is_proper_name, is_any, fits, fits_option, bounds, is_repeated, is_late, is_grouped, is_empty_rule}
-use Rattle.dm_definitions.specs.Definitions.{is_named, is_coded, is_titled, is_headed}
-use Rattle.dm_definitions.specs.Meaning.{number, plain_min, starred_min, low_or, min_of, max_of, entry_of}
-use Rattle.dm_definitions.specs.Faults.{fault_if, range_faults, option_faults, low_faults, above_faults, high_faults, bound_faults, place_faults, rule_entry_faults, with_entry, rule_faults, faults_along, limit, command_limit, name_faults, code_faults, title_faults, head_faults}
-use Rattle.dm_definitions.specs.Worded.{are_named}
+use Rattle.dm_definitions.specs.Sound.{each_after, is_sound_entry, is_sound_rule, is_sound_avp, is_sound_command, is_proper_name, is_any, fits, fits_option, bounds, is_repeated, is_late, is_grouped, is_empty_rule, is_value, is_listable, is_sound_value, is_sound_list, is_enumerated, is_empty_list, is_sound_vendor}
+use Rattle.dm_definitions.specs.Listed.{has_number}
+use Rattle.dm_definitions.specs.Definitions.{is_vendor, has_vendor_number, is_named, is_coded, is_titled, is_headed}
+use Rattle.dm_definitions.specs.Meaning.{number, plain_min, starred_min, low_or, min_of, max_of, kind_of, entry_of, value_of, vendor_def_of, vendor_number, vendor_of, Made}
+use Rattle.dm_definitions.specs.Faults.{fault_if, range_faults, option_faults, low_faults, above_faults, high_faults, bound_faults, place_faults, rule_entry_faults, with_entry, rule_faults, faults_along, limit, command_limit, vendor_item_faults, is_defined, is_taken, vend_faults, value_limit, value_faults, with_value, list_faults, name_faults, code_faults, title_faults, head_faults}
+use Rattle.dm_definitions.specs.Worded.{are_named, are_worded_values, may_list}
 use Rattle.dm_definitions.proofs.Along.{none_left, none_right}
+use Rattle.dm_definitions.proofs.Parts.{vendor_parts}
 
 no_fault : (b : Bool) (f : DictFault) → fault_if b f ≡ [] → b ≡ false
 no_fault true f e = absurd cc
@@ -116,35 +123,146 @@ sound_rule es rule e named none =
 pub rule_is : (es : List written.Entry) (rule : List Entry) → rule ≡ fold with_entry [] es → rule ≡ map entry_of es
 rule_is es rule e = e ∙ fold-with_entry [] es
 
-sound_record : (before : List AvpDef) (name code : Word) (vendor : Option Word) (kind : AvpType) (rule : List Entry)
-    → is_proper_name name.text ≡ true → name_faults before name ≡ [] → code_faults before code vendor ≡ []
-    → is_sound_rule rule ≡ true → (is_grouped kind || is_empty_rule rule) ≡ true
-    → is_sound_avp before (record { name = name.text; code = number code; vendor = option_map number vendor; kind = kind; rule = rule }) ≡ true
-sound_record before name code vendor kind rule named names numbers ruled kinds =
-    let (not_any, new) = either (is_any name.text) (list_any (is_named name.text) before) (no_fault _ _ names) in
-    let front = none_left
-    (range_faults limit code ++ fault_if (list_any (is_coded (number code) (option_map number vendor)) before) (Duplicate code.line)) (option_faults limit vendor) numbers in
-    let code_fits = number_fits code (none_left (range_faults limit code) _ front) in
-    let new_code = no_fault (list_any (is_coded (number code) (option_map number vendor)) before) _
-    (none_right (range_faults limit code) _ front) in
-    let vendor_fits = option_fits vendor
-    (none_right (range_faults limit code ++ fault_if (list_any (is_coded (number code) (option_map number vendor)) before) (Duplicate code.line)) _ numbers) in
-    both _ _ (both _ _ (both _ _ (both _ _ (both _ _ (both _ _ (both _ _ named (not_so _ not_any)) (not_so _ new)) code_fits) vendor_fits) (not_so _ new_code)) ruled) kinds
-
--- an AVP of these words
-pub sound_avp : (before : List AvpDef) (a : AvpDef) (name code : Word) (vendor : Option Word) → a.name ≡ name.text
-    → a.code ≡ number code → a.vendor ≡ option_map number vendor
-    → is_proper_name name.text ≡ true → name_faults before name ≡ [] → code_faults before code vendor ≡ []
+sound_record : (before : List AvpDef) (name code : Word) (vendor : Option ℕ) (a : AvpDef)
+    → is_proper_name name.text ≡ true → is_any name.text ≡ false → list_any (is_named name.text) before ≡ false
+    → fits (number code) ≡ true → fits_option vendor ≡ true → list_any (is_coded (number code) vendor) before ≡ false
     → is_sound_rule a.rule ≡ true → (is_grouped a.kind || is_empty_rule a.rule) ≡ true
-    → is_sound_avp before a ≡ true
-sound_avp before a name code vendor en ec ev named names numbers ruled kinds =
-    let same : a ≡ record { name = name.text; code = number code; vendor = option_map number vendor; kind = a.kind; rule = a.rule } = λ i. record { name = en i; code = ec i; vendor = ev i; kind = a.kind; rule = a.rule } in
-    subst (λ (x : AvpDef). is_sound_avp before x ≡ true) (sym same)
-    (sound_record before name code vendor a.kind a.rule named names numbers ruled kinds)
+    → is_sound_list a.values ≡ true → (is_enumerated a.kind || is_empty_list a.values) ≡ true
+    → is_sound_avp before (record a { name = name.text; code = number code; vendor = vendor }) ≡ true
+sound_record before name code vendor a named not_any new code_fits vendor_fits new_code ruled kinds listed listing =
+    both _ _ (both _ _ (both _ _ (both _ _ (both _ _ (both _ _ (both _ _ (both _ _ (both _ _ named (not_so _ not_any)) (not_so _ new)) code_fits) vendor_fits) (not_so _ new_code)) ruled) kinds) listed) listing
+
+-- the vendor of a name has a number of 32 bits
+found_fits : (name : List ℕ) (before vendors : List VendorDef) (n : ℕ)
+    → each_after is_sound_vendor before vendors ≡ true → vendor_number vendors name ≡ Some n → fits n ≡ true
+found_fits name before [] n h e = absurd cc
+found_fits name before (v ∷ vs) n h e =
+    let (first, rest) = and_parts (is_sound_vendor before v) (each_after is_sound_vendor (before ++ v ∷ []) vs) h in
+    by (is_vendor name v) e (vendor_parts before v first).number (λ g. found_fits name (before ++ v ∷ []) vs n rest g)
+  where
+    by : (b : Bool) → option_map (λ x. x.number) (cond b (Some v) (find (is_vendor name) vs)) ≡ Some n
+        → fits v.number ≡ true → (vendor_number vs name ≡ Some n → fits n ≡ true) → fits n ≡ true
+    by true g f later = let same : v.number ≡ n = cc in subst (λ (x : ℕ). fits x ≡ true) same f
+    by false g f later = later g
+
+some_is : {A : Type 0} (o : Option A) (v : Option A) → option_map Some o ≡ Some v → o ≡ v
+some_is None v e = absurd cc
+some_is (Some x) v e = cc
+
+vendor_fits : (vendors : List VendorDef) (vend : Option Vend) (vendor : Option ℕ)
+    → each_after is_sound_vendor [] vendors ≡ true → vend_faults vend ≡ [] → vendor_of vendors vend ≡ Some vendor
+    → fits_option vendor ≡ true
+vendor_fits vendors None vendor h none e =
+    let same : None ≡ vendor = cc in subst (λ (o : Option ℕ). fits_option o ≡ true) same refl
+vendor_fits vendors (Some (NumberedBy w)) vendor h none e =
+    let same : Some (number w) ≡ vendor = cc in
+    subst (λ (o : Option ℕ). fits_option o ≡ true) same (number_fits w none)
+vendor_fits vendors (Some (NamedBy w)) vendor h none e =
+    by vendor (some_is (vendor_number vendors w.text) vendor e)
+  where
+    by : (o : Option ℕ) → vendor_number vendors w.text ≡ o → fits_option o ≡ true
+    by None g = refl
+    by (Some n) g = found_fits w.text [] vendors n h g
+
+-- an AVP of these words, whose vendor is known
+pub sound_avp : (m : Made) (a : AvpDef) (name code : Word) (vend : Option Vend) (vendor : Option ℕ)
+    → each_after is_sound_vendor [] m.definitions.vendors ≡ true → a.name ≡ name.text
+    → a.code ≡ number code → a.vendor ≡ vendor → vendor_of m.definitions.vendors vend ≡ Some vendor
+    → is_proper_name name.text ≡ true → name_faults m name ≡ [] → code_faults m.definitions code vend ≡ []
+    → is_sound_rule a.rule ≡ true → (is_grouped a.kind || is_empty_rule a.rule) ≡ true
+    → is_sound_list a.values ≡ true → (is_enumerated a.kind || is_empty_list a.values) ≡ true
+    → is_sound_avp m.definitions.avps a ≡ true
+sound_avp m a name code vend vendor sound en ec ev known named names numbers ruled kinds listed listing =
+    let avps = m.definitions.avps in
+    let (not_any, new) = either (is_any name.text) (is_defined m name.text) (no_fault _ _ names) in
+    let (new_name, no_stray) = either (list_any (is_named name.text) avps) _ new in
+    let taken = fault_if (is_taken avps (number code) (vendor_of m.definitions.vendors vend)) (Duplicate code.line) in
+    let front = none_left (range_faults limit code ++ taken) (vend_faults vend) numbers in
+    let code_fits = number_fits code (none_left (range_faults limit code) taken front) in
+    let free = no_fault (is_taken avps (number code) (vendor_of m.definitions.vendors vend)) _
+    (none_right (range_faults limit code) taken front) in
+    let new_code : list_any (is_coded (number code) vendor) avps ≡ false = subst
+    (λ (o : Option (Option ℕ)). is_taken avps (number code) o ≡ false) known free in
+    let fit = vendor_fits m.definitions.vendors vend vendor sound
+    (none_right (range_faults limit code ++ taken) (vend_faults vend) numbers) known in
+    let same : a ≡ record a { name = name.text; code = number code; vendor = vendor } = λ i. record a { name = en i; code = ec i; vendor = ev i } in
+    subst (λ (x : AvpDef). is_sound_avp avps x ≡ true) (sym same)
+    (sound_record avps name code vendor a named not_any new_name code_fits fit new_code ruled kinds listed listing)
+
+-- a vendor of these words
+pub sound_vendor : (before : List VendorDef) (v : VendorDef) (p : VendorParts) → v.name ≡ p.name.text
+    → v.number ≡ number p.number → is_proper_name p.name.text ≡ true → vendor_item_faults before p ≡ []
+    → is_sound_vendor before v ≡ true
+sound_vendor before v p en eu named none =
+    let twice = fault_if (list_any (is_vendor p.name.text) before) (Duplicate p.name.line) in
+    let taken = fault_if (list_any (has_vendor_number (number p.number)) before) (Duplicate p.number.line) in
+    let front = none_left (twice ++ range_faults limit p.number) taken none in
+    let new = no_fault (list_any (is_vendor p.name.text) before) _ (none_left twice (range_faults limit p.number) front) in
+    let small = number_fits p.number (none_right twice (range_faults limit p.number) front) in
+    let free = no_fault (list_any (has_vendor_number (number p.number)) before) _
+    (none_right (twice ++ range_faults limit p.number) taken none) in
+    let same : v ≡ vendor_def_of p = λ i. record { name = en i; number = eu i } in
+    subst (λ (x : VendorDef). is_sound_vendor before x ≡ true) (sym same)
+    (both _ _ (both _ _ (both _ _ named (not_so _ new)) small) (not_so _ free))
+
+sound_value : (before : List EnumValue) (v : written.Value) → is_proper_name v.name.text ≡ true
+    → value_faults before v ≡ [] → is_sound_value before (value_of v) ≡ true
+sound_value before v named none =
+    let twice = fault_if (list_any (is_value v.name.text) before) (Duplicate v.name.line) in
+    let taken = fault_if (list_any (has_number (pos (number v.number))) before) (Duplicate v.number.line) in
+    let front = none_left (twice ++ range_faults value_limit v.number) taken none in
+    let new = no_fault (list_any (is_value v.name.text) before) _
+    (none_left twice (range_faults value_limit v.number) front) in
+    let below = no_fault _ _ (none_right twice (range_faults value_limit v.number) front) in
+    let small : is_listable (pos (number v.number)) ≡ true = le-leb (number v.number) value_limit
+    (ltb-false value_limit (number v.number) below) in
+    let free = no_fault (list_any (has_number (pos (number v.number))) before) _
+    (none_right (twice ++ range_faults value_limit v.number) taken none) in
+    both _ _ (both _ _ (both _ _ named (not_so _ new)) small) (not_so _ free)
+
+values_sound : (before : List EnumValue) (vs : List written.Value) → are_worded_values vs ≡ true
+    → faults_along value_faults with_value before vs ≡ [] → each_after is_sound_value before (map value_of vs) ≡ true
+values_sound before [] named none = refl
+values_sound before (v ∷ vs) named none =
+    let (first, rest) = and_parts (is_proper_name v.name.text) (are_worded_values vs) named in
+    both _ _ (sound_value before v first (none_left (value_faults before v) _ none))
+    (values_sound (with_value before v) vs rest (none_right (value_faults before v) _ none))
+
+fold-with_value : (before : List EnumValue) (vs : List written.Value)
+    → fold with_value before vs ≡ before ++ map value_of vs
+fold-with_value before [] = sym (append-nil before)
+fold-with_value before (v ∷ vs) =
+    fold-with_value (with_value before v) vs ∙ append_assoc before (value_of v ∷ []) (map value_of vs)
+
+pub list_is : (vs : List written.Value) (values : List EnumValue) → values ≡ fold with_value [] vs
+    → values ≡ map value_of vs
+list_is vs values e = e ∙ fold-with_value [] vs
+
+pub sound_list : (vs : List written.Value) (values : List EnumValue) → values ≡ fold with_value [] vs
+    → are_worded_values vs ≡ true → list_faults vs ≡ [] → is_sound_list values ≡ true
+sound_list vs values e named none =
+    subst (λ (l : List EnumValue). is_sound_list l ≡ true) (sym (list_is vs values e)) (values_sound [] vs named none)
 
 or_true : (b : Bool) → (b || true) ≡ true
 or_true true = refl
 or_true false = refl
+
+-- a list of values stands where the type is Enumerated
+pub listing_kind : (name : List ℕ) (vs : List written.Value) (kind : AvpType) (values : List EnumValue)
+    → may_list name vs ≡ true → kind ≡ unwrap_or (kind_of name) OctetString → values ≡ fold with_value [] vs
+    → (is_enumerated kind || is_empty_list values) ≡ true
+listing_kind name [] kind values h e g = rw g (or_true (is_enumerated kind))
+listing_kind name (v ∷ vs) kind values h e g =
+    let called : name ≡ codes "Enumerated" = same_text name (codes "Enumerated") (sym h) in
+    let enumerated : kind ≡ Enumerated = e ∙ ap (λ n. unwrap_or (kind_of n) OctetString) called in
+    rw enumerated refl
+
+pub empty_listing : (kind : AvpType) (values : List EnumValue) → values ≡ []
+    → (is_enumerated kind || is_empty_list values) ≡ true
+empty_listing kind values e = rw e (or_true (is_enumerated kind))
+
+pub empty_list : (values : List EnumValue) → values ≡ [] → is_sound_list values ≡ true
+empty_list values e = rw e refl
 
 -- a rule is empty where it has no entries
 pub empty_kind : (kind : AvpType) (rule : List Entry) → rule ≡ [] → (is_grouped kind || is_empty_rule rule) ≡ true

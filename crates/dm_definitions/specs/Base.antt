@@ -31,11 +31,11 @@ any name = record { form = Optional; name = name; min = 0; max = None }
 
 -- @ NAME CODE TYPE
 abbrev pub avp : List ℕ → ℕ → AvpType → AvpDef
-avp name code kind = record { name = name; code = code; vendor = None; kind = kind; rule = [] }
+avp name code kind = record { name = name; code = code; vendor = None; kind = kind; rule = []; values = [] }
 
 -- < NAME > ::= < AVP Header: CODE > RULE
 abbrev pub group : List ℕ → ℕ → List Entry → AvpDef
-group name code rule = record { name = name; code = code; vendor = None; kind = Grouped; rule = rule }
+group name code rule = record { name = name; code = code; vendor = None; kind = Grouped; rule = rule; values = [] }
 
 -- < NAME > ::= < Diameter Header: CODE, FLAG > RULE
 abbrev pub command : List ℕ → ℕ → Bool → Bool → List Entry → CommandDef
@@ -185,4 +185,4 @@ abbrev pub base_commands : List CommandDef
 base_commands = cer ∷ cea ∷ dwr ∷ dwa ∷ dpr ∷ dpa ∷ answer_message ∷ []
 
 abbrev pub base_definitions : Definitions
-base_definitions = record { avps = base_avps; commands = base_commands }
+base_definitions = record { vendors = []; avps = base_avps; commands = base_commands }

@@ -3,23 +3,36 @@ use Rattle.std.specs.Prelude.{ℕ, Bool, ◌&&◌, nat_eq, List, [], ◌∷◌, 
 use Rattle.std.specs.Bool.{beq}
 use Rattle.std.specs.Option.{option_eq}
 use Rattle.std.specs.Cmp.Lexicographic.{pointwise}
+use Rattle.dm_definitions.specs.declared.def.VendorDef.{VendorDef}
 use Rattle.dm_definitions.specs.declared.def.AvpDef.{AvpDef}
 use Rattle.dm_definitions.specs.declared.def.CommandDef.{CommandDef}
 
--- the AVPs and the commands, each in order of definition
+-- the vendors, the AVPs and the commands, each in order of definition
 pub record Definitions : Type 0 where
+  pub vendors : List VendorDef
   pub avps : List AvpDef
   pub commands : List CommandDef
 
 abbrev pub nothing_defined : Definitions
-nothing_defined = record { avps = []; commands = [] }
+nothing_defined = record { vendors = []; avps = []; commands = [] }
 
 -- one definition more, behind the others
+abbrev pub with_vendor : Definitions → VendorDef → Definitions
+with_vendor d v = record d { vendors = d.vendors ++ v ∷ [] }
+
 abbrev pub with_avp : Definitions → AvpDef → Definitions
 with_avp d a = record d { avps = d.avps ++ a ∷ [] }
 
 abbrev pub with_command : Definitions → CommandDef → Definitions
 with_command d c = record d { commands = d.commands ++ c ∷ [] }
+
+-- the vendor of a name (own)
+abbrev pub is_vendor : List ℕ → VendorDef → Bool
+is_vendor name v = pointwise nat_eq name v.name
+
+-- the vendor of a Vendor-ID (4.1)
+abbrev pub has_vendor_number : ℕ → VendorDef → Bool
+has_vendor_number n v = nat_eq n v.number
 
 -- the AVP of a name (RFC 6733, 3.2)
 abbrev pub is_named : List ℕ → AvpDef → Bool

@@ -1,20 +1,25 @@
 -- The faults of the items of a dictionary text, in order (RFC 6733, 3.2): token by token, and those of one token in the order
 -- Range, Duplicate, Order; then the names that nothing defines.
-use Rattle.std.specs.Prelude.{ℕ, ◌≡◌, ◌⊎◌, Bool, ◌||◌, not, nat_lt, is_some, List, [], ◌∷◌, ◌++◌, Option, Some, None, option_map, if◌then◌else◌}
+use Rattle.std.specs.Prelude.{ℕ, pos, false, nat_eq, ◌≡◌, ◌⊎◌, Bool, ◌||◌, not, nat_lt, is_some, List, [], ◌∷◌, ◌++◌, Option, Some, None, if◌then◌else◌}
 use Rattle.std.specs.List.{list_any, flat_map}
+use Rattle.std.specs.Cmp.Lexicographic.{pointwise}
 use Rattle.dm_grammar.specs.Tokens.{Word}
 use Rattle.dm_grammar.specs.Items as written
-use Rattle.dm_grammar.specs.Items.{Written, AvpParts, GroupParts, CommandParts, Range}
-use Rattle.dm_grammar.specs.Items.Written.{AvpIs, GroupIs, CommandIs}
+use Rattle.dm_grammar.specs.Items.{Written, VendorParts, AvpParts, GroupParts, CommandParts, Vend, Range}
+use Rattle.dm_grammar.specs.Items.Vend.{NumberedBy, NamedBy}
+use Rattle.dm_grammar.specs.Items.Written.{VendorIs, AvpIs, GroupIs, CommandIs}
 use Rattle.dm_definitions.specs.declared.fault.DictFault.{DictFault}
 use Rattle.dm_definitions.specs.declared.fault.DictFault.TheVariants as is
 use Rattle.dm_definitions.specs.declared.rule.Entry.{Entry}
+use Rattle.dm_definitions.specs.declared.values.EnumValue.{EnumValue}
+use Rattle.dm_definitions.specs.declared.def.VendorDef.{VendorDef}
 use Rattle.dm_definitions.specs.declared.def.AvpDef.{AvpDef}
 use Rattle.dm_definitions.specs.declared.def.CommandDef.{CommandDef}
 use Rattle.dm_definitions.specs.EntryEquality.{form_number}
-use Rattle.dm_definitions.specs.Definitions.{Definitions, is_named, is_coded, is_titled, is_headed}
-use Rattle.dm_definitions.specs.Sound.{is_any, is_repeated, is_late}
-use Rattle.dm_definitions.specs.Meaning.{number, kind_of, min_of, entry_of, with_item}
+use Rattle.dm_definitions.specs.Listed.{has_number}
+use Rattle.dm_definitions.specs.Definitions.{Definitions, is_vendor, has_vendor_number, is_named, is_coded, is_titled, is_headed}
+use Rattle.dm_definitions.specs.Sound.{is_any, is_value, is_repeated, is_late}
+use Rattle.dm_definitions.specs.Meaning.{number, kind_of, min_of, entry_of, value_of, vendor_def_of, vendor_of, Made, with_item}
 
 abbrev pub fault_if : Bool → DictFault → List DictFault
 fault_if b f = if b then f ∷ [] else []
@@ -80,20 +85,55 @@ with_entry before e = before ++ entry_of e ∷ []
 abbrev pub rule_faults : List written.Entry → List DictFault
 rule_faults rule = faults_along rule_entry_faults with_entry [] rule
 
+-- a vendor name or a vendor number that is there already
+abbrev pub vendor_item_faults : List VendorDef → VendorParts → List DictFault
+vendor_item_faults vendors p =
+    fault_if (list_any (is_vendor p.name.text) vendors) (is.Duplicate p.name.line) ++ range_faults limit p.number
+    ++ fault_if (list_any (has_vendor_number (number p.number)) vendors) (is.Duplicate p.number.line)
+
+-- an AVP has the name, a stray too
+abbrev pub is_defined : Made → List ℕ → Bool
+is_defined m name = list_any (is_named name) m.definitions.avps || list_any (pointwise nat_eq name) m.strays
+
 -- an AVP called AVP, or by a name that is there already
-abbrev pub name_faults : List AvpDef → Word → List DictFault
-name_faults avps w = fault_if (is_any w.text || list_any (is_named w.text) avps) (is.Duplicate w.line)
+abbrev pub name_faults : Made → Word → List DictFault
+name_faults m w = fault_if (is_any w.text || is_defined m w.text) (is.Duplicate w.line)
 
--- an AVP whose code and vendor are there already
-abbrev pub code_faults : List AvpDef → Word → Option Word → List DictFault
-code_faults avps code vendor =
-    range_faults limit code ++ fault_if (list_any (is_coded (number code) (option_map number vendor)) avps) (is.Duplicate code.line) ++ option_faults limit vendor
+-- a number of a vendor above its limit
+abbrev pub vend_faults : Option Vend → List DictFault
+vend_faults (Some (NumberedBy w)) = range_faults limit w
+vend_faults _ = []
 
-abbrev pub avp_item_faults : List AvpDef → AvpParts → List DictFault
-avp_item_faults avps p = name_faults avps p.name ++ code_faults avps p.code p.vendor
+-- a code and vendor that are there already; a code isn't compared where the vendor isn't known
+abbrev pub is_taken : List AvpDef → ℕ → Option (Option ℕ) → Bool
+is_taken avps code None = false
+is_taken avps code (Some vendor) = list_any (is_coded code vendor) avps
 
-abbrev pub group_item_faults : List AvpDef → GroupParts → List DictFault
-group_item_faults avps p = name_faults avps p.name ++ code_faults avps p.code p.vendor ++ rule_faults p.rule
+abbrev pub code_faults : Definitions → Word → Option Vend → List DictFault
+code_faults d code vend =
+    range_faults limit code ++ fault_if (is_taken d.avps (number code) (vendor_of d.vendors vend)) (is.Duplicate code.line) ++ vend_faults vend
+
+-- the limit of a value that is listed: an Enumerated is signed (4.3.1), and a negative value can't be written
+abbrev pub value_limit : ℕ
+value_limit = 2147483647
+
+-- a name or a number twice in a list
+abbrev pub value_faults : List EnumValue → written.Value → List DictFault
+value_faults before v =
+    fault_if (list_any (is_value v.name.text) before) (is.Duplicate v.name.line) ++ range_faults value_limit v.number
+    ++ fault_if (list_any (has_number (pos (number v.number))) before) (is.Duplicate v.number.line)
+
+abbrev pub with_value : List EnumValue → written.Value → List EnumValue
+with_value before v = before ++ value_of v ∷ []
+
+abbrev pub list_faults : List written.Value → List DictFault
+list_faults values = faults_along value_faults with_value [] values
+
+abbrev pub avp_item_faults : Made → AvpParts → List DictFault
+avp_item_faults m p = name_faults m p.name ++ code_faults m.definitions p.code p.vendor ++ list_faults p.values
+
+abbrev pub group_item_faults : Made → GroupParts → List DictFault
+group_item_faults m p = name_faults m p.name ++ code_faults m.definitions p.code p.vendor ++ rule_faults p.rule
 
 -- a command whose name, or whose code with REQ and ERR, is there already
 abbrev pub title_faults : List CommandDef → Word → List DictFault
@@ -106,24 +146,43 @@ head_faults commands p =
 abbrev pub command_item_faults : List CommandDef → CommandParts → List DictFault
 command_item_faults commands p = title_faults commands p.name ++ head_faults commands p ++ rule_faults p.rule
 
-abbrev pub item_faults : Definitions → Written → List DictFault
-item_faults d (AvpIs p) = avp_item_faults d.avps p
-item_faults d (GroupIs p) = group_item_faults d.avps p
-item_faults d (CommandIs p) = command_item_faults d.commands p
+abbrev pub item_faults : Made → Written → List DictFault
+item_faults m (VendorIs p) = vendor_item_faults m.definitions.vendors p
+item_faults m (AvpIs p) = avp_item_faults m p
+item_faults m (GroupIs p) = group_item_faults m p
+item_faults m (CommandIs p) = command_item_faults m.definitions.commands p
 
 -- each item beside the definitions before it
-abbrev pub items_faults : Definitions → List Written → List DictFault
-items_faults d items = faults_along item_faults with_item d items
+abbrev pub items_faults : Made → List Written → List DictFault
+items_faults m items = faults_along item_faults with_item m items
 
--- an entry that names no AVP of the list
-abbrev pub entry_unknown : List AvpDef → written.Entry → List DictFault
-entry_unknown avps e = fault_if (not (is_any e.name.text || list_any (is_named e.name.text) avps)) (is.UnknownName e.name.line)
+-- an entry that names no AVP of all that the items make
+abbrev pub entry_unknown : Made → written.Entry → List DictFault
+entry_unknown all e = fault_if (not (is_any e.name.text || is_defined all e.name.text)) (is.UnknownName e.name.line)
 
-abbrev pub rule_unknown : List AvpDef → List written.Entry → List DictFault
-rule_unknown avps rule = flat_map (entry_unknown avps) rule
+abbrev pub rule_unknown : Made → List written.Entry → List DictFault
+rule_unknown all rule = flat_map (entry_unknown all) rule
 
--- the types and entries that nothing defines
-abbrev pub unknown : List AvpDef → Written → List DictFault
-unknown avps (AvpIs p) = fault_if (not (is_some (kind_of p.kind.text))) (is.UnknownName p.kind.line)
-unknown avps (GroupIs p) = rule_unknown avps p.rule
-unknown avps (CommandIs p) = rule_unknown avps p.rule
+-- a name that none of the vendors has
+abbrev pub vend_unknown : List VendorDef → Option Vend → List DictFault
+vend_unknown vendors (Some (NamedBy w)) = fault_if (not (list_any (is_vendor w.text) vendors)) (is.UnknownName w.line)
+vend_unknown vendors _ = []
+
+abbrev pub kind_unknown : Word → List DictFault
+kind_unknown w = fault_if (not (is_some (kind_of w.text))) (is.UnknownName w.line)
+
+-- the types and entries that nothing defines, and the vendor names that nothing before the item defines
+abbrev pub unknown : Made → List VendorDef → Written → List DictFault
+unknown all vendors (VendorIs p) = []
+unknown all vendors (AvpIs p) = kind_unknown p.kind ++ vend_unknown vendors p.vendor
+unknown all vendors (GroupIs p) = vend_unknown vendors p.vendor ++ rule_unknown all p.rule
+unknown all vendors (CommandIs p) = rule_unknown all p.rule
+
+-- the vendors behind an item
+abbrev pub vendors_with : List VendorDef → Written → List VendorDef
+vendors_with vendors (VendorIs p) = vendors ++ vendor_def_of p ∷ []
+vendors_with vendors _ = vendors
+
+-- of each item, beside the vendors before it
+abbrev pub items_unknown : Made → List VendorDef → List Written → List DictFault
+items_unknown all vendors items = faults_along (unknown all) vendors_with vendors items

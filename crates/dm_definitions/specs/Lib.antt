@@ -10,9 +10,15 @@ pub mod Printed
 pub mod Meaning
 pub mod Kinds
 pub mod Faults
+pub mod FirstVersion
 pub mod OneOutcome
 pub mod Outcome
 pub mod ItemFaults
 pub mod Numbers
 pub mod Entries
+pub mod Listed
+pub mod Numbered
+pub mod ValueEquality
+pub mod Listing
+pub mod Vendored
 pub mod Worded

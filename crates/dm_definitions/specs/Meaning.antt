@@ -1,18 +1,21 @@
 -- What the items of a dictionary text define (RFC 6733, 3.2).
-use Rattle.std.specs.Prelude.{ℕ, ◌+◌, ◌-◌, ◌*◌, List, [], ◌∷◌, map, nat_eq, codes, fold, unwrap_or, Option, Some, None, option_map, if◌then◌else◌}
+use Rattle.std.specs.Prelude.{ℕ, pos, ◌+◌, ◌-◌, ◌*◌, List, [], ◌∷◌, ◌++◌, map, find, nat_eq, codes, fold, unwrap_or, Option, Some, None, option_map, if◌then◌else◌}
 use Rattle.std.specs.Cmp.Lexicographic.{pointwise}
 use Rattle.dm_grammar.specs.declared.item.Form.{Form}
 use Rattle.dm_grammar.specs.declared.item.Form.TheVariants.{Fixed, Required, Optional}
 use Rattle.dm_grammar.specs.Tokens.{Word}
 use Rattle.dm_grammar.specs.Items as written
-use Rattle.dm_grammar.specs.Items.{Written, AvpParts, GroupParts, CommandParts, Range}
-use Rattle.dm_grammar.specs.Items.Written.{AvpIs, GroupIs, CommandIs}
+use Rattle.dm_grammar.specs.Items.{Written, VendorParts, AvpParts, GroupParts, CommandParts, Vend, Range}
+use Rattle.dm_grammar.specs.Items.Vend.{NumberedBy, NamedBy}
+use Rattle.dm_grammar.specs.Items.Written.{VendorIs, AvpIs, GroupIs, CommandIs}
 use Rattle.dm_value.specs.declared.avp_type.AvpType.{AvpType}
 use Rattle.dm_value.specs.declared.avp_type.AvpType.TheVariants.{OctetString, Integer32, Integer64, Unsigned32, Unsigned64, Address, Time, UTF8String, DiameterIdentity, DiameterURI, Enumerated, Grouped}
 use Rattle.dm_definitions.specs.declared.rule.Entry.{Entry}
+use Rattle.dm_definitions.specs.declared.values.EnumValue.{EnumValue}
+use Rattle.dm_definitions.specs.declared.def.VendorDef.{VendorDef}
 use Rattle.dm_definitions.specs.declared.def.AvpDef.{AvpDef}
 use Rattle.dm_definitions.specs.declared.def.CommandDef.{CommandDef}
-use Rattle.dm_definitions.specs.Definitions.{Definitions, with_avp, with_command}
+use Rattle.dm_definitions.specs.Definitions.{Definitions, is_vendor, with_vendor, with_avp, with_command}
 
 -- the number that decimal digits write behind those of n
 abbrev pub number_after : ℕ → List ℕ → ℕ
@@ -67,22 +70,53 @@ max_of (Some q) = option_map number q.high
 abbrev pub entry_of : written.Entry → Entry
 entry_of e = record { form = e.form; name = e.name.text; min = min_of e.form e.qualifier; max = max_of e.qualifier }
 
--- an unknown type is a fault elsewhere
-abbrev pub avp_def_of : AvpParts → AvpDef
-avp_def_of p = record { name = p.name.text; code = number p.code; vendor = option_map number p.vendor; kind = unwrap_or (kind_of p.kind.text) OctetString; rule = [] }
+abbrev pub value_of : written.Value → EnumValue
+value_of v = record { name = v.name.text; number = pos (number v.number) }
 
-abbrev pub group_def_of : GroupParts → AvpDef
-group_def_of p = record { name = p.name.text; code = number p.code; vendor = option_map number p.vendor; kind = Grouped; rule = map entry_of p.rule }
+abbrev pub vendor_def_of : VendorParts → VendorDef
+vendor_def_of p = record { name = p.name.text; number = number p.number }
+
+-- the number of the vendor of a name
+abbrev pub vendor_number : List VendorDef → List ℕ → Option ℕ
+vendor_number vendors name = option_map (λ v. v.number) (find (is_vendor name) vendors)
+
+-- the vendor that is written, if any; None where it is a name that no vendor has
+abbrev pub vendor_of : List VendorDef → Option Vend → Option (Option ℕ)
+vendor_of vendors None = Some None
+vendor_of vendors (Some (NumberedBy w)) = Some (Some (number w))
+vendor_of vendors (Some (NamedBy w)) = option_map Some (vendor_number vendors w.text)
+
+-- an unknown type is a fault elsewhere
+abbrev pub avp_def_of : AvpParts → Option ℕ → AvpDef
+avp_def_of p vendor = record { name = p.name.text; code = number p.code; vendor = vendor; kind = unwrap_or (kind_of p.kind.text) OctetString; rule = []; values = map value_of p.values }
+
+abbrev pub group_def_of : GroupParts → Option ℕ → AvpDef
+group_def_of p vendor = record { name = p.name.text; code = number p.code; vendor = vendor; kind = Grouped; rule = map entry_of p.rule; values = [] }
 
 abbrev pub command_def_of : CommandParts → CommandDef
 command_def_of p = record { name = p.name.text; code = number p.code; request = p.request; proxiable = p.proxiable; err = p.error; application = unwrap_or (option_map number p.application) 0; rule = map entry_of p.rule }
 
+-- what items make: definitions, and strays, the names of AVPs whose vendor has a name that nothing before them defines
+pub record Made : Type 0 where
+  pub definitions : Definitions
+  pub strays : List (List ℕ)
+
+-- definitions, and no strays
+abbrev pub made : Definitions → Made
+made d = record { definitions = d; strays = [] }
+
+-- an AVP behind the others, or a stray where its vendor isn't known
+abbrev pub placed : Made → List ℕ → (Option ℕ → AvpDef) → Option (Option ℕ) → Made
+placed m name def None = record m { strays = m.strays ++ name ∷ [] }
+placed m name def (Some vendor) = record m { definitions = with_avp m.definitions (def vendor) }
+
 -- the definition of an item, behind the others
-abbrev pub with_item : Definitions → Written → Definitions
-with_item d (AvpIs p) = with_avp d (avp_def_of p)
-with_item d (GroupIs p) = with_avp d (group_def_of p)
-with_item d (CommandIs p) = with_command d (command_def_of p)
+abbrev pub with_item : Made → Written → Made
+with_item m (VendorIs p) = record m { definitions = with_vendor m.definitions (vendor_def_of p) }
+with_item m (AvpIs p) = placed m p.name.text (avp_def_of p) (vendor_of m.definitions.vendors p.vendor)
+with_item m (GroupIs p) = placed m p.name.text (group_def_of p) (vendor_of m.definitions.vendors p.vendor)
+with_item m (CommandIs p) = record m { definitions = with_command m.definitions (command_def_of p) }
 
 -- the definitions of the items, in order
-abbrev pub with_items : Definitions → List Written → Definitions
-with_items d items = fold with_item d items
+abbrev pub with_items : Made → List Written → Made
+with_items m items = fold with_item m items

@@ -1,13 +1,15 @@
 -- The text of definitions (RFC 6733, 3.2): a line for each, its tokens behind single spaces; `:` and `,` follow without one,
 -- and a qualifier is one word.
-use Rattle.std.specs.Prelude.{ℕ, Bool, List, [], ◌∷◌, ◌++◌, codes, Option, Some, None, if◌then◌else◌}
-use Rattle.std.specs.List.{flat_map}
+use Rattle.std.specs.Prelude.{ℕ, unsigned_abs, Bool, true, false, ◌&&◌, List, [], ◌∷◌, ◌++◌, codes, Option, Some, None, if◌then◌else◌}
+use Rattle.std.specs.List.{flat_map, list_all}
 use Rattle.std.specs.Fmt.{decimal}
 use Rattle.dm_grammar.specs.declared.item.Form.{Form}
 use Rattle.dm_grammar.specs.declared.item.Form.TheVariants.{Fixed, Required, Optional}
 use Rattle.dm_value.specs.declared.avp_type.AvpType.{AvpType}
 use Rattle.dm_value.specs.declared.avp_type.AvpType.TheVariants.{OctetString, Integer32, Integer64, Unsigned32, Unsigned64, Address, Time, UTF8String, DiameterIdentity, DiameterURI, Enumerated, Grouped}
 use Rattle.dm_definitions.specs.declared.rule.Entry.{Entry}
+use Rattle.dm_definitions.specs.declared.values.EnumValue.{EnumValue}
+use Rattle.dm_definitions.specs.declared.def.VendorDef.{VendorDef}
 use Rattle.dm_definitions.specs.declared.def.AvpDef.{AvpDef}
 use Rattle.dm_definitions.specs.declared.def.CommandDef.{CommandDef}
 use Rattle.dm_definitions.specs.Definitions.{Definitions}
@@ -62,9 +64,30 @@ rule_text rule = flat_map entry_text rule
 abbrev pub line_end : List ℕ
 line_end = 10 ∷ []
 
--- @ NAME CODE TYPE VENDOR (own: RFC 6733 has no grammar for an AVP that is no group; its definitions are prose, 4.5)
+-- @ vendor NAME NUMBER (own)
+abbrev pub vendor_line : VendorDef → List ℕ
+vendor_line v = codes "@ vendor " ++ v.name ++ spaced_number v.number ++ line_end
+
+-- NAME NUMBER
+abbrev pub value_text : EnumValue → List ℕ
+value_text v = spaced v.name ++ spaced_number (unsigned_abs v.number)
+
+-- , NAME NUMBER
+abbrev pub next_value : EnumValue → List ℕ
+next_value v = codes "," ++ value_text v
+
+-- { NAME NUMBER, NAME NUMBER }, or nothing where there is no list
+abbrev pub list_text : List EnumValue → List ℕ
+list_text [] = []
+list_text (v ∷ vs) = codes " {" ++ value_text v ++ flat_map next_value vs ++ codes " }"
+
+-- TYPE VENDOR LIST, and the end of the line
+abbrev pub plain_end : AvpDef → List ℕ
+plain_end d = spaced (type_name d.kind) ++ spaced_option d.vendor ++ list_text d.values ++ line_end
+
+-- @ NAME CODE TYPE VENDOR LIST (own: RFC 6733 has no grammar for an AVP that is no group; its definitions are prose, 4.5)
 abbrev pub plain_line : AvpDef → List ℕ
-plain_line d = codes "@ " ++ d.name ++ spaced_number d.code ++ spaced (type_name d.kind) ++ spaced_option d.vendor ++ line_end
+plain_line d = codes "@ " ++ d.name ++ spaced_number d.code ++ plain_end d
 
 -- > RULE, and the end of the line
 abbrev pub rule_end : List Entry → List ℕ
@@ -96,6 +119,18 @@ command_head c = codes " > ::= < Diameter Header:" ++ spaced_number c.code ++ fl
 abbrev pub command_line : CommandDef → List ℕ
 command_line c = codes "< " ++ c.name ++ command_head c ++ rule_end c.rule
 
--- the AVPs, then the commands
+abbrev pub has_none : {A : Type 0} → List A → Bool
+has_none [] = true
+has_none (x ∷ xs) = false
+
+-- there are no vendors and no lists of values, so a text of version 1 says it all
+abbrev pub is_first_version : Definitions → Bool
+is_first_version d = has_none d.vendors && list_all (λ a. has_none a.values) d.avps
+
+-- @ 2, where a text of version 1 doesn't say it all (own)
+abbrev pub version_line : Definitions → List ℕ
+version_line d = if is_first_version d then [] else codes "@ 2" ++ line_end
+
+-- the vendors, then the AVPs, then the commands
 abbrev pub printed : Definitions → List ℕ
-printed d = flat_map avp_line d.avps ++ flat_map command_line d.commands
+printed d = version_line d ++ flat_map vendor_line d.vendors ++ flat_map avp_line d.avps ++ flat_map command_line d.commands

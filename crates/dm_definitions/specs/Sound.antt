@@ -1,15 +1,18 @@
 -- What the definitions of a dictionary keep to (RFC 6733, 3.2), so that each can be written in a text and looked up.
-use Rattle.std.specs.Prelude.{ℕ, Bool, true, false, ◌&&◌, ◌||◌, not, nat_eq, nat_le, nat_lt, List, [], ◌∷◌, ◌++◌, codes, Option, Some, None}
+use Rattle.std.specs.Prelude.{ℕ, ℤ, pos, negsuc, Bool, true, false, ◌&&◌, ◌||◌, not, nat_eq, nat_le, nat_lt, List, [], ◌∷◌, ◌++◌, codes, Option, Some, None}
 use Rattle.std.specs.Char.{is_ascii_alphanumeric, is_ascii_digit}
 use Rattle.std.specs.List.{list_all, list_any}
 use Rattle.std.specs.Cmp.Lexicographic.{pointwise}
 use Rattle.dm_definitions.specs.declared.rule.Entry.{Entry}
+use Rattle.dm_definitions.specs.declared.values.EnumValue.{EnumValue}
+use Rattle.dm_definitions.specs.declared.def.VendorDef.{VendorDef}
 use Rattle.dm_definitions.specs.declared.def.AvpDef.{AvpDef}
 use Rattle.dm_definitions.specs.declared.def.CommandDef.{CommandDef}
 use Rattle.dm_value.specs.declared.avp_type.AvpType.{AvpType}
-use Rattle.dm_value.specs.declared.avp_type.AvpType.TheVariants.{Grouped}
+use Rattle.dm_value.specs.declared.avp_type.AvpType.TheVariants.{Enumerated, Grouped}
 use Rattle.dm_definitions.specs.EntryEquality.{form_number}
-use Rattle.dm_definitions.specs.Definitions.{Definitions, is_named, is_coded, is_titled, is_headed}
+use Rattle.dm_definitions.specs.Listed.{has_number}
+use Rattle.dm_definitions.specs.Definitions.{Definitions, is_vendor, has_vendor_number, is_named, is_coded, is_titled, is_headed}
 
 -- Letters, digits and hyphens, no hyphen first, and not digits alone. Wider than RFC 6733 (3.2), where a diameter-name is
 -- `ALPHA *(ALPHA / DIGIT / "-")`: names in use begin with a digit, as 3GPP-IMSI. Digits alone are a number.
@@ -64,12 +67,44 @@ abbrev pub is_empty_rule : List Entry → Bool
 is_empty_rule [] = true
 is_empty_rule (e ∷ es) = false
 
--- a name of its own that isn't AVP, a code and vendor of its own, and a rule only where Grouped
+-- a number that a text can write: not negative, and of 31 bits
+abbrev pub is_listable : ℤ → Bool
+is_listable (pos n) = nat_le n 2147483647
+is_listable (negsuc n) = false
+
+-- a value has the name
+abbrev pub is_value : List ℕ → EnumValue → Bool
+is_value name v = pointwise nat_eq name v.name
+
+-- a name and a number of its own
+abbrev pub is_sound_value : List EnumValue → EnumValue → Bool
+is_sound_value before v = is_proper_name v.name && not (list_any (is_value v.name) before) && is_listable v.number && not (list_any (has_number v.number) before)
+
+abbrev pub is_sound_list : List EnumValue → Bool
+is_sound_list values = each_after is_sound_value [] values
+
+abbrev pub is_enumerated : AvpType → Bool
+is_enumerated Enumerated = true
+is_enumerated _ = false
+
+abbrev pub is_empty_list : List EnumValue → Bool
+is_empty_list [] = true
+is_empty_list (v ∷ vs) = false
+
+-- a name and a number of 32 bits of its own
+abbrev pub is_sound_vendor : List VendorDef → VendorDef → Bool
+is_sound_vendor before v =
+    is_proper_name v.name && not (list_any (is_vendor v.name) before)
+    && fits v.number && not (list_any (has_vendor_number v.number) before)
+
+-- a name of its own that isn't AVP, a code and vendor of its own, a rule only where Grouped, and a list of values only where
+-- Enumerated
 abbrev pub is_sound_avp : List AvpDef → AvpDef → Bool
 is_sound_avp before d =
     is_proper_name d.name && not (is_any d.name) && not (list_any (is_named d.name) before)
     && fits d.code && fits_option d.vendor && not (list_any (is_coded d.code d.vendor) before)
     && is_sound_rule d.rule && (is_grouped d.kind || is_empty_rule d.rule)
+    && is_sound_list d.values && (is_enumerated d.kind || is_empty_list d.values)
 
 -- a name of its own, and a code of 24 bits of its own with REQ and ERR
 abbrev pub is_sound_command : List CommandDef → CommandDef → Bool
@@ -86,7 +121,7 @@ abbrev pub knows_rule : List AvpDef → List Entry → Bool
 knows_rule avps rule = list_all (is_known avps) rule
 
 abbrev pub is_sound : Definitions → Bool
-is_sound d = each_after is_sound_avp [] d.avps && each_after is_sound_command [] d.commands
+is_sound d = each_after is_sound_vendor [] d.vendors && each_after is_sound_avp [] d.avps && each_after is_sound_command [] d.commands
 
 abbrev pub is_closed : Definitions → Bool
 is_closed d = list_all (λ a. knows_rule d.avps a.rule) d.avps && list_all (λ c. knows_rule d.avps c.rule) d.commands

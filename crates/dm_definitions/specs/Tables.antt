@@ -1,18 +1,18 @@
 -- The tables of a dictionary: its definitions in order, and an index for each key.
-use Rattle.std.specs.Prelude.{ℕ, ◌+◌, ◌≡◌, Bool, true, List, [], ◌∷◌, map, Option}
+use Rattle.std.specs.Prelude.{ℕ, ◌≡◌, Bool, true, List, map, Option}
+use Rattle.std.specs.Borrow.{Bor}
+use Rattle.indexmap.specs.IndexSet.{IndexSet}
 use Rattle.dm_definitions.specs.declared.tables.Tables.{Tables}
 use Rattle.dm_definitions.specs.declared.def.AvpDef.{AvpDef}
 use Rattle.dm_definitions.specs.declared.def.CommandDef.{CommandDef}
 use Rattle.dm_definitions.specs.Definitions.{Definitions}
+use Rattle.dm_definitions.specs.Positions.{places}
+use Rattle.dm_definitions.specs.Meaning.{Made}
+use Rattle.dm_definitions.specs.Vendored.{IsVendored}
 use Rattle.dm_definitions.specs.Sound.{is_sound, is_closed}
 
 abbrev pub defined : Tables → Definitions
-defined t = record { avps = t.avps.items; commands = t.commands.items }
-
--- the keys of definitions, in order, each with its place counted from n
-abbrev pub places : {D K : Type 0} → (D → K) → ℕ → List D → List (K × ℕ)
-places key n [] = []
-places key n (d ∷ ds) = (key d, n) ∷ places key (n + 1) ds
+defined t = record { vendors = t.vendors.items.items; avps = t.avps.items; commands = t.commands.items }
 
 abbrev pub code_key : AvpDef → ℕ × Option ℕ
 code_key d = (d.code, d.vendor)
@@ -20,8 +20,13 @@ code_key d = (d.code, d.vendor)
 abbrev pub head_key : CommandDef → ℕ × Bool × Bool
 head_key c = (c.code, c.request, c.err)
 
+-- what the tables and the names of strays stand for
+abbrev pub making : {S : Type 0} → Tables → IndexSet (Bor (List ℕ)) S → Made
+making t strays = record { definitions = defined t; strays = map (λ k. k.now) strays.keys }
+
 -- each index has the keys of the definitions, in order, with their places
 pub record IsIndexed (t : Tables) : Type 0 where
+  pub vendors : IsVendored t.vendors
   pub names : map (λ e. (e.0.items, e.1)) t.names.entries ≡ places (λ d. d.name) 0 t.avps.items
   pub codes : t.codes.entries ≡ places code_key 0 t.avps.items
   pub titles : map (λ e. (e.0.items, e.1)) t.titles.entries ≡ places (λ c. c.name) 0 t.commands.items

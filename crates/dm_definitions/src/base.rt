@@ -8,7 +8,7 @@ ghost use Rattle.dm_definitions.specs.Rows.{row_entry, row_avp, row_command};
 
 use crate::rows::{AVPS, AvpRow, COMMANDS, CommandRow, EntryRow};
 use crate::tables::Tables;
-use crate::{AvpDef, CommandDef, Entry, NoMemory, Rule};
+use crate::{AvpDef, CommandDef, Entry, NoMemory, Rule, Values};
 use dm_wire::Octets;
 use std::alloc::Global;
 
@@ -45,6 +45,7 @@ fn avp_of_row(alloc: Global, row: &AvpRow) -> Result<AvpDef, NoMemory>
         vendor: None,
         kind: row.kind,
         rule: rule_of_rows(alloc, row.rule)?,
+        values: Values::empty(alloc),
     })
 }
 
@@ -67,6 +68,7 @@ fn command_of_row(alloc: Global, row: &CommandRow) -> Result<CommandDef, NoMemor
 fn add_avps(alloc: Global, tables: &mut Tables, rows: &[AvpRow]) -> Result<(), NoMemory>
     requires tables { IsTables tables.old }
     requires sound { each_after is_sound_avp tables.old.avps.items (map row_avp rows.now) ≡ true }
+    ensures vendors { OnOk result (tables.new.vendors.items.items ≡ tables.old.vendors.items.items) }
     ensures avps { OnOk result (tables.new.avps.items ≡ tables.old.avps.items ++ map row_avp rows.now) }
     ensures commands { OnOk result (tables.new.commands.items ≡ tables.old.commands.items) }
     ensures tables { OnOk result (IsTables tables.new) }
@@ -81,6 +83,7 @@ fn add_avps(alloc: Global, tables: &mut Tables, rows: &[AvpRow]) -> Result<(), N
 fn add_commands(alloc: Global, tables: &mut Tables, rows: &[CommandRow]) -> Result<(), NoMemory>
     requires tables { IsTables tables.old }
     requires sound { each_after is_sound_command tables.old.commands.items (map row_command rows.now) ≡ true }
+    ensures vendors { OnOk result (tables.new.vendors.items.items ≡ tables.old.vendors.items.items) }
     ensures avps { OnOk result (tables.new.avps.items ≡ tables.old.avps.items) }
     ensures commands { OnOk result (tables.new.commands.items ≡ tables.old.commands.items ++ map row_command rows.now) }
     ensures tables { OnOk result (IsTables tables.new) }

@@ -1,9 +1,29 @@
 //! Definitions of AVPs and of commands.
 ghost use Rattle.std.specs.Prelude.{◌≡◌};
 
-use crate::{AvpType, Rule};
+use crate::{AvpType, Rule, Values};
 use dm_wire::Octets;
 use std::alloc::AllocError;
+
+/// A vendor: the name that a dictionary text may write for its Vendor-ID (RFC 6733, 4.1; names are own).
+#[derive(Debug, Drop, PartialEq, Eq)]
+pub struct VendorDef {
+    /// The name.
+    pub name: Octets,
+    /// The Vendor-ID.
+    pub number: u32,
+}
+
+impl Clone for VendorDef {
+    ghost is_clone = { λ vendor copy. copy ≡ vendor };
+
+    fn clone(&self) -> Result<VendorDef, AllocError> {
+        Ok(VendorDef {
+            name: self.name.clone()?,
+            number: self.number,
+        })
+    }
+}
 
 /// The definition of an AVP (RFC 6733, 4.4 and 4.5).
 #[derive(Debug, Drop, PartialEq, Eq)]
@@ -18,6 +38,8 @@ pub struct AvpDef {
     pub kind: AvpType,
     /// The rule of a Grouped AVP. It is empty for the other types.
     pub rule: Rule,
+    /// The values that an Enumerated AVP lists. They are empty where there is no list, and for the other types.
+    pub values: Values,
 }
 
 impl Clone for AvpDef {
@@ -30,6 +52,7 @@ impl Clone for AvpDef {
             vendor: self.vendor,
             kind: self.kind,
             rule: self.rule.clone()?,
+            values: self.values.clone()?,
         })
     }
 }

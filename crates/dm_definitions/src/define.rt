@@ -1,61 +1,105 @@
 //! The items of a dictionary text, defined one after the other (RFC 6733, 3.2).
-ghost use Rattle.std.specs.Prelude.{◌≡◌, [], map, true, OnOk, IfErr};
+ghost use Rattle.std.specs.Prelude.{◌≡◌, ◌⊎◌, [], ◌∷◌, ◌++◌, map, true, false, Some, None, OnOk, IfErr};
 ghost use Rattle.std.specs.List.{list_all};
-ghost use Rattle.dm_grammar.specs.Views.{view_avp, view_group, view_command, view_item};
-ghost use Rattle.dm_definitions.specs.Definitions.{with_avp, with_command};
-ghost use Rattle.dm_definitions.specs.Tables.{defined, IsTables};
-ghost use Rattle.dm_definitions.specs.Worded.{is_worded_avp, is_worded_group, is_worded_command, is_worded};
-ghost use Rattle.dm_definitions.specs.Meaning.{avp_def_of, group_def_of, command_def_of, with_item, with_items};
-ghost use Rattle.dm_definitions.specs.Faults.{Stops, avp_item_faults, group_item_faults, command_item_faults, item_faults, items_faults};
+ghost use Rattle.dm_grammar.specs.Views.{view_vendor, view_avp, view_group, view_command, view_item};
+ghost use Rattle.dm_definitions.specs.Definitions.{with_vendor, with_command};
+ghost use Rattle.dm_definitions.specs.Tables.{defined, making, IsTables};
+ghost use Rattle.dm_definitions.specs.Worded.{is_worded_vendor, is_worded_avp, is_worded_group, is_worded_command, is_worded};
+ghost use Rattle.dm_definitions.specs.Meaning.{vendor_def_of, command_def_of, with_item, with_items};
+ghost use Rattle.dm_definitions.specs.Faults.{Stops, vendor_item_faults, avp_item_faults, group_item_faults, command_item_faults, item_faults, items_faults};
+ghost use Rattle.dm_grammar.specs.Items.Written.{AvpIs, GroupIs};
 
-use crate::checks::{check_code, check_head, check_name, check_title};
+use crate::checks::{check_code, check_head, check_name, check_title, check_vendor};
 use crate::entries::rule;
 use crate::kind::kind_of;
+use crate::list::list;
 use crate::tables::Tables;
-use crate::{AvpDef, AvpType, CommandDef, DictFault, Rule};
-use dm_grammar::{AvpItem, CommandItem, GroupItem, Item};
+use crate::{AvpDef, AvpType, CommandDef, DictFault, Rule, Values, VendorDef};
+use dm_grammar::{AvpItem, CommandItem, GroupItem, Item, VendorItem};
 use dm_wire::Octets;
+use indexmap::IndexSet;
 use std::alloc::Global;
 
-/// Defines an AVP. An unknown type is no fault here.
-fn define_avp(alloc: Global, tables: &mut Tables, item: &AvpItem<'_>) -> Result<(), DictFault>
+/// Defines a vendor.
+fn define_vendor(alloc: Global, tables: &mut Tables, item: &VendorItem<'_>) -> Result<(), DictFault>
+    requires tables { IsTables tables.old }
+    requires worded { is_worded_vendor (view_vendor item.now) ≡ true }
+    ensures good { OnOk result (vendor_item_faults tables.old.vendors.items.items (view_vendor item.now) ≡ []) }
+    ensures added { OnOk result (defined tables.new ≡ with_vendor (defined tables.old) (vendor_def_of (view_vendor item.now))) }
+    ensures tables { OnOk result (IsTables tables.new) }
+    ensures fault { IfErr result (Stops (vendor_item_faults tables.old.vendors.items.items (view_vendor item.now))) }
+{
+    let number = check_vendor(tables, item)?;
+    let vendor = VendorDef {
+        name: Octets::from_slice(alloc, item.name.text)?,
+        number,
+    };
+    tables.add_vendor(alloc, vendor)?;
+    Ok(())
+}
+
+/// Defines an AVP, or notes its name among the strays where its vendor isn't known. An unknown type is no
+/// fault here.
+fn define_avp<'a>(
+    alloc: Global,
+    tables: &mut Tables,
+    strays: &mut IndexSet<&'a [u8]>,
+    item: &AvpItem<'a>,
+) -> Result<(), DictFault>
     requires tables { IsTables tables.old }
     requires worded { is_worded_avp (view_avp item.now) ≡ true }
-    ensures good { OnOk result (avp_item_faults tables.old.avps.items (view_avp item.now) ≡ []) }
-    ensures added { OnOk result (defined tables.new ≡ with_avp (defined tables.old) (avp_def_of (view_avp item.now))) }
+    ensures good { OnOk result (avp_item_faults (making tables.old strays.old) (view_avp item.now) ≡ []) }
+    ensures added { OnOk result (making tables.new strays.new ≡ with_item (making tables.old strays.old) (AvpIs (view_avp item.now))) }
     ensures tables { OnOk result (IsTables tables.new) }
-    ensures fault { IfErr result (Stops (avp_item_faults tables.old.avps.items (view_avp item.now))) }
+    ensures fault { IfErr result (Stops (avp_item_faults (making tables.old strays.old) (view_avp item.now))) }
 {
-    check_name(tables, item.name)?;
+    check_name(tables, strays, item.name)?;
     let (code, vendor) = check_code(tables, item.code, item.vendor)?;
+    let values = list(alloc, item.values.as_slice())?;
+    let Some(vendor) = vendor else {
+        strays.insert(item.name.text)?;
+        return Ok(());
+    };
     let avp = AvpDef {
         name: Octets::from_slice(alloc, item.name.text)?,
         code,
         vendor,
         kind: kind_of(item.kind.text).unwrap_or(AvpType::OctetString),
         rule: Rule::empty(alloc),
+        values,
     };
     tables.add_avp(alloc, avp)?;
     Ok(())
 }
 
-/// Defines a Grouped AVP.
-fn define_group(alloc: Global, tables: &mut Tables, item: &GroupItem<'_>) -> Result<(), DictFault>
+/// Defines a Grouped AVP, or notes its name among the strays where its vendor isn't known.
+fn define_group<'a>(
+    alloc: Global,
+    tables: &mut Tables,
+    strays: &mut IndexSet<&'a [u8]>,
+    item: &GroupItem<'a>,
+) -> Result<(), DictFault>
     requires tables { IsTables tables.old }
     requires worded { is_worded_group (view_group item.now) ≡ true }
-    ensures good { OnOk result (group_item_faults tables.old.avps.items (view_group item.now) ≡ []) }
-    ensures added { OnOk result (defined tables.new ≡ with_avp (defined tables.old) (group_def_of (view_group item.now))) }
+    ensures good { OnOk result (group_item_faults (making tables.old strays.old) (view_group item.now) ≡ []) }
+    ensures added { OnOk result (making tables.new strays.new ≡ with_item (making tables.old strays.old) (GroupIs (view_group item.now))) }
     ensures tables { OnOk result (IsTables tables.new) }
-    ensures fault { IfErr result (Stops (group_item_faults tables.old.avps.items (view_group item.now))) }
+    ensures fault { IfErr result (Stops (group_item_faults (making tables.old strays.old) (view_group item.now))) }
 {
-    check_name(tables, item.name)?;
+    check_name(tables, strays, item.name)?;
     let (code, vendor) = check_code(tables, item.code, item.vendor)?;
+    let rule = rule(alloc, item.rule.as_slice())?;
+    let Some(vendor) = vendor else {
+        strays.insert(item.name.text)?;
+        return Ok(());
+    };
     let avp = AvpDef {
         name: Octets::from_slice(alloc, item.name.text)?,
         code,
         vendor,
         kind: AvpType::Grouped,
-        rule: rule(alloc, item.rule.as_slice())?,
+        rule,
+        values: Values::empty(alloc),
     };
     tables.add_avp(alloc, avp)?;
     Ok(())
@@ -90,32 +134,43 @@ fn define_command(
 }
 
 /// Defines an item.
-fn define(alloc: Global, tables: &mut Tables, item: &Item<'_>) -> Result<(), DictFault>
+fn define<'a>(
+    alloc: Global,
+    tables: &mut Tables,
+    strays: &mut IndexSet<&'a [u8]>,
+    item: &Item<'a>,
+) -> Result<(), DictFault>
     requires tables { IsTables tables.old }
     requires worded { is_worded (view_item item.now) ≡ true }
-    ensures good { OnOk result (item_faults (defined tables.old) (view_item item.now) ≡ []) }
-    ensures added { OnOk result (defined tables.new ≡ with_item (defined tables.old) (view_item item.now)) }
+    ensures good { OnOk result (item_faults (making tables.old strays.old) (view_item item.now) ≡ []) }
+    ensures added { OnOk result (making tables.new strays.new ≡ with_item (making tables.old strays.old) (view_item item.now)) }
     ensures tables { OnOk result (IsTables tables.new) }
-    ensures fault { IfErr result (Stops (item_faults (defined tables.old) (view_item item.now))) }
+    ensures fault { IfErr result (Stops (item_faults (making tables.old strays.old) (view_item item.now))) }
 {
     match item {
-        Item::Avp(item) => define_avp(alloc, tables, item),
-        Item::Group(item) => define_group(alloc, tables, item),
+        Item::Vendor(item) => define_vendor(alloc, tables, item),
+        Item::Avp(item) => define_avp(alloc, tables, strays, item),
+        Item::Group(item) => define_group(alloc, tables, strays, item),
         Item::Command(item) => define_command(alloc, tables, item),
     }
 }
 
 /// Defines the items, in order.
-pub fn define_all(alloc: Global, tables: &mut Tables, items: &[Item<'_>]) -> Result<(), DictFault>
+pub fn define_all<'a>(
+    alloc: Global,
+    tables: &mut Tables,
+    strays: &mut IndexSet<&'a [u8]>,
+    items: &[Item<'a>],
+) -> Result<(), DictFault>
     requires tables { IsTables tables.old }
     requires worded { list_all is_worded (map view_item items.now) ≡ true }
-    ensures good { OnOk result (items_faults (defined tables.old) (map view_item items.now) ≡ []) }
-    ensures added { OnOk result (defined tables.new ≡ with_items (defined tables.old) (map view_item items.now)) }
+    ensures good { OnOk result (items_faults (making tables.old strays.old) (map view_item items.now) ≡ []) }
+    ensures added { OnOk result (making tables.new strays.new ≡ with_items (making tables.old strays.old) (map view_item items.now)) }
     ensures tables { OnOk result (IsTables tables.new) }
-    ensures fault { IfErr result (Stops (items_faults (defined tables.old) (map view_item items.now))) }
+    ensures fault { IfErr result (Stops (items_faults (making tables.old strays.old) (map view_item items.now))) }
 {
     for item in items {
-        define(alloc, tables, item)?;
+        define(alloc, tables, strays, item)?;
     }
     Ok(())
 }

@@ -3,23 +3,25 @@ ghost use Rattle.std.specs.Prelude.{◌≡◌, ◌⊎◌, true, IfOk, IfErr, Ok,
 ghost use Rattle.std.specs.Option.{option_copied, option_to_list};
 ghost use Rattle.dm_definitions.specs.declared.fault.DictFault.{DictFault};
 ghost use Rattle.dm_definitions.specs.declared.fault.DictFault.TheVariants as faults;
-ghost use Rattle.dm_definitions.specs.Definitions.{Definitions, nothing_defined, is_named, is_coded, is_headed};
+ghost use Rattle.dm_definitions.specs.Definitions.{Definitions, nothing_defined, is_vendor, is_named, is_coded, is_headed};
 ghost use Rattle.dm_definitions.specs.Sound.{is_sound, is_closed};
 ghost use Rattle.dm_definitions.specs.Base.{base_definitions};
+ghost use Rattle.dm_definitions.specs.Meaning.{vendor_number};
 ghost use Rattle.dm_definitions.specs.Printed.{printed};
 ghost use Rattle.dm_definitions.specs.Outcome.{Defines, IsFirstFault};
 
 use crate::base::base_tables;
-use crate::print::{put_avps, put_commands};
+use crate::print::put_tables;
 use crate::read::read_tables;
 use crate::tables::Tables;
 use crate::{AvpDef, CommandDef, DictFault, NoMemory};
+use dm_grammar::{items_law, words_law};
 use std::alloc::Global;
 use std::marker::Model;
 
-/// Definitions of AVPs and commands.
+/// Definitions of vendors, AVPs and commands.
 ///
-/// A contract sees it as two lists of definitions, in order.
+/// A contract sees it as three lists of definitions, in order.
 #[derive(Debug, Drop)]
 pub struct Definitions {
     tables: Tables,
@@ -56,7 +58,7 @@ impl Definitions {
     }
 
     /// The definitions of the old dictionary, followed by those of the text in the command code format
-    /// (RFC 6733, 3.2). The old dictionary stays as it is.
+    /// (RFC 6733, 3.2), of version 1 or 2. The old dictionary stays as it is.
     ///
     /// Refuses with the first `Syntax` of the whole text, at its last line where it ends too early; else,
     /// token by token, with `Range`, `Duplicate` or `Order`; else with the first `UnknownName`. Where one
@@ -73,17 +75,28 @@ impl Definitions {
         })
     }
 
-    /// The text of the definitions (RFC 6733, 3.2): AVPs, then commands, each in order of definition and on
-    /// a line of its own; or want of memory.
+    /// The text of the definitions (RFC 6733, 3.2): vendors, AVPs, then commands, each in order of definition and
+    /// on a line of its own; or want of memory. Where there is a vendor or a list of values, it begins with the
+    /// line `@ 2`.
     pub fn print(&self, alloc: Global) -> Result<Vec<u8>, NoMemory>
         ensures text { IfOk result (λ text. text.items ≡ printed self.now) }
         // Read over the empty dictionary it gives this dictionary again.
         ensures again { IfOk result (λ text. Defines text.items nothing_defined self.now) }
     {
         let mut text = Vec::new(alloc);
-        put_avps(alloc, &mut text, self.tables.avps.as_slice())?;
-        put_commands(alloc, &mut text, self.tables.commands.as_slice())?;
+        items_law();
+        words_law();
+        put_tables(alloc, &mut text, &self.tables)?;
         Ok(text)
+    }
+
+    /// The number of the vendor of the name (own). It takes no memory.
+    pub fn vendor_by_name(&self, name: &[u8]) -> Option<u32>
+        ensures found { result ≡ vendor_number self.now.vendors name.now }
+        // No other vendor has the name.
+        ensures one { filter (is_vendor name.now) self.now.vendors ≡ option_to_list (find (is_vendor name.now) self.now.vendors) }
+    {
+        self.tables.vendors.number_of(name)
     }
 
     /// The AVP of the name (RFC 6733, 3.2). It takes no memory.

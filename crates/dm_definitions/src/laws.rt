@@ -1,4 +1,5 @@
 //! Laws of what a text says as a dictionary. Each function is a law: it does nothing, and its contract is the law.
+ghost use Rattle.dm_definitions.specs.FirstVersion.{PrintsFirstVersion};
 ghost use Rattle.dm_definitions.specs.OneOutcome.{OneDefinition, OneFault, NoDefinitionRefused, SomeOutcome};
 
 /// Behind the same old definitions a text defines one whole at most (RFC 6733, 3.2).
@@ -19,4 +20,10 @@ pub fn no_definition_refused()
 /// A text defines something or has a first fault. The law stands for users.
 pub fn some_outcome()
     ensures { SomeOutcome }
+{}
+
+/// Definitions without vendors and lists of values are printed as a text of version 1. The law stands for
+/// users.
+pub fn prints_first_version()
+    ensures { PrintsFirstVersion }
 {}

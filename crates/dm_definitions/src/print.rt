@@ -1,10 +1,12 @@
 //! The text of definitions (RFC 6733, 3.2).
 ghost use Rattle.std.specs.Prelude.{◌≡◌, ◌++◌, ◌∷◌, [], OnOk};
-ghost use Rattle.std.specs.List.{flat_map};
+ghost use Rattle.std.specs.List.{flat_map, list_all};
 ghost use Rattle.std.specs.Fmt.{decimal};
-ghost use Rattle.dm_definitions.specs.Printed.{type_name, spaced, spaced_number, spaced_option, decimal_option, opening, closing, entry_text, rule_text, plain_line, rule_end, group_head, group_line, avp_line, flag_text, flags_text, command_head, command_line};
+ghost use Rattle.dm_definitions.specs.Printed.{type_name, spaced, spaced_number, spaced_option, decimal_option, opening, closing, entry_text, rule_text, vendor_line, value_text, next_value, list_text, plain_end, plain_line, rule_end, group_head, group_line, avp_line, flag_text, flags_text, command_head, command_line, has_none, is_first_version, version_line, printed};
+ghost use Rattle.dm_definitions.specs.Tables.{defined};
 
-use crate::{AvpDef, AvpType, CommandDef, Entry, Form, NoMemory, Rule};
+use crate::tables::Tables;
+use crate::{AvpDef, AvpType, CommandDef, Entry, EnumValue, Form, NoMemory, Rule, VendorDef};
 use std::alloc::Global;
 
 /// The name of a type.
@@ -121,15 +123,62 @@ fn put_kind(text: &mut Vec<u8>, kind: AvpType) -> Result<(), NoMemory>
     put(text, type_word(kind))
 }
 
+fn put_value(alloc: Global, text: &mut Vec<u8>, value: &EnumValue) -> Result<(), NoMemory>
+    ensures { OnOk result (text.new.items ≡ text.old.items ++ value_text value.now) }
+{
+    put(text, b" ")?;
+    put(text, value.name.as_slice())?;
+    put_number(alloc, text, value.number.unsigned_abs())
+}
+
+fn put_next_value(alloc: Global, text: &mut Vec<u8>, value: &EnumValue) -> Result<(), NoMemory>
+    ensures { OnOk result (text.new.items ≡ text.old.items ++ next_value value.now) }
+{
+    put(text, b",")?;
+    put_value(alloc, text, value)
+}
+
+fn put_more_values(alloc: Global, text: &mut Vec<u8>, values: &[EnumValue]) -> Result<(), NoMemory>
+    ensures { OnOk result (text.new.items ≡ text.old.items ++ flat_map next_value values.now) }
+{
+    for value in values {
+        put_next_value(alloc, text, value)?;
+    }
+    Ok(())
+}
+
+/// A list of values, where there is one.
+fn put_list(alloc: Global, text: &mut Vec<u8>, values: &[EnumValue]) -> Result<(), NoMemory>
+    ensures { OnOk result (text.new.items ≡ text.old.items ++ list_text values.now) }
+{
+    match values {
+        [] => Ok(()),
+        [first, more @ ..] => {
+            put(text, b" {")?;
+            put_value(alloc, text, first)?;
+            put_more_values(alloc, text, more)?;
+            put(text, b" }")
+        }
+    }
+}
+
+/// What stands behind the code of an AVP that isn't Grouped.
+fn put_plain_end(alloc: Global, text: &mut Vec<u8>, avp: &AvpDef) -> Result<(), NoMemory>
+    ensures { OnOk result (text.new.items ≡ text.old.items ++ plain_end avp.now) }
+{
+    put_kind(text, avp.kind)?;
+    put_option(alloc, text, avp.vendor)?;
+    put_list(alloc, text, avp.values.as_slice())?;
+    put(text, b"\n")
+}
+
 fn put_plain(alloc: Global, text: &mut Vec<u8>, avp: &AvpDef) -> Result<(), NoMemory>
     ensures { OnOk result (text.new.items ≡ text.old.items ++ plain_line avp.now) }
 {
     put(text, b"@ ")?;
     put(text, avp.name.as_slice())?;
     put_number(alloc, text, avp.code)?;
-    put_kind(text, avp.kind)?;
-    put_option(alloc, text, avp.vendor)?;
-    put(text, b"\n")
+    put_plain_end(alloc, text, avp)
 }
 
 fn put_group_head(alloc: Global, text: &mut Vec<u8>, avp: &AvpDef) -> Result<(), NoMemory>
@@ -185,7 +234,7 @@ fn put_command(alloc: Global, text: &mut Vec<u8>, command: &CommandDef) -> Resul
 }
 
 /// Puts the line of each AVP behind the text.
-pub fn put_avps(alloc: Global, text: &mut Vec<u8>, avps: &[AvpDef]) -> Result<(), NoMemory>
+fn put_avps(alloc: Global, text: &mut Vec<u8>, avps: &[AvpDef]) -> Result<(), NoMemory>
     ensures { OnOk result (text.new.items ≡ text.old.items ++ flat_map avp_line avps.now) }
 {
     for avp in avps {
@@ -195,15 +244,73 @@ pub fn put_avps(alloc: Global, text: &mut Vec<u8>, avps: &[AvpDef]) -> Result<()
 }
 
 /// Puts the line of each command behind the text.
-pub fn put_commands(
-    alloc: Global,
-    text: &mut Vec<u8>,
-    commands: &[CommandDef],
-) -> Result<(), NoMemory>
+fn put_commands(alloc: Global, text: &mut Vec<u8>, commands: &[CommandDef]) -> Result<(), NoMemory>
     ensures { OnOk result (text.new.items ≡ text.old.items ++ flat_map command_line commands.now) }
 {
     for command in commands {
         put_command(alloc, text, command)?;
     }
     Ok(())
+}
+
+fn put_vendor(alloc: Global, text: &mut Vec<u8>, vendor: &VendorDef) -> Result<(), NoMemory>
+    ensures { OnOk result (text.new.items ≡ text.old.items ++ vendor_line vendor.now) }
+{
+    put(text, b"@ vendor ")?;
+    put(text, vendor.name.as_slice())?;
+    put_number(alloc, text, vendor.number)?;
+    put(text, b"\n")
+}
+
+/// Puts the line of each vendor behind the text.
+fn put_vendors(alloc: Global, text: &mut Vec<u8>, vendors: &[VendorDef]) -> Result<(), NoMemory>
+    ensures { OnOk result (text.new.items ≡ text.old.items ++ flat_map vendor_line vendors.now) }
+{
+    for vendor in vendors {
+        put_vendor(alloc, text, vendor)?;
+    }
+    Ok(())
+}
+
+/// Whether no AVP has a list of values.
+fn has_no_lists(avps: &[AvpDef]) -> bool
+    ensures { result ≡ list_all (λ a. has_none a.values) avps.now }
+{
+    for avp in avps {
+        if let [_, ..] = avp.values.as_slice() {
+            return false;
+        }
+    }
+    true
+}
+
+/// Whether there are no vendors and no lists of values.
+fn is_first_version(tables: &Tables) -> bool
+    ensures { result ≡ is_first_version (defined tables.now) }
+{
+    match tables.vendors.items.as_slice() {
+        [] => has_no_lists(tables.avps.as_slice()),
+        _ => false,
+    }
+}
+
+/// Puts the line of the version, where a text of version 1 doesn't say it all.
+fn put_version(text: &mut Vec<u8>, tables: &Tables) -> Result<(), NoMemory>
+    ensures { OnOk result (text.new.items ≡ text.old.items ++ version_line (defined tables.now)) }
+{
+    if is_first_version(tables) {
+        Ok(())
+    } else {
+        put(text, b"@ 2\n")
+    }
+}
+
+/// Puts the text of all definitions behind the text.
+pub fn put_tables(alloc: Global, text: &mut Vec<u8>, tables: &Tables) -> Result<(), NoMemory>
+    ensures { OnOk result (text.new.items ≡ text.old.items ++ printed (defined tables.now)) }
+{
+    put_version(text, tables)?;
+    put_vendors(alloc, text, tables.vendors.items.as_slice())?;
+    put_avps(alloc, text, tables.avps.as_slice())?;
+    put_commands(alloc, text, tables.commands.as_slice())
 }

@@ -6,7 +6,7 @@ ghost use Rattle.dm_definitions.specs.declared.fault.DictFault.TheVariants as fa
 ghost use Rattle.dm_definitions.specs.Definitions.{nothing_defined};
 ghost use Rattle.dm_definitions.specs.Tables.{defined, IsTables, IsDictionary};
 ghost use Rattle.dm_definitions.specs.Worded.{is_worded};
-ghost use Rattle.dm_definitions.specs.Meaning.{with_items};
+ghost use Rattle.dm_definitions.specs.Meaning.{made, with_items};
 ghost use Rattle.dm_definitions.specs.Faults.{Stops};
 ghost use Rattle.dm_definitions.specs.Outcome.{Defines, IsFirstFault, all_faults};
 
@@ -14,28 +14,33 @@ use crate::DictFault;
 use crate::define::define_all;
 use crate::tables::Tables;
 use crate::unknown::first_unknown;
-use dm_grammar::{Item, read_items};
+use dm_grammar::{Item, items_law, read_items};
+use indexmap::IndexSet;
 use std::alloc::Global;
 
-/// Adds the definitions of the old tables and those of the items to tables without any.
-fn add_items(
+/// Adds the definitions of the old tables and those of the items to tables without any; the names of strays
+/// are put into a set without any.
+fn add_items<'a>(
     alloc: Global,
     tables: &mut Tables,
+    strays: &mut IndexSet<&'a [u8]>,
     old: &Tables,
-    items: &[Item<'_>],
+    items: &[Item<'a>],
 ) -> Result<(), DictFault>
     requires tables { IsTables tables.old }
     requires empty { defined tables.old ≡ nothing_defined }
+    requires none { strays.old.keys ≡ [] }
     requires old { IsDictionary old.now }
     requires worded { list_all is_worded (map view_item items.now) ≡ true }
     ensures good { OnOk result (all_faults (defined old.now) (map view_item items.now) ≡ []) }
-    ensures added { OnOk result (defined tables.new ≡ with_items (defined old.now) (map view_item items.now)) }
+    ensures added { OnOk result (defined tables.new ≡ (with_items (made (defined old.now)) (map view_item items.now)).definitions) }
     ensures dictionary { OnOk result (IsDictionary tables.new) }
     ensures fault { IfErr result (Stops (all_faults (defined old.now) (map view_item items.now))) }
 {
     tables.add_all(alloc, old)?;
-    define_all(alloc, tables, items)?;
-    match first_unknown(tables, items) {
+    define_all(alloc, tables, strays, items)?;
+    let vendors = old.vendors.items.as_slice().len();
+    match first_unknown(tables, strays, vendors, items) {
         Some(fault) => Err(fault),
         None => Ok(()),
     }
@@ -46,12 +51,14 @@ fn tables_of(alloc: Global, old: &Tables, items: &[Item<'_>]) -> Result<Tables, 
     requires old { IsDictionary old.now }
     requires worded { list_all is_worded (map view_item items.now) ≡ true }
     ensures good { IfOk result (λ _. all_faults (defined old.now) (map view_item items.now) ≡ []) }
-    ensures added { IfOk result (λ new. defined new ≡ with_items (defined old.now) (map view_item items.now)) }
+    ensures added { IfOk result (λ new. defined new ≡ (with_items (made (defined old.now)) (map view_item items.now)).definitions) }
     ensures dictionary { IfOk result IsDictionary }
     ensures fault { IfErr result (Stops (all_faults (defined old.now) (map view_item items.now))) }
 {
     let mut tables = Tables::new(alloc);
-    let done = add_items(alloc, &mut tables, old, items);
+    let mut strays = IndexSet::new(alloc);
+    let done = add_items(alloc, &mut tables, &mut strays, old, items);
+    drop(strays);
     done.and(Ok(tables))
 }
 
@@ -62,6 +69,7 @@ pub fn read_tables(alloc: Global, text: &[u8], old: &Tables) -> Result<Tables, D
     ensures dictionary { IfOk result IsDictionary }
     ensures fault { IfErr result (λ f. (f ≡ faults.NoMemory) ⊎ IsFirstFault text.now (defined old.now) f) }
 {
+    items_law();
     let found = read_items(alloc, text)?;
     let tables = tables_of(alloc, old, found.as_slice());
     drop(found);

@@ -4,16 +4,18 @@ ghost use Rattle.std.specs.List.{list_any};
 ghost use Rattle.std.specs.Option.{option_copied, option_and_then};
 ghost use Rattle.std.specs.Cmp.Lexicographic.{pointwise};
 ghost use Rattle.indexmap.specs.IndexMap.{insert_entry};
-ghost use Rattle.dm_definitions.specs.Definitions.{is_named, is_coded, is_titled, is_headed, with_avp, with_command};
-ghost use Rattle.dm_definitions.specs.Sound.{each_after, is_sound_avp, is_sound_command};
+ghost use Rattle.dm_definitions.specs.Definitions.{is_named, is_coded, is_titled, is_headed, with_vendor, with_avp, with_command};
+ghost use Rattle.dm_definitions.specs.Sound.{each_after, is_sound_vendor, is_sound_avp, is_sound_command};
 
-use crate::{AvpDef, CommandDef, NoMemory};
+use crate::vendors::Vendors;
+use crate::{AvpDef, CommandDef, NoMemory, VendorDef};
 use indexmap::IndexMap;
 use std::alloc::Global;
 
 /// Definitions in order, and where each stands among them by its keys.
 #[derive(Debug, Drop)]
 pub struct Tables {
+    pub vendors: Vendors,
     pub avps: Vec<AvpDef>,
     pub commands: Vec<CommandDef>,
     pub names: IndexMap<Vec<u8>, usize>,
@@ -23,7 +25,7 @@ pub struct Tables {
 }
 
 /// Puts the place of a definition under its name.
-fn note_name(
+pub fn note_name(
     alloc: Global,
     names: &mut IndexMap<Vec<u8>, usize>,
     name: &[u8],
@@ -38,7 +40,7 @@ fn note_name(
 }
 
 /// The member at a place, where there is one.
-fn member_at<T>(members: &[T], place: Option<usize>) -> Option<&T>
+pub fn member_at<T>(members: &[T], place: Option<usize>) -> Option<&T>
     ensures { option_copied result ≡ option_and_then (slice_get members.now) place }
 {
     match place {
@@ -57,6 +59,7 @@ impl Tables {
         ensures indexed { IsTables result }
     {
         Tables {
+            vendors: Vendors::new(alloc),
             avps: Vec::new(alloc),
             commands: Vec::new(alloc),
             names: IndexMap::new(alloc),
@@ -64,6 +67,16 @@ impl Tables {
             titles: IndexMap::new(alloc),
             heads: IndexMap::new(alloc),
         }
+    }
+
+    /// One vendor more, behind the others. After want of memory the tables are of no use.
+    pub fn add_vendor(&mut self, alloc: Global, vendor: VendorDef) -> Result<(), NoMemory>
+        requires tables { IsTables self.old }
+        requires sound { is_sound_vendor self.old.vendors.items.items vendor ≡ true }
+        ensures added { OnOk result (defined self.new ≡ with_vendor (defined self.old) vendor) }
+        ensures tables { OnOk result (IsTables self.new) }
+    {
+        self.vendors.add(alloc, vendor)
     }
 
     /// One AVP more, behind the others. After want of memory the tables are of no use.
@@ -96,10 +109,26 @@ impl Tables {
         noted
     }
 
+    /// Copies of the vendors, behind the others.
+    fn add_vendors(&mut self, alloc: Global, vendors: &[VendorDef]) -> Result<(), NoMemory>
+        requires tables { IsTables self.old }
+        requires sound { each_after is_sound_vendor self.old.vendors.items.items vendors.now ≡ true }
+        ensures vendors { OnOk result (self.new.vendors.items.items ≡ self.old.vendors.items.items ++ vendors.now) }
+        ensures avps { OnOk result (self.new.avps.items ≡ self.old.avps.items) }
+        ensures commands { OnOk result (self.new.commands.items ≡ self.old.commands.items) }
+        ensures tables { OnOk result (IsTables self.new) }
+    {
+        for vendor in vendors {
+            self.add_vendor(alloc, vendor.clone()?)?;
+        }
+        Ok(())
+    }
+
     /// Copies of the AVPs, behind the others.
     fn add_avps(&mut self, alloc: Global, avps: &[AvpDef]) -> Result<(), NoMemory>
         requires tables { IsTables self.old }
         requires sound { each_after is_sound_avp self.old.avps.items avps.now ≡ true }
+        ensures vendors { OnOk result (self.new.vendors.items.items ≡ self.old.vendors.items.items) }
         ensures avps { OnOk result (self.new.avps.items ≡ self.old.avps.items ++ avps.now) }
         ensures commands { OnOk result (self.new.commands.items ≡ self.old.commands.items) }
         ensures tables { OnOk result (IsTables self.new) }
@@ -114,6 +143,7 @@ impl Tables {
     fn add_commands(&mut self, alloc: Global, commands: &[CommandDef]) -> Result<(), NoMemory>
         requires tables { IsTables self.old }
         requires sound { each_after is_sound_command self.old.commands.items commands.now ≡ true }
+        ensures vendors { OnOk result (self.new.vendors.items.items ≡ self.old.vendors.items.items) }
         ensures avps { OnOk result (self.new.avps.items ≡ self.old.avps.items) }
         ensures commands { OnOk result (self.new.commands.items ≡ self.old.commands.items ++ commands.now) }
         ensures tables { OnOk result (IsTables self.new) }
@@ -133,6 +163,7 @@ impl Tables {
         ensures copy { OnOk result (defined self.new ≡ defined other.now) }
         ensures tables { OnOk result (IsTables self.new) }
     {
+        self.add_vendors(alloc, other.vendors.items.as_slice())?;
         self.add_avps(alloc, other.avps.as_slice())?;
         self.add_commands(alloc, other.commands.as_slice())
     }

@@ -1,5 +1,5 @@
 -- What a sound dictionary says of what is looked up in it.
-use Rattle.std.proofs.Common.{◌≡◌, ℕ, Bool, true, false, ◌||◌, not, nat_eq, Option, Some, List, [], ◌∷◌, ◌++◌, find, codes, refl, sym, ◌∙◌, ap}
+use Rattle.std.proofs.Common.{◌≡◌, ℕ, Bool, true, false, ◌&&◌, ◌||◌, not, nat_eq, Option, Some, List, [], ◌∷◌, ◌++◌, find, codes, refl, sym, ◌∙◌, ap}
 use Rattle.std.proofs.lemmas.Bool.{and_parts}
 use Rattle.std.proofs.lemmas.List.Folds.{list_any-append}
 use Rattle.std.specs.List.{list_any}
@@ -8,7 +8,7 @@ use Rattle.dm_definitions.specs.declared.rule.Entry.{Entry}
 use Rattle.dm_definitions.specs.declared.def.AvpDef.{AvpDef}
 use Rattle.dm_definitions.specs.declared.def.CommandDef.{CommandDef}
 use Rattle.dm_definitions.specs.Definitions.{Definitions, is_coded, is_headed}
-use Rattle.dm_definitions.specs.Sound.{each_after, is_sound, is_sound_avp, is_sound_command, is_sound_entry, is_sound_rule, is_any}
+use Rattle.dm_definitions.specs.Sound.{each_after, is_sound, is_sound_vendor, is_sound_avp, is_sound_command, is_sound_entry, is_sound_rule, is_any}
 use Rattle.dm_dict.specs.Rules.{is_called}
 use Rattle.dm_dict.specs.Apart.{AtMostOne, IsApart, IsFit, IsOwnName}
 
@@ -71,7 +71,9 @@ own_name name h = by (pointwise nat_eq (codes "AVP") name) refl where
 -- a sound definition of an AVP
 sound_avp : (before : List AvpDef) (f : AvpDef) → is_sound_avp before f ≡ true → IsOwnName f.name × IsApart f.rule
 sound_avp before f h =
-    let (h7, kind) = and_parts _ _ h in
+    let (h9, listing) = and_parts _ _ h in
+    let (h8, list) = and_parts _ _ h9 in
+    let (h7, kind) = and_parts _ _ h8 in
     let (h6, rule) = and_parts _ _ h7 in
     let (h5, new_code) = and_parts _ _ h6 in
     let (h4, vendor) = and_parts _ _ h5 in
@@ -83,8 +85,9 @@ sound_avp before f h =
 -- the definitions of a sound dictionary
 pub fit : (d : Definitions) → is_sound d ≡ true → IsFit d.avps
 fit d h =
-    let (avps, commands) = and_parts (each_after is_sound_avp [] d.avps)
+    let (before_commands, commands) = and_parts (each_after is_sound_vendor [] d.vendors && each_after is_sound_avp [] d.avps)
     (each_after is_sound_command [] d.commands) h in
+    let (vendors, avps) = and_parts (each_after is_sound_vendor [] d.vendors) (each_after is_sound_avp [] d.avps) before_commands in
     let sound = λ (code : ℕ) (vendor : Option ℕ) (f : AvpDef)
     (e : find (is_coded code vendor) d.avps ≡ Some f). found_sound is_sound_avp
     (is_coded code vendor) [] d.avps f avps e in
@@ -97,8 +100,9 @@ fit d h =
 pub apart_command : (d : Definitions) (code : ℕ) (request err : Bool) (c : CommandDef) → is_sound d ≡ true
     → find (is_headed code request err) d.commands ≡ Some c → IsApart c.rule
 apart_command d code request err c h e =
-    let (avps, commands) = and_parts (each_after is_sound_avp [] d.avps)
+    let (before_commands, commands) = and_parts (each_after is_sound_vendor [] d.vendors && each_after is_sound_avp [] d.avps)
     (each_after is_sound_command [] d.commands) h in
+    let (vendors, avps) = and_parts (each_after is_sound_vendor [] d.vendors) (each_after is_sound_avp [] d.avps) before_commands in
     let (before, s) = found_sound is_sound_command (is_headed code request err) [] d.commands c commands e in
     let (h5, rule) = and_parts _ _ s in
     apart_rule c.rule rule

@@ -29,7 +29,7 @@ typed_avp : (inside : List Entry → List Avp → Type 0) (other : List Avp → 
     → KeepsAs inside rule a f → IsTypedAs other a f
 typed_avp inside other g rule a None h = tt
 typed_avp inside other g rule a (Some f) h =
-    λ plain. typed_inside (inside f.rule) other (g f.rule) f.kind a.bytes (h.1 plain)
+    λ plain. typed_inside (inside f.rule) other (g f.rule) f.kind a.bytes (h.1 plain).0
 
 typed_each : (inside : List Entry → List Avp → Type 0) (other : List Avp → Type 0)
     → ((r : List Entry) (l : List Avp) → inside r l → other l)

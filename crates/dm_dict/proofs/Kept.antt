@@ -82,9 +82,9 @@ kept_avp law n avps group rule a None h = unmarked a.mandatory a h
 kept_avp law n avps group rule a (Some f) h =
     let allowed = allows (entry_for rule (Some f)) in
     let (allow, flawless) = none_both (if allowed then [] else fault_of avp_not_allowed a)
-    (if is_failed_avp a then [] else data_faults f.kind (group_faults n avps f.rule a) a) h in (
+    (if is_failed_avp a then [] else data_faults f.kind f.values (group_faults n avps f.rule a) a) h in (
       may_stand rule f (is_allowed allowed a allow),
-      λ other. typed_data law (KeepsTo n avps f.rule) f.kind (group_faults n avps f.rule a) a (group f.rule a)
+      λ other. typed_data law (KeepsTo n avps f.rule) f.kind f.values (group_faults n avps f.rule a) a (group f.rule a)
           (rw other at flawless),
     )
 

@@ -10,7 +10,9 @@ use Rattle.std.specs.List.{list_all}
 use Rattle.std.specs.Str.{IsUtf8}
 use Rattle.dm_definitions.specs.declared.def.AvpDef.{AvpDef}
 use Rattle.dm_definitions.specs.declared.def.CommandDef.{CommandDef}
-use Rattle.dm_definitions.specs.Sound.{each_after, goes_on, is_proper_name, is_sound_avp, is_sound_command}
+use Rattle.dm_definitions.specs.declared.def.VendorDef.{VendorDef}
+use Rattle.dm_definitions.specs.declared.values.EnumValue.{EnumValue}
+use Rattle.dm_definitions.specs.Sound.{each_after, goes_on, is_proper_name, is_sound_avp, is_sound_command, is_sound_value, is_sound_vendor}
 use Rattle.dm_dict.specs.Texts.{NamesAreText}
 
 either : (a b : Bool) → (a || b) ≡ true → (a ≡ true) ⊎ (b ≡ true)
@@ -77,10 +79,34 @@ command_is_named before c h = by (is_proper_name c.name) refl
     by true e = proper_is_text c.name e
     by false e = absurd (true≢false (sym h ∙ rw e refl))
 
+vendor_is_named : (before : List VendorDef) (v : VendorDef) → is_sound_vendor before v ≡ true → IsUtf8 v.name
+vendor_is_named before v h = by (is_proper_name v.name) refl
+  where
+    by : (b : Bool) → is_proper_name v.name ≡ b → IsUtf8 v.name
+    by true e = proper_is_text v.name e
+    by false e = absurd (true≢false (sym h ∙ rw e refl))
+
+value_is_named : (before : List EnumValue) (v : EnumValue) → is_sound_value before v ≡ true → IsUtf8 v.name
+value_is_named before v h = by (is_proper_name v.name) refl
+  where
+    by : (b : Bool) → is_proper_name v.name ≡ b → IsUtf8 v.name
+    by true e = proper_is_text v.name e
+    by false e = absurd (true≢false (sym h ∙ rw e refl))
+
+values_are_named : (before : List AvpDef) (d : AvpDef) → is_sound_avp before d ≡ true
+    → All (λ v. IsUtf8 v.name) d.values
+values_are_named before d h =
+    let (listed, _) = and_parts _ _ h in
+    let (_, values) = and_parts _ _ listed in
+    all_after is_sound_value (λ v. IsUtf8 v.name) value_is_named [] d.values values
+
 pub names_are_text : NamesAreText
 names_are_text d sound =
-    let (avps, commands) = and_parts _ _ sound in
+    let (front, commands) = and_parts _ _ sound in
+    let (vendors, avps) = and_parts _ _ front in
     record {
+      vendors = all_after is_sound_vendor (λ v. IsUtf8 v.name) vendor_is_named [] d.vendors vendors;
       avps = all_after is_sound_avp (λ a. IsUtf8 a.name) avp_is_named [] d.avps avps;
+      values = all_after is_sound_avp (λ a. All (λ v. IsUtf8 v.name) a.values) values_are_named [] d.avps avps;
       commands = all_after is_sound_command (λ c. IsUtf8 c.name) command_is_named [] d.commands commands;
     }

@@ -1,5 +1,5 @@
 -- Data without a fault has a value.
-use Rattle.std.proofs.Common.{◌≡◌, Option, None, Some, List}
+use Rattle.std.proofs.Common.{◌≡◌, Bool, true, false, Option, None, Some, List, [], ◌∷◌, ◌++◌, if◌then◌else◌, refl}
 use Rattle.std.specs.Prelude.{MatchOption}
 use Rattle.dm_wire.specs.declared.avp.Avp.{Avp}
 use Rattle.dm_value.specs.declared.avp_type.AvpType.{AvpType}
@@ -11,7 +11,9 @@ use Rattle.dm_value.specs.Columns.{Refuses}
 use Rattle.dm_value.specs.Decided.{AreOctets, FlawDecides}
 use Rattle.dm_value.specs.Flaws.{flaw}
 use Rattle.dm_value.specs.Meaning.{Means}
-use Rattle.dm_dict.specs.Faults.{first, value_faults, data_faults, Fault}
+use Rattle.dm_dict.specs.Codes.{invalid_avp_value}
+use Rattle.dm_definitions.specs.declared.values.EnumValue.{EnumValue}
+use Rattle.dm_dict.specs.Faults.{first, fault_of, value_faults, is_left_out, unlisted_faults, data_faults, Fault}
 use Rattle.dm_dict.specs.Typed.{IsTypedData}
 
 valued : FlawDecides → (kind : AvpType) (a : Avp) → (kind ≡ Grouped → AreOctets a.bytes)
@@ -25,9 +27,19 @@ valued law kind a octets h = by (flaw kind a.bytes) (law kind a.bytes octets) h 
   by (Some TooLong) m g = absurd m
   by (Some NoMemory) m g = absurd m
 
--- data of a type without a fault; of a group what its faults say
-pub typed_data : FlawDecides → (inside : List Avp → Type 0) (kind : AvpType) (g : List Fault) (a : Avp)
-    → (first g ≡ None → IsTypedData inside Grouped a.bytes) → first (data_faults kind g a) ≡ None
-    → IsTypedData inside kind a.bytes
-typed_data law inside Grouped g a group h = group h
-typed_data law inside kind g a group h = valued law kind a (λ e. absurd (cc)) h
+none_apart : (fs gs : List Fault) → first (fs ++ gs) ≡ None → (first fs ≡ None) × (first gs ≡ None)
+none_apart [] gs h = (refl, h)
+none_apart (f ∷ fs) gs h = absurd (cc)
+
+not_left_out : (b : Bool) (a : Avp) → first (if b then fault_of invalid_avp_value a else []) ≡ None → b ≡ false
+not_left_out true a h = absurd (cc)
+not_left_out false a h = refl
+
+-- data of a type without a fault, and of its list; of a group what its faults say
+pub typed_data : FlawDecides → (inside : List Avp → Type 0) (kind : AvpType) (values : List EnumValue) (g : List Fault) (a : Avp)
+    → (first g ≡ None → IsTypedData inside Grouped a.bytes) → first (data_faults kind values g a) ≡ None
+    → IsTypedData inside kind a.bytes × (is_left_out kind values a.bytes ≡ false)
+typed_data law inside Grouped values g a group h = (group h, refl)
+typed_data law inside kind values g a group h =
+    let (flawless, listed) = none_apart (value_faults (flaw kind a.bytes) a) (unlisted_faults kind values a) h in
+    (valued law kind a (λ e. absurd (cc)) flawless, not_left_out (is_left_out kind values a.bytes) a listed)

@@ -2,16 +2,20 @@
 -- those of RFC 6733, 7.1; the order and the limit on groups inside each other are this project's own.
 use Rattle.std.specs.Prelude.{ℕ, suc, zero, Bool, true, false, not, ◌&&◌, ◌||◌, nat_eq, nat_lt, Option, None, Some, option_map, List, [], ◌∷◌, ◌++◌, length, find, flat_map, replicate, slice_get, if◌then◌else◌}
 use Rattle.std.specs.Option.{option_eq}
+use Rattle.std.specs.Int.{cast_signed, w32}
+use Rattle.byteorder.specs.Endian.{big_number}
 use Rattle.dm_wire.specs.declared.avp.Avp.{Avp}
 use Rattle.dm_wire.specs.declared.message.Header.{Header}
 use Rattle.dm_wire.specs.declared.message.Message.{Message}
 use Rattle.dm_value.specs.declared.avp_type.AvpType.{AvpType}
-use Rattle.dm_value.specs.declared.avp_type.AvpType.TheVariants.{Grouped}
+use Rattle.dm_value.specs.declared.avp_type.AvpType.TheVariants.{Enumerated, Grouped}
 use Rattle.dm_value.specs.declared.fault.ValueFault.{ValueFault}
 use Rattle.dm_value.specs.declared.fault.ValueFault.TheVariants.{WrongLength, WrongValue}
 use Rattle.dm_value.specs.Columns.{least_length}
 use Rattle.dm_value.specs.Flaws.{flaw}
 use Rattle.dm_definitions.specs.declared.rule.Entry.{Entry}
+use Rattle.dm_definitions.specs.declared.values.EnumValue.{EnumValue}
+use Rattle.dm_definitions.specs.Listed.{is_unlisted}
 use Rattle.dm_definitions.specs.declared.def.AvpDef.{AvpDef}
 use Rattle.dm_definitions.specs.declared.def.CommandDef.{CommandDef}
 use Rattle.dm_definitions.specs.Definitions.{Definitions, is_named, is_headed}
@@ -37,10 +41,18 @@ value_faults (Some WrongLength) a = fault_of invalid_avp_length a
 value_faults (Some WrongValue) a = fault_of invalid_avp_value a
 value_faults _ a = []
 
--- data of a type; of a Grouped AVP what is wrong with the group (4.4)
-abbrev pub data_faults : AvpType → List Fault → Avp → List Fault
-data_faults Grouped group a = group
-data_faults kind group a = value_faults (flaw kind a.bytes) a
+-- four octets of an Enumerated with a list, whose value isn't in it (own); another size is a wrong length
+abbrev pub is_left_out : AvpType → List EnumValue → List ℕ → Bool
+is_left_out Enumerated values s = is_unlisted values (cast_signed w32 (big_number 4 s)) && nat_eq (length s) 4
+is_left_out _ values s = false
+
+abbrev pub unlisted_faults : AvpType → List EnumValue → Avp → List Fault
+unlisted_faults kind values a = if is_left_out kind values a.bytes then fault_of invalid_avp_value a else []
+
+-- data of a type, and of a list of values; of a Grouped AVP what is wrong with the group (4.4)
+abbrev pub data_faults : AvpType → List EnumValue → List Fault → Avp → List Fault
+data_faults Grouped values group a = group
+data_faults kind values group a = value_faults (flaw kind a.bytes) a ++ unlisted_faults kind values a
 
 -- Failed-AVP, whose data holds what was wrong elsewhere and isn't read (7.5)
 abbrev pub is_failed_avp : Avp → Bool
@@ -52,7 +64,7 @@ is_failed_avp a = nat_eq a.code failed_avp && option_eq nat_eq a.vendor None
 abbrev pub avp_faults : (List Entry → Avp → List Fault) → Bool → Avp → Option AvpDef → List Fault
 avp_faults groups allowed a None = if a.mandatory then fault_of avp_unsupported a else []
 avp_faults groups allowed a (Some f) =
-    (if allowed then [] else fault_of avp_not_allowed a) ++ (if is_failed_avp a then [] else data_faults f.kind (groups f.rule a) a)
+    (if allowed then [] else fault_of avp_not_allowed a) ++ (if is_failed_avp a then [] else data_faults f.kind f.values (groups f.rule a) a)
 
 -- the example of an AVP that is missing: zeros of its type's least length (7.5); `AVP` has none
 abbrev pub example_of : AvpDef → Avp

@@ -6,7 +6,7 @@ use Rattle.dm_definitions.specs.declared.rule.Entry.{Entry}
 use Rattle.dm_definitions.specs.declared.def.AvpDef.{AvpDef}
 use Rattle.dm_definitions.specs.declared.def.CommandDef.{CommandDef}
 use Rattle.dm_definitions.specs.Definitions.{Definitions}
-use Rattle.dm_dict.specs.Faults.{command_for, wrong_bits, is_failed_avp, faults, first}
+use Rattle.dm_dict.specs.Faults.{command_for, wrong_bits, is_failed_avp, is_left_out, faults, first}
 use Rattle.dm_dict.specs.Rules.{definition, entry_for, count}
 use Rattle.dm_dict.specs.Typed.{IsTypedData, Each}
 
@@ -16,11 +16,11 @@ pub record MayStand (rule : List Entry) (f : AvpDef) : Type 0 where
   pub stands : entry_for rule (Some f) ≡ Some entry
   pub room : entry.max ≢ Some 0
 
--- an AVP that is defined may stand there, and its data has a value of its type, that of Failed-AVP aside; the AVPs of a group are
--- as `inside` says under the group's own rule. One that isn't defined has no M bit
+-- an AVP that is defined may stand there, and its data has a value of its type and of its list, that of Failed-AVP aside; the AVPs of
+-- a group are as `inside` says under the group's own rule. One that isn't defined has no M bit
 abbrev pub KeepsAs : (List Entry → List Avp → Type 0) → List Entry → Avp → Option AvpDef → Type 0
 KeepsAs inside rule a None = a.mandatory ≡ false
-KeepsAs inside rule a (Some f) = MayStand rule f × (is_failed_avp a ≡ false → IsTypedData (inside f.rule) f.kind a.bytes)
+KeepsAs inside rule a (Some f) = MayStand rule f × (is_failed_avp a ≡ false → IsTypedData (inside f.rule) f.kind a.bytes × (is_left_out f.kind f.values a.bytes ≡ false))
 
 -- so many AVPs are no fewer than the entry's min, and no more than its max, where that isn't 0
 abbrev pub IsWithinBounds : Entry → ℕ → Type 0

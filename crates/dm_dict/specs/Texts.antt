@@ -4,9 +4,11 @@ use Rattle.std.specs.Str.{IsUtf8}
 use Rattle.dm_definitions.specs.Definitions.{Definitions}
 use Rattle.dm_definitions.specs.Sound.{is_sound}
 
--- the names of the AVPs and of the commands are UTF-8
+-- the names of vendors, AVPs, listed values and commands are UTF-8
 pub record HasTextNames (d : Definitions) : Type 0 where
+  pub vendors : All (λ v. IsUtf8 v.name) d.vendors
   pub avps : All (λ a. IsUtf8 a.name) d.avps
+  pub values : All (λ a. All (λ v. IsUtf8 v.name) a.values) d.avps
   pub commands : All (λ c. IsUtf8 c.name) d.commands
 
 abbrev pub NamesAreText : Type 0

@@ -4,7 +4,7 @@ ghost use Rattle.std.specs.Option.{option_copied};
 ghost use Rattle.dm_wire.specs.declared.avp.Avp.{Avp};
 ghost use Rattle.dm_dict.specs.Apart.{IsApart, IsFit};
 ghost use Rattle.dm_wire.specs.Borrowed.{avp_of, Lists, size_of};
-ghost use Rattle.dm_dict.specs.Faults.{is_failed_avp, avp_faults, group_faults, list_faults, first};
+ghost use Rattle.dm_dict.specs.Faults.{is_failed_avp, is_left_out, avp_faults, group_faults, list_faults, first};
 ghost use Rattle.dm_dict.specs.Judgement.{shown};
 ghost use Rattle.dm_dict.specs.Rules.{definition};
 
@@ -15,6 +15,7 @@ use crate::counts::{count_one, no_counts};
 use crate::entries::judge_entries;
 use crate::judged::{Failed, Judged};
 use crate::rules::{allows, look_up};
+use byteorder::{BigEndian, ByteOrder};
 use dm_definitions::{AvpDef, Definitions, Rule};
 use dm_value::{AvpType, ValueFault, value_fault};
 use dm_wire::{AvpRef, AvpsRef, spells_avps};
@@ -24,6 +25,18 @@ fn is_failed_avp(avp: AvpRef<'_>) -> bool
     ensures { result ≡ is_failed_avp (avp_of avp.entry) }
 {
     avp.code == FAILED_AVP && avp.vendor == None
+}
+
+/// Whether the octets are four, and a value that the list of an Enumerated leaves out.
+fn is_left_out(def: &AvpDef, octets: &[u8]) -> bool
+    ensures { result ≡ is_left_out def.now.kind def.now.values octets.now }
+{
+    match def.kind {
+        AvpType::Enumerated => {
+            octets.len() == 4 && def.values.leaves_out(BigEndian::read_i32(octets))
+        }
+        _ => false,
+    }
 }
 
 /// The first fault of an AVP of this definition, inside which so many groups may stand.
@@ -68,6 +81,10 @@ fn judge_avp<'a>(
             failed,
         },
         Some(ValueFault::WrongValue) => Judged::Bad {
+            code: INVALID_AVP_VALUE,
+            failed,
+        },
+        _ if is_left_out(def, avp.bytes) => Judged::Bad {
             code: INVALID_AVP_VALUE,
             failed,
         },

@@ -6,9 +6,10 @@ ghost use Rattle.dm_wire.specs.declared.message.Message.{Message};
 ghost use Rattle.dm_wire.specs.Spelling.{SpellsList};
 ghost use Rattle.dm_definitions.specs.declared.fault.DictFault.{DictFault};
 ghost use Rattle.dm_definitions.specs.declared.fault.DictFault.TheVariants as faults_of;
-ghost use Rattle.dm_definitions.specs.Definitions.{Definitions, nothing_defined, is_named, is_coded, is_headed};
+ghost use Rattle.dm_definitions.specs.Definitions.{Definitions, nothing_defined, is_vendor, is_named, is_coded, is_headed};
 ghost use Rattle.dm_definitions.specs.Sound.{is_sound, is_closed};
 ghost use Rattle.dm_definitions.specs.Base.{base_definitions};
+ghost use Rattle.dm_definitions.specs.Meaning.{vendor_number};
 ghost use Rattle.dm_definitions.specs.Printed.{printed};
 ghost use Rattle.dm_definitions.specs.Outcome.{Defines, IsFirstFault};
 ghost use Rattle.dm_dict.specs.Faults.{faults, first};
@@ -25,7 +26,7 @@ use std::marker::Model;
 
 /// What AVPs and commands are defined, and what messages must keep to.
 ///
-/// A contract sees it as two lists of definitions, in order.
+/// A contract sees it as three lists of definitions, in order: vendors, AVPs and commands.
 #[derive(Debug, Drop)]
 pub struct Dictionary {
     definitions: Definitions,
@@ -59,7 +60,7 @@ impl Dictionary {
     }
 
     /// The definitions of the old dictionary, followed by those of the text in the command code format
-    /// (RFC 6733, 3.2). The old dictionary stays as it is.
+    /// (RFC 6733, 3.2), of version 1 or 2. The old dictionary stays as it is.
     ///
     /// Refuses with the first `Syntax` of the whole text, at its last line where it ends too early; else,
     /// token by token, with `Range`, `Duplicate` or `Order`; else with the first `UnknownName`. Where one
@@ -77,14 +78,24 @@ impl Dictionary {
         }
     }
 
-    /// The text of the definitions (RFC 6733, 3.2): AVPs, then commands, each in order of definition and on
-    /// a line of its own; or want of memory.
+    /// The text of the definitions (RFC 6733, 3.2): vendors, AVPs, then commands, each in order of definition and
+    /// on a line of its own; or want of memory. Where there is a vendor or a list of values, it begins with the
+    /// line `@ 2`.
     pub fn print(&self, alloc: Global) -> Result<Vec<u8>, NoMemory>
         ensures text { IfOk result (λ text. text.items ≡ printed self.now) }
         // Read over the empty dictionary it gives this dictionary again.
         ensures again { IfOk result (λ text. Defines text.items nothing_defined self.now) }
     {
         self.definitions.print(alloc)
+    }
+
+    /// The number of the vendor of the name (own). It takes no memory.
+    pub fn vendor_by_name(&self, name: &[u8]) -> Option<u32>
+        ensures found { result ≡ vendor_number self.now.vendors name.now }
+        // No other vendor has the name.
+        ensures one { filter (is_vendor name.now) self.now.vendors ≡ option_to_list (find (is_vendor name.now) self.now.vendors) }
+    {
+        self.definitions.vendor_by_name(name)
     }
 
     /// The AVP of the name (RFC 6733, 3.2). It takes no memory.
@@ -133,7 +144,8 @@ impl Dictionary {
     /// 3. For each AVP in order: 5001, where no definition has its code and vendor and the M bit is set;
     ///    5008, where the rule doesn't allow it; then its data, that of Failed-AVP aside: of a group 5004
     ///    inside eight others, 5014 with no data where it isn't AVPs one after the other, and then steps
-    ///    3 and 4 for its AVPs and its own rule; of another type 5014 for its length, 5004 for its value.
+    ///    3 and 4 for its AVPs and its own rule; of another type 5014 for its length, 5004 for its value, also
+    ///    for one that its list leaves out.
     /// 4. For each entry of the rule in order: 5005 with an example of what is missing, 5009 with the
     ///    first AVP past the maximum.
     ///

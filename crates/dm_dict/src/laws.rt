@@ -30,7 +30,7 @@ pub fn missing_has_example()
     ensures { MissingHasExample }
 {}
 
-/// Where each definition is sound, as in every `Dictionary`, the names of the AVPs and of the commands are UTF-8, so
+/// Where each definition is sound, as in every `Dictionary`, the names of vendors, AVPs, listed values and commands are UTF-8, so
 /// that `as_str` of a name has its text. It stands for users.
 pub fn names_are_text()
     ensures { NamesAreText }

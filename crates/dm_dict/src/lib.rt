@@ -15,7 +15,7 @@ mod rules;
 mod verdict;
 
 pub use dictionary::Dictionary;
-pub use dm_definitions::{AvpDef, CommandDef, DictFault, Entry, Form, Rule};
+pub use dm_definitions::{AvpDef, CommandDef, DictFault, Entry, EnumValue, Form, Rule, Values};
 pub use dm_value::{
     Address, AvpType, Ip, NoMemory, Text, Utc, Value, ValueFault, least_len, read_value,
     unix_seconds, utc_date, value_fault, write_value,

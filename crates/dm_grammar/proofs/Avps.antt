@@ -1,54 +1,147 @@
 -- What an AVP item's tokens tell.
-use Rattle.std.proofs.Common.{◌≡◌, ℕ, List, [], ◌∷◌, Result, Ok, Err, Option, Some, None, MatchOption, IfOk, refl, true, false}
-use Rattle.dm_grammar.specs.declared.symbol.Symbol.TheVariants.{Number}
-use Rattle.dm_grammar.specs.declared.terminal.Terminal.TheVariants.{One}
-use Rattle.dm_grammar.specs.declared.token.Token.{Token}
+use Rattle.std.proofs.Common.{◌≡◌, ℕ, List, [], ◌∷◌, drop, Result, Ok, Err, Option, Some, None, refl, Bool, true, false, ◌&&◌, ap, sym, ◌∙◌}
+use Rattle.dm_grammar.specs.declared.reading.Reading.{Reading}
+use Rattle.dm_grammar.specs.declared.reading.Version.{Version}
+use Rattle.dm_grammar.specs.declared.reading.Version.TheVariants.{First, Second}
+use Rattle.dm_grammar.specs.declared.symbol.Symbol.{Symbol}
+use Rattle.dm_grammar.specs.declared.symbol.Symbol.TheVariants as symbols
+use Rattle.dm_grammar.specs.declared.terminal.Terminal.TheVariants.{AnyName, One}
 use Rattle.dm_grammar.specs.Tokens.{Word}
-use Rattle.dm_grammar.specs.Views.{view, view_option}
-use Rattle.dm_grammar.specs.Grammar.{fits}
-use Rattle.dm_grammar.specs.Items.{AvpParts}
+use Rattle.dm_grammar.specs.Grammar.{fits, is_name}
+use Rattle.dm_grammar.specs.Items.{Value, Vend, AvpParts}
+use Rattle.dm_grammar.specs.Items.Vend.{NumberedBy, NamedBy}
 use Rattle.dm_grammar.specs.Items.Written.{AvpIs}
-use Rattle.dm_grammar.specs.Places.Place.{Text, Typed}
-use Rattle.dm_grammar.specs.Places.Role.{NameOfAvp, CodeIs, KindIs, SecondIs}
-use Rattle.dm_grammar.specs.Readers.{begins, with_item}
+use Rattle.dm_grammar.specs.Places.Place.{Text, AtSign, AtVendor, AvpName, AvpCode, Vendored, ListOpen}
+use Rattle.dm_grammar.specs.Places.Role.{NameOfAvp, CodeIs, KindIs}
+use Rattle.dm_grammar.specs.Readers.{begins, begins_vendor, behind_kind, behind_vendor, behind_brace, may_list, fault_line, with_item, with_kind, with_values}
 use Rattle.dm_grammar.specs.Told.{Told, filled, collect}
-use Rattle.dm_grammar.proofs.Plain.{IsPlain, plain}
+use Rattle.dm_grammar.proofs.Heads.{nothing_told}
+use Rattle.dm_grammar.proofs.Syntax.{same_symbol}
 
-abbrev pub parts : Word → Word → Word → Option Word → AvpParts
-parts n c k v = record { name = n; code = c; kind = k; vendor = v }
+-- a word with a place of its own is a name
+pub word_is_name : (s t : Symbol) → is_name s ≡ true → fits (One s) t ≡ true → is_name t ≡ true
+word_is_name s t n f = let e : is_name s ≡ is_name t = ap is_name (same_symbol s t f) in cc
 
-told_with : (n c k v : Word) (r : Result Told ℕ)
-    → filled NameOfAvp n (filled CodeIs c (filled KindIs k (filled SecondIs v r))) ≡ with_item (AvpIs (parts n c k (Some v))) r
-told_with n c k v (Ok told) = refl
-told_with n c k v (Err line) = refl
+pub no_name_no_word : (b : Bool) (s t : Symbol) → is_name s ≡ true → is_name t ≡ false → fits (One s) t ≡ b
+    → fits (One s) t ≡ false
+no_name_no_word true s t n m f = let e : is_name t ≡ true = word_is_name s t n f in absurd cc
+no_name_no_word false s t n m f = f
 
-told_without : (n c k : Word) (r : Result Told ℕ) → IfOk r IsPlain
-    → filled NameOfAvp n (filled CodeIs c (filled KindIs k r)) ≡ with_item (AvpIs (parts n c k None)) r
-told_without n c k (Ok told) h = rw h refl
-told_without n c k (Err line) h = refl
+-- a name is no other symbol
+pub name_no_symbol : (b : Bool) (s t : Symbol) → is_name s ≡ false → is_name t ≡ true → fits (One s) t ≡ b
+    → fits (One s) t ≡ false
+name_no_symbol true s t n m f = let e : is_name s ≡ is_name t = ap is_name (same_symbol s t f) in absurd cc
+name_no_symbol false s t n m f = f
 
--- an AVP with a vendor
-with_vendor : (last : ℕ) (n c k v : Word) (ws rest : List Word) → ws ≡ v ∷ rest → fits (One Number) v.symbol ≡ true →
-    filled NameOfAvp n (filled CodeIs c (filled KindIs k (collect last Typed ws))) ≡ with_item
-    (AvpIs (parts n c k (Some v))) (collect last Text rest)
-with_vendor last n c k v ws rest e h = rw (e, collect, h) (told_with n c k v (collect last Text rest))
+at_vendor : (how : Reading) (ws : List Word) → begins AnyName ws ≡ false
+    → collect how AtVendor ws ≡ collect how AvpName ws
+at_vendor how [] h = refl
+at_vendor how (w ∷ ws) h = rw (collect, h) refl
 
-typed : (last : ℕ) (ws : List Word) → begins (One Number) ws ≡ false → collect last Typed ws ≡ collect last Text ws
-typed last [] h = refl
-typed last (w ∷ ws) h = rw (collect, h) refl
+-- the name of an AVP, which isn't the word `vendor` before a name
+second_name : (b : Bool) (last : ℕ) (w : Word) (ws : List Word)
+    → let how : Reading = record { version = Second; last = last } in
+    fits (One symbols.Vendor) w.symbol ≡ b → begins_vendor Second (w ∷ ws) ≡ false → fits AnyName w.symbol ≡ true
+    → collect how AtSign (w ∷ ws) ≡ filled NameOfAvp w (collect how AvpName ws)
+second_name true last w ws f n h =
+    let how : Reading = record { version = Second; last = last } in
+    let none : begins AnyName ws ≡ false = rw f at n in
+    let here : collect how AtSign (w ∷ ws) ≡ filled NameOfAvp w (collect how AtVendor ws) = rw (collect, f) refl in
+    here ∙ ap (filled NameOfAvp w) (at_vendor how ws none)
+second_name false last w ws f n h = rw (collect, f, h) refl
 
--- and one without
-without_vendor : (last : ℕ) (n c k : Word) (ws rest : List Word) → rest ≡ ws → begins (One Number) ws ≡ false →
-    filled NameOfAvp n (filled CodeIs c (filled KindIs k (collect last Typed ws))) ≡ with_item
-    (AvpIs (parts n c k None)) (collect last Text rest)
-without_vendor last n c k ws rest e h =
-    rw (e, typed last ws h) (told_without n c k (collect last Text ws) (plain last ws))
+name_in : (v : Version) (last : ℕ) (w : Word) (ws : List Word)
+    → let how : Reading = record { version = v; last = last } in
+    begins_vendor v (w ∷ ws) ≡ false → fits AnyName w.symbol ≡ true
+    → collect how AtSign (w ∷ ws) ≡ filled NameOfAvp w (collect how AvpName ws)
+name_in First last w ws n h = rw (collect, h) refl
+name_in Second last w ws n h = second_name (fits (One symbols.Vendor) w.symbol) last w ws refl n h
 
--- the end of an AVP item, as `optional` reads it
-pub avp_end : (last : ℕ) (n c k : Word) (ws rest : List Word) (v : Option Token) →
-    MatchOption v ((rest ≡ ws) × (begins (One Number) ws ≡ false))
-    (λ t. (ws ≡ view t ∷ rest) × (fits (One Number) (view t).symbol ≡ true)) →
-    filled NameOfAvp n (filled CodeIs c (filled KindIs k (collect last Typed ws))) ≡ with_item
-    (AvpIs (parts n c k (view_option v))) (collect last Text rest)
-avp_end last n c k ws rest None h = without_vendor last n c k ws rest h.0 h.1
-avp_end last n c k ws rest (Some v) h = with_vendor last n c k (view v) ws rest h.0 h.1
+pub name_taken : (how : Reading) (w : Word) (all ws : List Word) → begins_vendor how.version all ≡ false → all ≡ w ∷ ws
+    → fits AnyName w.symbol ≡ true → collect how AtSign all ≡ filled NameOfAvp w (collect how AvpName ws)
+name_taken how w all ws n e h =
+    ap (collect how AtSign) e ∙ name_in how.version how.last w ws (rw e at n) h
+
+name_missing_in : (v : Version) (last : ℕ) (ws : List Word) → let how : Reading = record { version = v; last = last } in
+    begins AnyName ws ≡ false → collect how AtSign ws ≡ Err (fault_line last ws)
+name_missing_in v last [] h = refl
+name_missing_in First last (w ∷ ws) h = rw (collect, h) refl
+name_missing_in Second last (w ∷ ws) h =
+    let no = no_name_no_word (fits (One symbols.Vendor) w.symbol) symbols.Vendor w.symbol refl h refl in
+    rw (collect, no, h) refl
+
+pub name_missing : (how : Reading) (line : ℕ) (ws : List Word) → begins AnyName ws ≡ false
+    → line ≡ fault_line how.last ws
+    → collect how AtSign ws ≡ Err line
+name_missing how line ws h e = name_missing_in how.version how.last ws h ∙ ap Err (sym e)
+
+-- a type
+second_kind : (b : Bool) (last : ℕ) (w : Word) (ws : List Word)
+    → let how : Reading = record { version = Second; last = last } in
+    fits (One symbols.Enumerated) w.symbol ≡ b → fits AnyName w.symbol ≡ true
+    → collect how AvpCode (w ∷ ws) ≡ filled KindIs w (collect how (behind_kind b) ws)
+second_kind true last w ws f h = rw (collect, f) refl
+second_kind false last w ws f h = rw (collect, f, h) refl
+
+kind_in : (v : Version) (last : ℕ) (w : Word) (ws : List Word)
+    → let how : Reading = record { version = v; last = last } in
+    fits AnyName w.symbol ≡ true → collect how AvpCode (w ∷ ws) ≡ filled KindIs w
+    (collect how (behind_kind (may_list v w)) ws)
+kind_in First last w ws h = rw (collect, h) refl
+kind_in Second last w ws h = second_kind (fits (One symbols.Enumerated) w.symbol) last w ws refl h
+
+pub kind_taken : (how : Reading) (w : Word) (all ws : List Word) (may : Bool) → may ≡ may_list how.version w
+    → all ≡ w ∷ ws
+    → fits AnyName w.symbol ≡ true → collect how AvpCode all ≡ filled KindIs w (collect how (behind_kind may) ws)
+kind_taken how w all ws may m e h =
+    ap (collect how AvpCode) e ∙ (kind_in how.version how.last w ws h
+    ∙ ap (λ (b : Bool). filled KindIs w (collect how (behind_kind b) ws)) (sym m))
+
+kind_missing_in : (v : Version) (last : ℕ) (ws : List Word) → let how : Reading = record { version = v; last = last } in
+    begins AnyName ws ≡ false → collect how AvpCode ws ≡ Err (fault_line last ws)
+kind_missing_in v last [] h = refl
+kind_missing_in First last (w ∷ ws) h = rw (collect, h) refl
+kind_missing_in Second last (w ∷ ws) h =
+    let no = no_name_no_word (fits (One symbols.Enumerated) w.symbol) symbols.Enumerated w.symbol refl h refl in
+    rw (collect, no, h) refl
+
+pub kind_missing : (how : Reading) (line : ℕ) (ws : List Word) → begins AnyName ws ≡ false
+    → line ≡ fault_line how.last ws
+    → collect how AvpCode ws ≡ Err line
+kind_missing how line ws h e = kind_missing_in how.version how.last ws h ∙ ap Err (sym e)
+
+-- `{` before a list, and none
+open_brace : (how : Reading) (ws : List Word) → begins (One symbols.OpenBrace) ws ≡ true
+    → collect how Vendored ws ≡ collect how ListOpen (drop 1 ws)
+open_brace how [] h = absurd cc
+open_brace how (w ∷ ws) h = rw (collect, h) (nothing_told w (collect how ListOpen ws))
+
+no_brace : (how : Reading) (ws : List Word) → begins (One symbols.OpenBrace) ws ≡ false
+    → collect how Vendored ws ≡ collect how Text ws
+no_brace how [] h = refl
+no_brace how (w ∷ ws) h = rw (collect, h) refl
+
+pub brace_there : (how : Reading) (may : Bool) (ws rest : List Word) → may ≡ true
+    → begins (One symbols.OpenBrace) ws ≡ true
+    → rest ≡ drop 1 ws → collect how (behind_vendor may) ws ≡ collect how (behind_brace true) rest
+brace_there how true ws rest m h e = rw e (open_brace how ws h)
+brace_there how false ws rest m h e = absurd cc
+
+pub brace_missing : (how : Reading) (may : Bool) (ws : List Word) → (may && begins (One symbols.OpenBrace) ws) ≡ false
+    → collect how (behind_vendor may) ws ≡ collect how (behind_brace false) ws
+brace_missing how true ws h = no_brace how ws h
+brace_missing how false ws h = refl
+
+-- the whole
+abbrev pub parts : Word → Word → Word → Option Vend → List Value → AvpParts
+parts n c k v xs = record { name = n; code = c; kind = k; vendor = v; values = xs }
+
+pub avp_told : (n c k : Word) (v : Option Vend) (xs : List Value) (r : Result Told ℕ)
+    → filled NameOfAvp n (filled CodeIs c (with_kind k v (with_values xs r))) ≡ with_item (AvpIs (parts n c k v xs)) r
+avp_told n c k v xs (Err line) = refl
+avp_told n c k None xs (Ok told) = refl
+avp_told n c k (Some (NumberedBy w)) xs (Ok told) = refl
+avp_told n c k (Some (NamedBy w)) xs (Ok told) = refl
+
+pub kind_fault : (k : Word) (v : Option Vend) (r : Result Told ℕ) (line : ℕ) → r ≡ Err line → with_kind k v r ≡ Err line
+kind_fault k v r line h = rw h refl

@@ -1,5 +1,7 @@
 -- What an entry's tokens tell.
 use Rattle.std.proofs.Common.{◌≡◌, ℕ, List, [], ◌∷◌, Result, Ok, Err, Option, Some, None, MatchOption, refl, true, false, ap, subst, ◌∙◌}
+use Rattle.dm_grammar.specs.declared.reading.Reading.{Reading}
+use Rattle.dm_grammar.specs.declared.reading.Version.{Version}
 use Rattle.dm_grammar.specs.declared.item.Form.{Form}
 use Rattle.dm_grammar.specs.declared.item.Form.TheVariants.{Fixed, Required, Optional}
 use Rattle.dm_grammar.specs.declared.symbol.Symbol.{Symbol}
@@ -28,20 +30,20 @@ name_place Fixed = FixedName
 name_place Required = BraceName
 name_place Optional = SquareName
 
-pub open_step : (form : Form) → steps (open_place form) ≡ by AnyName (name_place form) (EntryIs form)
-open_step Fixed = refl
-open_step Required = refl
-open_step Optional = refl
+pub open_step : (v : Version) (form : Form) → steps v (open_place form) ≡ by AnyName (name_place form) (EntryIs form)
+open_step v Fixed = refl
+open_step v Required = refl
+open_step v Optional = refl
 
 pub open_end : (form : Form) → may_end (open_place form) ≡ false
 open_end Fixed = refl
 open_end Required = refl
 open_end Optional = refl
 
-pub close_step : (form : Form) → steps (name_place form) ≡ by (One (close_of form)) Rule Nothing
-close_step Fixed = refl
-close_step Required = refl
-close_step Optional = refl
+pub close_step : (v : Version) (form : Form) → steps v (name_place form) ≡ by (One (close_of form)) Rule Nothing
+close_step v Fixed = refl
+close_step v Required = refl
+close_step v Optional = refl
 
 pub close_end : (form : Form) → may_end (name_place form) ≡ false
 close_end Fixed = refl
@@ -49,32 +51,33 @@ close_end Required = refl
 close_end Optional = refl
 
 -- the token that opens a bracket
-opened_by : (s : Symbol) (text : List ℕ) (line last : ℕ) (ws : List Word) (form : Form) → opens s ≡ Some form
-    → collect last High (word s text line ∷ ws) ≡ filled Opens (word s text line) (collect last (open_place form) ws)
-opened_by symbols.Less text line last ws form e =
+opened_by : (s : Symbol) (text : List ℕ) (line : ℕ) (how : Reading) (ws : List Word) (form : Form) → opens s ≡ Some form
+    → collect how High (word s text line ∷ ws) ≡ filled Opens (word s text line) (collect how (open_place form) ws)
+opened_by symbols.Less text line how ws form e =
     let same : Fixed ≡ form = cc in ap
-    (λ (f : Form). filled Opens (word symbols.Less text line) (collect last (open_place f) ws)) same
-opened_by symbols.OpenBrace text line last ws form e =
+    (λ (f : Form). filled Opens (word symbols.Less text line) (collect how (open_place f) ws)) same
+opened_by symbols.OpenBrace text line how ws form e =
     let same : Required ≡ form = cc in ap
-    (λ (f : Form). filled Opens (word symbols.OpenBrace text line) (collect last (open_place f) ws)) same
-opened_by symbols.OpenSquare text line last ws form e =
+    (λ (f : Form). filled Opens (word symbols.OpenBrace text line) (collect how (open_place f) ws)) same
+opened_by symbols.OpenSquare text line how ws form e =
     let same : Optional ≡ form = cc in ap
-    (λ (f : Form). filled Opens (word symbols.OpenSquare text line) (collect last (open_place f) ws)) same
-opened_by _ text line last ws form e = absurd cc
+    (λ (f : Form). filled Opens (word symbols.OpenSquare text line) (collect how (open_place f) ws)) same
+opened_by _ text line how ws form e = absurd cc
 
-pub opened : (w : Word) (last : ℕ) (ws : List Word) (form : Form) → opens w.symbol ≡ Some form
-    → collect last High (w ∷ ws) ≡ filled Opens w (collect last (open_place form) ws)
-opened w last ws form e = opened_by w.symbol w.text w.line last ws form e
+pub opened : (w : Word) (how : Reading) (ws : List Word) (form : Form) → opens w.symbol ≡ Some form
+    → collect how High (w ∷ ws) ≡ filled Opens w (collect how (open_place form) ws)
+opened w how ws form e = opened_by w.symbol w.text w.line how ws form e
 
-unopened_by : (s : Symbol) (text : List ℕ) (line last : ℕ) (ws : List Word) → opens s ≡ None
-    → collect last High (word s text line ∷ ws) ≡ Err line
-unopened_by symbols.Less text line last ws e = absurd cc
-unopened_by symbols.OpenBrace text line last ws e = absurd cc
-unopened_by symbols.OpenSquare text line last ws e = absurd cc
-unopened_by _ text line last ws e = refl
+unopened_by : (s : Symbol) (text : List ℕ) (line : ℕ) (how : Reading) (ws : List Word) → opens s ≡ None
+    → collect how High (word s text line ∷ ws) ≡ Err line
+unopened_by symbols.Less text line how ws e = absurd cc
+unopened_by symbols.OpenBrace text line how ws e = absurd cc
+unopened_by symbols.OpenSquare text line how ws e = absurd cc
+unopened_by _ text line how ws e = refl
 
-pub unopened : (w : Word) (last : ℕ) (ws : List Word) → opens w.symbol ≡ None → collect last High (w ∷ ws) ≡ Err w.line
-unopened w last ws e = unopened_by w.symbol w.text w.line last ws e
+pub unopened : (w : Word) (how : Reading) (ws : List Word) → opens w.symbol ≡ None
+    → collect how High (w ∷ ws) ≡ Err w.line
+unopened w how ws e = unopened_by w.symbol w.text w.line how ws e
 
 -- a name in brackets makes an entry
 pub bracketed_entry : (form : Form) (o n c : Word) (r : Result Told ℕ)
@@ -101,14 +104,14 @@ with_high None star w e (Err line) = refl
 with_high (Some v) star w e (Err line) = refl
 
 -- from behind the `*` to the bracket
-no_number : (last : ℕ) (ws : List Word) → begins (One symbols.Number) ws ≡ false
-    → collect last Starred ws ≡ collect last High ws
-no_number last [] h = refl
-no_number last (w ∷ ws) h = rw (collect, h) refl
+no_number : (how : Reading) (ws : List Word) → begins (One symbols.Number) ws ≡ false
+    → collect how Starred ws ≡ collect how High ws
+no_number how [] h = refl
+no_number how (w ∷ ws) h = rw (collect, h) refl
 
-a_number : (last : ℕ) (ws rest : List Word) (w : Word) → ws ≡ w ∷ rest → fits (One symbols.Number) w.symbol ≡ true
-    → collect last Starred ws ≡ filled HighIs w (collect last High rest)
-a_number last ws rest w e h = rw (e, collect, h) refl
+a_number : (how : Reading) (ws rest : List Word) (w : Word) → ws ≡ w ∷ rest → fits (One symbols.Number) w.symbol ≡ true
+    → collect how Starred ws ≡ filled HighIs w (collect how High rest)
+a_number how ws rest w e h = rw (e, collect, h) refl
 
 -- what `optional` answers of a number
 abbrev pub Number? : Option Token → List Word → List Word → Type 0
@@ -116,40 +119,45 @@ Number? v ws rest =
     MatchOption v ((rest ≡ ws) × (begins (One symbols.Number) ws ≡ false))
     (λ t. (ws ≡ view t ∷ rest) × (fits (One symbols.Number) (view t).symbol ≡ true))
 
-starred_entry : (last : ℕ) (low : Option Word) (star : Word) (ws rest end : List Word) (v : Option Token) (e : Entry)
-    → Number? v ws rest → e.qualifier ≡ None → collect last High rest ≡ with_entry e (collect last Rule end) →
-    low_before low (filled StarIs star (collect last Starred ws)) ≡ with_entry (low_entry low (view_option v) e)
-    (collect last Rule end)
-starred_entry last low star ws rest end None e n q h =
+starred_entry : (how : Reading) (low : Option Word) (star : Word) (ws rest end : List Word) (v : Option Token)
+    (e : Entry)
+    → Number? v ws rest → e.qualifier ≡ None → collect how High rest ≡ with_entry e (collect how Rule end) →
+    low_before low (filled StarIs star (collect how Starred ws)) ≡ with_entry (low_entry low (view_option v) e)
+    (collect how Rule end)
+starred_entry how low star ws rest end None e n q h =
     ap (λ (r : Result Told ℕ). low_before low (filled StarIs star r))
-    (no_number last ws n.1 ∙ subst (λ (s : List Word). collect last High s ≡ with_entry e (collect last Rule end)) n.0 h) ∙ without_high low star e (collect last Rule end) q
-starred_entry last low star ws rest end (Some v) e n q h =
+    (no_number how ws n.1 ∙ subst (λ (s : List Word). collect how High s ≡ with_entry e
+    (collect how Rule end)) n.0 h) ∙ without_high low star e (collect how Rule end) q
+starred_entry how low star ws rest end (Some v) e n q h =
     ap (λ (r : Result Told ℕ). low_before low (filled StarIs star r))
-    (a_number last ws rest (view v) n.0 n.1 ∙ ap (filled HighIs (view v)) h) ∙ with_high low star (view v) e
-    (collect last Rule end)
+    (a_number how ws rest (view v) n.0 n.1 ∙ ap (filled HighIs (view v)) h) ∙ with_high low star (view v) e
+    (collect how Rule end)
 
 -- `*` [number] and an entry in brackets, where `*` is taken
-pub low_to_entry : (last : ℕ) (low : Option Word) (star : Word) (all ws rest end : List Word) (v : Option Token) (e : Entry) → collect last Low all ≡ filled StarIs star (collect last Starred ws) → Number? v ws rest → e.qualifier ≡ None → collect last High rest ≡ with_entry e (collect last Rule end) →
-    low_before low (collect last Low all) ≡ with_entry (low_entry low (view_option v) e) (collect last Rule end)
-low_to_entry last low star all ws rest end v e s n q h =
-    ap (low_before low) s ∙ starred_entry last low star ws rest end v e n q h
+pub low_to_entry : (how : Reading) (low : Option Word) (star : Word) (all ws rest end : List Word) (v : Option Token)
+    (e : Entry) → collect how Low all ≡ filled StarIs star (collect how Starred ws) → Number? v ws rest
+    → e.qualifier ≡ None → collect how High rest ≡ with_entry e (collect how Rule end) →
+    low_before low (collect how Low all) ≡ with_entry (low_entry low (view_option v) e) (collect how Rule end)
+low_to_entry how low star all ws rest end v e s n q h =
+    ap (low_before low) s ∙ starred_entry how low star ws rest end v e n q h
 
 low_fault : (low : Option Word) (line : ℕ) (r : Result Told ℕ) → r ≡ Err line → low_before low r ≡ Err line
 low_fault None line r h = h
 low_fault (Some w) line r h = rw h refl
 
-starred_fault : (last : ℕ) (line : ℕ) (ws rest : List Word) (v : Option Token) → Number? v ws rest
-    → collect last High rest ≡ Err line → collect last Starred ws ≡ Err line
-starred_fault last line ws rest None n h =
-    no_number last ws n.1 ∙ subst (λ (s : List Word). collect last High s ≡ Err line) n.0 h
-starred_fault last line ws rest (Some v) n h = a_number last ws rest (view v) n.0 n.1 ∙ ap (filled HighIs (view v)) h
+starred_fault : (how : Reading) (line : ℕ) (ws rest : List Word) (v : Option Token) → Number? v ws rest
+    → collect how High rest ≡ Err line → collect how Starred ws ≡ Err line
+starred_fault how line ws rest None n h =
+    no_number how ws n.1 ∙ subst (λ (s : List Word). collect how High s ≡ Err line) n.0 h
+starred_fault how line ws rest (Some v) n h = a_number how ws rest (view v) n.0 n.1 ∙ ap (filled HighIs (view v)) h
 
-pub no_star : (last : ℕ) (low : Option Word) (line : ℕ) (all : List Word) → collect last Low all ≡ Err line
-    → low_before low (collect last Low all) ≡ Err line
-no_star last low line all h = low_fault low line (collect last Low all) h
+pub no_star : (how : Reading) (low : Option Word) (line : ℕ) (all : List Word) → collect how Low all ≡ Err line
+    → low_before low (collect how Low all) ≡ Err line
+no_star how low line all h = low_fault low line (collect how Low all) h
 
-pub no_bracket : (last : ℕ) (low : Option Word) (line : ℕ) (star : Word) (all ws rest : List Word) (v : Option Token)
-    → collect last Low all ≡ filled StarIs star (collect last Starred ws) → Number? v ws rest
-    → collect last High rest ≡ Err line → low_before low (collect last Low all) ≡ Err line
-no_bracket last low line star all ws rest v s n h =
-    low_fault low line (collect last Low all) (s ∙ ap (filled StarIs star) (starred_fault last line ws rest v n h))
+pub no_bracket : (how : Reading) (low : Option Word) (line : ℕ) (star : Word) (all ws rest : List Word)
+    (v : Option Token)
+    → collect how Low all ≡ filled StarIs star (collect how Starred ws) → Number? v ws rest
+    → collect how High rest ≡ Err line → low_before low (collect how Low all) ≡ Err line
+no_bracket how low line star all ws rest v s n h =
+    low_fault low line (collect how Low all) (s ∙ ap (filled StarIs star) (starred_fault how line ws rest v n h))

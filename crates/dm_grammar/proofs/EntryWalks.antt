@@ -1,5 +1,6 @@
 -- What tokens tell that are written by the entries of a rule.
 use Rattle.std.proofs.Common.{◌≡◌, ℕ, List, [], ◌∷◌, drop, Ok, Err, Option, Some, None, refl, Bool, true, false, not, ◌&&◌, ap, sym, ◌∙◌, inl, inr}
+use Rattle.dm_grammar.specs.declared.reading.Reading.{Reading}
 use Rattle.dm_grammar.specs.declared.symbol.Symbol.{Symbol}
 use Rattle.dm_grammar.specs.declared.symbol.Symbol.TheVariants as symbols
 use Rattle.dm_grammar.specs.declared.item.Form.{Form}
@@ -26,20 +27,20 @@ use Rattle.dm_grammar.proofs.Walks.{before_items, before_rule, Walk, blank, mark
 abbrev high_bracket_told : Form → Word → Told → Told
 high_bracket_told form n t = fill Opens blank (fill (EntryIs form) n (fill Nothing blank t))
 
-high_bracket_walk : (last : ℕ) (form : Form) (n : Word)
-    → Walk last High (bracketed form n) Rule (high_bracket_told form n)
-high_bracket_walk last Fixed n =
-    mark last High FixedOpen symbols.Less Opens (λ w f. inl (f, refl)) (λ w t. refl)
-    also this last FixedOpen FixedName AnyName (EntryIs Fixed) n (λ w f. inl (f, refl))
-    also mark last FixedName Rule symbols.Greater Nothing (λ w f. inl (f, refl)) (λ w t. refl)
-high_bracket_walk last Required n =
-    mark last High BraceOpen symbols.OpenBrace Opens (λ w f. inr (inl (f, refl))) (λ w t. refl)
-    also this last BraceOpen BraceName AnyName (EntryIs Required) n (λ w f. inl (f, refl))
-    also mark last BraceName Rule symbols.CloseBrace Nothing (λ w f. inl (f, refl)) (λ w t. refl)
-high_bracket_walk last Optional n =
-    mark last High SquareOpen symbols.OpenSquare Opens (λ w f. inr (inr (inl (f, refl)))) (λ w t. refl)
-    also this last SquareOpen SquareName AnyName (EntryIs Optional) n (λ w f. inl (f, refl))
-    also mark last SquareName Rule symbols.CloseSquare Nothing (λ w f. inl (f, refl)) (λ w t. refl)
+high_bracket_walk : (how : Reading) (form : Form) (n : Word)
+    → Walk how High (bracketed form n) Rule (high_bracket_told form n)
+high_bracket_walk how Fixed n =
+    mark how High FixedOpen symbols.Less Opens (λ w f. inl (f, refl)) (λ w t. refl)
+    also this how FixedOpen FixedName AnyName (EntryIs Fixed) n (λ w f. inl (f, refl))
+    also mark how FixedName Rule symbols.Greater Nothing (λ w f. inl (f, refl)) (λ w t. refl)
+high_bracket_walk how Required n =
+    mark how High BraceOpen symbols.OpenBrace Opens (λ w f. inr (inl (f, refl))) (λ w t. refl)
+    also this how BraceOpen BraceName AnyName (EntryIs Required) n (λ w f. inl (f, refl))
+    also mark how BraceName Rule symbols.CloseBrace Nothing (λ w f. inl (f, refl)) (λ w t. refl)
+high_bracket_walk how Optional n =
+    mark how High SquareOpen symbols.OpenSquare Opens (λ w f. inr (inr (inl (f, refl)))) (λ w t. refl)
+    also this how SquareOpen SquareName AnyName (EntryIs Optional) n (λ w f. inl (f, refl))
+    also mark how SquareName Rule symbols.CloseSquare Nothing (λ w f. inl (f, refl)) (λ w t. refl)
 
 abbrev role_of : Form → Role
 role_of Fixed = TitleOrFixed
@@ -50,32 +51,32 @@ abbrev bracket_told : Form → Word → Told → Told
 bracket_told form n t = fill Opens blank (fill (role_of form) n (fill Nothing blank t))
 
 -- without a qualifier, where `<` may begin a title too
-bracket_walk : (last : ℕ) (form : Form) (n : Word) → Walk last Rule (bracketed form n) Rule (bracket_told form n)
-bracket_walk last Fixed n =
-    mark last Rule Angle symbols.Less Opens (λ w f. inr (inr (inl (f, refl)))) (λ w t. refl)
-    also this last Angle AngleName AnyName TitleOrFixed n (λ w f. inl (f, refl))
-    also narrow last AngleName Closed Rule (Mark symbols.Greater) (fill Nothing blank)
+bracket_walk : (how : Reading) (form : Form) (n : Word) → Walk how Rule (bracketed form n) Rule (bracket_told form n)
+bracket_walk how Fixed n =
+    mark how Rule Angle symbols.Less Opens (λ w f. inr (inr (inl (f, refl)))) (λ w t. refl)
+    also this how Angle AngleName AnyName TitleOrFixed n (λ w f. inl (f, refl))
+    also narrow how AngleName Closed Rule (Mark symbols.Greater) (fill Nothing blank)
     (on symbols.Define Defined DefineIs)
-    (mark last AngleName Closed symbols.Greater Nothing (λ w f. inl (f, refl)) (λ w t. refl)) refl (λ e. refl)
-bracket_walk last Required n =
-    mark last Rule BraceOpen symbols.OpenBrace Opens (λ w f. inr (inr (inr (inr (inr (inl (f, refl))))))) (λ w t. refl)
-    also this last BraceOpen BraceName AnyName (EntryIs Required) n (λ w f. inl (f, refl))
-    also mark last BraceName Rule symbols.CloseBrace Nothing (λ w f. inl (f, refl)) (λ w t. refl)
-bracket_walk last Optional n =
-    mark last Rule SquareOpen symbols.OpenSquare Opens (λ w f. inr (inr (inr (inr (inr (inr (inl (f, refl))))))))
+    (mark how AngleName Closed symbols.Greater Nothing (λ w f. inl (f, refl)) (λ w t. refl)) refl (λ e. refl)
+bracket_walk how Required n =
+    mark how Rule BraceOpen symbols.OpenBrace Opens (λ w f. inr (inr (inr (inr (inr (inl (f, refl))))))) (λ w t. refl)
+    also this how BraceOpen BraceName AnyName (EntryIs Required) n (λ w f. inl (f, refl))
+    also mark how BraceName Rule symbols.CloseBrace Nothing (λ w f. inl (f, refl)) (λ w t. refl)
+bracket_walk how Optional n =
+    mark how Rule SquareOpen symbols.OpenSquare Opens (λ w f. inr (inr (inr (inr (inr (inr (inl (f, refl))))))))
     (λ w t. refl)
-    also this last SquareOpen SquareName AnyName (EntryIs Optional) n (λ w f. inl (f, refl))
-    also mark last SquareName Rule symbols.CloseSquare Nothing (λ w f. inl (f, refl)) (λ w t. refl)
+    also this how SquareOpen SquareName AnyName (EntryIs Optional) n (λ w f. inl (f, refl))
+    also mark how SquareName Rule symbols.CloseSquare Nothing (λ w f. inl (f, refl)) (λ w t. refl)
 
 abbrev high_told : Option Word → Told → Told
 high_told None t = t
 high_told (Some w) t = fill HighIs w t
 
-high_walk : (last : ℕ) (o : Option Word) → Walk last Starred (number_may o) High (high_told o)
-high_walk last None =
-    narrow last Starred Starred High Empty (λ (t : Told). t) (on symbols.Number High HighIs) (stay last Starred) refl
+high_walk : (how : Reading) (o : Option Word) → Walk how Starred (number_may o) High (high_told o)
+high_walk how None =
+    narrow how Starred Starred High Empty (λ (t : Told). t) (on symbols.Number High HighIs) (stay how Starred) refl
     (λ e. e)
-high_walk last (Some w) = this last Starred High (One symbols.Number) HighIs w (λ w f. inl (f, refl))
+high_walk how (Some w) = this how Starred High (One symbols.Number) HighIs w (λ w f. inl (f, refl))
 
 abbrev low_told : Option Word → Told → Told
 low_told None t = t
@@ -85,29 +86,29 @@ abbrev range_told : Range → Told → Told
 range_told q t = low_told q.low (fill StarIs blank (high_told q.high t))
 
 -- qual = [number] "*" [number]
-range_walk : (last : ℕ) (low o : Option Word) → let q : Range = record { low = low; high = o } in
-    Walk last Rule (qualifier (Some q)) High (range_told q)
-range_walk last None o =
-    stay last Rule
-    also mark last Rule Starred symbols.Star StarIs (λ w f. inr (inr (inr (inr (inl (f, refl)))))) (λ w t. refl)
-    also high_walk last o
-range_walk last (Some v) o =
-    this last Rule Low (One symbols.Number) LowIs v (λ w f. inr (inr (inr (inl (f, refl)))))
-    also mark last Low Starred symbols.Star StarIs (λ w f. inl (f, refl)) (λ w t. refl)
-    also high_walk last o
+range_walk : (how : Reading) (low o : Option Word) → let q : Range = record { low = low; high = o } in
+    Walk how Rule (qualifier (Some q)) High (range_told q)
+range_walk how None o =
+    stay how Rule
+    also mark how Rule Starred symbols.Star StarIs (λ w f. inr (inr (inr (inr (inl (f, refl)))))) (λ w t. refl)
+    also high_walk how o
+range_walk how (Some v) o =
+    this how Rule Low (One symbols.Number) LowIs v (λ w f. inr (inr (inr (inl (f, refl)))))
+    also mark how Low Starred symbols.Star StarIs (λ w f. inl (f, refl)) (λ w t. refl)
+    also high_walk how o
 
 abbrev entry_told : Entry → Told → Told
 entry_told e t =
     elim e.qualifier [ None ↦ bracket_told e.form e.name t | Some q ↦ range_told q (high_bracket_told e.form e.name t) ]
 
-entry_of_walk : (last : ℕ) (form : Form) (n : Word) (o : Option Range)
+entry_of_walk : (how : Reading) (form : Form) (n : Word) (o : Option Range)
     → let e : Entry = record { form = form; name = n; qualifier = o } in
-    Walk last Rule (entry e) Rule (entry_told e)
-entry_of_walk last form n None = stay last Rule also bracket_walk last form n
-entry_of_walk last form n (Some q) = range_walk last q.low q.high also high_bracket_walk last form n
+    Walk how Rule (entry e) Rule (entry_told e)
+entry_of_walk how form n None = stay how Rule also bracket_walk how form n
+entry_of_walk how form n (Some q) = range_walk how q.low q.high also high_bracket_walk how form n
 
-entry_walk : (last : ℕ) (e : Entry) → Walk last Rule (entry e) Rule (entry_told e)
-entry_walk last e = entry_of_walk last e.form e.name e.qualifier
+entry_walk : (how : Reading) (e : Entry) → Walk how Rule (entry e) Rule (entry_told e)
+entry_walk how e = entry_of_walk how e.form e.name e.qualifier
 
 bracket_made : (form : Form) (n : Word) (es : List Entry) (is : List Written)
     → let e : Entry = record { form = form; name = n; qualifier = None } in
@@ -135,50 +136,51 @@ entry_made : (e : Entry) (es : List Entry) (is : List Written)
     → entry_told e (before_rule es is) ≡ before_rule (e ∷ es) is
 entry_made e es is = entry_made_of e.form e.name e.qualifier es is
 
--- behind the last entry, what tells items tells them of the rule's end
-one_token : (b : Bool) (last : ℕ) (p q : Place) (x : Terminal) (role : Role) (t : Told) (w : Word) (ws : List Word)
-    → steps p ≡ by x q role → fits x w.symbol ≡ b → Tells last p t (w ∷ ws)
-    → (b ≡ true) × ((u : Told) × Tells last q u ws)
-one_token true last p q x role t w ws e f h =
-    let there : collect last p (w ∷ ws) ≡ filled role w (collect last q ws) = rw (collect, e, f) refl in
-    (refl, ok_inside role w (collect last q ws) t (sym there ∙ h))
-one_token false last p q x role t w ws e f h =
-    let bad : collect last p (w ∷ ws) ≡ Err w.line = rw (collect, e, f) refl in absurd cc
+-- behind the how entry, what tells items tells them of the rule's end
+one_token : (b : Bool) (how : Reading) (p q : Place) (x : Terminal) (role : Role) (t : Told) (w : Word) (ws : List Word)
+    → steps how.version p ≡ by x q role → fits x w.symbol ≡ b → Tells how p t (w ∷ ws)
+    → (b ≡ true) × ((u : Told) × Tells how q u ws)
+one_token true how p q x role t w ws e f h =
+    let there : collect how p (w ∷ ws) ≡ filled role w (collect how q ws) = rw (collect, e, f) refl in
+    (refl, ok_inside role w (collect how q ws) t (sym there ∙ h))
+one_token false how p q x role t w ws e f h =
+    let bad : collect how p (w ∷ ws) ≡ Err w.line = rw (collect, e, f) refl in absurd cc
 
-next_told : (last : ℕ) (p q : Place) (x : Terminal) (role : Role) (t : Told) (ws : List Word) → steps p ≡ by x q role
-    → may_end p ≡ false → Tells last p t ws → (begins x ws ≡ true) × ((u : Told) × Tells last q u (drop 1 ws))
-next_told last p q x role t [] e n h = let bad : collect last p [] ≡ Err last = end_here last p n in absurd cc
-next_told last p q x role t (w ∷ ws) e n h = one_token (fits x w.symbol) last p q x role t w ws e refl h
+next_told : (how : Reading) (p q : Place) (x : Terminal) (role : Role) (t : Told) (ws : List Word)
+    → steps how.version p ≡ by x q role
+    → may_end p ≡ false → Tells how p t ws → (begins x ws ≡ true) × ((u : Told) × Tells how q u (drop 1 ws))
+next_told how p q x role t [] e n h = let bad : collect how p [] ≡ Err how.last = end_here how p n in absurd cc
+next_told how p q x role t (w ∷ ws) e n h = one_token (fits x w.symbol) how p q x role t w ws e refl h
 
-title_there : (last : ℕ) (t : Told) (ws : List Word) → Tells last TitleLess t ws
+title_there : (how : Reading) (t : Told) (ws : List Word) → Tells how TitleLess t ws
     → (begins AnyName ws && begins (One symbols.Greater) (drop 1 ws) && begins (One symbols.Define) (drop 2 ws)) ≡ true
-title_there last t [] h = absurd cc
-title_there last t (n ∷ ws) h =
-    let a = next_told last TitleLess TitleName AnyName TitleIs t (n ∷ ws) refl refl h in
-    let b = next_told last TitleName Titled (One symbols.Greater) Nothing a.1.0 ws refl refl a.1.1 in
-    let c = next_told last Titled Defined (One symbols.Define) Nothing b.1.0 (drop 1 ws) refl refl b.1.1 in
+title_there how t [] h = absurd cc
+title_there how t (n ∷ ws) h =
+    let a = next_told how TitleLess TitleName AnyName TitleIs t (n ∷ ws) refl refl h in
+    let b = next_told how TitleName Titled (One symbols.Greater) Nothing a.1.0 ws refl refl a.1.1 in
+    let c = next_told how Titled Defined (One symbols.Define) Nothing b.1.0 (drop 1 ws) refl refl b.1.1 in
     rw (a.0, b.0, c.0) refl
 
-no_entry_there : (s : Symbol) (text : List ℕ) (line last : ℕ) (t : Told) (ws : List Word)
-    → Tells last Text t (word s text line ∷ ws) → begins_entry (word s text line ∷ ws) ≡ false
-no_entry_there symbols.Number text line last t ws h = absurd cc
-no_entry_there symbols.Star text line last t ws h = absurd cc
-no_entry_there symbols.OpenBrace text line last t ws h = absurd cc
-no_entry_there symbols.OpenSquare text line last t ws h = absurd cc
-no_entry_there symbols.Less text line last t ws h =
-    let inside = ok_inside Begins (word symbols.Less text line) (collect last TitleLess ws) t h in
-    ap not (title_there last inside.0 ws inside.1)
-no_entry_there _ text line last t ws h = refl
+no_entry_there : (s : Symbol) (text : List ℕ) (line : ℕ) (how : Reading) (t : Told) (ws : List Word)
+    → Tells how Text t (word s text line ∷ ws) → begins_entry (word s text line ∷ ws) ≡ false
+no_entry_there symbols.Number text line how t ws h = absurd cc
+no_entry_there symbols.Star text line how t ws h = absurd cc
+no_entry_there symbols.OpenBrace text line how t ws h = absurd cc
+no_entry_there symbols.OpenSquare text line how t ws h = absurd cc
+no_entry_there symbols.Less text line how t ws h =
+    let inside = ok_inside Begins (word symbols.Less text line) (collect how TitleLess ws) t h in
+    ap not (title_there how inside.0 ws inside.1)
+no_entry_there _ text line how t ws h = refl
 
-rule_ends : (last : ℕ) (t : Told) (ws : List Word) → Tells last Text t ws → Tells last Rule t ws
-rule_ends last t [] h = h
-rule_ends last t (w ∷ ws) h = no_entry last (w ∷ ws) (no_entry_there w.symbol w.text w.line last t ws h) ∙ h
+rule_ends : (how : Reading) (t : Told) (ws : List Word) → Tells how Text t ws → Tells how Rule t ws
+rule_ends how t [] h = h
+rule_ends how t (w ∷ ws) h = no_entry how (w ∷ ws) (no_entry_there w.symbol w.text w.line how t ws h) ∙ h
 
 -- *entry, and items behind them
-pub entries_told : (last : ℕ) (es : List Entry) (is : List Written) (Behind : List Word → Type 0)
-    → ((ws : List Word) → Behind ws → Tells last Text (before_items is) ws) → (ws : List Word)
-    → Spells (entries es) Behind ws → Tells last Rule (before_rule es is) ws
-entries_told last [] is Behind k ws h = rule_ends last (before_items is) ws (k ws h)
-entries_told last (e ∷ es) is Behind k ws h =
-    (entry_walk last e).go (Spells (entries es) Behind) (before_rule es is) (entries_told last es is Behind k) ws h
+pub entries_told : (how : Reading) (es : List Entry) (is : List Written) (Behind : List Word → Type 0)
+    → ((ws : List Word) → Behind ws → Tells how Text (before_items is) ws) → (ws : List Word)
+    → Spells (entries es) Behind ws → Tells how Rule (before_rule es is) ws
+entries_told how [] is Behind k ws h = rule_ends how (before_items is) ws (k ws h)
+entries_told how (e ∷ es) is Behind k ws h =
+    (entry_walk how e).go (Spells (entries es) Behind) (before_rule es is) (entries_told how es is Behind k) ws h
     ∙ ap Ok (entry_made e es is)

@@ -1,5 +1,7 @@
 -- What the tokens of a head tell.
 use Rattle.std.proofs.Common.{◌≡◌, ℕ, List, [], ◌∷◌, ◌++◌, drop, Result, Ok, Err, Option, Some, None, MatchOption, refl, Bool, true, false, ap, sym, subst, ◌∙◌, if◌then◌else◌, nat_eq, arith}
+use Rattle.dm_grammar.specs.declared.reading.Reading.{Reading}
+use Rattle.dm_grammar.specs.declared.reading.Version.{Version}
 use Rattle.std.proofs.lemmas.Bool.{and_parts}
 use Rattle.std.proofs.lemmas.Bool.Decides.{nat_tests}
 use Rattle.dm_grammar.specs.declared.symbol.Symbol.{Symbol}
@@ -12,7 +14,7 @@ use Rattle.dm_grammar.specs.Grammar.{Step, fits, symbol_number, steps, on, may_e
 use Rattle.dm_grammar.specs.Places.{Place, Role}
 use Rattle.dm_grammar.specs.Places.Place.{Rule, Coded, CodedComma, Requested, RequestedComma, Proxied, ProxiedComma, Flagged, FlaggedComma, HeadEnd}
 use Rattle.dm_grammar.specs.Places.Role.{Nothing, SecondIs, CodeIs, CommandHead, Request, Proxiable, Error, Rules}
-use Rattle.dm_grammar.specs.Readers.{begins, begins_flag, with_second, with_head}
+use Rattle.dm_grammar.specs.Readers.{begins, begins_flag, with_second, with_end, with_head}
 use Rattle.dm_grammar.specs.Told.{Told, filled, collect}
 
 -- what `optional` answers
@@ -35,47 +37,50 @@ nothing_told w (Ok told) = refl
 nothing_told w (Err line) = refl
 
 -- a comma, before a number
-pub comma_number : (last : ℕ) (c : Word) (ws rest : List Word) → ws ≡ c ∷ rest
-    → fits (One symbols.Comma) c.symbol ≡ true → collect last Flagged ws ≡ collect last FlaggedComma rest
-comma_number last c ws rest e h = rw (e, collect, h) (nothing_told c (collect last FlaggedComma rest))
+pub comma_number : (how : Reading) (c : Word) (ws rest : List Word) → ws ≡ c ∷ rest
+    → fits (One symbols.Comma) c.symbol ≡ true → collect how Flagged ws ≡ collect how FlaggedComma rest
+comma_number how c ws rest e h = rw (e, collect, h) (nothing_told c (collect how FlaggedComma rest))
 
 -- no comma: a number, or none
 pub fits_one : (s t u : Symbol) → nat_eq (symbol_number s) (symbol_number t) ≡ false → fits (One s) u ≡ true
     → fits (One t) u ≡ false
 fits_one s t u a b = grind (arith, nat_tests)
 
-number_there : (last : ℕ) (n : Word) (rest : List Word) → fits (One symbols.Number) n.symbol ≡ true
-    → collect last Flagged (n ∷ rest) ≡ filled SecondIs n (collect last HeadEnd rest)
-number_there last n rest h = let c = fits_one symbols.Number symbols.Comma n.symbol refl h in rw (collect, c, h) refl
+number_there : (how : Reading) (n : Word) (rest : List Word) → fits (One symbols.Number) n.symbol ≡ true
+    → collect how Flagged (n ∷ rest) ≡ filled SecondIs n (collect how HeadEnd rest)
+number_there how n rest h = let c = fits_one symbols.Number symbols.Comma n.symbol refl h in rw (collect, c, h) refl
 
-number_missing : (last : ℕ) (ws : List Word) → begins (One symbols.Comma) ws ≡ false
-    → begins (One symbols.Number) ws ≡ false → collect last Flagged ws ≡ collect last HeadEnd ws
-number_missing last [] c h = refl
-number_missing last (w ∷ ws) c h = rw (collect, c, h) refl
+number_missing : (how : Reading) (ws : List Word) → begins (One symbols.Comma) ws ≡ false
+    → begins (One symbols.Number) ws ≡ false → collect how Flagged ws ≡ collect how HeadEnd ws
+number_missing how [] c h = refl
+number_missing how (w ∷ ws) c h = rw (collect, c, h) refl
 
-pub plain_end : (last : ℕ) (ws rest end : List Word) (v : Option Token) (g : Word)
+pub plain_end : (how : Reading) (ws rest end : List Word) (v : Option Token) (g : Word)
     → begins (One symbols.Comma) ws ≡ false → Taken symbols.Number v ws rest
-    → collect last HeadEnd rest ≡ filled Rules g (collect last Rule end)
-    → collect last Flagged ws ≡ with_second (view_option v) (collect last Rule end)
-plain_end last ws rest end None g c n h =
-    number_missing last ws c n.1 ∙
-    (subst (λ (s : List Word). collect last HeadEnd s ≡ filled Rules g (collect last Rule end)) n.0 h ∙ no_second g (collect last Rule end))
-plain_end last ws rest end (Some v) g c n h =
-    ap (collect last Flagged) n.0 ∙
-    (number_there last (view v) rest n.1 ∙ (ap (filled SecondIs (view v)) h ∙ a_second (view v) g (collect last Rule end)))
+    → collect how HeadEnd rest ≡ filled Rules g (collect how Rule end)
+    → collect how Flagged ws ≡ with_second (view_option v) (collect how Rule end)
+plain_end how ws rest end None g c n h =
+    number_missing how ws c n.1 ∙
+    (subst (λ (s : List Word). collect how HeadEnd s ≡ filled Rules g (collect how Rule end)) n.0 h
+    ∙ no_second g (collect how Rule end))
+plain_end how ws rest end (Some v) g c n h =
+    ap (collect how Flagged) n.0 ∙
+    (number_there how (view v) rest n.1 ∙ (ap (filled SecondIs (view v)) h ∙ a_second (view v) g
+    (collect how Rule end)))
 
-pub plain_fault : (last line : ℕ) (ws rest : List Word) (v : Option Token) → begins (One symbols.Comma) ws ≡ false
-    → Taken symbols.Number v ws rest → collect last HeadEnd rest ≡ Err line → collect last Flagged ws ≡ Err line
-plain_fault last line ws rest None c n h =
-    number_missing last ws c n.1 ∙ subst (λ (s : List Word). collect last HeadEnd s ≡ Err line) n.0 h
-plain_fault last line ws rest (Some v) c n h =
-    ap (collect last Flagged) n.0 ∙ (number_there last (view v) rest n.1 ∙ ap (filled SecondIs (view v)) h)
+pub plain_fault : (how : Reading) (line : ℕ) (ws rest : List Word) (v : Option Token)
+    → begins (One symbols.Comma) ws ≡ false
+    → Taken symbols.Number v ws rest → collect how HeadEnd rest ≡ Err line → collect how Flagged ws ≡ Err line
+plain_fault how line ws rest None c n h =
+    number_missing how ws c n.1 ∙ subst (λ (s : List Word). collect how HeadEnd s ≡ Err line) n.0 h
+plain_fault how line ws rest (Some v) c n h =
+    ap (collect how Flagged) n.0 ∙ (number_there how (view v) rest n.1 ∙ ap (filled SecondIs (view v)) h)
 
 -- a place where a flag may stand behind a comma, and the place behind the flag
-pub record FlagPlace (p pc q qc : Place) (s : Symbol) (role : Role) (after : List Step) : Type 0 where
-  pub here : steps p ≡ on symbols.Comma pc Nothing ++ after
-  pub there : steps q ≡ on symbols.Comma qc Nothing ++ after
-  pub behind : steps pc ≡ on s q role ++ steps qc
+pub record FlagPlace (v : Version) (p pc q qc : Place) (s : Symbol) (role : Role) (after : List Step) : Type 0 where
+  pub here : steps v p ≡ on symbols.Comma pc Nothing ++ after
+  pub there : steps v q ≡ on symbols.Comma qc Nothing ++ after
+  pub behind : steps v pc ≡ on s q role ++ steps v qc
   pub no_end : may_end p ≡ false
   pub no_end_there : may_end q ≡ false
   pub no_end_behind : may_end pc ≡ false
@@ -99,42 +104,44 @@ not_flagged : (role : Role) (r : Result Told ℕ) → r ≡ flagged role false r
 not_flagged role (Ok told) = refl
 not_flagged role (Err line) = refl
 
-flag_behind_comma : (last : ℕ) (p pc q qc : Place) (s : Symbol) (role : Role) (after : List Step)
-    → FlagPlace p pc q qc s role after → (ws : List Word) → begins (One s) ws ≡ false
-    → collect last pc ws ≡ collect last qc ws
-flag_behind_comma last p pc q qc s role after f [] h = rw (collect, f.no_end_behind, f.no_end_comma) refl
-flag_behind_comma last p pc q qc s role after f (w ∷ ws) h = rw (collect, f.behind, h) refl
+flag_behind_comma : (how : Reading) (p pc q qc : Place) (s : Symbol) (role : Role) (after : List Step)
+    → FlagPlace how.version p pc q qc s role after → (ws : List Word) → begins (One s) ws ≡ false
+    → collect how pc ws ≡ collect how qc ws
+flag_behind_comma how p pc q qc s role after f [] h = rw (collect, f.no_end_behind, f.no_end_comma) refl
+flag_behind_comma how p pc q qc s role after f (w ∷ ws) h = rw (collect, f.behind, h) refl
 
-no_flag : (b : Bool) (last : ℕ) (p pc q qc : Place) (s : Symbol) (role : Role) (after : List Step)
-    → FlagPlace p pc q qc s role after → (w : Word) (ws : List Word) → fits (One symbols.Comma) w.symbol ≡ b
-    → (b ≡ true → begins (One s) ws ≡ false) → collect last p (w ∷ ws) ≡ collect last q (w ∷ ws)
-no_flag true last p pc q qc s role after f w ws c h =
+no_flag : (b : Bool) (how : Reading) (p pc q qc : Place) (s : Symbol) (role : Role) (after : List Step)
+    → FlagPlace how.version p pc q qc s role after → (w : Word) (ws : List Word) → fits (One symbols.Comma) w.symbol ≡ b
+    → (b ≡ true → begins (One s) ws ≡ false) → collect how p (w ∷ ws) ≡ collect how q (w ∷ ws)
+no_flag true how p pc q qc s role after f w ws c h =
     rw (collect, f.here, f.there, c)
-    (ap (filled Nothing w) (flag_behind_comma last p pc q qc s role after f ws (h refl)))
-no_flag false last p pc q qc s role after f w ws c h = rw (collect, f.here, f.there, c) refl
+    (ap (filled Nothing w) (flag_behind_comma how p pc q qc s role after f ws (h refl)))
+no_flag false how p pc q qc s role after f w ws c h = rw (collect, f.here, f.there, c) refl
 
-a_flag : (last : ℕ) (p pc q qc : Place) (s : Symbol) (role : Role) (after : List Step)
-    → FlagPlace p pc q qc s role after → (c w : Word) (ws : List Word) → fits (One symbols.Comma) c.symbol ≡ true
-    → fits (One s) w.symbol ≡ true → collect last p (c ∷ w ∷ ws) ≡ filled Nothing c (filled role w (collect last q ws))
-a_flag last p pc q qc s role after f c w ws h k =
+a_flag : (how : Reading) (p pc q qc : Place) (s : Symbol) (role : Role) (after : List Step)
+    → FlagPlace how.version p pc q qc s role after → (c w : Word) (ws : List Word)
+    → fits (One symbols.Comma) c.symbol ≡ true
+    → fits (One s) w.symbol ≡ true → collect how p (c ∷ w ∷ ws) ≡ filled Nothing c (filled role w (collect how q ws))
+a_flag how p pc q qc s role after f c w ws h k =
     rw (collect, f.here, h) (ap (filled Nothing c) (rw (collect, f.behind, k) refl))
 
-flag_read : (last : ℕ) (p pc q qc : Place) (s : Symbol) (role : Role) (after : List Step)
-    → FlagPlace p pc q qc s role after → ((w : Word) (r : Result Told ℕ) → filled role w r ≡ flagged role true r) →
+flag_read : (how : Reading) (p pc q qc : Place) (s : Symbol) (role : Role) (after : List Step)
+    → FlagPlace how.version p pc q qc s role after
+    → ((w : Word) (r : Result Told ℕ) → filled role w r ≡ flagged role true r) →
     (b : Bool) (ws : List Word) → b ≡ begins_flag s ws
-    → collect last p ws ≡ flagged role b (collect last q (behind_flag b ws))
-flag_read last p pc q qc s role after f sets true [] h = absurd cc
-flag_read last p pc q qc s role after f sets false [] h = rw (collect, f.no_end, f.no_end_there) refl
-flag_read last p pc q qc s role after f sets false (w ∷ ws) h =
-    no_flag (fits (One symbols.Comma) w.symbol) last p pc q qc s role after f w ws refl (λ t. sym (rw t at h))
-    ∙ not_flagged role (collect last q (w ∷ ws))
-flag_read last p pc q qc s role after f sets true (c ∷ []) h =
+    → collect how p ws ≡ flagged role b (collect how q (behind_flag b ws))
+flag_read how p pc q qc s role after f sets true [] h = absurd cc
+flag_read how p pc q qc s role after f sets false [] h = rw (collect, f.no_end, f.no_end_there) refl
+flag_read how p pc q qc s role after f sets false (w ∷ ws) h =
+    no_flag (fits (One symbols.Comma) w.symbol) how p pc q qc s role after f w ws refl (λ t. sym (rw t at h))
+    ∙ not_flagged role (collect how q (w ∷ ws))
+flag_read how p pc q qc s role after f sets true (c ∷ []) h =
     let e = and_parts (fits (One symbols.Comma) c.symbol) (begins (One s) []) (sym h) in
     absurd cc
-flag_read last p pc q qc s role after f sets true (c ∷ w ∷ ws) h =
+flag_read how p pc q qc s role after f sets true (c ∷ w ∷ ws) h =
     let e = and_parts (fits (One symbols.Comma) c.symbol) (fits (One s) w.symbol) (sym h) in
-    a_flag last p pc q qc s role after f c w ws e.0 e.1 ∙
-    (nothing_told c (filled role w (collect last q ws)) ∙ sets w (collect last q ws))
+    a_flag how p pc q qc s role after f c w ws e.0 e.1 ∙
+    (nothing_told c (filled role w (collect how q ws)) ∙ sets w (collect how q ws))
 
 abbrev pub after_flags : List Step
 after_flags = on symbols.Number HeadEnd SecondIs ++ on symbols.Greater Rule Rules
@@ -151,35 +158,75 @@ sets_error : (w : Word) (r : Result Told ℕ) → filled Error w r ≡ flagged E
 sets_error w (Ok told) = refl
 sets_error w (Err line) = refl
 
-pub request_place : FlagPlace Coded CodedComma Requested RequestedComma symbols.Req Request after_flags
-request_place =
-    record { here = refl; there = refl; behind = refl; no_end = refl; no_end_there = refl; no_end_behind = refl; no_end_comma = refl }
+pub request_place : (v : Version)
+    → FlagPlace v Coded CodedComma Requested RequestedComma symbols.Req Request after_flags
+request_place v =
+    record {
+      here = refl;
+      there = refl;
+      behind = refl;
+      no_end = refl;
+      no_end_there = refl;
+      no_end_behind = refl;
+      no_end_comma = refl;
+    }
 
-pub proxiable_place : FlagPlace Requested RequestedComma Proxied ProxiedComma symbols.Pxy Proxiable after_flags
-proxiable_place =
-    record { here = refl; there = refl; behind = refl; no_end = refl; no_end_there = refl; no_end_behind = refl; no_end_comma = refl }
+pub proxiable_place : (v : Version)
+    → FlagPlace v Requested RequestedComma Proxied ProxiedComma symbols.Pxy Proxiable after_flags
+proxiable_place v =
+    record {
+      here = refl;
+      there = refl;
+      behind = refl;
+      no_end = refl;
+      no_end_there = refl;
+      no_end_behind = refl;
+      no_end_comma = refl;
+    }
 
-pub error_place : FlagPlace Proxied ProxiedComma Flagged FlaggedComma symbols.Err Error after_flags
-error_place =
-    record { here = refl; there = refl; behind = refl; no_end = refl; no_end_there = refl; no_end_behind = refl; no_end_comma = refl }
+pub error_place : (v : Version) → FlagPlace v Proxied ProxiedComma Flagged FlaggedComma symbols.Err Error after_flags
+error_place v =
+    record {
+      here = refl;
+      there = refl;
+      behind = refl;
+      no_end = refl;
+      no_end_there = refl;
+      no_end_behind = refl;
+      no_end_comma = refl;
+    }
 
 -- what follows the code of a command, as the flags are read
-pub flags_read : (last : ℕ) (ws vs us ts : List Word) (request proxiable error : Bool)
+pub flags_read : (how : Reading) (ws vs us ts : List Word) (request proxiable error : Bool)
     → request ≡ begins_flag symbols.Req ws → vs ≡ behind_flag request ws → proxiable ≡ begins_flag symbols.Pxy vs
     → us ≡ behind_flag proxiable vs → error ≡ begins_flag symbols.Err us → ts ≡ behind_flag error us →
-    collect last Coded ws ≡ flagged Request request
-    (flagged Proxiable proxiable (flagged Error error (collect last Flagged ts)))
-flags_read last ws vs us ts request proxiable error a b c d e f =
-    flag_read last Coded CodedComma Requested RequestedComma symbols.Req Request after_flags request_place sets_request request ws a
+    collect how Coded ws ≡ flagged Request request
+    (flagged Proxiable proxiable (flagged Error error (collect how Flagged ts)))
+flags_read how ws vs us ts request proxiable error a b c d e f =
+    flag_read how Coded CodedComma Requested RequestedComma symbols.Req Request after_flags
+    (request_place how.version) sets_request request ws a
     ∙ ap (flagged Request request)
-    (ap (collect last Requested) (sym b) ∙ (flag_read last Requested RequestedComma Proxied ProxiedComma symbols.Pxy Proxiable after_flags proxiable_place sets_proxiable proxiable vs c
+    (ap (collect how Requested) (sym b) ∙
+    (flag_read how Requested RequestedComma Proxied ProxiedComma symbols.Pxy Proxiable after_flags
+    (proxiable_place how.version) sets_proxiable proxiable vs c
     ∙ ap (flagged Proxiable proxiable)
-    (ap (collect last Proxied) (sym d) ∙ (flag_read last Proxied ProxiedComma Flagged FlaggedComma symbols.Err Error after_flags error_place sets_error error us e
-    ∙ ap (λ (us : List Word). flagged Error error (collect last Flagged us)) (sym f)))))
+    (ap (collect how Proxied) (sym d) ∙
+    (flag_read how Proxied ProxiedComma Flagged FlaggedComma symbols.Err Error after_flags
+    (error_place how.version) sets_error error us e
+    ∙ ap (λ (us : List Word). flagged Error error (collect how Flagged us)) (sym f)))))
 
 pub command_told : (w code : Word) (request proxiable error : Bool) (second : Option Word) (r : Result Told ℕ) →
     filled CommandHead w
-    (filled CodeIs code (flagged Request request (flagged Proxiable proxiable (flagged Error error (with_second second r))))) ≡ with_head (record { command = true; code = code; request = request; proxiable = proxiable; error = error; second = second }) r
+    (filled CodeIs code (flagged Request request (flagged Proxiable proxiable (flagged Error error
+    (with_second second r))))) ≡ with_head (record {
+      command = true;
+      code = code;
+      request = request;
+      proxiable = proxiable;
+      error = error;
+      second = second;
+      named = None;
+    }) r
 command_told w code request proxiable error second (Err line) = refl
 command_told w code true true true second (Ok told) = refl
 command_told w code true true false second (Ok told) = refl
@@ -190,7 +237,16 @@ command_told w code false true false second (Ok told) = refl
 command_told w code false false true second (Ok told) = refl
 command_told w code false false false second (Ok told) = refl
 
-pub group_told : (code : Word) (second : Option Word) (r : Result Told ℕ)
-    → filled CodeIs code (with_second second r) ≡ with_head (record { command = false; code = code; request = false; proxiable = false; error = false; second = second }) r
-group_told code second (Ok told) = refl
-group_told code second (Err line) = refl
+pub group_told : (code : Word) (named second : Option Word) (r : Result Told ℕ)
+    → filled CodeIs code (with_end named second r) ≡ with_head
+    (record {
+      command = false;
+      code = code;
+      request = false;
+      proxiable = false;
+      error = false;
+      second = second;
+      named = named;
+    }) r
+group_told code named second (Ok told) = refl
+group_told code named second (Err line) = refl

@@ -1,4 +1,5 @@
 pub mod Avps
+pub mod AvpWalks
 pub mod Entries
 pub mod EntryWalks
 pub mod Exits
@@ -7,6 +8,7 @@ pub mod Heads
 pub mod ItemsLaw
 pub mod MoreSteps
 pub mod Onward
+pub mod OnwardAvps
 pub mod OnwardHeads
 pub mod OnwardRules
 pub mod Plain
@@ -18,4 +20,7 @@ pub mod Spelled
 pub mod Syntax
 pub mod TextItems
 pub mod Titles
+pub mod Values
+pub mod Vendors
 pub mod Walks
+pub mod Words

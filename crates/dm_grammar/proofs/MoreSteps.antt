@@ -1,5 +1,6 @@
 -- What a place with more steps tells.
-use Rattle.std.proofs.Common.{◌≡◌, ℕ, List, [], ◌∷◌, ◌++◌, Ok, Err, Option, Some, None, refl, Bool, true, false, ap, sym, ◌∙◌, ◌⊎◌, inl, inr, if◌then◌else◌}
+use Rattle.std.proofs.Common.{◌≡◌, List, [], ◌∷◌, ◌++◌, Ok, Err, Option, Some, None, refl, Bool, true, false, ap, sym, ◌∙◌, ◌⊎◌, inl, inr, if◌then◌else◌}
+use Rattle.dm_grammar.specs.declared.reading.Reading.{Reading}
 use Rattle.std.proofs.lemmas.Bool.{and_parts}
 use Rattle.dm_grammar.specs.declared.symbol.Symbol.{Symbol}
 use Rattle.dm_grammar.specs.declared.symbol.Symbol.TheVariants as symbols
@@ -51,57 +52,62 @@ among_more [] rs s r m = m
 among_more (r0 ∷ extra) rs s r m = inr (among_more extra rs s r m)
 
 -- the tokens from a place on tell these
-abbrev pub Tells : ℕ → Place → Told → List Word → Type 0
-Tells last p t ws = collect last p ws ≡ Ok t
+abbrev pub Tells : Reading → Place → Told → List Word → Type 0
+Tells how p t ws = collect how p ws ≡ Ok t
 
-pub by_step : (last : ℕ) (p : Place) (w : Word) (ws : List Word) (r : Step) (t : Told) → Among (steps p) w.symbol r
-    → Tells last r.leads t ws → Tells last p (fill r.role w t) (w ∷ ws)
-by_step last p w ws r t m h = rw (collect, among_taken (steps p) w.symbol r (steps_apart p) m, h) refl
+pub by_step : (how : Reading) (p : Place) (w : Word) (ws : List Word) (r : Step) (t : Told)
+    → Among (steps how.version p) w.symbol r
+    → Tells how r.leads t ws → Tells how p (fill r.role w t) (w ∷ ws)
+by_step how p w ws r t m h =
+    rw (collect, among_taken (steps how.version p) w.symbol r (steps_apart how.version p) m, h) refl
 
 -- where a place has the steps of another and more, it tells what the other does
-more_steps : (last : ℕ) (p q : Place) (extra : List Step) (t : Told) (w : Word) (ws : List Word) (o : Option Step)
-    → steps p ≡ extra ++ steps q → taking (steps q) w.symbol ≡ o → Tells last q t (w ∷ ws) → Tells last p t (w ∷ ws)
-more_steps last p q extra t w ws None e k h =
-    let bad : collect last q (w ∷ ws) ≡ Err w.line = rw (collect, k) refl in absurd cc
-more_steps last p q extra t w ws (Some r) e k h =
-    let m = among_more extra (steps q) w.symbol r (taken_among (steps q) w.symbol r k) in
-    let k2 : taking (steps p) w.symbol ≡ Some r =
-    among_taken (steps p) w.symbol r (steps_apart p) (rw e m) in
-    let there : collect last q (w ∷ ws) ≡ filled r.role w (collect last r.leads ws) = rw (collect, k) refl in
-    let here : collect last p (w ∷ ws) ≡ filled r.role w (collect last r.leads ws) = rw (collect, k2) refl in
+more_steps : (how : Reading) (p q : Place) (extra : List Step) (t : Told) (w : Word) (ws : List Word) (o : Option Step)
+    → steps how.version p ≡ extra ++ steps how.version q → taking (steps how.version q) w.symbol ≡ o
+    → Tells how q t (w ∷ ws) → Tells how p t (w ∷ ws)
+more_steps how p q extra t w ws None e k h =
+    let bad : collect how q (w ∷ ws) ≡ Err w.line = rw (collect, k) refl in absurd cc
+more_steps how p q extra t w ws (Some r) e k h =
+    let m = among_more extra (steps how.version q) w.symbol r (taken_among (steps how.version q) w.symbol r k) in
+    let k2 : taking (steps how.version p) w.symbol ≡ Some r =
+    among_taken (steps how.version p) w.symbol r (steps_apart how.version p) (rw e m) in
+    let there : collect how q (w ∷ ws) ≡ filled r.role w (collect how r.leads ws) = rw (collect, k) refl in
+    let here : collect how p (w ∷ ws) ≡ filled r.role w (collect how r.leads ws) = rw (collect, k2) refl in
     here ∙ (sym there ∙ h)
 
-more_ends : (last : ℕ) (p q : Place) (t : Told) (b : Bool) → may_end q ≡ b → (may_end q ≡ true → may_end p ≡ true)
-    → Tells last q t [] → Tells last p t []
-more_ends last p q t true e ends h =
+more_ends : (how : Reading) (p q : Place) (t : Told) (b : Bool) → may_end q ≡ b → (may_end q ≡ true → may_end p ≡ true)
+    → Tells how q t [] → Tells how p t []
+more_ends how p q t true e ends h =
     let k = ends e in
-    let there : collect last q [] ≡ Ok nothing = rw (collect, e) refl in
-    let here : collect last p [] ≡ Ok nothing = rw (collect, k) refl in
+    let there : collect how q [] ≡ Ok nothing = rw (collect, e) refl in
+    let here : collect how p [] ≡ Ok nothing = rw (collect, k) refl in
     here ∙ (sym there ∙ h)
-more_ends last p q t false e ends h = let bad : collect last q [] ≡ Err last = end_here last q e in absurd cc
+more_ends how p q t false e ends h = let bad : collect how q [] ≡ Err how.last = end_here how q e in absurd cc
 
-pub more : (last : ℕ) (p q : Place) (extra : List Step) (t : Told) (ws : List Word) → steps p ≡ extra ++ steps q
-    → (may_end q ≡ true → may_end p ≡ true) → Tells last q t ws → Tells last p t ws
-more last p q extra t [] e ends h = more_ends last p q t (may_end q) refl ends h
-more last p q extra t (w ∷ ws) e ends h = more_steps last p q extra t w ws (taking (steps q) w.symbol) e refl h
+pub more : (how : Reading) (p q : Place) (extra : List Step) (t : Told) (ws : List Word)
+    → steps how.version p ≡ extra ++ steps how.version q
+    → (may_end q ≡ true → may_end p ≡ true) → Tells how q t ws → Tells how p t ws
+more how p q extra t [] e ends h = more_ends how p q t (may_end q) refl ends h
+more how p q extra t (w ∷ ws) e ends h =
+    more_steps how p q extra t w ws (taking (steps how.version q) w.symbol) e refl h
 
 -- and so does a place where a flag may stand, where it doesn't
-flags_at : (b : Bool) (last : ℕ) (p pc q qc : Place) (s : Symbol) (role : Role) (after : List Step) (t : Told)
-    (w : Word) (ws : List Word) → FlagPlace p pc q qc s role after → fits (One symbols.Comma) w.symbol ≡ b
-    → Tells last q t (w ∷ ws) → Tells last p t (w ∷ ws)
-flags_at true last p pc q qc s role after t w ws f c h =
-    let there : collect last q (w ∷ ws) ≡ filled Nothing w (collect last qc ws) = rw (collect, f.there, c) refl in
-    let here : collect last p (w ∷ ws) ≡ filled Nothing w (collect last pc ws) = rw (collect, f.here, c) refl in
-    let inside : collect last qc ws ≡ Ok t = sym (nothing_told w (collect last qc ws)) ∙ (sym there ∙ h) in
-    here ∙ (nothing_told w (collect last pc ws)
-    ∙ more last pc qc (on s q role) t ws f.behind (λ e. let bad = sym f.no_end_comma ∙ e in absurd cc) inside)
-flags_at false last p pc q qc s role after t w ws f c h =
-    let same : collect last p (w ∷ ws) ≡ collect last q (w ∷ ws) = rw (collect, f.here, f.there, c) refl in
+flags_at : (b : Bool) (how : Reading) (p pc q qc : Place) (s : Symbol) (role : Role) (after : List Step) (t : Told)
+    (w : Word) (ws : List Word) → FlagPlace how.version p pc q qc s role after → fits (One symbols.Comma) w.symbol ≡ b
+    → Tells how q t (w ∷ ws) → Tells how p t (w ∷ ws)
+flags_at true how p pc q qc s role after t w ws f c h =
+    let there : collect how q (w ∷ ws) ≡ filled Nothing w (collect how qc ws) = rw (collect, f.there, c) refl in
+    let here : collect how p (w ∷ ws) ≡ filled Nothing w (collect how pc ws) = rw (collect, f.here, c) refl in
+    let inside : collect how qc ws ≡ Ok t = sym (nothing_told w (collect how qc ws)) ∙ (sym there ∙ h) in
+    here ∙ (nothing_told w (collect how pc ws)
+    ∙ more how pc qc (on s q role) t ws f.behind (λ e. let bad = sym f.no_end_comma ∙ e in absurd cc) inside)
+flags_at false how p pc q qc s role after t w ws f c h =
+    let same : collect how p (w ∷ ws) ≡ collect how q (w ∷ ws) = rw (collect, f.here, f.there, c) refl in
     same ∙ h
 
-pub more_flags : (last : ℕ) (p pc q qc : Place) (s : Symbol) (role : Role) (after : List Step) (t : Told)
-    (ws : List Word) → FlagPlace p pc q qc s role after → Tells last q t ws → Tells last p t ws
-more_flags last p pc q qc s role after t [] f h =
-    let bad : collect last q [] ≡ Err last = end_here last q f.no_end_there in absurd cc
-more_flags last p pc q qc s role after t (w ∷ ws) f h =
-    flags_at (fits (One symbols.Comma) w.symbol) last p pc q qc s role after t w ws f refl h
+pub more_flags : (how : Reading) (p pc q qc : Place) (s : Symbol) (role : Role) (after : List Step) (t : Told)
+    (ws : List Word) → FlagPlace how.version p pc q qc s role after → Tells how q t ws → Tells how p t ws
+more_flags how p pc q qc s role after t [] f h =
+    let bad : collect how q [] ≡ Err how.last = end_here how q f.no_end_there in absurd cc
+more_flags how p pc q qc s role after t (w ∷ ws) f h =
+    flags_at (fits (One symbols.Comma) w.symbol) how p pc q qc s role after t w ws f refl h

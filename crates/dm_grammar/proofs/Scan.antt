@@ -33,19 +33,22 @@ token : (line c : ℕ) (s : List ℕ) → nat_eq c 10 ≡ false → is_space c �
     → tokens_from 0 line (c ∷ s) ≡ token_of line (c ∷ s) ∷ tokens_from 0 line (drop (lexeme_of (c ∷ s)).1 (c ∷ s))
 token line c s no_feed no_space no_comment some =
     rw (no_feed, no_space, no_comment)
-    (ap (λ r. token_of line (c ∷ s) ∷ r) (skips_more (lexeme_of (c ∷ s)).1 ((lexeme_of (c ∷ s)).1 - 1) line c s (omega arith)))
+    (ap (λ r. token_of line (c ∷ s) ∷ r) (skips_more (lexeme_of (c ∷ s)).1 ((lexeme_of (c ∷ s)).1 - 1) line c s
+    (omega arith)))
 
 token_split : (line c : ℕ) (r s : List ℕ) → c ∷ r ≡ s → nat_eq c 10 ≡ false → is_space c ≡ false → nat_eq c 59 ≡ false
     → 0 < (lexeme_of s).1 → tokens_from 0 line s ≡ token_of line s ∷ tokens_from 0 line (drop (lexeme_of s).1 s)
 token_split line c r s e no_feed no_space no_comment =
-    subst (λ (s : List ℕ). 0 < (lexeme_of s).1 → tokens_from 0 line s ≡ token_of line s ∷ tokens_from 0 line (drop (lexeme_of s).1 s)) e (token line c r no_feed no_space no_comment)
+    subst (λ (s : List ℕ). 0 < (lexeme_of s).1 → tokens_from 0 line s ≡ token_of line s ∷ tokens_from 0 line
+    (drop (lexeme_of s).1 s)) e (token line c r no_feed no_space no_comment)
 
 no_octet : (c d : ℕ) → c ≢ d → nat_eq c d ≡ false
 no_octet c d h = grind (arith, nat_tests)
 
 pub token_at : (text : List ℕ) (at line : ℕ) → at < length text → get_or text at 0 ≢ 10
     → is_space (get_or text at 0) ≡ false → get_or text at 0 ≢ 59 → 0 < (lexeme_of (drop at text)).1
-    → tokens_from 0 line (drop at text) ≡ token_of line (drop at text) ∷ tokens_from 0 line (drop (at + (lexeme_of (drop at text)).1) text)
+    → tokens_from 0 line (drop at text) ≡ token_of line (drop at text) ∷ tokens_from 0 line
+    (drop (at + (lexeme_of (drop at text)).1) text)
 token_at text at line within no_feed no_space no_comment some =
     token_split line (get_or text at 0) (drop (at + 1) text) (drop at text) (sym (drop_more text at 0 within))
     (no_octet (get_or text at 0) 10 no_feed) no_space (no_octet (get_or text at 0) 59 no_comment) some

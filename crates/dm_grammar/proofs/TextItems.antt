@@ -1,5 +1,6 @@
 -- The items of a text, one after another.
 use Rattle.std.proofs.Common.{◌≡◌, ℕ, List, [], ◌∷◌, ◌++◌, Result, Ok, Err, refl, ap, ◌∙◌}
+use Rattle.dm_grammar.specs.declared.reading.Reading.{Reading}
 use Rattle.dm_grammar.specs.declared.fault.ItemFault.{ItemFault}
 use Rattle.dm_grammar.specs.declared.fault.ItemFault.TheVariants.{Syntax, NoMemory}
 use Rattle.dm_grammar.specs.Tokens.{Word}
@@ -41,7 +42,7 @@ fault_through is all r (Syntax line) e h = ap items_told e ∙ with_items-fault 
 fault_through is all r NoMemory e h = tt
 
 -- where nothing is left the items are all
-pub all_read : (last : ℕ) (is : List Written) (all : Result Told ℕ) (ws : List Word) → ws ≡ []
-    → all ≡ with_items is (collect last Text ws) → items_told all ≡ Ok is
-all_read last is all ws n e =
-    ap items_told (e ∙ ap (λ (ws : List Word). with_items is (collect last Text ws)) n) ∙ with_items-end is
+pub all_read : (how : Reading) (is : List Written) (all : Result Told ℕ) (ws : List Word) → ws ≡ []
+    → all ≡ with_items is (collect how Text ws) → items_told all ≡ Ok is
+all_read how is all ws n e =
+    ap items_told (e ∙ ap (λ (ws : List Word). with_items is (collect how Text ws)) n) ∙ with_items-end is

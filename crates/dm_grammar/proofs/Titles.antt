@@ -1,5 +1,6 @@
 -- What the tokens before a rule tell.
 use Rattle.std.proofs.Common.{◌≡◌, ℕ, List, ◌∷◌, Result, Ok, Err, MatchResult, refl, true, ap, ◌∙◌}
+use Rattle.dm_grammar.specs.declared.reading.Reading.{Reading}
 use Rattle.dm_grammar.specs.declared.symbol.Symbol.TheVariants as symbols
 use Rattle.dm_grammar.specs.declared.terminal.Terminal.TheVariants.{One}
 use Rattle.dm_grammar.specs.Tokens.{Word}
@@ -10,25 +11,25 @@ use Rattle.dm_grammar.specs.Told.{Told, filled, collect}
 use Rattle.dm_grammar.proofs.Heads.{fits_one}
 
 -- the first word of a head
-pub command_word : (last : ℕ) (w : Word) (all ws : List Word) → all ≡ w ∷ ws → w.symbol ≡ symbols.Diameter
-    → collect last Head all ≡ filled CommandHead w (collect last CommandWord ws)
-command_word last w all ws e s = rw (e, collect, s) refl
+pub command_word : (how : Reading) (w : Word) (all ws : List Word) → all ≡ w ∷ ws → w.symbol ≡ symbols.Diameter
+    → collect how Head all ≡ filled CommandHead w (collect how CommandWord ws)
+command_word how w all ws e s = rw (e, collect, s) refl
 
-pub command_words : (last : ℕ) (w : Word) (all ws : List Word) → all ≡ w ∷ ws → w.symbol ≡ symbols.DiameterHeader
-    → collect last Head all ≡ filled CommandHead w (collect last CommandColon ws)
-command_words last w all ws e s = rw (e, collect, s) refl
+pub command_words : (how : Reading) (w : Word) (all ws : List Word) → all ≡ w ∷ ws → w.symbol ≡ symbols.DiameterHeader
+    → collect how Head all ≡ filled CommandHead w (collect how CommandColon ws)
+command_words how w all ws e s = rw (e, collect, s) refl
 
 group_same : (w : Word) (r : Result Told ℕ) → filled GroupHead w r ≡ r
 group_same w (Ok told) = refl
 group_same w (Err line) = refl
 
-pub group_word : (last : ℕ) (w : Word) (all ws : List Word) → all ≡ w ∷ ws → w.symbol ≡ symbols.Avp
-    → collect last Head all ≡ collect last GroupWord ws
-group_word last w all ws e s = rw (e, collect, s) (group_same w (collect last GroupWord ws))
+pub group_word : (how : Reading) (w : Word) (all ws : List Word) → all ≡ w ∷ ws → w.symbol ≡ symbols.Avp
+    → collect how Head all ≡ collect how GroupWord ws
+group_word how w all ws e s = rw (e, collect, s) (group_same w (collect how GroupWord ws))
 
-pub group_words : (last : ℕ) (w : Word) (all ws : List Word) → all ≡ w ∷ ws → w.symbol ≡ symbols.AvpHeader
-    → collect last Head all ≡ collect last GroupColon ws
-group_words last w all ws e s = rw (e, collect, s) (group_same w (collect last GroupColon ws))
+pub group_words : (how : Reading) (w : Word) (all ws : List Word) → all ≡ w ∷ ws → w.symbol ≡ symbols.AvpHeader
+    → collect how Head all ≡ collect how GroupColon ws
+group_words how w all ws e s = rw (e, collect, s) (group_same w (collect how GroupColon ws))
 
 -- a reader's answer, as that of the place before
 pub from_command : {X : Type 0} (w : Word) (A B : Result Told ℕ) (F : X → Result Told ℕ) (r : Result X ℕ)
@@ -43,9 +44,10 @@ from_place A B F (Ok x) e h = e ∙ h
 from_place A B F (Err line) e h = e ∙ h
 
 -- "<" before a title
-pub less_title : (last : ℕ) (w : Word) (all ws : List Word) → all ≡ w ∷ ws → fits (One symbols.Less) w.symbol ≡ true
-    → collect last Text all ≡ filled Begins w (collect last TitleLess ws)
-less_title last w all ws e h =
+pub less_title : (how : Reading) (w : Word) (all ws : List Word) → all ≡ w ∷ ws
+    → fits (One symbols.Less) w.symbol ≡ true
+    → collect how Text all ≡ filled Begins w (collect how TitleLess ws)
+less_title how w all ws e h =
     let no_at = fits_one symbols.Less symbols.At w.symbol refl h in rw (e, collect, no_at, h) refl
 
 pub title_begins : (o n : Word) (r : Result Told ℕ) → filled Begins o (filled TitleIs n r) ≡ filled TitleIs n r

@@ -3,12 +3,28 @@ use Rattle.std.specs.Prelude.{Bool, List, Option}
 use Rattle.dm_grammar.specs.declared.item.Form.{Form}
 use Rattle.dm_grammar.specs.Tokens.{Word}
 
--- "@" name number type [number]
+-- "@" "vendor" name number
+pub record VendorParts : Type 0 where
+  pub name : Word
+  pub number : Word
+
+-- vend = number | ":" name
+pub data Vend : Type 0 where
+  NumberedBy : Word → Vend
+  NamedBy : Word → Vend
+
+-- value = name number
+pub record Value : Type 0 where
+  pub name : Word
+  pub number : Word
+
+-- "@" name number type [vend], and the values of its list, none where no list is written
 pub record AvpParts : Type 0 where
   pub name : Word
   pub code : Word
   pub kind : Word
-  pub vendor : Option Word
+  pub vendor : Option Vend
+  pub values : List Value
 
 -- [number] "*" [number]
 pub record Range : Type 0 where
@@ -25,7 +41,7 @@ pub record Entry : Type 0 where
 pub record GroupParts : Type 0 where
   pub name : Word
   pub code : Word
-  pub vendor : Option Word
+  pub vendor : Option Vend
   pub rule : List Entry
 
 -- title "::=" "<" dhead ">" *entry
@@ -39,6 +55,7 @@ pub record CommandParts : Type 0 where
   pub rule : List Entry
 
 pub data Written : Type 0 where
+  VendorIs : VendorParts → Written
   AvpIs : AvpParts → Written
   GroupIs : GroupParts → Written
   CommandIs : CommandParts → Written

@@ -3,6 +3,7 @@ pub mod Syntax
 pub mod Tokens
 pub mod Places
 pub mod Grammar
+pub mod Versions
 pub mod Items
 pub mod Told
 pub mod Spelling

@@ -1,17 +1,22 @@
 -- What the readers of the parts of an item look at, and what they ensure.
-use Rattle.std.specs.Prelude.{ℕ, Bool, false, ◌&&◌, ◌||◌, not, List, [], ◌∷◌, drop, Option, Some, None, Result, Ok, Err, ⊤}
+use Rattle.std.specs.Prelude.{ℕ, Bool, true, false, ◌&&◌, ◌||◌, not, List, [], ◌∷◌, ◌++◌, ◌≡◌, drop, Option, Some, None, Result, Ok, Err, ⊤}
 use Rattle.dm_grammar.specs.declared.item.Form.{Form}
 use Rattle.dm_grammar.specs.declared.item.Form.TheVariants.{Fixed, Required, Optional}
 use Rattle.dm_grammar.specs.declared.fault.ItemFault.{ItemFault}
 use Rattle.dm_grammar.specs.declared.fault.ItemFault.TheVariants.{Syntax, NoMemory}
 use Rattle.dm_grammar.specs.declared.symbol.Symbol.{Symbol}
-use Rattle.dm_grammar.specs.declared.symbol.Symbol.TheVariants.{Less, Greater, OpenBrace, CloseBrace, OpenSquare, CloseSquare, Star, Comma, Define, Number}
+use Rattle.dm_grammar.specs.declared.symbol.Symbol.TheVariants.{Less, Greater, OpenBrace, CloseBrace, OpenSquare, CloseSquare, Star, Comma, Colon, Define, Number, Vendor, Enumerated}
 use Rattle.dm_grammar.specs.declared.terminal.Terminal.{Terminal}
 use Rattle.dm_grammar.specs.declared.terminal.Terminal.TheVariants.{AnyName, One}
+use Rattle.dm_grammar.specs.declared.reading.Version.{Version}
+use Rattle.dm_grammar.specs.declared.reading.Version.TheVariants.{First, Second}
 use Rattle.dm_grammar.specs.Tokens.{Word}
-use Rattle.dm_grammar.specs.Grammar.{fits}
-use Rattle.dm_grammar.specs.Items.{Written, Entry}
-use Rattle.dm_grammar.specs.Places.Role.{LowIs}
+use Rattle.dm_grammar.specs.Grammar.{on, by, fits, steps, colon_steps, may_end}
+use Rattle.dm_grammar.specs.Items.{Written, Entry, Value, Vend}
+use Rattle.dm_grammar.specs.Items.Vend.{NumberedBy, NamedBy}
+use Rattle.dm_grammar.specs.Places.{Place}
+use Rattle.dm_grammar.specs.Places.Place.{Text, Typed, Listed, Vendored, ListOpen}
+use Rattle.dm_grammar.specs.Places.Role.{LowIs, SecondIs, NamedIs, KindIs}
 use Rattle.dm_grammar.specs.Told.{Told, nothing, item_before, filled}
 
 -- the tokens begin with the terminal
@@ -58,6 +63,64 @@ abbrev pub low_before : Option Word → Result Told ℕ → Result Told ℕ
 low_before None r = r
 low_before (Some w) r = filled LowIs w r
 
+-- the word `vendor` and a name behind it, in a text of version 2
+abbrev pub begins_vendor : Version → List Word → Bool
+begins_vendor First ws = false
+begins_vendor Second ws = begins (One Vendor) ws && begins AnyName (drop 1 ws)
+
+-- a colon before the name of a vendor, in a text of version 2
+abbrev pub begins_named : Version → List Word → Bool
+begins_named First ws = false
+begins_named Second ws = begins (One Colon) ws
+
+-- a type behind which a list may stand
+abbrev pub may_list : Version → Word → Bool
+may_list First w = false
+may_list Second w = fits (One Enumerated) w.symbol
+
+-- the place behind a type, behind its vendor, and behind "{" where one is there
+abbrev pub behind_kind : Bool → Place
+behind_kind false = Typed
+behind_kind true = Listed
+
+abbrev pub behind_vendor : Bool → Place
+behind_vendor false = Text
+behind_vendor true = Vendored
+
+abbrev pub behind_brace : Bool → Place
+behind_brace false = Text
+behind_brace true = ListOpen
+
+-- a place where a vendor may stand before what stands at another
+pub record VendorPlace (v : Version) (p colon q : Place) : Type 0 where
+  pub here : steps v p ≡ on Number q SecondIs ++ (colon_steps v colon ++ steps v q)
+  pub named : steps v colon ≡ by AnyName q NamedIs
+  pub ends : may_end p ≡ may_end q
+  pub no_end : may_end colon ≡ false
+
+-- the vendor in what is told
+abbrev pub told_by : Option Vend → Told → Told
+told_by None told = told
+told_by (Some (NumberedBy w)) told = record told { second = Some w }
+told_by (Some (NamedBy w)) told = record told { named = Some w }
+
+abbrev pub with_vendor : Option Vend → Result Told ℕ → Result Told ℕ
+with_vendor v (Ok told) = Ok (told_by v told)
+with_vendor v (Err line) = Err line
+
+abbrev pub with_value : Value → Result Told ℕ → Result Told ℕ
+with_value x (Ok told) = Ok (record told { code = None; values = x ∷ told.values })
+with_value x (Err line) = Err line
+
+-- these values alone, before the items behind them
+abbrev pub with_values : List Value → Result Told ℕ → Result Told ℕ
+with_values xs (Ok told) = Ok (record nothing { items = told.items; values = xs })
+with_values xs (Err line) = Err line
+
+-- behind a code: a type, its vendor, and what is told behind them
+abbrev pub with_kind : Word → Option Vend → Result Told ℕ → Result Told ℕ
+with_kind k v r = filled KindIs k (with_vendor v r)
+
 -- a comma and a flag
 abbrev pub begins_flag : Symbol → List Word → Bool
 begins_flag s ws = begins (One Comma) ws && begins (One s) (drop 1 ws)
@@ -67,6 +130,11 @@ abbrev pub with_second : Option Word → Result Told ℕ → Result Told ℕ
 with_second second (Ok told) = Ok (record nothing { items = told.items; rule = told.rule; second = second })
 with_second second (Err line) = Err line
 
+-- the vendor at the end of a group's head, by name or by number, before a rule
+abbrev pub with_end : Option Word → Option Word → Result Told ℕ → Result Told ℕ
+with_end named second (Ok told) = Ok (record nothing { items = told.items; rule = told.rule; named = named; second = second })
+with_end named second (Err line) = Err line
+
 -- what stands between "<" and ">" in a command or a group
 pub record HeadParts : Type 0 where
   pub command : Bool
@@ -75,9 +143,10 @@ pub record HeadParts : Type 0 where
   pub proxiable : Bool
   pub error : Bool
   pub second : Option Word
+  pub named : Option Word
 
 abbrev pub with_head : HeadParts → Result Told ℕ → Result Told ℕ
-with_head h (Ok told) = Ok (record { items = told.items; rule = told.rule; titled = false; command = h.command; code = Some h.code; kind = None; second = h.second; request = h.request; proxiable = h.proxiable; error = h.error })
+with_head h (Ok told) = Ok (record nothing { items = told.items; rule = told.rule; command = h.command; code = Some h.code; second = h.second; named = h.named; request = h.request; proxiable = h.proxiable; error = h.error })
 with_head h (Err line) = Err line
 
 -- the line of a fault at the next token

@@ -1,22 +1,28 @@
--- The grammar of the dictionary text (RFC 6733 section 3.2), form by form: which tokens are which item.
-use Rattle.std.specs.Prelude.{◌≡◌, Bool, true, false, List, [], ◌∷◌, Option, Some, None, ◌⊎◌}
+-- The grammar of the dictionary text (RFC 6733 section 3.2), form by form: which tokens are which item. In a text
+-- of version 2 vendors have names, and an Enumerated AVP may list its values (own).
+use Rattle.std.specs.Prelude.{◌≡◌, Bool, true, false, List, [], ◌∷◌, codes, Option, Some, None, ◌⊎◌}
 use Rattle.dm_grammar.specs.declared.symbol.Symbol.{Symbol}
-use Rattle.dm_grammar.specs.declared.symbol.Symbol.TheVariants.{Less, Greater, OpenBrace, CloseBrace, OpenSquare, CloseSquare, Star, Comma, Colon, At, Define, Number, Diameter, Header, DiameterHeader, Avp, AvpHeader, Req, Pxy, Err}
+use Rattle.dm_grammar.specs.declared.symbol.Symbol.TheVariants.{Less, Greater, OpenBrace, CloseBrace, OpenSquare, CloseSquare, Star, Comma, Colon, At, Define, Number, Diameter, Header, DiameterHeader, Avp, AvpHeader, Req, Pxy, Err, Vendor, Enumerated}
 use Rattle.dm_grammar.specs.declared.item.Form.{Form}
 use Rattle.dm_grammar.specs.declared.item.Form.TheVariants.{Fixed, Required, Optional}
+use Rattle.dm_grammar.specs.declared.reading.Version.{Version}
+use Rattle.dm_grammar.specs.declared.reading.Version.TheVariants.{First, Second}
 use Rattle.dm_grammar.specs.declared.terminal.Terminal.{Terminal}
 use Rattle.dm_grammar.specs.declared.terminal.Terminal.TheVariants.{AnyName, One}
 use Rattle.dm_grammar.specs.Tokens.{Word}
 use Rattle.dm_grammar.specs.Grammar.{fits}
-use Rattle.dm_grammar.specs.Items.{Range, Entry, GroupParts, CommandParts, Written}
-use Rattle.dm_grammar.specs.Items.Written.{AvpIs, GroupIs, CommandIs}
+use Rattle.dm_grammar.specs.Items.{Vend, Value, Range, Entry, VendorParts, AvpParts, GroupParts, CommandParts, Written}
+use Rattle.dm_grammar.specs.Items.Vend.{NumberedBy, NamedBy}
+use Rattle.dm_grammar.specs.Items.Written.{VendorIs, AvpIs, GroupIs, CommandIs}
 
 infixr 30 ◌then◌
 infixr 20 ◌or◌
--- what can be written: no token, any token of a symbol, this token where the terminal fits it, one phrase
--- behind the other, or either of two
+-- what can be written: nothing that could be, no token, the number 2 in one digit, any token of a symbol, this token
+-- where the terminal fits it, one phrase behind the other, or either of two
 pub data Phrase : Type 0 where
+  Never : Phrase
   Empty : Phrase
+  Two : Phrase
   Mark : Symbol → Phrase
   This : Terminal → Word → Phrase
   ◌then◌ : Phrase → Phrase → Phrase
@@ -24,7 +30,10 @@ pub data Phrase : Type 0 where
 
 -- the tokens begin with the phrase, and `Behind` holds of those behind it
 abbrev pub Spells : Phrase → (List Word → Type 0) → List Word → Type 0
+Spells Never Behind ws = ⊥
 Spells Empty Behind ws = Behind ws
+Spells Two Behind [] = ⊥
+Spells Two Behind (w ∷ ws) = (fits (One Number) w.symbol ≡ true) × ((w.text ≡ codes "2") × Behind ws)
 Spells (Mark s) Behind [] = ⊥
 Spells (Mark s) Behind (w ∷ ws) = (fits (One s) w.symbol ≡ true) × Behind ws
 Spells (This t v) Behind [] = ⊥
@@ -42,6 +51,39 @@ number_is w = This (One Number) w
 abbrev pub number_may : Option Word → Phrase
 number_may None = Empty
 number_may (Some w) = number_is w
+
+-- vend = number | ":" name; a text of version 1 has the number alone
+abbrev pub vend : Version → Vend → Phrase
+vend v (NumberedBy w) = number_is w
+vend First (NamedBy w) = Never
+vend Second (NamedBy w) = Mark Colon then name_is w
+
+-- [vend]
+abbrev pub vend_may : Version → Option Vend → Phrase
+vend_may v None = Empty
+vend_may v (Some d) = vend v d
+
+-- value = name number
+abbrev pub value : Value → Phrase
+value x = name_is x.name then number_is x.number
+
+-- *("," value)
+abbrev pub more_values : List Value → Phrase
+more_values [] = Empty
+more_values (x ∷ xs) = Mark Comma then value x then more_values xs
+
+-- "{" value *("," value) "}"
+abbrev pub list : Value → List Value → Phrase
+list x xs = Mark OpenBrace then value x then more_values xs then Mark CloseBrace
+
+-- type [vend] | "Enumerated" [vend] "{" value *("," value) "}"; a text of version 1 has no list
+abbrev pub kind_and_values : Version → Word → Option Vend → List Value → Phrase
+kind_and_values v k d [] = name_is k then vend_may v d
+kind_and_values First k d (x ∷ xs) = Never
+kind_and_values Second k d (x ∷ xs) = This (One Enumerated) k then vend_may Second d then list x xs
+
+abbrev pub type_of : Version → AvpParts → Phrase
+type_of v a = kind_and_values v a.kind a.vendor a.values
 
 -- title = "<" name ">" | name
 abbrev pub title : Word → Phrase
@@ -63,10 +105,17 @@ command_head c =
     (Mark Diameter then Mark Header or Mark DiameterHeader) then Mark Colon then number_is c.code
     then flag Req c.request then flag Pxy c.proxiable then flag Err c.error then second c.application
 
+-- [[","] number]; in a text of version 2 [[","] number | ":" name]
+abbrev pub group_vendor : Version → Option Vend → Phrase
+group_vendor v None = Empty
+group_vendor v (Some (NumberedBy w)) = second (Some w)
+group_vendor v (Some (NamedBy w)) = vend v (NamedBy w)
+
 -- ahead = ("AVP" "Header" | "AVP-Header") ":" number [[","] number]
-abbrev pub group_head : GroupParts → Phrase
-group_head g =
-    (Mark Avp then Mark Header or Mark AvpHeader) then Mark Colon then number_is g.code then second g.vendor
+-- ahead2 = ("AVP" "Header" | "AVP-Header") ":" number [[","] number | ":" name]
+abbrev pub group_head : Version → GroupParts → Phrase
+group_head v g =
+    (Mark Avp then Mark Header or Mark AvpHeader) then Mark Colon then number_is g.code then group_vendor v g.vendor
 
 -- qual = [number] "*" [number]
 abbrev pub qualifier : Option Range → Phrase
@@ -88,22 +137,36 @@ abbrev pub entries : List Entry → Phrase
 entries [] = Empty
 entries (e ∷ es) = entry e then entries es
 
--- item = "@" name number type [number] | title "::=" "<" dhead ">" *entry | title "::=" "<" ahead ">" *entry
-abbrev pub item : Written → Phrase
-item (AvpIs a) = Mark At then name_is a.name then number_is a.code then name_is a.kind then number_may a.vendor
-item (CommandIs c) =
-    title c.name then Mark Define then Mark Less then command_head c then Mark Greater then entries c.rule
-item (GroupIs g) =
-    title g.name then Mark Define then Mark Less then group_head g then Mark Greater then entries g.rule
+-- "@" "vendor" name number; a text of version 1 has none
+abbrev pub vendor : Version → VendorParts → Phrase
+vendor First d = Never
+vendor Second d = Mark At then Mark Vendor then name_is d.name then number_is d.number
 
--- text = *item
-abbrev pub items : List Written → Phrase
-items [] = Empty
-items (i ∷ is) = item i then items is
+-- item = "@" name number type [number] | title "::=" "<" dhead ">" *entry | title "::=" "<" ahead ">" *entry
+-- item2 = "@" "vendor" name number | "@" name number type [vend]
+--       | "@" name number "Enumerated" [vend] "{" value *("," value) "}"
+--       | title "::=" "<" dhead ">" *entry | title "::=" "<" ahead2 ">" *entry
+abbrev pub item : Version → Written → Phrase
+item v (VendorIs d) = vendor v d
+item v (AvpIs a) = Mark At then name_is a.name then number_is a.code then type_of v a
+item v (CommandIs c) =
+    title c.name then Mark Define then Mark Less then command_head c then Mark Greater then entries c.rule
+item v (GroupIs g) =
+    title g.name then Mark Define then Mark Less then group_head v g then Mark Greater then entries g.rule
+
+-- *item
+abbrev pub items : Version → List Written → Phrase
+items v [] = Empty
+items v (i ∷ is) = item v i then items v is
+
+-- text = *item; text2 = "@" "2" *item2
+abbrev pub text : Version → List Written → Phrase
+text First is = items First is
+text Second is = Mark At then Two then items Second is
 
 abbrev pub Ends : List Word → Type 0
 Ends ws = ws ≡ []
 
 -- the tokens are these items, and nothing behind them
 abbrev pub AreItems : List Written → List Word → Type 0
-AreItems is ws = Spells (items is) Ends ws
+AreItems is ws = Spells (text First is) Ends ws ⊎ Spells (text Second is) Ends ws

@@ -4,7 +4,7 @@ use Rattle.std.specs.Char.{is_ascii_alphanumeric, is_ascii_digit}
 use Rattle.std.specs.List.{list_all}
 use Rattle.std.specs.Cmp.Lexicographic.{pointwise}
 use Rattle.dm_grammar.specs.declared.symbol.Symbol.{Symbol}
-use Rattle.dm_grammar.specs.declared.symbol.Symbol.TheVariants.{Less, Greater, OpenBrace, CloseBrace, OpenSquare, CloseSquare, Star, Comma, Colon, At, Number, Name, Diameter, Header, DiameterHeader, Avp, AvpHeader, Req, Pxy, Err, Stray}
+use Rattle.dm_grammar.specs.declared.symbol.Symbol.TheVariants.{Less, Greater, OpenBrace, CloseBrace, OpenSquare, CloseSquare, Star, Comma, Colon, At, Number, Name, Diameter, Header, DiameterHeader, Avp, AvpHeader, Req, Pxy, Err, Vendor, Enumerated, Stray}
 
 -- a word begins with a letter or a digit
 abbrev pub begins_word : ℕ → Bool
@@ -53,4 +53,6 @@ symbol_of_word word =
     if is_word word (codes "AVP-Header") then AvpHeader else
     if is_word word (codes "REQ") then Req else
     if is_word word (codes "PXY") then Pxy else
-    if is_word word (codes "ERR") then Err else Name
+    if is_word word (codes "ERR") then Err else
+    if is_word word (codes "vendor") then Vendor else
+    if is_word word (codes "Enumerated") then Enumerated else Name

@@ -2,29 +2,34 @@
 use Rattle.std.specs.Prelude.{ℕ, Bool, true, false, List, [], ◌∷◌, Option, Some, None, Result, Ok, Err, if◌then◌else◌}
 use Rattle.dm_grammar.specs.declared.item.Form.{Form}
 use Rattle.dm_grammar.specs.declared.item.Form.TheVariants.{Fixed}
-use Rattle.dm_grammar.specs.Tokens.{Word, tokens, last_line}
+use Rattle.dm_grammar.specs.declared.reading.Reading.{Reading}
+use Rattle.dm_grammar.specs.Tokens.{Word, tokens}
+use Rattle.dm_grammar.specs.Versions.{body_of, reading_of}
 use Rattle.dm_grammar.specs.Places.{Place, Role}
 use Rattle.dm_grammar.specs.Places.Place.{Text}
-use Rattle.dm_grammar.specs.Places.Role.{Nothing, Begins, NameOfAvp, CodeIs, KindIs, SecondIs, TitleIs, TitleOrFixed, DefineIs, CommandHead, GroupHead, Request, Proxiable, Error, Rules, Opens, LowIs, StarIs, HighIs, EntryIs}
+use Rattle.dm_grammar.specs.Places.Role.{Nothing, Begins, NameOfAvp, CodeIs, KindIs, SecondIs, NamedIs, ValueIs, TitleIs, TitleOrFixed, DefineIs, CommandHead, GroupHead, Request, Proxiable, Error, Rules, Opens, LowIs, StarIs, HighIs, EntryIs}
 use Rattle.dm_grammar.specs.Grammar.{steps, taking, may_end}
-use Rattle.dm_grammar.specs.Items.{Entry, Range, Written}
-use Rattle.dm_grammar.specs.Items.Written.{AvpIs, GroupIs, CommandIs}
+use Rattle.dm_grammar.specs.Items.{Entry, Range, Value, Vend, Written}
+use Rattle.dm_grammar.specs.Items.Vend.{NumberedBy, NamedBy}
+use Rattle.dm_grammar.specs.Items.Written.{VendorIs, AvpIs, GroupIs, CommandIs}
 
 -- what the tokens behind a place tell: whole items, and the parts of the one that begins before the place
 pub record Told : Type 0 where
   pub items : List Written
   pub rule : List Entry
+  pub values : List Value
   pub titled : Bool
   pub command : Bool
   pub code : Option Word
   pub kind : Option Word
   pub second : Option Word
+  pub named : Option Word
   pub request : Bool
   pub proxiable : Bool
   pub error : Bool
 
 abbrev pub nothing : Told
-nothing = record { items = []; rule = []; titled = false; command = false; code = None; kind = None; second = None; request = false; proxiable = false; error = false }
+nothing = record { items = []; rule = []; values = []; titled = false; command = false; code = None; kind = None; second = None; named = None; request = false; proxiable = false; error = false }
 
 -- the part that the grammar puts behind the name
 abbrev pub word_or : Option Word → Word → Word
@@ -48,11 +53,25 @@ abbrev pub at_first : (Entry → Entry) → List Entry → List Entry
 at_first f [] = []
 at_first f (e ∷ es) = f e ∷ es
 
+-- the vendor behind a name, by its name or by its number
+abbrev pub vend_told : Option Word → Option Word → Option Vend
+vend_told (Some w) second = Some (NamedBy w)
+vend_told None (Some w) = Some (NumberedBy w)
+vend_told None None = None
+
+-- the AVP of a name; without a type behind the name it is the word `vendor` before a vendor's name
+abbrev pub avp_or_vendor : Word → Told → Written
+avp_or_vendor w told =
+    elim told.kind [
+      | None ↦ VendorIs (record { name = word_or told.named w; number = word_or told.code w })
+      | Some k ↦ AvpIs (record { name = w; code = word_or told.code w; kind = k; vendor = vend_told told.named told.second; values = told.values })
+    ]
+
 -- the command or group of a name, by the parts told behind it
 abbrev pub definition : Word → Told → Written
 definition w told =
     if told.command then CommandIs (record { name = w; code = word_or told.code w; request = told.request; proxiable = told.proxiable; error = told.error; application = told.second; rule = told.rule })
-    else GroupIs (record { name = w; code = word_or told.code w; vendor = told.second; rule = told.rule })
+    else GroupIs (record { name = w; code = word_or told.code w; vendor = vend_told told.named told.second; rule = told.rule })
 
 -- the items, with one more before them and no parts left
 abbrev pub item_before : Written → Told → Told
@@ -62,10 +81,12 @@ item_before i told = record nothing { items = i ∷ told.items }
 abbrev pub fill : Role → Word → Told → Told
 fill Nothing w told = told
 fill Begins w told = record nothing { items = told.items }
-fill NameOfAvp w told = item_before (AvpIs (record { name = w; code = word_or told.code w; kind = word_or told.kind w; vendor = told.second })) told
+fill NameOfAvp w told = item_before (avp_or_vendor w told) told
 fill CodeIs w told = record told { code = Some w }
 fill KindIs w told = record told { kind = Some w }
 fill SecondIs w told = record told { second = Some w }
+fill NamedIs w told = record told { named = Some w }
+fill ValueIs w told = record told { code = None; values = record { name = w; number = word_or told.code w } ∷ told.values }
 fill TitleIs w told = item_before (definition w told) told
 fill TitleOrFixed w told = if told.titled then item_before (definition w told) told else record told { rule = entry Fixed w ∷ told.rule }
 fill DefineIs w told = record told { titled = true }
@@ -87,9 +108,9 @@ filled r w (Err line) = Err line
 
 -- what the tokens from a place on tell, or the line of the first that no step takes; where they run out
 -- in a place where no text may end, the last line
-abbrev pub collect : ℕ → Place → List Word → Result Told ℕ
-collect last p [] = if may_end p then Ok nothing else Err last
-collect last p (w ∷ ws) = elim (taking (steps p) w.symbol) [ None ↦ Err w.line | Some r ↦ filled r.role w (collect last r.leads ws) ]
+abbrev pub collect : Reading → Place → List Word → Result Told ℕ
+collect how p [] = if may_end p then Ok nothing else Err how.last
+collect how p (w ∷ ws) = elim (taking (steps how.version p) w.symbol) [ None ↦ Err w.line | Some r ↦ filled r.role w (collect how r.leads ws) ]
 
 abbrev pub items_told : Result Told ℕ → Result (List Written) ℕ
 items_told (Ok told) = Ok told.items
@@ -97,4 +118,4 @@ items_told (Err line) = Err line
 
 -- what a text tells: its items, or the line of its Syntax fault
 abbrev pub told : List ℕ → Result (List Written) ℕ
-told text = items_told (collect (last_line text) Text (tokens text))
+told text = items_told (collect (reading_of text) Text (body_of (tokens text)))

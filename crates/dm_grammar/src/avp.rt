@@ -1,43 +1,125 @@
 //! The item of an AVP.
 
-ghost use Rattle.std.specs.Prelude.{◌≡◌, ◌<◌, length, MatchResult, IfOk, Err};
+ghost use Rattle.std.specs.Prelude.{◌≡◌, ◌<◌, ◌≤◌, false, length, MatchResult, IfOk, Err};
 ghost use Rattle.dm_grammar.specs.Items.Written.{AvpIs};
-ghost use Rattle.dm_grammar.specs.Places.Place.{AtSign, Text};
-ghost use Rattle.dm_grammar.specs.Readers.{with_item};
-ghost use Rattle.dm_grammar.specs.Told.{collect};
-ghost use Rattle.dm_grammar.specs.Views.{view_avp, view_words};
+ghost use Rattle.dm_grammar.specs.Places.Place.{AtSign, AvpCode, Text};
+ghost use Rattle.dm_grammar.specs.Places.Role.{CodeIs, KindIs, NameOfAvp};
+ghost use Rattle.dm_grammar.specs.Readers.{IfSyntax, begins_vendor, behind_brace, behind_kind, behind_vendor, may_list, with_item, with_kind};
+ghost use Rattle.dm_grammar.specs.Told.{collect, filled};
+ghost use Rattle.dm_grammar.specs.Views.{view, view_avp, view_vend_option, view_words};
 
-use crate::item::AvpItem;
-use crate::step::{expect, expect_two, optional};
+use crate::fault::ItemFault;
+use crate::item::{AvpItem, VendorWord};
+use crate::reading::{Reading, Version};
+use crate::step::{begins, expect};
 use crate::symbol::Symbol;
-use crate::terminal::Terminal;
+use crate::terminal::{Terminal, fits};
 use crate::token::Token;
+use crate::value::values;
+use crate::vendor::vendor_word;
+use std::alloc::Global;
 
-/// What follows `@`: name number type [number].
-pub(crate) fn avp_item<'t, 'a>(
+/// Whether a list may stand behind the type.
+fn may_list(kind: Token<'_>, how: Reading) -> bool
+    ensures { result ≡ may_list how.version (view kind.entry) }
+{
+    match how.version {
+        Version::First => false,
+        Version::Second => fits(Terminal::One(Symbol::Enumerated), kind.symbol),
+    }
+}
+
+/// A type, and whether a list may stand behind it.
+fn kind<'t, 'a>(
     tokens: &'t [Token<'a>],
-    last: usize,
-) -> Result<(AvpItem<'a>, &'t [Token<'a>]), usize>
+    how: Reading,
+) -> Result<((Token<'a>, bool), &'t [Token<'a>]), usize>
     ensures tells { MatchResult result
-        (λ x. collect last AtSign (view_words tokens.now) ≡ with_item (AvpIs (view_avp x.0)) (collect last Text (view_words x.1.now)))
-        (λ line. collect last AtSign (view_words tokens.now) ≡ Err line) }
+        (λ x. collect how AvpCode (view_words tokens.now) ≡ filled KindIs (view x.0.0) (collect how (behind_kind x.0.1) (view_words x.1.now)))
+        (λ line. collect how AvpCode (view_words tokens.now) ≡ Err line) }
     ensures shorter { IfOk result (λ x. length x.1.now < length tokens.now) }
 {
-    let (words, rest) = expect_two(
-        tokens,
-        last,
-        Terminal::AnyName,
-        Terminal::One(Symbol::Number),
-    )?;
-    let (kind, rest) = expect(rest, last, Terminal::AnyName)?;
-    let (vendor, rest) = optional(rest, Terminal::One(Symbol::Number));
-    Ok((
-        AvpItem {
-            name: words.0,
-            code: words.1,
-            kind,
-            vendor,
-        },
-        rest,
-    ))
+    let (kind, rest) = expect(tokens, how, Terminal::AnyName)?;
+    Ok(((kind, may_list(kind, how)), rest))
+}
+
+/// `{` before a list, where one may stand.
+fn brace<'t, 'a>(tokens: &'t [Token<'a>], how: Reading, may: bool) -> (bool, &'t [Token<'a>])
+    ensures tells { collect how (behind_vendor may) (view_words tokens.now) ≡ collect how (behind_brace result.0) (view_words result.1.now) }
+    ensures shorter { length result.1.now ≤ length tokens.now }
+{
+    if may && begins(tokens, Terminal::One(Symbol::OpenBrace)) {
+        (true, &tokens[1..])
+    } else {
+        (false, tokens)
+    }
+}
+
+/// What stands behind the code of an AVP: its type, and its vendor where one is written.
+#[derive(Clone, Copy)]
+struct TypePart<'a> {
+    kind: Token<'a>,
+    vendor: Option<VendorWord<'a>>,
+    list: bool,
+}
+
+/// type [vend] ["{"].
+fn typed<'t, 'a>(
+    tokens: &'t [Token<'a>],
+    how: Reading,
+) -> Result<(TypePart<'a>, &'t [Token<'a>]), usize>
+    ensures tells { MatchResult result
+        (λ x. collect how AvpCode (view_words tokens.now) ≡ with_kind (view x.0.kind) (view_vend_option x.0.vendor) (collect how (behind_brace x.0.list) (view_words x.1.now)))
+        (λ line. collect how AvpCode (view_words tokens.now) ≡ Err line) }
+    ensures shorter { IfOk result (λ x. length x.1.now < length tokens.now) }
+{
+    let ((kind, may), rest) = kind(tokens, how)?;
+    let (vendor, rest) = vendor_word(rest, how)?;
+    let (list, rest) = brace(rest, how, may);
+    Ok((TypePart { kind, vendor, list }, rest))
+}
+
+/// name number type [vend] ["{"].
+fn avp_words<'t, 'a>(
+    tokens: &'t [Token<'a>],
+    how: Reading,
+) -> Result<((Token<'a>, Token<'a>, TypePart<'a>), &'t [Token<'a>]), usize>
+    requires { begins_vendor how.version (view_words tokens.now) ≡ false }
+    ensures tells { MatchResult result
+        (λ x. collect how AtSign (view_words tokens.now) ≡ filled NameOfAvp (view x.0.0) (filled CodeIs (view x.0.1) (with_kind (view x.0.2.kind) (view_vend_option x.0.2.vendor) (collect how (behind_brace x.0.2.list) (view_words x.1.now)))))
+        (λ line. collect how AtSign (view_words tokens.now) ≡ Err line) }
+    ensures shorter { IfOk result (λ x. length x.1.now < length tokens.now) }
+{
+    let (name, rest) = expect(tokens, how, Terminal::AnyName)?;
+    let (code, rest) = expect(rest, how, Terminal::One(Symbol::Number))?;
+    let (typed, rest) = typed(rest, how)?;
+    Ok(((name, code, typed), rest))
+}
+
+/// What follows `@`: name number type [vend], and a list of values where one is written.
+pub(crate) fn avp_item<'t, 'a>(
+    alloc: Global,
+    tokens: &'t [Token<'a>],
+    how: Reading,
+) -> Result<(AvpItem<'a>, &'t [Token<'a>]), ItemFault>
+    requires { begins_vendor how.version (view_words tokens.now) ≡ false }
+    ensures tells { MatchResult result
+        (λ x. collect how AtSign (view_words tokens.now) ≡ with_item (AvpIs (view_avp x.0)) (collect how Text (view_words x.1.now)))
+        (λ fault. IfSyntax fault (λ line. collect how AtSign (view_words tokens.now) ≡ Err line)) }
+    ensures shorter { IfOk result (λ x. length x.1.now < length tokens.now) }
+{
+    match avp_words(tokens, how) {
+        Ok(((name, code, typed), rest)) => {
+            let (values, rest) = values(alloc, rest, how, typed.list)?;
+            let item = AvpItem {
+                name,
+                code,
+                kind: typed.kind,
+                vendor: typed.vendor,
+                values,
+            };
+            Ok((item, rest))
+        }
+        Err(line) => Err(ItemFault::Syntax(line)),
+    }
 }

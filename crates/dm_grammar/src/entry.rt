@@ -7,6 +7,7 @@ ghost use Rattle.dm_grammar.specs.Told.{collect};
 ghost use Rattle.dm_grammar.specs.Views.{view_entry, view_option, view_words};
 
 use crate::item::{EntryItem, Form, Qualifier};
+use crate::reading::Reading;
 use crate::step::{begins, begins_title, expect, expect_two, optional};
 use crate::symbol::Symbol;
 use crate::terminal::Terminal;
@@ -38,22 +39,22 @@ fn close_of(form: Form) -> Symbol
 /// A name in brackets.
 fn bracketed<'t, 'a>(
     tokens: &'t [Token<'a>],
-    last: usize,
+    how: Reading,
 ) -> Result<(EntryItem<'a>, &'t [Token<'a>]), usize>
     ensures tells { MatchResult result
-        (λ x. collect last High (view_words tokens.now) ≡ with_entry (view_entry x.0) (collect last Rule (view_words x.1.now)))
-        (λ line. collect last High (view_words tokens.now) ≡ Err line) }
+        (λ x. collect how High (view_words tokens.now) ≡ with_entry (view_entry x.0) (collect how Rule (view_words x.1.now)))
+        (λ line. collect how High (view_words tokens.now) ≡ Err line) }
     ensures plain { IfOk result (λ x. x.0.qualifier ≡ None) }
     ensures shorter { IfOk result (λ x. length x.1.now < length tokens.now) }
 {
     let Some((open, rest)) = tokens.split_first() else {
-        return Err(last);
+        return Err(how.last);
     };
     let Some(form) = opens(open.symbol) else {
         return Err(open.line);
     };
     let close = Terminal::One(close_of(form));
-    let (words, rest) = expect_two(rest, last, Terminal::AnyName, close)?;
+    let (words, rest) = expect_two(rest, how, Terminal::AnyName, close)?;
     let entry = EntryItem {
         form,
         name: words.0,
@@ -66,16 +67,16 @@ fn bracketed<'t, 'a>(
 fn starred<'t, 'a>(
     low: Option<Token<'a>>,
     tokens: &'t [Token<'a>],
-    last: usize,
+    how: Reading,
 ) -> Result<(EntryItem<'a>, &'t [Token<'a>]), usize>
     ensures tells { MatchResult result
-        (λ x. low_before (view_option low.entry) (collect last Low (view_words tokens.now)) ≡ with_entry (view_entry x.0) (collect last Rule (view_words x.1.now)))
-        (λ line. low_before (view_option low.entry) (collect last Low (view_words tokens.now)) ≡ Err line) }
+        (λ x. low_before (view_option low.entry) (collect how Low (view_words tokens.now)) ≡ with_entry (view_entry x.0) (collect how Rule (view_words x.1.now)))
+        (λ line. low_before (view_option low.entry) (collect how Low (view_words tokens.now)) ≡ Err line) }
     ensures shorter { IfOk result (λ x. length x.1.now < length tokens.now) }
 {
-    let (_star, rest) = expect(tokens, last, Terminal::One(Symbol::Star))?;
+    let (_star, rest) = expect(tokens, how, Terminal::One(Symbol::Star))?;
     let (high, rest) = optional(rest, Terminal::One(Symbol::Number));
-    let (mut entry, rest) = bracketed(rest, last)?;
+    let (mut entry, rest) = bracketed(rest, how)?;
     entry.qualifier = Some(Qualifier { low, high });
     Ok((entry, rest))
 }
@@ -94,22 +95,22 @@ pub(crate) fn begins_entry(tokens: &[Token<'_>]) -> bool
 /// The entry with which the tokens begin.
 pub(crate) fn entry<'t, 'a>(
     tokens: &'t [Token<'a>],
-    last: usize,
+    how: Reading,
 ) -> Result<(EntryItem<'a>, &'t [Token<'a>]), usize>
     requires { begins_entry (view_words tokens.now) ≡ true }
     ensures tells { MatchResult result
-        (λ x. collect last Rule (view_words tokens.now) ≡ with_entry (view_entry x.0) (collect last Rule (view_words x.1.now)))
-        (λ line. collect last Rule (view_words tokens.now) ≡ Err line) }
+        (λ x. collect how Rule (view_words tokens.now) ≡ with_entry (view_entry x.0) (collect how Rule (view_words x.1.now)))
+        (λ line. collect how Rule (view_words tokens.now) ≡ Err line) }
     ensures shorter { IfOk result (λ x. length x.1.now < length tokens.now) }
 {
     let (low, rest) = optional(tokens, Terminal::One(Symbol::Number));
     match low {
-        Some(_) => starred(low, rest, last),
+        Some(_) => starred(low, rest, how),
         None => {
             if begins(tokens, Terminal::One(Symbol::Star)) {
-                starred(None, tokens, last)
+                starred(None, tokens, how)
             } else {
-                bracketed(tokens, last)
+                bracketed(tokens, how)
             }
         }
     }

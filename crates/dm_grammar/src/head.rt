@@ -1,19 +1,22 @@
 //! The head of a command or a group.
 
 ghost use Rattle.std.specs.Prelude.{◌≡◌, ◌<◌, ◌≤◌, drop, length, MatchResult, IfOk, Err, if◌then◌else◌};
-ghost use Rattle.dm_grammar.specs.Places.Place.{CommandColon, Flagged, GroupColon, Head as HeadPlace, Rule};
-ghost use Rattle.dm_grammar.specs.Places.Role.{CommandHead, GroupHead};
-ghost use Rattle.dm_grammar.specs.Readers.{begins_flag, with_head, with_second};
+ghost use Rattle.dm_grammar.specs.Places.Place.{CommandColon, Flagged, GroupCoded, GroupColon, Rule};
+ghost use Rattle.dm_grammar.specs.Places.Role.{CommandHead};
+ghost use Rattle.dm_grammar.specs.Readers.{begins_flag, with_end, with_head, with_second};
 ghost use Rattle.dm_grammar.specs.Told.{collect, filled};
 ghost use Rattle.dm_grammar.specs.Tokens.{Word};
 ghost use Rattle.dm_grammar.specs.Views.{view_head, view_option, view_words};
 
+use crate::reading::Reading;
 use crate::step::{expect, expect_two, optional, stands_at};
 use crate::symbol::Symbol;
 use crate::terminal::Terminal;
 use crate::token::Token;
+use crate::vendor::colon;
 
-/// What stands between `<` and `>`: the code, the flags of a command, and the second number.
+/// What stands between `<` and `>`: the code, the flags of a command, the second number, and the name of a
+/// group's vendor.
 #[derive(Clone, Copy)]
 pub(crate) struct Head<'a> {
     pub(crate) command: bool,
@@ -22,6 +25,7 @@ pub(crate) struct Head<'a> {
     pub(crate) proxiable: bool,
     pub(crate) error: bool,
     pub(crate) second: Option<Token<'a>>,
+    pub(crate) named: Option<Token<'a>>,
 }
 
 /// `,` and a flag, where they are there.
@@ -42,11 +46,11 @@ fn flag<'t, 'a>(tokens: &'t [Token<'a>], symbol: Symbol) -> (bool, &'t [Token<'a
 /// The end of a head: [[","] number] ">".
 fn head_end<'t, 'a>(
     tokens: &'t [Token<'a>],
-    last: usize,
+    how: Reading,
 ) -> Result<(Option<Token<'a>>, &'t [Token<'a>]), usize>
     ensures tells { MatchResult result
-        (λ x. collect last Flagged (view_words tokens.now) ≡ with_second (view_option x.0) (collect last Rule (view_words x.1.now)))
-        (λ line. collect last Flagged (view_words tokens.now) ≡ Err line) }
+        (λ x. collect how Flagged (view_words tokens.now) ≡ with_second (view_option x.0) (collect how Rule (view_words x.1.now)))
+        (λ line. collect how Flagged (view_words tokens.now) ≡ Err line) }
     ensures shorter { IfOk result (λ x. length x.1.now < length tokens.now) }
 {
     let (comma, rest) = optional(tokens, Terminal::One(Symbol::Comma));
@@ -54,7 +58,7 @@ fn head_end<'t, 'a>(
         Some(_) => {
             let (words, rest) = expect_two(
                 rest,
-                last,
+                how,
                 Terminal::One(Symbol::Number),
                 Terminal::One(Symbol::Greater),
             )?;
@@ -62,7 +66,7 @@ fn head_end<'t, 'a>(
         }
         None => {
             let (found, rest) = optional(tokens, Terminal::One(Symbol::Number));
-            let (_end, rest) = expect(rest, last, Terminal::One(Symbol::Greater))?;
+            let (_end, rest) = expect(rest, how, Terminal::One(Symbol::Greater))?;
             Ok((found, rest))
         }
     }
@@ -71,23 +75,23 @@ fn head_end<'t, 'a>(
 /// The rest of a command's head: ":" number ["," "REQ"] ["," "PXY"] ["," "ERR"] [[","] number] ">".
 pub(crate) fn command_head<'t, 'a>(
     tokens: &'t [Token<'a>],
-    last: usize,
+    how: Reading,
 ) -> Result<(Head<'a>, &'t [Token<'a>]), usize>
     ensures tells { (w : Word) → MatchResult result
-        (λ x. filled CommandHead w (collect last CommandColon (view_words tokens.now)) ≡ with_head (view_head x.0) (collect last Rule (view_words x.1.now)))
-        (λ line. collect last CommandColon (view_words tokens.now) ≡ Err line) }
+        (λ x. filled CommandHead w (collect how CommandColon (view_words tokens.now)) ≡ with_head (view_head x.0) (collect how Rule (view_words x.1.now)))
+        (λ line. collect how CommandColon (view_words tokens.now) ≡ Err line) }
     ensures shorter { IfOk result (λ x. length x.1.now < length tokens.now) }
 {
     let (words, rest) = expect_two(
         tokens,
-        last,
+        how,
         Terminal::One(Symbol::Colon),
         Terminal::One(Symbol::Number),
     )?;
     let (request, rest) = flag(rest, Symbol::Req);
     let (proxiable, rest) = flag(rest, Symbol::Pxy);
     let (error, rest) = flag(rest, Symbol::Err);
-    let (second, rest) = head_end(rest, last)?;
+    let (second, rest) = head_end(rest, how)?;
     let head = Head {
         command: true,
         code: words.1,
@@ -95,27 +99,53 @@ pub(crate) fn command_head<'t, 'a>(
         proxiable,
         error,
         second,
+        named: None,
     };
     Ok((head, rest))
 }
 
-/// The rest of a group's head: ":" number [[","] number] ">".
+/// The end of a group's head, with the name or the number of its vendor: [[","] number | ":" name] ">".
+fn group_end<'t, 'a>(
+    tokens: &'t [Token<'a>],
+    how: Reading,
+) -> Result<((Option<Token<'a>>, Option<Token<'a>>), &'t [Token<'a>]), usize>
+    ensures tells { MatchResult result
+        (λ x. collect how GroupCoded (view_words tokens.now) ≡ with_end (view_option x.0.0) (view_option x.0.1) (collect how Rule (view_words x.1.now)))
+        (λ line. collect how GroupCoded (view_words tokens.now) ≡ Err line) }
+    ensures shorter { IfOk result (λ x. length x.1.now < length tokens.now) }
+{
+    let (named, rest) = colon(tokens, how);
+    if named {
+        let (words, rest) = expect_two(
+            rest,
+            how,
+            Terminal::AnyName,
+            Terminal::One(Symbol::Greater),
+        )?;
+        Ok(((Some(words.0), None), rest))
+    } else {
+        let (number, rest) = head_end(tokens, how)?;
+        Ok(((None, number), rest))
+    }
+}
+
+/// The rest of a group's head: ":" number [[","] number | ":" name] ">".
 pub(crate) fn group_head<'t, 'a>(
     tokens: &'t [Token<'a>],
-    last: usize,
+    how: Reading,
 ) -> Result<(Head<'a>, &'t [Token<'a>]), usize>
     ensures tells { MatchResult result
-        (λ x. collect last GroupColon (view_words tokens.now) ≡ with_head (view_head x.0) (collect last Rule (view_words x.1.now)))
-        (λ line. collect last GroupColon (view_words tokens.now) ≡ Err line) }
+        (λ x. collect how GroupColon (view_words tokens.now) ≡ with_head (view_head x.0) (collect how Rule (view_words x.1.now)))
+        (λ line. collect how GroupColon (view_words tokens.now) ≡ Err line) }
     ensures shorter { IfOk result (λ x. length x.1.now < length tokens.now) }
 {
     let (words, rest) = expect_two(
         tokens,
-        last,
+        how,
         Terminal::One(Symbol::Colon),
         Terminal::One(Symbol::Number),
     )?;
-    let (second, rest) = head_end(rest, last)?;
+    let ((named, second), rest) = group_end(rest, how)?;
     let head = Head {
         command: false,
         code: words.1,
@@ -123,6 +153,7 @@ pub(crate) fn group_head<'t, 'a>(
         proxiable: false,
         error: false,
         second,
+        named,
     };
     Ok((head, rest))
 }

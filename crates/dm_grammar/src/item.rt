@@ -2,13 +2,36 @@
 
 use crate::token::Token;
 
-/// `@` name code type, and the vendor where one is written.
+/// `@` `vendor` name number, in a text of version 2.
 #[derive(Clone, Copy)]
+pub struct VendorItem<'a> {
+    pub name: Token<'a>,
+    pub number: Token<'a>,
+}
+
+/// A vendor as it is written behind a type or a code: its number, or `:` and its name.
+#[derive(Clone, Copy)]
+pub enum VendorWord<'a> {
+    Numbered(Token<'a>),
+    Named(Token<'a>),
+}
+
+/// A value of a list: its name and its number.
+#[derive(Clone, Copy)]
+pub struct ValueItem<'a> {
+    pub name: Token<'a>,
+    pub number: Token<'a>,
+}
+
+/// `@` name code type, the vendor where one is written, and the list of values, empty where none is
+/// written.
+#[derive(Drop)]
 pub struct AvpItem<'a> {
     pub name: Token<'a>,
     pub code: Token<'a>,
     pub kind: Token<'a>,
-    pub vendor: Option<Token<'a>>,
+    pub vendor: Option<VendorWord<'a>>,
+    pub values: Vec<ValueItem<'a>>,
 }
 
 /// How an entry is bracketed: `< >`, `{ }` or `[ ]`.
@@ -39,7 +62,7 @@ pub struct EntryItem<'a> {
 pub struct GroupItem<'a> {
     pub name: Token<'a>,
     pub code: Token<'a>,
-    pub vendor: Option<Token<'a>>,
+    pub vendor: Option<VendorWord<'a>>,
     pub rule: Vec<EntryItem<'a>>,
 }
 
@@ -59,6 +82,7 @@ pub struct CommandItem<'a> {
 /// An item of a dictionary text.
 #[derive(Drop)]
 pub enum Item<'a> {
+    Vendor(VendorItem<'a>),
     Avp(AvpItem<'a>),
     Group(GroupItem<'a>),
     Command(CommandItem<'a>),

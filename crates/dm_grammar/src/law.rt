@@ -1,10 +1,13 @@
 //! What the definitions say in the words of the grammar's steps.
 
-ghost use Rattle.std.specs.Prelude.{◌≡◌, ◌↔◌, ℕ, List, Ok, Err};
+ghost use Rattle.std.specs.Prelude.{◌≡◌, ◌↔◌, ℕ, List, Ok, Err, false, true};
+ghost use Rattle.dm_grammar.specs.declared.reading.Version.{Version};
+ghost use Rattle.dm_grammar.specs.Grammar.{is_name};
 ghost use Rattle.dm_grammar.specs.Items.{Written};
 ghost use Rattle.dm_grammar.specs.Places.{Place};
 ghost use Rattle.dm_grammar.specs.Places.Place.{Text};
 ghost use Rattle.dm_grammar.specs.Spelling.{AreItems};
+ghost use Rattle.dm_grammar.specs.Symbols.{is_number, symbol_of_word};
 ghost use Rattle.dm_grammar.specs.Syntax.{IsGrammatical, IsSyntaxFault, Leads};
 ghost use Rattle.dm_grammar.specs.Told.{told};
 ghost use Rattle.dm_grammar.specs.Tokens.{Word, tokens};
@@ -12,16 +15,23 @@ ghost use Rattle.dm_grammar.specs.Tokens.{Word, tokens};
 /// A law of the definitions, with nothing to run. A text has a Syntax fault at a line exactly where no step
 /// of the grammar takes the token there from the place to which the tokens before it lead, or where they run
 /// out in a place where no text may end; a text tells items exactly where steps take all its tokens; and the
-/// tokens lead to one place at most.
+/// tokens lead to one place at most. The steps are those of the text's version; in version 2 its tokens are
+/// those behind `@` and `2`.
 pub fn syntax_law()
     ensures fault { (text : List ℕ) (line : ℕ) → (told text ≡ Err line) ↔ IsSyntaxFault text line }
     ensures good { (text : List ℕ) → IsGrammatical text ↔ ((items : List Written) × (told text ≡ Ok items)) }
-    ensures one_place { (ws : List Word) (p q : Place) → Leads Text ws p → Leads Text ws q → p ≡ q }
+    ensures one_place { (v : Version) (ws : List Word) (p q : Place) → Leads v Text ws p → Leads v Text ws q → p ≡ q }
 {}
 
 /// A law of the definitions, with nothing to run. A text tells items exactly where its tokens are these items,
-/// form by form, as the grammar reads; and tokens are the items of one list at most.
+/// form by form, as the grammar of either version reads; and tokens are the items of one list at most.
 pub fn items_law()
     ensures told { (text : List ℕ) (items : List Written) → (told text ≡ Ok items) ↔ AreItems items (tokens text) }
     ensures one_list { (ws : List Word) (a b : List Written) → AreItems a ws → AreItems b ws → a ≡ b }
+{}
+
+/// A law of the definitions, with nothing to run. A word that isn't digits alone is a name, also where it has a
+/// place of its own.
+pub fn words_law()
+    ensures name { (word : List ℕ) → is_number word ≡ false → is_name (symbol_of_word word) ≡ true }
 {}

@@ -1,4 +1,5 @@
-//! The dictionary text of Diameter (RFC 6733 section 3.2): its tokens, its grammar and its items.
+//! The dictionary text of Diameter (RFC 6733 section 3.2): its tokens, its grammar
+//! and its items, in both versions of the text.
 #![tactic(auto)]
 
 mod avp;
@@ -9,16 +10,25 @@ mod item;
 mod law;
 mod lex;
 mod read;
+mod reading;
 mod rule;
 mod step;
 mod symbol;
 mod terminal;
 mod title;
 mod token;
+mod value;
+mod vendor;
+mod version;
 
 pub use fault::ItemFault;
-pub use item::{AvpItem, CommandItem, EntryItem, Form, GroupItem, Item, Qualifier};
-pub use law::{items_law, syntax_law};
+pub use item::{
+    AvpItem, CommandItem, EntryItem, Form, GroupItem, Item, Qualifier, ValueItem, VendorItem,
+    VendorWord,
+};
+pub use law::{items_law, syntax_law, words_law};
 pub use read::read_items;
+pub use reading::Version;
 pub use symbol::Symbol;
+pub use terminal::Terminal;
 pub use token::Token;

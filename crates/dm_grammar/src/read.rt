@@ -3,7 +3,7 @@
 ghost use Rattle.std.specs.Prelude.{◌≡◌, ◌<◌, length, map, false, [], MatchResult, IfOk, IfErr, Ok, Err};
 ghost use Rattle.dm_grammar.specs.declared.symbol.Symbol.TheVariants.{At};
 ghost use Rattle.dm_grammar.specs.declared.terminal.Terminal.TheVariants.{One};
-ghost use Rattle.dm_grammar.specs.Places.Place.{Text};
+ghost use Rattle.dm_grammar.specs.Places.Place.{AtSign, Text};
 ghost use Rattle.dm_grammar.specs.Readers.{IfSyntax, begins, with_item};
 ghost use Rattle.dm_grammar.specs.Told.{collect, items_told, told};
 ghost use Rattle.dm_grammar.specs.Views.{view_item, view_words};
@@ -12,30 +12,33 @@ use crate::avp::avp_item;
 use crate::fault::ItemFault;
 use crate::item::{CommandItem, GroupItem, Item};
 use crate::lex::{last_line, tokens};
+use crate::reading::Reading;
 use crate::rule::rule;
 use crate::step::{optional, same};
 use crate::symbol::Symbol;
 use crate::terminal::Terminal;
 use crate::title::opening;
 use crate::token::Token;
+use crate::vendor::{begins_vendor, vendor_item, vendor_told};
+use crate::version::version;
 use std::alloc::Global;
 
 /// A command or a group: title "::=" "<" head ">" *entry.
 fn definition<'t, 'a>(
     alloc: Global,
     tokens: &'t [Token<'a>],
-    last: usize,
+    how: Reading,
 ) -> Result<(Item<'a>, &'t [Token<'a>]), ItemFault>
     requires some { 0 < length tokens.now }
     requires no_avp { begins (One At) (view_words tokens.now) ≡ false }
     ensures tells { MatchResult result
-        (λ x. collect last Text (view_words tokens.now) ≡ with_item (view_item x.0) (collect last Text (view_words x.1.now)))
-        (λ fault. IfSyntax fault (λ line. collect last Text (view_words tokens.now) ≡ Err line)) }
+        (λ x. collect how Text (view_words tokens.now) ≡ with_item (view_item x.0) (collect how Text (view_words x.1.now)))
+        (λ fault. IfSyntax fault (λ line. collect how Text (view_words tokens.now) ≡ Err line)) }
     ensures shorter { IfOk result (λ x. length x.1.now < length tokens.now) }
 {
-    match opening(tokens, last) {
+    match opening(tokens, how) {
         Ok(((name, head), rest)) => {
-            let (rule, rest) = rule(alloc, rest, last)?;
+            let (rule, rest) = rule(alloc, rest, how)?;
             let item = if head.command {
                 Item::Command(CommandItem {
                     name,
@@ -50,7 +53,7 @@ fn definition<'t, 'a>(
                 Item::Group(GroupItem {
                     name,
                     code: head.code,
-                    vendor: head.second,
+                    vendor: vendor_told(head.named, head.second),
                     rule,
                 })
             };
@@ -60,25 +63,44 @@ fn definition<'t, 'a>(
     }
 }
 
+/// A vendor or an AVP: what follows `@`.
+fn at_item<'t, 'a>(
+    alloc: Global,
+    tokens: &'t [Token<'a>],
+    how: Reading,
+) -> Result<(Item<'a>, &'t [Token<'a>]), ItemFault>
+    ensures tells { MatchResult result
+        (λ x. collect how AtSign (view_words tokens.now) ≡ with_item (view_item x.0) (collect how Text (view_words x.1.now)))
+        (λ fault. IfSyntax fault (λ line. collect how AtSign (view_words tokens.now) ≡ Err line)) }
+    ensures shorter { IfOk result (λ x. length x.1.now < length tokens.now) }
+{
+    if begins_vendor(tokens, how) {
+        match vendor_item(tokens, how) {
+            Ok((vendor, rest)) => Ok((Item::Vendor(vendor), rest)),
+            Err(line) => Err(ItemFault::Syntax(line)),
+        }
+    } else {
+        let (avp, rest) = avp_item(alloc, tokens, how)?;
+        Ok((Item::Avp(avp), rest))
+    }
+}
+
 /// The next item.
 fn item<'t, 'a>(
     alloc: Global,
     tokens: &'t [Token<'a>],
-    last: usize,
+    how: Reading,
 ) -> Result<(Item<'a>, &'t [Token<'a>]), ItemFault>
     requires { 0 < length tokens.now }
     ensures tells { MatchResult result
-        (λ x. collect last Text (view_words tokens.now) ≡ with_item (view_item x.0) (collect last Text (view_words x.1.now)))
-        (λ fault. IfSyntax fault (λ line. collect last Text (view_words tokens.now) ≡ Err line)) }
+        (λ x. collect how Text (view_words tokens.now) ≡ with_item (view_item x.0) (collect how Text (view_words x.1.now)))
+        (λ fault. IfSyntax fault (λ line. collect how Text (view_words tokens.now) ≡ Err line)) }
     ensures shorter { IfOk result (λ x. length x.1.now < length tokens.now) }
 {
     let (at, rest) = optional(tokens, Terminal::One(Symbol::At));
     match at {
-        Some(_) => match avp_item(rest, last) {
-            Ok((avp, rest)) => Ok((Item::Avp(avp), rest)),
-            Err(line) => Err(ItemFault::Syntax(line)),
-        },
-        None => definition(alloc, tokens, last),
+        Some(_) => at_item(alloc, rest, how),
+        None => definition(alloc, tokens, how),
     }
 }
 
@@ -86,16 +108,16 @@ fn item<'t, 'a>(
 fn fill<'a>(
     alloc: Global,
     tokens: &[Token<'a>],
-    last: usize,
+    how: Reading,
     found: &mut Vec<Item<'a>>,
 ) -> Result<(), ItemFault>
     requires { found.old.items ≡ [] }
-    ensures items { IfOk result (λ _. items_told (collect last Text (view_words tokens.now)) ≡ Ok (map view_item found.new.items)) }
-    ensures fault { IfErr result (λ fault. IfSyntax fault (λ line. items_told (collect last Text (view_words tokens.now)) ≡ Err line)) }
+    ensures items { IfOk result (λ _. items_told (collect how Text (view_words tokens.now)) ≡ Ok (map view_item found.new.items)) }
+    ensures fault { IfErr result (λ fault. IfSyntax fault (λ line. items_told (collect how Text (view_words tokens.now)) ≡ Err line)) }
 {
     let mut rest = tokens;
     while !rest.is_empty() {
-        let (item, after) = item(alloc, rest, last)?;
+        let (item, after) = item(alloc, rest, how)?;
         if found.push(item).is_err() {
             return Err(ItemFault::NoMemory);
         }
@@ -105,16 +127,16 @@ fn fill<'a>(
 }
 
 /// All items, to the end of the tokens.
-fn items<'a>(alloc: Global, tokens: &[Token<'a>], last: usize) -> Result<Vec<Item<'a>>, ItemFault>
-    ensures items { IfOk result (λ items. items_told (collect last Text (view_words tokens.now)) ≡ Ok (map view_item items.items)) }
-    ensures fault { IfErr result (λ fault. IfSyntax fault (λ line. items_told (collect last Text (view_words tokens.now)) ≡ Err line)) }
+fn items<'a>(alloc: Global, tokens: &[Token<'a>], how: Reading) -> Result<Vec<Item<'a>>, ItemFault>
+    ensures items { IfOk result (λ items. items_told (collect how Text (view_words tokens.now)) ≡ Ok (map view_item items.items)) }
+    ensures fault { IfErr result (λ fault. IfSyntax fault (λ line. items_told (collect how Text (view_words tokens.now)) ≡ Err line)) }
 {
     let mut found = Vec::new(alloc);
-    let done = fill(alloc, tokens, last, &mut found);
+    let done = fill(alloc, tokens, how, &mut found);
     done.and(Ok(found))
 }
 
-/// The items of a dictionary text (RFC 6733 section 3.2), in order. The tokens are borrowed from the text.
+/// The items of a dictionary text (RFC 6733 section 3.2) of version 1 or 2, in order. The tokens are borrowed from the text.
 ///
 /// # Errors
 ///
@@ -126,7 +148,8 @@ pub fn read_items(alloc: Global, text: &[u8]) -> Result<Vec<Item<'_>>, ItemFault
 {
     let last = last_line(text);
     let all = tokens(alloc, text).map_err(|_| ItemFault::NoMemory)?;
-    let found = items(alloc, all.as_slice(), last);
+    let (version, body) = version(all.as_slice());
+    let found = items(alloc, body, Reading { version, last });
     drop(all);
     found
 }

@@ -9,6 +9,7 @@ ghost use Rattle.dm_grammar.specs.Views.{view_entry, view_words};
 use crate::entry::{begins_entry, entry};
 use crate::fault::ItemFault;
 use crate::item::EntryItem;
+use crate::reading::Reading;
 use crate::step::same;
 use crate::token::Token;
 use std::alloc::Global;
@@ -17,17 +18,17 @@ use std::alloc::Global;
 pub(crate) fn rule<'t, 'a>(
     alloc: Global,
     tokens: &'t [Token<'a>],
-    last: usize,
+    how: Reading,
 ) -> Result<(Vec<EntryItem<'a>>, &'t [Token<'a>]), ItemFault>
     ensures tells { MatchResult result
-        (λ x. collect last Rule (view_words tokens.now) ≡ with_rule (map view_entry x.0.items) (collect last Text (view_words x.1.now)))
-        (λ fault. IfSyntax fault (λ line. collect last Rule (view_words tokens.now) ≡ Err line)) }
+        (λ x. collect how Rule (view_words tokens.now) ≡ with_rule (map view_entry x.0.items) (collect how Text (view_words x.1.now)))
+        (λ fault. IfSyntax fault (λ line. collect how Rule (view_words tokens.now) ≡ Err line)) }
     ensures shorter { IfOk result (λ x. length x.1.now ≤ length tokens.now) }
 {
     let mut entries = Vec::new(alloc);
     let mut rest = tokens;
     while begins_entry(rest) {
-        match entry(rest, last) {
+        match entry(rest, how) {
             Ok((entry, after)) => {
                 entries.push(entry).map_err(|_| ItemFault::NoMemory)?;
                 rest = same(after);

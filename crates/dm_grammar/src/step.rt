@@ -3,10 +3,11 @@
 ghost use Rattle.std.specs.Prelude.{◌≡◌, ◌<◌, ◌≤◌, ◌∷◌, [], false, true, drop, length, MatchResult, MatchOption, IfOk, Err};
 ghost use Rattle.dm_grammar.specs.Grammar.{by, fits, may_end, steps};
 ghost use Rattle.dm_grammar.specs.Places.{Place, Role};
-ghost use Rattle.dm_grammar.specs.Readers.{begins, begins_title};
+ghost use Rattle.dm_grammar.specs.Readers.{begins, begins_title, fault_line};
 ghost use Rattle.dm_grammar.specs.Told.{collect, filled};
 ghost use Rattle.dm_grammar.specs.Views.{view, view_words};
 
+use crate::reading::Reading;
 use crate::symbol::Symbol;
 use crate::terminal::{Terminal, fits};
 use crate::token::Token;
@@ -22,12 +23,15 @@ pub(crate) fn same<'t, 'a>(tokens: &'t [Token<'a>]) -> &'t [Token<'a>]
 /// The first token, where it is the terminal that a place with one step wants, and the rest.
 pub(crate) fn expect<'t, 'a>(
     tokens: &'t [Token<'a>],
-    last: usize,
+    how: Reading,
     terminal: Terminal,
 ) -> Result<(Token<'a>, &'t [Token<'a>]), usize>
-    ensures tells { (p q : Place) (r : Role) → steps p ≡ by terminal q r → may_end p ≡ false →
-        MatchResult result (λ x. collect last p (view_words tokens.now) ≡ filled r (view x.0) (collect last q (view_words x.1.now)))
-        (λ line. collect last p (view_words tokens.now) ≡ Err line) }
+    ensures tells { (p q : Place) (r : Role) → steps how.version p ≡ by terminal q r → may_end p ≡ false →
+        MatchResult result (λ x. collect how p (view_words tokens.now) ≡ filled r (view x.0) (collect how q (view_words x.1.now)))
+        (λ line. collect how p (view_words tokens.now) ≡ Err line) }
+    ensures found { MatchResult result
+        (λ x. (view_words tokens.now ≡ view x.0 ∷ view_words x.1.now) × (fits terminal (view x.0).symbol ≡ true))
+        (λ line. (begins terminal (view_words tokens.now) ≡ false) × (line ≡ fault_line how.last (view_words tokens.now))) }
     ensures shorter { IfOk result (λ x. length x.1.now < length tokens.now) }
 {
     match tokens.split_first() {
@@ -38,7 +42,7 @@ pub(crate) fn expect<'t, 'a>(
                 Err(first.line)
             }
         }
-        None => Err(last),
+        None => Err(how.last),
     }
 }
 
@@ -46,17 +50,17 @@ pub(crate) fn expect<'t, 'a>(
 /// and the rest.
 pub(crate) fn expect_two<'t, 'a>(
     tokens: &'t [Token<'a>],
-    last: usize,
+    how: Reading,
     first: Terminal,
     second: Terminal,
 ) -> Result<((Token<'a>, Token<'a>), &'t [Token<'a>]), usize>
-    ensures tells { (p q s : Place) (r t : Role) → steps p ≡ by first q r → may_end p ≡ false → steps q ≡ by second s t → may_end q ≡ false →
-        MatchResult result (λ x. collect last p (view_words tokens.now) ≡ filled r (view x.0.0) (filled t (view x.0.1) (collect last s (view_words x.1.now))))
-        (λ line. collect last p (view_words tokens.now) ≡ Err line) }
+    ensures tells { (p q s : Place) (r t : Role) → steps how.version p ≡ by first q r → may_end p ≡ false → steps how.version q ≡ by second s t → may_end q ≡ false →
+        MatchResult result (λ x. collect how p (view_words tokens.now) ≡ filled r (view x.0.0) (filled t (view x.0.1) (collect how s (view_words x.1.now))))
+        (λ line. collect how p (view_words tokens.now) ≡ Err line) }
     ensures shorter { IfOk result (λ x. length x.1.now < length tokens.now) }
 {
-    let (one, rest) = expect(tokens, last, first)?;
-    let (two, rest) = expect(rest, last, second)?;
+    let (one, rest) = expect(tokens, how, first)?;
+    let (two, rest) = expect(rest, how, second)?;
     Ok(((one, two), rest))
 }
 

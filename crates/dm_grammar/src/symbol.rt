@@ -28,6 +28,8 @@ pub enum Symbol {
     Req,
     Pxy,
     Err,
+    Vendor,
+    Enumerated,
     /// An octet that begins no token.
     Stray,
 }
@@ -90,6 +92,10 @@ pub(crate) fn symbol_of_word(word: &[u8]) -> Symbol
         Symbol::Pxy
     } else if word == b"ERR".as_slice() {
         Symbol::Err
+    } else if word == b"vendor".as_slice() {
+        Symbol::Vendor
+    } else if word == b"Enumerated".as_slice() {
+        Symbol::Enumerated
     } else {
         Symbol::Name
     }

@@ -5,10 +5,11 @@ ghost use Rattle.dm_grammar.specs.Grammar.{is_name, fits};
 
 use crate::symbol::Symbol;
 
-/// What a step of the grammar takes: any name, or the tokens of one symbol.
+/// What a step of the grammar takes: any name, any but one word, or the tokens of one symbol.
 #[derive(Clone, Copy)]
-pub(crate) enum Terminal {
+pub enum Terminal {
     AnyName,
+    NameBut(Symbol),
     One(Symbol),
 }
 
@@ -25,7 +26,9 @@ fn is_name(symbol: Symbol) -> bool
         | Symbol::AvpHeader
         | Symbol::Req
         | Symbol::Pxy
-        | Symbol::Err => true,
+        | Symbol::Err
+        | Symbol::Vendor
+        | Symbol::Enumerated => true,
         _ => false,
     }
 }
@@ -36,6 +39,7 @@ pub(crate) fn fits(terminal: Terminal, symbol: Symbol) -> bool
 {
     match terminal {
         Terminal::AnyName => is_name(symbol),
+        Terminal::NameBut(one) => is_name(symbol) && one as u8 != symbol as u8,
         Terminal::One(one) => one as u8 == symbol as u8,
     }
 }

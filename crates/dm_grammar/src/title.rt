@@ -10,42 +10,43 @@ ghost use Rattle.dm_grammar.specs.Told.{collect, filled};
 ghost use Rattle.dm_grammar.specs.Views.{view, view_head, view_words};
 
 use crate::head::{Head, command_head, group_head};
+use crate::reading::Reading;
 use crate::step::{expect, expect_two, optional};
 use crate::symbol::Symbol;
 use crate::terminal::Terminal;
 use crate::token::Token;
 
 /// The line of a fault at the next token.
-fn fault_line(tokens: &[Token<'_>], last: usize) -> usize
-    ensures { result ≡ fault_line last (view_words tokens.now) }
+fn fault_line(tokens: &[Token<'_>], how: Reading) -> usize
+    ensures { result ≡ fault_line how.last (view_words tokens.now) }
 {
     match tokens.first() {
         Some(token) => token.line,
-        None => last,
+        None => how.last,
     }
 }
 
 /// A head: ("Diameter" "Header" | "Diameter-Header") or ("AVP" "Header" | "AVP-Header"), and its rest.
-fn head<'t, 'a>(tokens: &'t [Token<'a>], last: usize) -> Result<(Head<'a>, &'t [Token<'a>]), usize>
+fn head<'t, 'a>(tokens: &'t [Token<'a>], how: Reading) -> Result<(Head<'a>, &'t [Token<'a>]), usize>
     ensures tells { MatchResult result
-        (λ x. collect last HeadPlace (view_words tokens.now) ≡ with_head (view_head x.0) (collect last Rule (view_words x.1.now)))
-        (λ line. collect last HeadPlace (view_words tokens.now) ≡ Err line) }
+        (λ x. collect how HeadPlace (view_words tokens.now) ≡ with_head (view_head x.0) (collect how Rule (view_words x.1.now)))
+        (λ line. collect how HeadPlace (view_words tokens.now) ≡ Err line) }
     ensures shorter { IfOk result (λ x. length x.1.now < length tokens.now) }
 {
     let Some((first, rest)) = tokens.split_first() else {
-        return Err(last);
+        return Err(how.last);
     };
     match first.symbol {
         Symbol::Diameter => {
-            let (_header, rest) = expect(rest, last, Terminal::One(Symbol::Header))?;
-            command_head(rest, last)
+            let (_header, rest) = expect(rest, how, Terminal::One(Symbol::Header))?;
+            command_head(rest, how)
         }
-        Symbol::DiameterHeader => command_head(rest, last),
+        Symbol::DiameterHeader => command_head(rest, how),
         Symbol::Avp => {
-            let (_group_header, rest) = expect(rest, last, Terminal::One(Symbol::Header))?;
-            group_head(rest, last)
+            let (_group_header, rest) = expect(rest, how, Terminal::One(Symbol::Header))?;
+            group_head(rest, how)
         }
-        Symbol::AvpHeader => group_head(rest, last),
+        Symbol::AvpHeader => group_head(rest, how),
         _ => Err(first.line),
     }
 }
@@ -53,33 +54,33 @@ fn head<'t, 'a>(tokens: &'t [Token<'a>], last: usize) -> Result<(Head<'a>, &'t [
 /// A title without brackets: name.
 fn bare_title<'t, 'a>(
     tokens: &'t [Token<'a>],
-    last: usize,
+    how: Reading,
 ) -> Result<(Token<'a>, &'t [Token<'a>]), usize>
     requires some { 0 < length tokens.now }
     requires no_avp { begins (One At) (view_words tokens.now) ≡ false }
     requires bare { begins (One Less) (view_words tokens.now) ≡ false }
     ensures tells { MatchResult result
-        (λ x. collect last Text (view_words tokens.now) ≡ filled TitleIs (view x.0) (collect last Titled (view_words x.1.now)))
-        (λ line. collect last Text (view_words tokens.now) ≡ Err line) }
+        (λ x. collect how Text (view_words tokens.now) ≡ filled TitleIs (view x.0) (collect how Titled (view_words x.1.now)))
+        (λ line. collect how Text (view_words tokens.now) ≡ Err line) }
     ensures shorter { IfOk result (λ x. length x.1.now < length tokens.now) }
 {
     let (name, rest) = optional(tokens, Terminal::AnyName);
     match name {
         Some(name) => Ok((name, rest)),
-        None => Err(fault_line(tokens, last)),
+        None => Err(fault_line(tokens, how)),
     }
 }
 
 /// The name of a command or a group: "<" name ">" | name.
 fn title<'t, 'a>(
     tokens: &'t [Token<'a>],
-    last: usize,
+    how: Reading,
 ) -> Result<(Token<'a>, &'t [Token<'a>]), usize>
     requires some { 0 < length tokens.now }
     requires no_avp { begins (One At) (view_words tokens.now) ≡ false }
     ensures tells { MatchResult result
-        (λ x. collect last Text (view_words tokens.now) ≡ filled TitleIs (view x.0) (collect last Titled (view_words x.1.now)))
-        (λ line. collect last Text (view_words tokens.now) ≡ Err line) }
+        (λ x. collect how Text (view_words tokens.now) ≡ filled TitleIs (view x.0) (collect how Titled (view_words x.1.now)))
+        (λ line. collect how Text (view_words tokens.now) ≡ Err line) }
     ensures shorter { IfOk result (λ x. length x.1.now < length tokens.now) }
 {
     let (less, rest) = optional(tokens, Terminal::One(Symbol::Less));
@@ -87,35 +88,35 @@ fn title<'t, 'a>(
         Some(_) => {
             let (words, rest) = expect_two(
                 rest,
-                last,
+                how,
                 Terminal::AnyName,
                 Terminal::One(Symbol::Greater),
             )?;
             Ok((words.0, rest))
         }
-        None => bare_title(tokens, last),
+        None => bare_title(tokens, how),
     }
 }
 
 /// title "::=" "<" head ">"
 pub(crate) fn opening<'t, 'a>(
     tokens: &'t [Token<'a>],
-    last: usize,
+    how: Reading,
 ) -> Result<((Token<'a>, Head<'a>), &'t [Token<'a>]), usize>
     requires some { 0 < length tokens.now }
     requires no_avp { begins (One At) (view_words tokens.now) ≡ false }
     ensures tells { MatchResult result
-        (λ x. collect last Text (view_words tokens.now) ≡ filled TitleIs (view x.0.0) (with_head (view_head x.0.1) (collect last Rule (view_words x.1.now))))
-        (λ line. collect last Text (view_words tokens.now) ≡ Err line) }
+        (λ x. collect how Text (view_words tokens.now) ≡ filled TitleIs (view x.0.0) (with_head (view_head x.0.1) (collect how Rule (view_words x.1.now))))
+        (λ line. collect how Text (view_words tokens.now) ≡ Err line) }
     ensures shorter { IfOk result (λ x. length x.1.now < length tokens.now) }
 {
-    let (name, rest) = title(tokens, last)?;
+    let (name, rest) = title(tokens, how)?;
     let (_marks, rest) = expect_two(
         rest,
-        last,
+        how,
         Terminal::One(Symbol::Define),
         Terminal::One(Symbol::Less),
     )?;
-    let (head, rest) = head(rest, last)?;
+    let (head, rest) = head(rest, how)?;
     Ok(((name, head), rest))
 }

@@ -1,8 +1,9 @@
-mod Whole
-mod Entries
 mod Asking
+mod Entries
+mod Exchange
 mod Following
-mod Silent
+mod Owning
 mod Refusing
 mod Settling
-mod Exchange
+mod Silent
+mod Whole

@@ -9,6 +9,7 @@ mod judged;
 mod printed;
 mod rows;
 mod rules;
+mod second_version;
 mod texts;
 mod types;
 mod values;

@@ -34,6 +34,20 @@ pub fn assert_faults_over_base(
     drop(base);
 }
 
+/// Each row is a text over the dictionary of the old text and its fault.
+pub fn assert_faults_over(
+    rt: &(impl Abort + AllocGlobal),
+    old: &[u8],
+    rows: &[(&[u8], Option<DictFault>)],
+) {
+    let empty = Dictionary::empty(rt.alloc());
+    let read = Dictionary::read(rt.alloc(), old, &empty);
+    drop(empty);
+    let old = read.expect(rt, "a dictionary");
+    assert_faults(rt, &old, rows);
+    drop(old);
+}
+
 /// Each row is a text over the empty dictionary and its fault.
 pub fn assert_faults_over_empty(
     rt: &(impl Abort + AllocGlobal),
@@ -56,7 +70,7 @@ fn printed(rt: &(impl Abort + AllocGlobal), text: &[u8]) -> Vec<u8> {
 }
 
 /// Each row is a text and how it is printed.
-fn assert_printed(rt: &(impl Abort + AllocGlobal), rows: &[(&[u8], &[u8])]) {
+pub fn assert_printed(rt: &(impl Abort + AllocGlobal), rows: &[(&[u8], &[u8])]) {
     for (text, want) in rows {
         let printed = printed(rt, text);
         assert_eq!(rt; printed.as_slice(), *want, "of {}", text.escape_ascii());

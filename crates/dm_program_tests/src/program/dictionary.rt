@@ -92,3 +92,33 @@ fn dictionary_ends(rt: HostRuntime) {
     ];
     assert_checked(&rt, true, rows);
 }
+
+/// A value that the list of an Enumerated leaves out, and one of it.
+#[test]
+fn listed_values(rt: HostRuntime) {
+    let rows = &[
+        (
+            "@ 2\n@ vendor Acme 99\n@ Colour 5000 Enumerated : Acme { RED 0, BLUE 2 }\n< Ask > ::= < Diameter Header: 300, REQ > { Colour }\n%%\n01000024 8000012c 00000000 00000001 00000001 00001388 c0000010 00000063 00000001",
+            "bad 5004 5000/99 VM- 00000001\n",
+            false,
+        ),
+        (
+            "@ 2\n@ vendor Acme 99\n@ Colour 5000 Enumerated : Acme { RED 0, BLUE 2 }\n< Ask > ::= < Diameter Header: 300, REQ > { Colour }\n%%\n01000024 8000012c 00000000 00000001 00000001 00001388 c0000010 00000063 00000002",
+            "good\n",
+            true,
+        ),
+        // A negative value is never listed.
+        (
+            "@ 2 @ Colour 5000 Enumerated { RED 0 } < Ask > ::= < Diameter Header: 300, REQ > { Colour }\n%%\n01000020 8000012c 00000000 00000001 00000001 00001388 4000000c ffffffff",
+            "bad 5004 5000 -M- ffffffff\n",
+            false,
+        ),
+        // Another size comes first.
+        (
+            "@ 2 @ Colour 5000 Enumerated { RED 0 } < Ask > ::= < Diameter Header: 300, REQ > { Colour }\n%%\n01000024 8000012c 00000000 00000001 00000001 00001388 40000010 00000000 00000000",
+            "bad 5014 5000 -M- 0000000000000000\n",
+            false,
+        ),
+    ];
+    assert_checked(&rt, true, rows);
+}

@@ -10,4 +10,5 @@ invariant-loop-row l = record {
   sound : each_after is_sound_avp l.tables.avps.items (map row_avp (drop l.row-index l.rows)) ≡ true;
   avps : l.tables.avps.items ≡ l.fn.tables.avps.items ++ map row_avp (take l.row-index l.rows);
   commands : l.tables.commands.items ≡ l.fn.tables.commands.items;
+  vendors : l.tables.vendors.items.items ≡ l.fn.tables.vendors.items.items;
 }

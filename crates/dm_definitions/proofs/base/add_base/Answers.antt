@@ -20,4 +20,7 @@ returns-clause-base c =
     c.in_ok-add_commands.ensures.avps ∙ c.in_ok-add_avps.ensures.avps ∙ (λ i. none i ++ c.avp_rows.ensures i) in
     let commands : c.add_commands.new.tables.commands.items ≡ base_commands =
     c.in_ok-add_commands.ensures.commands ∙ (λ i. no_command i ++ c.command_rows.ensures i) in
-    both_base _ _ avps commands
+    let vendors : c.add_commands.new.tables.vendors.items.items ≡ [] =
+    c.in_ok-add_commands.ensures.vendors ∙ c.in_ok-add_avps.ensures.vendors ∙ ap
+    (λ d. d.vendors) c.requires.empty in
+    both_base _ _ _ vendors avps commands

@@ -17,4 +17,5 @@ loop-row-preserved c =
       sound = rw (commands, c.in_ok-command_of_row.ensures) (next_member is_sound_command row_command c.loop-row.tables.commands.items c.args.rows.now c.loop-row.row-index _ c.loop-row-test.true c.loop-row.invariant.sound).1;
       commands = commands ∙ (λ i. c.loop-row.invariant.commands i ++ c.in_ok-command_of_row.ensures i ∷ []) ∙ member_pushed row_command c.args.tables.now.commands.items c.args.rows.now c.loop-row.row-index _ c.loop-row-test.true;
       avps = ap (λ d. d.avps) c.in_ok-add_command.ensures.added ∙ c.loop-row.invariant.avps;
+      vendors = ap (λ d. d.vendors) c.in_ok-add_command.ensures.added ∙ c.loop-row.invariant.vendors;
     }

@@ -10,4 +10,5 @@ invariant-loop-row l = record {
   sound : each_after is_sound_command l.tables.commands.items (map row_command (drop l.row-index l.rows)) ≡ true;
   commands : l.tables.commands.items ≡ l.fn.tables.commands.items ++ map row_command (take l.row-index l.rows);
   avps : l.tables.avps.items ≡ l.fn.tables.avps.items;
+  vendors : l.tables.vendors.items.items ≡ l.fn.tables.vendors.items.items;
 }

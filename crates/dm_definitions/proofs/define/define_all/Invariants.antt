@@ -1,7 +1,7 @@
 use Rattle.std.proofs.Common.{◌≡◌, true, map, drop}
 use Rattle.std.specs.List.{list_all}
 use Rattle.dm_grammar.specs.Views.{view_item}
-use Rattle.dm_definitions.specs.Tables.{defined, IsTables}
+use Rattle.dm_definitions.specs.Tables.{making, IsTables}
 use Rattle.dm_definitions.specs.Worded.{is_worded}
 use Rattle.dm_definitions.specs.Meaning.{with_item}
 use Rattle.dm_definitions.specs.Faults.{item_faults}
@@ -12,5 +12,5 @@ abbrev pub invariant-loop-item : goal.invariant-loop-item
 invariant-loop-item l = record {
   tables : IsTables l.tables;
   worded : list_all is_worded (map view_item (drop l.item-index l.items)) ≡ true;
-  along : Along item_faults with_item (defined l.fn.tables) (map view_item l.items) (defined l.tables) (map view_item (drop l.item-index l.items));
+  along : Along item_faults with_item (making l.fn.tables l.fn.strays) (map view_item l.items) (making l.tables l.strays) (map view_item (drop l.item-index l.items));
 }

@@ -10,7 +10,8 @@ pub tables_of-tables-requires-clause-worded : goal.tables_of-tables-requires-cla
 tables_of-tables-requires-clause-worded c =
     let tells : told c.args.text.now ≡ Ok
     (map view_item c.as_slice.result.now) = seen c.args.text.now c.in_ok-found.found.items c.as_slice.result.now c.in_ok-found.ensures.items c.as_slice.ensures.value in
-    words c.args.text.now (map view_item c.as_slice.result.now) tells
+    words c.args.text.now (map view_item c.as_slice.result.now)
+    ((c.items_law.ensures.told c.args.text.now (map view_item c.as_slice.result.now)).0 tells)
 
 pub returns-clause-defines : goal.returns-clause-defines
 returns-clause-defines c =

@@ -1,10 +1,12 @@
-use Rattle.std.proofs.Common.{◌≡◌, map, drop}
-use Rattle.std.specs.List.{flat_map}
+use Rattle.std.proofs.Common.{◌≡◌, ◌≤◌, map, drop, take, fold, length}
 use Rattle.dm_grammar.specs.Views.{view_item}
-use Rattle.dm_definitions.specs.Faults.{unknown}
+use Rattle.dm_definitions.specs.Tables.{making}
+use Rattle.dm_definitions.specs.Faults.{first_of, vendors_with, items_unknown}
 use Rattle.dm_definitions.proofs.unknown.first_unknown.Given as goal
 
 abbrev pub invariant-loop-item : goal.invariant-loop-item
-invariant-loop-item l =
-    flat_map (unknown l.tables.avps.items) (map view_item l.items) ≡ flat_map (unknown l.tables.avps.items)
-    (map view_item (drop l.item-index l.items))
+invariant-loop-item l = record {
+  within : l.seen ≤ length l.tables.vendors.items.items;
+  theirs : fold vendors_with (take l.seen l.tables.vendors.items.items) (map view_item (drop l.item-index l.items)) ≡ l.tables.vendors.items.items;
+  left : first_of (items_unknown (making l.tables l.strays) (take l.first l.tables.vendors.items.items) (map view_item l.items)) ≡ first_of (items_unknown (making l.tables l.strays) (take l.seen l.tables.vendors.items.items) (map view_item (drop l.item-index l.items)));
+}

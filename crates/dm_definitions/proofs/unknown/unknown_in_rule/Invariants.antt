@@ -1,9 +1,10 @@
 use Rattle.std.proofs.Common.{◌≡◌, map, drop}
 use Rattle.dm_grammar.specs.Views.{view_entry}
+use Rattle.dm_definitions.specs.Tables.{making}
 use Rattle.dm_definitions.specs.Faults.{rule_unknown}
 use Rattle.dm_definitions.proofs.unknown.unknown_in_rule.Given as goal
 
 abbrev pub invariant-loop-entry : goal.invariant-loop-entry
 invariant-loop-entry l =
-    rule_unknown l.tables.avps.items (map view_entry l.rule) ≡ rule_unknown l.tables.avps.items
+    rule_unknown (making l.tables l.strays) (map view_entry l.rule) ≡ rule_unknown (making l.tables l.strays)
     (map view_entry (drop l.entry-index l.rule))

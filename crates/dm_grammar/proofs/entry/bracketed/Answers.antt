@@ -12,25 +12,29 @@ use Rattle.dm_grammar.proofs.entry.bracketed.Goals as goal
 pub returns-in_err-words-clause-tells : goal.returns-in_err-words-clause-tells
 returns-in_err-words-clause-tells c =
     let form = c.in-Some-opens.form in
-    let bracket = opened (view c.in-Some.open.now) c.args.last (view_words c.in-Some.rest.now) form
+    let bracket = opened (view c.in-Some.open.now) c.args.how (view_words c.in-Some.rest.now) form
     (sym c.in-Some-opens.ensures) in
-    let close : steps (name_place form) ≡ by (One c.close_of.result) Rule Nothing = rw c.close_of.ensures
-    (close_step form) in
+    let close : steps c.args.how.version (name_place form) ≡ by (One c.close_of.result) Rule Nothing =
+    rw c.close_of.ensures
+    (close_step c.args.how.version form) in
     handed_on _ _ c.from_residual.result _ c.from_residual.ensures.1
-    (ap (λ ts. collect c.args.last High (view_words ts)) c.in-Some.ensures.cases.0 ∙ (bracket
+    (ap (λ ts. collect c.args.how High (view_words ts)) c.in-Some.ensures.cases.0 ∙ (bracket
     ∙ ap (filled Opens (view c.in-Some.open.now))
-    (c.in_err-words.ensures.tells (open_place form) (name_place form) Rule (EntryIs form) Nothing (open_step form) (open_end form) close (close_end form))))
+    (c.in_err-words.ensures.tells (open_place form) (name_place form) Rule (EntryIs form) Nothing
+    (open_step c.args.how.version form) (open_end form) close (close_end form))))
 
 pub returns-clause-tells : goal.returns-clause-tells
 returns-clause-tells c =
     let form = c.in-Some-opens.form in
     let words = c.in_ok-words.words in
-    let bracket = opened (view c.in-Some.open.now) c.args.last (view_words c.in-Some.rest.now) form
+    let bracket = opened (view c.in-Some.open.now) c.args.how (view_words c.in-Some.rest.now) form
     (sym c.in-Some-opens.ensures) in
-    let close : steps (name_place form) ≡ by (One c.close_of.result) Rule Nothing = rw c.close_of.ensures
-    (close_step form) in
-    ap (λ ts. collect c.args.last High (view_words ts)) c.in-Some.ensures.cases.0 ∙ (bracket
+    let close : steps c.args.how.version (name_place form) ≡ by (One c.close_of.result) Rule Nothing =
+    rw c.close_of.ensures
+    (close_step c.args.how.version form) in
+    ap (λ ts. collect c.args.how High (view_words ts)) c.in-Some.ensures.cases.0 ∙ (bracket
     ∙ ap (filled Opens (view c.in-Some.open.now))
-    (c.in_ok-words.ensures.tells (open_place form) (name_place form) Rule (EntryIs form) Nothing (open_step form) (open_end form) close (close_end form))
+    (c.in_ok-words.ensures.tells (open_place form) (name_place form) Rule (EntryIs form) Nothing
+    (open_step c.args.how.version form) (open_end form) close (close_end form))
     ∙ bracketed_entry form (view c.in-Some.open.now) (view words.0) (view words.1)
-    (collect c.args.last Rule (view_words c.in_ok-words.rest.now)))
+    (collect c.args.how Rule (view_words c.in_ok-words.rest.now)))

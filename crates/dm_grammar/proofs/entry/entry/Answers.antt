@@ -10,4 +10,4 @@ pub returns-else-begins-clause-tells : goal.returns-else-begins-clause-tells
 returns-else-begins-clause-tells c =
     let none = rw c.in-None.is at c.optional.ensures.tells in
     let star : begins (One Star) (view_words c.args.tokens.now) ≡ false = cc in
-    rw (rule_bracket c.args.last (view_words c.args.tokens.now) c.requires none.1 star) c.bracketed.ensures.tells
+    rw (rule_bracket c.args.how (view_words c.args.tokens.now) c.requires none.1 star) c.bracketed.ensures.tells

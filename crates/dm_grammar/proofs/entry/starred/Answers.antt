@@ -9,16 +9,21 @@ use Rattle.dm_grammar.proofs.entry.starred.Goals as goal
 pub returns-in_err-_star-clause-tells : goal.returns-in_err-_star-clause-tells
 returns-in_err-_star-clause-tells c =
     handed_on _ _ c.from_residual.result _ c.from_residual.ensures.1
-    (no_star c.args.last (view_option c.args.low) c.in_err-_star.field-0.0 (view_words c.args.tokens.now) (c.in_err-_star.ensures.tells Low Starred StarIs refl refl))
+    (no_star c.args.how (view_option c.args.low) c.in_err-_star.field-0.0 (view_words c.args.tokens.now)
+    (c.in_err-_star.ensures.tells Low Starred StarIs refl refl))
 
 pub returns-in_err-entry-clause-tells : goal.returns-in_err-entry-clause-tells
 returns-in_err-entry-clause-tells c =
     handed_on _ _ c.from_residual-in_err-entry.result _ c.from_residual-in_err-entry.ensures.1
-    (no_bracket c.args.last (view_option c.args.low) c.in_err-entry.field-0.0 (view c.in_ok-_star._star) (view_words c.args.tokens.now) (view_words c.in_ok-_star.rest.now) (view_words c.optional.result.1.now) c.optional.result.0 (c.in_ok-_star.ensures.tells Low Starred StarIs refl refl) c.optional.ensures.tells c.in_err-entry.ensures.tells)
+    (no_bracket c.args.how (view_option c.args.low) c.in_err-entry.field-0.0 (view c.in_ok-_star._star)
+    (view_words c.args.tokens.now) (view_words c.in_ok-_star.rest.now)
+    (view_words c.optional.result.1.now) c.optional.result.0
+    (c.in_ok-_star.ensures.tells Low Starred StarIs refl refl) c.optional.ensures.tells
+    c.in_err-entry.ensures.tells)
 
 pub returns-clause-tells : goal.returns-clause-tells
 returns-clause-tells c =
-    low_to_entry c.args.last (view_option c.args.low) (view c.in_ok-_star._star) (view_words c.args.tokens.now)
+    low_to_entry c.args.how (view_option c.args.low) (view c.in_ok-_star._star) (view_words c.args.tokens.now)
     (view_words c.in_ok-_star.rest.now) (view_words c.optional.result.1.now)
     (view_words c.in_ok-entry.rest.now) c.optional.result.0 (view_entry c.in_ok-entry.entry)
     (c.in_ok-_star.ensures.tells Low Starred StarIs refl refl) c.optional.ensures.tells

@@ -18,8 +18,12 @@ returns-in_err-second-clause-tells c = λ w.
     handed_on _ _ c.from_residual-in_err-second.result _ c.from_residual-in_err-second.ensures.1
     (c.in_ok-words.ensures.tells CommandColon CommandCode Coded Nothing CodeIs refl refl refl refl
     ∙ ap (λ r. filled Nothing (view words.0) (filled CodeIs (view words.1) r))
-    (flags_read c.args.last (view_words c.in_ok-words.rest.now) _ _ _ _ _ _ c.flag-request.ensures.flag c.flag-request.ensures.rest c.flag-proxiable.ensures.flag c.flag-proxiable.ensures.rest c.flag-error.ensures.flag c.flag-error.ensures.rest
-    ∙ ap (λ r. flagged Request c.flag-request.result.0 (flagged Proxiable c.flag-proxiable.result.0 (flagged Error c.flag-error.result.0 r))) c.in_err-second.ensures.tells))
+    (flags_read c.args.how (view_words c.in_ok-words.rest.now) _ _ _ _ _ _ c.flag-request.ensures.flag
+    c.flag-request.ensures.rest c.flag-proxiable.ensures.flag c.flag-proxiable.ensures.rest
+    c.flag-error.ensures.flag c.flag-error.ensures.rest
+    ∙ ap (λ r. flagged Request c.flag-request.result.0
+    (flagged Proxiable c.flag-proxiable.result.0 (flagged Error c.flag-error.result.0 r)))
+    c.in_err-second.ensures.tells))
 
 pub returns-clause-tells : goal.returns-clause-tells
 returns-clause-tells c = λ w.
@@ -28,7 +32,11 @@ returns-clause-tells c = λ w.
     (c.in_ok-words.ensures.tells CommandColon CommandCode Coded Nothing CodeIs refl refl refl refl
     ∙ (nothing_told (view words.0) _
     ∙ ap (filled CodeIs (view words.1))
-    (flags_read c.args.last (view_words c.in_ok-words.rest.now) _ _ _ _ _ _ c.flag-request.ensures.flag c.flag-request.ensures.rest c.flag-proxiable.ensures.flag c.flag-proxiable.ensures.rest c.flag-error.ensures.flag c.flag-error.ensures.rest
-    ∙ ap (λ r. flagged Request c.flag-request.result.0 (flagged Proxiable c.flag-proxiable.result.0 (flagged Error c.flag-error.result.0 r))) c.in_ok-second.ensures.tells)))
+    (flags_read c.args.how (view_words c.in_ok-words.rest.now) _ _ _ _ _ _ c.flag-request.ensures.flag
+    c.flag-request.ensures.rest c.flag-proxiable.ensures.flag c.flag-proxiable.ensures.rest
+    c.flag-error.ensures.flag c.flag-error.ensures.rest
+    ∙ ap (λ r. flagged Request c.flag-request.result.0
+    (flagged Proxiable c.flag-proxiable.result.0 (flagged Error c.flag-error.result.0 r)))
+    c.in_ok-second.ensures.tells)))
     ∙ command_told w (view words.1) c.flag-request.result.0 c.flag-proxiable.result.0 c.flag-error.result.0
-    (view_option c.in_ok-second.second) (collect c.args.last Rule (view_words c.in_ok-second.rest.now))
+    (view_option c.in_ok-second.second) (collect c.args.how Rule (view_words c.in_ok-second.rest.now))

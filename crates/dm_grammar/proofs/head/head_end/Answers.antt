@@ -11,26 +11,29 @@ pub returns-in_err-words-in-Some-clause-tells : goal.returns-in_err-words-in-Som
 returns-in_err-words-in-Some-clause-tells c =
     let comma = rw c.in-Some.is at c.optional.ensures.tells in
     handed_on _ _ c.from_residual.result _ c.from_residual.ensures.1
-    (comma_number c.args.last _ (view_words c.args.tokens.now) (view_words c.optional.result.1.now) comma.0 comma.1 ∙ c.in_err-words-in-Some.ensures.tells FlaggedComma HeadEnd Rule SecondIs Rules refl refl refl refl)
+    (comma_number c.args.how _ (view_words c.args.tokens.now) (view_words c.optional.result.1.now) comma.0 comma.1
+    ∙ c.in_err-words-in-Some.ensures.tells FlaggedComma HeadEnd Rule SecondIs Rules refl refl refl refl)
 
 pub returns-in_ok-words-in-Some-clause-tells : goal.returns-in_ok-words-in-Some-clause-tells
 returns-in_ok-words-in-Some-clause-tells c =
     let comma = rw c.in-Some.is at c.optional.ensures.tells in
     let words = c.in_ok-words-in-Some.words in
-    comma_number c.args.last _ (view_words c.args.tokens.now) (view_words c.optional.result.1.now) comma.0 comma.1
+    comma_number c.args.how _ (view_words c.args.tokens.now) (view_words c.optional.result.1.now) comma.0 comma.1
     ∙ (c.in_ok-words-in-Some.ensures.tells FlaggedComma HeadEnd Rule SecondIs Rules refl refl refl refl
-    ∙ a_second (view words.0) (view words.1) (collect c.args.last Rule (view_words c.in_ok-words-in-Some.rest.now)))
+    ∙ a_second (view words.0) (view words.1) (collect c.args.how Rule (view_words c.in_ok-words-in-Some.rest.now)))
 
 pub returns-in_err-_end-in-None-clause-tells : goal.returns-in_err-_end-in-None-clause-tells
 returns-in_err-_end-in-None-clause-tells c =
     let comma = rw c.in-None.is at c.optional.ensures.tells in
     handed_on _ _ c.from_residual-in_err-_end-in-None.result _ c.from_residual-in_err-_end-in-None.ensures.1
-    (plain_fault c.args.last _ (view_words c.args.tokens.now) (view_words c.optional-in-None.result.1.now) c.optional-in-None.result.0 comma.1 c.optional-in-None.ensures.tells (c.in_err-_end-in-None.ensures.tells HeadEnd Rule Rules refl refl))
+    (plain_fault c.args.how _ (view_words c.args.tokens.now)
+    (view_words c.optional-in-None.result.1.now) c.optional-in-None.result.0 comma.1
+    c.optional-in-None.ensures.tells (c.in_err-_end-in-None.ensures.tells HeadEnd Rule Rules refl refl))
 
 pub returns-in_ok-_end-in-None-clause-tells : goal.returns-in_ok-_end-in-None-clause-tells
 returns-in_ok-_end-in-None-clause-tells c =
     let comma = rw c.in-None.is at c.optional.ensures.tells in
-    plain_end c.args.last (view_words c.args.tokens.now) (view_words c.optional-in-None.result.1.now)
+    plain_end c.args.how (view_words c.args.tokens.now) (view_words c.optional-in-None.result.1.now)
     (view_words c.in_ok-_end-in-None.rest.now) c.optional-in-None.result.0
     (view c.in_ok-_end-in-None._end) comma.1 c.optional-in-None.ensures.tells
     (c.in_ok-_end-in-None.ensures.tells HeadEnd Rule Rules refl refl)

@@ -9,4 +9,4 @@ pub returns-clause-good : goal.returns-clause-good
 returns-clause-good c = good_law
 
 pub returns-clause-one_place : goal.returns-clause-one_place
-returns-clause-one_place c = λ ws p q. one_place ws Text p q
+returns-clause-one_place c = λ v ws p q. one_place v ws Text p q

@@ -15,7 +15,8 @@ loop-at-preserved c =
       within = omega arith;
       ahead = omega arith;
       lines = omega arith;
-      same = rw len (sym (comment_at c.args.text.now c.loop-at.at c.loop-at.line c.loop-at-test.true c.if-first-eq59.true) ∙ c.loop-at.invariant.same);
+      same = rw len (sym (comment_at c.args.text.now c.loop-at.at c.loop-at.line c.loop-at-test.true
+          c.if-first-eq59.true) ∙ c.loop-at.invariant.same);
     }
 
 pub returns-else-first-eq59-clause-next : goal.returns-else-first-eq59-clause-next
@@ -26,5 +27,6 @@ returns-else-first-eq59-clause-next c =
     let some : 0 < (lexeme_of (drop c.loop-at.at c.args.text.now)).1 = rw (← lex) c.lexeme-symbol.ensures.some in
     let len : c.loop-at.at + c.lexeme-symbol.result.1 - c.loop-at.at ≡ c.lexeme-symbol.result.1 = omega arith in
     sym c.loop-at.invariant.same
-    ∙ (token_at c.args.text.now c.loop-at.at c.loop-at.line c.loop-at-test.true c.if-first-eq10.false space c.if-first-eq59.false some
+    ∙ (token_at c.args.text.now c.loop-at.at c.loop-at.line c.loop-at-test.true c.if-first-eq10.false space
+    c.if-first-eq59.false some
     ∙ rw (len, lex) refl)

@@ -12,19 +12,23 @@ use Rattle.dm_grammar.proofs.read.fill.Goals as goal
 pub returns-in_err-item-clause-fault : goal.returns-in_err-item-clause-fault
 returns-in_err-item-clause-fault c =
     handed_on _ _ c.from_residual.result _ c.from_residual.ensures.1
-    (fault_through (map view_item c.loop-rest.found.items) (collect c.args.last Text (view_words c.args.tokens.now)) (collect c.args.last Text (view_words c.loop-rest.rest.now)) c.in_err-item.field-0.0 c.loop-rest.invariant c.in_err-item.ensures.tells)
+    (fault_through (map view_item c.loop-rest.found.items) (collect c.args.how Text (view_words c.args.tokens.now))
+    (collect c.args.how Text (view_words c.loop-rest.rest.now)) c.in_err-item.field-0.0 c.loop-rest.invariant
+    c.in_err-item.ensures.tells)
 
 pub loop-rest-preserved : goal.loop-rest-preserved
 loop-rest-preserved c =
     let done : is_ok c.push.result ≡ true = c.if-is_err.ensures.negation in
-    let pushed : c.push.new.self.items ≡ c.loop-rest.found.items ++ c.in_ok-item.item ∷ [] = rw done at c.push.ensures.items in
+    let pushed : c.push.new.self.items ≡ c.loop-rest.found.items ++ c.in_ok-item.item ∷ [] =
+    rw done at c.push.ensures.items in
     rw (pushed, c.same-rest.ensures, map_push) (c.loop-rest.invariant
     ∙ (ap (with_items (map view_item c.loop-rest.found.items)) c.in_ok-item.ensures.tells
-    ∙ sym (with_items-push (map view_item c.loop-rest.found.items) (view_item c.in_ok-item.item) (collect c.args.last Text (view_words c.in_ok-item.after.now)))))
+    ∙ sym (with_items-push (map view_item c.loop-rest.found.items) (view_item c.in_ok-item.item)
+    (collect c.args.how Text (view_words c.in_ok-item.after.now)))))
 
 pub returns-clause-items : goal.returns-clause-items
 returns-clause-items c =
     let none : c.loop-rest.rest.now ≡ [] = nil_from_length c.loop-rest.rest.now (grind (arith, nat_tests)) in
-    all_read c.args.last (map view_item c.loop-rest.found.items)
-    (collect c.args.last Text (view_words c.args.tokens.now)) (view_words c.loop-rest.rest.now)
+    all_read c.args.how (map view_item c.loop-rest.found.items)
+    (collect c.args.how Text (view_words c.args.tokens.now)) (view_words c.loop-rest.rest.now)
     (ap view_words none) c.loop-rest.invariant

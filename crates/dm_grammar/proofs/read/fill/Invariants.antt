@@ -8,8 +8,8 @@ use Rattle.dm_grammar.proofs.read.fill.Given as goal
 -- the items read, and what the rest tells
 abbrev pub invariant-loop-rest : goal.invariant-loop-rest
 invariant-loop-rest l =
-    collect l.last Text (view_words l.tokens) ≡ with_items (map view_item l.found.items)
-    (collect l.last Text (view_words l.rest))
+    collect l.how Text (view_words l.tokens) ≡ with_items (map view_item l.found.items)
+    (collect l.how Text (view_words l.rest))
 
 abbrev pub decreases-loop-rest : goal.decreases-loop-rest
 decreases-loop-rest l = length l.rest

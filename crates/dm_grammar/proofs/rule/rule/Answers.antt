@@ -10,26 +10,29 @@ use Rattle.dm_grammar.proofs.RuleEntries.{with_entries, with_entries-push, with_
 use Rattle.dm_grammar.proofs.Rules.{no_entry}
 use Rattle.dm_grammar.proofs.rule.rule.Goals as goal
 
-pub loop-rest-preserved : goal.loop-rest-preserved
-loop-rest-preserved c =
+pub loop-how-preserved : goal.loop-how-preserved
+loop-how-preserved c =
     let done : is_ok c.push.result ≡ true = sym c.in_ok-map_err-in-Ok.ensures.variant in
-    let pushed : c.push.new.self.items ≡ c.loop-rest.entries.items ++ c.in-Ok.entry ∷ [] = rw done at c.push.ensures.items in
+    let pushed : c.push.new.self.items ≡ c.loop-how.entries.items ++ c.in-Ok.entry ∷ [] =
+    rw done at c.push.ensures.items in
     record {
       shorter = rw c.same-rest.ensures (omega (arith, c.in-Ok.ensures.shorter));
-      tells = rw (pushed, c.same-rest.ensures, map_push) (c.loop-rest.invariant.tells
-          ∙ (ap (with_entries (map view_entry c.loop-rest.entries.items)) c.in-Ok.ensures.tells
-          ∙ sym (with_entries-push (map view_entry c.loop-rest.entries.items) (view_entry c.in-Ok.entry) (collect c.args.last Rule (view_words c.in-Ok.after.now)))));
+      tells = rw (pushed, c.same-rest.ensures, map_push) (c.loop-how.invariant.tells
+          ∙ (ap (with_entries (map view_entry c.loop-how.entries.items)) c.in-Ok.ensures.tells
+          ∙ sym (with_entries-push (map view_entry c.loop-how.entries.items) (view_entry c.in-Ok.entry)
+          (collect c.args.how Rule (view_words c.in-Ok.after.now)))));
     }
 
 pub returns-in-Err-clause-tells : goal.returns-in-Err-clause-tells
 returns-in-Err-clause-tells c =
-    c.loop-rest.invariant.tells ∙ with_entries-fault (map view_entry c.loop-rest.entries.items)
-    (collect c.args.last Rule (view_words c.loop-rest.rest.now)) c.in-Err.line c.in-Err.ensures.tells
+    c.loop-how.invariant.tells ∙ with_entries-fault (map view_entry c.loop-how.entries.items)
+    (collect c.args.how Rule (view_words c.loop-how.rest.now)) c.in-Err.line c.in-Err.ensures.tells
 
 pub returns-clause-tells : goal.returns-clause-tells
 returns-clause-tells c =
-    let none : begins_entry (view_words c.loop-rest.rest.now) ≡ false = cc in
-    c.loop-rest.invariant.tells
-    ∙ (ap (with_entries (map view_entry c.loop-rest.entries.items)) (no_entry c.args.last (view_words c.loop-rest.rest.now) none)
-    ∙ with_entries-rule (map view_entry c.loop-rest.entries.items)
-    (collect c.args.last Text (view_words c.loop-rest.rest.now)) (plain c.args.last (view_words c.loop-rest.rest.now)))
+    let none : begins_entry (view_words c.loop-how.rest.now) ≡ false = cc in
+    c.loop-how.invariant.tells
+    ∙ (ap (with_entries (map view_entry c.loop-how.entries.items))
+    (no_entry c.args.how (view_words c.loop-how.rest.now) none)
+    ∙ with_entries-rule (map view_entry c.loop-how.entries.items)
+    (collect c.args.how Text (view_words c.loop-how.rest.now)) (plain c.args.how (view_words c.loop-how.rest.now)))

@@ -6,11 +6,12 @@ use Rattle.dm_grammar.proofs.RuleEntries.{with_entries}
 use Rattle.dm_grammar.proofs.rule.rule.Given as goal
 
 -- the entries read, and what the rest tells
-abbrev pub invariant-loop-rest : goal.invariant-loop-rest
-invariant-loop-rest l = record {
+abbrev pub invariant-loop-how : goal.invariant-loop-how
+invariant-loop-how l = record {
   shorter : length l.rest ≤ length l.tokens;
-  tells : collect l.last Rule (view_words l.tokens) ≡ with_entries (map view_entry l.entries.items) (collect l.last Rule (view_words l.rest));
+  tells : collect l.how Rule (view_words l.tokens) ≡ with_entries (map view_entry l.entries.items)
+      (collect l.how Rule (view_words l.rest));
 }
 
-abbrev pub decreases-loop-rest : goal.decreases-loop-rest
-decreases-loop-rest l = length l.rest
+abbrev pub decreases-loop-how : goal.decreases-loop-how
+decreases-loop-how l = length l.rest

@@ -12,40 +12,48 @@ pub returns-in_err-_header-in-Diameter-clause-tells : goal.returns-in_err-_heade
 returns-in_err-_header-in-Diameter-clause-tells c =
     let first = view c.in-Some.first.now in
     handed_on _ _ c.from_residual.result _ c.from_residual.ensures.1
-    (command_word c.args.last first (view_words c.args.tokens.now) (view_words c.in-Some.rest.now) (ap view_words c.in-Some.ensures.cases.0) c.in-Diameter.is
+    (command_word c.args.how first (view_words c.args.tokens.now) (view_words c.in-Some.rest.now)
+    (ap view_words c.in-Some.ensures.cases.0) c.in-Diameter.is
     ∙ ap (filled CommandHead first)
     (c.in_err-_header-in-Diameter.ensures.tells CommandWord CommandColon Nothing refl refl))
 
 pub returns-in_err-_group_header-in-Avp-clause-tells : goal.returns-in_err-_group_header-in-Avp-clause-tells
 returns-in_err-_group_header-in-Avp-clause-tells c =
     let first = view c.in-Some.first.now in
-    handed_on _ _ c.from_residual-in_err-_group_header-in-Avp.result _ c.from_residual-in_err-_group_header-in-Avp.ensures.1
-    (group_word c.args.last first (view_words c.args.tokens.now) (view_words c.in-Some.rest.now) (ap view_words c.in-Some.ensures.cases.0) c.in-Avp.is
+    handed_on _ _ c.from_residual-in_err-_group_header-in-Avp.result _
+    c.from_residual-in_err-_group_header-in-Avp.ensures.1
+    (group_word c.args.how first (view_words c.args.tokens.now) (view_words c.in-Some.rest.now)
+    (ap view_words c.in-Some.ensures.cases.0) c.in-Avp.is
     ∙ c.in_err-_group_header-in-Avp.ensures.tells GroupWord GroupColon Nothing refl refl)
 
 pub returns-in_ok-_header-in-Diameter-clause-tells : goal.returns-in_ok-_header-in-Diameter-clause-tells
 returns-in_ok-_header-in-Diameter-clause-tells c =
     let first = view c.in-Some.first.now in
-    from_command first (collect c.args.last CommandColon (view_words c.in_ok-_header-in-Diameter.rest.now))
-    (collect c.args.last Head (view_words c.args.tokens.now)) _ c.command_head.result
-    (command_word c.args.last first (view_words c.args.tokens.now) (view_words c.in-Some.rest.now) (ap view_words c.in-Some.ensures.cases.0) c.in-Diameter.is
+    from_command first (collect c.args.how CommandColon (view_words c.in_ok-_header-in-Diameter.rest.now))
+    (collect c.args.how Head (view_words c.args.tokens.now)) _ c.command_head.result
+    (command_word c.args.how first (view_words c.args.tokens.now) (view_words c.in-Some.rest.now)
+    (ap view_words c.in-Some.ensures.cases.0) c.in-Diameter.is
     ∙ ap (filled CommandHead first)
-    (c.in_ok-_header-in-Diameter.ensures.tells CommandWord CommandColon Nothing refl refl ∙ nothing_told (view c.in_ok-_header-in-Diameter._header) _))
+    (c.in_ok-_header-in-Diameter.ensures.tells CommandWord CommandColon Nothing refl refl
+    ∙ nothing_told (view c.in_ok-_header-in-Diameter._header) _))
     (c.command_head.ensures.tells first)
 
 pub returns-in-DiameterHeader-clause-tells : goal.returns-in-DiameterHeader-clause-tells
 returns-in-DiameterHeader-clause-tells c =
     let first = view c.in-Some.first.now in
-    from_command first (collect c.args.last CommandColon (view_words c.in-Some.rest.now))
-    (collect c.args.last Head (view_words c.args.tokens.now)) _ c.command_head-in-DiameterHeader.result
-    (command_words c.args.last first (view_words c.args.tokens.now) (view_words c.in-Some.rest.now) (ap view_words c.in-Some.ensures.cases.0) c.in-DiameterHeader.is)
+    from_command first (collect c.args.how CommandColon (view_words c.in-Some.rest.now))
+    (collect c.args.how Head (view_words c.args.tokens.now)) _ c.command_head-in-DiameterHeader.result
+    (command_words c.args.how first (view_words c.args.tokens.now) (view_words c.in-Some.rest.now)
+    (ap view_words c.in-Some.ensures.cases.0) c.in-DiameterHeader.is)
     (c.command_head-in-DiameterHeader.ensures.tells first)
 
 pub returns-in_ok-_group_header-in-Avp-clause-tells : goal.returns-in_ok-_group_header-in-Avp-clause-tells
 returns-in_ok-_group_header-in-Avp-clause-tells c =
     let first = view c.in-Some.first.now in
-    from_place (collect c.args.last GroupColon (view_words c.in_ok-_group_header-in-Avp.rest.now))
-    (collect c.args.last Head (view_words c.args.tokens.now)) _ c.group_head.result
-    (group_word c.args.last first (view_words c.args.tokens.now) (view_words c.in-Some.rest.now) (ap view_words c.in-Some.ensures.cases.0) c.in-Avp.is
-    ∙ (c.in_ok-_group_header-in-Avp.ensures.tells GroupWord GroupColon Nothing refl refl ∙ nothing_told (view c.in_ok-_group_header-in-Avp._group_header) _))
+    from_place (collect c.args.how GroupColon (view_words c.in_ok-_group_header-in-Avp.rest.now))
+    (collect c.args.how Head (view_words c.args.tokens.now)) _ c.group_head.result
+    (group_word c.args.how first (view_words c.args.tokens.now) (view_words c.in-Some.rest.now)
+    (ap view_words c.in-Some.ensures.cases.0) c.in-Avp.is
+    ∙ (c.in_ok-_group_header-in-Avp.ensures.tells GroupWord GroupColon Nothing refl refl
+    ∙ nothing_told (view c.in_ok-_group_header-in-Avp._group_header) _))
     c.group_head.ensures.tells

@@ -10,13 +10,15 @@ use Rattle.dm_grammar.proofs.title.opening.Goals as goal
 pub returns-in_err-_marks-clause-tells : goal.returns-in_err-_marks-clause-tells
 returns-in_err-_marks-clause-tells c =
     handed_on _ _ c.from_residual-in_err-_marks.result _ c.from_residual-in_err-_marks.ensures.1
-    (c.in_ok-name.ensures.tells ∙ ap (filled TitleIs (view c.in_ok-name.name)) (c.in_err-_marks.ensures.tells Titled Defined Head Nothing Nothing refl refl refl refl))
+    (c.in_ok-name.ensures.tells ∙ ap (filled TitleIs (view c.in_ok-name.name))
+    (c.in_err-_marks.ensures.tells Titled Defined Head Nothing Nothing refl refl refl refl))
 
 pub returns-in_err-head-clause-tells : goal.returns-in_err-head-clause-tells
 returns-in_err-head-clause-tells c =
     let marks = c.in_ok-_marks._marks in
     handed_on _ _ c.from_residual-in_err-head.result _ c.from_residual-in_err-head.ensures.1
-    (c.in_ok-name.ensures.tells ∙ ap (filled TitleIs (view c.in_ok-name.name)) (c.in_ok-_marks.ensures.tells Titled Defined Head Nothing Nothing refl refl refl refl
+    (c.in_ok-name.ensures.tells ∙ ap (filled TitleIs (view c.in_ok-name.name))
+    (c.in_ok-_marks.ensures.tells Titled Defined Head Nothing Nothing refl refl refl refl
     ∙ ap (λ r. filled Nothing (view marks.0) (filled Nothing (view marks.1) r)) c.in_err-head.ensures.tells))
 
 pub returns-clause-tells : goal.returns-clause-tells

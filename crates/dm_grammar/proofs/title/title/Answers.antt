@@ -12,7 +12,8 @@ pub returns-in_err-words-in-Some-clause-tells : goal.returns-in_err-words-in-Som
 returns-in_err-words-in-Some-clause-tells c =
     let less = rw c.in-Some.is at c.optional.ensures.tells in
     handed_on _ _ c.from_residual.result _ c.from_residual.ensures.1
-    (less_title c.args.last (view c.in-Some.field-0) (view_words c.args.tokens.now) (view_words c.optional.result.1.now) less.0 less.1
+    (less_title c.args.how (view c.in-Some.field-0) (view_words c.args.tokens.now)
+    (view_words c.optional.result.1.now) less.0 less.1
     ∙ ap (filled Begins (view c.in-Some.field-0))
     (c.in_err-words-in-Some.ensures.tells TitleLess TitleName Titled TitleIs Nothing refl refl refl refl))
 
@@ -20,9 +21,10 @@ pub returns-in_ok-words-in-Some-clause-tells : goal.returns-in_ok-words-in-Some-
 returns-in_ok-words-in-Some-clause-tells c =
     let less = rw c.in-Some.is at c.optional.ensures.tells in
     let words = c.in_ok-words-in-Some.words in
-    let rest = collect c.args.last Titled (view_words c.in_ok-words-in-Some.rest.now) in
-    less_title c.args.last (view c.in-Some.field-0) (view_words c.args.tokens.now)
+    let rest = collect c.args.how Titled (view_words c.in_ok-words-in-Some.rest.now) in
+    less_title c.args.how (view c.in-Some.field-0) (view_words c.args.tokens.now)
     (view_words c.optional.result.1.now) less.0 less.1
-    ∙ (ap (filled Begins (view c.in-Some.field-0)) (c.in_ok-words-in-Some.ensures.tells TitleLess TitleName Titled TitleIs Nothing refl refl refl refl
+    ∙ (ap (filled Begins (view c.in-Some.field-0))
+    (c.in_ok-words-in-Some.ensures.tells TitleLess TitleName Titled TitleIs Nothing refl refl refl refl
     ∙ ap (filled TitleIs (view words.0)) (nothing_told (view words.1) rest))
     ∙ title_begins (view c.in-Some.field-0) (view words.0) rest)

@@ -17,4 +17,5 @@ loop-avp-preserved c =
       sound = rw added sound;
       avps = moved c.loop-avp.self.avps.items c.add_avp.new.self.avps.items (c.args.self.now.avps.items ++ c.args.avps.now) c.args.avps.now c.loop-avp.avp-index _ c.in_ok-clone.field-0 c.loop-avp-test.true (c.in_ok-clone.ensures.cases ∙ c.avp-item.is) c.loop-avp.invariant.avps added;
       commands = ap (λ d. d.commands) c.in_ok-add_avp.ensures.added ∙ c.loop-avp.invariant.commands;
+      vendors = ap (λ d. d.vendors) c.in_ok-add_avp.ensures.added ∙ c.loop-avp.invariant.vendors;
     }

@@ -9,4 +9,5 @@ invariant-loop-avp l = record {
   sound : each_after is_sound_avp l.self.avps.items (drop l.avp-index l.avps) ≡ true;
   avps : l.self.avps.items ++ drop l.avp-index l.avps ≡ l.fn.self.avps.items ++ l.avps;
   commands : l.self.commands.items ≡ l.fn.self.commands.items;
+  vendors : l.self.vendors.items.items ≡ l.fn.self.vendors.items.items;
 }

@@ -16,4 +16,5 @@ loop-command-preserved c =
       sound = rw added sound;
       commands = moved c.loop-command.self.commands.items c.add_command.new.self.commands.items (c.args.self.now.commands.items ++ c.args.commands.now) c.args.commands.now c.loop-command.command-index _ c.in_ok-clone.field-0 c.loop-command-test.true (c.in_ok-clone.ensures.cases ∙ c.command-item.is) c.loop-command.invariant.commands added;
       avps = ap (λ d. d.avps) c.in_ok-add_command.ensures.added ∙ c.loop-command.invariant.avps;
+      vendors = ap (λ d. d.vendors) c.in_ok-add_command.ensures.added ∙ c.loop-command.invariant.vendors;
     }

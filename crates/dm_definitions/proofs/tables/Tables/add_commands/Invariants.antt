@@ -9,4 +9,5 @@ invariant-loop-command l = record {
   sound : each_after is_sound_command l.self.commands.items (drop l.command-index l.commands) ≡ true;
   commands : l.self.commands.items ++ drop l.command-index l.commands ≡ l.fn.self.commands.items ++ l.commands;
   avps : l.self.avps.items ≡ l.fn.self.avps.items;
+  vendors : l.self.vendors.items.items ≡ l.fn.self.vendors.items.items;
 }

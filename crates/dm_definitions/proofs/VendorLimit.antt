@@ -1,15 +1,17 @@
 -- No AVP of a dictionary has a vendor above 32 bits.
-use Rattle.std.proofs.Common.{◌≡◌, ◌<◌, ◌≤◌, ℕ, Bool, true, false, ◌&&◌, nat_eq, List, [], ◌∷◌, ◌++◌, Option, Some, None, option_map, refl, ap, ◌∙◌, arith}
+use Rattle.std.proofs.Common.{◌≡◌, ◌<◌, ◌≤◌, ℕ, Bool, true, false, ◌&&◌, nat_eq, List, [], ◌∷◌, ◌++◌, Option, Some, None, refl, ap, ◌∙◌, arith}
 use Rattle.std.proofs.lemmas.Bool.{and_parts, ltb-true, leb-true, ne_eqb}
 use Rattle.std.specs.List.{list_any}
 use Rattle.std.specs.Option.{option_eq}
-use Rattle.dm_grammar.specs.Tokens.{Word}
+use Rattle.dm_grammar.specs.Items.{Vend}
+use Rattle.dm_grammar.specs.Items.Vend.{NumberedBy, NamedBy}
 use Rattle.dm_definitions.specs.declared.fault.DictFault.{DictFault}
+use Rattle.dm_definitions.specs.declared.def.VendorDef.{VendorDef}
 use Rattle.dm_definitions.specs.declared.def.AvpDef.{AvpDef}
 use Rattle.dm_definitions.specs.Definitions.{is_coded}
 use Rattle.dm_definitions.specs.Sound.{each_after, is_sound_avp, fits_option}
-use Rattle.dm_definitions.specs.Meaning.{number}
-use Rattle.dm_definitions.specs.Faults.{first_of, fault_if, option_faults, limit}
+use Rattle.dm_definitions.specs.Meaning.{number, vendor_of}
+use Rattle.dm_definitions.specs.Faults.{first_of, fault_if, is_taken, vend_faults, limit}
 use Rattle.dm_definitions.proofs.Parts.{avp_parts}
 
 and_false : (b : Bool) → (b && false) ≡ false
@@ -34,9 +36,10 @@ above_limit : (b : Bool) (f g : DictFault) → first_of (fault_if b f) ≡ Some 
 above_limit true f g e = refl
 above_limit false f g e = absurd cc
 
-pub vendor_above : (code : ℕ) (vendor : Option Word) (avps : List AvpDef) (f : DictFault)
-    → each_after is_sound_avp [] avps ≡ true → first_of (option_faults limit vendor) ≡ Some f
-    → list_any (is_coded code (option_map number vendor)) avps ≡ false
-vendor_above code None avps f sound e = absurd cc
-vendor_above code (Some w) avps f sound e =
+pub vendor_above : (code : ℕ) (vendors : List VendorDef) (vend : Option Vend) (avps : List AvpDef) (f : DictFault)
+    → each_after is_sound_avp [] avps ≡ true → first_of (vend_faults vend) ≡ Some f
+    → is_taken avps code (vendor_of vendors vend) ≡ false
+vendor_above code vendors None avps f sound e = absurd cc
+vendor_above code vendors (Some (NumberedBy w)) avps f sound e =
     no_such_vendor code (number w) [] avps (ltb-true limit (number w) (above_limit _ _ f e)) sound
+vendor_above code vendors (Some (NamedBy w)) avps f sound e = absurd cc

@@ -1,0 +1,39 @@
+//! The version of a text.
+
+ghost use Rattle.std.specs.Prelude.{◌≡◌};
+ghost use Rattle.dm_grammar.specs.Versions.{body_of, is_second, is_two, version_of};
+ghost use Rattle.dm_grammar.specs.Views.{view, view_words};
+
+use crate::reading::Version;
+use crate::symbol::Symbol;
+use crate::terminal::{Terminal, fits};
+use crate::token::Token;
+
+/// Whether a token is the number 2 in one digit.
+fn is_two(token: Token<'_>) -> bool
+    ensures { result ≡ is_two (view token.entry) }
+{
+    fits(Terminal::One(Symbol::Number), token.symbol) && token.text == b"2".as_slice()
+}
+
+/// Whether the first two tokens are `@` and `2`.
+fn is_second(tokens: &[Token<'_>]) -> bool
+    ensures { result ≡ is_second (view_words tokens.now) }
+{
+    match tokens {
+        [first, second, ..] => { fits(Terminal::One(Symbol::At), first.symbol) && is_two(*second) }
+        _ => false,
+    }
+}
+
+/// The version of a text, and the tokens behind those that tell it.
+pub(crate) fn version<'t, 'a>(tokens: &'t [Token<'a>]) -> (Version, &'t [Token<'a>])
+    ensures version { result.0 ≡ version_of (view_words tokens.now) }
+    ensures body { view_words result.1.now ≡ body_of (view_words tokens.now) }
+{
+    if is_second(tokens) {
+        (Version::Second, &tokens[2..])
+    } else {
+        (Version::First, tokens)
+    }
+}
