@@ -78,7 +78,8 @@ no_fault host realm addresses product auth acct h sized text ids more =
     }
 
 -- the same of parts that were looked at as slices
-pub no_fault_of : (host realm : List ℕ) (addresses : List Ip) (product auth acct h r : List ℕ) (a : List Ip) (p t u : List ℕ)
+pub no_fault_of : (host realm : List ℕ) (addresses : List Ip) (product auth acct h r : List ℕ) (a : List Ip)
+    (p t u : List ℕ)
     → h ≡ host → r ≡ realm → a ≡ addresses → p ≡ product → t ≡ auth → u ≡ acct → node_fault h r a p t u ≡ None
     → list_all is_sized addresses ≡ true → is_utf8 product ≡ true → list_all is_number auth ≡ true
     → list_all is_number acct ≡ true → AreFit host realm addresses product auth acct

@@ -79,14 +79,16 @@ one_right : (groups : List Entry → Avp → List Fault) (avps : List AvpDef) (r
     → IsRight avps code a → allows (entry_for rule (defined avps code)) ≡ true → faults_at groups avps rule a ≡ []
 one_right groups avps rule code a r h = rw (r.is_defined, h) (r.faultless groups)
 
-each_right : (groups : List Entry → Avp → List Fault) (avps : List AvpDef) (rule : List Entry) (code : ℕ) (l rest : List Avp)
+each_right : (groups : List Entry → Avp → List Fault) (avps : List AvpDef) (rule : List Entry) (code : ℕ)
+    (l rest : List Avp)
     → Each (IsRight avps code) l → allows (entry_for rule (defined avps code)) ≡ true
     → flat_map (faults_at groups avps rule) (l ++ rest) ≡ flat_map (faults_at groups avps rule) rest
 each_right groups avps rule code [] rest r h = refl
 each_right groups avps rule code (a ∷ l) rest r h =
     rw (one_right groups avps rule code a r.0 h) (each_right groups avps rule code l rest r.1 h)
 
-avps_right : (groups : List Entry → Avp → List Fault) (avps : List AvpDef) (rule : List Entry) (ps : List Part) (l : List Avp)
+avps_right : (groups : List Entry → Avp → List Fault) (avps : List AvpDef) (rule : List Entry) (ps : List Part)
+    (l : List Avp)
     → IsShaped avps ps l → list_all (part_keeps avps rule) ps ≡ true → flat_map (faults_at groups avps rule) l ≡ []
 avps_right groups avps rule [] l s h = rw s refl
 avps_right groups avps rule (One code ∷ ps) l s h =
@@ -190,7 +192,8 @@ entries_right avps rule ps l (e ∷ es) s h =
     rw (entry_right avps rule ps l e s here) (entries_right avps rule ps l es s behind)
 
 -- a list of a shape that keeps to the rule has no faults
-pub shaped_right : (groups : List Entry → Avp → List Fault) (avps : List AvpDef) (rule : List Entry) (ps : List Part) (l : List Avp)
+pub shaped_right : (groups : List Entry → Avp → List Fault) (avps : List AvpDef) (rule : List Entry) (ps : List Part)
+    (l : List Avp)
     → IsShaped avps ps l → keeps avps rule ps ≡ true → list_faults_by groups avps rule l ≡ []
 shaped_right groups avps rule ps l s h =
     let (parts, entries) =

@@ -42,7 +42,8 @@ pub list_put : (n : Node) (host realm o0 o1 o2 o3 : List ℕ) → host ≡ n.hos
 list_put n host realm o0 o1 o2 o3 eh er e1 e2 e3 =
     appended (canonical_avp (result_avp 2001)) (canonical_avp (avp origin_host n.host))
     (canonical_avp (avp origin_realm n.realm)) o0 o1 o2 o3 e1
-    (e2 ∙ ap (λ s. o1 ++ canonical_avp (avp origin_host s)) eh) (e3 ∙ ap (λ s. o2 ++ canonical_avp (avp origin_realm s)) er)
+    (e2 ∙ ap (λ s. o1 ++ canonical_avp (avp origin_host s)) eh)
+    (e3 ∙ ap (λ s. o2 ++ canonical_avp (avp origin_realm s)) er)
 
 -- how long three lists are together
 summed : (x y z : List ℕ) → length (x ++ (y ++ (z ++ []))) ≡ length x + length y + length z

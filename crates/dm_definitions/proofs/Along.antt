@@ -32,7 +32,8 @@ pub none_both : (xs ys : List DictFault) → xs ≡ [] → ys ≡ [] → (xs ++ 
 none_both xs ys e g = rw (e, g) refl
 
 -- s is what the members before the rest make, and they have no fault
-pub record Along {S W : Type 0} (faults : S → W → List DictFault) (next : S → W → S) (start : S) (all : List W) (s : S) (rest : List W) : Type 0 where
+pub record Along {S W : Type 0} (faults : S → W → List DictFault) (next : S → W → S) (start : S) (all : List W) (s : S)
+    (rest : List W) : Type 0 where
   pub faults_left : faults_along faults next start all ≡ faults_along faults next s rest
   pub end_left : fold next start all ≡ fold next s rest
 
@@ -46,7 +47,9 @@ module _ {S W I : Type 0} (faults : S → W → List DictFault) (next : S → W 
       let said : Along faults next start all s (map shown (x ∷ drop (i + 1) items)) = subst
       (λ (l : List I). Along faults next start all s (map shown l)) here along in
       record {
-        faults_left = said.faults_left ∙ ap (λ fs. fs ++ faults_along faults next (next s (shown x)) (map shown (drop (i + 1) items))) none ∙ ap (λ u. faults_along faults next u (map shown (drop (i + 1) items))) (sym e);
+        faults_left = said.faults_left ∙
+            ap (λ fs. fs ++ faults_along faults next (next s (shown x)) (map shown (drop (i + 1) items))) none ∙
+            ap (λ u. faults_along faults next u (map shown (drop (i + 1) items))) (sym e);
         end_left = said.end_left ∙ ap (λ u. fold next u (map shown (drop (i + 1) items))) (sym e);
       }
 

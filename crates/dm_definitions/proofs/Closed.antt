@@ -58,7 +58,8 @@ item_no_stray all m (AvpIs p) e h =
     let known = vendor_known m.definitions.vendors p.vendor (none_right (kind_unknown p.kind) _ e) in
     no_stray m p.name.text (avp_def_of p) _ known.0 known.1 h
 item_no_stray all m (GroupIs p) e h =
-    let known = vendor_known m.definitions.vendors p.vendor (none_left (vend_unknown m.definitions.vendors p.vendor) _ e) in
+    let known = vendor_known m.definitions.vendors p.vendor
+    (none_left (vend_unknown m.definitions.vendors p.vendor) _ e) in
     no_stray m p.name.text (group_def_of p) _ known.0 known.1 h
 item_no_stray all m (CommandIs p) e h = h
 
@@ -96,8 +97,10 @@ rule_known : (all : Made) (rule : List written.Entry) → all.strays ≡ [] → 
 rule_known all [] none e = refl
 rule_known all (x ∷ rule) none e =
     both _ _
-    (without_strays (is_any x.name.text) (list_any (is_named x.name.text) all.definitions.avps) x.name.text all.strays none
-    (known_here (is_any x.name.text || is_defined all x.name.text) (UnknownName x.name.line) (none_left (entry_unknown all x) _ e)))
+    (without_strays (is_any x.name.text) (list_any (is_named x.name.text) all.definitions.avps) x.name.text all.strays
+    none
+    (known_here (is_any x.name.text || is_defined all x.name.text) (UnknownName x.name.line)
+    (none_left (entry_unknown all x) _ e)))
     (rule_known all rule none (none_right (entry_unknown all x) _ e))
 
 or_more : (a b c : Bool) → (a || b) ≡ true → (a || (b || c)) ≡ true
@@ -160,7 +163,8 @@ closed_items : (all m : Made) (vendors : List VendorDef) (items : List Written) 
 closed_items all m vendors [] none h e = h
 closed_items all m vendors (i ∷ items) none h e =
     closed_items all (with_item m i) (vendors_with vendors i) items none
-    (closed_item all m vendors i none h (none_left (unknown all vendors i) _ e)) (none_right (unknown all vendors i) _ e)
+    (closed_item all m vendors i none h (none_left (unknown all vendors i) _ e))
+    (none_right (unknown all vendors i) _ e)
 
 -- the AVPs of the items stand behind those before
 placed_more : (m : Made) (name : List ℕ) (def : Option ℕ → AvpDef) (o : Option (Option ℕ))

@@ -44,14 +44,16 @@ module _ {D K : Type 0} (test : K → Bool) (key : D → K) where
     where
       by : (b : Bool)
           → is_below (m + 1 + n) (lookup test (places key (m + 1) ds)) ≡ list_any (λ e. test (key e)) (take n ds)
-          → is_below (m + suc n) (cond b (Some m) (lookup test (places key (m + 1) ds))) ≡ (b || list_any (λ e. test (key e)) (take n ds))
+          → is_below (m + suc n) (cond b (Some m) (lookup test (places key (m + 1) ds))) ≡
+          (b || list_any (λ e. test (key e)) (take n ds))
       by true h = let less : m < m + suc n = omega arith in lt-ltb m (m + suc n) less
       by false h =
           let same : m + suc n ≡ m + 1 + n = omega arith in
           ap (λ x. is_below x (lookup test (places key (m + 1) ds))) same ∙ h
 
 -- one of the first n has the key
-pub among : {A D K : Type 0} (test : K → Bool) (key : D → K) (shown : A → K) (n : ℕ) (ds : List D) (es : List (A × ℕ)) (o : Option ℕ)
+pub among : {A D K : Type 0} (test : K → Bool) (key : D → K) (shown : A → K) (n : ℕ) (ds : List D) (es : List (A × ℕ))
+    (o : Option ℕ)
     → map (λ e. (shown e.0, e.1)) es ≡ places key 0 ds → o ≡ lookup (λ a. test (shown a)) es
     → is_below n o ≡ list_any (λ d. test (key d)) (take n ds)
 among test key shown n ds es o e at =
@@ -82,11 +84,13 @@ take_long (suc n) (x ∷ xs) h = ap suc (take_long n xs (omega arith))
 
 -- the vendors before the next item, where it is a vendor
 pub one_more : (all : List VendorDef) (n : ℕ) (p : VendorParts) (items : List Written) → n ≤ length all
-    → fold vendors_with (take n all ++ vendor_def_of p ∷ []) items ≡ all → take (n + 1) all ≡ take n all ++ vendor_def_of p ∷ []
+    → fold vendors_with (take n all ++ vendor_def_of p ∷ []) items ≡ all →
+    take (n + 1) all ≡ take n all ++ vendor_def_of p ∷ []
 one_more all n p items h e =
     let more = all_vendors (take n all ++ vendor_def_of p ∷ []) items in
     let parts : all ≡ take n all ++ vendor_def_of p ∷ [] ++ more.0 = sym e ∙ more.1 in
-    let long : length (take n all ++ vendor_def_of p ∷ []) ≡ n + 1 = length-append (take n all) (vendor_def_of p ∷ []) ∙ ap (λ x. x + 1) (take_long n all h) in
+    let long : length (take n all ++ vendor_def_of p ∷ []) ≡ n + 1 = length-append (take n all) (vendor_def_of p ∷ []) ∙
+    ap (λ x. x + 1) (take_long n all h) in
     (λ i. take (sym long i) (parts i)) ∙ take-append_seam (take n all ++ vendor_def_of p ∷ []) more.0
 
 -- what is left of the items behind the next of them
@@ -96,18 +100,21 @@ module _ (all : Made) (vendors : List VendorDef) {I : Type 0} (shown : I → Wri
   next items i d x h at = rw (at, add-one i) (drop-cons items i d h)
 
   -- a fault of the next item is the first
-  pub next_fault : (items : List I) (i n : ℕ) (d x : I) (o : Option DictFault) (whole : List DictFault) → i < length items
+  pub next_fault : (items : List I) (i n : ℕ) (d x : I) (o : Option DictFault) (whole : List DictFault) →
+      i < length items
       → x ≡ get_or items i d → first_of whole ≡ first_of (items_unknown all (take n vendors) (map shown (drop i items)))
       → o ≡ first_of (unknown all (take n vendors) (shown x)) → is_some o ≡ true → o ≡ first_of whole
   next_fault items i n d x None whole h at left e some = absurd cc
   next_fault items i n d x (Some f) whole h at left e some =
       first_of-left (unknown all (take n vendors) (shown x)) _ f e
-      ∙ sym (left ∙ ap (λ (l : List I). first_of (items_unknown all (take n vendors) (map shown l))) (next items i d x h at))
+      ∙ sym (left ∙ ap (λ (l : List I). first_of (items_unknown all (take n vendors) (map shown l)))
+      (next items i d x h at))
 
   -- the next item has no fault
   pub next_left : (items : List I) (i n m : ℕ) (d x : I) (whole : List DictFault) → i < length items
       → x ≡ get_or items i d → first_of whole ≡ first_of (items_unknown all (take n vendors) (map shown (drop i items)))
-      → None ≡ first_of (unknown all (take n vendors) (shown x)) → take m vendors ≡ vendors_with (take n vendors) (shown x)
+      → None ≡ first_of (unknown all (take n vendors) (shown x)) →
+      take m vendors ≡ vendors_with (take n vendors) (shown x)
       → first_of whole ≡ first_of (items_unknown all (take m vendors) (map shown (drop (i + 1) items)))
   next_left items i n m d x whole h at left none step =
       left ∙ ap (λ (l : List I). first_of (items_unknown all (take n vendors) (map shown l))) (next items i d x h at)
@@ -124,23 +131,28 @@ module _ (all : Made) (vendors : List VendorDef) {I : Type 0} (shown : I → Wri
 
   -- behind a vendor there is one more
   pub next_vendor : (items : List I) (i n : ℕ) (d x : I) (p : VendorParts) → i < length items → x ≡ get_or items i d
-      → n ≤ length vendors → fold vendors_with (take n vendors) (map shown (drop i items)) ≡ vendors → shown x ≡ VendorIs p
+      → n ≤ length vendors → fold vendors_with (take n vendors) (map shown (drop i items)) ≡ vendors →
+      shown x ≡ VendorIs p
       → (take (n + 1) vendors ≡ vendors_with (take n vendors) (shown x)) × (n + 1 ≤ length vendors)
   next_vendor items i n d x p h at within theirs is =
       let here : fold vendors_with (take n vendors ++ vendor_def_of p ∷ []) (map shown (drop (i + 1) items)) ≡ vendors =
-      ap (λ (w : Written). fold vendors_with (vendors_with (take n vendors) w) (map shown (drop (i + 1) items))) (sym is)
+      ap (λ (w : Written). fold vendors_with (vendors_with (take n vendors) w) (map shown (drop (i + 1) items)))
+      (sym is)
       ∙ sym (ap (λ (l : List I). fold vendors_with (take n vendors) (map shown l)) (next items i d x h at)) ∙ theirs in
       let more = all_vendors (take n vendors ++ vendor_def_of p ∷ []) (map shown (drop (i + 1) items)) in
       let long : length vendors ≡ length (take n vendors) + 1 + length more.0 =
       ap length (sym here ∙ more.1) ∙ length-append (take n vendors ++ vendor_def_of p ∷ []) more.0
       ∙ ap (λ x. x + length more.0) (length-append (take n vendors) (vendor_def_of p ∷ [])) in
-      let taken = take_long n vendors within in
-      (one_more vendors n p (map shown (drop (i + 1) items)) within here ∙ ap (vendors_with (take n vendors)) (sym is), omega arith)
+      let taken = take_long n vendors within in (
+        one_more vendors n p (map shown (drop (i + 1) items)) within here ∙ ap (vendors_with (take n vendors)) (sym is),
+        omega arith,
+      )
 
   -- the vendors behind the next item
   pub next_step : (items : List I) (i n : ℕ) (d x : I) → i < length items → x ≡ get_or items i d → n ≤ length vendors
       → fold vendors_with (take n vendors) (map shown (drop i items)) ≡ vendors
-      → (take (n + vendor_count (shown x)) vendors ≡ vendors_with (take n vendors) (shown x)) × (n + vendor_count (shown x) ≤ length vendors)
+      → (take (n + vendor_count (shown x)) vendors ≡ vendors_with (take n vendors) (shown x)) ×
+      (n + vendor_count (shown x) ≤ length vendors)
   next_step items i n d x h at within theirs = by (shown x) refl
     where
       none : n + 0 ≡ n
@@ -150,9 +162,11 @@ module _ (all : Made) (vendors : List VendorDef) {I : Type 0} (shown : I → Wri
       still = omega arith
 
       by : (w : Written) → shown x ≡ w
-          → (take (n + vendor_count w) vendors ≡ vendors_with (take n vendors) w) × (n + vendor_count w ≤ length vendors)
+          → (take (n + vendor_count w) vendors ≡ vendors_with (take n vendors) w) ×
+          (n + vendor_count w ≤ length vendors)
       by (VendorIs p) e =
-          let one = next_vendor items i n d x p h at within theirs e in (one.0 ∙ ap (vendors_with (take n vendors)) e, one.1)
+          let one = next_vendor items i n d x p h at within theirs e in
+          (one.0 ∙ ap (vendors_with (take n vendors)) e, one.1)
       by (AvpIs p) e = (ap (λ m. take m vendors) none, still)
       by (GroupIs p) e = (ap (λ m. take m vendors) none, still)
       by (CommandIs p) e = (ap (λ m. take m vendors) none, still)

@@ -10,7 +10,8 @@ use Rattle.dm_definitions.specs.Sound.{is_repeated, is_late}
 use Rattle.dm_definitions.specs.Faults.{Stops, bound_faults, place_faults, rule_entry_faults}
 use Rattle.dm_definitions.proofs.Along.{stops_right, none_both}
 
-pub any-map : {A B : Type 0} (p : B → Bool) (f : A → B) (xs : List A) → list_any p (map f xs) ≡ list_any (λ x. p (f x)) xs
+pub any-map : {A B : Type 0} (p : B → Bool) (f : A → B) (xs : List A) →
+    list_any p (map f xs) ≡ list_any (λ x. p (f x)) xs
 any-map p f [] = refl
 any-map p f (x ∷ xs) = ap (λ b. p (f x) || b) (any-map p f xs)
 

@@ -17,7 +17,8 @@ no_list a b c d e l n none = rw none (simp (append_assoc, append-nil))
 
 plain : (a : AvpDef) → has_none a.values ≡ true → plain_line a ≡ first_plain_line a
 plain a h =
-    no_list (codes "@ ") a.name (spaced_number a.code) (spaced (type_name a.kind)) (spaced_option a.vendor) (list_text a.values)
+    no_list (codes "@ ") a.name (spaced_number a.code) (spaced (type_name a.kind)) (spaced_option a.vendor)
+    (list_text a.values)
     line_end (ap list_text (none_is a.values h))
 
 line : (a : AvpDef) → has_none a.values ≡ true → avp_line a ≡ first_avp_line a
@@ -40,6 +41,8 @@ three a b c d = append_assoc (a ++ b) c d
 pub prints_first_version : (d : Definitions) → is_first_version d ≡ true → printed d ≡ first_printed d
 prints_first_version d h =
     let (none, no_lists) = and_parts (has_none d.vendors) (list_all (λ a. has_none a.values) d.avps) h in
-    three (version_line d) (flat_map vendor_line d.vendors) (flat_map avp_line d.avps) (flat_map command_line d.commands)
-    ∙ version (is_first_version d) (flat_map avp_line d.avps ++ flat_map command_line d.commands) (flat_map vendor_line d.vendors) h (ap (flat_map vendor_line) (none_is d.vendors none))
+    three (version_line d) (flat_map vendor_line d.vendors) (flat_map avp_line d.avps)
+    (flat_map command_line d.commands)
+    ∙ version (is_first_version d) (flat_map avp_line d.avps ++ flat_map command_line d.commands)
+    (flat_map vendor_line d.vendors) h (ap (flat_map vendor_line) (none_is d.vendors none))
     ∙ ap (λ t. t ++ flat_map command_line d.commands) (lines d.avps no_lists)

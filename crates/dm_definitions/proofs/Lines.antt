@@ -11,7 +11,8 @@ pub line_pushed : {D : Type 0} (f : D → List ℕ) (before old new : List ℕ) 
 line_pushed f before old new members i d h at e g =
     let more : flat_map f (take (i + 1) members) ≡ flat_map f (take i members) ++ f (get_or members i d) =
     rw (add-one i)
-    (ap (flat_map f) (take-suc members i d h) ∙ flat_map-append f (take i members) (get_or members i d ∷ []) ∙ ap (λ r. flat_map f (take i members) ++ r) (append-nil (f (get_or members i d)))) in
+    (ap (flat_map f) (take-suc members i d h) ∙ flat_map-append f (take i members) (get_or members i d ∷ []) ∙
+    ap (λ r. flat_map f (take i members) ++ r) (append-nil (f (get_or members i d)))) in
     g ∙ ap (λ t. t ++ f d) e ∙ ap (λ x. before ++ flat_map f (take i members) ++ f x) at ∙ append_assoc before
     (flat_map f (take i members)) (f (get_or members i d)) ∙ ap (λ r. before ++ r) (sym more)
 

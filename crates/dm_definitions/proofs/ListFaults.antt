@@ -70,8 +70,10 @@ no_fault false f e = refl
 pub value_new : (before : List EnumValue) (v : written.Value) → value_faults before v ≡ []
     → (list_any (is_value v.name.text) before ≡ false) × (list_any (has_number (pos (number v.number))) before ≡ false)
 value_new before v e =
-    let front = none_left (twice before v ++ range_faults value_limit v.number) (taken before v) e in
-    (no_fault _ _ (none_left (twice before v) (range_faults value_limit v.number) front), no_fault _ _ (none_right (twice before v ++ range_faults value_limit v.number) (taken before v) e))
+    let front = none_left (twice before v ++ range_faults value_limit v.number) (taken before v) e in (
+      no_fault _ _ (none_left (twice before v) (range_faults value_limit v.number) front),
+      no_fault _ _ (none_right (twice before v ++ range_faults value_limit v.number) (taken before v) e),
+    )
 
 -- a key that is new goes last
 pub key_last : {K : Type 0} (same : K → K → Bool) (ks : List K) (k : K) → list_any (same k) ks ≡ false

@@ -61,8 +61,10 @@ module _ {D : Type 0} (test : List D → D → Bool) (same : D → D → Bool) (
       by false e behind rest = rest
 
 -- the next of some rows
-pub next_member : {D R : Type 0} (test : List D → D → Bool) (f : R → D) (before : List D) (rows : List R) (i : ℕ) (d : R) → i < length rows → each_after test before (map f (drop i rows)) ≡ true
-    → (test before (f (get_or rows i d)) ≡ true) × (each_after test (before ++ f (get_or rows i d) ∷ []) (map f (drop (i + 1) rows)) ≡ true)
+pub next_member : {D R : Type 0} (test : List D → D → Bool) (f : R → D) (before : List D) (rows : List R) (i : ℕ)
+    (d : R) → i < length rows → each_after test before (map f (drop i rows)) ≡ true
+    → (test before (f (get_or rows i d)) ≡ true) ×
+    (each_after test (before ++ f (get_or rows i d) ∷ []) (map f (drop (i + 1) rows)) ≡ true)
 next_member test f before rows i d h sound =
     let here : drop i rows ≡ get_or rows i d ∷ drop (i + 1) rows = rw (add-one i) (drop-cons rows i d h) in
     and_parts _ _ (rw here at sound)

@@ -9,7 +9,8 @@ use Rattle.dm_definitions.specs.Positions.{or_later}
 
 -- one element more
 pub position_push : {A : Type 0} (p : A → Bool) (j : ℕ) (xs : List A) (i : ℕ) (d : A) → i < length xs
-    → position_from p j (take (i + 1) xs) ≡ or_later (position_from p j (take i xs)) (if p (get_or xs i d) then Some (j + i) else None)
+    → position_from p j (take (i + 1) xs) ≡
+    or_later (position_from p j (take i xs)) (if p (get_or xs i d) then Some (j + i) else None)
 position_push p j [] i d h = absurd (omega arith)
 position_push p j (x ∷ xs) zero d h = by (p x) refl where
   by : (b : Bool) → p x ≡ b → (if p x then Some j else None) ≡ (if p x then Some (j + 0) else None)
@@ -23,7 +24,11 @@ position_push p j (x ∷ xs) (suc i) d h = by (p x) refl (position_push p (j + 1
   same = omega arith
 
   by : (b : Bool) → p x ≡ b
-      → position_from p (j + 1) (take (i + 1) xs) ≡ or_later (position_from p (j + 1) (take i xs)) (if p (get_or xs i d) then Some (j + 1 + i) else None) → position_from p j (take (suc i + 1) (x ∷ xs)) ≡ or_later (position_from p j (take (suc i) (x ∷ xs))) (if p (get_or (x ∷ xs) (suc i) d) then Some (j + suc i) else None)
+      → position_from p (j + 1) (take (i + 1) xs) ≡
+      or_later (position_from p (j + 1) (take i xs)) (if p (get_or xs i d) then Some (j + 1 + i) else None) →
+      position_from p j (take (suc i + 1) (x ∷ xs)) ≡
+      or_later (position_from p j (take (suc i) (x ∷ xs)))
+      (if p (get_or (x ∷ xs) (suc i) d) then Some (j + suc i) else None)
   by true e ih = rw (more, e) refl
   by false e ih = rw (more, e, ← same) ih
 

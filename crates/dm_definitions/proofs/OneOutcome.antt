@@ -26,14 +26,18 @@ one_first o f g e h = cc
 
 pub one_definition : (text : List ℕ) (old a b : Definitions) → Defines text old a → Defines text old b → a ≡ b
 one_definition text old a b d e =
-    d.followed ∙ ap (λ is. (with_items (made old) is).definitions) (same_items text d.items e.items d.grammatical e.grammatical) ∙ sym e.followed
+    d.followed ∙
+    ap (λ is. (with_items (made old) is).definitions)
+    (same_items text d.items e.items d.grammatical e.grammatical) ∙ sym e.followed
 
 pub no_outcome : {P : Type 0} (text : List ℕ) (old new : Definitions) (f : DictFault) → Defines text old new
     → IsFirstFault text old f → P
 no_outcome text old new f d (inl s) = no_items text d.items s.0 d.grammatical s.2
 no_outcome text old new f d (inr h) =
     let same = same_items text h.items d.items h.grammatical d.grammatical in
-    no_fault f (subst (λ (l : List DictFault). first_of l ≡ Some f) d.faultless (subst (λ (is : List Written). first_of (all_faults old is) ≡ Some f) same h.first))
+    no_fault f
+    (subst (λ (l : List DictFault). first_of l ≡ Some f) d.faultless
+    (subst (λ (is : List Written). first_of (all_faults old is) ≡ Some f) same h.first))
 
 pub one_fault : (text : List ℕ) (old : Definitions) (f g : DictFault) → IsFirstFault text old f
     → IsFirstFault text old g → f ≡ g
@@ -47,20 +51,24 @@ one_fault text old f g (inr s) (inr t) =
 
 module _ (text : List ℕ) (old : Definitions) where
   pub only_at_ok : (made new : Definitions) → Defines text old made → Defines text old new
-      → (◌≡◌ {A = Result Definitions DictFault} (Ok made) (Ok new)) ⊎ (◌≡◌ {A = Result Definitions DictFault} (Ok made) (Err NoMemory))
+      → (◌≡◌ {A = Result Definitions DictFault} (Ok made) (Ok new)) ⊎
+      (◌≡◌ {A = Result Definitions DictFault} (Ok made) (Err NoMemory))
   only_at_ok made new d e = inl (ap Ok (one_definition text old made new d e))
 
   pub only_at_err : (f : DictFault) (new : Definitions) → (f ≡ NoMemory) ⊎ IsFirstFault text old f
       → Defines text old new
-      → (◌≡◌ {A = Result Definitions DictFault} (Err f) (Ok new)) ⊎ (◌≡◌ {A = Result Definitions DictFault} (Err f) (Err NoMemory))
+      → (◌≡◌ {A = Result Definitions DictFault} (Err f) (Ok new)) ⊎
+      (◌≡◌ {A = Result Definitions DictFault} (Err f) (Err NoMemory))
   only_at_err f new (inl e) d = inr (ap Err e)
   only_at_err f new (inr h) d = no_outcome text old new f d h
 
   pub refuses_at_ok : (made : Definitions) (f : DictFault) → Defines text old made → IsFirstFault text old f
-      → (◌≡◌ {A = Result Definitions DictFault} (Ok made) (Err f)) ⊎ (◌≡◌ {A = Result Definitions DictFault} (Ok made) (Err NoMemory))
+      → (◌≡◌ {A = Result Definitions DictFault} (Ok made) (Err f)) ⊎
+      (◌≡◌ {A = Result Definitions DictFault} (Ok made) (Err NoMemory))
   refuses_at_ok made f d h = no_outcome text old made f d h
 
   pub refuses_at_err : (g f : DictFault) → (g ≡ NoMemory) ⊎ IsFirstFault text old g → IsFirstFault text old f
-      → (◌≡◌ {A = Result Definitions DictFault} (Err g) (Err f)) ⊎ (◌≡◌ {A = Result Definitions DictFault} (Err g) (Err NoMemory))
+      → (◌≡◌ {A = Result Definitions DictFault} (Err g) (Err f)) ⊎
+      (◌≡◌ {A = Result Definitions DictFault} (Err g) (Err NoMemory))
   refuses_at_err g f (inl e) h = inr (ap Err e)
   refuses_at_err g f (inr k) h = inl (ap Err (one_fault text old g f k h))

@@ -50,4 +50,5 @@ pub one_headed : (commands : List CommandDef) (code : ℕ) (request err : Bool)
 one_headed commands code request err h =
     only_one is_sound_command (λ c. is_headed c.code c.request c.err) (is_headed code request err)
     (λ before c s. (command_parts before c s).new_head)
-    (λ a b e. head_laws.congr (code, request, err) (a.code, a.request, a.err) (b.code, b.request, b.err) e) [] commands h
+    (λ a b e. head_laws.congr (code, request, err) (a.code, a.request, a.err) (b.code, b.request, b.err) e) [] commands
+    h

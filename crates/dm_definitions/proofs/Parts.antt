@@ -37,7 +37,18 @@ avp_parts before d h =
     let (h3, code) = and_parts _ _ h4 in
     let (h2, new_name) = and_parts _ _ h3 in
     let (name, not_any) = and_parts _ _ h2 in
-    record { name = name; not_any = is_not _ not_any; new_name = is_not _ new_name; code = code; vendor = vendor; new_code = is_not _ new_code; rule = rule; kind = kind; list = list; listing = listing }
+    record {
+      name = name;
+      not_any = is_not _ not_any;
+      new_name = is_not _ new_name;
+      code = code;
+      vendor = vendor;
+      new_code = is_not _ new_code;
+      rule = rule;
+      kind = kind;
+      list = list;
+      listing = listing;
+    }
 
 pub record CommandParts (before : List CommandDef) (d : CommandDef) : Type 0 where
   pub name : is_proper_name d.name ≡ true
@@ -55,7 +66,14 @@ command_parts before d h =
     let (h3, new_head) = and_parts _ _ h4 in
     let (h2, code) = and_parts _ _ h3 in
     let (name, new_name) = and_parts _ _ h2 in
-    record { name = name; new_name = is_not _ new_name; code = code; new_head = is_not _ new_head; application = application; rule = rule }
+    record {
+      name = name;
+      new_name = is_not _ new_name;
+      code = code;
+      new_head = is_not _ new_head;
+      application = application;
+      rule = rule;
+    }
 
 pub record VendorParts (before : List VendorDef) (v : VendorDef) : Type 0 where
   pub name : is_proper_name v.name ≡ true

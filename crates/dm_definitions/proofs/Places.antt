@@ -15,15 +15,19 @@ member_behind (b ∷ before) d ds = member_behind before d ds
 module _ {D K : Type 0} (test : K → Bool) (key : D → K) where
   -- the member at the place of a key is the first that has it
   found_from : (before ds : List D)
-      → option_and_then (slice_get (before ++ ds)) (lookup test (places key (length before) ds)) ≡ find (λ d. test (key d)) ds
+      → option_and_then (slice_get (before ++ ds)) (lookup test (places key (length before) ds)) ≡
+      find (λ d. test (key d)) ds
   found_from before [] = refl
   found_from before (d ∷ ds) =
       by (test (key d))
       (rw (append_assoc before (d ∷ []) ds, length-append before (d ∷ [])) at (found_from (before ++ d ∷ []) ds))
     where
       by : (b : Bool)
-          → option_and_then (slice_get (before ++ d ∷ ds)) (lookup test (places key (length before + 1) ds)) ≡ find (λ e. test (key e)) ds
-          → option_and_then (slice_get (before ++ d ∷ ds)) (cond b (Some (length before)) (lookup test (places key (length before + 1) ds))) ≡ cond b (Some d) (find (λ e. test (key e)) ds)
+          → option_and_then (slice_get (before ++ d ∷ ds)) (lookup test (places key (length before + 1) ds)) ≡
+          find (λ e. test (key e)) ds
+          → option_and_then (slice_get (before ++ d ∷ ds))
+          (cond b (Some (length before)) (lookup test (places key (length before + 1) ds))) ≡
+          cond b (Some d) (find (λ e. test (key e)) ds)
       by true rest = member_behind before d ds
       by false rest = rest
 
@@ -73,7 +77,8 @@ on_both (Err e) f h g = tt
 
 -- what is put in, as the keys show it
 pub insert_shown : {A K X : Type 0} (same : K → K → Bool) (shown : A → K) (es : List (A × X)) (a : A) (v : X)
-    → map (λ e. (shown e.0, e.1)) (insert_entry (λ x y. same (shown x) (shown y)) es a v) ≡ insert_entry same (map (λ e. (shown e.0, e.1)) es) (shown a) v
+    → map (λ e. (shown e.0, e.1)) (insert_entry (λ x y. same (shown x) (shown y)) es a v) ≡
+    insert_entry same (map (λ e. (shown e.0, e.1)) es) (shown a) v
 insert_shown same shown [] a v = refl
 insert_shown {A} {K} {X} same shown (e ∷ es) a v = by (same (shown a) (shown e.0)) (insert_shown same shown es a v)
   where

@@ -74,15 +74,19 @@ entry_facts before e h =
 
 same_entry : (line : ℕ) (before : List Entry) (e : Entry) → EntryFacts before e → entry_of (written_entry line e) ≡ e
 same_entry line before e p =
-    λ i. record { form = e.form; name = e.name; min = value line e.min p.min i; max = max_value line e.min e.max p.bound i }
+    λ i. record
+    { form = e.form; name = e.name; min = value line e.min p.min i; max = max_value line e.min e.max p.bound i }
 
 no_entry_fault : (line : ℕ) (before : List Entry) (e : Entry) → EntryFacts before e
     → rule_entry_faults before (written_entry line e) ≡ []
 no_entry_fault line before e p =
     none_both (bound_faults (written_entry line e)) (place_faults before (written_entry line e))
-    (none_both (low_faults (Some (record { low = Some (number_word line e.min); high = written_option line e.max }))) (high_faults (number (number_word line e.min)) (Some (record { low = Some (number_word line e.min); high = written_option line e.max })))
+    (none_both (low_faults (Some (record { low = Some (number_word line e.min); high = written_option line e.max })))
+    (high_faults (number (number_word line e.min))
+    (Some (record { low = Some (number_word line e.min); high = written_option line e.max })))
     (no_range line e.min p.min)
-    (ap (λ min. above_faults min (written_option line e.max)) (value line e.min p.min) ∙ no_above line e.min e.max p.bound))
+    (ap (λ min. above_faults min (written_option line e.max)) (value line e.min p.min) ∙
+    no_above line e.min e.max p.bound))
     (none_both _ _ (no_fault _ _ p.once) (no_fault _ _ p.ordered))
 
 no_rule_fault : (line : ℕ) (before rule : List Entry) → each_after is_sound_entry before rule ≡ true
@@ -92,7 +96,8 @@ no_rule_fault line before (e ∷ rule) h =
     let (first, rest) = and_parts (is_sound_entry before e) (each_after is_sound_entry (before ++ e ∷ []) rule) h in
     let p = entry_facts before e first in
     none_both (rule_entry_faults before (written_entry line e)) _ (no_entry_fault line before e p)
-    (ap (λ x. faults_along rule_entry_faults with_entry (before ++ x ∷ []) (written_rule line rule)) (same_entry line before e p) ∙ no_rule_fault line (before ++ e ∷ []) rule rest)
+    (ap (λ x. faults_along rule_entry_faults with_entry (before ++ x ∷ []) (written_rule line rule))
+    (same_entry line before e p) ∙ no_rule_fault line (before ++ e ∷ []) rule rest)
 
 same_rule : (line : ℕ) (before rule : List Entry) → each_after is_sound_entry before rule ≡ true
     → map entry_of (written_rule line rule) ≡ rule
@@ -110,7 +115,8 @@ or_none a b e g = rw (e, g) refl
 no_name_fault : (line : ℕ) (d : Definitions) (a : AvpDef) → SoundAvp d.avps a
     → name_faults (made d) (word_of line a.name) ≡ []
 no_name_fault line d a p =
-    no_fault (is_any a.name || is_defined (made d) a.name) _ (or_none (is_any a.name) (list_any (is_named a.name) d.avps) p.not_any p.new_name)
+    no_fault (is_any a.name || is_defined (made d) a.name) _
+    (or_none (is_any a.name) (list_any (is_named a.name) d.avps) p.not_any p.new_name)
 
 vend_value : (line : ℕ) (vendors : List VendorDef) (o : Option ℕ) → fits_option o ≡ true
     → vendor_of vendors (written_vend line o) ≡ Some o
@@ -124,7 +130,8 @@ no_vend_range line (Some n) h = no_range line n h
 no_code_fault : (line : ℕ) (d : Definitions) (a : AvpDef) → SoundAvp d.avps a
     → code_faults d (number_word line a.code) (written_vend line a.vendor) ≡ []
 no_code_fault line d a p =
-    let same : is_taken d.avps (number (number_word line a.code)) (vendor_of d.vendors (written_vend line a.vendor)) ≡ false =
+    let same : is_taken d.avps (number (number_word line a.code)) (vendor_of d.vendors (written_vend line a.vendor)) ≡
+    false =
     (λ i. is_taken d.avps (value line a.code p.code i) (vend_value line d.vendors a.vendor p.vendor i)) ∙ p.new_code in
     none_both _ _ (none_both _ _ (no_range line a.code p.code) (no_fault _ _ same))
     (no_vend_range line a.vendor p.vendor)
@@ -166,7 +173,8 @@ no_list_fault line before [] h = refl
 no_list_fault line before (v ∷ vs) h =
     let (first, rest) = and_parts (is_sound_value before v) (each_after is_sound_value (before ++ v ∷ []) vs) h in
     none_both (value_faults before (written_value line v)) _ (no_value_fault line before v first)
-    (ap (λ x. faults_along value_faults with_value (before ++ x ∷ []) (written_list line vs)) (same_value line v (value_parts before v first).number) ∙ no_list_fault line (before ++ v ∷ []) vs rest)
+    (ap (λ x. faults_along value_faults with_value (before ++ x ∷ []) (written_list line vs))
+    (same_value line v (value_parts before v first).number) ∙ no_list_fault line (before ++ v ∷ []) vs rest)
 
 same_list : (line : ℕ) (before vs : List EnumValue) → each_after is_sound_value before vs ≡ true
     → map value_of (written_list line vs) ≡ vs
@@ -214,22 +222,50 @@ no_list : (kind : AvpType) (values : List EnumValue) → (is_enumerated kind || 
     → kind ≡ kinds.Grouped → values ≡ []
 no_list kind [] h g = refl
 no_list kind (v ∷ vs) h g =
-    let bad : (is_enumerated kinds.Grouped || false) ≡ true = subst (λ (k : AvpType). (is_enumerated k || false) ≡ true) g h in
+    let bad : (is_enumerated kinds.Grouped || false) ≡ true = subst (λ (k : AvpType). (is_enumerated k || false) ≡ true)
+    g h in
     absurd cc
 
 same_plain : (line : ℕ) (before : List AvpDef) (a : AvpDef) → SoundAvp before a → is_grouped a.kind ≡ false
-    → avp_def_of (record { name = word_of line a.name; code = number_word line a.code; kind = word_of line (type_name a.kind); vendor = written_vend line a.vendor; values = written_list line a.values }) a.vendor ≡ a
+    → avp_def_of
+    (record {
+      name = word_of line a.name;
+      code = number_word line a.code;
+      kind = word_of line (type_name a.kind);
+      vendor = written_vend line a.vendor;
+      values = written_list line a.values;
+    }) a.vendor ≡ a
 same_plain line before a p g =
     let kind : unwrap_or (kind_of (type_name a.kind)) kinds.OctetString ≡ a.kind = ap
     (λ o. unwrap_or o kinds.OctetString) (kind_value a.kind g) in
     let rule : a.rule ≡ [] = no_rule a.kind a.rule p.kind g in
-    λ i. record { name = a.name; code = value line a.code p.code i; vendor = a.vendor; kind = kind i; rule = sym rule i; values = same_list line [] a.values p.list i }
+    λ i. record {
+      name = a.name;
+      code = value line a.code p.code i;
+      vendor = a.vendor;
+      kind = kind i;
+      rule = sym rule i;
+      values = same_list line [] a.values p.list i;
+    }
 
 same_group : (line : ℕ) (before : List AvpDef) (a : AvpDef) → SoundAvp before a → is_grouped a.kind ≡ true
-    → group_def_of (record { name = word_of line a.name; code = number_word line a.code; vendor = written_vend line a.vendor; rule = written_rule line a.rule }) a.vendor ≡ a
+    → group_def_of
+    (record {
+      name = word_of line a.name;
+      code = number_word line a.code;
+      vendor = written_vend line a.vendor;
+      rule = written_rule line a.rule;
+    }) a.vendor ≡ a
 same_group line before a p g =
     let none : a.values ≡ [] = no_list a.kind a.values p.listing (grouped_kind a.kind g) in
-    λ i. record { name = a.name; code = value line a.code p.code i; vendor = a.vendor; kind = sym (grouped_kind a.kind g) i; rule = same_rule line [] a.rule p.rule i; values = sym none i }
+    λ i. record {
+      name = a.name;
+      code = value line a.code p.code i;
+      vendor = a.vendor;
+      kind = sym (grouped_kind a.kind g) i;
+      rule = same_rule line [] a.rule p.rule i;
+      values = sym none i;
+    }
 
 -- what an item adds, and that it has no fault
 pub record IsAdded (d : Definitions) (i : Written) (new : Definitions) : Type 0 where
@@ -249,15 +285,43 @@ avp_added line d a h =
     by (is_grouped a.kind) refl p heads
   where
     by : (b : Bool) → is_grouped a.kind ≡ b → SoundAvp d.avps a
-        → (name_faults (made d) (word_of line a.name) ++ code_faults d (number_word line a.code) (written_vend line a.vendor)) ≡ []
+        → (name_faults (made d) (word_of line a.name) ++
+        code_faults d (number_word line a.code) (written_vend line a.vendor)) ≡ []
         → IsAdded d (if b then written_group line a else written_plain line a) (with_one d a)
     by true g p heads = record {
-      faultless = none_both (name_faults (made d) (word_of line a.name) ++ code_faults d (number_word line a.code) (written_vend line a.vendor)) _ heads (no_rule_fault line [] a.rule p.rule);
-      added = ap (placed (made d) a.name (group_def_of (record { name = word_of line a.name; code = number_word line a.code; vendor = written_vend line a.vendor; rule = written_rule line a.rule }))) (vend_value line d.vendors a.vendor p.vendor) ∙ ap (λ x. made (with_one d x)) (same_group line d.avps a p g);
+      faultless =
+          none_both
+          (name_faults (made d) (word_of line a.name) ++
+          code_faults d (number_word line a.code) (written_vend line a.vendor)) _ heads
+          (no_rule_fault line [] a.rule p.rule);
+      added = ap
+          (placed (made d) a.name
+          (group_def_of
+          (record {
+            name = word_of line a.name;
+            code = number_word line a.code;
+            vendor = written_vend line a.vendor;
+            rule = written_rule line a.rule;
+          }))) (vend_value line d.vendors a.vendor p.vendor) ∙
+          ap (λ x. made (with_one d x)) (same_group line d.avps a p g);
     }
     by false g p heads = record {
-      faultless = none_both (name_faults (made d) (word_of line a.name) ++ code_faults d (number_word line a.code) (written_vend line a.vendor)) _ heads (no_list_fault line [] a.values p.list);
-      added = ap (placed (made d) a.name (avp_def_of (record { name = word_of line a.name; code = number_word line a.code; kind = word_of line (type_name a.kind); vendor = written_vend line a.vendor; values = written_list line a.values }))) (vend_value line d.vendors a.vendor p.vendor) ∙ ap (λ x. made (with_one d x)) (same_plain line d.avps a p g);
+      faultless =
+          none_both
+          (name_faults (made d) (word_of line a.name) ++
+          code_faults d (number_word line a.code) (written_vend line a.vendor)) _ heads
+          (no_list_fault line [] a.values p.list);
+      added = ap
+          (placed (made d) a.name
+          (avp_def_of
+          (record {
+            name = word_of line a.name;
+            code = number_word line a.code;
+            kind = word_of line (type_name a.kind);
+            vendor = written_vend line a.vendor;
+            values = written_list line a.values;
+          })))
+          (vend_value line d.vendors a.vendor p.vendor) ∙ ap (λ x. made (with_one d x)) (same_plain line d.avps a p g);
     }
 
 abbrev pub with_one_vendor : Definitions → VendorDef → Definitions
@@ -270,7 +334,10 @@ vendor_added line d v h =
     let same : list_any (has_vendor_number (number (number_word line v.number))) d.vendors ≡ false = ap
     (λ n. list_any (has_vendor_number n) d.vendors) (value line v.number p.number) ∙ p.new_number in
     record {
-      faultless = none_both _ _ (none_both _ _ (no_fault (list_any (is_vendor v.name) d.vendors) _ p.new_name) (no_range line v.number p.number)) (no_fault _ _ same);
+      faultless =
+          none_both _ _
+          (none_both _ _ (no_fault (list_any (is_vendor v.name) d.vendors) _ p.new_name)
+          (no_range line v.number p.number)) (no_fault _ _ same);
       added = λ i. made (with_one_vendor d (record { name = v.name; number = value line v.number p.number i }));
     }
 
@@ -291,10 +358,21 @@ command_added line d c h =
     record {
       faultless =
           none_both _ (rule_faults (written_rule line c.rule))
-          (none_both (title_faults d.commands (word_of line c.name)) _ (no_fault (list_any (is_titled c.name) d.commands) _ p.new_name)
+          (none_both (title_faults d.commands (word_of line c.name)) _
+          (no_fault (list_any (is_titled c.name) d.commands) _ p.new_name)
           (none_both _ _ (none_both _ _ in_range (no_fault _ _ same)) (no_range line c.application p.application)))
           (no_rule_fault line [] c.rule p.rule);
-      added = λ i. made (with_one_command d (record { name = c.name; code = code i; request = c.request; proxiable = c.proxiable; err = c.err; application = application i; rule = same_rule line [] c.rule p.rule i }));
+      added = λ i. made
+          (with_one_command d
+          (record {
+            name = c.name;
+            code = code i;
+            request = c.request;
+            proxiable = c.proxiable;
+            err = c.err;
+            application = application i;
+            rule = same_rule line [] c.rule p.rule i;
+          }));
     }
 
 -- the items define the definitions behind those of d, without fault
@@ -305,7 +383,8 @@ pub record AreAdded (d : Definitions) (items : List Written) (new : Definitions)
 one_more : (d mid new : Definitions) (i : Written) (items : List Written) → IsAdded d i mid → AreAdded mid items new
     → AreAdded d (i ∷ items) new
 one_more d mid new i items first rest = record {
-  faultless = none_both (item_faults (made d) i) _ (first.faultless) (ap (λ x. items_faults x items) (first.added) ∙ rest.faultless);
+  faultless = none_both (item_faults (made d) i) _ (first.faultless)
+      (ap (λ x. items_faults x items) (first.added) ∙ rest.faultless);
   added = ap (λ x. with_items x items) (first.added) ∙ rest.added;
 }
 
@@ -318,34 +397,60 @@ commands_added line d (c ∷ commands) h =
     let (first, rest) = and_parts (is_sound_command d.commands c)
     (each_after is_sound_command (d.commands ++ c ∷ []) commands) h in
     let behind = commands_added (line + 1) (with_one_command d c) commands rest in
-    let end : record d { commands = d.commands ++ c ∷ [] ++ commands } ≡ record d { commands = d.commands ++ c ∷ commands } = λ i. record d { commands = append_assoc d.commands (c ∷ []) commands i } in
+    let end : record d { commands = d.commands ++ c ∷ [] ++ commands } ≡
+    record d { commands = d.commands ++ c ∷ commands } = λ i. record d
+    { commands = append_assoc d.commands (c ∷ []) commands i } in
     subst (λ (x : Definitions). AreAdded d (written_command line c ∷ written_commands commands (line + 1)) x) end
     (one_more d (with_one_command d c) _ (written_command line c) _ (command_added line d c first) behind)
 
 avps_added : (line : ℕ) (d : Definitions) (avps : List AvpDef) (commands : List CommandDef)
     → each_after is_sound_avp d.avps avps ≡ true → each_after is_sound_command d.commands commands ≡ true
-    → AreAdded d (written_avps line avps (written_commands commands)) (record d { avps = d.avps ++ avps; commands = d.commands ++ commands })
+    → AreAdded d (written_avps line avps (written_commands commands))
+    (record d { avps = d.avps ++ avps; commands = d.commands ++ commands })
 avps_added line d [] commands h g =
-    let end : record d { commands = d.commands ++ commands } ≡ record d { avps = d.avps ++ []; commands = d.commands ++ commands } = λ i. record d { avps = sym (append-nil d.avps) i; commands = d.commands ++ commands } in
+    let end : record d { commands = d.commands ++ commands } ≡
+    record d { avps = d.avps ++ []; commands = d.commands ++ commands } = λ i. record d
+    { avps = sym (append-nil d.avps) i; commands = d.commands ++ commands } in
     subst (λ (x : Definitions). AreAdded d (written_commands commands line) x) end (commands_added line d commands g)
 avps_added line d (a ∷ avps) commands h g =
     let (first, rest) = and_parts (is_sound_avp d.avps a) (each_after is_sound_avp (d.avps ++ a ∷ []) avps) h in
     let behind = avps_added (line + 1) (with_one d a) avps commands rest g in
-    let end : record d { avps = d.avps ++ a ∷ [] ++ avps; commands = d.commands ++ commands } ≡ record d { avps = d.avps ++ a ∷ avps; commands = d.commands ++ commands } = λ i. record d { avps = append_assoc d.avps (a ∷ []) avps i; commands = d.commands ++ commands } in
-    subst (λ (x : Definitions). AreAdded d (written_avp line a ∷ written_avps (line + 1) avps (written_commands commands)) x) end (one_more d (with_one d a) _ (written_avp line a) _ (avp_added line d a first) behind)
+    let end : record d { avps = d.avps ++ a ∷ [] ++ avps; commands = d.commands ++ commands } ≡
+    record d { avps = d.avps ++ a ∷ avps; commands = d.commands ++ commands } = λ i. record d
+    { avps = append_assoc d.avps (a ∷ []) avps i; commands = d.commands ++ commands } in
+    subst (λ (x : Definitions). AreAdded d
+    (written_avp line a ∷ written_avps (line + 1) avps (written_commands commands)) x) end
+    (one_more d (with_one d a) _ (written_avp line a) _ (avp_added line d a first) behind)
 
-vendors_added : (line : ℕ) (d : Definitions) (vendors : List VendorDef) (avps : List AvpDef) (commands : List CommandDef)
+vendors_added : (line : ℕ) (d : Definitions) (vendors : List VendorDef) (avps : List AvpDef)
+    (commands : List CommandDef)
     → each_after is_sound_vendor d.vendors vendors ≡ true → each_after is_sound_avp d.avps avps ≡ true
     → each_after is_sound_command d.commands commands ≡ true
-    → AreAdded d (written_vendors line vendors (λ n. written_avps n avps (written_commands commands))) (record { vendors = d.vendors ++ vendors; avps = d.avps ++ avps; commands = d.commands ++ commands })
+    → AreAdded d (written_vendors line vendors (λ n. written_avps n avps (written_commands commands)))
+    (record { vendors = d.vendors ++ vendors; avps = d.avps ++ avps; commands = d.commands ++ commands })
 vendors_added line d [] avps commands f h g =
-    let end : record d { avps = d.avps ++ avps; commands = d.commands ++ commands } ≡ record { vendors = d.vendors ++ []; avps = d.avps ++ avps; commands = d.commands ++ commands } = λ i. record { vendors = sym (append-nil d.vendors) i; avps = d.avps ++ avps; commands = d.commands ++ commands } in
-    subst (λ (x : Definitions). AreAdded d (written_avps line avps (written_commands commands)) x) end (avps_added line d avps commands h g)
+    let end : record d { avps = d.avps ++ avps; commands = d.commands ++ commands } ≡
+    record { vendors = d.vendors ++ []; avps = d.avps ++ avps; commands = d.commands ++ commands } = λ i. record
+    { vendors = sym (append-nil d.vendors) i; avps = d.avps ++ avps; commands = d.commands ++ commands } in
+    subst (λ (x : Definitions). AreAdded d (written_avps line avps (written_commands commands)) x) end
+    (avps_added line d avps commands h g)
 vendors_added line d (v ∷ vendors) avps commands f h g =
-    let (first, rest) = and_parts (is_sound_vendor d.vendors v) (each_after is_sound_vendor (d.vendors ++ v ∷ []) vendors) f in
+    let (first, rest) =
+    and_parts (is_sound_vendor d.vendors v) (each_after is_sound_vendor (d.vendors ++ v ∷ []) vendors) f in
     let behind = vendors_added (line + 1) (with_one_vendor d v) vendors avps commands rest h g in
-    let end : record { vendors = d.vendors ++ v ∷ [] ++ vendors; avps = d.avps ++ avps; commands = d.commands ++ commands } ≡ record { vendors = d.vendors ++ v ∷ vendors; avps = d.avps ++ avps; commands = d.commands ++ commands } = λ i. record { vendors = append_assoc d.vendors (v ∷ []) vendors i; avps = d.avps ++ avps; commands = d.commands ++ commands } in
-    subst (λ (x : Definitions). AreAdded d (written_vendor line v ∷ written_vendors (line + 1) vendors (λ n. written_avps n avps (written_commands commands))) x) end (one_more d (with_one_vendor d v) _ (written_vendor line v) _ (vendor_added line d v first) behind)
+    let end : record
+    { vendors = d.vendors ++ v ∷ [] ++ vendors; avps = d.avps ++ avps; commands = d.commands ++ commands } ≡
+    record { vendors = d.vendors ++ v ∷ vendors; avps = d.avps ++ avps; commands = d.commands ++ commands } = λ i.
+    record {
+      vendors = append_assoc d.vendors (v ∷ []) vendors i;
+      avps = d.avps ++ avps;
+      commands = d.commands ++
+          commands;
+    } in
+    subst (λ (x : Definitions). AreAdded d
+    (written_vendor line v ∷ written_vendors (line + 1) vendors
+    (λ n. written_avps n avps (written_commands commands))) x) end
+    (one_more d (with_one_vendor d v) _ (written_vendor line v) _ (vendor_added line d v first) behind)
 
 pub all_added : (line : ℕ) (d : Definitions) → each_after is_sound_vendor [] d.vendors ≡ true
     → each_after is_sound_avp [] d.avps ≡ true → each_after is_sound_command [] d.commands ≡ true
@@ -363,7 +468,8 @@ no_unknown_rule : (line : ℕ) (d : Definitions) (rule : List Entry) → knows_r
 no_unknown_rule line d [] h = refl
 no_unknown_rule line d (e ∷ rule) h =
     let (first, rest) = and_parts (is_known d.avps e) (knows_rule d.avps rule) h in
-    let here : (is_any e.name || is_defined (made d) e.name) ≡ true = known_still (is_any e.name) (list_any (is_named e.name) d.avps) first in
+    let here : (is_any e.name || is_defined (made d) e.name) ≡
+    true = known_still (is_any e.name) (list_any (is_named e.name) d.avps) first in
     none_both (entry_unknown (made d) (written_entry line e)) _ (rw here refl) (no_unknown_rule line d rule rest)
 
 no_vend_unknown : (line : ℕ) (vendors : List VendorDef) (o : Option ℕ) → vend_unknown vendors (written_vend line o) ≡ []
@@ -376,8 +482,11 @@ no_unknown_avp line d vendors a h = by (is_grouped a.kind) refl
   where
     by : (b : Bool) → is_grouped a.kind ≡ b
         → unknown (made d) vendors (if b then written_group line a else written_plain line a) ≡ []
-    by true g = none_both (vend_unknown vendors (written_vend line a.vendor)) _ (no_vend_unknown line vendors a.vendor) (no_unknown_rule line d a.rule h)
-    by false g = none_both (kind_unknown (word_of line (type_name a.kind))) _ (ap (λ (o : Option AvpType). fault_if (not (is_some o)) (UnknownName line)) (kind_value a.kind g)) (no_vend_unknown line vendors a.vendor)
+    by true g = none_both (vend_unknown vendors (written_vend line a.vendor)) _ (no_vend_unknown line vendors a.vendor)
+        (no_unknown_rule line d a.rule h)
+    by false g = none_both (kind_unknown (word_of line (type_name a.kind))) _
+        (ap (λ (o : Option AvpType). fault_if (not (is_some o)) (UnknownName line)) (kind_value a.kind g))
+        (no_vend_unknown line vendors a.vendor)
 
 no_unknown_commands : (line : ℕ) (d : Definitions) (vendors : List VendorDef) (commands : List CommandDef)
     → list_all (λ c. knows_rule d.avps c.rule) commands ≡ true
@@ -395,9 +504,11 @@ no_unknown_avps line d vendors [] h g = no_unknown_commands line d vendors d.com
 no_unknown_avps line d vendors (a ∷ avps) h g =
     let (first, rest) = and_parts (knows_rule d.avps a.rule) (list_all (λ x. knows_rule d.avps x.rule) avps) h in
     none_both (unknown (made d) vendors (written_avp line a)) _ (no_unknown_avp line d vendors a first)
-    (ap (λ vs. items_unknown (made d) vs (written_avps (line + 1) avps (written_commands d.commands))) (same_vendors line vendors a) ∙ no_unknown_avps (line + 1) d vendors avps rest g)
+    (ap (λ vs. items_unknown (made d) vs (written_avps (line + 1) avps (written_commands d.commands)))
+    (same_vendors line vendors a) ∙ no_unknown_avps (line + 1) d vendors avps rest g)
   where
-    same_vendors : (line : ℕ) (vendors : List VendorDef) (a : AvpDef) → vendors_with vendors (written_avp line a) ≡ vendors
+    same_vendors : (line : ℕ) (vendors : List VendorDef) (a : AvpDef) →
+        vendors_with vendors (written_avp line a) ≡ vendors
     same_vendors line vendors a = by (is_grouped a.kind)
       where
         by : (b : Bool) → vendors_with vendors (if b then written_group line a else written_plain line a) ≡ vendors
@@ -405,8 +516,10 @@ no_unknown_avps line d vendors (a ∷ avps) h g =
         by false = refl
 
 no_unknown_vendors : (line : ℕ) (d : Definitions) (before vendors : List VendorDef)
-    → list_all (λ a. knows_rule d.avps a.rule) d.avps ≡ true → list_all (λ c. knows_rule d.avps c.rule) d.commands ≡ true
-    → items_unknown (made d) before (written_vendors line vendors (λ n. written_avps n d.avps (written_commands d.commands))) ≡ []
+    → list_all (λ a. knows_rule d.avps a.rule) d.avps ≡ true →
+    list_all (λ c. knows_rule d.avps c.rule) d.commands ≡ true
+    → items_unknown (made d) before
+    (written_vendors line vendors (λ n. written_avps n d.avps (written_commands d.commands))) ≡ []
 no_unknown_vendors line d before [] h g = no_unknown_avps line d before d.avps h g
 no_unknown_vendors line d before (v ∷ vendors) h g =
     no_unknown_vendors (line + 1) d (vendors_with before (written_vendor line v)) vendors h g

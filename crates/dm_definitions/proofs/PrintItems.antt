@@ -44,7 +44,11 @@ written_vend line (Some n) = Some (NumberedBy (number_word line n))
 
 abbrev pub written_entry : ℕ → Entry → written.Entry
 written_entry line e =
-    record { form = e.form; name = word_of line e.name; qualifier = Some (record { low = Some (number_word line e.min); high = written_option line e.max }) }
+    record {
+      form = e.form;
+      name = word_of line e.name;
+      qualifier = Some (record { low = Some (number_word line e.min); high = written_option line e.max });
+    }
 
 abbrev pub written_rule : ℕ → List Entry → List written.Entry
 written_rule line rule = map (written_entry line) rule
@@ -57,18 +61,38 @@ written_list line values = map (written_value line) values
 
 abbrev pub written_plain : ℕ → AvpDef → Written
 written_plain line a =
-    AvpIs (record { name = word_of line a.name; code = number_word line a.code; kind = word_of line (type_name a.kind); vendor = written_vend line a.vendor; values = written_list line a.values })
+    AvpIs (record {
+      name = word_of line a.name;
+      code = number_word line a.code;
+      kind = word_of line (type_name a.kind);
+      vendor = written_vend line a.vendor;
+      values = written_list line a.values;
+    })
 
 abbrev pub written_group : ℕ → AvpDef → Written
 written_group line a =
-    GroupIs (record { name = word_of line a.name; code = number_word line a.code; vendor = written_vend line a.vendor; rule = written_rule line a.rule })
+    GroupIs (record {
+      name = word_of line a.name;
+      code = number_word line a.code;
+      vendor = written_vend line a.vendor;
+      rule = written_rule line a.rule;
+    })
 
 abbrev pub written_avp : ℕ → AvpDef → Written
 written_avp line a = if is_grouped a.kind then written_group line a else written_plain line a
 
 abbrev pub written_command : ℕ → CommandDef → Written
 written_command line c =
-    CommandIs (record { name = word_of line c.name; code = number_word line c.code; request = c.request; proxiable = c.proxiable; error = c.err; application = Some (number_word line c.application); rule = written_rule line c.rule })
+    CommandIs
+    (record {
+      name = word_of line c.name;
+      code = number_word line c.code;
+      request = c.request;
+      proxiable = c.proxiable;
+      error = c.err;
+      application = Some (number_word line c.application);
+      rule = written_rule line c.rule;
+    })
 
 abbrev pub written_vendor : ℕ → VendorDef → Written
 written_vendor line v = VendorIs (record { name = word_of line v.name; number = number_word line v.number })
@@ -174,7 +198,8 @@ module _ (names : (w : List ℕ) → is_number w ≡ false → grammar.is_name (
           (
             refl,
             number_may line e.max _ (Spells (spelling.bracketed e.form (word_of line e.name)) Rest)
-                (bracketed line e.form e.name _ Rest (entry_parts before e first).name (entries line (before ++ e ∷ []) rule ws Behind rest b)),
+                (bracketed line e.form e.name _ Rest (entry_parts before e first).name
+                (entries line (before ++ e ∷ []) rule ws Behind rest b)),
           ),
         ),
       )
@@ -184,8 +209,13 @@ module _ (names : (w : List ℕ) → is_number w ≡ false → grammar.is_name (
       → Spells (spelling.more_values (written_list line values)) Behind (more_words line values ws)
   value_more line before [] ws Behind h b = b
   value_more line before (v ∷ values) ws Behind h b =
-      let (first, rest) = and_parts (is_sound_value before v) (each_after is_sound_value (before ++ v ∷ []) values) h in
-      (refl, (named v.name (value_parts before v first).name, (refl, (refl, (refl, value_more line (before ++ v ∷ []) values ws Behind rest b)))))
+      let (first, rest) = and_parts (is_sound_value before v) (each_after is_sound_value (before ++ v ∷ []) values) h in (
+        refl,
+        (
+          named v.name (value_parts before v first).name,
+          (refl, (refl, (refl, value_more line (before ++ v ∷ []) values ws Behind rest b))),
+        ),
+      )
 
   vend_may : (v : Version) (line : ℕ) (n : Option ℕ) (ws : List Word) (Behind : List Word → Type 0) → Behind ws
       → Spells (spelling.vend_may v (written_vend line n)) Behind (option_words line n ws)
@@ -198,10 +228,19 @@ module _ (names : (w : List ℕ) → is_number w ≡ false → grammar.is_name (
   group_vendor v line (Some n) ws Behind b = inr (refl, (refl, b))
 
   -- the type of an AVP, its vendor and its list
-  type_of : (v : Version) (line : ℕ) (name : List ℕ) (code : ℕ) (kind : AvpType) (vendor : Option ℕ) (values : List EnumValue) (ws : List Word)
+  type_of : (v : Version) (line : ℕ) (name : List ℕ) (code : ℕ) (kind : AvpType) (vendor : Option ℕ)
+      (values : List EnumValue) (ws : List Word)
       (Behind : List Word → Type 0) → is_sound_list values ≡ true → (is_enumerated kind || is_empty_list values) ≡ true
       → may_list v values ≡ true → Behind ws
-      → Spells (spelling.type_of v (record { name = word_of line name; code = number_word line code; kind = word_of line (type_name kind); vendor = written_vend line vendor; values = written_list line values })) Behind (word_of line (type_name kind) ∷ option_words line vendor (list_words line values ws))
+      → Spells (spelling.type_of v
+      (record {
+        name = word_of line name;
+        code = number_word line code;
+        kind = word_of line (type_name kind);
+        vendor = written_vend line vendor;
+        values = written_list line values;
+      })) Behind
+      (word_of line (type_name kind) ∷ option_words line vendor (list_words line values ws))
   type_of v line name code kind vendor [] ws Behind sound listing may b =
       (type_symbol kind, (refl, vend_may v line vendor ws Behind b))
   type_of First line name code kind vendor (x ∷ values) ws Behind sound listing may b = absurd cc
@@ -211,22 +250,23 @@ module _ (names : (w : List ℕ) → is_number w ≡ false → grammar.is_name (
         enumerated_symbol kind (is_listing (is_enumerated kind) listing),
         (
           refl,
-          vend_may Second line vendor _ (Spells (spelling.list (written_value line x) (written_list line values)) Behind) (
-            refl,
-            (
-              named x.name (value_parts [] x first).name,
-              (
+          vend_may Second line vendor _
+              (Spells (spelling.list (written_value line x) (written_list line values)) Behind) (
                 refl,
                 (
-                  refl,
+                  named x.name (value_parts [] x first).name,
                   (
                     refl,
-                    value_more line (x ∷ []) values _ (Spells (Mark symbols.CloseBrace) Behind) rest (refl, b),
+                    (
+                      refl,
+                      (
+                        refl,
+                        value_more line (x ∷ []) values _ (Spells (Mark symbols.CloseBrace) Behind) rest (refl, b),
+                      ),
+                    ),
                   ),
                 ),
               ),
-            ),
-          ),
         ),
       )
 
@@ -234,8 +274,13 @@ module _ (names : (w : List ℕ) → is_number w ≡ false → grammar.is_name (
       → is_proper_name a.name ≡ true → is_sound_list a.values ≡ true
       → (is_enumerated a.kind || is_empty_list a.values) ≡ true → may_list v a.values ≡ true → Behind ws
       → Spells (spelling.item v (written_plain line a)) Behind (plain_words line a ws)
-  plain v line a ws Behind h sound listing may b =
-      (refl, (named a.name h, (refl, (refl, (refl, type_of v line a.name a.code a.kind a.vendor a.values ws Behind sound listing may b)))))
+  plain v line a ws Behind h sound listing may b = (
+    refl,
+    (
+      named a.name h,
+      (refl, (refl, (refl, type_of v line a.name a.code a.kind a.vendor a.values ws Behind sound listing may b))),
+    ),
+  )
 
   group : (v : Version) (line : ℕ) (a : AvpDef) (ws : List Word) (Behind : List Word → Type 0)
       → is_proper_name a.name ≡ true → is_sound_rule a.rule ≡ true → Behind ws
@@ -263,7 +308,8 @@ module _ (names : (w : List ℕ) → is_number w ≡ false → grammar.is_name (
                           refl,
                           (
                             refl,
-                            group_vendor v line a.vendor _ (Spells (Mark symbols.Greater then spelling.entries (written_rule line a.rule)) Behind)
+                            group_vendor v line a.vendor _
+                                (Spells (Mark symbols.Greater then spelling.entries (written_rule line a.rule)) Behind)
                                 (refl, entries line [] a.rule ws Behind sound b),
                           ),
                         ),
@@ -323,7 +369,9 @@ module _ (names : (w : List ℕ) → is_number w ≡ false → grammar.is_name (
                           (
                             refl,
                             flag_req line c.request _ Proxy
-                                (flag_pxy line c.proxiable _ Error (flag_err line c.err _ Second (inr (refl, (refl, (refl, entries line [] c.rule ws Behind sound b)))))),
+                                (flag_pxy line c.proxiable _ Error
+                                (flag_err line c.err _ Second
+                                (inr (refl, (refl, (refl, entries line [] c.rule ws Behind sound b)))))),
                           ),
                         ),
                       ),
@@ -346,7 +394,8 @@ module _ (names : (w : List ℕ) → is_number w ≡ false → grammar.is_name (
     where
       by : (g : Bool) → Spells (spelling.item v (written_group line a)) Behind (group_words line a ws)
           → Spells (spelling.item v (written_plain line a)) Behind (plain_words line a ws)
-          → Spells (spelling.item v (if g then written_group line a else written_plain line a)) Behind (if g then group_words line a ws else plain_words line a ws)
+          → Spells (spelling.item v (if g then written_group line a else written_plain line a)) Behind
+          (if g then group_words line a ws else plain_words line a ws)
       by true e f = e
       by false e f = f
 
@@ -362,18 +411,21 @@ module _ (names : (w : List ℕ) → is_number w ≡ false → grammar.is_name (
   avps : (v : Version) (line : ℕ) (before ds : List AvpDef) (cs : List CommandDef)
       → each_after is_sound_avp before ds ≡ true → list_all (λ a. may_list v a.values) ds ≡ true
       → each_after is_sound_command [] cs ≡ true
-      → Spells (spelling.items v (written_avps line ds (written_commands cs))) Ends (avps_words line ds (commands_words cs))
+      → Spells (spelling.items v (written_avps line ds (written_commands cs))) Ends
+      (avps_words line ds (commands_words cs))
   avps v line before [] cs h may k = commands v line [] cs k
   avps v line before (a ∷ ds) cs h may k =
       let (first, rest) = and_parts (is_sound_avp before a) (each_after is_sound_avp (before ++ a ∷ []) ds) h in
       let (one, others) = and_parts (may_list v a.values) (list_all (λ x. may_list v x.values) ds) may in
-      avp v line before a _ (Spells (spelling.items v (written_avps (line + 1) ds (written_commands cs))) Ends) first one
+      avp v line before a _ (Spells (spelling.items v (written_avps (line + 1) ds (written_commands cs))) Ends) first
+      one
       (avps v (line + 1) (before ++ a ∷ []) ds cs rest others k)
 
   vendors : (line : ℕ) (before vs : List VendorDef) (ds : List AvpDef) (cs : List CommandDef)
       → each_after is_sound_vendor before vs ≡ true → each_after is_sound_avp [] ds ≡ true
       → list_all (λ a. may_list Second a.values) ds ≡ true → each_after is_sound_command [] cs ≡ true
-      → Spells (spelling.items Second (written_vendors line vs (λ n. written_avps n ds (written_commands cs)))) Ends (vendors_words line vs (λ n. avps_words n ds (commands_words cs)))
+      → Spells (spelling.items Second (written_vendors line vs (λ n. written_avps n ds (written_commands cs)))) Ends
+      (vendors_words line vs (λ n. avps_words n ds (commands_words cs)))
   vendors line before [] ds cs g h may k = avps Second line [] ds cs h may k
   vendors line before (v ∷ vs) ds cs g h may k =
       let (first, rest) = and_parts (is_sound_vendor before v) (each_after is_sound_vendor (before ++ v ∷ []) vs) g in (

@@ -54,13 +54,16 @@ list_then [] s = s
 list_then (v ∷ vs) s = 32 ∷ 123 ∷ value_then v (more_then vs (32 ∷ 125 ∷ s))
 
 abbrev pub plain_then : AvpDef → List ℕ → List ℕ
-plain_then a s = 64 ∷ 32 ∷ (a.name ++ number_then a.code (32 ∷ (type_name a.kind ++ option_then a.vendor (list_then a.values (10 ∷ s)))))
+plain_then a s =
+    64 ∷ 32 ∷
+    (a.name ++ number_then a.code (32 ∷ (type_name a.kind ++ option_then a.vendor (list_then a.values (10 ∷ s)))))
 
 abbrev pub vendor_then : VendorDef → List ℕ → List ℕ
 vendor_then v s = 64 ∷ 32 ∷ (codes "vendor" ++ 32 ∷ (v.name ++ number_then v.number (10 ∷ s)))
 
 abbrev pub group_then : AvpDef → List ℕ → List ℕ
-group_then a s = title_then a.name (codes "AVP Header:" ++ number_then a.code (option_then a.vendor (end_then a.rule s)))
+group_then a s =
+    title_then a.name (codes "AVP Header:" ++ number_then a.code (option_then a.vendor (end_then a.rule s)))
 
 abbrev pub avp_then : AvpDef → List ℕ → List ℕ
 avp_then a s = if is_grouped a.kind then group_then a s else plain_then a s
@@ -69,10 +72,13 @@ abbrev pub flag_then : Bool → List ℕ → List ℕ → List ℕ
 flag_then flag word s = if flag then word ++ s else s
 
 abbrev pub flags_then : CommandDef → List ℕ → List ℕ
-flags_then c s = flag_then c.request (codes ", REQ") (flag_then c.proxiable (codes ", PXY") (flag_then c.err (codes ", ERR") s))
+flags_then c s =
+    flag_then c.request (codes ", REQ") (flag_then c.proxiable (codes ", PXY") (flag_then c.err (codes ", ERR") s))
 
 abbrev pub command_then : CommandDef → List ℕ → List ℕ
-command_then c s = title_then c.name (codes "Diameter Header:" ++ number_then c.code (flags_then c (number_then c.application (end_then c.rule s))))
+command_then c s =
+    title_then c.name
+    (codes "Diameter Header:" ++ number_then c.code (flags_then c (number_then c.application (end_then c.rule s))))
 
 abbrev pub avps_then : List AvpDef → List ℕ → List ℕ
 avps_then [] s = s
@@ -169,7 +175,8 @@ vendor-then v s = four (codes "@ vendor ") v.name (spaced_number v.number) line_
 vendors-then : (vendors : List VendorDef) (s : List ℕ) → flat_map vendor_line vendors ++ s ≡ vendors_then vendors s
 vendors-then [] s = refl
 vendors-then (v ∷ vendors) s =
-    append_assoc (vendor_line v) (flat_map vendor_line vendors) s ∙ ap (λ t. vendor_line v ++ t) (vendors-then vendors s)
+    append_assoc (vendor_line v) (flat_map vendor_line vendors) s ∙
+    ap (λ t. vendor_line v ++ t) (vendors-then vendors s)
     ∙ vendor-then v (vendors_then vendors s)
 
 version-then : (first : Bool) (s : List ℕ)
@@ -182,7 +189,8 @@ group-then a s =
     four (codes "< ") a.name (group_head a) (rule_end a.rule) s
     ∙ ap (λ t. 60 ∷ 32 ∷ (a.name ++ t))
     (three (codes " > ::= < AVP Header:") (spaced_number a.code) (spaced_option a.vendor) (rule_end a.rule ++ s)
-    ∙ ap (λ t. codes " > ::= < AVP Header:" ++ number_then a.code t) (option-then a.vendor (rule_end a.rule ++ s) ∙ ap (option_then a.vendor) (end-then a.rule s)))
+    ∙ ap (λ t. codes " > ::= < AVP Header:" ++ number_then a.code t)
+    (option-then a.vendor (rule_end a.rule ++ s) ∙ ap (option_then a.vendor) (end-then a.rule s)))
 
 by_kind : (b : Bool) (x y s : List ℕ) → (if b then x else y) ++ s ≡ (if b then x ++ s else y ++ s)
 by_kind true x y s = refl
@@ -195,16 +203,22 @@ avp-then a s =
 
 flags-then : (c : CommandDef) (s : List ℕ) → flags_text c ++ s ≡ flags_then c s
 flags-then c s =
-    three (flag_text c.request (codes ", REQ")) (flag_text c.proxiable (codes ", PXY")) (flag_text c.err (codes ", ERR")) s
+    three (flag_text c.request (codes ", REQ")) (flag_text c.proxiable (codes ", PXY"))
+    (flag_text c.err (codes ", ERR")) s
     ∙ flag-then c.request (codes ", REQ") _
-    ∙ ap (flag_then c.request (codes ", REQ")) (flag-then c.proxiable (codes ", PXY") _ ∙ ap (flag_then c.proxiable (codes ", PXY")) (flag-then c.err (codes ", ERR") s))
+    ∙ ap (flag_then c.request (codes ", REQ"))
+    (flag-then c.proxiable (codes ", PXY") _ ∙
+    ap (flag_then c.proxiable (codes ", PXY")) (flag-then c.err (codes ", ERR") s))
 
 command-then : (c : CommandDef) (s : List ℕ) → command_line c ++ s ≡ command_then c s
 command-then c s =
     four (codes "< ") c.name (command_head c) (rule_end c.rule) s
     ∙ ap (λ t. 60 ∷ 32 ∷ (c.name ++ t))
-    (four (codes " > ::= < Diameter Header:") (spaced_number c.code) (flags_text c) (spaced_number c.application) (rule_end c.rule ++ s)
-    ∙ ap (λ t. codes " > ::= < Diameter Header:" ++ number_then c.code t) (flags-then c (spaced_number c.application ++ (rule_end c.rule ++ s)) ∙ ap (λ t. flags_then c (number_then c.application t)) (end-then c.rule s)))
+    (four (codes " > ::= < Diameter Header:") (spaced_number c.code) (flags_text c) (spaced_number c.application)
+    (rule_end c.rule ++ s)
+    ∙ ap (λ t. codes " > ::= < Diameter Header:" ++ number_then c.code t)
+    (flags-then c (spaced_number c.application ++ (rule_end c.rule ++ s)) ∙
+    ap (λ t. flags_then c (number_then c.application t)) (end-then c.rule s)))
 
 avps-then : (avps : List AvpDef) (s : List ℕ) → flat_map avp_line avps ++ s ≡ avps_then avps s
 avps-then [] s = refl
@@ -218,9 +232,11 @@ commands-then (c ∷ commands) =
     ap (λ t. command_line c ++ t) (commands-then commands) ∙ command-then c (commands_then commands)
 
 pub printed-then : (d : Definitions)
-    → printed d ≡ version_then (is_first_version d) (vendors_then d.vendors (avps_then d.avps (commands_then d.commands)))
+    → printed d ≡
+    version_then (is_first_version d) (vendors_then d.vendors (avps_then d.avps (commands_then d.commands)))
 printed-then d =
-    three (version_line d) (flat_map vendor_line d.vendors) (flat_map avp_line d.avps) (flat_map command_line d.commands)
+    three (version_line d) (flat_map vendor_line d.vendors) (flat_map avp_line d.avps)
+    (flat_map command_line d.commands)
     ∙ ap (λ t. version_line d ++ (flat_map vendor_line d.vendors ++ t))
     (ap (λ t. flat_map avp_line d.avps ++ t) (commands-then d.commands) ∙ avps-then d.avps (commands_then d.commands))
     ∙ ap (λ t. version_line d ++ t) (vendors-then d.vendors (avps_then d.avps (commands_then d.commands)))

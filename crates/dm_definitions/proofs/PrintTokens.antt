@@ -47,7 +47,8 @@ abbrev pub end_words : ℕ → List Entry → List Word → List Word
 end_words line rule ws = word Greater (62 ∷ []) line ∷ rule_words line rule ws
 
 abbrev pub title_words : ℕ → List ℕ → List Word → List Word
-title_words line name ws = word Less (60 ∷ []) line ∷ word_of line name ∷ word Greater (62 ∷ []) line ∷ word Define (codes "::=") line ∷ word Less (60 ∷ []) line ∷ ws
+title_words line name ws = word Less (60 ∷ []) line ∷ word_of line name ∷ word Greater (62 ∷ []) line ∷ word Define
+    (codes "::=") line ∷ word Less (60 ∷ []) line ∷ ws
 
 abbrev pub value_words : ℕ → EnumValue → List Word → List Word
 value_words line v ws = word_of line v.name ∷ number_word line (unsigned_abs v.number) ∷ ws
@@ -80,7 +81,9 @@ plain_words line a ws =
 
 abbrev pub group_words : ℕ → AvpDef → List Word → List Word
 group_words line a ws =
-    title_words line a.name (word Avp (codes "AVP") line ∷ word Header (codes "Header") line ∷ word Colon (58 ∷ []) line ∷ number_word line a.code ∷ option_words line a.vendor (end_words line a.rule ws))
+    title_words line a.name
+    (word Avp (codes "AVP") line ∷ word Header (codes "Header") line ∷ word Colon (58 ∷ []) line ∷ number_word line
+    a.code ∷ option_words line a.vendor (end_words line a.rule ws))
 
 abbrev pub avp_words : ℕ → AvpDef → List Word → List Word
 avp_words line a ws = if is_grouped a.kind then group_words line a ws else plain_words line a ws
@@ -89,11 +92,14 @@ abbrev pub flag_words : ℕ → Bool → Symbol → List ℕ → List Word → L
 flag_words line flag symbol text ws = if flag then word Comma (44 ∷ []) line ∷ word symbol text line ∷ ws else ws
 
 abbrev pub flags_words : ℕ → CommandDef → List Word → List Word
-flags_words line c ws = flag_words line c.request Req (codes "REQ") (flag_words line c.proxiable Pxy (codes "PXY") (flag_words line c.err Err (codes "ERR") ws))
+flags_words line c ws = flag_words line c.request Req (codes "REQ")
+    (flag_words line c.proxiable Pxy (codes "PXY") (flag_words line c.err Err (codes "ERR") ws))
 
 abbrev pub command_words : ℕ → CommandDef → List Word → List Word
 command_words line c ws =
-    title_words line c.name (word Diameter (codes "Diameter") line ∷ word Header (codes "Header") line ∷ word Colon (58 ∷ []) line ∷ number_word line c.code ∷ flags_words line c (number_word line c.application ∷ end_words line c.rule ws))
+    title_words line c.name
+    (word Diameter (codes "Diameter") line ∷ word Header (codes "Header") line ∷ word Colon (58 ∷ []) line ∷
+    number_word line c.code ∷ flags_words line c (number_word line c.application ∷ end_words line c.rule ws))
 
 abbrev pub avps_words : ℕ → List AvpDef → (ℕ → List Word) → List Word
 avps_words line [] ws = ws line
@@ -215,7 +221,8 @@ more_tokens line before (v ∷ vs) s h b =
     let (first, rest) = and_parts (is_sound_value before v) (each_after is_sound_value (before ++ v ∷ []) vs) h in
     let p = value_parts before v first in
     ap (λ ws. word Comma (44 ∷ []) line ∷ ws)
-    (value_tokens line v (more_then vs s) p.name p.number (more_breaks vs s b) ∙ ap (value_words line v) (more_tokens line (before ++ v ∷ []) vs s rest b))
+    (value_tokens line v (more_then vs s) p.name p.number (more_breaks vs s b) ∙
+    ap (value_words line v) (more_tokens line (before ++ v ∷ []) vs s rest b))
 
 list_breaks : (vs : List EnumValue) (s : List ℕ) → breaks s ≡ true → breaks (list_then vs s) ≡ true
 list_breaks [] s b = b
@@ -228,7 +235,8 @@ list_tokens line (v ∷ vs) s h =
     let (first, rest) = and_parts (is_sound_value [] v) (each_after is_sound_value (v ∷ []) vs) h in
     let p = value_parts [] v first in
     ap (λ ws. word OpenBrace (123 ∷ []) line ∷ ws)
-    (value_tokens line v (more_then vs (32 ∷ 125 ∷ s)) p.name p.number (more_breaks vs (32 ∷ 125 ∷ s) refl) ∙ ap (value_words line v) (more_tokens line (v ∷ []) vs (32 ∷ 125 ∷ s) rest refl))
+    (value_tokens line v (more_then vs (32 ∷ 125 ∷ s)) p.name p.number (more_breaks vs (32 ∷ 125 ∷ s) refl) ∙
+    ap (value_words line v) (more_tokens line (v ∷ []) vs (32 ∷ 125 ∷ s) rest refl))
 
 vendor_tokens : (line : ℕ) (v : VendorDef) (s : List ℕ) → is_wordish v.name ≡ true → fits v.number ≡ true
     → tokens_from 0 line (vendor_then v s) ≡ vendor_words line v (tokens_from 0 (line + 1) s)
@@ -249,29 +257,38 @@ plain_tokens line a s named code vendor listed =
     ∙ ap (λ ws. word_of line a.name ∷ ws)
     (number_tokens line a.code (32 ∷ (type_name a.kind ++ option_then a.vendor list)) (small a.code code) refl
     ∙ ap (λ ws. number_word line a.code ∷ ws)
-    (word_tokens line (type_name a.kind) (option_then a.vendor list) (type_wordish a.kind) (option_breaks a.vendor list (list_breaks a.values (10 ∷ s) refl))
+    (word_tokens line (type_name a.kind) (option_then a.vendor list) (type_wordish a.kind)
+    (option_breaks a.vendor list (list_breaks a.values (10 ∷ s) refl))
     ∙ ap (λ ws. word_of line (type_name a.kind) ∷ ws)
-    (option_tokens line a.vendor list vendor (list_breaks a.values (10 ∷ s) refl) ∙ ap (option_words line a.vendor) (list_tokens line a.values (10 ∷ s) listed)))))
+    (option_tokens line a.vendor list vendor (list_breaks a.values (10 ∷ s) refl) ∙
+    ap (option_words line a.vendor) (list_tokens line a.values (10 ∷ s) listed)))))
 
 avp_header_tokens : (line : ℕ) (s : List ℕ)
-    → tokens_from 0 line (codes "AVP Header:" ++ 32 ∷ s) ≡ word Avp (codes "AVP") line ∷ word Header (codes "Header") line ∷ word Colon (58 ∷ []) line ∷ tokens_from 0 line s
+    → tokens_from 0 line (codes "AVP Header:" ++ 32 ∷ s) ≡
+    word Avp (codes "AVP") line ∷ word Header (codes "Header") line ∷ word Colon (58 ∷ []) line ∷ tokens_from 0 line
+    s
 avp_header_tokens line s = refl
 
 diameter_header_tokens : (line : ℕ) (s : List ℕ)
-    → tokens_from 0 line (codes "Diameter Header:" ++ 32 ∷ s) ≡ word Diameter (codes "Diameter") line ∷ word Header (codes "Header") line ∷ word Colon (58 ∷ []) line ∷ tokens_from 0 line s
+    → tokens_from 0 line (codes "Diameter Header:" ++ 32 ∷ s) ≡
+    word Diameter (codes "Diameter") line ∷ word Header (codes "Header") line ∷ word Colon (58 ∷ []) line ∷
+    tokens_from 0 line s
 diameter_header_tokens line s = refl
 
 group_tokens : (line : ℕ) (a : AvpDef) (s : List ℕ) → is_wordish a.name ≡ true → fits a.code ≡ true
     → fits_option a.vendor ≡ true → is_sound_rule a.rule ≡ true
     → tokens_from 0 line (group_then a s) ≡ group_words line a (tokens_from 0 (line + 1) s)
 group_tokens line a s named code vendor rule =
-    title_tokens line a.name (codes "AVP Header:" ++ number_then a.code (option_then a.vendor (end_then a.rule s))) named
+    title_tokens line a.name (codes "AVP Header:" ++ number_then a.code (option_then a.vendor (end_then a.rule s)))
+    named
     ∙ ap (title_words line a.name)
     (avp_header_tokens line (decimal a.code ++ option_then a.vendor (end_then a.rule s))
     ∙ ap (λ ws. word Avp (codes "AVP") line ∷ word Header (codes "Header") line ∷ word Colon (58 ∷ []) line ∷ ws)
-    (number_tokens line a.code (option_then a.vendor (end_then a.rule s)) (small a.code code) (option_breaks a.vendor (end_then a.rule s) refl)
+    (number_tokens line a.code (option_then a.vendor (end_then a.rule s)) (small a.code code)
+    (option_breaks a.vendor (end_then a.rule s) refl)
     ∙ ap (λ ws. number_word line a.code ∷ ws)
-    (option_tokens line a.vendor (end_then a.rule s) vendor refl ∙ ap (option_words line a.vendor) (end_tokens line a.rule s rule))))
+    (option_tokens line a.vendor (end_then a.rule s) vendor refl ∙
+    ap (option_words line a.vendor) (end_tokens line a.rule s rule))))
 
 flag_breaks : (flag : Bool) (w : ℕ) (ws s : List ℕ) → breaks (w ∷ ws) ≡ true → breaks s ≡ true
     → breaks (flag_then flag (w ∷ ws) s) ≡ true
@@ -279,17 +296,20 @@ flag_breaks true w ws s h g = h
 flag_breaks false w ws s h g = g
 
 req_tokens : (line : ℕ) (flag : Bool) (s : List ℕ) → breaks s ≡ true
-    → tokens_from 0 line (flag_then flag (codes ", REQ") s) ≡ flag_words line flag Req (codes "REQ") (tokens_from 0 line s)
+    → tokens_from 0 line (flag_then flag (codes ", REQ") s) ≡
+    flag_words line flag Req (codes "REQ") (tokens_from 0 line s)
 req_tokens line true s h = ap (λ ws. word Comma (44 ∷ []) line ∷ ws) (word_tokens line (codes "REQ") s refl h)
 req_tokens line false s h = refl
 
 pxy_tokens : (line : ℕ) (flag : Bool) (s : List ℕ) → breaks s ≡ true
-    → tokens_from 0 line (flag_then flag (codes ", PXY") s) ≡ flag_words line flag Pxy (codes "PXY") (tokens_from 0 line s)
+    → tokens_from 0 line (flag_then flag (codes ", PXY") s) ≡
+    flag_words line flag Pxy (codes "PXY") (tokens_from 0 line s)
 pxy_tokens line true s h = ap (λ ws. word Comma (44 ∷ []) line ∷ ws) (word_tokens line (codes "PXY") s refl h)
 pxy_tokens line false s h = refl
 
 err_tokens : (line : ℕ) (flag : Bool) (s : List ℕ) → breaks s ≡ true
-    → tokens_from 0 line (flag_then flag (codes ", ERR") s) ≡ flag_words line flag Err (codes "ERR") (tokens_from 0 line s)
+    → tokens_from 0 line (flag_then flag (codes ", ERR") s) ≡
+    flag_words line flag Err (codes "ERR") (tokens_from 0 line s)
 err_tokens line true s h = ap (λ ws. word Comma (44 ∷ []) line ∷ ws) (word_tokens line (codes "ERR") s refl h)
 err_tokens line false s h = refl
 
@@ -300,12 +320,15 @@ flags_tokens line c s h =
     let pxy = flag_breaks c.proxiable 44 (codes " PXY") (flag_then c.err (codes ", ERR") s) refl err in
     req_tokens line c.request (flag_then c.proxiable (codes ", PXY") (flag_then c.err (codes ", ERR") s)) pxy
     ∙ ap (flag_words line c.request Req (codes "REQ"))
-    (pxy_tokens line c.proxiable (flag_then c.err (codes ", ERR") s) err ∙ ap (flag_words line c.proxiable Pxy (codes "PXY")) (err_tokens line c.err s h))
+    (pxy_tokens line c.proxiable (flag_then c.err (codes ", ERR") s) err ∙
+    ap (flag_words line c.proxiable Pxy (codes "PXY")) (err_tokens line c.err s h))
 
 flags_break : (c : CommandDef) (s : List ℕ) → breaks s ≡ true → breaks (flags_then c s) ≡ true
 flags_break c s h =
-    flag_breaks c.request 44 (codes " REQ") (flag_then c.proxiable (codes ", PXY") (flag_then c.err (codes ", ERR") s)) refl
-    (flag_breaks c.proxiable 44 (codes " PXY") (flag_then c.err (codes ", ERR") s) refl (flag_breaks c.err 44 (codes " ERR") s refl h))
+    flag_breaks c.request 44 (codes " REQ") (flag_then c.proxiable (codes ", PXY") (flag_then c.err (codes ", ERR") s))
+    refl
+    (flag_breaks c.proxiable 44 (codes " PXY") (flag_then c.err (codes ", ERR") s) refl
+    (flag_breaks c.err 44 (codes " ERR") s refl h))
 
 command_tokens : (line : ℕ) (c : CommandDef) (s : List ℕ) → is_wordish c.name ≡ true → c.code ≤ 4294967295
     → c.application ≤ 4294967295 → is_sound_rule c.rule ≡ true
@@ -315,12 +338,14 @@ command_tokens line c s named code application rule =
     title_tokens line c.name (codes "Diameter Header:" ++ number_then c.code (flags_then c behind)) named
     ∙ ap (title_words line c.name)
     (diameter_header_tokens line (decimal c.code ++ flags_then c behind)
-    ∙ ap (λ ws. word Diameter (codes "Diameter") line ∷ word Header (codes "Header") line ∷ word Colon (58 ∷ []) line ∷ ws)
+    ∙ ap (λ ws. word Diameter (codes "Diameter") line ∷ word Header (codes "Header") line ∷ word Colon (58 ∷ []) line ∷
+    ws)
     (number_tokens line c.code (flags_then c behind) code (flags_break c behind refl)
     ∙ ap (λ ws. number_word line c.code ∷ ws)
     (flags_tokens line c behind refl
     ∙ ap (flags_words line c)
-    (number_tokens line c.application (end_then c.rule s) application refl ∙ ap (λ ws. number_word line c.application ∷ ws) (end_tokens line c.rule s rule)))))
+    (number_tokens line c.application (end_then c.rule s) application refl ∙
+    ap (λ ws. number_word line c.application ∷ ws) (end_tokens line c.rule s rule)))))
 
 avp_tokens : (line : ℕ) (before : List AvpDef) (a : AvpDef) (s : List ℕ) → is_sound_avp before a ≡ true
     → tokens_from 0 line (avp_then a s) ≡ avp_words line a (tokens_from 0 (line + 1) s)
@@ -331,7 +356,9 @@ avp_tokens line before a s h =
   where
     by : (b : Bool) → tokens_from 0 line (group_then a s) ≡ group_words line a (tokens_from 0 (line + 1) s)
         → tokens_from 0 line (plain_then a s) ≡ plain_words line a (tokens_from 0 (line + 1) s)
-        → tokens_from 0 line (if b then group_then a s else plain_then a s) ≡ (if b then group_words line a (tokens_from 0 (line + 1) s) else plain_words line a (tokens_from 0 (line + 1) s))
+        → tokens_from 0 line (if b then group_then a s else plain_then a s) ≡
+        (if b then group_words line a (tokens_from 0 (line + 1) s) else
+        plain_words line a (tokens_from 0 (line + 1) s))
     by true e g = e
     by false e g = g
 
@@ -349,7 +376,8 @@ pub vendors_tokens : (line : ℕ) (before vendors : List VendorDef) (s : List �
     → tokens_from 0 line (vendors_then vendors s) ≡ vendors_words line vendors ws
 vendors_tokens line before [] s ws h e = e line
 vendors_tokens line before (v ∷ vendors) s ws h e =
-    let (first, rest) = and_parts (is_sound_vendor before v) (each_after is_sound_vendor (before ++ v ∷ []) vendors) h in
+    let (first, rest) = and_parts (is_sound_vendor before v) (each_after is_sound_vendor (before ++ v ∷ []) vendors)
+    h in
     let p = vendor_parts before v first in
     vendor_tokens line v (vendors_then vendors s) (name_wordish v.name p.name) p.number ∙ ap (vendor_words line v)
     (vendors_tokens (line + 1) (before ++ v ∷ []) vendors s ws rest e)

@@ -65,7 +65,8 @@ module _ (old : Definitions) (items : List Written) where
   item_stops copy f e h =
       stops_left (items_faults (made old) items) _ f (subst (λ (m : Made). Stops (items_faults m items) f) e h)
 
-  module _ (copy new : Made) (same : copy ≡ made old) (none : items_faults copy items ≡ []) (added : new ≡ with_items copy items) where
+  module _ (copy new : Made) (same : copy ≡ made old) (none : items_faults copy items ≡ [])
+      (added : new ≡ with_items copy items) where
     none_here : items_faults (made old) items ≡ []
     none_here = subst (λ (m : Made). items_faults m items ≡ []) same none
 
@@ -83,8 +84,10 @@ module _ (old : Definitions) (items : List Written) where
 
     pub within_here : (n : ℕ) → n ≡ length old.vendors → n ≤ length new.definitions.vendors
     within_here n e =
-        let long : length old.vendors ≤ length (fold vendors_with old.vendors items) = within_vendors old.vendors items in
-        let same_long : length new.definitions.vendors ≡ length (fold vendors_with old.vendors items) = ap length vendors_here in
+        let long : length old.vendors ≤ length (fold vendors_with old.vendors items) =
+        within_vendors old.vendors items in
+        let same_long : length new.definitions.vendors ≡ length (fold vendors_with old.vendors items) =
+        ap length vendors_here in
         omega arith
 
     pub theirs_here : (n : ℕ) → n ≡ length old.vendors
@@ -92,7 +95,8 @@ module _ (old : Definitions) (items : List Written) where
     theirs_here n e = ap (λ vs. fold vendors_with vs items) (first_here n e) ∙ sym vendors_here
 
     unknown_here : (n : ℕ) → n ≡ length old.vendors
-        → items_unknown new (take n new.definitions.vendors) items ≡ items_unknown (with_items (made old) items) old.vendors items
+        → items_unknown new (take n new.definitions.vendors) items ≡
+        items_unknown (with_items (made old) items) old.vendors items
     unknown_here n e = λ i. items_unknown (made_here i) (first_here n e i) items
 
     pub unknown_stops : (n : ℕ) → n ≡ length old.vendors → (f : DictFault)
@@ -113,11 +117,13 @@ module _ (old : Definitions) (items : List Written) where
         → None ≡ first_of (items_unknown new (take n new.definitions.vendors) items) → is_closed old ≡ true
         → is_closed new.definitions ≡ true
     closes n e h closed =
-        subst (λ (d : Definitions). is_closed d ≡ true) (sym added_here) (closed_with old items closed (none_unknown n e h))
+        subst (λ (d : Definitions). is_closed d ≡ true) (sym added_here)
+        (closed_with old items closed (none_unknown n e h))
 
   module _ (text : List ℕ) (grammatical : told text ≡ Ok items) where
     pub reads : (r : Result Tables DictFault) → IfOk r (λ _. all_faults old items ≡ [])
-        → IfOk r (λ new. defined new ≡ (with_items (made old) items).definitions) → IfOk r (λ new. Defines text old (defined new))
+        → IfOk r (λ new. defined new ≡ (with_items (made old) items).definitions) →
+        IfOk r (λ new. Defines text old (defined new))
     reads (Ok new) none added = record { items = items; grammatical = grammatical; faultless = none; followed = added }
     reads (Err f) none added = tt
 

@@ -31,14 +31,22 @@ printed_again names law d sound closed =
     let first = is_first_version d in
     let items : List Written = written_all d (first_line first) in
     let words : tokens (printed d) ≡ version_words first (all_words d) =
-    ap tokens (printed-then d) ∙ version_tokens first (vendors_then d.vendors (avps_then d.avps (commands_then d.commands))) (all_words d)
-    (λ m. vendors_tokens m [] d.vendors (avps_then d.avps (commands_then d.commands)) (λ n. avps_words n d.avps (commands_words d.commands)) parts.vendors
+    ap tokens (printed-then d) ∙
+    version_tokens first (vendors_then d.vendors (avps_then d.avps (commands_then d.commands))) (all_words d)
+    (λ m. vendors_tokens m [] d.vendors (avps_then d.avps (commands_then d.commands))
+    (λ n. avps_words n d.avps (commands_words d.commands)) parts.vendors
     (λ n. avps_tokens n [] d.avps (commands_then d.commands) (commands_words d.commands) parts.avps
     (λ k. commands_tokens k [] d.commands parts.commands))) in
     let spelled : AreItems items (tokens (printed d)) = subst (λ (ws : List Word). AreItems items ws) (sym words)
     (are_items names d parts.vendors parts.avps parts.commands) in
     let grammatical : told (printed d) ≡ Ok items = (law (printed d) items).1 spelled in
-    let added : AreAdded nothing_defined items d = all_added (first_line first) d parts.vendors parts.avps parts.commands in
+    let added : AreAdded nothing_defined items d = all_added (first_line first) d parts.vendors parts.avps
+    parts.commands in
     let nothing_unknown : items_unknown (with_items (made nothing_defined) items) [] items ≡ [] = ap
     (λ m. items_unknown m [] items) added.added ∙ no_unknown (first_line first) d known known_too in
-    record { items = items; grammatical = grammatical; faultless = none_both (items_faults (made nothing_defined) items) _ added.faultless nothing_unknown; followed = ap (λ m. m.definitions) (sym added.added) }
+    record {
+      items = items;
+      grammatical = grammatical;
+      faultless = none_both (items_faults (made nothing_defined) items) _ added.faultless nothing_unknown;
+      followed = ap (λ m. m.definitions) (sym added.added);
+    }

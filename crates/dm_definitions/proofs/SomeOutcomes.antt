@@ -16,7 +16,10 @@ Outcome text old = ((new : Definitions) × Defines text old new) ⊎ ((f : DictF
 by_faults : (text : List ℕ) (old : Definitions) (items : List Written) → told text ≡ Ok items
     → (faults : List DictFault) → all_faults old items ≡ faults → Outcome text old
 by_faults text old items grammatical [] none =
-    inl ((with_items (made old) items).definitions, record { items = items; grammatical = grammatical; faultless = none; followed = refl })
+    inl (
+      (with_items (made old) items).definitions,
+      record { items = items; grammatical = grammatical; faultless = none; followed = refl },
+    )
 by_faults text old items grammatical (f ∷ faults) some =
     inr (f, inr (record { items = items; grammatical = grammatical; first = ap first_of some }))
 

@@ -130,7 +130,12 @@ sound_record : (before : List AvpDef) (name code : Word) (vendor : Option ℕ) (
     → is_sound_list a.values ≡ true → (is_enumerated a.kind || is_empty_list a.values) ≡ true
     → is_sound_avp before (record a { name = name.text; code = number code; vendor = vendor }) ≡ true
 sound_record before name code vendor a named not_any new code_fits vendor_fits new_code ruled kinds listed listing =
-    both _ _ (both _ _ (both _ _ (both _ _ (both _ _ (both _ _ (both _ _ (both _ _ (both _ _ named (not_so _ not_any)) (not_so _ new)) code_fits) vendor_fits) (not_so _ new_code)) ruled) kinds) listed) listing
+    both _ _ (both _ _
+    (both _ _
+    (both _ _
+    (both _ _
+    (both _ _ (both _ _ (both _ _ (both _ _ named (not_so _ not_any)) (not_so _ new)) code_fits) vendor_fits)
+    (not_so _ new_code)) ruled) kinds) listed) listing
 
 -- the vendor of a name has a number of 32 bits
 found_fits : (name : List ℕ) (before vendors : List VendorDef) (n : ℕ)
@@ -185,7 +190,8 @@ sound_avp m a name code vend vendor sound en ec ev known named names numbers rul
     (λ (o : Option (Option ℕ)). is_taken avps (number code) o ≡ false) known free in
     let fit = vendor_fits m.definitions.vendors vend vendor sound
     (none_right (range_faults limit code ++ taken) (vend_faults vend) numbers) known in
-    let same : a ≡ record a { name = name.text; code = number code; vendor = vendor } = λ i. record a { name = en i; code = ec i; vendor = ev i } in
+    let same : a ≡ record a { name = name.text; code = number code; vendor = vendor } =
+    λ i. record a { name = en i; code = ec i; vendor = ev i } in
     subst (λ (x : AvpDef). is_sound_avp avps x ≡ true) (sym same)
     (sound_record avps name code vendor a named not_any new_name code_fits fit new_code ruled kinds listed listing)
 
@@ -197,7 +203,8 @@ sound_vendor before v p en eu named none =
     let twice = fault_if (list_any (is_vendor p.name.text) before) (Duplicate p.name.line) in
     let taken = fault_if (list_any (has_vendor_number (number p.number)) before) (Duplicate p.number.line) in
     let front = none_left (twice ++ range_faults limit p.number) taken none in
-    let new = no_fault (list_any (is_vendor p.name.text) before) _ (none_left twice (range_faults limit p.number) front) in
+    let new = no_fault (list_any (is_vendor p.name.text) before) _
+    (none_left twice (range_faults limit p.number) front) in
     let small = number_fits p.number (none_right twice (range_faults limit p.number) front) in
     let free = no_fault (list_any (has_vendor_number (number p.number)) before) _
     (none_right (twice ++ range_faults limit p.number) taken none) in
@@ -285,13 +292,38 @@ pub sound_command : (before : List CommandDef) (c : CommandDef) (p : CommandPart
 sound_command before c p en ec er ee ea named titles heads ruled =
     let new = no_fault (list_any (is_titled p.name.text) before) _ titles in
     let front = none_left
-    (range_faults command_limit p.code ++ fault_if (list_any (is_headed (number p.code) p.request p.error) before) (Duplicate p.code.line)) (option_faults limit p.application) heads in
+    (range_faults command_limit p.code ++ fault_if (list_any (is_headed (number p.code) p.request p.error) before)
+    (Duplicate p.code.line)) (option_faults limit p.application) heads in
     let small = no_fault _ _ (none_left (range_faults command_limit p.code) _ front) in
     let new_head = no_fault (list_any (is_headed (number p.code) p.request p.error) before) _
     (none_right (range_faults command_limit p.code) _ front) in
     let application_fits = default_fits p.application
-    (none_right (range_faults command_limit p.code ++ fault_if (list_any (is_headed (number p.code) p.request p.error) before) (Duplicate p.code.line)) _ heads) in
-    let same : c ≡ record { name = p.name.text; code = number p.code; request = p.request; proxiable = c.proxiable; err = p.error; application = unwrap_or (option_map number p.application) 0; rule = c.rule } =
-    λ i. record { name = en i; code = ec i; request = er i; proxiable = c.proxiable; err = ee i; application = ea i; rule = c.rule } in
+    (none_right
+    (range_faults command_limit p.code ++ fault_if (list_any (is_headed (number p.code) p.request p.error) before)
+    (Duplicate p.code.line)) _ heads) in
+    let same : c ≡
+    record {
+      name = p.name.text;
+      code = number p.code;
+      request = p.request;
+      proxiable = c.proxiable;
+      err = p.error;
+      application = unwrap_or (option_map number p.application) 0;
+      rule = c.rule;
+    } =
+    λ i. record {
+      name = en i;
+      code = ec i;
+      request = er i;
+      proxiable = c.proxiable;
+      err = ee i;
+      application = ea i;
+      rule = c.rule;
+    } in
     subst (λ (x : CommandDef). is_sound_command before x ≡ true) (sym same)
-    (both _ _ (both _ _ (both _ _ (both _ _ (both _ _ named (not_so _ new)) (le-leb (number p.code) command_limit (ltb-false command_limit (number p.code) small))) (not_so _ new_head)) application_fits) ruled)
+    (both _ _
+    (both _ _
+    (both _ _
+    (both _ _ (both _ _ named (not_so _ new))
+    (le-leb (number p.code) command_limit (ltb-false command_limit (number p.code) small))) (not_so _ new_head))
+    application_fits) ruled)

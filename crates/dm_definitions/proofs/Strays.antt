@@ -31,7 +31,8 @@ pub stray_noted : (old new : List (Bor (List ℕ))) (k : Bor (List ℕ))
     → list_any (pointwise nat_eq k.now) (map (λ x. x.now) old) ≡ false
     → map (λ x. x.now) new ≡ map (λ x. x.now) old ++ k.now ∷ []
 stray_noted old new k put fresh =
-    let new_key : list_any (λ x. pointwise nat_eq k.now x.now) old ≡ false = sym (any-map (pointwise nat_eq k.now) (λ x. x.now) old)
+    let new_key : list_any (λ x. pointwise nat_eq k.now x.now) old ≡
+    false = sym (any-map (pointwise nat_eq k.now) (λ x. x.now) old)
     ∙ fresh in
     let behind : new ≡ old ++ k ∷ [] = put ∙ rw new_key refl in
     ap (map (λ x. x.now)) behind ∙ map-append (λ x. x.now) old (k ∷ [])

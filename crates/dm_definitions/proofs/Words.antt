@@ -28,7 +28,8 @@ both a b e g = rw (e, g) refl
 -- a token that is a name has the octets of one, and one that is Enumerated those
 abbrev is_right : Symbol → List ℕ → Bool
 is_right s text =
-    (not (grammar.is_name s) || is_proper_name text) && (not (fits (One Enumerated) s) || pointwise nat_eq text (codes "Enumerated"))
+    (not (grammar.is_name s) || is_proper_name text) &&
+    (not (fits (One Enumerated) s) || pointwise nat_eq text (codes "Enumerated"))
 
 abbrev is_good : Word → Bool
 is_good w = is_right w.symbol w.text
@@ -47,7 +48,9 @@ mark_no_name c =
     (nat_eq c 44) (nat_eq c 58) (nat_eq c 64)
   where
     by : (b0 b1 b2 b3 b4 b5 b6 b7 b8 b9 : Bool)
-        → grammar.is_name (if b0 then Less else if b1 then Greater else if b2 then OpenBrace else if b3 then CloseBrace else if b4 then OpenSquare else if b5 then CloseSquare else if b6 then Star else if b7 then Comma else if b8 then Colon else if b9 then At else Stray) ≡ false
+        → grammar.is_name (if b0 then Less else if b1 then Greater else if b2 then OpenBrace else if b3 then
+        CloseBrace else if b4 then OpenSquare else if b5 then CloseSquare else if b6 then Star else if b7 then
+        Comma else if b8 then Colon else if b9 then At else Stray) ≡ false
     by true b1 b2 b3 b4 b5 b6 b7 b8 b9 = refl
     by false true b2 b3 b4 b5 b6 b7 b8 b9 = refl
     by false false true b3 b4 b5 b6 b7 b8 b9 = refl
@@ -87,7 +90,9 @@ word_enumerated w h =
     (pointwise nat_eq w (codes "Enumerated")) h
   where
     by : (b0 b1 b2 b3 b4 b5 b6 b7 b8 b9 b : Bool)
-        → fits (One Enumerated) (if b0 then Number else if b1 then Diameter else if b2 then Header else if b3 then DiameterHeader else if b4 then Avp else if b5 then AvpHeader else if b6 then Req else if b7 then Pxy else if b8 then Err else if b9 then Vendor else if b then Enumerated else Name) ≡ true
+        → fits (One Enumerated) (if b0 then Number else if b1 then Diameter else if b2 then Header else if b3 then
+        DiameterHeader else if b4 then Avp else if b5 then AvpHeader else if b6 then Req else if b7 then Pxy else
+        if b8 then Err else if b9 then Vendor else if b then Enumerated else Name) ≡ true
         → b ≡ true
     by true b1 b2 b3 b4 b5 b6 b7 b8 b9 b e = absurd cc
     by false true b2 b3 b4 b5 b6 b7 b8 b9 b e = absurd cc
@@ -108,7 +113,9 @@ mark_not_enumerated c =
     (nat_eq c 44) (nat_eq c 58) (nat_eq c 64)
   where
     by : (b0 b1 b2 b3 b4 b5 b6 b7 b8 b9 : Bool)
-        → fits (One Enumerated) (if b0 then Less else if b1 then Greater else if b2 then OpenBrace else if b3 then CloseBrace else if b4 then OpenSquare else if b5 then CloseSquare else if b6 then Star else if b7 then Comma else if b8 then Colon else if b9 then At else Stray) ≡ false
+        → fits (One Enumerated) (if b0 then Less else if b1 then Greater else if b2 then OpenBrace else if b3 then
+        CloseBrace else if b4 then OpenSquare else if b5 then CloseSquare else if b6 then Star else if b7 then
+        Comma else if b8 then Colon else if b9 then At else Stray) ≡ false
     by true b1 b2 b3 b4 b5 b6 b7 b8 b9 = refl
     by false true b2 b3 b4 b5 b6 b7 b8 b9 = refl
     by false false true b3 b4 b5 b6 b7 b8 b9 = refl
@@ -129,7 +136,8 @@ word_named : (c n : ℕ) (s : List ℕ) → is_ascii_alphanumeric c ≡ true →
 word_named c n s e g h = both _ _ (both _ _ e g) h
 
 word_good : (c : ℕ) (s : List ℕ) → is_ascii_alphanumeric c ≡ true
-    → good_lexeme (symbol_of_word (take (prefix_len goes_on (c ∷ s)) (c ∷ s)), prefix_len goes_on (c ∷ s)) (c ∷ s) ≡ true
+    → good_lexeme (symbol_of_word (take (prefix_len goes_on (c ∷ s)) (c ∷ s)), prefix_len goes_on (c ∷ s)) (c ∷ s) ≡
+    true
 word_good c s e =
     let goes : goes_on c ≡ true = ap (λ b. b || nat_eq c 45) e in
     let len : prefix_len goes_on (c ∷ s) ≡ suc (prefix_len goes_on s) = ap
@@ -137,7 +145,10 @@ word_good c s e =
     let whole : take (prefix_len goes_on (c ∷ s)) (c ∷ s) ≡ c ∷ take (prefix_len goes_on s) s = ap
     (λ n. take n (c ∷ s)) len in
     subst (λ (t : List ℕ). is_right (symbol_of_word t) t ≡ true) (sym whole)
-    (both _ _ (good_of _ _ (λ named. word_named c (prefix_len goes_on s) s e (prefix_goes_on s) (word_no_number (c ∷ take (prefix_len goes_on s) s) named)))
+    (both _ _
+    (good_of _ _
+    (λ named. word_named c (prefix_len goes_on s) s e (prefix_goes_on s)
+    (word_no_number (c ∷ take (prefix_len goes_on s) s) named)))
     (good_of _ _ (word_enumerated (c ∷ take (prefix_len goes_on s) s))))
 
 mark_good : (c : ℕ) (s : List ℕ) → good_lexeme (mark_of c, 1) (c ∷ s) ≡ true
@@ -149,7 +160,9 @@ token_good : (line c : ℕ) (s : List ℕ) → is_good (token_of line (c ∷ s))
 token_good line c s = by (begins_word c) refl (starts_with nat_eq (c ∷ s) (codes "::="))
   where
     by : (b : Bool) → begins_word c ≡ b → (d : Bool)
-        → good_lexeme (if b then (symbol_of_word (take (prefix_len goes_on (c ∷ s)) (c ∷ s)), prefix_len goes_on (c ∷ s)) else if d then (Define, 3) else (mark_of c, 1)) (c ∷ s) ≡ true
+        → good_lexeme
+        (if b then (symbol_of_word (take (prefix_len goes_on (c ∷ s)) (c ∷ s)), prefix_len goes_on (c ∷ s)) else
+        if d then (Define, 3) else (mark_of c, 1)) (c ∷ s) ≡ true
     by true e d = word_good c s e
     by false e true = refl
     by false e false = mark_good c s
@@ -166,7 +179,9 @@ tokens_good zero line (c ∷ s) =
         → list_all is_good (tokens_from 0 line s) ≡ true
         → list_all is_good (tokens_from (prefix_len not_line_end s) line s) ≡ true
         → list_all is_good (token_of line (c ∷ s) ∷ tokens_from ((lexeme_of (c ∷ s)).1 - 1) line s) ≡ true
-        → list_all is_good (if b then tokens_from 0 (line + 1) s else if d then tokens_from 0 line s else if e then tokens_from (prefix_len not_line_end s) line s else (token_of line (c ∷ s) ∷ tokens_from ((lexeme_of (c ∷ s)).1 - 1) line s)) ≡ true
+        → list_all is_good (if b then tokens_from 0 (line + 1) s else if d then tokens_from 0 line s else if e then
+        tokens_from (prefix_len not_line_end s) line s else
+        (token_of line (c ∷ s) ∷ tokens_from ((lexeme_of (c ∷ s)).1 - 1) line s)) ≡ true
     by true d e h1 h2 h3 h4 = h1
     by false true e h1 h2 h3 h4 = h2
     by false false true h1 h2 h3 h4 = h3
@@ -212,7 +227,8 @@ enumerated k Behind [] g s = absurd s
 enumerated k Behind (w ∷ ws) g s =
     subst (λ (u : Word). pointwise nat_eq u.text (codes "Enumerated") ≡ true) s.1.0
     (named_by (fits (One Enumerated) w.symbol) (pointwise nat_eq w.text (codes "Enumerated"))
-    (and_parts (not (grammar.is_name w.symbol) || is_proper_name w.text) _ (and_parts (is_good w) (list_all is_good ws) g).0).1 s.0)
+    (and_parts (not (grammar.is_name w.symbol) || is_proper_name w.text) _
+    (and_parts (is_good w) (list_all is_good ws) g).0).1 s.0)
 
 titled : (v : Word) (Behind : List Word → Type 0) (ws : List Word) → AreGood ws → Spells (title v) Behind ws
     → is_proper_name v.text ≡ true
@@ -264,9 +280,11 @@ typed v a Behind ws g s = by v a.values s
         let behind = Spells (vend_may Second a.vendor then list x xs) Behind in
         let k = left_of (This (One Enumerated) a.kind) behind ws g s in
         let d = left_of (vend_may Second a.vendor) (Spells (list x xs) Behind) k.0 k.1.0 k.1.1 in
-        let o = left_of (Mark OpenBrace) (Spells (value x then more_values xs then Mark CloseBrace) Behind) d.0 d.1.0 d.1.1 in
+        let o = left_of (Mark OpenBrace) (Spells (value x then more_values xs then Mark CloseBrace) Behind) d.0 d.1.0
+        d.1.1 in
         let l = left_of (value x) (Spells (more_values xs then Mark CloseBrace) Behind) o.0 o.1.0 o.1.1 in (
-          both _ _ (named x.name (Spells (number_is x.number) (Spells (more_values xs then Mark CloseBrace) Behind)) o.0 o.1.0 o.1.1)
+          both _ _ (named x.name (Spells (number_is x.number) (Spells (more_values xs then Mark CloseBrace) Behind)) o.0
+              o.1.0 o.1.1)
               (values_named xs (Spells (Mark CloseBrace) Behind) l.0 l.1.0 l.1.1),
           enumerated a.kind behind ws g s,
         )
@@ -281,16 +299,19 @@ item_worded v (AvpIs a) Behind ws g s =
     let m = left_of (Mark At) (Spells (name_is a.name then number_is a.code then type_of v a) Behind) ws g s in
     let t = left_of (name_is a.name then number_is a.code) (Spells (type_of v a) Behind) m.0 m.1.0 m.1.1 in
     let parts = typed v a Behind t.0 t.1.0 t.1.1 in
-    both _ _ (both _ _ (named a.name (Spells (number_is a.code then type_of v a) Behind) m.0 m.1.0 m.1.1) parts.0) parts.1
+    both _ _ (both _ _ (named a.name (Spells (number_is a.code then type_of v a) Behind) m.0 m.1.0 m.1.1) parts.0)
+    parts.1
 item_worded v (GroupIs p) Behind ws g s =
     let behind = Mark Define then Mark Less then group_head v p then Mark Greater then entries p.rule in
     let t = left_of (title p.name) (Spells behind Behind) ws g s in
-    let r = left_of (Mark Define then Mark Less then group_head v p then Mark Greater) (Spells (entries p.rule) Behind) t.0 t.1.0 t.1.1 in
+    let r = left_of (Mark Define then Mark Less then group_head v p then Mark Greater) (Spells (entries p.rule) Behind)
+    t.0 t.1.0 t.1.1 in
     both _ _ (titled p.name (Spells behind Behind) ws g s) (entries_named p.rule Behind r.0 r.1.0 r.1.1)
 item_worded v (CommandIs p) Behind ws g s =
     let behind = Mark Define then Mark Less then command_head p then Mark Greater then entries p.rule in
     let t = left_of (title p.name) (Spells behind Behind) ws g s in
-    let r = left_of (Mark Define then Mark Less then command_head p then Mark Greater) (Spells (entries p.rule) Behind) t.0 t.1.0 t.1.1 in
+    let r = left_of (Mark Define then Mark Less then command_head p then Mark Greater) (Spells (entries p.rule) Behind)
+    t.0 t.1.0 t.1.1 in
     both _ _ (titled p.name (Spells behind Behind) ws g s) (entries_named p.rule Behind r.0 r.1.0 r.1.1)
 
 items_worded : (v : Version) (is : List Written) (Behind : List Word → Type 0) (ws : List Word) → AreGood ws

@@ -39,7 +39,8 @@ group name code rule = record { name = name; code = code; vendor = None; kind = 
 
 -- < NAME > ::= < Diameter Header: CODE, FLAG > RULE
 abbrev pub command : List ℕ → ℕ → Bool → Bool → List Entry → CommandDef
-command name code request err rule = record { name = name; code = code; request = request; proxiable = false; err = err; application = 0; rule = rule }
+command name code request err rule =
+    record { name = name; code = code; request = request; proxiable = false; err = err; application = 0; rule = rule }
 
 abbrev pub plain_avps : List AvpDef
 plain_avps =
@@ -73,16 +74,20 @@ plain_avps =
 -- Wider than RFC 6733 (6.11), which has `{ Vendor-Id }`: RFC 3588 had `1*`, and what was made after it is to pass. That just
 -- one of the two ids stands there (6.11) no rule can say, and it isn't looked at.
 abbrev pub vendor_specific_application_id : AvpDef
-vendor_specific_application_id = group (codes "Vendor-Specific-Application-Id") 260 ((some (codes "Vendor-Id")) ∷ (optional (codes "Auth-Application-Id")) ∷ (optional (codes "Acct-Application-Id")) ∷ [])
+vendor_specific_application_id = group (codes "Vendor-Specific-Application-Id") 260
+    ((some (codes "Vendor-Id")) ∷ (optional (codes "Auth-Application-Id")) ∷ (optional (codes "Acct-Application-Id")) ∷
+    [])
 
 abbrev pub failed_avp : AvpDef
 failed_avp = group (codes "Failed-AVP") 279 ((some (codes "AVP")) ∷ [])
 
 abbrev pub proxy_info : AvpDef
-proxy_info = group (codes "Proxy-Info") 284 ((one (codes "Proxy-Host")) ∷ (one (codes "Proxy-State")) ∷ (any (codes "AVP")) ∷ [])
+proxy_info =
+    group (codes "Proxy-Info") 284 ((one (codes "Proxy-Host")) ∷ (one (codes "Proxy-State")) ∷ (any (codes "AVP")) ∷ [])
 
 abbrev pub experimental_result : AvpDef
-experimental_result = group (codes "Experimental-Result") 297 ((one (codes "Vendor-Id")) ∷ (one (codes "Experimental-Result-Code")) ∷ [])
+experimental_result =
+    group (codes "Experimental-Result") 297 ((one (codes "Vendor-Id")) ∷ (one (codes "Experimental-Result-Code")) ∷ [])
 
 abbrev pub cer : CommandDef
 cer = command (codes "CER") 257 true false

@@ -74,7 +74,8 @@ bound_faults e = low_faults e.qualifier ++ high_faults (min_of e.form e.qualifie
 
 -- one name twice in a rule, and a form that stands too late
 abbrev pub place_faults : List Entry → written.Entry → List DictFault
-place_faults before e = fault_if (is_repeated before e.name.text) (is.Duplicate e.name.line) ++ fault_if (is_late before (form_number e.form)) (is.Order e.name.line)
+place_faults before e = fault_if (is_repeated before e.name.text) (is.Duplicate e.name.line) ++
+    fault_if (is_late before (form_number e.form)) (is.Order e.name.line)
 
 abbrev pub rule_entry_faults : List Entry → written.Entry → List DictFault
 rule_entry_faults before e = bound_faults e ++ place_faults before e
@@ -111,7 +112,8 @@ is_taken avps code (Some vendor) = list_any (is_coded code vendor) avps
 
 abbrev pub code_faults : Definitions → Word → Option Vend → List DictFault
 code_faults d code vend =
-    range_faults limit code ++ fault_if (is_taken d.avps (number code) (vendor_of d.vendors vend)) (is.Duplicate code.line) ++ vend_faults vend
+    range_faults limit code ++ fault_if (is_taken d.avps (number code) (vendor_of d.vendors vend))
+    (is.Duplicate code.line) ++ vend_faults vend
 
 -- the limit of a value that is listed: an Enumerated is signed (4.3.1), and a negative value can't be written
 abbrev pub value_limit : ℕ
@@ -141,7 +143,8 @@ title_faults commands w = fault_if (list_any (is_titled w.text) commands) (is.Du
 
 abbrev pub head_faults : List CommandDef → CommandParts → List DictFault
 head_faults commands p =
-    range_faults command_limit p.code ++ fault_if (list_any (is_headed (number p.code) p.request p.error) commands) (is.Duplicate p.code.line) ++ option_faults limit p.application
+    range_faults command_limit p.code ++ fault_if (list_any (is_headed (number p.code) p.request p.error) commands)
+    (is.Duplicate p.code.line) ++ option_faults limit p.application
 
 abbrev pub command_item_faults : List CommandDef → CommandParts → List DictFault
 command_item_faults commands p = title_faults commands p.name ++ head_faults commands p ++ rule_faults p.rule

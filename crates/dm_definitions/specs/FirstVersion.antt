@@ -8,7 +8,8 @@ use Rattle.dm_definitions.specs.Printed.{type_name, spaced, spaced_number, space
 
 -- @ NAME CODE TYPE VENDOR
 abbrev pub first_plain_line : AvpDef → List ℕ
-first_plain_line d = codes "@ " ++ d.name ++ spaced_number d.code ++ spaced (type_name d.kind) ++ spaced_option d.vendor ++ line_end
+first_plain_line d = codes "@ " ++ d.name ++ spaced_number d.code ++ spaced (type_name d.kind) ++
+    spaced_option d.vendor ++ line_end
 
 abbrev pub first_avp_line : AvpDef → List ℕ
 first_avp_line d = if is_grouped d.kind then group_line d else first_plain_line d

@@ -10,9 +10,12 @@ kind_row r = (r.name.now, r.kind)
 
 abbrev pub kind_names : List (List ℕ × AvpType)
 kind_names =
-    (codes "OctetString", OctetString) ∷ (codes "Integer32", Integer32) ∷ (codes "Integer64", Integer64) ∷ (codes "Unsigned32", Unsigned32)
-    ∷ (codes "Unsigned64", Unsigned64) ∷ (codes "Address", Address) ∷ (codes "Time", Time) ∷ (codes "UTF8String", UTF8String)
-    ∷ (codes "DiameterIdentity", DiameterIdentity) ∷ (codes "DiameterURI", DiameterURI) ∷ (codes "Enumerated", Enumerated) ∷ []
+    (codes "OctetString", OctetString) ∷ (codes "Integer32", Integer32) ∷ (codes "Integer64", Integer64) ∷
+    (codes "Unsigned32", Unsigned32)
+    ∷ (codes "Unsigned64", Unsigned64) ∷ (codes "Address", Address) ∷ (codes "Time", Time) ∷
+    (codes "UTF8String", UTF8String)
+    ∷ (codes "DiameterIdentity", DiameterIdentity) ∷ (codes "DiameterURI", DiameterURI) ∷
+    (codes "Enumerated", Enumerated) ∷ []
 
 -- the type of the first that has the name
 abbrev pub kind_among : List (List ℕ × AvpType) → List ℕ → Option AvpType

@@ -88,13 +88,38 @@ vendor_of vendors (Some (NamedBy w)) = option_map Some (vendor_number vendors w.
 
 -- an unknown type is a fault elsewhere
 abbrev pub avp_def_of : AvpParts → Option ℕ → AvpDef
-avp_def_of p vendor = record { name = p.name.text; code = number p.code; vendor = vendor; kind = unwrap_or (kind_of p.kind.text) OctetString; rule = []; values = map value_of p.values }
+avp_def_of p vendor =
+    record {
+      name = p.name.text;
+      code = number p.code;
+      vendor = vendor;
+      kind = unwrap_or (kind_of p.kind.text) OctetString;
+      rule = [];
+      values = map value_of p.values;
+    }
 
 abbrev pub group_def_of : GroupParts → Option ℕ → AvpDef
-group_def_of p vendor = record { name = p.name.text; code = number p.code; vendor = vendor; kind = Grouped; rule = map entry_of p.rule; values = [] }
+group_def_of p vendor =
+    record {
+      name = p.name.text;
+      code = number p.code;
+      vendor = vendor;
+      kind = Grouped;
+      rule = map entry_of p.rule;
+      values = [];
+    }
 
 abbrev pub command_def_of : CommandParts → CommandDef
-command_def_of p = record { name = p.name.text; code = number p.code; request = p.request; proxiable = p.proxiable; err = p.error; application = unwrap_or (option_map number p.application) 0; rule = map entry_of p.rule }
+command_def_of p =
+    record {
+      name = p.name.text;
+      code = number p.code;
+      request = p.request;
+      proxiable = p.proxiable;
+      err = p.error;
+      application = unwrap_or (option_map number p.application) 0;
+      rule = map entry_of p.rule;
+    }
 
 -- what items make: definitions, and strays, the names of AVPs whose vendor has a name that nothing before them defines
 pub record Made : Type 0 where

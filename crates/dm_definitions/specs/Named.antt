@@ -12,4 +12,5 @@ is_called name e = pointwise nat_eq name e.name
 
 -- the index has, for each name, the place of the first entry of that name
 abbrev pub IsNamed : Inside → Type 0
-IsNamed rule = (name : List ℕ) → get_by (λ k. pointwise nat_eq name k.items) rule.names ≡ position_from (is_called name) 0 rule.items.items
+IsNamed rule = (name : List ℕ) →
+    get_by (λ k. pointwise nat_eq name k.items) rule.names ≡ position_from (is_called name) 0 rule.items.items

@@ -10,12 +10,15 @@ OneDefinition = (text : List ℕ) (old made new : Definitions) → Defines text 
 
 -- one fault at most is a text's first
 abbrev pub OneFault : Type 0
-OneFault = (text : List ℕ) (old : Definitions) (f g : DictFault) → IsFirstFault text old f → IsFirstFault text old g → f ≡ g
+OneFault = (text : List ℕ) (old : Definitions) (f g : DictFault) → IsFirstFault text old f → IsFirstFault text old g →
+    f ≡ g
 
 -- a text that defines something has no first fault
 abbrev pub NoDefinitionRefused : Type 0
-NoDefinitionRefused = (text : List ℕ) (old new : Definitions) (f : DictFault) → Defines text old new → IsFirstFault text old f → ⊥
+NoDefinitionRefused = (text : List ℕ) (old new : Definitions) (f : DictFault) → Defines text old new →
+    IsFirstFault text old f → ⊥
 
 -- a text defines something or has a first fault
 abbrev pub SomeOutcome : Type 0
-SomeOutcome = (text : List ℕ) (old : Definitions) → ((new : Definitions) × Defines text old new) ⊎ ((f : DictFault) × IsFirstFault text old f)
+SomeOutcome = (text : List ℕ) (old : Definitions) →
+    ((new : Definitions) × Defines text old new) ⊎ ((f : DictFault) × IsFirstFault text old f)

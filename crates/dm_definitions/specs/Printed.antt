@@ -109,11 +109,13 @@ flag_text flag text = if flag then text else []
 
 -- the flags that hold
 abbrev pub flags_text : CommandDef → List ℕ
-flags_text c = flag_text c.request (codes ", REQ") ++ flag_text c.proxiable (codes ", PXY") ++ flag_text c.err (codes ", ERR")
+flags_text c = flag_text c.request (codes ", REQ") ++ flag_text c.proxiable (codes ", PXY") ++
+    flag_text c.err (codes ", ERR")
 
 -- > ::= < Diameter Header: CODE, REQ, PXY, ERR APPLICATION
 abbrev pub command_head : CommandDef → List ℕ
-command_head c = codes " > ::= < Diameter Header:" ++ spaced_number c.code ++ flags_text c ++ spaced_number c.application
+command_head c = codes " > ::= < Diameter Header:" ++ spaced_number c.code ++ flags_text c ++
+    spaced_number c.application
 
 -- < NAME, then the head and the rule
 abbrev pub command_line : CommandDef → List ℕ
@@ -133,4 +135,5 @@ version_line d = if is_first_version d then [] else codes "@ 2" ++ line_end
 
 -- the vendors, then the AVPs, then the commands
 abbrev pub printed : Definitions → List ℕ
-printed d = version_line d ++ flat_map vendor_line d.vendors ++ flat_map avp_line d.avps ++ flat_map command_line d.commands
+printed d = version_line d ++ flat_map vendor_line d.vendors ++ flat_map avp_line d.avps ++
+    flat_map command_line d.commands

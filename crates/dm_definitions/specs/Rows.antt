@@ -11,7 +11,24 @@ abbrev pub row_entry : EntryRow → Entry
 row_entry r = record { form = r.form; name = r.name.now; min = r.min; max = r.max }
 
 abbrev pub row_avp : AvpRow → AvpDef
-row_avp r = record { name = r.name.now; code = r.code; vendor = None; kind = r.kind; rule = map row_entry r.rule.now; values = [] }
+row_avp r =
+    record {
+      name = r.name.now;
+      code = r.code;
+      vendor = None;
+      kind = r.kind;
+      rule = map row_entry r.rule.now;
+      values = [];
+    }
 
 abbrev pub row_command : CommandRow → CommandDef
-row_command r = record { name = r.name.now; code = r.code; request = r.request; proxiable = false; err = r.err; application = 0; rule = map row_entry r.rule.now }
+row_command r =
+    record {
+      name = r.name.now;
+      code = r.code;
+      request = r.request;
+      proxiable = false;
+      err = r.err;
+      application = 0;
+      rule = map row_entry r.rule.now;
+    }

@@ -54,7 +54,8 @@ each_after test before [] = true
 each_after test before (d ∷ ds) = test before d && each_after test (before ++ d ∷ []) ds
 
 abbrev pub is_sound_entry : List Entry → Entry → Bool
-is_sound_entry before e = is_proper_name e.name && fits e.min && bounds e.min e.max && not (is_repeated before e.name) && not (is_late before (form_number e.form))
+is_sound_entry before e = is_proper_name e.name && fits e.min && bounds e.min e.max &&
+    not (is_repeated before e.name) && not (is_late before (form_number e.form))
 
 abbrev pub is_sound_rule : List Entry → Bool
 is_sound_rule rule = each_after is_sound_entry [] rule
@@ -78,7 +79,8 @@ is_value name v = pointwise nat_eq name v.name
 
 -- a name and a number of its own
 abbrev pub is_sound_value : List EnumValue → EnumValue → Bool
-is_sound_value before v = is_proper_name v.name && not (list_any (is_value v.name) before) && is_listable v.number && not (list_any (has_number v.number) before)
+is_sound_value before v = is_proper_name v.name && not (list_any (is_value v.name) before) && is_listable v.number &&
+    not (list_any (has_number v.number) before)
 
 abbrev pub is_sound_list : List EnumValue → Bool
 is_sound_list values = each_after is_sound_value [] values
@@ -121,7 +123,8 @@ abbrev pub knows_rule : List AvpDef → List Entry → Bool
 knows_rule avps rule = list_all (is_known avps) rule
 
 abbrev pub is_sound : Definitions → Bool
-is_sound d = each_after is_sound_vendor [] d.vendors && each_after is_sound_avp [] d.avps && each_after is_sound_command [] d.commands
+is_sound d = each_after is_sound_vendor [] d.vendors && each_after is_sound_avp [] d.avps &&
+    each_after is_sound_command [] d.commands
 
 abbrev pub is_closed : Definitions → Bool
 is_closed d = list_all (λ a. knows_rule d.avps a.rule) d.avps && list_all (λ c. knows_rule d.avps c.rule) d.commands

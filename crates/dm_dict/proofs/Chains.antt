@@ -53,7 +53,11 @@ pub looked_up : (G : List Entry → Avp → List Fault) (b c : Bool) (a : Avp) (
 looked_up G b c a f g o eb ef h = rw (← eb, ← ef) h
 
 -- one AVP more is counted
-pub counted_step : (avps : List AvpDef) (rule : List Entry) (all m k : List Avp) (a : Avp) (start : ℕ) (old new : List ℕ) (at : Option ℕ) → IsCountedBut avps rule all m start old → m ≡ a ∷ k → ((i : ℕ) → i < 128 → slice_index new i ≡ slice_index old i + (if is_at at (start + i) then 1 else 0)) → ((i : ℕ) (e : Entry) → i < length rule → e ≡ slice_index_or rule i e → is_at at i ≡ counts rule e (definition avps a)) → IsCountedBut avps rule all k start new
+pub counted_step : (avps : List AvpDef) (rule : List Entry) (all m k : List Avp) (a : Avp) (start : ℕ)
+    (old new : List ℕ) (at : Option ℕ) → IsCountedBut avps rule all m start old → m ≡ a ∷ k →
+    ((i : ℕ) → i < 128 → slice_index new i ≡ slice_index old i + (if is_at at (start + i) then 1 else 0)) →
+    ((i : ℕ) (e : Entry) → i < length rule → e ≡ slice_index_or rule i e →
+    is_at at i ≡ counts rule e (definition avps a)) → IsCountedBut avps rule all k start new
 counted_step avps rule all m k a start old new at before_one is one place = λ i e b w here.
     by i e (counts rule e (definition avps a)) refl (one i b) (place (start + i) e w here)
     (rw is at (before_one i e b w here))

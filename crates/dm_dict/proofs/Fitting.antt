@@ -35,14 +35,18 @@ or_end false = refl
 
 -- in a sound rule each name stands once, and no name of those before
 apart_by : (name : List ℕ) (before rule : List Entry) → each_after is_sound_entry before rule ≡ true
-    → AtMostOne (is_called name) rule × (list_any (is_called name) before ≡ true → list_any (is_called name) rule ≡ false)
+    → AtMostOne (is_called name) rule ×
+    (list_any (is_called name) before ≡ true → list_any (is_called name) rule ≡ false)
 apart_by name before [] h = (tt, λ some. refl)
 apart_by name before (e ∷ es) h =
     let (first, rest) = and_parts (is_sound_entry before e) (each_after is_sound_entry (before ++ e ∷ []) es) h in
     let (named, late) = and_parts _ _ first in
     let (bounded, new) = and_parts _ _ named in
     let (one, none) = apart_by name (before ++ e ∷ []) es rest in (
-      (λ t. none (list_any-append (is_called name) before (e ∷ []) ∙ rw t (or_end (list_any (is_called name) before))), one),
+      (
+        λ t. none (list_any-append (is_called name) before (e ∷ []) ∙ rw t (or_end (list_any (is_called name) before))),
+        one,
+      ),
       λ some. by (is_called name e) refl some (is_not _ new) none,
     )
   where
@@ -85,9 +89,11 @@ sound_avp before f h =
 -- the definitions of a sound dictionary
 pub fit : (d : Definitions) → is_sound d ≡ true → IsFit d.avps
 fit d h =
-    let (before_commands, commands) = and_parts (each_after is_sound_vendor [] d.vendors && each_after is_sound_avp [] d.avps)
+    let (before_commands, commands) =
+    and_parts (each_after is_sound_vendor [] d.vendors && each_after is_sound_avp [] d.avps)
     (each_after is_sound_command [] d.commands) h in
-    let (vendors, avps) = and_parts (each_after is_sound_vendor [] d.vendors) (each_after is_sound_avp [] d.avps) before_commands in
+    let (vendors, avps) = and_parts (each_after is_sound_vendor [] d.vendors) (each_after is_sound_avp [] d.avps)
+    before_commands in
     let sound = λ (code : ℕ) (vendor : Option ℕ) (f : AvpDef)
     (e : find (is_coded code vendor) d.avps ≡ Some f). found_sound is_sound_avp
     (is_coded code vendor) [] d.avps f avps e in
@@ -100,9 +106,11 @@ fit d h =
 pub apart_command : (d : Definitions) (code : ℕ) (request err : Bool) (c : CommandDef) → is_sound d ≡ true
     → find (is_headed code request err) d.commands ≡ Some c → IsApart c.rule
 apart_command d code request err c h e =
-    let (before_commands, commands) = and_parts (each_after is_sound_vendor [] d.vendors && each_after is_sound_avp [] d.avps)
+    let (before_commands, commands) =
+    and_parts (each_after is_sound_vendor [] d.vendors && each_after is_sound_avp [] d.avps)
     (each_after is_sound_command [] d.commands) h in
-    let (vendors, avps) = and_parts (each_after is_sound_vendor [] d.vendors) (each_after is_sound_avp [] d.avps) before_commands in
+    let (vendors, avps) = and_parts (each_after is_sound_vendor [] d.vendors) (each_after is_sound_avp [] d.avps)
+    before_commands in
     let (before, s) = found_sound is_sound_command (is_headed code request err) [] d.commands c commands e in
     let (h5, rule) = and_parts _ _ s in
     apart_rule c.rule rule

@@ -89,7 +89,9 @@ kept_avp law n avps group rule a (Some f) h =
     )
 
 kept_each : FlawDecides → (n : ℕ) (avps : List AvpDef) → HoldsGroups n avps → (rule : List Entry) (l : List Avp)
-    → first (flat_map (λ a. avp_faults (group_faults n avps) (allows (entry_for rule (definition avps a))) a (definition avps a)) l) ≡ None → Each (λ a. KeepsAs (KeepsTo n avps) rule a (definition avps a)) l
+    → first (flat_map
+    (λ a. avp_faults (group_faults n avps) (allows (entry_for rule (definition avps a))) a (definition avps a)) l) ≡
+    None → Each (λ a. KeepsAs (KeepsTo n avps) rule a (definition avps a)) l
 kept_each law n avps group rule [] h = tt
 kept_each law n avps group rule (a ∷ l) h =
     let A = λ (x : Avp). avp_faults (group_faults n avps) (allows (entry_for rule (definition avps x))) x
@@ -130,4 +132,9 @@ good_kept law d m h = by (command_for d m.header) refl h where
   by (Some c) e g =
       let (bits, list) = none_both (if wrong_bits m.header then fault_without_avp invalid_hdr_bits else [])
       (list_faults 8 d.avps c.rule m.avps) g in
-      record { command = c; defined = e; bits = is_clear (wrong_bits m.header) _ bits; keeps = kept_list law 8 d.avps c.rule m.avps list }
+      record {
+        command = c;
+        defined = e;
+        bits = is_clear (wrong_bits m.header) _ bits;
+        keeps = kept_list law 8 d.avps c.rule m.avps list;
+      }

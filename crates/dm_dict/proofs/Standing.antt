@@ -140,7 +140,8 @@ counts_at_place rule f p q apart own pe qe i e h at = by (stands_for_any e) refl
   named = (rw from_zero at (spot (names f) 0 rule i e h (one_named f rule apart))) ∙ ap (names f) (sym at)
 
   any : is_at q i ≡ stands_for_any e
-  any = ap (λ o. is_at o i) qe ∙ (rw from_zero at (spot stands_for_any 0 rule i e h (apart (codes "AVP")))) ∙ ap stands_for_any (sym at)
+  any = ap (λ o. is_at o i) qe ∙ (rw from_zero at (spot stands_for_any 0 rule i e h (apart (codes "AVP")))) ∙
+      ap stands_for_any (sym at)
 
   some : is_some (position_from (names f) 0 rule) ≡ list_any (names f) rule
   some = is_found (names f) 0 rule

@@ -36,7 +36,8 @@ not_left_out true a h = absurd (cc)
 not_left_out false a h = refl
 
 -- data of a type without a fault, and of its list; of a group what its faults say
-pub typed_data : FlawDecides → (inside : List Avp → Type 0) (kind : AvpType) (values : List EnumValue) (g : List Fault) (a : Avp)
+pub typed_data : FlawDecides →
+    (inside : List Avp → Type 0) (kind : AvpType) (values : List EnumValue) (g : List Fault) (a : Avp)
     → (first g ≡ None → IsTypedData inside Grouped a.bytes) → first (data_faults kind values g a) ≡ None
     → IsTypedData inside kind a.bytes × (is_left_out kind values a.bytes ≡ false)
 typed_data law inside Grouped values g a group h = (group h, refl)

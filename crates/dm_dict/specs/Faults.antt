@@ -64,7 +64,8 @@ is_failed_avp a = nat_eq a.code failed_avp && option_eq nat_eq a.vendor None
 abbrev pub avp_faults : (List Entry → Avp → List Fault) → Bool → Avp → Option AvpDef → List Fault
 avp_faults groups allowed a None = if a.mandatory then fault_of avp_unsupported a else []
 avp_faults groups allowed a (Some f) =
-    (if allowed then [] else fault_of avp_not_allowed a) ++ (if is_failed_avp a then [] else data_faults f.kind f.values (groups f.rule a) a)
+    (if allowed then [] else fault_of avp_not_allowed a) ++
+    (if is_failed_avp a then [] else data_faults f.kind f.values (groups f.rule a) a)
 
 -- the example of an AVP that is missing: zeros of its type's least length (7.5); `AVP` has none
 abbrev pub example_of : AvpDef → Avp
@@ -83,7 +84,8 @@ example avps e = if stands_for_any e then None else option_map example_of (find 
 -- more than max, where max isn't 0: 5009 with the first instance past the maximum (7.1.5)
 abbrev pub excess_faults : Option ℕ → List Avp → List Fault
 excess_faults None l = []
-excess_faults (Some max) l = if nat_lt 0 max && nat_lt max (length l) then record { code = avp_occurs_too_many_times; failed = slice_get l max } ∷ [] else []
+excess_faults (Some max) l = if nat_lt 0 max && nat_lt max (length l) then
+    record { code = avp_occurs_too_many_times; failed = slice_get l max } ∷ [] else []
 
 -- One entry of the rule: 5005 where the list has fewer than min (7.1.5), 5009 where it has more than max. That a fixed entry
 -- 'defines the fixed position of an AVP' (3.2) isn't looked at: section 7.1 has no Result-Code for it, and Session-Id, the
@@ -130,7 +132,8 @@ wrong_bits h = (h.request && h.error) || (not h.request && h.retransmit)
 -- other (7.1.3)
 abbrev pub message_faults : List AvpDef → Message → Option CommandDef → List Fault
 message_faults avps m None = fault_without_avp command_unsupported
-message_faults avps m (Some c) = (if wrong_bits m.header then fault_without_avp invalid_hdr_bits else []) ++ list_faults 8 avps c.rule m.avps
+message_faults avps m (Some c) = (if wrong_bits m.header then fault_without_avp invalid_hdr_bits else []) ++
+    list_faults 8 avps c.rule m.avps
 
 abbrev pub faults : Definitions → Message → List Fault
 faults d m = message_faults d.avps m (command_for d m.header)

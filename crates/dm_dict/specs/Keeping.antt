@@ -20,7 +20,9 @@ pub record MayStand (rule : List Entry) (f : AvpDef) : Type 0 where
 -- a group are as `inside` says under the group's own rule. One that isn't defined has no M bit
 abbrev pub KeepsAs : (List Entry → List Avp → Type 0) → List Entry → Avp → Option AvpDef → Type 0
 KeepsAs inside rule a None = a.mandatory ≡ false
-KeepsAs inside rule a (Some f) = MayStand rule f × (is_failed_avp a ≡ false → IsTypedData (inside f.rule) f.kind a.bytes × (is_left_out f.kind f.values a.bytes ≡ false))
+KeepsAs inside rule a (Some f) = MayStand rule f ×
+    (is_failed_avp a ≡ false →
+    IsTypedData (inside f.rule) f.kind a.bytes × (is_left_out f.kind f.values a.bytes ≡ false))
 
 -- so many AVPs are no fewer than the entry's min, and no more than its max, where that isn't 0
 abbrev pub IsWithinBounds : Entry → ℕ → Type 0
@@ -30,7 +32,8 @@ IsWithinBounds e n = (e.min ≤ n) × IfSome e.max (λ max. 0 < max → n ≤ ma
 abbrev pub KeepsTo : ℕ → List AvpDef → List Entry → List Avp → Type 0
 KeepsTo zero avps rule l = Unit {0}
 KeepsTo (suc n) avps rule l =
-    Each (λ a. KeepsAs (KeepsTo n avps) rule a (definition avps a)) l × Each (λ e. IsWithinBounds e (count avps rule l e)) rule
+    Each (λ a. KeepsAs (KeepsTo n avps) rule a (definition avps a)) l ×
+    Each (λ e. IsWithinBounds e (count avps rule l e)) rule
 
 -- the command of the message is defined, the bits of its header are right (3), and its AVPs and those of the eight groups inside
 -- each other keep to their rules

@@ -10,14 +10,26 @@ use Rattle.dm_framer.specs.Frames.{message_length, IsFrame, HasFault, IsFaultOf,
 use Rattle.dm_framer.proofs.Fronts.{Front, front, frame_taken, no_fault_at, one_frame, one_fault, partial_empty, partial_header, partial_body, version_front, length_front}
 
 -- one frame more, in front
-pub frame_before : (max : ℕ) (s f : List ℕ) (frames : List (List ℕ)) (rest : List ℕ) (fault : Option FrameFault) → IsFrame max f → Framed max s frames rest fault → Framed max (f ++ s) (f ∷ frames) rest fault
+pub frame_before : (max : ℕ) (s f : List ℕ) (frames : List (List ℕ)) (rest : List ℕ) (fault : Option FrameFault) →
+    IsFrame max f → Framed max s frames rest fault → Framed max (f ++ s) (f ∷ frames) rest fault
 frame_before max s f frames rest fault is h =
-    record { whole = ap (λ l. f ++ l) h.whole ∙ sym (append_assoc f (concat frames) rest); each = (is, h.each); longest = h.longest; fault_is = h.fault_is }
+    record {
+      whole = ap (λ l. f ++ l) h.whole ∙ sym (append_assoc f (concat frames) rest);
+      each = (is, h.each);
+      longest = h.longest;
+      fault_is = h.fault_is;
+    }
 
 -- a fault leaves no frame at the front
 pub fault_alone : (max : ℕ) (s : List ℕ) (fault : FrameFault) → HasFault max s fault → Framed max s [] s (Some fault)
 fault_alone max s fault h =
-    record { whole = refl; each = tt; longest = λ f t is at. no_fault_at max (length f) s fault (front max s f t is at) h; fault_is = h }
+    record {
+      whole = refl;
+      each = tt;
+      longest = λ f t is at. no_fault_at max (length f) s fault (front max s f t is at)
+          h;
+      fault_is = h;
+    }
 
 pub partial_alone : (max : ℕ) (s : List ℕ) → IsPartial max s → Framed max s [] s None
 partial_alone max s h = record { whole = refl; each = tt; longest = h.no_frame; fault_is = h.no_fault }
@@ -34,15 +46,20 @@ stands max s = by_empty (cases_eq (length s) 0)
     n : ℕ
     n = message_length s
 
-    by_whole : slice_index s 0 ≡ 1 → 20 ≤ message_length s → message_length s % 4 ≡ 0 → message_length s ≤ max → (length s < message_length s) ⊎ (message_length s ≤ length s) → Stands max s
+    by_whole : slice_index s 0 ≡ 1 → 20 ≤ message_length s → message_length s % 4 ≡ 0 → message_length s ≤ max →
+        (length s < message_length s) ⊎ (message_length s ≤ length s) → Stands max s
     by_whole v low four most (inl less) = a_part (partial_body max s v low four most less)
-    by_whole v low four most (inr all) = a_frame (message_length s) (record { version = v; size = refl; least = low; aligned = four; most = most; within = all })
+    by_whole v low four most (inr all) =
+        a_frame (message_length s)
+        (record { version = v; size = refl; least = low; aligned = four; most = most; within = all })
 
-    by_most : slice_index s 0 ≡ 1 → 4 ≤ length s → 20 ≤ message_length s → message_length s % 4 ≡ 0 → (max < message_length s) ⊎ (message_length s ≤ max) → Stands max s
+    by_most : slice_index s 0 ≡ 1 → 4 ≤ length s → 20 ≤ message_length s → message_length s % 4 ≡ 0 →
+        (max < message_length s) ⊎ (message_length s ≤ max) → Stands max s
     by_most v l low four (inl above) = a_fault TooLong (l, v, low, four, above)
     by_most v l low four (inr most) = by_whole v low four most (cases_lt (length s) (message_length s))
 
-    by_four : slice_index s 0 ≡ 1 → 4 ≤ length s → 20 ≤ message_length s → (message_length s % 4 ≡ 0) ⊎ (message_length s % 4 ≡ 0 → ⊥) → Stands max s
+    by_four : slice_index s 0 ≡ 1 → 4 ≤ length s → 20 ≤ message_length s →
+        (message_length s % 4 ≡ 0) ⊎ (message_length s % 4 ≡ 0 → ⊥) → Stands max s
     by_four v l low (inl four) = by_most v l low four (cases_lt max (message_length s))
     by_four v l low (inr odd) = a_fault BadLength (l, v, inr odd)
 
@@ -74,8 +91,17 @@ framed_at max s (a_frame k f) rest =
     let l : 20 ≤ k = f.least in
     let later = rest k (omega arith) f.within in
     let whole : take k s ++ drop k s ≡ s = take-append-drop k s in
-    let joined = frame_before max (drop k s) (take k s) later.0 later.1 later.2 (frame_taken max k s f) later.3 in
-    (take k s ∷ later.0, later.1, later.2, record { whole = sym whole ∙ joined.whole; each = joined.each; longest = joined.longest; fault_is = joined.fault_is })
+    let joined = frame_before max (drop k s) (take k s) later.0 later.1 later.2 (frame_taken max k s f) later.3 in (
+      take k s ∷ later.0,
+      later.1,
+      later.2,
+      record {
+        whole = sym whole ∙ joined.whole;
+        each = joined.each;
+        longest = joined.longest;
+        fault_is = joined.fault_is;
+      },
+    )
 
 -- a stream of at most n octets is framed
 framed_within : (n max : ℕ) (s : List ℕ) → length s ≤ n → Cut max s
@@ -83,7 +109,8 @@ framed_within zero max s h = framed_at max s (stands max s) (λ k pos w. absurd 
 framed_within (suc n) max s h =
     framed_at max s (stands max s) (λ k pos w. framed_within n max (drop k s) (omega (arith, length-drop k s)))
 
-pub each_stream_is_framed : (max : ℕ) (s : List ℕ) → (frames : List (List ℕ)) × (rest : List ℕ) × (fault : Option FrameFault) × Framed max s frames rest fault
+pub each_stream_is_framed : (max : ℕ) (s : List ℕ) →
+    (frames : List (List ℕ)) × (rest : List ℕ) × (fault : Option FrameFault) × Framed max s frames rest fault
 each_stream_is_framed max s = framed_within (length s) max s (omega arith)
 
 -- a front has one fault at most
@@ -96,11 +123,14 @@ same_fault max s (Some f) (Some g) h k = ap (λ v. Some v) (one_fault max s f g 
 same_cons : (f g : List ℕ) (frames others : List (List ℕ)) → f ≡ g → frames ≡ others → f ∷ frames ≡ g ∷ others
 same_cons f g frames others e d = rw (e, d) refl
 
-same_fault_along : (max : ℕ) (s t : List ℕ) (f g : Option FrameFault) → s ≡ t → IsFaultOf max s f → IsFaultOf max t g → f ≡ g
+same_fault_along : (max : ℕ) (s t : List ℕ) (f g : Option FrameFault) → s ≡ t → IsFaultOf max s f → IsFaultOf max t g →
+    f ≡ g
 same_fault_along max s t f g e h k = same_fault max s f g h (rw e k)
 
 -- a stream is framed in one way
-pub one_framing : (max : ℕ) (s : List ℕ) (frames others : List (List ℕ)) (rest left : List ℕ) (fault other : Option FrameFault) → Framed max s frames rest fault → Framed max s others left other → (frames ≡ others) × (rest ≡ left) × (fault ≡ other)
+pub one_framing : (max : ℕ) (s : List ℕ) (frames others : List (List ℕ)) (rest left : List ℕ)
+    (fault other : Option FrameFault) → Framed max s frames rest fault → Framed max s others left other →
+    (frames ≡ others) × (rest ≡ left) × (fault ≡ other)
 one_framing max s [] [] rest left fault other h k =
     let e : rest ≡ left = sym h.whole ∙ k.whole in
     (refl, e, same_fault_along max rest left fault other e h.fault_is k.fault_is)
@@ -117,14 +147,18 @@ one_framing max s (f ∷ frames) (g ∷ others) rest left fault other h k =
     (record { whole = same.1; each = k.each.1; longest = k.longest; fault_is = k.fault_is }) in
     (same_cons f g frames others same.0 later.0, later.1, later.2)
 
-all_append : (max : ℕ) (l k : List (List ℕ)) → AllByRecursion (IsFrame max) l → AllByRecursion (IsFrame max) k → AllByRecursion (IsFrame max) (l ++ k)
+all_append : (max : ℕ) (l k : List (List ℕ)) → AllByRecursion (IsFrame max) l → AllByRecursion (IsFrame max) k →
+    AllByRecursion (IsFrame max) (l ++ k)
 all_append max [] k h g = g
 all_append max (f ∷ l) k h g = (h.0, all_append max l k h.1 g)
 
-pub cuts : (max : ℕ) (s t : List ℕ) (frames more : List (List ℕ)) (rest left : List ℕ) (fault : Option FrameFault) → Framed max s frames rest None → Framed max (rest ++ t) more left fault → Framed max (s ++ t) (frames ++ more) left fault
+pub cuts : (max : ℕ) (s t : List ℕ) (frames more : List (List ℕ)) (rest left : List ℕ) (fault : Option FrameFault) →
+    Framed max s frames rest None → Framed max (rest ++ t) more left fault →
+    Framed max (s ++ t) (frames ++ more) left fault
 cuts max s t frames more rest left fault h k =
     record {
-      whole = ap (λ l. l ++ t) h.whole ∙ append_assoc (concat frames) rest t ∙ ap (λ l. concat frames ++ l) k.whole ∙ sym (append_assoc (concat frames) (concat more) left) ∙ ap (λ l. l ++ left) (sym (concat-append frames more));
+      whole = ap (λ l. l ++ t) h.whole ∙ append_assoc (concat frames) rest t ∙ ap (λ l. concat frames ++ l) k.whole ∙
+          sym (append_assoc (concat frames) (concat more) left) ∙ ap (λ l. l ++ left) (sym (concat-append frames more));
       each = all_append max frames more h.each k.each;
       longest = k.longest;
       fault_is = k.fault_is;
@@ -141,7 +175,8 @@ fault_front max s t TooLong h =
     (omega (arith, length-append s t, h.0), version_front s t (omega (arith, h.0)) ∙ h.1, rw e h.2, rw e h.3, rw e h.4)
 fault_front max s t NoMemory h = h
 
-pub fault_stays : (max : ℕ) (s t : List ℕ) (frames : List (List ℕ)) (rest : List ℕ) (fault : FrameFault) → Framed max s frames rest (Some fault) → Framed max (s ++ t) frames (rest ++ t) (Some fault)
+pub fault_stays : (max : ℕ) (s t : List ℕ) (frames : List (List ℕ)) (rest : List ℕ) (fault : FrameFault) →
+    Framed max s frames rest (Some fault) → Framed max (s ++ t) frames (rest ++ t) (Some fault)
 fault_stays max s t frames rest fault h =
     let stays = fault_alone max (rest ++ t) fault (fault_front max rest t fault h.fault_is) in
     record {
@@ -151,31 +186,45 @@ fault_stays max s t frames rest fault h =
       fault_is = stays.fault_is;
     }
 
-pub whole_frames : (max : ℕ) (frames : List (List ℕ)) → AllByRecursion (IsFrame max) frames → Framed max (concat frames) frames [] None
+pub whole_frames : (max : ℕ) (frames : List (List ℕ)) → AllByRecursion (IsFrame max) frames →
+    Framed max (concat frames) frames [] None
 whole_frames max frames each =
     let nothing = partial_empty max [] refl in
-    record { whole = sym (append-nil (concat frames)); each = each; longest = nothing.no_frame; fault_is = nothing.no_fault }
+    record {
+      whole = sym (append-nil (concat frames));
+      each = each;
+      longest = nothing.no_frame;
+      fault_is = nothing.no_fault;
+    }
 
 -- what a frame at the front says of a framing
-pub frame_is_first : (max n : ℕ) (s m : List ℕ) (frames : List (List ℕ)) (rest : List ℕ) (fault : Option FrameFault) → IsFrame max (take n s) → Framed max s (m ∷ frames) rest fault → (take n s ≡ m) × (drop n s ≡ concat frames ++ rest)
+pub frame_is_first : (max n : ℕ) (s m : List ℕ) (frames : List (List ℕ)) (rest : List ℕ) (fault : Option FrameFault) →
+    IsFrame max (take n s) → Framed max s (m ∷ frames) rest fault → (take n s ≡ m) × (drop n s ≡ concat frames ++ rest)
 frame_is_first max n s m frames rest fault is h =
-    one_frame max (take n s) m (drop n s) (concat frames ++ rest) is h.each.0 (take-append-drop n s ∙ h.whole ∙ append_assoc m (concat frames) rest)
+    one_frame max (take n s) m (drop n s) (concat frames ++ rest) is h.each.0
+    (take-append-drop n s ∙ h.whole ∙ append_assoc m (concat frames) rest)
 
-pub frame_goes_first : (max n : ℕ) (s rest : List ℕ) (fault : Option FrameFault) → IsFrame max (take n s) → Framed max s [] rest fault → ⊥
+pub frame_goes_first : (max n : ℕ) (s rest : List ℕ) (fault : Option FrameFault) → IsFrame max (take n s) →
+    Framed max s [] rest fault → ⊥
 frame_goes_first max n s rest fault is h = h.longest (take n s) (drop n s) is (sym h.whole ∙ sym (take-append-drop n s))
 
 -- what a fault at the front says of a framing
-pub fault_has_no_frame : (max : ℕ) (s m : List ℕ) (frames : List (List ℕ)) (rest : List ℕ) (fault : Option FrameFault) (found : FrameFault) → HasFault max s found → Framed max s (m ∷ frames) rest fault → ⊥
+pub fault_has_no_frame : (max : ℕ) (s m : List ℕ) (frames : List (List ℕ)) (rest : List ℕ) (fault : Option FrameFault)
+    (found : FrameFault) → HasFault max s found → Framed max s (m ∷ frames) rest fault → ⊥
 fault_has_no_frame max s m frames rest fault found is h =
-    (fault_alone max s found is).longest m (concat frames ++ rest) h.each.0 (h.whole ∙ append_assoc m (concat frames) rest)
+    (fault_alone max s found is).longest m (concat frames ++ rest) h.each.0
+    (h.whole ∙ append_assoc m (concat frames) rest)
 
-pub fault_is_told : (max : ℕ) (s rest : List ℕ) (fault : Option FrameFault) (found : FrameFault) → HasFault max s found → Framed max s [] rest fault → Some found ≡ fault
+pub fault_is_told : (max : ℕ) (s rest : List ℕ) (fault : Option FrameFault) (found : FrameFault) →
+    HasFault max s found → Framed max s [] rest fault → Some found ≡ fault
 fault_is_told max s rest fault found is h = same_fault_along max s rest (Some found) fault h.whole is h.fault_is
 
 -- what a part of a message says of a framing
-pub part_has_no_frame : (max : ℕ) (s m : List ℕ) (frames : List (List ℕ)) (rest : List ℕ) (fault : Option FrameFault) → IsPartial max s → Framed max s (m ∷ frames) rest fault → ⊥
+pub part_has_no_frame : (max : ℕ) (s m : List ℕ) (frames : List (List ℕ)) (rest : List ℕ) (fault : Option FrameFault) →
+    IsPartial max s → Framed max s (m ∷ frames) rest fault → ⊥
 part_has_no_frame max s m frames rest fault is h =
     is.no_frame m (concat frames ++ rest) h.each.0 (h.whole ∙ append_assoc m (concat frames) rest)
 
-pub part_has_no_fault : (max : ℕ) (s rest : List ℕ) (fault : Option FrameFault) → IsPartial max s → Framed max s [] rest fault → None ≡ fault
+pub part_has_no_fault : (max : ℕ) (s rest : List ℕ) (fault : Option FrameFault) → IsPartial max s →
+    Framed max s [] rest fault → None ≡ fault
 part_has_no_fault max s rest fault is h = same_fault_along max s rest None fault h.whole is.no_fault h.fault_is

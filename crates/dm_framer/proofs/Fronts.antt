@@ -72,10 +72,13 @@ pub one_frame : (max : ℕ) (f g t u : List ℕ) → IsFrame max f → IsFrame m
 one_frame max f g t u is also e =
     let a = front max (f ++ t) f t is refl in
     let b = front max (f ++ t) g u also e in
-    let n : length g ≡ length f = sym b.size ∙ a.size in
-    (sym (take_at f t (length f) refl) ∙ ap (take (length f)) e ∙ take_at g u (length f) n, sym (drop_at f t (length f) refl) ∙ ap (drop (length f)) e ∙ drop_at g u (length f) n)
+    let n : length g ≡ length f = sym b.size ∙ a.size in (
+      sym (take_at f t (length f) refl) ∙ ap (take (length f)) e ∙ take_at g u (length f) n,
+      sym (drop_at f t (length f) refl) ∙ ap (drop (length f)) e ∙ drop_at g u (length f) n,
+    )
 
-short_and_long : (s : List ℕ) → (message_length s < 20) ⊎ (message_length s % 4 ≢ 0) → 20 ≤ message_length s → message_length s % 4 ≡ 0 → ⊥
+short_and_long : (s : List ℕ) → (message_length s < 20) ⊎ (message_length s % 4 ≢ 0) → 20 ≤ message_length s →
+    message_length s % 4 ≡ 0 → ⊥
 short_and_long s (inl low) least four = omega arith
 short_and_long s (inr odd) least four = odd four
 
@@ -116,7 +119,8 @@ partial_header max s v e = record {
   none TooLong h = let l = h.0 in omega arith
   none NoMemory h = h
 
-pub partial_body : (max : ℕ) (s : List ℕ) → slice_index s 0 ≡ 1 → 20 ≤ message_length s → message_length s % 4 ≡ 0 → message_length s ≤ max → length s < message_length s → IsPartial max s
+pub partial_body : (max : ℕ) (s : List ℕ) → slice_index s 0 ≡ 1 → 20 ≤ message_length s → message_length s % 4 ≡ 0 →
+    message_length s ≤ max → length s < message_length s → IsPartial max s
 partial_body max s v low four most e = record {
   no_frame = λ f t is at. let a = front max s f t is at in let l = a.size in let w = a.within in omega arith;
   no_fault = none;

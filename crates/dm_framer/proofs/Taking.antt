@@ -19,21 +19,32 @@ abbrev with_octets : ℕ → Option FrameFault → List ℕ → Stream
 with_octets max fault octets = record { octets = octets; max = max; fault = fault }
 
 -- where a frame stands, a stream with no frame is not held
-pub no_frame_missed : (buffer : List ℕ) (taken size max : ℕ) (fault : Option FrameFault) (now : Stream) → stream_of buffer taken max fault ≡ now → IsFrame max (take size (untaken buffer taken)) → (rest : List ℕ) (f : Option FrameFault) → Framed now.max now.octets [] rest f → ⊥
+pub no_frame_missed : (buffer : List ℕ) (taken size max : ℕ) (fault : Option FrameFault) (now : Stream) →
+    stream_of buffer taken max fault ≡ now → IsFrame max (take size (untaken buffer taken)) →
+    (rest : List ℕ) (f : Option FrameFault) → Framed now.max now.octets [] rest f → ⊥
 no_frame_missed buffer taken size max fault now view is rest f h =
     let held : Framed max (drop taken buffer) [] rest f = rw (← view) at h in
     let there : IsFrame max (take size (drop taken buffer)) = rw (take_rest buffer taken) at is in
     frame_goes_first max size (drop taken buffer) rest f there held
 
 -- where a message isn't whole, a stream with a frame is not held
-pub no_frame_yet : (buffer : List ℕ) (taken max : ℕ) (fault : Option FrameFault) (now : Stream) → stream_of buffer taken max fault ≡ now → IsPartial max (untaken buffer taken) → (message : List ℕ) (frames : List (List ℕ)) (rest : List ℕ) (f : Option FrameFault) → Framed now.max now.octets (message ∷ frames) rest f → ⊥
+pub no_frame_yet : (buffer : List ℕ) (taken max : ℕ) (fault : Option FrameFault) (now : Stream) →
+    stream_of buffer taken max fault ≡ now → IsPartial max (untaken buffer taken) →
+    (message : List ℕ) (frames : List (List ℕ)) (rest : List ℕ) (f : Option FrameFault) →
+    Framed now.max now.octets (message ∷ frames) rest f → ⊥
 no_frame_yet buffer taken max fault now view is message frames rest f h =
     let held : Framed max (drop taken buffer) (message ∷ frames) rest f = rw (← view) at h in
     let there : IsPartial max (drop taken buffer) = rw (take_rest buffer taken) at is in
     part_has_no_frame max (drop taken buffer) message frames rest f there held
 
 -- the frame that stands there is the first, and behind it is what is left
-pub first_taken : (buffer : List ℕ) (taken size max : ℕ) (fault : Option FrameFault) (now : Stream) → stream_of buffer taken max fault ≡ now → IsFrame max (take size (untaken buffer taken)) → (message : List ℕ) (frames : List (List ℕ)) (rest : List ℕ) (f : Option FrameFault) → Framed now.max now.octets (message ∷ frames) rest f → (take size (drop taken buffer) ≡ message) × (stream_of buffer (taken + size) max fault ≡ record { octets = concat frames ++ rest; max = now.max; fault = now.fault })
+pub first_taken : (buffer : List ℕ) (taken size max : ℕ) (fault : Option FrameFault) (now : Stream) →
+    stream_of buffer taken max fault ≡ now → IsFrame max (take size (untaken buffer taken)) →
+    (message : List ℕ) (frames : List (List ℕ)) (rest : List ℕ) (f : Option FrameFault) →
+    Framed now.max now.octets (message ∷ frames) rest f →
+    (take size (drop taken buffer) ≡ message) ×
+    (stream_of buffer (taken + size) max fault ≡
+    record { octets = concat frames ++ rest; max = now.max; fault = now.fault })
 first_taken buffer taken size max fault now view is message frames rest f h =
     let held : Framed max (drop taken buffer) (message ∷ frames) rest f = rw (← view) at h in
     let there : IsFrame max (take size (drop taken buffer)) = rw (take_rest buffer taken) at is in

@@ -29,7 +29,8 @@ HasFault max s BadVersion = (0 < length s) × (slice_index s 0 ≢ 1)
 HasFault max s BadLength =
     (4 ≤ length s) × (slice_index s 0 ≡ 1) × ((message_length s < 20) ⊎ (message_length s % 4 ≢ 0))
 HasFault max s TooLong =
-    (4 ≤ length s) × (slice_index s 0 ≡ 1) × (20 ≤ message_length s) × (message_length s % 4 ≡ 0) × (max < message_length s)
+    (4 ≤ length s) × (slice_index s 0 ≡ 1) × (20 ≤ message_length s) × (message_length s % 4 ≡ 0) ×
+    (max < message_length s)
 HasFault max s NoMemory = ⊥
 
 -- the fault that stands at the front of s, if one does
@@ -43,8 +44,9 @@ pub record IsPartial (max : ℕ) (s : List ℕ) : Type 0 where
   pub no_fault : IsFaultOf max s None
 
 -- the longest list of frames that s begins with, the rest of s, and the fault of the rest, if it has one
-pub record Framed (max : ℕ) (s : List ℕ) (frames : List (List ℕ)) (rest : List ℕ) (fault : Option FrameFault) : Type 0 where
-  pub whole : s ≡ concat frames ++ rest
-  pub each : AllByRecursion (IsFrame max) frames
-  pub longest : BeginsWithNoFrame max rest
-  pub fault_is : IsFaultOf max rest fault
+pub record Framed (max : ℕ) (s : List ℕ) (frames : List (List ℕ)) (rest : List ℕ) (fault : Option FrameFault) : Type 0
+  where
+    pub whole : s ≡ concat frames ++ rest
+    pub each : AllByRecursion (IsFrame max) frames
+    pub longest : BeginsWithNoFrame max rest
+    pub fault_is : IsFaultOf max rest fault

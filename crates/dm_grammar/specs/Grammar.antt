@@ -135,12 +135,14 @@ steps v Defined = on Less Head Nothing
 -- dhead = ("Diameter" "Header" | "Diameter-Header") ":" number ["," "REQ"] ["," "PXY"] ["," "ERR"] [[","] number]
 -- ahead = ("AVP" "Header" | "AVP-Header") ":" number [[","] number]
 -- ahead2 = ("AVP" "Header" | "AVP-Header") ":" number [[","] number | ":" name]
-steps v Head = on Diameter CommandWord CommandHead ++ on DiameterHeader CommandColon CommandHead ++ on Avp GroupWord GroupHead ++ on AvpHeader GroupColon GroupHead
+steps v Head = on Diameter CommandWord CommandHead ++ on DiameterHeader CommandColon CommandHead ++
+    on Avp GroupWord GroupHead ++ on AvpHeader GroupColon GroupHead
 steps v CommandWord = on Header CommandColon Nothing
 steps v CommandColon = on Colon CommandCode Nothing
 steps v CommandCode = on Number Coded CodeIs
 steps v Coded = on Comma CodedComma Nothing ++ on Number HeadEnd SecondIs ++ on Greater Rule Rules
-steps v CodedComma = on Req Requested Request ++ on Pxy Proxied Proxiable ++ on Err Flagged Error ++ on Number HeadEnd SecondIs
+steps v CodedComma = on Req Requested Request ++ on Pxy Proxied Proxiable ++ on Err Flagged Error ++
+    on Number HeadEnd SecondIs
 steps v Requested = on Comma RequestedComma Nothing ++ on Number HeadEnd SecondIs ++ on Greater Rule Rules
 steps v RequestedComma = on Pxy Proxied Proxiable ++ on Err Flagged Error ++ on Number HeadEnd SecondIs
 steps v Proxied = on Comma ProxiedComma Nothing ++ on Number HeadEnd SecondIs ++ on Greater Rule Rules

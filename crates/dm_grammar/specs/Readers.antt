@@ -26,7 +26,8 @@ begins t (w ∷ ws) = fits t w.symbol
 
 -- "<" name ">" "::="
 abbrev pub begins_title : List Word → Bool
-begins_title ws = begins (One Less) ws && begins AnyName (drop 1 ws) && begins (One Greater) (drop 2 ws) && begins (One Define) (drop 3 ws)
+begins_title ws = begins (One Less) ws && begins AnyName (drop 1 ws) && begins (One Greater) (drop 2 ws) &&
+    begins (One Define) (drop 3 ws)
 
 -- an entry, and no item
 abbrev pub begins_entry : List Word → Bool
@@ -132,7 +133,8 @@ with_second second (Err line) = Err line
 
 -- the vendor at the end of a group's head, by name or by number, before a rule
 abbrev pub with_end : Option Word → Option Word → Result Told ℕ → Result Told ℕ
-with_end named second (Ok told) = Ok (record nothing { items = told.items; rule = told.rule; named = named; second = second })
+with_end named second (Ok told) =
+    Ok (record nothing { items = told.items; rule = told.rule; named = named; second = second })
 with_end named second (Err line) = Err line
 
 -- what stands between "<" and ">" in a command or a group
@@ -146,7 +148,18 @@ pub record HeadParts : Type 0 where
   pub named : Option Word
 
 abbrev pub with_head : HeadParts → Result Told ℕ → Result Told ℕ
-with_head h (Ok told) = Ok (record nothing { items = told.items; rule = told.rule; command = h.command; code = Some h.code; second = h.second; named = h.named; request = h.request; proxiable = h.proxiable; error = h.error })
+with_head h (Ok told) =
+    Ok (record nothing {
+      items = told.items;
+      rule = told.rule;
+      command = h.command;
+      code = Some h.code;
+      second = h.second;
+      named = h.named;
+      request = h.request;
+      proxiable = h.proxiable;
+      error = h.error;
+    })
 with_head h (Err line) = Err line
 
 -- the line of a fault at the next token

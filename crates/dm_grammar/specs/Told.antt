@@ -29,7 +29,21 @@ pub record Told : Type 0 where
   pub error : Bool
 
 abbrev pub nothing : Told
-nothing = record { items = []; rule = []; values = []; titled = false; command = false; code = None; kind = None; second = None; named = None; request = false; proxiable = false; error = false }
+nothing =
+    record {
+      items = [];
+      rule = [];
+      values = [];
+      titled = false;
+      command = false;
+      code = None;
+      kind = None;
+      second = None;
+      named = None;
+      request = false;
+      proxiable = false;
+      error = false;
+    }
 
 -- the part that the grammar puts behind the name
 abbrev pub word_or : Option Word → Word → Word
@@ -64,14 +78,32 @@ abbrev pub avp_or_vendor : Word → Told → Written
 avp_or_vendor w told =
     elim told.kind [
       | None ↦ VendorIs (record { name = word_or told.named w; number = word_or told.code w })
-      | Some k ↦ AvpIs (record { name = w; code = word_or told.code w; kind = k; vendor = vend_told told.named told.second; values = told.values })
+      | Some k ↦
+          AvpIs (record {
+            name = w;
+            code = word_or told.code w;
+            kind = k;
+            vendor = vend_told told.named told.second;
+            values = told.values;
+          })
     ]
 
 -- the command or group of a name, by the parts told behind it
 abbrev pub definition : Word → Told → Written
 definition w told =
-    if told.command then CommandIs (record { name = w; code = word_or told.code w; request = told.request; proxiable = told.proxiable; error = told.error; application = told.second; rule = told.rule })
-    else GroupIs (record { name = w; code = word_or told.code w; vendor = vend_told told.named told.second; rule = told.rule })
+    if told.command then
+    CommandIs
+    (record {
+      name = w;
+      code = word_or told.code w;
+      request = told.request;
+      proxiable = told.proxiable;
+      error = told.error;
+      application = told.second;
+      rule = told.rule;
+    })
+    else GroupIs
+    (record { name = w; code = word_or told.code w; vendor = vend_told told.named told.second; rule = told.rule })
 
 -- the items, with one more before them and no parts left
 abbrev pub item_before : Written → Told → Told
@@ -86,9 +118,11 @@ fill CodeIs w told = record told { code = Some w }
 fill KindIs w told = record told { kind = Some w }
 fill SecondIs w told = record told { second = Some w }
 fill NamedIs w told = record told { named = Some w }
-fill ValueIs w told = record told { code = None; values = record { name = w; number = word_or told.code w } ∷ told.values }
+fill ValueIs w told =
+    record told { code = None; values = record { name = w; number = word_or told.code w } ∷ told.values }
 fill TitleIs w told = item_before (definition w told) told
-fill TitleOrFixed w told = if told.titled then item_before (definition w told) told else record told { rule = entry Fixed w ∷ told.rule }
+fill TitleOrFixed w told = if told.titled then item_before (definition w told) told else
+    record told { rule = entry Fixed w ∷ told.rule }
 fill DefineIs w told = record told { titled = true }
 fill CommandHead w told = record told { command = true }
 fill GroupHead w told = told
@@ -110,7 +144,8 @@ filled r w (Err line) = Err line
 -- in a place where no text may end, the last line
 abbrev pub collect : Reading → Place → List Word → Result Told ℕ
 collect how p [] = if may_end p then Ok nothing else Err how.last
-collect how p (w ∷ ws) = elim (taking (steps how.version p) w.symbol) [ None ↦ Err w.line | Some r ↦ filled r.role w (collect how r.leads ws) ]
+collect how p (w ∷ ws) = elim (taking (steps how.version p) w.symbol)
+    [ None ↦ Err w.line | Some r ↦ filled r.role w (collect how r.leads ws) ]
 
 abbrev pub items_told : Result Told ℕ → Result (List Written) ℕ
 items_told (Ok told) = Ok told.items

@@ -44,7 +44,14 @@ abbrev pub view_value : ValueItem → Value
 view_value i = record { name = view i.name; number = view i.number }
 
 abbrev pub view_avp : AvpItem → AvpParts
-view_avp i = record { name = view i.name; code = view i.code; kind = view i.kind; vendor = view_vend_option i.vendor; values = map view_value i.values.items }
+view_avp i =
+    record {
+      name = view i.name;
+      code = view i.code;
+      kind = view i.kind;
+      vendor = view_vend_option i.vendor;
+      values = map view_value i.values.items;
+    }
 
 abbrev pub view_qualifier : Option Qualifier → Option Range
 view_qualifier None = None
@@ -54,10 +61,25 @@ abbrev pub view_entry : EntryItem → Entry
 view_entry e = record { form = e.form; name = view e.name; qualifier = view_qualifier e.qualifier }
 
 abbrev pub view_group : GroupItem → GroupParts
-view_group i = record { name = view i.name; code = view i.code; vendor = view_vend_option i.vendor; rule = map view_entry i.rule.items }
+view_group i =
+    record {
+      name = view i.name;
+      code = view i.code;
+      vendor = view_vend_option i.vendor;
+      rule = map view_entry i.rule.items;
+    }
 
 abbrev pub view_command : CommandItem → CommandParts
-view_command i = record { name = view i.name; code = view i.code; request = i.request; proxiable = i.proxiable; error = i.error; application = view_option i.application; rule = map view_entry i.rule.items }
+view_command i =
+    record {
+      name = view i.name;
+      code = view i.code;
+      request = i.request;
+      proxiable = i.proxiable;
+      error = i.error;
+      application = view_option i.application;
+      rule = map view_entry i.rule.items;
+    }
 
 abbrev pub view_item : Item → Written
 view_item (Vendor i) = VendorIs (view_vendor i)
@@ -66,4 +88,13 @@ view_item (Group i) = GroupIs (view_group i)
 view_item (Command i) = CommandIs (view_command i)
 
 abbrev pub view_head : Head → HeadParts
-view_head h = record { command = h.command; code = view h.code; request = h.request; proxiable = h.proxiable; error = h.error; second = view_option h.second; named = view_option h.named }
+view_head h =
+    record {
+      command = h.command;
+      code = view h.code;
+      request = h.request;
+      proxiable = h.proxiable;
+      error = h.error;
+      second = view_option h.second;
+      named = view_option h.named;
+    }

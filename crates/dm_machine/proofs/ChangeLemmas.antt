@@ -58,7 +58,8 @@ pub same_hold : (h k : Hold) → is_hold h k ≡ true → h ≡ k
 same_hold h k e = sym (hold_from-code h) ∙ (ap hold_from (same_number (hold_code h) (hold_code k) e) ∙ hold_from-code k)
 
 same_order : (o p : Order) → is_order o p ≡ true → o ≡ p
-same_order o p e = sym (order_from-code o) ∙ (ap order_from (same_number (order_code o) (order_code p) e) ∙ order_from-code p)
+same_order o p e = sym (order_from-code o) ∙
+    (ap order_from (same_number (order_code o) (order_code p) e) ∙ order_from-code p)
 
 abbrev pub are_orders : List Order → List Order → Bool
 are_orders [] [] = true
@@ -69,7 +70,8 @@ pub same_orders : (xs ys : List Order) → are_orders xs ys ≡ true → xs ≡ 
 same_orders [] [] e = refl
 same_orders (o ∷ more) (p ∷ rest) e =
     let both = and_parts (is_order o p) (are_orders more rest) e in
-    ap (λ (q : Order). q ∷ more) (same_order o p both.0) ∙ ap (λ (qs : List Order). p ∷ qs) (same_orders more rest both.1)
+    ap (λ (q : Order). q ∷ more) (same_order o p both.0) ∙
+    ap (λ (qs : List Order). p ∷ qs) (same_orders more rest both.1)
 same_orders [] (p ∷ rest) e = absurd cc
 same_orders (o ∷ more) [] e = absurd cc
 
@@ -86,8 +88,10 @@ abbrev pub is_among : Change → List Change → Bool
 is_among x [] = false
 is_among x (y ∷ ys) = is_change y x || is_among x ys
 
-found : (x y : Change) (ys : List Change) (b : Bool) → is_change y x ≡ b → (b || is_among x ys) ≡ true → (is_among x ys ≡ true → Contains ys x) → Contains (y ∷ ys) x
-found x y ys true e h further = subst (λ (z : Change). Contains (y ∷ ys) z) (same_change y x e) (Contains-append_left (y ∷ []) ys y (Contains-push [] y))
+found : (x y : Change) (ys : List Change) (b : Bool) → is_change y x ≡ b → (b || is_among x ys) ≡ true →
+    (is_among x ys ≡ true → Contains ys x) → Contains (y ∷ ys) x
+found x y ys true e h further = subst (λ (z : Change). Contains (y ∷ ys) z) (same_change y x e)
+    (Contains-append_left (y ∷ []) ys y (Contains-push [] y))
 found x y ys false e h further = Contains-append_right (y ∷ []) ys x (further h)
 
 pub among : (x : Change) (ys : List Change) → is_among x ys ≡ true → Contains ys x

@@ -24,7 +24,8 @@ asked_if false = refl
 asked : (c x : Conn) → ((mark c x).0 == 1) ≡ (x.0 == c.0)
 asked c x = asked_if (x.0 == c.0)
 
-hold_marked : (s : State) (held : List (Role × Conn)) (c : Conn) → hold_in s (renamed_held (mark c) held) this ≡ hold_in s held c
+hold_marked : (s : State) (held : List (Role × Conn)) (c : Conn) →
+    hold_in s (renamed_held (mark c) held) this ≡ hold_in s held c
 hold_marked s [] c = refl
 hold_marked s (p ∷ ps) c =
     ap (λ (b : Bool). if b then hold_as s p.0 else hold_in s (renamed_held (mark c) ps) this) (asked c p.1)
@@ -54,7 +55,8 @@ order_marked c (SendSubmit d) = ordered c d SendsSubmit
 order_marked c (Close d) = ordered c d Closes
 order_marked c Up = refl
 
-orders_marked : (c : Conn) (commands : List Command) → orders_to this (renamed_commands (mark c) commands) ≡ orders_to c commands
+orders_marked : (c : Conn) (commands : List Command) →
+    orders_to this (renamed_commands (mark c) commands) ≡ orders_to c commands
 orders_marked c [] = refl
 orders_marked c (a ∷ more) =
     ap (λ (o : Option Order). with_order o (orders_to this (renamed_commands (mark c) more))) (order_marked c a)
@@ -63,7 +65,9 @@ orders_marked c (a ∷ more) =
 abbrev IsListed : Concern → Hold → Hold → List Order → Type 0
 IsListed k before after orders = Contains (allowed k before) (change after orders)
 
-from_marked : (n : Node) (i : Input) (c : Conn) (o : Outcome) → is_listed (renamed_node (mark c) n) (renamed_input (mark c) i) (renamed_outcome (mark c) o) ≡ true → AtConnection IsListed n i c o
+from_marked : (n : Node) (i : Input) (c : Conn) (o : Outcome) →
+    is_listed (renamed_node (mark c) n) (renamed_input (mark c) i) (renamed_outcome (mark c) o) ≡ true →
+    AtConnection IsListed n i c o
 from_marked n i c (Refused r) h = tt
 from_marked n i c (Moved commands next) h =
     let k = concern_of (renamed_input (mark c) i) this in

@@ -41,7 +41,8 @@ places f = f OnI ∷ f OnR ∷ f OnX ∷ f OnNew ∷ []
 
 abbrev words : (Word → Bool) → List Bool
 words f =
-    f Unreadable ∷ f Cer ∷ f CerRefused ∷ f Cea ∷ f CeaFailed ∷ f Dwr ∷ f DwrBad ∷ f Dwa ∷ f DwaBad ∷ f Dpr ∷ f DprBad ∷ f Dpa ∷ f DpaBad ∷ f Other ∷ []
+    f Unreadable ∷ f Cer ∷ f CerRefused ∷ f Cea ∷ f CeaFailed ∷ f Dwr ∷ f DwrBad ∷ f Dwa ∷ f DwaBad ∷ f Dpr ∷ f DprBad ∷
+    f Dpa ∷ f DpaBad ∷ f Other ∷ []
 
 unfoldable pub every_bool : (Bool → Bool) → Bool
 every_bool f = all_true (bools f)
@@ -104,7 +105,8 @@ at_word f h Other = at (words f) 13 h
 
 abbrev inputs : (Input → Bool) → List Bool
 inputs f =
-    f Stop ∷ f Timeout ∷ f Tick ∷ f Submit ∷ every_mark (λ d. f (Start d)) ∷ every_mark (λ d. f (Ack d)) ∷ every_mark (λ d. f (Nack d)) ∷ every_mark (λ d. f (Gone d)) ∷ every_mark (λ d. every_word (λ w. f (Heard d w))) ∷ []
+    f Stop ∷ f Timeout ∷ f Tick ∷ f Submit ∷ every_mark (λ d. f (Start d)) ∷ every_mark (λ d. f (Ack d)) ∷ every_mark
+    (λ d. f (Nack d)) ∷ every_mark (λ d. f (Gone d)) ∷ every_mark (λ d. every_word (λ w. f (Heard d w))) ∷ []
 
 unfoldable pub every_input : (Input → Bool) → Bool
 every_input f = all_true (inputs f)
@@ -119,4 +121,5 @@ at_input f h c (Start d) = at_mark (λ x. f (Start x)) (at (inputs f) 4 h) c d
 at_input f h c (Ack d) = at_mark (λ x. f (Ack x)) (at (inputs f) 5 h) c d
 at_input f h c (Nack d) = at_mark (λ x. f (Nack x)) (at (inputs f) 6 h) c d
 at_input f h c (Gone d) = at_mark (λ x. f (Gone x)) (at (inputs f) 7 h) c d
-at_input f h c (Heard d w) = at_word (λ v. f (Heard (mark c d) v)) (at_mark (λ x. every_word (λ v. f (Heard x v))) (at (inputs f) 8 h) c d) w
+at_input f h c (Heard d w) =
+    at_word (λ v. f (Heard (mark c d) v)) (at_mark (λ x. every_word (λ v. f (Heard x v))) (at (inputs f) 8 h) c d) w

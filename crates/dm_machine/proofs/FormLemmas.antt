@@ -11,12 +11,14 @@ use Rattle.dm_machine.specs.Node.{node_at, is_held_in, is_count_of}
 use Rattle.dm_machine.specs.Forms.{Form, closed, wait_conn_ack, wait_i_cea, wait_conn_ack_elect, wait_returns, r_open, i_open, closing, EachShapeIsAForm, EachFormIsShaped}
 
 -- a form at count 0 is one at every count that is 0
-at_zero : (s : State) (held : List (Role × Conn)) (n : ℕ) → (n == 0) ≡ true → Form (node_at s held 0) → Form (node_at s held n)
+at_zero : (s : State) (held : List (Role × Conn)) (n : ℕ) → (n == 0) ≡ true → Form (node_at s held 0) →
+    Form (node_at s held n)
 at_zero s held n e form =
     let zero_is : n ≡ 0 = grind (arith, nat_tests) in
     subst (λ (k : ℕ). Form (node_at s held k)) (sym zero_is) form
 
-form_at : (s : State) (held : List (Role × Conn)) (n : ℕ) → IsTrue (is_held_in s held && is_count_of s n) → Form (node_at s held n)
+form_at : (s : State) (held : List (Role × Conn)) (n : ℕ) → IsTrue (is_held_in s held && is_count_of s n) →
+    Form (node_at s held n)
 form_at Closed [] n h = at_zero Closed [] n h closed
 form_at WaitConnAck ((Initiated, i) ∷ []) n h = at_zero WaitConnAck ((Initiated, i) ∷ []) n h (wait_conn_ack i)
 form_at WaitICea ((Initiated, i) ∷ []) n h = at_zero WaitICea ((Initiated, i) ∷ []) n h (wait_i_cea i)

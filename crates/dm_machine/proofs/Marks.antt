@@ -95,21 +95,27 @@ same_marks c x d e = grind (arith, nat_tests)
 apart_marks : (c x d : Conn) → (x.0 == d.0) ≡ false → not (((mark c x).0 == 1) && ((mark c d).0 == 1)) ≡ true
 apart_marks c x d e = grind (arith, nat_tests)
 
-fits_at : (s : State) (p : Role × Conn) (ps : List (Role × Conn)) (c d : Conn) (b : Bool) → (p.1.0 == d.0) ≡ b → fits_held s (renamed_held (mark c) ps) (mark c d) (place_of s ps d) ≡ true → fits_held s (renamed_held (mark c) (p ∷ ps)) (mark c d) (if b then place_as s p.0 else place_of s ps d) ≡ true
+fits_at : (s : State) (p : Role × Conn) (ps : List (Role × Conn)) (c d : Conn) (b : Bool) → (p.1.0 == d.0) ≡ b →
+    fits_held s (renamed_held (mark c) ps) (mark c d) (place_of s ps d) ≡ true →
+    fits_held s (renamed_held (mark c) (p ∷ ps)) (mark c d) (if b then place_as s p.0 else place_of s ps d) ≡ true
 fits_at s p ps c d true e h =
     let own = place_as s p.0 in
-    yes_or_left (is_place own own && ((mark c p.1).0 == (mark c d).0)) (not (((mark c p.1).0 == 1) && ((mark c d).0 == 1)) && fits_held s (renamed_held (mark c) ps) (mark c d) own)
+    yes_or_left (is_place own own && ((mark c p.1).0 == (mark c d).0))
+    (not (((mark c p.1).0 == 1) && ((mark c d).0 == 1)) && fits_held s (renamed_held (mark c) ps) (mark c d) own)
     (yes_and (is_place own own) ((mark c p.1).0 == (mark c d).0) (is_place-same own) (same_marks c p.1 d e))
 fits_at s p ps c d false e h =
     let at = place_of s ps d in
     let rest = fits_held s (renamed_held (mark c) ps) (mark c d) at in
-    yes_or_right (is_place at (place_as s p.0) && ((mark c p.1).0 == (mark c d).0)) (not (((mark c p.1).0 == 1) && ((mark c d).0 == 1)) && rest)
+    yes_or_right (is_place at (place_as s p.0) && ((mark c p.1).0 == (mark c d).0))
+    (not (((mark c p.1).0 == 1) && ((mark c d).0 == 1)) && rest)
     (yes_and (not (((mark c p.1).0 == 1) && ((mark c d).0 == 1))) rest (apart_marks c p.1 d e) h)
 
-fits_place : (s : State) (held : List (Role × Conn)) (c d : Conn) → fits_held s (renamed_held (mark c) held) (mark c d) (place_of s held d) ≡ true
+fits_place : (s : State) (held : List (Role × Conn)) (c d : Conn) →
+    fits_held s (renamed_held (mark c) held) (mark c d) (place_of s held d) ≡ true
 fits_place s [] c d = refl
 fits_place s (p ∷ ps) c d = fits_at s p ps c d (p.1.0 == d.0) refl (fits_place s ps c d)
 
-pub place_fits : (n : Node) (c : Conn) (new : Option Conn) → fits (renamed_node (mark c) n) (renamed_new (mark c) new) (place_in n new) ≡ true
+pub place_fits : (n : Node) (c : Conn) (new : Option Conn) →
+    fits (renamed_node (mark c) n) (renamed_new (mark c) new) (place_in n new) ≡ true
 place_fits n c None = refl
 place_fits n c (Some d) = fits_place n.state n.held c d

@@ -36,7 +36,8 @@ at_hold f e ClosingAsR = at (holds f) 7 e
 
 abbrev concerns : (Concern → Bool) → List Bool
 concerns f =
-    f NamesAnother ∷ f Stops ∷ f TimesOut ∷ f Ticks ∷ f Submits ∷ f StartsIt ∷ f AcksIt ∷ f NacksIt ∷ f EndsIt ∷ every_word (λ w. f (HeardOnIt w)) ∷ []
+    f NamesAnother ∷ f Stops ∷ f TimesOut ∷ f Ticks ∷ f Submits ∷ f StartsIt ∷ f AcksIt ∷ f NacksIt ∷ f EndsIt ∷
+    every_word (λ w. f (HeardOnIt w)) ∷ []
 
 unfoldable every_concern : (Concern → Bool) → Bool
 every_concern f = all_true (concerns f)
@@ -74,8 +75,10 @@ passes test e k h x m =
 abbrev Fact : Type 1
 Fact = Concern → Hold → Hold → List Order → Type 0
 
-from_outcome : (P : Fact) → OfListed (λ k h x. P k h x.next x.orders) → (n : Node) (i : Input) (c : Conn) (o : Outcome) →
-    AtConnection (λ k before after orders. Contains (allowed k before) (change after orders)) n i c o → AtConnection P n i c o
+from_outcome : (P : Fact) → OfListed (λ k h x. P k h x.next x.orders) →
+    (n : Node) (i : Input) (c : Conn) (o : Outcome) →
+    AtConnection (λ k before after orders. Contains (allowed k before) (change after orders)) n i c o →
+    AtConnection P n i c o
 from_outcome P f n i c (Refused r) m = tt
 from_outcome P f n i c (Moved commands next) m =
     f (concern_of i c) (hold_of n c) (change (hold_of next c) (orders_to c commands)) m
@@ -165,4 +168,5 @@ left_alone k h x m other =
     (same_hold x.next NotHeld parts.0, same_orders x.orders [] parts.1)
 
 pub alone : LeavesOthersAlone
-alone = from_changes (λ k before after orders. IsTrue (is_other k before) → (after ≡ NotHeld) × (orders ≡ [])) left_alone
+alone = from_changes (λ k before after orders. IsTrue (is_other k before) → (after ≡ NotHeld) × (orders ≡ []))
+    left_alone

@@ -8,11 +8,13 @@ use Rattle.dm_machine.specs.Rows.{rows, row_in, is_for, HasOneRowEach}
 abbrev IsFoundIn : List Row → State → TableEvent → Row → Type 0
 IsFoundIn rs s e r = Contains rs r × IsTrue (is_for s e r)
 
-found_further : (r : Row) (rs : List Row) (s : State) (e : TableEvent) (o : Option Row) → IfSome o (IsFoundIn rs s e) → IfSome o (IsFoundIn (r ∷ rs) s e)
+found_further : (r : Row) (rs : List Row) (s : State) (e : TableEvent) (o : Option Row) → IfSome o (IsFoundIn rs s e) →
+    IfSome o (IsFoundIn (r ∷ rs) s e)
 found_further r rs s e None h = tt
 found_further r rs s e (Some x) h = (Contains-append_right (r ∷ []) rs x h.0, h.1)
 
-found_at : (r : Row) (rs : List Row) (s : State) (e : TableEvent) (b : Bool) → is_for s e r ≡ b → IfSome (row_in rs s e) (IsFoundIn rs s e) → IfSome (if b then Some r else row_in rs s e) (IsFoundIn (r ∷ rs) s e)
+found_at : (r : Row) (rs : List Row) (s : State) (e : TableEvent) (b : Bool) → is_for s e r ≡ b →
+    IfSome (row_in rs s e) (IsFoundIn rs s e) → IfSome (if b then Some r else row_in rs s e) (IsFoundIn (r ∷ rs) s e)
 found_at r rs s e true is h = (Contains-append_left (r ∷ []) rs r (Contains-push [] r), is)
 found_at r rs s e false is h = found_further r rs s e (row_in rs s e) h
 

@@ -24,7 +24,8 @@ apart : (i r : Conn) → not (((mark i i).0 == 1) && ((mark i r).0 == 1)) ≡ tr
 apart i r h = grind (arith, nat_tests)
 
 -- seen from each of its connections, a node is of the right shape
-held_from_seen : (s : State) (held : List (Role × Conn)) → ((c : Conn) → is_held_seen s (renamed_held (mark c) held) ≡ true) → is_held_in s held ≡ true
+held_from_seen : (s : State) (held : List (Role × Conn)) →
+    ((c : Conn) → is_held_seen s (renamed_held (mark c) held) ≡ true) → is_held_in s held ≡ true
 held_from_seen Closed [] h = refl
 held_from_seen WaitConnAck ((Initiated, i) ∷ []) h = refl
 held_from_seen WaitICea ((Initiated, i) ∷ []) h = refl
@@ -35,7 +36,9 @@ held_from_seen IOpen ((Initiated, i) ∷ []) h = refl
 held_from_seen Closing ((role, x) ∷ []) h = refl
 held_from_seen _ _ h = cc (h (record { 0 = 0 }))
 
-from_marked : (o : Outcome) (n : Node) (i : Input) → ((c : Conn) → is_kept (renamed_node (mark c) n) (renamed_input (mark c) i) (renamed_outcome (mark c) o) ≡ true) → KeepsShape o
+from_marked : (o : Outcome) (n : Node) (i : Input) →
+    ((c : Conn) → is_kept (renamed_node (mark c) n) (renamed_input (mark c) i) (renamed_outcome (mark c) o) ≡ true) →
+    KeepsShape o
 from_marked (Refused r) n i h = tt
 from_marked (Moved commands next) n i h =
     let held = λ (c : Conn). is_held_seen next.state (renamed_held (mark c) next.held) in
@@ -45,7 +48,8 @@ from_marked (Moved commands next) n i h =
     let shaped = λ (c : Conn). and_parts (held c) counted (all c).0 in
     let c0 : Conn = record { 0 = 0 } in
     let F : ℕ → Type 0 = λ k. nat_le k 4 ≡ true in (
-      and_from (is_held_in next.state next.held) counted (held_from_seen next.state next.held (λ c. (shaped c).0)) (shaped c0).1,
+      and_from (is_held_in next.state next.held) counted (held_from_seen next.state next.held (λ c. (shaped c).0))
+          (shaped c0).1,
       subst F (as_many (mark c0) commands) (all c0).1,
     )
 

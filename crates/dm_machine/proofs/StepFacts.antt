@@ -26,12 +26,14 @@ is_held_seen s held = is_held_in s held
 
 -- the change of the connection that is looked at is listed
 abbrev pub is_listed : StepTest
-is_listed n i (Moved commands next) = is_among (change (hold_of next this) (orders_to this commands)) (allowed (concern_of i this) (hold_of n this))
+is_listed n i (Moved commands next) = is_among (change (hold_of next this) (orders_to this commands))
+    (allowed (concern_of i this) (hold_of n this))
 is_listed n i (Refused r) = true
 
 -- the next node has its shape, and there are few commands
 abbrev pub is_kept : StepTest
-is_kept n i (Moved commands next) = (is_held_seen next.state next.held && is_count_of next.state next.count) && nat_le (length commands) 4
+is_kept n i (Moved commands next) = (is_held_seen next.state next.held && is_count_of next.state next.count) &&
+    nat_le (length commands) 4
 is_kept n i (Refused r) = true
 
 abbrev is_right : StepTest
@@ -42,7 +44,8 @@ unfolding all_true every_bool every_mark every_count every_place every_word ever
 checked = refl
 
 abbrev seen : StepTest → Node → Input → Bool → Conn → Bool
-seen test n i wins c = test (renamed_node (mark c) n) (renamed_input (mark c) i) (renamed_outcome (mark c) (outcome n i wins))
+seen test n i wins c = test (renamed_node (mark c) n) (renamed_input (mark c) i)
+    (renamed_outcome (mark c) (outcome n i wins))
 
 right : (n : Node) (i : Input) (wins : Bool) (c : Conn) → IsTrue (is_shaped n) → seen is_right n i wins c ≡ true
 right n i wins c h = at_step is_right checked n i wins c h

@@ -34,13 +34,18 @@ abbrev both_this : Conn → Conn → Bool
 both_this x y = (x.0 == 1) && (y.0 == 1)
 
 abbrev two : (Node → Bool) → State → Bool
-two f s = every_mark (λ x. every_mark (λ y. elim (both_this x y) [ true ↦ true | false ↦ f (node_at s ((Initiated, x) ∷ (Accepted, y) ∷ []) 0) ]))
+two f s =
+    every_mark
+    (λ x. every_mark
+    (λ y. elim (both_this x y) [ true ↦ true | false ↦ f (node_at s ((Initiated, x) ∷ (Accepted, y) ∷ []) 0) ]))
 
 -- the nodes of the right shape, as they look from one connection
 abbrev nodes : (Node → Bool) → List Bool
 nodes f =
-    f (node_at Closed [] 0) ∷ one f WaitConnAck Initiated 0 ∷ one f WaitICea Initiated 0 ∷ two f WaitConnAckElect ∷ two f WaitReturns
-    ∷ every_count (one f ROpen Accepted) ∷ every_count (one f IOpen Initiated) ∷ one f Closing Initiated 0 ∷ one f Closing Accepted 0 ∷ []
+    f (node_at Closed [] 0) ∷ one f WaitConnAck Initiated 0 ∷ one f WaitICea Initiated 0 ∷ two f WaitConnAckElect ∷ two
+    f WaitReturns
+    ∷ every_count (one f ROpen Accepted) ∷ every_count (one f IOpen Initiated) ∷ one f Closing Initiated 0 ∷ one f
+    Closing Accepted 0 ∷ []
 
 unfoldable pub every_node : (Node → Bool) → Bool
 every_node f = all_true (nodes f)
@@ -52,12 +57,16 @@ unless false x h e = h
 not_both : (c x y : Conn) → IsTrue (not (x.0 == y.0)) → both_this (mark c x) (mark c y) ≡ false
 not_both c x y h = grind (arith, nat_tests)
 
-at_one : (f : Node → Bool) (s : State) (role : Role) (n : ℕ) → one f s role n ≡ true → (c x : Conn) → f (node_at s ((role, mark c x) ∷ []) n) ≡ true
+at_one : (f : Node → Bool) (s : State) (role : Role) (n : ℕ) → one f s role n ≡ true → (c x : Conn) →
+    f (node_at s ((role, mark c x) ∷ []) n) ≡ true
 at_one f s role n h c x = at_mark (λ d. f (node_at s ((role, d) ∷ []) n)) h c x
 
-at_two : (f : Node → Bool) (s : State) → two f s ≡ true → (c x y : Conn) → IsTrue (not (x.0 == y.0)) → f (node_at s ((Initiated, mark c x) ∷ (Accepted, mark c y) ∷ []) 0) ≡ true
+at_two : (f : Node → Bool) (s : State) → two f s ≡ true → (c x y : Conn) → IsTrue (not (x.0 == y.0)) →
+    f (node_at s ((Initiated, mark c x) ∷ (Accepted, mark c y) ∷ []) 0) ≡ true
 at_two f s h c x y g =
-    let pair : Conn → Conn → Bool = λ d e. elim (both_this d e) [ true ↦ true | false ↦ f (node_at s ((Initiated, d) ∷ (Accepted, e) ∷ []) 0) ] in
+    let pair : Conn → Conn →
+    Bool = λ d e. elim (both_this d e)
+    [ true ↦ true | false ↦ f (node_at s ((Initiated, d) ∷ (Accepted, e) ∷ []) 0) ] in
     unless (both_this (mark c x) (mark c y)) (f (node_at s ((Initiated, mark c x) ∷ (Accepted, mark c y) ∷ []) 0))
     (at_mark (pair (mark c x)) (at_mark (λ d. every_mark (pair d)) h c x) c y) (not_both c x y g)
 
@@ -68,8 +77,10 @@ at_form f h c n (wait_conn_ack i) = at_one f WaitConnAck Initiated 0 (at (nodes 
 at_form f h c n (wait_i_cea i) = at_one f WaitICea Initiated 0 (at (nodes f) 2 h) c i
 at_form f h c n (wait_conn_ack_elect i r apart) = at_two f WaitConnAckElect (at (nodes f) 3 h) c i r apart
 at_form f h c n (wait_returns i r apart) = at_two f WaitReturns (at (nodes f) 4 h) c i r apart
-at_form f h c n (r_open r k few) = at_one f ROpen Accepted k (at_count (one f ROpen Accepted) (at (nodes f) 5 h) k few) c r
-at_form f h c n (i_open i k few) = at_one f IOpen Initiated k (at_count (one f IOpen Initiated) (at (nodes f) 6 h) k few) c i
+at_form f h c n (r_open r k few) = at_one f ROpen Accepted k (at_count (one f ROpen Accepted) (at (nodes f) 5 h) k few)
+    c r
+at_form f h c n (i_open i k few) =
+    at_one f IOpen Initiated k (at_count (one f IOpen Initiated) (at (nodes f) 6 h) k few) c i
 at_form f h c n (closing Initiated x) = at_one f Closing Initiated 0 (at (nodes f) 7 h) c x
 at_form f h c n (closing Accepted x) = at_one f Closing Accepted 0 (at (nodes f) 8 h) c x
 
@@ -94,7 +105,8 @@ named_mark c (Gone d) = refl
 named_mark c (Heard d w) = refl
 named_mark c _ = refl
 
-event_mark : (c : Conn) (s : State) (n : ℕ) (i : Input) (at : Place) → event_in s n (renamed_input (mark c) i) at ≡ event_in s n i at
+event_mark : (c : Conn) (s : State) (n : ℕ) (i : Input) (at : Place) →
+    event_in s n (renamed_input (mark c) i) at ≡ event_in s n i at
 event_mark c s n (Start d) at = refl
 event_mark c s n (Ack d) at = refl
 event_mark c s n (Nack d) at = refl
@@ -103,7 +115,9 @@ event_mark c s n (Heard d w) at = refl
 event_mark c s n _ at = refl
 
 -- the law holds of each step of each node of the right shape
-pub at_step : (law : StepTest) → every_step law ≡ true → (n : Node) (i : Input) (wins : Bool) (c : Conn) → IsTrue (is_shaped n) → law (renamed_node (mark c) n) (renamed_input (mark c) i) (renamed_outcome (mark c) (outcome n i wins)) ≡ true
+pub at_step : (law : StepTest) → every_step law ≡ true → (n : Node) (i : Input) (wins : Bool) (c : Conn) →
+    IsTrue (is_shaped n) →
+    law (renamed_node (mark c) n) (renamed_input (mark c) i) (renamed_outcome (mark c) (outcome n i wins)) ≡ true
 at_step law h n i wins c g =
     let m = renamed_node (mark c) n in
     let j = renamed_input (mark c) i in
@@ -113,7 +127,8 @@ at_step law h n i wins c g =
     let at_p = at_place (in_place law m j) at_i at in
     let F : Option Conn → Type 0 = λ o. fits m o at ≡ true in
     let fit = subst F (sym (named_mark c i)) (place_fits n c (named_by i)) in
-    let at_w = at_bool (at_win law m j at) (is_when (fits m (named_by j) at) (every_bool (at_win law m j at)) at_p fit) wins in
+    let at_w = at_bool (at_win law m j at) (is_when (fits m (named_by j) at) (every_bool (at_win law m j at)) at_p fit)
+    wins in
     let by_event : TableEvent → Type 0 = λ e. law m j (after m e (named_by j) wins) ≡ true in
     let by_name : Option Conn → Type 0 = λ o. law m j (after m (event_of n i) o wins) ≡ true in
     let by_outcome : Outcome → Type 0 = λ o. law m j o ≡ true in

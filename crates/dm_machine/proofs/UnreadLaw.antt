@@ -38,20 +38,23 @@ place_as-hold WaitConnAckElect Initiated = refl
 place_as-hold _ Initiated = refl
 place_as-hold _ Accepted = refl
 
-place_if : (b : Bool) (here further : Place) (own rest : Hold) → here ≡ place_at own → further ≡ place_at rest → (if b then here else further) ≡ place_at (if b then own else rest)
+place_if : (b : Bool) (here further : Place) (own rest : Hold) → here ≡ place_at own → further ≡ place_at rest →
+    (if b then here else further) ≡ place_at (if b then own else rest)
 place_if true here further own rest e d = e
 place_if false here further own rest e d = d
 
 place_of-hold : (s : State) (held : List (Role × Conn)) (c : Conn) → place_of s held c ≡ place_at (hold_in s held c)
 place_of-hold s [] c = refl
 place_of-hold s (p ∷ ps) c =
-    place_if (p.1.0 == c.0) (place_as s p.0) (place_of s ps c) (hold_as s p.0) (hold_in s ps c) (place_as-hold s p.0) (place_of-hold s ps c)
+    place_if (p.1.0 == c.0) (place_as s p.0) (place_of s ps c) (hold_as s p.0) (hold_in s ps c) (place_as-hold s p.0)
+    (place_of-hold s ps c)
 
 -- the place of a connection that is this to the node
 placed : (n : Node) (c : Conn) (h : Hold) → hold_of n c ≡ h → place_of n.state n.held c ≡ place_at h
 placed n c h e = place_of-hold n.state n.held c ∙ ap place_at e
 
-rejected : (n : Node) → Form n → IsTrue (not (reads_first n.state)) → (c : Conn) (wins : Bool) (w : Word) → after n (first_message w) (Some c) wins ≡ Moved (Close c ∷ []) n
+rejected : (n : Node) → Form n → IsTrue (not (reads_first n.state)) → (c : Conn) (wins : Bool) (w : Word) →
+    after n (first_message w) (Some c) wins ≡ Moved (Close c ∷ []) n
 rejected n (wait_conn_ack_elect i r apart) g c wins Cer = refl
 rejected n (wait_conn_ack_elect i r apart) g c wins CerRefused = refl
 rejected n (wait_conn_ack_elect i r apart) g c wins _ = refl
@@ -89,11 +92,14 @@ no_event_as ROpen role w e = refl
 no_event_as IOpen role w e = refl
 no_event_as Closing role w e = refl
 
-no_event_if : (s : State) (role : Role) (rest : Hold) (w : Word) (b : Bool) → (if b then hold_as s role else rest) ≡ Pending → (rest ≡ Pending → message_on_i s w ≡ NoEvent) → message_on_i s w ≡ NoEvent
+no_event_if : (s : State) (role : Role) (rest : Hold) (w : Word) (b : Bool) →
+    (if b then hold_as s role else rest) ≡ Pending → (rest ≡ Pending → message_on_i s w ≡ NoEvent) →
+    message_on_i s w ≡ NoEvent
 no_event_if s role rest w true e further = no_event_as s role w e
 no_event_if s role rest w false e further = further e
 
-no_event : (s : State) (held : List (Role × Conn)) (c : Conn) (w : Word) → hold_in s held c ≡ Pending → message_on_i s w ≡ NoEvent
+no_event : (s : State) (held : List (Role × Conn)) (c : Conn) (w : Word) → hold_in s held c ≡ Pending →
+    message_on_i s w ≡ NoEvent
 no_event s [] c w e = cc
 no_event s (p ∷ ps) c w e = no_event_if s p.0 (hold_in s ps c) w (p.1.0 == c.0) e (no_event s ps c w)
 
@@ -109,12 +115,14 @@ no_row Closing = refl
 
 after_nothing : (n : Node) (new : Option Conn) (wins : Bool) → after n NoEvent new wins ≡ Moved [] n
 after_nothing n new wins =
-    ap (λ (r : Option Row). if raises_win r wins then then_won (by_event r n NoEvent new) else by_event r n NoEvent new) (no_row n.state)
+    ap (λ (r : Option Row). if raises_win r wins then then_won (by_event r n NoEvent new) else by_event r n NoEvent new)
+    (no_row n.state)
 
 pub drops_before_ack : DropsBeforeAck
 drops_before_ack n c w wins shaped pending =
     ap (λ (p : Place). after n (message_event n.state w p) (Some c) wins) (placed n c Pending pending)
-    ∙ (ap (λ (e : TableEvent). after n e (Some c) wins) (no_event n.state n.held c w pending) ∙ after_nothing n (Some c) wins)
+    ∙ (ap (λ (e : TableEvent). after n e (Some c) wins) (no_event n.state n.held c w pending) ∙
+    after_nothing n (Some c) wins)
 
 pub reads_as_peer_disc : ReadsAsPeerDisc
 reads_as_peer_disc n c w taken = ap (λ (p : Place). message_event n.state w p) (placed n c Taken taken)
@@ -124,4 +132,5 @@ ends_as_peer_disc n c taken = ap (λ (p : Place). end_event n.state p) (placed n
 
 pub ends_at_word : EndsAtWord
 ends_at_word n c w wins taken =
-    ap (λ (e : TableEvent). after n e (Some c) wins) (reads_as_peer_disc n c w taken ∙ sym (ends_as_peer_disc n c taken))
+    ap (λ (e : TableEvent). after n e (Some c) wins)
+    (reads_as_peer_disc n c w taken ∙ sym (ends_as_peer_disc n c taken))

@@ -93,7 +93,8 @@ pub data Outcome : Type 0 where
 abbrev pub by_row : Row → Node → TableEvent → Option Conn → Outcome
 by_row r n e new =
     let held = held_at e n.held
-    in Moved (all_commands r.acts new held) (node_at r.next (all_held r.acts new held) (count_after n.state r.next e n.count))
+    in Moved (all_commands r.acts new held)
+    (node_at r.next (all_held r.acts new held) (count_after n.state r.next e n.count))
 
 -- without a row a Start, Stop or Submit is refused, and all else changes nothing
 abbrev pub by_no_row : Node → TableEvent → Outcome

@@ -37,7 +37,8 @@ ascii (suc (suc (suc (suc (suc zero))))) = omega arith
 ascii (suc (suc (suc (suc (suc (suc n)))))) = omega arith
 
 product : is_product (codes "dmpeer") ≡ true
-product = and_from (is_utf8 (codes "dmpeer")) true (is_utf8-from_IsUtf8 (codes "dmpeer") (IsUtf8-from_ascii (codes "dmpeer") ascii)) refl
+product = and_from (is_utf8 (codes "dmpeer")) true
+    (is_utf8-from_IsUtf8 (codes "dmpeer") (IsUtf8-from_ascii (codes "dmpeer") ascii)) refl
 
 node_of : (h : Host) → is_name h.host ≡ true → h.application ≤ 4294967295 → Node
 node_of h name most =

@@ -11,7 +11,8 @@ use Rattle.dm_replay.specs.Text.{trace_line}
 use Rattle.dm_replay.specs.Replay.{before, and_then}
 
 -- the line of an effect
-pub effect_line : (effect : Effect) (n : ℕ) (w next : World Peer (List ℕ)) (after : After Peer (List ℕ)) (others : World Peer (List ℕ) → List ℕ × Bool)
+pub effect_line : (effect : Effect) (n : ℕ) (w next : World Peer (List ℕ)) (after : After Peer (List ℕ))
+    (others : World Peer (List ℕ) → List ℕ × Bool)
     → Effects effect after w next → and_then n w after others ≡ before (trace_line n effect next) (others next)
 effect_line effects.Done n w next after others h = ap (λ a. and_then n w a others) h.1
 effect_line effects.Ignored n w next after others h =

@@ -8,7 +8,8 @@ use Rattle.dm_replay.specs.Replay.{ReplaysText}
 -- a text is read as one thing at most
 abbrev pub OneRead : Type 0
 OneRead =
-    (text : List ℕ) (read other : Result (Option Script) ScriptFault) → Reads text read → Reads text other → read ≡ other
+    (text : List ℕ) (read other : Result (Option Script) ScriptFault) → Reads text read → Reads text other →
+    read ≡ other
 
 -- a text is read as something
 abbrev pub SomeRead : Type 0

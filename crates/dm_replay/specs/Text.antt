@@ -31,7 +31,8 @@ effect_text Ignored = codes " ignored A "
 -- the line of happening n, which left this world
 unfoldable pub trace_line : ℕ → Effect → World Peer (List ℕ) → List ℕ
 trace_line n effect w =
-    decimal n ++ effect_text effect ++ node_text w.a.standing.core ++ codes " B " ++ node_text w.b.standing.core ++ 10 ∷ []
+    decimal n ++ effect_text effect ++ node_text w.a.standing.core ++ codes " B " ++ node_text w.b.standing.core ++
+    10 ∷ []
 
 -- the line of a happening that names a link that isn't there
 unfoldable pub nolink_line : ℕ → List ℕ

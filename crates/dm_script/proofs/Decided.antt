@@ -319,4 +319,5 @@ host_told numbers side line = by (words line) refl where
   by (a ∷ b ∷ host ∷ []) is = inr (λ h t. let e = sym is ∙ t.1 in cc)
   by (a ∷ b ∷ host ∷ n ∷ m ∷ l) is = inr (λ h t. let e = sym is ∙ t.1 in cc)
   by (a ∷ b ∷ host ∷ n ∷ []) is =
-      parts a b host n is (same_words a (codes "peer")) (same_words b (name side)) (good (is_name host)) (numbers 4294967295 n)
+      parts a b host n is (same_words a (codes "peer")) (same_words b (name side)) (good (is_name host))
+      (numbers 4294967295 n)

@@ -35,7 +35,8 @@ lines-next text line rest rest' before h k = h ∙ ap (λ v. before ++ v) k ∙ 
     (append_assoc before (line ∷ []) (lines rest'))
 
 -- a line that may not stand where it does
-pub broken : (text line rest rest' : List ℕ) (before : List (List ℕ)) (hosts : Hosts) (list : List Happening) (count : ℕ)
+pub broken : (text line rest rest' : List ℕ) (before : List (List ℕ)) (hosts : Hosts) (list : List Happening)
+    (count : ℕ)
     → lines text ≡ before ++ lines rest → lines rest ≡ line ∷ lines rest' → count ≡ length before
     → Stands (content before) hosts list
     → is_skipped (trimmed line) ≡ false → (MayStand (length (content before)) (trimmed line) → ⊥)
@@ -59,7 +60,8 @@ pub all_lines : (text rest : List ℕ) (before : List (List ℕ)) → lines text
 all_lines text rest before h none = h ∙ ap (λ v. before ++ v) none ∙ append-nil before
 
 -- the text ends behind its first peer
-pub broken_off : (text rest : List ℕ) (before : List (List ℕ)) (hosts : Hosts) (left : HostLine) (list : List Happening) (count : ℕ)
+pub broken_off : (text rest : List ℕ) (before : List (List ℕ)) (hosts : Hosts) (left : HostLine) (list : List Happening)
+    (count : ℕ)
     → lines text ≡ before ++ lines rest → lines rest ≡ [] → count ≡ length before → hosts ≡ One left
     → Stands (content before) hosts list → IsFirstBad text count
 broken_off text rest before hosts left list count h none is one stands =

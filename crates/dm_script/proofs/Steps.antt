@@ -37,7 +37,8 @@ not_second lines hosts left list line is none s may =
     none told.0 told.1
 
 -- a line that is no happening's
-pub not_later : (lines : List (List ℕ)) (hosts : Hosts) (left right : HostLine) (list : List Happening) (line : List ℕ) → hosts ≡ Both left right
+pub not_later : (lines : List (List ℕ)) (hosts : Hosts) (left right : HostLine) (list : List Happening)
+    (line : List ℕ) → hosts ≡ Both left right
     → ((h : Happening) → TellsHappening h line → ⊥) → Stands lines hosts list → MayStand (length lines) line → ⊥
 not_later lines hosts left right list line is none s may =
     let At : Hosts → Type 0 = λ v. Stands lines v list in
@@ -55,7 +56,8 @@ each-push (k ∷ list) [] h line each told = absurd each
 each-push (k ∷ list) (other ∷ lines) h line each told = (each.0, each-push list lines h line each.1 told)
 
 -- a happening's line
-pub taken : (lines : List (List ℕ)) (old new : Hosts) (left right : HostLine) (list list' : List Happening) (raw line : List ℕ) (h : Happening)
+pub taken : (lines : List (List ℕ)) (old new : Hosts) (left right : HostLine) (list list' : List Happening)
+    (raw line : List ℕ) (h : Happening)
     → old ≡ Both left right → new ≡ old → is_skipped (trimmed raw) ≡ false → line ≡ trimmed raw
     → list' ≡ list ++ h ∷ [] → TellsHappening h line
     → Stands lines old list → Stands (lines ++ content (raw ∷ [])) new list'

@@ -19,7 +19,8 @@ OneBadLine = (n k : ℕ) (text : List ℕ) → IsFirstBad text n → IsFirstBad 
 -- a script has no bad line
 abbrev pub NoScriptIsBad : Type 0
 NoScriptIsBad =
-    (left right : Host) (list : List Happening) (n : ℕ) (text : List ℕ) → TellsScript left right list text → IsFirstBad text n → ⊥
+    (left right : Host) (list : List Happening) (n : ℕ) (text : List ℕ) → TellsScript left right list text →
+    IsFirstBad text n → ⊥
 
 -- lines that stand for nothing aren't bad
 abbrev pub NothingIsNotBad : Type 0

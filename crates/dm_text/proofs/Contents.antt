@@ -9,7 +9,8 @@ use Rattle.std.proofs.lemmas.List.Splits.{length-slice_split}
 use Rattle.dm_text.specs.Lines.{trimmed, is_skipped, content}
 
 pub content-append : (s t : List (List ℕ)) → content (s ++ t) ≡ content s ++ content t
-content-append s t = ap (filter (λ l. not (is_skipped l))) (map-append trimmed s t) ∙ filter-append (λ l. not (is_skipped l)) (map trimmed s) (map trimmed t)
+content-append s t = ap (filter (λ l. not (is_skipped l))) (map-append trimmed s t) ∙
+    filter-append (λ l. not (is_skipped l)) (map trimmed s) (map trimmed t)
 
 parts-count : (parts : List (List ℕ)) → length (lines_of_parts parts) ≤ length parts
 parts-count [] = omega arith

@@ -18,8 +18,11 @@ full parts = filter (λ w. not (nat_eq (length w) 0)) parts
 words-drop : (s : List ℕ) → words (drop_spaces s) ≡ words s
 words-drop [] = refl
 words-drop (b ∷ s) = by (words-drop s) (nat_eq b 32) refl where
-  by : words (drop_spaces s) ≡ words s → (v : Bool) → nat_eq b 32 ≡ v → words (cond v (drop_spaces s) (b ∷ s)) ≡ words (b ∷ s)
-  by later true is = later ∙ ap (λ v. full (cond v ([] ∷ slice_split (λ c. nat_eq c 32) s) (onto_first b (slice_split (λ c. nat_eq c 32) s)))) (sym is)
+  by : words (drop_spaces s) ≡ words s → (v : Bool) → nat_eq b 32 ≡ v →
+      words (cond v (drop_spaces s) (b ∷ s)) ≡ words (b ∷ s)
+  by later true is = later ∙
+      ap (λ v. full (cond v ([] ∷ slice_split (λ c. nat_eq c 32) s) (onto_first b (slice_split (λ c. nat_eq c 32) s))))
+      (sym is)
   by later false is = refl
 
 -- what is left behind the spaces begins with none
@@ -41,7 +44,8 @@ word-onto : (x : List ℕ) (parts : List (List ℕ)) → 0 < length x → full (
 word-onto x parts some = ap (λ v. cond (not v) (x ∷ full parts) (full parts)) (some-none (length x) some)
 
 -- where a space stands, it stands behind something
-space_later : (s : List ℕ) (n : ℕ) → ((t : List ℕ) → s ≡ 32 ∷ t → ⊥) → position_or_len (λ b. nat_eq b 32) s ≡ n → n < length s → 0 < n
+space_later : (s : List ℕ) (n : ℕ) → ((t : List ℕ) → s ≡ 32 ∷ t → ⊥) → position_or_len (λ b. nat_eq b 32) s ≡ n →
+    n < length s → 0 < n
 space_later [] n other found below = absurd (omega (arith, below))
 space_later (b ∷ s) n other found below = by (nat_eq b 32) refl found where
   by : (v : Bool) → nat_eq b 32 ≡ v → cond (not v) (1 + position_or_len (λ c. nat_eq c 32) s) 0 ≡ n → 0 < n
@@ -56,15 +60,22 @@ words-fed line s n rest found =
     let size : 0 < length (take n s) = simp length-take (omega (arith, later, at.0, at.1)) in
     let Line : ℕ → Type 0 = λ k. words s ≡ full (take k s ∷ slice_split (λ b. nat_eq b 32) (drop (k + 1) s)) in
     let whole : Line n = subst Line at.0 (ap full (slice_split_first (λ b. nat_eq b 32) s 0 at.1)) in
-    sym (words-drop line) ∙ ap words (sym rest) ∙ whole ∙ word-onto (take n s) (slice_split (λ b. nat_eq b 32) (drop (n + 1) s)) size ∙ ap (λ v. take n s ∷ words v) (sym (take_rest s (n + 1)))
+    sym (words-drop line) ∙ ap words (sym rest) ∙ whole ∙
+    word-onto (take n s) (slice_split (λ b. nat_eq b 32) (drop (n + 1) s)) size ∙
+    ap (λ v. take n s ∷ words v) (sym (take_rest s (n + 1)))
 
-pub words-last : (line s : List ℕ) → s ≡ drop_spaces line → position (λ b. nat_eq b 32) s ≡ None → nat_eq (length s) 0 ≡ false → words line ≡ s ∷ []
+pub words-last : (line s : List ℕ) → s ≡ drop_spaces line → position (λ b. nat_eq b 32) s ≡ None →
+    nat_eq (length s) 0 ≡ false → words line ≡ s ∷ []
 words-last line s rest found some =
     let most = none_is (position_or_len (λ b. nat_eq b 32) s) (length s) _ refl found in
     sym (words-drop line) ∙ ap words (sym rest)
-    ∙ ap full (slice_split_none (λ b. nat_eq b 32) s (All-from_get_or (λ b. nat_eq b 32 ≡ false) s 0 (λ i below. fails_before_first (λ b. nat_eq b 32) s i 0 (omega (arith, most, below)))))
+    ∙ ap full
+    (slice_split_none (λ b. nat_eq b 32) s
+    (All-from_get_or (λ b. nat_eq b 32 ≡ false) s 0
+    (λ i below. fails_before_first (λ b. nat_eq b 32) s i 0 (omega (arith, most, below)))))
     ∙ ap (λ v. cond (not v) (s ∷ []) []) some
 
-pub words-none : (line s : List ℕ) → s ≡ drop_spaces line → nat_eq (length s) 0 ≡ true → (words line ≡ []) × (words s ≡ [])
+pub words-none : (line s : List ℕ) → s ≡ drop_spaces line → nat_eq (length s) 0 ≡ true →
+    (words line ≡ []) × (words s ≡ [])
 words-none line [] rest none = (sym (words-drop line) ∙ ap words (sym rest), refl)
 words-none line (b ∷ s) rest none = absurd (let zero = eqb-true (length (b ∷ s)) 0 none in omega (arith, zero))

@@ -34,7 +34,8 @@ pub built_fault : (m : Message) (f : WireFault) (text mid new : List ℕ) → f 
 unfolding fault_text
 built_fault m f text mid new is unspelled h k = (
   codes "fault TooLong" ++ 10 ∷ [],
-  k ∙ ap (λ v. v ++ 10 ∷ []) (h ∙ ap (λ v. text ++ fault_text v) is) ∙ append_assoc text (codes "fault TooLong") (10 ∷ []),
+  k ∙ ap (λ v. v ++ 10 ∷ []) (h ∙ ap (λ v. text ++ fault_text v) is) ∙
+      append_assoc text (codes "fault TooLong") (10 ∷ []),
   inr (unspelled, refl, refl),
 )
 
@@ -78,24 +79,35 @@ builds-one m text good h =
     }
 
 -- all messages are printed
-pub stands-end : (lines : List (List ℕ)) (last : Option Header) (avps : List Avp) (text more new : List ℕ) (good fine new_good : Bool) → new ≡ text ++ more → new_good ≡ (good && fine)
+pub stands-end : (lines : List (List ℕ)) (last : Option Header) (avps : List Avp) (text more new : List ℕ)
+    (good fine new_good : Bool) → new ≡ text ++ more → new_good ≡ (good && fine)
     → BuildsMessages (last_message last avps) more fine → Stands lines last avps text good
     → (l : List Message) × TellsAll l lines × BuildsMessages l new new_good
-stands-end lines last avps text more new good fine new_good is good_is b s =
-    (s.0 ++ last_message last avps, s.1, builds-more s.0 (last_message last avps) text more new good fine new_good s.2 b is good_is)
+stands-end lines last avps text more new good fine new_good is good_is b s = (
+  s.0 ++ last_message last avps,
+  s.1,
+  builds-more s.0 (last_message last avps) text more new good fine new_good s.2 b is good_is,
+)
 
 -- a message begins, and the last one is printed
-pub stands-header : (lines : List (List ℕ)) (line : List ℕ) (h : Header) (last : Option Header) (avps none : List Avp) (text more new : List ℕ) (good fine new_good : Bool) → TellsHeader h line → none ≡ []
+pub stands-header : (lines : List (List ℕ)) (line : List ℕ) (h : Header) (last : Option Header) (avps none : List Avp)
+    (text more new : List ℕ) (good fine new_good : Bool) → TellsHeader h line → none ≡ []
     → new ≡ text ++ more → new_good ≡ (good && fine) → BuildsMessages (last_message last avps) more fine
     → Stands lines last avps text good → Stands (lines ++ line ∷ []) (Some h) none new new_good
 stands-header lines line h last avps none text more new good fine new_good told empty is good_is b s =
     let all = stands-end lines last avps text more new good fine new_good is good_is b s in
     let Avps : List Avp → Type 0 = λ l. Stands (lines ++ line ∷ []) (Some h) l new new_good in
-    subst Avps (sym empty)
-    (all.0, tells-append all.0 (record { header = h; avps = [] } ∷ []) lines (line ∷ []) all.1 (tells-one (record { header = h; avps = [] }) (line ∷ []) (told, tt)), all.2, λ e. cc)
+    subst Avps (sym empty) (
+      all.0,
+      tells-append all.0 (record { header = h; avps = [] } ∷ []) lines (line ∷ []) all.1
+          (tells-one (record { header = h; avps = [] }) (line ∷ []) (told, tt)),
+      all.2,
+      λ e. cc,
+    )
 
 -- the last message goes on
-pub stands-avp : (lines : List (List ℕ)) (line : List ℕ) (last : Option Header) (a : Avp) (avps new : List Avp) (text : List ℕ) (good : Bool) → is_some last ≡ true → TellsAvp a line → new ≡ avps ++ a ∷ []
+pub stands-avp : (lines : List (List ℕ)) (line : List ℕ) (last : Option Header) (a : Avp) (avps new : List Avp)
+    (text : List ℕ) (good : Bool) → is_some last ≡ true → TellsAvp a line → new ≡ avps ++ a ∷ []
     → Stands lines last avps text good → Stands (lines ++ line ∷ []) last new text good
 stands-avp lines line None a avps new text good some told is s = absurd (cc)
 stands-avp lines line (Some h) a avps new text good some told is s =
@@ -130,7 +142,8 @@ nowhere done last avps line none h =
 -- the last message is printed
 pub built_last : (last : Option Header) (h : Header) (avps view : List Avp) (text : List ℕ) (good : Bool)
     → last ≡ Some h → view ≡ avps
-    → BuildsOctets (record { header = h; avps = view }) text good ⊎ BuildsTooLong (record { header = h; avps = view }) text good → BuildsMessages (last_message last avps) text good
+    → BuildsOctets (record { header = h; avps = view }) text good ⊎
+    BuildsTooLong (record { header = h; avps = view }) text good → BuildsMessages (last_message last avps) text good
 built_last last h avps view text good is same b =
     let Last : Option Header → Type 0 = λ o. BuildsMessages (last_message o avps) text good in
     let Avps : List Avp → Type 0 = λ l. BuildsMessages (record { header = h; avps = l } ∷ []) text good in

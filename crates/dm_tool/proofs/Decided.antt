@@ -54,7 +54,8 @@ number_told (c ∷ s) = by (digits (c ∷ s)) (nat_le (digits_value 10 (c ∷ s)
   by (inl h) true is =
       inl (digits_value 10 (c ∷ s), ((omega arith, h), refl, leb-true (digits_value 10 (c ∷ s)) 4294967295 is))
   by (inl h) false is =
-      inr (λ n told. let above = leb-false (digits_value 10 (c ∷ s)) 4294967295 is in absurd (omega (arith, above, told.1, told.2)))
+      inr (λ n told. let above = leb-false (digits_value 10 (c ∷ s)) 4294967295 is in
+      absurd (omega (arith, above, told.1, told.2)))
   by (inr h) v is = inr (λ n told. h told.0.1)
 
 abbrev slash_place : List ℕ → Option ℕ

@@ -118,7 +118,8 @@ NamesTold ws = ((a h e : ℕ) × TellsNames a h e ws) ⊎ ((a h e : ℕ) → Tel
 
 names_told : (ws : List (List ℕ)) → NamesTold ws
 names_told ws = application (named_told (codes "app") ws) where
-  at_end : (x : Named (codes "app") ws) (y : Named (codes "hop") x.more) (z : Named (codes "end") y.more) (left : List (List ℕ)) → z.more ≡ left → NamesTold ws
+  at_end : (x : Named (codes "app") ws) (y : Named (codes "hop") x.more) (z : Named (codes "end") y.more)
+      (left : List (List ℕ)) → z.more ≡ left → NamesTold ws
   at_end x y z [] is =
       inl (
         x.number,
@@ -142,7 +143,8 @@ names_told ws = application (named_told (codes "app") ws) where
   end_id : (x : Named (codes "app") ws) (y : Named (codes "hop") x.more) → NamedTold (codes "end") y.more → NamesTold ws
   end_id x y (inl z) = at_end x y z z.more refl
   end_id x y (inr none) =
-      inr (λ a h e told. none e told.end_id_word [] (behind_two y.whole (behind_two x.whole told.whole)) told.tells_end_id)
+      inr (λ a h e told. none e told.end_id_word [] (behind_two y.whole (behind_two x.whole told.whole))
+      told.tells_end_id)
 
   hop_id : (x : Named (codes "app") ws) → NamedTold (codes "hop") x.more → NamesTold ws
   hop_id x (inl y) = end_id x y (named_told (codes "end") y.more)
@@ -163,7 +165,16 @@ header_told line = named (named_told (codes "message") (words line)) where
   whole_header x f ws is (inl m) (inl n) =
       let names = n.3 in
       inl (
-        record { request = m.0; proxiable = m.1; error = m.2; retransmit = m.3; command = x.number; application = n.0; hop_id = n.1; end_id = n.2 },
+        record {
+          request = m.0;
+          proxiable = m.1;
+          error = m.2;
+          retransmit = m.3;
+          command = x.number;
+          application = n.0;
+          hop_id = n.1;
+          end_id = n.2;
+        },
         record {
           command = x.digits;
           application = names.application_word;

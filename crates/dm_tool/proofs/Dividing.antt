@@ -22,9 +22,12 @@ whole-upto : (s : List ℕ) → position_or_len feeds s < length s
 whole-upto [] h = absurd (omega arith)
 whole-upto (b ∷ s) below = by (nat_eq b 10) (whole-upto s) below where
   by : (v : Bool)
-      → (position_or_len feeds s < length s → whole_lines s ≡ take (position_or_len feeds s + 1) s ∷ whole_lines (drop (position_or_len feeds s + 1) s))
+      → (position_or_len feeds s < length s →
+      whole_lines s ≡ take (position_or_len feeds s + 1) s ∷ whole_lines (drop (position_or_len feeds s + 1) s))
       → cond (not v) (1 + position_or_len feeds s) 0 < length (b ∷ s)
-      → cond v ((b ∷ []) ∷ whole_lines s) (onto_first b (whole_lines s)) ≡ take (cond (not v) (1 + position_or_len feeds s) 0 + 1) (b ∷ s) ∷ whole_lines (drop (cond (not v) (1 + position_or_len feeds s) 0 + 1) (b ∷ s))
+      → cond v ((b ∷ []) ∷ whole_lines s) (onto_first b (whole_lines s)) ≡
+      take (cond (not v) (1 + position_or_len feeds s) 0 + 1) (b ∷ s) ∷ whole_lines
+      (drop (cond (not v) (1 + position_or_len feeds s) 0 + 1) (b ∷ s))
   by true later h = refl
   by false later h = onto_line b (position_or_len feeds s) s (whole_lines s) (later (omega arith))
 
@@ -93,7 +96,8 @@ ends-here s n whole divider = (
 pub one-more : (s : List ℕ) (n m : ℕ) → whole_lines (drop n s) ≡ take m (drop n s) ∷ whole_lines (drop m (drop n s))
     → is_divider (take m (drop n s)) ≡ false
     → dictionary_part s ≡ take n s ++ dictionary_part (drop n s) → message_part s ≡ message_part (drop n s)
-    → (dictionary_part s ≡ take (n + m) s ++ dictionary_part (drop (n + m) s)) × (message_part s ≡ message_part (drop (n + m) s))
+    → (dictionary_part s ≡ take (n + m) s ++ dictionary_part (drop (n + m) s)) ×
+    (message_part s ≡ message_part (drop (n + m) s))
 one-more s n m whole other dictionary messages =
     let on = goes-on (drop n s) m whole other in (
       dictionary ∙ ap (λ v. take n s ++ v) on.0 ∙ sym
@@ -108,5 +112,7 @@ pub divided : (s : List ℕ) (n m : ℕ) → whole_lines (drop n s) ≡ take m (
     → dictionary_part s ≡ take n s ++ dictionary_part (drop n s) → message_part s ≡ message_part (drop n s)
     → (take n s ≡ dictionary_part s) × (drop (n + m) s ≡ message_part s)
 divided s n m whole divider dictionary messages =
-    let here = ends-here (drop n s) m whole divider in
-    (sym (dictionary ∙ ap (λ v. take n s ++ v) here.0 ∙ append-nil (take n s)), sym (messages ∙ here.1 ∙ drop-drop m n s))
+    let here = ends-here (drop n s) m whole divider in (
+      sym (dictionary ∙ ap (λ v. take n s ++ v) here.0 ∙ append-nil (take n s)),
+      sym (messages ∙ here.1 ∙ drop-drop m n s),
+    )

@@ -59,7 +59,8 @@ same_place input text other h g e =
     let Built : List Message → Type 0 = λ l. BuildsMessages (but_last l) h.built h.good in
     let built = one_messages_built (but_last g.messages) h.built g.built h.good g.good
     (subst Built messages h.builds) g.builds in
-    h.text_is ∙ ap (λ v. v ++ codes "fault syntax " ++ decimal (length h.before + 1) ++ 10 ∷ []) built.0 ∙ ap (λ v. g.built ++ codes "fault syntax " ++ decimal (length v + 1) ++ 10 ∷ []) e ∙ sym g.text_is
+    h.text_is ∙ ap (λ v. v ++ codes "fault syntax " ++ decimal (length h.before + 1) ++ 10 ∷ []) built.0 ∙
+    ap (λ v. g.built ++ codes "fault syntax " ++ decimal (length v + 1) ++ 10 ∷ []) e ∙ sym g.text_is
 
 one_up_to : (input text other : List ℕ) → BuildsUpTo input text → BuildsUpTo input other → text ≡ other
 one_up_to input text other h g = by (cuts h.before g.before h.after g.after h.line g.line (sym h.whole ∙ g.whole)) where

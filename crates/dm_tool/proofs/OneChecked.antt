@@ -16,7 +16,8 @@ Under base input text good =
 
 abbrev pub Nothing : Definitions → List ℕ → List ℕ → Bool → Type 0
 Nothing base input text good =
-    (f : DictFault) × IsFirstFault (dictionary_part input) base f × (text ≡ dictionary_fault_text f ++ 10 ∷ []) × (good ≡ false)
+    (f : DictFault) × IsFirstFault (dictionary_part input) base f × (text ≡ dictionary_fault_text f ++ 10 ∷ []) ×
+    (good ≡ false)
 
 -- what a text says as a dictionary is one thing
 pub record DefinitionLaws : Type 0 where

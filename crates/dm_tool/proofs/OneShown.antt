@@ -42,8 +42,11 @@ module _ (laws : OctetLaws) where
       → PrintsLine answer line text good → PrintsLine answer line other fine → (text ≡ other) × (good ≡ fine)
   one_line_text answer line text other good fine = by (line_octets line) where
     by : (o : Option (List ℕ))
-        → MatchOption o (PrintsNoHex text good) (λ octets. PrintsMessage answer octets text good ⊎ PrintsFault octets text good)
-        → MatchOption o (PrintsNoHex other fine) (λ octets. PrintsMessage answer octets other fine ⊎ PrintsFault octets other fine) → (text ≡ other) × (good ≡ fine)
+        → MatchOption o (PrintsNoHex text good)
+        (λ octets. PrintsMessage answer octets text good ⊎ PrintsFault octets text good)
+        → MatchOption o (PrintsNoHex other fine)
+        (λ octets. PrintsMessage answer octets other fine ⊎ PrintsFault octets other fine) →
+        (text ≡ other) × (good ≡ fine)
     by None h k = (h.0 ∙ sym k.0, h.1 ∙ sym k.1)
     by (Some octets) h k = one_octets_text answer octets text other good fine h k
 

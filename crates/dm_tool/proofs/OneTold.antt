@@ -18,7 +18,16 @@ one_mark letter false true other h = absurd (other (sym h))
 
 abbrev made_header : Bool → Bool → Bool → Bool → ℕ → ℕ → ℕ → ℕ → Header
 made_header r p e t c a h n =
-    record { request = r; proxiable = p; error = e; retransmit = t; command = c; application = a; hop_id = h; end_id = n }
+    record {
+      request = r;
+      proxiable = p;
+      error = e;
+      retransmit = t;
+      command = c;
+      application = a;
+      hop_id = h;
+      end_id = n;
+    }
 
 abbrev made_avp : ℕ → Option ℕ → Bool → Bool → List ℕ → Avp
 made_avp c v m p d = record { code = c; vendor = v; mandatory = m; protected = p; bytes = d }
@@ -66,7 +75,8 @@ one_header h k line a b =
     same_header : (h k : Header) → h.request ≡ k.request → h.proxiable ≡ k.proxiable → h.error ≡ k.error
         → h.retransmit ≡ k.retransmit → h.command ≡ k.command → h.application ≡ k.application → h.hop_id ≡ k.hop_id
         → h.end_id ≡ k.end_id
-        → made_header h.request h.proxiable h.error h.retransmit h.command h.application h.hop_id h.end_id ≡ made_header k.request k.proxiable k.error k.retransmit k.command k.application k.hop_id k.end_id
+        → made_header h.request h.proxiable h.error h.retransmit h.command h.application h.hop_id h.end_id ≡
+        made_header k.request k.proxiable k.error k.retransmit k.command k.application k.hop_id k.end_id
     same_header h k e0 e1 e2 e3 e4 e5 e6 e7 = rw (e0, e1, e2, e3, e4, e5, e6, e7) refl
 
 -- `-` is no hexadecimal
@@ -95,7 +105,8 @@ one_avp a b line h k =
   where
     same_avp : (a b : Avp) → a.code ≡ b.code → a.vendor ≡ b.vendor → a.mandatory ≡ b.mandatory
         → a.protected ≡ b.protected → a.bytes ≡ b.bytes
-        → made_avp a.code a.vendor a.mandatory a.protected a.bytes ≡ made_avp b.code b.vendor b.mandatory b.protected b.bytes
+        → made_avp a.code a.vendor a.mandatory a.protected a.bytes ≡
+        made_avp b.code b.vendor b.mandatory b.protected b.bytes
     same_avp a b e0 e1 e2 e3 e4 = rw (e0, e1, e2, e3, e4) refl
 
 -- no line of a message is one of an AVP

@@ -26,7 +26,8 @@ lines-next input line rest rest' before h k =
     h ∙ ap (λ v. before ++ v) k ∙ sym (append_assoc before (line ∷ []) (lines rest'))
 
 -- a line is out of place
-pub built_up_to : (input line rest rest' text new : List ℕ) (good : Bool) (last : Option Header) (avps : List Avp) (before : List (List ℕ)) (number : ℕ) → lines input ≡ before ++ lines rest → lines rest ≡ line ∷ lines rest'
+pub built_up_to : (input line rest rest' text new : List ℕ) (good : Bool) (last : Option Header) (avps : List Avp)
+    (before : List (List ℕ)) (number : ℕ) → lines input ≡ before ++ lines rest → lines rest ≡ line ∷ lines rest'
     → Stands (content before) last avps text good → is_skipped (trimmed line) ≡ false
     → GoesOnNowhere last (trimmed line) → number ≡ length before + 1
     → new ≡ text ++ codes "fault syntax " ++ decimal number ++ 10 ∷ []

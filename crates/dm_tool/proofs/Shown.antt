@@ -14,8 +14,11 @@ content-line s rest line h is =
     ∙ ap (λ b. cond (not b) (trimmed line ∷ content_lines rest) (content_lines rest)) is
 
 -- what a line prints goes behind the text so far, and before what the lines to come print
-pub prints-next : (answer : Message → List ℕ × Bool) (all rest rest' : List (List ℕ)) (line text first new : List ℕ) (good fine good' : Bool) → rest ≡ line ∷ rest' → PrintsLine answer line first fine → new ≡ text ++ first → good' ≡ (good && fine)
-    → ((more : List ℕ) (others : Bool) → PrintsLines answer rest more others → PrintsLines answer all (text ++ more) (good && others))
+pub prints-next : (answer : Message → List ℕ × Bool) (all rest rest' : List (List ℕ)) (line text first new : List ℕ)
+    (good fine good' : Bool) → rest ≡ line ∷ rest' → PrintsLine answer line first fine → new ≡ text ++ first →
+    good' ≡ (good && fine)
+    → ((more : List ℕ) (others : Bool) → PrintsLines answer rest more others →
+    PrintsLines answer all (text ++ more) (good && others))
     → (more : List ℕ) (others : Bool) → PrintsLines answer rest' more others
     → PrintsLines answer all (new ++ more) (good' && others)
 prints-next answer all rest rest' line text first new good fine good' h shown e g whole more others later =

@@ -30,7 +30,8 @@ slash-nowhere (b ∷ s) digits =
 -- behind a `/` stands the vendor
 pub with_slash : (word : List ℕ) (n code : ℕ) (vendor : Option ℕ) → position (λ b. nat_eq b 47) word ≡ Some n
     → TellsCode code vendor word
-    → (v : ℕ) × (vendor ≡ Some v) × TellsNumber code (take n word) × TellsNumber v (take (length word - (n + 1)) (drop (n + 1) word))
+    → (v : ℕ) × (vendor ≡ Some v) × TellsNumber code (take n word) ×
+    TellsNumber v (take (length word - (n + 1)) (drop (n + 1) word))
 with_slash word n code None found told =
     let at = place_of (λ b. nat_eq b 47) word n found in
     let place = slash-nowhere word told.0.1 in
@@ -64,7 +65,8 @@ cut word n found =
     let at = position-Some (λ b. nat_eq b 47) word n 0 found in
     sym (take-append-drop n word)
     ∙ ap (λ v. take n word ++ v)
-    (drop_more word n 0 at.0 ∙ ap (λ b. b ∷ drop (n + 1) word) (eqb-true (get_or word n 0) 47 at.1) ∙ ap (λ v. 47 ∷ v) (sym (take_rest word (n + 1))))
+    (drop_more word n 0 at.0 ∙ ap (λ b. b ∷ drop (n + 1) word) (eqb-true (get_or word n 0) 47 at.1) ∙
+    ap (λ v. 47 ∷ v) (sym (take_rest word (n + 1))))
 
 pub one_number : (n k : ℕ) (word : List ℕ) → TellsNumber n word → TellsNumber k word → n ≡ k
 one_number n k word h g = sym h.1 ∙ g.1
@@ -80,5 +82,7 @@ one_code code other vendor another word h g = by (position (λ b. nat_eq b 47) w
       (one_number code other word a.1 b.1, a.0 ∙ sym b.0)
   by (Some n) found =
       let a = with_slash word n code vendor found h in
-      let b = with_slash word n other another found g in
-      (one_number code other (take n word) a.2 b.2, a.1 ∙ ap Some (one_number a.0 b.0 (take (length word - (n + 1)) (drop (n + 1) word)) a.3 b.3) ∙ sym b.1)
+      let b = with_slash word n other another found g in (
+        one_number code other (take n word) a.2 b.2,
+        a.1 ∙ ap Some (one_number a.0 b.0 (take (length word - (n + 1)) (drop (n + 1) word)) a.3 b.3) ∙ sym b.1,
+      )

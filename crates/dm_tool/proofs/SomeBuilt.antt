@@ -47,18 +47,23 @@ module _ (laws : WrittenLaws) where
   spelled m k h = by (message_eq m k) refl where
     by : (v : Bool) → message_eq m k ≡ v → MessageBuilt m
     by true is =
-        let Spells : Message → Type 0 = λ v. SpellsMessage v (canonical_message m) in
-        (encode_lower (canonical_message m) ++ 10 ∷ [], true, inl (subst Spells (sym ((laws.equal_messages m k).0 is)) h, refl, refl))
+        let Spells : Message → Type 0 = λ v. SpellsMessage v (canonical_message m) in (
+          encode_lower (canonical_message m) ++ 10 ∷ [],
+          true,
+          inl (subst Spells (sym ((laws.equal_messages m k).0 is)) h, refl, refl),
+        )
     by false is = too_long m (λ s told. iff_false (laws.equal_messages m k) is (sym (laws.reads_back m k s told h)))
 
   message_built : (m : Message) → hold_octets m.avps ≡ true → MessageBuilt m
   message_built m o =
       by (laws.message_or_fault (canonical_message m) (octets_at (canonical_message m) (message_octets m o))) where
-        by : ((k : Message) × SpellsMessage k (canonical_message m)) ⊎ ((f : WireFault) × Refuses (canonical_message m) f)
+        by : ((k : Message) × SpellsMessage k (canonical_message m)) ⊎
+            ((f : WireFault) × Refuses (canonical_message m) f)
             → MessageBuilt m
         by (inl h) = spelled m h.0 h.1
         by (inr h) =
-            too_long m (λ s told. laws.no_message_refused m (canonical_message m) h.0 (laws.canonical_spells m s told) h.1)
+            too_long m
+            (λ s told. laws.no_message_refused m (canonical_message m) h.0 (laws.canonical_spells m s told) h.1)
 
   last_built : (last : Option Header) (avps : List Avp) → hold_octets avps ≡ true
       → (text : List ℕ) × (good : Bool) × BuildsMessages (last_message last avps) text good
@@ -68,7 +73,8 @@ module _ (laws : WrittenLaws) where
       let built = message_built m o in (built.0, built.1, builds-one m built.0 built.1 built.2)
 
   -- no lines are left
-  at_end : (input : List ℕ) (before : List (List ℕ)) (last : Option Header) (avps : List Avp) (text : List ℕ) (good : Bool) → lines input ≡ before ++ []
+  at_end : (input : List ℕ) (before : List (List ℕ)) (last : Option Header) (avps : List Avp) (text : List ℕ)
+      (good : Bool) → lines input ≡ before ++ []
       → Stands (content before) last avps text good → hold_octets avps ≡ true → Built input
   at_end input before last avps text good whole stands o =
       let b = last_built last avps o in
@@ -83,7 +89,8 @@ module _ (laws : WrittenLaws) where
       (last : Option Header) (avps : List Avp) (text : List ℕ) (good : Bool)
       → Stands (content before) last avps text good → hold_octets avps ≡ true → Built input
 
-  module _ (input : List ℕ) (before after : List (List ℕ)) (line : List ℕ) (whole : lines input ≡ before ++ line ∷ after)
+  module _ (input : List ℕ) (before after : List (List ℕ)) (line : List ℕ)
+      (whole : lines input ≡ before ++ line ∷ after)
       (later : GoesOn input (before ++ line ∷ [])) where
     misplaced : (last : Option Header) (avps : List Avp) (text : List ℕ) (good : Bool)
         → Stands (content before) last avps text good

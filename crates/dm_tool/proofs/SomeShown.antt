@@ -37,7 +37,9 @@ module _ (message_or_fault : MessageOrFault) where
       → (text : List ℕ) × (good : Bool) × PrintsLine answer line text good
   some_line answer line = by (line_octets line) refl where
     by : (o : Option (List ℕ)) → line_octets line ≡ o
-        → (text : List ℕ) × (good : Bool) × MatchOption o (PrintsNoHex text good) (λ octets. PrintsMessage answer octets text good ⊎ PrintsFault octets text good)
+        → (text : List ℕ) × (good : Bool) ×
+        MatchOption o (PrintsNoHex text good)
+        (λ octets. PrintsMessage answer octets text good ⊎ PrintsFault octets text good)
     by None is = (codes "fault hex" ++ 10 ∷ [], false, (refl, refl))
     by (Some octets) is =
         some_octets answer octets
@@ -70,7 +72,8 @@ module _ (message_or_fault : MessageOrFault) where
   pub some_checked : SomeOutcome → (base : Definitions) (input : List ℕ)
       → (text : List ℕ) × (good : Bool) × (Under base input text good ⊎ Nothing base input text good)
   some_checked outcome base input = by (outcome (dictionary_part input) base) where
-    by : ((d : Definitions) × Defines (dictionary_part input) base d) ⊎ ((f : DictFault) × IsFirstFault (dictionary_part input) base f)
+    by : ((d : Definitions) × Defines (dictionary_part input) base d) ⊎
+        ((f : DictFault) × IsFirstFault (dictionary_part input) base f)
         → (text : List ℕ) × (good : Bool) × (Under base input text good ⊎ Nothing base input text good)
     by (inl h) =
         let shown = some_shown (checked h.0) (message_part input) in

@@ -18,8 +18,13 @@ pub tells-split : (l k : List Message) (s : List (List ℕ)) → TellsAll (l ++ 
     → (a b : List (List ℕ)) × (s ≡ a ++ b) × TellsAll l a × TellsAll k b
 tells-split [] k s h = ([], s, refl, refl, h)
 tells-split (m ∷ l) k s h =
-    let later = tells-split l k h.1 h.4 in
-    (h.0 ++ later.0, later.1, h.2 ∙ ap (λ v. h.0 ++ v) later.2 ∙ sym (append_assoc h.0 later.0 later.1), (h.0, later.0, refl, h.3, later.3), later.4)
+    let later = tells-split l k h.1 h.4 in (
+      h.0 ++ later.0,
+      later.1,
+      h.2 ∙ ap (λ v. h.0 ++ v) later.2 ∙ sym (append_assoc h.0 later.0 later.1),
+      (h.0, later.0, refl, h.3, later.3),
+      later.4,
+    )
 
 avps-push : (l : List Avp) (a : Avp) (s : List (List ℕ)) (line : List ℕ) → TellsAvps l s → TellsAvp a line
     → TellsAvps (l ++ a ∷ []) (s ++ line ∷ [])

@@ -14,11 +14,13 @@ use Rattle.dm_tool.specs.Messages.{TellsHeader, TellsAvp, TellsAll}
 
 -- a message that has a spelling is printed as its canonical octets in lower case hexadecimal, and is good
 abbrev pub BuildsOctets : Message → List ℕ → Bool → Type 0
-BuildsOctets m text good = SpellsMessage m (canonical_message m) × (text ≡ encode_lower (canonical_message m) ++ 10 ∷ []) × (good ≡ true)
+BuildsOctets m text good = SpellsMessage m (canonical_message m) ×
+    (text ≡ encode_lower (canonical_message m) ++ 10 ∷ []) × (good ≡ true)
 
 -- a message that has none is printed as `fault TooLong`, and is bad
 abbrev pub BuildsTooLong : Message → List ℕ → Bool → Type 0
-BuildsTooLong m text good = ((s : List ℕ) → SpellsMessage m s → ⊥) × (text ≡ codes "fault TooLong" ++ 10 ∷ []) × (good ≡ false)
+BuildsTooLong m text good = ((s : List ℕ) → SpellsMessage m s → ⊥) × (text ≡ codes "fault TooLong" ++ 10 ∷ []) ×
+    (good ≡ false)
 
 -- what is printed for a message, and whether it is good
 abbrev pub BuildsMessage : Message → List ℕ → Bool → Type 0

@@ -52,12 +52,14 @@ dictionary_fault_text NoMemory = []
 
 -- the input's dictionary is good, and the messages are checked under it
 abbrev pub ChecksUnder : List ℕ → List ℕ → Bool → Type 0
-ChecksUnder input text good = (d : Definitions) × Defines (dictionary_part input) base_definitions d × PrintsAll (checked d) (message_part input) text good
+ChecksUnder input text good = (d : Definitions) × Defines (dictionary_part input) base_definitions d ×
+    PrintsAll (checked d) (message_part input) text good
 
 -- it has a fault, which alone is printed
 abbrev pub ChecksNothing : List ℕ → List ℕ → Bool → Type 0
 ChecksNothing input text good =
-    (f : DictFault) × IsFirstFault (dictionary_part input) base_definitions f × (text ≡ dictionary_fault_text f ++ 10 ∷ []) × (good ≡ false)
+    (f : DictFault) × IsFirstFault (dictionary_part input) base_definitions f ×
+    (text ≡ dictionary_fault_text f ++ 10 ∷ []) × (good ≡ false)
 
 -- what is printed for an input that begins with a dictionary over the base one, and whether all of it is good
 abbrev pub ChecksWithDictionary : List ℕ → List ℕ → Bool → Type 0

@@ -12,7 +12,8 @@ use Rattle.dm_tool.specs.Joined.{Joined}
 
 -- octets that spell a message are answered by the message's answer
 abbrev pub PrintsMessage : (Message → List ℕ × Bool) → List ℕ → List ℕ → Bool → Type 0
-PrintsMessage answer octets text good = (m : Message) × SpellsMessage m octets × (text ≡ (answer m).0) × (good ≡ (answer m).1)
+PrintsMessage answer octets text good = (m : Message) × SpellsMessage m octets × (text ≡ (answer m).0) ×
+    (good ≡ (answer m).1)
 
 -- octets that spell none are printed as their fault, and are bad
 abbrev pub PrintsFault : List ℕ → List ℕ → Bool → Type 0
@@ -25,7 +26,8 @@ PrintsNoHex text good = (text ≡ codes "fault hex" ++ 10 ∷ []) × (good ≡ f
 -- what is printed for a line, and whether it is good
 abbrev pub PrintsLine : (Message → List ℕ × Bool) → List ℕ → List ℕ → Bool → Type 0
 PrintsLine answer line text good =
-    MatchOption (line_octets line) (PrintsNoHex text good) (λ octets. PrintsMessage answer octets text good ⊎ PrintsFault octets text good)
+    MatchOption (line_octets line) (PrintsNoHex text good)
+    (λ octets. PrintsMessage answer octets text good ⊎ PrintsFault octets text good)
 
 -- what is printed for these lines, one after the other, and whether all are good
 abbrev pub PrintsLines : (Message → List ℕ × Bool) → List (List ℕ) → List ℕ → Bool → Type 0

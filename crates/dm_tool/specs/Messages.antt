@@ -14,7 +14,8 @@ pub record TellsHeader (h : Header) (line : List ℕ) : Type 0 where
   pub application : List ℕ
   pub hop_id : List ℕ
   pub end_id : List ℕ
-  pub whole : words line ≡ codes "message" ∷ command ∷ header_flags h ∷ codes "app" ∷ application ∷ codes "hop" ∷ hop_id ∷ codes "end" ∷ end_id ∷ []
+  pub whole : words line ≡ codes "message" ∷ command ∷ header_flags h ∷ codes "app" ∷ application ∷ codes "hop" ∷ hop_id
+      ∷ codes "end" ∷ end_id ∷ []
   pub tells_command : TellsNumber h.command command
   pub tells_application : TellsNumber h.application application
   pub tells_hop_id : TellsNumber h.hop_id hop_id

@@ -6,7 +6,8 @@ use Rattle.dm_tool.specs.Run.{Prints}
 -- under one command an input has at most one text, and is either good or not
 abbrev pub OneText : Type 0
 OneText =
-    (choice : Choice) (input text other : List ℕ) (good fine : Bool) → Prints choice input text good → Prints choice input other fine
+    (choice : Choice) (input text other : List ℕ) (good fine : Bool) → Prints choice input text good →
+    Prints choice input other fine
     → (text ≡ other) × (good ≡ fine)
 
 -- under each command an input has a text, and is good or not

@@ -14,7 +14,8 @@ last_message (Some h) avps = record { header = h; avps = avps } ∷ []
 -- the lines tell messages, of which the last is this one, and those before it have this text
 abbrev pub Stands : List (List ℕ) → Option Header → List Avp → List ℕ → Bool → Type 0
 Stands lines last avps text good =
-    (done : List Message) × TellsAll (done ++ last_message last avps) lines × BuildsMessages done text good × (last ≡ None → done ≡ [])
+    (done : List Message) × TellsAll (done ++ last_message last avps) lines × BuildsMessages done text good ×
+    (last ≡ None → done ≡ [])
 
 -- the line begins no message, and is no AVP of the last one
 abbrev pub GoesOnNowhere : Option Header → List ℕ → Type 0

@@ -24,14 +24,19 @@ Prints Build = BuildsText
 Prints Replay = ReplaysText
 
 -- A run whose texts are these, over what the reader has left (input, then rest) and what the writer holds (before, after).
-pub record Ran (Texts : List ℕ → List ℕ → Bool → Type 0) (input rest before after : Option (List ℕ)) (outcome : Result Bool ToolFault) : Type 0 where
+pub record Ran (Texts : List ℕ → List ℕ → Bool → Type 0) (input rest before after : Option (List ℕ))
+    (outcome : Result Bool ToolFault) : Type 0 where
   -- the text of the whole input is written, and the outcome is whether all of it was good
-  pub printed : IfOk outcome (λ good. IfSome input (λ octets. (text : List ℕ) × Texts octets text good × Appends before after text))
+  pub printed : IfOk outcome
+      (λ good. IfSome input (λ octets. (text : List ℕ) × Texts octets text good × Appends before after text))
   -- nothing is written
   pub unread : IsErrOf outcome fault.Read → Keeps before after
   pub memory : IsErrOf outcome fault.Memory → Keeps before after
   -- a front of the text is written
-  pub unwritten : IsErrOf outcome fault.Write → IfSome input (λ octets. (front back : List ℕ) × (good : Bool) × Texts octets (front ++ back) good × Appends before after front)
+  pub unwritten : IsErrOf outcome fault.Write →
+      IfSome input
+      (λ octets. (front back : List ℕ) × (good : Bool) × Texts octets (front ++ back) good × Appends before after front)
   -- a longer input isn't read to its end
-  pub limit : IfSome input (λ octets. input_limit < length octets → IsErrOf outcome fault.Read ⊎ IsErrOf outcome fault.Memory)
+  pub limit : IfSome input
+      (λ octets. input_limit < length octets → IsErrOf outcome fault.Read ⊎ IsErrOf outcome fault.Memory)
   pub taken : (octets : List ℕ) × (length octets ≤ input_limit + 1) × Consumes input rest octets

@@ -36,7 +36,8 @@ length_from_some (x ∷ s) h = omega arith
 pub Decides-visible_text : (s : List ℕ) → Decides (is_visible_text s) ((s ≢ []) × All IsVisible s)
 Decides-visible_text s =
     Decides-and (nat_lt 0 (length s)) (list_all is_visible s)
-    (Decides-like (nat_lt 0 (length s)) (some_from_length s) (length_from_some s) (Decides-ltb 0 (length s))) (Decides-all_visible s)
+    (Decides-like (nat_lt 0 (length s)) (some_from_length s) (length_from_some s) (Decides-ltb 0 (length s)))
+    (Decides-all_visible s)
 
 -- octets under the scheme
 abbrev IsUnder : List ℕ → List ℕ → Type 0
@@ -55,7 +56,8 @@ Decides-under scheme s =
       ap (take (length scheme)) p.1 ∙ take-append_seam scheme p.0,
       behind p.0 rest (sym (ap (drop (length scheme)) p.1 ∙ drop-append_seam scheme p.0)) p.2 p.3,
     ))
-    (Decides-and (bytes_eq front scheme) (is_visible_text rest) (bytes_eq-Decides front scheme) (Decides-visible_text rest))
+    (Decides-and (bytes_eq front scheme) (is_visible_text rest) (bytes_eq-Decides front scheme)
+    (Decides-visible_text rest))
 
 pub Decides-uri : (s : List ℕ) → Decides (is_uri s) (IsUri s)
 Decides-uri s =
@@ -83,7 +85,8 @@ yes h = (λ _. h, λ e. absurd (false≢true (sym e)))
 no : {V : Type 0} → V → Refutes false V
 no v = (λ e. absurd (false≢true e), λ _. v)
 
-size_by : (f n : ℕ) (b c d e : Bool) → nat_eq f 1 ≡ b → nat_eq f 2 ≡ c → nat_eq n 6 ≡ d → nat_eq n 18 ≡ e → Refutes (if b then d else (if c then e else true)) (IsOddSize f n)
+size_by : (f n : ℕ) (b c d e : Bool) → nat_eq f 1 ≡ b → nat_eq f 2 ≡ c → nat_eq n 6 ≡ d → nat_eq n 18 ≡ e →
+    Refutes (if b then d else (if c then e else true)) (IsOddSize f n)
 size_by f n true c true e fb fc nd ne =
     yes (λ h. elim h [ inl w ↦ w.1 (eqb-true n 6 nd) | inr w ↦ omega (arith, w.0, eqb-true f 1 fb) ])
 size_by f n true c false e fb fc nd ne = no (inl (eqb-true f 1 fb, eqb-false n 6 nd))

@@ -33,11 +33,15 @@ sized_tells n s = by (nat_eq (length s) n) refl where
   by true e = ((λ f. (cc), λ h. absurd (h (eqb-true (length s) n e))), (λ f. (cc), λ h v. absurd v), tt)
   by false e = ((λ f. eqb-false (length s) n e, λ h. refl), (λ f. (cc), λ h v. absurd v), inl refl)
 
-tested_tells : {V : Type 0} (n : ℕ) (right : Bool) (s : List ℕ) → Refutes right V → Tells (tested n right s) (length s < n) V
+tested_tells : {V : Type 0} (n : ℕ) (right : Bool) (s : List ℕ) → Refutes right V →
+    Tells (tested n right s) (length s < n) V
 tested_tells {V = V} n right s d = by (nat_lt (length s) n) right refl refl where
-  by : (b r : Bool) → nat_lt (length s) n ≡ b → right ≡ r → Tells (if b then Some WrongLength else (if r then None else Some WrongValue)) (length s < n) V
-  by true r e f = ((λ _. ltb-true (length s) n e, λ _. refl), (λ k. (cc), λ h v. absurd (h (ltb-true (length s) n e))), inl refl)
-  by false true e f = ((λ k. (cc), λ h. absurd (false≢true (sym e ∙ lt-ltb (length s) n h))), (λ k. (cc), λ h v. absurd (d.0 f v)), tt)
+  by : (b r : Bool) → nat_lt (length s) n ≡ b → right ≡ r →
+      Tells (if b then Some WrongLength else (if r then None else Some WrongValue)) (length s < n) V
+  by true r e f =
+      ((λ _. ltb-true (length s) n e, λ _. refl), (λ k. (cc), λ h v. absurd (h (ltb-true (length s) n e))), inl refl)
+  by false true e f =
+      ((λ k. (cc), λ h. absurd (false≢true (sym e ∙ lt-ltb (length s) n h))), (λ k. (cc), λ h v. absurd (d.0 f v)), tt)
   by false false e f = (
     (λ k. (cc), λ h. absurd (false≢true (sym e ∙ lt-ltb (length s) n h))),
     (λ k. (λ h. false≢true (sym e ∙ lt-ltb (length s) n h), d.1 f), λ h v. refl),
@@ -59,7 +63,8 @@ empty (x ∷ s) h = absurd (omega arith)
 no_octets : (s : List ℕ) → s ≡ [] → length s < 1
 no_octets s e = rw e (omega arith)
 
-pub flaw_tells : (kind : AvpType) (s : List ℕ) → kind ≢ Grouped → Tells (flaw kind s) (HasWrongLength kind s) (HasWrongValue kind s)
+pub flaw_tells : (kind : AvpType) (s : List ℕ) → kind ≢ Grouped →
+    Tells (flaw kind s) (HasWrongLength kind s) (HasWrongValue kind s)
 flaw_tells OctetString s g = never
 flaw_tells Integer32 s g = sized_tells 4 s
 flaw_tells Integer64 s g = sized_tells 8 s
@@ -76,21 +81,25 @@ flaw_tells Enumerated s g = sized_tells 4 s
 flaw_tells Grouped s g = absurd (g refl)
 
 -- a group has a wrong length just where its octets aren't AVPs
-group_tells : MembersSpell → (s : List ℕ) → AreOctets s → Tells (flaw Grouped s) (HasWrongLength Grouped s) (HasWrongValue Grouped s)
+group_tells : MembersSpell → (s : List ℕ) → AreOctets s →
+    Tells (flaw Grouped s) (HasWrongLength Grouped s) (HasWrongValue Grouped s)
 group_tells law s o = by (members s) refl where
-  by : (m : Option (List Avp)) → members s ≡ m → Tells (if is_some m then None else Some WrongLength) (HasWrongLength Grouped s) ⊥
+  by : (m : Option (List Avp)) → members s ≡ m →
+      Tells (if is_some m then None else Some WrongLength) (HasWrongLength Grouped s) ⊥
   by None e =
       let never : HasWrongLength Grouped s = (λ l h. let some = (law s l o).1 h in absurd (cc)) in
       ((λ f. never, λ h. refl), (λ f. (cc), λ h v. absurd v), inl refl)
   by (Some l) e = ((λ f. (cc), λ h. absurd (h l ((law s l o).0 e))), (λ f. (cc), λ h v. absurd v), tt)
 
 -- of octets of any type
-pub any_tells : MembersSpell → (kind : AvpType) (s : List ℕ) → AreOctets s → Tells (flaw kind s) (HasWrongLength kind s) (HasWrongValue kind s)
+pub any_tells : MembersSpell → (kind : AvpType) (s : List ℕ) → AreOctets s →
+    Tells (flaw kind s) (HasWrongLength kind s) (HasWrongValue kind s)
 any_tells law Grouped s o = group_tells law s o
 any_tells law kind s o = flaw_tells kind s (λ g. (cc))
 
 -- an answer that tells of both columns is a fault of the octets
-pub told_fault : (r : Option ValueFault) (kind : AvpType) (s : List ℕ) → Tells r (HasWrongLength kind s) (HasWrongValue kind s) → IfSome r (λ f. Refuses kind s f)
+pub told_fault : (r : Option ValueFault) (kind : AvpType) (s : List ℕ) →
+    Tells r (HasWrongLength kind s) (HasWrongValue kind s) → IfSome r (λ f. Refuses kind s f)
 told_fault None kind s t = tt
 told_fault (Some f) kind s t = elim t.2 [
   | inl w ↦ subst (Refuses kind s) (sym w) (t.0.0 (ap Some w))
@@ -98,8 +107,12 @@ told_fault (Some f) kind s t = elim t.2 [
 ]
 
 -- an answer that is the flaw is a fault of the octets
-pub fault_by_flaw : (r : Option ValueFault) (kind : AvpType) (s : List ℕ) → kind ≢ Grouped → r ≡ flaw kind s → IfSome r (λ f. Refuses kind s f)
-fault_by_flaw r kind s g e = told_fault r kind s (subst (λ (x : Option ValueFault). Tells x (HasWrongLength kind s) (HasWrongValue kind s)) (sym e) (flaw_tells kind s g))
+pub fault_by_flaw : (r : Option ValueFault) (kind : AvpType) (s : List ℕ) → kind ≢ Grouped → r ≡ flaw kind s →
+    IfSome r (λ f. Refuses kind s f)
+fault_by_flaw r kind s g e =
+    told_fault r kind s
+    (subst (λ (x : Option ValueFault). Tells x (HasWrongLength kind s) (HasWrongValue kind s)) (sym e)
+    (flaw_tells kind s g))
 
 -- octets with no flaw pass the test of their type
 tested_none : (n : ℕ) (right : Bool) (s : List ℕ) → tested n right s ≡ None → right ≡ true

@@ -48,13 +48,20 @@ attained Integer32 = (0 ∷ 0 ∷ 0 ∷ 0 ∷ [], value.Int32 _, (refl, refl), r
 attained Integer64 = (0 ∷ 0 ∷ 0 ∷ 0 ∷ 0 ∷ 0 ∷ 0 ∷ 0 ∷ [], value.Int64 _, (refl, refl), refl)
 attained Unsigned32 = (0 ∷ 0 ∷ 0 ∷ 0 ∷ [], value.Uint32 _, (refl, refl), refl)
 attained Unsigned64 = (0 ∷ 0 ∷ 0 ∷ 0 ∷ 0 ∷ 0 ∷ 0 ∷ 0 ∷ [], value.Uint64 _, (refl, refl), refl)
-attained Address = (0 ∷ 0 ∷ [], value.Addr (address.Other 0 []), (omega arith, refl, refl, (λ e. (cc)), (λ e. (cc))), refl)
+attained Address =
+    (0 ∷ 0 ∷ [], value.Addr (address.Other 0 []), (omega arith, refl, refl, (λ e. (cc)), (λ e. (cc))), refl)
 attained Time = (0 ∷ 0 ∷ 0 ∷ 0 ∷ [], value.Time _, (refl, refl), refl)
 attained UTF8String = ([], value.Text [], (refl, IsUtf8-nil), refl)
 attained DiameterIdentity = (97 ∷ [], value.Identity (97 ∷ []), (refl, (λ e. (cc)), all_visible (97 ∷ []) refl), refl)
-attained DiameterURI = (codes "aaa://h", value.Uri (codes "aaa://h"), (refl, (104 ∷ [], inl refl, (λ e. (cc)), all_visible (104 ∷ []) refl)), refl)
+attained DiameterURI = (
+  codes "aaa://h",
+  value.Uri (codes "aaa://h"),
+  (refl, (104 ∷ [], inl refl, (λ e. (cc)), all_visible (104 ∷ []) refl)),
+  refl,
+)
 attained Enumerated = (0 ∷ 0 ∷ 0 ∷ 0 ∷ [], value.Enumerated _, (refl, refl), refl)
 attained Grouped = ([], value.Group [], refl, refl)
 
-pub least_length : (kind : AvpType) → ((s : List ℕ) (v : Value) → Means kind s v → least kind ≤ length s) × ((s : List ℕ) × (v : Value) × Means kind s v × (length s ≡ least kind))
+pub least_length : (kind : AvpType) → ((s : List ℕ) (v : Value) → Means kind s v → least kind ≤ length s) ×
+    ((s : List ℕ) × (v : Value) × Means kind s v × (length s ≡ least kind))
 least_length kind = (at_least kind, attained kind)

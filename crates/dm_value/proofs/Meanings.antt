@@ -90,7 +90,8 @@ one_type Enumerated s (value.Enumerated n) h = refl
 one_type Grouped s (value.Group l) h = refl
 one_type _ s _ h = absurd h
 
-no_wrong_address : (s : List ℕ) (a : AnAddress) → Means Address s (value.Addr a) → (length s < 2 → ⊥) × (HasWrongValue Address s → ⊥)
+no_wrong_address : (s : List ℕ) (a : AnAddress) → Means Address s (value.Addr a) →
+    (length s < 2 → ⊥) × (HasWrongValue Address s → ⊥)
 no_wrong_address s (address.Ip (V4 a)) h =
     let size : length s ≡ length a + 2 = ap length h.0 ∙ omega arith in (
       λ k. omega arith,
@@ -121,7 +122,8 @@ uri_long s (rest, inr e, some, all) =
     omega arith
 
 -- what has a value has no fault
-pub no_fault : (kind : AvpType) (s : List ℕ) (v : Value) → Means kind s v → (HasWrongLength kind s → ⊥) × (HasWrongValue kind s → ⊥)
+pub no_fault : (kind : AvpType) (s : List ℕ) (v : Value) → Means kind s v →
+    (HasWrongLength kind s → ⊥) × (HasWrongValue kind s → ⊥)
 no_fault OctetString s (value.Bytes b) h = (λ k. k, λ k. k)
 no_fault Integer32 s (value.Int32 n) h = (λ k. k h.0, λ k. k)
 no_fault Integer64 s (value.Int64 n) h = (λ k. k h.0, λ k. k)
@@ -143,6 +145,7 @@ not_refused fault.TooLong kind s v r h = r
 not_refused fault.NoMemory kind s v r h = r
 
 -- octets that have a value have no other
-pub only_one : {T E : Type 0} → OneValue → (r : Result T E) (octets : T → List ℕ) (kind : AvpType) (v : Value) → IfOk r (λ t. Means kind (octets t) v) → IfOk r (λ t. (w : Value) → Means kind (octets t) w → w ≡ v)
+pub only_one : {T E : Type 0} → OneValue → (r : Result T E) (octets : T → List ℕ) (kind : AvpType) (v : Value) →
+    IfOk r (λ t. Means kind (octets t) v) → IfOk r (λ t. (w : Value) → Means kind (octets t) w → w ≡ v)
 only_one one (Ok t) octets kind v h = λ w g. one kind (octets t) w v g h
 only_one one (Err e) octets kind v h = tt

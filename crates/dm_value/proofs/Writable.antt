@@ -65,7 +65,8 @@ back_64 n f =
     sym (ap (cast_signed w64) (big_number-reads_back 8 (cast_unsigned w64 n) [] below) ∙ to_z-of_z w64 n f)
 
 -- any other value has some, unless a member of a group is too long
-has_octets : (v : Value) → IsInRange v → (IsMisshapen v → ⊥) → ((l : List Avp) → v ≡ value.Group l → HasNoOctets v → IsLongList l) → (HasLongMember v → ⊥) → HasNoOctets v → ⊥
+has_octets : (v : Value) → IsInRange v → (IsMisshapen v → ⊥) →
+    ((l : List Avp) → v ≡ value.Group l → HasNoOctets v → IsLongList l) → (HasLongMember v → ⊥) → HasNoOctets v → ⊥
 has_octets (value.Bytes b) r m g k h = h b refl
 has_octets (value.Int32 n) r m g k h = h (be (cast_unsigned w32 n) 4) (refl, back_32 n r)
 has_octets (value.Int64 n) r m g k h = h (be (cast_unsigned w64 n) 8) (refl, back_64 n r)
@@ -87,6 +88,10 @@ pub value_of_misshapen : (v : Value) → IsMisshapen v → HasNoOctets v × (Has
 value_of_misshapen v m = (misshapen_none v m, misshapen_short v m)
 
 -- no other answer is WrongValue, and then octets have the value or a member is too long
-pub value_of_shaped : {T : Type 0} (r : Result T ValueFault) (v : Value) → IfErr r (λ f. (f ≡ fault.TooLong) ⊎ (f ≡ fault.NoMemory)) → IsInRange v → (IsMisshapen v → ⊥) → ((l : List Avp) → v ≡ value.Group l → HasNoOctets v → IsLongList l) → IsErrOf r fault.WrongValue ↔ (HasNoOctets v × (HasLongMember v → ⊥))
+pub value_of_shaped : {T : Type 0} (r : Result T ValueFault) (v : Value) →
+    IfErr r (λ f. (f ≡ fault.TooLong) ⊎ (f ≡ fault.NoMemory)) → IsInRange v → (IsMisshapen v → ⊥) →
+    ((l : List Avp) → v ≡ value.Group l → HasNoOctets v → IsLongList l) →
+    IsErrOf r fault.WrongValue ↔ (HasNoOctets v × (HasLongMember v → ⊥))
 value_of_shaped (Ok t) v why range shaped group = (λ e. (cc), λ h. absurd (has_octets v range shaped group h.1 h.0))
-value_of_shaped (Err f) v why range shaped group = (λ e. elim why [ inl w ↦ (cc) | inr w ↦ (cc) ], λ h. absurd (has_octets v range shaped group h.1 h.0))
+value_of_shaped (Err f) v why range shaped group =
+    (λ e. elim why [ inl w ↦ (cc) | inr w ↦ (cc) ], λ h. absurd (has_octets v range shaped group h.1 h.0))

@@ -21,4 +21,5 @@ FlawDecides =
 
 -- octets of a type have a value or a fault
 abbrev pub ValueOrFault : Type 0
-ValueOrFault = (kind : AvpType) (s : List ℕ) → AreOctets s → ((v : Value) × Means kind s v) ⊎ ((fault : ValueFault) × Refuses kind s fault)
+ValueOrFault = (kind : AvpType) (s : List ℕ) → AreOctets s →
+    ((v : Value) × Means kind s v) ⊎ ((fault : ValueFault) × Refuses kind s fault)

@@ -15,7 +15,8 @@ OneType = (kind : AvpType) (s : List ℕ) (v : Value) → Means kind s v → kin
 
 -- octets that have a value have no wrong length and no wrong value
 abbrev pub NoValueRefused : Type 0
-NoValueRefused = (kind : AvpType) (s : List ℕ) (v : Value) → Means kind s v → (HasWrongLength kind s → ⊥) × (HasWrongValue kind s → ⊥)
+NoValueRefused = (kind : AvpType) (s : List ℕ) (v : Value) → Means kind s v →
+    (HasWrongLength kind s → ⊥) × (HasWrongValue kind s → ⊥)
 
 -- no octets below the least length have a value, and some of that length do
 abbrev pub LeastLength : Type 0

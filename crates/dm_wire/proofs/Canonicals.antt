@@ -11,7 +11,9 @@ use Rattle.dm_wire.proofs.Lists.{list_push}
 use Rattle.dm_wire.proofs.Spellings.{front, size_of}
 
 -- the bits of a flag octet are those that it was made of
-avp_bits : (v m p : Bool) → (is_set (worth v 128 + worth m 64 + worth p 32) 128 ≡ v) × (is_set (worth v 128 + worth m 64 + worth p 32) 64 ≡ m) × (is_set (worth v 128 + worth m 64 + worth p 32) 32 ≡ p)
+avp_bits : (v m p : Bool) →
+    (is_set (worth v 128 + worth m 64 + worth p 32) 128 ≡ v) × (is_set (worth v 128 + worth m 64 + worth p 32) 64 ≡ m) ×
+    (is_set (worth v 128 + worth m 64 + worth p 32) 32 ≡ p)
 avp_bits true true true = (refl, refl, refl)
 avp_bits true true false = (refl, refl, refl)
 avp_bits true false true = (refl, refl, refl)
@@ -37,7 +39,8 @@ spelled_size a s sp =
     omega (arith, f.least, f.most, f.aligned, size)
 
 -- where the fields have room, the canonical spelling spells the AVP
-pub avp_spelled : (a : Avp) → a.code < 256 ^ 4 → avp_length a < 256 ^ 3 → IfSome a.vendor (λ v. v < 256 ^ 4) → SpellsAvp a (canonical_avp a)
+pub avp_spelled : (a : Avp) → a.code < 256 ^ 4 → avp_length a < 256 ^ 3 → IfSome a.vendor (λ v. v < 256 ^ 4) →
+    SpellsAvp a (canonical_avp a)
 avp_spelled a code len vendor =
     let bits = avp_bits (is_some a.vendor) a.mandatory a.protected in
     let n = avp_length a in
@@ -61,18 +64,23 @@ list_size [] s e = ap length e
 list_size (a ∷ l) s h =
     let first = spelled_size a h.0 h.3 in
     let rest = list_size l h.1 h.4 in
-    ap length h.2 ∙ omega (arith, length-append h.0 h.1, length-append (canonical_avp a) (canonical_list l), first, rest)
+    ap length h.2 ∙
+    omega (arith, length-append h.0 h.1, length-append (canonical_avp a) (canonical_list l), first, rest)
 
-flat_map_more : (f : Avp → List ℕ) (l : List Avp) (i : ℕ) (a : Avp) → i < length l → a ≡ get_or l i a → flat_map f (take (i + 1) l) ≡ flat_map f (take i l) ++ f a
+flat_map_more : (f : Avp → List ℕ) (l : List Avp) (i : ℕ) (a : Avp) → i < length l → a ≡ get_or l i a →
+    flat_map f (take (i + 1) l) ≡ flat_map f (take i l) ++ f a
 flat_map_more f l i a h e =
     ap (flat_map f) (take_more l i a h) ∙ flat_map-append f (take i l) (get_or l i a ∷ []) ∙ rw (← e, append-nil) refl
 
 -- the octets of one AVP more
-pub list_more : (l : List Avp) (i : ℕ) (a : Avp) → i < length l → a ≡ get_or l i a → canonical_list (take (i + 1) l) ≡ canonical_list (take i l) ++ canonical_avp a
+pub list_more : (l : List Avp) (i : ℕ) (a : Avp) → i < length l → a ≡ get_or l i a →
+    canonical_list (take (i + 1) l) ≡ canonical_list (take i l) ++ canonical_avp a
 list_more l i a h e = flat_map_more canonical_avp l i a h e
 
 -- one AVP more is spelled behind a list
-pub list_more_spelled : (l : List Avp) (i : ℕ) (a : Avp) → i < length l → a ≡ get_or l i a → SpellsList (take i l) (canonical_list (take i l)) → SpellsAvp a (canonical_avp a) → SpellsList (take (i + 1) l) (canonical_list (take (i + 1) l))
+pub list_more_spelled : (l : List Avp) (i : ℕ) (a : Avp) → i < length l → a ≡ get_or l i a →
+    SpellsList (take i l) (canonical_list (take i l)) → SpellsAvp a (canonical_avp a) →
+    SpellsList (take (i + 1) l) (canonical_list (take (i + 1) l))
 list_more_spelled l i a h e sl sa =
     let more : take (i + 1) l ≡ take i l ++ a ∷ [] = take_more l i a h ∙ ap (λ b. take i l ++ b ∷ []) (sym e) in
     rw (list_more l i a h e, more) (list_push (take i l) a (canonical_list (take i l)) (canonical_avp a) sl sa)
@@ -101,6 +109,8 @@ either zero k h f g = g (omega arith)
 either (suc n) k h f g = f (omega arith)
 
 -- header, Vendor-ID, data and padding, appended in turn
-pub avp_put : (a : Avp) (n : ℕ) (o0 o1 o2 o3 o4 header bytes : List ℕ) → n ≡ avp_length a → header ≡ be a.code 4 ++ avp_flags a ∷ be n 3 → bytes ≡ a.bytes
-    → o1 ≡ o0 ++ header → o2 ≡ o1 ++ vendor_octets a.vendor → o3 ≡ o2 ++ bytes → o4 ≡ o3 ++ zeros n → o4 ≡ o0 ++ canonical_avp a
+pub avp_put : (a : Avp) (n : ℕ) (o0 o1 o2 o3 o4 header bytes : List ℕ) → n ≡ avp_length a →
+    header ≡ be a.code 4 ++ avp_flags a ∷ be n 3 → bytes ≡ a.bytes
+    → o1 ≡ o0 ++ header → o2 ≡ o1 ++ vendor_octets a.vendor → o3 ≡ o2 ++ bytes → o4 ≡ o3 ++ zeros n →
+    o4 ≡ o0 ++ canonical_avp a
 avp_put a n o0 o1 o2 o3 o4 header bytes en eh ed e1 e2 e3 e4 = e4 ∙ rw (e3, e2, e1, ed, eh, en) (simp append_assoc)

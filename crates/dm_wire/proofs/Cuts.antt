@@ -18,7 +18,8 @@ pub take_cut : {A : Type 0} (a n : ℕ) (s : List A) → a ≤ n → take n s �
 take_cut a n s h = let e : n ≡ a + (n - a) = omega arith in ap (λ k. take k s) e ∙ take-add a (n - a) s
 
 -- what lies from n to past o, cut at o
-pub drop-take-add : {A : Type 0} (n o k : ℕ) (s : List A) → n ≤ o → o ≤ length s → drop n (take (o + k) s) ≡ drop n (take o s) ++ take k (drop o s)
+pub drop-take-add : {A : Type 0} (n o k : ℕ) (s : List A) → n ≤ o → o ≤ length s →
+    drop n (take (o + k) s) ≡ drop n (take o s) ++ take k (drop o s)
 drop-take-add n o k s in_o in_s =
     let size = length-take-le o s in_s in
     ap (drop n) (take-add o k s) ∙ drop-append-le n (take o s) (take k (drop o s)) (omega arith)

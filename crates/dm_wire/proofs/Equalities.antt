@@ -45,13 +45,16 @@ avp_same a b e =
     let mandatory = and_parts _ _ vendor.1 in
     let protected = and_parts _ _ mandatory.1 in
     same_avp a.code b.code a.vendor b.vendor a.mandatory b.mandatory a.protected b.protected a.bytes b.bytes
-    (eqb-true a.code b.code code.0) (vendor_same a.vendor b.vendor vendor.0) (flag_same a.mandatory b.mandatory mandatory.0)
+    (eqb-true a.code b.code code.0) (vendor_same a.vendor b.vendor vendor.0)
+    (flag_same a.mandatory b.mandatory mandatory.0)
     (flag_same a.protected b.protected protected.0) ((bytes_eq-Decides a.bytes b.bytes).0 protected.1)
 
 avp_itself : (a : Avp) → avp_eq a a ≡ true
 avp_itself a =
     let bytes = (bytes_eq-Decides a.bytes a.bytes).1 refl in
-    both _ _ (number_itself a.code) (both _ _ (vendor_itself a.vendor) (both _ _ (flag_itself a.mandatory) (both _ _ (flag_itself a.protected) bytes)))
+    both _ _ (number_itself a.code)
+    (both _ _ (vendor_itself a.vendor)
+    (both _ _ (flag_itself a.mandatory) (both _ _ (flag_itself a.protected) bytes)))
 
 pub avp_decides : (a b : Avp) → IsTrue (avp_eq a b) ↔ (a ≡ b)
 avp_decides a b = (avp_same a b, λ e. rw e (avp_itself b))
@@ -70,14 +73,18 @@ header_same h k e =
     let ids = and_parts _ _ application.1 in
     same_header h.request h.proxiable h.error h.retransmit k.request k.proxiable k.error k.retransmit
     h.command h.application h.hop_id h.end_id k.command k.application k.hop_id k.end_id
-    (flag_same h.request k.request request.0) (flag_same h.proxiable k.proxiable proxiable.0) (flag_same h.error k.error error.0)
-    (flag_same h.retransmit k.retransmit retransmit.0) (eqb-true h.command k.command command.0) (eqb-true h.application k.application application.0)
+    (flag_same h.request k.request request.0) (flag_same h.proxiable k.proxiable proxiable.0)
+    (flag_same h.error k.error error.0)
+    (flag_same h.retransmit k.retransmit retransmit.0) (eqb-true h.command k.command command.0)
+    (eqb-true h.application k.application application.0)
     (eqb-true h.hop_id k.hop_id ids.0) (eqb-true h.end_id k.end_id ids.1)
 
 header_itself : (h : Header) → header_eq h h ≡ true
 header_itself h =
-    both _ _ (flag_itself h.request) (both _ _ (flag_itself h.proxiable) (both _ _ (flag_itself h.error) (both _ _ (flag_itself h.retransmit)
-    (both _ _ (number_itself h.command) (both _ _ (number_itself h.application) (both _ _ (number_itself h.hop_id) (number_itself h.end_id)))))))
+    both _ _ (flag_itself h.request)
+    (both _ _ (flag_itself h.proxiable) (both _ _ (flag_itself h.error) (both _ _ (flag_itself h.retransmit)
+    (both _ _ (number_itself h.command)
+    (both _ _ (number_itself h.application) (both _ _ (number_itself h.hop_id) (number_itself h.end_id)))))))
 
 message_same : (m k : Message) → message_eq m k ≡ true → m ≡ k
 message_same m k e =

@@ -29,7 +29,8 @@ none_begins s fails a first rest sp e =
     cc
 
 -- a bad AVP behind a good one
-bad_after : (a : Avp) (s : List ℕ) (m o : ℕ) → m ≤ length s → SpellsAvp a (take m s) → IsBadAt 0 (drop m s) o → IsBadAt 0 s (m + o)
+bad_after : (a : Avp) (s : List ℕ) (m o : ℕ) → m ≤ length s → SpellsAvp a (take m s) → IsBadAt 0 (drop m s) o →
+    IsBadAt 0 s (m + o)
 bad_after a s m o h sp bad =
     let size = length-drop m s in
     let below : o < length (drop m s) = bad.below in
@@ -57,8 +58,10 @@ list_told (suc n) (x ∷ s) h i = by (begins_with_avp (x ∷ s)) refl (λ r. lis
       let b = begins (x ∷ s) e in
       let eight : 8 ≤ m = moved (x ∷ s) b in
       let size : length (drop m (x ∷ s)) ≡ length (x ∷ s) - m = length-drop m (x ∷ s) in
-      told_after (avp_at (x ∷ s)) (x ∷ s) m b.within (begun (x ∷ s) i b) (ih (drop m (x ∷ s)) (omega arith) (octets_behind m (x ∷ s) i))
-  by false e ih = inr (0, record { above = omega arith; below = omega arith; before = ([], refl); bad = none_begins (x ∷ s) e })
+      told_after (avp_at (x ∷ s)) (x ∷ s) m b.within (begun (x ∷ s) i b)
+      (ih (drop m (x ∷ s)) (omega arith) (octets_behind m (x ∷ s) i))
+  by false e ih =
+      inr (0, record { above = omega arith; below = omega arith; before = ([], refl); bad = none_begins (x ∷ s) e })
 
 pub list_or_bad : (s : List ℕ) → IsOctets s → ((l : List Avp) × SpellsList l s) ⊎ ((o : ℕ) × IsBadAt 0 s o)
 list_or_bad s i = list_told (length s) s (omega arith) i
@@ -79,16 +82,29 @@ IsJudged s = ((m : Message) × SpellsMessage m s) ⊎ ((f : WireFault) × Refuse
 
 framed : (s : List ℕ) → IsTested s → IsTold (drop 20 s) → IsJudged s
 framed s t (inl l) =
-    inl (record { header = header_in s; avps = l.0 }, record { front = take 20 s; rest = drop 20 s; whole = sym (take-append-drop 20 s); header = header_spelled s t; avps = l.1 })
+    inl (
+      record { header = header_in s; avps = l.0 },
+      record {
+        front = take 20 s;
+        rest = drop 20 s;
+        whole = sym (take-append-drop 20 s);
+        header = header_spelled s t;
+        avps = l.1;
+      },
+    )
 framed s t (inr bad) = inr (AvpLength (20 + bad.0), (t.version, t.size, t.aligned, bad_behind 20 s bad.0 t.long bad.1))
 
 pub message_or_fault : (s : List ℕ) → IsOctets s → ((m : Message) × SpellsMessage m s) ⊎ ((f : WireFault) × Refuses s f)
 message_or_fault s i = short (below_or_not (length s) 20) where
-  aligned : 20 ≤ length s → slice_index s 0 ≡ 1 → big_number 3 (drop 1 s) ≡ length s → (length s % 4 ≡ 0) ⊎ (length s % 4 ≢ 0) → IsJudged s
-  aligned long one size (inl four) = framed s (record { octets = i; long = long; version = one; size = size; aligned = four }) (list_or_bad (drop 20 s) (octets_behind 20 s i))
+  aligned : 20 ≤ length s → slice_index s 0 ≡ 1 → big_number 3 (drop 1 s) ≡ length s →
+      (length s % 4 ≡ 0) ⊎ (length s % 4 ≢ 0) → IsJudged s
+  aligned long one size (inl four) =
+      framed s (record { octets = i; long = long; version = one; size = size; aligned = four })
+      (list_or_bad (drop 20 s) (octets_behind 20 s i))
   aligned long one size (inr other) = inr (Length, (long, one, inr other))
 
-  sized : 20 ≤ length s → slice_index s 0 ≡ 1 → (big_number 3 (drop 1 s) ≡ length s) ⊎ (big_number 3 (drop 1 s) ≢ length s) → IsJudged s
+  sized : 20 ≤ length s → slice_index s 0 ≡ 1 →
+      (big_number 3 (drop 1 s) ≡ length s) ⊎ (big_number 3 (drop 1 s) ≢ length s) → IsJudged s
   sized long one (inl size) = aligned long one size (same_or_not (length s % 4) 0)
   sized long one (inr other) = inr (Length, (long, one, inl other))
 

@@ -22,13 +22,15 @@ fit_list_spelled (a ∷ l) fit =
 whole_size : (m : Message) → length (canonical_message m) ≡ message_size m
 whole_size m = length-append (canonical_header m.header (message_size m)) (canonical_list m.avps)
 
-pub fit_message_spelled : (m : Message) → HeaderFits m.header → All AvpFits m.avps → message_size m ≤ 16777212 → SpellsMessage m (canonical_message m)
+pub fit_message_spelled : (m : Message) → HeaderFits m.header → All AvpFits m.avps → message_size m ≤ 16777212 →
+    SpellsMessage m (canonical_message m)
 fit_message_spelled m header avps size =
     record {
       front = canonical_header m.header (message_size m);
       rest = canonical_list m.avps;
       whole = refl;
       header = rw (whole_size m)
-          (canonical_header_spelled m.header (message_size m) size header.command header.application header.hop header.end);
+          (canonical_header_spelled m.header (message_size m) size header.command header.application header.hop
+          header.end);
       avps = fit_list_spelled m.avps avps;
     }

@@ -37,28 +37,36 @@ header_above None = omega arith
 header_above (Some v) = omega arith
 
 -- the Vendor-ID field, as it was read
-vendor_read : (s : List ℕ) (vendor : Option ℕ) → IsOctets s → avp_header_len vendor ≤ length s → IfSome vendor (λ v. v ≡ big_number 4 (drop 8 s)) → vendor_octets vendor ≡ take (avp_header_len vendor - 8) (drop 8 s)
+vendor_read : (s : List ℕ) (vendor : Option ℕ) → IsOctets s → avp_header_len vendor ≤ length s →
+    IfSome vendor (λ v. v ≡ big_number 4 (drop 8 s)) →
+    vendor_octets vendor ≡ take (avp_header_len vendor - 8) (drop 8 s)
 vendor_read s None o h e = refl
 vendor_read s (Some v) o h e =
     rw e (be-big_number-4 (drop 8 s) (octets_behind 8 s o) (omega (arith, length-drop 8 s)))
 
-vendor_below : (s : List ℕ) (vendor : Option ℕ) → IsOctets s → IfSome vendor (λ v. v ≡ big_number 4 (drop 8 s)) → IfSome vendor (λ v. v < 256 ^ 4)
+vendor_below : (s : List ℕ) (vendor : Option ℕ) → IsOctets s → IfSome vendor (λ v. v ≡ big_number 4 (drop 8 s)) →
+    IfSome vendor (λ v. v < 256 ^ 4)
 vendor_below s None o e = tt
 vendor_below s (Some v) o e = rw e (big_from-lt 0 4 (drop 8 s) (octets_behind 8 s o))
 
 -- the octets up to n, as the parts of an AVP whose data goes from octet h to octet len
-avp_parts : (s : List ℕ) (h len n : ℕ) → 8 ≤ h → h ≤ len → len ≤ n → n ≤ length s → take n s ≡ take 4 s ++ slice_index s 4 ∷ take 3 (drop 5 s) ++ take (h - 8) (drop 8 s) ++ take (len - h) (drop h s) ++ take (n - len) (drop len s)
+avp_parts : (s : List ℕ) (h len n : ℕ) → 8 ≤ h → h ≤ len → len ≤ n → n ≤ length s →
+    take n s ≡ take 4 s ++ slice_index s 4 ∷ take 3 (drop 5 s) ++ take (h - 8) (drop 8 s) ++
+    take (len - h) (drop h s) ++ take (n - len) (drop len s)
 avp_parts s h len n above in_len in_n in_s =
     let front : take 8 s ≡ take 4 s ++ slice_index s 4 ∷ take 3 (drop 5 s) =
     take_cut 5 8 s (omega arith) ∙ rw (take_more s 4 0 (omega arith), append_assoc) refl in
     rw (take_cut len n s in_n, take_cut h len s in_len, take_cut 8 h s above, front) refl
 
 -- the parts in front of the data, written as the fields that they are
-fields_for : (s x4 x3 xv bytes padding t : List ℕ) (f h : ℕ) → x4 ≡ take 4 s → x3 ≡ take 3 (drop 5 s) → xv ≡ take (h - 8) (drop 8 s) → t ≡ take 4 s ++ f ∷ take 3 (drop 5 s) ++ take (h - 8) (drop 8 s) ++ bytes ++ padding → t ≡ x4 ++ f ∷ x3 ++ xv ++ bytes ++ padding
+fields_for : (s x4 x3 xv bytes padding t : List ℕ) (f h : ℕ) → x4 ≡ take 4 s → x3 ≡ take 3 (drop 5 s) →
+    xv ≡ take (h - 8) (drop 8 s) → t ≡ take 4 s ++ f ∷ take 3 (drop 5 s) ++ take (h - 8) (drop 8 s) ++ bytes ++
+    padding → t ≡ x4 ++ f ∷ x3 ++ xv ++ bytes ++ padding
 fields_for s x4 x3 xv bytes padding t f h e4 e3 ev e = rw (e4, e3, ev) e
 
 -- what was tested is spelled
-pub spelled : (s : List ℕ) (vendor : Option ℕ) (len : ℕ) → Tested s vendor len → SpellsAvp (read_avp s vendor len) (take ((len + 3) / 4 * 4) s)
+pub spelled : (s : List ℕ) (vendor : Option ℕ) (len : ℕ) → Tested s vendor len →
+    SpellsAvp (read_avp s vendor len) (take ((len + 3) / 4 * 4) s)
 spelled s vendor len t =
     let h = avp_header_len vendor in
     let n = (len + 3) / 4 * 4 in
@@ -70,12 +78,14 @@ spelled s vendor len t =
     length-take-le (len - h) (drop h s) (omega (arith, length-drop h s)) in
     let len_is : h + length (take (len - h) (drop h s)) ≡ big_number 3 (drop 5 s) = omega (arith, data_len, t.len_is) in
     let code = be-big_number-4 s t.octets (omega arith) in
-    let size = ap (λ k. be k 3) len_is ∙ be-big_number-3 (drop 5 s) (octets_behind 5 s t.octets) (omega (arith, length-drop 5 s)) in
+    let size = ap (λ k. be k 3) len_is ∙
+    be-big_number-3 (drop 5 s) (octets_behind 5 s t.octets) (omega (arith, length-drop 5 s)) in
     let vendor_field = vendor_read s vendor t.octets (omega arith) t.vendor_is in
     record {
       flags = slice_index s 4;
       padding = take (n - len) (drop len s);
-      whole = fields_for s _ _ _ _ _ _ (slice_index s 4) h code size vendor_field (avp_parts s h len n above in_len in_n in_s);
+      whole = fields_for s _ _ _ _ _ _ (slice_index s 4) h code size vendor_field
+          (avp_parts s h len n above in_len in_n in_s);
       vendor_bit = t.vendor_bit;
       mandatory_bit = refl;
       protected_bit = refl;

@@ -18,7 +18,9 @@ pub record IsTested (s : List ℕ) : Type 0 where
   pub aligned : length s % 4 ≡ 0
 
 -- the first 20 octets, as the parts of a header
-header_parts : (s : List ℕ) → 20 ≤ length s → take 20 s ≡ slice_index s 0 ∷ take 3 (drop 1 s) ++ slice_index s 4 ∷ take 3 (drop 5 s) ++ take 4 (drop 8 s) ++ take 4 (drop 12 s) ++ take 4 (drop 16 s)
+header_parts : (s : List ℕ) → 20 ≤ length s →
+    take 20 s ≡ slice_index s 0 ∷ take 3 (drop 1 s) ++ slice_index s 4 ∷ take 3 (drop 5 s) ++ take 4 (drop 8 s) ++
+    take 4 (drop 12 s) ++ take 4 (drop 16 s)
 header_parts s h =
     let one : take 4 s ≡ slice_index s 0 ∷ take 3 (drop 1 s) =
     take_cut 1 4 s (omega arith) ∙ rw (take_more s 0 0 (omega arith)) refl in
@@ -27,7 +29,8 @@ header_parts s h =
     rw (take_cut 16 20 s (omega arith), take_cut 12 16 s (omega arith), take_cut 8 12 s (omega arith), two, one) refl
 
 -- the parts, written as the fields that they are
-fields_for : (t x1 y1 x5 y5 x8 y8 x12 y12 x16 y16 : List ℕ) (v f : ℕ) → v ≡ 1 → x1 ≡ y1 → x5 ≡ y5 → x8 ≡ y8 → x12 ≡ y12 → x16 ≡ y16 → t ≡ v ∷ y1 ++ f ∷ y5 ++ y8 ++ y12 ++ y16 → t ≡ 1 ∷ x1 ++ f ∷ x5 ++ x8 ++ x12 ++ x16
+fields_for : (t x1 y1 x5 y5 x8 y8 x12 y12 x16 y16 : List ℕ) (v f : ℕ) → v ≡ 1 → x1 ≡ y1 → x5 ≡ y5 → x8 ≡ y8 →
+    x12 ≡ y12 → x16 ≡ y16 → t ≡ v ∷ y1 ++ f ∷ y5 ++ y8 ++ y12 ++ y16 → t ≡ 1 ∷ x1 ++ f ∷ x5 ++ x8 ++ x12 ++ x16
 fields_for t x1 y1 x5 y5 x8 y8 x12 y12 x16 y16 v f ev e1 e5 e8 e12 e16 e = rw (e1, e5, e8, e12, e16, ← ev) e
 
 -- what was tested is spelled
@@ -43,7 +46,8 @@ header_spelled s t =
     let below : big_number 3 (drop 1 s) < 256 ^ 3 = big_from-lt 0 3 (drop 1 s) (behind 1) in
     record {
       flags = slice_index s 4;
-      whole = fields_for _ _ _ _ _ _ _ _ _ _ _ (slice_index s 0) (slice_index s 4) t.version size command application hop end (header_parts s long);
+      whole = fields_for _ _ _ _ _ _ _ _ _ _ _ (slice_index s 0) (slice_index s 4) t.version size command application
+          hop end (header_parts s long);
       request_bit = refl;
       proxiable_bit = refl;
       error_bit = refl;

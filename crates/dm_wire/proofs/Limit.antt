@@ -9,7 +9,8 @@ use Rattle.dm_wire.proofs.Canonicals.{list_size}
 use Rattle.dm_wire.proofs.Messages.{header_len}
 
 -- each AVP of a list that is spelled is spelled
-pub list_at : (l : List Avp) (s : List ℕ) (i : ℕ) (d : Avp) → i < length l → SpellsList l s → (t : List ℕ) × SpellsAvp (get_or l i d) t
+pub list_at : (l : List Avp) (s : List ℕ) (i : ℕ) (d : Avp) → i < length l → SpellsList l s →
+    (t : List ℕ) × SpellsAvp (get_or l i d) t
 list_at [] s i d h sp = absurd (omega arith)
 list_at (a ∷ l) s zero d h sp = (sp.0, sp.3)
 list_at (a ∷ l) s (suc i) d h sp = list_at l sp.1 i d (omega arith) sp.4
@@ -29,5 +30,6 @@ spelled_size m s sp =
 
 pub long_message : (m : Message) → IsLongMessage m → (s : List ℕ) → SpellsMessage m s → ⊥
 long_message m (inl long) s sp = long_list m.avps long sp.rest sp.avps
-long_message m (inr (inl size)) s sp = let spelled = spelled_size m s sp in let fits = sp.header.size_fits in omega (arith, size)
+long_message m (inr (inl size)) s sp = let spelled = spelled_size m s sp in let fits = sp.header.size_fits in
+    omega (arith, size)
 long_message m (inr (inr command)) s sp = let fits = sp.header.command_fits in omega (arith, command)

@@ -11,7 +11,8 @@ use Rattle.dm_wire.proofs.Fronts.{header_above}
 use Rattle.dm_wire.proofs.Spellings.{one_avp, front}
 
 -- one AVP more, behind
-pub list_push : (l : List Avp) (a : Avp) (s t : List ℕ) → SpellsList l s → SpellsAvp a t → SpellsList (l ++ a ∷ []) (s ++ t)
+pub list_push : (l : List Avp) (a : Avp) (s t : List ℕ) → SpellsList l s → SpellsAvp a t →
+    SpellsList (l ++ a ∷ []) (s ++ t)
 list_push [] a s t e sp = (t, [], rw (e) (sym (append-nil t)), sp, refl)
 list_push (b ∷ l) a s t h sp =
     (h.0, h.1 ++ t, rw (h.2) (append_assoc h.0 h.1 t), h.3, list_push l a h.1 t h.4 sp)
@@ -35,7 +36,8 @@ same_cons : (a b : Avp) (l k : List Avp) → a ≡ b → k ≡ l → b ∷ k ≡
 same_cons a b l k e f = rw (e, f) refl
 
 -- a longer text's list begins with the list of its front
-pub list_front : (l k : List Avp) (s r : List ℕ) → SpellsList l s → SpellsList k (s ++ r) → (m : List Avp) × (k ≡ l ++ m) × SpellsList m r
+pub list_front : (l k : List Avp) (s r : List ℕ) → SpellsList l s → SpellsList k (s ++ r) →
+    (m : List Avp) × (k ≡ l ++ m) × SpellsList m r
 list_front [] k s r e h = (k, refl, rw e at h)
 list_front (a ∷ l) [] s r h e =
     absurd (none_in_nothing a h.0 (h.1 ++ r) h.3 (sym e ∙ rw (h.2) (append_assoc h.0 h.1 r)))
@@ -51,7 +53,8 @@ no_more [] r n none e = let z = ap length e in omega arith
 no_more (a ∷ m) r n none h = none a h.0 h.1 h.3 h.2
 
 -- a list that ends where no AVP begins is no front of a longer list's octets
-pub list_ends : (l k : List Avp) (s t r : List ℕ) → SpellsList l s → SpellsList k (s ++ t) → 0 < length t → BeginsWithNoAvp (t ++ r) → ⊥
+pub list_ends : (l k : List Avp) (s t r : List ℕ) → SpellsList l s → SpellsList k (s ++ t) → 0 < length t →
+    BeginsWithNoAvp (t ++ r) → ⊥
 list_ends l k s t r h g n none = go (list_front l k s t h g) where
   go : ((m : List Avp) × (k ≡ l ++ m) × SpellsList m t) → ⊥
   go more = at_first more.0 more.2
@@ -80,10 +83,14 @@ one_list l k s h g =
 -- a spelling of a list is aligned
 pub list_aligned : (l : List Avp) (s : List ℕ) → SpellsList l s → length s % 4 ≡ 0
 list_aligned [] s e = rw (e) refl
-list_aligned (a ∷ l) s h = rw (h.2, length-append h.0 h.1) (let e = list_aligned l h.1 h.4 in let f = (h.3).aligned in omega arith)
+list_aligned (a ∷ l) s h =
+    rw (h.2, length-append h.0 h.1) (let e = list_aligned l h.1 h.4 in let f = (h.3).aligned in omega arith)
 
 -- what reads only a list that is spelled, and refuses for cause or want of memory, reads the list that is spelled
-pub only_list : {V : Type 0} (items : V → List Avp) (r : Result V WireFault) (s : List ℕ) (l : List Avp) → IfOk r (λ v. SpellsList (items v) s) → IfErr r (λ f. (f ≡ NoMemory) ⊎ ((o : ℕ) × (f ≡ AvpLength o) × IsBadAt 0 s o)) → SpellsList l s → MatchResult r (λ v. items v ≡ l) (λ f. f ≡ NoMemory)
+pub only_list : {V : Type 0} (items : V → List Avp) (r : Result V WireFault) (s : List ℕ) (l : List Avp) →
+    IfOk r (λ v. SpellsList (items v) s) →
+    IfErr r (λ f. (f ≡ NoMemory) ⊎ ((o : ℕ) × (f ≡ AvpLength o) × IsBadAt 0 s o)) → SpellsList l s →
+    MatchResult r (λ v. items v ≡ l) (λ f. f ≡ NoMemory)
 only_list items (Ok v) s l found fault sp = one_list (items v) l s found sp
 only_list items (Err f) s l found (inl e) sp = e
 only_list items (Err f) s l found (inr bad) sp = absurd (no_bad_in_list 0 l s bad.0 sp bad.2)

@@ -78,7 +78,8 @@ extent_spelled x s o e =
     rw size (begun s o (record { long = omega arith; above = omega arith; within = omega arith }))
 
 -- what is spelled at the front begins there
-pub front_begins : (s : List ℕ) (a : Avp) (n : ℕ) → n ≤ length s → SpellsAvp a (take n s) → Begins s × (padded (length_at s) ≡ n)
+pub front_begins : (s : List ℕ) (a : Avp) (n : ℕ) → n ≤ length s → SpellsAvp a (take n s) →
+    Begins s × (padded (length_at s) ≡ n)
 front_begins s a n in_s sp =
     let f = front a (take n s) (drop n s) s sp (sym (take-append-drop n s)) in
     let size : length (take n s) ≡ n = length-take-le n s in_s in
@@ -104,11 +105,13 @@ enough (suc n) (suc m) [] h k = refl
 enough zero m (x ∷ s) h k = absurd (omega arith)
 enough (suc n) zero (x ∷ s) h k = absurd (omega arith)
 enough (suc n) (suc m) (x ∷ s) h k = by (λ r. enough n m r) (begins_with_avp (x ∷ s)) refl where
-  by : ((r : List ℕ) → length r ≤ n → length r ≤ m → members_by n r ≡ members_by m r) → (b : Bool) → begins_with_avp (x ∷ s) ≡ b → members_by (suc n) (x ∷ s) ≡ members_by (suc m) (x ∷ s)
+  by : ((r : List ℕ) → length r ≤ n → length r ≤ m → members_by n r ≡ members_by m r) → (b : Bool) →
+      begins_with_avp (x ∷ s) ≡ b → members_by (suc n) (x ∷ s) ≡ members_by (suc m) (x ∷ s)
   by shorter true e =
       let rest = drop (padded (length_at (x ∷ s))) (x ∷ s) in
       let b = begins (x ∷ s) e in
-      let behind : length rest ≡ length (x ∷ s) - padded (length_at (x ∷ s)) = length-drop (padded (length_at (x ∷ s))) (x ∷ s) in
+      let behind : length rest ≡ length (x ∷ s) - padded (length_at (x ∷ s)) = length-drop (padded (length_at (x ∷ s)))
+      (x ∷ s) in
       let eight : 8 ≤ padded (length_at (x ∷ s)) = moved (x ∷ s) b in
       let same : members_by n rest ≡ members_by m rest = shorter rest (omega arith) (omega arith) in
       rw e (ap (option_map (λ l. avp_at (x ∷ s) ∷ l)) same)
@@ -119,14 +122,17 @@ unfolding members
 members_nil = refl
 
 -- where an AVP begins, the members are that AVP and the members behind it
-pub members_begun : (s : List ℕ) → Begins s → members s ≡ option_map (λ l. avp_at s ∷ l) (members (drop (padded (length_at s)) s))
+pub members_begun : (s : List ℕ) → Begins s →
+    members s ≡ option_map (λ l. avp_at s ∷ l) (members (drop (padded (length_at s)) s))
 unfolding members
 members_begun [] b = absurd (let h = b.long in omega arith)
 members_begun (x ∷ s) b =
     let rest = drop (padded (length_at (x ∷ s))) (x ∷ s) in
-    let behind : length rest ≡ length (x ∷ s) - padded (length_at (x ∷ s)) = length-drop (padded (length_at (x ∷ s))) (x ∷ s) in
+    let behind : length rest ≡ length (x ∷ s) - padded (length_at (x ∷ s)) = length-drop (padded (length_at (x ∷ s)))
+    (x ∷ s) in
     let eight : 8 ≤ padded (length_at (x ∷ s)) = moved (x ∷ s) b in
-    let same : members_by (length s) rest ≡ members_by (length rest) rest = enough (length s) (length rest) rest (omega arith) (omega arith) in
+    let same : members_by (length s) rest ≡ members_by (length rest) rest =
+    enough (length s) (length rest) rest (omega arith) (omega arith) in
     rw (begins_test (x ∷ s) b) (ap (option_map (λ l. avp_at (x ∷ s) ∷ l)) same)
 
 -- where none begins, there are none
@@ -143,11 +149,13 @@ front_is s a n in_s sp =
     let header : avp_header_len (vendor_at s) ≡ avp_header_len a.vendor = ap avp_header_len vendor in
     let len : avp_header_len a.vendor + length a.bytes ≡ length_at s = f.len in
     let size : length_at s - avp_header_len (vendor_at s) ≡ length a.bytes = omega (arith, header, len) in
-    let bytes : take (length_at s - avp_header_len (vendor_at s)) (drop (avp_header_len (vendor_at s)) s) ≡ a.bytes = rw (size, header) (sym f.bytes) in
+    let bytes : take (length_at s - avp_header_len (vendor_at s)) (drop (avp_header_len (vendor_at s)) s) ≡
+    a.bytes = rw (size, header) (sym f.bytes) in
     same_made _ _ _ _ _ _ _ _ _ _ (sym f.code) vendor f.mandatory_bit f.protected_bit bytes
 
 -- the members of octets at whose front an AVP is spelled
-pub member_found : (s : List ℕ) (a : Avp) (n : ℕ) → n ≤ length s → SpellsAvp a (take n s) → members s ≡ option_map (λ l. a ∷ l) (members (drop n s))
+pub member_found : (s : List ℕ) (a : Avp) (n : ℕ) → n ≤ length s → SpellsAvp a (take n s) →
+    members s ≡ option_map (λ l. a ∷ l) (members (drop n s))
 member_found s a n in_s sp =
     let (b, pad) = front_begins s a n in_s sp in
     let m = padded (length_at s) in
@@ -161,15 +169,19 @@ no_member (x ∷ s) o none = inr (by (begins_with_avp (x ∷ s)) refl) where
   by : (b : Bool) → begins_with_avp (x ∷ s) ≡ b → members (x ∷ s) ≡ None
   by true e =
       let m = padded (length_at (x ∷ s)) in
-      absurd (none (avp_at (x ∷ s)) (take m (x ∷ s)) (drop m (x ∷ s)) (begun (x ∷ s) o (begins (x ∷ s) e)) (sym (take-append-drop m (x ∷ s))))
+      absurd (none (avp_at (x ∷ s)) (take m (x ∷ s)) (drop m (x ∷ s)) (begun (x ∷ s) o (begins (x ∷ s) e))
+      (sym (take-append-drop m (x ∷ s))))
   by false e = members_stop (x ∷ s) (omega arith) e
 
 -- the same of an answer
-pub found_member : (s : List ℕ) (r : Option (AvpRef × ℕ)) → IsOctets s → IfSome r (λ read. read.1 ≤ length s) → IfSome r (λ read. SpellsAvp (avp_of read.0) (take read.1 s)) → IfSome r (λ read. members s ≡ option_map (λ l. avp_of read.0 ∷ l) (members (drop read.1 s)))
+pub found_member : (s : List ℕ) (r : Option (AvpRef × ℕ)) → IsOctets s → IfSome r (λ read. read.1 ≤ length s) →
+    IfSome r (λ read. SpellsAvp (avp_of read.0) (take read.1 s)) →
+    IfSome r (λ read. members s ≡ option_map (λ l. avp_of read.0 ∷ l) (members (drop read.1 s)))
 found_member s None o w f = tt
 found_member s (Some x) o w f = member_found s (avp_of x.0) x.1 w f
 
-pub none_member : (s : List ℕ) (r : Option (AvpRef × ℕ)) → IsOctets s → IfNone r (BeginsWithNoAvp s) → IfNone r ((s ≡ []) ⊎ (members s ≡ None))
+pub none_member : (s : List ℕ) (r : Option (AvpRef × ℕ)) → IsOctets s → IfNone r (BeginsWithNoAvp s) →
+    IfNone r ((s ≡ []) ⊎ (members s ≡ None))
 none_member s None o none = no_member s o none
 none_member s (Some x) o none = tt
 
@@ -182,26 +194,33 @@ pub nothing_listed : (s : List ℕ) (l : List Avp) → (s ≡ []) ⊎ (members s
 nothing_listed s l (inl e) h = let nil : members s ≡ Some [] = ap members e ∙ members_nil in cc
 nothing_listed s l (inr e) h = cc
 
-cons_of : (a : Avp) (o : Option (List Avp)) (l : List Avp) → option_map (λ k. a ∷ k) o ≡ Some l → (k : List Avp) × (o ≡ Some k) × (a ∷ k ≡ l)
+cons_of : (a : Avp) (o : Option (List Avp)) (l : List Avp) → option_map (λ k. a ∷ k) o ≡ Some l →
+    (k : List Avp) × (o ≡ Some k) × (a ∷ k ≡ l)
 cons_of a None l e = absurd (cc)
 cons_of a (Some k) l e = (k, refl, (cc))
 
-spelled_cons : (a : Avp) (k l : List Avp) (first rest s : List ℕ) → a ∷ k ≡ l → s ≡ first ++ rest → SpellsAvp a first → SpellsList k rest → SpellsList l s
+spelled_cons : (a : Avp) (k l : List Avp) (first rest s : List ℕ) → a ∷ k ≡ l → s ≡ first ++ rest → SpellsAvp a first →
+    SpellsList k rest → SpellsList l s
 spelled_cons a k l first rest s is e sp h = rw (← is) (first, rest, e, sp, h)
 
 -- the members of octets are spelled there
-pub members_spelled : (n : ℕ) (s : List ℕ) (l : List Avp) → length s ≤ n → IsOctets s → members s ≡ Some l → SpellsList l s
-members_spelled n [] l h o e = let m : Some [] ≡ Some l = sym members_nil ∙ e in let nil : [] ≡ l = cc in rw (← nil) refl
+pub members_spelled : (n : ℕ) (s : List ℕ) (l : List Avp) → length s ≤ n → IsOctets s → members s ≡ Some l →
+    SpellsList l s
+members_spelled n [] l h o e = let m : Some [] ≡ Some l = sym members_nil ∙ e in let nil : [] ≡ l = cc in
+    rw (← nil) refl
 members_spelled zero (x ∷ s) l h o e = absurd (omega arith)
 members_spelled (suc n) (x ∷ s) l h o e = by (begins_with_avp (x ∷ s)) refl (λ r k. members_spelled n r k) where
-  by : (b : Bool) → begins_with_avp (x ∷ s) ≡ b → ((r : List ℕ) (k : List Avp) → length r ≤ n → IsOctets r → members r ≡ Some k → SpellsList k r) → SpellsList l (x ∷ s)
+  by : (b : Bool) → begins_with_avp (x ∷ s) ≡ b →
+      ((r : List ℕ) (k : List Avp) → length r ≤ n → IsOctets r → members r ≡ Some k → SpellsList k r) →
+      SpellsList l (x ∷ s)
   by true t ih =
       let m = padded (length_at (x ∷ s)) in
       let b = begins (x ∷ s) t in
       let eight : 8 ≤ m = moved (x ∷ s) b in
       let size : length (drop m (x ∷ s)) ≡ length (x ∷ s) - m = length-drop m (x ∷ s) in
       let (k, some, is) = cons_of (avp_at (x ∷ s)) (members (drop m (x ∷ s))) l (sym (members_begun (x ∷ s) b) ∙ e) in
-      spelled_cons (avp_at (x ∷ s)) k l (take m (x ∷ s)) (drop m (x ∷ s)) (x ∷ s) is (sym (take-append-drop m (x ∷ s))) (begun (x ∷ s) o b)
+      spelled_cons (avp_at (x ∷ s)) k l (take m (x ∷ s)) (drop m (x ∷ s)) (x ∷ s) is (sym (take-append-drop m (x ∷ s)))
+      (begun (x ∷ s) o b)
       (ih (drop m (x ∷ s)) k (omega arith) (octets_behind m (x ∷ s) o) some)
   by false t ih = absurd (let none : members (x ∷ s) ≡ None = members_stop (x ∷ s) (omega arith) t in cc)
 

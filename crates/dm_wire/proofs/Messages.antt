@@ -18,9 +18,19 @@ use Rattle.dm_wire.proofs.Spellings.{same_halves}
 
 abbrev pub made : Bool → Bool → Bool → Bool → ℕ → ℕ → ℕ → ℕ → Header
 made r p e t c a h n =
-    record { request = r; proxiable = p; error = e; retransmit = t; command = c; application = a; hop_id = h; end_id = n }
+    record {
+      request = r;
+      proxiable = p;
+      error = e;
+      retransmit = t;
+      command = c;
+      application = a;
+      hop_id = h;
+      end_id = n;
+    }
 
-pub same_made : (r p e t r' p' e' t' : Bool) (c a h n c' a' h' n' : ℕ) → r ≡ r' → p ≡ p' → e ≡ e' → t ≡ t' → c ≡ c' → a ≡ a' → h ≡ h' → n ≡ n' → made r p e t c a h n ≡ made r' p' e' t' c' a' h' n'
+pub same_made : (r p e t r' p' e' t' : Bool) (c a h n c' a' h' n' : ℕ) → r ≡ r' → p ≡ p' → e ≡ e' → t ≡ t' → c ≡ c' →
+    a ≡ a' → h ≡ h' → n ≡ n' → made r p e t c a h n ≡ made r' p' e' t' c' a' h' n'
 same_made r p e t r' p' e' t' c a h n c' a' h' n' e0 e1 e2 e3 e4 e5 e6 e7 = rw (e0, e1, e2, e3, e4, e5, e6, e7) refl
 
 -- the octets of a header with this flag octet
@@ -33,13 +43,15 @@ pub record HeaderFront (h : Header) (size : ℕ) (s : List ℕ) : Type 0 where
   pub size_is : size ≡ big_number 3 (drop 1 s)
   pub header_is : h ≡ header_in s
 
-pub header_front : (h : Header) (size : ℕ) (front rest : List ℕ) → SpellsHeader h size front → HeaderFront h size (front ++ rest)
+pub header_front : (h : Header) (size : ℕ) (front rest : List ℕ) → SpellsHeader h size front →
+    HeaderFront h size (front ++ rest)
 header_front h size front rest sp =
     let fits : size < 256 ^ 3 = (let n : size ≤ 16777212 = sp.size_fits in omega arith) in
     rw (sp.whole) (record {
       version = refl;
       size_is = sym (big_number-reads_back 3 size (drop 4 (layout sp.flags size h ++ rest)) fits);
-      header_is = same_made _ _ _ _ _ _ _ _ _ _ _ _ _ _ _ _ (sym sp.request_bit) (sym sp.proxiable_bit) (sym sp.error_bit) (sym sp.retransmit_bit)
+      header_is = same_made _ _ _ _ _ _ _ _ _ _ _ _ _ _ _ _ (sym sp.request_bit) (sym sp.proxiable_bit)
+          (sym sp.error_bit) (sym sp.retransmit_bit)
           (sym (big_number-reads_back 3 h.command (drop 8 (layout sp.flags size h ++ rest)) sp.command_fits))
           (sym (big_number-reads_back 4 h.application (drop 12 (layout sp.flags size h ++ rest)) sp.application_fits))
           (sym (big_number-reads_back 4 h.hop_id (drop 16 (layout sp.flags size h ++ rest)) sp.hop_fits))
@@ -81,7 +93,8 @@ same_message m k e f = go m.header k.header m.avps k.avps e f where
   go h h' l l' e f = rw (e, f) refl
 
 -- two spellings of messages at one front are one
-pub one_message : (m k : Message) (s t x y : List ℕ) → SpellsMessage m s → SpellsMessage k t → s ++ x ≡ t ++ y → (m ≡ k) × (s ≡ t) × (x ≡ y)
+pub one_message : (m k : Message) (s t x y : List ℕ) → SpellsMessage m s → SpellsMessage k t → s ++ x ≡ t ++ y →
+    (m ≡ k) × (s ≡ t) × (x ≡ y)
 one_message m k s t x y h g e =
     let f = message_front m s x h in
     let f' : MessageFront k (length t) (s ++ x) = rw e (message_front k t y g) in
@@ -152,7 +165,8 @@ one_refusal s TooLong g h k = absurd h
 one_refusal s NoMemory g h k = absurd h
 
 -- what reads only what is spelled, and refuses for cause or want of memory, reads all that is spelled
-pub only_spelled : (r : Result Message WireFault) (s : List ℕ) (m : Message) → IfOk r (λ k. SpellsMessage k s) → IfErr r (λ f. (f ≡ NoMemory) ⊎ Refuses s f) → SpellsMessage m s → (r ≡ Ok m) ⊎ (r ≡ Err NoMemory)
+pub only_spelled : (r : Result Message WireFault) (s : List ℕ) (m : Message) → IfOk r (λ k. SpellsMessage k s) →
+    IfErr r (λ f. (f ≡ NoMemory) ⊎ Refuses s f) → SpellsMessage m s → (r ≡ Ok m) ⊎ (r ≡ Err NoMemory)
 only_spelled (Ok k) s m found fault sp = inl (ap Ok ((one_message k m s s [] [] found sp refl).0))
 only_spelled (Err f) s m found (inl e) sp = inr (ap Err e)
 only_spelled (Err f) s m found (inr r) sp = absurd (no_refusal m s f sp r)

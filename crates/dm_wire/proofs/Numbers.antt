@@ -53,7 +53,8 @@ not_zero n h = go (nat_eq n 0) refl where
   go false e = ap not e
 
 -- a number of four octets, parted behind the first
-pub parted : (s : List ℕ) → IsOctets s → 4 ≤ length s → (big_number 4 s / 16777216 ≡ slice_index s 0) × (big_number 4 s % 16777216 ≡ big_number 3 (drop 1 s))
+pub parted : (s : List ℕ) → IsOctets s → 4 ≤ length s →
+    (big_number 4 s / 16777216 ≡ slice_index s 0) × (big_number 4 s % 16777216 ≡ big_number 3 (drop 1 s))
 parted [] o h = absurd (omega arith)
 parted (a ∷ []) o h = absurd (omega arith)
 parted (a ∷ b ∷ []) o h = absurd (omega arith)

@@ -11,7 +11,8 @@ use Rattle.dm_wire.proofs.Messages.{one_message}
 use Rattle.dm_wire.proofs.Lists.{one_list}
 
 -- the bits of a flag octet are those that it was made of
-header_bits : (r p e t : Bool) → (is_set (flag_octet r p e t) 128 ≡ r) × (is_set (flag_octet r p e t) 64 ≡ p) × (is_set (flag_octet r p e t) 32 ≡ e) × (is_set (flag_octet r p e t) 16 ≡ t)
+header_bits : (r p e t : Bool) → (is_set (flag_octet r p e t) 128 ≡ r) × (is_set (flag_octet r p e t) 64 ≡ p) ×
+    (is_set (flag_octet r p e t) 32 ≡ e) × (is_set (flag_octet r p e t) 16 ≡ t)
 header_bits true true true true = (refl, refl, refl, refl)
 header_bits true true true false = (refl, refl, refl, refl)
 header_bits true true false true = (refl, refl, refl, refl)
@@ -32,10 +33,16 @@ header_bits false false false false = (refl, refl, refl, refl)
 pub canonical_list_spells : (l : List Avp) (s : List ℕ) → SpellsList l s → SpellsList l (canonical_list l)
 canonical_list_spells [] s sp = refl
 canonical_list_spells (a ∷ l) s sp =
-    let first = sp.3 in
-    (canonical_avp a, canonical_list l, refl, avp_spelled a first.code_fits first.length_fits first.vendor_fits, canonical_list_spells l sp.1 sp.4)
+    let first = sp.3 in (
+      canonical_avp a,
+      canonical_list l,
+      refl,
+      avp_spelled a first.code_fits first.length_fits first.vendor_fits,
+      canonical_list_spells l sp.1 sp.4,
+    )
 
-pub canonical_header_spelled : (h : Header) (size : ℕ) → size ≤ 16777212 → h.command < 256 ^ 3 → h.application < 256 ^ 4 → h.hop_id < 256 ^ 4 → h.end_id < 256 ^ 4
+pub canonical_header_spelled : (h : Header) (size : ℕ) → size ≤ 16777212 → h.command < 256 ^ 3 →
+    h.application < 256 ^ 4 → h.hop_id < 256 ^ 4 → h.end_id < 256 ^ 4
     → SpellsHeader h size (canonical_header h size)
 canonical_header_spelled h size fits command application hop end =
     let bits = header_bits h.request h.proxiable h.error h.retransmit in
@@ -53,8 +60,10 @@ canonical_header_spelled h size fits command application hop end =
       end_fits = end;
     }
 
-canonical_header_spells : (h : Header) (size : ℕ) (s : List ℕ) → SpellsHeader h size s → SpellsHeader h size (canonical_header h size)
-canonical_header_spells h size s sp = canonical_header_spelled h size sp.size_fits sp.command_fits sp.application_fits sp.hop_fits sp.end_fits
+canonical_header_spells : (h : Header) (size : ℕ) (s : List ℕ) → SpellsHeader h size s →
+    SpellsHeader h size (canonical_header h size)
+canonical_header_spells h size s sp = canonical_header_spelled h size sp.size_fits sp.command_fits sp.application_fits
+    sp.hop_fits sp.end_fits
 
 whole_size : (m : Message) → length (canonical_message m) ≡ message_size m
 whole_size m = omega arith

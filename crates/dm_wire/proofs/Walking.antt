@@ -22,7 +22,8 @@ pub passed_none : (s : List ℕ) → Passed s [] (walk_over s)
 passed_none s = record { told = refl; rest = refl; within = omega arith; fewer = omega arith; going = refl }
 
 -- one AVP more
-pub passed_more : (s : List ℕ) (l : List Avp) (w v : Walk) (a : Avp) → Passed s l w → Passes w a v → Passed s (l ++ a ∷ []) v
+pub passed_more : (s : List ℕ) (l : List Avp) (w v : Walk) (a : Avp) → Passed s l w → Passes w a v →
+    Passed s (l ++ a ∷ []) v
 passed_more s l w v a p q =
     let n = length q.first in
     let cut : drop w.offset s ≡ q.first ++ v.left = sym p.rest ∙ q.whole in
@@ -42,11 +43,13 @@ passed_more s l w v a p q =
     }
 
 -- where the walk stops is the first bad octet
-pub passed_stop : (s : List ℕ) (l : List Avp) (w v : Walk) (o : ℕ) → Passed s l w → Stops w o v → IsBadAt 0 s o × SpellsList l (take o s)
+pub passed_stop : (s : List ℕ) (l : List Avp) (w v : Walk) (o : ℕ) → Passed s l w → Stops w o v →
+    IsBadAt 0 s o × SpellsList l (take o s)
 passed_stop s l w v o p q =
     let some : 0 < length w.left = q.some in
     let size = ap length p.rest ∙ length-drop w.offset s in (
-      rw (q.offset) (record { above = omega arith; below = omega arith; before = (l, p.told); bad = rw p.rest at q.bad }),
+      rw (q.offset)
+          (record { above = omega arith; below = omega arith; before = (l, p.told); bad = rw p.rest at q.bad }),
       rw (q.offset) p.told,
     )
 
@@ -56,23 +59,32 @@ passed_all s l w p (inl e) =
     let size : length w.left ≡ 0 = ap length e in
     let behind = ap length p.rest ∙ length-drop w.offset s in
     let none : drop w.offset s ≡ [] = sym p.rest ∙ e in
-    let whole : take w.offset s ≡ s = sym (append-nil (take w.offset s)) ∙ ap (λ r. take w.offset s ++ r) (sym none) ∙ take-append-drop w.offset s in
+    let whole : take w.offset s ≡ s = sym (append-nil (take w.offset s)) ∙ ap (λ r. take w.offset s ++ r) (sym none) ∙
+    take-append-drop w.offset s in
     rw whole at p.told
 passed_all s l w p (inr e) = absurd (let going = p.going in cc)
 
 -- the answers that are left tell the rest
 pub passed_tells : (s : List ℕ) (l : List Avp) (w : Walk) (k : List (Result Avp ℕ)) → Passed s l w → Gives w k
-    → ((m : List Avp) × (k ≡ map Ok m) × SpellsList (l ++ m) s) ⊎ ((m : List Avp) × (o : ℕ) × (k ≡ map Ok m ++ Err o ∷ []) × SpellsList (l ++ m) (take o s) × IsBadAt 0 s o)
+    → ((m : List Avp) × (k ≡ map Ok m) × SpellsList (l ++ m) s) ⊎
+    ((m : List Avp) × (o : ℕ) × (k ≡ map Ok m ++ Err o ∷ []) × SpellsList (l ++ m) (take o s) × IsBadAt 0 s o)
 passed_tells s l w [] p g = inl ([], refl, rw append-nil (passed_all s l w p g))
 passed_tells s l w (Err o ∷ []) p g =
     let bad = passed_stop s l w g.0 o p g.1 in inr ([], o, refl, rw append-nil bad.1, bad.0)
-passed_tells s l w (Err o ∷ Ok a ∷ k) p g = absurd (let ended = g.1.stays in let going = (g.2.1).going in let e = ap (λ v. v.ended) ended in cc)
-passed_tells s l w (Err o ∷ Err b ∷ k) p g = absurd (let ended = g.1.stays in let going = (g.2.1).going in let e = ap (λ v. v.ended) ended in cc)
-passed_tells s l w (Ok a ∷ k) p g = joined (passed_tells s (l ++ a ∷ []) g.0 k (passed_more s l w g.0 a p g.1) g.2) where
-  joined : ((m : List Avp) × (k ≡ map Ok m) × SpellsList ((l ++ a ∷ []) ++ m) s) ⊎ ((m : List Avp) × (o : ℕ) × (k ≡ map Ok m ++ Err o ∷ []) × SpellsList ((l ++ a ∷ []) ++ m) (take o s) × IsBadAt 0 s o)
-      → ((m : List Avp) × (Ok a ∷ k ≡ map Ok m) × SpellsList (l ++ m) s) ⊎ ((m : List Avp) × (o : ℕ) × (Ok a ∷ k ≡ map Ok m ++ Err o ∷ []) × SpellsList (l ++ m) (take o s) × IsBadAt 0 s o)
-  joined (inl h) = inl (a ∷ h.0, ap (λ r. Ok a ∷ r) h.1, rw append_assoc at h.2)
-  joined (inr h) = inr (a ∷ h.0, h.1, ap (λ r. Ok a ∷ r) h.2, rw append_assoc at h.3, h.4)
+passed_tells s l w (Err o ∷ Ok a ∷ k) p g =
+    absurd (let ended = g.1.stays in let going = (g.2.1).going in let e = ap (λ v. v.ended) ended in cc)
+passed_tells s l w (Err o ∷ Err b ∷ k) p g =
+    absurd (let ended = g.1.stays in let going = (g.2.1).going in let e = ap (λ v. v.ended) ended in cc)
+passed_tells s l w (Ok a ∷ k) p g = joined (passed_tells s (l ++ a ∷ []) g.0 k (passed_more s l w g.0 a p g.1) g.2)
+  where
+    joined : ((m : List Avp) × (k ≡ map Ok m) × SpellsList ((l ++ a ∷ []) ++ m) s) ⊎
+        ((m : List Avp) × (o : ℕ) × (k ≡ map Ok m ++ Err o ∷ []) × SpellsList ((l ++ a ∷ []) ++ m) (take o s) ×
+        IsBadAt 0 s o)
+        → ((m : List Avp) × (Ok a ∷ k ≡ map Ok m) × SpellsList (l ++ m) s) ⊎
+        ((m : List Avp) × (o : ℕ) × (Ok a ∷ k ≡ map Ok m ++ Err o ∷ []) × SpellsList (l ++ m) (take o s) ×
+        IsBadAt 0 s o)
+    joined (inl h) = inl (a ∷ h.0, ap (λ r. Ok a ∷ r) h.1, rw append_assoc at h.2)
+    joined (inr h) = inr (a ∷ h.0, h.1, ap (λ r. Ok a ∷ r) h.2, rw append_assoc at h.3, h.4)
 
 -- a whole walk tells what a list of AVPs is read as
 pub walk_tells : (s : List ℕ) (l : List (Result Avp ℕ)) → Gives (walk_over s) l → Tells s l

@@ -20,7 +20,8 @@ zeros n = replicate ((4 - n % 4) % 4) 0
 
 -- the AVP with zero reserved bits and zero padding (4.1)
 abbrev pub canonical_avp : Avp → List ℕ
-canonical_avp a = be a.code 4 ++ avp_flags a ∷ be (avp_length a) 3 ++ vendor_octets a.vendor ++ a.bytes ++ zeros (avp_length a)
+canonical_avp a = be a.code 4 ++ avp_flags a ∷ be (avp_length a) 3 ++ vendor_octets a.vendor ++ a.bytes ++
+    zeros (avp_length a)
 
 -- the AVPs, one after the other
 abbrev pub canonical_list : List Avp → List ℕ
@@ -36,7 +37,8 @@ header_flags h = flag_octet h.request h.proxiable h.error h.retransmit
 
 -- the header of a message of this size, with zero reserved bits (3)
 abbrev pub canonical_header : Header → ℕ → List ℕ
-canonical_header h size = 1 ∷ be size 3 ++ header_flags h ∷ be h.command 3 ++ be h.application 4 ++ be h.hop_id 4 ++ be h.end_id 4
+canonical_header h size = 1 ∷ be size 3 ++ header_flags h ∷ be h.command 3 ++ be h.application 4 ++ be h.hop_id 4 ++
+    be h.end_id 4
 
 -- the octets that a message takes: its header and its AVPs (3)
 abbrev pub message_size : Message → ℕ

@@ -23,4 +23,5 @@ ListSpelled = (l : List Avp) → All AvpFits l → SpellsList l (canonical_list 
 -- a message of at most 16777212 octets
 abbrev pub MessageSpelled : Type 0
 MessageSpelled =
-    (m : Message) → HeaderFits m.header → All AvpFits m.avps → message_size m ≤ 16777212 → SpellsMessage m (canonical_message m)
+    (m : Message) → HeaderFits m.header → All AvpFits m.avps → message_size m ≤ 16777212 →
+    SpellsMessage m (canonical_message m)

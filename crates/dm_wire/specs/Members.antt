@@ -29,14 +29,16 @@ avp_at s =
 
 -- s begins with an AVP: its header and its padded Length lie within s
 abbrev pub begins_with_avp : List ℕ → Bool
-begins_with_avp s = nat_le 8 (length s) && nat_le (avp_header_len (vendor_at s)) (length_at s) && nat_le (padded (length_at s)) (length s)
+begins_with_avp s = nat_le 8 (length s) && nat_le (avp_header_len (vendor_at s)) (length_at s) &&
+    nat_le (padded (length_at s)) (length s)
 
 -- at most n AVPs
 abbrev pub members_by : ℕ → List ℕ → Option (List Avp)
 members_by n [] = Some []
 members_by zero (x ∷ s) = None
 members_by (suc n) (x ∷ s) =
-    if begins_with_avp (x ∷ s) then option_map (λ l. avp_at (x ∷ s) ∷ l) (members_by n (drop (padded (length_at (x ∷ s))) (x ∷ s))) else None
+    if begins_with_avp (x ∷ s) then
+    option_map (λ l. avp_at (x ∷ s) ∷ l) (members_by n (drop (padded (length_at (x ∷ s))) (x ∷ s))) else None
 
 -- the AVPs of which s is the spellings, one after the other, where it is
 unfoldable pub members : List ℕ → Option (List Avp)

@@ -8,7 +8,8 @@ use Rattle.dm_wire.specs.Refusal.{IsBadAt, Refuses}
 
 -- two spellings of messages that begin one text are equal, and spell one message
 abbrev pub OneMessage : Type 0
-OneMessage = (m k : Message) (s t x y : List ℕ) → SpellsMessage m s → SpellsMessage k t → s ++ x ≡ t ++ y → (m ≡ k) × (s ≡ t)
+OneMessage = (m k : Message) (s t x y : List ℕ) → SpellsMessage m s → SpellsMessage k t → s ++ x ≡ t ++ y →
+    (m ≡ k) × (s ≡ t)
 
 -- two spellings of AVPs that begin one text are equal, and spell one AVP
 abbrev pub OneAvp : Type 0
@@ -32,8 +33,10 @@ NoMessageRefused = (m : Message) (s : List ℕ) (f : WireFault) → SpellsMessag
 
 -- octets spell a list of AVPs, or there is a first bad one
 abbrev pub ListOrBadOctet : Type 0
-ListOrBadOctet = (s : List ℕ) → ((i : ℕ) → slice_index s i < 256) → ((l : List Avp) × SpellsList l s) ⊎ ((o : ℕ) × IsBadAt 0 s o)
+ListOrBadOctet = (s : List ℕ) → ((i : ℕ) → slice_index s i < 256) →
+    ((l : List Avp) × SpellsList l s) ⊎ ((o : ℕ) × IsBadAt 0 s o)
 
 -- octets spell a message, or have a fault
 abbrev pub MessageOrFault : Type 0
-MessageOrFault = (s : List ℕ) → ((i : ℕ) → slice_index s i < 256) → ((m : Message) × SpellsMessage m s) ⊎ ((f : WireFault) × Refuses s f)
+MessageOrFault = (s : List ℕ) → ((i : ℕ) → slice_index s i < 256) →
+    ((m : Message) × SpellsMessage m s) ⊎ ((f : WireFault) × Refuses s f)

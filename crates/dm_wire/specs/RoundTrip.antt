@@ -29,5 +29,6 @@ ListReadsBack = (l k : List Avp) (s : List ℕ) → SpellsList l s → SpellsLis
 -- a header whose fields have room is spelled by its canonical octets
 abbrev pub CanonicalHeaderSpelled : Type 0
 CanonicalHeaderSpelled =
-    (h : Header) (size : ℕ) → size ≤ 16777212 → h.command < 256 ^ 3 → h.application < 256 ^ 4 → h.hop_id < 256 ^ 4 → h.end_id < 256 ^ 4
+    (h : Header) (size : ℕ) → size ≤ 16777212 → h.command < 256 ^ 3 → h.application < 256 ^ 4 → h.hop_id < 256 ^ 4 →
+    h.end_id < 256 ^ 4
     → SpellsHeader h size (canonical_header h size)

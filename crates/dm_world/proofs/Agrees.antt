@@ -52,11 +52,13 @@ mark_coming NoMark h = cc
 mark_coming Coming h = refl
 mark_coming Delivered h = cc
 
-coming_is : {P : Type 0} (w : World P (List ℕ)) (c : ℕ) (s : Side) (o : Option (Link (List ℕ))) → slice_get w.links c ≡ o → is_coming_at s o ≡ true → IsComing w c s
+coming_is : {P : Type 0} (w : World P (List ℕ)) (c : ℕ) (s : Side) (o : Option (Link (List ℕ))) →
+    slice_get w.links c ≡ o → is_coming_at s o ≡ true → IsComing w c s
 coming_is w c s None at h = cc
 coming_is w c s (Some l) at h = record { link = l; there = at; coming = mark_coming (own_view s l).incoming.mark h }
 
-is_coming : {P : Type 0} (w : World P (List ℕ)) (c : ℕ) (s : Side) → IsComing w c s → is_coming_at s (slice_get w.links c) ≡ true
+is_coming : {P : Type 0} (w : World P (List ℕ)) (c : ℕ) (s : Side) → IsComing w c s →
+    is_coming_at s (slice_get w.links c) ≡ true
 is_coming w c s h =
     rw h.there (ap (λ (m : Mark). elim m [ Coming ↦ true | _ ↦ false ]) h.coming)
 
@@ -78,27 +80,38 @@ one_to (Some x) None c d t h g = cc
 abbrev Fit : {P : Type 0} → Bool → World P (List ℕ) → ℕ → ℕ → Type 0
 Fit opposite w c d = ((c ≡ d) × (opposite ≡ true)) ⊎ AreParting w c d
 
-pair_to : {P : Type 0} (opposite same : Bool) (w : World P (List ℕ)) (c d : ℕ) → (c == d) ≡ same → (if same then opposite else is_coming_at A (slice_get w.links c) && is_coming_at B (slice_get w.links d)) ≡ true → Fit opposite w c d
+pair_to : {P : Type 0} (opposite same : Bool) (w : World P (List ℕ)) (c d : ℕ) → (c == d) ≡ same →
+    (if same then opposite else is_coming_at A (slice_get w.links c) && is_coming_at B (slice_get w.links d)) ≡ true →
+    Fit opposite w c d
 pair_to opposite true w c d e t = inl (same_number c d e, t)
 pair_to opposite false w c d e t =
     let parts = both_true (is_coming_at A (slice_get w.links c)) (is_coming_at B (slice_get w.links d)) t in
-    inr (record { apart = other_number c d e; to_a = coming_is w c A (slice_get w.links c) refl parts.0; to_b = coming_is w d B (slice_get w.links d) refl parts.1 })
+    inr (record {
+      apart = other_number c d e;
+      to_a = coming_is w c A (slice_get w.links c) refl parts.0;
+      to_b = coming_is w d B (slice_get w.links d) refl parts.1;
+    })
 
-agreed_to : {P : Type 0} (opposite : Bool) (w : World P (List ℕ)) (x y : Option Conn) (c d : ℕ) → are_agreed opposite w.links x y ≡ true → x ≡ Some (conn c) → y ≡ Some (conn d) → Fit opposite w c d
+agreed_to : {P : Type 0} (opposite : Bool) (w : World P (List ℕ)) (x y : Option Conn) (c d : ℕ) →
+    are_agreed opposite w.links x y ≡ true → x ≡ Some (conn c) → y ≡ Some (conn d) → Fit opposite w c d
 agreed_to opposite w (Some x) (Some y) c d t h g =
     let at_x : Fit opposite w x.0 y.0 = pair_to opposite (x.0 == y.0) w x.0 y.0 refl t in
     subst (λ n. Fit opposite w n d) (some_number x c h) (subst (λ n. Fit opposite w x.0 n) (some_number y d g) at_x)
 agreed_to opposite w None y c d t h g = cc
 agreed_to opposite w (Some x) None c d t h g = cc
 
-pair_from : {P : Type 0} (opposite same : Bool) (w : World P (List ℕ)) (c d : ℕ) → (c == d) ≡ same → Fit opposite w c d → (if same then opposite else is_coming_at A (slice_get w.links c) && is_coming_at B (slice_get w.links d)) ≡ true
+pair_from : {P : Type 0} (opposite same : Bool) (w : World P (List ℕ)) (c d : ℕ) → (c == d) ≡ same →
+    Fit opposite w c d →
+    (if same then opposite else is_coming_at A (slice_get w.links c) && is_coming_at B (slice_get w.links d)) ≡ true
 pair_from opposite true w c d e (inl fit) = fit.1
 pair_from opposite true w c d e (inr part) = absurd (part.apart (same_number c d e))
 pair_from opposite false w c d e (inl fit) = absurd (other_number c d e fit.0)
 pair_from opposite false w c d e (inr part) =
-    and_true (is_coming_at A (slice_get w.links c)) (is_coming_at B (slice_get w.links d)) (is_coming w c A part.to_a) (is_coming w d B part.to_b)
+    and_true (is_coming_at A (slice_get w.links c)) (is_coming_at B (slice_get w.links d)) (is_coming w c A part.to_a)
+    (is_coming w d B part.to_b)
 
-agreed_from : {P : Type 0} (opposite : Bool) (w : World P (List ℕ)) (x y : Option Conn) → ((c d : ℕ) → x ≡ Some (conn c) → y ≡ Some (conn d) → Fit opposite w c d) → are_agreed opposite w.links x y ≡ true
+agreed_from : {P : Type 0} (opposite : Bool) (w : World P (List ℕ)) (x y : Option Conn) →
+    ((c d : ℕ) → x ≡ Some (conn c) → y ≡ Some (conn d) → Fit opposite w c d) → are_agreed opposite w.links x y ≡ true
 agreed_from opposite w (Some x) (Some y) h = pair_from opposite (x.0 == y.0) w x.0 y.0 refl (h x.0 y.0 refl refl)
 agreed_from opposite w None y h = refl
 agreed_from opposite w (Some x) None h = refl
@@ -108,19 +121,23 @@ same_some (Some x) c d h g = sym (some_number x c h) ∙ some_number x d g
 same_some None c d h g = cc
 
 -- in opposite roles, or in the same
-opposite_fits : {P : Type 0} (w : World P (List ℕ)) (r r' : Role) (c d : ℕ) → is_same_role r r' ≡ false → Fit true w c d → AreOpposite r r' c d ⊎ AreParting w c d
+opposite_fits : {P : Type 0} (w : World P (List ℕ)) (r r' : Role) (c d : ℕ) → is_same_role r r' ≡ false →
+    Fit true w c d → AreOpposite r r' c d ⊎ AreParting w c d
 opposite_fits w r r' c d e (inl fit) = inl (record { same = fit.0; opposite = e })
 opposite_fits w r r' c d e (inr part) = inr part
 
-same_fits : {P : Type 0} (w : World P (List ℕ)) (r r' : Role) (c d : ℕ) → Fit false w c d → AreOpposite r r' c d ⊎ AreParting w c d
+same_fits : {P : Type 0} (w : World P (List ℕ)) (r r' : Role) (c d : ℕ) → Fit false w c d →
+    AreOpposite r r' c d ⊎ AreParting w c d
 same_fits w r r' c d (inl fit) = absurd (let e : false ≡ true = fit.1 in cc)
 same_fits w r r' c d (inr part) = inr part
 
-fit_opposite : {P : Type 0} (w : World P (List ℕ)) (r r' : Role) (c d : ℕ) → AreOpposite r r' c d ⊎ AreParting w c d → Fit true w c d
+fit_opposite : {P : Type 0} (w : World P (List ℕ)) (r r' : Role) (c d : ℕ) → AreOpposite r r' c d ⊎ AreParting w c d →
+    Fit true w c d
 fit_opposite w r r' c d (inl fit) = inl (fit.same, refl)
 fit_opposite w r r' c d (inr part) = inr part
 
-fit_same : {P : Type 0} (w : World P (List ℕ)) (r r' : Role) (c d : ℕ) → is_same_role r r' ≡ true → AreOpposite r r' c d ⊎ AreParting w c d → Fit false w c d
+fit_same : {P : Type 0} (w : World P (List ℕ)) (r r' : Role) (c d : ℕ) → is_same_role r r' ≡ true →
+    AreOpposite r r' c d ⊎ AreParting w c d → Fit false w c d
 fit_same w r r' c d e (inl fit) = let o : is_same_role r r' ≡ false = fit.opposite in cc
 fit_same w r r' c d e (inr part) = inr part
 
@@ -133,26 +150,44 @@ record Tests {P : Type 0} (a b : Node) (w : World P (List ℕ)) : Type 0 where
   ai : are_agreed true w.links (open_as Accepted a) (open_as Initiated b) ≡ true
   aa : are_agreed false w.links (open_as Accepted a) (open_as Accepted b) ≡ true
 
-tests_of : (t u v x y z : Bool) → (t && u && v && x && y && z) ≡ true → (t ≡ true) × (u ≡ true) × (v ≡ true) × (x ≡ true) × (y ≡ true) × (z ≡ true)
+tests_of : (t u v x y z : Bool) → (t && u && v && x && y && z) ≡ true →
+    (t ≡ true) × (u ≡ true) × (v ≡ true) × (x ≡ true) × (y ≡ true) × (z ≡ true)
 tests_of true true true true true true h = (refl, refl, refl, refl, refl, refl)
 tests_of _ _ _ _ _ _ h = cc
 
-of_tests : (t u v x y z : Bool) → t ≡ true → u ≡ true → v ≡ true → x ≡ true → y ≡ true → z ≡ true → (t && u && v && x && y && z) ≡ true
+of_tests : (t u v x y z : Bool) → t ≡ true → u ≡ true → v ≡ true → x ≡ true → y ≡ true → z ≡ true →
+    (t && u && v && x && y && z) ≡ true
 of_tests t u v x y z ht hu hv hx hy hz = rw ht (rw hu (rw hv (rw hx (rw hy (rw hz refl)))))
 
-one_side : (n : Node) (r r' : Role) (c d : ℕ) → are_one (open_as Initiated n) (open_as Accepted n) ≡ true → IsOpenOn n r c → IsOpenOn n r' d → c ≡ d
-one_side n Initiated Initiated c d t h g = same_some (open_as Initiated n) c d (open_on_is n Initiated c h) (open_on_is n Initiated d g)
-one_side n Accepted Accepted c d t h g = same_some (open_as Accepted n) c d (open_on_is n Accepted c h) (open_on_is n Accepted d g)
+one_side : (n : Node) (r r' : Role) (c d : ℕ) → are_one (open_as Initiated n) (open_as Accepted n) ≡ true →
+    IsOpenOn n r c → IsOpenOn n r' d → c ≡ d
+one_side n Initiated Initiated c d t h g = same_some (open_as Initiated n) c d (open_on_is n Initiated c h)
+    (open_on_is n Initiated d g)
+one_side n Accepted Accepted c d t h g = same_some (open_as Accepted n) c d (open_on_is n Accepted c h)
+    (open_on_is n Accepted d g)
 one_side n Initiated Accepted c d t h g = one_to _ _ c d t (open_on_is n Initiated c h) (open_on_is n Accepted d g)
-one_side n Accepted Initiated c d t h g = sym (one_to _ _ d c t (open_on_is n Initiated d g) (open_on_is n Accepted c h))
+one_side n Accepted Initiated c d t h g =
+    sym (one_to _ _ d c t (open_on_is n Initiated d g) (open_on_is n Accepted c h))
 
-both_sides : {P : Type 0} (a b : Node) (w : World P (List ℕ)) (r r' : Role) (c d : ℕ) → Tests a b w → IsOpenOn a r c → IsOpenOn b r' d → AreOpposite r r' c d ⊎ AreParting w c d
-both_sides a b w Initiated Initiated c d t h g = same_fits w Initiated Initiated c d (agreed_to false w (open_as Initiated a) (open_as Initiated b) c d t.ii (open_on_is a Initiated c h) (open_on_is b Initiated d g))
-both_sides a b w Initiated Accepted c d t h g = opposite_fits w Initiated Accepted c d refl (agreed_to true w (open_as Initiated a) (open_as Accepted b) c d t.ia (open_on_is a Initiated c h) (open_on_is b Accepted d g))
-both_sides a b w Accepted Initiated c d t h g = opposite_fits w Accepted Initiated c d refl (agreed_to true w (open_as Accepted a) (open_as Initiated b) c d t.ai (open_on_is a Accepted c h) (open_on_is b Initiated d g))
-both_sides a b w Accepted Accepted c d t h g = same_fits w Accepted Accepted c d (agreed_to false w (open_as Accepted a) (open_as Accepted b) c d t.aa (open_on_is a Accepted c h) (open_on_is b Accepted d g))
+both_sides : {P : Type 0} (a b : Node) (w : World P (List ℕ)) (r r' : Role) (c d : ℕ) → Tests a b w → IsOpenOn a r c →
+    IsOpenOn b r' d → AreOpposite r r' c d ⊎ AreParting w c d
+both_sides a b w Initiated Initiated c d t h g =
+    same_fits w Initiated Initiated c d
+    (agreed_to false w (open_as Initiated a) (open_as Initiated b) c d t.ii (open_on_is a Initiated c h)
+    (open_on_is b Initiated d g))
+both_sides a b w Initiated Accepted c d t h g = opposite_fits w Initiated Accepted c d refl
+    (agreed_to true w (open_as Initiated a) (open_as Accepted b) c d t.ia (open_on_is a Initiated c h)
+    (open_on_is b Accepted d g))
+both_sides a b w Accepted Initiated c d t h g = opposite_fits w Accepted Initiated c d refl
+    (agreed_to true w (open_as Accepted a) (open_as Initiated b) c d t.ai (open_on_is a Accepted c h)
+    (open_on_is b Initiated d g))
+both_sides a b w Accepted Accepted c d t h g =
+    same_fits w Accepted Accepted c d
+    (agreed_to false w (open_as Accepted a) (open_as Accepted b) c d t.aa (open_on_is a Accepted c h)
+    (open_on_is b Accepted d g))
 
-tests_agree : {P : Type 0} (m : Peers P (List ℕ)) (w : World P (List ℕ)) → Tests (m.node_of w.a) (m.node_of w.b) w → Agreed m w
+tests_agree : {P : Type 0} (m : Peers P (List ℕ)) (w : World P (List ℕ)) → Tests (m.node_of w.a) (m.node_of w.b) w →
+    Agreed m w
 tests_agree m w t =
     record {
       one_a = λ r r' c d h g. one_side (m.node_of w.a) r r' c d t.one_a h g;
@@ -160,20 +195,32 @@ tests_agree m w t =
       both = λ r r' c d h g. both_sides (m.node_of w.a) (m.node_of w.b) w r r' c d t h g;
     }
 
-agree_tests : {P : Type 0} (m : Peers P (List ℕ)) (w : World P (List ℕ)) → Agreed m w → Tests (m.node_of w.a) (m.node_of w.b) w
+agree_tests : {P : Type 0} (m : Peers P (List ℕ)) (w : World P (List ℕ)) → Agreed m w →
+    Tests (m.node_of w.a) (m.node_of w.b) w
 agree_tests m w agreed =
     let a = m.node_of w.a in
     let b = m.node_of w.b in
     record {
-      one_a = one_from (open_as Initiated a) (open_as Accepted a) (λ c d h g. agreed.one_a Initiated Accepted c d (is_open_on a Initiated c h) (is_open_on a Accepted d g));
-      one_b = one_from (open_as Initiated b) (open_as Accepted b) (λ c d h g. agreed.one_b Initiated Accepted c d (is_open_on b Initiated c h) (is_open_on b Accepted d g));
-      ii = agreed_from false w (open_as Initiated a) (open_as Initiated b) (λ c d h g. fit_same w Initiated Initiated c d refl (agreed.both Initiated Initiated c d (is_open_on a Initiated c h) (is_open_on b Initiated d g)));
-      ia = agreed_from true w (open_as Initiated a) (open_as Accepted b) (λ c d h g. fit_opposite w Initiated Accepted c d (agreed.both Initiated Accepted c d (is_open_on a Initiated c h) (is_open_on b Accepted d g)));
-      ai = agreed_from true w (open_as Accepted a) (open_as Initiated b) (λ c d h g. fit_opposite w Accepted Initiated c d (agreed.both Accepted Initiated c d (is_open_on a Accepted c h) (is_open_on b Initiated d g)));
-      aa = agreed_from false w (open_as Accepted a) (open_as Accepted b) (λ c d h g. fit_same w Accepted Accepted c d refl (agreed.both Accepted Accepted c d (is_open_on a Accepted c h) (is_open_on b Accepted d g)));
+      one_a = one_from (open_as Initiated a) (open_as Accepted a)
+          (λ c d h g. agreed.one_a Initiated Accepted c d (is_open_on a Initiated c h) (is_open_on a Accepted d g));
+      one_b = one_from (open_as Initiated b) (open_as Accepted b)
+          (λ c d h g. agreed.one_b Initiated Accepted c d (is_open_on b Initiated c h) (is_open_on b Accepted d g));
+      ii = agreed_from false w (open_as Initiated a) (open_as Initiated b)
+          (λ c d h g. fit_same w Initiated Initiated c d refl
+          (agreed.both Initiated Initiated c d (is_open_on a Initiated c h) (is_open_on b Initiated d g)));
+      ia = agreed_from true w (open_as Initiated a) (open_as Accepted b)
+          (λ c d h g. fit_opposite w Initiated Accepted c d
+          (agreed.both Initiated Accepted c d (is_open_on a Initiated c h) (is_open_on b Accepted d g)));
+      ai = agreed_from true w (open_as Accepted a) (open_as Initiated b)
+          (λ c d h g. fit_opposite w Accepted Initiated c d
+          (agreed.both Accepted Initiated c d (is_open_on a Accepted c h) (is_open_on b Initiated d g)));
+      aa = agreed_from false w (open_as Accepted a) (open_as Accepted b)
+          (λ c d h g. fit_same w Accepted Accepted c d refl
+          (agreed.both Accepted Accepted c d (is_open_on a Accepted c h) (is_open_on b Accepted d g)));
     }
 
-pub agrees_as : {P : Type 0} (m : Peers P (List ℕ)) (w : World P (List ℕ)) → IsTrue (agrees (m.node_of w.a) (m.node_of w.b) w.links) ↔ Agreed m w
+pub agrees_as : {P : Type 0} (m : Peers P (List ℕ)) (w : World P (List ℕ)) →
+    IsTrue (agrees (m.node_of w.a) (m.node_of w.b) w.links) ↔ Agreed m w
 agrees_as m w =
     let a = m.node_of w.a in
     let b = m.node_of w.b in
@@ -183,16 +230,19 @@ agrees_as m w =
     let x = are_agreed true w.links (open_as Initiated a) (open_as Accepted b) in
     let y = are_agreed true w.links (open_as Accepted a) (open_as Initiated b) in
     let z = are_agreed false w.links (open_as Accepted a) (open_as Accepted b) in (
-      λ h. let p = tests_of t u v x y z h in tests_agree m w (record { one_a = p.0; one_b = p.1; ii = p.2; ia = p.3; ai = p.4; aa = p.5 }),
+      λ h. let p = tests_of t u v x y z h in
+          tests_agree m w (record { one_a = p.0; one_b = p.1; ii = p.2; ia = p.3; ai = p.4; aa = p.5 }),
       λ h. let p = agree_tests m w h in of_tests t u v x y z p.one_a p.one_b p.ii p.ia p.ai p.aa,
     )
 
 -- the connection that both are open on
-both_if : (b : Bool) (x y c : Conn) → (x.0 == y.0) ≡ b → (if b then Some x else None) ≡ Some c → (Some x ≡ Some c) × (Some y ≡ Some c)
+both_if : (b : Bool) (x y c : Conn) → (x.0 == y.0) ≡ b → (if b then Some x else None) ≡ Some c →
+    (Some x ≡ Some c) × (Some y ≡ Some c)
 both_if true x y c e h = (h, ap (λ n. Some (conn n)) (sym (same_number x.0 y.0 e)) ∙ h)
 both_if false x y c e h = cc
 
-none_if : (b : Bool) (x y : Conn) (c : ℕ) → (x.0 == y.0) ≡ b → (if b then Some x else None) ≡ None → Some x ≡ Some (conn c) → Some y ≡ Some (conn c) → ⊥
+none_if : (b : Bool) (x y : Conn) (c : ℕ) → (x.0 == y.0) ≡ b → (if b then Some x else None) ≡ None →
+    Some x ≡ Some (conn c) → Some y ≡ Some (conn c) → ⊥
 none_if true x y c e h hx hy = cc
 none_if false x y c e h hx hy = other_number x.0 y.0 e (some_number x c hx ∙ sym (some_number y c hy))
 
@@ -221,24 +271,33 @@ opens_on a b r r' c h =
 
 pub found_open : (a b : Node) (c : Conn) → open_on_both a b ≡ Some c → AreOpenOn a b c.0
 found_open a b c h =
-    elim (first_some (first (shared (open_as Initiated a) (open_as Accepted b)) (shared (open_as Accepted a) (open_as Initiated b))) (first (shared (open_as Initiated a) (open_as Initiated b)) (shared (open_as Accepted a) (open_as Accepted b))) c h) [
+    elim (first_some
+    (first (shared (open_as Initiated a) (open_as Accepted b)) (shared (open_as Accepted a) (open_as Initiated b)))
+    (first (shared (open_as Initiated a) (open_as Initiated b)) (shared (open_as Accepted a) (open_as Accepted b)))
+    c h) [
       | inl g ↦
-          elim (first_some (shared (open_as Initiated a) (open_as Accepted b)) (shared (open_as Accepted a) (open_as Initiated b)) c g) [
+          elim (first_some (shared (open_as Initiated a) (open_as Accepted b))
+          (shared (open_as Accepted a) (open_as Initiated b)) c g) [
             | inl e ↦ opens_on a b Initiated Accepted c e
             | inr e ↦ opens_on a b Accepted Initiated c e
           ]
       | inr g ↦
-          elim (first_some (shared (open_as Initiated a) (open_as Initiated b)) (shared (open_as Accepted a) (open_as Accepted b)) c g) [
+          elim (first_some (shared (open_as Initiated a) (open_as Initiated b))
+          (shared (open_as Accepted a) (open_as Accepted b)) c g) [
             | inl e ↦ opens_on a b Initiated Initiated c e
             | inr e ↦ opens_on a b Accepted Accepted c e
           ]
     ]
 
 none_by_role : (a b : Node) (r r' : Role) (c : ℕ) → open_on_both a b ≡ None → IsOpenOn a r c → IsOpenOn b r' c → ⊥
-none_by_role a b Initiated Accepted c h oa ob = shared_none _ _ c (first_none _ _ (first_none _ _ h).0).0 (open_on_is a Initiated c oa) (open_on_is b Accepted c ob)
-none_by_role a b Accepted Initiated c h oa ob = shared_none _ _ c (first_none _ _ (first_none _ _ h).0).1 (open_on_is a Accepted c oa) (open_on_is b Initiated c ob)
-none_by_role a b Initiated Initiated c h oa ob = shared_none _ _ c (first_none _ _ (first_none _ _ h).1).0 (open_on_is a Initiated c oa) (open_on_is b Initiated c ob)
-none_by_role a b Accepted Accepted c h oa ob = shared_none _ _ c (first_none _ _ (first_none _ _ h).1).1 (open_on_is a Accepted c oa) (open_on_is b Accepted c ob)
+none_by_role a b Initiated Accepted c h oa ob = shared_none _ _ c (first_none _ _ (first_none _ _ h).0).0
+    (open_on_is a Initiated c oa) (open_on_is b Accepted c ob)
+none_by_role a b Accepted Initiated c h oa ob = shared_none _ _ c (first_none _ _ (first_none _ _ h).0).1
+    (open_on_is a Accepted c oa) (open_on_is b Initiated c ob)
+none_by_role a b Initiated Initiated c h oa ob = shared_none _ _ c (first_none _ _ (first_none _ _ h).1).0
+    (open_on_is a Initiated c oa) (open_on_is b Initiated c ob)
+none_by_role a b Accepted Accepted c h oa ob = shared_none _ _ c (first_none _ _ (first_none _ _ h).1).1
+    (open_on_is a Accepted c oa) (open_on_is b Accepted c ob)
 
 pub none_open : (a b : Node) → open_on_both a b ≡ None → (c : ℕ) → AreOpenOn a b c → ⊥
 none_open a b h c both = none_by_role a b both.role_a both.role_b c h both.open_a both.open_b

@@ -8,12 +8,14 @@ use Rattle.dm_world.specs.declared.link.Link.{Link}
 use Rattle.dm_world.specs.Seen.{as_link, as_links, out_room}
 use Rattle.dm_world.specs.Rooms.{HasRoom}
 
-pub changed : (f : links.Link (List ℕ) → links.Link (List ℕ)) (c : ℕ) (ls : List Link) (x y : Link) → x ≡ get_or ls c x → c < length ls → as_link y ≡ f (as_link x) → as_links (set ls c y) ≡ change_at c f (as_links ls)
+pub changed : (f : links.Link (List ℕ) → links.Link (List ℕ)) (c : ℕ) (ls : List Link) (x y : Link) →
+    x ≡ get_or ls c x → c < length ls → as_link y ≡ f (as_link x) → as_links (set ls c y) ≡ change_at c f (as_links ls)
 changed f c [] x y at lt is = absurd (omega arith)
 changed f zero (l ∷ ls) x y at lt is = ap (λ z. z ∷ as_links ls) (is ∙ ap (λ z. f (as_link z)) at)
 changed f (suc c) (l ∷ ls) x y at lt is = ap (λ z. as_link l ∷ z) (changed f c ls x y at (omega arith) is)
 
-pub not_changed : (f : links.Link (List ℕ) → links.Link (List ℕ)) (c : ℕ) (ls : List Link) → length ls ≤ c → as_links ls ≡ change_at c f (as_links ls)
+pub not_changed : (f : links.Link (List ℕ) → links.Link (List ℕ)) (c : ℕ) (ls : List Link) → length ls ≤ c →
+    as_links ls ≡ change_at c f (as_links ls)
 not_changed f c [] h = refl
 not_changed f zero (l ∷ ls) h = absurd (omega arith)
 not_changed f (suc c) (l ∷ ls) h = ap (λ z. as_link l ∷ z) (not_changed f c ls (omega arith))
@@ -26,14 +28,16 @@ less s n m d [] le has = has
 less s n m zero (l ∷ ls) le has = le_trans n m (out_room s l) le has
 less s n m (suc d) (l ∷ ls) le has = less s n m d ls le has
 
-pub room_moves : (s : links.Side) (n m c d : ℕ) (ls : List Link) (x y : Link) → x ≡ get_or ls c x → n ≤ m → (m ≤ out_room s x → n ≤ out_room s y) → HasRoom s ls m d → HasRoom s (set ls c y) n d
+pub room_moves : (s : links.Side) (n m c d : ℕ) (ls : List Link) (x y : Link) → x ≡ get_or ls c x → n ≤ m →
+    (m ≤ out_room s x → n ≤ out_room s y) → HasRoom s ls m d → HasRoom s (set ls c y) n d
 room_moves s n m c d [] x y at le moves has = has
 room_moves s n m zero zero (l ∷ ls) x y at le moves has = moves (subst (λ z. m ≤ out_room s z) (sym at) has)
 room_moves s n m zero (suc d) (l ∷ ls) x y at le moves has = less s n m d ls le has
 room_moves s n m (suc c) zero (l ∷ ls) x y at le moves has = le_trans n m (out_room s l) le has
 room_moves s n m (suc c) (suc d) (l ∷ ls) x y at le moves has = room_moves s n m c d ls x y at le moves has
 
-pub same_links : (c : ℕ) (ls : List Link) (x y : Link) → x ≡ get_or ls c x → as_link y ≡ as_link x → as_links (set ls c y) ≡ as_links ls
+pub same_links : (c : ℕ) (ls : List Link) (x y : Link) → x ≡ get_or ls c x → as_link y ≡ as_link x →
+    as_links (set ls c y) ≡ as_links ls
 same_links c [] x y at is = refl
 same_links zero (l ∷ ls) x y at is = ap (λ z. z ∷ as_links ls) (is ∙ ap (λ z. as_link z) at)
 same_links (suc c) (l ∷ ls) x y at is = ap (λ z. as_link l ∷ z) (same_links c ls x y at is)
@@ -61,7 +65,8 @@ on_err (Ok x) f h = h
 on_err (Err e) f h = f h
 
 -- what is said of the link of a number
-pub at_number : (P : links.Link (List ℕ) → Type 0) (c : ℕ) (ls : List Link) (x : Link) → x ≡ get_or ls c x → c < length ls →
+pub at_number : (P : links.Link (List ℕ) → Type 0) (c : ℕ) (ls : List Link) (x : Link) → x ≡ get_or ls c x →
+    c < length ls →
     IfSome (slice_get (as_links ls) c) P → P (as_link x)
 at_number P c [] x at lt has = absurd (omega arith)
 at_number P zero (l ∷ ls) x at lt has = subst (λ z. P (as_link z)) (sym at) has

@@ -49,7 +49,8 @@ pub fed_whole : (n : ℕ) (x : List ℕ) (held copied fed : Stream) → held ≡
     fed ≡ holding x
 fed_whole n x held copied fed holds copy is =
     is
-    ∙ ap (λ (s : List ℕ). record { octets = copied.octets ++ s; max = copied.max; fault = copied.fault }) (take_rest x n)
+    ∙ ap (λ (s : List ℕ). record { octets = copied.octets ++ s; max = copied.max; fault = copied.fault })
+    (take_rest x n)
     ∙ ap (λ (o : Stream). record { octets = o.octets ++ drop n x; max = o.max; fault = o.fault }) (copy ∙ holds)
     ∙ ap holding (take-append-drop n x)
 

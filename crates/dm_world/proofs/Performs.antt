@@ -13,11 +13,14 @@ use Rattle.dm_pair.specs.Octets.{as_action, as_actions}
 use Rattle.dm_world.specs.Rooms.{HasRoom, HasRoomFor}
 use Rattle.dm_world.proofs.Changed.{less}
 
-pub took : {X : Type 0} (items new : List X) (x : X) → Some x ≡ slice_get items 0 → new ≡ remove items 0 → items ≡ x ∷ new
+pub took : {X : Type 0} (items new : List X) (x : X) → Some x ≡ slice_get items 0 → new ≡ remove items 0 →
+    items ≡ x ∷ new
 took [] new x at rest = cc
 took (y ∷ ys) new x at rest = let same : x ≡ y = cc in ap (λ z. z ∷ ys) (sym same) ∙ ap (λ z. x ∷ z) (sym rest)
 
-pub performed_step : (s : Side) (a : Action (List ℕ)) (rest : List (Action (List ℕ))) (ls next : List (links.Link (List ℕ))) → next ≡ perform s (a ∷ []) ls → perform s rest next ≡ perform s (a ∷ rest) ls
+pub performed_step : (s : Side) (a : Action (List ℕ)) (rest : List (Action (List ℕ)))
+    (ls next : List (links.Link (List ℕ))) → next ≡ perform s (a ∷ []) ls →
+    perform s rest next ≡ perform s (a ∷ rest) ls
 performed_step s (Connect c) rest ls next is = ap (λ l. perform s rest l) is
 performed_step s (Send c m) rest ls next is = ap (λ l. perform s rest l) is
 performed_step s (Close c) rest ls next is = ap (λ l. perform s rest l) is
@@ -46,19 +49,24 @@ sends_first c HandsUp os h = cc
 one_more : (s : Side) (n c : ℕ) (ls : List Link) → HasRoom s ls (suc n) c → HasRoom s ls (n + 1) c
 one_more s n c ls h = subst (λ k. HasRoom s ls k c) (sym (add-one n)) h
 
-pub room_one : (s : Side) (a : Action (List ℕ)) (rest : List (Action (List ℕ))) (ls : List Link) → HasRoomFor s ls (a ∷ rest) → (c : ℕ) → IsTrue (sends_at c (order_of a ∷ [])) → HasRoom s ls 1 c
+pub room_one : (s : Side) (a : Action (List ℕ)) (rest : List (Action (List ℕ))) (ls : List Link) →
+    HasRoomFor s ls (a ∷ rest) → (c : ℕ) → IsTrue (sends_at c (order_of a ∷ [])) → HasRoom s ls 1 c
 room_one s a rest ls h c sends =
     less s 1 (suc (length rest)) c ls (omega arith) (h c (sends_first c (order_of a) (map order_of rest) sends))
 
-pub room_rest : (s : Side) (a : Action (List ℕ)) (rest : List (Action (List ℕ))) (ls next : List Link) → HasRoomFor s ls (a ∷ rest) → ((n c : ℕ) → HasRoom s ls (n + 1) c → HasRoom s next n c) → HasRoomFor s next rest
+pub room_rest : (s : Side) (a : Action (List ℕ)) (rest : List (Action (List ℕ))) (ls next : List Link) →
+    HasRoomFor s ls (a ∷ rest) → ((n c : ℕ) → HasRoom s ls (n + 1) c → HasRoom s next n c) → HasRoomFor s next rest
 room_rest s a rest ls next h keeps c sends =
     keeps (length rest) c (one_more s (length rest) c ls (h c (sends_later c (order_of a) (map order_of rest) sends)))
 
 -- one turn over the actions
-pub room_now : (s : Side) (items new : List declared_action.Action) (x : declared_action.Action) (ls : List Link) → items ≡ x ∷ new → HasRoomFor s ls (as_actions items) → HasRoomFor s ls (as_action x ∷ as_actions new)
+pub room_now : (s : Side) (items new : List declared_action.Action) (x : declared_action.Action) (ls : List Link) →
+    items ≡ x ∷ new → HasRoomFor s ls (as_actions items) → HasRoomFor s ls (as_action x ∷ as_actions new)
 room_now s items new x ls is h = subst (λ l. HasRoomFor s ls (as_actions l)) is h
 
-pub performed_turn : (s : Side) (items new : List declared_action.Action) (x : declared_action.Action) (ls next : List (links.Link (List ℕ))) → items ≡ x ∷ new → next ≡ perform s (as_action x ∷ []) ls → perform s (as_actions new) next ≡ perform s (as_actions items) ls
+pub performed_turn : (s : Side) (items new : List declared_action.Action) (x : declared_action.Action)
+    (ls next : List (links.Link (List ℕ))) → items ≡ x ∷ new → next ≡ perform s (as_action x ∷ []) ls →
+    perform s (as_actions new) next ≡ perform s (as_actions items) ls
 performed_turn s items new x ls next is one =
     performed_step s (as_action x) (as_actions new) ls next one ∙ ap (λ l. perform s (as_actions l) ls) (sym is)
 
@@ -66,7 +74,8 @@ pub none_left : {X : Type 0} (items : List X) → None ≡ slice_get items 0 →
 none_left [] h = refl
 none_left (x ∷ xs) h = cc
 
-pub performed_end : (s : Side) (items : List declared_action.Action) (ls : List (links.Link (List ℕ))) → None ≡ slice_get items 0 → ls ≡ perform s (as_actions items) ls
+pub performed_end : (s : Side) (items : List declared_action.Action) (ls : List (links.Link (List ℕ))) →
+    None ≡ slice_get items 0 → ls ≡ perform s (as_actions items) ls
 performed_end s items ls h = ap (λ l. perform s (as_actions l) ls) (sym (none_left items h))
 
 -- what is sent are frames, the first action's and the others'

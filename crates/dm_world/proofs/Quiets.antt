@@ -14,16 +14,21 @@ pub quiet_all : (ls : List Link) → list_all is_quiet_link (as_links ls) ≡ qu
 quiet_all [] = refl
 quiet_all (l ∷ ls) = refl
 
-quiet_suc : (i : ℕ) (ls : List Link) (x : Link) → i < length ls → x ≡ get_or ls i x → quiet_from i ls ≡ (is_quiet_link (as_link x) && quiet_from (suc i) ls)
+quiet_suc : (i : ℕ) (ls : List Link) (x : Link) → i < length ls → x ≡ get_or ls i x →
+    quiet_from i ls ≡ (is_quiet_link (as_link x) && quiet_from (suc i) ls)
 quiet_suc i [] x lt at = absurd (omega arith)
-quiet_suc zero (l ∷ ls) x lt at = ap (λ z. is_quiet_link (as_link z) && list_all is_quiet_link (as_links ls)) (sym at) ∙ ap (λ b. is_quiet_link (as_link x) && b) (quiet_all ls)
+quiet_suc zero (l ∷ ls) x lt at = ap (λ z. is_quiet_link (as_link z) && list_all is_quiet_link (as_links ls)) (sym at) ∙
+    ap (λ b. is_quiet_link (as_link x) && b) (quiet_all ls)
 quiet_suc (suc i) (l ∷ ls) x lt at = quiet_suc i ls x (omega arith) at
 
 -- the link at i is quiet, or it isn't
-pub quiet_more : (i : ℕ) (ls : List Link) (x : Link) → i < length ls → x ≡ get_or ls i x → is_quiet_link (as_link x) ≡ true → quiet_from i ls ≡ quiet_from (i + 1) ls
-quiet_more i ls x lt at is = quiet_suc i ls x lt at ∙ ap (λ b. b && quiet_from (suc i) ls) is ∙ ap (λ n. quiet_from n ls) (sym (add-one i))
+pub quiet_more : (i : ℕ) (ls : List Link) (x : Link) → i < length ls → x ≡ get_or ls i x →
+    is_quiet_link (as_link x) ≡ true → quiet_from i ls ≡ quiet_from (i + 1) ls
+quiet_more i ls x lt at is = quiet_suc i ls x lt at ∙ ap (λ b. b && quiet_from (suc i) ls) is ∙
+    ap (λ n. quiet_from n ls) (sym (add-one i))
 
-pub quiet_no : (i : ℕ) (ls : List Link) (x : Link) → i < length ls → x ≡ get_or ls i x → is_quiet_link (as_link x) ≡ false → quiet_from i ls ≡ false
+pub quiet_no : (i : ℕ) (ls : List Link) (x : Link) → i < length ls → x ≡ get_or ls i x →
+    is_quiet_link (as_link x) ≡ false → quiet_from i ls ≡ false
 quiet_no i ls x lt at is = quiet_suc i ls x lt at ∙ ap (λ b. b && quiet_from (suc i) ls) is
 
 pub quiet_end : (i : ℕ) (ls : List Link) → length ls ≤ i → quiet_from i ls ≡ true

@@ -29,25 +29,30 @@ pub record SendLaws : Type 0 where
   pub keeps : EachStepKeepsShape
 
 -- no order, no message
-send_case : (b : Bool) (o : machine.Order) (more : List machine.Order) (rest : Bool) → with_order (if_ordered b o) more ≡ [] → (more ≡ [] → rest ≡ false) → (b || rest) ≡ false
+send_case : (b : Bool) (o : machine.Order) (more : List machine.Order) (rest : Bool) →
+    with_order (if_ordered b o) more ≡ [] → (more ≡ [] → rest ≡ false) → (b || rest) ≡ false
 send_case true o more rest h f = cc
 send_case false o more rest h f = f h
 
-other_case : (b : Bool) (o : machine.Order) (more : List machine.Order) (rest : Bool) → with_order (if_ordered b o) more ≡ [] → (more ≡ [] → rest ≡ false) → rest ≡ false
+other_case : (b : Bool) (o : machine.Order) (more : List machine.Order) (rest : Bool) →
+    with_order (if_ordered b o) more ≡ [] → (more ≡ [] → rest ≡ false) → rest ≡ false
 other_case true o more rest h f = cc
 other_case false o more rest h f = f h
 
 unordered : (c : ℕ) (l : List Command) → orders_to (conn c) l ≡ [] → sends_at c (map order_of_command l) ≡ false
 unordered c [] h = refl
-unordered c (command.Connect d ∷ l) h = other_case (d.0 == c) machine.Connects (orders_to (conn c) l) _ h (unordered c l)
+unordered c (command.Connect d ∷ l) h = other_case (d.0 == c) machine.Connects (orders_to (conn c) l) _ h
+    (unordered c l)
 unordered c (command.SendCer d ∷ l) h = send_case (d.0 == c) machine.SendsCer (orders_to (conn c) l) _ h (unordered c l)
 unordered c (command.SendCea d ∷ l) h = send_case (d.0 == c) machine.SendsCea (orders_to (conn c) l) _ h (unordered c l)
-unordered c (command.SendRefusal d ∷ l) h = send_case (d.0 == c) machine.SendsRefusal (orders_to (conn c) l) _ h (unordered c l)
+unordered c (command.SendRefusal d ∷ l) h = send_case (d.0 == c) machine.SendsRefusal (orders_to (conn c) l) _ h
+    (unordered c l)
 unordered c (command.SendDwr d ∷ l) h = send_case (d.0 == c) machine.SendsDwr (orders_to (conn c) l) _ h (unordered c l)
 unordered c (command.SendDwa d ∷ l) h = send_case (d.0 == c) machine.SendsDwa (orders_to (conn c) l) _ h (unordered c l)
 unordered c (command.SendDpr d ∷ l) h = send_case (d.0 == c) machine.SendsDpr (orders_to (conn c) l) _ h (unordered c l)
 unordered c (command.SendDpa d ∷ l) h = send_case (d.0 == c) machine.SendsDpa (orders_to (conn c) l) _ h (unordered c l)
-unordered c (command.SendSubmit d ∷ l) h = send_case (d.0 == c) machine.SendsSubmit (orders_to (conn c) l) _ h (unordered c l)
+unordered c (command.SendSubmit d ∷ l) h = send_case (d.0 == c) machine.SendsSubmit (orders_to (conn c) l) _ h
+    (unordered c l)
 unordered c (command.Close d ∷ l) h = other_case (d.0 == c) machine.Closes (orders_to (conn c) l) _ h (unordered c l)
 unordered c (command.Up ∷ l) h = unordered c l h
 
@@ -79,20 +84,31 @@ both_true true b h g = g
 both_true false b h g = cc
 
 abbrev Alone : machine.Concern → Hold → Hold → List machine.Order → Type 0
-Alone k before after orders = IsTrue (is_hold machine.NotHeld before && not (is_named k)) → (after ≡ machine.NotHeld) × (orders ≡ [])
+Alone k before after orders = IsTrue (is_hold machine.NotHeld before && not (is_named k)) →
+    (after ≡ machine.NotHeld) × (orders ≡ [])
 
-step_unsent : (p next : Peer) (e : Event (List ℕ)) (actions : List declared_action.Action) (c : ℕ) → LeavesOthersAlone → IsTrue (is_shaped p.standing.core) → Steps octet_peers p e (as_actions actions) next → tie_of p.standing.core c ≡ Unheld → concern_by e (conn c) ≡ Elsewhere → sends_at c (map order_of (as_actions actions)) ≡ false
+step_unsent : (p next : Peer) (e : Event (List ℕ)) (actions : List declared_action.Action) (c : ℕ) → LeavesOthersAlone →
+    IsTrue (is_shaped p.standing.core) → Steps octet_peers p e (as_actions actions) next →
+    tie_of p.standing.core c ≡ Unheld → concern_by e (conn c) ≡ Elsewhere →
+    sends_at c (map order_of (as_actions actions)) ≡ false
 step_unsent p next e actions c law shaped step unheld elsewhere =
     let at : AtConnection Alone p.standing.core step.input (conn c) (moves.Moved step.commands next.standing.core) =
-    subst (λ (o : moves.Outcome). AtConnection Alone p.standing.core step.input (conn c) o) step.moves (law p.standing.core step.input step.wins (conn c) shaped) in
-    let orders = (at (both_true (is_hold machine.NotHeld (hold_of p.standing.core (conn c))) (not (is_named (machine.concern_of step.input (conn c))))
+    subst (λ (o : moves.Outcome). AtConnection Alone p.standing.core step.input (conn c) o) step.moves
+    (law p.standing.core step.input step.wins (conn c) shaped) in
+    let orders =
+    (at (both_true (is_hold machine.NotHeld (hold_of p.standing.core (conn c)))
+    (not (is_named (machine.concern_of step.input (conn c))))
     (unheld_is (hold_of p.standing.core (conn c)) unheld)
     (elsewhere_is (machine.concern_of step.input (conn c)) (step.concerns (conn c) ∙ elsewhere)))).1 in
     ap (λ (os : List Order). sends_at c os) step.orders ∙ unordered c step.commands orders
 
-reply_unsent : (p next : Peer) (e : Event (List ℕ)) (actions : List declared_action.Action) (c : ℕ) → SendLaws → IsTrue (is_shaped p.standing.core) → octet_peers.reply p e ≡ Acts (as_actions actions) next → tie_of p.standing.core c ≡ Unheld → concern_by e (conn c) ≡ Elsewhere → sends_at c (map order_of (as_actions actions)) ≡ false
+reply_unsent : (p next : Peer) (e : Event (List ℕ)) (actions : List declared_action.Action) (c : ℕ) → SendLaws →
+    IsTrue (is_shaped p.standing.core) → octet_peers.reply p e ≡ Acts (as_actions actions) next →
+    tie_of p.standing.core c ≡ Unheld → concern_by e (conn c) ≡ Elsewhere →
+    sends_at c (map order_of (as_actions actions)) ≡ false
 reply_unsent p next e actions c laws shaped is unheld elsewhere =
-    let follows : Follows octet_peers p e (Acts (as_actions actions) next) = subst (λ (r : Reply Peer (List ℕ)). Follows octet_peers p e r) is (laws.machine.follows p e) in
+    let follows : Follows octet_peers p e (Acts (as_actions actions) next) =
+    subst (λ (r : Reply Peer (List ℕ)). Follows octet_peers p e r) is (laws.machine.follows p e) in
     elim follows [
       | inl step ↦ step_unsent p next e actions c laws.alone shaped step unheld elsewhere
       | inr drop ↦ ap (λ l. sends_at c (map order_of l)) drop.silent
@@ -106,16 +122,23 @@ length_mapped f (x ∷ xs) = ap (λ n. suc n) (length_mapped f xs)
 le_of : (a b : ℕ) → nat_le a b ≡ true → a ≤ b
 le_of a b h = grind (arith, nat_tests)
 
-step_few : (p next : Peer) (e : Event (List ℕ)) (actions : List declared_action.Action) → EachStepKeepsShape → IsTrue (is_shaped p.standing.core) → Steps octet_peers p e (as_actions actions) next → length (as_actions actions) ≤ 4
+step_few : (p next : Peer) (e : Event (List ℕ)) (actions : List declared_action.Action) → EachStepKeepsShape →
+    IsTrue (is_shaped p.standing.core) → Steps octet_peers p e (as_actions actions) next →
+    length (as_actions actions) ≤ 4
 step_few p next e actions law shaped step =
-    let keeps : KeepsShape (moves.Moved step.commands next.standing.core) = subst (λ (o : moves.Outcome). KeepsShape o) step.moves (law p.standing.core step.input step.wins shaped) in
+    let keeps : KeepsShape (moves.Moved step.commands next.standing.core) = subst (λ (o : moves.Outcome). KeepsShape o)
+    step.moves (law p.standing.core step.input step.wins shaped) in
     let few = le_of (length step.commands) 4 keeps.1 in
-    let same = sym (length_mapped order_of (as_actions actions)) ∙ ap (λ (os : List Order). length os) step.orders ∙ length_mapped order_of_command step.commands in
+    let same = sym (length_mapped order_of (as_actions actions)) ∙ ap (λ (os : List Order). length os) step.orders ∙
+    length_mapped order_of_command step.commands in
     subst (λ n. n ≤ 4) (sym same) few
 
-reply_few : (p next : Peer) (e : Event (List ℕ)) (actions : List declared_action.Action) → SendLaws → IsTrue (is_shaped p.standing.core) → octet_peers.reply p e ≡ Acts (as_actions actions) next → length (as_actions actions) ≤ 4
+reply_few : (p next : Peer) (e : Event (List ℕ)) (actions : List declared_action.Action) → SendLaws →
+    IsTrue (is_shaped p.standing.core) → octet_peers.reply p e ≡ Acts (as_actions actions) next →
+    length (as_actions actions) ≤ 4
 reply_few p next e actions laws shaped is =
-    let follows : Follows octet_peers p e (Acts (as_actions actions) next) = subst (λ (r : Reply Peer (List ℕ)). Follows octet_peers p e r) is (laws.machine.follows p e) in
+    let follows : Follows octet_peers p e (Acts (as_actions actions) next) =
+    subst (λ (r : Reply Peer (List ℕ)). Follows octet_peers p e r) is (laws.machine.follows p e) in
     elim follows [
       | inl step ↦ step_few p next e actions laws.keeps shaped step
       | inr drop ↦ let none : length (as_actions actions) ≡ 0 = ap (λ l. length l) drop.silent in omega arith
@@ -153,7 +176,10 @@ or_right true b h = refl
 or_right false b h = h
 
 -- what is sent at an event has room
-pub room_for_reply : (s : Side) (ls : List Link) (p next : Peer) (e : Event (List ℕ)) (actions : List declared_action.Action) → SendLaws → IsTrue (is_shaped p.standing.core) → HasRoomToSend s ls p.standing.core (named e) → octet_peers.reply p e ≡ Acts (as_actions actions) next → HasRoomFor s ls (as_actions actions)
+pub room_for_reply : (s : Side) (ls : List Link) (p next : Peer) (e : Event (List ℕ))
+    (actions : List declared_action.Action) → SendLaws → IsTrue (is_shaped p.standing.core) →
+    HasRoomToSend s ls p.standing.core (named e) → octet_peers.reply p e ≡ Acts (as_actions actions) next →
+    HasRoomFor s ls (as_actions actions)
 room_for_reply s ls p next e actions laws shaped room is c sends =
     let n = p.standing.core in
     let held = is_on (held_as Initiated n.held) c || is_on (held_as Accepted n.held) c in
@@ -164,15 +190,21 @@ room_for_reply s ls p next e actions laws shaped room is c sends =
       | inr unheld ↦
           elim (named_decided e c) [
             | inl there ↦ room c (or_right held (is_on (named e) c) there)
-            | inr elsewhere ↦ let clash : true ≡ false = sym sends ∙ reply_unsent p next e actions c laws shaped is unheld elsewhere in absurd (cc)
+            | inr elsewhere ↦ let clash : true ≡ false = sym sends ∙
+                reply_unsent p next e actions c laws shaped is unheld elsewhere in absurd (cc)
           ]
     ])
 
 -- a reply keeps the node's shape
-pub reply_shaped : (p next : Peer) (e : Event (List ℕ)) (actions : List declared_action.Action) → SendLaws → IsTrue (is_shaped p.standing.core) → octet_peers.reply p e ≡ Acts (as_actions actions) next → IsTrue (is_shaped next.standing.core)
+pub reply_shaped : (p next : Peer) (e : Event (List ℕ)) (actions : List declared_action.Action) → SendLaws →
+    IsTrue (is_shaped p.standing.core) → octet_peers.reply p e ≡ Acts (as_actions actions) next →
+    IsTrue (is_shaped next.standing.core)
 reply_shaped p next e actions laws shaped is =
-    let follows : Follows octet_peers p e (Acts (as_actions actions) next) = subst (λ (r : Reply Peer (List ℕ)). Follows octet_peers p e r) is (laws.machine.follows p e) in
+    let follows : Follows octet_peers p e (Acts (as_actions actions) next) =
+    subst (λ (r : Reply Peer (List ℕ)). Follows octet_peers p e r) is (laws.machine.follows p e) in
     elim follows [
-      | inl step ↦ (subst (λ (o : moves.Outcome). KeepsShape o) step.moves (laws.keeps p.standing.core step.input step.wins shaped)).0
+      | inl step ↦
+          (subst (λ (o : moves.Outcome). KeepsShape o) step.moves
+          (laws.keeps p.standing.core step.input step.wins shaped)).0
       | inr drop ↦ subst (λ (n : Node). IsTrue (is_shaped n)) (sym drop.stays) shaped
     ]

@@ -32,18 +32,25 @@ or_false_right : (a b : Bool) → (a || b) ≡ false → b ≡ false
 or_false_right true b h = cc
 or_false_right false b h = h
 
-none_sent : (c : ℕ) (l : List declared_action.Action) → list_any takes_memory l ≡ false → sends_at c (map order_of (as_actions l)) ≡ false
+none_sent : (c : ℕ) (l : List declared_action.Action) → list_any takes_memory l ≡ false →
+    sends_at c (map order_of (as_actions l)) ≡ false
 none_sent c [] h = refl
-none_sent c (action.Connect d ∷ l) h = none_sent c l (or_false_right (takes_memory (action.Connect d)) (list_any takes_memory l) h)
-none_sent c (action.Close d ∷ l) h = none_sent c l (or_false_right (takes_memory (action.Close d)) (list_any takes_memory l) h)
+none_sent c (action.Connect d ∷ l) h =
+    none_sent c l (or_false_right (takes_memory (action.Connect d)) (list_any takes_memory l) h)
+none_sent c (action.Close d ∷ l) h =
+    none_sent c l (or_false_right (takes_memory (action.Close d)) (list_any takes_memory l) h)
 none_sent c (action.Send d s ∷ l) h = cc (or_false_left (takes_memory (action.Send d s)) (list_any takes_memory l) h)
-none_sent c (action.Up s ∷ l) h = none_sent c l (or_false_right (takes_memory (action.Up s)) (list_any takes_memory l) h)
+none_sent c (action.Up s ∷ l) h =
+    none_sent c l (or_false_right (takes_memory (action.Up s)) (list_any takes_memory l) h)
 
 -- actions that take no memory need no room
-pub silent_room : (s : Side) (e : told.PeerEvent) (old : Net) (new : Pair) (actions : ArrayVec declared_action.Action) (ls : List Link) → SilentTakesNone → AreShaped old → is_silent (peer_of s old.pair) e ≡ true → IsAnswerOf s e (Some actions) old.pair new → HasRoomFor s ls (as_actions actions.items)
+pub silent_room : (s : Side) (e : told.PeerEvent) (old : Net) (new : Pair) (actions : ArrayVec declared_action.Action)
+    (ls : List Link) → SilentTakesNone → AreShaped old → is_silent (peer_of s old.pair) e ≡ true →
+    IsAnswerOf s e (Some actions) old.pair new → HasRoomFor s ls (as_actions actions.items)
 silent_room s e old new actions ls law shaped silent answer =
     let p = peer_of s old.pair in
-    let none : list_any takes_memory actions.items ≡ false = ap wants_memory (sym answer.0) ∙ law p e (shaped_of s old shaped) silent in
+    let none : list_any takes_memory actions.items ≡ false = ap wants_memory (sym answer.0) ∙
+    law p e (shaped_of s old shaped) silent in
     λ c sends. let clash : true ≡ false = sym sends ∙ none_sent c actions.items none in absurd (cc)
 
 -- the machine never refuses for want of memory
@@ -53,7 +60,8 @@ no_fault p e (moves.Refused refusal.NotClosed) h = cc
 no_fault p e (moves.Refused refusal.NotOpen) h = cc
 
 -- at a Timeout memory can't be wanted
-pub timeout_wants_none : (s : Side) (old : Net) → SilentTakesNone → AreShaped old → IsWant (acts (peer_of s old.pair) told.Timeout) → ⊥
+pub timeout_wants_none : (s : Side) (old : Net) → SilentTakesNone → AreShaped old →
+    IsWant (acts (peer_of s old.pair) told.Timeout) → ⊥
 timeout_wants_none s old law shaped (inl wants) =
     let p = peer_of s old.pair in
     let clash : true ≡ false = sym wants ∙ law p told.Timeout (shaped_of s old shaped) refl in cc

@@ -44,7 +44,8 @@ event_same (told.Submit s) = refl
 event_same (told.Arrived c s) = refl
 
 -- what a peer answers is its reply
-pub reply_is : (p : Peer) (e : told.PeerEvent) (o : Outcome) → acts p e ≡ o → octet_peers.reply p (as_event e) ≡ as_reply o
+pub reply_is : (p : Peer) (e : told.PeerEvent) (o : Outcome) → acts p e ≡ o →
+    octet_peers.reply p (as_event e) ≡ as_reply o
 reply_is p e o is = ap (λ x. as_reply (acts p x)) (event_same e) ∙ ap as_reply is
 
 pub shaped_of : (s : Side) (n : Net) → AreShaped n → IsTrue (is_shaped (peer_of s n.pair).standing.core)
@@ -55,31 +56,45 @@ peer_same : (s : Side) (n : Net) → peer_at s (as_world n) ≡ peer_of s n.pair
 peer_same A n = refl
 peer_same B n = refl
 
-world_is : (s : Side) (old new : Net) (next : Peer) (links : List (Link (List ℕ))) → peer_of s new.pair ≡ next → peer_of (flip s) new.pair ≡ peer_of (flip s) old.pair → as_links new.links.items ≡ links → with_peer s next links (as_world old) ≡ as_world new
+world_is : (s : Side) (old new : Net) (next : Peer) (links : List (Link (List ℕ))) → peer_of s new.pair ≡ next →
+    peer_of (flip s) new.pair ≡ peer_of (flip s) old.pair → as_links new.links.items ≡ links →
+    with_peer s next links (as_world old) ≡ as_world new
 world_is A old new next links is other ls = cc
 world_is B old new next links is other ls = cc
 
-world_same : (s : Side) (old new : Net) → peer_of s new.pair ≡ peer_of s old.pair → peer_of (flip s) new.pair ≡ peer_of (flip s) old.pair → as_links new.links.items ≡ as_links old.links.items → as_world new ≡ as_world old
+world_same : (s : Side) (old new : Net) → peer_of s new.pair ≡ peer_of s old.pair →
+    peer_of (flip s) new.pair ≡ peer_of (flip s) old.pair → as_links new.links.items ≡ as_links old.links.items →
+    as_world new ≡ as_world old
 world_same A old new is other ls = cc
 world_same B old new is other ls = cc
 
 -- the links after an event of a side
-abbrev pub links_after : Side → Event (List ℕ) → List declared_action.Action → Peer → List (Link (List ℕ)) → List (Link (List ℕ))
+abbrev pub links_after : Side → Event (List ℕ) → List declared_action.Action → Peer → List (Link (List ℕ)) →
+    List (Link (List ℕ))
 links_after s e actions next ls = settle s e next.standing.core (perform s (as_actions actions) (enter s e ls))
 
-pub done_step : (s : Side) (e : told.PeerEvent) (old new : Net) (actions : ArrayVec declared_action.Action) → IsAnswerOf s e (Some actions) old.pair new.pair → as_links new.links.items ≡ links_after s (as_event e) actions.items (peer_of s new.pair) (as_links old.links.items) → Effects effect.Done (worlds.told octet_peers s (as_event e) (as_world old)) (as_world old) (as_world new)
+pub done_step : (s : Side) (e : told.PeerEvent) (old new : Net) (actions : ArrayVec declared_action.Action) →
+    IsAnswerOf s e (Some actions) old.pair new.pair →
+    as_links new.links.items ≡ links_after s (as_event e) actions.items (peer_of s new.pair)
+    (as_links old.links.items) →
+    Effects effect.Done (worlds.told octet_peers s (as_event e) (as_world old)) (as_world old) (as_world new)
 done_step s e old new actions answer links =
     let w = as_world old in
     let next = peer_of s new.pair in
-    let put = puts_at_entry s (as_event e) w.links ++ puts_of s (as_actions actions.items) (enter s (as_event e) w.links) in
+    let put = puts_at_entry s (as_event e) w.links ++
+    puts_of s (as_actions actions.items) (enter s (as_event e) w.links) in
     let reply : octet_peers.reply (peer_at s w) (as_event e) ≡ Acts (as_actions actions.items) next =
-    ap (λ p. octet_peers.reply p (as_event e)) (peer_same s old) ∙ reply_is (peer_of s old.pair) e (Moved actions.items next) answer.0 in (
+    ap (λ p. octet_peers.reply p (as_event e)) (peer_same s old) ∙
+    reply_is (peer_of s old.pair) e (Moved actions.items next) answer.0 in (
       put,
       ap (λ r. answered octet_peers s (as_event e) w r) reply
-          ∙ ap (λ v. Done v put) (world_is s old new next (links_after s (as_event e) actions.items next (as_links old.links.items)) refl answer.1 links),
+          ∙ ap (λ v. Done v put)
+          (world_is s old new next (links_after s (as_event e) actions.items next (as_links old.links.items)) refl
+          answer.1 links),
     )
 
-settle_plain : (s : Side) (e : told.PeerEvent) (next : Peer) (ls : List (Link (List ℕ))) → is_plain e ≡ true → ls ≡ settle s (as_event e) next.standing.core ls
+settle_plain : (s : Side) (e : told.PeerEvent) (next : Peer) (ls : List (Link (List ℕ))) → is_plain e ≡ true →
+    ls ≡ settle s (as_event e) next.standing.core ls
 settle_plain s (told.Arrived c x) next ls h = cc
 settle_plain s (told.Start c) next ls h = refl
 settle_plain s (told.Stop c) next ls h = refl
@@ -90,52 +105,75 @@ settle_plain s (told.Nack c) next ls h = refl
 settle_plain s (told.Gone c) next ls h = refl
 settle_plain s (told.Submit x) next ls h = refl
 
-pub plain_links : (s : Side) (e : told.PeerEvent) (actions : List declared_action.Action) (next : Peer) (old roomy entered done : List (Link (List ℕ))) → is_plain e ≡ true → roomy ≡ old → entered ≡ enter s (as_event e) roomy → done ≡ perform s (as_actions actions) entered → done ≡ links_after s (as_event e) actions next old
+pub plain_links : (s : Side) (e : told.PeerEvent) (actions : List declared_action.Action) (next : Peer)
+    (old roomy entered done : List (Link (List ℕ))) → is_plain e ≡ true → roomy ≡ old →
+    entered ≡ enter s (as_event e) roomy → done ≡ perform s (as_actions actions) entered →
+    done ≡ links_after s (as_event e) actions next old
 plain_links s e actions next old roomy entered done plain room enters performs =
     performs
     ∙ ap (λ ls. perform s (as_actions actions) ls) (enters ∙ ap (λ ls. enter s (as_event e) ls) room)
     ∙ settle_plain s e next (perform s (as_actions actions) (enter s (as_event e) old)) plain
 
 -- what is sent has room, also after the event reached the side
-pub room_after : (s : Side) (e : told.PeerEvent) (old : Net) (new : Pair) (actions : ArrayVec declared_action.Action) (ls next : List declared_link.Link) → SendLaws → AreShaped old → HasRoomToSend s ls (peer_of s old.pair).standing.core (named (as_event e)) → IsAnswerOf s e (Some actions) old.pair new → ((n c : ℕ) → HasRoom s ls n c → HasRoom s next n c) → HasRoomFor s next (as_actions actions.items)
+pub room_after : (s : Side) (e : told.PeerEvent) (old : Net) (new : Pair) (actions : ArrayVec declared_action.Action)
+    (ls next : List declared_link.Link) → SendLaws → AreShaped old →
+    HasRoomToSend s ls (peer_of s old.pair).standing.core (named (as_event e)) →
+    IsAnswerOf s e (Some actions) old.pair new → ((n c : ℕ) → HasRoom s ls n c → HasRoom s next n c) →
+    HasRoomFor s next (as_actions actions.items)
 room_after s e old new actions ls next laws shaped room answer keeps =
     let p = peer_of s old.pair in
     let reply = reply_is p e (Moved actions.items (peer_of s new)) answer.0 in
-    let here = room_for_reply s ls p (peer_of s new) (as_event e) actions.items laws (shaped_of s old shaped) room reply in
+    let here = room_for_reply s ls p (peer_of s new) (as_event e) actions.items laws (shaped_of s old shaped) room
+    reply in
     λ c sends. keeps _ c (here c sends)
 
-pub room_seen : (s : Side) (ls : List declared_link.Link) (p q : Peer) (a b : Option Conn) → q ≡ p → b ≡ a → HasRoomToSend s ls q.standing.core b → HasRoomToSend s ls p.standing.core a
+pub room_seen : (s : Side) (ls : List declared_link.Link) (p q : Peer) (a b : Option Conn) → q ≡ p → b ≡ a →
+    HasRoomToSend s ls q.standing.core b → HasRoomToSend s ls p.standing.core a
 room_seen s ls p q a b is names h =
-    subst (λ (x : Peer). HasRoomToSend s ls x.standing.core a) is (subst (λ n. HasRoomToSend s ls q.standing.core n) names h)
+    subst (λ (x : Peer). HasRoomToSend s ls x.standing.core a) is
+    (subst (λ n. HasRoomToSend s ls q.standing.core n) names h)
 
 -- a refusal is ignored
-pub ignored_step : (s : Side) (e : told.PeerEvent) (old new : Net) → IsAnswerOf s e None old.pair new.pair → as_links new.links.items ≡ as_links old.links.items → Effects effect.Ignored (worlds.told octet_peers s (as_event e) (as_world old)) (as_world old) (as_world new)
+pub ignored_step : (s : Side) (e : told.PeerEvent) (old new : Net) → IsAnswerOf s e None old.pair new.pair →
+    as_links new.links.items ≡ as_links old.links.items →
+    Effects effect.Ignored (worlds.told octet_peers s (as_event e) (as_world old)) (as_world old) (as_world new)
 ignored_step s e old new answer links =
     let w = as_world old in
     let refused = answer.0.0 in
     let reply : octet_peers.reply (peer_at s w) (as_event e) ≡ Declines =
-    ap (λ p. octet_peers.reply p (as_event e)) (peer_same s old) ∙ reply_is (peer_of s old.pair) e (Refused refused.0) refused.1 in (
+    ap (λ p. octet_peers.reply p (as_event e)) (peer_same s old) ∙
+    reply_is (peer_of s old.pair) e (Refused refused.0) refused.1 in (
       ap (λ r. answered octet_peers s (as_event e) w r) reply,
       world_same s old new answer.0.1 answer.1 links,
     )
 
 -- a Start names the next link
 abbrev pub Starting : effect_of.Effect → ℕ → Side → Net → Net → Type 0
-Starting outcome n s old new = Effects outcome (worlds.told octet_peers s (Start (conn n)) (as_world old)) (as_world old) (as_world new)
+Starting outcome n s old new = Effects outcome (worlds.told octet_peers s (Start (conn n)) (as_world old))
+    (as_world old) (as_world new)
 
-pub started : (s : Side) (n : ℕ) (old new : Net) (actions : ArrayVec declared_action.Action) → n ≡ length (as_links old.links.items) → IsAnswerOf s (told.Start (conn n)) (Some actions) old.pair new.pair → as_links new.links.items ≡ perform s (as_actions actions.items) (as_links old.links.items ++ new_link s ∷ []) → Starting effect.Done (length (as_links old.links.items)) s old new
+pub started : (s : Side) (n : ℕ) (old new : Net) (actions : ArrayVec declared_action.Action) →
+    n ≡ length (as_links old.links.items) → IsAnswerOf s (told.Start (conn n)) (Some actions) old.pair new.pair →
+    as_links new.links.items ≡ perform s (as_actions actions.items) (as_links old.links.items ++ new_link s ∷ []) →
+    Starting effect.Done (length (as_links old.links.items)) s old new
 started s n old new actions is answer links =
     subst (λ k. Starting effect.Done k s old new) is (done_step s (told.Start (conn n)) old new actions answer links)
 
-pub not_started : (s : Side) (n : ℕ) (old new : Net) → n ≡ length (as_links old.links.items) → IsAnswerOf s (told.Start (conn n)) None old.pair new.pair → as_links new.links.items ≡ as_links old.links.items → Starting effect.Ignored (length (as_links old.links.items)) s old new
+pub not_started : (s : Side) (n : ℕ) (old new : Net) → n ≡ length (as_links old.links.items) →
+    IsAnswerOf s (told.Start (conn n)) None old.pair new.pair → as_links new.links.items ≡ as_links old.links.items →
+    Starting effect.Ignored (length (as_links old.links.items)) s old new
 not_started s n old new is answer links =
     subst (λ k. Starting effect.Ignored k s old new) is (ignored_step s (told.Start (conn n)) old new answer links)
 
-links_append : (ls : List declared_link.Link) (l : declared_link.Link) → as_links (ls ++ l ∷ []) ≡ as_links ls ++ as_link l ∷ []
+links_append : (ls : List declared_link.Link) (l : declared_link.Link) →
+    as_links (ls ++ l ∷ []) ≡ as_links ls ++ as_link l ∷ []
 links_append [] l = refl
 links_append (x ∷ ls) l = ap (λ z. as_link x ∷ z) (links_append ls l)
 
-pub start_links : (s : Side) (actions : List declared_action.Action) (old roomy pushed : List declared_link.Link) (done : List (Link (List ℕ))) (l : declared_link.Link) → roomy ≡ old → pushed ≡ roomy ++ l ∷ [] → as_link l ≡ new_link s → done ≡ perform s (as_actions actions) (as_links pushed) → done ≡ perform s (as_actions actions) (as_links old ++ new_link s ∷ [])
+pub start_links : (s : Side) (actions : List declared_action.Action) (old roomy pushed : List declared_link.Link)
+    (done : List (Link (List ℕ))) (l : declared_link.Link) → roomy ≡ old → pushed ≡ roomy ++ l ∷ [] →
+    as_link l ≡ new_link s → done ≡ perform s (as_actions actions) (as_links pushed) →
+    done ≡ perform s (as_actions actions) (as_links old ++ new_link s ∷ [])
 start_links s actions old roomy pushed done l room pushes new performs =
     performs
     ∙ ap (λ ls. perform s (as_actions actions) (as_links ls)) (pushes ∙ ap (λ ls. ls ++ l ∷ []) room)
@@ -146,7 +184,8 @@ pub no_octets : AreOctets []
 no_octets i = omega arith
 
 -- what is sent are frames
-pub sends_frames : (s : Side) (e : told.PeerEvent) (old : Net) (new : Pair) (actions : ArrayVec declared_action.Action) →
+pub sends_frames : (s : Side) (e : told.PeerEvent) (old : Net) (new : Pair)
+    (actions : ArrayVec declared_action.Action) →
     OctetsAreFrames → AreOctets (submitted_in e) → IsAnswerOf s e (Some actions) old.pair new →
     SendFrames (as_actions actions.items)
 sends_frames s e old new actions law octets answer =

@@ -11,7 +11,8 @@ fits a k h = grind (arith, nat_tests)
 not_fits : (a k : ℕ) → k < a → nat_le a k ≡ false
 not_fits a k h = grind (arith, nat_tests)
 
-whole_first : (k : ℕ) (x : List ℕ) (xs : List (List ℕ)) → length x ≤ k → whole_in length k (x ∷ xs) ≡ x ∷ whole_in length (k - length x) xs
+whole_first : (k : ℕ) (x : List ℕ) (xs : List (List ℕ)) → length x ≤ k →
+    whole_in length k (x ∷ xs) ≡ x ∷ whole_in length (k - length x) xs
 whole_first k x xs h = rw (fits (length x) k h) refl
 
 whole_none : (k : ℕ) (x : List ℕ) (xs : List (List ℕ)) → k < length x → whole_in length k (x ∷ xs) ≡ []
@@ -22,7 +23,8 @@ abbrev pub AreWhole : ℕ → ℕ → ℕ → List (List ℕ) → Type 0
 AreWhole i left kept xs = take i xs ++ whole_in length left (drop i xs) ≡ whole_in length kept xs
 
 -- the message at i fits
-pub whole_more : (i left kept : ℕ) (xs : List (List ℕ)) (x y : List ℕ) → AreWhole i left kept xs → i < length xs → y ≡ x → x ≡ get_or xs i x → length y ≤ left → AreWhole (i + 1) (left - length y) kept xs
+pub whole_more : (i left kept : ℕ) (xs : List (List ℕ)) (x y : List ℕ) → AreWhole i left kept xs → i < length xs →
+    y ≡ x → x ≡ get_or xs i x → length y ≤ left → AreWhole (i + 1) (left - length y) kept xs
 whole_more i left kept xs x y so h is at fit =
     let rest = whole_in length (left - length x) (drop (i + 1) xs) in
     let fits_x : length x ≤ left = subst (λ z. length z ≤ left) is fit in
@@ -36,7 +38,8 @@ whole_more i left kept xs x y so h is at fit =
     ∙ so)
 
 -- the message at i is the first that doesn't
-pub whole_stop : (i left kept : ℕ) (xs : List (List ℕ)) (x y : List ℕ) → AreWhole i left kept xs → i < length xs → y ≡ x → x ≡ get_or xs i x → left < length y → take i xs ≡ whole_in length kept xs
+pub whole_stop : (i left kept : ℕ) (xs : List (List ℕ)) (x y : List ℕ) → AreWhole i left kept xs → i < length xs →
+    y ≡ x → x ≡ get_or xs i x → left < length y → take i xs ≡ whole_in length kept xs
 whole_stop i left kept xs x y so h is at over =
     let over_x : left < length x = subst (λ z. left < length z) is over in
     let here : drop i xs ≡ x ∷ drop (i + 1) xs = drop_more xs i x h ∙ ap (λ z. z ∷ drop (i + 1) xs) (sym at) in
@@ -46,6 +49,7 @@ whole_stop i left kept xs x y so h is at over =
     ∙ so
 
 -- no message is left
-pub whole_end : (i left kept : ℕ) (xs : List (List ℕ)) → AreWhole i left kept xs → length xs ≤ i → take i xs ≡ whole_in length kept xs
+pub whole_end : (i left kept : ℕ) (xs : List (List ℕ)) → AreWhole i left kept xs → length xs ≤ i →
+    take i xs ≡ whole_in length kept xs
 whole_end i left kept xs so h =
     sym (append-nil (take i xs)) ∙ ap (λ s. take i xs ++ whole_in length left s) (sym (drop_all i xs h)) ∙ so

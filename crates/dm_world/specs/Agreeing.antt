@@ -60,7 +60,8 @@ is_agreed w = agrees w.a.standing.core w.b.standing.core w.links
 -- the connection that two nodes are both open on
 abbrev pub open_on_both : Node → Node → Option Conn
 open_on_both a b =
-    first (first (shared (open_as Initiated a) (open_as Accepted b)) (shared (open_as Accepted a) (open_as Initiated b)))
+    first (first (shared (open_as Initiated a) (open_as Accepted b))
+    (shared (open_as Accepted a) (open_as Initiated b)))
     (first (shared (open_as Initiated a) (open_as Initiated b)) (shared (open_as Accepted a) (open_as Accepted b)))
 
 abbrev pub open_link : World Peer (List ℕ) → Option Conn

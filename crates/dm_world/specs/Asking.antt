@@ -30,7 +30,8 @@ IsAnswer o (Some actions) old new = o ≡ Moved actions.items new
 -- the same of one of two peers; the other stays as it is
 abbrev pub IsAnswerOf : Side → PeerEvent → Option (ArrayVec Action) → Pair → Pair → Type 0
 IsAnswerOf s e answer old new =
-    IsAnswer (acts (peer_of s old) e) answer (peer_of s old) (peer_of s new) × (peer_of (flip s) new ≡ peer_of (flip s) old)
+    IsAnswer (acts (peer_of s old) e) answer (peer_of s old) (peer_of s new) ×
+    (peer_of (flip s) new ≡ peer_of (flip s) old)
 
 -- memory can be wanted
 abbrev pub IsWant : Outcome → Type 0

@@ -7,7 +7,8 @@ use Rattle.dm_definitions.proofs.base.add_avps.Goals as goal
 pub add_avp-requires-clause-sound : goal.add_avp-requires-clause-sound
 add_avp-requires-clause-sound c =
     rw c.in_ok-avp_of_row.ensures
-    (next_member is_sound_avp row_avp c.loop-row.tables.avps.items c.args.rows.now c.loop-row.row-index _ c.loop-row-test.true c.loop-row.invariant.sound).0
+    (next_member is_sound_avp row_avp c.loop-row.tables.avps.items c.args.rows.now c.loop-row.row-index _
+    c.loop-row-test.true c.loop-row.invariant.sound).0
 
 pub loop-row-preserved : goal.loop-row-preserved
 loop-row-preserved c =
@@ -15,8 +16,12 @@ loop-row-preserved c =
     (λ d. d.avps) c.in_ok-add_avp.ensures.added in
     record {
       tables = c.in_ok-add_avp.ensures.tables;
-      sound = rw (avps, c.in_ok-avp_of_row.ensures) (next_member is_sound_avp row_avp c.loop-row.tables.avps.items c.args.rows.now c.loop-row.row-index _ c.loop-row-test.true c.loop-row.invariant.sound).1;
-      avps = avps ∙ (λ i. c.loop-row.invariant.avps i ++ c.in_ok-avp_of_row.ensures i ∷ []) ∙ member_pushed row_avp c.args.tables.now.avps.items c.args.rows.now c.loop-row.row-index _ c.loop-row-test.true;
+      sound = rw (avps, c.in_ok-avp_of_row.ensures)
+          (next_member is_sound_avp row_avp c.loop-row.tables.avps.items c.args.rows.now c.loop-row.row-index _
+          c.loop-row-test.true c.loop-row.invariant.sound).1;
+      avps = avps ∙ (λ i. c.loop-row.invariant.avps i ++ c.in_ok-avp_of_row.ensures i ∷ []) ∙
+          member_pushed row_avp c.args.tables.now.avps.items c.args.rows.now c.loop-row.row-index _
+          c.loop-row-test.true;
       commands = ap (λ d. d.commands) c.in_ok-add_avp.ensures.added ∙ c.loop-row.invariant.commands;
       vendors = ap (λ d. d.vendors) c.in_ok-add_avp.ensures.added ∙ c.loop-row.invariant.vendors;
     }

@@ -12,5 +12,6 @@ abbrev pub invariant-loop-item : goal.invariant-loop-item
 invariant-loop-item l = record {
   tables : IsTables l.tables;
   worded : list_all is_worded (map view_item (drop l.item-index l.items)) ≡ true;
-  along : Along item_faults with_item (making l.fn.tables l.fn.strays) (map view_item l.items) (making l.tables l.strays) (map view_item (drop l.item-index l.items));
+  along : Along item_faults with_item (making l.fn.tables l.fn.strays) (map view_item l.items)
+      (making l.tables l.strays) (map view_item (drop l.item-index l.items));
 }

@@ -26,16 +26,27 @@ add_avp-requires-clause-sound c =
     let good : list_faults values ≡ [] = subst
     (λ (vs : List written.Value). list_faults vs ≡ []) seen c.in_ok-values.ensures.good in
     let none : c.empty.result ≡ [] = c.empty.ensures in
-    let known : vendor_of c.args.tables.now.vendors.items.items (view_vend_option c.args.item.now.vendor) ≡ Some c.in-Some.vendor =
+    let known : vendor_of c.args.tables.now.vendors.items.items (view_vend_option c.args.item.now.vendor) ≡
+    Some c.in-Some.vendor =
     sym c.in_ok-code.ensures.vendor ∙ c.in-Some.is in
-    let avp : AvpDef = record { name = c.in_ok-from_slice.field-0; code = c.in_ok-code.code; vendor = c.in-Some.vendor; kind = c.unwrap_or.result; rule = c.empty.result; values = c.in_ok-values.values } in
+    let avp : AvpDef =
+    record {
+      name = c.in_ok-from_slice.field-0;
+      code = c.in_ok-code.code;
+      vendor = c.in-Some.vendor;
+      kind = c.unwrap_or.result;
+      rule = c.empty.result;
+      values = c.in_ok-values.values;
+    } in
     sound_avp (making c.args.tables.now c.args.strays.now) avp (view c.args.item.now.name) (view c.args.item.now.code)
     (view_vend_option c.args.item.now.vendor) c.in-Some.vendor
     (sound_parts (defined c.args.tables.now) c.requires.tables.sound).vendors
-    c.in_ok-from_slice.ensures c.in_ok-code.ensures.code refl known named c.in_ok-check_name.ensures.good c.in_ok-code.ensures.good
+    c.in_ok-from_slice.ensures c.in_ok-code.ensures.code refl known named c.in_ok-check_name.ensures.good
+    c.in_ok-code.ensures.good
     (empty_rule c.empty.result none) (empty_kind c.unwrap_or.result c.empty.result none)
     (sound_list values c.in_ok-values.values list worded good)
-    (listing_kind c.args.item.now.kind.text.now values c.unwrap_or.result c.in_ok-values.values may (c.unwrap_or.ensures ∙ ap (λ o. unwrap_or o OctetString) c.kind_of.ensures) list)
+    (listing_kind c.args.item.now.kind.text.now values c.unwrap_or.result c.in_ok-values.values may
+    (c.unwrap_or.ensures ∙ ap (λ o. unwrap_or o OctetString) c.kind_of.ensures) list)
 
 pub returns-clause-added : goal.returns-clause-added
 returns-clause-added c =
@@ -44,10 +55,22 @@ returns-clause-added c =
     let seen : map view_value c.as_slice.result.now ≡ values = ap (map view_value) c.as_slice.ensures.value in
     let list = list_is values c.in_ok-values.values (c.in_ok-values.ensures.value ∙ ap (fold with_value []) seen) in
     let kind = c.unwrap_or.ensures ∙ ap (λ o. unwrap_or o OctetString) c.kind_of.ensures in
-    let known : vendor_of c.args.tables.now.vendors.items.items (view_vend_option c.args.item.now.vendor) ≡ Some c.in-Some.vendor =
+    let known : vendor_of c.args.tables.now.vendors.items.items (view_vend_option c.args.item.now.vendor) ≡
+    Some c.in-Some.vendor =
     sym c.in_ok-code.ensures.vendor ∙ c.in-Some.is in
     (λ i. record { definitions = c.in_ok-add_avp.ensures.added i; strays = m.strays })
-    ∙ (λ i. record { definitions = with_avp (defined c.args.tables.now) (record { name = c.in_ok-from_slice.ensures i; code = c.in_ok-code.ensures.code i; vendor = c.in-Some.vendor; kind = kind i; rule = c.empty.ensures i; values = list i }); strays = m.strays })
+    ∙ (λ i. record {
+      definitions = with_avp (defined c.args.tables.now)
+          (record {
+            name = c.in_ok-from_slice.ensures i;
+            code = c.in_ok-code.ensures.code i;
+            vendor = c.in-Some.vendor;
+            kind = kind i;
+            rule = c.empty.ensures i;
+            values = list i;
+          });
+      strays = m.strays;
+    })
     ∙ sym (ap (placed m c.args.item.now.name.text.now (avp_def_of (view_avp c.args.item.now))) known)
 
 pub returns-in_default-clause-added : goal.returns-in_default-clause-added
@@ -56,7 +79,11 @@ returns-in_default-clause-added c =
     let unknown : vendor_of c.args.tables.now.vendors.items.items (view_vend_option c.args.item.now.vendor) ≡ None =
     sym c.in_ok-code.ensures.vendor ∙ c.in_default.is in
     let fresh = no_stray m (view c.args.item.now.name) c.in_ok-check_name.ensures.good in
-    (λ i. record { definitions = defined c.args.tables.now; strays = stray_noted c.args.strays.now.keys c.insert.new.self.keys c.args.item.now.name.text c.in_ok-insert.ensures.keys fresh i })
+    (λ i. record {
+      definitions = defined c.args.tables.now;
+      strays = stray_noted c.args.strays.now.keys c.insert.new.self.keys c.args.item.now.name.text
+          c.in_ok-insert.ensures.keys fresh i;
+    })
     ∙ sym (ap (placed m c.args.item.now.name.text.now (avp_def_of (view_avp c.args.item.now))) unknown)
 
 pub returns-in_err-code-clause-fault : goal.returns-in_err-code-clause-fault

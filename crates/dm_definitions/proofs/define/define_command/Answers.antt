@@ -19,9 +19,19 @@ add_command-requires-clause-sound c =
     let good : rule_faults entries ≡ [] = subst
     (λ (es : List written.Entry). rule_faults es ≡ []) seen c.in_ok-rule.ensures.good in
     let item = c.args.item.now in
-    let command : CommandDef = record { name = c.in_ok-from_slice.field-0; code = c.in_ok-code.code; request = item.request; proxiable = item.proxiable; err = item.error; application = c.in_ok-code.application; rule = c.in_ok-rule.field-0 } in
+    let command : CommandDef =
+    record {
+      name = c.in_ok-from_slice.field-0;
+      code = c.in_ok-code.code;
+      request = item.request;
+      proxiable = item.proxiable;
+      err = item.error;
+      application = c.in_ok-code.application;
+      rule = c.in_ok-rule.field-0;
+    } in
     sound_command c.args.tables.now.commands.items command (view_command c.args.item.now)
-    c.in_ok-from_slice.ensures c.in_ok-code.ensures.code refl refl c.in_ok-code.ensures.application words.0 c.in_ok-check_title.ensures.good c.in_ok-code.ensures.good
+    c.in_ok-from_slice.ensures c.in_ok-code.ensures.code refl refl c.in_ok-code.ensures.application words.0
+    c.in_ok-check_title.ensures.good c.in_ok-code.ensures.good
     (sound_rule entries c.in_ok-rule.field-0 rule words.1 good)
 
 pub returns-clause-added : goal.returns-clause-added
@@ -31,4 +41,13 @@ returns-clause-added c =
     let rule = rule_is entries c.in_ok-rule.field-0 (c.in_ok-rule.ensures.value ∙ ap (fold with_entry []) seen) in
     let item = c.args.item.now in
     c.in_ok-add_command.ensures.added
-    ∙ (λ i. with_command (defined c.args.tables.now) (record { name = c.in_ok-from_slice.ensures i; code = c.in_ok-code.ensures.code i; request = item.request; proxiable = item.proxiable; err = item.error; application = c.in_ok-code.ensures.application i; rule = rule i }))
+    ∙ (λ i. with_command (defined c.args.tables.now)
+    (record {
+      name = c.in_ok-from_slice.ensures i;
+      code = c.in_ok-code.ensures.code i;
+      request = item.request;
+      proxiable = item.proxiable;
+      err = item.error;
+      application = c.in_ok-code.ensures.application i;
+      rule = rule i;
+    }))

@@ -25,13 +25,23 @@ add_avp-requires-clause-sound c =
     let good : rule_faults entries ≡ [] = subst
     (λ (es : List written.Entry). rule_faults es ≡ []) seen c.in_ok-rule.ensures.good in
     let none : c.empty.result ≡ [] = c.empty.ensures in
-    let known : vendor_of c.args.tables.now.vendors.items.items (view_vend_option c.args.item.now.vendor) ≡ Some c.in-Some.vendor =
+    let known : vendor_of c.args.tables.now.vendors.items.items (view_vend_option c.args.item.now.vendor) ≡
+    Some c.in-Some.vendor =
     sym c.in_ok-code.ensures.vendor ∙ c.in-Some.is in
-    let avp : AvpDef = record { name = c.in_ok-from_slice.field-0; code = c.in_ok-code.code; vendor = c.in-Some.vendor; kind = Grouped; rule = c.in_ok-rule.rule; values = c.empty.result } in
+    let avp : AvpDef =
+    record {
+      name = c.in_ok-from_slice.field-0;
+      code = c.in_ok-code.code;
+      vendor = c.in-Some.vendor;
+      kind = Grouped;
+      rule = c.in_ok-rule.rule;
+      values = c.empty.result;
+    } in
     sound_avp (making c.args.tables.now c.args.strays.now) avp (view c.args.item.now.name) (view c.args.item.now.code)
     (view_vend_option c.args.item.now.vendor) c.in-Some.vendor
     (sound_parts (defined c.args.tables.now) c.requires.tables.sound).vendors
-    c.in_ok-from_slice.ensures c.in_ok-code.ensures.code refl known words.0 c.in_ok-check_name.ensures.good c.in_ok-code.ensures.good
+    c.in_ok-from_slice.ensures c.in_ok-code.ensures.code refl known words.0 c.in_ok-check_name.ensures.good
+    c.in_ok-code.ensures.good
     (sound_rule entries c.in_ok-rule.rule rule words.1 good) refl
     (empty_list c.empty.result none) (empty_listing Grouped c.empty.result none)
 
@@ -41,10 +51,22 @@ returns-clause-added c =
     let entries = map view_entry c.args.item.now.rule.items in
     let seen : map view_entry c.as_slice.result.now ≡ entries = ap (map view_entry) c.as_slice.ensures.value in
     let rule = rule_is entries c.in_ok-rule.rule (c.in_ok-rule.ensures.value ∙ ap (fold with_entry []) seen) in
-    let known : vendor_of c.args.tables.now.vendors.items.items (view_vend_option c.args.item.now.vendor) ≡ Some c.in-Some.vendor =
+    let known : vendor_of c.args.tables.now.vendors.items.items (view_vend_option c.args.item.now.vendor) ≡
+    Some c.in-Some.vendor =
     sym c.in_ok-code.ensures.vendor ∙ c.in-Some.is in
     (λ i. record { definitions = c.in_ok-add_avp.ensures.added i; strays = m.strays })
-    ∙ (λ i. record { definitions = with_avp (defined c.args.tables.now) (record { name = c.in_ok-from_slice.ensures i; code = c.in_ok-code.ensures.code i; vendor = c.in-Some.vendor; kind = Grouped; rule = rule i; values = c.empty.ensures i }); strays = m.strays })
+    ∙ (λ i. record {
+      definitions = with_avp (defined c.args.tables.now)
+          (record {
+            name = c.in_ok-from_slice.ensures i;
+            code = c.in_ok-code.ensures.code i;
+            vendor = c.in-Some.vendor;
+            kind = Grouped;
+            rule = rule i;
+            values = c.empty.ensures i;
+          });
+      strays = m.strays;
+    })
     ∙ sym (ap (placed m c.args.item.now.name.text.now (group_def_of (view_group c.args.item.now))) known)
 
 pub returns-in_default-clause-added : goal.returns-in_default-clause-added
@@ -53,7 +75,11 @@ returns-in_default-clause-added c =
     let unknown : vendor_of c.args.tables.now.vendors.items.items (view_vend_option c.args.item.now.vendor) ≡ None =
     sym c.in_ok-code.ensures.vendor ∙ c.in_default.is in
     let fresh = no_stray m (view c.args.item.now.name) c.in_ok-check_name.ensures.good in
-    (λ i. record { definitions = defined c.args.tables.now; strays = stray_noted c.args.strays.now.keys c.insert.new.self.keys c.args.item.now.name.text c.in_ok-insert.ensures.keys fresh i })
+    (λ i. record {
+      definitions = defined c.args.tables.now;
+      strays = stray_noted c.args.strays.now.keys c.insert.new.self.keys c.args.item.now.name.text
+          c.in_ok-insert.ensures.keys fresh i;
+    })
     ∙ sym (ap (placed m c.args.item.now.name.text.now (group_def_of (view_group c.args.item.now))) unknown)
 
 pub returns-in_err-code-clause-fault : goal.returns-in_err-code-clause-fault

@@ -5,5 +5,7 @@ use Rattle.dm_definitions.proofs.print.put_group_head.Goals as goal
 
 pub returns : goal.returns
 returns c =
-    let head = then_put c.args.text.now.items _ _ (codes " > ::= < AVP Header:") (spaced_number c.args.avp.now.code) c.in_ok-put.ensures c.in_ok-put_number.ensures in
-    last_put _ c.args.text.now.items _ _ (codes " > ::= < AVP Header:" ++ spaced_number c.args.avp.now.code) (spaced_option c.args.avp.now.vendor) head c.put_option.ensures
+    let head = then_put c.args.text.now.items _ _ (codes " > ::= < AVP Header:") (spaced_number c.args.avp.now.code)
+    c.in_ok-put.ensures c.in_ok-put_number.ensures in
+    last_put _ c.args.text.now.items _ _ (codes " > ::= < AVP Header:" ++ spaced_number c.args.avp.now.code)
+    (spaced_option c.args.avp.now.vendor) head c.put_option.ensures

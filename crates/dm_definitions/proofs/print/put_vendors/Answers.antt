@@ -4,4 +4,5 @@ use Rattle.dm_definitions.proofs.print.put_vendors.Goals as goal
 
 pub loop-vendor-preserved : goal.loop-vendor-preserved
 loop-vendor-preserved c =
-    line_pushed vendor_line _ _ _ c.args.vendors.now c.loop-vendor.vendor-index c.vendor-item.result c.loop-vendor-test.true c.vendor-item.is c.loop-vendor.invariant c.in_ok-put_vendor.ensures
+    line_pushed vendor_line _ _ _ c.args.vendors.now c.loop-vendor.vendor-index c.vendor-item.result
+    c.loop-vendor-test.true c.vendor-item.is c.loop-vendor.invariant c.in_ok-put_vendor.ensures

@@ -5,4 +5,5 @@ use Rattle.dm_definitions.proofs.rule.place_among.Given as goal
 
 abbrev pub invariant-loop-place : goal.invariant-loop-place
 invariant-loop-place l =
-    position_from (λ e. pointwise nat_eq l.name e.name) 0 l.entries ≡ position_from (λ e. pointwise nat_eq l.name e.name) l.place (drop l.place l.entries)
+    position_from (λ e. pointwise nat_eq l.name e.name) 0 l.entries ≡
+    position_from (λ e. pointwise nat_eq l.name e.name) l.place (drop l.place l.entries)

@@ -9,4 +9,5 @@ returns c =
     let named : c.in_ok-key.key.items ≡ c.args.name.now = c.in_ok-key.ensures.items in
     ap (map (λ e. (e.0.items, e.1))) c.in_ok-insert.ensures.entries
     ∙ insert_shown (pointwise nat_eq) (λ k. k.items) c.args.names.now.entries c.in_ok-key.key c.args.place
-    ∙ ap (λ k. insert_entry (pointwise nat_eq) (map (λ e. (e.0.items, e.1)) c.args.names.now.entries) k c.args.place) named
+    ∙ ap (λ k. insert_entry (pointwise nat_eq) (map (λ e. (e.0.items, e.1)) c.args.names.now.entries) k c.args.place)
+    named

@@ -7,6 +7,10 @@ use Rattle.dm_definitions.proofs.unknown.first_unknown.Given as goal
 abbrev pub invariant-loop-item : goal.invariant-loop-item
 invariant-loop-item l = record {
   within : l.seen ≤ length l.tables.vendors.items.items;
-  theirs : fold vendors_with (take l.seen l.tables.vendors.items.items) (map view_item (drop l.item-index l.items)) ≡ l.tables.vendors.items.items;
-  left : first_of (items_unknown (making l.tables l.strays) (take l.first l.tables.vendors.items.items) (map view_item l.items)) ≡ first_of (items_unknown (making l.tables l.strays) (take l.seen l.tables.vendors.items.items) (map view_item (drop l.item-index l.items)));
+  theirs : fold vendors_with (take l.seen l.tables.vendors.items.items) (map view_item (drop l.item-index l.items)) ≡
+      l.tables.vendors.items.items;
+  left : first_of
+      (items_unknown (making l.tables l.strays) (take l.first l.tables.vendors.items.items) (map view_item l.items)) ≡
+      first_of (items_unknown (making l.tables l.strays) (take l.seen l.tables.vendors.items.items)
+      (map view_item (drop l.item-index l.items)));
 }

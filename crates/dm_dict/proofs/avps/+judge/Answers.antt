@@ -7,8 +7,14 @@ use Rattle.dm_dict.proofs.Chains.{good_member, looked_up, counted_step, room_ste
 use Rattle.dm_dict.proofs.avps.+judge.Goals as goal
 
 pub judge_avp-judge_group-requires : goal.judge_avp-judge_group-requires
-judge_avp-judge_group-requires t c =
-    (omega arith, (c.requires.fit, c.requires.fit.apart c.args.avp.code c.args.avp.vendor c.in-Some.def.now (sym (rw c.in-Some.is at c.requires.def))))
+judge_avp-judge_group-requires t c = (
+  omega arith,
+  (
+    c.requires.fit,
+    c.requires.fit.apart c.args.avp.code c.args.avp.vendor c.in-Some.def.now
+        (sym (rw c.in-Some.is at c.requires.def)),
+  ),
+)
 
 pub judge_list-loop-avp-preserved : goal.judge_list-loop-avp-preserved
 judge_list-loop-avp-preserved t c =
@@ -23,7 +29,8 @@ judge_list-loop-avp-preserved t c =
           let (k, is, behind) = c.in-Some.ensures.parts m listed in (
             k,
             behind,
-            good_member (λ x. avp_faults G (allows (entry_for rule (definition avps x))) x (definition avps x)) _ _ a m k chain is good,
+            good_member (λ x. avp_faults G (allows (entry_for rule (definition avps x))) x (definition avps x)) _ _ a m
+                k chain is good,
             counted_step avps rule all m k a 0 _ _ _ counted is c.count_one.ensures c.look_up-at.ensures.counts,
           )),
       (λ i b. room_step _ _ _ _ _ _ (c.count_one.ensures i b) (c.loop-avp.invariant.1 i b) c.in-Some.ensures.less),

@@ -19,7 +19,9 @@ abbrev pub invariant-judge_list-loop-avp : goal.invariant-judge_list-loop-avp
 invariant-judge_list-loop-avp l =
     ((all : List Avp) → Lists l.list all → (m : List Avp) × Lists l.left m
     × (first (list_faults l.depth l.dictionary.avps l.rule all)
-    ≡ first (flat_map (λ a. avp_faults (group_faults l.depth l.dictionary.avps) (allows (entry_for l.rule (definition l.dictionary.avps a))) a (definition l.dictionary.avps a)) m
+    ≡ first (flat_map
+    (λ a. avp_faults (group_faults l.depth l.dictionary.avps)
+    (allows (entry_for l.rule (definition l.dictionary.avps a))) a (definition l.dictionary.avps a)) m
     ++ flat_map (entry_faults l.dictionary.avps l.rule all) l.rule))
     × IsCountedBut l.dictionary.avps l.rule all m 0 l.counts)
     × ((i : ℕ) → i < 128 → slice_index l.counts i + size_of l.left ≤ size_of l.list)

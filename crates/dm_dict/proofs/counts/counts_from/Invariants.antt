@@ -6,7 +6,8 @@ use Rattle.dm_dict.proofs.counts.counts_from.Given as goal
 
 abbrev pub invariant-loop-avp : goal.invariant-loop-avp
 invariant-loop-avp l =
-    ((all : List Avp) → Lists l.list all → (m : List Avp) × Lists l.left m × IsCountedBut l.dictionary.avps l.rule all m l.from l.counts)
+    ((all : List Avp) → Lists l.list all →
+    (m : List Avp) × Lists l.left m × IsCountedBut l.dictionary.avps l.rule all m l.from l.counts)
     × ((i : ℕ) → i < 128 → slice_index l.counts i + size_of l.left ≤ size_of l.list)
 
 abbrev pub decreases-loop-avp : goal.decreases-loop-avp

@@ -8,7 +8,8 @@ abbrev pub invariant-loop-code : goal.invariant-loop-code
 invariant-loop-code l =
     (l.from < length l.rule)
     × ((all : List Avp) → Lists l.list all
-    → first (flat_map (entry_faults l.dictionary.avps l.rule all) (drop 128 l.rule)) ≡ first (flat_map (entry_faults l.dictionary.avps l.rule all) (drop l.from l.rule)))
+    → first (flat_map (entry_faults l.dictionary.avps l.rule all) (drop 128 l.rule)) ≡
+    first (flat_map (entry_faults l.dictionary.avps l.rule all) (drop l.from l.rule)))
 
 abbrev pub decreases-loop-code : goal.decreases-loop-code
 decreases-loop-code l = length l.rule - l.from

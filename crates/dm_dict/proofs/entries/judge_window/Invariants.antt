@@ -8,4 +8,5 @@ use Rattle.dm_dict.proofs.entries.judge_window.Given as goal
 abbrev pub invariant-loop-at : goal.invariant-loop-at
 invariant-loop-at l =
     (all : List Avp) → Lists l.list all → IsCounted l.dictionary.avps l.rule all l.from l.counts
-    → first (flat_map (entry_faults l.dictionary.avps l.rule all) (drop l.from l.rule)) ≡ first (flat_map (entry_faults l.dictionary.avps l.rule all) (drop l.at l.rule))
+    → first (flat_map (entry_faults l.dictionary.avps l.rule all) (drop l.from l.rule)) ≡
+    first (flat_map (entry_faults l.dictionary.avps l.rule all) (drop l.at l.rule))

@@ -14,4 +14,5 @@ returns-in_err-mandatory-clause-none c =
     (subst Code (first told.whole c.in_ok-first.ensures.told) told.tells_code) c.in_ok-code.ensures.told in
     let flags = second_of c.in_ok-first.ensures.told told.whole in
     c.in_err-mandatory.ensures.none a.mandatory a.protected
-    (flags ∙ ap (λ v. avp_marks (is_some v) a.mandatory a.protected) same.1 ∙ ap (λ v. avp_marks v a.mandatory a.protected) (sym c.is_some.ensures)))
+    (flags ∙ ap (λ v. avp_marks (is_some v) a.mandatory a.protected) same.1 ∙
+    ap (λ v. avp_marks v a.mandatory a.protected) (sym c.is_some.ensures)))

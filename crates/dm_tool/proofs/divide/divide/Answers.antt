@@ -12,7 +12,8 @@ returns-then-is_divider-clause-messages c =
     (λ k. is_divider (take k (drop c.lines.size input))) (sym line) ∙ sym c.is_divider.ensures
     ∙ c.if-is_divider.true in
     take_rest input (c.lines.size + c.in-Some.end)
-    ∙ (divided input c.lines.size c.in-Some.end (rw (take_rest input c.lines.size) at c.in-Some.ensures.some) divider c.lines.invariant.dictionary c.lines.invariant.messages).1
+    ∙ (divided input c.lines.size c.in-Some.end (rw (take_rest input c.lines.size) at c.in-Some.ensures.some) divider
+    c.lines.invariant.dictionary c.lines.invariant.messages).1
 
 pub lines-preserved : goal.lines-preserved
 lines-preserved c =
@@ -24,5 +25,6 @@ lines-preserved c =
     let fits = rw (take_rest input c.lines.size, length-drop c.lines.size input) at c.in-Some.ensures.within in
     let within = c.lines.invariant.within in
     let more = one-more input c.lines.size c.in-Some.end
-    (rw (take_rest input c.lines.size) at c.in-Some.ensures.some) other c.lines.invariant.dictionary c.lines.invariant.messages in
+    (rw (take_rest input c.lines.size) at c.in-Some.ensures.some) other c.lines.invariant.dictionary
+    c.lines.invariant.messages in
     record { within = omega (arith, fits, within); dictionary = more.0; messages = more.1 }

@@ -17,7 +17,8 @@ returns-in_err-names-clause-none c =
       application_word = told.application;
       hop_id_word = told.hop_id;
       end_id_word = told.end_id;
-      whole = behind_third c.in_ok-command.ensures.told.1 c.in_ok-next.ensures.steps (ap words c.new-words.ensures ∙ told.whole);
+      whole = behind_third c.in_ok-command.ensures.told.1 c.in_ok-next.ensures.steps
+          (ap words c.new-words.ensures ∙ told.whole);
       tells_application = told.tells_application;
       tells_hop_id = told.tells_hop_id;
       tells_end_id = told.tells_end_id;

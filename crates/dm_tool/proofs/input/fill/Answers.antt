@@ -7,8 +7,11 @@ use Rattle.dm_tool.proofs.input.fill.Goals as goal
 use Rattle.dm_tool.proofs.input.fill.Goals.{in-Ok+in_ok-extend_from_slice-in-Ok+else-len-gt-INPUT_LIMIT, in-Err+else-ne}
 
 pub returns-in_err-extend_from_slice-in-Ok-clause-taken : goal.returns-in_err-extend_from_slice-in-Ok-clause-taken
-returns-in_err-extend_from_slice-in-Ok-clause-taken g c =
-    (c.loop.input.items ++ take c.in-Ok.count c.read.new.buf, simp (length-append, length-take) (omega (arith, c.in-Ok.ensures.bound.0, simp length-take at c.read.auto.buf)), Consumes-trans _ _ _ _ _ c.loop.invariant.1 c.in-Ok.ensures.bytes.0)
+returns-in_err-extend_from_slice-in-Ok-clause-taken g c = (
+  c.loop.input.items ++ take c.in-Ok.count c.read.new.buf,
+  simp (length-append, length-take) (omega (arith, c.in-Ok.ensures.bound.0, simp length-take at c.read.auto.buf)),
+  Consumes-trans _ _ _ _ _ c.loop.invariant.1 c.in-Ok.ensures.bytes.0,
+)
 
 pub loop-preserved : goal.loop-preserved
 loop-preserved g c = elim c.match-read.branch [

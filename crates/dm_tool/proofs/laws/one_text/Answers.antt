@@ -20,6 +20,14 @@ one octets definitions replay Replay = replay
 pub returns : goal.returns
 returns c =
     one
-    (record { one_message = c.one_message.ensures; one_refusal = c.one_refusal.ensures; no_message_refused = c.no_message_refused.ensures })
-    (record { one_definition = c.one_definition.ensures; one_fault = c.one_fault.ensures; no_definition_refused = c.no_definition_refused.ensures })
+    (record {
+      one_message = c.one_message.ensures;
+      one_refusal = c.one_refusal.ensures;
+      no_message_refused = c.no_message_refused.ensures;
+    })
+    (record {
+      one_definition = c.one_definition.ensures;
+      one_fault = c.one_fault.ensures;
+      no_definition_refused = c.no_definition_refused.ensures;
+    })
     c.one_replay.ensures.replay

@@ -34,4 +34,5 @@ loop-line-preserved-else-good c =
 pub returns-clause-printed : goal.returns-clause-printed
 returns-clause-printed c =
     prints-all (answer_of c.args.task) _ _ _
-    (c.loop-line.invariant [] true (prints-none (answer_of c.args.task) c.loop-line.line-iterator c.in-None.ensures.steps.0))
+    (c.loop-line.invariant [] true
+    (prints-none (answer_of c.args.task) c.loop-line.line-iterator c.in-None.ensures.steps.0))

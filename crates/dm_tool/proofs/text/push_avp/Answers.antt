@@ -5,4 +5,10 @@ use Rattle.dm_tool.proofs.text.push_avp.Goals as goal
 pub returns : goal.returns
 unfolding avp_text
 returns c =
-    rw (c.in_ok-push_data.ensures, c.as_slice.ensures, c.in_ok-push_avp_flags.ensures, c.in_ok-push_vendor.ensures, c.in_ok-push_named.ensures) (simp append_assoc)
+    rw (
+      c.in_ok-push_data.ensures,
+      c.as_slice.ensures,
+      c.in_ok-push_avp_flags.ensures,
+      c.in_ok-push_vendor.ensures,
+      c.in_ok-push_named.ensures,
+    ) (simp append_assoc)

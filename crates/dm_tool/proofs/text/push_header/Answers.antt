@@ -5,4 +5,10 @@ use Rattle.dm_tool.proofs.text.push_header.Goals as goal
 pub returns : goal.returns
 unfolding header_text
 returns c =
-    rw (c.in_ok-push_named-4.ensures, c.in_ok-push_named-3.ensures, c.in_ok-push_named-2.ensures, c.in_ok-push_flags.ensures, c.in_ok-push_named.ensures) (simp append_assoc)
+    rw (
+      c.in_ok-push_named-4.ensures,
+      c.in_ok-push_named-3.ensures,
+      c.in_ok-push_named-2.ensures,
+      c.in_ok-push_flags.ensures,
+      c.in_ok-push_named.ensures,
+    ) (simp append_assoc)

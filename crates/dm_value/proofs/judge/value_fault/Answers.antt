@@ -23,7 +23,9 @@ returns-clause-value c =
 pub returns-clause-fault : goal.returns-clause-fault
 returns-clause-fault c =
     let t = any_tells c.members_spell.ensures c.args.kind c.args.octets.now (λ i. Fits-lt-pow (c.type_inv.octets i)) in
-    let T : Option ValueFault → Type 0 = λ r. Tells r (HasWrongLength c.args.kind c.args.octets.now) (HasWrongValue c.args.kind c.args.octets.now) in
+    let T : Option ValueFault →
+    Type 0 = λ r. Tells r (HasWrongLength c.args.kind c.args.octets.now)
+    (HasWrongValue c.args.kind c.args.octets.now) in
     told_fault c.flaw_of.result c.args.kind c.args.octets.now (subst T (sym c.flaw_of.ensures) t)
 
 none_valued : (r : Option ValueFault) (P : Type 0) → (r ≡ None → P) → IfNone r P
@@ -32,4 +34,6 @@ none_valued (Some f) P h = tt
 
 pub returns-clause-good : goal.returns-clause-good
 returns-clause-good c =
-    none_valued c.flaw_of.result _ (λ none. valued c.members_spell.ensures c.args.kind c.args.octets.now (λ g i. Fits-lt-pow (c.type_inv.octets i)) (sym c.flaw_of.ensures ∙ none))
+    none_valued c.flaw_of.result _
+    (λ none. valued c.members_spell.ensures c.args.kind c.args.octets.now (λ g i. Fits-lt-pow (c.type_inv.octets i))
+    (sym c.flaw_of.ensures ∙ none))

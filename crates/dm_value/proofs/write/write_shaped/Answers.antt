@@ -8,7 +8,8 @@ use Rattle.dm_value.proofs.write.write_shaped.Goals as goal
 pub returns-in_ok-from_slice-in-Uri-clause-found : goal.returns-in_ok-from_slice-in-Uri-clause-found
 returns-in_ok-from_slice-in-Uri-clause-found c =
     let shaped = rw c.in-Uri.is at c.requires in
-    let same : c.in-Uri.uri ≡ c.in_ok-from_slice-in-Uri.field-0.items = cc (c.in_ok-from_slice-in-Uri.ensures.items, c.as_slice-in-Uri.ensures) in
+    let same : c.in-Uri.uri ≡ c.in_ok-from_slice-in-Uri.field-0.items =
+    cc (c.in_ok-from_slice-in-Uri.ensures.items, c.as_slice-in-Uri.ensures) in
     rw c.in-Uri.is (same, subst IsUri same (shaped_uri c.in-Uri.uri shaped))
 
 pub returns-in-Group-clause-spelled : goal.returns-in-Group-clause-spelled

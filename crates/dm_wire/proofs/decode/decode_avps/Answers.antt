@@ -14,4 +14,5 @@ pub returns-in-None-clause-only : goal.returns-in-None-clause-only
 returns-in-None-clause-only c = λ l sp. list_memory c.list_fault.result c.args.octets.now l c.list_fault.ensures sp
 
 pub returns-in-None-clause-refuses : goal.returns-in-None-clause-refuses
-returns-in-None-clause-refuses c = λ o bad. ap Err (bad_told c.list_fault.result c.args.octets.now o c.list_fault.ensures bad)
+returns-in-None-clause-refuses c =
+    λ o bad. ap Err (bad_told c.list_fault.result c.args.octets.now o c.list_fault.ensures bad)

@@ -5,7 +5,8 @@ use Rattle.dm_wire.proofs.Canonicals.{list_least, list_most}
 use Rattle.dm_wire.proofs.encode.message_rest.Goals as goal
 
 pub returns-then-avps-gt-MAX_AVPS-clause-none : goal.returns-then-avps-gt-MAX_AVPS-clause-none
-returns-then-avps-gt-MAX_AVPS-clause-none c = inr (omega (arith, list_least c.args.avps.now, c.if-avps-gt-MAX_AVPS.true))
+returns-then-avps-gt-MAX_AVPS-clause-none c =
+    inr (omega (arith, list_least c.args.avps.now, c.if-avps-gt-MAX_AVPS.true))
 
 pub returns-clause-size : goal.returns-clause-size
 returns-clause-size c =

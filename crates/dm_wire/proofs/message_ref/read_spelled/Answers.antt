@@ -8,6 +8,7 @@ pub returns-in-Err-clause-fault : goal.returns-in-Err-clause-fault
 returns-in-Err-clause-fault c =
     let s = c.args.octets.now in
     let long : 20 ≤ length s = c.in_ok-header.ensures.long in
-    let right = headed c.in_ok-header.header s long c.in_ok-header.ensures.found (λ o. let e = c.in_ok-header.ensures.len.1 o in cc) in
+    let right = headed c.in_ok-header.header s long c.in_ok-header.ensures.found
+    (λ o. let e = c.in_ok-header.ensures.len.1 o in cc) in
     let bad = rw (take_rest s 20) at c.in-Err.ensures.bad in
     (right.0, right.1, right.2, bad_behind 20 s c.in-Err.offset long bad)

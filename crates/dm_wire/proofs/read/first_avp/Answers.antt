@@ -6,4 +6,5 @@ use Rattle.dm_wire.proofs.read.first_avp.Goals as goal
 pub returns-clause-found : goal.returns-clause-found
 returns-clause-found c =
     let s = c.args.octets.now in
-    rw c.avp_of_extent.ensures (extent_spelled c.in_ok-extent.extent s (fit-octets s c.type_inv.octets) c.in_ok-extent.ensures.found)
+    rw c.avp_of_extent.ensures
+    (extent_spelled c.in_ok-extent.extent s (fit-octets s c.type_inv.octets) c.in_ok-extent.ensures.found)

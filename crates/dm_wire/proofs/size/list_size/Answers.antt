@@ -16,7 +16,10 @@ loop-avp-preserved c =
     let len = c.avp_len-length.ensures in
     record {
       few = omega (arith, before.few, c.too_long-long.ensures.one);
-      spelled = λ none. list_more_spelled l i a c.loop-avp-test.true c.avp-item.is (before.spelled (omega arith)) (len.spelled (c.too_long-long.ensures.none (omega arith)));
-      long = λ some. either c.loop-avp.long c.too_long-long.result some before.long (λ h. (i, a, c.loop-avp-test.true, sym c.avp-item.is, rw len.len at c.too_long-long.ensures.some h));
-      size = rw (more, length-append (canonical_list (take i l)) (canonical_avp a), len.len) (omega (arith, size, before.size));
+      spelled = λ none. list_more_spelled l i a c.loop-avp-test.true c.avp-item.is (before.spelled (omega arith))
+          (len.spelled (c.too_long-long.ensures.none (omega arith)));
+      long = λ some. either c.loop-avp.long c.too_long-long.result some before.long
+          (λ h. (i, a, c.loop-avp-test.true, sym c.avp-item.is, rw len.len at c.too_long-long.ensures.some h));
+      size = rw (more, length-append (canonical_list (take i l)) (canonical_avp a), len.len)
+          (omega (arith, size, before.size));
     }

@@ -5,15 +5,19 @@ use Rattle.dm_world.proofs.direction.whole_messages.Goals as goal
 pub loop-index-preserved : goal.loop-index-preserved
 loop-index-preserved c =
     let h : c.loop-index.index < length c.args.queue.now.items = omega (arith, c.args.queue.now.ok.0) in
-    whole_more _ _ _ _ c.index.result.now _ c.loop-index.invariant h c.as_slice-size.ensures c.index.ensures c.if-size-left.false
+    whole_more _ _ _ _ c.index.result.now _ c.loop-index.invariant h c.as_slice-size.ensures c.index.ensures
+    c.if-size-left.false
 
 pub returns-then-size-left : goal.returns-then-size-left
 returns-then-size-left c =
     let h : c.loop-index.index < length c.args.queue.now.items = omega (arith, c.args.queue.now.ok.0) in
-    whole_stop _ _ _ _ c.index.result.now _ c.loop-index.invariant h c.as_slice-size.ensures c.index.ensures c.if-size-left.true
+    whole_stop _ _ _ _ c.index.result.now _ c.loop-index.invariant h c.as_slice-size.ensures c.index.ensures
+    c.if-size-left.true
 
 pub returns : goal.returns
 returns c =
     let index_len : c.loop-index.index ≡ c.len.result = omega arith in
     let h : length c.args.queue.now.items ≤ c.len.result = omega (arith, c.args.queue.now.ok.0) in
-    whole_end _ _ _ _ (subst (λ n. AreWhole n c.loop-index.left c.args.kept c.args.queue.now.items) index_len c.loop-index.invariant) h
+    whole_end _ _ _ _
+    (subst (λ n. AreWhole n c.loop-index.left c.args.kept c.args.queue.now.items) index_len c.loop-index.invariant)
+    h

@@ -7,11 +7,13 @@ loop-link-init c = quiet_all c.args.links.now
 
 pub loop-link-preserved : goal.loop-link-preserved
 loop-link-preserved c =
-    c.loop-link.invariant ∙ quiet_more _ _ c.link-item.result c.loop-link-test.true c.link-item.is (sym c.is_quiet.ensures ∙ c.if-not-is_quiet.false)
+    c.loop-link.invariant ∙ quiet_more _ _ c.link-item.result c.loop-link-test.true c.link-item.is
+    (sym c.is_quiet.ensures ∙ c.if-not-is_quiet.false)
 
 pub returns : goal.returns
 returns c = sym (c.loop-link.invariant ∙ quiet_end _ _ c.loop-link-test.false)
 
 pub returns-then-not-is_quiet : goal.returns-then-not-is_quiet
 returns-then-not-is_quiet c =
-    sym (c.loop-link.invariant ∙ quiet_no _ _ c.link-item.result c.loop-link-test.true c.link-item.is (sym c.is_quiet.ensures ∙ c.if-not-is_quiet.true))
+    sym (c.loop-link.invariant ∙ quiet_no _ _ c.link-item.result c.loop-link-test.true c.link-item.is
+    (sym c.is_quiet.ensures ∙ c.if-not-is_quiet.true))

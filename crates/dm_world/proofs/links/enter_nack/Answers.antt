@@ -11,4 +11,5 @@ returns-else-index-len-clause-entered c = not_changed _ _ _ (omega (arith, c.arg
 
 pub returns-then-index-len-clause-room : goal.returns-then-index-len-clause-room
 returns-then-index-len-clause-room c =
-    λ n d has. room_moves _ n n _ d _ _ _ c.index_mut.ensures.value (omega arith) (λ h. omega (arith, c.enter_nack.ensures.room)) has
+    λ n d has. room_moves _ n n _ d _ _ _ c.index_mut.ensures.value (omega arith)
+    (λ h. omega (arith, c.enter_nack.ensures.room)) has

@@ -11,4 +11,5 @@ returns-else-index-len-clause-said c = not_changed _ _ _ (omega (arith, c.args.l
 
 pub returns-then-index-len-clause-room : goal.returns-then-index-len-clause-room
 returns-then-index-len-clause-room c =
-    λ n d has. room_moves _ n (n + 1) _ d _ _ _ c.index_mut.ensures.value (omega arith) (λ h. omega (arith, c.say.ensures.room)) has
+    λ n d has. room_moves _ n (n + 1) _ d _ _ _ c.index_mut.ensures.value (omega arith)
+    (λ h. omega (arith, c.say.ensures.room)) has

@@ -8,11 +8,13 @@ use Rattle.dm_world.proofs.links.take.Goals as goal
 
 pub take-requires : goal.take-requires
 take-requires c =
-    at_number (λ (l : links.Link (List ℕ)). c.args.count < left_to (as_side c.args.side) l) c.args.index c.args.links.now.items _ c.index_mut.ensures.value (omega (arith, c.args.links.now.ok.0)) c.requires
+    at_number (λ (l : links.Link (List ℕ)). c.args.count < left_to (as_side c.args.side) l) c.args.index
+    c.args.links.now.items _ c.index_mut.ensures.value (omega (arith, c.args.links.now.ok.0)) c.requires
 
 pub returns-then-index-len-clause-taken : goal.returns-then-index-len-clause-taken
 returns-then-index-len-clause-taken c =
-    on_ok c.take.result (λ h. changed _ _ _ _ _ c.index_mut.ensures.value (omega (arith, c.args.links.now.ok.0)) h) c.take.ensures.taken
+    on_ok c.take.result (λ h. changed _ _ _ _ _ c.index_mut.ensures.value (omega (arith, c.args.links.now.ok.0)) h)
+    c.take.ensures.taken
 
 pub returns-then-index-len-clause-unchanged : goal.returns-then-index-len-clause-unchanged
 returns-then-index-len-clause-unchanged c =

@@ -5,21 +5,25 @@ use Rattle.dm_world.proofs.performing.perform.Goals as goal
 
 pub perform_one-requires-clause-frames : goal.perform_one-requires-clause-frames
 perform_one-requires-clause-frames c =
-    let is = took c.loop-action.actions.items c.pop_at.new.self.items c.in-Some.action c.in-Some.ensures.value c.in-Some.ensures.items in
+    let is = took c.loop-action.actions.items c.pop_at.new.self.items c.in-Some.action c.in-Some.ensures.value
+    c.in-Some.ensures.items in
     frames_one _ _ (frames_now _ _ _ is c.loop-action.invariant.frames)
 
 pub perform_one-requires-clause-room : goal.perform_one-requires-clause-room
 perform_one-requires-clause-room c =
-    let is = took c.loop-action.actions.items c.pop_at.new.self.items c.in-Some.action c.in-Some.ensures.value c.in-Some.ensures.items in
+    let is = took c.loop-action.actions.items c.pop_at.new.self.items c.in-Some.action c.in-Some.ensures.value
+    c.in-Some.ensures.items in
     room_one _ _ _ _ (room_now _ _ _ _ _ is c.loop-action.invariant.room)
 
 pub loop-action-preserved : goal.loop-action-preserved
 loop-action-preserved c =
-    let is = took c.loop-action.actions.items c.pop_at.new.self.items c.in-Some.action c.in-Some.ensures.value c.in-Some.ensures.items in
+    let is = took c.loop-action.actions.items c.pop_at.new.self.items c.in-Some.action c.in-Some.ensures.value
+    c.in-Some.ensures.items in
     record {
       performed = performed_turn _ _ _ _ _ _ is c.perform_one.ensures.performed ∙ c.loop-action.invariant.performed;
       room = room_rest _ _ _ _ _ (room_now _ _ _ _ _ is c.loop-action.invariant.room) c.perform_one.ensures.room;
-      frames = frames_rest (as_action c.in-Some.action) (as_actions c.pop_at.new.self.items) (frames_now _ _ _ is c.loop-action.invariant.frames);
+      frames = frames_rest (as_action c.in-Some.action) (as_actions c.pop_at.new.self.items)
+          (frames_now _ _ _ is c.loop-action.invariant.frames);
     }
 
 pub returns : goal.returns

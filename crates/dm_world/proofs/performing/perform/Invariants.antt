@@ -8,7 +8,8 @@ use Rattle.dm_world.proofs.performing.perform.Given as goal
 
 abbrev pub invariant-loop-action : goal.invariant-loop-action
 invariant-loop-action l = record {
-  performed : perform (as_side l.side) (as_actions l.actions.items) (as_links l.links.items) ≡ perform (as_side l.side) (as_actions l.fn.actions.items) (as_links l.fn.links.items);
+  performed : perform (as_side l.side) (as_actions l.actions.items) (as_links l.links.items) ≡
+      perform (as_side l.side) (as_actions l.fn.actions.items) (as_links l.fn.links.items);
   room : HasRoomFor (as_side l.side) l.links.items (as_actions l.actions.items);
   frames : SendFrames (as_actions l.actions.items);
 }

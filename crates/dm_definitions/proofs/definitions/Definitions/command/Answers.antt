@@ -6,4 +6,5 @@ use Rattle.dm_definitions.proofs.definitions.Definitions.command.Goals as goal
 pub returns-clause-one : goal.returns-clause-one
 returns-clause-one c =
     rw (c.command_by_head.ensures, ← c.self.view_is)
-    (one_headed c.self.inside.tables.commands.items c.args.code c.args.request c.args.err (sound_parts (defined c.self.inside.tables) c.self.invariant.tables.sound).commands)
+    (one_headed c.self.inside.tables.commands.items c.args.code c.args.request c.args.err
+    (sound_parts (defined c.self.inside.tables) c.self.invariant.tables.sound).commands)

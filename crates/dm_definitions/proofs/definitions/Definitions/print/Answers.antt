@@ -12,4 +12,6 @@ returns-clause-again c =
     let text : c.put_tables.new.text.items ≡ printed (defined tables) =
     c.in_ok-put_tables.ensures ∙ ap (λ t. t ++ printed (defined tables)) c.new-text.ensures.items in
     subst (λ (t : List ℕ). Defines t nothing_defined c.args.self.now) (sym text)
-    (subst (λ (d : Definitions). Defines (printed (defined tables)) nothing_defined d) c.self.view_is (printed_again c.words_law.ensures.name c.items_law.ensures.told (defined tables) c.self.invariant.tables.sound c.self.invariant.closed))
+    (subst (λ (d : Definitions). Defines (printed (defined tables)) nothing_defined d) c.self.view_is
+    (printed_again c.words_law.ensures.name c.items_law.ensures.told (defined tables) c.self.invariant.tables.sound
+    c.self.invariant.closed))

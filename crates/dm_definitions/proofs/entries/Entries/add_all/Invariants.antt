@@ -8,5 +8,6 @@ use Rattle.dm_definitions.proofs.entries.Entries.add_all.Given as goal
 abbrev pub invariant-loop-item : goal.invariant-loop-item
 invariant-loop-item l = record {
   noted : IsNoted l.self;
-  along : Along rule_entry_faults with_entry [] (map view_entry l.items) l.self.entries.items (map view_entry (drop l.item-index l.items));
+  along : Along rule_entry_faults with_entry [] (map view_entry l.items) l.self.entries.items
+      (map view_entry (drop l.item-index l.items));
 }

@@ -8,5 +8,6 @@ use Rattle.dm_definitions.proofs.list.Listing.add_all.Given as goal
 abbrev pub invariant-loop-item : goal.invariant-loop-item
 invariant-loop-item l = record {
   listing : IsListing l.self;
-  along : Along value_faults with_value [] (map view_value l.items) l.self.values.items (map view_value (drop l.item-index l.items));
+  along : Along value_faults with_value [] (map view_value l.items) l.self.values.items
+      (map view_value (drop l.item-index l.items));
 }

@@ -18,10 +18,16 @@ returns-clause-tables c =
     on_ok c.note_name-noted.result (λ noted. record {
       indexed = record {
         vendors = had.vendors;
-        names = rw (c.in_ok-push.ensures.items) (one_more (pointwise nat_eq) (λ d. d.name) _ _ _ _ avps c.args.avp had.names noted parts.new_name last c.as_slice.ensures);
-        codes = rw (c.in_ok-push.ensures.items) (one_more (λ x y. nat_eq x.0 y.0 && option_eq nat_eq x.1 y.1) code_key _ _ _ _ avps c.args.avp had.codes c.in_ok-insert.ensures.entries parts.new_code last refl);
+        names = rw (c.in_ok-push.ensures.items)
+            (one_more (pointwise nat_eq) (λ d. d.name) _ _ _ _ avps c.args.avp had.names noted parts.new_name last
+            c.as_slice.ensures);
+        codes = rw (c.in_ok-push.ensures.items)
+            (one_more (λ x y. nat_eq x.0 y.0 && option_eq nat_eq x.1 y.1) code_key _ _ _ _ avps c.args.avp had.codes
+            c.in_ok-insert.ensures.entries parts.new_code last refl);
         titles = had.titles;
         heads = had.heads;
       };
-      sound = rw (c.in_ok-push.ensures.items) (all_sound c.args.self.now.vendors.items.items (avps ++ c.args.avp ∷ []) c.args.self.now.commands.items sound.vendors (each_after-append is_sound_avp [] avps c.args.avp sound.avps c.requires.sound) sound.commands);
+      sound = rw (c.in_ok-push.ensures.items)
+          (all_sound c.args.self.now.vendors.items.items (avps ++ c.args.avp ∷ []) c.args.self.now.commands.items
+          sound.vendors (each_after-append is_sound_avp [] avps c.args.avp sound.avps c.requires.sound) sound.commands);
     }) c.note_name-noted.ensures

@@ -20,8 +20,15 @@ returns-clause-tables c =
         vendors = had.vendors;
         names = had.names;
         codes = had.codes;
-        titles = rw (c.in_ok-push.ensures.items) (one_more (pointwise nat_eq) (λ d. d.name) _ _ _ _ commands c.args.command had.titles noted parts.new_name last c.as_slice.ensures);
-        heads = rw (c.in_ok-push.ensures.items) (one_more (λ x y. (nat_eq x.0 y.0 && beq x.1 y.1) && beq x.2 y.2) head_key _ _ _ _ commands c.args.command had.heads c.in_ok-insert.ensures.entries parts.new_head last refl);
+        titles = rw (c.in_ok-push.ensures.items)
+            (one_more (pointwise nat_eq) (λ d. d.name) _ _ _ _ commands c.args.command had.titles noted parts.new_name
+            last c.as_slice.ensures);
+        heads = rw (c.in_ok-push.ensures.items)
+            (one_more (λ x y. (nat_eq x.0 y.0 && beq x.1 y.1) && beq x.2 y.2) head_key _ _ _ _ commands c.args.command
+            had.heads c.in_ok-insert.ensures.entries parts.new_head last refl);
       };
-      sound = rw (c.in_ok-push.ensures.items) (all_sound c.args.self.now.vendors.items.items c.args.self.now.avps.items (commands ++ c.args.command ∷ []) sound.vendors sound.avps (each_after-append is_sound_command [] commands c.args.command sound.commands c.requires.sound));
+      sound = rw (c.in_ok-push.ensures.items)
+          (all_sound c.args.self.now.vendors.items.items c.args.self.now.avps.items (commands ++ c.args.command ∷ [])
+          sound.vendors sound.avps
+          (each_after-append is_sound_command [] commands c.args.command sound.commands c.requires.sound));
     }) c.note_name-noted.ensures

@@ -20,6 +20,10 @@ returns-clause-tables c =
     let had = c.requires.tables.indexed in
     let sound = sound_parts (defined c.args.self.now) c.requires.tables.sound in
     on_both c.add.result (λ added indexed. record {
-      indexed = record { vendors = indexed; names = had.names; codes = had.codes; titles = had.titles; heads = had.heads };
-      sound = rw added (all_sound (vendors ++ c.args.vendor ∷ []) c.args.self.now.avps.items c.args.self.now.commands.items (each_after-append is_sound_vendor [] vendors c.args.vendor sound.vendors c.requires.sound) sound.avps sound.commands);
+      indexed =
+          record { vendors = indexed; names = had.names; codes = had.codes; titles = had.titles; heads = had.heads };
+      sound = rw added
+          (all_sound (vendors ++ c.args.vendor ∷ []) c.args.self.now.avps.items c.args.self.now.commands.items
+          (each_after-append is_sound_vendor [] vendors c.args.vendor sound.vendors c.requires.sound) sound.avps
+          sound.commands);
     }) c.add.ensures.added c.add.ensures.indexed

@@ -7,4 +7,5 @@ use Rattle.dm_definitions.proofs.tables.Tables.avp_by_code.Goals as goal
 pub returns : goal.returns
 returns c =
     rw (c.member_at.ensures, c.as_slice.ensures.value, c.copied-place.ensures, c.get.ensures.value)
-    (found (λ k. nat_eq c.args.code k.0 && option_eq nat_eq c.args.vendor k.1) code_key c.args.self.now.avps.items c.args.self.now.codes.entries c.requires.codes)
+    (found (λ k. nat_eq c.args.code k.0 && option_eq nat_eq c.args.vendor k.1) code_key c.args.self.now.avps.items
+    c.args.self.now.codes.entries c.requires.codes)

@@ -6,4 +6,5 @@ use Rattle.dm_definitions.proofs.tables.Tables.command_by_name.Goals as goal
 pub returns : goal.returns
 returns c =
     rw (c.member_at.ensures, c.as_slice.ensures.value, c.copied-place.ensures, c.get.ensures.value)
-    (found_shown (pointwise nat_eq c.args.name.now) (λ d. d.name) (λ k. k.items) c.args.self.now.commands.items c.args.self.now.titles.entries c.requires.titles)
+    (found_shown (pointwise nat_eq c.args.name.now) (λ d. d.name) (λ k. k.items) c.args.self.now.commands.items
+    c.args.self.now.titles.entries c.requires.titles)

@@ -15,6 +15,11 @@ returns-clause-indexed c =
     (list_any (nat_eq c.args.vendor.number)) had.numbers ∙ any-map (nat_eq c.args.vendor.number)
     (λ v. v.number) vendors ∙ c.requires.number in
     on_ok c.note_name-noted.result (λ noted. record {
-      names = rw (c.in_ok-push.ensures.items) (one_more (pointwise nat_eq) (λ v. v.name) _ _ _ _ vendors c.args.vendor had.names noted c.requires.name last c.as_slice.ensures);
-      numbers = rw (c.in_ok-push.ensures.items) (key_pushed nat_eq (λ v. v.number) c.args.self.now.numbers.keys c.insert.new.self.keys vendors c.args.vendor c.args.vendor.number had.numbers c.in_ok-insert.ensures.keys refl fresh);
+      names = rw (c.in_ok-push.ensures.items)
+          (one_more (pointwise nat_eq) (λ v. v.name) _ _ _ _ vendors c.args.vendor had.names noted c.requires.name last
+          c.as_slice.ensures);
+      numbers =
+          rw (c.in_ok-push.ensures.items)
+          (key_pushed nat_eq (λ v. v.number) c.args.self.now.numbers.keys c.insert.new.self.keys vendors c.args.vendor
+          c.args.vendor.number had.numbers c.in_ok-insert.ensures.keys refl fresh);
     }) c.note_name-noted.ensures

@@ -13,4 +13,6 @@ returns-clause-checked c = λ m same spelled.
     let whole : record { header = c.args.message.now.header; avps = m.avps } ≡ m =
     (λ i. record { header = sym same i; avps = m.avps }) in
     rw (← c.self.view_is)
-    (ap verdict_of (c.judge_spelled.ensures m.avps spelled ∙ ap (λ (x : Message). first (faults c.self.inside.definitions x)) whole))
+    (ap verdict_of
+    (c.judge_spelled.ensures m.avps spelled ∙ ap (λ (x : Message). first (faults c.self.inside.definitions x))
+    whole))

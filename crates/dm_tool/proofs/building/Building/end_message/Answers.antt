@@ -12,7 +12,9 @@ returns-clause-built c = elim c.match-self.branch [
         w.in_ok-fine.fine,
         ap (λ s. s.text.items) w.self-is ∙ built.1,
         ap (λ s. s.good) w.self-is,
-        built_last c.args.self.now.last w.in-Some.header c.args.self.now.avps.items w.from_vec.result built.0 w.in_ok-fine.fine w.in-Some.is (w.from_vec.ensures ∙ ap (λ v. v.items) w.replace-avps.ensures.value) built.2,
+        built_last c.args.self.now.last w.in-Some.header c.args.self.now.avps.items w.from_vec.result built.0
+            w.in_ok-fine.fine w.in-Some.is (w.from_vec.ensures ∙ ap (λ v. v.items) w.replace-avps.ensures.value)
+            built.2,
       )
   | in_default w ↦ (
     [],

@@ -6,7 +6,8 @@ use Rattle.dm_wire.proofs.walk.AvpWalkIterator.next.Goals as goal
 pub returns-in_default-clause-steps : goal.returns-in_default-clause-steps
 returns-in_default-clause-steps c =
     let some : 0 < length c.self.inside.left.now = search rules in
-    rw (← c.self.view_is) (record { going = c.if-self.false; some = some; bad = c.in_default.ensures.none; offset = refl; stays = refl })
+    rw (← c.self.view_is)
+    (record { going = c.if-self.false; some = some; bad = c.in_default.ensures.none; offset = refl; stays = refl })
 
 pub returns-clause-steps : goal.returns-clause-steps
 returns-clause-steps c =

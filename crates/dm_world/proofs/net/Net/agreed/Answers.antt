@@ -11,5 +11,9 @@ use Rattle.dm_world.proofs.net.Net.agreed.Goals as goal
 pub returns : goal.returns
 returns c =
     let w = as_world c.args.self.now in
-    let is = c.agree.ensures ∙ ap (λ ls. agrees w.a.standing.core w.b.standing.core (as_links ls)) c.as_slice.ensures.value in
-    record { value = is; meaning = subst (λ (b : Bool). IsTrue b ↔ Agreed octet_peers w) (sym is) (agrees_as octet_peers w) }
+    let is = c.agree.ensures ∙ ap (λ ls. agrees w.a.standing.core w.b.standing.core (as_links ls))
+    c.as_slice.ensures.value in
+    record {
+      value = is;
+      meaning = subst (λ (b : Bool). IsTrue b ↔ Agreed octet_peers w) (sym is) (agrees_as octet_peers w);
+    }

@@ -9,10 +9,13 @@ pub returns-then-not-is_pending-clause-step : goal.returns-then-not-is_pending-c
 returns-then-not-is_pending-clause-step c =
     let lt : c.args.conn.0 < length c.args.self.now.links.items = omega (arith, c.args.self.now.links.ok.0) in
     nack_ignored (as_world c.args.self.now) c.args.conn.0 (as_link c.index-link.result.now)
-    (link_at c.args.conn.0 c.args.self.now.links.items c.index-link.result.now lt c.index-link.ensures) (sym c.is_pending.ensures ∙ c.if-not-is_pending.true)
+    (link_at c.args.conn.0 c.args.self.now.links.items c.index-link.result.now lt c.index-link.ensures)
+    (sym c.is_pending.ensures ∙ c.if-not-is_pending.true)
 
 pub returns-clause-step : goal.returns-clause-step
 returns-clause-step c =
     let lt : c.args.conn.0 < length c.args.self.now.links.items = omega (arith, c.args.self.now.links.ok.0) in
-    nack_step c.in_ok-tell.field-0 (as_world c.args.self.now) (as_world c.tell.new.self) c.args.conn.0 (as_link c.index-link.result.now)
-    (link_at c.args.conn.0 c.args.self.now.links.items c.index-link.result.now lt c.index-link.ensures) (sym c.is_pending.ensures ∙ c.if-not-is_pending.false) c.in_ok-tell.ensures.step
+    nack_step c.in_ok-tell.field-0 (as_world c.args.self.now) (as_world c.tell.new.self) c.args.conn.0
+    (as_link c.index-link.result.now)
+    (link_at c.args.conn.0 c.args.self.now.links.items c.index-link.result.now lt c.index-link.ensures)
+    (sym c.is_pending.ensures ∙ c.if-not-is_pending.false) c.in_ok-tell.ensures.step

@@ -10,24 +10,32 @@ use Rattle.dm_world.proofs.net.Net.start.Goals as goal
 pub perform-requires-clause-frames : goal.perform-requires-clause-frames
 perform-requires-clause-frames c =
     let answer = rw c.in-Some.is at c.in_ok-ask.ensures.answer in
-    sends_frames (as_side c.args.side) (Start (conn c.len.result)) c.args.self.now c.ask.new.self c.in-Some.actions c.octets_are_frames.ensures no_octets answer
+    sends_frames (as_side c.args.side) (Start (conn c.len.result)) c.args.self.now c.ask.new.self c.in-Some.actions
+    c.octets_are_frames.ensures no_octets answer
 
 pub perform-requires-clause-room : goal.perform-requires-clause-room
 perform-requires-clause-room c =
     let answer = rw c.in-Some.is at c.in_ok-ask.ensures.answer in
-    silent_room (as_side c.args.side) (Start (conn c.len.result)) c.args.self.now c.ask.new.self c.in-Some.actions c.push_reserved.new.self.items c.silent_takes_none.ensures c.requires refl answer
+    silent_room (as_side c.args.side) (Start (conn c.len.result)) c.args.self.now c.ask.new.self c.in-Some.actions
+    c.push_reserved.new.self.items c.silent_takes_none.ensures c.requires refl answer
 
 pub returns-in-None-clause-step : goal.returns-in-None-clause-step
 returns-in-None-clause-step c =
     let answer = rw c.in-None.is at c.in_ok-ask.ensures.answer in
     let n : c.len.result ≡ length (as_links c.args.self.now.links.items) =
-    c.len.ensures ∙ c.reserve.ensures.len ∙ c.args.self.now.links.ok.0 ∙ sym (length_links c.args.self.now.links.items) in
-    not_started (as_side c.args.side) c.len.result c.args.self.now (record { pair = c.ask.new.self; links = c.reserve.new.self }) n answer (ap as_links c.reserve.ensures.items)
+    c.len.ensures ∙ c.reserve.ensures.len ∙ c.args.self.now.links.ok.0 ∙
+    sym (length_links c.args.self.now.links.items) in
+    not_started (as_side c.args.side) c.len.result c.args.self.now
+    (record { pair = c.ask.new.self; links = c.reserve.new.self }) n answer (ap as_links c.reserve.ensures.items)
 
 pub returns-in-Some-clause-step : goal.returns-in-Some-clause-step
 returns-in-Some-clause-step c =
     let answer = rw c.in-Some.is at c.in_ok-ask.ensures.answer in
     let n : c.len.result ≡ length (as_links c.args.self.now.links.items) =
-    c.len.ensures ∙ c.reserve.ensures.len ∙ c.args.self.now.links.ok.0 ∙ sym (length_links c.args.self.now.links.items) in
-    started (as_side c.args.side) c.len.result c.args.self.now (record { pair = c.ask.new.self; links = c.perform.new.links }) c.in-Some.actions n answer
-    (start_links (as_side c.args.side) c.in-Some.actions.items c.args.self.now.links.items c.reserve.new.self.items c.push_reserved.new.self.items _ c.new.result c.reserve.ensures.items c.push_reserved.ensures.items c.new.ensures c.perform.ensures)
+    c.len.ensures ∙ c.reserve.ensures.len ∙ c.args.self.now.links.ok.0 ∙
+    sym (length_links c.args.self.now.links.items) in
+    started (as_side c.args.side) c.len.result c.args.self.now
+    (record { pair = c.ask.new.self; links = c.perform.new.links }) c.in-Some.actions n answer
+    (start_links (as_side c.args.side) c.in-Some.actions.items c.args.self.now.links.items c.reserve.new.self.items
+    c.push_reserved.new.self.items _ c.new.result c.reserve.ensures.items c.push_reserved.ensures.items
+    c.new.ensures c.perform.ensures)

@@ -8,17 +8,21 @@ use Rattle.dm_world.proofs.net.Net.time_out.Goals as goal
 pub perform-requires-clause-frames : goal.perform-requires-clause-frames
 perform-requires-clause-frames c =
     let answer = rw c.in-Ok-Some.field-0-is at c.in-Ok-Some.ensures.answer in
-    sends_frames (as_side c.args.side) Timeout c.args.self.now c.ask.new.self c.in-Ok-Some.actions c.octets_are_frames.ensures no_octets answer
+    sends_frames (as_side c.args.side) Timeout c.args.self.now c.ask.new.self c.in-Ok-Some.actions
+    c.octets_are_frames.ensures no_octets answer
 
 pub perform-requires-clause-room : goal.perform-requires-clause-room
 perform-requires-clause-room c =
     let answer = rw c.in-Ok-Some.field-0-is at c.in-Ok-Some.ensures.answer in
-    silent_room (as_side c.args.side) Timeout c.args.self.now c.ask.new.self c.in-Ok-Some.actions c.args.self.now.links.items c.silent_takes_none.ensures c.requires refl answer
+    silent_room (as_side c.args.side) Timeout c.args.self.now c.ask.new.self c.in-Ok-Some.actions
+    c.args.self.now.links.items c.silent_takes_none.ensures c.requires refl answer
 
 pub unreachable-requires : goal.unreachable-requires
-unreachable-requires c = timeout_wants_none (as_side c.args.side) c.args.self.now c.silent_takes_none.ensures c.requires c.in-Err.ensures.want
+unreachable-requires c = timeout_wants_none (as_side c.args.side) c.args.self.now c.silent_takes_none.ensures c.requires
+    c.in-Err.ensures.want
 
 pub returns-in-Ok-Some : goal.returns-in-Ok-Some
 returns-in-Ok-Some c =
     let answer = rw c.in-Ok-Some.field-0-is at c.in-Ok-Some.ensures.answer in
-    done_step (as_side c.args.side) Timeout c.args.self.now (record { pair = c.ask.new.self; links = c.perform.new.links }) c.in-Ok-Some.actions answer c.perform.ensures
+    done_step (as_side c.args.side) Timeout c.args.self.now
+    (record { pair = c.ask.new.self; links = c.perform.new.links }) c.in-Ok-Some.actions answer c.perform.ensures

@@ -10,28 +10,36 @@ loop-count-init c = ran_none (as_world c.args.self.now.net) c.args.list.now
 
 pub loop-count-preserved : goal.loop-count-preserved
 loop-count-preserved c =
-    ran_more c.in_default.field-0 (as_world c.args.self.now.net) (as_world c.loop-count.self.net) (as_world c.apply.new.self.net) c.args.list.now c.loop-count.count c.index-list-count.result
+    ran_more c.in_default.field-0 (as_world c.args.self.now.net) (as_world c.loop-count.self.net)
+    (as_world c.apply.new.self.net) c.args.list.now c.loop-count.count c.index-list-count.result
     c.loop-count.invariant c.loop-count-test.true c.index-list-count.is c.in_default.ensures.step
 
 pub returns-in-Err-clause-ran : goal.returns-in-Err-clause-ran
 returns-in-Err-clause-ran c =
-    ran_still (as_world c.args.self.now.net) (as_world c.loop-count.self.net) (as_world c.apply.new.self.net) (take c.loop-count.count c.args.list.now) c.in-Err.ensures.unchanged c.loop-count.invariant
+    ran_still (as_world c.args.self.now.net) (as_world c.loop-count.self.net) (as_world c.apply.new.self.net)
+    (take c.loop-count.count c.args.list.now) c.in-Err.ensures.unchanged c.loop-count.invariant
 
 pub returns-in-Err-clause-ended : goal.returns-in-Err-clause-ended
 returns-in-Err-clause-ended c =
-    ended_at c.in-Err.fault (as_world c.loop-count.self.net) (as_world c.apply.new.self.net) c.args.list.now c.loop-count.count c.index-list-count.result c.loop-count-test.true c.index-list-count.is c.in-Err.ensures.unchanged c.in-Err.ensures.fault
+    ended_at c.in-Err.fault (as_world c.loop-count.self.net) (as_world c.apply.new.self.net) c.args.list.now
+    c.loop-count.count c.index-list-count.result c.loop-count-test.true c.index-list-count.is
+    c.in-Err.ensures.unchanged c.in-Err.ensures.fault
 
 pub returns-in-Err-clause-ends : goal.returns-in-Err-clause-ends
-returns-in-Err-clause-ends c = (c.sound_is_promised.ensures octet_peers (as_world c.apply.new.self.net) c.apply.new.self.sound).ends_are_held
+returns-in-Err-clause-ends c =
+    (c.sound_is_promised.ensures octet_peers (as_world c.apply.new.self.net) c.apply.new.self.sound).ends_are_held
 
 pub returns-in-Err-clause-matched : goal.returns-in-Err-clause-matched
-returns-in-Err-clause-matched c = (c.sound_is_promised.ensures octet_peers (as_world c.apply.new.self.net) c.apply.new.self.sound).open_is_matched
+returns-in-Err-clause-matched c =
+    (c.sound_is_promised.ensures octet_peers (as_world c.apply.new.self.net) c.apply.new.self.sound).open_is_matched
 
 pub returns-clause-ends : goal.returns-clause-ends
-returns-clause-ends c = (c.sound_is_promised.ensures octet_peers (as_world c.loop-count.self.net) c.loop-count.self.sound).ends_are_held
+returns-clause-ends c =
+    (c.sound_is_promised.ensures octet_peers (as_world c.loop-count.self.net) c.loop-count.self.sound).ends_are_held
 
 pub returns-clause-matched : goal.returns-clause-matched
-returns-clause-matched c = (c.sound_is_promised.ensures octet_peers (as_world c.loop-count.self.net) c.loop-count.self.sound).open_is_matched
+returns-clause-matched c =
+    (c.sound_is_promised.ensures octet_peers (as_world c.loop-count.self.net) c.loop-count.self.sound).open_is_matched
 
 pub returns-in-Err-clause-settled : goal.returns-in-Err-clause-settled
 returns-in-Err-clause-settled c closed clean =
