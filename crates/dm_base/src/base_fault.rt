@@ -4,7 +4,7 @@ ghost use Rattle.std.specs.Prelude.{◌≡◌};
 use dm_dict::{NoMemory, Verdict};
 use thiserror::Error;
 
-/// Why a message has no kind.
+/// Why a message has no kind (RFC 6733, 7).
 #[derive(Debug, Drop, PartialEq, Eq, Error)]
 pub enum BaseFault {
     /// The message is bad, and why.

@@ -1,5 +1,5 @@
-//! Laws of the base messages. Each function is a law: it does nothing, and its contract is the law. All stand for users
-//! and the layers above.
+//! Laws of the base messages. Each function is a law: it does nothing but call the laws that it stands on, and its
+//! contract is the law. All stand for users and the layers above.
 ghost use Rattle.dm_base.specs.Before.{OneComesFirst};
 ghost use Rattle.dm_base.specs.Common.{CommonIsShared, NodesShare, OwnInCommon, CommonBothWays, SecureNamesNone};
 ghost use Rattle.dm_base.specs.Laws.{CerIsOwn, CeaIsOwn, DwrIsOwn, DwaIsOwn, DprIsOwn, DpaIsOwn, ErrorIsGood};

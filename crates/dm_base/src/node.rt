@@ -108,8 +108,12 @@ fn is_text(text: &Text)
 }
 
 impl Node {
-    /// A node of these parts, which are moved and not copied. Refuses, in this order, with `BadHost`,
-    /// `NoAddress` and `TooLong`, and drops them then. It takes no memory.
+    /// A node of these parts, which are moved and not copied (RFC 6733, 4.3.1 and 5.3; the limits are own). It takes no
+    /// memory.
+    ///
+    /// Refuses, in this order, with `BadHost` (the host, then the realm, is empty or has an octet outside 0x21 to 0x7E),
+    /// `NoAddress`, and `TooLong` (the host, the realm or the product is over 255 octets, or there are over 64 addresses,
+    /// over 256 auth ids or over 256 acct ids), and drops the parts then.
     pub fn new(
         host: Vec<u8>,
         realm: Vec<u8>,

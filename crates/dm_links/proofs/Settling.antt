@@ -12,7 +12,6 @@ use Rattle.dm_links.specs.Links.{Side, A, B, NoMark, Coming, Delivered, link_of}
 use Rattle.dm_links.specs.Peers.{Peers}
 use Rattle.dm_links.specs.Worlds.{World, peer_at}
 use Rattle.dm_links.specs.Happens.{Happening, Ran, run}
-use Rattle.dm_links.specs.Facts.{IsSound}
 use Rattle.dm_links.specs.Agreement.{IsOpenOn}
 use Rattle.dm_links.specs.Quiet.{is_quiet_link, is_quiet, is_clean, made, Kept, kept_of, kept, steps}
 use Rattle.dm_links.specs.Electing.{Talks, IsPeerOf, IsElecting}
@@ -288,11 +287,11 @@ module _ {P M C H : Type 0} (m : Peers P M) (t : Talks P M C H) where
       (runs m t el g l pair wins loses hs clean C1 (length w.links) (suc (length w.links)) 0
       (record { world = w; put = [] }) q nothing (omega arith)) (λ r z. settled g l pair wins loses w hs r z)
 
-  pub each_settles : IsElecting m t → (w : World P M) → IsSound m w → IsAtRest m t w → (hs : List (Happening M)) →
+  pub each_settles : IsElecting m t → (w : World P M) → IsAtRest m t w → (hs : List (Happening M)) →
       is_clean hs ≡ true → IfSome (run m w hs) (λ r. Settled m t w hs r)
-  each_settles el w good c hs clean =
-      let a = bare (m.node_of w.a) good.own_shaped c.closed_a in
-      let b = bare (m.node_of w.b) good.other_shaped c.closed_b in
+  each_settles el w c hs clean =
+      let a = bare (m.node_of w.a) c.shaped_a c.closed_a in
+      let b = bare (m.node_of w.b) c.shaped_b c.closed_b in
       elim (cases_Bool (t.wins A)) [
         | inl wins ↦ run_settles el A B ab wins (not-true (t.wins B) (sym el.one_wins ∙ wins)) w
             (begins el A B w c.a c.b a b c.quiet) hs clean

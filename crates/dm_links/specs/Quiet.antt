@@ -17,7 +17,7 @@ is_quiet_link l = elim l.phase [ Pending ↦ false | _ ↦ is_still l.to_near &&
 abbrev pub is_quiet : {P M : Type 0} → World P M → Bool
 is_quiet w = list_all (λ l. is_quiet_link l) w.links
 
--- only Starts, Acks and deliveries
+-- only Starts, Acks, deliveries and pieces
 abbrev pub is_clean_one : {M : Type 0} → Happening M → Bool
 is_clean_one (Starts s) = true
 is_clean_one (Acks c) = true

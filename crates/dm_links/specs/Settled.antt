@@ -1,12 +1,11 @@
 -- What a clean run from a quiet world with both sides closed comes to.
 use Rattle.std.specs.Prelude.{◌≡◌, ℕ, ◌+◌, ◌≤◌, ◌⊎◌, IsTrue, IfSome, Some, List, [], ◌∷◌, length, slice_get, All}
 use Rattle.dm_machine.specs.declared.state_name.State.TheVariants.{Closed}
-use Rattle.dm_links.specs.Machine.{Initiated, Accepted}
+use Rattle.dm_links.specs.Machine.{Initiated, Accepted, is_shaped}
 use Rattle.dm_links.specs.Links.{Side, A, B, flip, Link}
 use Rattle.dm_links.specs.Peers.{Peers}
 use Rattle.dm_links.specs.Worlds.{World, peer_at, Put, Message, Disconnect}
 use Rattle.dm_links.specs.Happens.{Happening, Ran, run}
-use Rattle.dm_links.specs.Facts.{IsSound}
 use Rattle.dm_links.specs.Agreement.{IsOpenOn}
 use Rattle.dm_links.specs.Quiet.{is_quiet, is_clean, made, steps, Kept, kept}
 use Rattle.dm_links.specs.Electing.{Talks, IsPeerOf, awaits_cea, IsElecting}
@@ -75,6 +74,8 @@ pub record Settled {P M C H : Type 0} (m : Peers P M) (t : Talks P M C H) (w : W
 pub record IsAtRest {P M C H : Type 0} (m : Peers P M) (t : Talks P M C H) (w : World P M) : Type 0 where
   pub a : IsPeerOf t A w.a
   pub b : IsPeerOf t B w.b
+  pub shaped_a : IsTrue (is_shaped (m.node_of w.a))
+  pub shaped_b : IsTrue (is_shaped (m.node_of w.b))
   pub closed_a : (m.node_of w.a).state ≡ Closed
   pub closed_b : (m.node_of w.b).state ≡ Closed
   pub quiet : IsTrue (is_quiet w)
@@ -82,5 +83,5 @@ pub record IsAtRest {P M C H : Type 0} (m : Peers P M) (t : Talks P M C H) (w : 
 -- each clean run of two closed peers, from where nothing is under way
 abbrev pub EachCleanRunSettles : Type 0 → Type 0 → Type 0 → Type 0 → Type 0
 EachCleanRunSettles P M C H =
-    (m : Peers P M) (t : Talks P M C H) → IsElecting m t → (w : World P M) → IsSound m w → IsAtRest m t w →
+    (m : Peers P M) (t : Talks P M C H) → IsElecting m t → (w : World P M) → IsAtRest m t w →
     (hs : List (Happening M)) → IsTrue (is_clean hs) → IfSome (run m w hs) (λ r. Settled m t w hs r)

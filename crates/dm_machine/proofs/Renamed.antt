@@ -1,4 +1,5 @@
--- An outcome asks for no connection's number once the input is read: it is the same whatever the connections are called.
+-- An outcome asks for no connection's number once the input is read: it is the same whatever the connections are
+-- called.
 use Rattle.std.proofs.Common.{◌≡◌, Bool, true, false, if◌then◌else◌, Option, Some, None, List, [], ◌∷◌, ◌++◌, refl, sym, ap, ◌∙◌}
 use Rattle.dm_machine.specs.declared.connection.Conn.{Conn}
 use Rattle.dm_machine.specs.declared.phase.Role.{Role}

@@ -1,5 +1,5 @@
--- Every step of every node, as it looks from one connection: there are finitely many, so a law that asks for no more is checked
--- by computing it at each.
+-- Every step of every node, as it looks from one connection: there are finitely many, so a law that asks for no more is
+-- checked by computing it at each.
 use Rattle.std.proofs.Common.{◌≡◌, ℕ, Bool, true, false, not, ◌&&◌, ◌==◌, IsTrue, Option, List, [], ◌∷◌, refl, sym, subst, ◌∙◌, arith}
 use Rattle.std.proofs.lemmas.Bool.Decides.{nat_tests}
 use Rattle.dm_machine.specs.declared.connection.Conn.{Conn}

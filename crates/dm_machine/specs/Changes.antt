@@ -21,7 +21,8 @@ unchanged h = just h []
 abbrev pub given_up : List Change
 given_up = just NotHeld (Closes ∷ [])
 
--- the input names another connection: the initiated one may lose an election, the accepted one may be left alone or given up
+-- the input names another connection: the initiated one may lose an election, the accepted one may be left alone or
+-- given up
 abbrev pub at_another : Hold → List Change
 at_another Made = change Made [] ∷ given_up
 at_another Taken = change Taken [] ∷ change OpenAsR (SendsCea ∷ []) ∷ given_up

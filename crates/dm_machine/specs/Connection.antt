@@ -1,4 +1,5 @@
--- How a step looks from one connection: how the input concerns it, what it is to the node before and after, what it is ordered.
+-- How a step looks from one connection: how the input concerns it, what it is to the node before and after, what it is
+-- ordered.
 use Rattle.std.specs.Prelude.{Bool, true, ◌==◌, if◌then◌else◌, Option, Some, None, List, [], ◌∷◌, IsTrue, ⊤}
 use Rattle.dm_machine.specs.declared.connection.Conn.{Conn}
 use Rattle.dm_machine.specs.declared.phase.Role.{Role}
@@ -13,8 +14,8 @@ use Rattle.dm_machine.specs.declared.outputs.Command.TheVariants.{Connect, SendC
 use Rattle.dm_machine.specs.Node.{Node, is_shaped}
 use Rattle.dm_machine.specs.Moves.{Outcome, Moved, Refused, outcome}
 
--- what a connection is to a node: not held; initiated and not yet made, made and waiting for its CEA, open, closing; accepted and
--- waiting for its CEA to be sent, open, closing
+-- what a connection is to a node: not held; initiated and not yet made, made and waiting for its CEA, open, closing;
+-- accepted and waiting for its CEA to be sent, open, closing
 pub data Hold : Type 0 where
   NotHeld : Hold
   Pending : Hold

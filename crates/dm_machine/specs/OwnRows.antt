@@ -4,7 +4,8 @@ use Rattle.dm_machine.specs.declared.state_name.State.{State}
 use Rattle.dm_machine.specs.declared.state_name.State.TheVariants.{Closed, WaitConnAck, WaitICea, WaitConnAckElect, WaitReturns, ROpen, IOpen, Closing}
 use Rattle.dm_machine.specs.Table.{RConnCer, XRcvDpr, XRcvDpa, RConnRefusedCer, RConnOther, XRcvExchange, XRcvRefusedRequest, XRcvBadDwa, XRcvBadDpa, FirstTick, SecondTick, ThirdTick, Row, row, RReject, XDisc, XSndDpa, RSndRefusal, XSndRefusal, XSndDwr}
 
--- a first message that is no good CER, where the peer takes connections: a refused CER is answered, then the connection is closed
+-- a first message that is no good CER, where the peer takes connections: a refused CER is answered, then the connection
+-- is closed
 abbrev pub first_message_rows : State → List Row
 first_message_rows same =
     row same RConnRefusedCer (RSndRefusal ∷ RReject ∷ []) same
@@ -18,7 +19,8 @@ unread_rows same =
     ∷ row same RConnOther (RReject ∷ []) same
     ∷ []
 
--- an open connection: a CER, CEA or DPA closes it, a request that fails its check is answered, a DWA that fails it is dropped
+-- an open connection: a CER, CEA or DPA closes it, a request that fails its check is answered, a DWA that fails it is
+-- dropped
 abbrev pub open_connection_rows : State → List Row
 open_connection_rows same =
     row same XRcvExchange (XDisc ∷ []) Closed

@@ -2,7 +2,7 @@
 
 use crate::connection::Conn;
 
-/// A message by what it says, as far as the state machine asks.
+/// A message by what it says, as far as the state machine asks (RFC 6733, 5.3 to 5.6).
 ///
 /// `Bad` is a message that fails its check.
 #[derive(Clone, Copy, Debug, PartialEq, Eq)]
@@ -37,7 +37,7 @@ pub enum Word {
     Other,
 }
 
-/// One thing that happens to a peer.
+/// One thing that happens to a peer (RFC 6733, 5.6).
 #[derive(Clone, Copy, Debug, PartialEq, Eq)]
 pub enum Input {
     /// Open a connection, under this new number.

@@ -5,7 +5,7 @@ use crate::connection::Conn;
 use arrayvec::ArrayVec;
 use thiserror::Error;
 
-/// One order of the state machine.
+/// One order of the state machine (RFC 6733, 5.6).
 #[derive(Clone, Copy, Debug, PartialEq, Eq)]
 pub enum Command {
     /// Open a connection to the peer.

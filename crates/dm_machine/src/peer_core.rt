@@ -13,7 +13,7 @@ use crate::table::from_phase;
 use std::fmt::{self, Debug, Formatter, Write};
 use std::marker::Model;
 
-/// A peer's state, the connections that it holds and the watchdog's count.
+/// A peer's state, the connections that it holds and the watchdog's count (RFC 6733, 5.5 and 5.6).
 #[derive(Clone, Copy, PartialEq, Eq)]
 pub struct Core {
     phase: Phase,
@@ -97,7 +97,7 @@ impl Core {
         }
     }
 
-    /// How many ticks have passed since the last message: 0, 1 or 2, and 0 where the peer isn't open.
+    /// How many ticks have passed since the last message came: 0, 1 or 2, and 0 where the peer isn't open.
     pub fn count(&self) -> u8
         ensures { result ≡ self.now.count }
     {
@@ -127,7 +127,7 @@ impl Default for Core {
     }
 }
 
-/// One step by the state table. `wins` says whether this peer would win an election (RFC 6733, 5.6.4).
+/// One step by the state table (RFC 6733, 5.6). `wins` says whether this peer would win an election (5.6.4).
 ///
 /// # Errors
 /// `NotClosed` for a Start outside Closed, `NotOpen` for a Stop or Submit outside R-Open and I-Open.

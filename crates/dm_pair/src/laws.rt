@@ -1,5 +1,5 @@
-//! Laws of two peers over octets. Each function is a law: it does nothing, and its contract is the law. They stand for
-//! the world of two peers.
+//! Laws of two peers over octets. Each function is a law: it does nothing but call the laws that it stands on, and its
+//! contract is the law. They stand for the world of two peers.
 ghost use Rattle.dm_links.specs.Follows.{IsMachine};
 ghost use Rattle.dm_pair.specs.Laws.{OctetsAreElecting, FreshArePeers, HappeningKeepsPeers, OctetsAreSized, EachOctetRunSettles};
 ghost use Rattle.dm_pair.specs.Frames.{OctetsAreFrames};

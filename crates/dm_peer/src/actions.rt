@@ -3,7 +3,7 @@ use arrayvec::ArrayVec;
 use dm_machine::Conn;
 use dm_wire::Octets;
 
-/// One thing that the caller is to do.
+/// One thing that the caller is to do (RFC 6733, 5.6).
 #[derive(Debug, Drop)]
 pub enum Action {
     /// Open a connection to the peer.

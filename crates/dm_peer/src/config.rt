@@ -1,5 +1,6 @@
 //! Configurations: a node and the peer that it is configured for.
-ghost use Rattle.std.specs.Prelude.{◌≡◌, ◌⊎◌, IfOk, IfErr, Some, None, Err, true, false};
+ghost use Rattle.std.specs.Prelude.{◌≡◌, ◌⊎◌, ◌↔◌, IfOk, IfErr, Some, None, Err, true, false};
+ghost use Rattle.dm_base.specs.Before.{lower};
 ghost use Rattle.dm_base.specs.Fit.{is_name};
 ghost use Rattle.dm_definitions.specs.Base.{base_definitions};
 ghost use Rattle.dm_peer.specs.declared.fault.ConfigFault.{ConfigFault};
@@ -37,7 +38,8 @@ fn is_name(octets: &[u8]) -> bool
 
 /// Whether the octets are two names of one host, upper and lower case taken as one (RFC 6733, 5.6.4). It takes no memory.
 pub fn is_same_host(one: &[u8], other: &[u8]) -> bool
-    ensures { result ≡ is_same_host one.now other.now }
+    ensures value { result ≡ is_same_host one.now other.now }
+    ensures same { (result ≡ true) ↔ (lower one.now ≡ lower other.now) }
 {
     match host_order(one, other) {
         Ordering::Equal => true,

@@ -2,7 +2,7 @@
 use dm_base::Cause;
 use dm_machine::Conn;
 
-/// One thing that happens to a peer.
+/// One thing that happens to a peer (RFC 6733, 5.6).
 #[derive(Clone, Copy, Debug)]
 pub enum Event<'a> {
     /// Open a connection, under this new number.

@@ -1,4 +1,5 @@
-//! Laws of peers. Each function is a law: it does nothing, and its contract is the law.
+//! Laws of peers. Each function is a law: it does nothing but call the laws that it stands on, and its contract is the
+//! law.
 ghost use Rattle.dm_peer.specs.Laws.{SentIsHeard, CerIsGood, CeaIsGood, DwrIsGood, DwaIsGood, DprIsGood, DpaIsGood};
 ghost use Rattle.dm_peer.specs.Refusing.{RefusesByRule};
 ghost use Rattle.dm_peer.specs.Settled.{FreshIsSettled, EachEventKeepsSettled};

@@ -17,7 +17,7 @@ use crate::{Actions, Config, Event, PeerFault, Standing};
 use dm_machine::{Conn, State};
 use std::alloc::Global;
 
-/// A peer: its configuration, and where it stands.
+/// A peer: its configuration, and where it stands (RFC 6733, 5.6).
 #[derive(Debug, Drop)]
 pub struct Peer {
     pub(crate) config: Config,
@@ -43,7 +43,7 @@ impl Peer {
         self.standing = Standing::new(self.standing.next);
     }
 
-    /// What the peer does at the event.
+    /// What the peer does at the event (RFC 6733, 5.6): at most four actions, in the order in which they are to be done.
     ///
     /// # Errors
     /// `NotClosed` for a Start outside Closed, `NotOpen` for a Stop or Submit outside R-Open and I-Open, `BadSubmit`

@@ -21,15 +21,16 @@ use Rattle.dm_replay.specs.Text.{trace_line, nolink_line, end_line}
 abbrev pub before : List ℕ → List ℕ × Bool → List ℕ × Bool
 before line rest = (line ++ rest.0, rest.1)
 
--- the line of happening n in a world, and then what is printed for the others in the world that it leaves; a link that isn't
--- there ends the run
+-- the line of happening n in a world, and then what is printed for the others in the world that it leaves; a link that
+-- isn't there ends the run
 abbrev pub and_then : ℕ → World Peer (List ℕ) → After Peer (List ℕ) → (World Peer (List ℕ) → List ℕ × Bool)
     → List ℕ × Bool
 and_then n w (Done next put) others = before (trace_line n effects.Done next) (others next)
 and_then n w Ignored others = before (trace_line n effects.Ignored w) (others w)
 and_then n w NoLink others = (nolink_line n, false)
 
--- what is printed for these happenings in a world, the first with this number, and whether each names a link that is there
+-- what is printed for these happenings in a world, the first with this number, and whether each names a link that is
+-- there
 abbrev pub replay_from : ℕ → World Peer (List ℕ) → List Happening → List ℕ × Bool
 replay_from n w [] = (end_line w, true)
 replay_from n w (h ∷ list) =

@@ -1,5 +1,5 @@
 //! A script, read.
-ghost use Rattle.std.specs.Prelude.{◌≡◌, ◌⊎◌, ◌↔◌, true, Err, Option, Some, None, Result, Ok, IfOk, IfErr};
+ghost use Rattle.std.specs.Prelude.{◌≡◌, ◌⊎◌, true, Err, Option, Some, None, Result, Ok, IfOk, IfErr};
 ghost use Rattle.dm_base.specs.Before.{lower};
 ghost use Rattle.dm_base.specs.Fit.{is_name};
 ghost use Rattle.dm_script.specs.Progress.{host_of};
@@ -12,10 +12,9 @@ use crate::fault::ScriptFault;
 use crate::laws::one_replay;
 use crate::list::HappeningList;
 use crate::script::Script;
-use dm_base::host_order;
+use dm_peer::is_same_host;
 use dm_script::{ScriptLines, read_lines};
 use std::alloc::{AllocError, Global};
-use std::cmp::Ordering;
 
 /// The script that a text is, or None where every line is empty or a comment.
 ///
@@ -38,22 +37,12 @@ fn script_in(alloc: Global, text: &[u8]) -> Result<Option<Script>, ScriptFault>
 {
     match read_lines(alloc, text)? {
         Some(lines) => {
-            if are_one(lines.left.host, lines.right.host) {
+            if is_same_host(lines.left.host, lines.right.host) {
                 return Err(ScriptFault::SameHost);
             }
             Ok(Some(script_of(alloc, lines)?))
         }
         None => Ok(None),
-    }
-}
-
-/// Whether the two names are one, upper and lower case taken as one (RFC 6733, 5.6.4).
-fn are_one(one: &[u8], other: &[u8]) -> bool
-    ensures { (result ≡ true) ↔ (lower one.now ≡ lower other.now) }
-{
-    match host_order(one, other) {
-        Ordering::Equal => true,
-        _ => false,
     }
 }
 

@@ -23,15 +23,17 @@ pub fn assert_replayed(rt: &(impl Abort + AllocGlobal), rows: &[(&str, &str, boo
     }
 }
 
-pub const ONE_SIDE_STARTS: (&str, &str, bool) = (
-    "\
+pub const ONE_SIDE_STARTS_SCRIPT: &str = "\
 peer A b.example 4
 peer B a.example 4
 start A
 ack 0
 deliver 0 B
 deliver 0 A
-",
+";
+
+pub const ONE_SIDE_STARTS: (&str, &str, bool) = (
+    ONE_SIDE_STARTS_SCRIPT,
     "\
 1 done A Wait-Conn-Ack i0 B Closed
 2 done A Wait-I-CEA i0 B Closed
@@ -47,8 +49,7 @@ fn one_side_starts(rt: HostRuntime) {
     assert_replayed(&rt, &[ONE_SIDE_STARTS]);
 }
 
-pub const BOTH_START: (&str, &str, bool) = (
-    "\
+pub const BOTH_START_SCRIPT: &str = "\
 peer A B.example 4
 peer B a.example 4
 start A
@@ -60,7 +61,10 @@ deliver 1 A
 deliver 1 B
 deliver 0 B
 deliver 0 A
-",
+";
+
+pub const BOTH_START: (&str, &str, bool) = (
+    BOTH_START_SCRIPT,
     "\
 1 done A Wait-Conn-Ack i0 B Closed
 2 done A Wait-Conn-Ack i0 B Wait-Conn-Ack i1
@@ -313,8 +317,7 @@ fn submit_between(rt: HostRuntime) {
     assert_replayed(&rt, &[SUBMIT_BETWEEN]);
 }
 
-pub const WINNER_FIRST: (&str, &str, bool) = (
-    "\
+pub const WINNER_FIRST_SCRIPT: &str = "\
 peer A B.example 4
 peer B a.example 4
 start A
@@ -326,7 +329,10 @@ deliver 1 B
 deliver 0 B
 deliver 0 B
 deliver 0 A
-",
+";
+
+pub const WINNER_FIRST: (&str, &str, bool) = (
+    WINNER_FIRST_SCRIPT,
     "\
 1 done A Wait-Conn-Ack i0 B Closed
 2 done A Wait-Conn-Ack i0 B Wait-Conn-Ack i1
@@ -347,8 +353,7 @@ fn winner_first(rt: HostRuntime) {
     assert_replayed(&rt, &[WINNER_FIRST]);
 }
 
-pub const ELECT_BEFORE_ACK: (&str, &str, bool) = (
-    "\
+pub const ELECT_BEFORE_ACK_SCRIPT: &str = "\
 peer A B.example 4
 peer B a.example 4
 start A
@@ -360,7 +365,10 @@ deliver 1 A
 deliver 1 B
 deliver 0 B
 deliver 0 A
-",
+";
+
+pub const ELECT_BEFORE_ACK: (&str, &str, bool) = (
+    ELECT_BEFORE_ACK_SCRIPT,
     "\
 1 done A Wait-Conn-Ack i0 B Closed
 2 done A Wait-I-CEA i0 B Closed
@@ -446,6 +454,11 @@ end agreed=yes quiet=yes open=-
     true,
 );
 
+#[test]
+fn cut_in_piece(rt: HostRuntime) {
+    assert_replayed(&rt, &[CUT_IN_PIECE]);
+}
+
 const KEPT_AFTER_PIECE: (&str, &str, bool) = (
     "\
 peer A b.example 4
@@ -472,8 +485,8 @@ end agreed=yes quiet=yes open=-
 );
 
 #[test]
-fn lost_in_a_piece(rt: HostRuntime) {
-    assert_replayed(&rt, &[CUT_IN_PIECE, KEPT_AFTER_PIECE]);
+fn kept_after_piece(rt: HostRuntime) {
+    assert_replayed(&rt, &[KEPT_AFTER_PIECE]);
 }
 
 const PIECE_IGNORED: (&str, &str, bool) = (

@@ -1,4 +1,7 @@
 //! Worlds by their own calls: how many happenings are done, of which kind, and what stands at the end.
+use crate::rows::{
+    BOTH_START_SCRIPT, ELECT_BEFORE_ACK_SCRIPT, ONE_SIDE_STARTS_SCRIPT, WINNER_FIRST_SCRIPT,
+};
 use dm_replay::{Script, read_script};
 use dm_world::{Config, Effect, Happening, NewFault, Side, World, WorldFault};
 use std::alloc::Global;
@@ -178,96 +181,45 @@ fn assert_ends(rt: &(impl Abort + AllocGlobal), rows: &[(&str, Way, End)]) {
     }
 }
 
-const ONE_SIDE_STARTS: &str = "\
-peer A b.example 4
-peer B a.example 4
-start A
-ack 0
-deliver 0 B
-deliver 0 A
-";
-
-const BOTH_START: &str = "\
-peer A B.example 4
-peer B a.example 4
-start A
-start B
-ack 0
-ack 1
-deliver 0 B
-deliver 1 A
-deliver 1 B
-deliver 0 B
-deliver 0 A
-";
-
-const WINNER_FIRST: &str = "\
-peer A B.example 4
-peer B a.example 4
-start A
-start B
-ack 0
-ack 1
-deliver 1 A
-deliver 1 B
-deliver 0 B
-deliver 0 B
-deliver 0 A
-";
-
-const ELECT_BEFORE_ACK: &str = "\
-peer A B.example 4
-peer B a.example 4
-start A
-ack 0
-start B
-deliver 0 B
-ack 1
-deliver 1 A
-deliver 1 B
-deliver 0 B
-deliver 0 A
-";
-
 /// Once through, each is quiet; and so often that nothing more can be delivered, nothing more is done.
 const CLEAN_RUNS: [(&str, Way, End); 8] = [
     (
-        ONE_SIDE_STARTS,
+        ONE_SIDE_STARTS_SCRIPT,
         Way::Apply(1),
         (Came::Done(ONE_STARTED), true, Some(0)),
     ),
     (
-        ONE_SIDE_STARTS,
+        ONE_SIDE_STARTS_SCRIPT,
         Way::Apply(3),
         (Came::Done(ONE_STARTED), true, Some(0)),
     ),
     (
-        BOTH_START,
+        BOTH_START_SCRIPT,
         Way::Apply(1),
         (Came::Done(BOTH_STARTED), true, Some(1)),
     ),
     (
-        BOTH_START,
+        BOTH_START_SCRIPT,
         Way::Apply(3),
         (Came::Done(BOTH_STARTED), true, Some(1)),
     ),
     (
-        WINNER_FIRST,
+        WINNER_FIRST_SCRIPT,
         Way::Apply(1),
         (Came::Done(BOTH_STARTED), true, Some(1)),
     ),
     (
-        WINNER_FIRST,
+        WINNER_FIRST_SCRIPT,
         Way::Apply(3),
         (Came::Done(BOTH_STARTED), true, Some(1)),
     ),
     (
-        ELECT_BEFORE_ACK,
+        ELECT_BEFORE_ACK_SCRIPT,
         Way::Apply(1),
         (Came::Done(BOTH_STARTED), true, Some(1)),
     ),
     (
-        ELECT_BEFORE_ACK,
+        ELECT_BEFORE_ACK_SCRIPT,
         Way::Apply(3),
         (Came::Done(BOTH_STARTED), true, Some(1)),
     ),
@@ -335,7 +287,7 @@ fn clean_runs_of_other_orders(rt: HostRuntime) {
 
 const RUNS: [(&str, Way, End); 2] = [
     (
-        ONE_SIDE_STARTS,
+        ONE_SIDE_STARTS_SCRIPT,
         Way::Run,
         (Came::Ran(4, None), true, Some(0)),
     ),

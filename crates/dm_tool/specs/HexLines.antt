@@ -1,5 +1,5 @@
--- What is printed for lines of messages in hexadecimal, and whether all was good: of each message its answer, a text and
--- whether it is good.
+-- What is printed for lines of messages in hexadecimal, and whether all was good: of each message its answer, a text
+-- and whether it is good.
 use Rattle.std.specs.Prelude.{◌≡◌, ◌⊎◌, ℕ, Bool, true, false, MatchOption, List, [], ◌∷◌, ◌++◌, codes}
 use Rattle.dm_wire.specs.declared.message.Message.{Message}
 use Rattle.dm_wire.specs.declared.fault.WireFault.{WireFault}

@@ -8,7 +8,8 @@ use Rattle.dm_text.specs.Words.{words}
 use Rattle.dm_text.specs.Numbers.{TellsNumber}
 use Rattle.dm_tool.specs.AvpWords.{TellsCode, TellsData}
 
--- the line of a message: `message`, the Command Code, the flags in their places, and three more numbers, each after its name (RFC 6733, 3)
+-- the line of a message: `message`, the Command Code, the flags in their places, and three more numbers, each after its
+-- name (RFC 6733, 3)
 pub record TellsHeader (h : Header) (line : List ℕ) : Type 0 where
   pub command : List ℕ
   pub application : List ℕ

@@ -23,7 +23,8 @@ Prints (Check with_dict) = Checks with_dict
 Prints Build = BuildsText
 Prints Replay = ReplaysText
 
--- A run whose texts are these, over what the reader has left (input, then rest) and what the writer holds (before, after).
+-- A run whose texts are these, over what the reader has left (input, then rest) and what the writer holds (before,
+-- after).
 pub record Ran (Texts : List ℕ → List ℕ → Bool → Type 0) (input rest before after : Option (List ℕ))
     (outcome : Result Bool ToolFault) : Type 0 where
   -- the text of the whole input is written, and the outcome is whether all of it was good

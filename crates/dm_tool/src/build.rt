@@ -1,6 +1,5 @@
 //! The command build: messages as show prints them, turned back into octets.
-ghost use Rattle.std.specs.Prelude.{◌≡◌, ◌++◌, ◌∷◌, [], IfOk, IfErr, OnOk, codes};
-ghost use Rattle.std.specs.Fmt.{decimal};
+ghost use Rattle.std.specs.Prelude.{◌≡◌, IfOk, IfErr};
 ghost use Rattle.dm_tool.specs.Build.{BuildsText};
 ghost use Rattle.dm_tool.specs.Run.{Ran};
 
@@ -8,8 +7,8 @@ use crate::building::Building;
 use crate::choice::Choice;
 use crate::fault::ToolFault;
 use crate::run::run;
-use dm_text::{Lines, push_decimal};
-use std::alloc::{AllocError, Global};
+use dm_text::{Lines, push_syntax};
+use std::alloc::Global;
 use std::io::{Read, Write};
 
 /// Reads Diameter messages as show prints them, and writes each as one line of lower case
@@ -48,14 +47,4 @@ pub fn build_text(alloc: Global, input: &[u8]) -> Result<(Vec<u8>, bool), ToolFa
         before += 1;
     }
     building.end(alloc)
-}
-
-/// Appends the words for the line of this number, which is out of place.
-fn push_syntax(text: &mut Vec<u8>, number: u64) -> Result<(), AllocError>
-    ensures { OnOk result (text.new.items ≡ text.old.items ++ codes "fault syntax " ++ decimal number ++ 10 ∷ []) }
-{
-    text.extend_from_slice(b"fault syntax ")?;
-    push_decimal(text, number)?;
-    text.push(b'\n')?;
-    Ok(())
 }

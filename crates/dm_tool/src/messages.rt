@@ -12,7 +12,7 @@ use crate::text::{push_fault, push_message_text};
 use crate::verdict::push_verdict;
 use dm_dict::{Dictionary, Verdict};
 use dm_text::{Lines, is_skipped, read_hex_line, trim};
-use dm_wire::{Message, MessageRef, WireFault};
+use dm_wire::{MessageRef, WireFault};
 use std::alloc::{AllocError, Global};
 
 /// What is printed for a message.
@@ -79,23 +79,23 @@ fn print_octets(
     ensures fault { IfErr result (λ e. e ≡ ToolFault.Memory) }
 {
     match task {
-        Task::Show => show_octets(alloc, octets, text),
+        Task::Show => show_octets(octets, text),
         Task::Check(dictionary) => check_octets(alloc, dictionary, octets, text),
     }
 }
 
-/// Appends the text of the message that the octets spell, or of their fault.
-fn show_octets(alloc: Global, octets: &[u8], text: &mut Vec<u8>) -> Result<bool, ToolFault>
+/// Appends the text of the message that the octets spell, or of their fault. Of the message nothing is copied.
+fn show_octets(octets: &[u8], text: &mut Vec<u8>) -> Result<bool, ToolFault>
     ensures printed { IfOk result (λ good. (more : List ℕ) × (text.new.items ≡ text.old.items ++ more)
         × (PrintsMessage shown octets.now more good ⊎ PrintsFault octets.now more good)) }
     ensures fault { IfErr result (λ e. e ≡ ToolFault.Memory) }
 {
-    match Message::decode(alloc, octets) {
+    match MessageRef::read(octets) {
         Ok(message) => {
             push_message_text(text, &message)?;
             Ok(true)
         }
-        Err(fault) => Ok(print_fault(text, fault)?),
+        Err(fault) => print_fault(text, fault),
     }
 }
 

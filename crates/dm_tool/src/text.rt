@@ -1,21 +1,38 @@
 //! Messages, AVPs and faults as text.
-ghost use Rattle.std.specs.Prelude.{◌≡◌, ◌≢◌, ◌∷◌, ◌++◌, [], OnOk, IfErr};
+ghost use Rattle.std.specs.Prelude.{◌≡◌, ◌≢◌, ◌∷◌, ◌++◌, [], List, OnOk, IfErr};
 ghost use Rattle.std.specs.Fmt.{decimal};
+ghost use Rattle.std.specs.List.{flat_map};
+ghost use Rattle.dm_wire.specs.declared.avp.Avp.{Avp};
+ghost use Rattle.dm_wire.specs.Borrowed.{avp_of, Lists};
+ghost use Rattle.dm_wire.specs.Spelling.{SpellsList};
 ghost use Rattle.dm_tool.specs.Text.{mark, header_flags, header_text, avp_flags, vendor_text, data_text, avp_text, avp_line, message_text, fault_text};
 
 use crate::fault::ToolFault;
 use dm_text::{push_decimal, push_hex};
-use dm_wire::{Avp, Header, Message, WireFault};
+use dm_wire::laws::spelled_are_members;
+use dm_wire::{AvpRef, AvpsRef, Header, MessageRef, WireFault};
 use std::alloc::AllocError;
 
-/// Appends a message's lines to the text.
-pub fn push_message_text(text: &mut Vec<u8>, message: &Message) -> Result<(), AllocError>
-    ensures { OnOk result (text.new.items ≡ text.old.items ++ message_text message.now) }
+/// Appends the lines of a message where it lies to the text.
+pub fn push_message_text(text: &mut Vec<u8>, message: &MessageRef<'_>) -> Result<(), AllocError>
+    ensures { (l : List Avp) → SpellsList l message.now.rest.now → OnOk result (text.new.items ≡ text.old.items
+        ++ message_text (record { header = message.now.header; avps = l })) }
 {
+    spelled_are_members();
     push_header(text, &message.header)?;
     text.push(b'\n')?;
-    for avp in message.avps.as_slice() {
+    push_avp_lines(text, AvpsRef::Spelled(message.rest))?;
+    Ok(())
+}
+
+/// Appends the lines of AVPs, one after the other.
+fn push_avp_lines(text: &mut Vec<u8>, list: AvpsRef<'_>) -> Result<(), AllocError>
+    ensures { (l : List Avp) → Lists list.entry l → OnOk result (text.new.items ≡ text.old.items ++ flat_map avp_line l) }
+{
+    let mut left = list;
+    while let Some((avp, rest)) = left.split_first() {
         push_avp_line(text, avp)?;
+        left = rest;
     }
     Ok(())
 }
@@ -43,18 +60,18 @@ pub fn push_fault(text: &mut Vec<u8>, fault: WireFault) -> Result<(), ToolFault>
 }
 
 /// Appends an AVP as text, without spaces before it.
-pub fn push_avp(text: &mut Vec<u8>, avp: &Avp) -> Result<(), AllocError>
-    ensures { OnOk result (text.new.items ≡ text.old.items ++ avp_text avp.now) }
+pub fn push_avp(text: &mut Vec<u8>, avp: AvpRef<'_>) -> Result<(), AllocError>
+    ensures { OnOk result (text.new.items ≡ text.old.items ++ avp_text (avp_of avp.entry)) }
 {
     push_named(text, b"", avp.code)?;
     push_vendor(text, avp.vendor)?;
     push_avp_flags(text, avp)?;
-    push_data(text, avp.bytes.as_slice())?;
+    push_data(text, avp.bytes)?;
     Ok(())
 }
 
-fn push_avp_flags(text: &mut Vec<u8>, avp: &Avp) -> Result<(), AllocError>
-    ensures { OnOk result (text.new.items ≡ text.old.items ++ 32 ∷ avp_flags avp.now ++ 32 ∷ []) }
+fn push_avp_flags(text: &mut Vec<u8>, avp: AvpRef<'_>) -> Result<(), AllocError>
+    ensures { OnOk result (text.new.items ≡ text.old.items ++ 32 ∷ avp_flags (avp_of avp.entry) ++ 32 ∷ []) }
 {
     let flags = [
         b' ',
@@ -67,8 +84,8 @@ fn push_avp_flags(text: &mut Vec<u8>, avp: &Avp) -> Result<(), AllocError>
     Ok(())
 }
 
-fn push_avp_line(text: &mut Vec<u8>, avp: &Avp) -> Result<(), AllocError>
-    ensures { OnOk result (text.new.items ≡ text.old.items ++ avp_line avp.now) }
+fn push_avp_line(text: &mut Vec<u8>, avp: AvpRef<'_>) -> Result<(), AllocError>
+    ensures { OnOk result (text.new.items ≡ text.old.items ++ avp_line (avp_of avp.entry)) }
 {
     text.extend_from_slice(b"  ")?;
     push_avp(text, avp)?;

@@ -33,7 +33,7 @@ fn push_failed(text: &mut Vec<u8>, failed: Option<&Avp>) -> Result<(), AllocErro
 {
     if let Some(avp) = failed {
         text.push(b' ')?;
-        push_avp(text, avp)?;
+        push_avp(text, avp.borrowed())?;
     }
     Ok(())
 }

@@ -12,8 +12,8 @@ use Rattle.dm_value.specs.Meaning.{Means}
 abbrev pub AreOctets : List ℕ → Type 0
 AreOctets s = (i : ℕ) → slice_index s i < 256
 
--- `flaw` answers for octets of a type: None where they have a value, else their fault. Only for a group does it matter that the
--- numbers are below 256
+-- `flaw` answers for octets of a type: None where they have a value, else their fault. Only for a group does it matter
+-- that the numbers are below 256
 abbrev pub FlawDecides : Type 0
 FlawDecides =
     (kind : AvpType) (s : List ℕ) → (kind ≡ Grouped → AreOctets s)

@@ -1,7 +1,10 @@
 //! Values as data of AVPs, and copies of them.
-ghost use Rattle.std.specs.Prelude.{◌≡◌, ◌≢◌, ◌↔◌, false, IfOk, Err, IsErrOf};
+ghost use Rattle.std.specs.Prelude.{◌≡◌, ◌≢◌, ◌↔◌, false, IfOk, Err, IsErrOf, List};
+ghost use Rattle.dm_wire.specs.declared.avp.Avp.{Avp};
+ghost use Rattle.dm_wire.specs.Canonical.{canonical_list};
 ghost use Rattle.dm_value.specs.Meaning.{Means, type_of, HasNoOctets, HasLongMember};
 ghost use Rattle.dm_value.specs.Making.{fault_code};
+ghost use Rattle.dm_value.specs.declared.value.Value.{Value};
 
 use crate::{AvpType, Value, ValueFault, write_value};
 use dm_wire::codes::results;
@@ -42,7 +45,10 @@ impl Value {
         ensures vendor { IfOk result (λ avp. avp.vendor ≡ vendor) }
         ensures mandatory { IfOk result (λ avp. avp.mandatory ≡ mandatory) }
         ensures protected { IfOk result (λ avp. avp.protected ≡ false) }
+        // The data means the value, and no other.
         ensures data { IfOk result (λ avp. Means (type_of self.now) avp.bytes self.now) }
+        ensures one { IfOk result (λ avp. (read : Value) → Means (type_of self.now) avp.bytes read → read ≡ self.now) }
+        ensures group { (avps : List Avp) → self.now ≡ Value.Group avps → IfOk result (λ avp. avp.bytes ≡ canonical_list avps) }
         ensures long { IsErrOf result ValueFault.TooLong ↔ HasLongMember self.now }
         ensures value { IsErrOf result ValueFault.WrongValue
             ↔ (HasNoOctets self.now × (HasLongMember self.now → ⊥)) }

@@ -1,5 +1,6 @@
 -- What octets spell: AVPs, lists of AVPs, headers and messages (RFC 6733, 3 and 4.1).
--- These are relations, for padding and reserved bits are free. An octet is a number; in the lists of a program it is below 256.
+-- These are relations, for padding and reserved bits are free. An octet is a number; in the lists of a program it is
+-- below 256.
 use Rattle.std.specs.Prelude.{◌≡◌, ℕ, ◌+◌, ◌%◌, ◌^◌, ◌<◌, ◌≤◌, Bool, not, nat_eq, bit_and, Option, None, Some, IfSome, is_some, List, [], ◌∷◌, ◌++◌, length}
 use Rattle.std.specs.Int.{bytes_high_first}
 use Rattle.dm_wire.specs.declared.avp.Avp.{Avp}

@@ -10,7 +10,7 @@ use crate::AvpRef;
 use crate::read::first_avp;
 use std::marker::Model;
 
-/// A walk over octets, one AVP at a time. It takes no memory.
+/// A walk over octets, one AVP at a time (RFC 6733, 4.1). It takes no memory.
 ///
 /// A contract sees it as the octets that it has not passed, their offset and whether it has met a bad AVP.
 #[derive(Debug, Drop)]

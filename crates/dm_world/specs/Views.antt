@@ -19,7 +19,8 @@ use Rattle.dm_world.specs.Seen.{as_links}
 abbrev pub as_world : Net → World Peer (List ℕ)
 as_world n = record { a = n.pair.a; b = n.pair.b; links = as_links n.links.items }
 
--- what is told has this effect: it is done, with some messages and disconnects put in; or it is ignored, and nothing changes
+-- what is told has this effect: it is done, with some messages and disconnects put in; or it is ignored, and nothing
+-- changes
 abbrev pub Effects : Effect → After Peer (List ℕ) → World Peer (List ℕ) → World Peer (List ℕ) → Type 0
 Effects effect.Done after old new = (put : List (Put (List ℕ))) × (after ≡ Done new put)
 Effects effect.Ignored after old new = (after ≡ Ignored) × (new ≡ old)

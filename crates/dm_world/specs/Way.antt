@@ -1,5 +1,5 @@
--- What contracts see of a direction: its messages, what was taken of the front one, its disconnect; and how many more messages it
--- has room for.
+-- What contracts see of a direction: its messages, what was taken of the front one, its disconnect; and how many more
+-- messages it has room for.
 use Rattle.std.specs.Prelude.{ℕ, List}
 use Rattle.dm_links.specs.Links.{Direction}
 

@@ -26,7 +26,7 @@ use dm_peer::{Config, Conn, Peer, is_same_host};
 use dm_wire::Octets;
 use std::alloc::Global;
 
-/// Two peers, each configured for the other, and the links between them.
+/// Two peers, each configured for the other, and the links between them (RFC 6733, 5.6).
 #[derive(Debug, Drop)]
 pub struct World {
     pub(crate) net: Net,
@@ -56,7 +56,7 @@ fn fault_of(left: &Config, right: &Config) -> Option<NewFault>
 impl World {
     ghost use Rattle.std.specs.Prelude.{◌≡◌, ◌↔◌, ℕ, true, IsTrue, IfOk, IfErr, IfSome, OnErr, Some, None, Err, map, take, length, slice_get, List};
     ghost use Rattle.std.specs.Option.{IfNone};
-    ghost use Rattle.dm_links.specs.Agreement.{Agreed, EndsAreHeld, OpenIsMatched};
+    ghost use Rattle.dm_links.specs.Agreement.{Agreed, EndsAreHeld, HeldAreLinks, OpenIsMatched};
     ghost use Rattle.dm_links.specs.Happens.{happens, run};
     ghost use Rattle.dm_links.specs.Laws.{world_of};
     ghost use Rattle.dm_links.specs.Quiet.{is_quiet};
@@ -115,6 +115,7 @@ impl World {
             (record { world = as_world self.new.net; put = put })) }
         ensures agreed { Agreed octet_peers (as_world self.new.net) }
         ensures ends { EndsAreHeld octet_peers (as_world self.new.net) }
+        ensures held { HeldAreLinks octet_peers (as_world self.new.net) }
         ensures matched { OpenIsMatched octet_peers (as_world self.new.net) }
         ensures cut { AreCut octet_peers (as_world self.new.net) }
         ensures settled { AreClosed (as_world self.old.net) → AreClean (take result.0 list.now) →

@@ -31,7 +31,7 @@ fn assert_requests(rt: &(impl Abort + AllocGlobal), rows: &[(u32, &str)]) {
 }
 
 #[test]
-fn requests_are_built(rt: HostRuntime) {
+fn built_messages(rt: HostRuntime) {
     assert_requests(&rt, REQUEST_ROWS);
 }
 
@@ -70,7 +70,7 @@ fn assert_answers(rt: &(impl Abort + AllocGlobal), rows: &[(&str, &str)]) {
 }
 
 #[test]
-fn answers_are_built(rt: HostRuntime) {
+fn built_messages_of_answers(rt: HostRuntime) {
     assert_answers(&rt, ANSWER_ROWS);
 }
 

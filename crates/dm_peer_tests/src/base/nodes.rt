@@ -73,7 +73,7 @@ fn inband_security(rt: HostRuntime) {
 }
 
 #[test]
-fn host_orders(rt: HostRuntime) {
+fn host_order_of_names(rt: HostRuntime) {
     assert!(&rt; host_order(b"B.example", b"a.example") == Ordering::Greater);
     assert!(&rt; host_order(b"a.example", b"a.example.org") == Ordering::Less);
     assert!(&rt; host_order(b"A", b"a") == Ordering::Equal);

@@ -39,17 +39,31 @@ fn refused_capabilities(rt: HostRuntime) {
     check_runs(&rt, &CAPABILITIES);
 }
 
-const OPEN: [Case<'static>; 7] = [
-    (
-        Told::Hears(7, CER),
-        &[Done::Send(7, ACCEPTED)],
-        State::ROpen,
-    ),
+const HEARD: Case<'static> = (
+    Told::Hears(7, CER),
+    &[Done::Send(7, ACCEPTED)],
+    State::ROpen,
+);
+
+const BAD_WATCHDOG: [Case<'static>; 2] = [
+    HEARD,
     (
         Told::Hears(7, BARE_DWR),
         &[Done::Send(7, BAD_DWR)],
         State::ROpen,
     ),
+];
+
+#[test]
+fn bad_watchdog_answered(rt: HostRuntime) {
+    check_runs(
+        &rt,
+        &[(b"B.example", b"a.example", 4, &BAD_WATCHDOG, NOTHING)],
+    );
+}
+
+const OPEN: [Case<'static>; 6] = [
+    HEARD,
     (
         Told::Submit(SUBMITTED),
         &[Done::Send(7, SUBMITTED)],

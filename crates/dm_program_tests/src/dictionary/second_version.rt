@@ -103,7 +103,7 @@ const FAULT_ROWS: &[(&[u8], Option<DictFault>)] = &[
 ];
 
 #[test]
-fn faults_of_version_2(rt: HostRuntime) {
+fn version_2_faults(rt: HostRuntime) {
     assert_faults_over_empty(&rt, FAULT_ROWS);
 }
 

@@ -95,7 +95,7 @@ fn dictionary_ends(rt: HostRuntime) {
 
 /// A value that the list of an Enumerated leaves out, and one of it.
 #[test]
-fn listed_values(rt: HostRuntime) {
+fn listed_value(rt: HostRuntime) {
     let rows = &[
         (
             "@ 2\n@ vendor Acme 99\n@ Colour 5000 Enumerated : Acme { RED 0, BLUE 2 }\n< Ask > ::= < Diameter Header: 300, REQ > { Colour }\n%%\n01000024 8000012c 00000000 00000001 00000001 00001388 c0000010 00000063 00000001",

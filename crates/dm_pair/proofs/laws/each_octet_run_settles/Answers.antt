@@ -9,10 +9,12 @@ returns c =
     let a = w.a.config in
     let b = w.b.config in
     c.each_clean_run_settles.ensures octet_peers (octet_talks a b)
-    (c.octets_are_electing.ensures a b peers.paired) w sound
+    (c.octets_are_electing.ensures a b peers.paired) w
     (record {
       a = record { configured = refl; stands = peers.left };
       b = record { configured = refl; stands = peers.right };
+      shaped_a = sound.own_shaped;
+      shaped_b = sound.other_shaped;
       closed_a = closed.left;
       closed_b = closed.right;
       quiet = closed.quiet;

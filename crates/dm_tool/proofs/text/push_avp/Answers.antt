@@ -7,7 +7,6 @@ unfolding avp_text
 returns c =
     rw (
       c.in_ok-push_data.ensures,
-      c.as_slice.ensures,
       c.in_ok-push_avp_flags.ensures,
       c.in_ok-push_vendor.ensures,
       c.in_ok-push_named.ensures,

@@ -29,6 +29,10 @@ pub returns-in-Err-clause-ends : goal.returns-in-Err-clause-ends
 returns-in-Err-clause-ends c =
     (c.sound_is_promised.ensures octet_peers (as_world c.apply.new.self.net) c.apply.new.self.sound).ends_are_held
 
+pub returns-in-Err-clause-held : goal.returns-in-Err-clause-held
+returns-in-Err-clause-held c =
+    (c.sound_is_promised.ensures octet_peers (as_world c.apply.new.self.net) c.apply.new.self.sound).held_are_links
+
 pub returns-in-Err-clause-matched : goal.returns-in-Err-clause-matched
 returns-in-Err-clause-matched c =
     (c.sound_is_promised.ensures octet_peers (as_world c.apply.new.self.net) c.apply.new.self.sound).open_is_matched
@@ -36,6 +40,10 @@ returns-in-Err-clause-matched c =
 pub returns-clause-ends : goal.returns-clause-ends
 returns-clause-ends c =
     (c.sound_is_promised.ensures octet_peers (as_world c.loop-count.self.net) c.loop-count.self.sound).ends_are_held
+
+pub returns-clause-held : goal.returns-clause-held
+returns-clause-held c =
+    (c.sound_is_promised.ensures octet_peers (as_world c.loop-count.self.net) c.loop-count.self.sound).held_are_links
 
 pub returns-clause-matched : goal.returns-clause-matched
 returns-clause-matched c =
