@@ -1,15 +1,21 @@
 -- The parts of the answer of success, written one behind the other.
-use Rattle.std.proofs.Common.{◌≡◌, ◌≤◌, ℕ, ◌+◌, true, nat_le, List, [], ◌∷◌, ◌++◌, length, refl, ◌∙◌, ap, arith, append_assoc, append-nil, length-append}
+use Rattle.std.proofs.Common.{◌≡◌, ◌≤◌, ℕ, ◌+◌, true, nat_le, None, List, [], ◌∷◌, ◌++◌, length, refl, ◌∙◌, ap, sym, subst, arith, append_assoc, append-nil, length-append}
 use Rattle.std.proofs.lemmas.Bool.{and_parts, leb-true}
 use Rattle.dm_value.specs.Flaws.{is_visible_text}
 use Rattle.dm_wire.specs.declared.avp.Avp.{Avp}
-use Rattle.dm_wire.specs.Spelling.{be, avp_length}
-use Rattle.dm_wire.specs.Canonical.{zeros, canonical_avp, canonical_list}
+use Rattle.dm_wire.specs.declared.message.Header.{Header}
+use Rattle.dm_wire.specs.declared.message.Message.{Message}
+use Rattle.dm_wire.specs.Spelling.{be, avp_length, SpellsMessage}
+use Rattle.dm_wire.specs.Canonical.{zeros, canonical_avp, canonical_list, canonical_message}
 use Rattle.dm_wire.specs.Fitting.{AvpSized}
+use Rattle.dm_wire.specs.Limits.{HeaderFits}
+use Rattle.dm_wire.specs.RoundTrip.{CanonicalSpells}
 use Rattle.dm_wire.specs.Members.{padded}
 use Rattle.dm_base.specs.Codes.{origin_host, origin_realm}
 use Rattle.dm_base.specs.Fit.{is_name}
-use Rattle.dm_base.specs.Built.{avp, origin, result_avp}
+use Rattle.dm_base.specs.Built.{avp, origin, result_avp, built_answer}
+use Rattle.dm_base.specs.Laws.{AnswerIsSpelled}
+use Rattle.dm_base.specs.Spelled.{HasSpelling, IsSpelledBy}
 use Rattle.dm_base.specs.declared.node.Node.{Node}
 
 -- a name is short
@@ -54,3 +60,14 @@ pub list_sized : AvpSized → (a b c : Avp)
     → length (canonical_list (a ∷ b ∷ c ∷ [])) ≡ padded (avp_length a) + padded (avp_length b) + padded (avp_length c)
 list_sized sized a b c =
     summed (canonical_avp a) (canonical_avp b) (canonical_avp c) ∙ rw (sized a, sized b, sized c) refl
+
+-- the canonical octets of a message that has a spelling spell it
+canonical_spelled : CanonicalSpells → (m : Message) (s : List ℕ) → HasSpelling m → s ≡ canonical_message m
+    → IsSpelledBy m s
+canonical_spelled law m s has e = record { spelled = subst (SpellsMessage m) (sym e) (law m has.octets has.spelled) }
+
+-- so what is written spells the answer of success
+pub success_spelled : CanonicalSpells → AnswerIsSpelled → (n : Node) (to : Header) (s : List ℕ) → HeaderFits to
+    → s ≡ canonical_message (built_answer n to 2001 None) → IsSpelledBy (built_answer n to 2001 None) s
+success_spelled law spelled n to s fits e =
+    canonical_spelled law (built_answer n to 2001 None) s (spelled n to 2001 None fits) e

@@ -96,6 +96,10 @@ kind d m =
     then kind_or_fault (first (faults d m)) (kind_of m.header.command m.header.request m.avps)
     else Ok kinds.Other
 
+-- under the base dictionary the message is good
+pub record IsGood (m : Message) : Type 0 where
+  pub faultless : faults base_definitions m ≡ []
+
 -- under the base dictionary the message is good and of this kind
 pub record IsBase (m : Message) (k : Kind) : Type 0 where
   pub of_kind : kind base_definitions m ≡ Ok k

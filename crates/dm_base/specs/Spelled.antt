@@ -7,3 +7,7 @@ use Rattle.dm_wire.specs.Spelling.{SpellsMessage}
 pub record HasSpelling (m : Message) : Type 0 where
   pub octets : List ℕ
   pub spelled : SpellsMessage m octets
+
+-- these octets spell the message
+pub record IsSpelledBy (m : Message) (octets : List ℕ) : Type 0 where
+  pub spelled : SpellsMessage m octets

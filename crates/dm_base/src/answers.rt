@@ -4,7 +4,7 @@ ghost use Rattle.std.specs.Option.{option_copied};
 ghost use Rattle.dm_wire.specs.Limits.{HeaderFits};
 ghost use Rattle.dm_base.specs.Spelled.{HasSpelling};
 ghost use Rattle.dm_base.specs.declared.kind.Kind.TheVariants as kinds;
-ghost use Rattle.dm_base.specs.Kinds.{IsBase};
+ghost use Rattle.dm_base.specs.Kinds.{IsGood, IsBase};
 ghost use Rattle.dm_base.specs.Built.{answer_header, built_cea, built_answer, built_error};
 
 use crate::Node;
@@ -125,6 +125,8 @@ fn plain_error(alloc: Global, node: &Node, to: &Header, code: u32) -> Result<Mes
 pub fn error_answer(alloc: Global, node: &Node, to: &Header, code: u32) -> Result<Message, NoMemory>
     ensures built { IfOk result (λ m. m ≡ built_error node.now to.now code) }
     ensures spelled { to.now.command < 256 ^ 3 → HasSpelling (built_error node.now to.now code) }
+    // Whatever the command and the Result-Code.
+    ensures good { IsGood (built_error node.now to.now code) }
 {
     built_is_spelled();
     plain_error(alloc, node, to, code)

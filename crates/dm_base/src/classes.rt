@@ -16,8 +16,9 @@ use dm_dict::{Dictionary, NoMemory, Verdict};
 use dm_wire::{AvpsRef, Message};
 use std::alloc::Global;
 
-/// Whether messages of the command are read.
-pub(crate) fn is_base(command: u32) -> bool
+/// Whether the command is that of base messages: 257 (Capabilities-Exchange), 280 (Device-Watchdog) or 282
+/// (Disconnect-Peer) (RFC 6733, 5.3, 5.5 and 5.4). It takes no memory.
+pub fn is_base(command: u32) -> bool
     ensures { result ≡ is_base_command command }
 {
     command == CAPABILITIES_EXCHANGE || command == DEVICE_WATCHDOG || command == DISCONNECT_PEER

@@ -3,12 +3,12 @@ ghost use Rattle.std.specs.Prelude.{◌≡◌, true, IfOk, string_bytes, length}
 ghost use Rattle.std.specs.Result.{result_err};
 ghost use Rattle.std.specs.List.{list_all};
 ghost use Rattle.std.specs.Str.{is_utf8};
-ghost use Rattle.dm_value.specs.Flaws.{is_visible_text};
 ghost use Rattle.dm_base.specs.Refusals.{node_fault};
 ghost use Rattle.dm_base.specs.Fit.{is_sized, is_name, are_addresses, is_number, is_product, are_ids};
 
+use crate::names::{MAX_NAME_LEN, is_visible_text};
 use crate::{IdList, IpList, NodeFault};
-use dm_dict::{AvpType, Ip, Text, value_fault};
+use dm_dict::{Ip, Text};
 use dm_wire::Octets;
 
 /// What a node says of itself (RFC 6733, 5.3).
@@ -30,13 +30,6 @@ pub struct Node {
     pub ghost fit_acct: { are_ids acct ≡ true },
 }
 
-/// Whether the octets are a name: at least one, and all visible (RFC 6733, 4.3.1).
-fn is_name(octets: &[u8]) -> bool
-    ensures { result ≡ is_visible_text octets.now }
-{
-    value_fault(AvpType::DiameterIdentity, octets).is_none()
-}
-
 /// Why there is no node of these parts.
 fn fault_of(
     host: &[u8],
@@ -48,15 +41,15 @@ fn fault_of(
 ) -> Option<NodeFault>
     ensures { result ≡ node_fault host.now realm.now addresses.now product.now auth.now acct.now }
 {
-    if !(is_name(host) && is_name(realm)) {
+    if !(is_visible_text(host) && is_visible_text(realm)) {
         return Some(NodeFault::BadHost);
     }
     if addresses.len() == 0 {
         return Some(NodeFault::NoAddress);
     }
-    if host.len() > 255
-        || realm.len() > 255
-        || product.len() > 255
+    if host.len() > MAX_NAME_LEN
+        || realm.len() > MAX_NAME_LEN
+        || product.len() > MAX_NAME_LEN
         || addresses.len() > 64
         || auth.len() > 256
         || acct.len() > 256
@@ -66,30 +59,30 @@ fn fault_of(
     None
 }
 
-fn of_4(address: &[u8; 4])
+fn has_4_octets(address: &[u8; 4])
     ensures { length address.now ≡ 4 }
 {}
 
-fn of_16(address: &[u8; 16])
+fn has_16_octets(address: &[u8; 16])
     ensures { length address.now ≡ 16 }
 {}
 
 /// The address has the octets of its family, as its type says.
-fn sized(ip: &Ip)
+fn has_its_size(ip: &Ip)
     ensures { is_sized ip.now ≡ true }
 {
     match ip {
-        Ip::V4(address) => of_4(address),
-        Ip::V6(address) => of_16(address),
+        Ip::V4(address) => has_4_octets(address),
+        Ip::V6(address) => has_16_octets(address),
     }
 }
 
 /// So have all addresses.
-fn all_sized(addresses: &[Ip])
+fn have_their_sizes(addresses: &[Ip])
     ensures { list_all is_sized addresses.now ≡ true }
 {
     for ip in addresses {
-        sized(ip);
+        has_its_size(ip);
     }
 }
 
@@ -144,7 +137,7 @@ impl Node {
         ) {
             Some(fault) => Err(fault),
             None => {
-                all_sized(addresses.as_slice());
+                have_their_sizes(addresses.as_slice());
                 all_numbers(auth.as_slice());
                 all_numbers(acct.as_slice());
                 is_text(&product);

@@ -5,6 +5,7 @@ ghost use Rattle.std.specs.Option.{option_to_list};
 ghost use Rattle.dm_wire.specs.declared.avp.Avp.{Avp};
 ghost use Rattle.dm_wire.specs.Borrowed.{avp_of};
 ghost use Rattle.dm_wire.specs.Borrowed.{Lists};
+ghost use Rattle.dm_base.specs.Codes.{vendor_specific_application_id};
 ghost use Rattle.dm_base.specs.Kinds.{is_plain, data_at, number_in, number_at, plain_id, plain_ids, security_id, security_ids, application_ids, caps_of};
 
 use crate::codes::{
@@ -80,7 +81,7 @@ pub(crate) fn security_id(avp: AvpRef<'_>) -> Option<u32>
 
 /// Whether the AVP is a Vendor-Specific-Application-Id.
 pub(crate) fn is_vendor_specific(avp: AvpRef<'_>) -> bool
-    ensures { result ≡ is_plain 260 (avp_of avp.entry) }
+    ensures { result ≡ is_plain vendor_specific_application_id (avp_of avp.entry) }
 {
     is_plain(avp, VENDOR_SPECIFIC_APPLICATION_ID)
 }

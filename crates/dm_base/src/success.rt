@@ -2,14 +2,18 @@
 ghost use Rattle.std.specs.Prelude.{◌≡◌, ◌⊎◌, ◌↔◌, ◌^◌, ◌+◌, ◌<◌, ◌≤◌, ◌++◌, ◌∷◌, [], false, None, length, IfOk, OnOk, IfErr, IsErrOf};
 ghost use Rattle.dm_wire.specs.declared.fault.WireFault.{WireFault};
 ghost use Rattle.dm_wire.specs.Spelling.{be};
+ghost use Rattle.dm_wire.specs.Limits.{HeaderFits};
 ghost use Rattle.dm_wire.specs.Canonical.{zeros, canonical_avp, canonical_list, canonical_header, canonical_message};
 ghost use Rattle.dm_wire.specs.Members.{padded};
+ghost use Rattle.dm_base.specs.Spelled.{IsSpelledBy};
 ghost use Rattle.dm_base.specs.Built.{avp, origin, result_avp, answer_header, built_answer};
 
 use crate::Node;
 use crate::codes::{ORIGIN_HOST, ORIGIN_REALM};
+use crate::headers::answer;
+use crate::laws::built_is_spelled;
 use byteorder::{BigEndian, ByteOrder};
-use dm_wire::laws::avp_sized;
+use dm_wire::laws::{avp_sized, canonical_spells};
 use dm_wire::{Header, WireFault};
 use std::alloc::{AllocError, Global};
 
@@ -112,6 +116,13 @@ fn put_list(out: &mut Vec<u8>, node: &Node) -> Result<(), AllocError>
     Ok(())
 }
 
+/// Where the command of a header fits its field the other numbers do too, as their types say.
+fn header_fits(to: &Header)
+    ensures { to.now.command < 256 ^ 3 → HeaderFits to.now }
+{
+    let _header = answer(false, to);
+}
+
 /// The octets of the answer of success to a Device-Watchdog-Request or Disconnect-Peer-Request of this header: those of
 /// what `dwa` and `dpa` build with Result-Code 2001 and no failed AVP (RFC 6733, 5.4.2 and 5.5.2). They are written in
 /// one block, without the message in between.
@@ -119,12 +130,16 @@ fn put_list(out: &mut Vec<u8>, node: &Node) -> Result<(), AllocError>
 /// Refuses with `TooLong` where the Command Code is above 16777215, whatever memory there is, else with `NoMemory`.
 pub fn success_octets(alloc: Global, node: &Node, to: &Header) -> Result<Vec<u8>, WireFault>
     ensures octets { IfOk result (λ octets. octets.items ≡ canonical_message (built_answer node.now to.now 2001 None)) }
+    ensures spelled { IfOk result (λ octets. IsSpelledBy (built_answer node.now to.now 2001 None) octets.items) }
     ensures long { IsErrOf result WireFault.TooLong ↔ (16777215 < to.now.command) }
     ensures fault { IfErr result (λ fault. (fault ≡ WireFault.TooLong) ⊎ (fault ≡ WireFault.NoMemory)) }
 {
     if to.command > 0xff_ffff {
         return Err(WireFault::TooLong);
     }
+    built_is_spelled();
+    canonical_spells();
+    header_fits(to);
     let size = HEADER_LEN + list_size(node);
     let mut octets = Vec::with_capacity(alloc, size)?;
     octets.extend_from_slice(&header_octets(to, size as u32))?;

@@ -1,13 +1,13 @@
 //! Which octets that come are looked at, and which answers are dropped.
 ghost use Rattle.std.specs.Prelude.{◌≡◌};
-ghost use Rattle.dm_base.specs.Kinds.{is_base_command};
 ghost use Rattle.dm_machine.specs.Connection.{hold_of};
 ghost use Rattle.dm_machine.specs.Unread.{reads_first};
 ghost use Rattle.dm_peer.specs.Acts.{is_made, is_unread, is_unawaited, is_dropped};
 ghost use Rattle.dm_peer.specs.Places.{is_on, before_ack};
 
-use crate::{Awaited, Peer};
-use dm_base::codes::{CAPABILITIES_EXCHANGE, DEVICE_WATCHDOG, DISCONNECT_PEER};
+use crate::Peer;
+use crate::standing::Awaited;
+use dm_base::is_base;
 use dm_machine::laws::each_node_has_its_form;
 use dm_machine::{Conn, Core, State};
 use dm_wire::Header;
@@ -76,13 +76,6 @@ fn is_unawaited(awaited: &Awaited, header: &Header) -> bool
         return false;
     }
     awaited.of(header.command) != Some(header.hop_id)
-}
-
-/// Whether messages of the command are read: 257, 280 and 282.
-pub(crate) fn is_base(command: u32) -> bool
-    ensures { result ≡ is_base_command command }
-{
-    command == CAPABILITIES_EXCHANGE || command == DEVICE_WATCHDOG || command == DISCONNECT_PEER
 }
 
 /// Whether a message of this header is dropped on the connection.

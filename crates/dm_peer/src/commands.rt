@@ -5,7 +5,7 @@ ghost use Rattle.dm_peer.specs.Said.{Heard, heard_of, word_heard};
 ghost use Rattle.dm_peer.specs.After.{request_of, request_in, next_after, awaits_cea, awaits_dwa, awaits_dpa, holds_cer, is_cer, is_dwr, is_dpr, number_after, dwa_left, awaited_after, header_heard, waiting_after, standing_after};
 
 use crate::reading::HeardRef;
-use crate::{Awaited, Standing};
+use crate::standing::{Awaited, Standing};
 use dm_machine::{Command, Core, State, Word};
 use dm_wire::Header;
 
@@ -53,7 +53,8 @@ fn next_after(sent: Option<Request>, next: u32) -> u32
     }
 }
 
-fn is_open(state: State) -> bool
+/// Whether the state is R-Open or I-Open.
+pub(crate) fn is_open(state: State) -> bool
     ensures { result ≡ is_open state }
 {
     match state {

@@ -8,14 +8,11 @@ ghost use Rattle.dm_peer.specs.declared.fault.ConfigFault.TheVariants as config_
 ghost use Rattle.dm_peer.specs.Hosts.{is_same_host, config_fault};
 
 use crate::ConfigFault;
-use dm_base::{Node, host_order};
-use dm_dict::{AvpType, Dictionary, value_fault};
+use dm_base::{Node, host_order, is_name};
+use dm_dict::Dictionary;
 use dm_wire::Octets;
 use std::alloc::Global;
 use std::cmp::Ordering;
-
-/// The octets that a name may have at most.
-const MAX_NAME_LEN: usize = 255;
 
 /// A node, the host that it is configured for, and where its numbers begin.
 #[derive(Debug, Drop)]
@@ -27,13 +24,6 @@ pub struct Config {
     pub ghost fit_peer: { is_name peer ≡ true },
     pub ghost other_host: { is_same_host node.host peer ≡ false },
     pub ghost based: { dictionary ≡ base_definitions },
-}
-
-/// Whether the octets are a name of a host or realm.
-fn is_name(octets: &[u8]) -> bool
-    ensures { result ≡ is_name octets.now }
-{
-    value_fault(AvpType::DiameterIdentity, octets).is_none() && octets.len() <= MAX_NAME_LEN
 }
 
 /// Whether the octets are two names of one host, upper and lower case taken as one (RFC 6733, 5.6.4). It takes no memory.

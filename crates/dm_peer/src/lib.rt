@@ -24,4 +24,3 @@ pub use dm_machine::{Command, Commands, Conn, Core, Input, Refusal, State, Word,
 pub use events::Event;
 pub use fault::{ConfigFault, PeerFault};
 pub use peer::Peer;
-pub use standing::{Awaited, Standing};

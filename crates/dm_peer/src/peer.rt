@@ -11,9 +11,11 @@ ghost use Rattle.dm_peer.specs.Silence.{is_silent};
 ghost use Rattle.dm_peer.specs.declared.fault.PeerFault.{PeerFault};
 ghost use Rattle.dm_peer.specs.declared.fault.PeerFault.TheVariants.{NoMemory};
 
+use crate::commands::is_open;
 use crate::laws::{refusals_go_by_rule, silent_takes_none};
+use crate::standing::Standing;
 use crate::steps::answer;
-use crate::{Actions, Config, Event, PeerFault, Standing};
+use crate::{Actions, Config, Event, PeerFault};
 use dm_machine::{Conn, State};
 use std::alloc::Global;
 
@@ -96,10 +98,7 @@ impl Peer {
     pub fn is_open(&self) -> bool
         ensures { result ≡ moves.is_open self.now.standing.core.state }
     {
-        match self.state() {
-            State::ROpen | State::IOpen => true,
-            _ => false,
-        }
+        is_open(self.state())
     }
 
     /// The Hop-by-Hop Identifier of the last request of the command, 257, 280 or 282, that awaits its answer. None for

@@ -21,12 +21,14 @@ ghost use Rattle.dm_peer.specs.Faults.{fault_of};
 ghost use Rattle.dm_peer.specs.Said.{heard_of};
 
 use crate::answer::actions_of;
-use crate::arrivals::{is_base, is_dropped, is_unread};
+use crate::arrivals::{is_dropped, is_unread};
 use crate::commands::{request_in, standing_after, word_heard};
 use crate::message::read_message;
 use crate::reading::{HeardRef, hear};
-use crate::{Actions, Event, Peer, PeerFault, Standing};
+use crate::standing::Standing;
+use crate::{Actions, Event, Peer, PeerFault};
 use arrayvec::ArrayVec;
+use dm_base::is_base;
 use dm_machine::{Commands, Conn, Core, Input, step};
 use dm_wire::MessageRef;
 use std::alloc::Global;

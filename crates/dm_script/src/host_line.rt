@@ -7,12 +7,9 @@ ghost use Rattle.dm_script.specs.Happenings.{name};
 ghost use Rattle.dm_script.specs.Hosts.{Host, TellsHost};
 
 use crate::arguments::{next_number, next_side};
+use dm_base::is_name;
 use dm_text::Words;
-use dm_value::{AvpType, value_fault};
 use dm_world::Side;
-
-/// The octets that a name may have at most.
-const MAX_NAME_LEN: usize = 255;
 
 /// What a script says of a peer: its host and its application.
 #[derive(Clone, Copy, Debug)]
@@ -65,11 +62,4 @@ fn host_and_number<'a>(left: &mut Words<'a>) -> Option<(&'a [u8], u32)>
         return None;
     }
     Some((host, number))
-}
-
-/// Whether the octets are a name of a host.
-fn is_name(octets: &[u8]) -> bool
-    ensures { result ≡ is_name octets.now }
-{
-    value_fault(AvpType::DiameterIdentity, octets).is_none() && octets.len() <= MAX_NAME_LEN
 }

@@ -8,7 +8,7 @@ use Rattle.dm_base.proofs.node.Node.new.Goals as goal
 pub invariant_of-result : goal.invariant_of-result
 invariant_of-result c =
     let sized : list_all is_sized c.args.addresses.items ≡ true =
-    ap (list_all is_sized) (sym c.as_slice-in-None.ensures.value) ∙ c.all_sized.ensures in
+    ap (list_all is_sized) (sym c.as_slice-in-None.ensures.value) ∙ c.have_their_sizes.ensures in
     let ids : list_all is_number c.args.auth.items ≡ true =
     ap (list_all is_number) (sym c.as_slice-in-None-2.ensures.value) ∙ c.all_numbers.ensures in
     let more : list_all is_number c.args.acct.items ≡ true =
