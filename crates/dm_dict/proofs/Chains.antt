@@ -1,5 +1,5 @@
 -- The first fault of lists of faults, one after the other.
-use Rattle.std.proofs.Common.{◌≡◌, ◌<◌, ◌≤◌, ℕ, zero, suc, ◌+◌, Option, None, Some, List, [], ◌∷◌, ◌++◌, length, get_or, drop, flat_map, refl, sym, ◌∙◌, arith, append_assoc, Bool, true, false, if◌then◌else◌, slice_index, slice_index_or}
+use Rattle.std.proofs.Common.{◌≡◌, ◌<◌, ◌≤◌, ℕ, zero, suc, ◌+◌, Option, None, Some, List, [], ◌∷◌, ◌++◌, length, get_or, drop, flat_map, refl, sym, ◌∙◌, arith, append_assoc, Bool, true, false, if◌then◌else◌, min, slice_index, slice_index_or}
 use Rattle.dm_wire.specs.declared.avp.Avp.{Avp}
 use Rattle.dm_definitions.specs.declared.rule.Entry.{Entry}
 use Rattle.dm_definitions.specs.declared.def.AvpDef.{AvpDef}
@@ -55,27 +55,23 @@ looked_up G b c a f g o eb ef h = rw (← eb, ← ef) h
 -- one AVP more is counted
 pub counted_step : (avps : List AvpDef) (rule : List Entry) (all m k : List Avp) (a : Avp) (start : ℕ)
     (old new : List ℕ) (at : Option ℕ) → IsCountedBut avps rule all m start old → m ≡ a ∷ k →
-    ((i : ℕ) → i < 128 → slice_index new i ≡ slice_index old i + (if is_at at (start + i) then 1 else 0)) →
+    ((i : ℕ) → i < 256 → slice_index new i ≡
+    (if is_at at (start + i) then min (slice_index old i + 1) 65535 else slice_index old i)) →
     ((i : ℕ) (e : Entry) → i < length rule → e ≡ slice_index_or rule i e →
     is_at at i ≡ counts rule e (definition avps a)) → IsCountedBut avps rule all k start new
 counted_step avps rule all m k a start old new at before_one is one place = λ i e b w here.
-    by i e (counts rule e (definition avps a)) refl (one i b) (place (start + i) e w here)
-    (rw is at (before_one i e b w here))
+    let (most, sum) = before_one i e b w here in
+    by i e (counts rule e (definition avps a)) refl (one i b) (place (start + i) e w here) most (rw is at sum)
   where
     by : (i : ℕ) (e : Entry) (t : Bool) → counts rule e (definition avps a) ≡ t
-        → slice_index new i ≡ slice_index old i + (if is_at at (start + i) then 1 else 0)
-        → is_at at (start + i) ≡ counts rule e (definition avps a)
-        → slice_index old i + count avps rule (a ∷ k) e ≡ count avps rule all e
-        → slice_index new i + count avps rule k e ≡ count avps rule all e
-    by i e true t n p o =
-        let plus : slice_index new i ≡ slice_index old i + 1 = n ∙ rw
-        (p, t) refl in let whole = rw t at o in omega arith
-    by i e false t n p o =
-        let same : slice_index new i ≡ slice_index old i + 0 = n ∙ rw
-        (p, t) refl in let whole = rw t at o in omega arith
-
--- and no counter runs ahead of the AVPs
-pub room_step : (old new left rest all : ℕ) (b : Bool) → new ≡ old + (if b then 1 else 0) → old + left ≤ all
-    → rest < left → new + rest ≤ all
-room_step old new left rest all true e h l = omega arith
-room_step old new left rest all false e h l = omega arith
+        → slice_index new i ≡ (if is_at at (start + i) then min (slice_index old i + 1) 65535 else slice_index old i)
+        → is_at at (start + i) ≡ counts rule e (definition avps a) → slice_index old i ≤ 65535
+        → min (slice_index old i + count avps rule (a ∷ k) e) 65535 ≡ min (count avps rule all e) 65535
+        → (slice_index new i ≤ 65535) ×
+        (min (slice_index new i + count avps rule k e) 65535 ≡ min (count avps rule all e) 65535)
+    by i e true t n p most o =
+        let plus : slice_index new i ≡ min (slice_index old i + 1) 65535 = n ∙ rw
+        (p, t) refl in let whole = rw t at o in (omega arith, omega arith)
+    by i e false t n p most o =
+        let same : slice_index new i ≡ slice_index old i = n ∙ rw
+        (p, t) refl in let whole = rw t at o in (omega arith, omega arith)

@@ -1,9 +1,9 @@
 //! The first fault of AVPs under a rule, groups and all (RFC 6733, 4.1, 4.4 and 7.1.5).
-ghost use Rattle.std.specs.Prelude.{◌≡◌, ◌<◌, ◌^◌, List};
+ghost use Rattle.std.specs.Prelude.{◌≡◌, List};
 ghost use Rattle.std.specs.Option.{option_copied};
 ghost use Rattle.dm_wire.specs.declared.avp.Avp.{Avp};
 ghost use Rattle.dm_dict.specs.Apart.{IsApart, IsFit};
-ghost use Rattle.dm_wire.specs.Borrowed.{avp_of, Lists, size_of};
+ghost use Rattle.dm_wire.specs.Borrowed.{avp_of, Lists};
 ghost use Rattle.dm_dict.specs.Faults.{is_failed_avp, is_left_out, avp_faults, group_faults, list_faults, first};
 ghost use Rattle.dm_dict.specs.Judgement.{shown};
 ghost use Rattle.dm_dict.specs.Rules.{definition};
@@ -124,8 +124,6 @@ pub(crate) fn judge_list<'a>(
 ) -> Judged<'a>
     requires fit { IsFit dictionary.now.avps }
     requires apart { IsApart rule.now }
-    requires listed { (l : List Avp) × Lists list l }
-    requires fits { size_of list < 2 ^ 64 }
     ensures { (l : List Avp) → Lists list.entry l
         → shown result ≡ first (list_faults depth dictionary.now.avps rule.now l) }
 {

@@ -1,8 +1,8 @@
-//! How many AVPs the entries of a rule count, 128 entries at a time (RFC 6733, 3.2).
-ghost use Rattle.std.specs.Prelude.{◌≡◌, ◌+◌, ◌<◌, ◌^◌, ℕ, List, slice_index, if◌then◌else◌};
+//! How many AVPs the entries of a rule count, 256 entries at a time, each up to 65535 (RFC 6733, 3.2).
+ghost use Rattle.std.specs.Prelude.{◌≡◌, ◌+◌, ◌<◌, ℕ, List, min, slice_index, if◌then◌else◌};
 ghost use Rattle.dm_wire.specs.declared.avp.Avp.{Avp};
 ghost use Rattle.dm_dict.specs.Apart.{IsApart, IsFit};
-ghost use Rattle.dm_wire.specs.Borrowed.{Lists, size_of};
+ghost use Rattle.dm_wire.specs.Borrowed.{Lists};
 ghost use Rattle.dm_dict.specs.Counters.{IsCounted};
 ghost use Rattle.dm_dict.specs.Rules.{is_at};
 
@@ -10,35 +10,34 @@ use crate::rules::look_up;
 use dm_definitions::{Definitions, Rule};
 use dm_wire::AvpsRef;
 
-pub(crate) fn no_counts() -> [usize; 128]
+pub(crate) fn no_counts() -> [u16; 256]
     ensures { (i : ℕ) → slice_index result i ≡ 0 }
 {
-    [0; 128]
+    [0; 256]
 }
 
-/// One AVP more for the entry at the place, if it is one of the 128 from `from` on.
-pub(crate) fn count_one(counts: &mut [usize; 128], from: usize, at: Option<usize>)
-    requires room { (i : ℕ) → i < 128 → slice_index counts.old i + 1 < 2 ^ 64 }
-    ensures { (i : ℕ) → i < 128
-        → slice_index counts.new i ≡ slice_index counts.old i + (if is_at at (from + i) then 1 else 0) }
+/// One AVP more for the entry at the place, if it is one of the 256 from `from` on. A counter stops at 65535.
+pub(crate) fn count_one(counts: &mut [u16; 256], from: usize, at: Option<usize>)
+    ensures { (i : ℕ) → i < 256
+        → slice_index counts.new i
+        ≡ (if is_at at (from + i) then min (slice_index counts.old i + 1) 65535 else slice_index counts.old i) }
 {
     if let Some(at) = at {
-        if at >= from && at - from < 128 {
-            counts[at - from] += 1;
+        if at >= from && at - from < 256 {
+            counts[at - from] = counts[at - from].saturating_add(1);
         }
     }
 }
 
-/// How many AVPs of the list each of the 128 entries from `from` on counts.
+/// How many AVPs of the list each of the 256 entries from `from` on counts, up to 65535.
 pub(crate) fn counts_from(
     dictionary: &Definitions,
     rule: &Rule,
     from: usize,
     list: AvpsRef<'_>,
-) -> [usize; 128]
+) -> [u16; 256]
     requires fit { IsFit dictionary.now.avps }
     requires apart { IsApart rule.now }
-    requires fits { size_of list < 2 ^ 64 }
     ensures { (l : List Avp) → Lists list.entry l → IsCounted dictionary.now.avps rule.now l from result }
 {
     let mut counts = no_counts();

@@ -1,9 +1,8 @@
 //! The first fault of a message (RFC 6733, 3 and 7).
-ghost use Rattle.std.specs.Prelude.{◌≡◌, ◌<◌, ◌^◌, true, List, is_some};
+ghost use Rattle.std.specs.Prelude.{◌≡◌, List};
 ghost use Rattle.std.specs.Option.{option_copied};
 ghost use Rattle.dm_wire.specs.declared.avp.Avp.{Avp};
-ghost use Rattle.dm_wire.specs.Borrowed.{Lists, size_of};
-ghost use Rattle.dm_wire.specs.Members.{members};
+ghost use Rattle.dm_wire.specs.Borrowed.{Lists};
 ghost use Rattle.dm_wire.specs.Spelling.{SpellsList};
 ghost use Rattle.dm_dict.specs.Faults.{command_for, wrong_bits, faults, first};
 ghost use Rattle.dm_dict.specs.Judgement.{shown};
@@ -34,8 +33,6 @@ pub(crate) fn judge_message<'a>(
     header: &Header,
     list: AvpsRef<'a>,
 ) -> Judged<'a>
-    requires listed { (l : List Avp) × Lists list l }
-    requires fits { size_of list < 2 ^ 64 }
     ensures { (l : List Avp) → Lists list.entry l
         → shown result ≡ first (faults dictionary.now (record { header = header.now; avps = l })) }
 {
@@ -62,7 +59,6 @@ pub(crate) fn judge_spelled<'a>(
     header: &Header,
     octets: &'a [u8],
 ) -> Judged<'a>
-    requires { is_some (members octets.now) ≡ true }
     ensures { (l : List Avp) → SpellsList l octets.now
         → shown result ≡ first (faults dictionary.now (record { header = header.now; avps = l })) }
 {

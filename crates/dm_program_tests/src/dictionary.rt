@@ -1,5 +1,6 @@
 //! Tests of dictionaries, by subject.
 mod answers;
+mod counters;
 mod edges;
 mod examples;
 mod failed;

@@ -1,4 +1,4 @@
-use Rattle.std.proofs.Common.{◌≡◌, ◌+◌, ◌*◌, ◌<◌, ◌≤◌, ℕ, List, ◌++◌, flat_map, slice_index}
+use Rattle.std.proofs.Common.{◌≡◌, ◌+◌, ◌*◌, List, ◌++◌, flat_map}
 use Rattle.dm_wire.specs.declared.avp.Avp.{Avp}
 use Rattle.dm_wire.specs.Borrowed.{Lists, size_of}
 use Rattle.dm_dict.specs.Counters.{IsCountedBut}
@@ -17,14 +17,13 @@ decreases-judge_group l = 3 * l.depth
 
 abbrev pub invariant-judge_list-loop-avp : goal.invariant-judge_list-loop-avp
 invariant-judge_list-loop-avp l =
-    ((all : List Avp) → Lists l.list all → (m : List Avp) × Lists l.left m
+    (all : List Avp) → Lists l.list all → (m : List Avp) × Lists l.left m
     × (first (list_faults l.depth l.dictionary.avps l.rule all)
     ≡ first (flat_map
     (λ a. avp_faults (group_faults l.depth l.dictionary.avps)
     (allows (entry_for l.rule (definition l.dictionary.avps a))) a (definition l.dictionary.avps a)) m
     ++ flat_map (entry_faults l.dictionary.avps l.rule all) l.rule))
-    × IsCountedBut l.dictionary.avps l.rule all m 0 l.counts)
-    × ((i : ℕ) → i < 128 → slice_index l.counts i + size_of l.left ≤ size_of l.list)
+    × IsCountedBut l.dictionary.avps l.rule all m 0 l.counts
 
 abbrev pub decreases-judge_list-loop-avp : goal.decreases-judge_list-loop-avp
 decreases-judge_list-loop-avp l = size_of l.left

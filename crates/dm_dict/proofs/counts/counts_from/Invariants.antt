@@ -1,4 +1,4 @@
-use Rattle.std.proofs.Common.{◌+◌, ◌<◌, ◌≤◌, ℕ, List, slice_index}
+use Rattle.std.proofs.Common.{List}
 use Rattle.dm_wire.specs.declared.avp.Avp.{Avp}
 use Rattle.dm_wire.specs.Borrowed.{Lists, size_of}
 use Rattle.dm_dict.specs.Counters.{IsCountedBut}
@@ -6,9 +6,8 @@ use Rattle.dm_dict.proofs.counts.counts_from.Given as goal
 
 abbrev pub invariant-loop-avp : goal.invariant-loop-avp
 invariant-loop-avp l =
-    ((all : List Avp) → Lists l.list all →
-    (m : List Avp) × Lists l.left m × IsCountedBut l.dictionary.avps l.rule all m l.from l.counts)
-    × ((i : ℕ) → i < 128 → slice_index l.counts i + size_of l.left ≤ size_of l.list)
+    (all : List Avp) → Lists l.list all →
+    (m : List Avp) × Lists l.left m × IsCountedBut l.dictionary.avps l.rule all m l.from l.counts
 
 abbrev pub decreases-loop-avp : goal.decreases-loop-avp
 decreases-loop-avp l = size_of l.left

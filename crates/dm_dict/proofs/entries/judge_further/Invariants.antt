@@ -1,15 +1,14 @@
-use Rattle.std.proofs.Common.{◌≡◌, ◌<◌, ◌-◌, List, length, drop, flat_map}
+use Rattle.std.proofs.Common.{◌≡◌, ◌-◌, List, length, drop, flat_map}
 use Rattle.dm_wire.specs.declared.avp.Avp.{Avp}
 use Rattle.dm_wire.specs.Borrowed.{Lists}
 use Rattle.dm_dict.specs.Faults.{entry_faults, first}
 use Rattle.dm_dict.proofs.entries.judge_further.Given as goal
 
-abbrev pub invariant-loop-code : goal.invariant-loop-code
-invariant-loop-code l =
-    (l.from < length l.rule)
-    × ((all : List Avp) → Lists l.list all
-    → first (flat_map (entry_faults l.dictionary.avps l.rule all) (drop 128 l.rule)) ≡
-    first (flat_map (entry_faults l.dictionary.avps l.rule all) (drop l.from l.rule)))
+abbrev pub invariant-loop-from : goal.invariant-loop-from
+invariant-loop-from l =
+    (all : List Avp) → Lists l.list all
+    → first (flat_map (entry_faults l.dictionary.avps l.rule all) (drop 256 l.rule)) ≡
+    first (flat_map (entry_faults l.dictionary.avps l.rule all) (drop l.from l.rule))
 
-abbrev pub decreases-loop-code : goal.decreases-loop-code
-decreases-loop-code l = length l.rule - l.from
+abbrev pub decreases-loop-from : goal.decreases-loop-from
+decreases-loop-from l = length l.rule - l.from
