@@ -3,7 +3,6 @@ pub mod Members
 pub mod Parts
 pub mod Only
 pub mod BaseSound
-pub mod Naming
 pub mod Lines
 pub mod Numbers
 pub mod Along

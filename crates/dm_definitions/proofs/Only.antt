@@ -1,6 +1,7 @@
 -- In a dictionary the first definition that is asked for is the only one.
-use Rattle.std.proofs.Common.{◌≡◌, ℕ, Bool, true, List, [], filter, find, nat_eq, ◌&&◌, Option, rules}
+use Rattle.std.proofs.Common.{◌≡◌, ◌<◌, ◌+◌, ◌∙◌, ℕ, zero, suc, Bool, true, false, List, [], ◌∷◌, filter, find, length, get_or, nat_eq, ◌&&◌, Option, Some, rules, refl, ap, arith}
 use Rattle.std.specs.Bool.{beq}
+use Rattle.std.specs.List.{position_from}
 use Rattle.std.specs.Option.{option_eq, option_to_list}
 use Rattle.std.specs.Cmp.{IsEquivalence}
 use Rattle.std.specs.Cmp.Rules.{comparing}
@@ -37,12 +38,47 @@ one_named avps name h =
     only_one is_sound_avp (λ a. is_named a.name) (is_named name) (λ before a s. (avp_parts before a s).new_name)
     (λ a b e. nat_list_eq_equiv.congr name a.name b.name e) [] avps h
 
+-- where none passes, none does at a place
+none_left : {D : Type 0} (p : D → Bool) (ds : List D) (k : ℕ) (d : D) → k < length ds → p (get_or ds k d) ≡ true
+    → filter p ds ≡ [] → ⊥
+none_left p [] k d h t e = omega arith
+none_left p (x ∷ ds) zero d h t e = let some : x ∷ filter p ds ≡ [] = rw t at e in cc
+none_left p (x ∷ ds) (suc k) d h t e = by (p x) refl (none_left p ds k d (omega arith) t) where
+  by : (b : Bool) → p x ≡ b → (filter p ds ≡ [] → ⊥) → ⊥
+  by true q rest = let some : x ∷ filter p ds ≡ [] = rw q at e in cc
+  by false q rest = rest (rw q at e)
+
+-- the place of what passes is the first, where it is the only one
+only_place : {D : Type 0} (p : D → Bool) (ds : List D) (j k : ℕ) (d : D) → k < length ds → p (get_or ds k d) ≡ true
+    → filter p ds ≡ option_to_list (find p ds) → position_from p j ds ≡ Some (j + k)
+only_place p [] j k d h t e = absurd (omega arith)
+only_place p (x ∷ ds) j zero d h t e = let start : j ≡ j + 0 = omega arith in rw t (ap Some start)
+only_place p (x ∷ ds) j (suc k) d h t e = by (p x) refl (only_place p ds (j + 1) k d (omega arith) t) where
+  next : j + 1 + k ≡ j + suc k
+  next = omega arith
+
+  by : (b : Bool) → p x ≡ b
+      → (filter p ds ≡ option_to_list (find p ds) → position_from p (j + 1) ds ≡ Some (j + 1 + k))
+      → position_from p j (x ∷ ds) ≡ Some (j + suc k)
+  by true q rest =
+      let one : x ∷ filter p ds ≡ x ∷ [] = rw q at e in
+      absurd (none_left p ds k d (omega arith) t (cc))
+  by false q rest = rw q (rest (rw q at e) ∙ ap Some next)
+
 pub one_coded : (avps : List AvpDef) (code : ℕ) (vendor : Option ℕ) → each_after is_sound_avp [] avps ≡ true
     → filter (is_coded code vendor) avps ≡ option_to_list (find (is_coded code vendor) avps)
 one_coded avps code vendor h =
     only_one is_sound_avp (λ a. is_coded a.code a.vendor) (is_coded code vendor)
     (λ before a s. (avp_parts before a s).new_code)
     (λ a b e. code_laws.congr (code, vendor) (a.code, a.vendor) (b.code, b.vendor) e) [] avps h
+
+-- the place of a definition that has the code and vendor is what they find
+pub coded_place : (avps : List AvpDef) (code : ℕ) (vendor : Option ℕ) (k : ℕ) (d : AvpDef)
+    → each_after is_sound_avp [] avps ≡ true → k < length avps → is_coded code vendor (get_or avps k d) ≡ true
+    → position_from (is_coded code vendor) 0 avps ≡ Some k
+coded_place avps code vendor k d h b t =
+    let from_zero : 0 + k ≡ k = omega arith in
+    only_place (is_coded code vendor) avps 0 k d b t (one_coded avps code vendor h) ∙ ap Some from_zero
 
 pub one_headed : (commands : List CommandDef) (code : ℕ) (request err : Bool)
     → each_after is_sound_command [] commands ≡ true

@@ -2,7 +2,7 @@
 use Rattle.std.proofs.Common.{◌≡◌, ℕ, ◌+◌, Bool, true, false, ◌||◌, cond, List, [], ◌∷◌, ◌++◌, length, map, slice_get, find, Some, None, refl, sym, ap, subst, ◌∙◌, append_assoc, length-append, add-zero, arith, suc, Result, Ok, Err, OnOk}
 use Rattle.std.specs.Option.{option_and_then}
 use Rattle.std.specs.Map.{lookup}
-use Rattle.std.specs.List.{list_any}
+use Rattle.std.specs.List.{list_any, position_from}
 use Rattle.indexmap.specs.IndexMap.{insert_entry}
 use Rattle.dm_definitions.specs.Positions.{places}
 
@@ -12,28 +12,35 @@ member_behind : {D : Type 0} (before : List D) (d : D) (ds : List D)
 member_behind [] d ds = refl
 member_behind (b ∷ before) d ds = member_behind before d ds
 
-module _ {D K : Type 0} (test : K → Bool) (key : D → K) where
-  -- the member at the place of a key is the first that has it
-  found_from : (before ds : List D)
-      → option_and_then (slice_get (before ++ ds)) (lookup test (places key (length before) ds)) ≡
-      find (λ d. test (key d)) ds
-  found_from before [] = refl
-  found_from before (d ∷ ds) =
-      by (test (key d))
-      (rw (append_assoc before (d ∷ []) ds, length-append before (d ∷ [])) at (found_from (before ++ d ∷ []) ds))
+module _ {D : Type 0} (p : D → Bool) where
+  -- the member at the first place is the first that passes
+  at_place_from : (before ds : List D)
+      → option_and_then (slice_get (before ++ ds)) (position_from p (length before) ds) ≡ find p ds
+  at_place_from before [] = refl
+  at_place_from before (d ∷ ds) =
+      by (p d)
+      (rw (append_assoc before (d ∷ []) ds, length-append before (d ∷ [])) at (at_place_from (before ++ d ∷ []) ds))
     where
       by : (b : Bool)
-          → option_and_then (slice_get (before ++ d ∷ ds)) (lookup test (places key (length before + 1) ds)) ≡
-          find (λ e. test (key e)) ds
+          → option_and_then (slice_get (before ++ d ∷ ds)) (position_from p (length before + 1) ds) ≡ find p ds
           → option_and_then (slice_get (before ++ d ∷ ds))
-          (cond b (Some (length before)) (lookup test (places key (length before + 1) ds))) ≡
-          cond b (Some d) (find (λ e. test (key e)) ds)
+          (cond b (Some (length before)) (position_from p (length before + 1) ds)) ≡ cond b (Some d) (find p ds)
       by true rest = member_behind before d ds
       by false rest = rest
 
-  pub found : (ds : List D) (es : List (K × ℕ)) → es ≡ places key 0 ds
-      → option_and_then (slice_get ds) (lookup test es) ≡ find (λ d. test (key d)) ds
-  found ds es e = rw e (found_from [] ds)
+  pub at_place : (ds : List D) → option_and_then (slice_get ds) (position_from p 0 ds) ≡ find p ds
+  at_place ds = at_place_from [] ds
+
+module _ {D K : Type 0} (test : K → Bool) (key : D → K) where
+  -- the place of a key is that of the first member that has it
+  placed_from : (n : ℕ) (ds : List D)
+      → lookup test (places key n ds) ≡ position_from (λ d. test (key d)) n ds
+  placed_from n [] = refl
+  placed_from n (d ∷ ds) = ap (λ r. cond (test (key d)) (Some n) r) (placed_from (n + 1) ds)
+
+  pub placed : (ds : List D) (es : List (K × ℕ)) → es ≡ places key 0 ds
+      → lookup test es ≡ position_from (λ d. test (key d)) 0 ds
+  placed ds es e = ap (lookup test) e ∙ placed_from 0 ds
 
   -- no member has the key, so it isn't there
   absent : (n : ℕ) (ds : List D) → list_any (λ d. test (key d)) ds ≡ false → lookup test (places key n ds) ≡ None
@@ -52,11 +59,16 @@ pub lookup-map : {A K X : Type 0} (test : K → Bool) (shown : A → K) (es : Li
 lookup-map test shown [] = refl
 lookup-map test shown (e ∷ es) = ap (λ r. cond (test (shown e.0)) (Some e.1) r) (lookup-map test shown es)
 
+pub placed_shown : {A D K : Type 0} (test : K → Bool) (key : D → K) (shown : A → K) (ds : List D)
+    (es : List (A × ℕ)) → map (λ e. (shown e.0, e.1)) es ≡ places key 0 ds
+    → lookup (λ a. test (shown a)) es ≡ position_from (λ d. test (key d)) 0 ds
+placed_shown test key shown ds es e = sym (lookup-map test shown es) ∙ placed test key ds _ e
+
 pub found_shown : {A D K : Type 0} (test : K → Bool) (key : D → K) (shown : A → K) (ds : List D) (es : List (A × ℕ))
     → map (λ e. (shown e.0, e.1)) es ≡ places key 0 ds
     → option_and_then (slice_get ds) (lookup (λ a. test (shown a)) es) ≡ find (λ d. test (key d)) ds
 found_shown test key shown ds es e =
-    sym (ap (option_and_then (slice_get ds)) (lookup-map test shown es)) ∙ found test key ds _ e
+    ap (option_and_then (slice_get ds)) (placed_shown test key shown ds es e) ∙ at_place (λ d. test (key d)) ds
 
 -- one more at the end
 places-append : {D K : Type 0} (key : D → K) (n : ℕ) (ds : List D) (d : D)

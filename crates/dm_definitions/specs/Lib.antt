@@ -4,7 +4,6 @@ pub mod Sound
 pub mod Tables
 pub mod Base
 pub mod Rows
-pub mod Named
 pub mod Positions
 pub mod Printed
 pub mod Meaning

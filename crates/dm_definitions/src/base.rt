@@ -32,7 +32,7 @@ fn rule_of_rows(alloc: Global, rows: &[EntryRow]) -> Result<Rule, NoMemory>
     for row in rows {
         entries.push(entry_of_row(alloc, row)?)?;
     }
-    Rule::new(alloc, entries)
+    Ok(Rule::from_vec(entries))
 }
 
 /// The definition of a row.

@@ -1,5 +1,6 @@
 //! The definitions of a dictionary and their look-ups (RFC 6733, 3.2).
 ghost use Rattle.std.specs.Prelude.{◌≡◌, ◌⊎◌, true, IfOk, IfErr, Ok, Err, find, filter};
+ghost use Rattle.std.specs.List.{position_from};
 ghost use Rattle.std.specs.Option.{option_copied, option_to_list};
 ghost use Rattle.dm_definitions.specs.declared.fault.DictFault.{DictFault};
 ghost use Rattle.dm_definitions.specs.declared.fault.DictFault.TheVariants as faults;
@@ -97,6 +98,43 @@ impl Definitions {
         ensures one { filter (is_vendor name.now) self.now.vendors ≡ option_to_list (find (is_vendor name.now) self.now.vendors) }
     {
         self.tables.vendors.number_of(name)
+    }
+
+    /// The definitions of AVPs, in order. It takes no memory.
+    pub fn avps(&self) -> &[AvpDef]
+        ensures { result.now ≡ self.now.avps }
+    {
+        self.tables.avps.as_slice()
+    }
+
+    /// The definitions of commands, in order. It takes no memory.
+    pub fn commands(&self) -> &[CommandDef]
+        ensures { result.now ≡ self.now.commands }
+    {
+        self.tables.commands.as_slice()
+    }
+
+    /// Where the AVP of the name stands among the AVPs, from 0 (RFC 6733, 3.2). It takes no memory.
+    pub fn place_by_name(&self, name: &[u8]) -> Option<usize>
+        ensures { result ≡ position_from (is_named name.now) 0 self.now.avps }
+    {
+        self.tables.place_by_name(name)
+    }
+
+    /// Where the AVP of the AVP Code and Vendor-ID stands among the AVPs, from 0 (4.1). No vendor and vendor 0 are
+    /// two. It takes no memory.
+    pub fn place_by_code(&self, code: u32, vendor: Option<u32>) -> Option<usize>
+        ensures { result ≡ position_from (is_coded code vendor) 0 self.now.avps }
+    {
+        self.tables.place_by_code(code, vendor)
+    }
+
+    /// Where the command of the Command Code, for a request or an answer, with or without the E bit, stands among
+    /// the commands, from 0 (3.1). It takes no memory.
+    pub fn command_place(&self, code: u32, request: bool, err: bool) -> Option<usize>
+        ensures { result ≡ position_from (is_headed code request err) 0 self.now.commands }
+    {
+        self.tables.command_place(code, request, err)
     }
 
     /// The AVP of the name (RFC 6733, 3.2). It takes no memory.

@@ -126,5 +126,5 @@ pub fn rule(alloc: Global, items: &[EntryItem<'_>]) -> Result<Rule, DictFault>
     ensures fault { IfErr result (Stops (rule_faults (map view_entry items.now))) }
 {
     let entries = entries_of(alloc, items)?;
-    Ok(Rule::new(alloc, entries)?)
+    Ok(Rule::from_vec(entries))
 }

@@ -1,6 +1,6 @@
 //! The tables of a dictionary: its definitions in order, and an index for each key.
-ghost use Rattle.std.specs.Prelude.{◌≡◌, ◌++◌, OnOk, true, map, nat_eq, slice_get, find};
-ghost use Rattle.std.specs.List.{list_any};
+ghost use Rattle.std.specs.Prelude.{◌≡◌, ◌++◌, OnOk, IfSome, Some, true, map, nat_eq, slice_get, find};
+ghost use Rattle.std.specs.List.{list_any, position_from};
 ghost use Rattle.std.specs.Option.{option_copied, option_and_then};
 ghost use Rattle.std.specs.Cmp.Lexicographic.{pointwise};
 ghost use Rattle.indexmap.specs.IndexMap.{insert_entry};
@@ -22,6 +22,8 @@ pub struct Tables {
     pub codes: IndexMap<(u32, Option<u32>), usize>,
     pub titles: IndexMap<Vec<u8>, usize>,
     pub heads: IndexMap<(u32, bool, bool), usize>,
+    /// Where an AVP of a code may stand, by the lowest bits of the code. It is a guess, and looked at before it is taken.
+    pub guesses: [u16; 512],
 }
 
 /// Puts the place of a definition under its name.
@@ -66,6 +68,7 @@ impl Tables {
             codes: IndexMap::new(alloc),
             titles: IndexMap::new(alloc),
             heads: IndexMap::new(alloc),
+            guesses: [u16::MAX; 512],
         }
     }
 
@@ -89,6 +92,7 @@ impl Tables {
         let place = self.avps.as_slice().len();
         let code = (avp.code, avp.vendor);
         let noted = note_name(alloc, &mut self.names, avp.name.as_slice(), place);
+        self.guesses[(avp.code % 512) as usize] = u16::try_from(place).unwrap_or(u16::MAX);
         self.avps.push(avp)?;
         self.codes.insert(code, place)?;
         noted
@@ -168,22 +172,74 @@ impl Tables {
         self.add_commands(alloc, other.commands.as_slice())
     }
 
+    /// The place of the AVP of a name.
+    pub fn place_by_name(&self, name: &[u8]) -> Option<usize>
+        requires { IsIndexed self.now }
+        ensures { result ≡ position_from (is_named name.now) 0 self.now.avps.items }
+    {
+        self.names.get(name).copied()
+    }
+
+    /// The place of the AVP of a code and vendor, by their index.
+    fn indexed_place(&self, code: u32, vendor: Option<u32>) -> Option<usize>
+        requires { IsIndexed self.now }
+        ensures { result ≡ position_from (is_coded code vendor) 0 self.now.avps.items }
+    {
+        self.codes.get(&(code, vendor)).copied()
+    }
+
+    /// The place of the AVP of a code and vendor, where it stands as guessed.
+    fn guessed_place(&self, code: u32, vendor: Option<u32>) -> Option<usize>
+        requires { IsTables self.now }
+        ensures { IfSome result (λ place.
+            position_from (is_coded code vendor) 0 self.now.avps.items ≡ Some place) }
+    {
+        let avps = self.avps.as_slice();
+        let place = usize::from(self.guesses[(code % 512) as usize]);
+        if place >= avps.len() {
+            return None;
+        }
+        let avp = &avps[place];
+        if code == avp.code && vendor == avp.vendor {
+            Some(place)
+        } else {
+            None
+        }
+    }
+
+    /// The place of the AVP of a code and vendor.
+    pub fn place_by_code(&self, code: u32, vendor: Option<u32>) -> Option<usize>
+        requires { IsTables self.now }
+        ensures { result ≡ position_from (is_coded code vendor) 0 self.now.avps.items }
+    {
+        match self.guessed_place(code, vendor) {
+            Some(place) => Some(place),
+            None => self.indexed_place(code, vendor),
+        }
+    }
+
+    /// The place of the command of a code with REQ and ERR.
+    pub fn command_place(&self, code: u32, request: bool, err: bool) -> Option<usize>
+        requires { IsIndexed self.now }
+        ensures { result ≡ position_from (is_headed code request err) 0 self.now.commands.items }
+    {
+        self.heads.get(&(code, request, err)).copied()
+    }
+
     /// The AVP of a name.
     pub fn avp_by_name(&self, name: &[u8]) -> Option<&AvpDef>
         requires { IsIndexed self.now }
         ensures { option_copied result ≡ find (is_named name.now) self.now.avps.items }
     {
-        let place = self.names.get(name).copied();
-        member_at(self.avps.as_slice(), place)
+        member_at(self.avps.as_slice(), self.place_by_name(name))
     }
 
     /// The AVP of a code and vendor.
     pub fn avp_by_code(&self, code: u32, vendor: Option<u32>) -> Option<&AvpDef>
-        requires { IsIndexed self.now }
+        requires { IsTables self.now }
         ensures { option_copied result ≡ find (is_coded code vendor) self.now.avps.items }
     {
-        let place = self.codes.get(&(code, vendor)).copied();
-        member_at(self.avps.as_slice(), place)
+        member_at(self.avps.as_slice(), self.place_by_code(code, vendor))
     }
 
     /// The command of a name.
@@ -200,8 +256,10 @@ impl Tables {
         requires { IsIndexed self.now }
         ensures { option_copied result ≡ find (is_headed code request err) self.now.commands.items }
     {
-        let place = self.heads.get(&(code, request, err)).copied();
-        member_at(self.commands.as_slice(), place)
+        member_at(
+            self.commands.as_slice(),
+            self.command_place(code, request, err),
+        )
     }
 
     /// Whether there is an AVP of the name.
@@ -217,7 +275,7 @@ impl Tables {
         requires { IsIndexed self.now }
         ensures { result ≡ list_any (is_coded code vendor) self.now.avps.items }
     {
-        self.avp_by_code(code, vendor).is_some()
+        self.indexed_place(code, vendor).is_some()
     }
 
     /// Whether there is a command of the name.

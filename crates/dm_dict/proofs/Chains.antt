@@ -48,9 +48,9 @@ good_member A C o a m k e is good =
     e ∙ (rw (is, append_assoc (A a) (flat_map A k) C) (good_step (A a) (flat_map A k ++ C) good))
 
 -- the faults of an AVP, by what was looked up
-pub looked_up : (G : List Entry → Avp → List Fault) (b c : Bool) (a : Avp) (f g : Option AvpDef) (o : Option Fault)
-    → b ≡ c → f ≡ g → o ≡ first (avp_faults G b a f) → o ≡ first (avp_faults G c a g)
-looked_up G b c a f g o eb ef h = rw (← eb, ← ef) h
+pub looked_up : (G : List Entry → Avp → List Fault) (b c : Bool) (a : Avp) (f : Option AvpDef) (o : Option Fault)
+    → b ≡ c → o ≡ first (avp_faults G b a f) → o ≡ first (avp_faults G c a f)
+looked_up G b c a f o eb h = rw (← eb) h
 
 -- one AVP more is counted
 pub counted_step : (avps : List AvpDef) (rule : List Entry) (all m k : List Avp) (a : Avp) (start : ℕ)

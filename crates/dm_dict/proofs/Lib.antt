@@ -3,6 +3,8 @@ pub mod Exemplified
 pub mod Fitting
 pub mod Good
 pub mod Kept
+pub mod Linking
+pub mod Noting
 pub mod Standing
 pub mod Texts
 pub mod Valued

@@ -1,7 +1,7 @@
 -- Under which entry an AVP stands: by the place of its name, and by the definition.
 use Rattle.std.proofs.Common.{◌≡◌, ◌<◌, ℕ, zero, suc, ◌+◌, Bool, true, false, nat_eq, Option, None, Some, IfSome, is_some, List, [], ◌∷◌, length, get_or, codes, refl, sym, ◌∙◌, ap, arith, find, slice_get}
 use Rattle.std.specs.List.{position_from, list_any}
-use Rattle.std.specs.Option.{option_and_then}
+use Rattle.std.specs.Option.{option_and_then, option_or}
 use Rattle.std.specs.Cmp.Lexicographic.{same_text}
 use Rattle.std.proofs.lemmas.List.Folds.{list_any_at}
 use Rattle.dm_definitions.specs.declared.rule.Entry.{Entry}
@@ -10,12 +10,8 @@ use Rattle.dm_dict.specs.Rules.{is_called, names, stands_for_any, counts, entry_
 use Rattle.dm_dict.specs.Apart.{AtMostOne, IsApart, IsOwnName}
 
 -- the place of an AVP: where its name stands, else where `AVP` stands
-abbrev pub or_place : Option ℕ → Option ℕ → Option ℕ
-or_place None p = p
-or_place (Some i) p = Some i
-
 abbrev pub place_of : List Entry → Option AvpDef → Option ℕ
-place_of rule f = or_place (position_from (names f) 0 rule) (position_from stands_for_any 0 rule)
+place_of rule f = option_or (position_from (names f) 0 rule) (position_from stands_for_any 0 rule)
 
 same_at : (j : ℕ) → nat_eq (j + 0) j ≡ true
 same_at j = grind arith
@@ -51,7 +47,7 @@ spot p j (e ∷ es) (suc i) d h a = by (p e) refl (spot p (j + 1) es i d (omega 
   by false t ih = let same : j + 1 + i ≡ j + suc i = omega arith in rw t (rw same at ih)
 
 -- something is found where an entry passes
-is_found : (p : Entry → Bool) (j : ℕ) (es : List Entry) → is_some (position_from p j es) ≡ list_any p es
+pub is_found : {A : Type 0} (p : A → Bool) (j : ℕ) (es : List A) → is_some (position_from p j es) ≡ list_any p es
 is_found p j [] = refl
 is_found p j (e ∷ es) = by (p e) refl (is_found p (j + 1) es) where
   by : (b : Bool) → p e ≡ b → is_some (position_from p (j + 1) es) ≡ list_any p es
@@ -59,7 +55,7 @@ is_found p j (e ∷ es) = by (p e) refl (is_found p (j + 1) es) where
   by true t ih = rw t refl
   by false t ih = rw t ih
 
-is_seen : (p : Entry → Bool) (es : List Entry) → is_some (find p es) ≡ list_any p es
+pub is_seen : {A : Type 0} (p : A → Bool) (es : List A) → is_some (find p es) ≡ list_any p es
 is_seen p [] = refl
 is_seen p (e ∷ es) = by (p e) refl (is_seen p es) where
   by : (b : Bool) → p e ≡ b → is_some (find p es) ≡ list_any p es → is_some (find p (e ∷ es)) ≡ list_any p (e ∷ es)
@@ -67,7 +63,7 @@ is_seen p (e ∷ es) = by (p e) refl (is_seen p es) where
   by false t ih = rw t ih
 
 -- what is found stands at its place
-found_at : (p : Entry → Bool) (es : List Entry) (j : ℕ) (all : List Entry)
+found_at : {A : Type 0} (p : A → Bool) (es : List A) (j : ℕ) (all : List A)
     → ((i : ℕ) → slice_get es i ≡ slice_get all (j + i))
     → option_and_then (slice_get all) (position_from p j es) ≡ find p es
 found_at p [] j all h = refl
@@ -80,7 +76,8 @@ found_at p (e ∷ es) j all h = by (p e) refl (found_at p es (j + 1) all (λ i. 
   by true t ih = let same : j + 0 ≡ j = omega arith in rw t (sym (rw same at (h 0)))
   by false t ih = rw t ih
 
-pub found : (p : Entry → Bool) (es : List Entry) → option_and_then (slice_get es) (position_from p 0 es) ≡ find p es
+pub found : {A : Type 0} (p : A → Bool) (es : List A)
+    → option_and_then (slice_get es) (position_from p 0 es) ≡ find p es
 found p es = found_at p es 0 es (λ i. let same : 0 + i ≡ i = omega arith in rw same refl)
 
 -- an AVP without definition has no name
@@ -90,7 +87,7 @@ none_named j (e ∷ es) = none_named (j + 1) es
 
 -- the entry at the place of an AVP
 pub entry_at_place : (rule : List Entry) (f : Option AvpDef) (p q : Option ℕ) → p ≡ position_from (names f) 0 rule
-    → q ≡ position_from stands_for_any 0 rule → option_and_then (slice_get rule) (or_place p q) ≡ entry_for rule f
+    → q ≡ position_from stands_for_any 0 rule → option_and_then (slice_get rule) (option_or p q) ≡ entry_for rule f
 entry_at_place rule f None q e g =
     let named : None ≡ find (names f) rule = ap (option_and_then (slice_get rule)) e ∙ found (names f) rule in
     let any : option_and_then (slice_get rule) q ≡ find stands_for_any rule = ap (option_and_then (slice_get rule)) g
@@ -131,7 +128,7 @@ not_both (Some d) e own any = by (is_called d.name e) refl where
 -- the place of an AVP tells of each entry whether it counts the AVP
 pub counts_at_place : (rule : List Entry) (f : Option AvpDef) (p q : Option ℕ) → IsApart rule
     → IfSome f (λ d. IsOwnName d.name) → p ≡ position_from (names f) 0 rule → q ≡ position_from stands_for_any 0 rule
-    → (i : ℕ) (e : Entry) → i < length rule → e ≡ get_or rule i e → is_at (or_place p q) i ≡ counts rule e f
+    → (i : ℕ) (e : Entry) → i < length rule → e ≡ get_or rule i e → is_at (option_or p q) i ≡ counts rule e f
 counts_at_place rule f p q apart own pe qe i e h at = by (stands_for_any e) refl p pe where
   from_zero : 0 + i ≡ i
   from_zero = omega arith
@@ -147,7 +144,7 @@ counts_at_place rule f p q apart own pe qe i e h at = by (stands_for_any e) refl
   some = is_found (names f) 0 rule
 
   by : (b : Bool) → stands_for_any e ≡ b → (o : Option ℕ) → o ≡ position_from (names f) 0 rule
-      → is_at (or_place o q) i ≡ counts rule e f
+      → is_at (option_or o q) i ≡ counts rule e f
   by true t None oe = let none : false ≡ list_any (names f) rule = ap is_some oe ∙ some in rw (t, ← none) (any ∙ t)
   by false t None oe = rw t (any ∙ t ∙ ap (λ o. is_at o i) oe ∙ named)
   by true t (Some k) oe =

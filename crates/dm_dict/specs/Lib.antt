@@ -5,6 +5,8 @@ pub mod Examples
 pub mod Faults
 pub mod Judgement
 pub mod Keeping
+pub mod Linked
+pub mod Links
 pub mod Printed
 pub mod Rules
 pub mod Texts

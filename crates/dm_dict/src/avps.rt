@@ -1,8 +1,9 @@
 //! The first fault of AVPs under a rule, groups and all (RFC 6733, 4.1, 4.4 and 7.1.5).
-ghost use Rattle.std.specs.Prelude.{◌≡◌, List};
-ghost use Rattle.std.specs.Option.{option_copied};
+ghost use Rattle.std.specs.Prelude.{◌≡◌, List, slice_get};
+ghost use Rattle.std.specs.Option.{option_and_then};
 ghost use Rattle.dm_wire.specs.declared.avp.Avp.{Avp};
-ghost use Rattle.dm_dict.specs.Apart.{IsApart, IsFit};
+ghost use Rattle.dm_dict.specs.Apart.{IsFit};
+ghost use Rattle.dm_dict.specs.Linked.{IsLinked, IsRule};
 ghost use Rattle.dm_wire.specs.Borrowed.{avp_of, Lists};
 ghost use Rattle.dm_dict.specs.Faults.{is_failed_avp, is_left_out, avp_faults, group_faults, list_faults, first};
 ghost use Rattle.dm_dict.specs.Judgement.{shown};
@@ -12,11 +13,12 @@ use crate::codes::{
     AVP_NOT_ALLOWED, AVP_UNSUPPORTED, FAILED_AVP, INVALID_AVP_LENGTH, INVALID_AVP_VALUE,
 };
 use crate::counts::{count_one, no_counts};
-use crate::entries::judge_entries;
 use crate::judged::{Failed, Judged};
+use crate::linked::{Linked, LinkedAvp, LinkedRule};
 use crate::rules::{allows, look_up};
+use crate::windows::judge_entries;
 use byteorder::{BigEndian, ByteOrder};
-use dm_definitions::{AvpDef, Definitions, Rule};
+use dm_definitions::AvpDef;
 use dm_value::{AvpType, ValueFault, value_fault};
 use dm_wire::{AvpRef, AvpsRef, spells_avps};
 
@@ -39,22 +41,24 @@ fn is_left_out(def: &AvpDef, octets: &[u8]) -> bool
     }
 }
 
-/// The first fault of an AVP of this definition, inside which so many groups may stand.
+/// The first fault of an AVP, whose definition has this place, inside which so many groups may stand.
 #[cycle(judge)]
 fn judge_avp<'a>(
-    dictionary: &Definitions,
-    def: Option<&AvpDef>,
+    dictionary: &Linked,
+    place: Option<usize>,
     allowed: bool,
     avp: AvpRef<'a>,
     depth: u32,
 ) -> Judged<'a>
-    requires fit { IsFit dictionary.now.avps }
-    requires def { option_copied def ≡ definition dictionary.now.avps (avp_of avp) }
-    ensures { shown result
-        ≡ first (avp_faults (group_faults depth dictionary.now.avps) allowed (avp_of avp.entry) (option_copied def.entry)) }
+    requires linked { IsLinked dictionary.now }
+    requires fit { IsFit dictionary.now.definitions.avps }
+    requires def { option_and_then (slice_get dictionary.now.definitions.avps) place
+        ≡ definition dictionary.now.definitions.avps (avp_of avp) }
+    ensures { shown result ≡ first (avp_faults (group_faults depth dictionary.now.definitions.avps) allowed
+        (avp_of avp.entry) (definition dictionary.now.definitions.avps (avp_of avp.entry))) }
 {
     let failed = Failed::Found(avp);
-    let Some(def) = def else {
+    let Some(LinkedAvp { def, links }) = dictionary.avp_at(place) else {
         if avp.mandatory {
             return Judged::Bad {
                 code: AVP_UNSUPPORTED,
@@ -73,7 +77,11 @@ fn judge_avp<'a>(
         return Judged::Good;
     }
     if let AvpType::Grouped = def.kind {
-        return judge_group(dictionary, &def.rule, avp, depth);
+        let rule = LinkedRule {
+            entries: &def.rule,
+            links,
+        };
+        return judge_group(dictionary, rule, avp, depth);
     }
     match value_fault(def.kind, avp.bytes) {
         Some(ValueFault::WrongLength) => Judged::Bad {
@@ -94,10 +102,17 @@ fn judge_avp<'a>(
 
 /// The first fault of a Grouped AVP of this rule, where so many groups may stand inside each other.
 #[cycle(judge)]
-fn judge_group<'a>(dictionary: &Definitions, rule: &Rule, avp: AvpRef<'a>, depth: u32) -> Judged<'a>
-    requires fit { IsFit dictionary.now.avps }
-    requires apart { IsApart rule.now }
-    ensures { shown result ≡ first (group_faults depth dictionary.now.avps rule.now (avp_of avp.entry)) }
+fn judge_group<'a>(
+    dictionary: &Linked,
+    rule: LinkedRule<'_>,
+    avp: AvpRef<'a>,
+    depth: u32,
+) -> Judged<'a>
+    requires linked { IsLinked dictionary.now }
+    requires fit { IsFit dictionary.now.definitions.avps }
+    requires rule { IsRule dictionary.now.definitions.avps rule }
+    ensures { shown result ≡ first (group_faults depth dictionary.now.definitions.avps rule.entry.entries.now
+        (avp_of avp.entry)) }
 {
     if depth == 0 {
         return Judged::Bad {
@@ -117,26 +132,27 @@ fn judge_group<'a>(dictionary: &Definitions, rule: &Rule, avp: AvpRef<'a>, depth
 /// The first fault of a list of AVPs under the rule, where so many groups may stand inside each other.
 #[cycle(judge)]
 pub(crate) fn judge_list<'a>(
-    dictionary: &Definitions,
-    rule: &Rule,
+    dictionary: &Linked,
+    rule: LinkedRule<'_>,
     list: AvpsRef<'a>,
     depth: u32,
 ) -> Judged<'a>
-    requires fit { IsFit dictionary.now.avps }
-    requires apart { IsApart rule.now }
+    requires linked { IsLinked dictionary.now }
+    requires fit { IsFit dictionary.now.definitions.avps }
+    requires rule { IsRule dictionary.now.definitions.avps rule }
     ensures { (l : List Avp) → Lists list.entry l
-        → shown result ≡ first (list_faults depth dictionary.now.avps rule.now l) }
+        → shown result ≡ first (list_faults depth dictionary.now.definitions.avps rule.entry.entries.now l) }
 {
     let mut counts = no_counts();
     let mut left = list;
     while let Some((avp, rest)) = left.split_first() {
-        let (def, at) = look_up(dictionary, rule, avp);
-        match judge_avp(dictionary, def, allows(rule, at), avp, depth) {
+        let (place, at) = look_up(&dictionary.definitions, rule, avp);
+        match judge_avp(dictionary, place, allows(rule.entries, at), avp, depth) {
             Judged::Good => {}
             Judged::Bad { code, failed } => return Judged::Bad { code, failed },
         }
         count_one(&mut counts, 0, at);
         left = rest;
     }
-    judge_entries(dictionary, rule, &counts, list)
+    judge_entries(&dictionary.definitions, rule, &counts, list)
 }

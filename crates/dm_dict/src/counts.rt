@@ -1,13 +1,15 @@
 //! How many AVPs the entries of a rule count, 256 entries at a time, each up to 65535 (RFC 6733, 3.2).
 ghost use Rattle.std.specs.Prelude.{◌≡◌, ◌+◌, ◌<◌, ℕ, List, min, slice_index, if◌then◌else◌};
 ghost use Rattle.dm_wire.specs.declared.avp.Avp.{Avp};
-ghost use Rattle.dm_dict.specs.Apart.{IsApart, IsFit};
+ghost use Rattle.dm_dict.specs.Apart.{IsFit};
+ghost use Rattle.dm_dict.specs.Linked.{IsRule};
 ghost use Rattle.dm_wire.specs.Borrowed.{Lists};
 ghost use Rattle.dm_dict.specs.Counters.{IsCounted};
 ghost use Rattle.dm_dict.specs.Rules.{is_at};
 
+use crate::linked::LinkedRule;
 use crate::rules::look_up;
-use dm_definitions::{Definitions, Rule};
+use dm_definitions::Definitions;
 use dm_wire::AvpsRef;
 
 pub(crate) fn no_counts() -> [u16; 256]
@@ -32,13 +34,13 @@ pub(crate) fn count_one(counts: &mut [u16; 256], from: usize, at: Option<usize>)
 /// How many AVPs of the list each of the 256 entries from `from` on counts, up to 65535.
 pub(crate) fn counts_from(
     dictionary: &Definitions,
-    rule: &Rule,
+    rule: LinkedRule<'_>,
     from: usize,
     list: AvpsRef<'_>,
 ) -> [u16; 256]
     requires fit { IsFit dictionary.now.avps }
-    requires apart { IsApart rule.now }
-    ensures { (l : List Avp) → Lists list.entry l → IsCounted dictionary.now.avps rule.now l from result }
+    requires rule { IsRule dictionary.now.avps rule }
+    ensures { (l : List Avp) → Lists list.entry l → IsCounted dictionary.now.avps rule.entry.entries.now l from result }
 {
     let mut counts = no_counts();
     let mut left = list;

@@ -18,6 +18,7 @@ ghost use Rattle.dm_dict.specs.Typed.{AreTyped};
 
 use crate::judge::{judge_message, judge_spelled};
 use crate::laws::good_is_typed;
+use crate::linked::Linked;
 use crate::{AvpDef, CommandDef, DictFault, Judged, NoMemory, Verdict};
 use dm_definitions::Definitions;
 use dm_wire::{AvpsRef, Message, MessageRef};
@@ -29,7 +30,7 @@ use std::marker::Model;
 /// A contract sees it as three lists of definitions, in order: vendors, AVPs and commands.
 #[derive(Debug, Drop)]
 pub struct Dictionary {
-    definitions: Definitions,
+    linked: Linked,
 }
 
 impl Model for Dictionary {
@@ -37,7 +38,20 @@ impl Model for Dictionary {
 
     ghost Value = { Definitions };
 
-    ghost view = { λ dictionary. dictionary.definitions };
+    ghost use Rattle.dm_dict.specs.Linked.{IsLinked};
+
+    ghost view = { λ dictionary. dictionary.linked.definitions };
+
+    ghost invariant = { λ dictionary. IsLinked dictionary.linked };
+}
+
+/// The dictionary of the definitions, or want of memory for the links of their rules.
+fn link(alloc: Global, definitions: Definitions) -> Result<Dictionary, NoMemory>
+    ensures { IfOk result (λ dictionary. dictionary ≡ definitions) }
+{
+    Ok(Dictionary {
+        linked: Linked::new(alloc, definitions)?,
+    })
 }
 
 impl Dictionary {
@@ -46,7 +60,7 @@ impl Dictionary {
         ensures { result ≡ nothing_defined }
     {
         Dictionary {
-            definitions: Definitions::empty(alloc),
+            linked: Linked::empty(alloc),
         }
     }
 
@@ -54,9 +68,8 @@ impl Dictionary {
     pub fn base(alloc: Global) -> Result<Dictionary, NoMemory>
         ensures { IfOk result (λ dictionary. dictionary ≡ base_definitions) }
     {
-        Ok(Dictionary {
-            definitions: Definitions::base(alloc)?,
-        })
+        let definitions = Definitions::base(alloc)?;
+        link(alloc, definitions)
     }
 
     /// The definitions of the old dictionary, followed by those of the text in the command code format
@@ -72,8 +85,8 @@ impl Dictionary {
         ensures only { (new : Definitions) → Defines text.now old.now new → (result ≡ Ok new) ⊎ (result ≡ Err faults_of.NoMemory) }
         ensures refuses { (f : DictFault) → IsFirstFault text.now old.now f → (result ≡ Err f) ⊎ (result ≡ Err faults_of.NoMemory) }
     {
-        match Definitions::read(alloc, text, &old.definitions) {
-            Ok(definitions) => Ok(Dictionary { definitions }),
+        match Definitions::read(alloc, text, &old.linked.definitions) {
+            Ok(definitions) => Ok(link(alloc, definitions)?),
             Err(fault) => Err(fault),
         }
     }
@@ -86,7 +99,7 @@ impl Dictionary {
         // Read over the empty dictionary it gives this dictionary again.
         ensures again { IfOk result (λ text. Defines text.items nothing_defined self.now) }
     {
-        self.definitions.print(alloc)
+        self.linked.definitions.print(alloc)
     }
 
     /// The number of the vendor of the name (own). It takes no memory.
@@ -95,7 +108,7 @@ impl Dictionary {
         // No other vendor has the name.
         ensures one { filter (is_vendor name.now) self.now.vendors ≡ option_to_list (find (is_vendor name.now) self.now.vendors) }
     {
-        self.definitions.vendor_by_name(name)
+        self.linked.definitions.vendor_by_name(name)
     }
 
     /// The AVP of the name (RFC 6733, 3.2). It takes no memory.
@@ -104,7 +117,7 @@ impl Dictionary {
         // No other definition has the name.
         ensures one { filter (is_named name.now) self.now.avps ≡ option_to_list (option_copied result) }
     {
-        self.definitions.avp_by_name(name)
+        self.linked.definitions.avp_by_name(name)
     }
 
     /// The AVP of the AVP Code and Vendor-ID (4.1). No vendor and vendor 0 are two. It takes no memory.
@@ -113,7 +126,7 @@ impl Dictionary {
         // No other definition has the code with the vendor.
         ensures one { filter (is_coded code vendor) self.now.avps ≡ option_to_list (option_copied result) }
     {
-        self.definitions.avp_by_code(code, vendor)
+        self.linked.definitions.avp_by_code(code, vendor)
     }
 
     /// The command of the Command Code, for a request or an answer, with or without the E bit (3.1).
@@ -123,7 +136,7 @@ impl Dictionary {
         // No other definition has the code with the bits.
         ensures one { filter (is_headed code request err) self.now.commands ≡ option_to_list (option_copied result) }
     {
-        self.definitions.command(code, request, err)
+        self.linked.definitions.command(code, request, err)
     }
 
     /// The laws that every dictionary keeps to: each definition is sound beside those before it, and each entry
@@ -132,7 +145,7 @@ impl Dictionary {
         ensures sound { is_sound self.now ≡ true }
         ensures closed { is_closed self.now ≡ true }
     {
-        self.definitions.soundness();
+        self.linked.definitions.soundness();
     }
 
     /// What the dictionary says of the message: good, or its first fault in this order (own; the codes
@@ -161,7 +174,7 @@ impl Dictionary {
     {
         good_is_typed();
         let list = AvpsRef::Held(message.avps.as_slice());
-        judge_message(&self.definitions, &message.header, list).verdict(alloc)
+        judge_message(&self.linked, &message.header, list).verdict(alloc)
     }
 
     /// What the dictionary says of the message where it lies: the verdict of `check`, with the parts of the same
@@ -175,6 +188,6 @@ impl Dictionary {
             → SpellsList decoded.avps message.now.rest.now
             → verdict_of (shown result) ≡ verdict_of (first (faults self.now decoded)) }
     {
-        judge_spelled(&self.definitions, &message.header, message.rest)
+        judge_spelled(&self.linked, &message.header, message.rest)
     }
 }

@@ -1,16 +1,17 @@
 //! The first fault of a message (RFC 6733, 3 and 7).
-ghost use Rattle.std.specs.Prelude.{◌≡◌, List};
-ghost use Rattle.std.specs.Option.{option_copied};
+ghost use Rattle.std.specs.Prelude.{◌≡◌, List, option_map, IfSome};
 ghost use Rattle.dm_wire.specs.declared.avp.Avp.{Avp};
 ghost use Rattle.dm_wire.specs.Borrowed.{Lists};
 ghost use Rattle.dm_wire.specs.Spelling.{SpellsList};
 ghost use Rattle.dm_dict.specs.Faults.{command_for, wrong_bits, faults, first};
 ghost use Rattle.dm_dict.specs.Judgement.{shown};
+ghost use Rattle.dm_dict.specs.Linked.{IsLinked};
+ghost use Rattle.dm_dict.specs.Links.{rule_links};
 
 use crate::avps::judge_list;
 use crate::codes::{COMMAND_UNSUPPORTED, INVALID_HDR_BITS};
 use crate::judged::{Failed, Judged};
-use dm_definitions::{CommandDef, Definitions};
+use crate::linked::{Linked, LinkedCommand, LinkedRule};
 use dm_wire::laws::members_spell;
 use dm_wire::{AvpsRef, Header};
 
@@ -19,8 +20,12 @@ const GROUPS: u32 = 8;
 
 /// The command whose rule the message has. All answers that report an error have one rule, that of
 /// command 0 with ERR.
-fn command_for<'d>(dictionary: &'d Definitions, header: &Header) -> Option<&'d CommandDef>
-    ensures { option_copied result ≡ command_for dictionary.now header.now }
+fn command_for<'d>(dictionary: &'d Linked, header: &Header) -> Option<LinkedCommand<'d>>
+    requires { IsLinked dictionary.now }
+    ensures def { option_map (λ command. command.def.now) result
+        ≡ command_for dictionary.now.definitions header.now }
+    ensures links { IfSome result (λ command. command.links.now
+        ≡ rule_links dictionary.now.definitions.avps command.def.now.rule) }
 {
     let error_answer = !header.request && header.error;
     let code = if error_answer { 0 } else { header.command };
@@ -29,15 +34,16 @@ fn command_for<'d>(dictionary: &'d Definitions, header: &Header) -> Option<&'d C
 
 /// The first fault of a message of this header and these AVPs. It takes no memory.
 pub(crate) fn judge_message<'a>(
-    dictionary: &Definitions,
+    dictionary: &Linked,
     header: &Header,
     list: AvpsRef<'a>,
 ) -> Judged<'a>
+    requires linked { IsLinked dictionary.now }
     ensures { (l : List Avp) → Lists list.entry l
-        → shown result ≡ first (faults dictionary.now (record { header = header.now; avps = l })) }
+        → shown result ≡ first (faults dictionary.now.definitions (record { header = header.now; avps = l })) }
 {
     let failed = Failed::Nothing;
-    let Some(command) = command_for(dictionary, header) else {
+    let Some(LinkedCommand { def, links }) = command_for(dictionary, header) else {
         return Judged::Bad {
             code: COMMAND_UNSUPPORTED,
             failed,
@@ -49,18 +55,23 @@ pub(crate) fn judge_message<'a>(
             failed,
         };
     }
-    dictionary.soundness();
-    judge_list(dictionary, &command.rule, list, GROUPS)
+    dictionary.definitions.soundness();
+    let rule = LinkedRule {
+        entries: &def.rule,
+        links,
+    };
+    judge_list(dictionary, rule, list, GROUPS)
 }
 
 /// The first fault of a message of this header, whose AVPs the octets spell. It takes no memory.
 pub(crate) fn judge_spelled<'a>(
-    dictionary: &Definitions,
+    dictionary: &Linked,
     header: &Header,
     octets: &'a [u8],
 ) -> Judged<'a>
+    requires linked { IsLinked dictionary.now }
     ensures { (l : List Avp) → SpellsList l octets.now
-        → shown result ≡ first (faults dictionary.now (record { header = header.now; avps = l })) }
+        → shown result ≡ first (faults dictionary.now.definitions (record { header = header.now; avps = l })) }
 {
     members_spell();
     judge_message(dictionary, header, AvpsRef::Spelled(octets))

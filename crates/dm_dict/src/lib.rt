@@ -10,9 +10,12 @@ mod entries;
 mod judge;
 mod judged;
 pub mod laws;
+mod linked;
+mod links;
 mod printing;
 mod rules;
 mod verdict;
+mod windows;
 
 pub use dictionary::Dictionary;
 pub use dm_definitions::{AvpDef, CommandDef, DictFault, Entry, EnumValue, Form, Rule, Values};

@@ -1,39 +1,15 @@
 //! Under which entry of a rule an AVP stands (RFC 6733, 3.2).
-ghost use Rattle.std.specs.Prelude.{◌≡◌, ◌<◌, ℕ, IfSome, length, slice_get, slice_index_or};
-ghost use Rattle.std.specs.List.{position_from};
-ghost use Rattle.std.specs.Option.{option_copied, option_and_then};
+ghost use Rattle.std.specs.Prelude.{◌≡◌, ◌<◌, ℕ, length, slice_get, slice_index_or};
+ghost use Rattle.std.specs.Option.{option_and_then};
 ghost use Rattle.dm_definitions.specs.declared.rule.Entry.{Entry};
-ghost use Rattle.dm_dict.specs.Rules.{definition, names, is_at, counts, entry_for, allows};
-ghost use Rattle.dm_dict.specs.Apart.{IsApart, IsFit, IsOwnName};
+ghost use Rattle.dm_dict.specs.Rules.{definition, is_at, counts, entry_for, allows};
+ghost use Rattle.dm_dict.specs.Apart.{IsFit};
+ghost use Rattle.dm_dict.specs.Linked.{IsRule};
 ghost use Rattle.dm_wire.specs.Borrowed.{avp_of};
 
-use dm_definitions::{AvpDef, Definitions, Rule};
+use crate::linked::LinkedRule;
+use dm_definitions::{Definitions, Rule};
 use dm_wire::AvpRef;
-
-/// Where the entry stands that names the AVPs of the definition.
-fn entry_naming(rule: &Rule, def: Option<&AvpDef>) -> Option<usize>
-    ensures { result ≡ position_from (names (option_copied def.entry)) 0 rule.now }
-{
-    match def {
-        Some(def) => rule.place(def.name.as_slice()),
-        None => None,
-    }
-}
-
-/// Where the entry stands under which an AVP of the definition stands: the entry of its name, else
-/// `AVP`. An AVP without definition stands under `AVP`.
-pub(crate) fn place(rule: &Rule, def: Option<&AvpDef>) -> Option<usize>
-    requires apart { IsApart rule.now }
-    requires named { IfSome (option_copied def) (λ f. IsOwnName f.name) }
-    ensures entry { option_and_then (slice_get rule.now) result ≡ entry_for rule.now (option_copied def.entry) }
-    ensures counts { (i : ℕ) (e : Entry) → i < length rule.now → e ≡ slice_index_or rule.now i e
-        → is_at result i ≡ counts rule.now e (option_copied def.entry) }
-{
-    match entry_naming(rule, def) {
-        Some(at) => Some(at),
-        None => rule.place(b"AVP"),
-    }
-}
 
 /// Whether an AVP may stand under the entry: there is one, and its max isn't 0.
 pub(crate) fn allows(rule: &Rule, at: Option<usize>) -> bool
@@ -45,32 +21,40 @@ pub(crate) fn allows(rule: &Rule, at: Option<usize>) -> bool
     }
 }
 
-/// The definition of the AVP, and where under the rule the AVP stands.
-pub(crate) fn look_up<'d>(
-    dictionary: &'d Definitions,
-    rule: &Rule,
+/// Where the definition of the AVP stands among the AVPs, and where under the rule the AVP stands: at the entry that is
+/// linked to its definition, else at `AVP`. An AVP without definition stands at `AVP`.
+pub(crate) fn look_up(
+    dictionary: &Definitions,
+    rule: LinkedRule<'_>,
     avp: AvpRef<'_>,
-) -> (Option<&'d AvpDef>, Option<usize>)
+) -> (Option<usize>, Option<usize>)
     requires fit { IsFit dictionary.now.avps }
-    requires apart { IsApart rule.now }
-    ensures def { option_copied result.0 ≡ definition dictionary.now.avps (avp_of avp.entry) }
-    ensures entry { option_and_then (slice_get rule.now) result.1
-        ≡ entry_for rule.now (definition dictionary.now.avps (avp_of avp.entry)) }
-    ensures counts { (i : ℕ) (e : Entry) → i < length rule.now → e ≡ slice_index_or rule.now i e
-        → is_at result.1 i ≡ counts rule.now e (definition dictionary.now.avps (avp_of avp.entry)) }
+    requires rule { IsRule dictionary.now.avps rule }
+    ensures def { option_and_then (slice_get dictionary.now.avps) result.0
+        ≡ definition dictionary.now.avps (avp_of avp.entry) }
+    ensures entry { option_and_then (slice_get rule.entry.entries.now) result.1
+        ≡ entry_for rule.entry.entries.now (definition dictionary.now.avps (avp_of avp.entry)) }
+    ensures counts { (i : ℕ) (e : Entry) → i < length rule.entry.entries.now
+        → e ≡ slice_index_or rule.entry.entries.now i e
+        → is_at result.1 i ≡ counts rule.entry.entries.now e (definition dictionary.now.avps (avp_of avp.entry)) }
 {
-    let def = dictionary.avp_by_code(avp.code, avp.vendor);
-    let at = place(rule, def);
-    (def, at)
+    let definition = dictionary.place_by_code(avp.code, avp.vendor);
+    let linked = rule.links.place(definition);
+    (definition, linked.or(rule.links.place(None)))
 }
 
 /// Whether the entry at the place counts the AVP.
-pub(crate) fn counts_avp(dictionary: &Definitions, rule: &Rule, at: usize, avp: AvpRef<'_>) -> bool
+pub(crate) fn counts_avp(
+    dictionary: &Definitions,
+    rule: LinkedRule<'_>,
+    at: usize,
+    avp: AvpRef<'_>,
+) -> bool
     requires fit { IsFit dictionary.now.avps }
-    requires apart { IsApart rule.now }
-    requires within { at < length rule.now }
-    ensures { (e : Entry) → e ≡ slice_index_or rule.now at e
-        → result ≡ counts rule.now e (definition dictionary.now.avps (avp_of avp.entry)) }
+    requires rule { IsRule dictionary.now.avps rule }
+    requires within { at < length rule.entries.now }
+    ensures { (e : Entry) → e ≡ slice_index_or rule.entry.entries.now at e
+        → result ≡ counts rule.entry.entries.now e (definition dictionary.now.avps (avp_of avp.entry)) }
 {
     let (_, place) = look_up(dictionary, rule, avp);
     match place {

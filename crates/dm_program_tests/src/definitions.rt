@@ -121,11 +121,18 @@ fn finds_no_others(base: &Definitions) -> bool {
         && base.command(257, true, true).is_none()
 }
 
-fn finds_place(base: &Definitions) -> Option<bool> {
-    let cer = base.command(257, true, false)?;
-    let place = cer.rule.place(b"Vendor-Id")?;
-    let entry = cer.rule.as_slice().get(place)?;
-    Some(place == 3 && entry.form == Form::Required)
+fn finds_places(base: &Definitions) -> Option<bool> {
+    let name = b"Vendor-Id".as_slice();
+    let place = base.place_by_name(name)?;
+    let avp = base.avps().get(place)?;
+    let cer = base.commands().get(base.command_place(257, true, false)?)?;
+    let entry = cer.rule.as_slice().get(3)?;
+    Some(
+        base.place_by_code(266, None)? == place
+            && avp.name.as_slice() == name
+            && entry.name.as_slice() == name
+            && entry.form == Form::Required,
+    )
 }
 
 fn copies(base: &Definitions) -> Option<bool> {
@@ -138,7 +145,7 @@ fn assert_base(rt: &(impl Abort + AllocGlobal), base: &Definitions) {
     assert!(rt; prints_base(rt, base), "printed");
     assert!(rt; finds_avps(base) == Some(true), "AVPs");
     assert!(rt; finds_no_others(base), "no others");
-    assert!(rt; finds_place(base) == Some(true), "a place");
+    assert!(rt; finds_places(base) == Some(true), "a place");
     assert!(rt; copies(base) == Some(true), "a copy");
 }
 

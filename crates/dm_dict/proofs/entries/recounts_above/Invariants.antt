@@ -7,8 +7,8 @@ use Rattle.dm_dict.proofs.entries.recounts_above.Given as goal
 
 abbrev pub invariant-loop-avp : goal.invariant-loop-avp
 invariant-loop-avp l =
-    (all : List Avp) (e : Entry) → Lists l.list all → e ≡ slice_index_or l.rule l.at e → (m : List Avp) × Lists l.left m
-    × (nat_lt l.number (count l.dictionary.avps l.rule all e) ≡ nat_lt l.room (count l.dictionary.avps l.rule m e))
+    (all : List Avp) (e : Entry) → Lists l.list all → e ≡ slice_index_or l.rule.entries.now l.at e → (m : List Avp) × Lists l.left m
+    × (nat_lt l.number (count l.dictionary.avps l.rule.entries.now all e) ≡ nat_lt l.room (count l.dictionary.avps l.rule.entries.now m e))
 
 abbrev pub decreases-loop-avp : goal.decreases-loop-avp
 decreases-loop-avp l = size_of l.left

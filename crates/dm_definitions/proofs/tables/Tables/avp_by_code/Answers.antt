@@ -1,11 +1,8 @@
-use Rattle.std.proofs.Common.{nat_eq, ◌&&◌}
-use Rattle.std.specs.Option.{option_eq}
-use Rattle.dm_definitions.specs.Tables.{code_key}
-use Rattle.dm_definitions.proofs.Places.{found}
+use Rattle.dm_definitions.specs.Definitions.{is_coded}
+use Rattle.dm_definitions.proofs.Places.{at_place}
 use Rattle.dm_definitions.proofs.tables.Tables.avp_by_code.Goals as goal
 
 pub returns : goal.returns
 returns c =
-    rw (c.member_at.ensures, c.as_slice.ensures.value, c.copied-place.ensures, c.get.ensures.value)
-    (found (λ k. nat_eq c.args.code k.0 && option_eq nat_eq c.args.vendor k.1) code_key c.args.self.now.avps.items
-    c.args.self.now.codes.entries c.requires.codes)
+    rw (c.member_at.ensures, c.as_slice.ensures.value, c.place_by_code.ensures)
+    (at_place (is_coded c.args.code c.args.vendor) c.args.self.now.avps.items)

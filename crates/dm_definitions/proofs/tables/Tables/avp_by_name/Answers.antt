@@ -1,10 +1,8 @@
-use Rattle.std.proofs.Common.{nat_eq}
-use Rattle.std.specs.Cmp.Lexicographic.{pointwise}
-use Rattle.dm_definitions.proofs.Places.{found_shown}
+use Rattle.dm_definitions.specs.Definitions.{is_named}
+use Rattle.dm_definitions.proofs.Places.{at_place}
 use Rattle.dm_definitions.proofs.tables.Tables.avp_by_name.Goals as goal
 
 pub returns : goal.returns
 returns c =
-    rw (c.member_at.ensures, c.as_slice.ensures.value, c.copied-place.ensures, c.get.ensures.value)
-    (found_shown (pointwise nat_eq c.args.name.now) (λ d. d.name) (λ k. k.items) c.args.self.now.avps.items
-    c.args.self.now.names.entries c.requires.names)
+    rw (c.member_at.ensures, c.as_slice.ensures.value, c.place_by_name.ensures)
+    (at_place (is_named c.args.name.now) c.args.self.now.avps.items)

@@ -15,4 +15,4 @@ returns-clause-typed c =
     rw (← c.self.view_is)
     (good_result c.verdict.result _ _
     (rw (c.judge_message.ensures c.args.message.now.avps c.as_slice.ensures) at c.verdict.ensures.found)
-    (c.good_is_typed.ensures c.self.inside.definitions c.args.message.now))
+    (c.good_is_typed.ensures c.self.inside.linked.definitions c.args.message.now))

@@ -14,5 +14,5 @@ returns-clause-checked c = λ m same spelled.
     (λ i. record { header = sym same i; avps = m.avps }) in
     rw (← c.self.view_is)
     (ap verdict_of
-    (c.judge_spelled.ensures m.avps spelled ∙ ap (λ (x : Message). first (faults c.self.inside.definitions x))
+    (c.judge_spelled.ensures m.avps spelled ∙ ap (λ (x : Message). first (faults c.self.inside.linked.definitions x))
     whole))

@@ -1,0 +1,12 @@
+-- The command at its place.
+use Rattle.std.proofs.Common.{◌∙◌, ap, slice_get}
+use Rattle.std.specs.Option.{option_and_then}
+use Rattle.dm_definitions.specs.Definitions.{is_headed}
+use Rattle.dm_dict.proofs.Standing.{found}
+use Rattle.dm_dict.proofs.linked.Linked.command.Goals as goal
+
+pub returns-clause-def : goal.returns-clause-def
+returns-clause-def c =
+    let commands = c.args.self.now.definitions.commands in
+    c.command_at.ensures.def ∙ ap (option_and_then (slice_get commands)) c.command_place.ensures ∙ found
+    (is_headed c.args.code c.args.request c.args.err) commands

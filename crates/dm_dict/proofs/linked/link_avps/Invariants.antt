@@ -1,0 +1,7 @@
+use Rattle.std.proofs.Common.{◌≡◌, ◌++◌, map, take}
+use Rattle.dm_dict.specs.Links.{rule_links}
+use Rattle.dm_dict.proofs.linked.link_avps.Given as goal
+
+abbrev pub invariant-loop-def : goal.invariant-loop-def
+invariant-loop-def l =
+    l.links.items ≡ l.fn.links.items ++ map (λ d. rule_links l.definitions.avps d.rule) (take l.def-index l.def-items)

@@ -1,0 +1,40 @@
+-- The place of the link is the place of the name.
+use Rattle.std.proofs.Common.{◌≡◌, ◌∙◌, refl, ap, slice_get}
+use Rattle.std.specs.List.{position_from}
+use Rattle.std.specs.Option.{option_and_then}
+use Rattle.dm_wire.specs.Borrowed.{avp_of}
+use Rattle.dm_definitions.specs.Definitions.{is_coded}
+use Rattle.dm_dict.specs.Rules.{definition, names, stands_for_any, is_at}
+use Rattle.dm_dict.proofs.Standing.{found, place_of, entry_at_place, counts_at_place}
+use Rattle.dm_dict.proofs.Linking.{linked_place, own_names}
+use Rattle.dm_dict.proofs.rules.look_up.Goals as goal
+
+place_is : (c : goal.After-or) → c.or.result ≡ place_of c.args.rule.entries.now
+    (definition c.args.dictionary.now.avps (avp_of c.args.avp))
+place_is c =
+    let rule = c.requires.rule in
+    c.or.ensures ∙ (rw (c.place-linked.ensures, c.place.ensures)
+    (linked_place c.args.dictionary.now.avps c.args.rule.entries.now c.args.rule.links.now
+    (is_coded c.args.avp.code c.args.avp.vendor) c.place_by_code-definition.result c.requires.fit rule.closed
+    rule.linked c.place_by_code-definition.ensures))
+
+pub returns-clause-def : goal.returns-clause-def
+returns-clause-def c =
+    let avps = c.args.dictionary.now.avps in
+    ap (option_and_then (slice_get avps)) c.place_by_code-definition.ensures ∙ found
+    (is_coded c.args.avp.code c.args.avp.vendor) avps
+
+pub returns-clause-entry : goal.returns-clause-entry
+returns-clause-entry c =
+    let rule = c.args.rule.entries.now in
+    let f = definition c.args.dictionary.now.avps (avp_of c.args.avp) in
+    rw (place_is c) (entry_at_place rule f _ _ refl refl)
+
+pub returns-clause-counts : goal.returns-clause-counts
+returns-clause-counts c = λ i e within at.
+    let rule = c.args.rule.entries.now in
+    let f = definition c.args.dictionary.now.avps (avp_of c.args.avp) in
+    ap (λ o. is_at o i) (place_is c) ∙
+    counts_at_place rule f (position_from (names f) 0 rule) (position_from stands_for_any 0 rule)
+    c.requires.rule.apart
+    (own_names c.args.dictionary.now.avps c.args.avp.code c.args.avp.vendor c.requires.fit) refl refl i e within at

@@ -1,0 +1,12 @@
+use Rattle.std.proofs.Common.{◌≡◌, List, drop, flat_map}
+use Rattle.dm_wire.specs.declared.avp.Avp.{Avp}
+use Rattle.dm_wire.specs.Borrowed.{Lists}
+use Rattle.dm_dict.specs.Counters.{IsCounted}
+use Rattle.dm_dict.specs.Faults.{entry_faults, first}
+use Rattle.dm_dict.proofs.windows.judge_window.Given as goal
+
+abbrev pub invariant-loop-at : goal.invariant-loop-at
+invariant-loop-at l =
+    (all : List Avp) → Lists l.list all → IsCounted l.dictionary.avps l.rule.entries.now all l.from l.counts
+    → first (flat_map (entry_faults l.dictionary.avps l.rule.entries.now all) (drop l.from l.rule.entries.now)) ≡
+    first (flat_map (entry_faults l.dictionary.avps l.rule.entries.now all) (drop l.at l.rule.entries.now))

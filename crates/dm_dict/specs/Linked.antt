@@ -1,0 +1,27 @@
+-- Definitions with the links of their rules.
+use Rattle.std.specs.Prelude.{◌≡◌, ℕ, true, Option, List, map}
+use Rattle.dm_definitions.specs.declared.def.AvpDef.{AvpDef}
+use Rattle.dm_definitions.specs.Definitions.{Definitions}
+use Rattle.dm_definitions.specs.Sound.{knows_rule}
+use Rattle.dm_dict.specs.declared.linked.Linked.{Linked}
+use Rattle.dm_dict.specs.declared.linked.LinkedRule.{LinkedRule}
+use Rattle.dm_dict.specs.Apart.{IsApart}
+use Rattle.dm_dict.specs.Links.{rule_links}
+
+-- the links of each AVP's rule, and of each command's, in order
+abbrev pub avp_links : Definitions → List (List (Option ℕ))
+avp_links d = map (λ a. rule_links d.avps a.rule) d.avps
+
+abbrev pub command_links : Definitions → List (List (Option ℕ))
+command_links d = map (λ c. rule_links d.avps c.rule) d.commands
+
+-- the links are those of the definitions
+pub record IsLinked (t : Linked) : Type 0 where
+  pub avps : t.avps.items ≡ avp_links t.definitions
+  pub commands : t.commands.items ≡ command_links t.definitions
+
+-- no two entries have one name, each names a definition or is `AVP`, and the links are theirs
+pub record IsRule (avps : List AvpDef) (rule : LinkedRule) : Type 0 where
+  pub apart : IsApart rule.entries.now
+  pub closed : knows_rule avps rule.entries.now ≡ true
+  pub linked : rule.links.now ≡ rule_links avps rule.entries.now

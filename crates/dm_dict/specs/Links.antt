@@ -1,0 +1,23 @@
+-- The links of the entries of a rule: which definition each names (RFC 6733, 3.2).
+use Rattle.std.specs.Prelude.{◌≡◌, ◌<◌, ℕ, nat_eq, Option, None, Some, List, length, map}
+use Rattle.std.specs.List.{position_from}
+use Rattle.std.specs.Option.{option_eq}
+use Rattle.indexmap.specs.IndexMap.{get_by}
+use Rattle.dm_definitions.specs.declared.rule.Entry.{Entry}
+use Rattle.dm_definitions.specs.declared.def.AvpDef.{AvpDef}
+use Rattle.dm_definitions.specs.Definitions.{is_named}
+use Rattle.dm_dict.specs.declared.links.Links.TheInside.{Inside}
+
+-- the link of an entry: the place of the definition that has its name; `AVP` has none
+abbrev pub link : List AvpDef → Entry → Option ℕ
+link avps e = position_from (is_named e.name) 0 avps
+
+-- the links of the entries of a rule, in order
+abbrev pub rule_links : List AvpDef → List Entry → List (Option ℕ)
+rule_links avps rule = map (link avps) rule
+
+-- the place of the first entry without a link, and an index of the first place of each link where the rule is long
+pub record IsPlaced (links : Inside) : Type 0 where
+  pub any : links.any ≡ position_from (option_eq nat_eq None) 0 links.items.items
+  pub places : 16 < length links.items.items → (k : ℕ)
+      → get_by (nat_eq k) links.places ≡ position_from (option_eq nat_eq (Some k)) 0 links.items.items

@@ -1,0 +1,145 @@
+//! The links of a rule: which definition each of its entries names (RFC 6733, 3.2).
+ghost use Rattle.std.specs.Prelude.{◌≡◌, ◌<◌, ℕ, Some, None, if◌then◌else◌, nat_eq, length, map, IfOk, OnOk};
+ghost use Rattle.std.specs.List.{position_from};
+ghost use Rattle.std.specs.Option.{option_eq, option_or};
+ghost use Rattle.indexmap.specs.IndexMap.{get_by};
+ghost use Rattle.dm_dict.specs.Links.{rule_links};
+
+use dm_definitions::{Definitions, Rule};
+use dm_value::NoMemory;
+use indexmap::IndexMap;
+use std::alloc::Global;
+use std::marker::Model;
+
+/// For each entry of a rule, in order, the place of the definition that has its name among the AVPs. The entry
+/// `AVP` has none.
+///
+/// A contract sees it as the list of the links.
+#[derive(Debug, Drop)]
+pub(crate) struct Links {
+    items: Vec<Option<usize>>,
+    /// The place of the first entry without a link.
+    any: Option<usize>,
+    /// The places of the links of a long rule.
+    places: IndexMap<usize, usize>,
+}
+
+impl Model for Links {
+    ghost use Rattle.std.specs.Prelude.{List, Option, ℕ};
+
+    ghost Value = { List (Option ℕ) };
+
+    ghost use Rattle.dm_dict.specs.Links.{IsPlaced};
+
+    ghost view = { λ links. links.items.items };
+
+    ghost invariant = { IsPlaced };
+}
+
+/// The most entries among which a link is sooner found one by one than by its hash.
+const SHORT_RULE: usize = 16;
+
+/// The link has the place, unless it has one.
+fn note_place(
+    places: &mut IndexMap<usize, usize>,
+    link: &Option<usize>,
+    place: usize,
+) -> Result<(), NoMemory>
+    ensures { OnOk result ((k : ℕ) → get_by (nat_eq k) places.new
+        ≡ option_or (get_by (nat_eq k) places.old) (if option_eq nat_eq (Some k) link.now then Some place else None)) }
+{
+    let Some(link) = link else {
+        return Ok(());
+    };
+    if let Some(_) = places.get(link) {
+        return Ok(());
+    }
+    places.insert(*link, place)?;
+    Ok(())
+}
+
+/// The places of the links: of each the first.
+fn places(alloc: Global, links: &[Option<usize>]) -> Result<IndexMap<usize, usize>, NoMemory>
+    ensures { IfOk result (λ places. (k : ℕ)
+        → get_by (nat_eq k) places ≡ position_from (option_eq nat_eq (Some k)) 0 links.now) }
+{
+    let mut places = IndexMap::new(alloc);
+    for (place, link) in links.iter().enumerate() {
+        note_place(&mut places, link, place)?;
+    }
+    Ok(places)
+}
+
+/// The places of the links of a long rule. Those of a short one aren't wanted.
+fn index(alloc: Global, links: &[Option<usize>]) -> Result<IndexMap<usize, usize>, NoMemory>
+    ensures { IfOk result (λ places. 16 < length links.now → (k : ℕ)
+        → get_by (nat_eq k) places ≡ position_from (option_eq nat_eq (Some k)) 0 links.now) }
+{
+    if links.len() <= SHORT_RULE {
+        Ok(IndexMap::new(alloc))
+    } else {
+        places(alloc, links)
+    }
+}
+
+/// The place of the first of the links that is this one, one after the other.
+fn place_among(links: &[Option<usize>], link: Option<usize>) -> Option<usize>
+    ensures { result ≡ position_from (option_eq nat_eq link) 0 links.now }
+{
+    for (place, other) in links.iter().enumerate() {
+        if link == *other {
+            return Some(place);
+        }
+    }
+    None
+}
+
+/// The links of the entries of a rule, in order.
+fn links_to(
+    alloc: Global,
+    definitions: &Definitions,
+    rule: &Rule,
+) -> Result<Vec<Option<usize>>, NoMemory>
+    ensures { IfOk result (λ links. links.items ≡ rule_links definitions.now.avps rule.now) }
+{
+    let entries = rule.as_slice();
+    let mut links = Vec::with_capacity(alloc, entries.len())?;
+    for entry in entries {
+        links.push(definitions.place_by_name(entry.name.as_slice()))?;
+    }
+    Ok(links)
+}
+
+impl Links {
+    /// The links of the `Vec`, which is moved and not copied.
+    fn new(alloc: Global, items: Vec<Option<usize>>) -> Result<Links, NoMemory>
+        ensures { IfOk result (λ links. links ≡ items.items) }
+    {
+        let places = index(alloc, items.as_slice())?;
+        let any = place_among(items.as_slice(), None);
+        Ok(Links { items, any, places })
+    }
+
+    /// The links of the entries of a rule.
+    pub(crate) fn of_rule(
+        alloc: Global,
+        definitions: &Definitions,
+        rule: &Rule,
+    ) -> Result<Links, NoMemory>
+        ensures { IfOk result (λ links. links ≡ rule_links definitions.now.avps rule.now) }
+    {
+        let items = links_to(alloc, definitions, rule)?;
+        Links::new(alloc, items)
+    }
+
+    /// The place of the first entry that has the link, or has none.
+    pub(crate) fn place(&self, link: Option<usize>) -> Option<usize>
+        ensures { result ≡ position_from (option_eq nat_eq link) 0 self.now }
+    {
+        match link {
+            None => self.any,
+            Some(_) if self.items.len() <= SHORT_RULE => place_among(self.items.as_slice(), link),
+            Some(definition) => self.places.get(&definition).copied(),
+        }
+    }
+}

@@ -1,0 +1,122 @@
+//! Whether a list has as many AVPs as the entries of a rule want, 256 entries at a time (RFC 6733, 3.2 and 7.1.5).
+ghost use Rattle.std.specs.Prelude.{◌≡◌, ◌+◌, ◌<◌, ◌≤◌, ◌⊎◌, true, List, length, drop, slice_index_or, flat_map};
+ghost use Rattle.dm_wire.specs.declared.avp.Avp.{Avp};
+ghost use Rattle.dm_definitions.specs.declared.def.AvpDef.{AvpDef};
+ghost use Rattle.dm_definitions.specs.declared.rule.Entry.{Entry};
+ghost use Rattle.dm_dict.specs.Apart.{IsFit};
+ghost use Rattle.dm_dict.specs.Linked.{IsRule};
+ghost use Rattle.dm_wire.specs.Borrowed.{Lists};
+ghost use Rattle.dm_dict.specs.Counters.{IsCounted, before, is_bounded};
+ghost use Rattle.dm_dict.specs.Faults.{entry_faults, first};
+ghost use Rattle.dm_dict.specs.Judgement.{shown};
+
+use crate::counts::counts_from;
+use crate::entries::judge_entry;
+use crate::judged::Judged;
+use crate::linked::LinkedRule;
+use dm_definitions::{Definitions, Entry, Rule};
+use dm_wire::AvpsRef;
+
+/// Whether the number of the entry's AVPs has a bound: a min, or a max other than 0.
+fn is_bounded(entry: &Entry) -> bool
+    ensures { result ≡ is_bounded entry.now }
+{
+    match entry.max {
+        Some(max) => entry.min > 0 || max > 0,
+        None => entry.min > 0,
+    }
+}
+
+/// The place of the next entry from `from` on that has a bound, or the end of the rule.
+fn next_bounded(rule: &Rule, from: usize) -> usize
+    ensures above { from ≤ result }
+    ensures bounded { (e : Entry) → result < length rule.now → e ≡ slice_index_or rule.now result e
+        → is_bounded e ≡ true }
+    ensures passed { (avps : List AvpDef) (l : List Avp)
+        → first (flat_map (entry_faults avps rule.now l) (drop from rule.now))
+        ≡ first (flat_map (entry_faults avps rule.now l) (drop result rule.now)) }
+{
+    let mut at = from;
+    while at < rule.as_slice().len() && !is_bounded(&rule.as_slice()[at]) {
+        at += 1;
+    }
+    at
+}
+
+/// The end of the 256 entries from `from` on, or of the entries.
+fn window_end(size: usize, from: usize) -> usize
+    requires { from ≤ size }
+    ensures above { from ≤ result }
+    ensures within { result ≤ size }
+    ensures most { result ≤ from + 256 }
+    ensures last { (result ≡ size) ⊎ (result ≡ from + 256) }
+{
+    if size - from < 256 { size } else { from + 256 }
+}
+
+/// The first fault of the 256 entries from `from` on.
+fn judge_window<'a>(
+    dictionary: &Definitions,
+    rule: LinkedRule<'_>,
+    from: usize,
+    counts: &[u16; 256],
+    list: AvpsRef<'a>,
+) -> Judged<'a>
+    requires fit { IsFit dictionary.now.avps }
+    requires rule { IsRule dictionary.now.avps rule }
+    requires within { from ≤ length rule.entries.now }
+    ensures { (l : List Avp) → Lists list.entry l → IsCounted dictionary.now.avps rule.entry.entries.now l from counts.now
+        → first (flat_map (entry_faults dictionary.now.avps rule.entry.entries.now l) (drop from rule.entry.entries.now))
+        ≡ before (shown result) (first (flat_map (entry_faults dictionary.now.avps rule.entry.entries.now l) (drop (from + 256) rule.entry.entries.now))) }
+{
+    for at in from..window_end(rule.entries.as_slice().len(), from) {
+        match judge_entry(dictionary, rule, at, counts[at - from], list) {
+            Judged::Good => {}
+            Judged::Bad { code, failed } => return Judged::Bad { code, failed },
+        }
+    }
+    Judged::Good
+}
+
+/// The first fault of the entries from the 256th on. Each window of 256 begins at an entry that has a
+/// bound, and looks all AVPs up once more.
+fn judge_further<'a>(
+    dictionary: &Definitions,
+    rule: LinkedRule<'_>,
+    list: AvpsRef<'a>,
+) -> Judged<'a>
+    requires fit { IsFit dictionary.now.avps }
+    requires rule { IsRule dictionary.now.avps rule }
+    ensures { (l : List Avp) → Lists list.entry l
+        → shown result ≡ first (flat_map (entry_faults dictionary.now.avps rule.entry.entries.now l) (drop 256 rule.entry.entries.now)) }
+{
+    let size = rule.entries.as_slice().len();
+    let mut from = next_bounded(rule.entries, 256);
+    while from < size {
+        let counts = counts_from(dictionary, rule, from, list);
+        match judge_window(dictionary, rule, from, &counts, list) {
+            Judged::Good => {}
+            Judged::Bad { code, failed } => return Judged::Bad { code, failed },
+        }
+        from = next_bounded(rule.entries, window_end(size, from));
+    }
+    Judged::Good
+}
+
+/// The first fault of the entries of the rule, of which the first 256 have these counters.
+pub(crate) fn judge_entries<'a>(
+    dictionary: &Definitions,
+    rule: LinkedRule<'_>,
+    counts: &[u16; 256],
+    list: AvpsRef<'a>,
+) -> Judged<'a>
+    requires fit { IsFit dictionary.now.avps }
+    requires rule { IsRule dictionary.now.avps rule }
+    ensures { (l : List Avp) → Lists list.entry l → IsCounted dictionary.now.avps rule.entry.entries.now l 0 counts.now
+        → shown result ≡ first (flat_map (entry_faults dictionary.now.avps rule.entry.entries.now l) rule.entry.entries.now) }
+{
+    match judge_window(dictionary, rule, 0, counts, list) {
+        Judged::Good => judge_further(dictionary, rule, list),
+        Judged::Bad { code, failed } => Judged::Bad { code, failed },
+    }
+}
