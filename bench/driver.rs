@@ -12,6 +12,7 @@ extern "C" {
     fn ours_rule(text: *const u8, len: usize, octets: *const u8, octets_len: usize, times: u32) -> usize;
     fn ours_encode(octets: *const u8, len: usize, times: u32) -> usize;
     fn ours_frame(octets: *const u8, len: usize, size: usize, times: u32) -> usize;
+    #[cfg(on)]
     fn ours_on(first: *const u8, len: usize, octets: *const u8, octets_len: usize, times: u32) -> usize;
 }
 
@@ -123,6 +124,7 @@ fn ours(operation: &str, octets: &[u8], times: u32, size: usize) -> usize {
             }
             "encode" => ours_encode(at, len, times),
             "frame" => ours_frame(at, len, size, times),
+            #[cfg(on)]
             "on" => {
                 let first = capabilities(1);
                 ours_on(first.as_ptr(), first.len(), at, len, times)

@@ -11,6 +11,7 @@ pub mod ListFaults
 pub mod Strays
 pub mod Earlier
 pub mod Found
+pub mod Handed
 pub mod SomeOutcomes
 pub mod Soundness
 pub mod VendorLimit
@@ -19,6 +20,7 @@ pub mod Words
 pub mod Reading
 pub mod OneOutcome
 pub mod FirstVersion
+pub mod FirstFaults
 pub mod PrintText
 pub mod PrintWords
 pub mod PrintTokens

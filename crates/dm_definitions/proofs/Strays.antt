@@ -1,5 +1,5 @@
 -- The names of strays.
-use Rattle.std.proofs.Common.{◌≡◌, ℕ, Bool, true, false, ◌||◌, nat_eq, List, [], ◌∷◌, ◌++◌, map, Bor, refl, sym, ap, ◌∙◌}
+use Rattle.std.proofs.Common.{◌≡◌, ℕ, Bool, true, false, ◌||◌, nat_eq, List, [], ◌∷◌, ◌++◌, map, Option, Some, None, Bor, refl, sym, ap, ◌∙◌}
 use Rattle.std.proofs.lemmas.List.{map-append}
 use Rattle.std.specs.List.{list_any}
 use Rattle.std.specs.Cmp.Lexicographic.{pointwise}
@@ -8,7 +8,8 @@ use Rattle.dm_grammar.specs.Tokens.{Word}
 use Rattle.dm_definitions.specs.declared.fault.DictFault.{DictFault}
 use Rattle.dm_definitions.specs.Definitions.{is_named}
 use Rattle.dm_definitions.specs.Sound.{is_any}
-use Rattle.dm_definitions.specs.Meaning.{Made}
+use Rattle.dm_definitions.specs.declared.def.AvpDef.{AvpDef}
+use Rattle.dm_definitions.specs.Meaning.{Made, placed}
 use Rattle.dm_definitions.specs.Faults.{fault_if, is_defined, name_faults}
 use Rattle.dm_definitions.proofs.EntryFaults.{any-map}
 
@@ -36,3 +37,9 @@ stray_noted old new k put fresh =
     ∙ fresh in
     let behind : new ≡ old ++ k ∷ [] = put ∙ rw new_key refl in
     ap (map (λ x. x.now)) behind ∙ map-append (λ x. x.now) old (k ∷ [])
+
+-- an AVP that is what is defined wherever its vendor is known
+pub placed_same : (m : Made) (name : List ℕ) (def : Option ℕ → AvpDef) (a : AvpDef) (o : Option (Option ℕ))
+    → ((v : Option ℕ) → o ≡ Some v → a ≡ def v) → placed m name (λ _. a) o ≡ placed m name def o
+placed_same m name def a None same = refl
+placed_same m name def a (Some v) same = ap (λ x. placed m name (λ _. x) (Some v)) (same v refl)

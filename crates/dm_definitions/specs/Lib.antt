@@ -10,6 +10,8 @@ pub mod Meaning
 pub mod Kinds
 pub mod Faults
 pub mod FirstVersion
+pub mod FirstFaults
+pub mod FirstOutcome
 pub mod OneOutcome
 pub mod Outcome
 pub mod ItemFaults

@@ -1,11 +1,14 @@
 //! The items of a dictionary text, defined one after the other (RFC 6733, 3.2).
-ghost use Rattle.std.specs.Prelude.{◌≡◌, ◌⊎◌, [], ◌∷◌, ◌++◌, map, true, false, Some, None, OnOk, IfErr};
-ghost use Rattle.std.specs.List.{list_all};
+ghost use Rattle.std.specs.Prelude.{◌≡◌, ◌⊎◌, ℕ, [], ◌∷◌, ◌++◌, map, nat_eq, true, false, Option, Some, None, OnOk, IfErr};
+ghost use Rattle.std.specs.List.{list_all, list_any};
+ghost use Rattle.std.specs.Cmp.Lexicographic.{pointwise};
 ghost use Rattle.dm_grammar.specs.Views.{view_vendor, view_avp, view_group, view_command, view_item};
+ghost use Rattle.dm_definitions.specs.declared.fault.DictFault.TheVariants as faults;
 ghost use Rattle.dm_definitions.specs.Definitions.{with_vendor, with_command};
+ghost use Rattle.dm_definitions.specs.Sound.{is_sound_avp};
 ghost use Rattle.dm_definitions.specs.Tables.{defined, making, IsTables};
 ghost use Rattle.dm_definitions.specs.Worded.{is_worded_vendor, is_worded_avp, is_worded_group, is_worded_command, is_worded};
-ghost use Rattle.dm_definitions.specs.Meaning.{vendor_def_of, command_def_of, with_item, with_items};
+ghost use Rattle.dm_definitions.specs.Meaning.{vendor_def_of, command_def_of, placed, with_item, with_items};
 ghost use Rattle.dm_definitions.specs.Faults.{Stops, vendor_item_faults, avp_item_faults, group_item_faults, command_item_faults, item_faults, items_faults};
 ghost use Rattle.dm_grammar.specs.Items.Written.{AvpIs, GroupIs};
 
@@ -38,6 +41,34 @@ fn define_vendor(alloc: Global, tables: &mut Tables, item: &VendorItem<'_>) -> R
     Ok(())
 }
 
+/// Puts an AVP behind the others, or notes its name among the strays where its vendor isn't known.
+fn place<'a>(
+    alloc: Global,
+    tables: &mut Tables,
+    strays: &mut IndexSet<&'a [u8]>,
+    name: &'a [u8],
+    vendor: Option<Option<u32>>,
+    avp: AvpDef,
+) -> Result<(), DictFault>
+    requires tables { IsTables tables.old }
+    requires new { list_any (pointwise nat_eq name.now) (making tables.old strays.old).strays ≡ false }
+    requires sound { (v : Option ℕ) → vendor ≡ Some v → is_sound_avp tables.old.avps.items avp ≡ true }
+    ensures added { OnOk result (making tables.new strays.new ≡ placed (making tables.old strays.old) name.now (λ _. avp) vendor) }
+    ensures tables { OnOk result (IsTables tables.new) }
+    ensures fault { IfErr result (λ f. f ≡ faults.NoMemory) }
+{
+    match vendor {
+        Some(_) => {
+            tables.add_avp(alloc, avp)?;
+        }
+        None => {
+            drop(avp);
+            strays.insert(name)?;
+        }
+    }
+    Ok(())
+}
+
 /// Defines an AVP, or notes its name among the strays where its vendor isn't known. An unknown type is no
 /// fault here.
 fn define_avp<'a>(
@@ -55,21 +86,17 @@ fn define_avp<'a>(
 {
     check_name(tables, strays, item.name)?;
     let (code, vendor) = check_code(tables, item.code, item.vendor)?;
+    let name = Octets::from_slice(alloc, item.name.text)?;
     let values = list(alloc, item.values.as_slice())?;
-    let Some(vendor) = vendor else {
-        strays.insert(item.name.text)?;
-        return Ok(());
-    };
     let avp = AvpDef {
-        name: Octets::from_slice(alloc, item.name.text)?,
+        name,
         code,
-        vendor,
+        vendor: vendor.unwrap_or(None),
         kind: kind_of(item.kind.text).unwrap_or(AvpType::OctetString),
         rule: Rule::empty(alloc),
         values,
     };
-    tables.add_avp(alloc, avp)?;
-    Ok(())
+    place(alloc, tables, strays, item.name.text, vendor, avp)
 }
 
 /// Defines a Grouped AVP, or notes its name among the strays where its vendor isn't known.
@@ -88,21 +115,17 @@ fn define_group<'a>(
 {
     check_name(tables, strays, item.name)?;
     let (code, vendor) = check_code(tables, item.code, item.vendor)?;
+    let name = Octets::from_slice(alloc, item.name.text)?;
     let rule = rule(alloc, item.rule.as_slice())?;
-    let Some(vendor) = vendor else {
-        strays.insert(item.name.text)?;
-        return Ok(());
-    };
     let avp = AvpDef {
-        name: Octets::from_slice(alloc, item.name.text)?,
+        name,
         code,
-        vendor,
+        vendor: vendor.unwrap_or(None),
         kind: AvpType::Grouped,
         rule,
         values: Values::empty(alloc),
     };
-    tables.add_avp(alloc, avp)?;
-    Ok(())
+    place(alloc, tables, strays, item.name.text, vendor, avp)
 }
 
 /// Defines a command.

@@ -1,6 +1,10 @@
-//! Laws of what a text says as a dictionary. Each function is a law: it does nothing, and its contract is the law.
+//! Laws of what a text says as a dictionary. Each function is a law: it does nothing but call the law that it
+//! stands on, and its contract is the law.
+ghost use Rattle.dm_definitions.specs.FirstOutcome.{DefinesFirstVersion, FaultsOfFirstVersion, StaysFirstVersion};
 ghost use Rattle.dm_definitions.specs.FirstVersion.{PrintsFirstVersion};
 ghost use Rattle.dm_definitions.specs.OneOutcome.{OneDefinition, OneFault, NoDefinitionRefused, SomeOutcome};
+
+use dm_grammar::first_version_law;
 
 /// Behind the same old definitions a text defines one whole at most (RFC 6733, 3.2).
 pub fn one_definition()
@@ -27,3 +31,14 @@ pub fn some_outcome()
 pub fn prints_first_version()
     ensures { PrintsFirstVersion }
 {}
+
+/// Of a text whose first two tokens aren't `@` and `2` both what it defines and its first fault are those of
+/// version 1, behind any definitions; and behind definitions without vendors and lists of values it makes
+/// none. The law stands for users.
+pub fn reads_first_version()
+    ensures defines { DefinesFirstVersion }
+    ensures fault { FaultsOfFirstVersion }
+    ensures stays { StaysFirstVersion }
+{
+    first_version_law();
+}

@@ -120,7 +120,7 @@ at_end v Rule e = rule_end v
 at_end v Closed e = λ o n g a b c. fixed_entry v o n g [] a b c (rule_end v)
 at_end v _ e = absurd cc
 
-onward : (v : Version) (ws : List Word) (p q : Place) → Leads v p ws q → may_end q ≡ true → Onward v p ws
+pub onward : (v : Version) (ws : List Word) (p q : Place) → Leads v p ws q → may_end q ≡ true → Onward v p ws
 onward v [] p q l e = at_end v p (ap may_end l ∙ e)
 onward v (w ∷ ws) p q l e =
     by_place v p w ws (taken_onward v (steps v p) w l.0 ws l.1.0 (onward v ws l.0 q l.1.1 e))

@@ -1,8 +1,10 @@
 pub mod Avps
 pub mod AvpWalks
+pub mod Endings
 pub mod Entries
 pub mod EntryWalks
 pub mod Exits
+pub mod FirstVersion
 pub mod HeadWalks
 pub mod Heads
 pub mod ItemsLaw

@@ -77,7 +77,7 @@ title_first n Behind (o ∷ ws) (inl h) = no_at o ws (fits_one symbols.Less symb
 title_first n Behind (o ∷ ws) (inr h) =
     no_at o ws (name_no_symbol (fits (One symbols.At) o.symbol) symbols.At o.symbol refl h.0 refl)
 
-first_text : (is : List Written) (ws : List Word) → Spells (items First is) Ends ws → is_second ws ≡ false
+pub first_text : (is : List Written) (ws : List Word) → Spells (items First is) Ends ws → is_second ws ≡ false
 first_text [] ws h = ap is_second h
 first_text (VendorIs d ∷ is) ws h = absurd h
 first_text (AvpIs a ∷ is) ws h = avp_first a (Spells (items First is) Ends) ws h
@@ -85,7 +85,7 @@ first_text (GroupIs g ∷ is) ws h = title_first g.name _ ws h
 first_text (CommandIs c ∷ is) ws h = title_first c.name _ ws h
 
 -- and what is of version 2 does
-second_text : (is : List Written) (ws : List Word) → Spells (text Second is) Ends ws
+pub second_text : (is : List Written) (ws : List Word) → Spells (text Second is) Ends ws
     → (is_second ws ≡ true) × Spells (items Second is) Ends (drop 2 ws)
 second_text is [] h = absurd h
 second_text is (o ∷ []) h = absurd h.1

@@ -25,7 +25,7 @@ taken : (b : Bool) (rs : List Step) (s : Symbol) (r0 r : Step) → fits r0.wants
 taken true rs s r0 r f e h = let same : r0 ≡ r = cc in inl (f, ap (λ (r : Step). r.leads) same)
 taken false rs s r0 r f e h = inr (h e)
 
-some_taken : (rs : List Step) (s : Symbol) (r : Step) → taking rs s ≡ Some r → SomeStep rs s r.leads
+pub some_taken : (rs : List Step) (s : Symbol) (r : Step) → taking rs s ≡ Some r → SomeStep rs s r.leads
 some_taken [] s r e = absurd cc
 some_taken (r0 ∷ rs) s r e = taken (fits r0.wants s) rs s r0 r refl e (some_taken rs s r)
 

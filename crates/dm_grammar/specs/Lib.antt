@@ -7,5 +7,6 @@ pub mod Versions
 pub mod Items
 pub mod Told
 pub mod Spelling
+pub mod FirstVersion
 pub mod Views
 pub mod Readers

@@ -2,7 +2,7 @@
 
 ghost use Rattle.std.specs.Prelude.{◌≡◌, ◌<◌, ◌≤◌, false, length, MatchResult, IfOk, Err};
 ghost use Rattle.dm_grammar.specs.Items.Written.{AvpIs};
-ghost use Rattle.dm_grammar.specs.Places.Place.{AtSign, AvpCode, Text};
+ghost use Rattle.dm_grammar.specs.Places.Place.{AtSign, AvpCode, AvpName, Text};
 ghost use Rattle.dm_grammar.specs.Places.Role.{CodeIs, KindIs, NameOfAvp};
 ghost use Rattle.dm_grammar.specs.Readers.{IfSyntax, begins_vendor, behind_brace, behind_kind, behind_vendor, may_list, with_item, with_kind};
 ghost use Rattle.dm_grammar.specs.Told.{collect, filled};
@@ -79,6 +79,21 @@ fn typed<'t, 'a>(
     Ok((TypePart { kind, vendor, list }, rest))
 }
 
+/// number type [vend] ["{"].
+fn coded<'t, 'a>(
+    tokens: &'t [Token<'a>],
+    how: Reading,
+) -> Result<((Token<'a>, TypePart<'a>), &'t [Token<'a>]), usize>
+    ensures tells { MatchResult result
+        (λ x. collect how AvpName (view_words tokens.now) ≡ filled CodeIs (view x.0.0) (with_kind (view x.0.1.kind) (view_vend_option x.0.1.vendor) (collect how (behind_brace x.0.1.list) (view_words x.1.now))))
+        (λ line. collect how AvpName (view_words tokens.now) ≡ Err line) }
+    ensures shorter { IfOk result (λ x. length x.1.now < length tokens.now) }
+{
+    let (code, rest) = expect(tokens, how, Terminal::One(Symbol::Number))?;
+    let (typed, rest) = typed(rest, how)?;
+    Ok(((code, typed), rest))
+}
+
 /// name number type [vend] ["{"].
 fn avp_words<'t, 'a>(
     tokens: &'t [Token<'a>],
@@ -91,8 +106,7 @@ fn avp_words<'t, 'a>(
     ensures shorter { IfOk result (λ x. length x.1.now < length tokens.now) }
 {
     let (name, rest) = expect(tokens, how, Terminal::AnyName)?;
-    let (code, rest) = expect(rest, how, Terminal::One(Symbol::Number))?;
-    let (typed, rest) = typed(rest, how)?;
+    let ((code, typed), rest) = coded(rest, how)?;
     Ok(((name, code, typed), rest))
 }
 

@@ -8,6 +8,8 @@ ghost use Rattle.dm_grammar.specs.Places.{Place};
 ghost use Rattle.dm_grammar.specs.Places.Place.{Text};
 ghost use Rattle.dm_grammar.specs.Spelling.{AreItems};
 ghost use Rattle.dm_grammar.specs.Symbols.{is_number, symbol_of_word};
+ghost use Rattle.dm_grammar.specs.FirstVersion.{FirstItem, AreFirst, AreFirstWritten, Breaks};
+ghost use Rattle.dm_grammar.specs.Versions.{is_second};
 ghost use Rattle.dm_grammar.specs.Syntax.{IsGrammatical, IsSyntaxFault, Leads};
 ghost use Rattle.dm_grammar.specs.Told.{told};
 ghost use Rattle.dm_grammar.specs.Tokens.{Word, tokens};
@@ -34,4 +36,15 @@ pub fn items_law()
 /// place of its own.
 pub fn words_law()
     ensures name { (word : List ℕ) → is_number word ≡ false → is_name (symbol_of_word word) ≡ true }
+{}
+
+/// A law of the definitions, with nothing to run. A text whose first two tokens aren't `@` and `2` tells items
+/// exactly where its tokens are these items by the grammar of version 1, which has no names of vendors and no
+/// lists; and it has a Syntax fault at a line exactly where the first token with which no such text can begin
+/// stands there, or where it is the last line of a text that could go on and isn't one yet. No text of version 1
+/// begins with `@` and `2`, so each is read by its own grammar.
+pub fn first_version_law()
+    ensures items { (text : List ℕ) (items : List Written) → is_second (tokens text) ≡ false → (told text ≡ Ok items) ↔ AreFirstWritten items (tokens text) }
+    ensures fault { (text : List ℕ) (line : ℕ) → is_second (tokens text) ≡ false → (told text ≡ Err line) ↔ Breaks text line }
+    ensures apart { (ws : List Word) (is : List FirstItem) → AreFirst is ws → is_second ws ≡ false }
 {}

@@ -26,7 +26,7 @@ pub use item::{
     AvpItem, CommandItem, EntryItem, Form, GroupItem, Item, Qualifier, ValueItem, VendorItem,
     VendorWord,
 };
-pub use law::{items_law, syntax_law, words_law};
+pub use law::{first_version_law, items_law, syntax_law, words_law};
 pub use read::read_items;
 pub use reading::Version;
 pub use symbol::Symbol;

@@ -1,16 +1,19 @@
 //! A text's items.
 
-ghost use Rattle.std.specs.Prelude.{◌≡◌, ◌<◌, length, map, false, [], MatchResult, IfOk, IfErr, Ok, Err};
+ghost use Rattle.std.specs.Prelude.{◌≡◌, ◌<◌, ◌++◌, ◌∷◌, ℕ, Result, length, map, false, [], MatchResult, IfOk, IfErr, Ok, Err};
+ghost use Rattle.dm_grammar.specs.declared.item.Item.{Item};
 ghost use Rattle.dm_grammar.specs.declared.symbol.Symbol.TheVariants.{At};
 ghost use Rattle.dm_grammar.specs.declared.terminal.Terminal.TheVariants.{One};
 ghost use Rattle.dm_grammar.specs.Places.Place.{AtSign, Text};
-ghost use Rattle.dm_grammar.specs.Readers.{IfSyntax, begins, with_item};
-ghost use Rattle.dm_grammar.specs.Told.{collect, items_told, told};
-ghost use Rattle.dm_grammar.specs.Views.{view_item, view_words};
+ghost use Rattle.dm_grammar.specs.Places.Role.{TitleIs};
+ghost use Rattle.dm_grammar.specs.Readers.{IfSyntax, begins, with_head, with_item, with_rule};
+ghost use Rattle.dm_grammar.specs.Told.{Told, collect, filled, items_told, told};
+ghost use Rattle.dm_grammar.specs.Views.{view, view_entry, view_head, view_item, view_words};
 
 use crate::avp::avp_item;
 use crate::fault::ItemFault;
-use crate::item::{CommandItem, GroupItem, Item};
+use crate::head::Head;
+use crate::item::{CommandItem, EntryItem, GroupItem, Item};
 use crate::lex::{last_line, tokens};
 use crate::reading::Reading;
 use crate::rule::rule;
@@ -22,6 +25,30 @@ use crate::token::Token;
 use crate::vendor::{begins_vendor, vendor_item, vendor_told};
 use crate::version::version;
 use std::alloc::Global;
+
+/// The command or the group of a title, a head and a rule.
+fn defined<'a>(name: Token<'a>, head: Head<'a>, rule: Vec<EntryItem<'a>>) -> Item<'a>
+    ensures { (r : Result Told ℕ) → filled TitleIs (view name.entry) (with_head (view_head head.entry) (with_rule (map view_entry rule.entry.items) r)) ≡ with_item (view_item result) r }
+{
+    if head.command {
+        Item::Command(CommandItem {
+            name,
+            code: head.code,
+            request: head.request,
+            proxiable: head.proxiable,
+            error: head.error,
+            application: head.second,
+            rule,
+        })
+    } else {
+        Item::Group(GroupItem {
+            name,
+            code: head.code,
+            vendor: vendor_told(head.named, head.second),
+            rule,
+        })
+    }
+}
 
 /// A command or a group: title "::=" "<" head ">" *entry.
 fn definition<'t, 'a>(
@@ -39,25 +66,7 @@ fn definition<'t, 'a>(
     match opening(tokens, how) {
         Ok(((name, head), rest)) => {
             let (rule, rest) = rule(alloc, rest, how)?;
-            let item = if head.command {
-                Item::Command(CommandItem {
-                    name,
-                    code: head.code,
-                    request: head.request,
-                    proxiable: head.proxiable,
-                    error: head.error,
-                    application: head.second,
-                    rule,
-                })
-            } else {
-                Item::Group(GroupItem {
-                    name,
-                    code: head.code,
-                    vendor: vendor_told(head.named, head.second),
-                    rule,
-                })
-            };
-            Ok((item, rest))
+            Ok((defined(name, head, rule), rest))
         }
         Err(line) => Err(ItemFault::Syntax(line)),
     }
@@ -104,6 +113,26 @@ fn item<'t, 'a>(
     }
 }
 
+/// Puts the next item behind the others, and gives what is left.
+fn next_item<'t, 'a>(
+    alloc: Global,
+    tokens: &'t [Token<'a>],
+    how: Reading,
+    found: &mut Vec<Item<'a>>,
+) -> Result<&'t [Token<'a>], ItemFault>
+    requires { 0 < length tokens.now }
+    ensures tells { MatchResult result
+        (λ rest. (i : Item) × ((found.new.items ≡ found.old.items ++ i ∷ []) × (collect how Text (view_words tokens.now) ≡ with_item (view_item i) (collect how Text (view_words rest.now)))))
+        (λ fault. IfSyntax fault (λ line. collect how Text (view_words tokens.now) ≡ Err line)) }
+    ensures shorter { IfOk result (λ rest. length rest.now < length tokens.now) }
+{
+    let (item, rest) = item(alloc, tokens, how)?;
+    if found.push(item).is_err() {
+        return Err(ItemFault::NoMemory);
+    }
+    Ok(rest)
+}
+
 /// Puts all items, to the end of the tokens, into a list that is empty.
 fn fill<'a>(
     alloc: Global,
@@ -117,10 +146,7 @@ fn fill<'a>(
 {
     let mut rest = tokens;
     while !rest.is_empty() {
-        let (item, after) = item(alloc, rest, how)?;
-        if found.push(item).is_err() {
-            return Err(ItemFault::NoMemory);
-        }
+        let after = next_item(alloc, rest, how, found)?;
         rest = same(after);
     }
     Ok(())

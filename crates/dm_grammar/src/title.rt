@@ -98,6 +98,28 @@ fn title<'t, 'a>(
     }
 }
 
+/// title "::=" "<"
+fn titled<'t, 'a>(
+    tokens: &'t [Token<'a>],
+    how: Reading,
+) -> Result<(Token<'a>, &'t [Token<'a>]), usize>
+    requires some { 0 < length tokens.now }
+    requires no_avp { begins (One At) (view_words tokens.now) ≡ false }
+    ensures tells { MatchResult result
+        (λ x. collect how Text (view_words tokens.now) ≡ filled TitleIs (view x.0) (collect how HeadPlace (view_words x.1.now)))
+        (λ line. collect how Text (view_words tokens.now) ≡ Err line) }
+    ensures shorter { IfOk result (λ x. length x.1.now < length tokens.now) }
+{
+    let (name, rest) = title(tokens, how)?;
+    let (_marks, rest) = expect_two(
+        rest,
+        how,
+        Terminal::One(Symbol::Define),
+        Terminal::One(Symbol::Less),
+    )?;
+    Ok((name, rest))
+}
+
 /// title "::=" "<" head ">"
 pub(crate) fn opening<'t, 'a>(
     tokens: &'t [Token<'a>],
@@ -110,13 +132,7 @@ pub(crate) fn opening<'t, 'a>(
         (λ line. collect how Text (view_words tokens.now) ≡ Err line) }
     ensures shorter { IfOk result (λ x. length x.1.now < length tokens.now) }
 {
-    let (name, rest) = title(tokens, how)?;
-    let (_marks, rest) = expect_two(
-        rest,
-        how,
-        Terminal::One(Symbol::Define),
-        Terminal::One(Symbol::Less),
-    )?;
+    let (name, rest) = titled(tokens, how)?;
     let (head, rest) = head(rest, how)?;
     Ok(((name, head), rest))
 }

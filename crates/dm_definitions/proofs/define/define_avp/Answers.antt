@@ -1,22 +1,26 @@
-use Rattle.std.proofs.Common.{◌≡◌, ◌∙◌, [], None, Some, map, fold, ◌++◌, inr, ap, sym, subst, refl, unwrap_or, List}
+use Rattle.std.proofs.Common.{◌≡◌, ◌∙◌, [], None, Some, Option, ℕ, map, fold, ◌++◌, inr, ap, sym, subst, unwrap_or, List, OnOk}
 use Rattle.std.proofs.lemmas.Bool.{and_parts}
 use Rattle.std.proofs.lemmas.Result.{err_from_is_err_and}
 use Rattle.dm_grammar.specs.Items as written
 use Rattle.dm_grammar.specs.Views.{view, view_vend_option, view_value, view_avp}
 use Rattle.dm_definitions.specs.declared.def.AvpDef.{AvpDef}
 use Rattle.dm_value.specs.declared.avp_type.AvpType.TheVariants.{OctetString}
-use Rattle.dm_definitions.specs.Definitions.{with_avp}
 use Rattle.dm_definitions.specs.Tables.{defined, making}
-use Rattle.dm_definitions.specs.Meaning.{avp_def_of, vendor_of, placed}
+use Rattle.dm_definitions.specs.Meaning.{avp_def_of, Made, placed}
 use Rattle.dm_definitions.specs.Faults.{name_faults, code_faults, with_value, list_faults}
 use Rattle.dm_definitions.proofs.Along.{stops_left, stops_right}
 use Rattle.dm_definitions.proofs.Parts.{sound_parts}
-use Rattle.dm_definitions.proofs.Strays.{no_stray, stray_noted}
+use Rattle.dm_definitions.proofs.Strays.{no_stray, placed_same}
 use Rattle.dm_definitions.proofs.Soundness.{sound_avp, sound_list, list_is, listing_kind, empty_rule, empty_kind}
 use Rattle.dm_definitions.proofs.define.define_avp.Goals as goal
 
-pub add_avp-requires-clause-sound : goal.add_avp-requires-clause-sound
-add_avp-requires-clause-sound c =
+pub place-requires-clause-new : goal.place-requires-clause-new
+place-requires-clause-new c =
+    no_stray (making c.args.tables.now c.args.strays.now) (view c.args.item.now.name) c.in_ok-check_name.ensures.good
+
+pub place-requires-clause-sound : goal.place-requires-clause-sound
+place-requires-clause-sound c =
+    λ v is.
     let (words, may) = and_parts _ _ c.requires.worded in
     let (named, worded) = and_parts _ _ words in
     let values = map view_value c.args.item.now.values.items in
@@ -26,65 +30,55 @@ add_avp-requires-clause-sound c =
     let good : list_faults values ≡ [] = subst
     (λ (vs : List written.Value). list_faults vs ≡ []) seen c.in_ok-values.ensures.good in
     let none : c.empty.result ≡ [] = c.empty.ensures in
-    let known : vendor_of c.args.tables.now.vendors.items.items (view_vend_option c.args.item.now.vendor) ≡
-    Some c.in-Some.vendor =
-    sym c.in_ok-code.ensures.vendor ∙ c.in-Some.is in
     let avp : AvpDef =
     record {
-      name = c.in_ok-from_slice.field-0;
+      name = c.in_ok-name.name;
       code = c.in_ok-code.code;
-      vendor = c.in-Some.vendor;
-      kind = c.unwrap_or.result;
+      vendor = c.unwrap_or.result;
+      kind = c.unwrap_or-2.result;
       rule = c.empty.result;
       values = c.in_ok-values.values;
     } in
     sound_avp (making c.args.tables.now c.args.strays.now) avp (view c.args.item.now.name) (view c.args.item.now.code)
-    (view_vend_option c.args.item.now.vendor) c.in-Some.vendor
+    (view_vend_option c.args.item.now.vendor) v
     (sound_parts (defined c.args.tables.now) c.requires.tables.sound).vendors
-    c.in_ok-from_slice.ensures c.in_ok-code.ensures.code refl known named c.in_ok-check_name.ensures.good
-    c.in_ok-code.ensures.good
-    (empty_rule c.empty.result none) (empty_kind c.unwrap_or.result c.empty.result none)
+    c.in_ok-name.ensures c.in_ok-code.ensures.code (c.unwrap_or.ensures ∙ ap (λ o. unwrap_or o None) is)
+    (sym c.in_ok-code.ensures.vendor ∙ is) named c.in_ok-check_name.ensures.good c.in_ok-code.ensures.good
+    (empty_rule c.empty.result none) (empty_kind c.unwrap_or-2.result c.empty.result none)
     (sound_list values c.in_ok-values.values list worded good)
-    (listing_kind c.args.item.now.kind.text.now values c.unwrap_or.result c.in_ok-values.values may
-    (c.unwrap_or.ensures ∙ ap (λ o. unwrap_or o OctetString) c.kind_of.ensures) list)
+    (listing_kind c.args.item.now.kind.text.now values c.unwrap_or-2.result c.in_ok-values.values may
+    (c.unwrap_or-2.ensures ∙ ap (λ o. unwrap_or o OctetString) c.kind_of.ensures) list)
 
 pub returns-clause-added : goal.returns-clause-added
 returns-clause-added c =
     let m = making c.args.tables.now c.args.strays.now in
+    let name = c.args.item.now.name.text.now in
+    let def = avp_def_of (view_avp c.args.item.now) in
     let values = map view_value c.args.item.now.values.items in
     let seen : map view_value c.as_slice.result.now ≡ values = ap (map view_value) c.as_slice.ensures.value in
     let list = list_is values c.in_ok-values.values (c.in_ok-values.ensures.value ∙ ap (fold with_value []) seen) in
-    let kind = c.unwrap_or.ensures ∙ ap (λ o. unwrap_or o OctetString) c.kind_of.ensures in
-    let known : vendor_of c.args.tables.now.vendors.items.items (view_vend_option c.args.item.now.vendor) ≡
-    Some c.in-Some.vendor =
-    sym c.in_ok-code.ensures.vendor ∙ c.in-Some.is in
-    (λ i. record { definitions = c.in_ok-add_avp.ensures.added i; strays = m.strays })
-    ∙ (λ i. record {
-      definitions = with_avp (defined c.args.tables.now)
-          (record {
-            name = c.in_ok-from_slice.ensures i;
-            code = c.in_ok-code.ensures.code i;
-            vendor = c.in-Some.vendor;
-            kind = kind i;
-            rule = c.empty.ensures i;
-            values = list i;
-          });
-      strays = m.strays;
-    })
-    ∙ sym (ap (placed m c.args.item.now.name.text.now (avp_def_of (view_avp c.args.item.now))) known)
-
-pub returns-in_default-clause-added : goal.returns-in_default-clause-added
-returns-in_default-clause-added c =
-    let m = making c.args.tables.now c.args.strays.now in
-    let unknown : vendor_of c.args.tables.now.vendors.items.items (view_vend_option c.args.item.now.vendor) ≡ None =
-    sym c.in_ok-code.ensures.vendor ∙ c.in_default.is in
-    let fresh = no_stray m (view c.args.item.now.name) c.in_ok-check_name.ensures.good in
-    (λ i. record {
-      definitions = defined c.args.tables.now;
-      strays = stray_noted c.args.strays.now.keys c.insert.new.self.keys c.args.item.now.name.text
-          c.in_ok-insert.ensures.keys fresh i;
-    })
-    ∙ sym (ap (placed m c.args.item.now.name.text.now (avp_def_of (view_avp c.args.item.now))) unknown)
+    let kind = c.unwrap_or-2.ensures ∙ ap (λ o. unwrap_or o OctetString) c.kind_of.ensures in
+    let avp : AvpDef =
+    record {
+      name = c.in_ok-name.name;
+      code = c.in_ok-code.code;
+      vendor = c.unwrap_or.result;
+      kind = c.unwrap_or-2.result;
+      rule = c.empty.result;
+      values = c.in_ok-values.values;
+    } in
+    let same : (v : Option ℕ) → c.in_ok-code.vendor ≡ Some v → avp ≡ def v =
+    λ v is i. record {
+      name = c.in_ok-name.ensures i;
+      code = c.in_ok-code.ensures.code i;
+      vendor = (c.unwrap_or.ensures ∙ ap (λ o. unwrap_or o None) is) i;
+      kind = kind i;
+      rule = c.empty.ensures i;
+      values = list i;
+    } in
+    subst (λ (x : Made). OnOk c.place.result (making c.place.new.tables c.place.new.strays ≡ x))
+    (placed_same m name def avp c.in_ok-code.vendor same ∙ ap (placed m name def) c.in_ok-code.ensures.vendor)
+    c.place.ensures.added
 
 pub returns-in_err-code-clause-fault : goal.returns-in_err-code-clause-fault
 returns-in_err-code-clause-fault c =

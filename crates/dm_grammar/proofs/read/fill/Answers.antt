@@ -1,5 +1,4 @@
-use Rattle.std.proofs.Common.{◌≡◌, ◌∷◌, ◌++◌, [], true, map, ap, sym, ◌∙◌, arith}
-use Rattle.std.specs.Result.{is_ok}
+use Rattle.std.proofs.Common.{◌≡◌, [], map, ap, sym, ◌∙◌, arith}
 use Rattle.std.proofs.lemmas.Bool.Decides.{nat_tests}
 use Rattle.std.proofs.lemmas.List.{map_push, nil_from_length}
 use Rattle.dm_grammar.specs.Places.Place.{Text}
@@ -9,22 +8,20 @@ use Rattle.dm_grammar.proofs.Exits.{handed_on}
 use Rattle.dm_grammar.proofs.TextItems.{with_items, with_items-push, fault_through, all_read}
 use Rattle.dm_grammar.proofs.read.fill.Goals as goal
 
-pub returns-in_err-item-clause-fault : goal.returns-in_err-item-clause-fault
-returns-in_err-item-clause-fault c =
+pub returns-in_err-after-clause-fault : goal.returns-in_err-after-clause-fault
+returns-in_err-after-clause-fault c =
     handed_on _ _ c.from_residual.result _ c.from_residual.ensures.1
     (fault_through (map view_item c.loop-rest.found.items) (collect c.args.how Text (view_words c.args.tokens.now))
-    (collect c.args.how Text (view_words c.loop-rest.rest.now)) c.in_err-item.field-0.0 c.loop-rest.invariant
-    c.in_err-item.ensures.tells)
+    (collect c.args.how Text (view_words c.loop-rest.rest.now)) c.in_err-after.field-0.0 c.loop-rest.invariant
+    c.in_err-after.ensures.tells)
 
 pub loop-rest-preserved : goal.loop-rest-preserved
 loop-rest-preserved c =
-    let done : is_ok c.push.result ≡ true = c.if-is_err.ensures.negation in
-    let pushed : c.push.new.self.items ≡ c.loop-rest.found.items ++ c.in_ok-item.item ∷ [] =
-    rw done at c.push.ensures.items in
-    rw (pushed, c.same-rest.ensures, map_push) (c.loop-rest.invariant
-    ∙ (ap (with_items (map view_item c.loop-rest.found.items)) c.in_ok-item.ensures.tells
-    ∙ sym (with_items-push (map view_item c.loop-rest.found.items) (view_item c.in_ok-item.item)
-    (collect c.args.how Text (view_words c.in_ok-item.after.now)))))
+    let one = c.in_ok-after.ensures.tells in
+    rw (one.1.0, c.same-rest.ensures, map_push) (c.loop-rest.invariant
+    ∙ (ap (with_items (map view_item c.loop-rest.found.items)) one.1.1
+    ∙ sym (with_items-push (map view_item c.loop-rest.found.items) (view_item one.0)
+    (collect c.args.how Text (view_words c.in_ok-after.after.now)))))
 
 pub returns-clause-items : goal.returns-clause-items
 returns-clause-items c =

@@ -5,7 +5,7 @@ use Rattle.dm_grammar.specs.Told.{filled}
 use Rattle.dm_grammar.specs.Views.{view}
 use Rattle.dm_grammar.proofs.Exits.{handed_on}
 use Rattle.dm_grammar.proofs.Heads.{nothing_told}
-use Rattle.dm_grammar.proofs.title.opening.Goals as goal
+use Rattle.dm_grammar.proofs.title.titled.Goals as goal
 
 pub returns-in_err-_marks-clause-tells : goal.returns-in_err-_marks-clause-tells
 returns-in_err-_marks-clause-tells c =
@@ -13,17 +13,9 @@ returns-in_err-_marks-clause-tells c =
     (c.in_ok-name.ensures.tells ∙ ap (filled TitleIs (view c.in_ok-name.name))
     (c.in_err-_marks.ensures.tells Titled Defined Head Nothing Nothing refl refl refl refl))
 
-pub returns-in_err-head-clause-tells : goal.returns-in_err-head-clause-tells
-returns-in_err-head-clause-tells c =
-    let marks = c.in_ok-_marks._marks in
-    handed_on _ _ c.from_residual-in_err-head.result _ c.from_residual-in_err-head.ensures.1
-    (c.in_ok-name.ensures.tells ∙ ap (filled TitleIs (view c.in_ok-name.name))
-    (c.in_ok-_marks.ensures.tells Titled Defined Head Nothing Nothing refl refl refl refl
-    ∙ ap (λ r. filled Nothing (view marks.0) (filled Nothing (view marks.1) r)) c.in_err-head.ensures.tells))
-
 pub returns-clause-tells : goal.returns-clause-tells
 returns-clause-tells c =
     let marks = c.in_ok-_marks._marks in
     c.in_ok-name.ensures.tells ∙ ap (filled TitleIs (view c.in_ok-name.name))
     (c.in_ok-_marks.ensures.tells Titled Defined Head Nothing Nothing refl refl refl refl
-    ∙ (nothing_told (view marks.0) _ ∙ (nothing_told (view marks.1) _ ∙ c.in_ok-head.ensures.tells)))
+    ∙ (nothing_told (view marks.0) _ ∙ nothing_told (view marks.1) _))
