@@ -1,11 +1,11 @@
 -- The tables of a dictionary: its definitions in order, and an index for each key.
-use Rattle.std.specs.Prelude.{ℕ, ◌≡◌, Bool, true, List, map, Option}
+use Rattle.std.specs.Prelude.{ℕ, ◌≡◌, ◌%◌, Bool, true, List, map, Option, None, Some, slice_get, slice_index, if◌then◌else◌}
 use Rattle.std.specs.Borrow.{Bor}
 use Rattle.indexmap.specs.IndexSet.{IndexSet}
 use Rattle.dm_definitions.specs.declared.tables.Tables.{Tables}
 use Rattle.dm_definitions.specs.declared.def.AvpDef.{AvpDef}
 use Rattle.dm_definitions.specs.declared.def.CommandDef.{CommandDef}
-use Rattle.dm_definitions.specs.Definitions.{Definitions}
+use Rattle.dm_definitions.specs.Definitions.{Definitions, is_coded}
 use Rattle.dm_definitions.specs.Positions.{places}
 use Rattle.dm_definitions.specs.Meaning.{Made}
 use Rattle.dm_definitions.specs.Vendored.{IsVendored}
@@ -41,3 +41,14 @@ pub record IsTables (t : Tables) : Type 0 where
 pub record IsDictionary (t : Tables) : Type 0 where
   pub tables : IsTables t
   pub closed : is_closed (defined t) ≡ true
+
+-- what is guessed for a code and vendor: the place that is noted under the lowest bits of the code, where the definition
+-- there has them
+abbrev pub guess_at : ℕ → Option ℕ → ℕ → Option AvpDef → Option ℕ
+guess_at code vendor place None = None
+guess_at code vendor place (Some d) = if is_coded code vendor d then Some place else None
+
+abbrev pub guessed : Tables → ℕ → Option ℕ → Option ℕ
+guessed t code vendor =
+    let place = slice_index t.guesses (code % 512) in
+    guess_at code vendor place (slice_get t.avps.items place)

@@ -52,7 +52,7 @@ pub fn member_at<T>(members: &[T], place: Option<usize>) -> Option<&T>
 }
 
 impl Tables {
-    ghost use Rattle.dm_definitions.specs.Tables.{defined, IsIndexed, IsTables};
+    ghost use Rattle.dm_definitions.specs.Tables.{defined, guessed, IsIndexed, IsTables};
     ghost use Rattle.dm_definitions.specs.Definitions.{nothing_defined};
 
     /// No definitions. It takes no memory.
@@ -191,7 +191,8 @@ impl Tables {
     /// The place of the AVP of a code and vendor, where it stands as guessed.
     fn guessed_place(&self, code: u32, vendor: Option<u32>) -> Option<usize>
         requires { IsTables self.now }
-        ensures { IfSome result (λ place.
+        ensures value { result ≡ guessed self.now code vendor }
+        ensures found { IfSome result (λ place.
             position_from (is_coded code vendor) 0 self.now.avps.items ≡ Some place) }
     {
         let avps = self.avps.as_slice();

@@ -8,8 +8,8 @@ use Rattle.dm_definitions.proofs.Only.{coded_place}
 use Rattle.dm_definitions.proofs.Parts.{sound_parts}
 use Rattle.dm_definitions.proofs.tables.Tables.guessed_place.Goals as goal
 
-pub returns-then-eq : goal.returns-then-eq
-returns-then-eq c =
+pub returns-then-eq-clause-found : goal.returns-then-eq-clause-found
+returns-then-eq-clause-found c =
     let avps = c.args.self.now.avps.items in
     let place = c.from-place.result in
     let d = c.index-avps-place.result in
