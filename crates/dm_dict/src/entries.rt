@@ -35,57 +35,6 @@ fn example(dictionary: &Definitions, entry: &Entry) -> Failed<'static>
     }
 }
 
-/// Whether the entry at the place counts more AVPs of the list than `number`, by a pass over the list.
-fn recounts_above(
-    dictionary: &Definitions,
-    rule: LinkedRule<'_>,
-    at: usize,
-    number: u32,
-    list: AvpsRef<'_>,
-) -> bool
-    requires fit { IsFit dictionary.now.avps }
-    requires rule { IsRule dictionary.now.avps rule }
-    requires within { at < length rule.entries.now }
-    ensures { (l : List Avp) (e : Entry) → Lists list.entry l → e ≡ slice_index_or rule.entry.entries.now at e
-        → result ≡ nat_lt number (count dictionary.now.avps rule.entry.entries.now l e) }
-{
-    let mut room = number;
-    let mut left = list;
-    while let Some((avp, rest)) = left.split_first() {
-        if counts_avp(dictionary, rule, at, avp) {
-            if room == 0 {
-                return true;
-            }
-            room -= 1;
-        }
-        left = rest;
-    }
-    false
-}
-
-/// Whether the entry at the place, which has this counter, counts more AVPs of the list than `number`.
-fn counts_above(
-    dictionary: &Definitions,
-    rule: LinkedRule<'_>,
-    at: usize,
-    number: u32,
-    counter: u16,
-    list: AvpsRef<'_>,
-) -> bool
-    requires fit { IsFit dictionary.now.avps }
-    requires rule { IsRule dictionary.now.avps rule }
-    requires within { at < length rule.entries.now }
-    ensures { (l : List Avp) (e : Entry) → Lists list.entry l → e ≡ slice_index_or rule.entry.entries.now at e
-        → counter ≡ min (count dictionary.now.avps rule.entry.entries.now l e) 65535
-        → result ≡ nat_lt number (count dictionary.now.avps rule.entry.entries.now l e) }
-{
-    if counter < 65535 || number < 65535 {
-        number < counter as u32
-    } else {
-        recounts_above(dictionary, rule, at, number, list)
-    }
-}
-
 /// The AVP that has `max` before it among those that the entry at the place counts.
 fn first_past_max<'a>(
     dictionary: &Definitions,
@@ -112,6 +61,31 @@ fn first_past_max<'a>(
         left = rest;
     }
     Failed::Nothing
+}
+
+/// Whether the entry at the place, which has this counter, counts more AVPs of the list than `number`.
+fn counts_above(
+    dictionary: &Definitions,
+    rule: LinkedRule<'_>,
+    at: usize,
+    number: u32,
+    counter: u16,
+    list: AvpsRef<'_>,
+) -> bool
+    requires fit { IsFit dictionary.now.avps }
+    requires rule { IsRule dictionary.now.avps rule }
+    requires within { at < length rule.entries.now }
+    ensures { (l : List Avp) (e : Entry) → Lists list.entry l → e ≡ slice_index_or rule.entry.entries.now at e
+        → counter ≡ min (count dictionary.now.avps rule.entry.entries.now l e) 65535
+        → result ≡ nat_lt number (count dictionary.now.avps rule.entry.entries.now l e) }
+{
+    if counter < u16::MAX || number < u16::MAX as u32 {
+        return number < counter as u32;
+    }
+    match first_past_max(dictionary, rule, at, number, list) {
+        Failed::Nothing => false,
+        Failed::Found(_) | Failed::Example { .. } => true,
+    }
 }
 
 /// The first fault of the entry at the place, which has this counter, by its bounds.
@@ -162,7 +136,7 @@ fn is_kept(entry: &Entry, counter: u16) -> bool
         return false;
     }
     match entry.max {
-        Some(max) => max == 0 || (counter < 65535 && counter as u32 <= max),
+        Some(max) => max == 0 || (counter < u16::MAX && counter as u32 <= max),
         None => true,
     }
 }
