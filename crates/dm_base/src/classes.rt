@@ -18,7 +18,7 @@ use std::alloc::Global;
 
 /// Whether the command is that of base messages: 257 (Capabilities-Exchange), 280 (Device-Watchdog) or 282
 /// (Disconnect-Peer) (RFC 6733, 5.3, 5.5 and 5.4). It takes no memory.
-pub fn is_base(command: u32) -> bool
+pub fn is_base_command(command: u32) -> bool
     ensures { result ≡ is_base_command command }
 {
     command == CAPABILITIES_EXCHANGE || command == DEVICE_WATCHDOG || command == DISCONNECT_PEER
@@ -61,7 +61,7 @@ pub fn classify(
         ⊎ ((e : Fault) × (kind dictionary.now message.now ≡ Err e) × (f ≡ faults_of.Bad (verdict_of (Some e))))) }
 {
     let command = message.header.command;
-    if !is_base(command) {
+    if !is_base_command(command) {
         return Ok(Kind::Other);
     }
     match dictionary.check(alloc, message)? {

@@ -27,7 +27,7 @@ pub use answers::{cea, dpa, dwa, error_answer};
 pub use applications::{common, common_nodes, secure};
 pub use base_fault::BaseFault;
 pub use caps_ref::CapsRef;
-pub use classes::{classify, is_base};
+pub use classes::{classify, is_base_command};
 pub use kind::{Caps, Cause, Kind};
 pub use kind_ref::KindRef;
 pub use lists::{IdList, IpList};

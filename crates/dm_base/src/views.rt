@@ -10,7 +10,7 @@ ghost use Rattle.dm_base.specs.Kinds.{kind, kind_of};
 ghost use Rattle.dm_base.specs.Shown.{ShowsKind, LiesIn, kind_with};
 
 use crate::caps_ref::CapsRef;
-use crate::classes::is_base;
+use crate::classes::is_base_command;
 use crate::codes::{
     CAPABILITIES_EXCHANGE, DEVICE_WATCHDOG, DISCONNECT_CAUSE, DISCONNECT_PEER, ORIGIN_HOST,
     ORIGIN_REALM, RESULT_CODE,
@@ -74,7 +74,7 @@ pub fn view<'a>(
         × (kind dictionary.now (record { header = message.now.header; avps = l }) ≡ Err e) × (shown judged ≡ Some e)) }
 {
     let header = message.header;
-    if !is_base(header.command) {
+    if !is_base_command(header.command) {
         return Ok(KindRef::Other);
     }
     match dictionary.judge(message) {

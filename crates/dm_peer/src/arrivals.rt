@@ -7,7 +7,7 @@ ghost use Rattle.dm_peer.specs.Places.{is_on, before_ack};
 
 use crate::Peer;
 use crate::standing::Awaited;
-use dm_base::is_base;
+use dm_base::is_base_command;
 use dm_machine::laws::each_node_has_its_form;
 use dm_machine::{Conn, Core, State};
 use dm_wire::Header;
@@ -72,7 +72,7 @@ pub(crate) fn is_unread(core: &Core, conn: Conn) -> bool
 fn is_unawaited(awaited: &Awaited, header: &Header) -> bool
     ensures { result ≡ is_unawaited awaited.now header.now }
 {
-    if header.request || !is_base(header.command) {
+    if header.request || !is_base_command(header.command) {
         return false;
     }
     awaited.of(header.command) != Some(header.hop_id)

@@ -28,7 +28,7 @@ use crate::reading::{HeardRef, hear};
 use crate::standing::Standing;
 use crate::{Actions, Event, Peer, PeerFault};
 use arrayvec::ArrayVec;
-use dm_base::is_base;
+use dm_base::is_base_command;
 use dm_machine::{Commands, Conn, Core, Input, step};
 use dm_wire::MessageRef;
 use std::alloc::Global;
@@ -123,7 +123,7 @@ fn can_submit(octets: &[u8]) -> bool
     ensures { result ≡ can_submit (message_in octets.now) }
 {
     match read_message(octets) {
-        Some(message) => !is_base(message.header.command),
+        Some(message) => !is_base_command(message.header.command),
         None => false,
     }
 }

@@ -11,7 +11,7 @@ use crate::lines::{push_end, push_nolink, push_trace};
 use crate::read::read_script;
 use crate::script::Script;
 use dm_dict::NoMemory;
-use dm_text::push_syntax;
+use dm_text::push_syntax_fault;
 use dm_world::{Happening, NewFault, World, WorldFault};
 use std::alloc::Global;
 
@@ -89,7 +89,7 @@ fn fault_text(alloc: Global, fault: ScriptFault) -> Result<(Vec<u8>, bool), NoMe
 {
     let mut text = Vec::new(alloc);
     match fault {
-        ScriptFault::Syntax(line) => push_syntax(&mut text, line as u64)?,
+        ScriptFault::Syntax(line) => push_syntax_fault(&mut text, line as u64)?,
         ScriptFault::SameHost => text.extend_from_slice(b"fault SameHost\n")?,
         ScriptFault::NoMemory => return Err(NoMemory),
     }

@@ -7,7 +7,7 @@ use crate::building::Building;
 use crate::choice::Choice;
 use crate::fault::ToolFault;
 use crate::run::run;
-use dm_text::{Lines, push_syntax};
+use dm_text::{Lines, push_syntax_fault};
 use std::alloc::Global;
 use std::io::{Read, Write};
 
@@ -41,7 +41,7 @@ pub fn build_text(alloc: Global, input: &[u8]) -> Result<(Vec<u8>, bool), ToolFa
     for line in Lines::new(input) {
         if !building.take_line(alloc, line)? {
             let mut text = building.into_text();
-            push_syntax(&mut text, before + 1)?;
+            push_syntax_fault(&mut text, before + 1)?;
             return Ok((text, false));
         }
         before += 1;

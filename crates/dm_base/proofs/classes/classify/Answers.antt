@@ -10,4 +10,4 @@ returns-in_default-clause-fault c =
     let m = c.args.message.now in
     is_fault (is_base_command m.header.command) (first (faults c.args.dictionary.now m))
     (kind_of m.header.command m.header.request m.avps) c.in_ok-bad.bad
-    (sym c.is_base.ensures ∙ c.if-not-is_base.false) c.in_ok-bad.ensures.verdict c.in_default.not-Good
+    (sym c.is_base_command.ensures ∙ c.if-not-is_base_command.false) c.in_ok-bad.ensures.verdict c.in_default.not-Good

@@ -4,15 +4,15 @@ use Rattle.dm_dict.specs.Judgement.{shown}
 use Rattle.dm_base.proofs.Viewing.{good_kind, other_kind}
 use Rattle.dm_base.proofs.views.view.Goals as goal
 
-pub returns-then-not-is_base-clause-found : goal.returns-then-not-is_base-clause-found
-returns-then-not-is_base-clause-found c = λ l spelled.
+pub returns-then-not-is_base_command-clause-found : goal.returns-then-not-is_base_command-clause-found
+returns-then-not-is_base_command-clause-found c = λ l spelled.
     other_kind c.args.dictionary.now (record { header = c.args.message.now.header; avps = l })
-    (sym c.is_base.ensures ∙ c.if-not-is_base.true)
+    (sym c.is_base_command.ensures ∙ c.if-not-is_base_command.true)
 
 pub returns-in-Good-clause-found : goal.returns-in-Good-clause-found
 returns-in-Good-clause-found c = λ l spelled.
     let listed = c.spells_members.ensures l spelled in
     good_kind c.args.dictionary.now
     (record { header = c.args.message.now.header; avps = l }) c.kind_in.result c.args.message.now.rest.now
-    (sym c.is_base.ensures ∙ c.if-not-is_base.false) (sym (c.judge.ensures.verdict l spelled) ∙ ap shown c.in-Good.is)
+    (sym c.is_base_command.ensures ∙ c.if-not-is_base_command.false) (sym (c.judge.ensures.verdict l spelled) ∙ ap shown c.in-Good.is)
     (c.kind_in.ensures.told l listed) c.kind_in.ensures.lies listed

@@ -23,12 +23,12 @@ returns-then-not-branch-clause-built c =
     let refused = c.in_ok-take_line.ensures.refused c.if-not-branch.true in
     let kept = c.in_ok-take_line.ensures.kept c.if-not-branch.true in
     built_up_to c.args.input.now c.in-Some.line.now c.loop-line.line-iterator c.next.new.self
-    c.loop-line.building.text.items c.push_syntax.new.text.items c.loop-line.building.good c.loop-line.building.last
+    c.loop-line.building.text.items c.push_syntax_fault.new.text.items c.loop-line.building.good c.loop-line.building.last
     c.loop-line.building.avps.items
     c.loop-line.invariant.0
     (c.loop-line.before + 1) c.loop-line.invariant.1 c.in-Some.ensures.steps c.loop-line.invariant.3 refused.0 refused.1
     (ap (λ n. n + 1) c.loop-line.invariant.2)
-    (c.in_ok-push_syntax.ensures ∙ ap (λ t. t ++ codes "fault syntax " ++ decimal (c.loop-line.before + 1) ++ 10 ∷ [])
+    (c.in_ok-push_syntax_fault.ensures ∙ ap (λ t. t ++ codes "fault syntax " ++ decimal (c.loop-line.before + 1) ++ 10 ∷ [])
     (c.into_text-text.ensures ∙ ap (λ b. b.text.items) kept))
 
 pub loop-line-preserved : goal.loop-line-preserved
