@@ -70,7 +70,7 @@ pub record Settled {P M C H : Type 0} (m : Peers P M) (t : Talks P M C H) (w : W
   pub nine : steps m w hs ≤ 9
   pub four : (made m A w hs ≡ []) ⊎ (made m B w hs ≡ []) → steps m w hs ≤ 4
 
--- the two sides' peers, both Closed, and nothing under way
+-- the two sides' peers, each of a shape that the state machine keeps and Closed, and nothing under way
 pub record IsAtRest {P M C H : Type 0} (m : Peers P M) (t : Talks P M C H) (w : World P M) : Type 0 where
   pub a : IsPeerOf t A w.a
   pub b : IsPeerOf t B w.b

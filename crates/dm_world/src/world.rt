@@ -103,8 +103,8 @@ impl World {
     /// wasn't.
     ///
     /// Whatever happens, in whatever order: neither side is open on two connections, and if both are open, it is on one
-    /// connection in opposite roles, or a disconnect is coming to each on its own. Fewer octets are delivered of a front
-    /// message than it has.
+    /// connection in opposite roles, or a disconnect is coming to each on its own. What a side holds is a link that is up, or
+    /// a pending one that it opened. Fewer octets are delivered of a front message than it has.
     ///
     /// Where both were Closed with nothing under way, and only Starts, connects that come about, deliveries and pieces
     /// happen, at most two CERs, one CEA and two disconnects are put in; and where it falls quiet after a Start that was
