@@ -1,5 +1,5 @@
 //! A stream of octets, cut into messages.
-ghost use Rattle.std.specs.Prelude.{◌≡◌, ◌++◌, ℕ, List, [], ◌∷◌, Option, None, Some, IfSome, IfNone, IsSomeAnd, IfOk, IfErr, OnOk, OnErr, MatchResult};
+ghost use Rattle.std.specs.Prelude.{◌≡◌, ◌++◌, ℕ, List, [], ◌∷◌, Option, None, Some, IfSome, IfNone, IsSomeAnd, IfOk, IfErr, IsErrOf, OnOk, OnErr, MatchResult};
 ghost use Rattle.std.specs.List.{concat};
 ghost use Rattle.dm_framer.specs.declared.fault.FrameFault.{FrameFault};
 ghost use Rattle.dm_framer.specs.Frames.{HasFault, Framed};
@@ -95,6 +95,8 @@ impl Framer {
         // A kept fault is answered again, and nothing changes. It is the one that stands at the front.
         ensures kept { IfSome self.old.fault (λ fault. (result ≡ Err fault) × (self.new ≡ self.old)) }
         ensures stands { IfSome self.old.fault (λ fault. HasFault self.old.max self.old.octets fault) }
+        // Where memory runs out nothing changes, whatever the framer holds.
+        ensures memory { IsErrOf result FrameFault.NoMemory → self.new ≡ self.old }
     {
         if let Some(fault) = self.fault {
             return Err(fault);
