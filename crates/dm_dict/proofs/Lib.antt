@@ -5,6 +5,7 @@ pub mod Good
 pub mod Kept
 pub mod Linking
 pub mod Noting
+pub mod Placed
 pub mod Standing
 pub mod Texts
 pub mod Valued

@@ -3,6 +3,7 @@ pub mod Codes
 pub mod Counters
 pub mod Examples
 pub mod Faults
+pub mod Found
 pub mod Judgement
 pub mod Keeping
 pub mod Linked

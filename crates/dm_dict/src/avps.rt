@@ -1,11 +1,12 @@
 //! The first fault of AVPs under a rule, groups and all (RFC 6733, 4.1, 4.4 and 7.1.5).
-ghost use Rattle.std.specs.Prelude.{◌≡◌, List, slice_get};
+ghost use Rattle.std.specs.Prelude.{◌≡◌, false, List, slice_get};
 ghost use Rattle.std.specs.Option.{option_and_then};
 ghost use Rattle.dm_wire.specs.declared.avp.Avp.{Avp};
 ghost use Rattle.dm_dict.specs.Apart.{IsFit};
 ghost use Rattle.dm_dict.specs.Linked.{IsLinked, IsRule};
 ghost use Rattle.dm_wire.specs.Borrowed.{avp_of, Lists};
 ghost use Rattle.dm_dict.specs.Faults.{is_failed_avp, is_left_out, avp_faults, group_faults, list_faults, first};
+ghost use Rattle.dm_dict.specs.Found.{finds_missing};
 ghost use Rattle.dm_dict.specs.Judgement.{shown};
 ghost use Rattle.dm_dict.specs.Rules.{definition};
 
@@ -54,8 +55,9 @@ fn judge_avp<'a>(
     requires fit { IsFit dictionary.now.definitions.avps }
     requires def { option_and_then (slice_get dictionary.now.definitions.avps) place
         ≡ definition dictionary.now.definitions.avps (avp_of avp) }
-    ensures { shown result ≡ first (avp_faults (group_faults depth dictionary.now.definitions.avps) allowed
+    ensures fault { shown result ≡ first (avp_faults (group_faults depth dictionary.now.definitions.avps) allowed
         (avp_of avp.entry) (definition dictionary.now.definitions.avps (avp_of avp.entry))) }
+    ensures missing { finds_missing result ≡ false }
 {
     let failed = Failed::Found(avp);
     let Some(LinkedAvp { def, links }) = dictionary.avp_at(place) else {
@@ -111,8 +113,9 @@ fn judge_group<'a>(
     requires linked { IsLinked dictionary.now }
     requires fit { IsFit dictionary.now.definitions.avps }
     requires rule { IsRule dictionary.now.definitions.avps rule }
-    ensures { shown result ≡ first (group_faults depth dictionary.now.definitions.avps rule.entry.entries.now
+    ensures fault { shown result ≡ first (group_faults depth dictionary.now.definitions.avps rule.entry.entries.now
         (avp_of avp.entry)) }
+    ensures missing { finds_missing result ≡ false }
 {
     if depth == 0 {
         return Judged::Bad {
@@ -140,8 +143,9 @@ pub(crate) fn judge_list<'a>(
     requires linked { IsLinked dictionary.now }
     requires fit { IsFit dictionary.now.definitions.avps }
     requires rule { IsRule dictionary.now.definitions.avps rule }
-    ensures { (l : List Avp) → Lists list.entry l
+    ensures fault { (l : List Avp) → Lists list.entry l
         → shown result ≡ first (list_faults depth dictionary.now.definitions.avps rule.entry.entries.now l) }
+    ensures missing { finds_missing result ≡ false }
 {
     let mut counts = no_counts();
     let mut left = list;

@@ -13,6 +13,7 @@ ghost use Rattle.dm_definitions.specs.Meaning.{vendor_number};
 ghost use Rattle.dm_definitions.specs.Printed.{printed};
 ghost use Rattle.dm_definitions.specs.Outcome.{Defines, IsFirstFault};
 ghost use Rattle.dm_dict.specs.Faults.{faults, first};
+ghost use Rattle.dm_dict.specs.Found.{IsOneOf, IfFound};
 ghost use Rattle.dm_dict.specs.Judgement.{shown, verdict_of};
 ghost use Rattle.dm_dict.specs.Typed.{AreTyped};
 
@@ -187,6 +188,8 @@ impl Dictionary {
         ensures checked { (decoded : Message) → decoded.header ≡ message.now.header
             → SpellsList decoded.avps message.now.rest.now
             → verdict_of (shown result) ≡ verdict_of (first (faults self.now decoded)) }
+        // What is found is one of the message's AVPs, or lies in a group of them; or it is such a group without data.
+        ensures found { (l : List Avp) → SpellsList l message.now.rest.now → IfFound result (IsOneOf l) }
     {
         judge_spelled(&self.linked, &message.header, message.rest)
     }

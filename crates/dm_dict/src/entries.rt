@@ -1,5 +1,5 @@
 //! Whether a list has as many AVPs as an entry of a rule wants (RFC 6733, 3.2 and 7.1.5).
-ghost use Rattle.std.specs.Prelude.{◌≡◌, ◌<◌, true, nat_lt, None, List, length, min, slice_get, slice_index_or};
+ghost use Rattle.std.specs.Prelude.{◌≡◌, ◌<◌, true, false, nat_lt, None, List, length, min, slice_get, slice_index_or};
 ghost use Rattle.dm_wire.specs.declared.avp.Avp.{Avp};
 ghost use Rattle.dm_definitions.specs.declared.def.AvpDef.{AvpDef};
 ghost use Rattle.dm_definitions.specs.declared.rule.Entry.{Entry};
@@ -7,6 +7,7 @@ ghost use Rattle.dm_dict.specs.Apart.{IsFit};
 ghost use Rattle.dm_dict.specs.Linked.{IsRule};
 ghost use Rattle.dm_wire.specs.Borrowed.{Lists};
 ghost use Rattle.dm_dict.specs.Faults.{example, entry_faults, first};
+ghost use Rattle.dm_dict.specs.Found.{is_found, finds_missing};
 ghost use Rattle.dm_dict.specs.Judgement.{failed_of, shown};
 ghost use Rattle.dm_dict.specs.Rules.{count, counted};
 
@@ -20,7 +21,8 @@ use dm_wire::AvpsRef;
 
 /// The example of an AVP that the entry names; `AVP` has none.
 fn example(dictionary: &Definitions, entry: &Entry) -> Failed<'static>
-    ensures { failed_of result ≡ example dictionary.now.avps entry.now }
+    ensures example { failed_of result ≡ example dictionary.now.avps entry.now }
+    ensures made { is_found result ≡ false }
 {
     if b"AVP".as_slice() == entry.name.as_slice() {
         return Failed::Nothing;
@@ -99,9 +101,10 @@ fn judge_bounds<'a>(
     requires fit { IsFit dictionary.now.avps }
     requires rule { IsRule dictionary.now.avps rule }
     requires within { at < length rule.entries.now }
-    ensures { (l : List Avp) (e : Entry) → Lists list.entry l → e ≡ slice_index_or rule.entry.entries.now at e
+    ensures fault { (l : List Avp) (e : Entry) → Lists list.entry l → e ≡ slice_index_or rule.entry.entries.now at e
         → counter ≡ min (count dictionary.now.avps rule.entry.entries.now l e) 65535
         → shown result ≡ first (entry_faults dictionary.now.avps rule.entry.entries.now l e) }
+    ensures missing { finds_missing result ≡ false }
 {
     let entry = &rule.entries.as_slice()[at];
     if entry.min > 0 && !counts_above(dictionary, rule, at, entry.min - 1, counter, list) {
@@ -152,9 +155,10 @@ pub(crate) fn judge_entry<'a>(
     requires fit { IsFit dictionary.now.avps }
     requires rule { IsRule dictionary.now.avps rule }
     requires within { at < length rule.entries.now }
-    ensures { (l : List Avp) (e : Entry) → Lists list.entry l → e ≡ slice_index_or rule.entry.entries.now at e
+    ensures fault { (l : List Avp) (e : Entry) → Lists list.entry l → e ≡ slice_index_or rule.entry.entries.now at e
         → counter ≡ min (count dictionary.now.avps rule.entry.entries.now l e) 65535
         → shown result ≡ first (entry_faults dictionary.now.avps rule.entry.entries.now l e) }
+    ensures missing { finds_missing result ≡ false }
 {
     if is_kept(&rule.entries.as_slice()[at], counter) {
         Judged::Good

@@ -1,9 +1,10 @@
 //! The first fault of a message (RFC 6733, 3 and 7).
-ghost use Rattle.std.specs.Prelude.{◌≡◌, List, option_map, IfSome};
+ghost use Rattle.std.specs.Prelude.{◌≡◌, false, List, option_map, IfSome};
 ghost use Rattle.dm_wire.specs.declared.avp.Avp.{Avp};
 ghost use Rattle.dm_wire.specs.Borrowed.{Lists};
 ghost use Rattle.dm_wire.specs.Spelling.{SpellsList};
 ghost use Rattle.dm_dict.specs.Faults.{command_for, wrong_bits, faults, first};
+ghost use Rattle.dm_dict.specs.Found.{finds_missing};
 ghost use Rattle.dm_dict.specs.Judgement.{shown};
 ghost use Rattle.dm_dict.specs.Linked.{IsLinked};
 ghost use Rattle.dm_dict.specs.Links.{rule_links};
@@ -39,8 +40,9 @@ pub(crate) fn judge_message<'a>(
     list: AvpsRef<'a>,
 ) -> Judged<'a>
     requires linked { IsLinked dictionary.now }
-    ensures { (l : List Avp) → Lists list.entry l
+    ensures fault { (l : List Avp) → Lists list.entry l
         → shown result ≡ first (faults dictionary.now.definitions (record { header = header.now; avps = l })) }
+    ensures missing { finds_missing result ≡ false }
 {
     let failed = Failed::Nothing;
     let Some(LinkedCommand { def, links }) = command_for(dictionary, header) else {
@@ -70,8 +72,9 @@ pub(crate) fn judge_spelled<'a>(
     octets: &'a [u8],
 ) -> Judged<'a>
     requires linked { IsLinked dictionary.now }
-    ensures { (l : List Avp) → SpellsList l octets.now
+    ensures fault { (l : List Avp) → SpellsList l octets.now
         → shown result ≡ first (faults dictionary.now.definitions (record { header = header.now; avps = l })) }
+    ensures missing { finds_missing result ≡ false }
 {
     members_spell();
     judge_message(dictionary, header, AvpsRef::Spelled(octets))

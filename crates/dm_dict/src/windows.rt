@@ -1,5 +1,5 @@
 //! Whether a list has as many AVPs as the entries of a rule want, 256 entries at a time (RFC 6733, 3.2 and 7.1.5).
-ghost use Rattle.std.specs.Prelude.{◌≡◌, ◌+◌, ◌<◌, ◌≤◌, ◌⊎◌, true, List, length, drop, slice_index_or, flat_map};
+ghost use Rattle.std.specs.Prelude.{◌≡◌, ◌+◌, ◌<◌, ◌≤◌, ◌⊎◌, true, false, List, length, drop, slice_index_or, flat_map};
 ghost use Rattle.dm_wire.specs.declared.avp.Avp.{Avp};
 ghost use Rattle.dm_definitions.specs.declared.def.AvpDef.{AvpDef};
 ghost use Rattle.dm_definitions.specs.declared.rule.Entry.{Entry};
@@ -8,6 +8,7 @@ ghost use Rattle.dm_dict.specs.Linked.{IsRule};
 ghost use Rattle.dm_wire.specs.Borrowed.{Lists};
 ghost use Rattle.dm_dict.specs.Counters.{IsCounted, before, is_bounded};
 ghost use Rattle.dm_dict.specs.Faults.{entry_faults, first};
+ghost use Rattle.dm_dict.specs.Found.{finds_missing};
 ghost use Rattle.dm_dict.specs.Judgement.{shown};
 
 use crate::counts::counts_from;
@@ -65,9 +66,10 @@ fn judge_window<'a>(
     requires fit { IsFit dictionary.now.avps }
     requires rule { IsRule dictionary.now.avps rule }
     requires within { from ≤ length rule.entries.now }
-    ensures { (l : List Avp) → Lists list.entry l → IsCounted dictionary.now.avps rule.entry.entries.now l from counts.now
+    ensures fault { (l : List Avp) → Lists list.entry l → IsCounted dictionary.now.avps rule.entry.entries.now l from counts.now
         → first (flat_map (entry_faults dictionary.now.avps rule.entry.entries.now l) (drop from rule.entry.entries.now))
         ≡ before (shown result) (first (flat_map (entry_faults dictionary.now.avps rule.entry.entries.now l) (drop (from + 256) rule.entry.entries.now))) }
+    ensures missing { finds_missing result ≡ false }
 {
     for at in from..window_end(rule.entries.as_slice().len(), from) {
         match judge_entry(dictionary, rule, at, counts[at - from], list) {
@@ -87,8 +89,9 @@ fn judge_further<'a>(
 ) -> Judged<'a>
     requires fit { IsFit dictionary.now.avps }
     requires rule { IsRule dictionary.now.avps rule }
-    ensures { (l : List Avp) → Lists list.entry l
+    ensures fault { (l : List Avp) → Lists list.entry l
         → shown result ≡ first (flat_map (entry_faults dictionary.now.avps rule.entry.entries.now l) (drop 256 rule.entry.entries.now)) }
+    ensures missing { finds_missing result ≡ false }
 {
     let size = rule.entries.as_slice().len();
     let mut from = next_bounded(rule.entries, 256);
@@ -112,8 +115,9 @@ pub(crate) fn judge_entries<'a>(
 ) -> Judged<'a>
     requires fit { IsFit dictionary.now.avps }
     requires rule { IsRule dictionary.now.avps rule }
-    ensures { (l : List Avp) → Lists list.entry l → IsCounted dictionary.now.avps rule.entry.entries.now l 0 counts.now
+    ensures fault { (l : List Avp) → Lists list.entry l → IsCounted dictionary.now.avps rule.entry.entries.now l 0 counts.now
         → shown result ≡ first (flat_map (entry_faults dictionary.now.avps rule.entry.entries.now l) rule.entry.entries.now) }
+    ensures missing { finds_missing result ≡ false }
 {
     match judge_window(dictionary, rule, 0, counts, list) {
         Judged::Good => judge_further(dictionary, rule, list),

@@ -36,7 +36,7 @@ judge_list-loop-avp-preserved t c =
     let a = avp_of c.in-Some.avp in
     let G = group_faults c.args.depth avps in
     let allowed = c.allows.ensures ∙ ap allows c.look_up-place.ensures.entry in
-    let good = looked_up G _ _ a _ _ allowed c.in-Good.ensures in
+    let good = looked_up G _ _ a _ _ allowed c.in-Good.ensures.fault in
     λ all h.
     let (m, listed, chain, counted) = c.loop-avp.invariant all h in
     let (k, is, behind) = c.in-Some.ensures.parts m listed in (

@@ -4,15 +4,15 @@ use Rattle.dm_dict.proofs.dictionary.Dictionary.check.Goals as goal
 
 pub returns-clause-verdict : goal.returns-clause-verdict
 returns-clause-verdict c =
-    rw (← c.self.view_is, ← c.judge_message.ensures c.args.message.now.avps c.as_slice.ensures) c.verdict.ensures.found
+    rw (← c.self.view_is, ← c.judge_message.ensures.fault c.args.message.now.avps c.as_slice.ensures) c.verdict.ensures.found
 
 pub returns-clause-memory : goal.returns-clause-memory
 returns-clause-memory c =
-    rw (← c.self.view_is, ← c.judge_message.ensures c.args.message.now.avps c.as_slice.ensures) c.verdict.ensures.memory
+    rw (← c.self.view_is, ← c.judge_message.ensures.fault c.args.message.now.avps c.as_slice.ensures) c.verdict.ensures.memory
 
 pub returns-clause-typed : goal.returns-clause-typed
 returns-clause-typed c =
     rw (← c.self.view_is)
     (good_result c.verdict.result _ _
-    (rw (c.judge_message.ensures c.args.message.now.avps c.as_slice.ensures) at c.verdict.ensures.found)
+    (rw (c.judge_message.ensures.fault c.args.message.now.avps c.as_slice.ensures) at c.verdict.ensures.found)
     (c.good_is_typed.ensures c.self.inside.linked.definitions c.args.message.now))
