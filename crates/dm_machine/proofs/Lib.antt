@@ -9,4 +9,5 @@ pub mod ShapeLaw
 pub mod ConnectionLaw
 pub mod OpeningLaw
 pub mod UnreadLaw
+pub mod StrangerLaw
 pub mod RowLemmas

@@ -50,10 +50,10 @@ place_of-hold s (p ∷ ps) c =
     (place_of-hold s ps c)
 
 -- the place of a connection that is this to the node
-placed : (n : Node) (c : Conn) (h : Hold) → hold_of n c ≡ h → place_of n.state n.held c ≡ place_at h
+pub placed : (n : Node) (c : Conn) (h : Hold) → hold_of n c ≡ h → place_of n.state n.held c ≡ place_at h
 placed n c h e = place_of-hold n.state n.held c ∙ ap place_at e
 
-rejected : (n : Node) → Form n → IsTrue (not (reads_first n.state)) → (c : Conn) (wins : Bool) (w : Word) →
+pub rejected : (n : Node) → Form n → IsTrue (not (reads_first n.state)) → (c : Conn) (wins : Bool) (w : Word) →
     after n (first_message w) (Some c) wins ≡ Moved (Close c ∷ []) n
 rejected n (wait_conn_ack_elect i r apart) g c wins Cer = refl
 rejected n (wait_conn_ack_elect i r apart) g c wins CerRefused = refl

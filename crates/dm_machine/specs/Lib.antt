@@ -9,6 +9,7 @@ pub mod Connection
 pub mod Changes
 pub mod Openings
 pub mod Unread
+pub mod Strangers
 pub mod Shape
 pub mod Phases
 pub mod Defaults

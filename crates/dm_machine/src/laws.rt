@@ -11,6 +11,7 @@ ghost use Rattle.dm_machine.specs.Openings.{
 };
 ghost use Rattle.dm_machine.specs.Rows.{HasOneRowEach};
 ghost use Rattle.dm_machine.specs.Shape.{EachStepKeepsShape};
+ghost use Rattle.dm_machine.specs.Strangers.{TurnsStrangersAway};
 ghost use Rattle.dm_machine.specs.Unread.{
   ClosesUnread,
   DropsBeforeAck,
@@ -53,6 +54,12 @@ pub fn unread_words_are_alike()
     ensures dropped { DropsBeforeAck }
     ensures read { ReadsAsPeerDisc }
     ensures ended { EndsAtWord }
+{}
+
+/// A stranger changes nothing: what comes on a connection that isn't held leaves the node as it is, and the connection
+/// is closed, behind an answer where a CER is refused; but for a good CER where first messages are read.
+pub fn strangers_are_turned_away()
+    ensures { TurnsStrangersAway }
 {}
 
 /// The state table with the own rows: a state and an event have at most one row, and it is the one that is followed.
