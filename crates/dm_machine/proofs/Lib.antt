@@ -8,6 +8,8 @@ pub mod StepFacts
 pub mod ShapeLaw
 pub mod ConnectionLaw
 pub mod OpeningLaw
+pub mod CauseLaw
+pub mod UpwardLaw
 pub mod UnreadLaw
 pub mod StrangerLaw
 pub mod RowLemmas

@@ -11,7 +11,7 @@ use Rattle.dm_machine.specs.Node.{Node}
 use Rattle.dm_machine.specs.Moves.{Outcome, Moved, Refused, outcome}
 use Rattle.dm_machine.specs.Connection.{Hold, NotHeld, Pending, Made, OpenAsI, ClosingAsI, Taken, OpenAsR, ClosingAsR, Concern, NamesAnother, Stops, TimesOut, Ticks, Submits, StartsIt, AcksIt, NacksIt, EndsIt, HeardOnIt, hold_of, concern_of, Order, SendsCer, SendsCea, Closes, orders_to, AtConnection, AtEachStep}
 use Rattle.dm_machine.specs.Changes.{Change, change, allowed}
-use Rattle.dm_machine.specs.Openings.{is_hold, has_order, is_entered, is_ack, is_good_cea, is_named, is_left_unclosed, OpensAcceptedWithCea, OpensInitiatedAtCea, SendsCerAtAck, ClosesWhatItGivesUp, LeavesOthersAlone}
+use Rattle.dm_machine.specs.Openings.{is_hold, has_order, is_entered, is_ack, is_good_cea, is_named, is_left_unclosed, OpensAcceptedWithCea, OpensInitiatedAtCea, SendsCerAtAck, ClosesWhatItGivesUp, LeavesOthersAlone, ends_at_close, EndsAtClose}
 use Rattle.dm_machine.proofs.Every.{all_true, at, every_word, at_word}
 use Rattle.dm_machine.proofs.Steps.{when, is_when}
 use Rattle.dm_machine.proofs.ChangeLemmas.{same_hold, are_orders, same_orders}
@@ -20,7 +20,7 @@ use Rattle.dm_machine.proofs.ConnectionLaw.{each_connection}
 abbrev holds : (Hold → Bool) → List Bool
 holds f = f NotHeld ∷ f Pending ∷ f Made ∷ f OpenAsI ∷ f ClosingAsI ∷ f Taken ∷ f OpenAsR ∷ f ClosingAsR ∷ []
 
-unfoldable every_hold : (Hold → Bool) → Bool
+unfoldable pub every_hold : (Hold → Bool) → Bool
 every_hold f = all_true (holds f)
 
 at_hold : (f : Hold → Bool) → every_hold f ≡ true → (h : Hold) → f h ≡ true
@@ -39,7 +39,7 @@ concerns f =
     f NamesAnother ∷ f Stops ∷ f TimesOut ∷ f Ticks ∷ f Submits ∷ f StartsIt ∷ f AcksIt ∷ f NacksIt ∷ f EndsIt ∷
     every_word (λ w. f (HeardOnIt w)) ∷ []
 
-unfoldable every_concern : (Concern → Bool) → Bool
+unfoldable pub every_concern : (Concern → Bool) → Bool
 every_concern f = all_true (concerns f)
 
 at_concern : (f : Concern → Bool) → every_concern f ≡ true → (k : Concern) → f k ≡ true
@@ -56,23 +56,23 @@ at_concern f e EndsIt = at (concerns f) 8 e
 at_concern f e (HeardOnIt w) = at_word (λ v. f (HeardOnIt v)) (at (concerns f) 9 e) w
 
 -- a fact of each listed change, by how it concerns the connection and what that was
-abbrev OfListed : (Concern → Hold → Change → Type 0) → Type 0
+abbrev pub OfListed : (Concern → Hold → Change → Type 0) → Type 0
 OfListed P = (k : Concern) (h : Hold) (x : Change) → Contains (allowed k h) x → P k h x
 
-abbrev ChangeTest : Type 0
+abbrev pub ChangeTest : Type 0
 ChangeTest = Concern → Hold → Change → Bool
 
-abbrev every_change : ChangeTest → Bool
+abbrev pub every_change : ChangeTest → Bool
 every_change test = every_concern (λ k. every_hold (λ h. list_all (test k h) (allowed k h)))
 
-passes : (test : ChangeTest) → every_change test ≡ true → OfListed (λ k h x. test k h x ≡ true)
+pub passes : (test : ChangeTest) → every_change test ≡ true → OfListed (λ k h x. test k h x ≡ true)
 passes test e k h x m =
     let at_k = at_concern (λ j. every_hold (λ g. list_all (test j g) (allowed j g))) e k in
     let at_h = at_hold (λ g. list_all (test k g) (allowed k g)) at_k h in
     All-contains (λ y. test k h y ≡ true) (allowed k h) x (AllPass-from_list_all (test k h) (allowed k h) at_h) m
 
 -- a fact of how a step looks from one connection
-abbrev Fact : Type 1
+abbrev pub Fact : Type 1
 Fact = Concern → Hold → Hold → List Order → Type 0
 
 from_outcome : (P : Fact) → OfListed (λ k h x. P k h x.next x.orders) →
@@ -84,11 +84,11 @@ from_outcome P f n i c (Moved commands next) m =
     f (concern_of i c) (hold_of n c) (change (hold_of next c) (orders_to c commands)) m
 
 -- what holds of each listed change holds of each connection at each step
-from_changes : (P : Fact) → OfListed (λ k h x. P k h x.next x.orders) → AtEachStep P
+pub from_changes : (P : Fact) → OfListed (λ k h x. P k h x.next x.orders) → AtEachStep P
 from_changes P f n i wins c h = from_outcome P f n i c (outcome n i wins) (each_connection n i wins c h)
 
 -- that two tests agree, as one
-abbrev agree : Bool → Bool → Bool
+abbrev pub agree : Bool → Bool → Bool
 agree true b = b
 agree false b = not b
 
@@ -98,14 +98,14 @@ agreed false false e = refl
 agreed true false e = cc
 agreed false true e = cc
 
-abbrev SeenTest : Type 0
+abbrev pub SeenTest : Type 0
 SeenTest = Concern → Hold → Hold → List Order → Bool
 
-abbrev agree_at : SeenTest → SeenTest → ChangeTest
+abbrev pub agree_at : SeenTest → SeenTest → ChangeTest
 agree_at f g k h x = agree (f k h x.next x.orders) (g k h x.next x.orders)
 
 -- two tests that agree at each listed change agree at each step
-from_agreed : (f g : SeenTest) → every_change (agree_at f g) ≡ true →
+pub from_agreed : (f g : SeenTest) → every_change (agree_at f g) ≡ true →
     AtEachStep (λ k before after orders. f k before after orders ≡ g k before after orders)
 from_agreed f g e = from_changes (λ k before after orders. f k before after orders ≡ g k before after orders)
     (λ k h x m. agreed (f k h x.next x.orders) (g k h x.next x.orders) (passes (agree_at f g) e k h x m))
@@ -170,3 +170,13 @@ left_alone k h x m other =
 pub alone : LeavesOthersAlone
 alone = from_changes (λ k before after orders. IsTrue (is_other k before) → (after ≡ NotHeld) × (orders ≡ []))
     left_alone
+
+abbrev nothing_follows : SeenTest
+nothing_follows k before after orders = ends_at_close orders
+
+abbrev is_any : SeenTest
+is_any k before after orders = true
+
+pub last : EndsAtClose
+unfolding all_true every_word every_hold every_concern
+last = from_agreed nothing_follows is_any refl

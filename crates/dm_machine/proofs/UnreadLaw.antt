@@ -21,7 +21,7 @@ use Rattle.dm_machine.proofs.Renamed.{after}
 use Rattle.dm_machine.proofs.FormLemmas.{form_of}
 
 -- the place of what a connection is to a node
-abbrev place_at : Hold → Place
+abbrev pub place_at : Hold → Place
 place_at NotHeld = OnNew
 place_at Pending = OnI
 place_at Made = OnI

@@ -8,6 +8,8 @@ pub mod Moves
 pub mod Connection
 pub mod Changes
 pub mod Openings
+pub mod Causes
+pub mod Upward
 pub mod Unread
 pub mod Strangers
 pub mod Shape

@@ -1,6 +1,6 @@
--- What the changes of a connection come to in words: how it is opened, when its CER goes out, when it is closed and
--- left alone.
-use Rattle.std.specs.Prelude.{◌≡◌, ℕ, Bool, true, false, not, ◌&&◌, ◌==◌, List, [], IsTrue}
+-- What the changes of a connection come to in words: how it is opened, when its CER goes out, when it is closed, what
+-- ends there, and when it is left alone.
+use Rattle.std.specs.Prelude.{◌≡◌, ℕ, Bool, true, false, not, ◌&&◌, ◌==◌, List, [], ◌∷◌, IsTrue}
 use Rattle.std.specs.List.{list_any}
 use Rattle.dm_machine.specs.declared.inputs.Word.TheVariants.{Cea}
 use Rattle.dm_machine.specs.Connection.{Hold, NotHeld, Pending, Made, OpenAsI, ClosingAsI, Taken, OpenAsR, ClosingAsR, Concern, StartsIt, AcksIt, NacksIt, EndsIt, HeardOnIt, Order, Connects, SendsCer, SendsCea, SendsRefusal, SendsDwr, SendsDwa, SendsDpr, SendsDpa, SendsSubmit, Closes, AtEachStep}
@@ -90,3 +90,14 @@ abbrev pub LeavesOthersAlone : Type 0
 LeavesOthersAlone =
     AtEachStep (λ k before after orders.
     IsTrue (is_hold NotHeld before && not (is_named k)) → (after ≡ NotHeld) × (orders ≡ []))
+
+-- nothing is ordered behind a Close
+abbrev pub ends_at_close : List Order → Bool
+ends_at_close [] = true
+ends_at_close (Closes ∷ []) = true
+ends_at_close (Closes ∷ more) = false
+ends_at_close (o ∷ more) = ends_at_close more
+
+-- a connection that is closed is ordered nothing more at that step
+abbrev pub EndsAtClose : Type 0
+EndsAtClose = AtEachStep (λ k before after orders. ends_at_close orders ≡ true)

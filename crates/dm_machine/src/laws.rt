@@ -1,5 +1,6 @@
 //! The laws of one step, for those who build on `step`; no code here calls them. Each is the contract of a function
 //! that does nothing.
+ghost use Rattle.dm_machine.specs.Causes.{EachHoldIsCaused};
 ghost use Rattle.dm_machine.specs.Changes.{EachConnectionChangesAsAllowed};
 ghost use Rattle.dm_machine.specs.Forms.{EachShapeIsAForm, EachFormIsShaped};
 ghost use Rattle.dm_machine.specs.Openings.{
@@ -8,10 +9,12 @@ ghost use Rattle.dm_machine.specs.Openings.{
   SendsCerAtAck,
   ClosesWhatItGivesUp,
   LeavesOthersAlone,
+  EndsAtClose,
 };
 ghost use Rattle.dm_machine.specs.Rows.{HasOneRowEach};
 ghost use Rattle.dm_machine.specs.Shape.{EachStepKeepsShape};
 ghost use Rattle.dm_machine.specs.Strangers.{TurnsStrangersAway};
+ghost use Rattle.dm_machine.specs.Upward.{SubmitsWhereOpen, HandsUpWhereOpen, HandsUpEach, OpenOnOne};
 ghost use Rattle.dm_machine.specs.Unread.{
   ClosesUnread,
   DropsBeforeAck,
@@ -26,13 +29,29 @@ pub fn each_connection_changes_as_allowed()
 {}
 
 /// What those changes come to: which command or message goes with each opening, when a CER goes out, what is closed,
-/// and what is left alone.
+/// what is left alone, and that nothing is ordered behind a Close.
 pub fn each_opening_has_its_message()
     ensures accepted { OpensAcceptedWithCea }
     ensures initiated { OpensInitiatedAtCea }
     ensures asked { SendsCerAtAck }
     ensures closed { ClosesWhatItGivesUp }
     ensures alone { LeavesOthersAlone }
+    ensures last { EndsAtClose }
+{}
+
+/// What brings a connection to what it is to a node: a good CER, the CEA that is sent to it, its Ack with the CER, a
+/// good CEA.
+pub fn each_hold_is_caused()
+    ensures { EachHoldIsCaused }
+{}
+
+/// What goes through an open connection, which is one at most: the messages of the user go out on it at a Submit, and
+/// each message of another command that is heard on it goes up, and nothing else does.
+pub fn open_connections_carry()
+    ensures submits { SubmitsWhereOpen }
+    ensures up { HandsUpWhereOpen }
+    ensures each { HandsUpEach }
+    ensures one { OpenOnOne }
 {}
 
 /// A node of the right shape is one of eight forms: each state with the connections that it holds, and the counts of
