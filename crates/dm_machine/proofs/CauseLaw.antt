@@ -1,13 +1,15 @@
--- What brings a connection to what it is: computed at every listed change.
+-- What brings a connection to what it is, and what an answer answers: computed at every listed change.
 use Rattle.std.proofs.Common.{◌≡◌, ◌⊎◌, inl, inr, Bool, true, false, ◌&&◌, ◌||◌, List, refl}
 use Rattle.std.proofs.lemmas.Bool.{and_parts, or_cases}
+use Rattle.std.specs.List.{list_all}
 use Rattle.dm_machine.specs.declared.inputs.Word.TheVariants.{Cer, Cea}
 use Rattle.dm_machine.specs.Connection.{Hold, NotHeld, Pending, Made, OpenAsI, Taken, OpenAsR, Concern, AcksIt, HeardOnIt, Order, SendsCer, SendsCea}
 use Rattle.dm_machine.specs.Openings.{is_hold, has_order, is_ack, is_good_cea}
 use Rattle.dm_machine.specs.Causes.{IsCaused, EachHoldIsCaused}
+use Rattle.dm_machine.specs.Answering.{has_its_request, AnswersWhatIsHeard}
 use Rattle.dm_machine.proofs.Every.{all_true, every_word}
 use Rattle.dm_machine.proofs.ChangeLemmas.{same_hold}
-use Rattle.dm_machine.proofs.OpeningLaw.{every_hold, every_concern, ChangeTest, every_change, passes, from_changes}
+use Rattle.dm_machine.proofs.OpeningLaw.{every_hold, every_concern, ChangeTest, every_change, passes, from_changes, SeenTest, from_agreed, is_any}
 
 abbrev is_good_cer : Concern → Bool
 is_good_cer (HeardOnIt Cer) = true
@@ -88,3 +90,10 @@ caused k h _ orders e = tt
 
 pub each_hold : EachHoldIsCaused
 each_hold = from_changes IsCaused (λ k h x m. caused k h x.next x.orders (passes caused_test checked k h x m))
+
+abbrev all_answer : SeenTest
+all_answer k before after orders = list_all (has_its_request k) orders
+
+pub answers_heard : AnswersWhatIsHeard
+unfolding all_true every_word every_hold every_concern
+answers_heard = from_agreed all_answer is_any refl

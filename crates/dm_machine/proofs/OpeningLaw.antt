@@ -174,7 +174,7 @@ alone = from_changes (λ k before after orders. IsTrue (is_other k before) → (
 abbrev nothing_follows : SeenTest
 nothing_follows k before after orders = ends_at_close orders
 
-abbrev is_any : SeenTest
+abbrev pub is_any : SeenTest
 is_any k before after orders = true
 
 pub last : EndsAtClose

@@ -9,6 +9,7 @@ pub mod Connection
 pub mod Changes
 pub mod Openings
 pub mod Causes
+pub mod Answering
 pub mod Upward
 pub mod Unread
 pub mod Strangers

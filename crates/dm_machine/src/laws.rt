@@ -1,5 +1,6 @@
 //! The laws of one step, for those who build on `step`; no code here calls them. Each is the contract of a function
 //! that does nothing.
+ghost use Rattle.dm_machine.specs.Answering.{AnswersWhatIsHeard};
 ghost use Rattle.dm_machine.specs.Causes.{EachHoldIsCaused};
 ghost use Rattle.dm_machine.specs.Changes.{EachConnectionChangesAsAllowed};
 ghost use Rattle.dm_machine.specs.Forms.{EachShapeIsAForm, EachFormIsShaped};
@@ -43,6 +44,11 @@ pub fn each_opening_has_its_message()
 /// good CEA.
 pub fn each_hold_is_caused()
     ensures { EachHoldIsCaused }
+{}
+
+/// What an answer answers: a DWA, a DPA and a refusal go out only where the message that asks for them is heard.
+pub fn each_answer_has_its_request()
+    ensures { AnswersWhatIsHeard }
 {}
 
 /// What goes through an open connection, which is one at most: the messages of the user go out on it at a Submit, and
