@@ -30,7 +30,7 @@ is_allowed Elsewhere MadeOpen Unheld true sent = true
 is_allowed Elsewhere Taken Taken false sent = true
 is_allowed Elsewhere Taken Unheld true sent = true
 is_allowed StartsIt Unheld Connecting false sent = not sent
-is_allowed AcksIt Connecting Made false sent = true
+is_allowed AcksIt Connecting Made false sent = sent
 is_allowed AcksIt Connecting Unheld true sent = true
 is_allowed NacksIt Connecting Unheld false sent = not sent
 is_allowed EndsIt Unheld Unheld false sent = not sent
@@ -70,14 +70,16 @@ is_handed mine NacksIt s = mine && is_pending s.phase
 is_handed mine EndsIt s = is_up s.phase && not (is_shut s.own) && s.in_empty && is_coming s.in_mark
 is_handed mine HeardOnIt s = is_up s.phase && not (is_shut s.own) && not s.in_empty
 
--- whether the lists may be empty afterwards: the incoming one loses its front, the outgoing one takes what is sent
+-- whether the lists may be empty afterwards: the incoming one loses its front, the outgoing one takes what is sent, which
+-- is something unless a Close came before it
 abbrev pub after_pop : Concern → Bool → (Bool → Bool) → Bool
 after_pop HeardOnIt empty f = every_bool f
 after_pop k empty f = f empty
 
-abbrev pub after_put : Bool → Bool → (Bool → Bool) → Bool
-after_put true empty f = every_bool f
-after_put false empty f = f empty
+abbrev pub after_put : Bool → Bool → Bool → (Bool → Bool) → Bool
+after_put true true empty f = every_bool f
+after_put true false empty f = f false
+after_put false closed empty f = f empty
 
 abbrev pub standing_after : Concern → Tie → Bool → Bool → Bool → Standing → Standing
 standing_after k t closed in_empty out_empty s =
@@ -100,7 +102,7 @@ abbrev step_to : Bool → Concern → Standing → Tie → Bool → Bool → Boo
 step_to mine k s t closed sent =
     when (is_allowed k s.own_tie t closed sent)
     (after_pop k s.in_empty
-    (λ ie. after_put (puts_in k sent s) s.out_empty
+    (λ ie. after_put (puts_in k sent s) closed s.out_empty
     (λ oe. is_sound (turned mine (standing_after k t closed ie oe s)))))
 
 abbrev step_by : Bool → Concern → Standing → Bool
@@ -207,6 +209,10 @@ abbrev pub same_bool : Bool → Bool → Bool
 same_bool true b = b
 same_bool false b = not b
 
+-- nothing is under way
+abbrev pub is_calm : Standing → Bool
+is_calm s = s.in_empty && (s.out_empty && (not (is_coming s.in_mark) && not (is_coming s.out_mark)))
+
 abbrev pub conclusions : Bool → Standing → List Bool
 conclusions mine s =
     when (is_up s.phase) (same_bool (is_open_end s.own) (is_held s.own_tie))
@@ -215,6 +221,7 @@ conclusions mine s =
     ∷ when (is_held s.own_tie && is_held s.other_tie) (not (same_bool (is_taken s.own_tie) (is_taken s.other_tie)))
     ∷ when (is_open_end s.other && is_up s.phase) (is_held s.other_tie)
     ∷ when (is_up s.phase && is_fresh s.own) (not mine)
+    ∷ when (is_up s.phase && (is_held s.own_tie && is_calm s)) (is_held s.other_tie)
     ∷ []
 
 abbrev concluded : Standing → Bool
@@ -233,7 +240,7 @@ pub record IsStepOf (mine : Bool) (k : Concern) (s : Standing) : Type 0 where
   pub ready : is_ready k s.own_tie ≡ true
   pub after : (t : Tie) (closed sent : Bool) → is_allowed k s.own_tie t closed sent ≡ true →
       after_pop k s.in_empty
-      (λ ie. after_put (puts_in k sent s) s.out_empty
+      (λ ie. after_put (puts_in k sent s) closed s.out_empty
       (λ oe. is_sound (turned mine (standing_after k t closed ie oe s)))) ≡ true
 
 step_of : (mine : Bool) (k : Concern) (s : Standing) → step_by mine k s ≡ true → is_handed mine k s ≡ true →

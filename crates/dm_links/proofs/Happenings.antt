@@ -64,10 +64,10 @@ summed_sound : {M : Type 0} (mine closed : Bool) (t u : Tie) (v : View M) →
     (standing_after Elsewhere Unheld closed (is_empty v.incoming.messages) (is_empty v.outgoing.messages)
     (standing t u v))) ≡ true → IsSoundView mine Unheld u (summed closed [] v)
 summed_sound mine closed t u v h =
-    put_in false v.phase v.outgoing.mark
+    put_in false closed v.phase v.outgoing.mark
     (λ oe. is_sound (turned mine
     (standing_after Elsewhere Unheld closed (is_empty v.incoming.messages) oe (standing t u v))))
-    [] v.outgoing.messages h (λ e. refl)
+    [] v.outgoing.messages h (λ e. refl) (λ a b. cc)
 
 restarted_at : {M : Type 0} (mine : Bool) (p : LinkPhase) (own other : End) (i o : Direction M) →
     restarted mine (record { phase = p; own = own; other = other; incoming = i; outgoing = o }) ≡ summed

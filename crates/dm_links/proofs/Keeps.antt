@@ -11,7 +11,7 @@ use Rattle.dm_links.specs.Facts.{turned, is_empty, is_sound, standing, IsSoundVi
 use Rattle.dm_links.proofs.Every.{at_bool}
 use Rattle.dm_links.proofs.Checks.{is_ready, is_allowed, is_handed, after_pop, after_put, puts_in, standing_after, step_at}
 use Rattle.dm_links.proofs.Ties.{KeepsTies}
-use Rattle.dm_links.proofs.Views.{acted_summed, unsent_unsaid}
+use Rattle.dm_links.proofs.Views.{acted_summed, unsent_unsaid, sent_said}
 use Rattle.dm_links.proofs.Lists.{IsStart, view_link, mapped_some, performed_at, length-perform, length-enter, length-settle, stepped_at}
 
 popped : {M : Type 0} (k : Concern) (f : Bool → Bool) (ms : List M) → after_pop k (is_empty ms) f ≡ true →
@@ -28,19 +28,26 @@ none_put : {M : Type 0} (f : Bool → Bool) (words old : List M) → f (is_empty
 none_put f [] old h e = subst (λ xs. f (is_empty xs) ≡ true) (sym (append-nil old)) h
 none_put f (x ∷ xs) old h e = cc
 
-pub put_in : {M : Type 0} (sent : Bool) (p : LinkPhase) (mark : Mark) (f : Bool → Bool) (words old : List M) →
-    after_put (sent && takes p mark) (is_empty old) f ≡ true → (sent ≡ false → is_empty words ≡ true) →
-    f (is_empty (added p mark words old)) ≡ true
-put_in true Up NoMark f words old h g = at_bool f h (is_empty (old ++ words))
-put_in false Up NoMark f words old h g = none_put f words old h (g refl)
-put_in true Up Coming f words old h g = h
-put_in false Up Coming f words old h g = h
-put_in true Up Delivered f words old h g = h
-put_in false Up Delivered f words old h g = h
-put_in true Pending mark f words old h g = h
-put_in false Pending mark f words old h g = h
-put_in true Cancelled mark f words old h g = h
-put_in false Cancelled mark f words old h g = h
+some_put : {M : Type 0} (f : Bool → Bool) (words old : List M) → f false ≡ true → is_empty words ≡ false →
+    f (is_empty (old ++ words)) ≡ true
+some_put f words (y ∷ ys) h e = h
+some_put f (x ∷ xs) [] h e = h
+some_put f [] [] h e = cc
+
+pub put_in : {M : Type 0} (sent closed : Bool) (p : LinkPhase) (mark : Mark) (f : Bool → Bool) (words old : List M) →
+    after_put (sent && takes p mark) closed (is_empty old) f ≡ true → (sent ≡ false → is_empty words ≡ true) →
+    (sent ≡ true → closed ≡ false → is_empty words ≡ false) → f (is_empty (added p mark words old)) ≡ true
+put_in true true Up NoMark f words old h g k = at_bool f h (is_empty (old ++ words))
+put_in true false Up NoMark f words old h g k = some_put f words old h (k refl refl)
+put_in false closed Up NoMark f words old h g k = none_put f words old h (g refl)
+put_in true closed Up Coming f words old h g k = h
+put_in false closed Up Coming f words old h g k = h
+put_in true closed Up Delivered f words old h g k = h
+put_in false closed Up Delivered f words old h g k = h
+put_in true closed Pending mark f words old h g k = h
+put_in false closed Pending mark f words old h g k = h
+put_in true closed Cancelled mark f words old h g k = h
+put_in false closed Cancelled mark f words old h g k = h
 
 -- a step keeps a link sound, in the view of the side that steps
 view_keeps : {M : Type 0} (mine : Bool) (k : Concern) (own own' other : Tie) (d : ℕ) (actions : List (Action M))
@@ -56,11 +63,11 @@ view_keeps mine k own own' other d actions v good handed law =
     let words = words_at d actions in
     let step = step_at mine k s good handed in
     let result : Bool → Bool → Bool = λ ie oe. is_sound (turned mine (standing_after k own' closed ie oe s)) in
-    let pop = popped k (λ ie. after_put (puts_in k sent s) s.out_empty (λ oe. result ie oe)) v.incoming.messages
+    let pop = popped k (λ ie. after_put (puts_in k sent s) closed s.out_empty (λ oe. result ie oe)) v.incoming.messages
     (step.after own' closed sent (law step.ready)) in
-    let put = put_in sent (phase_at k v.phase) (outgoing_mark_at k v.own v.outgoing.mark)
+    let put = put_in sent closed (phase_at k v.phase) (outgoing_mark_at k v.own v.outgoing.mark)
     (λ oe. result (is_empty (messages_at k v.incoming.messages)) oe) words v.outgoing.messages pop
-    (unsent_unsaid d actions) in
+    (unsent_unsaid d actions) (λ a b. sent_said d actions a b) in
     subst (λ x. IsSoundView mine own' other (settled k (is_held own') x))
     (sym (acted_summed d actions (entered k v))) put
 

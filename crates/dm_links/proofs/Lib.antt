@@ -25,3 +25,4 @@ mod TalkLemmas
 mod Cuts
 mod Wholes
 mod Makes
+mod Sharing

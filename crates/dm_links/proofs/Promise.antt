@@ -69,7 +69,7 @@ there_below (x ∷ xs) (suc c) h = there_below xs c (omega (arith, h))
 not_held : (t : Tie) → t ≡ Unheld → is_held t ≡ true → ⊥
 not_held t e h = cc (ap is_held e, h)
 
-held_there : {M : Type 0} (s : Side) (own other : Node) (links : List (Link M)) (c : ℕ) →
+pub held_there : {M : Type 0} (s : Side) (own other : Node) (links : List (Link M)) (c : ℕ) →
     AreSound s own other links → is_held (tie_of own c) ≡ true → (l : Link M) × (slice_get links c ≡ Some l)
 held_there s own other links c good held =
     elim (cases_lt c (length links)) [

@@ -25,7 +25,7 @@ use Rattle.dm_links.proofs.Phasing.{flip_in}
 use Rattle.dm_links.proofs.Running.{Ended, runs}
 use Rattle.dm_links.proofs.Matching.{phase_matches}
 
-all_at : {X : Type 0} (f : X → Bool) (xs : List X) (d : ℕ) (x : X) → list_all f xs ≡ true →
+pub all_at : {X : Type 0} (f : X → Bool) (xs : List X) (d : ℕ) (x : X) → list_all f xs ≡ true →
     slice_get xs d ≡ Some x → f x ≡ true
 all_at f [] d x h e = cc
 all_at f (z ∷ zs) zero x h e = subst (λ o. elim o [ None ↦ true | Some q ↦ f q ] ≡ true) e

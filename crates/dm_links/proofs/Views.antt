@@ -113,3 +113,24 @@ unsent_unsaid d (Send c x ∷ actions) h = none_if_send (c.0 == d) (sends_at d (
 unsent_unsaid d (Close c ∷ actions) h = none_if_close (c.0 == d) (words_at d actions) (unsent_unsaid d actions h)
 unsent_unsaid d (Connect c ∷ actions) h = unsent_unsaid d actions h
 unsent_unsaid d (peers.Up x ∷ actions) h = unsent_unsaid d actions h
+
+-- what is sent and not closed is said
+some_if_send : {M : Type 0} (b rest : Bool) (x : M) (words : List M) → (b || rest) ≡ true →
+    (rest ≡ true → is_empty words ≡ false) → is_empty (if b then x ∷ words else words) ≡ false
+some_if_send true rest x words h g = refl
+some_if_send false rest x words h g = g h
+
+some_if_close : {M : Type 0} (b rest : Bool) (words : List M) → (b || rest) ≡ false →
+    (rest ≡ false → is_empty words ≡ false) → is_empty (if b then [] else words) ≡ false
+some_if_close true rest words h g = cc
+some_if_close false rest words h g = g h
+
+pub sent_said : {M : Type 0} (d : ℕ) (actions : List (Action M)) → sends_at d (map order_of actions) ≡ true →
+    closes_at d (map order_of actions) ≡ false → is_empty (words_at d actions) ≡ false
+sent_said d [] h e = cc
+sent_said d (Send c x ∷ actions) h e = some_if_send (c.0 == d) (sends_at d (map order_of actions)) x
+    (words_at d actions) h (λ r. sent_said d actions r e)
+sent_said d (Close c ∷ actions) h e = some_if_close (c.0 == d) (closes_at d (map order_of actions))
+    (words_at d actions) e (λ r. sent_said d actions h r)
+sent_said d (Connect c ∷ actions) h e = sent_said d actions h e
+sent_said d (peers.Up x ∷ actions) h e = sent_said d actions h e

@@ -93,11 +93,11 @@ abbrev pub end_fits : End → Bool → Mark → Mark → Bool
 end_fits Shut in_empty in_mark out_mark = not (is_none out_mark) && (not (is_delivered in_mark) || in_empty)
 end_fits _ in_empty in_mark out_mark = not (is_delivered in_mark)
 
--- where the other end is fresh, nothing came from it, and the opener isn't open
-abbrev pub fresh_fits : End → Tie → Bool → Bool
-fresh_fits Fresh MadeOpen in_empty = false
-fresh_fits Fresh _ in_empty = in_empty
-fresh_fits _ _ in_empty = true
+-- where the other end is fresh, nothing came from it, something is under way to it, and the opener isn't open
+abbrev pub fresh_fits : End → Tie → Bool → Bool → Mark → Bool
+fresh_fits Fresh MadeOpen in_empty out_empty out_mark = false
+fresh_fits Fresh _ in_empty out_empty out_mark = in_empty && not (out_empty && is_none out_mark)
+fresh_fits _ _ in_empty out_empty out_mark = true
 
 -- a link as its opener sees it
 abbrev pub is_sound : Standing → Bool
@@ -108,7 +108,8 @@ is_sound s =
       | Up ↦
           opener_fits s.own s.own_tie && other_fits s.other s.other_tie && end_fits s.own s.in_empty s.in_mark
           s.out_mark
-          && end_fits s.other s.out_empty s.out_mark s.in_mark && fresh_fits s.other s.own_tie s.in_empty
+          && end_fits s.other s.out_empty s.out_mark s.in_mark && fresh_fits s.other s.own_tie s.in_empty s.out_empty
+          s.out_mark
     ]
 
 abbrev pub standing : {M : Type 0} → Tie → Tie → View M → Standing

@@ -15,3 +15,4 @@ pub mod Settled
 pub mod Talkers
 pub mod Streams
 pub mod Making
+pub mod Sharing

@@ -6,6 +6,7 @@ ghost use Rattle.dm_links.specs.Kinds.{KindsAreAMachine, TwoRuns};
 ghost use Rattle.dm_links.specs.Laws.{ClosedIsSound, HappeningKeepsSound, SoundIsPromised, EachRunIsPromised};
 ghost use Rattle.dm_links.specs.Making.{AcksMakeEnds};
 ghost use Rattle.dm_links.specs.Settled.{EachCleanRunSettles};
+ghost use Rattle.dm_links.specs.Sharing.{QuietIsShared};
 ghost use Rattle.dm_links.specs.Streams.{HappeningKeepsCut, EachRunIsCut, EachPieceAddsUp, EachLossAddsUp};
 ghost use Rattle.dm_links.specs.Talkers.{TalkersAreElecting, TwoTalks};
 
@@ -44,6 +45,12 @@ pub fn each_run_is_promised<P, M>()
 /// `C` is what a peer is configured with, `H` the header of a message.
 pub fn each_clean_run_settles<P, M, C, H>()
     ensures { EachCleanRunSettles P M C H }
+{}
+
+/// Where nothing is under way in a sound world, whatever happened before, each side holds just what the other holds, and one
+/// is Closed exactly where the other is.
+pub fn quiet_is_shared<P, M>()
+    ensures { QuietIsShared P M }
 {}
 
 /// After every list of happenings fewer octets are delivered of a message than it has.
