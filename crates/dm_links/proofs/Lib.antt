@@ -25,4 +25,11 @@ mod TalkLemmas
 mod Cuts
 mod Wholes
 mod Makes
+mod Counting
+mod Runs
+mod Ending
+mod Onward
+mod Resting
+mod Finishing
+mod Falling
 mod Sharing

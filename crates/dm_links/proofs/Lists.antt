@@ -1,6 +1,8 @@
 -- Links after an event and the actions that answer it: each is a link before, changed in the side's view.
 use Rattle.std.proofs.Common.{◌≡◌, ℕ, zero, suc, ◌==◌, Bool, true, false, if◌then◌else◌, Option, Some, None, List, [], ◌∷◌, length, slice_get, refl, sym, ap, subst, ◌∙◌, arith}
 use Rattle.std.specs.Prelude.{option_map}
+use Rattle.std.specs.List.{list_all}
+use Rattle.std.proofs.lemmas.Bool.{and_from}
 use Rattle.std.proofs.lemmas.Bool.Decides.{nat_tests}
 use Rattle.dm_links.specs.Machine.{Conn, conn, Node, Concern, Elsewhere, AcksIt, NacksIt, EndsIt, HeardOnIt, tie_of, is_held, if_named}
 use Rattle.dm_links.specs.Links.{Side, opens, Link, View, view_of, link_of, by_side}
@@ -55,6 +57,15 @@ change_at-tested c d true f xs e =
     let same = if_same c d e in
     subst (λ n. slice_get (change_at c f xs) n ≡ option_map f (slice_get xs n)) same (change_at-same c f xs)
 change_at-tested c d false f xs e = change_at-other c d f xs (if_other c d e) ∙ mapped_same (slice_get xs d)
+
+-- a test that each element passes
+pub all_where : {X : Type 0} (f : X → Bool) (xs : List X) →
+    ((d : ℕ) (x : X) → slice_get xs d ≡ Some x → f x ≡ true) → list_all f xs ≡ true
+all_where f [] h = refl
+all_where f (x ∷ xs) h = and_from (f x) (list_all f xs) (h 0 x refl) (all_where f xs (λ d z e. h (suc d) z e))
+
+pub same_test : {X : Type 0} (f : X → Bool) (x y : X) → Some x ≡ Some y → f x ≡ true → f y ≡ true
+same_test f x y e h = let same : x ≡ y = cc e in subst (λ z. f z ≡ true) same h
 
 -- views of a link
 pub view_link : {M : Type 0} (mine : Bool) (s : Side) (v : View M) → view_of mine (link_of mine s v) ≡ v

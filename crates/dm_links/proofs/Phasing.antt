@@ -63,28 +63,6 @@ arrives_other m s o ab c w (Some z) = refl
 arrives_other m s o ba c w None = refl
 arrives_other m s o ba c w (Some z) = refl
 
-pub pieces_own : {P M : Type 0} (m : Peers P M) (s o : Side) → IsPair s o →
-    (c n : ℕ) (w : World P M) (u : Option (View M)) →
-    at_link (option_map (link_of true s) u)
-    (λ l. let v = own_view s l in if_up l.phase
-    (if n == 0 then Ignored else pieced m c s n v.own v.incoming.taken
-    (next_in v.incoming.messages v.incoming.mark) w) Ignored) ≡ pieces m s c n w u
-pieces_own m s o ab c n w None = refl
-pieces_own m s o ab c n w (Some z) = refl
-pieces_own m s o ba c n w None = refl
-pieces_own m s o ba c n w (Some z) = refl
-
-pub pieces_other : {P M : Type 0} (m : Peers P M) (s o : Side) → IsPair s o →
-    (c n : ℕ) (w : World P M) (u : Option (View M)) →
-    at_link (option_map (link_of false o) u)
-    (λ l. let v = own_view s l in if_up l.phase
-    (if n == 0 then Ignored else pieced m c s n v.own v.incoming.taken
-    (next_in v.incoming.messages v.incoming.mark) w) Ignored) ≡ pieces m s c n w u
-pieces_other m s o ab c n w None = refl
-pieces_other m s o ab c n w (Some z) = refl
-pieces_other m s o ba c n w None = refl
-pieces_other m s o ba c n w (Some z) = refl
-
 -- where nothing is next
 abbrev pub is_dialled : Stage → Bool
 is_dialled Dialled = true

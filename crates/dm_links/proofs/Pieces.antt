@@ -7,8 +7,8 @@ use Rattle.dm_links.specs.Machine.{conn, Node}
 use Rattle.dm_links.specs.Links.{Side, opens, LinkPhase, Pending, Up, Cancelled, End, Mark, NoMark, Coming, Delivered, Link, View, view_of, link_of, by_side}
 use Rattle.dm_links.specs.Peers.{Arrived, Peers}
 use Rattle.dm_links.specs.Worlds.{World, with_links, change_at, After, Done, Ignored}
-use Rattle.dm_links.specs.Happens.{Next, NextMessage, NextDisconnect, NextNothing, next_in, comes, delivered, taking, pieced, if_up, if_pending, own_view}
-use Rattle.dm_links.specs.Quiet.{is_still, is_quiet_link}
+use Rattle.dm_links.specs.Happens.{NextNothing, next_in, comes, delivered, taking, pieced, if_up, if_pending, own_view}
+use Rattle.dm_links.specs.Quiet.{is_still, is_quiet_link, is_in_part}
 use Rattle.dm_links.specs.Electing.{Talks}
 use Rattle.dm_links.specs.Settled.{nothing}
 use Rattle.dm_links.proofs.Lists.{change_at-tested}
@@ -16,7 +16,7 @@ use Rattle.dm_links.proofs.Pairs.{IsPair, mirror, own_by, other_by, Stands, At, 
 use Rattle.dm_links.proofs.Stages.{Stage, Unmade, Dialled, Asked, Accepted, Answered, Dropped, Halved, Parted}
 use Rattle.dm_links.proofs.Acting.{itself, own_at}
 use Rattle.dm_links.proofs.Starting.{same_peers}
-use Rattle.dm_links.proofs.Phases.{Phase, node_g, node_l, stage_g, stage_l, cers, ceas, ends, present, InPhase, Went, stays, is_lost, moves}
+use Rattle.dm_links.proofs.Phases.{Phase, node_g, node_l, stage_g, stage_l, cers, ceas, ends, present, InPhase, Went, stays, moves}
 use Rattle.dm_links.proofs.Phasing.{plus_none, arrives, pieces, flip_in, flip_out}
 
 same_map : {X : Type 0} (o : Option X) → option_map (λ x. x) o ≡ o
@@ -76,6 +76,11 @@ taken_other Answered P C H m t s o h i j n = refl
 taken_other Dropped P C H m t s o h i j n = refl
 taken_other Halved P C H m t s o h i j n = refl
 taken_other (Parted a b) P C H m t s o h i j n = refl
+
+-- whether a piece leaves the front message in part, by the view of the link
+abbrev pub is_seen_in_part : {M : Type 0} → (M → ℕ) → ℕ → Option (View M) → Bool
+is_seen_in_part size n None = false
+is_seen_in_part size n (Some z) = is_in_part size n z.incoming
 
 module _ {P M C H : Type 0} (m : Peers P M) (t : Talks P M C H) where
   -- one of the two links is changed
@@ -171,55 +176,57 @@ module _ {P M C H : Type 0} (m : Peers P M) (t : Talks P M C H) where
       (node_l k x y) (node_g k x y) q.h' q.h (taking n) (flip_in m t g l w k x y q)
       (taken_other (stage_g k) P C H m t l g q.h q.i q.j n))
 
-  -- a piece counts for no step
-  pub lighter : (g l : Side) (k : Phase) (x y : ℕ) (after : After P M) (gs ls : List ℕ) →
-      Went m t g l k x y 1 after gs ls → Went m t g l k x y 0 after gs ls
-  lighter g l k x y after gs ls stays = stays
-  lighter g l k x y after gs ls is_lost = is_lost
-  lighter g l k x y after gs ls (moves w put gs' ls' k' x' y' a b d q tally e1 e2 e3 e0 e4 e5) =
-      moves w put gs' ls' k' x' y' a b d q tally e1 e2 e3 (omega (arith, e0)) e4 e5
+  -- a piece to a side, by the view of the link: it is a step where it ends its message
+  abbrev pub PieceWent : (g l : Side) (k : Phase) (x y : ℕ) (w : World P M) (s : Side) (n c : ℕ) → Option (View M) →
+      Type 0
+  PieceWent g l k x y w s n c u =
+      Went m t g l k x y (if is_seen_in_part m.size n u then 0 else 1) (pieces m s c n w u) [] []
 
   piece_size : (g l : Side) (k : Phase) (x y : ℕ) (b : Bool) (w1 : World P M) (after : After P M) →
-      InPhase m t g l w1 k x y → Went m t g l k x y 0 after [] [] →
-      Went m t g l k x y 0 (if b then Done w1 [] else after) [] []
+      InPhase m t g l w1 k x y → Went m t g l k x y 1 after [] [] →
+      Went m t g l k x y (if b then 0 else 1) (if b then Done w1 [] else after) [] []
   piece_size g l k x y true w1 after q h = moves w1 [] [] [] k x y 0 0 0 q nothing (plus_none (cers k))
       (plus_none (ceas k)) (plus_none (ends k)) (omega arith) (append-nil (present (stage_g k) x))
       (append-nil (present (stage_l k) y))
   piece_size g l k x y false w1 after q h = h
 
   piece_next : (g l : Side) (k : Phase) (x y : ℕ) (s : Side) (c n : ℕ) (w : World P M) (end : End) (taken : ℕ)
-      (nx : Next M) → InPhase m t g l (with_links (change_at c (by_side s (taking n)) w.links) w) k x y →
-      Went m t g l k x y 0 (delivered m c s end nx w) [] [] →
-      Went m t g l k x y 0 (pieced m c s n end taken nx w) [] []
-  piece_next g l k x y s c n w end taken NextNothing q h = stays
-  piece_next g l k x y s c n w end taken NextDisconnect q h = stays
-  piece_next g l k x y s c n w end taken (NextMessage a) q h =
+      (messages : List M) (mark : Mark) →
+      InPhase m t g l (with_links (change_at c (by_side s (taking n)) w.links) w) k x y →
+      Went m t g l k x y 1 (delivered m c s end (next_in messages mark) w) [] [] →
+      Went m t g l k x y
+      (if is_in_part m.size n (record { messages = messages; taken = taken; mark = mark }) then 0 else 1)
+      (pieced m c s n end taken (next_in messages mark) w) [] []
+  piece_next g l k x y s c n w end taken [] NoMark q h = stays
+  piece_next g l k x y s c n w end taken [] Coming q h = stays
+  piece_next g l k x y s c n w end taken [] Delivered q h = stays
+  piece_next g l k x y s c n w end taken (a ∷ more) mark q h =
       piece_size g l k x y (nat_lt (taken + n) (m.size a))
       (with_links (change_at c (by_side s (taking n)) w.links) w) (comes m s (Arrived (conn c) a) end w) q h
 
-  piece_none : (g l : Side) (k : Phase) (x y : ℕ) (b : Bool) (after : After P M) →
-      Went m t g l k x y 0 after [] [] →
-      Went m t g l k x y 0 (if b then Ignored else after) [] []
-  piece_none g l k x y true after h = stays
-  piece_none g l k x y false after h = h
+  piece_none : (g l : Side) (k : Phase) (x y i : ℕ) (b : Bool) (after : After P M) →
+      Went m t g l k x y i after [] [] → Went m t g l k x y i (if b then Ignored else after) [] []
+  piece_none g l k x y i true after h = stays
+  piece_none g l k x y i false after h = h
 
-  piece_up : (g l : Side) (k : Phase) (x y : ℕ) (p : LinkPhase) (one two : After P M) →
-      (Went m t g l k x y 0 one [] [] → Went m t g l k x y 0 two [] []) →
-      Went m t g l k x y 0 (if_up p one Ignored) [] [] → Went m t g l k x y 0 (if_up p two Ignored) [] []
-  piece_up g l k x y Up one two f h = f h
-  piece_up g l k x y Pending one two f h = h
-  piece_up g l k x y Cancelled one two f h = h
+  piece_up : (g l : Side) (k : Phase) (x y i : ℕ) (p : LinkPhase) (one two : After P M) →
+      (Went m t g l k x y 1 one [] [] → Went m t g l k x y i two [] []) →
+      Went m t g l k x y 1 (if_up p one Ignored) [] [] → Went m t g l k x y i (if_up p two Ignored) [] []
+  piece_up g l k x y i Up one two f h = f h
+  piece_up g l k x y i Pending one two f h = stays
+  piece_up g l k x y i Cancelled one two f h = stays
 
   pub pieces_went : (g l : Side) (k : Phase) (x y : ℕ) (s : Side) (c n : ℕ) (w : World P M) (u : Option (View M)) →
       InPhase m t g l (with_links (change_at c (by_side s (taking n)) w.links) w) k x y →
-      Went m t g l k x y 0 (arrives m s c w u) [] [] → Went m t g l k x y 0 (pieces m s c n w u) [] []
+      Went m t g l k x y 1 (arrives m s c w u) [] [] → PieceWent g l k x y w s n c u
   pieces_went g l k x y s c n w None q h = h
   pieces_went g l k x y s c n w (Some z) q h =
       let nx = next_in z.incoming.messages z.incoming.mark in
-      piece_up g l k x y z.phase (delivered m c s z.own nx w)
+      let i = if is_in_part m.size n z.incoming then 0 else 1 in
+      piece_up g l k x y i z.phase (delivered m c s z.own nx w)
       (if n == 0 then Ignored else pieced m c s n z.own z.incoming.taken nx w)
-      (λ one. piece_none g l k x y (n == 0) (pieced m c s n z.own z.incoming.taken nx w)
-      (piece_next g l k x y s c n w z.own z.incoming.taken nx q one)) h
+      (λ one. piece_none g l k x y i (n == 0) (pieced m c s n z.own z.incoming.taken nx w)
+      (piece_next g l k x y s c n w z.own z.incoming.taken z.incoming.messages z.incoming.mark q one)) h
 
   -- what comes to another link
   quiet_pending : (g l : Side) (k : Phase) (x y : ℕ) (p : LinkPhase) (b : Bool) (after : After P M) →
@@ -248,14 +255,14 @@ module _ {P M C H : Type 0} (m : Peers P M) (t : Talks P M C H) where
       quiet_up 1 g l k x y q.phase (delivered m c s v.own (next_in v.incoming.messages v.incoming.mark) w)
       (λ e. ap (λ nx. delivered m c s v.own nx w) (quiet_next (opens s q.opener) q h e))
 
-  pub quiet_pieces : (g l : Side) (k : Phase) (x y : ℕ) (s : Side) (c n : ℕ) (w : World P M) (q : Link M) →
+  pub quiet_pieces : (g l : Side) (k : Phase) (x y i : ℕ) (s : Side) (c n : ℕ) (w : World P M) (q : Link M) →
       is_quiet_link q ≡ true →
-      Went m t g l k x y 0 (let v = own_view s q in if_up q.phase
+      Went m t g l k x y i (let v = own_view s q in if_up q.phase
       (if n == 0 then Ignored else pieced m c s n v.own v.incoming.taken
       (next_in v.incoming.messages v.incoming.mark) w) Ignored) [] []
-  quiet_pieces g l k x y s c n w q h =
+  quiet_pieces g l k x y i s c n w q h =
       let v = own_view s q in
-      quiet_up 0 g l k x y q.phase
+      quiet_up i g l k x y q.phase
       (if n == 0 then Ignored else pieced m c s n v.own v.incoming.taken
       (next_in v.incoming.messages v.incoming.mark) w)
       (λ e. both_ignored (n == 0)

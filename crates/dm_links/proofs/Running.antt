@@ -3,19 +3,19 @@ use Rattle.std.proofs.Common.{◌≡◌, ℕ, ◌+◌, ◌==◌, true, false, if
 use Rattle.std.specs.Prelude.{option_map}
 use Rattle.std.proofs.lemmas.Bool.{cases_Bool, and_parts, eqb-true}
 use Rattle.dm_links.specs.Machine.{conn}
-use Rattle.dm_links.specs.Links.{Side, A, B, Link}
+use Rattle.dm_links.specs.Links.{Side, A, B, Link, View, link_of}
 use Rattle.dm_links.specs.Peers.{Ack, Peers}
 use Rattle.dm_links.specs.Worlds.{World, Put, After, Ignored, told}
 use Rattle.dm_links.specs.Happens.{Happening, Starts, Stops, TimesOut, Ticks, Restarts, Acks, Nacks, Delivers, Pieces, Loses, Submits, next_in, delivered, pieced, if_up, if_pending, at_link, own_view, happens, world_after, Ran, ran_on, run_from}
-use Rattle.dm_links.specs.Quiet.{is_quiet_link, is_clean_one, is_clean, makes, made, cost, steps_of, steps}
+use Rattle.dm_links.specs.Quiet.{is_quiet_link, is_clean_one, is_clean, is_in_part_at, makes, made, cost, steps_of, steps}
 use Rattle.dm_links.specs.Electing.{Talks, IsElecting}
 use Rattle.dm_links.specs.Settled.{Tally, nothing, cer, cea, disconnect}
 use Rattle.dm_links.proofs.Pairs.{IsPair, ab, ba, swapped, mirror}
 use Rattle.dm_links.proofs.Acting.{own_at}
 use Rattle.dm_links.proofs.Phases.{Phase, stage_g, stage_l, cers, ceas, ends, depth, present, InPhase, Went, stays, is_lost, moves}
-use Rattle.dm_links.proofs.Phasing.{acked_own, arrives_own, arrives_other, pieces_own, pieces_other, flip_in}
+use Rattle.dm_links.proofs.Phasing.{acked_own, arrives_own, arrives_other, flip_in}
 use Rattle.dm_links.proofs.Table.{ack_g, ack_l, arrive_gg, arrive_gl, arrive_ll, arrive_lg, start_g, start_l}
-use Rattle.dm_links.proofs.Pieces.{lighter, take_gg, take_gl, take_ll, take_lg, pieces_went, quiet_ack, quiet_arrives, quiet_pieces}
+use Rattle.dm_links.proofs.Pieces.{PieceWent, take_gg, take_gl, take_ll, take_lg, pieces_went, quiet_ack, quiet_arrives, quiet_pieces}
 
 pub either_side : (g l : Side) → IsPair g l → (s : Side) → (s ≡ g) ⊎ (s ≡ l)
 either_side g l ab A = inl refl
@@ -24,10 +24,10 @@ either_side g l ba A = inr refl
 either_side g l ba B = inl refl
 
 -- what the link of a number is, as a happening asks
-abbrev ack_of : {P M : Type 0} → Peers P M → ℕ → World P M → Link M → After P M
+abbrev pub ack_of : {P M : Type 0} → Peers P M → ℕ → World P M → Link M → After P M
 ack_of m c w l = if_pending l.phase (told m l.opener (Ack (conn c)) w) Ignored
 
-abbrev delivery_of : {P M : Type 0} → Peers P M → ℕ → Side → World P M → Link M → After P M
+abbrev pub delivery_of : {P M : Type 0} → Peers P M → ℕ → Side → World P M → Link M → After P M
 delivery_of m c s w l = let v = own_view s l in if_up l.phase
     (delivered m c s v.own (next_in v.incoming.messages v.incoming.mark) w) Ignored
 
@@ -42,24 +42,22 @@ module _ {P M C H : Type 0} (m : Peers P M) (t : Talks P M C H) where
   WentAt g l k x y b after = Went m t g l k x y b after [] []
 
   -- the link that is named: one of the two, another, or none
-  other_link : (b : ℕ) (g l : Side) (w : World P M) (k : Phase) (x y : ℕ) → InPhase m t g l w k x y →
-      (f : Link M → After P M) → ((q : Link M) → is_quiet_link q ≡ true → WentAt g l k x y b (f q)) →
-      (c : ℕ) (o : Option (Link M)) → slice_get w.links c ≡ o → (x == c) ≡ false → (y == c) ≡ false →
-      WentAt g l k x y b (at_link o f)
-  other_link b g l w k x y q f quiet c None e hx hy = is_lost
-  other_link b g l w k x y q f quiet c (Some z) e hx hy = quiet z (q.at.others c z e hx hy)
+  other_link : (g l : Side) (w : World P M) (k : Phase) (x y : ℕ) → InPhase m t g l w k x y →
+      (K : Option (Link M) → Type 0) → K None → ((q : Link M) → is_quiet_link q ≡ true → K (Some q)) →
+      (c : ℕ) (o : Option (Link M)) → slice_get w.links c ≡ o → (x == c) ≡ false → (y == c) ≡ false → K o
+  other_link g l w k x y q K none quiet c None e hx hy = none
+  other_link g l w k x y q K none quiet c (Some z) e hx hy = quiet z (q.at.others c z e hx hy)
 
-  which_link : (b : ℕ) (g l : Side) (w : World P M) (k : Phase) (x y : ℕ) → InPhase m t g l w k x y →
-      (f : ℕ → Link M → After P M) → ((c : ℕ) (q : Link M) → is_quiet_link q ≡ true → WentAt g l k x y b (f c q)) →
-      WentAt g l k x y b (at_link (slice_get w.links x) (f x)) →
-      WentAt g l k x y b (at_link (slice_get w.links y) (f y)) → (c : ℕ) →
-      WentAt g l k x y b (at_link (slice_get w.links c) (f c))
-  which_link b g l w k x y q f quiet at_x at_y c =
+  which_link : (g l : Side) (w : World P M) (k : Phase) (x y : ℕ) → InPhase m t g l w k x y →
+      (K : ℕ → Option (Link M) → Type 0) → ((c : ℕ) → K c None) →
+      ((c : ℕ) (q : Link M) → is_quiet_link q ≡ true → K c (Some q)) → K x (slice_get w.links x) →
+      K y (slice_get w.links y) → (c : ℕ) → K c (slice_get w.links c)
+  which_link g l w k x y q K none quiet at_x at_y c =
       elim (cases_Bool (x == c)) [
-        | inl hx ↦ subst (λ d. WentAt g l k x y b (at_link (slice_get w.links d) (f d))) (eqb-true x c hx) at_x
+        | inl hx ↦ subst (λ d. K d (slice_get w.links d)) (eqb-true x c hx) at_x
         | inr hx ↦ elim (cases_Bool (y == c)) [
-          | inl hy ↦ subst (λ d. WentAt g l k x y b (at_link (slice_get w.links d) (f d))) (eqb-true y c hy) at_y
-          | inr hy ↦ other_link b g l w k x y q (f c) (quiet c) c (slice_get w.links c) refl hx hy
+          | inl hy ↦ subst (λ d. K d (slice_get w.links d)) (eqb-true y c hy) at_y
+          | inr hy ↦ other_link g l w k x y q (K c) (none c) (quiet c) c (slice_get w.links c) refl hx hy
         ]
       ]
 
@@ -68,7 +66,7 @@ module _ {P M C H : Type 0} (m : Peers P M) (t : Talks P M C H) where
       WentAt g l k x y 1 (happens m w (Acks c))
   ack_went el g l pair wins loses w k x y q c =
       let f = flip_in m t g l w k x y q in
-      which_link 1 g l w k x y q (λ d. ack_of m d w)
+      which_link g l w k x y q (λ d o. WentAt g l k x y 1 (at_link o (ack_of m d w))) (λ d. is_lost)
       (λ d z h. quiet_ack m t g l k x y z (told m z.opener (Ack (conn d)) w) h)
       (subst (λ a. WentAt g l k x y 1 a)
       (sym (ap (λ o. at_link o (ack_of m x w)) q.at.at_x
@@ -84,7 +82,8 @@ module _ {P M C H : Type 0} (m : Peers P M) (t : Talks P M C H) where
       (w : World P M) (k : Phase) (x y : ℕ) → InPhase m t g l w k x y → (c : ℕ) →
       WentAt g l k x y 1 (happens m w (Delivers c g))
   delivery_g el g l pair wins loses w k x y q c =
-      which_link 1 g l w k x y q (λ d. delivery_of m d g w) (λ d z h. quiet_arrives m t g l k x y g d w z h)
+      which_link g l w k x y q (λ d o. WentAt g l k x y 1 (at_link o (delivery_of m d g w))) (λ d. is_lost)
+      (λ d z h. quiet_arrives m t g l k x y g d w z h)
       (subst (λ a. WentAt g l k x y 1 a)
       (sym (ap (λ o. at_link o (delivery_of m x g w)) q.at.at_x
       ∙ arrives_own m g l pair x w (own_at m t g l (stage_g k) q.h q.i q.j)))
@@ -100,7 +99,8 @@ module _ {P M C H : Type 0} (m : Peers P M) (t : Talks P M C H) where
       WentAt g l k x y 1 (happens m w (Delivers c l))
   delivery_l el g l pair wins loses w k x y q c =
       let f = flip_in m t g l w k x y q in
-      which_link 1 g l w k x y q (λ d. delivery_of m d l w) (λ d z h. quiet_arrives m t g l k x y l d w z h)
+      which_link g l w k x y q (λ d o. WentAt g l k x y 1 (at_link o (delivery_of m d l w))) (λ d. is_lost)
+      (λ d z h. quiet_arrives m t g l k x y l d w z h)
       (subst (λ a. WentAt g l k x y 1 a)
       (sym (ap (λ o. at_link o (delivery_of m x l w)) f.at_y
       ∙ arrives_other m l g (swapped pair) x w (option_map mirror (own_at m t g l (stage_g k) q.h q.i q.j))))
@@ -111,44 +111,63 @@ module _ {P M C H : Type 0} (m : Peers P M) (t : Talks P M C H) where
       (arrive_ll m t el g l pair wins loses w k x y q))
       c
 
+  -- a piece to a side, by the link that it names
+  abbrev PieceAt : (g l : Side) (k : Phase) (x y : ℕ) (w : World P M) (s : Side) (n c : ℕ) → Option (Link M) → Type 0
+  PieceAt g l k x y w s n c o =
+      WentAt g l k x y (if is_in_part_at m.size s n o then 0 else 1) (at_link o (piece_of m c s n w))
+
+  piece_own : (g l : Side) (k : Phase) (x y : ℕ) (w : World P M) (s o : Side) → IsPair s o → (n c : ℕ)
+      (u : Option (View M)) → PieceWent m t g l k x y w s n c u →
+      PieceAt g l k x y w s n c (option_map (link_of true s) u)
+  piece_own g l k x y w s o ab n c None h = h
+  piece_own g l k x y w s o ab n c (Some z) h = h
+  piece_own g l k x y w s o ba n c None h = h
+  piece_own g l k x y w s o ba n c (Some z) h = h
+
+  piece_other : (g l : Side) (k : Phase) (x y : ℕ) (w : World P M) (s o : Side) → IsPair s o → (n c : ℕ)
+      (u : Option (View M)) → PieceWent m t g l k x y w s n c u →
+      PieceAt g l k x y w s n c (option_map (link_of false o) u)
+  piece_other g l k x y w s o ab n c None h = h
+  piece_other g l k x y w s o ab n c (Some z) h = h
+  piece_other g l k x y w s o ba n c None h = h
+  piece_other g l k x y w s o ba n c (Some z) h = h
+
   piece_g : IsElecting m t → (g l : Side) → IsPair g l → t.wins g ≡ true → t.wins l ≡ false →
       (w : World P M) (k : Phase) (x y : ℕ) → InPhase m t g l w k x y → (c n : ℕ) →
-      WentAt g l k x y 0 (happens m w (Pieces c g n))
+      WentAt g l k x y (cost m w (Pieces c g n)) (happens m w (Pieces c g n))
   piece_g el g l pair wins loses w k x y q c n =
       let u = own_at m t g l (stage_g k) q.h q.i q.j in
       let v = option_map mirror (own_at m t l g (stage_l k) q.h' q.i' q.j') in
-      which_link 0 g l w k x y q (λ d. piece_of m d g n w) (λ d z h. quiet_pieces m t g l k x y g d n w z h)
-      (subst (λ a. WentAt g l k x y 0 a)
-      (sym (ap (λ o. at_link o (piece_of m x g n w)) q.at.at_x ∙ pieces_own m g l pair x n w u))
-      (pieces_went m t g l k x y g x n w u (take_gg m t g l pair w k x y n q)
-      (lighter m t g l k x y _ [] [] (arrive_gg m t el g l pair wins loses w k x y q))))
-      (subst (λ a. WentAt g l k x y 0 a)
-      (sym (ap (λ o. at_link o (piece_of m y g n w)) q.at.at_y ∙ pieces_other m g l pair y n w v))
-      (pieces_went m t g l k x y g y n w v (take_lg m t g l pair w k x y n q)
-      (lighter m t g l k x y _ [] [] (arrive_lg m t el g l pair wins loses w k x y q))))
+      which_link g l w k x y q (λ d o. PieceAt g l k x y w g n d o) (λ d. is_lost)
+      (λ d z h. quiet_pieces m t g l k x y _ g d n w z h)
+      (subst (λ o. PieceAt g l k x y w g n x o) (sym q.at.at_x)
+      (piece_own g l k x y w g l pair n x u (pieces_went m t g l k x y g x n w u (take_gg m t g l pair w k x y n q)
+      (arrive_gg m t el g l pair wins loses w k x y q))))
+      (subst (λ o. PieceAt g l k x y w g n y o) (sym q.at.at_y)
+      (piece_other g l k x y w g l pair n y v (pieces_went m t g l k x y g y n w v (take_lg m t g l pair w k x y n q)
+      (arrive_lg m t el g l pair wins loses w k x y q))))
       c
 
   piece_l : IsElecting m t → (g l : Side) → IsPair g l → t.wins g ≡ true → t.wins l ≡ false →
       (w : World P M) (k : Phase) (x y : ℕ) → InPhase m t g l w k x y → (c n : ℕ) →
-      WentAt g l k x y 0 (happens m w (Pieces c l n))
+      WentAt g l k x y (cost m w (Pieces c l n)) (happens m w (Pieces c l n))
   piece_l el g l pair wins loses w k x y q c n =
       let f = flip_in m t g l w k x y q in
       let u = option_map mirror (own_at m t g l (stage_g k) q.h q.i q.j) in
       let v = own_at m t l g (stage_l k) q.h' q.i' q.j' in
-      which_link 0 g l w k x y q (λ d. piece_of m d l n w) (λ d z h. quiet_pieces m t g l k x y l d n w z h)
-      (subst (λ a. WentAt g l k x y 0 a)
-      (sym (ap (λ o. at_link o (piece_of m x l n w)) f.at_y ∙ pieces_other m l g (swapped pair) x n w u))
-      (pieces_went m t g l k x y l x n w u (take_gl m t g l (swapped pair) w k x y n q)
-      (lighter m t g l k x y _ [] [] (arrive_gl m t el g l pair wins loses w k x y q))))
-      (subst (λ a. WentAt g l k x y 0 a)
-      (sym (ap (λ o. at_link o (piece_of m y l n w)) f.at_x ∙ pieces_own m l g (swapped pair) y n w v))
-      (pieces_went m t g l k x y l y n w v (take_ll m t g l (swapped pair) w k x y n q)
-      (lighter m t g l k x y _ [] [] (arrive_ll m t el g l pair wins loses w k x y q))))
+      which_link g l w k x y q (λ d o. PieceAt g l k x y w l n d o) (λ d. is_lost)
+      (λ d z h. quiet_pieces m t g l k x y _ l d n w z h)
+      (subst (λ o. PieceAt g l k x y w l n x o) (sym f.at_y)
+      (piece_other g l k x y w l g (swapped pair) n x u (pieces_went m t g l k x y l x n w u
+      (take_gl m t g l (swapped pair) w k x y n q) (arrive_gl m t el g l pair wins loses w k x y q))))
+      (subst (λ o. PieceAt g l k x y w l n y o) (sym f.at_x)
+      (piece_own g l k x y w l g (swapped pair) n y v (pieces_went m t g l k x y l y n w v
+      (take_ll m t g l (swapped pair) w k x y n q) (arrive_ll m t el g l pair wins loses w k x y q))))
       c
 
   -- one happening
   abbrev HappensTo : (g l : Side) (k : Phase) (x y : ℕ) (w : World P M) → Happening M → Type 0
-  HappensTo g l k x y w h = Went m t g l k x y (cost h) (happens m w h) (makes g w h (happens m w h))
+  HappensTo g l k x y w h = Went m t g l k x y (cost m w h) (happens m w h) (makes g w h (happens m w h))
       (makes l w h (happens m w h))
 
   at_side : (g l : Side) → IsPair g l → (k : Phase) (x y : ℕ) (w : World P M) (f : Side → Happening M) →
@@ -159,7 +178,7 @@ module _ {P M C H : Type 0} (m : Peers P M) (t : Talks P M C H) where
         | inr e ↦ subst (λ z. HappensTo g l k x y w (f z)) (sym e) at_l
       ]
 
-  happening_went : IsElecting m t → (g l : Side) → IsPair g l → t.wins g ≡ true → t.wins l ≡ false →
+  pub happening_went : IsElecting m t → (g l : Side) → IsPair g l → t.wins g ≡ true → t.wins l ≡ false →
       (w : World P M) (k : Phase) (x y : ℕ) → InPhase m t g l w k x y → (h : Happening M) → is_clean_one h ≡ true →
       HappensTo g l k x y w h
   happening_went el g l pair wins loses w k x y q (Starts s) c = at_side g l pair k x y w (λ z. Starts z)
@@ -222,9 +241,9 @@ module _ {P M C H : Type 0} (m : Peers P M) (t : Talks P M C H) where
 
   went_on : (g l : Side) (h : Happening M) (hs : List (Happening M)) → RunsFrom g l hs → (k : Phase) (x y n : ℕ)
       (r : Ran P M) → InPhase m t g l r.world k x y → Tally t r.put (cers k) (ceas k) (ends k) → n ≤ depth k →
-      (after : After P M) (gs ls : List ℕ) → Went m t g l k x y (cost h) after gs ls →
+      (after : After P M) (gs ls : List ℕ) → Went m t g l k x y (cost m r.world h) after gs ls →
       IfSome (run_from m (ran_on r after) hs) (λ z. Ended g l
-      (n + (steps_of h after + steps m (world_after r.world after) hs))
+      (n + (steps_of m r.world h after + steps m (world_after r.world after) hs))
       (present (stage_g k) x ++ (gs ++ made m g (world_after r.world after) hs))
       (present (stage_l k) y ++ (ls ++ made m l (world_after r.world after) hs)) z)
   went_on g l h hs ih k x y n r q tally low after gs ls stays =
@@ -238,19 +257,19 @@ module _ {P M C H : Type 0} (m : Peers P M) (t : Talks P M C H) where
       let r' : Ran P M = record { world = w; put = r.put ++ put } in
       let counted = tally_as (r.put ++ put) (cers k + a) (ceas k + b) (ends k + d) (cers k') (ceas k') (ends k')
       (tally_append r.put put (cers k) (ceas k) (ends k) a b d tally tally') e1 e2 e3 in
-      let next = ih k' x' y' (n + cost h) r' q' counted (omega (arith, low, e0)) in
+      let next = ih k' x' y' (n + cost m r.world h) r' q' counted (omega (arith, low, e0)) in
       let same_g : present (stage_g k') x' ++ made m g w hs ≡ present (stage_g k) x ++ (gs0 ++ made m g w hs) =
       ap (λ (ns : List ℕ). ns ++ made m g w hs) (sym e4)
       ∙ append_assoc (present (stage_g k) x) gs0 (made m g w hs) in
       let same_l : present (stage_l k') y' ++ made m l w hs ≡ present (stage_l k) y ++ (ls0 ++ made m l w hs) =
       ap (λ (ns : List ℕ). ns ++ made m l w hs) (sym e5)
       ∙ append_assoc (present (stage_l k) y) ls0 (made m l w hs) in
-      let same_n : n + cost h + steps m w hs ≡ n + (cost h + steps m w hs) = omega arith in
+      let same_n : n + cost m r.world h + steps m w hs ≡ n + (cost m r.world h + steps m w hs) = omega arith in
       subst (λ (j : ℕ). IfSome (run_from m (Some r') hs) (λ z. Ended g l j
       (present (stage_g k) x ++ (gs0 ++ made m g w hs)) (present (stage_l k) y ++ (ls0 ++ made m l w hs)) z)) same_n
-      (subst (λ (ns : List ℕ). IfSome (run_from m (Some r') hs) (λ z. Ended g l (n + cost h + steps m w hs)
+      (subst (λ (ns : List ℕ). IfSome (run_from m (Some r') hs) (λ z. Ended g l (n + cost m r.world h + steps m w hs)
       (present (stage_g k) x ++ (gs0 ++ made m g w hs)) ns z)) same_l
-      (subst (λ (ns : List ℕ). IfSome (run_from m (Some r') hs) (λ z. Ended g l (n + cost h + steps m w hs) ns
+      (subst (λ (ns : List ℕ). IfSome (run_from m (Some r') hs) (λ z. Ended g l (n + cost m r.world h + steps m w hs) ns
       (present (stage_l k') y' ++ made m l w hs) z)) same_g next))
 
   pub runs : IsElecting m t → (g l : Side) → IsPair g l → t.wins g ≡ true → t.wins l ≡ false →

@@ -2,8 +2,7 @@
 use Rattle.std.proofs.Common.{◌≡◌, ℕ, zero, suc, ◌+◌, Bool, true, false, nat_le, Option, Some, None, IfSome, List, [], ◌∷◌, length, slice_get, refl, sym, ap, subst, ◌∙◌, arith, inl, inr, ◌≤◌, ◌⊎◌}
 use Rattle.std.specs.Prelude.{option_map}
 use Rattle.std.specs.List.{list_all}
-use Rattle.std.proofs.lemmas.Bool.{cases_Bool, and_parts, eqb-true, leb-true, ne_eqb, not-true, not-false}
-use Rattle.std.proofs.lemmas.Option.{IfSome_then}
+use Rattle.std.proofs.lemmas.Bool.{and_parts, eqb-true, leb-true, ne_eqb}
 use Rattle.dm_machine.specs.declared.state_name.State.{State}
 use Rattle.dm_machine.specs.declared.state_name.State.TheVariants.{Closed}
 use Rattle.dm_machine.specs.Node.{is_held_in, is_count_of}
@@ -11,18 +10,18 @@ use Rattle.dm_links.specs.Machine.{Conn, Role, Initiated, Accepted, Node, node_a
 use Rattle.dm_links.specs.Links.{Side, A, B, NoMark, Coming, Delivered, link_of}
 use Rattle.dm_links.specs.Peers.{Peers}
 use Rattle.dm_links.specs.Worlds.{World, peer_at}
-use Rattle.dm_links.specs.Happens.{Happening, Ran, run}
+use Rattle.dm_links.specs.Happens.{Happening, Ran}
 use Rattle.dm_links.specs.Agreement.{IsOpenOn}
-use Rattle.dm_links.specs.Quiet.{is_quiet_link, is_quiet, is_clean, made, Kept, kept_of, kept, steps}
+use Rattle.dm_links.specs.Quiet.{is_quiet_link, is_quiet, made, Kept, kept_of, kept, steps}
 use Rattle.dm_links.specs.Electing.{Talks, IsPeerOf, IsElecting}
-use Rattle.dm_links.specs.Settled.{Tally, nothing, disconnects, AreOpenOn, FellQuiet, Settled, IsAtRest}
+use Rattle.dm_links.specs.Settled.{Tally, disconnects, AreOpenOn, FellQuiet, Settled}
 use Rattle.dm_links.proofs.Pairs.{IsPair, ab, ba, swapped, Stands}
 use Rattle.dm_links.proofs.Turns.{i_open, r_open}
 use Rattle.dm_links.proofs.Stages.{Stage, Unmade, Dialled, Asked, Accepted, Answered, Dropped, Halved, Parted}
 use Rattle.dm_links.proofs.Acting.{own_at}
 use Rattle.dm_links.proofs.Phases.{Phase, C1, C2, C3, C4, C5, C6, C7, C8, C9, C25, stage_g, stage_l, cers, ceas, ends, depth, present, InPhase}
 use Rattle.dm_links.proofs.Phasing.{flip_in}
-use Rattle.dm_links.proofs.Running.{Ended, runs}
+use Rattle.dm_links.proofs.Running.{Ended}
 use Rattle.dm_links.proofs.Matching.{phase_matches}
 
 pub all_at : {X : Type 0} (f : X → Bool) (xs : List X) (d : ℕ) (x : X) → list_all f xs ≡ true →
@@ -41,7 +40,7 @@ past_more [] = refl
 past_more (x ∷ xs) = past_more xs
 
 -- a link on which nothing is under way
-abbrev still : Stage → Bool
+abbrev pub still : Stage → Bool
 still Unmade = true
 still Accepted = true
 still (Parted Coming o) = false
@@ -63,7 +62,7 @@ two_ends C1 = refl
 two_ends _ = refl
 
 -- so many steps lead to a phase, and to one with the link of one side alone
-nine_depth : (k : Phase) → nat_le (depth k) 9 ≡ true
+pub nine_depth : (k : Phase) → nat_le (depth k) 9 ≡ true
 nine_depth C1 = refl
 nine_depth _ = refl
 
@@ -90,7 +89,7 @@ four_low : (k : Phase) (n : ℕ) → nat_le (depth k) 4 ≡ true → 0 + n ≤ d
 four_low k n e h = let low = leb-true (depth k) 4 e in omega (arith, h, low)
 
 -- where a run may fall quiet
-data Rests : Phase → Type 0 where
+pub data Rests : Phase → Type 0 where
   idle : Rests C1
   only_g : Rests C8
   only_l : Rests C9
@@ -119,7 +118,7 @@ bare_at Closed [] n h c e = no_count [] n c
 bare_at Closed (p ∷ ps) n h c e = cc
 bare_at _ held n h c e = cc
 
-bare : (n : Node) → is_shaped n ≡ true → n.state ≡ Closed → n ≡ closed_node
+pub bare : (n : Node) → is_shaped n ≡ true → n.state ≡ Closed → n ≡ closed_node
 bare n h e =
     let parts = and_parts (is_held_in n.state n.held) (is_count_of n.state n.count) h in
     bare_at n.state n.held n.count parts.0 parts.1 e
@@ -142,7 +141,7 @@ module _ {P M C H : Type 0} (m : Peers P M) (t : Talks P M C H) where
   quiet_at s o w d (Parted Delivered NoMark) h i j q e = refl
   quiet_at s o w d (Parted Delivered Delivered) h i j q e = refl
 
-  are_open : (g l : Side) → IsPair g l → (w : World P M) (x : ℕ) → m.node_of (peer_at g w) ≡ i_open x →
+  pub are_open : (g l : Side) → IsPair g l → (w : World P M) (x : ℕ) → m.node_of (peer_at g w) ≡ i_open x →
       m.node_of (peer_at l w) ≡ r_open x → AreOpenOn m w (record { opener = g; link = x })
   are_open g l ab w x e e' =
       record {
@@ -158,7 +157,7 @@ module _ {P M C H : Type 0} (m : Peers P M) (t : Talks P M C H) where
       }
 
   -- the link that is kept, by who wins
-  kept_by : (g l : Side) → IsPair g l → t.wins g ≡ true → t.wins l ≡ false →
+  pub kept_by : (g l : Side) → IsPair g l → t.wins g ≡ true → t.wins l ≡ false →
       (w : World P M) (hs : List (Happening M)) →
       kept m t.wins w hs ≡ kept_of l (made m l w hs) (kept_of g (made m g w hs) None)
   kept_by g l ab wins loses w hs = rw wins refl
@@ -204,7 +203,7 @@ module _ {P M C H : Type 0} (m : Peers P M) (t : Talks P M C H) where
             by_sides g l pair w hs r (x ∷ []) (y ∷ []) e e' tally tally;
       }
 
-  by_pair : (g l : Side) → IsPair g l → (w : World P M) (hs : List (Happening M)) →
+  pub by_pair : (g l : Side) → IsPair g l → (w : World P M) (hs : List (Happening M)) →
       (made m A w hs ≡ []) ⊎ (made m B w hs ≡ []) → (made m g w hs ≡ []) ⊎ (made m l w hs ≡ [])
   by_pair g l ab w hs h = h
   by_pair g l ba w hs h = elim h [ inl e ↦ inr e | inr e ↦ inl e ]
@@ -218,7 +217,7 @@ module _ {P M C H : Type 0} (m : Peers P M) (t : Talks P M C H) where
         | inr none ↦ four_low k (steps m w hs) (alone_g k y (sym e' ∙ none)) h
       ]
 
-  settled : (g l : Side) → IsPair g l → t.wins g ≡ true → t.wins l ≡ false →
+  pub settled : (g l : Side) → IsPair g l → t.wins g ≡ true → t.wins l ≡ false →
       (w : World P M) (hs : List (Happening M)) (r : Ran P M) →
       Ended m t g l (0 + steps m w hs) (made m g w hs) (made m l w hs) r →
       Settled m t w hs r
@@ -256,7 +255,7 @@ module _ {P M C H : Type 0} (m : Peers P M) (t : Talks P M C H) where
   at_rest el s p h' is closed =
       record { peer = is; node = closed; awaits = λ b. cc; waits = λ b. cc; number = el.numbers p is.stands }
 
-  begins : IsElecting m t → (g l : Side) (w : World P M) → IsPeerOf t g (peer_at g w) →
+  pub begins : IsElecting m t → (g l : Side) (w : World P M) → IsPeerOf t g (peer_at g w) →
       IsPeerOf t l (peer_at l w) → m.node_of (peer_at g w) ≡ closed_node → m.node_of (peer_at l w) ≡ closed_node →
       is_quiet w ≡ true →
       InPhase m t g l w C1 (length w.links) (suc (length w.links))
@@ -277,24 +276,3 @@ module _ {P M C H : Type 0} (m : Peers P M) (t : Talks P M C H) where
           others = λ d q at hx hy. all_at (λ z. is_quiet_link z) w.links d q quiet at;
         };
       }
-
-  run_settles : IsElecting m t → (g l : Side) → IsPair g l → t.wins g ≡ true → t.wins l ≡ false → (w : World P M) →
-      InPhase m t g l w C1 (length w.links) (suc (length w.links)) → (hs : List (Happening M)) →
-      is_clean hs ≡ true →
-      IfSome (run m w hs) (λ r. Settled m t w hs r)
-  run_settles el g l pair wins loses w q hs clean =
-      IfSome_then (run m w hs)
-      (runs m t el g l pair wins loses hs clean C1 (length w.links) (suc (length w.links)) 0
-      (record { world = w; put = [] }) q nothing (omega arith)) (λ r z. settled g l pair wins loses w hs r z)
-
-  pub each_settles : IsElecting m t → (w : World P M) → IsAtRest m t w → (hs : List (Happening M)) →
-      is_clean hs ≡ true → IfSome (run m w hs) (λ r. Settled m t w hs r)
-  each_settles el w c hs clean =
-      let a = bare (m.node_of w.a) c.shaped_a c.closed_a in
-      let b = bare (m.node_of w.b) c.shaped_b c.closed_b in
-      elim (cases_Bool (t.wins A)) [
-        | inl wins ↦ run_settles el A B ab wins (not-true (t.wins B) (sym el.one_wins ∙ wins)) w
-            (begins el A B w c.a c.b a b c.quiet) hs clean
-        | inr loses ↦ run_settles el B A ba (not-false (t.wins B) (sym el.one_wins ∙ loses)) loses w
-            (begins el B A w c.b c.a b a c.quiet) hs clean
-      ]

@@ -15,4 +15,6 @@ pub mod Settled
 pub mod Talkers
 pub mod Streams
 pub mod Making
+pub mod Counting
+pub mod Falling
 pub mod Sharing

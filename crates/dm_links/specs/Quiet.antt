@@ -1,10 +1,10 @@
 -- When nothing is under way, runs without losses, and the connection that is kept.
-use Rattle.std.specs.Prelude.{ℕ, ◌+◌, Bool, true, false, ◌&&◌, if◌then◌else◌, Option, Some, None, List, [], ◌∷◌, ◌++◌, length}
+use Rattle.std.specs.Prelude.{ℕ, ◌+◌, Bool, true, false, ◌&&◌, nat_lt, if◌then◌else◌, Option, Some, None, List, [], ◌∷◌, ◌++◌, length, slice_get}
 use Rattle.std.specs.List.{list_all}
 use Rattle.dm_links.specs.Links.{Side, A, B, opens, Pending, Coming, Direction, Link}
 use Rattle.dm_links.specs.Peers.{Peers}
 use Rattle.dm_links.specs.Worlds.{World, After, Done}
-use Rattle.dm_links.specs.Happens.{Happening, Starts, Acks, Delivers, Pieces, happens, world_after}
+use Rattle.dm_links.specs.Happens.{Happening, Starts, Acks, Delivers, Pieces, own_view, happens, world_after}
 
 -- nothing is under way in a direction
 abbrev pub is_still : {M : Type 0} → Direction M → Bool
@@ -38,18 +38,27 @@ abbrev pub made : {P M : Type 0} → Peers P M → Side → World P M → List (
 made m s w [] = []
 made m s w (h ∷ hs) = makes s w h (happens m w h) ++ made m s (world_after w (happens m w h)) hs
 
--- how many happenings of a run aren't ignored, pieces not counted
-abbrev pub cost : {M : Type 0} → Happening M → ℕ
-cost (Pieces c s k) = 0
-cost _ = 1
+-- whether a piece of k octets leaves the front message of a direction in part
+abbrev pub is_in_part : {M : Type 0} → (M → ℕ) → ℕ → Direction M → Bool
+is_in_part size k d = elim d.messages [ [] ↦ false | x ∷ xs ↦ nat_lt (d.taken + k) (size x) ]
 
-abbrev pub steps_of : {P M : Type 0} → Happening M → After P M → ℕ
-steps_of h (Done next put) = cost h
-steps_of h _ = 0
+abbrev pub is_in_part_at : {M : Type 0} → (M → ℕ) → Side → ℕ → Option (Link M) → Bool
+is_in_part_at size s k None = false
+is_in_part_at size s k (Some l) = is_in_part size k (own_view s l).incoming
 
+-- how many steps a happening is where it is done: a piece that ends no message is none, any other is one
+abbrev pub cost : {P M : Type 0} → Peers P M → World P M → Happening M → ℕ
+cost m w (Pieces c s k) = if is_in_part_at m.size s k (slice_get w.links c) then 0 else 1
+cost m w _ = 1
+
+abbrev pub steps_of : {P M : Type 0} → Peers P M → World P M → Happening M → After P M → ℕ
+steps_of m w h (Done next put) = cost m w h
+steps_of m w h _ = 0
+
+-- the steps of a run: its happenings that aren't ignored, but for pieces that end no message
 abbrev pub steps : {P M : Type 0} → Peers P M → World P M → List (Happening M) → ℕ
 steps m w [] = 0
-steps m w (h ∷ hs) = steps_of h (happens m w h) + steps m (world_after w (happens m w h)) hs
+steps m w (h ∷ hs) = steps_of m w h (happens m w h) + steps m (world_after w (happens m w h)) hs
 
 -- a link and its opener
 pub record Kept : Type 0 where

@@ -2,6 +2,8 @@
 //! laws. They stand for the users of this crate.
 //!
 //! `P` is the state of a peer and `M` a message: a world of peers over octets takes its own types for them.
+ghost use Rattle.dm_links.specs.Counting.{EachPieceCounts};
+ghost use Rattle.dm_links.specs.Falling.{EachCleanRunCanFallQuiet, EachCleanRunFallsQuiet};
 ghost use Rattle.dm_links.specs.Kinds.{KindsAreAMachine, TwoRuns};
 ghost use Rattle.dm_links.specs.Laws.{ClosedIsSound, HappeningKeepsSound, SoundIsPromised, EachRunIsPromised};
 ghost use Rattle.dm_links.specs.Making.{AcksMakeEnds};
@@ -47,6 +49,18 @@ pub fn each_clean_run_settles<P, M, C, H>()
     ensures { EachCleanRunSettles P M C H }
 {}
 
+/// Such a run falls quiet, in whatever order things come: it is quiet where no Ack and no delivery is done any more, after
+/// nine steps, and where one side alone starts after four. A piece that ends no message is no step.
+pub fn each_clean_run_falls_quiet<P, M, C, H>()
+    ensures { EachCleanRunFallsQuiet P M C H }
+{}
+
+/// Such a run can fall quiet: after some Acks and deliveries, with its own steps nine at most, nothing is under way, and both
+/// are open on the connection that the election keeps.
+pub fn each_clean_run_can_fall_quiet<P, M, C, H>()
+    ensures { EachCleanRunCanFallQuiet P M C H }
+{}
+
 /// Where nothing is under way in a sound world, whatever happened before, each side holds just what the other holds, and one
 /// is Closed exactly where the other is.
 pub fn quiet_is_shared<P, M>()
@@ -65,9 +79,11 @@ pub fn acks_make_ends<P, M>()
 {}
 
 /// It makes no difference how messages were cut: a piece that ends no message changes nothing but the octets delivered, one
-/// that ends its message is the delivery, and a loss is the one of whole messages.
+/// that ends its message is the delivery, and a loss is the one of whole messages. A piece counts as a step just where it
+/// ends its message.
 pub fn pieces_add_up<P, M>()
     ensures pieces { EachPieceAddsUp P M }
+    ensures counts { EachPieceCounts P M }
     ensures losses { EachLossAddsUp P M }
 {}
 
