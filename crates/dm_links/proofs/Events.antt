@@ -77,7 +77,7 @@ pub same_link : {X : Type 0} (xs : List X) (c : ℕ) (x y : X) → slice_get xs 
     x ≡ y
 same_link xs c x y h k = cc
 
-hands_at : {M : Type 0} (s : Side) (own other : Node) (e : Event M) (k : Concern) (links : List (Link M)) (c : ℕ)
+pub hands_at : {M : Type 0} (s : Side) (own other : Node) (e : Event M) (k : Concern) (links : List (Link M)) (c : ℕ)
     (l : Link M) → slice_get links c ≡ Some l → ((d : ℕ) → concern_by e (conn d) ≡ if_named (conn c) (conn d) k) →
     is_handed (opens s l.opener) k
     (standing (tie_of own c) (tie_of other c) (view_of (opens s l.opener) l)) ≡ true → Hands s own other e links
@@ -184,13 +184,13 @@ shut_ended mine t u v p q ms mk good =
     is_when (s.in_empty && is_coming s.in_mark) _ here (empty_coming s (ap (λ ys. is_empty ys) ms) mk)
 
 -- a message or a disconnect comes to an end
-handed_heard : (mine : Bool) (s : Standing) (e : End) → is_shut e ≡ false → s.phase ≡ Up → s.own ≡ e →
+pub handed_heard : (mine : Bool) (s : Standing) (e : End) → is_shut e ≡ false → s.phase ≡ Up → s.own ≡ e →
     s.in_empty ≡ false → is_handed mine HeardOnIt s ≡ true
 handed_heard mine s Open n p q i = rw (p, q, i) refl
 handed_heard mine s Fresh n p q i = rw (p, q, i) refl
 handed_heard mine s Shut n p q i = cc
 
-handed_ended : (mine : Bool) (s : Standing) (e : End) → is_shut e ≡ false → s.phase ≡ Up → s.own ≡ e →
+pub handed_ended : (mine : Bool) (s : Standing) (e : End) → is_shut e ≡ false → s.phase ≡ Up → s.own ≡ e →
     s.in_empty ≡ true → s.in_mark ≡ Coming → is_handed mine EndsIt s ≡ true
 handed_ended mine s Open n p q i mk = rw (p, q, i, mk) refl
 handed_ended mine s Fresh n p q i mk = rw (p, q, i, mk) refl
@@ -248,14 +248,14 @@ ended_sound m laws is s w c l Fresh good meant ms mk =
     (handed_ended (opens s l.opener) (standing_at m s w c l) Fresh refl meant.up meant.ends
     (ap (λ ys. is_empty ys) ms) mk)
 
-next_message : {M : Type 0} (ms : List M) (mark : Mark) (x : M) → next_in ms mark ≡ NextMessage x →
+pub next_message : {M : Type 0} (ms : List M) (mark : Mark) (x : M) → next_in ms mark ≡ NextMessage x →
     (xs : List M) × (ms ≡ x ∷ xs)
 next_message (y ∷ ys) mark x h = (ys, cc)
 next_message [] NoMark x h = cc
 next_message [] Coming x h = cc
 next_message [] Delivered x h = cc
 
-next_disconnect : {M : Type 0} (ms : List M) (mark : Mark) → next_in ms mark ≡ NextDisconnect →
+pub next_disconnect : {M : Type 0} (ms : List M) (mark : Mark) → next_in ms mark ≡ NextDisconnect →
     (ms ≡ []) × (mark ≡ Coming)
 next_disconnect (y ∷ ys) mark h = cc
 next_disconnect [] NoMark h = cc

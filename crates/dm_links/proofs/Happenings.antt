@@ -69,7 +69,7 @@ summed_sound mine closed t u v h =
     (standing_after Elsewhere Unheld closed (is_empty v.incoming.messages) oe (standing t u v))))
     [] v.outgoing.messages h (λ e. refl) (λ a b. cc)
 
-restarted_at : {M : Type 0} (mine : Bool) (p : LinkPhase) (own other : End) (i o : Direction M) →
+pub restarted_at : {M : Type 0} (mine : Bool) (p : LinkPhase) (own other : End) (i o : Direction M) →
     restarted mine (record { phase = p; own = own; other = other; incoming = i; outgoing = o }) ≡ summed
     (closes_own mine p) [] (record { phase = p; own = own; other = other; incoming = i; outgoing = o })
 restarted_at true Pending own other i o = refl

@@ -35,7 +35,7 @@ words f = f word.Unreadable ∷ f word.Cer ∷ f word.CerRefused ∷ f word.Cea 
     word.DwrBad ∷ f word.Dwa ∷ f word.DwaBad ∷ f word.Dpr ∷ f word.DprBad ∷ f word.Dpa ∷ f word.DpaBad ∷ f
     word.Other ∷ []
 
-unfoldable every_word : (Word → Bool) → Bool
+unfoldable pub every_word : (Word → Bool) → Bool
 every_word f = all_true (words f)
 
 at_word : (f : Word → Bool) → every_word f ≡ true → (w : Word) → f w ≡ true
@@ -59,10 +59,10 @@ abbrev holds : (Hold → Bool) → List Bool
 holds f = f NotHeld ∷ f Pending ∷ f machine.Made ∷ f OpenAsI ∷ f ClosingAsI ∷ f machine.Taken ∷ f OpenAsR ∷ f
     ClosingAsR ∷ []
 
-unfoldable every_hold : (Hold → Bool) → Bool
+unfoldable pub every_hold : (Hold → Bool) → Bool
 every_hold f = all_true (holds f)
 
-at_hold : (f : Hold → Bool) → every_hold f ≡ true → (h : Hold) → f h ≡ true
+pub at_hold : (f : Hold → Bool) → every_hold f ≡ true → (h : Hold) → f h ≡ true
 unfolding every_hold
 at_hold f e NotHeld = at (holds f) 0 e
 at_hold f e Pending = at (holds f) 1 e
@@ -78,10 +78,10 @@ ways f = f machine.NamesAnother ∷ f machine.Stops ∷ f machine.TimesOut ∷ f
     machine.StartsIt ∷ f machine.AcksIt ∷ f machine.NacksIt ∷ f machine.EndsIt ∷ every_word
     (λ w. f (machine.HeardOnIt w)) ∷ []
 
-unfoldable every_way : (machine.Concern → Bool) → Bool
+unfoldable pub every_way : (machine.Concern → Bool) → Bool
 every_way f = all_true (ways f)
 
-at_way : (f : machine.Concern → Bool) → every_way f ≡ true → (k : machine.Concern) → f k ≡ true
+pub at_way : (f : machine.Concern → Bool) → every_way f ≡ true → (k : machine.Concern) → f k ≡ true
 unfolding every_way
 at_way f e machine.NamesAnother = at (ways f) 0 e
 at_way f e machine.Stops = at (ways f) 1 e

@@ -18,3 +18,5 @@ pub mod Making
 pub mod Counting
 pub mod Falling
 pub mod Sharing
+pub mod Turns
+pub mod Delivery

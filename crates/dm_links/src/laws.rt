@@ -4,6 +4,7 @@
 //! `P` is the state of a peer and `M` a message: a world of peers over octets takes its own types for them.
 ghost use Rattle.dm_links.specs.Counting.{EachPieceCounts};
 ghost use Rattle.dm_links.specs.Falling.{EachCleanRunCanFallQuiet, EachCleanRunFallsQuiet};
+ghost use Rattle.dm_links.specs.Delivery.{EachRunDelivers};
 ghost use Rattle.dm_links.specs.Kinds.{KindsAreAMachine, TwoRuns};
 ghost use Rattle.dm_links.specs.Laws.{ClosedIsSound, HappeningKeepsSound, SoundIsPromised, EachRunIsPromised};
 ghost use Rattle.dm_links.specs.Making.{AcksMakeEnds};
@@ -35,6 +36,19 @@ pub fn sound_is_promised<P, M>()
 /// Two closed peers agree after every list of happenings.
 pub fn each_run_is_promised<P, M>()
     ensures { EachRunIsPromised P M }
+{
+    closed_is_sound::<P, M>();
+    each_connection_changes_as_allowed();
+    each_step_keeps_shape();
+}
+
+/// After every list of happenings, losses and restarts too, what a side's user was handed up on a link is a front of what
+/// the other side's user submitted on it: each message once, in order, as it was, and nothing else. Where the side is
+/// open on the link and the link had no loss, the rest is what is under way.
+///
+/// It holds of peers that send what is submitted and hand up what comes (`Carries`).
+pub fn each_run_delivers<P, M>()
+    ensures { EachRunDelivers P M }
 {
     closed_is_sound::<P, M>();
     each_connection_changes_as_allowed();
