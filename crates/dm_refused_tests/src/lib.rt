@@ -1,0 +1,17 @@
+//! Tests with one request for memory refused at a time: the call answers want of memory, nothing has changed, and the
+//! call done again answers as its row.
+//!
+//! `rt ci` proves them and runs them with memory at hand, so that a call that gives up is refused there. `tools/refused`
+//! runs the same tests with `tools/refuse.c`, which refuses.
+#![tactic(auto)]
+
+#[cfg(test)]
+mod refusal;
+#[cfg(test)]
+mod rows;
+#[cfg(test)]
+mod streams;
+#[cfg(test)]
+mod subject;
+#[cfg(test)]
+mod wire;

@@ -1,0 +1,93 @@
+//! Orders to the shim `tools/refuse.c`, and its answers.
+//!
+//! No block of 2^62 octets or more is ever to be had. Where the shim is loaded before the C library, a request for one is
+//! an order or a question to it. Elsewhere all of them are refused, nothing else is, and each question is answered no.
+use std::alloc::{AllocError, Global};
+
+/// An order: the request of this number from here on is refused, none at 0.
+const ORDER: usize = 1 << 62;
+
+/// An order: each request from that of this number on is refused.
+const EACH: usize = ORDER | 1 << 61;
+
+/// Whether a request was refused since the last order.
+const REFUSED: usize = ORDER | 1 << 60;
+
+/// Whether a request was made since the last order.
+const ASKED: usize = ORDER | 1 << 59;
+
+/// Whether a request for more than so many octets was made since the last order.
+const LARGER: usize = ORDER | 1 << 58;
+
+fn is_given(alloc: Global, size: usize) -> bool {
+    let block: Result<Vec<u8>, AllocError> = Vec::with_capacity(alloc, size);
+    block.is_ok()
+}
+
+/// The nth request from here on is refused; at 0 none is.
+pub fn refuse(alloc: Global, nth: u32) {
+    is_given(alloc, ORDER | (nth as usize));
+}
+
+/// Each request from here on is refused.
+pub fn refuse_each(alloc: Global) {
+    is_given(alloc, EACH | 1);
+}
+
+/// Whether a request was refused since the last order. None is from here on.
+pub fn was_refused(alloc: Global) -> bool {
+    let refused = is_given(alloc, REFUSED);
+    refuse(alloc, 0);
+    refused
+}
+
+/// Whether a request was made since the last order, refused or not. None is refused from here on.
+pub fn was_asked(alloc: Global) -> bool {
+    let asked = is_given(alloc, ASKED);
+    refuse(alloc, 0);
+    asked
+}
+
+/// Whether more than so many octets were asked for at once since the last order.
+pub fn was_larger(alloc: Global, octets: u32) -> bool {
+    is_given(alloc, LARGER | (octets as usize))
+}
+
+/// How a call ended, of which one request may have been refused.
+#[derive(Clone, Copy, Debug, PartialEq, Eq)]
+pub enum End {
+    /// It answered as its row, and none was refused.
+    Whole,
+    /// Want of memory, nothing had changed, and it answered as its row when it was done again.
+    Again,
+    /// It answered although one was refused.
+    Anyway,
+    /// Want of memory although none was refused.
+    Alone,
+    /// It didn't answer as its row, or something had changed.
+    Changed,
+    /// It refused otherwise.
+    Fault,
+}
+
+/// The end of a call that answered, as its row or not.
+pub fn answered(refused: bool, right: bool) -> End {
+    if !right {
+        End::Changed
+    } else if refused {
+        End::Anyway
+    } else {
+        End::Whole
+    }
+}
+
+/// The end of a call that wanted memory, and then answered as its row or not.
+pub fn repeated(refused: bool, right: bool) -> End {
+    if !refused {
+        End::Alone
+    } else if right {
+        End::Again
+    } else {
+        End::Changed
+    }
+}
