@@ -93,8 +93,16 @@ def texts_of(folder):
     return texts
 
 
+def overlap(a, b):
+    """Returns whether two changes touch the same text."""
+    return a.file == b.file and a.start < b.start + len(b.old) and b.start < a.start + len(a.old)
+
+
 def changes_of(text, texts):
-    """Returns the changes that an edit file asks for; none where an old text isn't in the unedited file just once."""
+    """Returns the changes that an edit file asks for, all put in place at once, so that two lines can change places.
+
+    There are none where an old text isn't in the unedited file just once, or two of them touch the same text.
+    """
     changes, file, old = [], "", ""
     for line in text.split("\n"):
         if line.startswith("file: "):
@@ -102,23 +110,32 @@ def changes_of(text, texts):
         elif line.startswith("old: "):
             old = line[len("old: ") :]
         elif line.startswith("new:"):
-            if texts[file].count(old) != 1:
+            if not old or texts.get(file, "").count(old) != 1:
                 return []
             changes.append(Change(file, texts[file].index(old), old, re.sub(r"\A ", "", line[len("new:") :])))
-    return changes
+            old = ""
+    touch = any(overlap(a, b) for at, a in enumerate(changes) for b in changes[:at])
+    return [] if touch else changes
+
+
+def in_turn(changes):
+    """Returns an edit file of these changes for `rt`, which applies each pair to what the pairs before it made.
+
+    The first pairs put a mark in place of each old text, the others put the new texts in place of the marks.
+    """
+    marks = [chr(0xE000 + at) for at in range(len(changes))]
+    pairs = [(it.file, it.old, mark) for it, mark in zip(changes, marks)]
+    pairs += [(it.file, mark, it.new) for it, mark in zip(changes, marks)]
+    return "".join(f"file: {file}\nold: {old}\nnew: {new}\n" for file, old, new in pairs)
 
 
 def function_of(changes, texts, functions):
-    """Returns the one function whose body holds all changes, but for those of `use` items; or None."""
+    """Returns the one function whose body holds all changes; or None."""
     found = set()
     for it in changes:
-        before = texts[it.file][: it.start]
-        line = before.count("\n")
+        line = texts[it.file].count("\n", 0, it.start)
         holds = [f for f in functions if f.file == it.file and f.body <= line <= f.last]
-        if holds:
-            found.add(holds[-1])
-        elif not re.match(r"(pub )?use ", before.rpartition("\n")[2] + it.old):
-            return None
+        found.add(holds[-1] if holds else None)
     return found.pop() if len(found) == 1 else None
 
 
@@ -126,22 +143,15 @@ def joined(edits, texts):
     """Returns the texts of the files that these edits change, with all of them in place."""
     changed = {}
     # (from the last change to the first, so that the places of the others stay)
-    for it in sorted({change for edit in edits for change in edit.changes}, key=lambda it: -it.start):
+    for it in sorted((change for edit in edits for change in edit.changes), key=lambda it: -it.start):
         text = changed.get(it.file, texts[it.file])
         changed[it.file] = text[: it.start] + it.new + text[it.start + len(it.old) :]
     return changed
 
 
-def overlap(a, b):
-    """Returns whether two changes are unlike and touch the same text."""
-    return a != b and a.file == b.file and a.start < b.start + len(b.old) and b.start < a.start + len(a.old)
-
-
 def clash(edit, other):
-    """Returns whether the two can't be in one round: they change what has one proof, or one `use` item unlike."""
-    if edit.function.proof == other.function.proof:
-        return True
-    return any(overlap(a, b) for a in edit.changes for b in other.changes)
+    """Returns whether the two can't be in one round: they change what has one proof."""
+    return edit.function.proof == other.function.proof
 
 
 def rounds_of(edits, largest):

@@ -2,9 +2,11 @@
 import collections
 import re
 
-# REFUSED: a goal of the function isn't proved. ANSWER: only an answer file of its proof has an error.
+# REFUSED: values were found that break a goal of the function. UNPROVED: a goal of it isn't proved, and no such values
+# were found. ANSWER: only an answer file of its proof has an error.
 # The others are no refusal: NAMES (an answer file names what is gone), PROVED, WAITS (for a callee's proof), UNSAID.
-REFUSED, ANSWER, NAMES, PROVED, WAITS, UNSAID = "refused answer names proved waits unsaid".split()
+REFUSED, UNPROVED, ANSWER, NAMES, PROVED, WAITS, UNSAID = "refused unproved answer names proved waits unsaid".split()
+REFUSALS = REFUSED, UNPROVED, ANSWER
 Verdict = collections.namedtuple("Verdict", "kind line")
 # A line of a check that stands at a place of the crate; its number there is counted from 0.
 Line = collections.namedtuple("Line", "text is_goal is_error file number")
@@ -12,6 +14,7 @@ Line = collections.namedtuple("Line", "text is_goal is_error file number")
 AT = re.compile(r"(note: )?(?:\./)?((?:src|proofs)/\S+?):(\d+):\d+: (.*)")
 GONE = re.compile(r"has no field|is not in scope|has no `|was not admitted")
 TRIED = "`search` did not prove"
+VALUES = "allow values at which this goal is false"
 
 
 def lines_in(said):
@@ -21,6 +24,16 @@ def lines_in(said):
         if at:
             is_goal = bool(at[1]) and at[4].startswith("it is not proved that")
             yield Line(text, is_goal, not at[1] and at[4].startswith("error"), at[2], int(at[3]) - 1)
+
+
+def with_values(goals):
+    """Returns the first of these goals that some values break; or None."""
+    return next((it for it in goals if VALUES in it.text), None)
+
+
+def is_broken(said):
+    """Returns whether the check found values that break one of the crate's goals."""
+    return bool(with_values(it for it in lines_in(said) if it.is_goal))
 
 
 def is_in(line, function):
@@ -39,8 +52,10 @@ def judge(crate, function, said):
     own = [it for it in lines_in(said) if it.is_goal and is_in(it, function)]
     errors = [it for it in lines_in(said) if it.is_error and it.file.startswith(answers)]
     told = [it for it in errors if not GONE.search(it.text)]
+    if with_values(own):
+        return Verdict(REFUSED, with_values(own).text)
     if own or TRIED in end:
-        return Verdict(REFUSED, own[0].text if own else end)
+        return Verdict(UNPROVED, own[0].text if own else end)
     if told:
         return Verdict(ANSWER, told[0].text)
     return Verdict(NAMES, errors[0].text) if errors else Verdict(WAITS, end)
