@@ -6,4 +6,5 @@ mod Owning
 mod Refusing
 mod Settling
 mod Silent
+mod Strangers
 mod Whole

@@ -12,5 +12,6 @@ pub mod Acts
 pub mod Silence
 pub mod Refusing
 pub mod Settled
+pub mod Strangers
 pub mod Steps
 pub mod Laws

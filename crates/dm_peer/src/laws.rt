@@ -5,9 +5,13 @@ ghost use Rattle.dm_peer.specs.Refusing.{RefusesByRule};
 ghost use Rattle.dm_peer.specs.Settled.{FreshIsSettled, EachEventKeepsSettled};
 ghost use Rattle.dm_peer.specs.Silence.{SilentTakesNone};
 ghost use Rattle.dm_peer.specs.Steps.{EachEventIsOneStep};
+ghost use Rattle.dm_peer.specs.Strangers.{StrangersChangeNothing};
 
 use dm_base::laws::{built_is_own, built_is_spelled, common_is_shared};
-use dm_machine::laws::{each_node_has_its_form, each_step_keeps_shape, unread_words_are_alike};
+use dm_machine::laws::{
+    each_node_has_its_form, each_step_keeps_shape, strangers_are_turned_away,
+    unread_words_are_alike,
+};
 use dm_wire::laws::{canonical_spells, spelled_is_in};
 
 /// Each event is one step of the state machine, with an action for each command, which says what is there: an answer
@@ -36,6 +40,15 @@ pub fn silent_takes_none()
 {
     each_node_has_its_form();
     unread_words_are_alike();
+}
+
+/// A stranger changes nothing: where octets come on a connection that isn't held, the peer stays what it is, and closes
+/// the connection, behind an answer or none; but for a good CER of the configured host in Closed, Wait-Conn-Ack or
+/// Wait-I-CEA.
+pub fn strangers_change_nothing()
+    ensures { StrangersChangeNothing }
+{
+    strangers_are_turned_away();
 }
 
 /// An event is refused just by these rules: a Start outside Closed, a Stop or Submit outside the open states, and in
