@@ -70,8 +70,8 @@ is_handed mine NacksIt s = mine && is_pending s.phase
 is_handed mine EndsIt s = is_up s.phase && not (is_shut s.own) && s.in_empty && is_coming s.in_mark
 is_handed mine HeardOnIt s = is_up s.phase && not (is_shut s.own) && not s.in_empty
 
--- whether the lists may be empty afterwards: the incoming one loses its front, the outgoing one takes what is sent, which
--- is something unless a Close came before it
+-- whether the lists may be empty afterwards: the incoming one loses its front, the outgoing one takes what is sent,
+-- which is something unless a Close came before it
 abbrev pub after_pop : Concern → Bool → (Bool → Bool) → Bool
 after_pop HeardOnIt empty f = every_bool f
 after_pop k empty f = f empty

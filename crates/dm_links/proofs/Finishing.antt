@@ -33,7 +33,8 @@ module _ {P M C H : Type 0} (m : Peers P M) (t : Talks P M C H) where
       after ≡ Done w put → Further g l k x y w
   further_of g l k x y c after gs ls stays one eg e_l w put e = cc
   further_of g l k x y c after gs ls is_lost one eg e_l w put e = cc
-  further_of g l k x y c after gs ls (moves w0 put0 gs0 ls0 k' x' y' a b d q tally e1 e2 e3 e0 e4 e5) one eg e_l w put e =
+  further_of g l k x y c after gs ls (moves w0 put0 gs0 ls0 k' x' y' a b d q tally e1 e2 e3 e0 e4 e5) one eg e_l w put
+      e =
       let same : w0 ≡ w = cc e in
       record {
         k' = k';

@@ -63,20 +63,20 @@ pub fn each_clean_run_settles<P, M, C, H>()
     ensures { EachCleanRunSettles P M C H }
 {}
 
-/// Such a run falls quiet, in whatever order things come: it is quiet where no Ack and no delivery is done any more, after
-/// nine steps, and where one side alone starts after four. A piece that ends no message is no step.
+/// Such a run falls quiet, in whatever order things come: it is quiet where no Ack and no delivery is done any more,
+/// after nine steps, and where one side alone starts after four. A piece that ends no message is no step.
 pub fn each_clean_run_falls_quiet<P, M, C, H>()
     ensures { EachCleanRunFallsQuiet P M C H }
 {}
 
-/// Such a run can fall quiet: after some Acks and deliveries, with its own steps nine at most, nothing is under way, and both
-/// are open on the connection that the election keeps.
+/// Such a run can fall quiet: after some Acks and deliveries, with its own steps nine at most, nothing is under way, and
+/// both are open on the connection that the election keeps.
 pub fn each_clean_run_can_fall_quiet<P, M, C, H>()
     ensures { EachCleanRunCanFallQuiet P M C H }
 {}
 
-/// Where nothing is under way in a sound world, whatever happened before, each side holds just what the other holds, and one
-/// is Closed exactly where the other is.
+/// Where nothing is under way in a sound world, whatever happened before, each side holds just what the other holds, and
+/// one is Closed exactly where the other is.
 pub fn quiet_is_shared<P, M>()
     ensures { QuietIsShared P M }
 {}

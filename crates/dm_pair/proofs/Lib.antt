@@ -7,3 +7,4 @@ mod Keeping
 mod Plain
 mod Sized
 mod Framing
+mod AtRest

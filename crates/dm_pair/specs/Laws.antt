@@ -11,6 +11,7 @@ use Rattle.dm_links.specs.Facts.{IsSound}
 use Rattle.dm_links.specs.Quiet.{is_quiet, is_clean}
 use Rattle.dm_links.specs.Electing.{IsElecting}
 use Rattle.dm_links.specs.Settled.{Settled}
+use Rattle.dm_links.specs.Falling.{CanFallQuiet, FallsQuiet}
 use Rattle.dm_links.specs.Streams.{IsSized}
 use Rattle.dm_pair.specs.Octets.{octet_peers}
 use Rattle.dm_pair.specs.Talking.{ArePaired, ArePeers, octet_talks}
@@ -47,6 +48,20 @@ EachOctetRunSettles =
     (w : World Peer (List ℕ)) → IsSound octet_peers w → ArePeers w → AreClosed w → (hs : List (Happening (List ℕ))) →
     IsTrue (is_clean hs) →
     IfSome (run octet_peers w hs) (λ r. Settled octet_peers (octet_talks w.a.config w.b.config) w hs r)
+
+-- each clean run of them falls quiet, in whatever order things come
+abbrev pub EachOctetRunFallsQuiet : Type 0
+EachOctetRunFallsQuiet =
+    (w : World Peer (List ℕ)) → IsSound octet_peers w → ArePeers w → AreClosed w → (hs : List (Happening (List ℕ))) →
+    IsTrue (is_clean hs) →
+    IfSome (run octet_peers w hs) (λ r. FallsQuiet octet_peers (octet_talks w.a.config w.b.config) w hs r)
+
+-- and can do so within nine steps in all, with both open then on the connection that is kept
+abbrev pub EachOctetRunCanFallQuiet : Type 0
+EachOctetRunCanFallQuiet =
+    (w : World Peer (List ℕ)) → IsSound octet_peers w → ArePeers w → AreClosed w → (hs : List (Happening (List ℕ))) →
+    IsTrue (is_clean hs) →
+    IfSome (run octet_peers w hs) (λ r. CanFallQuiet octet_peers (octet_talks w.a.config w.b.config) w hs)
 
 -- every message that is sent has octets
 abbrev pub OctetsAreSized : Type 0

@@ -1,12 +1,14 @@
 //! Laws of two peers over octets. Each function is a law: it does nothing but call the laws that it stands on, and its
 //! contract is the law. They stand for the world of two peers.
 ghost use Rattle.dm_links.specs.Follows.{IsMachine};
-ghost use Rattle.dm_pair.specs.Laws.{OctetsAreElecting, FreshArePeers, HappeningKeepsPeers, OctetsAreSized, EachOctetRunSettles};
+ghost use Rattle.dm_pair.specs.Laws.{OctetsAreElecting, FreshArePeers, HappeningKeepsPeers, OctetsAreSized, EachOctetRunSettles, EachOctetRunFallsQuiet, EachOctetRunCanFallQuiet};
 ghost use Rattle.dm_pair.specs.Frames.{OctetsAreFrames};
 ghost use Rattle.dm_pair.specs.Octets.{octet_peers};
 
 use dm_base::laws::{built_is_spelled, common_is_shared};
-use dm_links::laws::each_clean_run_settles;
+use dm_links::laws::{
+    each_clean_run_can_fall_quiet, each_clean_run_falls_quiet, each_clean_run_settles,
+};
 use dm_machine::laws::{each_node_has_its_form, each_step_keeps_shape};
 use dm_peer::laws::{each_event_is_one_step, sent_is_good};
 use dm_peer::{Config, Peer};
@@ -61,5 +63,23 @@ pub fn each_octet_run_settles()
     ensures { EachOctetRunSettles }
 {
     each_clean_run_settles::<Peer, Octets, Config, Header>();
+    octets_are_electing();
+}
+
+/// Such a run falls quiet, in whatever order things come: it is quiet where no Ack and no delivery is done any more,
+/// after nine steps, and where one side alone starts after four. A piece that ends no message is no step.
+pub fn each_octet_run_falls_quiet()
+    ensures { EachOctetRunFallsQuiet }
+{
+    each_clean_run_falls_quiet::<Peer, Octets, Config, Header>();
+    octets_are_electing();
+}
+
+/// Such a run can fall quiet: after some Acks and deliveries, with its own steps nine at most, nothing is under way, and
+/// both are open on the connection that the election keeps (5.6.4).
+pub fn each_octet_run_can_fall_quiet()
+    ensures { EachOctetRunCanFallQuiet }
+{
+    each_clean_run_can_fall_quiet::<Peer, Octets, Config, Header>();
     octets_are_electing();
 }

@@ -1,6 +1,6 @@
-use Rattle.std.proofs.Common.{refl}
 use Rattle.dm_pair.specs.Octets.{octet_peers}
 use Rattle.dm_pair.specs.Talking.{octet_talks}
+use Rattle.dm_pair.proofs.AtRest.{are_at_rest}
 use Rattle.dm_pair.proofs.laws.each_octet_run_settles.Goals as goal
 
 pub returns : goal.returns
@@ -8,14 +8,5 @@ returns c =
     λ w sound peers closed hs clean.
     let a = w.a.config in
     let b = w.b.config in
-    c.each_clean_run_settles.ensures octet_peers (octet_talks a b)
-    (c.octets_are_electing.ensures a b peers.paired) w
-    (record {
-      a = record { configured = refl; stands = peers.left };
-      b = record { configured = refl; stands = peers.right };
-      shaped_a = sound.own_shaped;
-      shaped_b = sound.other_shaped;
-      closed_a = closed.left;
-      closed_b = closed.right;
-      quiet = closed.quiet;
-    }) hs clean
+    c.each_clean_run_settles.ensures octet_peers (octet_talks a b) (c.octets_are_electing.ensures a b peers.paired) w
+    (are_at_rest w sound peers closed) hs clean
