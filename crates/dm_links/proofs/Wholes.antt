@@ -7,9 +7,9 @@ use Rattle.dm_links.specs.Machine.{conn}
 use Rattle.dm_links.specs.Links.{Side, A, B, opens, LinkPhase, Pending, Up, Cancelled, End, Direction, Link, view_of, link_of, by_side}
 use Rattle.dm_links.specs.Peers.{Arrived, Peers}
 use Rattle.dm_links.specs.Steps.{marked}
-use Rattle.dm_links.specs.Worlds.{World, with_links, Put, put_if, Disconnect, change_at, After, Done, Ignored}
-use Rattle.dm_links.specs.Happens.{Delivers, Pieces, Loses, next_in, comes, delivered, taking, pieced, whole_in, lost_messages, lost, lost_link, are_shut, if_up, at_link, own_view, happens, world_after}
-use Rattle.dm_links.specs.Streams.{whole_way, whole_link, whole, IsFront, IsPiece, EachLossAddsUp}
+use Rattle.dm_links.specs.Worlds.{World, with_links, Put, takes, put_if, Disconnect, change_at, After, Done, Ignored}
+use Rattle.dm_links.specs.Happens.{Delivers, Pieces, Loses, next_in, comes, delivered, taking, pieced, whole_in, lost_messages, lost, lost_link, are_shut, if_up, at_link, own_view, happens}
+use Rattle.dm_links.specs.Streams.{whole_way, whole_link, whole, whole_after, IsFront, IsPiece, EachLossAddsUp}
 
 -- one link is changed
 same_mapped : {X Y : Type 0} (g : X → Y) (f : X → X) (c : ℕ) (xs : List X) → ((x : X) → g (f x) ≡ g x) →
@@ -124,14 +124,25 @@ link_lost : {M : Type 0} (size : M → ℕ) (a b : ℕ) (l : Link M) →
     (lost_link size (a + (own_view A l).incoming.taken) (b + (own_view B l).incoming.taken) (whole_link l))
 link_lost size a b l = lost_at size a b l.opener l.phase l.near l.far l.to_near l.to_far
 
-same_worlds : {P M : Type 0} (p : LinkPhase) (b : Bool) (w v w1 v1 : World P M) (ps qs : List (Put M)) →
-    whole w ≡ whole v → whole w1 ≡ whole v1 →
-    whole (world_after w (if_up p (if b then Ignored else Done w1 ps) Ignored)) ≡ whole
-    (world_after v (if_up p (if b then Ignored else Done v1 qs) Ignored))
-same_worlds Up true w v w1 v1 ps qs e f = e
-same_worlds Up false w v w1 v1 ps qs e f = f
-same_worlds Pending b w v w1 v1 ps qs e f = e
-same_worlds Cancelled b w v w1 v1 ps qs e f = e
+abbrev put_at : {M : Type 0} → Bool → Put M → Link M → List (Put M)
+put_at mine p l = elim (takes l.phase (view_of mine l).outgoing.mark) [ true ↦ p ∷ [] | false ↦ [] ]
+
+put_whole : {M : Type 0} (s : Side) (p : Put M) (l : Link M) →
+    put_if s p (Some l) ≡ put_if s p (Some (whole_link l))
+put_whole s p l = by_side_of (opens s l.opener)
+  where
+    by_side_of : (mine : Bool) → put_at mine p l ≡ put_at mine p (whole_link l)
+    by_side_of true = refl
+    by_side_of false = refl
+
+same_outcomes : {P M : Type 0} (p : LinkPhase) (b : Bool) (w v : World P M) (ps qs : List (Put M)) →
+    whole w ≡ whole v → ps ≡ qs →
+    whole_after (if_up p (if b then Ignored else Done w ps) Ignored)
+    ≡ whole_after (if_up p (if b then Ignored else Done v qs) Ignored)
+same_outcomes Up true w v ps qs e f = refl
+same_outcomes Up false w v ps qs e f = ap (λ x. Done x ps) e ∙ ap (λ xs. Done (whole v) xs) f
+same_outcomes Pending b w v ps qs e f = refl
+same_outcomes Cancelled b w v ps qs e f = refl
 
 abbrev loss_of : {P M : Type 0} → Peers P M → World P M → ℕ → ℕ → ℕ → Link M → After P M
 loss_of m w c a b l =
@@ -150,16 +161,16 @@ loss_adds_up m w c a b l at =
     let one : happens m w (Loses c a b) ≡ loss_of m w c a b l = ap (λ o. at_link o (loss_of m w c a b)) at in
     let two : happens m v (Loses c a' b') ≡ loss_of m v c a' b' k = ap
     (λ o. at_link o (loss_of m v c a' b')) there in
-    let again : whole w ≡ whole v = ap (λ ls. with_links ls w)
-    (twice_mapped (λ q. whole_link q) w.links (λ q. refl)) in
     let lost_both : whole (with_links (change_at c (lost_link m.size a b) w.links) w) ≡ whole
     (with_links (change_at c (lost_link m.size a' b') v.links) v) =
     ap (λ ls. with_links ls w)
     (change_mapped (λ q. whole_link q) (lost_link m.size a b) (lost_link m.size a' b') c w.links l at
     (λ q. refl) (link_lost m.size a b l)) in
-    ap (λ o. whole (world_after w o)) one
-    ∙ (same_worlds l.phase (are_shut l.near l.far) w v (with_links (change_at c (lost_link m.size a b) w.links) w)
+    ap whole_after one
+    ∙ (same_outcomes l.phase (are_shut l.near l.far) (with_links (change_at c (lost_link m.size a b) w.links) w)
     (with_links (change_at c (lost_link m.size a' b') v.links) v)
     (put_if B (Disconnect c A) (Some l) ++ put_if A (Disconnect c B) (Some l))
-    (put_if B (Disconnect c A) (Some k) ++ put_if A (Disconnect c B) (Some k)) again lost_both
-    ∙ ap (λ o. whole (world_after v o)) (sym two))
+    (put_if B (Disconnect c A) (Some k) ++ put_if A (Disconnect c B) (Some k)) lost_both
+    (ap (λ xs. xs ++ put_if A (Disconnect c B) (Some l)) (put_whole B (Disconnect c A) l)
+    ∙ ap (λ ys. put_if B (Disconnect c A) (Some k) ++ ys) (put_whole A (Disconnect c B) l))
+    ∙ ap whole_after (sym two))

@@ -4,7 +4,7 @@ use Rattle.std.specs.Prelude.{◌≡◌, ℕ, ◌+◌, ◌<◌, ◌≤◌, Bool,
 use Rattle.std.specs.List.{list_all}
 use Rattle.dm_links.specs.Links.{Side, A, B, Up, Direction, Link}
 use Rattle.dm_links.specs.Peers.{Event, Action, Send, Acts, Peers}
-use Rattle.dm_links.specs.Worlds.{World, with_links, After, Done}
+use Rattle.dm_links.specs.Worlds.{World, with_links, After, Done, Ignored, NoLink}
 use Rattle.dm_links.specs.Happens.{Happening, Delivers, Pieces, Loses, own_view, happens, world_after, run}
 use Rattle.dm_links.specs.Laws.{world_of}
 
@@ -91,10 +91,17 @@ EachPieceAddsUp P M =
     (m : Peers P M) (w : World P M) (c : ℕ) (s : Side) (l : Link M) (x : M) (more : List M) (k : ℕ) → 0 < k →
     IsFront w c s l x more → IsPiece m w c s l x k
 
--- a loss is the one of whole messages, with the octets already delivered counted as kept
+-- an outcome but for the octets delivered
+abbrev pub whole_after : {P M : Type 0} → After P M → After P M
+whole_after (Done w put) = Done (whole w) put
+whole_after Ignored = Ignored
+whole_after NoLink = NoLink
+
+-- a loss is the one of whole messages, with the octets already delivered counted as kept: its effect, what it puts in
+-- and the world after it
 abbrev pub EachLossAddsUp : Type 0 → Type 0 → Type 0
 EachLossAddsUp P M =
     (m : Peers P M) (w : World P M) (c a b : ℕ) (l : Link M) → slice_get w.links c ≡ Some l →
-    whole (world_after w (happens m w (Loses c a b)))
-    ≡ whole (world_after (whole w)
-    (happens m (whole w) (Loses c (a + (own_view A l).incoming.taken) (b + (own_view B l).incoming.taken))))
+    whole_after (happens m w (Loses c a b))
+    ≡ whole_after
+    (happens m (whole w) (Loses c (a + (own_view A l).incoming.taken) (b + (own_view B l).incoming.taken)))

@@ -95,6 +95,7 @@ pub fn acks_make_ends<P, M>()
 /// It makes no difference how messages were cut: a piece that ends no message changes nothing but the octets delivered, one
 /// that ends its message is the delivery, and a loss is the one of whole messages. A piece counts as a step just where it
 /// ends its message.
+/// that ends its message is the delivery, and a loss is the one of whole messages, in its effect and in what it puts in too.
 pub fn pieces_add_up<P, M>()
     ensures pieces { EachPieceAddsUp P M }
     ensures counts { EachPieceCounts P M }
