@@ -6,6 +6,10 @@
 #![tactic(auto)]
 
 #[cfg(test)]
+mod dictionaries;
+#[cfg(test)]
+mod messages;
+#[cfg(test)]
 mod refusal;
 #[cfg(test)]
 mod rows;
@@ -13,5 +17,7 @@ mod rows;
 mod streams;
 #[cfg(test)]
 mod subject;
+#[cfg(test)]
+mod values;
 #[cfg(test)]
 mod wire;

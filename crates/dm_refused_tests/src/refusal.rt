@@ -91,3 +91,13 @@ pub fn repeated(refused: bool, right: bool) -> End {
         End::Changed
     }
 }
+
+/// The first end, or the second where that is worse: Whole is best, then Again.
+pub fn worse(one: End, other: End) -> End {
+    match (one, other) {
+        (End::Whole, other) => other,
+        (one, End::Whole) => one,
+        (End::Again, other) => other,
+        (one, _) => one,
+    }
+}

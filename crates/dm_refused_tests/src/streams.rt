@@ -1,5 +1,5 @@
 //! Messages out of a stream.
-use crate::refusal::{End, answered, refuse, repeated, was_larger, was_refused};
+use crate::refusal::{End, answered, refuse, repeated, was_larger, was_refused, worse};
 use crate::rows::{WATCHDOG, octets};
 use crate::subject::{Making, Subject, each, each_made};
 use dm_wire::{FrameFault, Framer};
@@ -85,16 +85,6 @@ fn next(alloc: Global, framer: &mut Framer, row: &[u8], nth: u32) -> (End, Given
             let it = look_at(first, row);
             (answered(refused, it != Given::Other), it)
         }
-    }
-}
-
-/// The first end, or the second where that is worse: Whole is best, then Again.
-fn worse(one: End, other: End) -> End {
-    match (one, other) {
-        (End::Whole, other) => other,
-        (one, End::Whole) => one,
-        (End::Again, other) => other,
-        (one, _) => one,
     }
 }
 

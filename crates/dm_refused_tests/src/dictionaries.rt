@@ -1,0 +1,223 @@
+//! Dictionaries read and printed, and messages checked.
+use crate::rows::*;
+use crate::subject::{Making, each_made};
+use dm_dict::{DictFault, Dictionary, NoMemory, Verdict};
+use dm_wire::Message;
+use std::alloc::Global;
+use std::process::Abort;
+
+/// Whether the dictionary prints the text.
+fn prints(alloc: Global, dictionary: &Dictionary, text: &[u8]) -> bool {
+    match dictionary.print(alloc) {
+        Ok(printed) => printed.as_slice() == text,
+        Err(_) => false,
+    }
+}
+
+/// The base dictionary, which prints this text.
+#[derive(Clone, Copy)]
+struct ReadBase<'a>(&'a [u8]);
+
+impl Making for ReadBase<'_> {
+    type Made = Dictionary;
+
+    type Fault = NoMemory;
+
+    fn call(&self, alloc: Global) -> Result<Dictionary, NoMemory> {
+        Dictionary::base(alloc)
+    }
+
+    fn is_memory(&self, _fault: &NoMemory) -> bool {
+        true
+    }
+
+    fn is_row(&self, alloc: Global, made: &Dictionary) -> bool {
+        prints(alloc, made, self.0)
+    }
+}
+
+/// A text over a dictionary, and what the new one prints.
+#[derive(Clone, Copy)]
+struct Read<'a>(&'a [u8], &'a Dictionary, &'a [u8]);
+
+impl Making for Read<'_> {
+    type Made = Dictionary;
+
+    type Fault = DictFault;
+
+    fn call(&self, alloc: Global) -> Result<Dictionary, DictFault> {
+        Dictionary::read(alloc, self.0, self.1)
+    }
+
+    fn is_memory(&self, fault: &DictFault) -> bool {
+        *fault == DictFault::NoMemory
+    }
+
+    fn is_row(&self, alloc: Global, made: &Dictionary) -> bool {
+        prints(alloc, made, self.2)
+    }
+}
+
+/// A dictionary, and what it prints.
+#[derive(Clone, Copy)]
+struct Print<'a>(&'a Dictionary, &'a [u8]);
+
+impl Making for Print<'_> {
+    type Made = Vec<u8>;
+
+    type Fault = NoMemory;
+
+    fn call(&self, alloc: Global) -> Result<Vec<u8>, NoMemory> {
+        self.0.print(alloc)
+    }
+
+    fn is_memory(&self, _fault: &NoMemory) -> bool {
+        true
+    }
+
+    fn is_row(&self, _alloc: Global, made: &Vec<u8>) -> bool {
+        made.as_slice() == self.1
+    }
+}
+
+/// A text that is refused over a dictionary, and why.
+#[derive(Clone, Copy)]
+struct Faulty<'a>(&'a [u8], &'a Dictionary, DictFault);
+
+impl Making for Faulty<'_> {
+    type Made = DictFault;
+
+    type Fault = Option<DictFault>;
+
+    fn call(&self, alloc: Global) -> Result<DictFault, Option<DictFault>> {
+        match Dictionary::read(alloc, self.0, self.1) {
+            Ok(_) => Err(None),
+            Err(DictFault::NoMemory) => Err(Some(DictFault::NoMemory)),
+            Err(fault) => Ok(fault),
+        }
+    }
+
+    fn is_memory(&self, fault: &Option<DictFault>) -> bool {
+        *fault == Some(DictFault::NoMemory)
+    }
+
+    fn is_row(&self, _alloc: Global, made: &DictFault) -> bool {
+        *made == self.2
+    }
+}
+
+fn base(rt: &(impl Abort + AllocGlobal)) -> Dictionary {
+    Dictionary::base(rt.alloc()).expect(rt, "memory")
+}
+
+fn printed(rt: &(impl Abort + AllocGlobal), dictionary: &Dictionary) -> Vec<u8> {
+    dictionary.print(rt.alloc()).expect(rt, "memory")
+}
+
+fn check_base(rt: &(impl Abort + AllocGlobal), base: &Dictionary) {
+    let text = printed(rt, base);
+    each_made(rt, &ReadBase(text.as_slice()), "base");
+    each_made(rt, &Print(base, text.as_slice()), "print");
+    drop(text);
+}
+
+/// The text is read over the dictionary, and what is made is printed.
+fn check_text(rt: &(impl Abort + AllocGlobal), text: &[u8], old: &Dictionary) {
+    let made = Dictionary::read(rt.alloc(), text, old).expect(rt, "a dictionary");
+    let new = printed(rt, &made);
+    each_made(rt, &Print(&made, new.as_slice()), "print");
+    drop(made);
+    each_made(rt, &Read(text, old, new.as_slice()), "read");
+    drop(new);
+}
+
+const TEXTS: [&[u8]; 2] = [
+    b"< X > ::= < Diameter Header: 300, REQ > 0*1 < Session-Id > 1* { Host-IP-Address } { AVP }",
+    b"@ 2\n@ vendor Acme 99\n@ Colour 5000 Enumerated : Acme { RED 0, BLUE 2 }\n< Ask > ::= < Diameter Header: 300, REQ > { Colour }\n",
+];
+
+#[test]
+fn texts_read_and_printed(rt: HostRuntime) {
+    let base = base(&rt);
+    check_base(&rt, &base);
+    for text in TEXTS {
+        check_text(&rt, text, &base);
+    }
+    drop(base);
+}
+
+const FAULTS: [(&[u8], DictFault); 5] = [
+    (
+        b"< X > ::= < Diameter Header: 300, REQ > [ User-Name ] { Class }",
+        DictFault::Order(1),
+    ),
+    (
+        b"< X > ::= < Diameter Header: 300, REQ > { No-Such }",
+        DictFault::UnknownName(1),
+    ),
+    (b"@ Foo 264 Unsigned32", DictFault::Duplicate(1)),
+    (b"< X > ::= <", DictFault::Syntax(1)),
+    (b"@ Foo 4294967296 Time", DictFault::Range(1)),
+];
+
+#[test]
+fn texts_refused(rt: HostRuntime) {
+    let base = base(&rt);
+    for (text, fault) in FAULTS {
+        each_made(&rt, &Faulty(text, &base, fault), "read");
+    }
+    drop(base);
+}
+
+/// A message under a dictionary, and what `check` says of it.
+#[derive(Clone, Copy)]
+struct Check<'a>(&'a Dictionary, &'a Message, &'a str);
+
+impl Making for Check<'_> {
+    type Made = Verdict;
+
+    type Fault = NoMemory;
+
+    fn call(&self, alloc: Global) -> Result<Verdict, NoMemory> {
+        self.0.check(alloc, self.1)
+    }
+
+    fn is_memory(&self, _fault: &NoMemory) -> bool {
+        true
+    }
+
+    fn is_row(&self, alloc: Global, made: &Verdict) -> bool {
+        match format!(in alloc; "{made}") {
+            Ok(told) => told.as_str() == self.2,
+            Err(_) => false,
+        }
+    }
+}
+
+fn check_message(rt: &(impl Abort + AllocGlobal), base: &Dictionary, digits: &str, text: &str) {
+    let octets = octets(rt, digits);
+    let message = Message::decode(rt.alloc(), octets.as_slice()).expect(rt, "a message");
+    each_made(rt, &Check(base, &message, text), text);
+    drop(message);
+}
+
+const VERDICTS: [(&str, &str); 9] = [
+    (CAPABILITIES, "good"),
+    (TWICE, "bad 5009 273 -M- 00000001"),
+    (TWICE_UNKNOWN, "bad 5001 9999 -M- -"),
+    (UNKNOWN, "good"),
+    (SHORT_CAUSE, "bad 5014 273 -M- 000000"),
+    (SPACE_HOST, "bad 5004 264 -M- 20"),
+    (BROKEN_GROUP, "bad 5014 260 -M- -"),
+    (STRANGER, "bad 5008 268 -M- 000007d1"),
+    (BARE_DWR, "bad 5005 264 -M- 00"),
+];
+
+#[test]
+fn messages_checked(rt: HostRuntime) {
+    let base = base(&rt);
+    for (digits, text) in VERDICTS {
+        check_message(&rt, &base, digits, text);
+    }
+    drop(base);
+}
