@@ -13,11 +13,10 @@ use Rattle.dm_links.specs.Peers.{Ack, Gone, Arrived, Action, Send, Close, Peers,
 use Rattle.dm_links.specs.Steps.{stepped}
 use Rattle.dm_links.specs.Worlds.{World, peer_at, Put, Message, Disconnect, put_if_fresh, told}
 use Rattle.dm_links.specs.Electing.{Talks, Reads, acks, ends, asks, passes, answers, holds_cer, cer_to_answer, IsElecting}
-use Rattle.dm_links.specs.Settled.{nothing, disconnect}
 use Rattle.dm_links.proofs.Pairs.{IsPair, ab, ba, mirror, Stands, At, not_same}
 use Rattle.dm_links.proofs.Told.{Goes}
 use Rattle.dm_links.proofs.Turns.{wait_conn_ack, wait_i_cea, elect, returns, r_open, i_open, out_ack, out_ack_lose, out_ack_win, out_cer_closed, out_cer_wait, out_cer_lose, out_cer_win, out_reject, out_cea, out_cea_returns, out_gone}
-use Rattle.dm_links.proofs.Stages.{Stage, Dialled, Asked, Accepted, Answered, Dropped, Halved, Parted, way, seen, stage_view, turn, none_said, one_said, two_said, three_said, tally_cer, tally_cea}
+use Rattle.dm_links.proofs.Stages.{Stage, Dialled, Asked, Accepted, Answered, Dropped, Halved, Parted, way, seen, stage_view, turn, none_said, one_said, two_said, three_said}
 
 -- a link that isn't named stays
 pub unnamed : {M : Type 0} (f : View M → View M) (v : Option (View M)) → ((z : View M) → f z ≡ z) →
@@ -35,6 +34,13 @@ module _ {P M C H : Type 0} (m : Peers P M) (t : Talks P M C H) where
 
   abbrev pub other_at : Side → Side → Stage → ℕ → ℕ → ℕ → Option (View M)
   other_at s o st h j k = option_map mirror (own_at o s st h j k)
+
+  -- the CER of a side on its link, and the CEA that the other side gives to it
+  abbrev pub cer_put : Side → Side → ℕ → ℕ → Put M
+  cer_put s o x h = Message x o (t.cer (t.config s) h)
+
+  abbrev pub cea_put : Side → Side → ℕ → ℕ → Put M
+  cea_put s o x h = Message x s (t.cea (t.config o) h)
 
   none_waits : IsElecting m t → (s : Side) (p : P) (n : Node) (h h' : ℕ) → Stands m t s p n h h' →
       not (holds_cer n.state) ≡ true → t.waiting_of p ≡ None
@@ -72,7 +78,7 @@ module _ {P M C H : Type 0} (m : Peers P M) (t : Talks P M C H) where
       (w : World P M) (x y j k : ℕ) (v : Option (View M)) (n' : Node) (h h' : ℕ) →
       At m t s o w x y (own_at s o Dialled h j k) v (wait_conn_ack x) n' h h' → holds_cer n'.state ≡ false →
       Goes m t s o x y (own_at s o Asked (t.next_of (peer_at s w)) j k) v (wait_i_cea x) n'
-      (t.next_of (peer_at s w)) h' (told m s (Ack (conn x)) w) 1 0 0
+      (t.next_of (peer_at s w)) h' (told m s (Ack (conn x)) w) (cer_put s o x (t.next_of (peer_at s w)) ∷ [])
   acks_plain el s o pair w x y j k v n' h h' a free =
       let h1 = t.next_of (peer_at s w) in
       let xx = itself x in
@@ -80,19 +86,18 @@ module _ {P M C H : Type 0} (m : Peers P M) (t : Talks P M C H) where
       let act : Action M = Send (conn x) (t.cer (t.config s) h1) in
       turn m t el s o pair w x y (own_at s o Dialled h j k) v (own_at s o Asked h1 j k) v (wait_conn_ack x) n'
       (wait_i_cea x) h h' h1 (Ack (conn x)) (input.Ack (conn x)) None (command.SendCer (conn x) ∷ []) (act ∷ [])
-      (Message x o (t.cer (t.config s) h1) ∷ []) 1 0 0 a (λ q. elim q [ ]) (acks (conn x)) (out_ack x (t.wins s) xx)
+      (Message x o (t.cer (t.config s) h1) ∷ []) a (λ q. elim q [ ]) (acks (conn x)) (out_ack x (t.wins s) xx)
       (λ acts. one_said m t s (peer_at s w) None (command.SendCer (conn x)) act acts (λ b q. q)) (λ b. refl)
       (λ b. cc) (el.numbers (peer_at s w) a.own.peer.stands)
       (λ b. absurd (both_ways (holds_cer n'.state) free b))
       (simp (xx)) (unnamed _ v (λ z. simp (xy))) (λ d b z hx hy. simp (hx)) (simp (xx)) refl (simp (xx))
-      (tally_cer m t s o pair x h1 [] 0 0 0 nothing)
 
   -- the Ack with the other side's CER there: lost, or won at once
   pub acks_lose : IsElecting m t → (s o : Side) → IsPair s o → t.wins s ≡ false →
       (w : World P M) (x y j k : ℕ) (v : Option (View M)) (n' : Node) (h h' : ℕ) →
       At m t s o w x y (own_at s o Dialled h j k) v (elect x y) n' h h' → holds_cer n'.state ≡ false →
       Goes m t s o x y (own_at s o Asked (t.next_of (peer_at s w)) j k) v (returns x y) n'
-      (t.next_of (peer_at s w)) h' (told m s (Ack (conn x)) w) 1 0 0
+      (t.next_of (peer_at s w)) h' (told m s (Ack (conn x)) w) (cer_put s o x (t.next_of (peer_at s w)) ∷ [])
   acks_lose el s o pair loses w x y j k v n' h h' a free =
       let h1 = t.next_of (peer_at s w) in
       let xx = itself x in
@@ -100,13 +105,12 @@ module _ {P M C H : Type 0} (m : Peers P M) (t : Talks P M C H) where
       let act : Action M = Send (conn x) (t.cer (t.config s) h1) in
       turn m t el s o pair w x y (own_at s o Dialled h j k) v (own_at s o Asked h1 j k) v (elect x y) n'
       (returns x y) h h' h1 (Ack (conn x)) (input.Ack (conn x)) None (command.SendCer (conn x) ∷ []) (act ∷ [])
-      (Message x o (t.cer (t.config s) h1) ∷ []) 1 0 0 a (λ q. elim q [ ]) (acks (conn x))
+      (Message x o (t.cer (t.config s) h1) ∷ []) a (λ q. elim q [ ]) (acks (conn x))
       (rw loses (out_ack_lose x y xx))
       (λ acts. one_said m t s (peer_at s w) None (command.SendCer (conn x)) act acts (λ b q. q)) (λ b. refl)
       (λ b. a.own.waits refl) (el.numbers (peer_at s w) a.own.peer.stands)
       (λ b. absurd (both_ways (holds_cer n'.state) free b))
       (simp (xx)) (unnamed _ v (λ z. simp (xy))) (λ d b z hx hy. simp (hx)) (simp (xx)) refl (simp (xx))
-      (tally_cer m t s o pair x h1 [] 0 0 0 nothing)
 
   pub acks_win : IsElecting m t → (s o : Side) → IsPair s o → t.wins s ≡ true →
       (w : World P M) (x y j k j' k' : ℕ) (n' : Node) (h h' : ℕ) →
@@ -114,7 +118,7 @@ module _ {P M C H : Type 0} (m : Peers P M) (t : Talks P M C H) where
       holds_cer n'.state ≡ false →
       Goes m t s o x y (own_at s o Dropped (t.next_of (peer_at s w)) j k)
       (option_map mirror (own_at o s Answered h' j' k')) (r_open y) n' (t.next_of (peer_at s w)) h'
-      (told m s (Ack (conn x)) w) 1 1 1
+      (told m s (Ack (conn x)) w) (cer_put s o x (t.next_of (peer_at s w)) ∷ Disconnect x o ∷ cea_put o s y h' ∷ [])
   acks_win el s o pair wins w x y j k j' k' n' h h' a free =
       let p = peer_at s w in
       let h1 = t.next_of p in
@@ -129,21 +133,20 @@ module _ {P M C H : Type 0} (m : Peers P M) (t : Talks P M C H) where
       (own_at s o Dropped h1 j k) (option_map mirror (own_at o s Answered h' j' k')) (elect x y) n'
       (r_open y) h h' h1 (Ack (conn x)) (input.Ack (conn x)) None
       (command.SendCer (conn x) ∷ command.Close (conn x) ∷ command.SendCea (conn y) ∷ []) (one ∷ two ∷ three ∷ [])
-      (Message x o (t.cer (t.config s) h1) ∷ Disconnect x o ∷ Message y o (t.cea (t.config s) h') ∷ []) 1 1 1 a
+      (Message x o (t.cer (t.config s) h1) ∷ Disconnect x o ∷ Message y o (t.cea (t.config s) h') ∷ []) a
       (λ q. elim q [ ]) (acks (conn x)) (rw wins (out_ack_win x y xx))
       (λ acts. three_said m t s p None (command.SendCer (conn x)) (command.Close (conn x))
       (command.SendCea (conn y)) one two three acts (λ b q. q) (λ b q. q)
       (λ b q. q h' (ap (λ z. cer_to_answer z None) (a.own.waits refl))))
       (λ b. cc) (λ b. cc) (el.numbers p a.own.peer.stands) (λ b. absurd (both_ways (holds_cer n'.state) free b))
       (simp (xx, yx)) (simp (xy, yy)) (λ d b z hx hy. simp (hx, hy)) (simp (xx, yy, yx)) refl (simp (xx, xy, yx))
-      (tally_cer m t s o pair x h1 _ 0 1 1 (disconnect x o _ 0 1 0 (tally_cea m t s o pair y h' [] 0 0 0 nothing)))
 
   -- a CER to a closed peer, and to one whose own connect is pending
   pub cer_closed : IsElecting m t → (s o : Side) → IsPair s o →
       (w : World P M) (x y j k : ℕ) (u : Option (View M)) (n' : Node) (h h' : ℕ) →
       At m t s o w x y u (option_map mirror (own_at o s Asked h' j k)) closed_node n' h h' →
       Goes m t s o x y u (option_map mirror (own_at o s Answered h' j 0)) (r_open y) n' h h'
-      (told m s (Arrived (conn y) (t.cer (t.config o) h')) w) 0 1 0
+      (told m s (Arrived (conn y) (t.cer (t.config o) h')) w) (cea_put o s y h' ∷ [])
   cer_closed el s o pair w x y j k u n' h h' a =
       let p = peer_at s w in
       let yy = itself y in
@@ -153,7 +156,7 @@ module _ {P M C H : Type 0} (m : Peers P M) (t : Talks P M C H) where
       turn m t el s o pair w x y u (option_map mirror (own_at o s Asked h' j k)) u
       (option_map mirror (own_at o s Answered h' j 0)) closed_node n' (r_open y) h h' h
       (Arrived (conn y) (t.cer (t.config o) h')) (input.Heard (conn y) Cer) (Some (t.cer_header h'))
-      (command.SendCea (conn y) ∷ []) (act ∷ []) (Message y o (t.cea (t.config s) h') ∷ []) 0 1 0 a
+      (command.SendCea (conn y) ∷ []) (act ∷ []) (Message y o (t.cea (t.config s) h') ∷ []) a
       (λ q. elim q [ ])
       (reads_asks s o pair p closed_node h h' (conn y) h' a.own a.other.number refl refl)
       (out_cer_closed y (t.wins s))
@@ -162,13 +165,12 @@ module _ {P M C H : Type 0} (m : Peers P M) (t : Talks P M C H) where
       (none_waits el s p closed_node h h' a.own refl))))
       (λ b. cc) (λ b. cc) a.own.number (λ b. refl)
       (unnamed _ u (λ z. simp (yx))) (simp (yy)) (λ d b z hx hy. simp (hy)) (simp (yy, yx)) refl (simp (yy, yx))
-      (tally_cea m t s o pair y h' [] 0 0 0 nothing)
 
   pub cer_wait : IsElecting m t → (s o : Side) → IsPair s o →
       (w : World P M) (x y j k : ℕ) (u : Option (View M)) (n' : Node) (h h' : ℕ) →
       At m t s o w x y u (option_map mirror (own_at o s Asked h' j k)) (wait_conn_ack x) n' h h' →
       Goes m t s o x y u (option_map mirror (own_at o s Accepted h' j 0)) (elect x y) n' h h'
-      (told m s (Arrived (conn y) (t.cer (t.config o) h')) w) 0 0 0
+      (told m s (Arrived (conn y) (t.cer (t.config o) h')) w) []
   cer_wait el s o pair w x y j k u n' h h' a =
       let p = peer_at s w in
       let yy = itself y in
@@ -177,12 +179,12 @@ module _ {P M C H : Type 0} (m : Peers P M) (t : Talks P M C H) where
       turn m t el s o pair w x y u (option_map mirror (own_at o s Asked h' j k)) u
       (option_map mirror (own_at o s Accepted h' j 0)) (wait_conn_ack x) n' (elect x y) h h' h
       (Arrived (conn y) (t.cer (t.config o) h')) (input.Heard (conn y) Cer) (Some (t.cer_header h'))
-      [] [] [] 0 0 0 a (λ q. elim q [ ])
+      [] [] [] a (λ q. elim q [ ])
       (reads_asks s o pair p (wait_conn_ack x) h h' (conn y) h' a.own a.other.number refl (simp (xy)))
       (out_cer_wait x y (t.wins s) xy)
       (λ acts. none_said m t s p (Some (t.cer_header h')) acts)
       (λ b. cc) (λ b. refl) a.own.number (λ b. refl)
-      (unnamed _ u (λ z. simp (yx))) (simp (xy, yy)) (λ d b z hx hy. simp (hy)) refl refl refl nothing
+      (unnamed _ u (λ z. simp (yx))) (simp (xy, yy)) (λ d b z hx hy. simp (hy)) refl refl refl
 
   -- a CER to a peer that awaits its CEA, and loses
   cer_loses : IsElecting m t → (s o : Side) → IsPair s o → t.wins s ≡ false →
@@ -190,7 +192,7 @@ module _ {P M C H : Type 0} (m : Peers P M) (t : Talks P M C H) where
       At m t s o w x y u v (wait_i_cea x) n' h h' →
       option_map (stepped (concern_by (Arrived (conn y) (t.cer (t.config o) h')) (conn y))
       (is_held (tie_of (returns x y) y)) y []) v ≡ v1 →
-      Goes m t s o x y u v1 (returns x y) n' h h' (told m s (Arrived (conn y) (t.cer (t.config o) h')) w) 0 0 0
+      Goes m t s o x y u v1 (returns x y) n' h h' (told m s (Arrived (conn y) (t.cer (t.config o) h')) w) []
   cer_loses el s o pair loses w x y u v v1 n' h h' a to_v =
       let p = peer_at s w in
       let yy = itself y in
@@ -198,18 +200,18 @@ module _ {P M C H : Type 0} (m : Peers P M) (t : Talks P M C H) where
       let yx = not_same x y xy in
       turn m t el s o pair w x y u v u v1 (wait_i_cea x) n' (returns x y) h h' h
       (Arrived (conn y) (t.cer (t.config o) h')) (input.Heard (conn y) Cer) (Some (t.cer_header h'))
-      [] [] [] 0 0 0 a (λ q. elim q [ ])
+      [] [] [] a (λ q. elim q [ ])
       (reads_asks s o pair p (wait_i_cea x) h h' (conn y) h' a.own a.other.number refl (simp (xy)))
       (rw loses (out_cer_lose x y xy))
       (λ acts. none_said m t s p (Some (t.cer_header h')) acts)
       (λ b. a.own.awaits refl) (λ b. refl) a.own.number (λ b. refl)
-      (unnamed _ u (λ z. simp (yx))) to_v (λ d b z hx hy. simp (hy)) refl refl refl nothing
+      (unnamed _ u (λ z. simp (yx))) to_v (λ d b z hx hy. simp (hy)) refl refl refl
 
   pub cer_lose : IsElecting m t → (s o : Side) → IsPair s o → t.wins s ≡ false →
       (w : World P M) (x y j k : ℕ) (u : Option (View M)) (n' : Node) (h h' : ℕ) →
       At m t s o w x y u (option_map mirror (own_at o s Asked h' j k)) (wait_i_cea x) n' h h' →
       Goes m t s o x y u (option_map mirror (own_at o s Accepted h' j 0)) (returns x y) n' h h'
-      (told m s (Arrived (conn y) (t.cer (t.config o) h')) w) 0 0 0
+      (told m s (Arrived (conn y) (t.cer (t.config o) h')) w) []
   cer_lose el s o pair loses w x y j k u n' h h' a =
       let yy = itself y in
       let xy = a.apart in
@@ -220,7 +222,7 @@ module _ {P M C H : Type 0} (m : Peers P M) (t : Talks P M C H) where
       (w : World P M) (x y j k : ℕ) (u : Option (View M)) (n' : Node) (h h' : ℕ) →
       At m t s o w x y u (option_map mirror (own_at o s Dropped h' j k)) (wait_i_cea x) n' h h' →
       Goes m t s o x y u (option_map mirror (own_at o s Halved h' j 0)) (returns x y) n' h h'
-      (told m s (Arrived (conn y) (t.cer (t.config o) h')) w) 0 0 0
+      (told m s (Arrived (conn y) (t.cer (t.config o) h')) w) []
   cer_late el s o pair loses w x y j k u n' h h' a =
       let yy = itself y in
       let xy = a.apart in
@@ -233,7 +235,8 @@ module _ {P M C H : Type 0} (m : Peers P M) (t : Talks P M C H) where
       At m t s o w x y (own_at s o Asked h i l) (option_map mirror (own_at o s Asked h' j k))
       (wait_i_cea x) n' h h' →
       Goes m t s o x y (own_at s o Dropped h i l) (option_map mirror (own_at o s Answered h' j 0))
-      (r_open y) n' h h' (told m s (Arrived (conn y) (t.cer (t.config o) h')) w) 0 1 1
+      (r_open y) n' h h' (told m s (Arrived (conn y) (t.cer (t.config o) h')) w)
+      (Disconnect x o ∷ cea_put o s y h' ∷ [])
   cer_win el s o pair wins w x y i l j k n' h h' a =
       let p = peer_at s w in
       let xx = itself x in
@@ -247,7 +250,7 @@ module _ {P M C H : Type 0} (m : Peers P M) (t : Talks P M C H) where
       (r_open y) h h' h
       (Arrived (conn y) (t.cer (t.config o) h')) (input.Heard (conn y) Cer) (Some (t.cer_header h'))
       (command.Close (conn x) ∷ command.SendCea (conn y) ∷ []) (one ∷ two ∷ [])
-      (Disconnect x o ∷ Message y o (t.cea (t.config s) h') ∷ []) 0 1 1 a (λ q. elim q [ ])
+      (Disconnect x o ∷ Message y o (t.cea (t.config s) h') ∷ []) a (λ q. elim q [ ])
       (reads_asks s o pair p (wait_i_cea x) h h' (conn y) h' a.own a.other.number refl (simp (xy)))
       (rw wins (out_cer_win x y xy))
       (λ acts. two_said m t s p (Some (t.cer_header h')) (command.Close (conn x))
@@ -257,14 +260,14 @@ module _ {P M C H : Type 0} (m : Peers P M) (t : Talks P M C H) where
       (λ b. cc) (λ b. cc) a.own.number (λ b. refl)
       (simp (xx, yx)) (simp (xy, yy)) (λ d b z hx hy. simp (hx, hy)) (simp (xx, yy, yx)) refl
       (simp (xx, xy, yy, yx))
-      (disconnect x o _ 0 1 0 (tally_cea m t s o pair y h' [] 0 0 0 nothing))
 
   pub cer_win_late : IsElecting m t → (s o : Side) → IsPair s o → t.wins s ≡ true →
       (w : World P M) (x y i l j k : ℕ) (n' : Node) (h h' : ℕ) →
       At m t s o w x y (own_at s o Accepted h i l) (option_map mirror (own_at o s Asked h' j k))
       (wait_i_cea x) n' h h' →
       Goes m t s o x y (own_at s o Halved h i l) (option_map mirror (own_at o s Answered h' j 0))
-      (r_open y) n' h h' (told m s (Arrived (conn y) (t.cer (t.config o) h')) w) 0 1 1
+      (r_open y) n' h h' (told m s (Arrived (conn y) (t.cer (t.config o) h')) w)
+      (Disconnect x o ∷ cea_put o s y h' ∷ [])
   cer_win_late el s o pair wins w x y i l j k n' h h' a =
       let p = peer_at s w in
       let xx = itself x in
@@ -278,7 +281,7 @@ module _ {P M C H : Type 0} (m : Peers P M) (t : Talks P M C H) where
       (r_open y) h h' h
       (Arrived (conn y) (t.cer (t.config o) h')) (input.Heard (conn y) Cer) (Some (t.cer_header h'))
       (command.Close (conn x) ∷ command.SendCea (conn y) ∷ []) (one ∷ two ∷ [])
-      (Disconnect x o ∷ Message y o (t.cea (t.config s) h') ∷ []) 0 1 1 a (λ q. elim q [ ])
+      (Disconnect x o ∷ Message y o (t.cea (t.config s) h') ∷ []) a (λ q. elim q [ ])
       (reads_asks s o pair p (wait_i_cea x) h h' (conn y) h' a.own a.other.number refl (simp (xy)))
       (rw wins (out_cer_win x y xy))
       (λ acts. two_said m t s p (Some (t.cer_header h')) (command.Close (conn x))
@@ -288,14 +291,13 @@ module _ {P M C H : Type 0} (m : Peers P M) (t : Talks P M C H) where
       (λ b. cc) (λ b. cc) a.own.number (λ b. refl)
       (simp (xx, yx)) (simp (xy, yy)) (λ d b z hx hy. simp (hx, hy)) (simp (xx, yy, yx)) refl
       (simp (xx, xy, yy, yx))
-      (disconnect x o _ 0 1 0 (tally_cea m t s o pair y h' [] 0 0 0 nothing))
 
   -- a CER to an open peer
   pub cer_rejected : IsElecting m t → (s o : Side) → IsPair s o →
       (w : World P M) (x y j k : ℕ) (u : Option (View M)) (n' : Node) (h h' : ℕ) →
       At m t s o w x y u (option_map mirror (own_at o s Dropped h' j k)) (i_open x) n' h h' →
       Goes m t s o x y u (option_map mirror (own_at o s (Parted Coming Coming) h' j 0)) (i_open x) n' h h'
-      (told m s (Arrived (conn y) (t.cer (t.config o) h')) w) 0 0 1
+      (told m s (Arrived (conn y) (t.cer (t.config o) h')) w) (Disconnect y o ∷ [])
   cer_rejected el s o pair w x y j k u n' h h' a =
       let p = peer_at s w in
       let yy = itself y in
@@ -305,19 +307,19 @@ module _ {P M C H : Type 0} (m : Peers P M) (t : Talks P M C H) where
       turn m t el s o pair w x y u (option_map mirror (own_at o s Dropped h' j k)) u
       (option_map mirror (own_at o s (Parted Coming Coming) h' j 0)) (i_open x) n' (i_open x) h h' h
       (Arrived (conn y) (t.cer (t.config o) h')) (input.Heard (conn y) Unreadable) None
-      (command.Close (conn y) ∷ []) (act ∷ []) (Disconnect y o ∷ []) 0 0 1 a (λ q. elim q [ ])
+      (command.Close (conn y) ∷ []) (act ∷ []) (Disconnect y o ∷ []) a (λ q. elim q [ ])
       (reads_passes s o pair p (i_open x) h h' (conn y) h' a.own refl (simp (xy))) (out_reject x y (t.wins s) xy)
       (λ acts. one_said m t s p None (command.Close (conn y)) act acts (λ b q. q))
       (λ b. cc) (λ b. cc) a.own.number (λ b. refl)
       (unnamed _ u (λ z. simp (yx))) (simp (xy, yy)) (λ d b z hx hy. simp (hy)) (simp (yy, yx)) refl
-      (simp (yy, yx)) (disconnect y o [] 0 0 0 nothing)
+      (simp (yy, yx))
 
   -- a CEA
   pub cea_plain : IsElecting m t → (s o : Side) → IsPair s o →
       (w : World P M) (x y j k : ℕ) (v : Option (View M)) (n' : Node) (h h' : ℕ) →
       At m t s o w x y (own_at s o Answered h j k) v (wait_i_cea x) n' h h' →
       Goes m t s o x y (own_at s o Accepted h 0 k) v (i_open x) n' h h'
-      (told m s (Arrived (conn x) (t.cea (t.config o) h)) w) 0 0 0
+      (told m s (Arrived (conn x) (t.cea (t.config o) h)) w) []
   cea_plain el s o pair w x y j k v n' h h' a =
       let p = peer_at s w in
       let xx = itself x in
@@ -325,18 +327,18 @@ module _ {P M C H : Type 0} (m : Peers P M) (t : Talks P M C H) where
       turn m t el s o pair w x y (own_at s o Answered h j k) v (own_at s o Accepted h 0 k) v (wait_i_cea x) n'
       (i_open x) h h' h (Arrived (conn x) (t.cea (t.config o) h)) (input.Heard (conn x) Cea)
       (Some (t.cea_header h))
-      [] [] [] 0 0 0 a (λ q. elim q [ ])
+      [] [] [] a (λ q. elim q [ ])
       (reads_answers s o pair p (wait_i_cea x) h h' (conn x) a.own (a.own.awaits refl) (simp (xx)))
       (out_cea x (t.wins s) xx)
       (λ acts. none_said m t s p (Some (t.cea_header h)) acts) (λ b. cc) (λ b. cc) a.own.number (λ b. refl)
-      (simp (xx)) (unnamed _ v (λ z. simp (xy))) (λ d b z hx hy. simp (hx)) refl refl refl nothing
+      (simp (xx)) (unnamed _ v (λ z. simp (xy))) (λ d b z hx hy. simp (hx)) refl refl refl
 
   pub cea_returns : IsElecting m t → (s o : Side) → IsPair s o →
       (w : World P M) (x y j k i l : ℕ) (n' : Node) (h h' : ℕ) →
       At m t s o w x y (own_at s o Answered h j k) (option_map mirror (own_at o s Halved h' i l))
       (returns x y) n' h h' →
       Goes m t s o x y (own_at s o Accepted h 0 k) (option_map mirror (own_at o s (Parted Coming Coming) h' i l))
-      (i_open x) n' h h' (told m s (Arrived (conn x) (t.cea (t.config o) h)) w) 0 0 1
+      (i_open x) n' h h' (told m s (Arrived (conn x) (t.cea (t.config o) h)) w) (Disconnect y o ∷ [])
   cea_returns el s o pair w x y j k i l n' h h' a =
       let p = peer_at s w in
       let xx = itself x in
@@ -348,13 +350,12 @@ module _ {P M C H : Type 0} (m : Peers P M) (t : Talks P M C H) where
       (own_at s o Accepted h 0 k) (option_map mirror (own_at o s (Parted Coming Coming) h' i l))
       (returns x y) n' (i_open x) h h' h
       (Arrived (conn x) (t.cea (t.config o) h)) (input.Heard (conn x) Cea) (Some (t.cea_header h))
-      (command.Close (conn y) ∷ []) (act ∷ []) (Disconnect y o ∷ []) 0 0 1 a (λ q. elim q [ ])
+      (command.Close (conn y) ∷ []) (act ∷ []) (Disconnect y o ∷ []) a (λ q. elim q [ ])
       (reads_answers s o pair p (returns x y) h h' (conn x) a.own (a.own.awaits refl) (simp (xx)))
       (out_cea_returns x y (t.wins s) xx)
       (λ acts. one_said m t s p (Some (t.cea_header h)) (command.Close (conn y)) act acts (λ b q. q)) (λ b. cc)
       (λ b. cc) a.own.number (λ b. refl)
       (simp (xx, yx)) (simp (xy, yy)) (λ d b z hx hy. simp (hx, hy)) (simp (yy, yx)) refl (simp (yx, xy))
-      (disconnect y o [] 0 0 0 nothing)
 
   -- the winner's disconnect to a peer that accepted its link
   open_not_fresh : (s o : Side) → IsPair s o → (q : Put M) (z : View M) → z.own ≡ Open →
@@ -366,7 +367,7 @@ module _ {P M C H : Type 0} (m : Peers P M) (t : Talks P M C H) where
       (w : World P M) (x y j k : ℕ) (u : Option (View M)) (n' : Node) (h h' : ℕ) →
       At m t s o w x y u (option_map mirror (own_at o s Halved h' j k)) (returns x y) n' h h' →
       Goes m t s o x y u (option_map mirror (own_at o s (Parted Coming Delivered) h' j k)) (wait_i_cea x) n' h h'
-      (told m s (Gone (conn y)) w) 0 0 1
+      (told m s (Gone (conn y)) w) (Disconnect y o ∷ [])
   gone_returns el s o pair w x y j k u n' h h' a =
       let p = peer_at s w in
       let yy = itself y in
@@ -376,7 +377,7 @@ module _ {P M C H : Type 0} (m : Peers P M) (t : Talks P M C H) where
       turn m t el s o pair w x y u (option_map mirror (own_at o s Halved h' j k)) u
       (option_map mirror (own_at o s (Parted Coming Delivered) h' j k)) (returns x y) n' (wait_i_cea x) h h' h
       (Gone (conn y)) (input.Gone (conn y)) None
-      (command.Close (conn y) ∷ []) (act ∷ []) (Disconnect y o ∷ []) 0 0 1 a (λ q. elim q [ ])
+      (command.Close (conn y) ∷ []) (act ∷ []) (Disconnect y o ∷ []) a (λ q. elim q [ ])
       (ends (conn y)) (out_gone x y (t.wins s) xy yy)
       (λ acts. one_said m t s p None (command.Close (conn y)) act acts (λ b q. q)) (λ b. a.own.awaits refl)
       (λ b. cc) a.own.number (λ b. refl)
@@ -384,4 +385,3 @@ module _ {P M C H : Type 0} (m : Peers P M) (t : Talks P M C H) where
       (ap (put_if_fresh s (Disconnect y (flip s))) a.at_y
       ∙ open_not_fresh s o pair (Disconnect y (flip s))
       (mirror (seen Up Shut Open (way [] j NoMark) (way [] k Coming))) refl) (simp (yy, yx))
-      (disconnect y o [] 0 0 0 nothing)

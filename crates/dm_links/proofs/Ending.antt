@@ -7,10 +7,10 @@ use Rattle.dm_links.specs.Worlds.{World}
 use Rattle.dm_links.specs.Happens.{Happening, Ran, run}
 use Rattle.dm_links.specs.Quiet.{is_clean, made, steps}
 use Rattle.dm_links.specs.Electing.{Talks, IsElecting}
-use Rattle.dm_links.specs.Settled.{nothing, IsAtRest}
+use Rattle.dm_links.specs.Settled.{IsAtRest}
 use Rattle.dm_links.proofs.Pairs.{IsPair, ab, ba}
 use Rattle.dm_links.proofs.Phases.{C1, InPhase}
-use Rattle.dm_links.proofs.Running.{Ended, runs}
+use Rattle.dm_links.proofs.Running.{nothing_put, Ended, runs}
 use Rattle.dm_links.proofs.Settling.{bare, begins}
 
 module _ {P M C H : Type 0} (m : Peers P M) (t : Talks P M C H) where
@@ -36,7 +36,8 @@ module _ {P M C H : Type 0} (m : Peers P M) (t : Talks P M C H) where
   run_ends el w hs clean K holds g l pair wins loses q =
       found_end w hs K holds g l pair wins loses (run m w hs) refl
       (runs m t el g l pair wins loses hs clean C1 (length w.links) (suc (length w.links)) 0
-      (record { world = w; put = [] }) q nothing (omega arith))
+      (record { world = w; put = [] }) q (nothing_put m t g l (length w.links) (suc (length w.links)) q.h q.h')
+      (omega arith))
 
   pub each_ends : IsElecting m t → (w : World P M) → IsAtRest m t w → (hs : List (Happening M)) →
       is_clean hs ≡ true → (K : Ran P M → Type 0) → HoldsAtEnd w hs K → IfSome (run m w hs) (λ r. K r)

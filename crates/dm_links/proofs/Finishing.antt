@@ -28,13 +28,12 @@ module _ {P M C H : Type 0} (m : Peers P M) (t : Talks P M C H) where
     pub same_g : present (stage_g k) x ≡ present (stage_g k') x'
     pub same_l : present (stage_l k) y ≡ present (stage_l k') y'
 
-  further_of : (g l : Side) (k : Phase) (x y c : ℕ) (after : After P M) (gs ls : List ℕ) →
-      Went m t g l k x y c after gs ls → c ≡ 1 → gs ≡ [] → ls ≡ [] → (w : World P M) (put : List (Put M)) →
+  further_of : {h h' : ℕ} (g l : Side) (k : Phase) (x y c : ℕ) (after : After P M) (gs ls : List ℕ) →
+      Went m t g l k x y h h' c after gs ls → c ≡ 1 → gs ≡ [] → ls ≡ [] → (w : World P M) (put : List (Put M)) →
       after ≡ Done w put → Further g l k x y w
   further_of g l k x y c after gs ls stays one eg e_l w put e = cc
   further_of g l k x y c after gs ls is_lost one eg e_l w put e = cc
-  further_of g l k x y c after gs ls (moves w0 put0 gs0 ls0 k' x' y' a b d q tally e1 e2 e3 e0 e4 e5) one eg e_l w put
-      e =
+  further_of g l k x y c after gs ls (moves w0 put0 gs0 ls0 k' x' y' q adds e0 e4 e5) one eg e_l w put e =
       let same : w0 ≡ w = cc e in
       record {
         k' = k';

@@ -1,17 +1,16 @@
 -- The phases of a clean run: what the two nodes are in, how far the link that the greater side opens and the one that
 -- the other opens have come, and what was put in. Every step leads to a later one.
-use Rattle.std.proofs.Common.{◌≡◌, ℕ, ◌+◌, ◌≤◌, List, [], ◌∷◌, ◌++◌}
+use Rattle.std.proofs.Common.{◌≡◌, ℕ, ◌+◌, ◌≤◌, Bool, true, false, List, [], ◌∷◌, ◌++◌}
 use Rattle.std.specs.Prelude.{option_map}
 use Rattle.dm_links.specs.Machine.{Node, closed_node}
 use Rattle.dm_links.specs.Links.{Side, Coming, Delivered}
 use Rattle.dm_links.specs.Peers.{Peers}
-use Rattle.dm_links.specs.Worlds.{World, Put, After, Done, Ignored, NoLink}
+use Rattle.dm_links.specs.Worlds.{World, Put, Disconnect, After, Done, Ignored, NoLink}
 use Rattle.dm_links.specs.Electing.{Talks}
-use Rattle.dm_links.specs.Settled.{Tally}
 use Rattle.dm_links.proofs.Pairs.{mirror, At}
 use Rattle.dm_links.proofs.Turns.{wait_conn_ack, wait_i_cea, elect, returns, r_open, i_open}
 use Rattle.dm_links.proofs.Stages.{Stage, Unmade, Dialled, Asked, Accepted, Answered, Dropped, Halved, Parted}
-use Rattle.dm_links.proofs.Acting.{own_at}
+use Rattle.dm_links.proofs.Acting.{own_at, cer_put, cea_put}
 
 pub data Phase : Type 0 where
   C1 C2 C3 C4 C5 C6 C7 C8 C9 C10 C11 C12 C13 C14 C15 C16 C17 C18 C19 C20 C21 C22 C23 C24 C25 : Phase
@@ -125,88 +124,6 @@ stage_l C23 = Accepted
 stage_l C24 = Accepted
 stage_l C25 = Accepted
 
--- what was put in
-abbrev pub cers : Phase → ℕ
-cers C1 = 0
-cers C2 = 0
-cers C3 = 0
-cers C4 = 1
-cers C5 = 1
-cers C6 = 1
-cers C7 = 1
-cers C8 = 1
-cers C9 = 1
-cers C10 = 0
-cers C11 = 1
-cers C12 = 1
-cers C13 = 1
-cers C14 = 1
-cers C15 = 2
-cers C16 = 2
-cers C17 = 2
-cers C18 = 2
-cers C19 = 2
-cers C20 = 2
-cers C21 = 2
-cers C22 = 2
-cers C23 = 2
-cers C24 = 2
-cers C25 = 2
-
-abbrev pub ceas : Phase → ℕ
-ceas C1 = 0
-ceas C2 = 0
-ceas C3 = 0
-ceas C4 = 0
-ceas C5 = 0
-ceas C6 = 1
-ceas C7 = 1
-ceas C8 = 1
-ceas C9 = 1
-ceas C10 = 0
-ceas C11 = 0
-ceas C12 = 0
-ceas C13 = 0
-ceas C14 = 0
-ceas C15 = 0
-ceas C16 = 0
-ceas C17 = 1
-ceas C18 = 1
-ceas C19 = 1
-ceas C20 = 1
-ceas C21 = 1
-ceas C22 = 1
-ceas C23 = 1
-ceas C24 = 1
-ceas C25 = 1
-
-abbrev pub ends : Phase → ℕ
-ends C1 = 0
-ends C2 = 0
-ends C3 = 0
-ends C4 = 0
-ends C5 = 0
-ends C6 = 0
-ends C7 = 0
-ends C8 = 0
-ends C9 = 0
-ends C10 = 0
-ends C11 = 0
-ends C12 = 0
-ends C13 = 0
-ends C14 = 0
-ends C15 = 0
-ends C16 = 0
-ends C17 = 1
-ends C18 = 1
-ends C19 = 1
-ends C20 = 2
-ends C21 = 2
-ends C22 = 2
-ends C23 = 2
-ends C24 = 2
-ends C25 = 2
-
 -- how many steps lead to it at most
 abbrev pub depth : Phase → ℕ
 depth C1 = 0
@@ -240,7 +157,50 @@ abbrev pub present : Stage → ℕ → List ℕ
 present Unmade x = []
 present _ x = x ∷ []
 
+-- whose CER comes first in the next phase: as it was; the greater side's, where the other's comes second; the other's
+abbrev pub as_before : Bool → Bool
+as_before b = b
+
+abbrev pub greater_first : Bool → Bool
+greater_first b = true
+
+abbrev pub other_first : Bool → Bool
+other_first b = false
+
 module _ {P M C H : Type 0} (m : Peers P M) (t : Talks P M C H) where
+  -- the CERs of both sides, the greater side's first or last
+  abbrev pub both_cers : Side → Side → Bool → ℕ → ℕ → ℕ → ℕ → List (Put M)
+  both_cers g l true x y h h' = cer_put m t g l x h ∷ cer_put m t l g y h' ∷ []
+  both_cers g l false x y h h' = cer_put m t l g y h' ∷ cer_put m t g l x h ∷ []
+
+  -- what was put in
+  abbrev pub put_so_far : Side → Side → Phase → Bool → ℕ → ℕ → ℕ → ℕ → List (Put M)
+  put_so_far g l C1 b x y h h' = []
+  put_so_far g l C2 b x y h h' = []
+  put_so_far g l C3 b x y h h' = []
+  put_so_far g l C4 b x y h h' = cer_put m t g l x h ∷ []
+  put_so_far g l C5 b x y h h' = cer_put m t l g y h' ∷ []
+  put_so_far g l C6 b x y h h' = cer_put m t g l x h ∷ cea_put m t g l x h ∷ []
+  put_so_far g l C7 b x y h h' = cer_put m t l g y h' ∷ cea_put m t l g y h' ∷ []
+  put_so_far g l C8 b x y h h' = cer_put m t g l x h ∷ cea_put m t g l x h ∷ []
+  put_so_far g l C9 b x y h h' = cer_put m t l g y h' ∷ cea_put m t l g y h' ∷ []
+  put_so_far g l C10 b x y h h' = []
+  put_so_far g l C11 b x y h h' = cer_put m t g l x h ∷ []
+  put_so_far g l C12 b x y h h' = cer_put m t l g y h' ∷ []
+  put_so_far g l C13 b x y h h' = cer_put m t g l x h ∷ []
+  put_so_far g l C14 b x y h h' = cer_put m t l g y h' ∷ []
+  put_so_far g l C15 b x y h h' = both_cers g l b x y h h'
+  put_so_far g l C16 b x y h h' = both_cers g l b x y h h'
+  put_so_far g l C17 b x y h h' = both_cers g l b x y h h' ++ Disconnect x l ∷ cea_put m t l g y h' ∷ []
+  put_so_far g l C18 b x y h h' = both_cers g l b x y h h' ++ Disconnect x l ∷ cea_put m t l g y h' ∷ []
+  put_so_far g l C19 b x y h h' = both_cers g l b x y h h' ++ Disconnect x l ∷ cea_put m t l g y h' ∷ []
+  put_so_far g l _ b x y h h' = both_cers g l b x y h h' ++ Disconnect x l ∷ cea_put m t l g y h' ∷ Disconnect x g ∷ []
+
+  -- what is put in on the way to a phase, whoever's CER came first
+  pub record Adds (g l : Side) (k k' : Phase) (x y n n' x' y' h h' : ℕ) (put : List (Put M)) : Type 0 where
+    pub first : Bool → Bool
+    pub adds : (b : Bool) → put_so_far g l k b x y n n' ++ put ≡ put_so_far g l k' (first b) x' y' h h'
+
   -- a world is in a phase; the greater side is g
   pub record InPhase (g l : Side) (w : World P M) (k : Phase) (x y : ℕ) : Type 0 where
     pub h : ℕ
@@ -252,12 +212,12 @@ module _ {P M C H : Type 0} (m : Peers P M) (t : Talks P M C H) where
     pub at : At m t g l w x y (own_at m t g l (stage_g k) h i j)
         (option_map mirror (own_at m t l g (stage_l k) h' i' j')) (node_g k x y) (node_l k x y) h h'
 
-  -- what a happening that counts for so many steps does to it, with the links that it makes
-  pub data Went (g l : Side) (k : Phase) (x y c : ℕ) : After P M → List ℕ → List ℕ → Type 0 where
-    stays : Went g l k x y c Ignored [] []
-    is_lost : Went g l k x y c NoLink [] []
-    moves : (w : World P M) (put : List (Put M)) (gs ls : List ℕ) (k' : Phase) (x' y' a b d : ℕ) →
-        InPhase g l w k' x' y' → Tally t put a b d →
-        cers k + a ≡ cers k' → ceas k + b ≡ ceas k' → ends k + d ≡ ends k' → depth k + c ≤ depth k' →
+  -- what a happening that counts for so many steps does to it, with the links that it makes; n and n' are the numbers
+  -- of the two CERs before it
+  pub data Went (g l : Side) (k : Phase) (x y n n' c : ℕ) : After P M → List ℕ → List ℕ → Type 0 where
+    stays : Went g l k x y n n' c Ignored [] []
+    is_lost : Went g l k x y n n' c NoLink [] []
+    moves : (w : World P M) (put : List (Put M)) (gs ls : List ℕ) (k' : Phase) (x' y' : ℕ) →
+        (q : InPhase g l w k' x' y') → Adds g l k k' x y n n' x' y' q.h q.h' put → depth k + c ≤ depth k' →
         present (stage_g k) x ++ gs ≡ present (stage_g k') x' →
-        present (stage_l k) y ++ ls ≡ present (stage_l k') y' → Went g l k x y c (Done w put) gs ls
+        present (stage_l k) y ++ ls ≡ present (stage_l k') y' → Went g l k x y n n' c (Done w put) gs ls

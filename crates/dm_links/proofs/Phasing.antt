@@ -1,25 +1,22 @@
 -- From the steps of one side to the phases.
-use Rattle.std.proofs.Common.{◌≡◌, ℕ, ◌+◌, ◌==◌, nat_le, Bool, true, false, if◌then◌else◌, Option, Some, None, [], ◌++◌, refl, sym, subst, arith}
+use Rattle.std.proofs.Common.{◌≡◌, ℕ, ◌+◌, ◌==◌, nat_le, Bool, true, false, if◌then◌else◌, Option, Some, None, List, [], ◌++◌, refl, sym, ap, subst, ◌∙◌}
 use Rattle.std.specs.Prelude.{option_map}
 use Rattle.std.proofs.lemmas.Bool.{leb-true}
 use Rattle.dm_links.specs.Machine.{conn}
 use Rattle.dm_links.specs.Links.{Side, NoMark, Coming, Delivered, View, link_of}
 use Rattle.dm_links.specs.Peers.{Ack, Peers}
-use Rattle.dm_links.specs.Worlds.{World, After, Ignored, NoLink, told}
+use Rattle.dm_links.specs.Worlds.{World, Put, After, Ignored, NoLink, told}
 use Rattle.dm_links.specs.Happens.{next_in, delivered, pieced, if_up, if_pending, at_link, own_view}
 use Rattle.dm_links.specs.Electing.{Talks}
 use Rattle.dm_links.proofs.Pairs.{IsPair, ab, ba, mirror, At, at_flip}
 use Rattle.dm_links.proofs.Told.{Goes}
 use Rattle.dm_links.proofs.Stages.{Stage, Unmade, Dialled, Asked, Accepted, Answered, Dropped, Halved, Parted}
 use Rattle.dm_links.proofs.Acting.{own_at}
-use Rattle.dm_links.proofs.Phases.{Phase, node_g, node_l, stage_g, stage_l, cers, ceas, ends, depth, present, InPhase, Went, stays, is_lost, moves}
+use Rattle.dm_links.proofs.Phases.{Phase, node_g, node_l, stage_g, stage_l, depth, present, put_so_far, Adds, InPhase, Went, stays, is_lost, moves}
 
-mirror_twice : {M : Type 0} (u : Option (View M)) → option_map mirror (option_map mirror u) ≡ u
+pub mirror_twice : {M : Type 0} (u : Option (View M)) → option_map mirror (option_map mirror u) ≡ u
 mirror_twice None = refl
 mirror_twice (Some v) = refl
-
-pub plus_none : (n : ℕ) → n + 0 ≡ n
-plus_none n = omega arith
 
 -- an Ack, a delivery and a piece, by a side's view of the link
 abbrev pub acked : {P M : Type 0} → Peers P M → Side → ℕ → World P M → Option (View M) → After P M
@@ -81,8 +78,9 @@ idle_out (Parted i Coming) = false
 idle_out _ = true
 
 module _ {P M C H : Type 0} (m : Peers P M) (t : Talks P M C H) where
-  pub idle_ack : (g l : Side) (k : Phase) (x y : ℕ) (s o : Side) (c : ℕ) (w : World P M) (st : Stage) (h i j : ℕ) →
-      is_dialled st ≡ false → Went m t g l k x y 1 (acked m s c w (own_at m t s o st h i j)) [] []
+  pub idle_ack : {n n' : ℕ} (g l : Side) (k : Phase) (x y : ℕ) (s o : Side) (c : ℕ) (w : World P M) (st : Stage)
+      (h i j : ℕ) →
+      is_dialled st ≡ false → Went m t g l k x y n n' 1 (acked m s c w (own_at m t s o st h i j)) [] []
   idle_ack g l k x y s o c w Unmade h i j e = is_lost
   idle_ack g l k x y s o c w Dialled h i j e = cc
   idle_ack g l k x y s o c w Asked h i j e = stays
@@ -92,8 +90,9 @@ module _ {P M C H : Type 0} (m : Peers P M) (t : Talks P M C H) where
   idle_ack g l k x y s o c w Halved h i j e = stays
   idle_ack g l k x y s o c w (Parted a b) h i j e = stays
 
-  pub idle_own : (g l : Side) (k : Phase) (x y : ℕ) (s o : Side) (c : ℕ) (w : World P M) (st : Stage) (h i j : ℕ) →
-      idle_in st ≡ true → Went m t g l k x y 1 (arrives m s c w (own_at m t s o st h i j)) [] []
+  pub idle_own : {n n' : ℕ} (g l : Side) (k : Phase) (x y : ℕ) (s o : Side) (c : ℕ) (w : World P M) (st : Stage)
+      (h i j : ℕ) →
+      idle_in st ≡ true → Went m t g l k x y n n' 1 (arrives m s c w (own_at m t s o st h i j)) [] []
   idle_own g l k x y s o c w Unmade h i j e = is_lost
   idle_own g l k x y s o c w Dialled h i j e = stays
   idle_own g l k x y s o c w Asked h i j e = stays
@@ -105,9 +104,9 @@ module _ {P M C H : Type 0} (m : Peers P M) (t : Talks P M C H) where
   idle_own g l k x y s o c w (Parted NoMark b) h i j e = stays
   idle_own g l k x y s o c w (Parted Delivered b) h i j e = stays
 
-  pub idle_other : (g l : Side) (k : Phase) (x y : ℕ) (s o : Side) (c : ℕ) (w : World P M) (st : Stage)
+  pub idle_other : {n n' : ℕ} (g l : Side) (k : Phase) (x y : ℕ) (s o : Side) (c : ℕ) (w : World P M) (st : Stage)
       (h i j : ℕ) → idle_out st ≡ true →
-      Went m t g l k x y 1 (arrives m s c w (option_map mirror (own_at m t o s st h i j))) [] []
+      Went m t g l k x y n n' 1 (arrives m s c w (option_map mirror (own_at m t o s st h i j))) [] []
   idle_other g l k x y s o c w Unmade h i j e = is_lost
   idle_other g l k x y s o c w Dialled h i j e = stays
   idle_other g l k x y s o c w Asked h i j e = cc
@@ -134,7 +133,7 @@ module _ {P M C H : Type 0} (m : Peers P M) (t : Talks P M C H) where
       (option_map mirror (own_at m t l g (stage_l k) q.h' q.i' q.j')) (node_g k x y)
       (node_l k x y) q.h q.h' q.at)
 
-  pub flip_out : (g l : Side) (w : World P M) (k : Phase) (x y h h' i j i' j' : ℕ) →
+  abbrev pub flip_out : (g l : Side) (w : World P M) (k : Phase) (x y h h' i j i' j' : ℕ) →
       At m t l g w y x (own_at m t l g (stage_l k) h' i' j') (option_map mirror (own_at m t g l (stage_g k) h i j))
       (node_l k x y) (node_g k x y) h' h → InPhase m t g l w k x y
   flip_out g l w k x y h h' i j i' j' a =
@@ -151,30 +150,52 @@ module _ {P M C H : Type 0} (m : Peers P M) (t : Talks P M C H) where
             (option_map mirror (own_at m t g l (stage_g k) h i j)) (node_l k x y) (node_g k x y) h' h a);
       }
 
+  -- what is put in, shown where the greater side's CER came first and where the other's did
+  pub adds_either : (g l : Side) (k k' : Phase) (x y n n' x' y' h h' : ℕ) (puts put : List (Put M))
+      (first : Bool → Bool) →
+      put ≡ puts → put_so_far m t g l k true x y n n' ++ puts ≡ put_so_far m t g l k' (first true) x' y' h h' →
+      put_so_far m t g l k false x y n n' ++ puts ≡ put_so_far m t g l k' (first false) x' y' h h' →
+      Adds m t g l k k' x y n n' x' y' h h' put
+  adds_either g l k k' x y n n' x' y' h h' puts put first e e1 e2 =
+      record {
+        first = first;
+        adds = λ b.
+            ap (λ (qs : List (Put M)). put_so_far m t g l k b x y n n' ++ qs) e
+            ∙ elim b as (λ c. put_so_far m t g l k c x y n n' ++ puts ≡ put_so_far m t g l k' (first c) x' y' h h') [
+              | true ↦ e1
+              | false ↦ e2
+            ];
+      }
+
   -- a step of the greater side, and of the other
-  pub went_own : (g l : Side) (k k' : Phase) (x y h h' i j i' j' a b d : ℕ) (after : After P M) →
+  pub went_own : {n n' : ℕ} (g l : Side) (k k' : Phase) (x y h h' i j i' j' : ℕ) (first : Bool → Bool)
+      (puts : List (Put M)) (after : After P M) →
       Goes m t g l x y (own_at m t g l (stage_g k') h i j)
       (option_map mirror (own_at m t l g (stage_l k') h' i' j')) (node_g k' x y)
-      (node_l k' x y) h h' after a b d →
-      cers k + a ≡ cers k' → ceas k + b ≡ ceas k' → ends k + d ≡ ends k' →
+      (node_l k' x y) h h' after puts →
+      put_so_far m t g l k true x y n n' ++ puts ≡ put_so_far m t g l k' (first true) x y h h' →
+      put_so_far m t g l k false x y n n' ++ puts ≡ put_so_far m t g l k' (first false) x y h h' →
       nat_le (depth k + 1) (depth k') ≡ true →
       present (stage_g k) x ++ [] ≡ present (stage_g k') x →
-      present (stage_l k) y ++ [] ≡ present (stage_l k') y → Went m t g l k x y 1 after [] []
-  went_own g l k k' x y h h' i j i' j' a b d after s e1 e2 e3 e0 e4 e5 =
-      subst (λ z. Went m t g l k x y 1 z [] []) (sym s.is)
-      (moves s.world s.put [] [] k' x y a b d
-      (record { h = h; h' = h'; i = i; j = j; i' = i'; j' = j'; at = s.at }) s.counted e1 e2 e3
+      present (stage_l k) y ++ [] ≡ present (stage_l k') y → Went m t g l k x y n n' 1 after [] []
+  went_own {n} {n'} g l k k' x y h h' i j i' j' first puts after s e1 e2 e0 e4 e5 =
+      subst (λ z. Went m t g l k x y n n' 1 z [] []) (sym s.is)
+      (moves s.world s.put [] [] k' x y
+      (record { h = h; h' = h'; i = i; j = j; i' = i'; j' = j'; at = s.at })
+      (adds_either g l k k' x y n n' x y h h' puts s.put first s.is_put e1 e2)
       (leb-true (depth k + 1) (depth k') e0) e4 e5)
 
-  pub went_other : (g l : Side) (k k' : Phase) (x y h h' i j i' j' a b d : ℕ) (after : After P M) →
+  pub went_other : {n n' : ℕ} (g l : Side) (k k' : Phase) (x y h h' i j i' j' : ℕ) (first : Bool → Bool)
+      (puts : List (Put M)) (after : After P M) →
       Goes m t l g y x (own_at m t l g (stage_l k') h' i' j')
-      (option_map mirror (own_at m t g l (stage_g k') h i j)) (node_l k' x y) (node_g k' x y) h' h after a b d →
-      cers k + a ≡ cers k' → ceas k + b ≡ ceas k' → ends k + d ≡ ends k' →
+      (option_map mirror (own_at m t g l (stage_g k') h i j)) (node_l k' x y) (node_g k' x y) h' h after puts →
+      put_so_far m t g l k true x y n n' ++ puts ≡ put_so_far m t g l k' (first true) x y h h' →
+      put_so_far m t g l k false x y n n' ++ puts ≡ put_so_far m t g l k' (first false) x y h h' →
       nat_le (depth k + 1) (depth k') ≡ true →
       present (stage_g k) x ++ [] ≡ present (stage_g k') x →
-      present (stage_l k) y ++ [] ≡ present (stage_l k') y → Went m t g l k x y 1 after [] []
-  went_other g l k k' x y h h' i j i' j' a b d after s e1 e2 e3 e0 e4 e5 =
-      subst (λ z. Went m t g l k x y 1 z [] []) (sym s.is)
-      (moves s.world s.put [] [] k' x y a b d
-      (flip_out g l s.world k' x y h h' i j i' j' s.at) s.counted e1 e2 e3
+      present (stage_l k) y ++ [] ≡ present (stage_l k') y → Went m t g l k x y n n' 1 after [] []
+  went_other {n} {n'} g l k k' x y h h' i j i' j' first puts after s e1 e2 e0 e4 e5 =
+      subst (λ z. Went m t g l k x y n n' 1 z [] []) (sym s.is)
+      (moves s.world s.put [] [] k' x y (flip_out g l s.world k' x y h h' i j i' j' s.at)
+      (adds_either g l k k' x y n n' x y h h' puts s.put first s.is_put e1 e2)
       (leb-true (depth k + 1) (depth k') e0) e4 e5)

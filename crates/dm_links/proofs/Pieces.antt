@@ -10,14 +10,13 @@ use Rattle.dm_links.specs.Worlds.{World, with_links, change_at, After, Done, Ign
 use Rattle.dm_links.specs.Happens.{NextNothing, next_in, comes, delivered, taking, pieced, if_up, if_pending, own_view}
 use Rattle.dm_links.specs.Quiet.{is_still, is_quiet_link, is_in_part}
 use Rattle.dm_links.specs.Electing.{Talks}
-use Rattle.dm_links.specs.Settled.{nothing}
 use Rattle.dm_links.proofs.Lists.{change_at-tested}
 use Rattle.dm_links.proofs.Pairs.{IsPair, mirror, own_by, other_by, Stands, At, not_same}
 use Rattle.dm_links.proofs.Stages.{Stage, Unmade, Dialled, Asked, Accepted, Answered, Dropped, Halved, Parted}
 use Rattle.dm_links.proofs.Acting.{itself, own_at}
 use Rattle.dm_links.proofs.Starting.{same_peers}
-use Rattle.dm_links.proofs.Phases.{Phase, node_g, node_l, stage_g, stage_l, cers, ceas, ends, present, InPhase, Went, stays, moves}
-use Rattle.dm_links.proofs.Phasing.{plus_none, arrives, pieces, flip_in, flip_out}
+use Rattle.dm_links.proofs.Phases.{Phase, node_g, node_l, stage_g, stage_l, present, as_before, put_so_far, Adds, InPhase, Went, stays, moves}
+use Rattle.dm_links.proofs.Phasing.{arrives, pieces, flip_in, flip_out}
 
 same_map : {X : Type 0} (o : Option X) → option_map (λ x. x) o ≡ o
 same_map None = refl
@@ -54,7 +53,7 @@ both_ignored true after e = refl
 both_ignored false after e = e
 
 -- octets delivered of what is under way
-taken_own : {M : Type 0} (st : Stage) (P C H : Type 0) (m : Peers P M) (t : Talks P M C H) (s o : Side)
+pub taken_own : {M : Type 0} (st : Stage) (P C H : Type 0) (m : Peers P M) (t : Talks P M C H) (s o : Side)
     (h i j n : ℕ) → option_map (taking n) (own_at m t s o st h i j) ≡ own_at m t s o st h (i + n) j
 taken_own Unmade P C H m t s o h i j n = refl
 taken_own Dialled P C H m t s o h i j n = refl
@@ -65,7 +64,7 @@ taken_own Dropped P C H m t s o h i j n = refl
 taken_own Halved P C H m t s o h i j n = refl
 taken_own (Parted a b) P C H m t s o h i j n = refl
 
-taken_other : {M : Type 0} (st : Stage) (P C H : Type 0) (m : Peers P M) (t : Talks P M C H) (s o : Side)
+pub taken_other : {M : Type 0} (st : Stage) (P C H : Type 0) (m : Peers P M) (t : Talks P M C H) (s o : Side)
     (h i j n : ℕ) → option_map (taking n) (option_map mirror (own_at m t o s st h i j)) ≡ option_map mirror
     (own_at m t o s st h i (j + n))
 taken_other Unmade P C H m t s o h i j n = refl
@@ -84,7 +83,7 @@ is_seen_in_part size n (Some z) = is_in_part size n z.incoming
 
 module _ {P M C H : Type 0} (m : Peers P M) (t : Talks P M C H) where
   -- one of the two links is changed
-  change_own : (s o : Side) → IsPair s o →
+  pub change_own : (s o : Side) → IsPair s o →
       (w : World P M) (x y : ℕ) (u v u1 : Option (View M)) (n n' : Node) (h h' : ℕ) (f : View M → View M) →
       At m t s o w x y u v n n' h h' → option_map f u ≡ u1 →
       At m t s o (with_links (change_at x (by_side s f) w.links) w) x y u1 v n n' h h'
@@ -101,7 +100,7 @@ module _ {P M C H : Type 0} (m : Peers P M) (t : Talks P M C H) where
             (sym (change_at-tested x d false (by_side s f) w.links hx ∙ same_map (slice_get w.links d)) ∙ at) hx hy;
       }
 
-  change_other : (s o : Side) → IsPair s o →
+  pub change_other : (s o : Side) → IsPair s o →
       (w : World P M) (x y : ℕ) (u v v1 : Option (View M)) (n n' : Node) (h h' : ℕ) (f : View M → View M) →
       At m t s o w x y u v n n' h h' → option_map f v ≡ v1 →
       At m t s o (with_links (change_at y (by_side s f) w.links) w) x y u v1 n n' h h'
@@ -120,7 +119,7 @@ module _ {P M C H : Type 0} (m : Peers P M) (t : Talks P M C H) where
             (sym (change_at-tested y d false (by_side s f) w.links hy ∙ same_map (slice_get w.links d)) ∙ at) hx hy;
       }
 
-  pub take_gg : (g l : Side) → IsPair g l → (w : World P M) (k : Phase) (x y n : ℕ) → InPhase m t g l w k x y →
+  abbrev pub take_gg : (g l : Side) → IsPair g l → (w : World P M) (k : Phase) (x y n : ℕ) → InPhase m t g l w k x y →
       InPhase m t g l (with_links (change_at x (by_side g (taking n)) w.links) w) k x y
   take_gg g l pair w k x y n q =
       record {
@@ -137,7 +136,7 @@ module _ {P M C H : Type 0} (m : Peers P M) (t : Talks P M C H) where
             (taken_own (stage_g k) P C H m t g l q.h q.i q.j n);
       }
 
-  pub take_lg : (g l : Side) → IsPair g l → (w : World P M) (k : Phase) (x y n : ℕ) → InPhase m t g l w k x y →
+  abbrev pub take_lg : (g l : Side) → IsPair g l → (w : World P M) (k : Phase) (x y n : ℕ) → InPhase m t g l w k x y →
       InPhase m t g l (with_links (change_at y (by_side g (taking n)) w.links) w) k x y
   take_lg g l pair w k x y n q =
       record {
@@ -154,7 +153,7 @@ module _ {P M C H : Type 0} (m : Peers P M) (t : Talks P M C H) where
             (taken_other (stage_l k) P C H m t g l q.h' q.i' q.j' n);
       }
 
-  pub take_ll : (g l : Side) → IsPair l g → (w : World P M) (k : Phase) (x y n : ℕ) → InPhase m t g l w k x y →
+  abbrev pub take_ll : (g l : Side) → IsPair l g → (w : World P M) (k : Phase) (x y n : ℕ) → InPhase m t g l w k x y →
       InPhase m t g l (with_links (change_at y (by_side l (taking n)) w.links) w) k x y
   take_ll g l pair w k x y n q =
       flip_out m t g l (with_links (change_at y (by_side l (taking n)) w.links) w) k x y q.h q.h' q.i q.j
@@ -165,7 +164,7 @@ module _ {P M C H : Type 0} (m : Peers P M) (t : Talks P M C H) where
       (node_l k x y) (node_g k x y) q.h' q.h (taking n) (flip_in m t g l w k x y q)
       (taken_own (stage_l k) P C H m t l g q.h' q.i' q.j' n))
 
-  pub take_gl : (g l : Side) → IsPair l g → (w : World P M) (k : Phase) (x y n : ℕ) → InPhase m t g l w k x y →
+  abbrev pub take_gl : (g l : Side) → IsPair l g → (w : World P M) (k : Phase) (x y n : ℕ) → InPhase m t g l w k x y →
       InPhase m t g l (with_links (change_at x (by_side l (taking n)) w.links) w) k x y
   take_gl g l pair w k x y n q =
       flip_out m t g l (with_links (change_at x (by_side l (taking n)) w.links) w) k x y q.h q.h' q.i
@@ -177,24 +176,29 @@ module _ {P M C H : Type 0} (m : Peers P M) (t : Talks P M C H) where
       (taken_other (stage_g k) P C H m t l g q.h q.i q.j n))
 
   -- a piece to a side, by the view of the link: it is a step where it ends its message
-  abbrev pub PieceWent : (g l : Side) (k : Phase) (x y : ℕ) (w : World P M) (s : Side) (n c : ℕ) → Option (View M) →
-      Type 0
-  PieceWent g l k x y w s n c u =
-      Went m t g l k x y (if is_seen_in_part m.size n u then 0 else 1) (pieces m s c n w u) [] []
+  abbrev pub PieceWent : (g l : Side) (k : Phase) (x y h h' : ℕ) (w : World P M) (s : Side) (n c : ℕ) →
+      Option (View M) → Type 0
+  PieceWent g l k x y h h' w s n c u =
+      Went m t g l k x y h h' (if is_seen_in_part m.size n u then 0 else 1) (pieces m s c n w u) [] []
+
+  none_added : (g l : Side) (k : Phase) (x y h h' : ℕ) → Adds m t g l k k x y h h' x y h h' []
+  none_added g l k x y h h' = record {
+    first = as_before;
+    adds = λ b. append-nil (put_so_far m t g l k b x y h h');
+  }
 
   piece_size : (g l : Side) (k : Phase) (x y : ℕ) (b : Bool) (w1 : World P M) (after : After P M) →
-      InPhase m t g l w1 k x y → Went m t g l k x y 1 after [] [] →
-      Went m t g l k x y (if b then 0 else 1) (if b then Done w1 [] else after) [] []
-  piece_size g l k x y true w1 after q h = moves w1 [] [] [] k x y 0 0 0 q nothing (plus_none (cers k))
-      (plus_none (ceas k)) (plus_none (ends k)) (omega arith) (append-nil (present (stage_g k) x))
-      (append-nil (present (stage_l k) y))
+      (q : InPhase m t g l w1 k x y) → Went m t g l k x y q.h q.h' 1 after [] [] →
+      Went m t g l k x y q.h q.h' (if b then 0 else 1) (if b then Done w1 [] else after) [] []
+  piece_size g l k x y true w1 after q h = moves w1 [] [] [] k x y q (none_added g l k x y q.h q.h')
+      (omega arith) (append-nil (present (stage_g k) x)) (append-nil (present (stage_l k) y))
   piece_size g l k x y false w1 after q h = h
 
   piece_next : (g l : Side) (k : Phase) (x y : ℕ) (s : Side) (c n : ℕ) (w : World P M) (end : End) (taken : ℕ)
       (messages : List M) (mark : Mark) →
-      InPhase m t g l (with_links (change_at c (by_side s (taking n)) w.links) w) k x y →
-      Went m t g l k x y 1 (delivered m c s end (next_in messages mark) w) [] [] →
-      Went m t g l k x y
+      (q : InPhase m t g l (with_links (change_at c (by_side s (taking n)) w.links) w) k x y) →
+      Went m t g l k x y q.h q.h' 1 (delivered m c s end (next_in messages mark) w) [] [] →
+      Went m t g l k x y q.h q.h'
       (if is_in_part m.size n (record { messages = messages; taken = taken; mark = mark }) then 0 else 1)
       (pieced m c s n end taken (next_in messages mark) w) [] []
   piece_next g l k x y s c n w end taken [] NoMark q h = stays
@@ -204,21 +208,21 @@ module _ {P M C H : Type 0} (m : Peers P M) (t : Talks P M C H) where
       piece_size g l k x y (nat_lt (taken + n) (m.size a))
       (with_links (change_at c (by_side s (taking n)) w.links) w) (comes m s (Arrived (conn c) a) end w) q h
 
-  piece_none : (g l : Side) (k : Phase) (x y i : ℕ) (b : Bool) (after : After P M) →
-      Went m t g l k x y i after [] [] → Went m t g l k x y i (if b then Ignored else after) [] []
+  piece_none : {h h' : ℕ} (g l : Side) (k : Phase) (x y i : ℕ) (b : Bool) (after : After P M) →
+      Went m t g l k x y h h' i after [] [] → Went m t g l k x y h h' i (if b then Ignored else after) [] []
   piece_none g l k x y i true after h = stays
   piece_none g l k x y i false after h = h
 
-  piece_up : (g l : Side) (k : Phase) (x y i : ℕ) (p : LinkPhase) (one two : After P M) →
-      (Went m t g l k x y 1 one [] [] → Went m t g l k x y i two [] []) →
-      Went m t g l k x y 1 (if_up p one Ignored) [] [] → Went m t g l k x y i (if_up p two Ignored) [] []
+  piece_up : {h h' : ℕ} (g l : Side) (k : Phase) (x y i : ℕ) (p : LinkPhase) (one two : After P M) →
+      (Went m t g l k x y h h' 1 one [] [] → Went m t g l k x y h h' i two [] []) →
+      Went m t g l k x y h h' 1 (if_up p one Ignored) [] [] → Went m t g l k x y h h' i (if_up p two Ignored) [] []
   piece_up g l k x y i Up one two f h = f h
   piece_up g l k x y i Pending one two f h = stays
   piece_up g l k x y i Cancelled one two f h = stays
 
   pub pieces_went : (g l : Side) (k : Phase) (x y : ℕ) (s : Side) (c n : ℕ) (w : World P M) (u : Option (View M)) →
-      InPhase m t g l (with_links (change_at c (by_side s (taking n)) w.links) w) k x y →
-      Went m t g l k x y 1 (arrives m s c w u) [] [] → PieceWent g l k x y w s n c u
+      (q : InPhase m t g l (with_links (change_at c (by_side s (taking n)) w.links) w) k x y) →
+      Went m t g l k x y q.h q.h' 1 (arrives m s c w u) [] [] → PieceWent g l k x y q.h q.h' w s n c u
   pieces_went g l k x y s c n w None q h = h
   pieces_went g l k x y s c n w (Some z) q h =
       let nx = next_in z.incoming.messages z.incoming.mark in
@@ -229,35 +233,35 @@ module _ {P M C H : Type 0} (m : Peers P M) (t : Talks P M C H) where
       (piece_next g l k x y s c n w z.own z.incoming.taken z.incoming.messages z.incoming.mark q one)) h
 
   -- what comes to another link
-  quiet_pending : (g l : Side) (k : Phase) (x y : ℕ) (p : LinkPhase) (b : Bool) (after : After P M) →
-      elim p [ Pending ↦ false | _ ↦ b ] ≡ true → Went m t g l k x y 1 (if_pending p after Ignored) [] []
+  quiet_pending : {h h' : ℕ} (g l : Side) (k : Phase) (x y : ℕ) (p : LinkPhase) (b : Bool) (after : After P M) →
+      elim p [ Pending ↦ false | _ ↦ b ] ≡ true → Went m t g l k x y h h' 1 (if_pending p after Ignored) [] []
   quiet_pending g l k x y Pending b after h = cc
   quiet_pending g l k x y Up b after h = stays
   quiet_pending g l k x y Cancelled b after h = stays
 
-  pub quiet_ack : (g l : Side) (k : Phase) (x y : ℕ) (q : Link M) (after : After P M) → is_quiet_link q ≡ true →
-      Went m t g l k x y 1 (if_pending q.phase after Ignored) [] []
+  pub quiet_ack : {h h' : ℕ} (g l : Side) (k : Phase) (x y : ℕ) (q : Link M) (after : After P M) →
+      is_quiet_link q ≡ true → Went m t g l k x y h h' 1 (if_pending q.phase after Ignored) [] []
   quiet_ack g l k x y q after h = quiet_pending g l k x y q.phase (is_still q.to_near && is_still q.to_far) after h
 
-  quiet_up : (n : ℕ) (g l : Side) (k : Phase) (x y : ℕ) (p : LinkPhase) (after : After P M) →
+  quiet_up : {h h' : ℕ} (n : ℕ) (g l : Side) (k : Phase) (x y : ℕ) (p : LinkPhase) (after : After P M) →
       (p ≡ Up → after ≡ Ignored) →
-      Went m t g l k x y n (if_up p after Ignored) [] []
-  quiet_up n g l k x y Up after f = subst (λ z. Went m t g l k x y n z [] []) (sym (f refl)) stays
+      Went m t g l k x y h h' n (if_up p after Ignored) [] []
+  quiet_up {h} {h'} n g l k x y Up after f = subst (λ z. Went m t g l k x y h h' n z [] []) (sym (f refl)) stays
   quiet_up n g l k x y Pending after f = stays
   quiet_up n g l k x y Cancelled after f = stays
 
-  pub quiet_arrives : (g l : Side) (k : Phase) (x y : ℕ) (s : Side) (c : ℕ) (w : World P M) (q : Link M) →
+  pub quiet_arrives : {h h' : ℕ} (g l : Side) (k : Phase) (x y : ℕ) (s : Side) (c : ℕ) (w : World P M) (q : Link M) →
       is_quiet_link q ≡ true →
-      Went m t g l k x y 1 (let v = own_view s q in if_up q.phase
+      Went m t g l k x y h h' 1 (let v = own_view s q in if_up q.phase
       (delivered m c s v.own (next_in v.incoming.messages v.incoming.mark) w) Ignored) [] []
   quiet_arrives g l k x y s c w q h =
       let v = own_view s q in
       quiet_up 1 g l k x y q.phase (delivered m c s v.own (next_in v.incoming.messages v.incoming.mark) w)
       (λ e. ap (λ nx. delivered m c s v.own nx w) (quiet_next (opens s q.opener) q h e))
 
-  pub quiet_pieces : (g l : Side) (k : Phase) (x y i : ℕ) (s : Side) (c n : ℕ) (w : World P M) (q : Link M) →
+  pub quiet_pieces : {h h' : ℕ} (g l : Side) (k : Phase) (x y i : ℕ) (s : Side) (c n : ℕ) (w : World P M) (q : Link M) →
       is_quiet_link q ≡ true →
-      Went m t g l k x y i (let v = own_view s q in if_up q.phase
+      Went m t g l k x y h h' i (let v = own_view s q in if_up q.phase
       (if n == 0 then Ignored else pieced m c s n v.own v.incoming.taken
       (next_in v.incoming.messages v.incoming.mark) w) Ignored) [] []
   quiet_pieces g l k x y i s c n w q h =

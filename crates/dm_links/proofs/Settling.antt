@@ -1,5 +1,5 @@
 -- What a clean run comes to.
-use Rattle.std.proofs.Common.{◌≡◌, ℕ, zero, suc, ◌+◌, Bool, true, false, nat_le, Option, Some, None, IfSome, List, [], ◌∷◌, length, slice_get, refl, sym, ap, subst, ◌∙◌, arith, inl, inr, ◌≤◌, ◌⊎◌}
+use Rattle.std.proofs.Common.{◌≡◌, ℕ, zero, suc, ◌+◌, Bool, true, false, nat_le, if◌then◌else◌, Option, Some, None, IfSome, List, [], ◌∷◌, ◌++◌, length, slice_get, refl, sym, ap, subst, ◌∙◌, arith, inl, inr, ◌≤◌, ◌⊎◌}
 use Rattle.std.specs.Prelude.{option_map}
 use Rattle.std.specs.List.{list_all}
 use Rattle.std.proofs.lemmas.Bool.{and_parts, eqb-true, leb-true, ne_eqb}
@@ -9,20 +9,22 @@ use Rattle.dm_machine.specs.Node.{is_held_in, is_count_of}
 use Rattle.dm_links.specs.Machine.{Conn, Role, Initiated, Accepted, Node, node_at, is_shaped, closed_node}
 use Rattle.dm_links.specs.Links.{Side, A, B, NoMark, Coming, Delivered, link_of}
 use Rattle.dm_links.specs.Peers.{Peers}
-use Rattle.dm_links.specs.Worlds.{World, peer_at}
+use Rattle.dm_links.specs.Worlds.{World, peer_at, Put}
 use Rattle.dm_links.specs.Happens.{Happening, Ran}
 use Rattle.dm_links.specs.Agreement.{IsOpenOn}
 use Rattle.dm_links.specs.Quiet.{is_quiet_link, is_quiet, made, Kept, kept_of, kept, steps}
 use Rattle.dm_links.specs.Electing.{Talks, IsPeerOf, IsElecting}
-use Rattle.dm_links.specs.Settled.{Tally, disconnects, AreOpenOn, FellQuiet, Settled}
+use Rattle.dm_links.specs.Settled.{Tally, AtMost, disconnects, AreOpenOn, FellQuiet, Settled}
+use Rattle.dm_links.specs.Courses.{IsOnCourse}
 use Rattle.dm_links.proofs.Pairs.{IsPair, ab, ba, swapped, Stands}
 use Rattle.dm_links.proofs.Turns.{i_open, r_open}
 use Rattle.dm_links.proofs.Stages.{Stage, Unmade, Dialled, Asked, Accepted, Answered, Dropped, Halved, Parted}
 use Rattle.dm_links.proofs.Acting.{own_at}
-use Rattle.dm_links.proofs.Phases.{Phase, C1, C2, C3, C4, C5, C6, C7, C8, C9, C25, stage_g, stage_l, cers, ceas, ends, depth, present, InPhase}
+use Rattle.dm_links.proofs.Phases.{Phase, C1, C2, C3, C4, C5, C6, C7, C8, C9, C25, stage_g, stage_l, depth, present, InPhase}
 use Rattle.dm_links.proofs.Phasing.{flip_in}
-use Rattle.dm_links.proofs.Running.{Ended}
+use Rattle.dm_links.proofs.Running.{HasPut, Ended}
 use Rattle.dm_links.proofs.Matching.{phase_matches}
+use Rattle.dm_links.proofs.Putting.{by_greater, by_each, is_led, one_answered, all_counted, few_so_far, still_to_come, on_course, course_by}
 
 pub all_at : {X : Type 0} (f : X → Bool) (xs : List X) (d : ℕ) (x : X) → list_all f xs ≡ true →
     slice_get xs d ≡ Some x → f x ≡ true
@@ -47,19 +49,6 @@ still (Parted Coming o) = false
 still (Parted i Coming) = false
 still (Parted i o) = true
 still _ = false
-
--- the counts are bounded
-two_cers : (k : Phase) → nat_le (cers k) 2 ≡ true
-two_cers C1 = refl
-two_cers _ = refl
-
-one_cea : (k : Phase) → nat_le (ceas k) 1 ≡ true
-one_cea C1 = refl
-one_cea _ = refl
-
-two_ends : (k : Phase) → nat_le (ends k) 2 ≡ true
-two_ends C1 = refl
-two_ends _ = refl
 
 -- so many steps lead to a phase, and to one with the link of one side alone
 pub nine_depth : (k : Phase) → nat_le (depth k) 9 ≡ true
@@ -180,23 +169,26 @@ module _ {P M C H : Type 0} (m : Peers P M) (t : Talks P M C H) where
 
   fell : (g l : Side) → IsPair g l →
       (w : World P M) (hs : List (Happening M)) (r : Ran P M) (k : Phase) (x y : ℕ) → Rests k →
-      InPhase m t g l r.world k x y → Tally t r.put (cers k) (ceas k) (ends k) →
+      (q : InPhase m t g l r.world k x y) → HasPut m t g l k x y q.h q.h' r.put →
       made m g w hs ≡ present (stage_g k) x → made m l w hs ≡ present (stage_l k) y →
       QuietlyEnds w hs r (kept_of l (present (stage_l k) y) (kept_of g (present (stage_g k) x) None))
-  fell g l pair w hs r k x y idle q tally e e' = tt
-  fell g l pair w hs r k x y only_g q tally e e' =
+  fell g l pair w hs r k x y idle q put e e' = tt
+  fell g l pair w hs r k x y only_g q put e e' =
+      let tally = subst (λ ps. Tally t ps 1 1 0) (sym put.all) (one_answered m t g l pair x q.h) in
       record {
         opened = are_open g l pair r.world x q.at.own.node q.at.other.node;
         counted =
             by_sides g l pair w hs r (x ∷ []) [] e e' tally tally;
       }
-  fell g l pair w hs r k x y only_l q tally e e' =
+  fell g l pair w hs r k x y only_l q put e e' =
+      let tally = subst (λ ps. Tally t ps 1 1 0) (sym put.all) (one_answered m t l g (swapped pair) y q.h') in
       record {
         opened = are_open l g (swapped pair) r.world y q.at.other.node q.at.own.node;
         counted =
             by_sides g l pair w hs r [] (y ∷ []) e e' tally tally;
       }
-  fell g l pair w hs r k x y both q tally e e' =
+  fell g l pair w hs r k x y both q put e e' =
+      let tally = subst (λ ps. Tally t ps 2 1 2) (sym put.all) (all_counted m t g l pair put.first x y q.h q.h') in
       record {
         opened = are_open l g (swapped pair) r.world y q.at.other.node q.at.own.node;
         counted =
@@ -217,33 +209,64 @@ module _ {P M C H : Type 0} (m : Peers P M) (t : Talks P M C H) where
         | inr none ↦ four_low k (steps m w hs) (alone_g k y (sym e' ∙ none)) h
       ]
 
+  rests_at : (g l : Side) (w : World P M) (k : Phase) (x y : ℕ) → InPhase m t g l w k x y → is_quiet w ≡ true →
+      Rests k
+  rests_at g l w k x y q quiet =
+      rests k (quiet_at g l w x (stage_g k) q.h q.i q.j quiet q.at.at_x)
+      (quiet_at l g w y (stage_l k) q.h' q.i' q.j' quiet (flip_in m t g l w k x y q).at_x)
+
+  -- the link that is kept, in the phase that a run ends in
+  kept_in : (g l : Side) → IsPair g l → t.wins g ≡ true → t.wins l ≡ false →
+      (w : World P M) (hs : List (Happening M)) (r : Ran P M) →
+      (z : Ended m t g l (0 + steps m w hs) (made m g w hs) (made m l w hs) r) →
+      kept m t.wins w hs ≡ kept_of l (present (stage_l z.k) z.y) (kept_of g (present (stage_g z.k) z.x) None)
+  kept_in g l pair wins loses w hs r z =
+      kept_by g l pair wins loses w hs
+      ∙ (ap (λ ns. kept_of l ns (kept_of g (made m g w hs) None)) z.made_l
+      ∙ ap (λ ns. kept_of l (present (stage_l z.k) z.y) (kept_of g ns None)) z.made_g)
+
+  -- where a run rests nothing is to come
+  none_to_come : (g l : Side) (k : Phase) (b : Bool) (x y h h' : ℕ) → Rests k → still_to_come m t g l k b x y h h' ≡ []
+  none_to_come g l k b x y h h' idle = refl
+  none_to_come g l k b x y h h' only_g = refl
+  none_to_come g l k b x y h h' only_l = refl
+  none_to_come g l k b x y h h' both = refl
+
+  on_its_course : (g l : Side) → IsPair g l → t.wins g ≡ true → t.wins l ≡ false →
+      (w : World P M) (hs : List (Happening M)) (r : Ran P M) →
+      Ended m t g l (0 + steps m w hs) (made m g w hs) (made m l w hs) r → IsOnCourse m t w hs r
+  on_its_course g l pair wins loses w hs r z =
+      let q = z.phase in
+      let b = z.put.first in
+      let rest = still_to_come m t g l z.k b z.x z.y q.h q.h' in
+      let numbers = by_greater g q.h q.h' in
+      let first = if is_led z.k b then g else l in
+      record {
+        numbers = numbers;
+        first = first;
+        to_come = rest;
+        put = ap (λ (ps : List (Put M)). ps ++ rest) z.put.all
+            ∙ (on_course m t g l pair b z.k z.x z.y q.h q.h'
+            ∙ sym (course_by m t numbers first (λ s. made m s w hs)
+            (by_greater g (present (stage_g z.k) z.x) (present (stage_l z.k) z.y)) (kept m t.wins w hs) _
+            (by_each g l pair (λ s. made m s w hs) (present (stage_g z.k) z.x) (present (stage_l z.k) z.y)
+            z.made_g z.made_l) (kept_in g l pair wins loses w hs r z)));
+        ended = λ quiet. none_to_come g l z.k b z.x z.y q.h q.h' (rests_at g l r.world z.k z.x z.y q quiet);
+      }
+
   pub settled : (g l : Side) → IsPair g l → t.wins g ≡ true → t.wins l ≡ false →
       (w : World P M) (hs : List (Happening M)) (r : Ran P M) →
       Ended m t g l (0 + steps m w hs) (made m g w hs) (made m l w hs) r →
       Settled m t w hs r
   settled g l pair wins loses w hs r z =
       record {
-        put = record {
-          cers = cers z.k;
-          ceas = ceas z.k;
-          ends = ends z.k;
-          counted = z.counted;
-          two_cers = leb-true (cers z.k) 2 (two_cers z.k);
-          one_cea = leb-true (ceas z.k) 1 (one_cea z.k);
-          two_ends = leb-true (ends z.k) 2 (two_ends z.k);
-        };
+        put = subst (λ ps. AtMost t ps) (sym z.put.all)
+            (few_so_far m t g l pair z.k z.put.first z.x z.y z.phase.h z.phase.h');
+        course = on_its_course g l pair wins loses w hs r z;
         quiet = λ quiet.
-            let q = z.phase in
-            let rest = rests z.k (quiet_at g l r.world z.x (stage_g z.k) q.h q.i q.j quiet q.at.at_x)
-            (quiet_at l g r.world z.y (stage_l z.k) q.h' q.i' q.j' quiet
-            (flip_in m t g l r.world z.k z.x z.y q).at_x) in
-            let here = fell g l pair w hs r z.k z.x z.y rest q z.counted z.made_g z.made_l in
-            let named : kept m t.wins w hs ≡ kept_of l (present (stage_l z.k) z.y)
-            (kept_of g (present (stage_g z.k) z.x) None) =
-            kept_by g l pair wins loses w hs
-            ∙ (ap (λ ns. kept_of l ns (kept_of g (made m g w hs) None)) z.made_l
-            ∙ ap (λ ns. kept_of l (present (stage_l z.k) z.y) (kept_of g ns None)) z.made_g) in
-            subst (λ o. QuietlyEnds w hs r o) (sym named) here;
+            let rest = rests_at g l r.world z.k z.x z.y z.phase quiet in
+            let here = fell g l pair w hs r z.k z.x z.y rest z.phase z.put z.made_g z.made_l in
+            subst (λ o. QuietlyEnds w hs r o) (sym (kept_in g l pair wins loses w hs r z)) here;
         matched = phase_matches m t g l pair r.world z.k z.x z.y z.phase;
         nine = nine_by z.k (steps m w hs) z.reached;
         four = λ alone. four_by g l w hs z.k z.x z.y z.made_g z.made_l (by_pair g l pair w hs alone) z.reached;

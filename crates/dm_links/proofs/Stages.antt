@@ -1,16 +1,15 @@
 -- How far a link of a clean run has come, and what a step of a peer in it comes to.
-use Rattle.std.proofs.Common.{◌≡◌, ℕ, ◌+◌, true, IsTrue, Option, Some, None, List, [], ◌∷◌, ◌++◌, refl, sym, ap, subst, ◌∙◌}
+use Rattle.std.proofs.Common.{◌≡◌, ℕ, true, IsTrue, Option, Some, None, List, [], ◌∷◌, ◌++◌, refl, ap, subst, ◌∙◌}
 use Rattle.std.specs.Prelude.{option_map}
 use Rattle.dm_machine.specs.Moves.{Outcome, Moved}
 use Rattle.dm_links.specs.Machine.{conn, Node, Input, Command, outcome, tie_of, is_held}
 use Rattle.dm_links.specs.Links.{Side, LinkPhase, Pending, Up, End, Fresh, Open, Shut, Mark, NoMark, Coming, Direction, View, by_side}
 use Rattle.dm_links.specs.Peers.{Event, Action, Acts, Peers, concern_by}
 use Rattle.dm_links.specs.Steps.{entered, stepped}
-use Rattle.dm_links.specs.Worlds.{World, peer_at, Put, Message, enter, puts_of, puts_at_entry, told}
+use Rattle.dm_links.specs.Worlds.{World, peer_at, Put, enter, puts_of, puts_at_entry, told}
 use Rattle.dm_links.specs.Electing.{Talks, IsPeerOf, Reads, awaits_cea, holds_cer, sends_cer, awaited_after, waiting_after, IsSaid, AreSaid, RepliesBy, RepliesAs, IsElecting}
-use Rattle.dm_links.specs.Settled.{Tally, cer, cea}
 use Rattle.dm_links.proofs.Lists.{IsStart, entered_at}
-use Rattle.dm_links.proofs.Pairs.{IsPair, ab, ba, own_by, other_by, Stands, At, puts_by, names, puts_of_two}
+use Rattle.dm_links.proofs.Pairs.{IsPair, own_by, other_by, Stands, At, puts_by, names, puts_of_two}
 use Rattle.dm_links.proofs.Told.{Goes, IsCalm, told_at}
 
 -- not made; its connect is pending; its CER is under way; it is accepted, or done; its CEA is under way. After a won
@@ -101,7 +100,7 @@ module _ {P M C H : Type 0} (m : Peers P M) (t : Talks P M C H) where
   pub turn : IsElecting m t → (s o : Side) → IsPair s o →
       (w : World P M) (x y : ℕ) (u v u1 v1 : Option (View M)) (n n' n1 : Node) (h h' h1 : ℕ) (e : Event M)
       (i : Input) (heard : Option H) (commands : List Command)
-      (actions : List (Action M)) (ps : List (Put M)) (cers ceas ends : ℕ) → At m t s o w x y u v n n' h h' →
+      (actions : List (Action M)) (ps : List (Put M)) → At m t s o w x y u v n n' h h' →
       (IsStart e → ⊥) → Reads m t s (peer_at s w) e i heard → outcome n i (t.wins s) ≡ Moved commands n1 →
       ((acts : List (Action M)) → AreSaid t s (peer_at s w) heard commands acts → acts ≡ actions) →
       (awaits_cea n1.state ≡ true →
@@ -114,10 +113,9 @@ module _ {P M C H : Type 0} (m : Peers P M) (t : Talks P M C H) where
       option_map (stepped (concern_by e (conn y)) (is_held (tie_of n1 y)) y actions) v ≡ v1 →
       IsCalm e actions x y → names x y actions ≡ true → puts_at_entry s e w.links ≡ [] →
       puts_by o x y actions (option_map (entered (concern_by e (conn x))) u)
-      (option_map (entered (concern_by e (conn y))) v) ≡ ps → Tally t ps cers ceas ends →
-      Goes m t s o x y u1 v1 n1 n' h1 h' (told m s e w) cers ceas ends
-  turn el s o pair w x y u v u1 v1 n n' n1 h h' h1 e i heard commands actions ps cers ceas ends a no_start reads
-      out said f g number still to_u to_v calm named at_entry puts tally =
+      (option_map (entered (concern_by e (conn y))) v) ≡ ps → Goes m t s o x y u1 v1 n1 n' h1 h' (told m s e w) ps
+  turn el s o pair w x y u v u1 v1 n n' n1 h h' h1 e i heard commands actions ps a no_start reads
+      out said f g number still to_u to_v calm named at_entry puts =
       let p = peer_at s w in
       let r = replied el s p e i heard a.own.peer reads n a.own.node commands n1 out in
       let links = enter s e w.links in
@@ -131,18 +129,6 @@ module _ {P M C H : Type 0} (m : Peers P M) (t : Talks P M C H) where
       ap (λ (qs : List (Put M)). qs ++ puts_of s actions links) at_entry
       ∙ (puts_of_two s o pair actions links x y (option_map (entered (concern_by e (conn x))) u)
       (option_map (entered (concern_by e (conn y))) v) at_x at_y named ∙ puts) in
-      told_at m t s o pair w x y u v u1 v1 n n' n1 h h' h1 e actions r.peer cers ceas ends a no_start
+      told_at m t s o pair w x y u v u1 v1 n n' n1 h h' h1 e actions r.peer ps a no_start
       (r.replies ∙ ap (λ (acts : List (Action M)). Acts acts r.peer) (said r.actions r.said))
-      (stands_by s p e heard commands n n1 h1 h' a.own.node r f g number) still to_u to_v calm
-      (subst (λ (qs : List (Put M)). Tally t qs cers ceas ends) (sym all) tally)
-
-  -- what is put in
-  pub tally_cer : (s o : Side) → IsPair s o → (c n : ℕ) (more : List (Put M)) (a b d : ℕ) → Tally t more a b d →
-      Tally t (Message c o (t.cer (t.config s) n) ∷ more) (1 + a) b d
-  tally_cer s o ab c n more a b d h = cer c s n more a b d h
-  tally_cer s o ba c n more a b d h = cer c s n more a b d h
-
-  pub tally_cea : (s o : Side) → IsPair s o → (c n : ℕ) (more : List (Put M)) (a b d : ℕ) → Tally t more a b d →
-      Tally t (Message c o (t.cea (t.config s) n) ∷ more) a (1 + b) d
-  tally_cea s o ab c n more a b d h = cea c s n more a b d h
-  tally_cea s o ba c n more a b d h = cea c s n more a b d h
+      (stands_by s p e heard commands n n1 h1 h' a.own.node r f g number) still to_u to_v calm all

@@ -14,7 +14,6 @@ use Rattle.dm_links.specs.Steps.{entered}
 use Rattle.dm_links.specs.Worlds.{World, peer_at, with_peer, with_links, enter, Ignored, answered, told, dropped}
 use Rattle.dm_links.specs.Quiet.{is_quiet_link}
 use Rattle.dm_links.specs.Electing.{Talks, starts, RepliesAs, IsElecting}
-use Rattle.dm_links.specs.Settled.{nothing}
 use Rattle.dm_links.proofs.Lists.{IsStart, mapped_some, entered_at}
 use Rattle.dm_links.proofs.Keeps.{appended_at}
 use Rattle.dm_links.proofs.Pairs.{IsPair, mirror, own_by, other_by, here_after, there_after, links_after, Stands, At, not_same}
@@ -49,7 +48,7 @@ module _ {P M C H : Type 0} (m : Peers P M) (t : Talks P M C H) where
       At m t s o w x y u v n n' h h' → (IsStart e → ⊥) →
       option_map (entered (concern_by e (conn x))) u ≡ u1 → option_map (entered (concern_by e (conn y))) v ≡ v1 →
       ((d : ℕ) (z : View M) → (x == d) ≡ false → (y == d) ≡ false → entered (concern_by e (conn d)) z ≡ z) →
-      Goes m t s o x y u1 v1 n n' h h' (dropped s e w) 0 0 0
+      Goes m t s o x y u1 v1 n n' h h' (dropped s e w) []
   dropped_at s o pair w x y u v u1 v1 n n' h h' e a no_start to_u to_v calm =
       let links = enter s e w.links in
       record {
@@ -73,14 +72,14 @@ module _ {P M C H : Type 0} (m : Peers P M) (t : Talks P M C H) where
               subst (λ k. is_quiet_link k ≡ true) (sym (old.2 ∙ calm_link s f old.0 (calm d _ hx hy)))
               (a.others d old.0 old.1 hx hy);
         };
-        counted = nothing;
+        is_put = refl;
       }
 
   pub shut_own : (s o : Side) → IsPair s o →
       (w : World P M) (x y j k : ℕ) (v : Option (View M)) (n n' : Node) (h h' : ℕ) (mark : _) →
       At m t s o w x y (own_at m t s o (Parted Coming mark) h j k) v n n' h h' →
       Goes m t s o x y (own_at m t s o (Parted Delivered mark) h j k) v n n' h h'
-      (dropped s (Gone (conn x)) w) 0 0 0
+      (dropped s (Gone (conn x)) w) []
   shut_own s o pair w x y j k v n n' h h' mark a =
       let xx = itself x in
       let xy = a.apart in
@@ -92,7 +91,7 @@ module _ {P M C H : Type 0} (m : Peers P M) (t : Talks P M C H) where
       (w : World P M) (x y j k : ℕ) (u : Option (View M)) (n n' : Node) (h h' : ℕ) (mark : _) →
       At m t s o w x y u (option_map mirror (own_at m t o s (Parted mark Coming) h' j k)) n n' h h' →
       Goes m t s o x y u (option_map mirror (own_at m t o s (Parted mark Delivered) h' j k)) n n' h h'
-      (dropped s (Gone (conn y)) w) 0 0 0
+      (dropped s (Gone (conn y)) w) []
   shut_other s o pair w x y j k u n n' h h' mark a =
       let yy = itself y in
       let yx = not_same x y a.apart in
@@ -107,7 +106,7 @@ module _ {P M C H : Type 0} (m : Peers P M) (t : Talks P M C H) where
       slice_get (w.links ++ new_link s ∷ []) y ≡ option_map (link_of false o) v → (length w.links == y) ≡ false →
       ((d : ℕ) (l : Link M) → slice_get w.links d ≡ Some l → (y == d) ≡ false → is_quiet_link l ≡ true) →
       Goes m t s o (length w.links) y (own_at m t s o Dialled h 0 0) v (wait_conn_ack (length w.links)) n' h h'
-      (told m s (Start (conn (length w.links))) w) 0 0 0
+      (told m s (Start (conn (length w.links))) w) []
   start_of el s o pair w y v n' h h' own other at_y apart others =
       let x = length w.links in
       let p = peer_at s w in
@@ -141,7 +140,7 @@ module _ {P M C H : Type 0} (m : Peers P M) (t : Talks P M C H) where
                 | inr q ↦ absurd (cc (ap (λ k. x == k) q.0 ∙ itself x, hx))
               ];
         };
-        counted = nothing;
+        is_put = refl;
       }
 
   none_there : {X : Type 0} (xs : List X) (c d : ℕ) (z : X) → slice_get xs c ≡ None → slice_get xs d ≡ Some z →
@@ -151,7 +150,7 @@ module _ {P M C H : Type 0} (m : Peers P M) (t : Talks P M C H) where
   pub start_first : IsElecting m t → (s o : Side) → IsPair s o → (w : World P M) (x y : ℕ) (n' : Node) (h h' : ℕ) →
       At m t s o w x y None None closed_node n' h h' →
       Goes m t s o (length w.links) (suc (length w.links)) (own_at m t s o Dialled h 0 0) None
-      (wait_conn_ack (length w.links)) n' h h' (told m s (Start (conn (length w.links))) w) 0 0 0
+      (wait_conn_ack (length w.links)) n' h h' (told m s (Start (conn (length w.links))) w) []
   start_first el s o pair w x y n' h h' a =
       start_of el s o pair w (suc (length w.links)) None n' h h' a.own a.other (appended_past w.links (new_link s))
       (ne_eqb _ _ (λ e. absurd (omega (arith, e))))
@@ -161,7 +160,7 @@ module _ {P M C H : Type 0} (m : Peers P M) (t : Talks P M C H) where
       (w : World P M) (x y : ℕ) (z : View M) (n' : Node) (h h' : ℕ) →
       At m t s o w x y None (Some z) closed_node n' h h' →
       Goes m t s o (length w.links) y (own_at m t s o Dialled h 0 0) (Some z)
-      (wait_conn_ack (length w.links)) n' h h' (told m s (Start (conn (length w.links))) w) 0 0 0
+      (wait_conn_ack (length w.links)) n' h h' (told m s (Start (conn (length w.links))) w) []
   start_second el s o pair w x y z n' h h' a =
       let within = slice_get_within w.links y (link_of false o z) a.at_y in
       start_of el s o pair w y (Some z) n' h h' a.own a.other

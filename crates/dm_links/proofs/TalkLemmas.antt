@@ -118,4 +118,12 @@ talkers_are_electing =
     }
 
 pub two_talks : TwoTalks
-two_talks = record { one_side = (refl, refl); its_link = refl; both_sides = (refl, refl); kept_link = refl }
+two_talks =
+    record {
+      one_side = (refl, refl);
+      its_link = refl;
+      both_sides = (refl, refl);
+      one_course = refl;
+      both_courses = refl;
+      kept_link = refl;
+    }

@@ -8,18 +8,17 @@ use Rattle.dm_links.specs.Steps.{stepped}
 use Rattle.dm_links.specs.Worlds.{World, peer_at, with_peer, Put, enter, perform, settle, puts_of, puts_at_entry, After, Done, answered, told}
 use Rattle.dm_links.specs.Quiet.{is_quiet_link}
 use Rattle.dm_links.specs.Electing.{Talks, holds_cer}
-use Rattle.dm_links.specs.Settled.{Tally}
 use Rattle.dm_links.proofs.Lists.{IsStart, mapped_some, by_side-same, stepped_at}
 use Rattle.dm_links.proofs.Pairs.{IsPair, own_by, other_by, here_after, there_after, links_after, Stands, At}
 
--- a happening that is done, and what it leaves
+-- a happening that is done, what it leaves, and what it puts in
 pub record Goes {P M C H : Type 0} (m : Peers P M) (t : Talks P M C H) (s o : Side) (x y : ℕ)
-    (u v : Option (View M)) (n n' : Node) (h h' : ℕ) (after : After P M) (cers ceas ends : ℕ) : Type 0 where
+    (u v : Option (View M)) (n n' : Node) (h h' : ℕ) (after : After P M) (puts : List (Put M)) : Type 0 where
   pub world : World P M
   pub put : List (Put M)
   pub is : after ≡ Done world put
   pub at : At m t s o world x y u v n n' h h'
-  pub counted : Tally t put cers ceas ends
+  pub is_put : put ≡ puts
 
 -- what actions don't name stays
 abbrev pub IsCalm : {M : Type 0} → Event M → List (Action M) → ℕ → ℕ → Type 0
@@ -47,16 +46,16 @@ other_stays m t o p q n h h' h1 e w a =
 module _ {P M C H : Type 0} (m : Peers P M) (t : Talks P M C H) where
   pub told_at : (s o : Side) → IsPair s o →
       (w : World P M) (x y : ℕ) (u v u1 v1 : Option (View M)) (n n' n1 : Node) (h h' h1 : ℕ) (e : Event M)
-      (actions : List (Action M)) (p : P) (cers ceas ends : ℕ) →
+      (actions : List (Action M)) (p : P) (puts : List (Put M)) →
       At m t s o w x y u v n n' h h' → (IsStart e → ⊥) → m.reply (peer_at s w) e ≡ Acts actions p →
       Stands m t s p n1 h1 h' → (holds_cer n'.state ≡ true → h1 ≡ h) →
       option_map (stepped (concern_by e (conn x)) (is_held (tie_of n1 x)) x actions) u ≡ u1 →
       option_map (stepped (concern_by e (conn y)) (is_held (tie_of n1 y)) y actions) v ≡ v1 →
       IsCalm e actions x y →
-      Tally t (puts_at_entry s e w.links ++ puts_of s actions (enter s e w.links)) cers ceas ends →
-      Goes m t s o x y u1 v1 n1 n' h1 h' (told m s e w) cers ceas ends
-  told_at s o pair w x y u v u1 v1 n n' n1 h h' h1 e actions p cers ceas ends a no_start reply stands still to_u
-      to_v calm counted =
+      puts_at_entry s e w.links ++ puts_of s actions (enter s e w.links) ≡ puts →
+      Goes m t s o x y u1 v1 n1 n' h1 h' (told m s e w) puts
+  told_at s o pair w x y u v u1 v1 n n' n1 h h' h1 e actions p puts a no_start reply stands still to_u
+      to_v calm is_put =
       let links = settle s e (m.node_of p) (perform s actions (enter s e w.links)) in
       let w1 = with_peer s p links w in
       let at_d : (d : ℕ) →
@@ -90,5 +89,5 @@ module _ {P M C H : Type 0} (m : Peers P M) (t : Talks P M C H) where
               (calm d (is_held (tie_of n1 d)) (view_of (opens s old.0.opener) old.0) hx hy) in
               subst (λ k. is_quiet_link k ≡ true) (sym same) (a.others d old.0 old.1 hx hy);
         };
-        counted = counted;
+        is_put = is_put;
       }

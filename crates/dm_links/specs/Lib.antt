@@ -11,6 +11,7 @@ pub mod Laws
 pub mod Kinds
 pub mod Quiet
 pub mod Electing
+pub mod Courses
 pub mod Settled
 pub mod Talkers
 pub mod Streams

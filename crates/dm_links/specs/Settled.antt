@@ -9,6 +9,7 @@ use Rattle.dm_links.specs.Happens.{Happening, Ran, run}
 use Rattle.dm_links.specs.Agreement.{IsOpenOn}
 use Rattle.dm_links.specs.Quiet.{is_quiet, is_clean, made, steps, Kept, kept}
 use Rattle.dm_links.specs.Electing.{Talks, IsPeerOf, awaits_cea, IsElecting}
+use Rattle.dm_links.specs.Courses.{IsOnCourse}
 
 -- what is put in is so many CERs, CEAs of code 2001 and disconnects, and nothing else
 pub data Tally {P M C H : Type 0} (t : Talks P M C H) : List (Put M) → ℕ → ℕ → ℕ → Type 0 where
@@ -65,6 +66,7 @@ AnswersMatch {P} {M} m t w =
 pub record Settled {P M C H : Type 0} (m : Peers P M) (t : Talks P M C H) (w : World P M) (hs : List (Happening M))
     (r : Ran P M) : Type 0 where
   pub put : AtMost t r.put
+  pub course : IsOnCourse m t w hs r
   pub quiet : IsTrue (is_quiet r.world) → IfSome (kept m t.wins w hs) (λ k. FellQuiet m t w hs r k)
   pub matched : AnswersMatch m t r.world
   pub nine : steps m w hs ≤ 9

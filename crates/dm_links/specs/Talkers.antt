@@ -1,6 +1,6 @@
 -- The state machine with numbers as peers: a message is its word and the number of its request. It shows that peers as
 -- the quiet clause asks for them exist, and what the definitions say of two runs.
-use Rattle.std.specs.Prelude.{◌≡◌, ℕ, Bool, true, false, not, ◌&&◌, ◌||◌, if◌then◌else◌, is_none, Option, Some, None, IfSome, List, map, length}
+use Rattle.std.specs.Prelude.{◌≡◌, ℕ, Bool, true, false, not, ◌&&◌, ◌||◌, if◌then◌else◌, is_none, Option, Some, None, IfSome, List, [], ◌∷◌, map, length}
 use Rattle.dm_machine.specs.declared.inputs.Word.{Word}
 use Rattle.dm_machine.specs.declared.inputs.Word.TheVariants.{Unreadable, Cer, Cea, CeaFailed, Dwr, Dwa, Dpr, Dpa, Other}
 use Rattle.dm_machine.specs.declared.inputs.Input.TheVariants as input
@@ -12,7 +12,7 @@ use Rattle.dm_links.specs.Machine.{Conn, Node, Input, Command, outcome, closed_n
 use Rattle.dm_links.specs.Links.{Side, A, B}
 use Rattle.dm_links.specs.Peers.{Event, Start, Stop, Timeout, Tick, Ack, Nack, Gone, Submit, Arrived, Action, Connect, Send, Close, Reply, Acts, Declines, Peers}
 use Rattle.dm_links.specs.Peers as peers
-use Rattle.dm_links.specs.Worlds.{World}
+use Rattle.dm_links.specs.Worlds.{World, Message, Disconnect}
 use Rattle.dm_links.specs.Happens.{run}
 use Rattle.dm_links.specs.Laws.{world_of}
 use Rattle.dm_links.specs.Kinds.{one_starts, both_start}
@@ -128,10 +128,15 @@ TalkersAreElecting = IsElecting talkers talks
 abbrev pub two_talkers : World Talker Note
 two_talkers = world_of (talker true 7) (talker false 8)
 
--- one side starts, and two messages are put in; both start, and the link of the side that doesn't win is kept, with two
--- CERs, a CEA and two disconnects put in
+-- one side starts: its CER and the CEA are put in on its link. Both start, and the link of the side that doesn't win is
+-- kept: a CER on each link, the winner's disconnect of its own, its CEA on the other, and the disconnect in turn
 pub record TwoTalks : Type 0 where
   pub one_side : IfSome (run talkers two_talkers one_starts) (λ r. (is_quiet r.world ≡ true) × (length r.put ≡ 2))
   pub its_link : kept talkers is_a two_talkers one_starts ≡ Some (record { opener = A; link = 0 })
   pub both_sides : IfSome (run talkers two_talkers both_start) (λ r. (is_quiet r.world ≡ true) × (length r.put ≡ 5))
+  pub one_course : IfSome (run talkers two_talkers one_starts)
+      (λ r. r.put ≡ Message 0 B (note Cer 7) ∷ Message 0 A (note Cea 7) ∷ [])
+  pub both_courses : IfSome (run talkers two_talkers both_start)
+      (λ r. r.put ≡ Message 0 B (note Cer 7) ∷ Message 1 A (note Cer 8) ∷ Disconnect 0 B ∷ Message 1 B (note Cea 8)
+      ∷ Disconnect 0 A ∷ [])
   pub kept_link : kept talkers is_a two_talkers both_start ≡ Some (record { opener = B; link = 1 })

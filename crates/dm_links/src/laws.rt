@@ -57,6 +57,12 @@ pub fn each_run_delivers<P, M>()
 
 /// A run without losses of two closed peers, from where nothing is under way, puts in at most two CERs, one CEA and two
 /// disconnects; where a Start is taken and it falls quiet, both are open on the connection that the election keeps.
+/// A run without losses of two closed peers, from where nothing is under way, puts in one course, up to what is
+/// still to come: a CER on each connection that a taken Start made, from its opener; then, where both sides
+/// started, the winner's disconnect of its own; the CEA on the one that the election keeps, with the number of its
+/// CER; and the disconnect that answers the winner's. So it is at most two CERs, one CEA and two disconnects. Where
+/// a Start is taken and it falls quiet, all of the course was put in, and both are open on the connection that the
+/// election keeps.
 ///
 /// `C` is what a peer is configured with, `H` the header of a message.
 pub fn each_clean_run_settles<P, M, C, H>()
@@ -118,7 +124,7 @@ pub fn talkers_are_electing()
     ensures { TalkersAreElecting }
 {}
 
-/// What the definitions say of two clean runs: how many messages each costs, and which link is kept.
+/// What the definitions say of two clean runs: what each puts in, and which link is kept.
 pub fn two_talks()
     ensures { TwoTalks }
 {}

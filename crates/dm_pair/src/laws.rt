@@ -57,8 +57,10 @@ pub fn octets_are_frames()
     spelled_is_framed();
 }
 
-/// What each clean run of two such peers comes to: at most two CERs, one CEA and two disconnects are put in; where a
-/// Start is taken and it falls quiet, both are open on the connection that the election keeps (5.6.4).
+/// What each clean run of two such peers comes to. One course is put in, up to what is still to come: a CER on each
+/// connection that a taken Start made, from its opener; where both sides started, the winner's disconnect of its
+/// own; the CEA on the connection that the election keeps; and the disconnect that answers the winner's. Where a
+/// Start is taken and it falls quiet, all of it was put in, and both are open on that connection (5.6.4).
 pub fn each_octet_run_settles()
     ensures { EachOctetRunSettles }
 {
