@@ -1,5 +1,5 @@
 -- What kind of message a message is, and what it says of capabilities (RFC 6733, 5.3 to 5.5).
-use Rattle.std.specs.Prelude.{◌≡◌, ℕ, ◌&&◌, ◌||◌, nat_eq, unwrap_or, Option, None, Some, Result, Ok, Err, List, [], length, find, if◌then◌else◌, Bool}
+use Rattle.std.specs.Prelude.{◌≡◌, ℕ, ◌&&◌, ◌||◌, nat_eq, unwrap_or, Option, None, Some, IsSome, Result, Ok, Err, List, [], length, find, if◌then◌else◌, Bool}
 use Rattle.std.specs.List.{flat_map}
 use Rattle.std.specs.Option.{option_eq, option_to_list}
 use Rattle.std.specs.Int.{cast_signed, w32}
@@ -95,6 +95,12 @@ kind d m =
     if is_base_command m.header.command
     then kind_or_fault (first (faults d m)) (kind_of m.header.command m.header.request m.avps)
     else Ok kinds.Other
+
+-- what is told of a message holds a copy: of the names and ids of a CER, or of the failed AVP of a fault that has one
+abbrev pub HoldsCopy : Result Kind Fault → Type 0
+HoldsCopy (Ok (kinds.Cer caps)) = Unit {0}
+HoldsCopy (Err fault) = IsSome fault.failed
+HoldsCopy _ = ⊥
 
 -- under the base dictionary the message is good
 pub record IsGood (m : Message) : Type 0 where

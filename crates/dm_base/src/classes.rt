@@ -1,10 +1,10 @@
 //! What kind of message a message is (RFC 6733, 5.3 to 5.5).
-ghost use Rattle.std.specs.Prelude.{◌≡◌, ◌⊎◌, List, Some, Ok, Err, IfOk, IfErr};
+ghost use Rattle.std.specs.Prelude.{◌≡◌, ◌⊎◌, List, Some, Ok, Err, IfOk, IfErr, IsErrOf, OnErr};
 ghost use Rattle.dm_wire.specs.declared.avp.Avp.{Avp};
 ghost use Rattle.dm_dict.specs.Faults.{Fault};
 ghost use Rattle.dm_dict.specs.Judgement.{verdict_of};
 ghost use Rattle.dm_wire.specs.Borrowed.{Lists};
-ghost use Rattle.dm_base.specs.Kinds.{is_base_command, kind_of, kind};
+ghost use Rattle.dm_base.specs.Kinds.{is_base_command, kind_of, kind, HoldsCopy};
 ghost use Rattle.dm_base.specs.declared.base_fault.BaseFault.TheVariants as faults_of;
 
 use crate::codes::{
@@ -26,7 +26,8 @@ pub fn is_base_command(command: u32) -> bool
 
 /// The kind by the command and the R bit.
 fn kind_by(alloc: Global, command: u32, request: bool, avps: AvpsRef<'_>) -> Result<Kind, NoMemory>
-    ensures { (l : List Avp) → Lists avps.entry l → IfOk result (λ k. k ≡ kind_of command request l) }
+    ensures kind { (l : List Avp) → Lists avps.entry l → IfOk result (λ k. k ≡ kind_of command request l) }
+    ensures memory { (l : List Avp) → OnErr result (HoldsCopy (Ok (kind_of command request l))) }
 {
     if command == CAPABILITIES_EXCHANGE {
         if request {
@@ -50,7 +51,8 @@ fn kind_by(alloc: Global, command: u32, request: bool, avps: AvpsRef<'_>) -> Res
 /// What kind of message the message is (RFC 6733, 5.3 to 5.5). One of the commands 257, 280 and 282 is checked by the
 /// dictionary, and its command and R bit tell the kind then; one of another command is `Other`, and isn't checked.
 ///
-/// Refuses with `Bad` and the verdict where such a message is bad, else with `NoMemory`.
+/// Refuses with `Bad` and the verdict where such a message is bad, else with `NoMemory`. It takes memory for the
+/// capabilities of a good CER and for the failed AVP of a bad message alone.
 pub fn classify(
     alloc: Global,
     dictionary: &Dictionary,
@@ -59,6 +61,8 @@ pub fn classify(
     ensures found { IfOk result (λ k. kind dictionary.now message.now ≡ Ok k) }
     ensures fault { IfErr result (λ f. (f ≡ faults_of.NoMemory)
         ⊎ ((e : Fault) × (kind dictionary.now message.now ≡ Err e) × (f ≡ faults_of.Bad (verdict_of (Some e))))) }
+    // Memory is wanted for the capabilities of a CER and for a failed AVP alone.
+    ensures memory { IsErrOf result faults_of.NoMemory → HoldsCopy (kind dictionary.now message.now) }
 {
     let command = message.header.command;
     if !is_base_command(command) {

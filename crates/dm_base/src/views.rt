@@ -72,6 +72,8 @@ pub fn view<'a>(
     ensures fault { (l : List Avp) → SpellsList l message.now.rest.now
         → IfErr result (λ judged. (e : Fault)
         × (kind dictionary.now (record { header = message.now.header; avps = l }) ≡ Err e) × (shown judged ≡ Some e)) }
+    // The AVPs of a CER's capabilities are those of the message, where they lie.
+    ensures lies { IfOk result (λ shows. LiesIn shows message.now.rest.now) }
 {
     let header = message.header;
     if !is_base_command(header.command) {
