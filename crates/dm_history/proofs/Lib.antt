@@ -1,0 +1,14 @@
+mod Among
+mod Ordered
+mod Words
+mod Turning
+mod Holding
+mod Waiting
+mod Lasting
+mod Coming
+mod Stories
+mod Sending
+mod Answering
+mod Telling
+mod Carrying
+mod Closings

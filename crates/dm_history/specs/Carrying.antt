@@ -1,0 +1,73 @@
+-- What a peer hands up and sends for its user, whatever the other side is.
+use Rattle.std.specs.Prelude.{◌≡◌, ◌⊎◌, ℕ, true, false, Option, Some, List, [], ◌∷◌}
+use Rattle.dm_wire.specs.declared.avp.Avp.{Avp}
+use Rattle.dm_wire.specs.declared.message.Header.{Header}
+use Rattle.dm_wire.specs.declared.message.Message.{Message}
+use Rattle.dm_wire.specs.Whole.{message_in}
+use Rattle.dm_base.specs.declared.kind.Cause.{Cause}
+use Rattle.dm_base.specs.declared.node.Node.{Node}
+use Rattle.dm_base.specs.Built.{built_cer, built_dwr, built_dpr, built_cea, built_answer, built_error}
+use Rattle.dm_base.specs.Kinds.{is_base_command}
+use Rattle.dm_machine.specs.declared.connection.Conn.{Conn}
+use Rattle.dm_machine.specs.Connection.{hold_of}
+use Rattle.dm_machine.specs.Upward.{is_open_hold}
+use Rattle.dm_peer.specs.declared.actions.Action.{Action}
+use Rattle.dm_peer.specs.declared.actions.Action.TheVariants.{Send, Up}
+use Rattle.dm_peer.specs.declared.config.Config.{Config}
+use Rattle.dm_peer.specs.declared.peer.Peer.{Peer}
+use Rattle.dm_peer.specs.Events.{PeerEvent, Arrived, Submit}
+use Rattle.dm_peer.specs.Octets.{octets_of}
+use Rattle.dm_peer.specs.Acts.{Moved, acts}
+use Rattle.dm_history.specs.History.{Happened, new_peer, Became, IsAmong}
+
+-- the peer is open on the connection
+abbrev pub StandsOpen : Peer → Conn → Type 0
+StandsOpen p c = is_open_hold (hold_of p.standing.core c) ≡ true
+
+-- a CER, DWR or DPR of the node, or an answer of it
+pub data IsOwn (n : Node) : Message → Type 0 where
+  cer : (id : ℕ) → IsOwn n (built_cer n id)
+  dwr : (id : ℕ) → IsOwn n (built_dwr n id)
+  dpr : (id : ℕ) (cause : Cause) → IsOwn n (built_dpr n id cause)
+  cea : (to : Header) (code : ℕ) (failed : Option Avp) → IsOwn n (built_cea n to code failed)
+  answer : (to : Header) (code : ℕ) (failed : Option Avp) → IsOwn n (built_answer n to code failed)
+  error : (to : Header) (code : ℕ) → IsOwn n (built_error n to code)
+
+-- the octets are those of such a message, of command 257, 280 or 282
+pub record AreOwn (n : Node) (s : List ℕ) : Type 0 where
+  pub message : Message
+  pub own : IsOwn n message
+  pub base : is_base_command message.header.command ≡ true
+  pub spelled : s ≡ octets_of message
+
+-- the octets that are handed up came just then, on the connection on which the peer is open, and spell a message of
+-- another command
+pub record IsHandedUp (p : Peer) (e : PeerEvent) (s : List ℕ) : Type 0 where
+  pub conn : Conn
+  pub came : e ≡ Arrived conn s
+  pub opened : StandsOpen p conn
+  pub message : Message
+  pub spelled : message_in s ≡ Some message
+  pub other : is_base_command message.header.command ≡ false
+
+-- all octets that are handed up are so, and all that are sent are the node's own or were submitted just then, and go on
+-- that connection
+pub record IsCarried (n : Node) (p : Peer) (e : PeerEvent) (actions : List Action) : Type 0 where
+  pub up : (s : List ℕ) → IsAmong actions (Up s) → IsHandedUp p e s
+  pub sent : (c : Conn) (s : List ℕ) → IsAmong actions (Send c s) →
+      AreOwn n s ⊎ ((e ≡ Submit s) × StandsOpen p c)
+
+pub record Carries (n : Node) (p : Peer) : Type 0 where
+  pub only : (e : PeerEvent) (actions : List Action) (next : Peer) → acts p e ≡ Moved actions next →
+      IsCarried n p e actions
+  -- a message of another command that comes on the open connection is handed up, and nothing else done
+  pub each : (c : Conn) (s : List ℕ) (m : Message) → StandsOpen p c → message_in s ≡ Some m →
+      is_base_command m.header.command ≡ false → (next : Peer) × (acts p (Arrived c s) ≡ Moved (Up s ∷ []) next)
+  -- the peer is open on one connection at most
+  pub one : (c d : Conn) → StandsOpen p c → StandsOpen p d → c ≡ d
+
+-- after every list of events a peer that was new carries messages so at the next one
+abbrev pub EachRunCarries : Type 0
+EachRunCarries =
+    (config : Config) (next : ℕ) (past : List Happened) (p : Peer) →
+    Became (new_peer config next) past p → Carries config.node p

@@ -1,0 +1,5 @@
+pub mod History
+pub mod Meant
+pub mod Opened
+pub mod Carrying
+pub mod Closings
