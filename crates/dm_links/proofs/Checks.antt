@@ -5,7 +5,7 @@ use Rattle.dm_links.specs.Machine.{Concern, Elsewhere, StartsIt, AcksIt, NacksIt
 use Rattle.dm_links.specs.Links.{LinkPhase, Pending}
 use Rattle.dm_links.specs.Steps.{marked, phase_at, own_at, other_at, incoming_mark_at, outgoing_mark_at, phase_after, own_after, mark_after, own_settled}
 use Rattle.dm_links.specs.Worlds.{takes}
-use Rattle.dm_links.specs.Facts.{Standing, turned, is_sound, is_pending, is_up, is_fresh, is_open_end, is_shut, is_coming}
+use Rattle.dm_links.specs.Facts.{Standing, turned, is_sound, is_pending, is_up, is_fresh, is_open_end, is_shut, is_none, is_coming}
 use Rattle.dm_links.proofs.Every.{all_true, at, nth, every_bool, every_tie, every_concern, every_phase, every_end, every_mark, every_standing, at_bool, at_tie, at_concern, at_standing}
 
 -- where the first test holds, the second
@@ -202,6 +202,10 @@ abbrev pub is_taken : Tie → Bool
 is_taken Taken = true
 is_taken _ = false
 
+abbrev pub is_connecting : Tie → Bool
+is_connecting Connecting = true
+is_connecting _ = false
+
 abbrev pub has_open_end : Standing → Bool
 has_open_end s = is_open_end s.own
 
@@ -222,6 +226,8 @@ conclusions mine s =
     ∷ when (is_open_end s.other && is_up s.phase) (is_held s.other_tie)
     ∷ when (is_up s.phase && is_fresh s.own) (not mine)
     ∷ when (is_up s.phase && (is_held s.own_tie && is_calm s)) (is_held s.other_tie)
+    ∷ when (not (is_up s.phase)) (s.in_empty && (s.out_empty && (is_none s.in_mark && is_none s.out_mark)))
+    ∷ when (is_connecting s.own_tie) (is_pending s.phase)
     ∷ []
 
 abbrev concluded : Standing → Bool

@@ -50,3 +50,6 @@ mod CarriedHappenings
 mod Delivers
 mod Closing
 mod BothPeers
+mod Holding
+mod Joining
+mod Returning

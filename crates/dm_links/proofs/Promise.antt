@@ -187,7 +187,7 @@ other_holds m w good s r c o =
       | inr e ↦ inr (record { link = l; there = match.there; coming = e })
     ]
 
-roles_apart : (r r' : Role) (a b : Bool) → a ≡ is_same_role r Accepted → b ≡ is_same_role r' Accepted →
+pub roles_apart : (r r' : Role) (a b : Bool) → a ≡ is_same_role r Accepted → b ≡ is_same_role r' Accepted →
     not (same_bool a b) ≡ true → is_same_role r r' ≡ false
 roles_apart Initiated Accepted a b p q h = refl
 roles_apart Accepted Initiated a b p q h = refl

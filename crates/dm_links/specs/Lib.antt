@@ -21,3 +21,4 @@ pub mod Falling
 pub mod Sharing
 pub mod Turns
 pub mod Delivery
+pub mod Joining

@@ -5,6 +5,7 @@
 ghost use Rattle.dm_links.specs.Counting.{EachPieceCounts};
 ghost use Rattle.dm_links.specs.Falling.{EachCleanRunCanFallQuiet, EachCleanRunFallsQuiet};
 ghost use Rattle.dm_links.specs.Delivery.{EachRunDelivers};
+ghost use Rattle.dm_links.specs.Joining.{QuietIsJoined, WinnerDoesNotReturn};
 ghost use Rattle.dm_links.specs.Kinds.{KindsAreAMachine, TwoRuns};
 ghost use Rattle.dm_links.specs.Laws.{ClosedIsSound, HappeningKeepsSound, SoundIsPromised, EachRunIsPromised};
 ghost use Rattle.dm_links.specs.Making.{AcksMakeEnds};
@@ -85,6 +86,17 @@ pub fn each_clean_run_can_fall_quiet<P, M, C, H>()
 /// one is Closed exactly where the other is.
 pub fn quiet_is_shared<P, M>()
     ensures { QuietIsShared P M }
+{}
+
+/// In such a world both are Closed, or each stands on one connection alone, the same one, in opposite roles, if one of them
+/// at least didn't lose its election to the other.
+pub fn quiet_is_joined<P, M>()
+    ensures { QuietIsJoined P M }
+{}
+
+/// A side that wins its elections doesn't come to Wait-Returns (RFC 6733, 5.6.4).
+pub fn winner_does_not_return()
+    ensures { WinnerDoesNotReturn }
 {}
 
 /// After every list of happenings fewer octets are delivered of a message than it has.
