@@ -53,3 +53,8 @@ mod BothPeers
 mod Holding
 mod Joining
 mod Returning
+mod Dead
+mod Dropping
+mod Clearing
+mod Draining
+mod Opening

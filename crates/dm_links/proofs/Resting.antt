@@ -1,5 +1,5 @@
 -- A phase that rests is quiet, with both open on the link that is kept.
-use Rattle.std.proofs.Common.{◌≡◌, ℕ, ◌==◌, true, Some, None, IfSome, slice_get, refl, sym, ap, ◌∙◌, inl, inr}
+use Rattle.std.proofs.Common.{◌≡◌, ℕ, ◌==◌, true, false, Some, None, IfSome, slice_get, refl, sym, ap, ◌∙◌, inl, inr}
 use Rattle.std.specs.Prelude.{option_map}
 use Rattle.std.proofs.lemmas.Bool.{cases_Bool, eqb-true}
 use Rattle.dm_links.specs.Links.{Side, NoMark, Delivered, Link, link_of}
@@ -15,6 +15,22 @@ use Rattle.dm_links.proofs.Phases.{Phase, stage_g, stage_l, present, InPhase}
 use Rattle.dm_links.proofs.Phasing.{flip_in}
 use Rattle.dm_links.proofs.Settling.{Rests, idle, only_g, only_l, both, still, are_open}
 use Rattle.dm_links.proofs.Lists.{all_where, same_test}
+
+-- a world is quiet where the links of two numbers are, and all others
+pub quiet_where : {P M : Type 0} (w : World P M) (x y : ℕ) →
+    ((z : Link M) → slice_get w.links x ≡ Some z → is_quiet_link z ≡ true) →
+    ((z : Link M) → slice_get w.links y ≡ Some z → is_quiet_link z ≡ true) →
+    ((d : ℕ) (z : Link M) → slice_get w.links d ≡ Some z → (x == d) ≡ false → (y == d) ≡ false →
+    is_quiet_link z ≡ true) → is_quiet w ≡ true
+quiet_where w x y at_x at_y others =
+    all_where (λ z. is_quiet_link z) w.links
+    (λ d z at. elim (cases_Bool (x == d)) [
+      | inl hx ↦ at_x z (ap (λ (c : ℕ). slice_get w.links c) (eqb-true x d hx) ∙ at)
+      | inr hx ↦ elim (cases_Bool (y == d)) [
+        | inl hy ↦ at_y z (ap (λ (c : ℕ). slice_get w.links c) (eqb-true y d hy) ∙ at)
+        | inr hy ↦ others d z at hx hy
+      ]
+    ])
 
 module _ {P M C H : Type 0} (m : Peers P M) (t : Talks P M C H) where
   -- a resting phase is quiet
@@ -43,16 +59,10 @@ module _ {P M C H : Type 0} (m : Peers P M) (t : Talks P M C H) where
   pub quiet_end : (g l : Side) (w : World P M) (k : Phase) (x y : ℕ) → InPhase m t g l w k x y → Rests k →
       is_quiet w ≡ true
   quiet_end g l w k x y q rests =
-      all_where (λ z. is_quiet_link z) w.links
-      (λ d z at. elim (cases_Bool (x == d)) [
-        | inl hx ↦ still_link g l (stage_g k) q.h q.i q.j z (rest_g k rests)
-            (sym q.at.at_x ∙ (ap (λ (c : ℕ). slice_get w.links c) (eqb-true x d hx) ∙ at))
-        | inr hx ↦ elim (cases_Bool (y == d)) [
-          | inl hy ↦ still_link l g (stage_l k) q.h' q.i' q.j' z (rest_l k rests)
-              (sym (flip_in m t g l w k x y q).at_x ∙ (ap (λ (c : ℕ). slice_get w.links c) (eqb-true y d hy) ∙ at))
-          | inr hy ↦ q.at.others d z at hx hy
-        ]
-      ])
+      quiet_where w x y (λ z at. still_link g l (stage_g k) q.h q.i q.j z (rest_g k rests) (sym q.at.at_x ∙ at))
+      (λ z at. still_link l g (stage_l k) q.h' q.i' q.j' z (rest_l k rests)
+      (sym (flip_in m t g l w k x y q).at_x ∙ at))
+      (λ d z at hx hy. q.at.others d z at hx hy)
 
   -- and both are open there on the link that is kept
   pub opened_end : (g l : Side) → IsPair g l → (w : World P M) (k : Phase) (x y : ℕ) → InPhase m t g l w k x y →

@@ -21,4 +21,6 @@ pub mod Falling
 pub mod Sharing
 pub mod Turns
 pub mod Delivery
+pub mod Recovering
+pub mod Draining
 pub mod Joining

@@ -3,12 +3,14 @@
 //!
 //! `P` is the state of a peer and `M` a message: a world of peers over octets takes its own types for them.
 ghost use Rattle.dm_links.specs.Counting.{EachPieceCounts};
+ghost use Rattle.dm_links.specs.Draining.{EachRestartedRunDrains};
 ghost use Rattle.dm_links.specs.Falling.{EachCleanRunCanFallQuiet, EachCleanRunFallsQuiet};
 ghost use Rattle.dm_links.specs.Delivery.{EachRunDelivers};
 ghost use Rattle.dm_links.specs.Joining.{QuietIsJoined, WinnerDoesNotReturn};
 ghost use Rattle.dm_links.specs.Kinds.{KindsAreAMachine, TwoRuns};
 ghost use Rattle.dm_links.specs.Laws.{ClosedIsSound, HappeningKeepsSound, SoundIsPromised, EachRunIsPromised};
 ghost use Rattle.dm_links.specs.Making.{AcksMakeEnds};
+ghost use Rattle.dm_links.specs.Recovering.{EachWorldCanClear, EachWorldCanOpen};
 ghost use Rattle.dm_links.specs.Settled.{EachCleanRunSettles};
 ghost use Rattle.dm_links.specs.Sharing.{QuietIsShared};
 ghost use Rattle.dm_links.specs.Streams.{HappeningKeepsCut, EachRunIsCut, EachPieceAddsUp, EachLossAddsUp};
@@ -97,6 +99,23 @@ pub fn quiet_is_joined<P, M>()
 /// A side that wins its elections doesn't come to Wait-Returns (RFC 6733, 5.6.4).
 pub fn winner_does_not_return()
     ensures { WinnerDoesNotReturn }
+{}
+
+/// From each sound world, whatever happened before, both sides can restart, and after some deliveries nothing is under way.
+pub fn each_world_can_clear<P, M>()
+    ensures { EachWorldCanClear P M }
+{}
+
+/// And then a Start of either side, the Ack and two deliveries open both on the connection that it makes: a list that does
+/// it exists, which isn't to say that peers take it by themselves.
+pub fn each_world_can_open<P, M, C, H>()
+    ensures { EachWorldCanOpen P M C H }
+{}
+
+/// After both have restarted nobody acts any more, whatever Acks, Nacks and deliveries come in whatever order: nothing is
+/// put in, each step takes off one thing that was under way, and it is quiet where nothing is left.
+pub fn each_restarted_run_drains<P, M>()
+    ensures { EachRestartedRunDrains P M }
 {}
 
 /// After every list of happenings fewer octets are delivered of a message than it has.
