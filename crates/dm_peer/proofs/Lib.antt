@@ -3,8 +3,11 @@ mod Entries
 mod Exchange
 mod Following
 mod Owning
+mod Kept
 mod Refusing
 mod Settling
 mod Silent
+mod SpelledActions
+mod Spelling
 mod Strangers
 mod Whole

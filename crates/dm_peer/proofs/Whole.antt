@@ -1,5 +1,5 @@
 -- The message that is read from octets is the one in them.
-use Rattle.std.proofs.Common.{◌≡◌, ◌<◌, ℕ, Option, None, Some, List, slice_index, refl}
+use Rattle.std.proofs.Common.{◌≡◌, ℕ, Option, None, Some, List, refl}
 use Rattle.dm_wire.specs.declared.avp.Avp.{Avp}
 use Rattle.dm_wire.specs.declared.fault.WireFault.{WireFault}
 use Rattle.dm_wire.specs.declared.message.Header.{Header}
@@ -8,10 +8,7 @@ use Rattle.dm_wire.specs.OneAnswer.{NoMessageRefused}
 use Rattle.dm_wire.specs.Refusal.{Refuses}
 use Rattle.dm_wire.specs.Spelling.{SpellsList, SpellsMessage}
 use Rattle.dm_wire.specs.Whole.{message_in, MessageInSpells}
-
--- every octet is below 256
-abbrev pub AreOctets : List ℕ → Type 0
-AreOctets s = (i : ℕ) → slice_index s i < 256
+use Rattle.dm_peer.specs.Octets.{AreOctets}
 
 abbrev pub message_with : Header → List Avp → Message
 message_with h l = record { header = h; avps = l }

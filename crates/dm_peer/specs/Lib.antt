@@ -1,4 +1,5 @@
 pub mod Defaults
+pub mod PeerView
 pub mod Events
 pub mod Faults
 pub mod Hosts
@@ -13,5 +14,7 @@ pub mod Silence
 pub mod Refusing
 pub mod Settled
 pub mod Strangers
+pub mod Spelled
+pub mod Kept
 pub mod Steps
 pub mod Laws

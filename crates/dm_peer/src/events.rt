@@ -1,4 +1,7 @@
 //! What a peer is told: commands of its user, the passing of time, and what happens on connections.
+ghost use Rattle.dm_peer.specs.Events.{told, octets_in};
+ghost use Rattle.dm_peer.specs.Octets.{AreOctets};
+
 use dm_base::Cause;
 use dm_machine::Conn;
 
@@ -23,4 +26,21 @@ pub enum Event<'a> {
     Gone(Conn),
     /// Send a message of the user, as octets.
     Submit(&'a [u8]),
+}
+
+/// Each number of a slice of octets is below 256.
+fn are_octets(octets: &[u8])
+    ensures { AreOctets octets.now }
+{
+    let _octets = octets.len();
+}
+
+/// What an event brings are octets.
+pub(crate) fn brings_octets(event: Event<'_>)
+    ensures { AreOctets (octets_in (told event.entry)) }
+{
+    match event {
+        Event::Arrived(_, octets) | Event::Submit(octets) => are_octets(octets),
+        _ => {}
+    }
 }

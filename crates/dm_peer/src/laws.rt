@@ -1,18 +1,21 @@
 //! Laws of peers. Each function is a law: it does nothing but call the laws that it stands on, and its contract is the
 //! law.
+ghost use Rattle.dm_peer.specs.Kept.{IsKept};
 ghost use Rattle.dm_peer.specs.Laws.{SentIsHeard, CerIsGood, CeaIsGood, DwrIsGood, DwaIsGood, DprIsGood, DpaIsGood};
 ghost use Rattle.dm_peer.specs.Refusing.{RefusesByRule};
 ghost use Rattle.dm_peer.specs.Settled.{FreshIsSettled, EachEventKeepsSettled};
 ghost use Rattle.dm_peer.specs.Silence.{SilentTakesNone};
+ghost use Rattle.dm_peer.specs.Spelled.{FreshIsFitting, EachSendIsSpelled};
 ghost use Rattle.dm_peer.specs.Steps.{EachEventIsOneStep};
 ghost use Rattle.dm_peer.specs.Strangers.{StrangersChangeNothing};
 
+use crate::Peer;
 use dm_base::laws::{built_is_own, built_is_spelled, common_is_shared};
 use dm_machine::laws::{
     each_node_has_its_form, each_step_keeps_shape, strangers_are_turned_away,
     unread_words_are_alike,
 };
-use dm_wire::laws::{canonical_spells, spelled_is_in};
+use dm_wire::laws::{canonical_spells, message_in_spells, spelled_is_in};
 
 /// Each event is one step of the state machine, with an action for each command, which says what is there: an answer
 /// its request, a refusal its fault; or an answer that nothing awaits is dropped, and nothing changes. The law stands
@@ -31,6 +34,14 @@ pub fn each_event_keeps_settled()
 {
     each_node_has_its_form();
     each_step_keeps_shape();
+}
+
+/// What every peer holds, whatever it was told: what it waits for goes by its state, and its numbers fit their fields.
+/// The law stands for users, as the premise of the others.
+pub fn every_peer_is_kept(peer: &Peer)
+    ensures { IsKept peer.now }
+{
+    let _kept = &peer.standing;
 }
 
 /// At a Start, at a Timeout, where octets aren't looked at, and where an answer is dropped, nothing is sent or handed
@@ -57,6 +68,18 @@ pub fn refusals_go_by_rule()
     ensures { RefusesByRule }
 {
     each_node_has_its_form();
+}
+
+/// What a peer sends is a message: at each event the octets of each Send spell one, since the numbers that it goes by
+/// fit their fields. They do at a new peer and at one after `reset`, and each event keeps it so (RFC 6733, 3).
+pub fn each_send_is_spelled()
+    ensures fresh { FreshIsFitting }
+    ensures kept { EachSendIsSpelled }
+{
+    each_node_has_its_form();
+    message_in_spells();
+    canonical_spells();
+    built_is_spelled();
 }
 
 /// The octets that a message is sent as are heard as that message. The law stands for users.

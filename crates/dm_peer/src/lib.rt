@@ -9,6 +9,7 @@ mod commands;
 mod config;
 mod events;
 mod fault;
+mod keeping;
 pub mod laws;
 mod message;
 mod peer;

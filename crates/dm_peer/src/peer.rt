@@ -1,33 +1,51 @@
 //! Peers: one event is one step.
-ghost use Rattle.std.specs.Prelude.{◌≡◌, ◌<◌, ◌^◌, ◌⊎◌, IfOk, IfErr, OnErr, IsTrue, true, Some, Err};
+ghost use Rattle.std.specs.Prelude.{◌≡◌, ℕ, ◌<◌, ◌^◌, ◌⊎◌, IfOk, IfErr, OnErr, IsTrue, true, Some, Err, List, All};
 ghost use Rattle.dm_machine.specs.Moves as moves;
 ghost use Rattle.dm_machine.specs.Node.{held_as, is_shaped};
+ghost use Rattle.dm_machine.specs.declared.connection.Conn.{Conn};
 ghost use Rattle.dm_machine.specs.declared.phase.Role.TheVariants.{Initiated, Accepted};
 ghost use Rattle.dm_peer.specs.Acts.{Moved, Refused, acts, standing_at, IsRefused};
 ghost use Rattle.dm_peer.specs.After.{awaited_of, fresh};
-ghost use Rattle.dm_peer.specs.Events.{told};
+ghost use Rattle.dm_peer.specs.Events.{Arrived, told};
 ghost use Rattle.dm_peer.specs.Refusing.{refusal_of};
 ghost use Rattle.dm_peer.specs.Silence.{is_silent};
+ghost use Rattle.dm_peer.specs.Spelled.{SendsSpelling};
+ghost use Rattle.dm_peer.specs.Strangers.{AreStrange, TurnsAway};
 ghost use Rattle.dm_peer.specs.declared.fault.PeerFault.{PeerFault};
 ghost use Rattle.dm_peer.specs.declared.fault.PeerFault.TheVariants.{NoMemory};
 
 use crate::commands::is_open;
+use crate::keeping::kept_answer;
 use crate::laws::{refusals_go_by_rule, silent_takes_none};
 use crate::standing::Standing;
-use crate::steps::answer;
 use crate::{Actions, Config, Event, PeerFault};
 use dm_machine::{Conn, State};
 use std::alloc::Global;
+use std::marker::Model;
 
-/// A peer: its configuration, and where it stands (RFC 6733, 5.6).
+/// A peer: its configuration, and where it stands (RFC 6733, 5.6). What holds of each is said by
+/// `laws::every_peer_is_kept`.
 #[derive(Debug, Drop)]
 pub struct Peer {
     pub(crate) config: Config,
     pub(crate) standing: Standing,
 }
 
+impl Model for Peer {
+    ghost use Rattle.dm_peer.specs.PeerView.{PeerView};
+
+    ghost Value = { PeerView };
+
+    ghost use Rattle.dm_peer.specs.Kept.{IsKept};
+
+    ghost view = { λ p. record { config = p.config; standing = p.standing } };
+
+    ghost invariant = { λ p. IsKept (record { config = p.config; standing = p.standing }) };
+}
+
 impl Peer {
     /// A closed peer of the configuration. It takes no memory.
+    #[tactic(auto, using(crate::proofs::Kept::fresh_is_kept))]
     pub fn new(config: Config) -> Peer
         ensures config { result.config ≡ config }
         ensures standing { result.standing ≡ fresh config.first_id }
@@ -63,11 +81,17 @@ impl Peer {
         // A Start, a Timeout, octets that aren't looked at and an answer that is dropped never want memory.
         ensures silent { is_silent self.old (told event.entry) ≡ true
             → IfErr result (λ f. acts self.old (told event.entry) ≡ Refused f) }
+        // The octets of each Send spell a message.
+        ensures spelled { IfOk result (λ actions. All SendsSpelling actions.items) }
+        // A stranger changes nothing: its connection is closed, behind an answer or none, and no more is done.
+        ensures stranger { (conn : Conn) (octets : List ℕ) → told event.entry ≡ Arrived conn octets
+            → AreStrange self.old conn octets
+            → IfOk result (λ actions. TurnsAway conn actions.items × (self.new ≡ self.old)) }
     {
         silent_takes_none();
         refusals_go_by_rule();
         let _shaped = self.state();
-        let (standing, actions) = answer(alloc, self, event)?;
+        let (standing, actions) = kept_answer(alloc, self, event)?;
         self.standing = standing;
         Ok(actions)
     }
