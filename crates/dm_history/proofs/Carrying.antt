@@ -146,10 +146,10 @@ sent_by laws p past told e actions next t c s (earlier, later, stands) =
 
 carried : CarryLaws → (p : Peer) (past : List Happened) → IsTold p past → (e : PeerEvent) (actions : List Action)
     (next : Peer) → Turns p e (Moved actions next) → IsCarried p.config.node p e actions
-carried laws p past told e actions next (inr (none, same)) =
+carried laws p past told e actions next (inr d) =
     record {
-      up = λ s a. absurd (none_among (Up s) (subst (λ (l : List Action). IsAmong l (Up s)) none a));
-      sent = λ c s a. absurd (none_among (Send c s) (subst (λ (l : List Action). IsAmong l (Send c s)) none a));
+      up = λ s a. absurd (none_among (Up s) (subst (λ (l : List Action). IsAmong l (Up s)) d.none a));
+      sent = λ c s a. absurd (none_among (Send c s) (subst (λ (l : List Action). IsAmong l (Send c s)) d.none a));
     }
 carried laws p past told e actions next (inl t) =
     record {

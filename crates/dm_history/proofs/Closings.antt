@@ -17,7 +17,8 @@ use Rattle.dm_peer.specs.Sent.{action_of}
 use Rattle.dm_peer.specs.Acts.{Moved, input_of}
 use Rattle.dm_peer.specs.Settled.{IsSettled, FreshIsSettled, EachEventKeepsSettled}
 use Rattle.dm_history.specs.History.{Happened, done_at, declined_at, new_peer, Became, untold, done, declined, IsAmong}
-use Rattle.dm_history.specs.Closings.{names_conn, IsClosing, WasClosed, NamesNoClosed, EachCloseIsLast, NothingFollowsClose}
+use Rattle.dm_history.specs.Naming.{names_conn, IsClosing, WasClosed, NamesNone}
+use Rattle.dm_history.specs.Closings.{EachCloseIsLast, NothingFollowsClose}
 use Rattle.dm_history.proofs.Among.{none_among, sourced}
 use Rattle.dm_history.proofs.Ordered.{ordered}
 use Rattle.dm_history.proofs.Turning.{IsTurn, Turns, turns}
@@ -89,8 +90,8 @@ sent_none p e h l c s a there is none =
 silent_at : LeavesOthersAlone → (p : Peer) → IsSettled p → (c : Conn) → hold_of p.standing.core c ≡ NotHeld →
     (e : PeerEvent) (actions : List Action) (next : Peer) (s : List ℕ) → names_conn e c ≡ false →
     Turns p e (Moved actions next) → IsAmong actions (Send c s) → ⊥
-silent_at alone p was c free e actions next s other (inr (none, same)) there =
-    none_among (Send c s) (subst (λ (l : List Action). IsAmong l (Send c s)) none there)
+silent_at alone p was c free e actions next s other (inr d) there =
+    none_among (Send c s) (subst (λ (l : List Action). IsAmong l (Send c s)) d.none there)
 silent_at alone p was c free e actions next s other (inl t) (earlier, later, stands) =
     let a = sourced (action_of p e t.heard) t.commands (Send c s) earlier later (sym t.acted ∙ stands) in
     sent_none p e t.heard t.commands c s a.command (a.before, a.behind, a.stands) a.gives
@@ -100,10 +101,10 @@ free_after : ClosesWhatItGivesUp → LeavesOthersAlone → (p : Peer) → IsSett
     (actions : List Action) (next : Peer) (c : Conn) → Turns p e (Moved actions next) →
     IsAmong actions (Close c) ⊎ ((hold_of p.standing.core c ≡ NotHeld) × (names_conn e c ≡ false)) →
     hold_of next.standing.core c ≡ NotHeld
-free_after closed alone p was e actions next c (inr (none, same)) (inl there) =
-    absurd (none_among (Close c) (subst (λ (l : List Action). IsAmong l (Close c)) none there))
-free_after closed alone p was e actions next c (inr (none, same)) (inr (free, other)) =
-    ap (λ q. hold_of q.standing.core c) same ∙ free
+free_after closed alone p was e actions next c (inr d) (inl there) =
+    absurd (none_among (Close c) (subst (λ (l : List Action). IsAmong l (Close c)) d.none there))
+free_after closed alone p was e actions next c (inr d) (inr (free, other)) =
+    ap (λ q. hold_of q.standing.core c) d.same ∙ free
 free_after closed alone p was e actions next c (inl t) (inl there) =
     ap (λ q. hold_of q.standing.core c) t.stands ∙ closed_at closed p was e actions next t c there
 free_after closed alone p was e actions next c (inl t) (inr (free, other)) =
@@ -119,7 +120,8 @@ not_declined : (e : PeerEvent) (c : Conn) → IsClosing c (declined_at e) → �
 not_declined e c x = cc x.did
 
 stays_free : CloseLaws → (config : Config) (next : ℕ) (past : List Happened) (p : Peer) (c : Conn) →
-    Became (new_peer config next) past p → NamesNoClosed past → WasClosed c past → hold_of p.standing.core c ≡ NotHeld
+    Became (new_peer config next) past p → NamesNone WasClosed past → WasClosed c past →
+    hold_of p.standing.core c ≡ NotHeld
 stays_free laws config next past p c untold rule was = absurd was
 stays_free laws config next past p c (done older q e actions after lived is) rule (inl x) =
     free_after laws.closed laws.alone q (stays_settled laws.fresh laws.kept config next older q lived) e actions p c
@@ -163,8 +165,8 @@ ends_behind c a (x ∷ before) behind is e =
 behind_none : EndsAtClose → (p : Peer) → IsSettled p → (e : PeerEvent) (after : Peer) (c : Conn) (s : List ℕ)
     (earlier later : List Action) → Turns p e (Moved (earlier ++ Close c ∷ later) after) →
     IsAmong later (Send c s) → ⊥
-behind_none last p was e after c s earlier later (inr (none, same)) there =
-    none_among (Close c) (earlier, later, sym none)
+behind_none last p was e after c s earlier later (inr d) there =
+    none_among (Close c) (earlier, later, sym d.none)
 behind_none last p was e after c s earlier later (inl t) (first, more, stands) =
     let n = p.standing.core in
     let i = input_of e t.heard in

@@ -24,7 +24,7 @@ stays_settled fresh kept config next past p (declined older q e lived) =
 same_config : (p : Peer) (e : PeerEvent) (actions : List Action) (next : Peer) → Turns p e (Moved actions next) →
     next.config ≡ p.config
 same_config p e actions next (inl t) = ap (λ q. q.config) t.stands
-same_config p e actions next (inr (none, same)) = ap (λ q. q.config) same
+same_config p e actions next (inr d) = ap (λ q. q.config) d.same
 
 pub config_next : (p : Peer) (e : PeerEvent) (actions : List Action) (next : Peer) → acts p e ≡ Moved actions next →
     next.config ≡ p.config

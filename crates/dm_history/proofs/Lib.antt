@@ -7,6 +7,7 @@ mod Waiting
 mod Lasting
 mod Coming
 mod Stories
+mod Ending
 mod Sending
 mod Answering
 mod Telling

@@ -5,7 +5,7 @@ use Rattle.dm_wire.specs.declared.message.Message.{Message}
 use Rattle.dm_machine.specs.declared.connection.Conn.{Conn}
 use Rattle.dm_machine.specs.Forms.{EachShapeIsAForm}
 use Rattle.dm_machine.specs.Connection.{Hold, NotHeld, Pending, Made, OpenAsI, ClosingAsI, Taken, OpenAsR, ClosingAsR, hold_of}
-use Rattle.dm_machine.specs.Openings.{SendsCerAtAck}
+use Rattle.dm_machine.specs.Openings.{SendsCerAtAck, ClosesWhatItGivesUp}
 use Rattle.dm_machine.specs.Causes.{EachHoldIsCaused}
 use Rattle.dm_machine.specs.Unread.{ClosesUnread}
 use Rattle.dm_peer.specs.declared.config.Config.{Config}
@@ -13,8 +13,9 @@ use Rattle.dm_peer.specs.declared.peer.Peer.{Peer}
 use Rattle.dm_peer.specs.declared.standing.Standing.{Standing}
 use Rattle.dm_peer.specs.Settled.{IsSettled, FreshIsSettled, EachEventKeepsSettled}
 use Rattle.dm_history.specs.History.{Happened, Once}
+use Rattle.dm_history.specs.Naming.{HasEnded}
 use Rattle.dm_history.specs.Meant.{IsGoodCer}
-use Rattle.dm_history.specs.Opened.{HasCome, IsAsked, OpenedByCer, OpenedByCea}
+use Rattle.dm_history.specs.Opened.{HasArrived, CameFirst, IsAsked, OpenedByCer, OpenedByCea}
 
 -- the laws of one step that it rests on
 pub record StepLaws : Type 0 where
@@ -22,6 +23,7 @@ pub record StepLaws : Type 0 where
   pub caused : EachHoldIsCaused
   pub asked : SendsCerAtAck
   pub closes : ClosesUnread
+  pub closed : ClosesWhatItGivesUp
   pub fresh : FreshIsSettled
   pub kept : EachEventKeepsSettled
 
@@ -35,7 +37,7 @@ pub record HasHeard (config : Config) (standing : Standing) (c : Conn) (past : L
   pub cer : Message
   pub good : IsGoodCer config cer
   pub kept : standing.waiting ≡ Some cer.header
-  pub heard : Once (λ y earlier. HasCome c cer y) past
+  pub heard : Once (λ y earlier. CameFirst c cer y earlier) past
 
 abbrev pub Story : Config → Standing → Conn → List Happened → Hold → Type 0
 Story config standing c past Made = HasAsked config standing c past
@@ -55,6 +57,12 @@ later config standing c x past Pending s = tt
 later config standing c x past ClosingAsI s = tt
 later config standing c x past ClosingAsR s = tt
 
+-- a connection on which something came, and that isn't held, is over
+abbrev pub EndedIfCame : Peer → List Happened → Type 0
+EndedIfCame p past =
+    (c : Conn) → hold_of p.standing.core c ≡ NotHeld → Once (λ y earlier. HasArrived c y) past → HasEnded c past
+
 pub record IsTold (p : Peer) (past : List Happened) : Type 0 where
   pub settled : IsSettled p
+  pub ended : EndedIfCame p past
   pub story : (c : Conn) → Story p.config p.standing c past (hold_of p.standing.core c)

@@ -1,5 +1,5 @@
 -- How an open connection was opened: each event keeps what the connections have been through.
-use Rattle.std.proofs.Common.{◌≡◌, inl, inr, ℕ, true, false, ◌&&◌, Option, None, List, ◌∷◌, refl, sym, subst, ap, ◌∙◌}
+use Rattle.std.proofs.Common.{◌≡◌, inl, inr, ℕ, true, false, ◌&&◌, Option, None, List, ◌∷◌, refl, sym, subst, ap, ◌∙◌, Bool}
 use Rattle.std.proofs.lemmas.Bool.{and_parts, cases_Bool}
 use Rattle.dm_wire.specs.declared.message.Header.{Header}
 use Rattle.dm_wire.specs.declared.message.Message.{Message}
@@ -29,17 +29,22 @@ use Rattle.dm_peer.specs.After.{request_in, awaits_cea, holds_cer, is_cer, heade
 use Rattle.dm_peer.specs.Acts.{Moved, input_of, standing_at, is_unawaited, is_made, is_dropped}
 use Rattle.dm_peer.specs.Settled.{IsSettled}
 use Rattle.dm_history.specs.History.{Happened, done_at, declined_at, new_peer, Became, untold, done, declined, Once, IsAmong}
-use Rattle.dm_history.specs.Opened.{HasCome, WasSent, IsAsked, IsOpened, EachOpeningWasAsked}
+use Rattle.dm_history.specs.Naming.{names_conn}
+use Rattle.dm_history.specs.Opened.{HasCome, CameFirst, WasSent, IsAsked, IsOpened, EachOpeningWasAsked}
 use Rattle.dm_history.proofs.Among.{mapped}
-use Rattle.dm_history.proofs.Ordered.{is_conn, commanded, ordered}
+use Rattle.dm_history.proofs.Ordered.{same_number, is_conn, commanded, ordered}
 use Rattle.dm_history.proofs.Words.{good_cea, cea_answers}
 use Rattle.dm_history.proofs.Turning.{AreRead, Turns, turns}
 use Rattle.dm_history.proofs.Holding.{is_pending, holds_taken, awaits_made, pending_awaits_none}
 use Rattle.dm_history.proofs.Waiting.{awaited_number, none_there, number_kept, number_set, header_kept, header_set, cer_among}
 use Rattle.dm_history.proofs.Lasting.{settled_next, stays_configured}
 use Rattle.dm_history.proofs.Coming.{acked_by, Came, came_on}
-use Rattle.dm_history.proofs.Stories.{StepLaws, HasAsked, HasHeard, Story, later, IsTold}
+use Rattle.dm_history.proofs.Stories.{StepLaws, EndedIfCame, HasAsked, HasHeard, Story, later, IsTold}
+use Rattle.dm_history.proofs.Ending.{ended_next, ended_declined}
 use Rattle.dm_history.proofs.Answering.{CameCer, came_cer}
+
+named_over : (b : Bool) → b ≡ true → b ≡ false → ⊥
+named_over b named over = cc (named, over)
 
 unawaited_made : (p : Peer) (c : Conn) (m : Message) → hold_of p.standing.core c ≡ Made →
     is_dropped p c m.header ≡ false → is_unawaited p.standing.awaited m.header ≡ false
@@ -78,6 +83,14 @@ module _ (laws : StepLaws) (p : Peer) (e : PeerEvent) (h : Option Heard) (comman
     actions = actions_of p e h commands;
     spelled = m.spelled;
     came = ap (λ y. done_at y (actions_of p e h commands)) m.came;
+  }
+
+  -- as the first message there, since no connection that is over was named
+  first_now : hold_of n c ≡ NotHeld → (m : Came p e h c Cer) → CameFirst c m.message x past
+  first_now free m = record {
+    come = came_now Cer m;
+    first = λ rule came. named_over (names_conn e c) (ap (λ f. names_conn f c) m.came ∙ same_number c.0)
+        (rule.0 c (before.ended c free came));
   }
 
   sent_cea : (to : Header) → cer_to_answer p.standing.waiting h ≡ to →
@@ -146,7 +159,7 @@ module _ (laws : StepLaws) (p : Peer) (e : PeerEvent) (h : Option Heard) (comman
         good = m.good;
         accepted = inl (record {
           answered = sent_cea m.cer.message.header m.answered has;
-          heard = inl (came_now Cer m.cer);
+          heard = inl (first_now (at ∙ free) m.cer);
         });
       }
   go was Taken at is (inl same) s =
@@ -165,7 +178,7 @@ module _ (laws : StepLaws) (p : Peer) (e : PeerEvent) (h : Option Heard) (comman
         good = m.good;
         kept = header_set (holds_cer core.state) (holds_cer n.state) (header_heard h) p.standing.waiting
             (holds_taken core after_form c is) m.alone ∙ m.header;
-        heard = inl (came_now Cer m.cer);
+        heard = inl (first_now (at ∙ free) m.cer);
       }
   go was Made at is (inl same) s =
       let t : HasAsked p.config p.standing c past = was_it was Made same s in
@@ -212,10 +225,12 @@ module _ (laws : StepLaws) (p : Peer) (e : PeerEvent) (h : Option Heard) (comman
 
 by_turn : StepLaws → (p : Peer) (e : PeerEvent) (actions : List Action) (next : Peer) (past : List Happened) →
     IsTold p past → IsSettled next → Turns p e (Moved actions next) → IsTold next (done_at e actions ∷ past)
-by_turn laws p e actions next past before settled (inr (none, same)) =
-    subst (λ (q : Peer). IsTold q (done_at e actions ∷ past)) (sym same)
+by_turn laws p e actions next past before settled (inr d) =
+    subst (λ (q : Peer). IsTold q (done_at e actions ∷ past)) (sym d.same)
     (record {
       settled = before.settled;
+      ended = subst (λ (q : Peer). EndedIfCame q (done_at e actions ∷ past)) d.same
+          (ended_next laws.closed p before.settled e actions next past (inr d) before.ended);
       story = λ c. later p.config p.standing c (done_at e actions) past (hold_of p.standing.core c) (before.story c);
     })
 by_turn laws p e actions next past before settled (inl t) =
@@ -223,6 +238,9 @@ by_turn laws p e actions next past before settled (inl t) =
     let kept : IsSettled there = subst IsSettled t.stands settled in
     let told : IsTold there (done_at e (actions_of p e t.heard t.commands) ∷ past) = record {
       settled = kept;
+      ended = subst (λ (q : Peer). EndedIfCame q (done_at e (actions_of p e t.heard t.commands) ∷ past)) t.stands
+          (subst (λ (a : List Action). EndedIfCame next (done_at e a ∷ past)) t.acted
+          (ended_next laws.closed p before.settled e actions next past (inl t) before.ended));
       story = goes_on laws p e t.heard t.commands t.core past before kept t.moves t.read;
     } in
     subst (λ (q : Peer). IsTold q (done_at e actions ∷ past)) (sym t.stands)
@@ -230,7 +248,8 @@ by_turn laws p e actions next past before settled (inl t) =
 
 pub stays_told : StepLaws → (config : Config) (next : ℕ) (past : List Happened) (p : Peer) →
     Became (new_peer config next) past p → IsTold p past
-stays_told laws config next past p untold = record { settled = laws.fresh config next; story = λ c. tt }
+stays_told laws config next past p untold =
+    record { settled = laws.fresh config next; ended = λ c free came. absurd came; story = λ c. tt }
 stays_told laws config next past p (done older q e actions after lived is) =
     let before = stays_told laws config next older q lived in
     by_turn laws q e actions after older before (settled_next laws.kept q e actions after is before.settled)
@@ -239,6 +258,7 @@ stays_told laws config next past p (declined older q e lived) =
     let before = stays_told laws config next older q lived in
     record {
       settled = before.settled;
+      ended = ended_declined q e older before.ended;
       story = λ c. later q.config q.standing c (declined_at e) older (hold_of q.standing.core c) (before.story c);
     }
 

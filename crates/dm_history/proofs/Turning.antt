@@ -1,6 +1,7 @@
 -- Each event as a turn of the state machine: what was heard is what the octets say, and no answer that is dropped.
 use Rattle.std.proofs.Common.{◌≡◌, ◌⊎◌, inl, inr, ℕ, Bool, true, false, Option, None, Some, List, [], if◌then◌else◌, refl, sym, subst}
 use Rattle.std.specs.Prelude.{⊤}
+use Rattle.std.proofs.lemmas.Bool.{and_parts}
 use Rattle.dm_wire.specs.declared.message.Message.{Message}
 use Rattle.dm_wire.specs.Whole.{message_in}
 use Rattle.dm_machine.specs.declared.connection.Conn.{Conn}
@@ -18,7 +19,7 @@ use Rattle.dm_peer.specs.Configs.{wins}
 use Rattle.dm_peer.specs.Said.{Heard, heard_in}
 use Rattle.dm_peer.specs.Sent.{actions_of}
 use Rattle.dm_peer.specs.After.{request_in, standing_after}
-use Rattle.dm_peer.specs.Acts.{Outcome, Moved, Refused, acts, turned, input_of, outcome_of, standing_at, steps, is_unread, is_dropped, heard, can_submit}
+use Rattle.dm_peer.specs.Acts.{Outcome, Moved, Refused, acts, turned, input_of, outcome_of, standing_at, steps, is_unread, is_made, is_unawaited, is_dropped, heard, can_submit}
 
 pub turned_is : (n : Node) (i : Input) (w : Bool) → turned n i w ≡ outcome n i w
 unfolding turned
@@ -47,9 +48,17 @@ pub record IsTurn (p : Peer) (e : PeerEvent) (actions : List Action) (next : Pee
   pub stands : next ≡ standing_at p (standing_after p.standing heard (request_in commands) core)
   pub read : AreRead p e heard
 
--- or nothing is done, and nothing changes
+-- or an answer on a connection that is made is dropped, and nothing changes
+pub record DropsAnswer (p : Peer) (e : PeerEvent) (actions : List Action) (next : Peer) : Type 0 where
+  pub none : actions ≡ []
+  pub same : next ≡ p
+  pub conn : Conn
+  pub octets : List ℕ
+  pub came : e ≡ Arrived conn octets
+  pub made : is_made (hold_of p.standing.core conn) ≡ true
+
 abbrev pub Turns : Peer → PeerEvent → Outcome → Type 0
-Turns p e (Moved actions next) = IsTurn p e actions next ⊎ ((actions ≡ []) × (next ≡ p))
+Turns p e (Moved actions next) = IsTurn p e actions next ⊎ DropsAnswer p e actions next
 Turns p e (Refused f) = ⊤
 
 by_outcome : (p : Peer) (e : PeerEvent) (h : Option Heard) → AreRead p e h → (o : moves.Outcome) →
@@ -77,7 +86,15 @@ step p e = step_turns p e None tt
 dropping : (p : Peer) (c : Conn) (s : List ℕ) (m : Message) → message_in s ≡ Some m →
     (b : Bool) → is_dropped p c m.header ≡ b →
     Turns p (Arrived c s) (if b then Moved [] p else steps p (Arrived c s) (Some (heard_in p.config m)))
-dropping p c s m is true drop = inr (refl, refl)
+dropping p c s m is true drop =
+    inr (record {
+      none = refl;
+      same = refl;
+      conn = c;
+      octets = s;
+      came = refl;
+      made = (and_parts (is_made (hold_of p.standing.core c)) (is_unawaited p.standing.awaited m.header) drop).0;
+    })
 dropping p c s m is false drop =
     step_turns p (Arrived c s) (Some (heard_in p.config m))
     (record {

@@ -1,38 +1,15 @@
 -- A Close is the last that a peer does on a connection, where the driver doesn't name it again.
-use Rattle.std.specs.Prelude.{◌≡◌, ◌⊎◌, ⊤, ℕ, Bool, false, ◌==◌, Some, List, [], ◌∷◌, ◌++◌}
+use Rattle.std.specs.Prelude.{◌≡◌, ℕ, false, List, ◌∷◌, ◌++◌}
 use Rattle.dm_machine.specs.declared.connection.Conn.{Conn}
 use Rattle.dm_machine.specs.Connection.{NotHeld, hold_of}
 use Rattle.dm_peer.specs.declared.actions.Action.{Action}
 use Rattle.dm_peer.specs.declared.actions.Action.TheVariants.{Send, Close}
 use Rattle.dm_peer.specs.declared.config.Config.{Config}
 use Rattle.dm_peer.specs.declared.peer.Peer.{Peer}
-use Rattle.dm_peer.specs.Events.{PeerEvent, Start, Ack, Nack, Arrived, Gone}
+use Rattle.dm_peer.specs.Events.{PeerEvent}
 use Rattle.dm_peer.specs.Acts.{Moved, acts}
 use Rattle.dm_history.specs.History.{Happened, new_peer, Became, IsAmong}
-
--- the event names the connection
-abbrev pub names_conn : PeerEvent → Conn → Bool
-names_conn (Start d) c = d.0 == c.0
-names_conn (Ack d) c = d.0 == c.0
-names_conn (Nack d) c = d.0 == c.0
-names_conn (Arrived d s) c = d.0 == c.0
-names_conn (Gone d) c = d.0 == c.0
-names_conn _ c = false
-
--- the peer closed the connection then
-pub record IsClosing (c : Conn) (x : Happened) : Type 0 where
-  pub actions : List Action
-  pub did : x.did ≡ Some actions
-  pub closes : IsAmong actions (Close c)
-
-abbrev pub WasClosed : Conn → List Happened → Type 0
-WasClosed c [] = ⊥
-WasClosed c (x ∷ past) = IsClosing c x ⊎ WasClosed c past
-
--- the rule of use: a connection that the peer has closed isn't named again
-abbrev pub NamesNoClosed : List Happened → Type 0
-NamesNoClosed [] = ⊤
-NamesNoClosed (x ∷ past) = ((c : Conn) → WasClosed c past → names_conn x.event c ≡ false) × NamesNoClosed past
+use Rattle.dm_history.specs.Naming.{names_conn, WasClosed, NamesNone}
 
 -- the connection isn't held, and nothing is sent on it at an event that doesn't name it
 pub record IsOver (p : Peer) (c : Conn) : Type 0 where
@@ -44,7 +21,7 @@ pub record IsOver (p : Peer) (c : Conn) : Type 0 where
 abbrev pub EachCloseIsLast : Type 0
 EachCloseIsLast =
     (config : Config) (next : ℕ) (past : List Happened) (p : Peer) (c : Conn) →
-    Became (new_peer config next) past p → NamesNoClosed past → WasClosed c past → IsOver p c
+    Became (new_peer config next) past p → NamesNone WasClosed past → WasClosed c past → IsOver p c
 
 -- and behind the Close nothing is sent on it at the same event
 abbrev pub NothingFollowsClose : Type 0

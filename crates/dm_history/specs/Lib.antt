@@ -1,4 +1,5 @@
 pub mod History
+pub mod Naming
 pub mod Meant
 pub mod Opened
 pub mod Carrying

@@ -13,6 +13,7 @@ use Rattle.dm_peer.specs.declared.peer.Peer.{Peer}
 use Rattle.dm_peer.specs.Events.{Ack, Arrived}
 use Rattle.dm_peer.specs.Octets.{octets_of}
 use Rattle.dm_history.specs.History.{Happened, done_at, new_peer, Became, Once, IsAmong}
+use Rattle.dm_history.specs.Naming.{HasEnded, NamesNone}
 use Rattle.dm_history.specs.Meant.{IsGoodCer, IsGoodCea}
 
 -- the message came on the connection
@@ -22,16 +23,27 @@ pub record HasCome (c : Conn) (m : Message) (x : Happened) : Type 0 where
   pub spelled : message_in octets ≡ Some m
   pub came : x ≡ done_at (Arrived c octets) actions
 
+-- some message, or octets that are none, came on it
+pub record HasArrived (c : Conn) (x : Happened) : Type 0 where
+  pub octets : List ℕ
+  pub actions : List Action
+  pub came : x ≡ done_at (Arrived c octets) actions
+
+-- the message came on it, as the first there where no connection was named again that was over
+pub record CameFirst (c : Conn) (m : Message) (x : Happened) (past : List Happened) : Type 0 where
+  pub come : HasCome c m x
+  pub first : NamesNone HasEnded (x ∷ past) → Once (λ y earlier. HasArrived c y) past → ⊥
+
 -- the message was sent on it
 pub record WasSent (c : Conn) (m : Message) (x : Happened) : Type 0 where
   pub actions : List Action
   pub did : x.did ≡ Some actions
   pub sent : IsAmong actions (Send c (octets_of m))
 
--- the CEA that accepts the CER was sent on the connection, on which the CER had come, then or before
+-- the CEA that accepts the CER was sent on the connection, on which the CER had come first, then or before
 pub record IsAccepted (n : Node) (c : Conn) (cer : Message) (x : Happened) (past : List Happened) : Type 0 where
   pub answered : WasSent c (built_cea n cer.header 2001 None) x
-  pub heard : Once (λ y earlier. HasCome c cer y) (x ∷ past)
+  pub heard : Once (λ y earlier. CameFirst c cer y earlier) (x ∷ past)
 
 -- at the connection's Ack the CER with the number was sent on it
 pub record IsAsked (n : Node) (c : Conn) (id : ℕ) (x : Happened) : Type 0 where
@@ -43,7 +55,7 @@ pub record IsAnswered (n : Node) (c : Conn) (cea : Message) (x : Happened) (past
   pub heard : HasCome c cea x
   pub asked : Once (λ y earlier. IsAsked n c cea.header.hop_id y) past
 
--- as responder: a good CER came on the connection, and was answered with success
+-- as responder: a good CER came on the connection as its first message, and was answered with success
 pub record OpenedByCer (config : Config) (c : Conn) (past : List Happened) : Type 0 where
   pub cer : Message
   pub good : IsGoodCer config cer

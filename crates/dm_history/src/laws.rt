@@ -10,8 +10,9 @@ use dm_machine::laws::{
 };
 use dm_peer::laws::each_event_keeps_settled;
 
-/// A peer is open only on a connection that was opened as RFC 6733, 5.6, asks: on an accepted one after a good CER and
-/// the CEA that answers it, on an initiated one after the own CER, sent at its Ack, and a good CEA of its number.
+/// A peer is open only on a connection that was opened as RFC 6733, 5.6, asks: on an accepted one after a good CER, the
+/// first message there, and the CEA that answers it; on an initiated one after the own CER, sent at its Ack, and a good
+/// CEA of its number. That it was the first rests on the driver naming no connection again that is over.
 pub fn each_opening_was_asked()
     ensures { EachOpeningWasAsked }
 {

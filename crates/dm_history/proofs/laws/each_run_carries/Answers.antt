@@ -10,6 +10,7 @@ returns c =
         caused = c.each_hold_is_caused.ensures;
         asked = c.each_opening_has_its_message.ensures.asked;
         closes = c.unread_words_are_alike.ensures.rejected;
+        closed = c.each_opening_has_its_message.ensures.closed;
         fresh = c.each_event_keeps_settled.ensures.fresh;
         kept = c.each_event_keeps_settled.ensures.kept;
       };

@@ -1,0 +1,145 @@
+-- A connection on which something came, and that isn't held, is over: it was closed, or it has ended.
+use Rattle.std.proofs.Common.{◌≡◌, ◌⊎◌, inl, inr, ℕ, ◌==◌, Bool, true, false, not, ◌&&◌, Option, None, Some, List, ◌∷◌, refl, sym, subst, ap, ◌∙◌}
+use Rattle.std.proofs.lemmas.Bool.{cases_Bool}
+use Rattle.dm_machine.specs.declared.connection.Conn.{Conn}
+use Rattle.dm_machine.specs.declared.outputs.Command.TheVariants as command
+use Rattle.dm_machine.specs.Connection.{Hold, NotHeld, hold_of, Concern, StartsIt, AcksIt, NacksIt, EndsIt, HeardOnIt, if_named, concern_of, Closes, orders_to, AtConnection}
+use Rattle.dm_machine.specs.Openings.{is_hold, has_order, is_left_unclosed, ClosesWhatItGivesUp}
+use Rattle.dm_peer.specs.declared.actions.Action.{Action}
+use Rattle.dm_peer.specs.declared.actions.Action.TheVariants.{Close}
+use Rattle.dm_peer.specs.declared.peer.Peer.{Peer}
+use Rattle.dm_peer.specs.Events.{PeerEvent, Start, Stop, Timeout, Tick, Ack, Nack, Arrived, Gone, Submit}
+use Rattle.dm_peer.specs.Configs.{wins}
+use Rattle.dm_peer.specs.Said.{Heard, word_heard}
+use Rattle.dm_peer.specs.Sent.{action_of}
+use Rattle.dm_peer.specs.Acts.{Moved, input_of, is_made}
+use Rattle.dm_peer.specs.Settled.{IsSettled}
+use Rattle.dm_history.specs.History.{Happened, done_at, declined_at, IsAmong}
+use Rattle.dm_history.specs.Naming.{tells_end, IsClosing, IsEnding}
+use Rattle.dm_history.specs.Opened.{HasArrived}
+use Rattle.dm_history.proofs.Among.{mapped}
+use Rattle.dm_history.proofs.Ordered.{same_number, commanded}
+use Rattle.dm_history.proofs.Turning.{IsTurn, Turns}
+use Rattle.dm_history.proofs.Holding.{is_free}
+use Rattle.dm_history.proofs.Stories.{EndedIfCame}
+
+abbrev is_end : Concern → Bool
+is_end NacksIt = true
+is_end EndsIt = true
+is_end _ = false
+
+named_end : (b : Bool) (k : Concern) → is_end k ≡ true → is_end (if_named b k) ≡ b
+named_end true k e = e
+named_end false k e = refl
+
+named_other : (b : Bool) (k : Concern) → is_end k ≡ false → is_end (if_named b k) ≡ false
+named_other true k e = e
+named_other false k e = refl
+
+ends_as : (e : PeerEvent) (h : Option Heard) (c : Conn) → is_end (concern_of (input_of e h) c) ≡ tells_end e c
+ends_as (Nack d) h c = named_end (d.0 == c.0) NacksIt refl
+ends_as (Gone d) h c = named_end (d.0 == c.0) EndsIt refl
+ends_as (Start d) h c = named_other (d.0 == c.0) StartsIt refl
+ends_as (Ack d) h c = named_other (d.0 == c.0) AcksIt refl
+ends_as (Arrived d s) h c = named_other (d.0 == c.0) (HeardOnIt (word_heard h)) refl
+ends_as (Stop cause) h c = refl
+ends_as Timeout h c = refl
+ends_as Tick h c = refl
+ends_as (Submit s) h c = refl
+
+-- what was held, and isn't closed, has ended
+left_ends : (k : Concern) (h : Hold) → is_left_unclosed k h ≡ true → is_hold NotHeld h ≡ false → is_end k ≡ true
+left_ends NacksIt h e held = refl
+left_ends EndsIt h e held = refl
+left_ends (HeardOnIt w) h e held = cc e
+left_ends _ NotHeld e held = cc held
+left_ends _ _ e held = cc e
+
+given_up : ClosesWhatItGivesUp → (p : Peer) → IsSettled p → (e : PeerEvent) (actions : List Action) (next : Peer) →
+    (t : IsTurn p e actions next) → (c : Conn) → hold_of t.core c ≡ NotHeld →
+    is_left_unclosed (concern_of (input_of e t.heard) c) (hold_of p.standing.core c) ≡ false →
+    IsClosing c (done_at e actions)
+given_up closed p was e actions next t c free unleft =
+    let n = p.standing.core in
+    let i = input_of e t.heard in
+    let law : has_order Closes (orders_to c t.commands)
+    ≡ (is_hold NotHeld (hold_of t.core c) && not (is_left_unclosed (concern_of i c) (hold_of n c))) =
+    subst (AtConnection (λ k before after orders.
+    has_order Closes orders ≡ (is_hold NotHeld after && not (is_left_unclosed k before))) n i c) t.moves
+    (closed n i (wins p.config) c was.shaped) in
+    let has = law ∙ (ap (λ h. is_hold NotHeld h && not (is_left_unclosed (concern_of i c) (hold_of n c))) free
+    ∙ ap (λ b. is_hold NotHeld NotHeld && not b) unleft) in
+    let there = mapped (action_of p e t.heard) t.commands (command.Close c) (commanded Closes c t.commands has) in
+    record {
+      actions = actions;
+      did = refl;
+      closes = subst (λ (l : List Action). IsAmong l (Close c)) (sym t.acted) there;
+    }
+
+ended_now : ClosesWhatItGivesUp → (p : Peer) → IsSettled p → (e : PeerEvent) (actions : List Action) (next : Peer) →
+    (t : IsTurn p e actions next) → (c : Conn) → hold_of t.core c ≡ NotHeld →
+    is_hold NotHeld (hold_of p.standing.core c) ≡ false →
+    IsClosing c (done_at e actions) ⊎ IsEnding c (done_at e actions)
+ended_now closed p was e actions next t c free held =
+    let k = concern_of (input_of e t.heard) c in
+    let before = hold_of p.standing.core c in
+    elim (cases_Bool (is_left_unclosed k before)) [
+      | inl left ↦
+          inr (record {
+            actions = actions;
+            did = refl;
+            ends = sym (ends_as e t.heard c) ∙ left_ends k before left held;
+          })
+      | inr unleft ↦ inl (given_up closed p was e actions next t c free unleft)
+    ]
+
+arrived_at : (e : PeerEvent) (actions : List Action) (c : Conn) → HasArrived c (done_at e actions) →
+    (s : List ℕ) × (e ≡ Arrived c s)
+arrived_at e actions c x = (x.octets, ap (λ y. y.event) x.came)
+
+heard_concern : (e : PeerEvent) (h : Option Heard) (c : Conn) (s : List ℕ) → e ≡ Arrived c s →
+    concern_of (input_of e h) c ≡ HeardOnIt (word_heard h)
+heard_concern e h c s is =
+    ap (λ f. concern_of (input_of f h) c) is
+    ∙ ap (λ b. if_named b (HeardOnIt (word_heard h))) (same_number c.0)
+
+closed_unheld : ClosesWhatItGivesUp → (p : Peer) → IsSettled p → (e : PeerEvent) (actions : List Action)
+    (next : Peer) → (t : IsTurn p e actions next) → (c : Conn) → hold_of t.core c ≡ NotHeld →
+    HasArrived c (done_at e actions) → IsClosing c (done_at e actions)
+closed_unheld closed p was e actions next t c free x =
+    let came = arrived_at e actions c x in
+    given_up closed p was e actions next t c free
+    (ap (λ k. is_left_unclosed k (hold_of p.standing.core c)) (heard_concern e t.heard c came.0 came.1))
+
+not_made : (h : Hold) → is_made h ≡ true → h ≡ NotHeld → ⊥
+not_made h made free = cc (sym (ap is_made free) ∙ made)
+
+pub ended_next : ClosesWhatItGivesUp → (p : Peer) → IsSettled p → (e : PeerEvent) (actions : List Action)
+    (next : Peer) (past : List Happened) → Turns p e (Moved actions next) → EndedIfCame p past →
+    EndedIfCame next (done_at e actions ∷ past)
+ended_next closed p was e actions next past (inl t) before c free came =
+    let now : hold_of t.core c ≡ NotHeld = ap (λ q. hold_of q.standing.core c) (sym t.stands) ∙ free in
+    elim (cases_Bool (is_hold NotHeld (hold_of p.standing.core c))) [
+      | inl unheld ↦ elim came [
+        | inl x ↦ inl (inl (closed_unheld closed p was e actions next t c now x))
+        | inr older ↦ inr (before c (is_free (hold_of p.standing.core c) unheld) older)
+      ]
+      | inr held ↦ inl (ended_now closed p was e actions next t c now held)
+    ]
+ended_next closed p was e actions next past (inr d) before c free came =
+    let now : hold_of p.standing.core c ≡ NotHeld = ap (λ q. hold_of q.standing.core c) (sym d.same) ∙ free in
+    elim came [
+      | inl x ↦
+          let there : d.conn ≡ c = cc (d.came, (arrived_at e actions c x).1) in
+          let made = ap (λ q. is_made (hold_of p.standing.core q)) (sym there) ∙ d.made in
+          absurd (not_made (hold_of p.standing.core c) made now)
+      | inr older ↦ inr (before c now older)
+    ]
+
+none_done : (l : List Action) → None ≡ Some l → ⊥
+none_done l e = cc e
+
+pub ended_declined : (p : Peer) (e : PeerEvent) (past : List Happened) → EndedIfCame p past →
+    EndedIfCame p (declined_at e ∷ past)
+ended_declined p e past before c free (inl x) = absurd (none_done x.actions (ap (λ y. y.did) x.came))
+ended_declined p e past before c free (inr older) = inr (before c free older)
