@@ -84,8 +84,8 @@ clear m (suc n) r dead e =
     elim (find r.world.links dead) [
       | inl quiet ↦ cleared_here m r quiet
       | inr f ↦
-          let still_dead = dead_changed r.world.links f.number f.link (by_side f.side (entered f.drops.concern)) dead f.at
-          f.drops.dead in
+          let still_dead = dead_changed r.world.links f.number f.link (by_side f.side (entered f.drops.concern)) dead
+          f.at f.drops.dead in
           one_delivered m r f (clear m n (ran_after r f) still_dead
           (fewer (under_way (links_after r f)) (under_way r.world.links) n (less_found r f) e))
     ]

@@ -34,8 +34,8 @@ abbrev shut_link : {M : Type 0} → Side → Direction M → Direction M → Lin
 shut_link o i j = link_at o Up Shut Shut i j
 
 seen_at : {M : Type 0} (o s : Side) (is : List M) (ti : ℕ) (mi : Mark) (js : List M) (tj : ℕ) (mj : Mark) →
-    let l = shut_link o (record { messages = is; taken = ti; mark = mi }) (record { messages = js; taken = tj; mark = mj })
-    in Idles s l ⊎ Drops s l
+    let l = shut_link o (record { messages = is; taken = ti; mark = mi })
+    (record { messages = js; taken = tj; mark = mj }) in Idles s l ⊎ Drops s l
 seen_at A A (x ∷ xs) ti mi js tj mj =
     inr (record { concern = HeardOnIt; delivers = λ m w c. refl; dead = refl; less = omega arith })
 seen_at A A [] ti Coming js tj mj =

@@ -1,4 +1,5 @@
--- From rest a Start, the Ack and two deliveries open both; so it is after both have restarted and what is left has come.
+-- From rest a Start, the Ack and two deliveries open both; so it is after both have restarted and what is left has
+-- come.
 use Rattle.std.proofs.Common.{◌≡◌, ℕ, suc, true, Some, None, List, [], ◌∷◌, ◌++◌, length, refl, sym, ap, subst, ◌∙◌}
 use Rattle.std.specs.Prelude.{option_map}
 use Rattle.dm_links.specs.Machine.{closed_node}

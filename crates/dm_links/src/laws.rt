@@ -78,20 +78,20 @@ pub fn each_clean_run_falls_quiet<P, M, C, H>()
     ensures { EachCleanRunFallsQuiet P M C H }
 {}
 
-/// Such a run can fall quiet: after some Acks and deliveries, with its own steps nine at most, nothing is under way, and
-/// both are open on the connection that the election keeps.
+/// Such a run can fall quiet: after some Acks and deliveries, with its own steps nine at most, nothing is under way,
+/// and both are open on the connection that the election keeps.
 pub fn each_clean_run_can_fall_quiet<P, M, C, H>()
     ensures { EachCleanRunCanFallQuiet P M C H }
 {}
 
-/// Where nothing is under way in a sound world, whatever happened before, each side holds just what the other holds, and
-/// one is Closed exactly where the other is.
+/// Where nothing is under way in a sound world, whatever happened before, each side holds just what the other holds,
+/// and one is Closed exactly where the other is.
 pub fn quiet_is_shared<P, M>()
     ensures { QuietIsShared P M }
 {}
 
-/// In such a world both are Closed, or each stands on one connection alone, the same one, in opposite roles, if one of them
-/// at least didn't lose its election to the other.
+/// In such a world both are Closed, or each stands on one connection alone, the same one, in opposite roles, if one
+/// of them at least didn't lose its election to the other.
 pub fn quiet_is_joined<P, M>()
     ensures { QuietIsJoined P M }
 {}
@@ -101,19 +101,20 @@ pub fn winner_does_not_return()
     ensures { WinnerDoesNotReturn }
 {}
 
-/// From each sound world, whatever happened before, both sides can restart, and after some deliveries nothing is under way.
+/// From each sound world, whatever happened before, both sides can restart, and after some deliveries nothing is
+/// under way.
 pub fn each_world_can_clear<P, M>()
     ensures { EachWorldCanClear P M }
 {}
 
-/// And then a Start of either side, the Ack and two deliveries open both on the connection that it makes: a list that does
-/// it exists, which isn't to say that peers take it by themselves.
+/// And then a Start of either side, the Ack and two deliveries open both on the connection that it makes: a list that
+/// does it exists, which isn't to say that peers take it by themselves.
 pub fn each_world_can_open<P, M, C, H>()
     ensures { EachWorldCanOpen P M C H }
 {}
 
-/// After both have restarted nobody acts any more, whatever Acks, Nacks and deliveries come in whatever order: nothing is
-/// put in, each step takes off one thing that was under way, and it is quiet where nothing is left.
+/// After both have restarted nobody acts any more, whatever Acks, Nacks and deliveries come in whatever order:
+/// nothing is put in, each step takes off one thing that was under way, and it is quiet where nothing is left.
 pub fn each_restarted_run_drains<P, M>()
     ensures { EachRestartedRunDrains P M }
 {}
@@ -133,6 +134,9 @@ pub fn acks_make_ends<P, M>()
 /// that ends its message is the delivery, and a loss is the one of whole messages. A piece counts as a step just where it
 /// ends its message.
 /// that ends its message is the delivery, and a loss is the one of whole messages, in its effect and in what it puts in too.
+/// It makes no difference how messages were cut: a piece that ends no message changes nothing but the octets
+/// delivered, one that ends its message is the delivery, and a loss is the one of whole messages. A piece counts as a
+/// step just where it ends its message.
 pub fn pieces_add_up<P, M>()
     ensures pieces { EachPieceAddsUp P M }
     ensures counts { EachPieceCounts P M }

@@ -26,57 +26,70 @@ use Rattle.dm_links.specs.Worlds.{World, peer_at, with_peer, with_links, After, 
 use Rattle.dm_links.specs.Worlds as worlds
 use Rattle.dm_links.specs.Happens.{Starts, Stops, TimesOut, Ticks, Restarts, Acks, Nacks, Delivers, Pieces, Loses, Submits, Next, NextMessage, NextDisconnect, NextNothing, next_in, comes, delivered, pieced, are_shut, restart_links, if_up, if_pending, at_link, own_view, world_after}
 use Rattle.dm_links.specs.Electing.{holds_cer}
+use Rattle.dm_links.specs.Joining.{WinnerDoesNotReturn}
 use Rattle.dm_pair.specs.Octets.{of_event, as_reply, octet_peers}
-use Rattle.dm_pair.specs.Talking.{ArePaired, is_number, is_standing, ArePeers}
+use Rattle.dm_pair.specs.Talking.{ArePaired, is_number, is_standing, returns_as_loser, ArePeers}
 use Rattle.dm_pair.specs.Laws.{FreshArePeers, HappeningKeepsPeers}
+use Rattle.dm_pair.proofs.Returning.{step_returns}
 use Rattle.dm_pair.proofs.Replying.{stands_after, turned_is, shaped_of}
 
--- a peer after its outcome: configured as before, and it stands
+-- what is taken of the state machine
+pub record Machine : Type 0 where
+  pub shape : EachStepKeepsShape
+  pub winner : WinnerDoesNotReturn
+
+-- what each event keeps of a peer
+abbrev IsKept : Peer → Type 0
+IsKept p = (is_standing p ≡ true) × (returns_as_loser p ≡ true)
+
+-- a peer after its outcome: configured as before, and kept
 abbrev Keeps : Peer → Outcome → Type 0
-Keeps p (Moved actions next) = (next.config ≡ p.config) × (is_standing next ≡ true)
+Keeps p (Moved actions next) = (next.config ≡ p.config) × IsKept next
 Keeps p (Refused f) = ⊤
 
-by_outcome : (p : Peer) (e : told.PeerEvent) (h : Option Heard) (o : moves.Outcome) → is_standing p ≡ true →
-    KeepsShape o → Keeps p (outcome_of p e h o)
-by_outcome p e h (moves.Refused r) was kept = tt
-by_outcome p e h (moves.Moved commands core) was kept = (refl, stands_after p h commands core was kept.0)
+by_outcome : WinnerDoesNotReturn → (p : Peer) (e : told.PeerEvent) (h : Option Heard) (o : moves.Outcome) →
+    outcome p.standing.core (input_of e h) (wins p.config) ≡ o → IsKept p → KeepsShape o →
+    Keeps p (outcome_of p e h o)
+by_outcome law p e h (moves.Refused r) is was kept = tt
+by_outcome law p e h (moves.Moved commands core) is was kept =
+    (refl, (stands_after p h commands core was.0 kept.0, step_returns law p e h commands core is was.1))
 
-step_keeps : EachStepKeepsShape → (p : Peer) (e : told.PeerEvent) (h : Option Heard) → is_standing p ≡ true →
-    Keeps p (steps p e h)
-step_keeps shape p e h was =
+step_keeps : Machine → (p : Peer) (e : told.PeerEvent) (h : Option Heard) → IsKept p → Keeps p (steps p e h)
+step_keeps machine p e h was =
     let n = p.standing.core in
     let i = input_of e h in
     let w = wins p.config in
-    by_outcome p e h (turned n i w) was (subst KeepsShape (sym (turned_is n i w)) (shape n i w (shaped_of p was)))
+    by_outcome machine.winner p e h (turned n i w) (sym (turned_is n i w)) was
+    (subst KeepsShape (sym (turned_is n i w)) (machine.shape n i w (shaped_of p was.0)))
 
-acts_keep : EachStepKeepsShape → (p : Peer) (e : told.PeerEvent) → is_standing p ≡ true → Keeps p (acts p e)
-acts_keep shape = kept where
-  moved : (p : Peer) (e : told.PeerEvent) (h : Option Heard) → is_standing p ≡ true → Keeps p (steps p e h)
-  moved = step_keeps shape
+acts_keep : Machine → (p : Peer) (e : told.PeerEvent) → IsKept p → Keeps p (acts p e)
+acts_keep machine = kept where
+  moved : (p : Peer) (e : told.PeerEvent) (h : Option Heard) → IsKept p → Keeps p (steps p e h)
+  moved = step_keeps machine
 
-  dropped : (p : Peer) (c : Conn) (s : List ℕ) (m : Message) (b : Bool) → is_standing p ≡ true →
+  dropped : (p : Peer) (c : Conn) (s : List ℕ) (m : Message) (b : Bool) → IsKept p →
       Keeps p (if b then Moved [] p else steps p (told.Arrived c s) (Some (heard_in p.config m)))
   dropped p c s m true was = (refl, was)
   dropped p c s m false was = moved p (told.Arrived c s) (Some (heard_in p.config m)) was
 
-  read : (p : Peer) (c : Conn) (s : List ℕ) (o : Option Message) → is_standing p ≡ true →
+  read : (p : Peer) (c : Conn) (s : List ℕ) (o : Option Message) → IsKept p →
       Keeps p (heard p (told.Arrived c s) c o)
   read p c s None was = moved p (told.Arrived c s) None was
   read p c s (Some m) was = dropped p c s m (is_dropped p c m.header) was
 
-  arrived : (p : Peer) (c : Conn) (s : List ℕ) (unread : Bool) → is_standing p ≡ true →
+  arrived : (p : Peer) (c : Conn) (s : List ℕ) (unread : Bool) → IsKept p →
       Keeps p (if unread then steps p (told.Arrived c s) None else heard p (told.Arrived c s) c (message_in s))
   arrived p c s true was = moved p (told.Arrived c s) None was
   arrived p c s false was = read p c s (message_in s) was
 
-  submits : (p : Peer) (s : List ℕ) (is_open_now can : Bool) → is_standing p ≡ true →
+  submits : (p : Peer) (s : List ℕ) (is_open_now can : Bool) → IsKept p →
       Keeps p
       (if is_open_now then (if can then steps p (told.Submit s) None else Refused BadSubmit) else Refused NotOpen)
   submits p s false can was = tt
   submits p s true false was = tt
   submits p s true true was = moved p (told.Submit s) None was
 
-  kept : (p : Peer) (e : told.PeerEvent) → is_standing p ≡ true → Keeps p (acts p e)
+  kept : (p : Peer) (e : told.PeerEvent) → IsKept p → Keeps p (acts p e)
   kept p (told.Arrived c s) was = arrived p c s (is_unread p.standing.core.state (hold_of p.standing.core c)) was
   kept p (told.Submit s) was = submits p s (is_open p.standing.core.state) (can_submit (message_in s)) was
   kept p (told.Start c) was = moved p (told.Start c) None was
@@ -88,50 +101,61 @@ acts_keep shape = kept where
   kept p (told.Gone c) was = moved p (told.Gone c) None was
 
 -- a side's peer in a world of two
-stands_at : (s : Side) (w : World Peer (List ℕ)) → ArePeers w → is_standing (peer_at s w) ≡ true
-stands_at A w are = are.left
-stands_at B w are = are.right
+kept_at : (s : Side) (w : World Peer (List ℕ)) → ArePeers w → IsKept (peer_at s w)
+kept_at A w are = (are.left, are.left_returns)
+kept_at B w are = (are.right, are.right_returns)
 
 peer_kept : (s : Side) (next : Peer) (links : List (Link (List ℕ))) (w : World Peer (List ℕ)) → ArePeers w →
-    next.config ≡ (peer_at s w).config → is_standing next ≡ true → ArePeers (with_peer s next links w)
+    next.config ≡ (peer_at s w).config → IsKept next → ArePeers (with_peer s next links w)
 peer_kept A next links w are same stands =
     record {
       paired = subst (λ c. ArePaired c w.b.config) (sym same) are.paired;
-      left = stands;
+      left = stands.0;
       right = are.right;
+      left_returns = stands.1;
+      right_returns = are.right_returns;
     }
 peer_kept B next links w are same stands =
     record {
       paired = subst (λ c. ArePaired w.a.config c) (sym same) are.paired;
       left = are.left;
-      right = stands;
+      right = stands.0;
+      left_returns = are.left_returns;
+      right_returns = stands.1;
     }
 
 links_kept : (links : List (Link (List ℕ))) (w : World Peer (List ℕ)) → ArePeers w → ArePeers (with_links links w)
-links_kept links w are = record { paired = are.paired; left = are.left; right = are.right }
+links_kept links w are =
+    record {
+      paired = are.paired;
+      left = are.left;
+      right = are.right;
+      left_returns = are.left_returns;
+      right_returns = are.right_returns;
+    }
 
 answered_kept : (s : Side) (e : Event (List ℕ)) (w : World Peer (List ℕ)) (o : Outcome) → ArePeers w →
     Keeps (peer_at s w) o → ArePeers (world_after w (answered octet_peers s e w (as_reply o)))
 answered_kept s e w (Moved actions next) are keeps = peer_kept s next _ w are keeps.0 keeps.1
 answered_kept s e w (Refused f) are keeps = are
 
-told_kept : EachStepKeepsShape → (s : Side) (e : Event (List ℕ)) (w : World Peer (List ℕ)) → ArePeers w →
+told_kept : Machine → (s : Side) (e : Event (List ℕ)) (w : World Peer (List ℕ)) → ArePeers w →
     ArePeers (world_after w (worlds.told octet_peers s e w))
-told_kept shape s e w are =
+told_kept machine s e w are =
     answered_kept s e w (acts (peer_at s w) (of_event e)) are
-    (acts_keep shape (peer_at s w) (of_event e) (stands_at s w are))
+    (acts_keep machine (peer_at s w) (of_event e) (kept_at s w are))
 
-comes_kept : EachStepKeepsShape → (s : Side) (e : Event (List ℕ)) (end : End) (w : World Peer (List ℕ)) →
+comes_kept : Machine → (s : Side) (e : Event (List ℕ)) (end : End) (w : World Peer (List ℕ)) →
     ArePeers w → ArePeers (world_after w (comes octet_peers s e end w))
-comes_kept shape s e Shut w are = links_kept _ w are
-comes_kept shape s e Fresh w are = told_kept shape s e w are
-comes_kept shape s e Open w are = told_kept shape s e w are
+comes_kept machine s e Shut w are = links_kept _ w are
+comes_kept machine s e Fresh w are = told_kept machine s e w are
+comes_kept machine s e Open w are = told_kept machine s e w are
 
-delivered_kept : EachStepKeepsShape → (c : ℕ) (s : Side) (end : End) (n : Next (List ℕ)) (w : World Peer (List ℕ)) →
+delivered_kept : Machine → (c : ℕ) (s : Side) (end : End) (n : Next (List ℕ)) (w : World Peer (List ℕ)) →
     ArePeers w → ArePeers (world_after w (delivered octet_peers c s end n w))
-delivered_kept shape c s end NextNothing w are = are
-delivered_kept shape c s end (NextMessage x) w are = comes_kept shape s (Arrived (conn c) x) end w are
-delivered_kept shape c s end NextDisconnect w are = comes_kept shape s (Gone (conn c)) end w are
+delivered_kept machine c s end NextNothing w are = are
+delivered_kept machine c s end (NextMessage x) w are = comes_kept machine s (Arrived (conn c) x) end w are
+delivered_kept machine c s end NextDisconnect w are = comes_kept machine s (Gone (conn c)) end w are
 
 -- of two outcomes, or one at a link
 abbrev AfterKept : World Peer (List ℕ) → After Peer (List ℕ) → Type 0
@@ -159,30 +183,30 @@ there_kept : (w : World Peer (List ℕ)) (o : Option (Link (List ℕ))) (f : Lin
 there_kept w None f are each = are
 there_kept w (Some l) f are each = each l
 
-pieced_kept : EachStepKeepsShape → (c : ℕ) (s : Side) (k : ℕ) (end : End) (taken : ℕ) (n : Next (List ℕ))
+pieced_kept : Machine → (c : ℕ) (s : Side) (k : ℕ) (end : End) (taken : ℕ) (n : Next (List ℕ))
     (w : World Peer (List ℕ)) → ArePeers w → AfterKept w (pieced octet_peers c s k end taken n w)
-pieced_kept shape c s k end taken NextNothing w are = are
-pieced_kept shape c s k end taken NextDisconnect w are = are
-pieced_kept shape c s k end taken (NextMessage x) w are =
+pieced_kept machine c s k end taken NextNothing w are = are
+pieced_kept machine c s k end taken NextDisconnect w are = are
+pieced_kept machine c s k end taken (NextMessage x) w are =
     if_kept w (nat_lt (taken + k) (octet_peers.size x)) _ _ (links_kept _ w are)
-    (comes_kept shape s (Arrived (conn c) x) end w are)
+    (comes_kept machine s (Arrived (conn c) x) end w are)
 
 -- a new peer stands, and so does one after a restart
 number_stands : (n : ℕ) (rest : Bool) → is_number n ≡ true → rest ≡ true → (is_number n && rest) ≡ true
 number_stands n rest fits stands = and_from (is_number n) rest fits stands
 
-fresh_stands : (c : Config) (next : ℕ) → is_number next ≡ true →
+pub fresh_stands : (c : Config) (next : ℕ) → is_number next ≡ true →
     is_standing (record { config = c; standing = fresh next }) ≡ true
 fresh_stands c next fits = number_stands next true fits refl
 
-next_of : (p : Peer) → is_standing p ≡ true → is_number p.standing.next ≡ true
+pub next_of : (p : Peer) → is_standing p ≡ true → is_number p.standing.next ≡ true
 next_of p was = (and_parts (is_number p.standing.next) (is_shaped p.standing.core &&
     (holds_cer p.standing.core.state || is_none p.standing.waiting)) was).0
 
 reset_kept : (s : Side) (w : World Peer (List ℕ)) → ArePeers w →
     ArePeers (with_peer s (octet_peers.reset (peer_at s w)) (restart_links s w.links) w)
 reset_kept s w are = peer_kept s _ _ w are refl
-    (fresh_stands (peer_at s w).config (peer_at s w).standing.next (next_of (peer_at s w) (stands_at s w are)))
+    (fresh_stands (peer_at s w).config (peer_at s w).standing.next (next_of (peer_at s w) (kept_at s w are).0), refl)
 
 is_below : {n : ℕ} → n < 2 ^ 32 → is_number n ≡ true
 is_below h = grind (arith, nat_tests)
@@ -193,32 +217,34 @@ fresh_are_peers a b paired left right =
       paired = paired;
       left = fresh_stands a a.first_id (is_below left);
       right = fresh_stands b b.first_id (is_below right);
+      left_returns = refl;
+      right_returns = refl;
     }
 
-pub happening_keeps_peers : EachStepKeepsShape → HappeningKeepsPeers
-happening_keeps_peers shape w (Starts s) are = told_kept shape s (Start (conn (length w.links))) w are
-happening_keeps_peers shape w (Stops s cause) are = told_kept shape s (Stop cause) w are
-happening_keeps_peers shape w (TimesOut s) are = told_kept shape s Timeout w are
-happening_keeps_peers shape w (Ticks s) are = told_kept shape s Tick w are
-happening_keeps_peers shape w (Submits s x) are = told_kept shape s (Submit x) w are
-happening_keeps_peers shape w (Restarts s) are = reset_kept s w are
-happening_keeps_peers shape w (Acks c) are =
+pub happening_keeps_peers : Machine → HappeningKeepsPeers
+happening_keeps_peers machine w (Starts s) are = told_kept machine s (Start (conn (length w.links))) w are
+happening_keeps_peers machine w (Stops s cause) are = told_kept machine s (Stop cause) w are
+happening_keeps_peers machine w (TimesOut s) are = told_kept machine s Timeout w are
+happening_keeps_peers machine w (Ticks s) are = told_kept machine s Tick w are
+happening_keeps_peers machine w (Submits s x) are = told_kept machine s (Submit x) w are
+happening_keeps_peers machine w (Restarts s) are = reset_kept s w are
+happening_keeps_peers machine w (Acks c) are =
     there_kept w (slice_get w.links c) _ are (λ l.
-    pending_kept w l.phase _ are (told_kept shape l.opener (Ack (conn c)) w are))
-happening_keeps_peers shape w (Nacks c) are =
+    pending_kept w l.phase _ are (told_kept machine l.opener (Ack (conn c)) w are))
+happening_keeps_peers machine w (Nacks c) are =
     there_kept w (slice_get w.links c) _ are (λ l.
-    pending_kept w l.phase _ are (told_kept shape l.opener (Nack (conn c)) w are))
-happening_keeps_peers shape w (Delivers c s) are =
+    pending_kept w l.phase _ are (told_kept machine l.opener (Nack (conn c)) w are))
+happening_keeps_peers machine w (Delivers c s) are =
     there_kept w (slice_get w.links c) _ are (λ l.
     let v = own_view s l in
     up_kept w l.phase _ are
-    (delivered_kept shape c s v.own (next_in v.incoming.messages v.incoming.mark) w are))
-happening_keeps_peers shape w (Pieces c s k) are =
+    (delivered_kept machine c s v.own (next_in v.incoming.messages v.incoming.mark) w are))
+happening_keeps_peers machine w (Pieces c s k) are =
     there_kept w (slice_get w.links c) _ are (λ l.
     let v = own_view s l in
     up_kept w l.phase _ are
     (if_kept w (k == 0) Ignored _ are
-    (pieced_kept shape c s k v.own v.incoming.taken (next_in v.incoming.messages v.incoming.mark) w are)))
-happening_keeps_peers shape w (Loses c a b) are =
+    (pieced_kept machine c s k v.own v.incoming.taken (next_in v.incoming.messages v.incoming.mark) w are)))
+happening_keeps_peers machine w (Loses c a b) are =
     there_kept w (slice_get w.links c) _ are (λ l.
     up_kept w l.phase _ are (if_kept w (are_shut l.near l.far) Ignored _ are (links_kept _ w are)))

@@ -8,3 +8,6 @@ mod Plain
 mod Sized
 mod Framing
 mod AtRest
+mod Recovering
+mod Joining
+mod Returning

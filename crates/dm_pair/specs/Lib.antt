@@ -2,3 +2,4 @@ pub mod Octets
 pub mod Talking
 pub mod Laws
 pub mod Frames
+pub mod Recovering

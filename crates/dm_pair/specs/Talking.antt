@@ -1,5 +1,5 @@
 -- Two peers over octets that are configured for each other, as the laws of clean runs see them.
-use Rattle.std.specs.Prelude.{◌≡◌, ℕ, ◌^◌, Bool, true, false, ◌&&◌, ◌||◌, nat_lt, is_none, None, List, IsTrue}
+use Rattle.std.specs.Prelude.{◌≡◌, ℕ, ◌^◌, Bool, true, false, not, ◌&&◌, ◌||◌, nat_lt, is_none, None, List, IsTrue}
 use Rattle.dm_wire.specs.declared.message.Header.{Header}
 use Rattle.dm_base.specs.Codes.{capabilities_exchange}
 use Rattle.dm_base.specs.Built.{request_header, answer_header, built_cer, built_cea}
@@ -13,6 +13,7 @@ use Rattle.dm_peer.specs.Octets.{octets_of}
 use Rattle.dm_links.specs.Links.{Side, A, B}
 use Rattle.dm_links.specs.Worlds.{World}
 use Rattle.dm_links.specs.Electing.{Talks, holds_cer}
+use Rattle.dm_links.specs.Joining.{is_returning}
 
 -- each is configured for the other's host, and they have an application in common (RFC 6733, 5.3)
 pub record ArePaired (a b : Config) : Type 0 where
@@ -35,6 +36,10 @@ is_standing p =
     is_number p.standing.next
     && (is_shaped p.standing.core && (holds_cer p.standing.core.state || is_none p.standing.waiting))
 
+-- a peer that wins its elections isn't in Wait-Returns (5.6.4)
+abbrev pub returns_as_loser : Peer → Bool
+returns_as_loser p = not (is_returning p.standing.core.state && configs.wins p.config)
+
 -- the octets of a CER under a number, and of the CEA that accepts it (5.3)
 abbrev pub cer_octets : Config → ℕ → List ℕ
 cer_octets c n = octets_of (built_cer c.node n)
@@ -42,11 +47,13 @@ cer_octets c n = octets_of (built_cer c.node n)
 abbrev pub cea_octets : Config → ℕ → List ℕ
 cea_octets c n = octets_of (built_cea c.node (request_header capabilities_exchange n) 2001 None)
 
--- the peers of a world are configured for each other, and each stands so
+-- the peers of a world are configured for each other, each stands so, and none is in Wait-Returns but one that loses
 pub record ArePeers (w : World Peer (List ℕ)) : Type 0 where
   pub paired : ArePaired w.a.config w.b.config
   pub left : IsTrue (is_standing w.a)
   pub right : IsTrue (is_standing w.b)
+  pub left_returns : IsTrue (returns_as_loser w.a)
+  pub right_returns : IsTrue (returns_as_loser w.b)
 
 abbrev pub octet_talks : Config → Config → Talks Peer (List ℕ) Config Header
 octet_talks a b =

@@ -2,12 +2,15 @@
 //! contract is the law. They stand for the world of two peers.
 ghost use Rattle.dm_links.specs.Follows.{IsMachine};
 ghost use Rattle.dm_pair.specs.Laws.{OctetsAreElecting, FreshArePeers, HappeningKeepsPeers, OctetsAreSized, EachOctetRunSettles, EachOctetRunFallsQuiet, EachOctetRunCanFallQuiet};
+ghost use Rattle.dm_pair.specs.Recovering.{EachOctetWorldCanOpen, EachOctetRunCanOpen, OctetQuietIsJoined, EachOctetQuietRunIsJoined};
 ghost use Rattle.dm_pair.specs.Frames.{OctetsAreFrames};
 ghost use Rattle.dm_pair.specs.Octets.{octet_peers};
 
 use dm_base::laws::{built_is_spelled, common_is_shared};
 use dm_links::laws::{
-    each_clean_run_can_fall_quiet, each_clean_run_falls_quiet, each_clean_run_settles,
+    closed_is_sound, each_clean_run_can_fall_quiet, each_clean_run_falls_quiet,
+    each_clean_run_settles, each_happening_keeps_sound, each_world_can_open, quiet_is_joined,
+    winner_does_not_return,
 };
 use dm_machine::laws::{each_node_has_its_form, each_step_keeps_shape};
 use dm_peer::laws::{each_event_is_one_step, sent_is_good};
@@ -40,6 +43,7 @@ pub fn each_happening_keeps_peers()
     ensures kept { HappeningKeepsPeers }
 {
     each_step_keeps_shape();
+    winner_does_not_return();
 }
 
 /// Every message that a peer over octets sends has octets.
@@ -77,11 +81,54 @@ pub fn each_octet_run_falls_quiet()
     octets_are_electing();
 }
 
-/// Such a run can fall quiet: after some Acks and deliveries, with its own steps nine at most, nothing is under way, and
-/// both are open on the connection that the election keeps (5.6.4).
+/// Such a run can fall quiet: after some Acks and deliveries, with its own steps nine at most, nothing is under way,
+/// and both are open on the connection that the election keeps (5.6.4).
 pub fn each_octet_run_can_fall_quiet()
     ensures { EachOctetRunCanFallQuiet }
 {
     each_clean_run_can_fall_quiet::<Peer, Octets, Config, Header>();
     octets_are_electing();
+}
+
+/// From each sound world of two such peers, whatever happened before, both sides can restart, and after some
+/// deliveries a Start of either side, the Ack and two deliveries open both on the connection that it makes. A list
+/// that does it exists, which isn't to say that peers take it by themselves.
+pub fn each_octet_world_can_open()
+    ensures { EachOctetWorldCanOpen }
+{
+    each_world_can_open::<Peer, Octets, Config, Header>();
+    octets_are_a_machine();
+    octets_are_electing();
+}
+
+/// So it is after any list of happenings to two new peers: no run is a trap.
+pub fn each_octet_run_can_open()
+    ensures { EachOctetRunCanOpen }
+{
+    closed_is_sound::<Peer, Octets>();
+    each_happening_keeps_sound::<Peer, Octets>();
+    each_happening_keeps_peers();
+    each_octet_world_can_open();
+    octets_are_a_machine();
+}
+
+/// In each sound world of two such peers in which nothing is under way, whatever happened before, both are Closed, or
+/// each stands on one connection alone, the same one, in opposite roles: none is in Wait-Conn-Ack,
+/// Wait-Conn-Ack/Elect or Wait-Returns (5.6).
+pub fn octet_quiet_is_joined()
+    ensures { OctetQuietIsJoined }
+{
+    quiet_is_joined::<Peer, Octets>();
+    octets_are_electing();
+}
+
+/// So it is wherever a run of two new peers falls quiet.
+pub fn each_octet_quiet_run_is_joined()
+    ensures { EachOctetQuietRunIsJoined }
+{
+    closed_is_sound::<Peer, Octets>();
+    each_happening_keeps_sound::<Peer, Octets>();
+    each_happening_keeps_peers();
+    octet_quiet_is_joined();
+    octets_are_a_machine();
 }

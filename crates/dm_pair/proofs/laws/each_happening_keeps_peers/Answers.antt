@@ -5,4 +5,6 @@ pub returns-clause-fresh : goal.returns-clause-fresh
 returns-clause-fresh c = fresh_are_peers
 
 pub returns-clause-kept : goal.returns-clause-kept
-returns-clause-kept c = happening_keeps_peers c.each_step_keeps_shape.ensures
+returns-clause-kept c =
+    happening_keeps_peers
+    (record { shape = c.each_step_keeps_shape.ensures; winner = c.winner_does_not_return.ensures })
