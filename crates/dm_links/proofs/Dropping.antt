@@ -19,7 +19,7 @@ pub record Idles {M : Type 0} (s : Side) (l : Link M) : Type 1 where
   pub ignored : {P : Type 0} (m : Peers P M) (w : World P M) (c : ℕ) → delivery_of m c s w l ≡ Ignored
 
 -- what comes to it is dropped
-pub record Drops {M : Type 0} (s : Side) (l : Link M) : Type 1 where
+pub record Discards {M : Type 0} (s : Side) (l : Link M) : Type 1 where
   pub concern : Concern
   pub delivers : {P : Type 0} (m : Peers P M) (w : World P M) (c : ℕ) → delivery_of m c s w l ≡ Done
       (with_links (change_at c (by_side s (entered concern)) w.links) w) []
@@ -35,7 +35,7 @@ shut_link o i j = link_at o Up Shut Shut i j
 
 seen_at : {M : Type 0} (o s : Side) (is : List M) (ti : ℕ) (mi : Mark) (js : List M) (tj : ℕ) (mj : Mark) →
     let l = shut_link o (record { messages = is; taken = ti; mark = mi })
-    (record { messages = js; taken = tj; mark = mj }) in Idles s l ⊎ Drops s l
+    (record { messages = js; taken = tj; mark = mj }) in Idles s l ⊎ Discards s l
 seen_at A A (x ∷ xs) ti mi js tj mj =
     inr (record { concern = HeardOnIt; delivers = λ m w c. refl; dead = refl; less = omega arith })
 seen_at A A [] ti Coming js tj mj =
@@ -69,7 +69,7 @@ still_own B A near far i j h = (and_parts (is_still i) (is_still j) h).1
 still_own B B near far i j h = (and_parts (is_still i) (is_still j) h).0
 
 pub seen : {M : Type 0} (s o : Side) (p : LinkPhase) (near far : End) (i j : Direction M) →
-    is_dead (link_at o p near far i j) ≡ true → Idles s (link_at o p near far i j) ⊎ Drops s (link_at o p near far i j)
+    is_dead (link_at o p near far i j) ≡ true → Idles s (link_at o p near far i j) ⊎ Discards s (link_at o p near far i j)
 seen s o Pending near far i j h = cc
 seen s o Cancelled near far i j h = inl (record { still = still_own s o near far i j h; ignored = λ m w c. refl })
 seen s o Up Shut Shut i j h = seen_at o s i.messages i.taken i.mark j.messages j.taken j.mark
@@ -91,7 +91,7 @@ both_still B Cancelled near far i j h a b = and_from (is_still i) (is_still j) b
 -- the side to which something comes on a link
 record DropsOne {M : Type 0} (l : Link M) : Type 1 where
   pub side : Side
-  pub drops : Drops side l
+  pub drops : Discards side l
 
 quiet_or_drops : {M : Type 0} (l : Link M) → is_dead l ≡ true → (is_quiet_link l ≡ true) ⊎ DropsOne l
 quiet_or_drops l h =
@@ -109,7 +109,7 @@ pub record Found {M : Type 0} (links : List (Link M)) : Type 1 where
   pub link : Link M
   pub at : slice_get links number ≡ Some link
   pub side : Side
-  pub drops : Drops side link
+  pub drops : Discards side link
 
 pub find : {M : Type 0} (links : List (Link M)) → are_dead links ≡ true →
     (list_all (λ l. is_quiet_link l) links ≡ true) ⊎ Found links

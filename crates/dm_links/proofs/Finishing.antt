@@ -14,7 +14,7 @@ use Rattle.dm_links.proofs.Phases.{Phase, stage_g, stage_l, depth, present, InPh
 use Rattle.dm_links.proofs.Running.{Ended, happening_went}
 use Rattle.dm_links.proofs.Settling.{Rests, nine_depth, kept_by}
 use Rattle.dm_links.proofs.Runs.{run_joined}
-use Rattle.dm_links.proofs.Onward.{Onward, onward}
+use Rattle.dm_links.proofs.Onward.{StepOnward, onward}
 use Rattle.dm_links.proofs.Resting.{quiet_end, opened_end}
 
 module _ {P M C H : Type 0} (m : Peers P M) (t : Talks P M C H) where
@@ -97,7 +97,7 @@ module _ {P M C H : Type 0} (m : Peers P M) (t : Talks P M C H) where
       }
 
   next_at : IsElecting m t → (g l : Side) → IsPair g l → t.wins g ≡ true → t.wins l ≡ false →
-      (k : Phase) (x y : ℕ) (w : World P M) → InPhase m t g l w k x y → (o : Onward m t w) → Further g l k x y o.world
+      (k : Phase) (x y : ℕ) (w : World P M) → InPhase m t g l w k x y → (o : StepOnward m t w) → Further g l k x y o.world
   next_at el g l pair wins loses k x y w q o =
       further_of g l k x y (cost m w o.h) (happens m w o.h) (makes g w o.h (happens m w o.h))
       (makes l w o.h (happens m w o.h))

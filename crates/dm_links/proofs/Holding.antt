@@ -10,20 +10,20 @@ use Rattle.dm_links.specs.Joining.{StandsOn}
 use Rattle.dm_links.proofs.Checks.{is_connecting, is_taken}
 
 -- nothing; one link alone, as its initiator or having accepted it; one of each; or one whose connect is pending
-pub data Holding (n : Node) : Type 0 where
-  none : n.state ≡ Closed → Holding n
+pub data HeldLinks (n : Node) : Type 0 where
+  none : n.state ≡ Closed → HeldLinks n
   one : (role : Role) (c : ℕ) → StandsOn n role c → is_held (tie_of n c) ≡ true →
-      is_taken (tie_of n c) ≡ is_same_role role Accepted → ((d : ℕ) → is_held (tie_of n d) ≡ true → c ≡ d) → Holding n
+      is_taken (tie_of n c) ≡ is_same_role role Accepted → ((d : ℕ) → is_held (tie_of n d) ≡ true → c ≡ d) → HeldLinks n
   two : (i r : ℕ) → n.state ≡ WaitReturns → is_held (tie_of n i) ≡ true → is_taken (tie_of n i) ≡ false →
-      is_held (tie_of n r) ≡ true → is_taken (tie_of n r) ≡ true → Holding n
-  pends : (c : ℕ) → is_held (tie_of n c) ≡ true → is_connecting (tie_of n c) ≡ true → Holding n
+      is_held (tie_of n r) ≡ true → is_taken (tie_of n r) ≡ true → HeldLinks n
+  pends : (c : ℕ) → is_held (tie_of n c) ≡ true → is_connecting (tie_of n c) ≡ true → HeldLinks n
 
 only_one : (s : State) (role : Role) (i : Conn) (n d : ℕ) →
     is_held (tie_of (node_at s ((role, i) ∷ []) n) d) ≡ true → i.0 ≡ d
 only_one s Initiated i n d h = grind (arith, nat_tests, h)
 only_one s Accepted i n d h = grind (arith, nat_tests, h)
 
-holding_at : (s : State) (held : List (Role × Conn)) (n : ℕ) → is_held_in s held ≡ true → Holding (node_at s held n)
+holding_at : (s : State) (held : List (Role × Conn)) (n : ℕ) → is_held_in s held ≡ true → HeldLinks (node_at s held n)
 holding_at Closed [] n h = none refl
 holding_at WaitConnAck ((Initiated, i) ∷ []) n h = pends i.0 (grind (arith, nat_tests)) (grind (arith, nat_tests))
 holding_at WaitConnAckElect ((Initiated, i) ∷ (Accepted, r) ∷ []) n h =
@@ -42,7 +42,7 @@ holding_at WaitReturns ((Initiated, i) ∷ (Accepted, r) ∷ []) n h = two i.0 r
     (grind (arith, nat_tests)) (grind (arith, nat_tests, h)) (grind (arith, nat_tests, h))
 holding_at _ _ n h = cc
 
-pub holding_of : (n : Node) → is_shaped n ≡ true → Holding n
+pub holding_of : (n : Node) → is_shaped n ≡ true → HeldLinks n
 holding_of n h =
     holding_at n.state n.held n.count (and_parts (is_held_in n.state n.held) (is_count_of n.state n.count) h).0
 

@@ -15,7 +15,7 @@ use Rattle.dm_links.proofs.Events.{side_sound, standing_at}
 use Rattle.dm_links.proofs.Promise.{held_there, roles_apart}
 use Rattle.dm_links.proofs.Settling.{all_at}
 use Rattle.dm_links.proofs.Sharing.{shares}
-use Rattle.dm_links.proofs.Holding.{Holding, none, one, two, pends, holding_of, none_held}
+use Rattle.dm_links.proofs.Holding.{HeldLinks, none, one, two, pends, holding_of, none_held}
 
 -- what is known of two nodes and the links that they hold
 record Known (a b : Node) : Type 0 where
@@ -37,7 +37,7 @@ same_taken n c d e f g = not_both (is_taken (tie_of n d)) (subst (λ k. is_taken
 abbrev AreJoinedUnlessLost : Node → Node → Type 0
 AreJoinedUnlessLost a b = AreJoined a b ⊎ ((a.state ≡ WaitReturns) × (b.state ≡ WaitReturns))
 
-pairs : (a b : Node) → Known a b → Holding a → Holding b → AreJoinedUnlessLost a b
+pairs : (a b : Node) → Known a b → HeldLinks a → HeldLinks b → AreJoinedUnlessLost a b
 pairs a b k (pends c h p) _ = absurd (k.calm_a c h p)
 pairs a b k (none e) (pends c h p) = absurd (k.calm_b c h p)
 pairs a b k (one role c st h t only) (pends d h' p) = absurd (k.calm_b d h' p)

@@ -18,7 +18,7 @@ use Rattle.dm_links.proofs.Settling.{Rests, idle, only_g, only_l, both}
 
 module _ {P M C H : Type 0} (m : Peers P M) (t : Talks P M C H) where
   -- an Ack or a delivery that is done
-  pub record Onward (w : World P M) : Type 0 where
+  pub record StepOnward (w : World P M) : Type 0 where
     pub h : Happening M
     pub passes : is_ack_or_delivery h ≡ true
     pub world : World P M
@@ -27,7 +27,7 @@ module _ {P M C H : Type 0} (m : Peers P M) (t : Talks P M C H) where
 
   onward_ack : (s o : Side) (w : World P M) (c : ℕ) (st : Stage) (h i j : ℕ) (world : World P M) (put : List (Put M)) →
       slice_get w.links c ≡ option_map (link_of true s) (own_at m t s o st h i j) →
-      acked m s c w (own_at m t s o st h i j) ≡ Done world put → Onward w
+      acked m s c w (own_at m t s o st h i j) ≡ Done world put → StepOnward w
   onward_ack s o w c st h i j world put at e =
       record {
         h = Acks c;
@@ -39,7 +39,7 @@ module _ {P M C H : Type 0} (m : Peers P M) (t : Talks P M C H) where
 
   onward_own : (s o : Side) → IsPair s o → (w : World P M) (c : ℕ) (st : Stage) (h i j : ℕ) (world : World P M)
       (put : List (Put M)) → slice_get w.links c ≡ option_map (link_of true s) (own_at m t s o st h i j) →
-      arrives m s c w (own_at m t s o st h i j) ≡ Done world put → Onward w
+      arrives m s c w (own_at m t s o st h i j) ≡ Done world put → StepOnward w
   onward_own s o pair w c st h i j world put at e =
       record {
         h = Delivers c s;
@@ -52,7 +52,7 @@ module _ {P M C H : Type 0} (m : Peers P M) (t : Talks P M C H) where
   onward_other : (s o : Side) → IsPair s o → (w : World P M) (c : ℕ) (st : Stage) (h i j : ℕ) (world : World P M)
       (put : List (Put M)) →
       slice_get w.links c ≡ option_map (link_of false o) (option_map mirror (own_at m t o s st h i j)) →
-      arrives m s c w (option_map mirror (own_at m t o s st h i j)) ≡ Done world put → Onward w
+      arrives m s c w (option_map mirror (own_at m t o s st h i j)) ≡ Done world put → StepOnward w
   onward_other s o pair w c st h i j world put at e =
       record {
         h = Delivers c s;
@@ -65,7 +65,7 @@ module _ {P M C H : Type 0} (m : Peers P M) (t : Talks P M C H) where
 
   -- it rests, or one is done
   pub onward : IsElecting m t → (g l : Side) → IsPair g l → t.wins g ≡ true → t.wins l ≡ false →
-      (w : World P M) (k : Phase) (x y : ℕ) → (q : InPhase m t g l w k x y) → Rests k ⊎ Onward w
+      (w : World P M) (k : Phase) (x y : ℕ) → (q : InPhase m t g l w k x y) → Rests k ⊎ StepOnward w
   onward el g l pair wins loses w C1 x y q = inl idle
   onward el g l pair wins loses w C2 x y q =
       let s = acks_plain m t el g l pair w x y q.i q.j

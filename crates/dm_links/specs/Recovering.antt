@@ -35,15 +35,15 @@ abbrev pub EachWorldCanClear : Type 0 → Type 0 → Type 0
 EachWorldCanClear P M = (m : Peers P M) (w : World P M) → IsSound m w → CanClear m w
 
 -- a side's Start, the Ack of the link that it makes, and a delivery to each side
-abbrev pub opening : {M : Type 0} → Side → ℕ → List (Happening M)
-opening s c = Starts s ∷ Acks c ∷ Delivers c (flip s) ∷ Delivers c s ∷ []
+abbrev pub steps_to_open : {M : Type 0} → Side → ℕ → List (Happening M)
+steps_to_open s c = Starts s ∷ Acks c ∷ Delivers c (flip s) ∷ Delivers c s ∷ []
 
 -- and then a Start of that side, the Ack and two deliveries open both on the link that it makes
 pub record CanOpen {P M : Type 0} (m : Peers P M) (w : World P M) (s : Side) : Type 0 where
   pub clearing : List (Happening M)
   pub only : IsTrue (are_deliveries clearing)
   pub end : Ran P M
-  pub runs : run m w (Restarts A ∷ Restarts B ∷ (clearing ++ opening s (length w.links))) ≡ Some end
+  pub runs : run m w (Restarts A ∷ Restarts B ∷ (clearing ++ steps_to_open s (length w.links))) ≡ Some end
   pub quiet : IsTrue (is_quiet end.world)
   pub opened : AreOpenOn m end.world (record { opener = s; link = length w.links })
 

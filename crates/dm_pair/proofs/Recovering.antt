@@ -37,17 +37,17 @@ pub record RunLaws : Type 0 where
   pub keeps : HappeningKeepsPeers
 
 -- a sound world of such peers
-abbrev IsGood : World Peer (List ℕ) → Type 0
-IsGood w = IsSound octet_peers w × ArePeers w
+abbrev IsPeerWorld : World Peer (List ℕ) → Type 0
+IsPeerWorld w = IsSound octet_peers w × ArePeers w
 
-ran_good : (r : Ran Peer (List ℕ)) (o : After Peer (List ℕ)) → IsGood (world_after r.world o) →
-    IfSome (ran_on r o) (λ z. IsGood z.world)
+ran_good : (r : Ran Peer (List ℕ)) (o : After Peer (List ℕ)) → IsPeerWorld (world_after r.world o) →
+    IfSome (ran_on r o) (λ z. IsPeerWorld z.world)
 ran_good r (Done next put) good = good
 ran_good r Ignored good = good
 ran_good r NoLink good = tt
 
 run_good : RunLaws → (o : Option (Ran Peer (List ℕ))) (hs : List (Happening (List ℕ))) →
-    IfSome o (λ r. IsGood r.world) → IfSome (run_from octet_peers o hs) (λ r. IsGood r.world)
+    IfSome o (λ r. IsPeerWorld r.world) → IfSome (run_from octet_peers o hs) (λ r. IsPeerWorld r.world)
 run_good laws None hs good = tt
 run_good laws (Some r) [] good = good
 run_good laws (Some r) (h ∷ hs) good =
@@ -58,7 +58,7 @@ run_good laws (Some r) (h ∷ hs) good =
 -- after each run of two new peers
 each_run_good : RunLaws → (a b : Config) → ArePaired a b → a.first_id < 2 ^ 32 → b.first_id < 2 ^ 32 →
     (hs : List (Happening (List ℕ))) →
-    IfSome (run octet_peers (world_of (fresh_peer a) (fresh_peer b)) hs) (λ r. IsGood r.world)
+    IfSome (run octet_peers (world_of (fresh_peer a) (fresh_peer b)) hs) (λ r. IsPeerWorld r.world)
 each_run_good laws a b paired low_a low_b hs =
     run_good laws (Some (record { world = world_of (fresh_peer a) (fresh_peer b); put = [] })) hs
     (laws.closed octet_peers (fresh_peer a) (fresh_peer b) refl refl, laws.fresh a b paired low_a low_b)
