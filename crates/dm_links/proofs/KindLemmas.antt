@@ -1,12 +1,13 @@
 -- The state machine as peers moves as the state machine.
-use Rattle.std.proofs.Common.{◌≡◌, ◌==◌, Bool, true, false, if◌then◌else◌, List, [], ◌∷◌, map, refl, ap, ◌∙◌, inl}
+use Rattle.std.proofs.Common.{◌≡◌, ◌==◌, Bool, true, false, if◌then◌else◌, List, [], ◌∷◌, map, refl, sym, ap, ◌∙◌, inl}
 use Rattle.dm_machine.specs.Connection as machine
 use Rattle.dm_links.specs.Machine.{Conn, Command, outcome, Elsewhere, concern_as, concern_of}
 use Rattle.dm_machine.specs.declared.inputs.Word.{Word}
+use Rattle.dm_machine.specs.declared.inputs.Word.TheVariants.{Other}
 use Rattle.dm_machine.specs.declared.outputs.Command.TheVariants as command
 use Rattle.dm_machine.specs.Moves.{Outcome, Moved, Refused}
 use Rattle.dm_links.specs.Peers.{Event, Start, Stop, Timeout, Tick, Ack, Nack, Gone, Submit, Arrived, Order, concern_by, order_of, order_of_command}
-use Rattle.dm_links.specs.Follows.{Follows}
+use Rattle.dm_links.specs.Follows.{input_told, IsRefusedByMachine, MayDecline, Follows}
 use Rattle.dm_links.specs.Kinds.{Kin, input_of, action_of, reply_by, kinds, KindsAreAMachine, TwoRuns}
 
 same_order : (a : Command) → order_of (action_of a) ≡ order_of_command a
@@ -44,17 +45,52 @@ same_concern (Gone d) c = named_as (d.0 == c.0) machine.EndsIt
 same_concern (Submit w) c = refl
 same_concern (Arrived d w) c = named_as (d.0 == c.0) (machine.HeardOnIt w)
 
+word_in : Event Word → Word
+word_in (Arrived c w) = w
+word_in _ = Other
+
+same_input : (e : Event Word) → input_of e ≡ input_told e (word_in e)
+unfolding word_in
+same_input (Start c) = refl
+same_input (Stop cause) = refl
+same_input Timeout = refl
+same_input Tick = refl
+same_input (Ack c) = refl
+same_input (Nack c) = refl
+same_input (Gone c) = refl
+same_input (Submit w) = refl
+same_input (Arrived c w) = refl
+
+may_decline : (p : Kin) (e : Event Word) → IsRefusedByMachine kinds p e → MayDecline kinds p e
+may_decline p (Submit w) h = tt
+may_decline p (Start c) h = h
+may_decline p (Stop cause) h = h
+may_decline p Timeout h = h
+may_decline p Tick h = h
+may_decline p (Ack c) h = h
+may_decline p (Nack c) h = h
+may_decline p (Gone c) h = h
+may_decline p (Arrived c w) h = h
+
 follows_by : (p : Kin) (e : Event Word) (o : Outcome) → outcome p.node (input_of e) p.wins ≡ o →
     Follows kinds p e (reply_by p.wins o)
-follows_by p e (Refused r) h = tt
+follows_by p e (Refused r) h =
+    may_decline p e
+    (record {
+      word = word_in e;
+      wins = p.wins;
+      refusal = r;
+      refuses = ap (λ i. outcome p.node i p.wins) (sym (same_input e)) ∙ h;
+    })
 follows_by p e (Moved commands n) h =
     inl (record {
       input = input_of e;
+      word = word_in e;
       wins = p.wins;
       commands = commands;
+      told = same_input e;
       concerns = same_concern e;
-      moves =
-          h;
+      moves = h;
       orders = same_orders commands;
     })
 

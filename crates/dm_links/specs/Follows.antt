@@ -1,15 +1,33 @@
 -- Peers that move as the state machine.
 use Rattle.std.specs.Prelude.{◌≡◌, ℕ, Bool, true, false, IsTrue, ⊤, ◌⊎◌, List, [], map}
+use Rattle.dm_machine.specs.declared.inputs.Input.TheVariants as input
+use Rattle.dm_machine.specs.declared.inputs.Word.{Word}
+use Rattle.dm_machine.specs.declared.outputs.Refusal.{Refusal}
+use Rattle.dm_machine.specs.Moves.{Moved, Refused}
 use Rattle.dm_links.specs.Machine.{Conn, conn, Input, Command, Concern, Elsewhere, HeardOnIt, concern_of, outcome, Tie, Made, MadeOpen, Taken, tie_of, closed_node}
-use Rattle.dm_machine.specs.Moves.{Moved}
-use Rattle.dm_links.specs.Peers.{Event, Action, Reply, Acts, Declines, Peers, concern_by, order_of, order_of_command}
+use Rattle.dm_links.specs.Peers.{Event, Start, Stop, Timeout, Tick, Ack, Nack, Gone, Submit, Arrived, Action, Reply, Acts, Declines, Peers, concern_by, order_of, order_of_command}
 
--- one step of the machine, at an input that concerns each connection as the event does, with an action for each command
+-- an event as the machine's input, with the word of what came
+abbrev pub input_told : {M : Type 0} → Event M → Word → Input
+input_told (Start c) word = input.Start c
+input_told (Stop cause) word = input.Stop
+input_told Timeout word = input.Timeout
+input_told Tick word = input.Tick
+input_told (Ack c) word = input.Ack c
+input_told (Nack c) word = input.Nack c
+input_told (Gone c) word = input.Gone c
+input_told (Submit x) word = input.Submit
+input_told (Arrived c x) word = input.Heard c word
+
+-- one step of the machine, at the event with some word, with an action for each command; its input concerns each
+-- connection as the event does
 pub record Steps {P M : Type 0} (m : Peers P M) (p : P) (e : Event M) (actions : List (Action M))
     (next : P) : Type 0 where
   pub input : Input
+  pub word : Word
   pub wins : Bool
   pub commands : List Command
+  pub told : input ≡ input_told e word
   pub concerns : (c : Conn) → concern_of input c ≡ concern_by e c
   pub moves : outcome (m.node_of p) input wins ≡ Moved commands (m.node_of next)
   pub orders : map order_of actions ≡ map order_of_command commands
@@ -21,17 +39,35 @@ is_droppable HeardOnIt MadeOpen = true
 is_droppable HeardOnIt Taken = true
 is_droppable _ _ = false
 
--- a message on a connection that is held and made is dropped
+-- a message on a connection that is held and made is dropped; which messages are is the peer's own, and no other event
+-- is dropped
 pub record Drops {P M : Type 0} (m : Peers P M) (p : P) (e : Event M) (actions : List (Action M))
     (next : P) : Type 0 where
+  pub on : Conn
+  pub message : M
+  pub arrived : e ≡ Arrived on message
   pub heard : (c : ℕ) → IsTrue (is_droppable (concern_by e (conn c)) (tie_of (m.node_of p) c))
   pub silent : actions ≡ []
   pub stays : m.node_of next ≡ m.node_of p
 
+-- the machine refuses the event
+pub record IsRefusedByMachine {P M : Type 0} (m : Peers P M) (p : P) (e : Event M) : Type 0 where
+  pub word : Word
+  pub wins : Bool
+  pub refusal : Refusal
+  pub refuses : outcome (m.node_of p) (input_told e word) wins ≡ Refused refusal
+
+-- a peer declines only what the machine refuses, and any Submit: what its user may submit is its own
+abbrev pub MayDecline : {P M : Type 0} → Peers P M → P → Event M → Type 0
+MayDecline m p (Submit x) = ⊤
+MayDecline m p e = IsRefusedByMachine m p e
+
 abbrev pub Follows : {P M : Type 0} → Peers P M → P → Event M → Reply P M → Type 0
-Follows m p e Declines = ⊤
+Follows m p e Declines = MayDecline m p e
 Follows m p e (Acts actions next) = Steps m p e actions next ⊎ Drops m p e actions next
 
+-- each reply is a step of the machine, or drops a message, or declines; and a restart leaves the peer Closed. It says
+-- nothing of what is said and handed up, of who wins, or of the word that a message is taken for
 pub record IsMachine {P M : Type 0} (m : Peers P M) : Type 0 where
   pub follows : (p : P) (e : Event M) → Follows m p e (m.reply p e)
   pub resets : (p : P) → m.node_of (m.reset p) ≡ closed_node

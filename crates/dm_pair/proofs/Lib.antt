@@ -11,3 +11,4 @@ mod AtRest
 mod Recovering
 mod Joining
 mod Returning
+mod Declining

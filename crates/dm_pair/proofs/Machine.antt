@@ -16,6 +16,7 @@ use Rattle.dm_peer.specs.Steps as peer
 use Rattle.dm_links.specs.Machine.{conn, Elsewhere, HeardOnIt, concern_as, concern_of, tie_as, tie_of}
 use Rattle.dm_links.specs.Peers.{Event, Start, Stop, Timeout, Tick, Ack, Nack, Gone, Submit, Arrived, concern_by, Order, Connects, Sends, Closes, HandsUp, order_of, order_of_command}
 use Rattle.dm_links.specs.Follows.{Steps, Drops, is_droppable, Follows, IsMachine}
+use Rattle.dm_pair.proofs.Declining.{same_input, Declined, octets_decline}
 use Rattle.dm_pair.specs.Octets.{of_event, as_action, as_actions, as_reply, octet_peers}
 
 -- orders are the same on both sides
@@ -73,8 +74,10 @@ step_taken : (p next : Peer) (e : Event (List ℕ)) (actions : List declared_act
 step_taken p next e actions step =
     record {
       input = input_of (of_event e) step.heard;
+      word = word_heard step.heard;
       wins = wins p.config;
       commands = step.commands;
+      told = same_input e step.heard;
       concerns = concerns_same e step.heard;
       moves = step.moves;
       orders = actions_ordered actions ∙ ap (λ l. map as_order l) step.orders
@@ -118,24 +121,39 @@ drop_heard p (Nack d') d s c is made = cc
 drop_heard p (Gone d') d s c is made = cc
 drop_heard p (Submit s') d s c is made = cc
 
+-- the event that brings octets
+arrives : (e : Event (List ℕ)) (d : Conn) (s : List ℕ) → of_event e ≡ told.Arrived d s → e ≡ Arrived d s
+arrives (Arrived d' s') d s is = cc
+arrives (Start d') d s is = cc
+arrives (Stop cause) d s is = cc
+arrives Timeout d s is = cc
+arrives Tick d s is = cc
+arrives (Ack d') d s is = cc
+arrives (Nack d') d s is = cc
+arrives (Gone d') d s is = cc
+arrives (Submit s') d s is = cc
+
 drop_taken : (p next : Peer) (e : Event (List ℕ)) (actions : List declared_action.Action) →
     peer.IsDrop p (of_event e) actions next → Drops octet_peers p e (as_actions actions) next
 drop_taken p next e actions drop =
     record {
+      on = drop.conn;
+      message = drop.octets;
+      arrived = arrives e drop.conn drop.octets drop.arrived;
       heard = λ c. drop_heard p e drop.conn drop.octets c drop.arrived drop.made;
       silent = ap as_actions drop.silent;
       stays = ap (λ (q : Peer). q.standing.core) drop.same;
     }
 
-reply_follows : (p : Peer) (e : Event (List ℕ)) (o : Outcome) → peer.Follows p (of_event e) o →
+reply_follows : (p : Peer) (e : Event (List ℕ)) (o : Outcome) → peer.Follows p (of_event e) o → Declined p e o →
     Follows octet_peers p e (as_reply o)
-reply_follows p e (Moved actions next) (inl step) = inl (step_taken p next e actions step)
-reply_follows p e (Moved actions next) (inr drop) = inr (drop_taken p next e actions drop)
-reply_follows p e (Refused fault) h = tt
+reply_follows p e (Moved actions next) (inl step) may = inl (step_taken p next e actions step)
+reply_follows p e (Moved actions next) (inr drop) may = inr (drop_taken p next e actions drop)
+reply_follows p e (Refused fault) h may = may
 
 pub octets_follow : peer.EachEventIsOneStep → IsMachine octet_peers
 octets_follow law =
     record {
-      follows = λ p e. reply_follows p e (acts p (of_event e)) (law p (of_event e));
+      follows = λ p e. reply_follows p e (acts p (of_event e)) (law p (of_event e)) (octets_decline p e);
       resets = λ p. refl;
     }
