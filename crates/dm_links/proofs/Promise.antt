@@ -1,5 +1,6 @@
 -- What a sound world has.
 use Rattle.std.proofs.Common.{◌≡◌, ℕ, zero, suc, ◌<◌, Bool, true, false, not, ◌&&◌, ◌||◌, IsTrue, Option, Some, None, IfSome, List, [], ◌∷◌, length, slice_get, refl, sym, ap, subst, arith, ◌⊎◌, inl, inr}
+use Rattle.std.specs.Prelude.{◌↔◌}
 use Rattle.std.proofs.lemmas.Bool.{cases_eq, cases_lt, and_parts, and_from, or_cases}
 use Rattle.std.proofs.lemmas.Bool.Decides.{nat_tests}
 use Rattle.std.proofs.lemmas.Option.{IfSome_then}
@@ -10,12 +11,13 @@ use Rattle.dm_links.specs.Machine.{Conn, conn, Role, Initiated, Accepted, Node, 
 use Rattle.dm_links.specs.Links.{Side, A, B, flip, opens, LinkPhase, Pending, Up, Cancelled, End, Fresh, Open, Shut, Mark, NoMark, Coming, Delivered, Link}
 use Rattle.dm_links.specs.Peers.{Peers}
 use Rattle.dm_links.specs.Worlds.{World, peer_at, After, Done, Ignored, NoLink}
-use Rattle.dm_links.specs.Happens.{Happening, happens, world_after, Ran, ran_on, run_from, run}
+use Rattle.dm_links.specs.Happens.{Happening, own_view, happens, world_after, Ran, ran_on, run_from, run}
 use Rattle.dm_links.specs.Follows.{IsMachine}
-use Rattle.dm_links.specs.Facts.{is_up, is_pending, is_open_end, is_coming, AreSound, IsSound}
+use Rattle.dm_links.specs.Facts.{Standing, turned, is_sound, is_up, is_pending, is_open_end, is_coming, AreSound, IsSound}
 use Rattle.dm_links.specs.Agreement.{IsOpenOn, IsComing, Agreed, EndsAreHeld, HeldAreLinks, OpenIsMatched}
 use Rattle.dm_links.specs.Laws.{Promised}
-use Rattle.dm_links.proofs.Checks.{is_when, is_open_tie, is_taken, same_bool, conclusion}
+use Rattle.dm_links.proofs.Every.{all_true, every_bool, every_tie, every_phase, every_end, every_mark, every_standing, at_standing}
+use Rattle.dm_links.proofs.Checks.{when, is_when, is_open_tie, is_taken, same_bool, conclusion}
 use Rattle.dm_links.proofs.Ties.{MachineLaws}
 use Rattle.dm_links.proofs.Events.{side_sound, standing_at}
 use Rattle.dm_links.proofs.Happenings.{happens_sound}
@@ -123,14 +125,57 @@ is_open_at : (e : End) → e ≡ Open → is_open_end e ≡ true
 is_open_at e h = rw h refl
 
 -- a side's open ends are what it holds
+-- a cancelled link has no open end, and no side holds it
+abbrev none_cancelled : Standing → Bool
+none_cancelled s =
+    when (is_sound s)
+    (when (not (is_up s.phase) && not (is_pending s.phase))
+    (same_bool (is_open_end s.own) (is_held s.own_tie) && same_bool (is_open_end s.other) (is_held s.other_tie)))
+
+none_cancelled_checked : every_standing none_cancelled ≡ true
+unfolding all_true every_bool every_tie every_phase every_end every_mark
+none_cancelled_checked = refl
+
+cancelled_ends : (mine : Bool) (s : Standing) → is_sound (turned mine s) ≡ true → s.phase ≡ Cancelled →
+    same_bool (is_open_end s.own) (is_held s.own_tie) ≡ true
+cancelled_ends mine s good is = by_mine mine good
+  where
+    both : (s : Standing) → is_sound s ≡ true → s.phase ≡ Cancelled →
+        (same_bool (is_open_end s.own) (is_held s.own_tie) ≡ true)
+        × (same_bool (is_open_end s.other) (is_held s.other_tie) ≡ true)
+    both s good is =
+        and_parts (same_bool (is_open_end s.own) (is_held s.own_tie))
+        (same_bool (is_open_end s.other) (is_held s.other_tie))
+        (is_when (not (is_up s.phase) && not (is_pending s.phase)) _
+        (is_when (is_sound s) _ (at_standing none_cancelled none_cancelled_checked s) good)
+        (ap (λ p. not (is_up p) && not (is_pending p)) is))
+
+    by_mine : (mine : Bool) → is_sound (turned mine s) ≡ true →
+        same_bool (is_open_end s.own) (is_held s.own_tie) ≡ true
+    by_mine true good = (both s good is).0
+    by_mine false good = (both (turned false s) good is).1
+
 ends_are_held : {P M : Type 0} (m : Peers P M) (w : World P M) → IsSound m w → EndsAreHeld m w
-ends_are_held m w good s c l at up =
-    let st = standing_at m s w c l in
-    let both = is_when (is_up st.phase) _
-    (conclusion 0 (opens s l.opener) st ((side_sound m s w good).each c l at)) (is_up_at l.phase up) in (
+ends_are_held m w good s c l at unpending = by_phase l.phase refl
+  where
+    st : Standing
+    st = standing_at m s w c l
+
+    both_ways : same_bool (is_open_end st.own) (is_held st.own_tie) ≡ true →
+        ((own_view s l).own ≡ Open) ↔ (is_held st.own_tie ≡ true)
+    both_ways both = (
       λ h. same_right (is_open_end st.own) (is_held st.own_tie) both (is_open_at st.own h),
       λ h. open_is st.own (same_left (is_open_end st.own) (is_held st.own_tie) both h),
     )
+
+    by_phase : (p : LinkPhase) → l.phase ≡ p → ((own_view s l).own ≡ Open) ↔ (is_held st.own_tie ≡ true)
+    by_phase Up e =
+        both_ways
+        (is_when (is_up st.phase) _
+        (conclusion 0 (opens s l.opener) st ((side_sound m s w good).each c l at)) (is_up_at l.phase e))
+    by_phase Pending e = absurd (unpending e)
+    by_phase Cancelled e =
+        both_ways (cancelled_ends (opens s l.opener) st ((side_sound m s w good).each c l at) e)
 
 held_are_links : {P M : Type 0} (m : Peers P M) (w : World P M) → IsSound m w → HeldAreLinks m w
 held_are_links m w good s c held =

@@ -6,7 +6,7 @@ use Rattle.dm_links.specs.Peers.{Peers}
 use Rattle.dm_links.specs.Worlds.{World, peer_at}
 use Rattle.dm_links.specs.Happens.{own_view}
 
--- open on a connection, as the one that it holds in a role
+-- open on a connection, as the one that it holds in a role: the first one, and a node of the right shape holds no other
 pub record IsOpenOn (n : Node) (role : Role) (c : ℕ) : Type 0 where
   pub is_open : IsTrue (is_open n.state)
   pub holds : held_as role n.held ≡ Some (conn c)
@@ -36,10 +36,10 @@ pub record Agreed {P M : Type 0} (m : Peers P M) (w : World P M) : Type 0 where
   pub both : (r r' : Role) (c d : ℕ) → IsOpenOn (m.node_of w.a) r c → IsOpenOn (m.node_of w.b) r' d →
       AreOpposite r r' c d ⊎ AreParting w c d
 
--- a side's open ends are the connections of its set, pending links left out
+-- a side's open ends are the connections of its set, pending links left out; a cancelled link is in none
 abbrev pub EndsAreHeld : {P M : Type 0} → Peers P M → World P M → Type 0
 EndsAreHeld {P} {M} m w =
-    (s : Side) (c : ℕ) (l : Link M) → slice_get w.links c ≡ Some l → l.phase ≡ Up →
+    (s : Side) (c : ℕ) (l : Link M) → slice_get w.links c ≡ Some l → (l.phase ≡ Pending → ⊥) →
     ((own_view s l).own ≡ Open) ↔ IsTrue (is_held (tie_of (m.node_of (peer_at s w)) c))
 
 -- each connection of a side's set is a link that is up, or a pending one that the side opened
