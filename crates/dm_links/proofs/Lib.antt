@@ -20,6 +20,7 @@ mod Table
 mod Pieces
 mod Running
 mod Matching
+mod Tallies
 mod Putting
 mod Settling
 mod TalkLemmas

@@ -1,16 +1,16 @@
--- What the phases of a clean run put in: how many messages, and that it is the beginning of the run's course.
-use Rattle.std.proofs.Common.{◌≡◌, ℕ, ◌+◌, Bool, true, false, nat_le, if◌then◌else◌, Option, Some, None, List, [], ◌∷◌, ◌++◌, refl, ap, ◌∙◌}
+-- What the phases of a clean run have put in is the beginning of the run's course.
+use Rattle.std.proofs.Common.{◌≡◌, ℕ, Bool, true, false, nat_le, if◌then◌else◌, Option, Some, None, List, [], ◌∷◌, ◌++◌, length, ◌≤◌, refl, sym, ap, subst, ◌∙◌}
 use Rattle.std.proofs.lemmas.Bool.{leb-true}
 use Rattle.dm_links.specs.Links.{Side, A, B, flip, opens}
 use Rattle.dm_links.specs.Peers.{Peers}
 use Rattle.dm_links.specs.Worlds.{Put, Disconnect}
 use Rattle.dm_links.specs.Quiet.{Kept, kept_of}
 use Rattle.dm_links.specs.Electing.{Talks}
-use Rattle.dm_links.specs.Settled.{Tally, nothing, cer, cea, disconnect, AtMost}
 use Rattle.dm_links.specs.Courses.{cers_on, decided, course}
-use Rattle.dm_links.proofs.Pairs.{IsPair, ab, ba, swapped}
+use Rattle.dm_links.proofs.Pairs.{IsPair, ab, ba}
+use Rattle.dm_links.proofs.Stages.{Stage, Unmade}
 use Rattle.dm_links.proofs.Acting.{cer_put, cea_put}
-use Rattle.dm_links.proofs.Phases.{Phase, C1, C2, C3, C4, C5, C6, C7, C8, C9, C10, C11, C12, C13, C14, C15, C16, C17, C18, C19, C25, stage_g, stage_l, present, both_cers, put_so_far}
+use Rattle.dm_links.proofs.Phases.{Phase, C1, C2, C3, C4, C5, C10, C11, C12, C13, C14, C15, C16, C17, C18, C19, C25, stage_g, stage_l, present, put_so_far}
 
 -- of two sides, by the greater one
 abbrev pub by_greater : {X : Type 0} → Side → X → X → Side → X
@@ -23,6 +23,22 @@ by_each g l ab f a b e e' B = e'
 by_each g l ba f a b e e' A = e'
 by_each g l ba f a b e e' B = e
 
+one_present : (st : Stage) (x : ℕ) → nat_le (length (present st x)) 1 ≡ true
+one_present Unmade x = refl
+one_present _ x = refl
+
+few_made : (ns : List ℕ) (st : Stage) (x : ℕ) → ns ≡ present st x → length ns ≤ 1
+few_made ns st x e = subst (λ zs. length zs ≤ 1) (sym e) (leb-true (length (present st x)) 1 (one_present st x))
+
+-- each side makes one link at most
+pub one_at_most : (g l : Side) → IsPair g l → (made : Side → List ℕ) (k : Phase) (x y : ℕ) →
+    ((s : Side) → made s ≡ by_greater g (present (stage_g k) x) (present (stage_l k) y) s) → (s : Side) →
+    length (made s) ≤ 1
+one_at_most g l ab made k x y e A = few_made (made A) (stage_g k) x (e A)
+one_at_most g l ab made k x y e B = few_made (made B) (stage_l k) y (e B)
+one_at_most g l ba made k x y e A = few_made (made A) (stage_l k) y (e A)
+one_at_most g l ba made k x y e B = few_made (made B) (stage_g k) x (e B)
+
 -- whether the greater side's CER comes first
 abbrev pub is_led : Phase → Bool → Bool
 is_led C11 b = true
@@ -32,96 +48,6 @@ is_led C14 b = false
 is_led _ b = b
 
 module _ {P M C H : Type 0} (m : Peers P M) (t : Talks P M C H) where
-  -- counted
-  tally_cer : (s o : Side) → IsPair s o → (c n : ℕ) (more : List (Put M)) (a b d : ℕ) → Tally t more a b d →
-      Tally t (cer_put m t s o c n ∷ more) (1 + a) b d
-  tally_cer s o ab c n more a b d h = cer c s n more a b d h
-  tally_cer s o ba c n more a b d h = cer c s n more a b d h
-
-  tally_cea : (s o : Side) → IsPair s o → (c n : ℕ) (more : List (Put M)) (a b d : ℕ) → Tally t more a b d →
-      Tally t (cea_put m t s o c n ∷ more) a (1 + b) d
-  tally_cea s o ab c n more a b d h = cea c o n more a b d h
-  tally_cea s o ba c n more a b d h = cea c o n more a b d h
-
-  one_asks : (s o : Side) → IsPair s o → (c n : ℕ) → Tally t (cer_put m t s o c n ∷ []) 1 0 0
-  one_asks s o pair c n = tally_cer s o pair c n [] 0 0 0 nothing
-
-  pub one_answered : (s o : Side) → IsPair s o → (c n : ℕ) →
-      Tally t (cer_put m t s o c n ∷ cea_put m t s o c n ∷ []) 1 1 0
-  one_answered s o pair c n =
-      tally_cer s o pair c n _ 0 1 0 (tally_cea s o pair c n [] 0 0 0 nothing)
-
-  both_ask : (g l : Side) → IsPair g l → (b : Bool) (x y h h' : ℕ) (more : List (Put M)) (i j : ℕ) →
-      Tally t more 0 i j → Tally t (both_cers m t g l b x y h h' ++ more) 2 i j
-  both_ask g l pair true x y h h' more i j e =
-      tally_cer g l pair x h _ 1 i j (tally_cer l g (swapped pair) y h' more 0 i j e)
-  both_ask g l pair false x y h h' more i j e =
-      tally_cer l g (swapped pair) y h' _ 1 i j (tally_cer g l pair x h more 0 i j e)
-
-  pub all_counted : (g l : Side) → IsPair g l → (b : Bool) (x y h h' : ℕ) →
-      Tally t (put_so_far m t g l C25 b x y h h') 2 1 2
-  all_counted g l pair b x y h h' =
-      both_ask g l pair b x y h h' _ 1 2
-      (disconnect x l _ 0 1 1 (tally_cea l g (swapped pair) y h' _ 0 0 1 (disconnect x g [] 0 0 0 nothing)))
-
-  few : (put : List (Put M)) (a b d : ℕ) → nat_le a 2 ≡ true → nat_le b 1 ≡ true → nat_le d 2 ≡ true →
-      Tally t put a b d → AtMost t put
-  few put a b d e1 e2 e3 h =
-      record {
-        cers = a;
-        ceas = b;
-        ends = d;
-        counted = h;
-        two_cers = leb-true a 2 e1;
-        one_cea = leb-true b 1 e2;
-        two_ends = leb-true d 2 e3;
-      }
-
-  none_few : AtMost t []
-  none_few = few [] 0 0 0 refl refl refl nothing
-
-  asks_few : (s o : Side) → IsPair s o → (c n : ℕ) → AtMost t (cer_put m t s o c n ∷ [])
-  asks_few s o pair c n = few _ 1 0 0 refl refl refl (one_asks s o pair c n)
-
-  answered_few : (s o : Side) → IsPair s o → (c n : ℕ) → AtMost t (cer_put m t s o c n ∷ cea_put m t s o c n ∷ [])
-  answered_few s o pair c n = few _ 1 1 0 refl refl refl (one_answered s o pair c n)
-
-  both_few : (g l : Side) → IsPair g l → (b : Bool) (x y h h' : ℕ) → AtMost t (both_cers m t g l b x y h h')
-  both_few g l pair true x y h h' = few _ 2 0 0 refl refl refl (both_ask g l pair true x y h h' [] 0 0 nothing)
-  both_few g l pair false x y h h' = few _ 2 0 0 refl refl refl (both_ask g l pair false x y h h' [] 0 0 nothing)
-
-  won_few : (g l : Side) → IsPair g l → (b : Bool) (x y h h' : ℕ) → AtMost t (put_so_far m t g l C17 b x y h h')
-  won_few g l pair b x y h h' =
-      few _ 2 1 1 refl refl refl
-      (both_ask g l pair b x y h h' _ 1 1
-      (disconnect x l _ 0 1 0 (tally_cea l g (swapped pair) y h' [] 0 0 0 nothing)))
-
-  all_few : (g l : Side) → IsPair g l → (b : Bool) (x y h h' : ℕ) → AtMost t (put_so_far m t g l C25 b x y h h')
-  all_few g l pair b x y h h' = few _ 2 1 2 refl refl refl (all_counted g l pair b x y h h')
-
-  pub few_so_far : (g l : Side) → IsPair g l → (k : Phase) (b : Bool) (x y h h' : ℕ) →
-      AtMost t (put_so_far m t g l k b x y h h')
-  few_so_far g l pair C1 b x y h h' = none_few
-  few_so_far g l pair C2 b x y h h' = none_few
-  few_so_far g l pair C3 b x y h h' = none_few
-  few_so_far g l pair C4 b x y h h' = asks_few g l pair x h
-  few_so_far g l pair C5 b x y h h' = asks_few l g (swapped pair) y h'
-  few_so_far g l pair C6 b x y h h' = answered_few g l pair x h
-  few_so_far g l pair C7 b x y h h' = answered_few l g (swapped pair) y h'
-  few_so_far g l pair C8 b x y h h' = answered_few g l pair x h
-  few_so_far g l pair C9 b x y h h' = answered_few l g (swapped pair) y h'
-  few_so_far g l pair C10 b x y h h' = none_few
-  few_so_far g l pair C11 b x y h h' = asks_few g l pair x h
-  few_so_far g l pair C12 b x y h h' = asks_few l g (swapped pair) y h'
-  few_so_far g l pair C13 b x y h h' = asks_few g l pair x h
-  few_so_far g l pair C14 b x y h h' = asks_few l g (swapped pair) y h'
-  few_so_far g l pair C15 b x y h h' = both_few g l pair b x y h h'
-  few_so_far g l pair C16 b x y h h' = both_few g l pair b x y h h'
-  few_so_far g l pair C17 b x y h h' = won_few g l pair b x y h h'
-  few_so_far g l pair C18 b x y h h' = won_few g l pair b x y h h'
-  few_so_far g l pair C19 b x y h h' = won_few g l pair b x y h h'
-  few_so_far g l pair _ b x y h h' = all_few g l pair b x y h h'
-
   -- what is still to come
   abbrev pub still_to_come : Side → Side → Phase → Bool → ℕ → ℕ → ℕ → ℕ → List (Put M)
   still_to_come g l C2 b x y h h' = cer_put m t g l x h ∷ cea_put m t g l x h ∷ []

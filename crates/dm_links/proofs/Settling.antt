@@ -24,7 +24,8 @@ use Rattle.dm_links.proofs.Phases.{Phase, C1, C2, C3, C4, C5, C6, C7, C8, C9, C2
 use Rattle.dm_links.proofs.Phasing.{flip_in}
 use Rattle.dm_links.proofs.Running.{HasPut, Ended}
 use Rattle.dm_links.proofs.Matching.{phase_matches}
-use Rattle.dm_links.proofs.Putting.{by_greater, by_each, is_led, one_answered, all_counted, few_so_far, still_to_come, on_course, course_by}
+use Rattle.dm_links.proofs.Tallies.{one_answered, all_counted, few_so_far}
+use Rattle.dm_links.proofs.Putting.{by_greater, by_each, one_at_most, is_led, still_to_come, on_course, course_by}
 
 pub all_at : {X : Type 0} (f : X → Bool) (xs : List X) (d : ℕ) (x : X) → list_all f xs ≡ true →
     slice_get xs d ≡ Some x → f x ≡ true
@@ -241,16 +242,18 @@ module _ {P M C H : Type 0} (m : Peers P M) (t : Talks P M C H) where
       let rest = still_to_come m t g l z.k b z.x z.y q.h q.h' in
       let numbers = by_greater g q.h q.h' in
       let first = if is_led z.k b then g else l in
+      let links = by_each g l pair (λ s. made m s w hs) (present (stage_g z.k) z.x) (present (stage_l z.k) z.y)
+      z.made_g z.made_l in
       record {
+        one_each = one_at_most g l pair (λ s. made m s w hs) z.k z.x z.y links;
         numbers = numbers;
         first = first;
         to_come = rest;
         put = ap (λ (ps : List (Put M)). ps ++ rest) z.put.all
             ∙ (on_course m t g l pair b z.k z.x z.y q.h q.h'
             ∙ sym (course_by m t numbers first (λ s. made m s w hs)
-            (by_greater g (present (stage_g z.k) z.x) (present (stage_l z.k) z.y)) (kept m t.wins w hs) _
-            (by_each g l pair (λ s. made m s w hs) (present (stage_g z.k) z.x) (present (stage_l z.k) z.y)
-            z.made_g z.made_l) (kept_in g l pair wins loses w hs r z)));
+            (by_greater g (present (stage_g z.k) z.x) (present (stage_l z.k) z.y)) (kept m t.wins w hs) _ links
+            (kept_in g l pair wins loses w hs r z)));
         ended = λ quiet. none_to_come g l z.k b z.x z.y q.h q.h' (rests_at g l r.world z.k z.x z.y q quiet);
       }
 

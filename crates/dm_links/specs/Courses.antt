@@ -1,5 +1,5 @@
 -- What a clean run puts in: on which links, towards which side, and in which order.
-use Rattle.std.specs.Prelude.{◌≡◌, ℕ, IsTrue, Option, Some, None, List, [], ◌∷◌, ◌++◌, map}
+use Rattle.std.specs.Prelude.{◌≡◌, ℕ, ◌≤◌, IsTrue, Option, Some, None, List, [], ◌∷◌, ◌++◌, length, map}
 use Rattle.dm_links.specs.Links.{Side, flip}
 use Rattle.dm_links.specs.Peers.{Peers}
 use Rattle.dm_links.specs.Worlds.{World, Put, Message, Disconnect}
@@ -35,10 +35,11 @@ course t numbers first links k =
     cers_on t numbers first (links first) ++ cers_on t numbers (flip first) (links (flip first))
     ++ decided t numbers links k
 
--- what a run put in is the course that its taken Starts give, up to what is still to come; nothing is, where it is
--- quiet. Either side's CER may be the first, and it has one number in the CER and in the CEA
+-- each side makes one link at most, and what a run put in is the course that these give, up to what is still to come:
+-- nothing, where it is quiet. Either side's CER may be the first; its number is that of the CEA too
 pub record IsOnCourse {P M C H : Type 0} (m : Peers P M) (t : Talks P M C H) (w : World P M)
     (hs : List (Happening M)) (r : Ran P M) : Type 0 where
+  pub one_each : (s : Side) → length (made m s w hs) ≤ 1
   pub numbers : Side → ℕ
   pub first : Side
   pub to_come : List (Put M)
