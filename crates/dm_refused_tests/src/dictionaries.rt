@@ -1,7 +1,8 @@
 //! Dictionaries read and printed, and messages checked.
+use crate::each::each_made;
 use crate::rows::*;
-use crate::subject::{Making, each_made};
 use dm_dict::{DictFault, Dictionary, NoMemory, Verdict};
+use dm_refusal::Making;
 use dm_wire::Message;
 use std::alloc::Global;
 use std::process::Abort;
@@ -90,10 +91,9 @@ impl Making for Faulty<'_> {
     type Fault = Option<DictFault>;
 
     fn call(&self, alloc: Global) -> Result<DictFault, Option<DictFault>> {
-        match Dictionary::read(alloc, self.0, self.1) {
-            Ok(_) => Err(None),
-            Err(DictFault::NoMemory) => Err(Some(DictFault::NoMemory)),
-            Err(fault) => Ok(fault),
+        match Dictionary::read(alloc, self.0, self.1).err() {
+            Some(fault) if fault != DictFault::NoMemory => Ok(fault),
+            other => Err(other),
         }
     }
 
@@ -131,6 +131,12 @@ fn check_text(rt: &(impl Abort + AllocGlobal), text: &[u8], old: &Dictionary) {
     drop(new);
 }
 
+fn check_texts(rt: &(impl Abort + AllocGlobal), texts: &[&[u8]], old: &Dictionary) {
+    for text in texts {
+        check_text(rt, text, old);
+    }
+}
+
 const TEXTS: [&[u8]; 2] = [
     b"< X > ::= < Diameter Header: 300, REQ > 0*1 < Session-Id > 1* { Host-IP-Address } { AVP }",
     b"@ 2\n@ vendor Acme 99\n@ Colour 5000 Enumerated : Acme { RED 0, BLUE 2 }\n< Ask > ::= < Diameter Header: 300, REQ > { Colour }\n",
@@ -140,10 +146,14 @@ const TEXTS: [&[u8]; 2] = [
 fn texts_read_and_printed(rt: HostRuntime) {
     let base = base(&rt);
     check_base(&rt, &base);
-    for text in TEXTS {
-        check_text(&rt, text, &base);
-    }
+    check_texts(&rt, &TEXTS, &base);
     drop(base);
+}
+
+fn check_faults(rt: &(impl Abort + AllocGlobal), rows: &[(&[u8], DictFault)], old: &Dictionary) {
+    for (text, fault) in rows {
+        each_made(rt, &Faulty(text, old, *fault), "read");
+    }
 }
 
 const FAULTS: [(&[u8], DictFault); 5] = [
@@ -163,9 +173,7 @@ const FAULTS: [(&[u8], DictFault); 5] = [
 #[test]
 fn texts_refused(rt: HostRuntime) {
     let base = base(&rt);
-    for (text, fault) in FAULTS {
-        each_made(&rt, &Faulty(text, &base, fault), "read");
-    }
+    check_faults(&rt, &FAULTS, &base);
     drop(base);
 }
 
@@ -201,6 +209,12 @@ fn check_message(rt: &(impl Abort + AllocGlobal), base: &Dictionary, digits: &st
     drop(message);
 }
 
+fn check_messages(rt: &(impl Abort + AllocGlobal), rows: &[(&str, &str)], base: &Dictionary) {
+    for (digits, text) in rows {
+        check_message(rt, base, digits, text);
+    }
+}
+
 const VERDICTS: [(&str, &str); 9] = [
     (CAPABILITIES, "good"),
     (TWICE, "bad 5009 273 -M- 00000001"),
@@ -216,8 +230,6 @@ const VERDICTS: [(&str, &str); 9] = [
 #[test]
 fn messages_checked(rt: HostRuntime) {
     let base = base(&rt);
-    for (digits, text) in VERDICTS {
-        check_message(&rt, &base, digits, text);
-    }
+    check_messages(&rt, &VERDICTS, &base);
     drop(base);
 }

@@ -8,15 +8,15 @@
 #[cfg(test)]
 mod dictionaries;
 #[cfg(test)]
+mod each;
+#[cfg(test)]
 mod messages;
 #[cfg(test)]
-mod refusal;
+mod quiet;
 #[cfg(test)]
 mod rows;
 #[cfg(test)]
 mod streams;
-#[cfg(test)]
-mod subject;
 #[cfg(test)]
 mod values;
 #[cfg(test)]

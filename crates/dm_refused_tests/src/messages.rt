@@ -1,8 +1,9 @@
 //! Base messages, told and built.
+use crate::each::each_made;
 use crate::rows::*;
-use crate::subject::{Making, each_made};
 use dm_base::{BaseFault, Cause, Kind, Node, cea, cer, classify, dpa, dpr, dwa, dwr, error_answer};
 use dm_dict::{Dictionary, Ip, NoMemory};
+use dm_refusal::Making;
 use dm_wire::{Avp, Header, Message, Octets};
 use std::alloc::Global;
 use std::process::Abort;
@@ -133,6 +134,12 @@ fn check_built(rt: &(impl Abort + AllocGlobal), row: &Row<'_>) {
     drop(node);
 }
 
+fn check_rows(rt: &(impl Abort + AllocGlobal), rows: &[Row<'_>]) {
+    for row in rows {
+        check_built(rt, row);
+    }
+}
+
 const BUILT: [Row<'static>; 9] = [
     (Call::Cer, b"a.example", 4, CER),
     (Call::Dwr, b"a.example", 4, WATCHDOG),
@@ -147,7 +154,5 @@ const BUILT: [Row<'static>; 9] = [
 
 #[test]
 fn messages_built(rt: HostRuntime) {
-    for row in BUILT {
-        check_built(&rt, &row);
-    }
+    check_rows(&rt, &BUILT);
 }

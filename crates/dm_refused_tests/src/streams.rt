@@ -1,7 +1,9 @@
 //! Messages out of a stream.
-use crate::refusal::{End, answered, refuse, repeated, was_larger, was_refused, worse};
+use crate::each::{each, each_made};
 use crate::rows::{WATCHDOG, octets};
-use crate::subject::{Making, Subject, each, each_made};
+use dm_refusal::{
+    End, Making, Subject, answered, refuse, repeated, was_larger, was_refused, worse,
+};
 use dm_wire::{FrameFault, Framer};
 use std::alloc::Global;
 use std::process::Abort;
@@ -119,8 +121,8 @@ fn come(alloc: Global, twice: &[u8], row: &[u8], size: usize, nth: u32) -> End {
 #[derive(Clone, Copy)]
 struct Stream<'a>(&'a [u8], &'a [u8], usize);
 
-impl Subject for Stream<'_> {
-    fn end(&self, rt: &(impl Abort + AllocGlobal), nth: u32) -> End {
+impl<R: AllocGlobal> Subject<R> for Stream<'_> {
+    fn end(&self, rt: &R, nth: u32) -> End {
         come(rt.alloc(), self.0, self.1, self.2, nth)
     }
 }

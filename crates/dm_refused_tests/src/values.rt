@@ -1,7 +1,8 @@
 //! Values read and written, of each type.
+use crate::each::each_made;
 use crate::rows::octets;
-use crate::subject::{Making, each_made};
 use dm_dict::{AvpType, Value, ValueFault, read_value, write_value};
+use dm_refusal::Making;
 use std::alloc::Global;
 use std::process::Abort;
 
@@ -58,6 +59,12 @@ fn check(rt: &(impl Abort + AllocGlobal), kind: AvpType, digits: &str) {
     drop(value);
 }
 
+fn check_rows(rt: &(impl Abort + AllocGlobal), rows: &[(AvpType, &str)]) {
+    for (kind, digits) in rows {
+        check(rt, *kind, digits);
+    }
+}
+
 /// A type, and data of it.
 const VALUES: [(AvpType, &str); 15] = [
     (AvpType::OctetString, "0102"),
@@ -82,7 +89,5 @@ const VALUES: [(AvpType, &str); 15] = [
 
 #[test]
 fn values_of_each_type(rt: HostRuntime) {
-    for (kind, digits) in VALUES {
-        check(&rt, kind, digits);
-    }
+    check_rows(&rt, &VALUES);
 }

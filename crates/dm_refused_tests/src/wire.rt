@@ -1,6 +1,7 @@
 //! Messages and lists of AVPs, read and written.
+use crate::each::each_made;
 use crate::rows::{CAPABILITIES, GROUP, octets};
-use crate::subject::{Making, each_made};
+use dm_refusal::Making;
 use dm_wire::{Avp, Message, WireFault, decode_avps, encode_avps};
 use std::alloc::Global;
 use std::process::Abort;

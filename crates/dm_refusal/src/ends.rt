@@ -1,0 +1,50 @@
+//! How a call ended, of which one request for memory may have been refused.
+
+/// How it ended.
+#[derive(Clone, Copy, Debug, PartialEq, Eq)]
+pub enum End {
+    /// It answered as its row, and none was refused.
+    Whole,
+    /// Want of memory, nothing had changed, and it answered as its row when it was done again.
+    Again,
+    /// It answered although one was refused.
+    Anyway,
+    /// Want of memory although none was refused.
+    Alone,
+    /// It didn't answer as its row, or something had changed.
+    Changed,
+    /// It refused otherwise.
+    Fault,
+}
+
+/// The end of a call that answered, as its row or not.
+pub fn answered(refused: bool, right: bool) -> End {
+    if !right {
+        End::Changed
+    } else if refused {
+        End::Anyway
+    } else {
+        End::Whole
+    }
+}
+
+/// The end of a call that wanted memory, and then answered as its row or not.
+pub fn repeated(refused: bool, right: bool) -> End {
+    if !refused {
+        End::Alone
+    } else if right {
+        End::Again
+    } else {
+        End::Changed
+    }
+}
+
+/// The first end, or the second where that is worse: Whole is best, then Again.
+pub fn worse(one: End, other: End) -> End {
+    match (one, other) {
+        (End::Whole, other) => other,
+        (one, End::Whole) => one,
+        (End::Again, other) => other,
+        (one, _) => one,
+    }
+}
