@@ -124,11 +124,11 @@ sound_inert false Pending u own other ie oe im om h f = refl
 sound_inert b Cancelled u own other ie oe im om h f = refl
 sound_inert true Up u own other ie oe im om h f =
     let p = five (opener_fits own Unheld) (other_fits other u) (end_fits own ie im om) (end_fits other oe om im)
-    (fresh_fits other Unheld ie) h in
+    (fresh_fits other Unheld ie oe om) h in
     opener_shut own ie im om p.0 p.2
 sound_inert false Up u own other ie oe im om h f =
     let p = five (opener_fits other u) (other_fits own Unheld) (end_fits other oe om im) (end_fits own ie im om)
-    (fresh_fits own u oe) h in
+    (fresh_fits own u oe ie im) h in
     other_shut own ie im om p.1 f p.3
 
 -- the soundness of a link, from either side

@@ -17,3 +17,4 @@ pub mod Paired
 pub mod Anew
 pub mod Restarts
 pub mod Named
+pub mod Wants

@@ -86,10 +86,10 @@ element_at (x ∷ list) (suc i) h lt at = element_at list i h (omega arith) at
 
 pub ended_at : (f : WorldFault) (v v' : World Peer (List ℕ)) (list : List declared_happening.Happening) (i : ℕ)
     (h : declared_happening.Happening) → i < length list → h ≡ get_or list i h → v' ≡ v →
-    IsFault f (may_want h) (happens octet_peers v (as_happening h)) → IsEnd f (slice_get list i) v'
+    IsFault f (may_want v h) (happens octet_peers v (as_happening h)) → IsEnd f (slice_get list i) v'
 ended_at f v v' list i h lt at same fault =
     subst (λ o. IsEnd f o v') (sym (element_at list i h lt at))
-    (subst (λ (x : World Peer (List ℕ)). IsFault f (may_want h) (happens octet_peers x (as_happening h))) (sym same)
+    (subst (λ (x : World Peer (List ℕ)). IsFault f (may_want x h) (happens octet_peers x (as_happening h))) (sym same)
     fault)
 
 pub ran_still : (w v v' : World Peer (List ℕ)) (list : List declared_happening.Happening) → v' ≡ v → RanTo w list v →

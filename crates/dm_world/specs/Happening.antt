@@ -1,9 +1,16 @@
--- A happening as the laws of two peers see it.
-use Rattle.std.specs.Prelude.{ℕ, Bool, true, false, List}
-use Rattle.dm_links.specs.Happens.{Happening, Starts, Stops, TimesOut, Ticks, Restarts, Acks, Nacks, Delivers, Pieces, Loses, Submits}
+-- A happening as the laws of two peers see it, and where it may want memory.
+use Rattle.std.specs.Prelude.{ℕ, Bool, true, false, not, ◌&&◌, ◌||◌, nat_lt, Option, Some, None, List, slice_get}
+use Rattle.dm_peer.specs.declared.peer.Peer.{Peer}
+use Rattle.dm_links.specs.Facts.{is_pending, is_shut}
+use Rattle.dm_links.specs.Links.{Side, Link}
+use Rattle.dm_links.specs.Worlds.{World}
+use Rattle.dm_links.specs.Happens.{own_view, Happening, Starts, Stops, TimesOut, Ticks, Restarts, Acks, Nacks, Delivers, Pieces, Loses, Submits}
 use Rattle.dm_world.specs.declared.happening.Happening as declared_happening
 use Rattle.dm_world.specs.declared.happening.Happening.TheVariants as happening
 use Rattle.dm_pair.specs.Octets.{as_cause}
+use Rattle.dm_world.specs.declared.link.Next.{Next}
+use Rattle.dm_world.specs.declared.link.Next.TheVariants as next
+use Rattle.dm_world.specs.Next.{next_to, left_to}
 use Rattle.dm_world.specs.Seen.{as_side}
 
 abbrev pub as_happening : declared_happening.Happening → Happening (List ℕ)
@@ -19,9 +26,39 @@ as_happening (happening.Piece c s k) = Pieces c.0 (as_side s) k
 as_happening (happening.Lose c a b) = Loses c.0 a b
 as_happening (happening.Submit s x) = Submits (as_side s) x
 
--- memory may be wanted
-abbrev pub may_want : declared_happening.Happening → Bool
-may_want (happening.Timeout s) = false
-may_want (happening.Restart s) = false
-may_want (happening.Lose c a b) = false
-may_want _ = true
+abbrev pub is_message : Next → Bool
+is_message next.Message = true
+is_message _ = false
+
+abbrev pub is_something : Next → Bool
+is_something next.Nothing = false
+is_something _ = true
+
+-- the link of a number is there, and its connect is pending
+abbrev pub is_pending_at : Option (Link (List ℕ)) → Bool
+is_pending_at None = false
+is_pending_at (Some l) = is_pending l.phase
+
+abbrev pub is_deaf : Side → Link (List ℕ) → Bool
+is_deaf s l = is_shut (own_view s l).own
+
+-- it is there, something comes next to a side, and the side's end isn't shut
+abbrev pub is_heard_at : Side → Option (Link (List ℕ)) → Bool
+is_heard_at s None = false
+is_heard_at s (Some l) = is_something (next_to s l) && not (is_deaf s l)
+
+-- it is there, and of a message that comes next some octets come: its last ones to an end that isn't shut, or others
+abbrev pub is_fed_at : Side → ℕ → Option (Link (List ℕ)) → Bool
+is_fed_at s k None = false
+is_fed_at s k (Some l) = is_message (next_to s l) && (not (is_deaf s l) || nat_lt k (left_to s l)) && nat_lt 0 k
+
+-- memory may be wanted: never where the link isn't there, or nothing of it comes
+abbrev pub may_want : World Peer (List ℕ) → declared_happening.Happening → Bool
+may_want w (happening.Timeout s) = false
+may_want w (happening.Restart s) = false
+may_want w (happening.Lose c a b) = false
+may_want w (happening.Ack c) = is_pending_at (slice_get w.links c.0)
+may_want w (happening.Nack c) = is_pending_at (slice_get w.links c.0)
+may_want w (happening.Deliver c s) = is_heard_at (as_side s) (slice_get w.links c.0)
+may_want w (happening.Piece c s k) = is_fed_at (as_side s) k (slice_get w.links c.0)
+may_want w _ = true

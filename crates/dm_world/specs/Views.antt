@@ -48,4 +48,4 @@ front_of s (Some l) = slice_get (own_view s l).incoming.messages 0
 -- a run ended at a happening that is there, for this fault
 abbrev pub IsEnd : WorldFault → Option Happening → World Peer (List ℕ) → Type 0
 IsEnd f None w = ⊥
-IsEnd f (Some h) w = IsFault f (may_want h) (happens octet_peers w (as_happening h))
+IsEnd f (Some h) w = IsFault f (may_want w h) (happens octet_peers w (as_happening h))

@@ -1,10 +1,10 @@
 //! One happening is one step of the world.
-ghost use Rattle.std.specs.Prelude.{◌≡◌, true, false, IfOk, IfErr, OnErr};
+ghost use Rattle.std.specs.Prelude.{◌≡◌, false, IfOk, IfErr, OnErr, slice_get};
 ghost use Rattle.dm_links.specs.Facts.{IsSound};
 ghost use Rattle.dm_links.specs.Happens.{happens, Nacks, Loses, Submits};
 ghost use Rattle.dm_pair.specs.Octets.{octet_peers};
 ghost use Rattle.dm_world.specs.Ends.{AreNamed, AreSameEnds, AreEndsAfter};
-ghost use Rattle.dm_world.specs.Happening.{as_happening, may_want};
+ghost use Rattle.dm_world.specs.Happening.{as_happening, is_pending_at, may_want};
 ghost use Rattle.dm_world.specs.Seen.{as_links, as_side};
 ghost use Rattle.dm_world.specs.Views.{as_world, Effects, AreShaped, IsFault};
 
@@ -21,7 +21,8 @@ impl Net {
         requires { AreShaped self.old }
         ensures step { IfOk result (λ effect. Effects effect (happens octet_peers (as_world self.old) (Nacks conn.0))
             (as_world self.old) (as_world self.new)) }
-        ensures fault { IfErr result (λ f. IsFault f true (happens octet_peers (as_world self.old) (Nacks conn.0))) }
+        ensures fault { IfErr result (λ f. IsFault f (is_pending_at (slice_get (as_links self.old.links.items) conn.0))
+            (happens octet_peers (as_world self.old) (Nacks conn.0))) }
         ensures unchanged { OnErr result (as_world self.new ≡ as_world self.old) }
     {
         let index = conn.0 as usize;
@@ -80,7 +81,7 @@ impl Net {
         ensures step { IfOk result (λ effect. Effects effect
             (happens octet_peers (as_world self.old) (as_happening happening.now)) (as_world self.old)
             (as_world self.new)) }
-        ensures fault { IfErr result (λ f. IsFault f (may_want happening.now)
+        ensures fault { IfErr result (λ f. IsFault f (may_want (as_world self.old) happening.now)
             (happens octet_peers (as_world self.old) (as_happening happening.now))) }
         ensures unchanged { OnErr result (as_world self.new ≡ as_world self.old) }
         ensures made { IfOk result (λ effect. AreEndsAfter effect happening.now (as_links self.old.links.items)

@@ -1,11 +1,12 @@
 //! What reaches a side on a link.
-ghost use Rattle.std.specs.Prelude.{◌≡◌, ◌<◌, ℕ, List, Some, true, IfOk, IfErr, OnErr, length, slice_get};
+ghost use Rattle.std.specs.Prelude.{◌≡◌, ◌<◌, ℕ, List, Some, false, IfOk, IfErr, OnErr, length, slice_get};
 ghost use Rattle.dm_links.specs.Machine.{conn};
 ghost use Rattle.dm_links.specs.Happens.{happens, Delivers, Pieces, comes, own_view};
 ghost use Rattle.dm_links.specs.Links.{Link};
 ghost use Rattle.dm_links.specs.Worlds as worlds;
 ghost use Rattle.dm_links.specs.Peers.{Arrived, Gone};
 ghost use Rattle.dm_pair.specs.Octets.{octet_peers};
+ghost use Rattle.dm_world.specs.Happening.{is_deaf, is_heard_at, is_fed_at};
 ghost use Rattle.dm_world.specs.Seen.{as_side, as_links};
 ghost use Rattle.dm_world.specs.Views.{as_world, Effects, AreShaped, IsFault, front_of};
 
@@ -74,6 +75,8 @@ impl Net {
             Effects effect (comes octet_peers (as_side side) (Arrived (conn index) x) (own_view (as_side side) l).own
             (as_world self.old)) (as_world self.old) (as_world self.new)) }
         ensures unchanged { OnErr result (as_world self.new ≡ as_world self.old) }
+        ensures heard { OnErr result ((l : Link (List ℕ)) → slice_get (as_links self.old.links.items) index ≡ Some l →
+            is_deaf (as_side side) l ≡ false) }
     {
         match self.links[index].own_end(side) {
             End::Shut => {
@@ -98,6 +101,8 @@ impl Net {
             Effects effect (comes octet_peers (as_side side) (Gone (conn index)) (own_view (as_side side) l).own
             (as_world self.old)) (as_world self.old) (as_world self.new)) }
         ensures unchanged { OnErr result (as_world self.new ≡ as_world self.old) }
+        ensures heard { OnErr result ((l : Link (List ℕ)) → slice_get (as_links self.old.links.items) index ≡ Some l →
+            is_deaf (as_side side) l ≡ false) }
     {
         match self.links[index].own_end(side) {
             End::Shut => {
@@ -119,7 +124,8 @@ impl Net {
         ensures step { IfOk result (λ effect. Effects effect
             (happens octet_peers (as_world self.old) (Delivers conn.0 (as_side side))) (as_world self.old)
             (as_world self.new)) }
-        ensures fault { IfErr result (λ f. IsFault f true
+        ensures fault { IfErr result (λ f. IsFault f
+            (is_heard_at (as_side side) (slice_get (as_links self.old.links.items) conn.0))
             (happens octet_peers (as_world self.old) (Delivers conn.0 (as_side side)))) }
         ensures unchanged { OnErr result (as_world self.new ≡ as_world self.old) }
     {
@@ -146,7 +152,8 @@ impl Net {
         ensures step { IfOk result (λ effect. Effects effect
             (happens octet_peers (as_world self.old) (Pieces conn.0 (as_side side) count)) (as_world self.old)
             (as_world self.new)) }
-        ensures fault { IfErr result (λ f. IsFault f true
+        ensures fault { IfErr result (λ f. IsFault f
+            (is_fed_at (as_side side) count (slice_get (as_links self.old.links.items) conn.0))
             (happens octet_peers (as_world self.old) (Pieces conn.0 (as_side side) count))) }
         ensures unchanged { OnErr result (as_world self.new ≡ as_world self.old) }
     {

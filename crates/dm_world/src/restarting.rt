@@ -1,11 +1,12 @@
 //! The connect of a link that comes about, which makes an end, and a Restart, which goes over the ends that were made.
-ghost use Rattle.std.specs.Prelude.{◌≡◌, ◌++◌, true, IfOk, IfErr, OnErr, slice_get};
+ghost use Rattle.std.specs.Prelude.{◌≡◌, ◌++◌, IfOk, IfErr, OnErr, slice_get};
 ghost use Rattle.dm_links.specs.Facts.{IsSound};
 ghost use Rattle.dm_links.specs.Happens.{happens, Acks, restart_links};
 ghost use Rattle.dm_links.specs.Worlds.{with_peer, peer_at};
 ghost use Rattle.dm_pair.specs.Octets.{octet_peers};
 ghost use Rattle.dm_world.specs.Asking.{reset_of};
 ghost use Rattle.dm_world.specs.Ends.{AreNamed, AreSameEnds, AreCleared, IsMade, restart_each, numbers, held_numbers};
+ghost use Rattle.dm_world.specs.Happening.{is_pending_at};
 ghost use Rattle.dm_world.specs.Seen.{as_side, as_links};
 ghost use Rattle.dm_world.specs.Views.{as_world, Effects, AreShaped, IsFault};
 
@@ -55,7 +56,8 @@ impl Net {
         requires { AreShaped self.old }
         ensures step { IfOk result (λ effect. Effects effect (happens octet_peers (as_world self.old) (Acks conn.0))
             (as_world self.old) (as_world self.new)) }
-        ensures fault { IfErr result (λ f. IsFault f true (happens octet_peers (as_world self.old) (Acks conn.0))) }
+        ensures fault { IfErr result (λ f. IsFault f (is_pending_at (slice_get (as_links self.old.links.items) conn.0))
+            (happens octet_peers (as_world self.old) (Acks conn.0))) }
         ensures unchanged { OnErr result (as_world self.new ≡ as_world self.old) }
         ensures made { IfOk result (λ effect. IsMade effect (slice_get (as_links self.old.links.items) conn.0) conn.0
             made.old made.new) }

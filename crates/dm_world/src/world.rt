@@ -17,10 +17,12 @@ use crate::pair::Pair;
 use crate::{Effect, Happening, NewFault, Side, WorldFault};
 use dm_base::common_nodes;
 use dm_links::laws::{
-    acks_make_ends, closed_is_sound, each_happening_keeps_sound, each_run_is_cut, sound_is_promised,
+    acks_make_ends, closed_is_sound, each_happening_keeps_sound, each_run_is_cut, quiet_is_shared,
+    sound_is_promised,
 };
 use dm_pair::laws::{
-    each_happening_keeps_peers, each_octet_run_settles, octets_are_a_machine, octets_are_sized,
+    each_happening_keeps_peers, each_octet_run_can_fall_quiet, each_octet_run_falls_quiet,
+    each_octet_run_settles, octets_are_a_machine, octets_are_sized,
 };
 use dm_peer::{Config, Conn, Peer, is_same_host};
 use dm_wire::Octets;
@@ -60,6 +62,7 @@ impl World {
     ghost use Rattle.dm_links.specs.Happens.{happens, run};
     ghost use Rattle.dm_links.specs.Laws.{world_of};
     ghost use Rattle.dm_links.specs.Quiet.{is_quiet};
+    ghost use Rattle.dm_links.specs.Sharing.{AreShared};
     ghost use Rattle.dm_links.specs.Streams.{AreCut};
     ghost use Rattle.dm_links.specs.Worlds.{Put, peer_at};
     ghost use Rattle.dm_pair.specs.Laws.{AreClosed, fresh_peer};
@@ -68,18 +71,19 @@ impl World {
     ghost use Rattle.dm_world.specs.New.{new_fault};
     ghost use Rattle.dm_world.specs.declared.fault.NewFault.{NewFault};
     ghost use Rattle.dm_world.specs.Seen.{as_side};
-    ghost use Rattle.dm_world.specs.Settling.{AreClean, RunSettles};
+    ghost use Rattle.dm_world.specs.Settling.{AreClean, RunSettles, RunFallsQuiet, RunCanFallQuiet};
     ghost use Rattle.dm_world.specs.Views.{Effects, IsFault, IsEnd};
 
     /// One happening: it is done, or ignored with nothing changed.
     ///
-    /// Refuses with `NoLink` where it names a link that isn't there, and with `NoMemory` where a growth was refused, which no
-    /// Timeout, Restart or Lose meets. The world is then what it was.
+    /// Refuses with `NoLink` where it names a link that isn't there, and with `NoMemory` where a growth was refused. The world is
+    /// then what it was. No Timeout, Restart or Lose takes memory; nor does an Ack or a Nack of a connect that isn't
+    /// pending, or a delivery or a piece where nothing comes to an end that is open: a shut end drops what comes.
     pub fn apply(&mut self, alloc: Global, happening: &Happening) -> Result<Effect, WorldFault>
         ensures step { IfOk result (λ effect. Effects effect
             (happens octet_peers (as_world self.old.net) (as_happening happening.now)) (as_world self.old.net)
             (as_world self.new.net)) }
-        ensures fault { IfErr result (λ f. IsFault f (may_want happening.now)
+        ensures fault { IfErr result (λ f. IsFault f (may_want (as_world self.old.net) happening.now)
             (happens octet_peers (as_world self.old.net) (as_happening happening.now))) }
         ensures unchanged { OnErr result (as_world self.new.net ≡ as_world self.old.net) }
     {
@@ -104,11 +108,15 @@ impl World {
     ///
     /// Whatever happens, in whatever order: neither side is open on two connections, and if both are open, it is on one
     /// connection in opposite roles, or a disconnect is coming to each on its own. What a side holds is a link that is up, or
-    /// a pending one that it opened. Fewer octets are delivered of a front message than it has.
+    /// a pending one that it opened. Fewer octets are delivered of a front message than it has. Where nothing is under way
+    /// each side holds just what the other holds, and one is Closed exactly where the other is.
     ///
     /// Where both were Closed with nothing under way, and only Starts, connects that come about, deliveries and pieces
-    /// happen, at most two CERs, one CEA and two disconnects are put in; and where it falls quiet after a Start that was
-    /// taken, both are open on the connection that the election keeps (RFC 6733, 5.6.4), with the counts of that case.
+    /// happen, at most two CERs, one CEA and two disconnects are put in, on their links and in their order; and where it
+    /// falls quiet after a Start that was taken, both are open on the connection that the election keeps (RFC 6733, 5.6.4),
+    /// and all of these were put in. It falls quiet, in whatever order they come: it is quiet where no Ack and no delivery
+    /// is done any more, after nine steps, and after four where one side alone starts; and some Acks and deliveries, with
+    /// its own steps nine at most, bring it there. A step is what is done, pieces that end no message aside.
     pub fn run(&mut self, alloc: Global, list: &[Happening]) -> (usize, Option<WorldFault>)
         ensures ran { (put : List (Put (List ℕ))) ×
             (run octet_peers (as_world self.old.net) (map as_happening (take result.0 list.now)) ≡ Some
@@ -118,13 +126,21 @@ impl World {
         ensures held { HeldAreLinks octet_peers (as_world self.new.net) }
         ensures matched { OpenIsMatched octet_peers (as_world self.new.net) }
         ensures cut { AreCut octet_peers (as_world self.new.net) }
+        ensures shared { IsTrue (is_quiet (as_world self.new.net)) → AreShared octet_peers (as_world self.new.net) }
         ensures settled { AreClosed (as_world self.old.net) → AreClean (take result.0 list.now) →
             RunSettles (as_world self.old.net) (take result.0 list.now) }
+        ensures falls_quiet { AreClosed (as_world self.old.net) → AreClean (take result.0 list.now) →
+            RunFallsQuiet (as_world self.old.net) (take result.0 list.now) }
+        ensures can_fall_quiet { AreClosed (as_world self.old.net) → AreClean (take result.0 list.now) →
+            RunCanFallQuiet (as_world self.old.net) (take result.0 list.now) }
         ensures whole { result.1 ≡ None → result.0 ≡ length list.now }
         ensures ended { IfSome result.1 (λ f. IsEnd f (slice_get list.now result.0) (as_world self.new.net)) }
     {
         sound_is_promised::<Peer, Octets>();
+        quiet_is_shared::<Peer, Octets>();
         each_octet_run_settles();
+        each_octet_run_falls_quiet();
+        each_octet_run_can_fall_quiet();
         for (count, happening) in list.iter().enumerate() {
             if let Err(fault) = self.apply(alloc, happening) {
                 return (count, Some(fault));

@@ -58,3 +58,23 @@ pub returns-clause-settled : goal.returns-clause-settled
 returns-clause-settled c closed clean =
     c.each_octet_run_settles.ensures (as_world c.args.self.now.net) c.args.self.now.sound c.args.self.now.peers closed
     (map as_happening (take (length c.args.list.now) c.args.list.now)) clean
+
+pub returns-in-Err-clause-falls_quiet : goal.returns-in-Err-clause-falls_quiet
+returns-in-Err-clause-falls_quiet c closed clean =
+    c.each_octet_run_falls_quiet.ensures (as_world c.args.self.now.net) c.args.self.now.sound c.args.self.now.peers closed
+    (map as_happening (take c.loop-count.count c.args.list.now)) clean
+
+pub returns-clause-falls_quiet : goal.returns-clause-falls_quiet
+returns-clause-falls_quiet c closed clean =
+    c.each_octet_run_falls_quiet.ensures (as_world c.args.self.now.net) c.args.self.now.sound c.args.self.now.peers closed
+    (map as_happening (take (length c.args.list.now) c.args.list.now)) clean
+
+pub returns-in-Err-clause-can_fall_quiet : goal.returns-in-Err-clause-can_fall_quiet
+returns-in-Err-clause-can_fall_quiet c closed clean =
+    c.each_octet_run_can_fall_quiet.ensures (as_world c.args.self.now.net) c.args.self.now.sound c.args.self.now.peers closed
+    (map as_happening (take c.loop-count.count c.args.list.now)) clean
+
+pub returns-clause-can_fall_quiet : goal.returns-clause-can_fall_quiet
+returns-clause-can_fall_quiet c closed clean =
+    c.each_octet_run_can_fall_quiet.ensures (as_world c.args.self.now.net) c.args.self.now.sound c.args.self.now.peers closed
+    (map as_happening (take (length c.args.list.now) c.args.list.now)) clean
