@@ -1,7 +1,8 @@
 -- What has happened to one peer, whatever the other side is: the events that it was told, the latest first, with what
 -- it did at each. A history begins with a new peer: `Peer::new` gives one with the configuration's first number, and
 -- `Peer::reset` leaves one with the number that comes next. A call of `Peer::on` that answers Ok makes the step that
--- its clause `acts` tells; one that answers Err leaves the peer as it was, as its clause `unchanged` tells.
+-- its clause `acts` tells; one that answers Err leaves the peer as it was, as its clause `unchanged` tells. The
+-- functions of src/calls.rt show it.
 use Rattle.std.specs.Prelude.{◌≡◌, ◌⊎◌, ℕ, Option, None, Some, List, [], ◌∷◌, ◌++◌}
 use Rattle.dm_peer.specs.declared.actions.Action.{Action}
 use Rattle.dm_peer.specs.declared.config.Config.{Config}

@@ -2,4 +2,5 @@
 //! Close is its last.
 #![tactic(auto)]
 
+pub mod calls;
 pub mod laws;
