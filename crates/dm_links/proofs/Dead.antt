@@ -1,18 +1,18 @@
 -- What two restarts leave of each link: it is cancelled with nothing under way, or both its ends are shut.
-use Rattle.std.proofs.Common.{◌≡◌, ℕ, zero, suc, ◌+◌, Bool, true, false, not, ◌&&◌, Some, List, [], ◌∷◌, map, slice_get, refl, sym, ap, subst, ◌∙◌, arith}
+use Rattle.std.proofs.Common.{◌≡◌, ℕ, zero, suc, ◌+◌, Bool, true, false, ◌&&◌, Some, List, [], ◌∷◌, map, slice_get, refl, sym, ap, subst, ◌∙◌, arith}
 use Rattle.std.specs.List.{list_all}
 use Rattle.std.proofs.lemmas.Bool.{and_parts, and_from}
 use Rattle.std.proofs.lemmas.Option.{slice_get-map}
-use Rattle.dm_links.specs.Links.{Side, A, B, opens, LinkPhase, Pending, Up, Cancelled, End, Mark, NoMark, Coming, Delivered, Direction, Link, view_of, by_side}
+use Rattle.dm_links.specs.Links.{Side, A, B, opens, LinkPhase, Pending, Up, Cancelled, End, Mark, NoMark, Coming, Delivered, Direction, Link, by_side}
 use Rattle.dm_links.specs.Peers.{Peers}
 use Rattle.dm_links.specs.Worlds.{World, change_at}
-use Rattle.dm_links.specs.Happens.{restarted, restart_links, own_view}
-use Rattle.dm_links.specs.Facts.{is_empty, is_up, is_shut, is_none, IsSound}
+use Rattle.dm_links.specs.Happens.{restarted, restart_links}
+use Rattle.dm_links.specs.Facts.{is_up, is_shut, IsSound}
 use Rattle.dm_links.specs.Quiet.{is_still}
+use Rattle.dm_links.specs.Bare.{is_bare}
 use Rattle.dm_links.specs.Draining.{under_way_on, under_way}
-use Rattle.dm_links.proofs.Checks.{is_when, conclusion}
 use Rattle.dm_links.proofs.Lists.{mapped_some, all_where}
-use Rattle.dm_links.proofs.Events.{standing_at}
+use Rattle.dm_links.proofs.Bare.{bare_at}
 
 -- cancelled with nothing under way, or with both its ends shut
 abbrev pub is_dead : {M : Type 0} → Link M → Bool
@@ -40,34 +40,22 @@ dead_at B Pending near far i j h = h refl
 dead_at B Cancelled near far i j h = h refl
 dead_at B Up near far i j h = refl
 
-still_from : {M : Type 0} (ms : List M) (n : ℕ) (k : Mark) → is_empty ms ≡ true → is_none k ≡ true →
+-- where nothing was put in nothing is under way
+still_from : {M : Type 0} (ms : List M) (n : ℕ) (k : Mark) →
+    is_bare (record { messages = ms; taken = n; mark = k }) ≡ true →
     is_still (record { messages = ms; taken = n; mark = k }) ≡ true
-still_from [] n NoMark e h = refl
-still_from [] n Coming e h = cc
-still_from [] n Delivered e h = cc
-still_from (x ∷ xs) n k e h = cc
+still_from [] n NoMark h = refl
+still_from [] n Coming h = cc
+still_from [] n Delivered h = cc
+still_from (x ∷ xs) n k h = cc
 
-by_ends : {M : Type 0} (mine : Bool) (l : Link M) → is_still (view_of mine l).incoming ≡ true →
-    is_still (view_of mine l).outgoing ≡ true → (is_still l.to_near && is_still l.to_far) ≡ true
-by_ends true l h k = and_from (is_still l.to_near) (is_still l.to_far) h k
-by_ends false l h k = and_from (is_still l.to_near) (is_still l.to_far) k h
-
-unless_up : (b : Bool) → b ≡ false → not b ≡ true
-unless_up b h = rw h refl
-
-blank_at : {P M : Type 0} (m : Peers P M) (w : World P M) → IsSound m w → (c : ℕ) (l : Link M) →
+still_at : {P M : Type 0} (m : Peers P M) (w : World P M) → IsSound m w → (c : ℕ) (l : Link M) →
     slice_get w.links c ≡ Some l → is_up l.phase ≡ false → (is_still l.to_near && is_still l.to_far) ≡ true
-blank_at m w good c l at down =
-    let mine = opens A l.opener in
-    let st = standing_at m A w c l in
-    let v = own_view A l in
-    let here = is_when (not (is_up st.phase)) _ (conclusion 7 mine st (good.each c l at))
-    (unless_up (is_up l.phase) down) in
-    let p = and_parts st.in_empty _ here in
-    let q = and_parts st.out_empty _ p.1 in
-    let r = and_parts (is_none st.in_mark) (is_none st.out_mark) q.1 in
-    by_ends mine l (still_from v.incoming.messages v.incoming.taken v.incoming.mark p.0 r.0)
-    (still_from v.outgoing.messages v.outgoing.taken v.outgoing.mark q.0 r.1)
+still_at m w good c l at down =
+    let p = and_parts (is_bare l.to_near) (is_bare l.to_far) (bare_at m w good c l at down) in
+    and_from (is_still l.to_near) (is_still l.to_far)
+    (still_from l.to_near.messages l.to_near.taken l.to_near.mark p.0)
+    (still_from l.to_far.messages l.to_far.taken l.to_far.mark p.1)
 
 pub dead_after : {P M : Type 0} (m : Peers P M) (w : World P M) → IsSound m w →
     are_dead (restart_links B (restart_links A w.links)) ≡ true
@@ -80,7 +68,7 @@ dead_after {P} {M} m w good =
     let old = mapped_some f (slice_get w.links c) later.0 (sym (slice_get-map f w.links c) ∙ later.1) in
     let x = old.0 in
     subst (λ y. is_dead y ≡ true) (sym (later.2 ∙ ap g old.2))
-    (dead_at x.opener x.phase x.near x.far x.to_near x.to_far (blank_at m w good c x old.1)))
+    (dead_at x.opener x.phase x.near x.far x.to_near x.to_far (still_at m w good c x old.1)))
 
 -- one link of a list is changed
 pub dead_changed : {M : Type 0} (links : List (Link M)) (c : ℕ) (l : Link M) (f : Link M → Link M) →

@@ -59,3 +59,4 @@ mod Dropping
 mod Clearing
 mod Draining
 mod Opening
+mod Bare

@@ -24,3 +24,4 @@ pub mod Delivery
 pub mod Recovering
 pub mod Draining
 pub mod Joining
+pub mod Bare

@@ -2,6 +2,7 @@
 //! laws. They stand for the users of this crate.
 //!
 //! `P` is the state of a peer and `M` a message: a world of peers over octets takes its own types for them.
+ghost use Rattle.dm_links.specs.Bare.{OnlyUpLinksCarry};
 ghost use Rattle.dm_links.specs.Counting.{EachPieceCounts};
 ghost use Rattle.dm_links.specs.Draining.{EachRestartedRunDrains};
 ghost use Rattle.dm_links.specs.Falling.{EachCleanRunCanFallQuiet, EachCleanRunFallsQuiet};
@@ -82,6 +83,11 @@ pub fn each_clean_run_falls_quiet<P, M, C, H>()
 /// and both are open on the connection that the election keeps.
 pub fn each_clean_run_can_fall_quiet<P, M, C, H>()
     ensures { EachCleanRunCanFallQuiet P M C H }
+{}
+
+/// In a sound world neither direction of a link that isn't up has a message or a disconnect.
+pub fn only_up_links_carry<P, M>()
+    ensures { OnlyUpLinksCarry P M }
 {}
 
 /// Where nothing is under way in a sound world, whatever happened before, each side holds just what the other holds,
