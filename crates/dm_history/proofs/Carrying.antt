@@ -1,5 +1,5 @@
 -- What is handed up was heard on the open connection, and what is sent is the node's own or submitted.
-use Rattle.std.proofs.Common.{◌≡◌, ◌⊎◌, inl, inr, ℕ, ◌==◌, Bool, true, false, not, ◌&&◌, Option, None, Some, List, [], ◌∷◌, ◌++◌, if◌then◌else◌, refl, sym, subst, ap, ◌∙◌}
+use Rattle.std.proofs.Common.{◌≡◌, ◌⊎◌, inl, inr, ℕ, Bool, true, false, not, ◌&&◌, Option, None, Some, List, [], ◌∷◌, ◌++◌, if◌then◌else◌, refl, sym, subst, ap, ◌∙◌}
 use Rattle.std.proofs.lemmas.Bool.{and_parts}
 use Rattle.dm_wire.specs.declared.message.Message.{Message}
 use Rattle.dm_wire.specs.Whole.{message_in}
@@ -13,7 +13,7 @@ use Rattle.dm_machine.specs.declared.outputs.Command.TheVariants as command
 use Rattle.dm_machine.specs.Node.{node_at}
 use Rattle.dm_machine.specs.Moves as moves
 use Rattle.dm_machine.specs.Moves.{outcome}
-use Rattle.dm_machine.specs.Connection.{Hold, OpenAsI, OpenAsR, hold_of, Concern, StartsIt, AcksIt, NacksIt, EndsIt, HeardOnIt, if_named, concern_of, SendsCea, SendsSubmit, orders_to, AtConnection}
+use Rattle.dm_machine.specs.Connection.{Hold, OpenAsI, OpenAsR, hold_of, concern_of, SendsCea, SendsSubmit, orders_to, AtConnection}
 use Rattle.dm_machine.specs.Openings.{has_order, OpensAcceptedWithCea}
 use Rattle.dm_machine.specs.Answering.{AnswersWhatIsHeard}
 use Rattle.dm_machine.specs.Upward.{is_open_hold, is_submitted, SubmitsWhereOpen, has_up, UpIsHeard, HandsUpWhereOpen, HandsUpEach, OpenOnOne}
@@ -28,7 +28,7 @@ use Rattle.dm_peer.specs.After.{standing_after}
 use Rattle.dm_peer.specs.Acts.{Moved, acts, input_of, outcome_of, standing_at, steps, is_unread, is_made, is_unawaited, heard}
 use Rattle.dm_peer.specs.Settled.{IsSettled}
 use Rattle.dm_history.specs.History.{Happened, IsAmong}
-use Rattle.dm_history.specs.Carrying.{StandsOpen, IsHandedUp, AreOwn, IsCarried, Carries, EachRunCarries}
+use Rattle.dm_history.specs.Carrying.{StandsOpen, IsHandedUp, AreOwn, IsPassedOn, IsCarried, Carries, EachRunCarries}
 use Rattle.dm_history.proofs.Among.{none_among, sourced}
 use Rattle.dm_history.proofs.Ordered.{ordered}
 use Rattle.dm_history.proofs.Words.{other_word, other_command}
@@ -37,6 +37,7 @@ use Rattle.dm_history.proofs.Lasting.{stays_configured}
 use Rattle.dm_history.proofs.Coming.{came_by}
 use Rattle.dm_history.proofs.Sending.{AnswersBase, up_command, own_sent}
 use Rattle.dm_history.proofs.Answering.{cea_answers_base, prompt_answers_base}
+use Rattle.dm_history.proofs.Submitting.{submitted_by, passed_on}
 use Rattle.dm_history.proofs.Stories.{StepLaws, IsTold}
 use Rattle.dm_history.proofs.Telling.{stays_told}
 
@@ -75,22 +76,6 @@ heard_by (Nack d) h c s i is = absurd (cc i)
 heard_by (Gone d) h c s i is = absurd (cc i)
 heard_by (Submit t) h c s i is = absurd (cc i)
 
-named_none : (b : Bool) (k : Concern) → is_submitted k ≡ false → is_submitted (if_named b k) ≡ true → ⊥
-named_none true k e f = cc (e, f)
-named_none false k e f = cc f
-
-submitted_by : (e : PeerEvent) (h : Option Heard) (c : Conn) (s : List ℕ) →
-    is_submitted (concern_of (input_of e h) c) ≡ true → octets_in e ≡ s → e ≡ Submit s
-submitted_by (Submit t) h c s k is = ap Submit is
-submitted_by (Arrived d t) h c s k is = absurd (named_none (d.0 == c.0) (HeardOnIt (word_heard h)) refl k)
-submitted_by (Start d) h c s k is = absurd (named_none (d.0 == c.0) StartsIt refl k)
-submitted_by (Ack d) h c s k is = absurd (named_none (d.0 == c.0) AcksIt refl k)
-submitted_by (Nack d) h c s k is = absurd (named_none (d.0 == c.0) NacksIt refl k)
-submitted_by (Gone d) h c s k is = absurd (named_none (d.0 == c.0) EndsIt refl k)
-submitted_by (Stop cause) h c s k is = absurd (cc k)
-submitted_by Timeout h c s k is = absurd (cc k)
-submitted_by Tick h c s k is = absurd (cc k)
-
 spelled_as : (t s : List ℕ) (m : Message) → t ≡ s → message_in t ≡ Some m → message_in s ≡ Some m
 spelled_as t s m same is = subst (λ (x : List ℕ). message_in x ≡ Some m) same is
 
@@ -112,24 +97,26 @@ handed_up law p was e actions next t s (earlier, later, stands) =
       conn = g.conn;
       came = here.0;
       opened = g.opened;
-      message = m.message;
-      spelled = spelled_as m.octets s m.message same m.spelled;
-      other = other_command p.config m.message m.word;
+      said = record {
+        message = m.message;
+        spelled = spelled_as m.octets s m.message same m.spelled;
+        other = other_command p.config m.message m.word;
+      };
     }
 
 sent_by : CarryLaws → (p : Peer) (past : List Happened) → IsTold p past → (e : PeerEvent) (actions : List Action)
-    (next : Peer) → IsTurn p e actions next → (c : Conn) (s : List ℕ) → IsAmong actions (Send c s) →
-    AreOwn p.config.node s ⊎ ((e ≡ Submit s) × StandsOpen p c)
-sent_by laws p past told e actions next t c s (earlier, later, stands) =
+    (next : Peer) → acts p e ≡ Moved actions next → IsTurn p e actions next → (c : Conn) (s : List ℕ) →
+    IsAmong actions (Send c s) → AreOwn p.config.node s ⊎ IsPassedOn p e c s
+sent_by laws p past told e actions next is t c s (earlier, later, stands) =
     let n = p.standing.core in
     let i = input_of e t.heard in
     let a = sourced (action_of p e t.heard) t.commands (Send c s) earlier later (sym t.acted ∙ stands) in
     let there : IsAmong t.commands a.command = (a.before, a.behind, a.stands) in
     let base : AnswersBase p t.heard c a.command = (
-      λ is. cea_answers_base laws.accepted laws.steps.caused laws.steps.closes p told.settled e t.heard t.commands
-          t.core t.moves t.read c past (told.story c) (ordered SendsCea c t.commands a.command there is),
-      λ o is prompt. prompt_answers_base laws.answers p told.settled e t.heard t.commands t.core t.moves t.read c o
-          prompt (ordered o c t.commands a.command there is),
+      λ there_is. cea_answers_base laws.accepted laws.steps.caused laws.steps.closes p told.settled e t.heard t.commands
+          t.core t.moves t.read c past (told.story c) (ordered SendsCea c t.commands a.command there there_is),
+      λ o there_is prompt. prompt_answers_base laws.answers p told.settled e t.heard t.commands t.core t.moves t.read c o
+          prompt (ordered o c t.commands a.command there there_is),
     ) in
     elim (own_sent p e t.heard c s a.command a.gives base) [
       | inl own ↦ inl own
@@ -141,20 +128,21 @@ sent_by laws p past told e actions next t c s (earlier, later, stands) =
           (laws.submits n i (wins p.config) c told.settled.shaped) in
           let both = and_parts (is_submitted (concern_of i c)) (is_open_hold (hold_of n c))
           (sym law ∙ ordered SendsSubmit c t.commands a.command there x.1) in
-          inr (submitted_by e t.heard c s both.0 x.0, both.1)
+          inr (passed_on p e actions next is c s (submitted_by e t.heard c s both.0 x.0) both.1)
     ]
 
 carried : CarryLaws → (p : Peer) (past : List Happened) → IsTold p past → (e : PeerEvent) (actions : List Action)
-    (next : Peer) → Turns p e (Moved actions next) → IsCarried p.config.node p e actions
-carried laws p past told e actions next (inr d) =
+    (next : Peer) → acts p e ≡ Moved actions next → Turns p e (Moved actions next) →
+    IsCarried p.config.node p e actions
+carried laws p past told e actions next is (inr d) =
     record {
       up = λ s a. absurd (none_among (Up s) (subst (λ (l : List Action). IsAmong l (Up s)) d.none a));
       sent = λ c s a. absurd (none_among (Send c s) (subst (λ (l : List Action). IsAmong l (Send c s)) d.none a));
     }
-carried laws p past told e actions next (inl t) =
+carried laws p past told e actions next is (inl t) =
     record {
       up = handed_up laws.up p told.settled e actions next t;
-      sent = sent_by laws p past told e actions next t;
+      sent = sent_by laws p past told e actions next is t;
     }
 
 -- each message of another command goes up
@@ -196,7 +184,7 @@ carries laws config next past p lived =
     let told = stays_told laws.steps config next past p lived in
     subst (λ k. Carries k.node p) (stays_configured config next past p lived)
     (record {
-      only = λ e actions after is. carried laws p past told e actions after (turns p e actions after is);
+      only = λ e actions after is. carried laws p past told e actions after is (turns p e actions after is);
       each = each_up laws.each p told.settled;
       one = λ c d e f. laws.one p.standing.core c d told.settled.shaped e f;
     })

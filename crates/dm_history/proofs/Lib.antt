@@ -9,6 +9,7 @@ mod Coming
 mod Stories
 mod Ending
 mod Sending
+mod Submitting
 mod Answering
 mod Telling
 mod Carrying

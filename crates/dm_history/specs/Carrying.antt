@@ -40,22 +40,29 @@ pub record AreOwn (n : Node) (s : List ℕ) : Type 0 where
   pub base : is_base_command message.header.command ≡ true
   pub spelled : s ≡ octets_of message
 
--- the octets that are handed up came just then, on the connection on which the peer is open, and spell a message of
--- another command
-pub record IsHandedUp (p : Peer) (e : PeerEvent) (s : List ℕ) : Type 0 where
-  pub conn : Conn
-  pub came : e ≡ Arrived conn s
-  pub opened : StandsOpen p conn
+-- the octets spell a message of another command
+pub record SpellOther (s : List ℕ) : Type 0 where
   pub message : Message
   pub spelled : message_in s ≡ Some message
   pub other : is_base_command message.header.command ≡ false
 
--- all octets that are handed up are so, and all that are sent are the node's own or were submitted just then, and go on
--- that connection
+-- the octets that are handed up came just then, on the connection on which the peer is open
+pub record IsHandedUp (p : Peer) (e : PeerEvent) (s : List ℕ) : Type 0 where
+  pub conn : Conn
+  pub came : e ≡ Arrived conn s
+  pub opened : StandsOpen p conn
+  pub said : SpellOther s
+
+-- the octets that are sent on the connection, on which the peer is open, were submitted just then
+pub record IsPassedOn (p : Peer) (e : PeerEvent) (c : Conn) (s : List ℕ) : Type 0 where
+  pub submitted : e ≡ Submit s
+  pub opened : StandsOpen p c
+  pub said : SpellOther s
+
+-- all octets that are handed up are so, and all that are sent are the node's own or passed on
 pub record IsCarried (n : Node) (p : Peer) (e : PeerEvent) (actions : List Action) : Type 0 where
   pub up : (s : List ℕ) → IsAmong actions (Up s) → IsHandedUp p e s
-  pub sent : (c : Conn) (s : List ℕ) → IsAmong actions (Send c s) →
-      AreOwn n s ⊎ ((e ≡ Submit s) × StandsOpen p c)
+  pub sent : (c : Conn) (s : List ℕ) → IsAmong actions (Send c s) → AreOwn n s ⊎ IsPassedOn p e c s
 
 pub record Carries (n : Node) (p : Peer) : Type 0 where
   pub only : (e : PeerEvent) (actions : List Action) (next : Peer) → acts p e ≡ Moved actions next →

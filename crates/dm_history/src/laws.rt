@@ -24,8 +24,8 @@ pub fn each_opening_was_asked()
 }
 
 /// What a peer hands up came just then on the one connection on which it is open, where each message of another command
-/// than 257, 280 and 282 is handed up; what it sends is its own base message, or was submitted just then and goes on
-/// that connection.
+/// than 257, 280 and 282 is handed up, and no other; what it sends is its own base message, or one of another command
+/// that was submitted just then and goes on that connection.
 pub fn each_run_carries()
     ensures { EachRunCarries }
 {
