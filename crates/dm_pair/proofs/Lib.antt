@@ -12,3 +12,12 @@ mod Recovering
 mod Joining
 mod Returning
 mod Declining
+mod Bases
+mod Silent
+mod Answering
+mod Submitting
+mod Wording
+mod Walking
+mod Others
+mod Raising
+mod Carrying

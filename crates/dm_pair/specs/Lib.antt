@@ -3,3 +3,4 @@ pub mod Talking
 pub mod Laws
 pub mod Frames
 pub mod Recovering
+pub mod Carrying

@@ -3,16 +3,19 @@
 ghost use Rattle.dm_links.specs.Follows.{IsMachine};
 ghost use Rattle.dm_pair.specs.Laws.{OctetsAreElecting, FreshArePeers, HappeningKeepsPeers, OctetsAreSized, EachOctetRunSettles, EachOctetRunFallsQuiet, EachOctetRunCanFallQuiet};
 ghost use Rattle.dm_pair.specs.Recovering.{EachOctetWorldCanOpen, EachOctetRunCanOpen, OctetQuietIsJoined, EachOctetQuietRunIsJoined};
+ghost use Rattle.dm_pair.specs.Carrying.{OctetsCarry, EachOctetRunDelivers};
 ghost use Rattle.dm_pair.specs.Frames.{OctetsAreFrames};
 ghost use Rattle.dm_pair.specs.Octets.{octet_peers};
 
 use dm_base::laws::{built_is_spelled, common_is_shared};
 use dm_links::laws::{
     closed_is_sound, each_clean_run_can_fall_quiet, each_clean_run_falls_quiet,
-    each_clean_run_settles, each_happening_keeps_sound, each_world_can_open, quiet_is_joined,
-    winner_does_not_return,
+    each_clean_run_settles, each_happening_keeps_sound, each_run_delivers, each_world_can_open,
+    quiet_is_joined, winner_does_not_return,
 };
-use dm_machine::laws::{each_node_has_its_form, each_step_keeps_shape};
+use dm_machine::laws::{
+    each_connection_changes_as_allowed, each_node_has_its_form, each_step_keeps_shape,
+};
 use dm_peer::laws::{each_event_is_one_step, sent_is_good};
 use dm_peer::{Config, Peer};
 use dm_wire::laws::{message_in_spells, spelled_is_framed};
@@ -131,4 +134,25 @@ pub fn each_octet_quiet_run_is_joined()
     each_happening_keeps_peers();
     octet_quiet_is_joined();
     octets_are_a_machine();
+}
+
+/// Peers over octets carry messages of applications: what is submitted in an open state is sent as it is, no other
+/// event sends such a message, and one that comes on the open connection is handed up as it is, and nothing else is.
+pub fn octets_carry()
+    ensures { OctetsCarry }
+{
+    each_connection_changes_as_allowed();
+    each_node_has_its_form();
+}
+
+/// After every list of happenings of two new peers, losses and restarts too and whatever their configurations, what a
+/// side's user was handed up on a link is a front of what the other side's user submitted on it: each message once, in
+/// order, octet for octet, and nothing else. Where the side is open on the link and the link had no loss, the rest is
+/// what is under way.
+pub fn each_octet_run_delivers()
+    ensures { EachOctetRunDelivers }
+{
+    each_run_delivers::<Peer, Octets>();
+    octets_are_a_machine();
+    octets_carry();
 }

@@ -1,0 +1,264 @@
+-- No event but a Submit sends a message of an application, none but an arrival hands one up, and a peer keeps waiting
+-- well.
+use Rattle.std.proofs.Common.{◌≡◌, ℕ, Bool, true, false, not, ◌||◌, nat_eq, Option, None, Some, List, [], ◌∷◌, if◌then◌else◌, ◌⊎◌, inl, inr, refl, sym, ap, subst}
+use Rattle.std.specs.Prelude.{⊤}
+use Rattle.std.specs.List.{list_all}
+use Rattle.std.proofs.lemmas.Bool.{and_parts, and_from}
+use Rattle.dm_wire.specs.declared.message.Header.{Header}
+use Rattle.dm_wire.specs.declared.message.Message.{Message}
+use Rattle.dm_dict.specs.Faults.{Fault}
+use Rattle.dm_base.specs.declared.node.Node as base
+use Rattle.dm_base.specs.Codes.{capabilities_exchange}
+use Rattle.dm_base.specs.Built.{built_cer, built_dwr, built_dpr, built_cea, built_answer, built_error}
+use Rattle.dm_base.specs.Kinds.{is_base_command}
+use Rattle.dm_machine.specs.declared.outputs.Command.{Command}
+use Rattle.dm_machine.specs.declared.outputs.Command.TheVariants as command
+use Rattle.dm_machine.specs.Forms.{Form}
+use Rattle.dm_machine.specs.Moves as moves
+use Rattle.dm_machine.specs.Moves.{outcome}
+use Rattle.dm_peer.specs.declared.actions.Action as declared_action
+use Rattle.dm_peer.specs.declared.peer.Peer.{Peer}
+use Rattle.dm_peer.specs.Events as told
+use Rattle.dm_peer.specs.Events.{cause_in}
+use Rattle.dm_peer.specs.Configs.{wins}
+use Rattle.dm_peer.specs.Octets.{octets_of}
+use Rattle.dm_peer.specs.Said.{Heard}
+use Rattle.dm_peer.specs.Sent.{header_of, fault_in, cer_to_answer, is_protocol_error, refusal, action_of, actions_of}
+use Rattle.dm_peer.specs.After.{holds_cer, header_heard}
+use Rattle.dm_peer.specs.Acts.{Outcome, Moved, Refused, turned, input_of, outcome_of, steps, acts}
+use Rattle.dm_links.specs.Delivery.{ups_of, sends_all}
+use Rattle.dm_pair.specs.Octets.{as_actions}
+use Rattle.dm_pair.specs.Carrying.{is_app, waits_well, is_waiting_well}
+use Rattle.dm_pair.proofs.Plain.{is_plain, are_plain, is_submit_input, IsPlain, outcome_plain}
+use Rattle.dm_pair.proofs.Replying.{turned_is}
+use Rattle.dm_pair.proofs.Bases.{base_sent}
+use Rattle.dm_pair.proofs.Silent.{has_up, is_silent}
+use Rattle.dm_pair.proofs.Answering.{answers_none, asks_none}
+use Rattle.dm_pair.proofs.Wording.{is_heard_input, calm_message, silent_step, asks_none_step}
+use Rattle.dm_pair.proofs.Walking.{MayHear, is_base_heard, hears_base, walked}
+
+abbrev no_app : List ℕ → Bool
+no_app s = not (is_app s)
+
+built_no_app : (m : Message) → is_base_command m.header.command ≡ true → no_app (octets_of m) ≡ true
+built_no_app m h = ap (λ b. not b) (base_sent m h)
+
+header_is_base : (h : Option Heard) → is_base_heard h ≡ true → is_base_command (header_of h).command ≡ true
+header_is_base None e = cc
+header_is_base (Some h) e = e
+
+cea_base : (waits : Bool) (waiting : Option Header) (h : Option Heard) → waits_well waits waiting ≡ true →
+    (is_base_heard h ≡ true) ⊎ (waits ≡ true) → is_base_command (cer_to_answer waiting h).command ≡ true
+cea_base true (Some w) h e either = e
+cea_base true None h e either = cc
+cea_base false (Some w) h e either = cc
+cea_base false None h e (inl is) = header_is_base h is
+cea_base false None h e (inr is) = cc
+
+refusal_no_app : (n : base.Node) (to : Header) (f : Fault) → is_base_command to.command ≡ true →
+    no_app (octets_of (refusal n to f)) ≡ true
+refusal_no_app n to f e = by (is_protocol_error f.code) (nat_eq to.command capabilities_exchange)
+  where
+    by : (protocol exchange : Bool) →
+        no_app
+        (octets_of
+        (if protocol then built_error n to f.code
+        else (if exchange then built_cea n to f.code f.failed else built_answer n to f.code f.failed))) ≡ true
+    by true exchange = built_no_app (built_error n to f.code) e
+    by false true = built_no_app (built_cea n to f.code f.failed) e
+    by false false = built_no_app (built_answer n to f.code f.failed) e
+
+abbrev NoApps : List declared_action.Action → Type 0
+NoApps l = sends_all no_app (as_actions l) ≡ true
+
+module _ (p : Peer) (e : told.PeerEvent) (h : Option Heard) (well : is_waiting_well p ≡ true) where
+  abbrev waits : Bool
+  waits = holds_cer p.standing.core.state
+
+  heard_base : (is_base_heard h ≡ true) ⊎ (false ≡ true) → is_base_command (header_of h).command ≡ true
+  heard_base (inl is) = header_is_base h is
+  heard_base (inr is) = cc
+
+  one_sent : (c : Command) (more : List declared_action.Action) → is_plain c ≡ true →
+      (is_base_heard h ≡ true) ⊎ (answers_none waits c ≡ true) → NoApps more → NoApps (action_of p e h c ∷ more)
+  one_sent (command.Connect c) more plain either rest = rest
+  one_sent (command.Close c) more plain either rest = rest
+  one_sent command.Up more plain either rest = rest
+  one_sent (command.SendSubmit c) more plain either rest = cc
+  one_sent (command.SendCer c) more plain either rest =
+      and_from _ (sends_all no_app (as_actions more))
+      (built_no_app (built_cer p.config.node p.standing.next) refl) rest
+  one_sent (command.SendDwr c) more plain either rest =
+      and_from _ (sends_all no_app (as_actions more))
+      (built_no_app (built_dwr p.config.node p.standing.next) refl) rest
+  one_sent (command.SendDpr c) more plain either rest =
+      and_from _ (sends_all no_app (as_actions more))
+      (built_no_app (built_dpr p.config.node p.standing.next (cause_in e)) refl) rest
+  one_sent (command.SendCea c) more plain either rest =
+      and_from _ (sends_all no_app (as_actions more))
+      (built_no_app (built_cea p.config.node (cer_to_answer p.standing.waiting h) 2001 None)
+      (cea_base waits p.standing.waiting h well either)) rest
+  one_sent (command.SendRefusal c) more plain either rest =
+      and_from _ (sends_all no_app (as_actions more))
+      (refusal_no_app p.config.node (header_of h) (fault_in h) (heard_base either)) rest
+  one_sent (command.SendDwa c) more plain either rest =
+      and_from _ (sends_all no_app (as_actions more))
+      (built_no_app (built_answer p.config.node (header_of h) 2001 None) (heard_base either)) rest
+  one_sent (command.SendDpa c) more plain either rest =
+      and_from _ (sends_all no_app (as_actions more))
+      (built_no_app (built_answer p.config.node (header_of h) 2001 None) (heard_base either)) rest
+
+  all_sent : (commands : List Command) → are_plain commands ≡ true →
+      (is_base_heard h ≡ true) ⊎ (list_all (answers_none waits) commands ≡ true) → NoApps (actions_of p e h commands)
+  all_sent [] plain either = refl
+  all_sent (c ∷ commands) plain (inl is) =
+      let parts = and_parts (is_plain c) (are_plain commands) plain in
+      one_sent c (actions_of p e h commands) parts.0 (inl is) (all_sent commands parts.1 (inl is))
+  all_sent (c ∷ commands) plain (inr none) =
+      let parts = and_parts (is_plain c) (are_plain commands) plain in
+      let answers = and_parts (answers_none waits c) (list_all (answers_none waits) commands) none in
+      one_sent c (actions_of p e h commands) parts.0 (inr answers.0) (all_sent commands parts.1 (inr answers.1))
+
+waits_after : (next before : Bool) (old : Option Header) (h : Option Heard) → waits_well before old ≡ true →
+    (is_base_heard h ≡ true) ⊎ ((not next || before) ≡ true) →
+    waits_well next (if next then (if before then old else header_heard h) else None) ≡ true
+waits_after false before old h was either = refl
+waits_after true true old h was either = was
+waits_after true false old None was (inl is) = cc
+waits_after true false old (Some x) was (inl is) = is
+waits_after true false old h was (inr is) = cc
+
+-- a step
+abbrev pub SendsNone : Outcome → Type 0
+SendsNone (Moved actions next) = NoApps actions
+SendsNone (Refused f) = ⊤
+
+abbrev pub WaitsWell : Outcome → Type 0
+WaitsWell (Moved actions next) = is_waiting_well next ≡ true
+WaitsWell (Refused f) = ⊤
+
+asks_at : (p : Peer) (e : told.PeerEvent) (h : Option Heard) → Form p.standing.core → MayHear p h →
+    (is_base_heard h ≡ true) ⊎ (asks_none p.standing.core
+    (turned p.standing.core (input_of e h) (wins p.config)) ≡ true)
+asks_at p e h form may =
+    let n = p.standing.core in
+    let i = input_of e h in
+    elim (hears_base p e h may) [
+      | inl is ↦ inl is
+      | inr is ↦ inr (subst (λ o. asks_none n o ≡ true) (sym (turned_is n i (wins p.config)))
+          (asks_none_step n form i (wins p.config) is))
+    ]
+
+step_sends : (p : Peer) (e : told.PeerEvent) (h : Option Heard) → Form p.standing.core → is_waiting_well p ≡ true →
+    MayHear p h → is_submit_input (input_of e h) ≡ false → SendsNone (steps p e h)
+step_sends p e h form well may other =
+    let n = p.standing.core in
+    let i = input_of e h in
+    by_outcome (turned n i (wins p.config))
+    (subst IsPlain (sym (turned_is n i (wins p.config))) (outcome_plain n i (wins p.config) other))
+    (asks_at p e h form may)
+  where
+    by_outcome : (o : moves.Outcome) → IsPlain o →
+        (is_base_heard h ≡ true) ⊎ (asks_none p.standing.core o ≡ true) → SendsNone (outcome_of p e h o)
+    by_outcome (moves.Moved commands core) plain (inl is) = all_sent p e h well commands plain (inl is)
+    by_outcome (moves.Moved commands core) plain (inr is) =
+        all_sent p e h well commands plain
+        (inr (and_parts (list_all (answers_none (holds_cer p.standing.core.state)) commands)
+        (not (holds_cer core.state) || holds_cer p.standing.core.state) is).0)
+    by_outcome (moves.Refused r) plain either = tt
+
+step_waits : (p : Peer) (e : told.PeerEvent) (h : Option Heard) → Form p.standing.core → is_waiting_well p ≡ true →
+    MayHear p h → WaitsWell (steps p e h)
+step_waits p e h form well may =
+    by_outcome (turned p.standing.core (input_of e h) (wins p.config)) (asks_at p e h form may)
+  where
+    by_outcome : (o : moves.Outcome) → (is_base_heard h ≡ true) ⊎ (asks_none p.standing.core o ≡ true) →
+        WaitsWell (outcome_of p e h o)
+    by_outcome (moves.Moved commands core) (inl is) =
+        waits_after (holds_cer core.state) (holds_cer p.standing.core.state) p.standing.waiting h well (inl is)
+    by_outcome (moves.Moved commands core) (inr is) =
+        waits_after (holds_cer core.state) (holds_cer p.standing.core.state) p.standing.waiting h well
+        (inr (and_parts (list_all (answers_none (holds_cer p.standing.core.state)) commands)
+        (not (holds_cer core.state) || holds_cer p.standing.core.state) is).1)
+    by_outcome (moves.Refused r) either = tt
+
+abbrev pub is_submit_event : told.PeerEvent → Bool
+is_submit_event (told.Submit s) = true
+is_submit_event _ = false
+
+no_submit : (e : told.PeerEvent) (h : Option Heard) → is_submit_event e ≡ false → is_submit_input (input_of e h) ≡ false
+no_submit (told.Submit s) h other = cc
+no_submit (told.Start c) h other = refl
+no_submit (told.Stop cause) h other = refl
+no_submit told.Timeout h other = refl
+no_submit told.Tick h other = refl
+no_submit (told.Ack c) h other = refl
+no_submit (told.Nack c) h other = refl
+no_submit (told.Arrived c s) h other = refl
+no_submit (told.Gone c) h other = refl
+
+pub acts_send_none : (p : Peer) (e : told.PeerEvent) → Form p.standing.core → is_waiting_well p ≡ true →
+    is_submit_event e ≡ false → SendsNone (acts p e)
+acts_send_none p e form well other =
+    walked p SendsNone (λ f. tt) refl e (λ h may. step_sends p e h form well may (no_submit e h other))
+
+pub acts_wait_well : (p : Peer) (e : told.PeerEvent) → Form p.standing.core → is_waiting_well p ≡ true →
+    WaitsWell (acts p e)
+acts_wait_well p e form well = walked p WaitsWell (λ f. tt) well e (λ h may. step_waits p e h form well may)
+
+-- what is handed up
+pub ups_none : (p : Peer) (e : told.PeerEvent) (h : Option Heard) (commands : List Command) →
+    has_up commands ≡ false → ups_of (as_actions (actions_of p e h commands)) ≡ []
+ups_none p e h [] none = refl
+ups_none p e h (command.Up ∷ more) none = cc
+ups_none p e h (command.Connect c ∷ more) none = ups_none p e h more none
+ups_none p e h (command.SendCer c ∷ more) none = ups_none p e h more none
+ups_none p e h (command.SendCea c ∷ more) none = ups_none p e h more none
+ups_none p e h (command.SendRefusal c ∷ more) none = ups_none p e h more none
+ups_none p e h (command.SendDwr c ∷ more) none = ups_none p e h more none
+ups_none p e h (command.SendDwa c ∷ more) none = ups_none p e h more none
+ups_none p e h (command.SendDpr c ∷ more) none = ups_none p e h more none
+ups_none p e h (command.SendDpa c ∷ more) none = ups_none p e h more none
+ups_none p e h (command.SendSubmit c ∷ more) none = ups_none p e h more none
+ups_none p e h (command.Close c ∷ more) none = ups_none p e h more none
+
+pub not_up : (b : Bool) → not b ≡ true → b ≡ false
+not_up true h = cc
+not_up false h = refl
+
+abbrev pub RaisesNone : Outcome → Type 0
+RaisesNone (Moved actions next) = ups_of (as_actions actions) ≡ []
+RaisesNone (Refused f) = ⊤
+
+abbrev pub is_arrival : told.PeerEvent → Bool
+is_arrival (told.Arrived c s) = true
+is_arrival _ = false
+
+no_word : (e : told.PeerEvent) (h : Option Heard) → is_arrival e ≡ false → is_heard_input (input_of e h) ≡ false
+no_word (told.Arrived c s) h other = cc
+no_word (told.Submit s) h other = refl
+no_word (told.Start c) h other = refl
+no_word (told.Stop cause) h other = refl
+no_word told.Timeout h other = refl
+no_word told.Tick h other = refl
+no_word (told.Ack c) h other = refl
+no_word (told.Nack c) h other = refl
+no_word (told.Gone c) h other = refl
+
+step_raises : (p : Peer) (e : told.PeerEvent) (h : Option Heard) → Form p.standing.core →
+    is_heard_input (input_of e h) ≡ false → RaisesNone (steps p e h)
+step_raises p e h form calm =
+    let n = p.standing.core in
+    let i = input_of e h in
+    by_outcome (turned n i (wins p.config))
+    (subst (λ o. is_silent o ≡ true) (sym (turned_is n i (wins p.config)))
+    (silent_step n form i (wins p.config) (calm_message n i calm)))
+  where
+    by_outcome : (o : moves.Outcome) → is_silent o ≡ true → RaisesNone (outcome_of p e h o)
+    by_outcome (moves.Moved commands core) silent = ups_none p e h commands (not_up (has_up commands) silent)
+    by_outcome (moves.Refused r) silent = tt
+
+pub acts_raise_none : (p : Peer) (e : told.PeerEvent) → Form p.standing.core → is_arrival e ≡ false →
+    RaisesNone (acts p e)
+acts_raise_none p e form calm =
+    walked p RaisesNone (λ f. tt) refl e (λ h may. step_raises p e h form (no_word e h calm))

@@ -1,0 +1,280 @@
+-- A message of an application is handed up where it comes on the connection on which the peer is open, and no other is.
+use Rattle.std.proofs.Common.{nat_eq, ◌≡◌, ℕ, ◌==◌, Bool, true, false, not, ◌&&◌, Option, None, Some, List, [], ◌∷◌, if◌then◌else◌, refl, sym, ap, subst, ◌∙◌, arith}
+use Rattle.std.specs.Prelude.{⊤, Contains}
+use Rattle.std.specs.List.{list_all}
+use Rattle.std.specs.Option.{option_eq}
+use Rattle.std.proofs.lemmas.Bool.Decides.{nat_tests}
+use Rattle.std.proofs.lemmas.List.Elements.{All-contains}
+use Rattle.std.proofs.lemmas.List.Sums.{AllPass-from_list_all}
+use Rattle.dm_wire.specs.declared.message.Message.{Message}
+use Rattle.dm_wire.specs.Whole.{message_in}
+use Rattle.dm_base.specs.Kinds.{is_base_command}
+use Rattle.dm_machine.specs.declared.connection.Conn.{Conn}
+use Rattle.dm_machine.specs.declared.phase.Role.TheVariants.{Initiated, Accepted}
+use Rattle.dm_machine.specs.declared.inputs.Input.TheVariants as input
+use Rattle.dm_machine.specs.declared.inputs.Word.{Word}
+use Rattle.dm_machine.specs.declared.inputs.Word.TheVariants.{Unreadable, Other}
+use Rattle.dm_machine.specs.declared.outputs.Command.{Command}
+use Rattle.dm_machine.specs.declared.state_name.State.{State}
+use Rattle.dm_machine.specs.Node.{Node, is_shaped}
+use Rattle.dm_machine.specs.Forms.{Form, closed, wait_conn_ack, wait_i_cea, wait_conn_ack_elect, wait_returns, r_open, i_open, closing}
+use Rattle.dm_machine.specs.Connection.{Hold, hold_of, orders_to, AtConnection}
+use Rattle.dm_machine.specs.Connection as hold
+use Rattle.dm_machine.specs.Changes.{Change, change, allowed, at_word, EachConnectionChangesAsAllowed}
+use Rattle.dm_machine.specs.Moves as moves
+use Rattle.dm_machine.specs.Moves.{outcome}
+use Rattle.dm_machine.specs.Reading.{place_of}
+use Rattle.dm_peer.specs.declared.peer.Peer.{Peer}
+use Rattle.dm_peer.specs.Events as told
+use Rattle.dm_peer.specs.Configs.{wins}
+use Rattle.dm_peer.specs.Said.{Heard, heard_in, word_heard}
+use Rattle.dm_peer.specs.After.{awaited_of}
+use Rattle.dm_peer.specs.Acts.{Outcome, Moved, Refused, turned, input_of, outcome_of, steps, is_made, is_unread, is_dropped, heard, can_submit, acts}
+use Rattle.dm_links.specs.Machine.{conn}
+use Rattle.dm_links.specs.Delivery.{is_open_hold, is_done_hold, is_unmade, ups_of, IsRaised}
+use Rattle.dm_pair.specs.Octets.{as_actions}
+use Rattle.dm_pair.specs.Carrying.{is_app}
+use Rattle.dm_pair.proofs.Replying.{turned_is}
+use Rattle.dm_pair.proofs.Bases.{is_other, other_heard, base_heard}
+use Rattle.dm_pair.proofs.Silent.{has_up, is_silent}
+use Rattle.dm_pair.proofs.Wording.{word_message, silent_step}
+use Rattle.dm_pair.proofs.Submitting.{hears_open}
+use Rattle.dm_pair.proofs.Others.{ups_none, not_up}
+
+-- such a message, or one that isn't looked at, ends what is made and not open
+abbrev ends_word : Word → Bool
+ends_word Unreadable = true
+ends_word Other = true
+ends_word _ = false
+
+abbrev is_done_after : Change → Bool
+is_done_after x = is_done_hold x.next
+
+done_listed : (w : Word) (h : Hold) → ends_word w ≡ true → is_open_hold h ≡ false → is_unmade h ≡ false →
+    list_all is_done_after (at_word h w) ≡ true
+done_listed Unreadable hold.NotHeld e o u = refl
+done_listed Unreadable hold.Pending e o u = cc
+done_listed Unreadable hold.Made e o u = refl
+done_listed Unreadable hold.OpenAsI e o u = cc
+done_listed Unreadable hold.ClosingAsI e o u = refl
+done_listed Unreadable hold.Taken e o u = refl
+done_listed Unreadable hold.OpenAsR e o u = cc
+done_listed Unreadable hold.ClosingAsR e o u = refl
+done_listed Other hold.NotHeld e o u = refl
+done_listed Other hold.Pending e o u = cc
+done_listed Other hold.Made e o u = refl
+done_listed Other hold.OpenAsI e o u = cc
+done_listed Other hold.ClosingAsI e o u = refl
+done_listed Other hold.Taken e o u = refl
+done_listed Other hold.OpenAsR e o u = cc
+done_listed Other hold.ClosingAsR e o u = refl
+done_listed _ h e o u = cc
+
+self_named : (c : ℕ) → (c == c) ≡ true
+self_named c = grind (arith, nat_tests)
+
+word_concern : (c : ℕ) (w : Word) → hold.concern_of (input.Heard (conn c) w) (conn c) ≡ hold.HeardOnIt w
+word_concern c w = ap (λ b. hold.if_named b (hold.HeardOnIt w)) (self_named c)
+
+done_after : EachConnectionChangesAsAllowed → (n next : Node) (c : ℕ) (w : Word) (wins : Bool)
+    (commands : List Command) → is_shaped n ≡ true →
+    outcome n (input.Heard (conn c) w) wins ≡ moves.Moved commands next → ends_word w ≡ true →
+    is_open_hold (hold_of n (conn c)) ≡ false → is_unmade (hold_of n (conn c)) ≡ false →
+    is_done_hold (hold_of next (conn c)) ≡ true
+done_after changes n next c w wins commands shaped is ends opened unmade =
+    let before = hold_of n (conn c) in
+    let x = change (hold_of next (conn c)) (orders_to (conn c) commands) in
+    let raw : Contains (allowed (hold.concern_of (input.Heard (conn c) w) (conn c)) before) x =
+    subst (λ (o : moves.Outcome). AtConnection (λ j b a os. Contains (allowed j b) (change a os)) n
+    (input.Heard (conn c) w) (conn c) o) is (changes n (input.Heard (conn c) w) wins (conn c) shaped) in
+    let there : Contains (at_word before w) x = subst (λ k. Contains (allowed k before) x) (word_concern c w) raw in
+    All-contains (λ y. is_done_after y ≡ true) (at_word before w) x
+    (AllPass-from_list_all is_done_after (at_word before w) (done_listed w before ends opened unmade)) there
+
+-- a message of an application elsewhere hands nothing up
+closed_silent : (n : Node) → Form n → (c : Conn) (w : Bool) → is_open_hold (hold_of n c) ≡ false →
+    is_silent (outcome n (input.Heard c Other) w) ≡ true
+closed_silent n closed c w h = silent_step n closed (input.Heard c Other) w refl
+closed_silent n (wait_conn_ack i) c w h = silent_at (i.0 == c.0) refl
+  where
+    silent_at : (b : Bool) → (i.0 == c.0) ≡ b → is_silent (outcome n (input.Heard c Other) w) ≡ true
+    silent_at true e = silent_step n (wait_conn_ack i) (input.Heard c Other) w (rw e refl)
+    silent_at false e = silent_step n (wait_conn_ack i) (input.Heard c Other) w (rw e refl)
+closed_silent n (wait_i_cea i) c w h = silent_at (i.0 == c.0) refl
+  where
+    silent_at : (b : Bool) → (i.0 == c.0) ≡ b → is_silent (outcome n (input.Heard c Other) w) ≡ true
+    silent_at true e = silent_step n (wait_i_cea i) (input.Heard c Other) w (rw e refl)
+    silent_at false e = silent_step n (wait_i_cea i) (input.Heard c Other) w (rw e refl)
+closed_silent n (wait_conn_ack_elect i r apart) c w h = silent_at (i.0 == c.0) (r.0 == c.0) refl refl
+  where
+    silent_at : (b d : Bool) → (i.0 == c.0) ≡ b → (r.0 == c.0) ≡ d →
+        is_silent (outcome n (input.Heard c Other) w) ≡ true
+    silent_at true d e f = silent_step n (wait_conn_ack_elect i r apart) (input.Heard c Other) w (rw e refl)
+    silent_at false true e f = silent_step n (wait_conn_ack_elect i r apart) (input.Heard c Other) w (rw (e, f) refl)
+    silent_at false false e f = silent_step n (wait_conn_ack_elect i r apart) (input.Heard c Other) w (rw (e, f) refl)
+closed_silent n (wait_returns i r apart) c w h = silent_at (i.0 == c.0) (r.0 == c.0) refl refl
+  where
+    silent_at : (b d : Bool) → (i.0 == c.0) ≡ b → (r.0 == c.0) ≡ d →
+        is_silent (outcome n (input.Heard c Other) w) ≡ true
+    silent_at true d e f = silent_step n (wait_returns i r apart) (input.Heard c Other) w (rw e refl)
+    silent_at false true e f = silent_step n (wait_returns i r apart) (input.Heard c Other) w (rw (e, f) refl)
+    silent_at false false e f = silent_step n (wait_returns i r apart) (input.Heard c Other) w (rw (e, f) refl)
+closed_silent n (r_open r k few) c w h = silent_at (r.0 == c.0) refl h
+  where
+    silent_at : (b : Bool) → (r.0 == c.0) ≡ b → is_open_hold (if b then hold.OpenAsR else hold.NotHeld) ≡ false →
+        is_silent (outcome n (input.Heard c Other) w) ≡ true
+    silent_at true e g = cc
+    silent_at false e g = silent_step n (r_open r k few) (input.Heard c Other) w (rw e refl)
+closed_silent n (i_open i k few) c w h = silent_at (i.0 == c.0) refl h
+  where
+    silent_at : (b : Bool) → (i.0 == c.0) ≡ b → is_open_hold (if b then hold.OpenAsI else hold.NotHeld) ≡ false →
+        is_silent (outcome n (input.Heard c Other) w) ≡ true
+    silent_at true e g = cc
+    silent_at false e g = silent_step n (i_open i k few) (input.Heard c Other) w (rw e refl)
+closed_silent n (closing Initiated x) c w h = silent_at (x.0 == c.0) refl
+  where
+    silent_at : (b : Bool) → (x.0 == c.0) ≡ b → is_silent (outcome n (input.Heard c Other) w) ≡ true
+    silent_at true e = rw e refl
+    silent_at false e = silent_step n (closing Initiated x) (input.Heard c Other) w (rw e refl)
+closed_silent n (closing Accepted x) c w h = silent_at (x.0 == c.0) refl
+  where
+    silent_at : (b : Bool) → (x.0 == c.0) ≡ b → is_silent (outcome n (input.Heard c Other) w) ≡ true
+    silent_at true e = rw e refl
+    silent_at false e = silent_step n (closing Accepted x) (input.Heard c Other) w (rw e refl)
+
+-- one step, at a message that comes on a connection
+abbrev pub RaisesAt : Peer → ℕ → List ℕ → Outcome → Type 0
+RaisesAt p c s (Moved actions next) =
+    IsRaised is_app (hold_of p.standing.core (conn c)) (hold_of next.standing.core (conn c)) s
+    (ups_of (as_actions actions))
+RaisesAt p c s (Refused f) = ⊤
+
+module _ (changes : EachConnectionChangesAsAllowed) (p : Peer) (shaped : is_shaped p.standing.core ≡ true)
+    (form : Form p.standing.core) (c : ℕ) (s : List ℕ) where
+  abbrev before : Hold
+  before = hold_of p.standing.core (conn c)
+
+  abbrev now : told.PeerEvent
+  now = told.Arrived (conn c) s
+
+  -- nothing is handed up
+  quiet_step : (h : Option Heard) → is_silent (outcome p.standing.core (input_of now h) (wins p.config)) ≡ true →
+      (is_app s && is_open_hold before) ≡ false → (is_app s ≡ true → ends_word (word_heard h) ≡ true) →
+      RaisesAt p c s (steps p now h)
+  quiet_step h silent none ends =
+      by_outcome (turned p.standing.core (input_of now h) (wins p.config)) (turned_is p.standing.core (input_of now h)
+      (wins p.config)) (subst (λ o. is_silent o ≡ true)
+      (sym (turned_is p.standing.core (input_of now h) (wins p.config))) silent)
+    where
+      by_outcome : (o : moves.Outcome) → o ≡ outcome p.standing.core (input_of now h) (wins p.config) →
+          is_silent o ≡ true → RaisesAt p c s (outcome_of p now h o)
+      by_outcome (moves.Refused r) is quiet = tt
+      by_outcome (moves.Moved commands core) is quiet =
+          record {
+            hands = ups_none p now h commands (not_up (has_up commands) quiet)
+                ∙ sym (ap (λ b. if b then s ∷ [] else []) none);
+            ends = λ app opened unmade.
+                done_after changes p.standing.core core c (word_heard h) (wins p.config) commands shaped (sym is)
+                (ends app) opened unmade;
+          }
+
+  -- on the connection on which the peer is open it is
+  open_step : (h : Option Heard) → word_heard h ≡ Other → is_app s ≡ true → is_open_hold before ≡ true →
+      RaisesAt p c s (steps p now h)
+  open_step h other app opened =
+      let n = p.standing.core in
+      let up = hears_open n form (conn c) (wins p.config) opened in
+      subst (λ o. RaisesAt p c s (outcome_of p now h o))
+      (sym (turned_is n (input_of now h) (wins p.config)
+      ∙ (ap (λ w. outcome n (input.Heard (conn c) w) (wins p.config)) other ∙ up.1)))
+      (record {
+        hands = sym (ap (λ b. if b then s ∷ [] else []) (both app opened));
+        ends = λ a closed_now made. cc;
+      })
+    where
+      both : {a b : Bool} → a ≡ true → b ≡ true → (a && b) ≡ true
+      both e f = rw (e, f) refl
+
+  -- what isn't looked at
+  none_open : (a b : Bool) → b ≡ false → (a && b) ≡ false
+  none_open true b h = h
+  none_open false b h = refl
+
+  unread_closed : (state : State) (h : Hold) → is_unread state h ≡ true → is_open_hold h ≡ false
+  unread_closed state hold.OpenAsI h = cc
+  unread_closed state hold.OpenAsR h = cc
+  unread_closed state _ h = refl
+
+  unheard_silent : (h : Option Heard) → is_other (word_heard h) ≡ false →
+      is_silent (outcome p.standing.core (input_of now h) (wins p.config)) ≡ true
+  unheard_silent h other =
+      let n = p.standing.core in
+      silent_step n form (input_of now h) (wins p.config)
+      (word_message n.state (place_of n.state n.held (conn c)) (word_heard h) other)
+
+  unread_step : is_unread p.standing.core.state before ≡ true → RaisesAt p c s (steps p now None)
+  unread_step unread =
+      quiet_step None (unheard_silent None refl)
+      (none_open (is_app s) (is_open_hold before) (unread_closed p.standing.core.state before unread)) (λ app. refl)
+
+  no_app_step : (h : Option Heard) → is_other (word_heard h) ≡ false → is_app s ≡ false →
+      RaisesAt p c s (steps p now h)
+  no_app_step h other app =
+      quiet_step h (unheard_silent h other) (ap (λ b. b && is_open_hold before) app) (λ yes. cc)
+
+  -- a message of an application
+  app_step : (m : Message) → is_base_command m.header.command ≡ false → is_app s ≡ true → (opened : Bool) →
+      is_open_hold before ≡ opened → RaisesAt p c s (steps p now (Some (heard_in p.config m)))
+  app_step m base app true opened = open_step (Some (heard_in p.config m)) (other_heard p.config m base) app opened
+  app_step m base app false opened =
+      let n = p.standing.core in
+      let word = other_heard p.config m base in
+      quiet_step (Some (heard_in p.config m))
+      (subst (λ w. is_silent (outcome n (input.Heard (conn c) w) (wins p.config)) ≡ true) (sym word)
+      (closed_silent n form (conn c) (wins p.config) opened))
+      (none_open (is_app s) (is_open_hold before) opened) (λ yes. ap ends_word word)
+
+  message_step : (m : Message) → message_in s ≡ Some m → (base : Bool) → is_base_command m.header.command ≡ base →
+      RaisesAt p c s (steps p now (Some (heard_in p.config m)))
+  message_step m spelled true base =
+      no_app_step (Some (heard_in p.config m)) (base_heard p.config m base)
+      (ap can_submit spelled ∙ ap (λ b. not b) base)
+  message_step m spelled false base =
+      app_step m base (ap can_submit spelled ∙ ap (λ b. not b) base) (is_open_hold before) refl
+
+  -- a message that is dropped is one of a base command
+  dropped_base : (made request base awaited : Bool) → (made && (not request && (base && not awaited))) ≡ true →
+      base ≡ true
+  dropped_base true false true awaited h = refl
+  dropped_base true false false awaited h = cc
+  dropped_base true true base awaited h = cc
+  dropped_base false request base awaited h = cc
+
+  drop_step : (m : Message) → message_in s ≡ Some m → is_base_command m.header.command ≡ true →
+      RaisesAt p c s (Moved [] p)
+  drop_step m spelled base =
+      let app : is_app s ≡ false = ap can_submit spelled ∙ ap (λ b. not b) base in
+      record {
+        hands = sym (ap (λ b. if b && is_open_hold before then s ∷ [] else []) app);
+        ends = λ yes opened made. cc;
+      }
+
+  read_step : (m : Message) → message_in s ≡ Some m → (b : Bool) → is_dropped p (conn c) m.header ≡ b →
+      RaisesAt p c s (if b then Moved [] p else steps p now (Some (heard_in p.config m)))
+  read_step m spelled true is =
+      drop_step m spelled
+      (dropped_base (is_made before) m.header.request (is_base_command m.header.command)
+      (option_eq nat_eq (awaited_of p.standing.awaited m.header.command) (Some m.header.hop_id)) is)
+  read_step m spelled false is = message_step m spelled (is_base_command m.header.command) refl
+
+  heard_step : (o : Option Message) → message_in s ≡ o → RaisesAt p c s (heard p now (conn c) o)
+  heard_step None spelled = no_app_step None refl (ap can_submit spelled)
+  heard_step (Some m) spelled = read_step m spelled (is_dropped p (conn c) m.header) refl
+
+  arrived_step : (b : Bool) → is_unread p.standing.core.state before ≡ b →
+      RaisesAt p c s (if b then steps p now None else heard p now (conn c) (message_in s))
+  arrived_step true unread = unread_step unread
+  arrived_step false unread = heard_step (message_in s) refl
+
+  pub arrival_raises : RaisesAt p c s (acts p now)
+  arrival_raises = arrived_step (is_unread p.standing.core.state before) refl

@@ -1,0 +1,107 @@
+-- A Submit is sent as it is, on the connection on which the peer is open.
+use Rattle.std.proofs.Common.{◌≡◌, ℕ, ◌==◌, Bool, true, false, if◌then◌else◌, None, List, [], ◌∷◌, refl, sym, ap, subst, ◌∙◌, arith}
+use Rattle.std.specs.Prelude.{⊤}
+use Rattle.std.proofs.lemmas.Bool.Decides.{nat_tests}
+use Rattle.dm_wire.specs.Whole.{message_in}
+use Rattle.dm_machine.specs.declared.connection.Conn.{Conn}
+use Rattle.dm_machine.specs.declared.inputs.Input.TheVariants as input
+use Rattle.dm_machine.specs.declared.outputs.Command.{Command}
+use Rattle.dm_machine.specs.declared.outputs.Command.TheVariants as command
+use Rattle.dm_machine.specs.Node.{Node, node_at, is_shaped}
+use Rattle.dm_machine.specs.Forms.{Form, EachShapeIsAForm, closed, wait_conn_ack, wait_i_cea, wait_conn_ack_elect, wait_returns, r_open, i_open, closing}
+use Rattle.dm_machine.specs.declared.inputs.Word.TheVariants.{Other}
+use Rattle.dm_machine.specs.declared.phase.Role.TheVariants.{Initiated, Accepted}
+use Rattle.dm_machine.specs.declared.state_name.State.TheVariants.{ROpen, IOpen}
+use Rattle.dm_machine.specs.Connection.{hold_of}
+use Rattle.dm_machine.specs.Connection as hold
+use Rattle.dm_machine.specs.Moves as moves
+use Rattle.dm_machine.specs.Moves.{is_open, outcome}
+use Rattle.dm_peer.specs.declared.peer.Peer.{Peer}
+use Rattle.dm_peer.specs.declared.fault.PeerFault.TheVariants.{NotOpen, BadSubmit}
+use Rattle.dm_peer.specs.Events as told
+use Rattle.dm_peer.specs.Configs.{wins}
+use Rattle.dm_peer.specs.Sent.{actions_of}
+use Rattle.dm_peer.specs.Acts.{Refused, turned, outcome_of, steps, can_submit}
+use Rattle.dm_links.specs.Peers.{Action, Acts, Submit}
+use Rattle.dm_links.specs.Delivery.{is_open_hold, IsSubmitted}
+use Rattle.dm_pair.specs.Octets.{as_actions, as_reply, octet_peers}
+use Rattle.dm_pair.specs.Carrying.{is_app}
+use Rattle.dm_pair.proofs.Replying.{turned_is}
+
+record Sends (n : Node) (commands : List Command) : Type 0 where
+  pub on : Conn
+  pub is : commands ≡ command.SendSubmit on ∷ []
+  pub opened : is_open_hold (hold_of n on) ≡ true
+
+abbrev SendsAt : Node → moves.Outcome → Type 0
+SendsAt n (moves.Moved commands next) = Sends n commands
+SendsAt n (moves.Refused r) = ⊤
+
+by_form : (n : Node) → Form n → (w : Bool) → is_open n.state ≡ true → SendsAt n (outcome n input.Submit w)
+by_form n closed w h = cc
+by_form n (wait_conn_ack i) w h = cc
+by_form n (wait_i_cea i) w h = cc
+by_form n (wait_conn_ack_elect i r e) w h = cc
+by_form n (wait_returns i r e) w h = cc
+by_form n (r_open r k few) w h = record { on = r; is = refl; opened = grind (arith, nat_tests) }
+by_form n (i_open i k few) w h = record { on = i; is = refl; opened = grind (arith, nat_tests) }
+by_form n (closing role x) w h = cc
+
+by_outcome : (p next : Peer) (x : List ℕ) (actions : List (Action (List ℕ))) (o : moves.Outcome) →
+    SendsAt p.standing.core o → is_app x ≡ true →
+    as_reply (outcome_of p (told.Submit x) None o) ≡ Acts actions next →
+    IsSubmitted is_app p.standing.core x actions
+by_outcome p next x actions (moves.Moved commands core) sends app is =
+    let e : told.PeerEvent = told.Submit x in
+    let same : as_actions (actions_of p e None commands) ≡ actions = cc in
+    record {
+      link = sends.on.0;
+      sends = sym same ∙ ap (λ cs. as_actions (actions_of p e None cs)) sends.is;
+      opened = sends.opened;
+      app = app;
+    }
+by_outcome p next x actions (moves.Refused r) sends app is = cc
+
+by_tests : (p next : Peer) (x : List ℕ) (actions : List (Action (List ℕ))) (b can : Bool) →
+    (b ≡ true → SendsAt p.standing.core (turned p.standing.core input.Submit (wins p.config))) →
+    (can ≡ true → is_app x ≡ true) →
+    as_reply (if b then (if can then steps p (told.Submit x) None else Refused BadSubmit) else Refused NotOpen)
+    ≡ Acts actions next → IsSubmitted is_app p.standing.core x actions
+by_tests p next x actions true true sends app is =
+    by_outcome p next x actions (turned p.standing.core input.Submit (wins p.config)) (sends refl) (app refl) is
+by_tests p next x actions true false sends app is = cc
+by_tests p next x actions false can sends app is = cc
+
+pub octets_submit : EachShapeIsAForm → (p next : Peer) (x : List ℕ) (actions : List (Action (List ℕ))) →
+    is_shaped (octet_peers.node_of p) ≡ true → octet_peers.reply p (Submit x) ≡ Acts actions next →
+    IsSubmitted is_app (octet_peers.node_of p) x actions
+octets_submit form p next x actions shaped is =
+    let n = p.standing.core in
+    let w = wins p.config in
+    by_tests p next x actions (is_open n.state) (can_submit (message_in x))
+    (λ h. subst (λ o. SendsAt n o) (sym (turned_is n input.Submit w)) (by_form n (form n shaped) w h)) (λ h. h) is
+
+-- a message of an application on the connection on which a node is open is handed up, and nothing else is done
+pub hears_open : (n : Node) → Form n → (c : Conn) (w : Bool) → is_open_hold (hold_of n c) ≡ true →
+    (next : Node) × (outcome n (input.Heard c Other) w ≡ moves.Moved (command.Up ∷ []) next)
+hears_open n closed c w h = cc
+hears_open n (wait_conn_ack i) c w h = absurd (grind (arith, nat_tests, h))
+hears_open n (wait_i_cea i) c w h = absurd (grind (arith, nat_tests, h))
+hears_open n (wait_conn_ack_elect i r e) c w h = absurd (grind (arith, nat_tests, h))
+hears_open n (wait_returns i r e) c w h = absurd (grind (arith, nat_tests, h))
+hears_open n (r_open r k few) c w h = by_test (r.0 == c.0) refl h
+  where
+    by_test : (b : Bool) → (r.0 == c.0) ≡ b → is_open_hold (if b then hold.OpenAsR else hold.NotHeld) ≡ true →
+        (next : Node) × (outcome (node_at ROpen ((Accepted, r) ∷ []) k) (input.Heard c Other) w
+        ≡ moves.Moved (command.Up ∷ []) next)
+    by_test true e g = (node_at ROpen ((Accepted, r) ∷ []) 0, rw e refl)
+    by_test false e g = cc
+hears_open n (i_open r k few) c w h = by_test (r.0 == c.0) refl h
+  where
+    by_test : (b : Bool) → (r.0 == c.0) ≡ b → is_open_hold (if b then hold.OpenAsI else hold.NotHeld) ≡ true →
+        (next : Node) × (outcome (node_at IOpen ((Initiated, r) ∷ []) k) (input.Heard c Other) w
+        ≡ moves.Moved (command.Up ∷ []) next)
+    by_test true e g = (node_at IOpen ((Initiated, r) ∷ []) 0, rw e refl)
+    by_test false e g = cc
+hears_open n (closing Initiated x) c w h = absurd (grind (arith, nat_tests, h))
+hears_open n (closing Accepted x) c w h = absurd (grind (arith, nat_tests, h))
