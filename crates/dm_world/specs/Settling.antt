@@ -1,10 +1,12 @@
--- What clean happenings come to.
+-- What clean happenings come to, and what a world can come to.
 use Rattle.std.specs.Prelude.{ℕ, IsTrue, IfSome, List, map}
 use Rattle.dm_peer.specs.declared.peer.Peer.{Peer}
 use Rattle.dm_links.specs.Worlds.{World}
 use Rattle.dm_links.specs.Happens.{run}
 use Rattle.dm_links.specs.Quiet.{is_clean}
 use Rattle.dm_links.specs.Falling.{CanFallQuiet, FallsQuiet}
+use Rattle.dm_links.specs.Links.{Side}
+use Rattle.dm_links.specs.Recovering.{CanOpen}
 use Rattle.dm_links.specs.Settled.{Settled}
 use Rattle.dm_pair.specs.Octets.{octet_peers}
 use Rattle.dm_pair.specs.Talking.{octet_talks}
@@ -15,14 +17,15 @@ use Rattle.dm_world.specs.Happening.{as_happening}
 abbrev pub AreClean : List Happening → Type 0
 AreClean list = IsTrue (is_clean (map as_happening list))
 
--- what their run comes to: it puts in its course, at most two CERs, one CEA and two disconnects, and where it falls quiet
--- after a taken Start, both sides are open on the connection that the election keeps (RFC 6733, 5.6.4)
+-- what their run comes to: at most two CERs, one CEA and two disconnects are put in, in their course; and where it
+-- falls quiet after a taken Start both sides are open on the connection that the election keeps (RFC 6733, 5.6.4)
 abbrev pub RunSettles : World Peer (List ℕ) → List Happening → Type 0
 RunSettles w list =
     IfSome (run octet_peers w (map as_happening list))
     (λ r. Settled octet_peers (octet_talks w.a.config w.b.config) w (map as_happening list) r)
 
--- it is quiet where no Ack and no delivery is done any more, after nine steps, and after four where one side alone starts
+-- it is quiet where no Ack and no delivery is done any more, after nine steps, and after four where one side alone
+-- starts
 abbrev pub RunFallsQuiet : World Peer (List ℕ) → List Happening → Type 0
 RunFallsQuiet w list =
     IfSome (run octet_peers w (map as_happening list))
@@ -33,3 +36,7 @@ abbrev pub RunCanFallQuiet : World Peer (List ℕ) → List Happening → Type 0
 RunCanFallQuiet w list =
     IfSome (run octet_peers w (map as_happening list))
     (λ r. CanFallQuiet octet_peers (octet_talks w.a.config w.b.config) w (map as_happening list))
+
+-- both can restart, and after some deliveries a Start of either side, the Ack and two deliveries open both
+abbrev pub EitherCanOpen : World Peer (List ℕ) → Type 0
+EitherCanOpen w = (s : Side) → CanOpen octet_peers w s

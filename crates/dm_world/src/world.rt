@@ -22,7 +22,8 @@ use dm_links::laws::{
 };
 use dm_pair::laws::{
     each_happening_keeps_peers, each_octet_run_can_fall_quiet, each_octet_run_falls_quiet,
-    each_octet_run_settles, octets_are_a_machine, octets_are_sized,
+    each_octet_run_settles, each_octet_world_can_open, octet_quiet_is_joined, octets_are_a_machine,
+    octets_are_sized,
 };
 use dm_peer::{Config, Conn, Peer, is_same_host};
 use dm_wire::Octets;
@@ -60,6 +61,7 @@ impl World {
     ghost use Rattle.std.specs.Option.{IfNone};
     ghost use Rattle.dm_links.specs.Agreement.{Agreed, EndsAreHeld, HeldAreLinks, OpenIsMatched};
     ghost use Rattle.dm_links.specs.Happens.{happens, run};
+    ghost use Rattle.dm_links.specs.Joining.{AreJoined};
     ghost use Rattle.dm_links.specs.Laws.{world_of};
     ghost use Rattle.dm_links.specs.Quiet.{is_quiet};
     ghost use Rattle.dm_links.specs.Sharing.{AreShared};
@@ -71,14 +73,14 @@ impl World {
     ghost use Rattle.dm_world.specs.New.{new_fault};
     ghost use Rattle.dm_world.specs.declared.fault.NewFault.{NewFault};
     ghost use Rattle.dm_world.specs.Seen.{as_side};
-    ghost use Rattle.dm_world.specs.Settling.{AreClean, RunSettles, RunFallsQuiet, RunCanFallQuiet};
+    ghost use Rattle.dm_world.specs.Settling.{AreClean, RunSettles, RunFallsQuiet, RunCanFallQuiet, EitherCanOpen};
     ghost use Rattle.dm_world.specs.Views.{Effects, IsFault, IsEnd};
 
     /// One happening: it is done, or ignored with nothing changed.
     ///
-    /// Refuses with `NoLink` where it names a link that isn't there, and with `NoMemory` where a growth was refused. The world is
-    /// then what it was. No Timeout, Restart or Lose takes memory; nor does an Ack or a Nack of a connect that isn't
-    /// pending, or a delivery or a piece where nothing comes to an end that is open: a shut end drops what comes.
+    /// Refuses with `NoLink` where it names a link that isn't there, and with `NoMemory` where a growth was refused.
+    /// The world is then what it was. No Timeout, Restart or Lose takes memory; nor does an Ack or a Nack of a connect
+    /// that isn't pending, a delivery or a piece where nothing comes, or what comes whole to a shut end, which drops it.
     pub fn apply(&mut self, alloc: Global, happening: &Happening) -> Result<Effect, WorldFault>
         ensures step { IfOk result (λ effect. Effects effect
             (happens octet_peers (as_world self.old.net) (as_happening happening.now)) (as_world self.old.net)
@@ -107,16 +109,21 @@ impl World {
     /// wasn't.
     ///
     /// Whatever happens, in whatever order: neither side is open on two connections, and if both are open, it is on one
-    /// connection in opposite roles, or a disconnect is coming to each on its own. What a side holds is a link that is up, or
-    /// a pending one that it opened. Fewer octets are delivered of a front message than it has. Where nothing is under way
-    /// each side holds just what the other holds, and one is Closed exactly where the other is.
+    /// connection in opposite roles, or a disconnect is coming to each on its own. What a side holds is a link that is
+    /// up, or a pending one that it opened. Fewer octets are delivered of a front message than it has.
+    ///
+    /// Where nothing is under way, each side holds just what the other holds, and one is Closed exactly where the other
+    /// is: both are Closed, or each stands on one connection alone, the same one, in opposite roles. No run is a trap:
+    /// both sides can restart, and after some deliveries a Start of either side, the Ack and two deliveries open both.
+    /// Such a list exists, which isn't to say that peers take it by themselves.
     ///
     /// Where both were Closed with nothing under way, and only Starts, connects that come about, deliveries and pieces
-    /// happen, at most two CERs, one CEA and two disconnects are put in, on their links and in their order; and where it
-    /// falls quiet after a Start that was taken, both are open on the connection that the election keeps (RFC 6733, 5.6.4),
-    /// and all of these were put in. It falls quiet, in whatever order they come: it is quiet where no Ack and no delivery
-    /// is done any more, after nine steps, and after four where one side alone starts; and some Acks and deliveries, with
-    /// its own steps nine at most, bring it there. A step is what is done, pieces that end no message aside.
+    /// happen, at most two CERs, one CEA and two disconnects are put in, on their links and in their order; and where
+    /// it falls quiet after a Start that was taken, all of these were put in, and both are open on the connection that
+    /// the election keeps (RFC 6733, 5.6.4). It falls quiet, in whatever order they come: it is quiet where no Ack and
+    /// no delivery is done any more, after nine steps, and after four where one side alone starts; and some Acks and
+    /// deliveries, with its own steps nine at most, bring it there. A step is what is done, but for a piece that ends
+    /// no message.
     pub fn run(&mut self, alloc: Global, list: &[Happening]) -> (usize, Option<WorldFault>)
         ensures ran { (put : List (Put (List ℕ))) ×
             (run octet_peers (as_world self.old.net) (map as_happening (take result.0 list.now)) ≡ Some
@@ -127,6 +134,9 @@ impl World {
         ensures matched { OpenIsMatched octet_peers (as_world self.new.net) }
         ensures cut { AreCut octet_peers (as_world self.new.net) }
         ensures shared { IsTrue (is_quiet (as_world self.new.net)) → AreShared octet_peers (as_world self.new.net) }
+        ensures joined { IsTrue (is_quiet (as_world self.new.net)) →
+            AreJoined self.new.net.pair.a.standing.core self.new.net.pair.b.standing.core }
+        ensures can_open { EitherCanOpen (as_world self.new.net) }
         ensures settled { AreClosed (as_world self.old.net) → AreClean (take result.0 list.now) →
             RunSettles (as_world self.old.net) (take result.0 list.now) }
         ensures falls_quiet { AreClosed (as_world self.old.net) → AreClean (take result.0 list.now) →
@@ -141,6 +151,8 @@ impl World {
         each_octet_run_settles();
         each_octet_run_falls_quiet();
         each_octet_run_can_fall_quiet();
+        octet_quiet_is_joined();
+        each_octet_world_can_open();
         for (count, happening) in list.iter().enumerate() {
             if let Err(fault) = self.apply(alloc, happening) {
                 return (count, Some(fault));

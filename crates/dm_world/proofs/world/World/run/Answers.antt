@@ -61,20 +61,42 @@ returns-clause-settled c closed clean =
 
 pub returns-in-Err-clause-falls_quiet : goal.returns-in-Err-clause-falls_quiet
 returns-in-Err-clause-falls_quiet c closed clean =
-    c.each_octet_run_falls_quiet.ensures (as_world c.args.self.now.net) c.args.self.now.sound c.args.self.now.peers closed
+    c.each_octet_run_falls_quiet.ensures (as_world c.args.self.now.net) c.args.self.now.sound
+    c.args.self.now.peers closed
     (map as_happening (take c.loop-count.count c.args.list.now)) clean
 
 pub returns-clause-falls_quiet : goal.returns-clause-falls_quiet
 returns-clause-falls_quiet c closed clean =
-    c.each_octet_run_falls_quiet.ensures (as_world c.args.self.now.net) c.args.self.now.sound c.args.self.now.peers closed
+    c.each_octet_run_falls_quiet.ensures (as_world c.args.self.now.net) c.args.self.now.sound
+    c.args.self.now.peers closed
     (map as_happening (take (length c.args.list.now) c.args.list.now)) clean
 
 pub returns-in-Err-clause-can_fall_quiet : goal.returns-in-Err-clause-can_fall_quiet
 returns-in-Err-clause-can_fall_quiet c closed clean =
-    c.each_octet_run_can_fall_quiet.ensures (as_world c.args.self.now.net) c.args.self.now.sound c.args.self.now.peers closed
+    c.each_octet_run_can_fall_quiet.ensures (as_world c.args.self.now.net) c.args.self.now.sound
+    c.args.self.now.peers closed
     (map as_happening (take c.loop-count.count c.args.list.now)) clean
 
 pub returns-clause-can_fall_quiet : goal.returns-clause-can_fall_quiet
 returns-clause-can_fall_quiet c closed clean =
-    c.each_octet_run_can_fall_quiet.ensures (as_world c.args.self.now.net) c.args.self.now.sound c.args.self.now.peers closed
+    c.each_octet_run_can_fall_quiet.ensures (as_world c.args.self.now.net) c.args.self.now.sound
+    c.args.self.now.peers closed
     (map as_happening (take (length c.args.list.now) c.args.list.now)) clean
+
+pub returns-in-Err-clause-joined : goal.returns-in-Err-clause-joined
+returns-in-Err-clause-joined c quiet =
+    c.octet_quiet_is_joined.ensures (as_world c.apply.new.self.net) c.apply.new.self.sound c.apply.new.self.peers quiet
+
+pub returns-clause-joined : goal.returns-clause-joined
+returns-clause-joined c quiet =
+    c.octet_quiet_is_joined.ensures (as_world c.loop-count.self.net) c.loop-count.self.sound c.loop-count.self.peers
+    quiet
+
+pub returns-in-Err-clause-can_open : goal.returns-in-Err-clause-can_open
+returns-in-Err-clause-can_open c =
+    c.each_octet_world_can_open.ensures (as_world c.apply.new.self.net) c.apply.new.self.sound c.apply.new.self.peers
+
+pub returns-clause-can_open : goal.returns-clause-can_open
+returns-clause-can_open c =
+    c.each_octet_world_can_open.ensures (as_world c.loop-count.self.net) c.loop-count.self.sound
+    c.loop-count.self.peers
