@@ -21,3 +21,4 @@ pub mod Slashes
 pub mod SomeBuilt
 pub mod SomeShown
 pub mod Tellings
+pub mod Told

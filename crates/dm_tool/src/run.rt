@@ -1,8 +1,9 @@
 //! A run of a command: all is read, then the text is made, then it is written.
-ghost use Rattle.std.specs.Prelude.{◌≡◌, map, IfSome, IfNone, IfOk, IfErr};
+ghost use Rattle.std.specs.Prelude.{◌≡◌, true, map, IfSome, IfNone, IfOk, IfErr, IsErrOf};
 ghost use Rattle.std.specs.String.{string_bytes};
 ghost use Rattle.dm_tool.specs.declared.choice.Choice.{Choice};
 ghost use Rattle.dm_tool.specs.Choice.{words_of};
+ghost use Rattle.dm_tool.specs.Limits.{HasMost};
 ghost use Rattle.dm_tool.specs.Run.{Prints, Ran};
 
 use crate::build::build_text;
@@ -12,6 +13,7 @@ use crate::fault::ToolFault;
 use crate::input::read_input;
 use crate::messages::{Task, messages_text};
 use crate::output::write_text;
+use crate::source::Source;
 use dm_replay::replay_text;
 use std::alloc::Global;
 use std::io::{Read, Write};
@@ -32,18 +34,38 @@ pub fn run_words<R: Read, W: Write>(
     ensures unread { IfNone result (reader.new ≡ reader.old) }
     ensures unwritten { IfNone result (writer.new ≡ writer.old) }
 {
+    run_chosen(alloc, words, reader, writer)
+}
+
+/// Runs the command that the words choose over all that the source gives, as [`run_words`] does over a reader.
+pub fn run_chosen<S: Source, W: Write>(
+    alloc: Global,
+    words: &[String],
+    reader: &mut S,
+    writer: &mut W,
+) -> Option<Result<bool, ToolFault>>
+    ensures ran { IfSome result (λ outcome. (choice : Choice) × (map string_bytes words.now ≡ words_of choice)
+        × Ran (Prints choice) (S.left reader.old) (S.left reader.new)
+        (W.contents writer.old) (W.contents writer.new) outcome) }
+    ensures refused { IfNone result ((choice : Choice) → map string_bytes words.now ≡ words_of choice → ⊥) }
+    ensures read { S.never_fails ≡ true → result ≡ Some (Err ToolFault.Read) → HasMost (S.left reader.old) }
+    ensures unread { IfNone result (reader.new ≡ reader.old) }
+    ensures unwritten { IfNone result (writer.new ≡ writer.old) }
+{
     let choice = choose(words)?;
     Some(run(alloc, choice, reader, writer))
 }
 
-/// Runs the command over all that the reader gives. True where all of it was good.
-pub fn run<R: Read, W: Write>(
+/// Runs the command over all that the source gives. True where all of it was good.
+pub fn run<S: Source, W: Write>(
     alloc: Global,
     choice: Choice,
-    reader: &mut R,
+    reader: &mut S,
     writer: &mut W,
 ) -> Result<bool, ToolFault>
-    ensures { Ran (Prints choice) (R.remaining reader.old) (R.remaining reader.new) (W.contents writer.old) (W.contents writer.new) result }
+    ensures ran { Ran (Prints choice) (S.left reader.old) (S.left reader.new)
+        (W.contents writer.old) (W.contents writer.new) result }
+    ensures read { S.never_fails ≡ true → IsErrOf result ToolFault.Read → HasMost (S.left reader.old) }
 {
     let input = read_input(alloc, reader)?;
     let (text, good) = text_of(alloc, choice, input.as_slice())?;

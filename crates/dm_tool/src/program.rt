@@ -1,0 +1,112 @@
+//! The program, but for its real streams: the words of the command line are run, and what that comes to is told.
+ghost use Rattle.std.specs.Prelude.{◌≡◌, ◌++◌, ℕ, List, true, map, IfSome, IfNone, IfOk, IfErr, OnErr};
+ghost use Rattle.std.specs.Io.KnownBytes.{Appends};
+ghost use Rattle.std.specs.String.{string_bytes};
+ghost use Rattle.dm_tool.specs.declared.choice.Choice.{Choice};
+ghost use Rattle.dm_tool.specs.Choice.{words_of};
+ghost use Rattle.dm_tool.specs.Ending.{ending_of};
+ghost use Rattle.dm_tool.specs.Limits.{HasMost};
+ghost use Rattle.dm_tool.specs.Program.{line_of, without_words};
+ghost use Rattle.dm_tool.specs.Run.{Prints, Ran};
+
+use crate::fault::ToolFault;
+use crate::output::write_text;
+use crate::run::run_chosen;
+use crate::source::Source;
+use crate::status::ending;
+use std::alloc::Global;
+use std::io::Write;
+
+/// Why the words of the command line can't be had.
+#[derive(Clone, Copy)]
+pub enum WordsFault {
+    /// One of them isn't UTF-8.
+    NotText,
+    /// No memory was left for them.
+    NoMemory,
+}
+
+/// How the program ends.
+#[derive(Clone, Copy)]
+pub struct Ended {
+    /// What the run came to, None where the words choose no command.
+    pub outcome: Option<Result<bool, ToolFault>>,
+    /// The program's status.
+    pub status: u8,
+    /// Whether all that is to stand on standard error was written there. Otherwise a front of it was.
+    pub told: bool,
+}
+
+/// Runs the program on the words of its command line, the program's name left out, and on its three streams.
+///
+/// The command that the words choose is run as by [`run_words`](crate::run_words), and the status and the words for
+/// standard error are those of [`ending`](crate::ending): nothing is written to standard error at the statuses 0 and 1,
+/// and the words and a line feed at 2 and 3. A word that isn't UTF-8 chooses no command, and where no memory is left
+/// for the words that is Memory: nothing is read or printed then.
+pub fn run_program<S: Source, W: Write, E: Write>(
+    alloc: Global,
+    words: Result<Vec<String>, WordsFault>,
+    reader: &mut S,
+    writer: &mut W,
+    errors: &mut E,
+) -> Ended
+    ensures ran { IfOk words (λ list. IfSome result.outcome (λ outcome.
+        (choice : Choice) × (map string_bytes list.items ≡ words_of choice)
+        × Ran (Prints choice) (S.left reader.old) (S.left reader.new)
+        (W.contents writer.old) (W.contents writer.new) outcome)) }
+    ensures refused { IfOk words (λ list. IfNone result.outcome
+        ((choice : Choice) → map string_bytes list.items ≡ words_of choice → ⊥)) }
+    ensures wordless { IfErr words (λ fault. result.outcome ≡ without_words fault) }
+    ensures read { S.never_fails ≡ true → result.outcome ≡ Some (Err ToolFault.Read) → HasMost (S.left reader.old) }
+    ensures unread { IfNone result.outcome (reader.new ≡ reader.old) }
+    ensures unwritten { IfNone result.outcome (writer.new ≡ writer.old) }
+    ensures idle { OnErr words ((reader.new ≡ reader.old) × (writer.new ≡ writer.old)) }
+    ensures status { result.status ≡ (ending_of result.outcome).0 }
+    ensures told { result.told ≡ true →
+        Appends (E.contents errors.old) (E.contents errors.new) (line_of (ending_of result.outcome).1) }
+    ensures front { (front rest : List ℕ) × (line_of (ending_of result.outcome).1 ≡ front ++ rest)
+        × Appends (E.contents errors.old) (E.contents errors.new) front }
+{
+    match words {
+        Ok(words) => {
+            let outcome = run_chosen(alloc, words.as_slice(), reader, writer);
+            drop(words);
+            finish(outcome, errors)
+        }
+        Err(WordsFault::NotText) => finish(None, errors),
+        Err(WordsFault::NoMemory) => finish(Some(Err(ToolFault::Memory)), errors),
+    }
+}
+
+/// The status for an outcome, once its words stand on standard error.
+fn finish<E: Write>(outcome: Option<Result<bool, ToolFault>>, errors: &mut E) -> Ended
+    ensures outcome { result.outcome ≡ outcome }
+    ensures status { result.status ≡ (ending_of outcome).0 }
+    ensures told { result.told ≡ true →
+        Appends (E.contents errors.old) (E.contents errors.new) (line_of (ending_of outcome).1) }
+    ensures front { (front rest : List ℕ) × (line_of (ending_of outcome).1 ≡ front ++ rest)
+        × Appends (E.contents errors.old) (E.contents errors.new) front }
+{
+    let (status, words) = ending(outcome);
+    let told = tell(words, errors);
+    Ended {
+        outcome,
+        status,
+        told,
+    }
+}
+
+/// Writes the words and a line feed, or nothing where there are no words. False where that fails.
+fn tell<E: Write>(words: &str, errors: &mut E) -> bool
+    ensures told { result ≡ true → Appends (E.contents errors.old) (E.contents errors.new) (line_of words.now) }
+    ensures front { (front rest : List ℕ) × (line_of words.now ≡ front ++ rest)
+        × Appends (E.contents errors.old) (E.contents errors.new) front }
+{
+    if words.is_empty() {
+        return true;
+    }
+    match write_text(errors, words.as_bytes()) {
+        Ok(()) => write_text(errors, b"\n").is_ok(),
+        Err(_) => false,
+    }
+}
