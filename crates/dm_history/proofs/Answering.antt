@@ -26,7 +26,8 @@ use Rattle.dm_peer.specs.Acts.{input_of}
 use Rattle.dm_peer.specs.Settled.{IsSettled}
 use Rattle.dm_history.specs.History.{Happened}
 use Rattle.dm_history.specs.Meant.{IsGoodCer}
-use Rattle.dm_history.proofs.Words.{good_cer, heard_header, cer_asks, base_word}
+use Rattle.dm_history.proofs.Words.{good_cer, heard_header}
+use Rattle.dm_history.proofs.Commands.{cer_asks, base_word}
 use Rattle.dm_history.proofs.Turning.{AreRead}
 use Rattle.dm_history.proofs.Holding.{is_accepted, reads_none}
 use Rattle.dm_history.proofs.Waiting.{none_there, exchange_is_base}

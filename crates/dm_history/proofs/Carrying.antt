@@ -31,7 +31,7 @@ use Rattle.dm_history.specs.History.{Happened, IsAmong}
 use Rattle.dm_history.specs.Carrying.{StandsOpen, IsHandedUp, AreOwn, IsPassedOn, IsCarried, Carries, EachRunCarries}
 use Rattle.dm_history.proofs.Among.{none_among, sourced}
 use Rattle.dm_history.proofs.Ordered.{ordered}
-use Rattle.dm_history.proofs.Words.{other_word, other_command}
+use Rattle.dm_history.proofs.Commands.{other_word, other_command}
 use Rattle.dm_history.proofs.Turning.{IsTurn, Turns, turns, turned_is}
 use Rattle.dm_history.proofs.Lasting.{stays_configured}
 use Rattle.dm_history.proofs.Coming.{came_by}
@@ -113,10 +113,10 @@ sent_by laws p past told e actions next is t c s (earlier, later, stands) =
     let a = sourced (action_of p e t.heard) t.commands (Send c s) earlier later (sym t.acted ∙ stands) in
     let there : IsAmong t.commands a.command = (a.before, a.behind, a.stands) in
     let base : AnswersBase p t.heard c a.command = (
-      λ there_is. cea_answers_base laws.accepted laws.steps.caused laws.steps.closes p told.settled e t.heard t.commands
-          t.core t.moves t.read c past (told.story c) (ordered SendsCea c t.commands a.command there there_is),
-      λ o there_is prompt. prompt_answers_base laws.answers p told.settled e t.heard t.commands t.core t.moves t.read c o
-          prompt (ordered o c t.commands a.command there there_is),
+      λ cea. cea_answers_base laws.accepted laws.steps.caused laws.steps.closes p told.settled e t.heard t.commands
+          t.core t.moves t.read c past (told.story c) (ordered SendsCea c t.commands a.command there cea),
+      λ o answer prompt. prompt_answers_base laws.answers p told.settled e t.heard t.commands t.core t.moves t.read c o
+          prompt (ordered o c t.commands a.command there answer),
     ) in
     elim (own_sent p e t.heard c s a.command a.gives base) [
       | inl own ↦ inl own

@@ -1,6 +1,7 @@
 mod Among
 mod Ordered
 mod Words
+mod Commands
 mod Turning
 mod Holding
 mod Waiting
@@ -11,6 +12,7 @@ mod Ending
 mod Sending
 mod Submitting
 mod Answering
+mod OneTurn
 mod Telling
 mod Carrying
 mod Closings
