@@ -13,7 +13,8 @@ use Rattle.dm_links.specs.Delivery.{ups_of, sends_all, IsRaised}
 use Rattle.dm_pair.specs.Octets.{of_event, as_actions, as_reply}
 use Rattle.dm_pair.specs.Carrying.{is_app, OctetsCarry}
 use Rattle.dm_pair.proofs.Submitting.{octets_submit}
-use Rattle.dm_pair.proofs.Others.{SendsNone, WaitsWell, RaisesNone, is_submit_event, is_arrival, acts_send_none, acts_wait_well, acts_raise_none}
+use Rattle.dm_pair.proofs.Others.{SendsNone, WaitsWell, is_submit_event, acts_send_none, acts_wait_well}
+use Rattle.dm_pair.proofs.Upward.{RaisesNone, is_arrival, acts_raise_none}
 use Rattle.dm_pair.proofs.Raising.{RaisesAt, arrival_raises}
 
 -- of an outcome as a reply

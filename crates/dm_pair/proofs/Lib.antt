@@ -19,5 +19,7 @@ mod Submitting
 mod Wording
 mod Walking
 mod Others
+mod Upward
+mod Ending
 mod Raising
 mod Carrying

@@ -1,5 +1,4 @@
--- No event but a Submit sends a message of an application, none but an arrival hands one up, and a peer keeps waiting
--- well.
+-- No event but a Submit sends a message of an application, and a peer keeps waiting well.
 use Rattle.std.proofs.Common.{◌≡◌, ℕ, Bool, true, false, not, ◌||◌, nat_eq, Option, None, Some, List, [], ◌∷◌, if◌then◌else◌, ◌⊎◌, inl, inr, refl, sym, ap, subst}
 use Rattle.std.specs.Prelude.{⊤}
 use Rattle.std.specs.List.{list_all}
@@ -26,15 +25,14 @@ use Rattle.dm_peer.specs.Said.{Heard}
 use Rattle.dm_peer.specs.Sent.{header_of, fault_in, cer_to_answer, is_protocol_error, refusal, action_of, actions_of}
 use Rattle.dm_peer.specs.After.{holds_cer, header_heard}
 use Rattle.dm_peer.specs.Acts.{Outcome, Moved, Refused, turned, input_of, outcome_of, steps, acts}
-use Rattle.dm_links.specs.Delivery.{ups_of, sends_all}
+use Rattle.dm_links.specs.Delivery.{sends_all}
 use Rattle.dm_pair.specs.Octets.{as_actions}
 use Rattle.dm_pair.specs.Carrying.{is_app, waits_well, is_waiting_well}
 use Rattle.dm_pair.proofs.Plain.{is_plain, are_plain, is_submit_input, IsPlain, outcome_plain}
 use Rattle.dm_pair.proofs.Replying.{turned_is}
 use Rattle.dm_pair.proofs.Bases.{base_sent}
-use Rattle.dm_pair.proofs.Silent.{has_up, is_silent}
 use Rattle.dm_pair.proofs.Answering.{answers_none, asks_none}
-use Rattle.dm_pair.proofs.Wording.{is_heard_input, calm_message, silent_step, asks_none_step}
+use Rattle.dm_pair.proofs.Wording.{asks_none_step}
 use Rattle.dm_pair.proofs.Walking.{MayHear, is_base_heard, hears_base, walked}
 
 abbrev no_app : List ℕ → Bool
@@ -205,60 +203,3 @@ acts_send_none p e form well other =
 pub acts_wait_well : (p : Peer) (e : told.PeerEvent) → Form p.standing.core → is_waiting_well p ≡ true →
     WaitsWell (acts p e)
 acts_wait_well p e form well = walked p WaitsWell (λ f. tt) well e (λ h may. step_waits p e h form well may)
-
--- what is handed up
-pub ups_none : (p : Peer) (e : told.PeerEvent) (h : Option Heard) (commands : List Command) →
-    has_up commands ≡ false → ups_of (as_actions (actions_of p e h commands)) ≡ []
-ups_none p e h [] none = refl
-ups_none p e h (command.Up ∷ more) none = cc
-ups_none p e h (command.Connect c ∷ more) none = ups_none p e h more none
-ups_none p e h (command.SendCer c ∷ more) none = ups_none p e h more none
-ups_none p e h (command.SendCea c ∷ more) none = ups_none p e h more none
-ups_none p e h (command.SendRefusal c ∷ more) none = ups_none p e h more none
-ups_none p e h (command.SendDwr c ∷ more) none = ups_none p e h more none
-ups_none p e h (command.SendDwa c ∷ more) none = ups_none p e h more none
-ups_none p e h (command.SendDpr c ∷ more) none = ups_none p e h more none
-ups_none p e h (command.SendDpa c ∷ more) none = ups_none p e h more none
-ups_none p e h (command.SendSubmit c ∷ more) none = ups_none p e h more none
-ups_none p e h (command.Close c ∷ more) none = ups_none p e h more none
-
-pub not_up : (b : Bool) → not b ≡ true → b ≡ false
-not_up true h = cc
-not_up false h = refl
-
-abbrev pub RaisesNone : Outcome → Type 0
-RaisesNone (Moved actions next) = ups_of (as_actions actions) ≡ []
-RaisesNone (Refused f) = ⊤
-
-abbrev pub is_arrival : told.PeerEvent → Bool
-is_arrival (told.Arrived c s) = true
-is_arrival _ = false
-
-no_word : (e : told.PeerEvent) (h : Option Heard) → is_arrival e ≡ false → is_heard_input (input_of e h) ≡ false
-no_word (told.Arrived c s) h other = cc
-no_word (told.Submit s) h other = refl
-no_word (told.Start c) h other = refl
-no_word (told.Stop cause) h other = refl
-no_word told.Timeout h other = refl
-no_word told.Tick h other = refl
-no_word (told.Ack c) h other = refl
-no_word (told.Nack c) h other = refl
-no_word (told.Gone c) h other = refl
-
-step_raises : (p : Peer) (e : told.PeerEvent) (h : Option Heard) → Form p.standing.core →
-    is_heard_input (input_of e h) ≡ false → RaisesNone (steps p e h)
-step_raises p e h form calm =
-    let n = p.standing.core in
-    let i = input_of e h in
-    by_outcome (turned n i (wins p.config))
-    (subst (λ o. is_silent o ≡ true) (sym (turned_is n i (wins p.config)))
-    (silent_step n form i (wins p.config) (calm_message n i calm)))
-  where
-    by_outcome : (o : moves.Outcome) → is_silent o ≡ true → RaisesNone (outcome_of p e h o)
-    by_outcome (moves.Moved commands core) silent = ups_none p e h commands (not_up (has_up commands) silent)
-    by_outcome (moves.Refused r) silent = tt
-
-pub acts_raise_none : (p : Peer) (e : told.PeerEvent) → Form p.standing.core → is_arrival e ≡ false →
-    RaisesNone (acts p e)
-acts_raise_none p e form calm =
-    walked p RaisesNone (λ f. tt) refl e (λ h may. step_raises p e h form (no_word e h calm))
