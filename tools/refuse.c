@@ -1,10 +1,10 @@
 /* Refuses a program's requests for memory, where it is loaded before the C library (LD_PRELOAD).
 
-   No block of 2^62 octets or more is ever to be had, so a program orders and asks by requests for one. With bit 62 alone
-   the low 32 bits are n, and the nth request from there on is refused (0: none); with bit 61 each from the nth on. With
-   bit 60, 59 or 58 it asks, and gets a block for a yes: whether a request was refused since the last order, whether one
-   was made, whether one was made for more than n octets. Before any order REFUSE=n and REFUSE_EACH=n in the environment
-   hold. At its end each process appends the numbers of its requests and of its refusals to the file REFUSE_LOG.
+   No block of 2^62 octets or more is ever to be had, so a program orders and asks by requests for one. With bit 62
+   alone the low 32 bits are n, and the nth request from there on is refused (0: none); with bit 61 each from the nth
+   on. With bit 60, 59 or 58 it asks, and gets a block for a yes: whether a request was refused since the last order,
+   whether one was made, whether one was made for more than n octets. Before any order REFUSE=n and REFUSE_EACH=n in the
+   environment hold. At its end each process appends the numbers of its requests and of its refusals to REFUSE_LOG.
 
    It includes no header, so that the toolchain's compiler alone builds it. */
 typedef unsigned long size;

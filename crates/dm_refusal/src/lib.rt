@@ -1,5 +1,5 @@
-//! What tests of refused memory share: orders to the shim `tools/refuse.c`, how a call ended of which a request may have
-//! been refused, and its requests refused one after the other.
+//! What tests of refused memory share: orders to the shim `tools/refuse.c`, how a call ended of which a request may
+//! have been refused, and its requests refused one after the other.
 #![tactic(auto)]
 
 mod ends;

@@ -10,8 +10,8 @@ pub trait Subject<R> {
     fn end(&self, rt: &R, nth: u32) -> End;
 }
 
-/// The first request of the call is refused, then the second, and so on, until it doesn't end `Again`: the number of the
-/// last, and how the call ended then. It is `Whole` where all is well.
+/// The first request of the call is refused, then the second, and so on, until it doesn't end `Again`: the number of
+/// the last, and how the call ended then. It is `Whole` where all is well.
 pub fn last<R, S: Subject<R>>(rt: &R, subject: &S) -> (u32, End) {
     for nth in 1..MOST {
         let end = subject.end(rt, nth);
