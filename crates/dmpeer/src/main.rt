@@ -4,44 +4,68 @@
 //! command line, the standard streams and the status.
 #![tactic(auto)]
 
-ghost use Rattle.std.specs.Prelude.{◌≡◌, ◌⊎◌, Ok, Err, None, Some, IfErr};
+ghost use Rattle.std.specs.Prelude.{◌≡◌, ◌≢◌, drop, IfOk, IfErr};
+ghost use Rattle.std.specs.Process.{exit_status};
+ghost use Rattle.std.specs.Vec.Iter.{into_iter_items};
 
-use dm_tool::{ToolFault, ending, run_words};
+use dm_tool::{Ended, WordsFault, run_program};
+use std::alloc::Global;
 use std::env;
+use std::env::Args;
 use std::io::ErrorKind;
 use std::process::ExitCode;
 use std::rt::Env;
 
 fn main(rt: HostRuntime) -> ExitCode {
-    let outcome = match words(&rt) {
-        Ok(words) => run_words(
-            rt.alloc(),
-            words.as_slice(),
-            &mut rt.stdin(),
-            &mut rt.stdout(),
-        ),
-        Err(outcome) => outcome,
-    };
-    let (status, words) = ending(outcome);
-    if !words.is_empty() {
-        // Where standard error can't be written either, the status still tells.
-        let _ = eprintln!(rt; "{words}");
-    }
-    ExitCode::from(status)
+    let words = words(&rt);
+    exit_code(run_program(
+        rt.alloc(),
+        words,
+        &mut rt.stdin(),
+        &mut rt.stdout(),
+        &mut rt.stderr(),
+    ))
 }
 
-/// The words after the program's name, or what the run comes to where they can't be had: words of which one isn't
-/// UTF-8 choose no command, and all else is want of memory.
-fn words(rt: &(impl Env + AllocGlobal)) -> Result<Vec<String>, Option<Result<bool, ToolFault>>>
-    ensures { IfErr result (λ outcome. (outcome ≡ None) ⊎ (outcome ≡ Some (Err ToolFault.Memory))) }
+/// The code with which the process ends. Where standard error couldn't be written, the status still tells.
+fn exit_code(ended: Ended) -> ExitCode
+    ensures { exit_status result ≡ ended.status }
 {
-    let words = match env::args(rt) {
-        Ok(words) => words,
-        Err(error) if error.kind() == ErrorKind::InvalidData => return Err(None),
-        Err(_) => return Err(Some(Err(ToolFault::Memory))),
-    };
-    match words.skip(1).collect(rt.alloc()) {
-        Ok(words) => Ok(words),
-        Err(_) => Err(Some(Err(ToolFault::Memory))),
+    ExitCode::from(ended.status)
+}
+
+/// The words after the program's name.
+fn words(rt: &(impl Env + AllocGlobal)) -> Result<Vec<String>, WordsFault> {
+    match env::args(rt) {
+        Ok(words) => behind_name(rt.alloc(), words),
+        Err(error) => Err(fault_of(error.kind())),
     }
+}
+
+/// Why the words can't be had: one of them isn't UTF-8, which is invalid data, or else no memory was left.
+fn fault_of(kind: ErrorKind) -> WordsFault
+    ensures text { kind ≡ ErrorKind.InvalidData → result ≡ WordsFault.NotText }
+    ensures memory { kind ≢ ErrorKind.InvalidData → result ≡ WordsFault.NoMemory }
+{
+    if kind == ErrorKind::InvalidData {
+        WordsFault::NotText
+    } else {
+        WordsFault::NoMemory
+    }
+}
+
+/// All words but the first.
+fn behind_name(alloc: Global, words: Args) -> Result<Vec<String>, WordsFault>
+    ensures behind { IfOk result (λ kept. kept.items ≡ drop 1 (into_iter_items words)) }
+    ensures fault { IfErr result (λ fault. fault ≡ WordsFault.NoMemory) }
+{
+    let mut words = words;
+    let mut kept = Vec::new(alloc);
+    let _ = words.next();
+    for word in words {
+        if kept.push(word).is_err() {
+            return Err(WordsFault::NoMemory);
+        }
+    }
+    Ok(kept)
 }
