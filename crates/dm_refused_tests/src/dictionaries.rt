@@ -86,23 +86,25 @@ impl Making for Print<'_> {
 struct Faulty<'a>(&'a [u8], &'a Dictionary, DictFault);
 
 impl Making for Faulty<'_> {
-    type Made = DictFault;
+    type Made = Option<DictFault>;
 
-    type Fault = Option<DictFault>;
+    type Fault = NoMemory;
 
-    fn call(&self, alloc: Global) -> Result<DictFault, Option<DictFault>> {
-        match Dictionary::read(alloc, self.0, self.1).err() {
-            Some(fault) if fault != DictFault::NoMemory => Ok(fault),
-            other => Err(other),
+    fn call(&self, alloc: Global) -> Result<Option<DictFault>, NoMemory> {
+        let fault = Dictionary::read(alloc, self.0, self.1).err();
+        if fault == Some(DictFault::NoMemory) {
+            Err(NoMemory)
+        } else {
+            Ok(fault)
         }
     }
 
-    fn is_memory(&self, fault: &Option<DictFault>) -> bool {
-        *fault == Some(DictFault::NoMemory)
+    fn is_memory(&self, _fault: &NoMemory) -> bool {
+        true
     }
 
-    fn is_row(&self, _alloc: Global, made: &DictFault) -> bool {
-        *made == self.2
+    fn is_row(&self, _alloc: Global, made: &Option<DictFault>) -> bool {
+        *made == Some(self.2)
     }
 }
 

@@ -1,7 +1,7 @@
 //! Octets that are no message, in every state.
 
-use super::octets::{BROKEN, CEA_OF_A};
-use super::{Done, I, NEW, R, Standing, Told, check_each};
+use super::octets::{BROKEN, CEA_OF_A, CER_OF_B, DPR_1};
+use super::{Case, Done, I, NEW, NOTHING, R, Standing, Told, check_each, check_runs};
 use dm_peer::State;
 
 /// On a new connection: it is closed.
@@ -84,4 +84,21 @@ fn broken_octets_while_waiting(rt: HostRuntime) {
 #[test]
 fn broken_octets_on_an_open_connection(rt: HostRuntime) {
     check_each(&rt, &OPEN);
+}
+
+/// Closing, entered from R-Open.
+const CLOSING: [Case<'static>; 4] = [
+    (
+        Told::Hears(R, CER_OF_B),
+        &[Done::Send(R, CEA_OF_A)],
+        State::ROpen,
+    ),
+    (Told::Stop, &[Done::Send(R, DPR_1)], State::Closing),
+    (Told::Hears(NEW, BROKEN), ON_NEW, State::Closing),
+    (Told::Hears(R, BROKEN), &[Done::Close(R)], State::Closed),
+];
+
+#[test]
+fn broken_octets_on_an_accepted_connection(rt: HostRuntime) {
+    check_runs(&rt, &[(b"a.example", b"b.example", 4, &CLOSING, NOTHING)]);
 }
