@@ -1,9 +1,10 @@
 //! Readers and writers that give or take little, fail, or never end.
 use super::{SHORT, SHORT_TEXT, WATCHDOG_REQUEST, WATCHDOG_TEXT};
-use dm_tool::{INPUT_LIMIT, ToolFault, run_show};
+use dm_tool::{Ended, INPUT_LIMIT, Source, ToolFault, run_program, run_show};
 use std::alloc::Global;
 use std::io;
 use std::io::{Error, ErrorKind, Read, Write};
+use std::process::Abort;
 
 /// Gives one octet a read, and is interrupted before each.
 #[derive(Drop)]
@@ -234,4 +235,34 @@ fn writer_takes_nothing(rt: HostRuntime) {
     let done = run_show(rt.alloc(), &mut SHORT.as_bytes(), &mut Full);
     assert!(rt; done == Err(ToolFault::Write));
     assert!(rt; clogs(rt.alloc()));
+}
+
+/// How the program ends with the word `show` on these streams.
+fn shows<S: Source, W: Write, E: Write>(
+    rt: &(impl Abort + AllocGlobal),
+    reader: &mut S,
+    writer: &mut W,
+    errors: &mut E,
+) -> Ended {
+    let mut words = Vec::new(rt.alloc());
+    let word = String::from_str(rt.alloc(), "show").expect(rt, "memory");
+    words.push(word).expect(rt, "memory");
+    run_program(rt.alloc(), Ok(words), reader, writer, errors)
+}
+
+/// The status tells of a device that fails, also where standard error fails too.
+#[test]
+fn the_program_tells_of_devices(rt: HostRuntime) {
+    let mut reader = Breaks {
+        rest: SHORT.as_bytes(),
+    };
+    let mut errors = Vec::new(rt.alloc());
+    let ended = shows(&rt, &mut reader, &mut Full, &mut errors);
+    assert!(rt; ended.status == 3 && ended.told);
+    assert!(rt; errors.as_slice() == "dmpeer: read\n".as_bytes());
+    let ended = shows(&rt, &mut SHORT.as_bytes(), &mut Full, &mut errors);
+    assert!(rt; ended.status == 3 && ended.told);
+    assert!(rt; errors.as_slice() == "dmpeer: read\ndmpeer: write\n".as_bytes());
+    let ended = shows(&rt, &mut SHORT.as_bytes(), &mut Full, &mut Full);
+    assert!(rt; ended.status == 3 && !ended.told);
 }

@@ -1,7 +1,7 @@
 //! What the words of the command line run, what that prints, and how the program ends.
 use super::{SHORT, SHORT_TEXT, WATCHDOG_REQUEST, WATCHDOG_TEXT};
 use dm_text::{read_long_number, read_number};
-use dm_tool::{ending, run_words};
+use dm_tool::{Held, WordsFault, ending, run_program, run_words};
 use std::process::Abort;
 
 /// A message without the Origin-Host that its command wants, without spaces.
@@ -94,6 +94,60 @@ fn other_words_run_nothing(rt: HostRuntime) {
         ("build build", SHORT_TEXT, "", 2, "dmpeer: usage"),
     ];
     assert_ends(&rt, rows);
+}
+
+/// Whether the program prints this text for the words and the input, and this on standard error, and ends with this status.
+fn says(
+    rt: &(impl Abort + AllocGlobal),
+    words: Result<Vec<String>, WordsFault>,
+    input: &str,
+    want: &str,
+    line: &str,
+    status: u8,
+) -> bool {
+    let mut reader = Held {
+        rest: input.as_bytes(),
+    };
+    let mut text = Vec::new(rt.alloc());
+    let mut errors = Vec::new(rt.alloc());
+    let ended = run_program(rt.alloc(), words, &mut reader, &mut text, &mut errors);
+    let same = text.as_slice() == want.as_bytes() && errors.as_slice() == line.as_bytes();
+    drop(text);
+    drop(errors);
+    same && ended.told && ended.status == status
+}
+
+/// With statuses 2 and 3 a line stands on standard error, and with the others nothing.
+#[test]
+fn the_program_tells_how_it_ends(rt: HostRuntime) {
+    let rows = &[
+        ("show", SHORT, SHORT_TEXT, "", 0),
+        ("show", "0g", "fault hex\n", "", 1),
+        ("paint", SHORT, "", "dmpeer: usage\n", 2),
+        ("show --dict", SHORT, "", "dmpeer: usage\n", 2),
+    ];
+    for (words, input, want, line, status) in rows {
+        let list = word_list(&rt, words);
+        assert!(rt;
+            says(&rt, Ok(list), input, want, line, *status),
+            "of {words}"
+        );
+    }
+}
+
+/// A word that isn't UTF-8 chooses no command, and without memory for the words none is run.
+#[test]
+fn words_that_are_not_there(rt: HostRuntime) {
+    let rows = &[
+        (WordsFault::NotText, "dmpeer: usage\n", 2),
+        (WordsFault::NoMemory, "dmpeer: memory\n", 3),
+    ];
+    for (fault, line, status) in rows {
+        assert!(rt;
+            says(&rt, Err(*fault), SHORT, "", line, *status),
+            "of {line}"
+        );
+    }
 }
 
 /// The greatest numbers of 32 and 64 bits, and words that tell none.
