@@ -1,5 +1,5 @@
-//! The laws of two peers that move as the state machine: each is the contract of a function that does nothing but call other
-//! laws. They stand for the users of this crate.
+//! The laws of two peers that move as the state machine: each is the contract of a function that does nothing but call
+//! other laws. They stand for the users of this crate.
 //!
 //! `P` is the state of a peer and `M` a message: a world of peers over octets takes its own types for them.
 ghost use Rattle.dm_links.specs.Bare.{OnlyUpLinksCarry};
@@ -59,8 +59,6 @@ pub fn each_run_delivers<P, M>()
     each_step_keeps_shape();
 }
 
-/// A run without losses of two closed peers, from where nothing is under way, puts in at most two CERs, one CEA and two
-/// disconnects; where a Start is taken and it falls quiet, both are open on the connection that the election keeps.
 /// A run without losses of two closed peers, from where nothing is under way, puts in one course, up to what is
 /// still to come: a CER on each connection that a taken Start made, from its opener; then, where both sides
 /// started, the winner's disconnect of its own; the CEA on the one that the election keeps, with the number of its
@@ -136,13 +134,9 @@ pub fn acks_make_ends<P, M>()
     ensures { AcksMakeEnds P M }
 {}
 
-/// It makes no difference how messages were cut: a piece that ends no message changes nothing but the octets delivered, one
-/// that ends its message is the delivery, and a loss is the one of whole messages. A piece counts as a step just where it
-/// ends its message.
-/// that ends its message is the delivery, and a loss is the one of whole messages, in its effect and in what it puts in too.
 /// It makes no difference how messages were cut: a piece that ends no message changes nothing but the octets
-/// delivered, one that ends its message is the delivery, and a loss is the one of whole messages. A piece counts as a
-/// step just where it ends its message.
+/// delivered, one that ends its message is the delivery, and a loss is the one of whole messages, in its effect and in
+/// what it puts in too. A piece counts as a step just where it ends its message.
 pub fn pieces_add_up<P, M>()
     ensures pieces { EachPieceAddsUp P M }
     ensures counts { EachPieceCounts P M }

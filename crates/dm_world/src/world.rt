@@ -106,8 +106,8 @@ impl World {
         self.net.pair.of(side)
     }
 
-    /// Happenings, one after the other, up to the first that isn't applied. It answers how many were, and why the next one
-    /// wasn't.
+    /// Happenings, one after the other, up to the first that isn't applied. It answers how many were, and why the next
+    /// one wasn't.
     ///
     /// Whatever happens, in whatever order: neither side is open on two connections, and if both are open, it is on one
     /// connection in opposite roles, or a disconnect is coming to each on its own. What a side holds is a link that is
