@@ -152,15 +152,44 @@ fn quiet_world(rt: &(impl Abort + AllocGlobal), text: &str) -> World {
     made.expect(rt, "a world")
 }
 
-#[test]
-fn worlds_lose_and_restart(rt: HostRuntime) {
-    let list = list_of(&rt, ANSWERED);
-    let mut world = quiet_world(&rt, ANSWERED);
+/// The same world after its script.
+fn answered_world(rt: &(impl Abort + AllocGlobal)) -> World {
+    let list = list_of(rt, ANSWERED);
+    let mut world = quiet_world(rt, ANSWERED);
     let ran = world.run(rt.alloc(), list.as_slice()) == (3, None);
     drop(list);
-    assert!(&rt; ran);
+    assert!(rt; ran);
+    world
+}
+
+#[test]
+fn worlds_lose_and_restart(rt: HostRuntime) {
+    let mut world = answered_world(&rt);
     refuse_each(rt.alloc());
     let right = loses_and_restarts(rt.alloc(), &mut world);
+    check_quiet(&rt, right);
+    drop(world);
+}
+
+fn is_ignored(alloc: Global, world: &mut World, happening: &Happening) -> bool {
+    world.apply(alloc, happening) == Ok(Effect::Ignored)
+}
+
+/// No connect is pending and nothing comes to B; A gives up, and its end drops the CEA that comes whole.
+fn ignores_and_drops(alloc: Global, world: &mut World) -> bool {
+    is_ignored(alloc, world, &Happening::Ack(Conn(0)))
+        && is_ignored(alloc, world, &Happening::Nack(Conn(0)))
+        && is_ignored(alloc, world, &Happening::Deliver(Conn(0), Side::B))
+        && is_ignored(alloc, world, &Happening::Piece(Conn(0), Side::B, 3))
+        && is_done(alloc, world, &Happening::Timeout(Side::A))
+        && is_done(alloc, world, &Happening::Deliver(Conn(0), Side::A))
+}
+
+#[test]
+fn worlds_drop_at_a_shut_end(rt: HostRuntime) {
+    let mut world = answered_world(&rt);
+    refuse_each(rt.alloc());
+    let right = ignores_and_drops(rt.alloc(), &mut world);
     check_quiet(&rt, right);
     drop(world);
 }

@@ -2,7 +2,7 @@
 use crate::messages::node;
 use crate::rows::*;
 use dm_base::{Kind, KindRef, Node, classify, common, common_nodes, host_order, secure, view};
-use dm_dict::{AvpType, Dictionary, Ip, Judged, least_len, unix_seconds};
+use dm_dict::{AvpType, Dictionary, Ip, Judged, Verdict, least_len, unix_seconds};
 use dm_refusal::{refuse_each, was_asked};
 use dm_wire::{Avp, AvpWalk, Framer, Message, MessageRef, Octets, WireFault};
 use std::alloc::Global;
@@ -83,6 +83,49 @@ fn dictionaries_are_asked(rt: HostRuntime) {
     let bad = octets(&rt, TWICE);
     let base = Dictionary::base(rt.alloc()).expect(&rt, "memory");
     check_dictionary(&rt, &base, &[good.as_slice(), bad.as_slice()]);
+    drop(base);
+}
+
+/// The Result-Code that `check` answers without a failed AVP: 0 where the message is good.
+fn checked(alloc: Global, dictionary: &Dictionary, message: &Message) -> Option<u32> {
+    match dictionary.check(alloc, message) {
+        Ok(Verdict::Good) => Some(0),
+        Ok(Verdict::Bad { code, failed: None }) => Some(code),
+        _ => None,
+    }
+}
+
+/// Whether the message is of the command of a watchdog, or of none that is looked at.
+fn is_told(alloc: Global, base: &Dictionary, message: &Message, is_watchdog: bool) -> bool {
+    match classify(alloc, base, message) {
+        Ok(Kind::Dwr) => is_watchdog,
+        Ok(Kind::Other) => !is_watchdog,
+        _ => false,
+    }
+}
+
+/// The verdicts and kinds of a watchdog that want no memory.
+fn check_verdicts(rt: &(impl Abort + AllocGlobal), base: &Dictionary, octets: &[u8]) {
+    let alloc = rt.alloc();
+    let mut message = Message::decode(alloc, octets).expect(rt, "a message");
+    let empty = Dictionary::empty(alloc);
+    refuse_each(alloc);
+    let good = checked(alloc, base, &message) == Some(0) && is_told(alloc, base, &message, true);
+    let unknown = checked(alloc, &empty, &message) == Some(3001);
+    message.header.error = true;
+    let bits = checked(alloc, base, &message) == Some(3008);
+    message.header.command = 300;
+    let other = is_told(alloc, base, &message, false);
+    check_quiet(rt, good && unknown && bits && other);
+    drop(empty);
+    drop(message);
+}
+
+#[test]
+fn verdicts_without_an_avp(rt: HostRuntime) {
+    let watchdog = octets(&rt, WATCHDOG);
+    let base = Dictionary::base(rt.alloc()).expect(&rt, "memory");
+    check_verdicts(&rt, &base, watchdog.as_slice());
     drop(base);
 }
 
