@@ -51,8 +51,8 @@ fn kind_by(alloc: Global, command: u32, request: bool, avps: AvpsRef<'_>) -> Res
 /// What kind of message the message is (RFC 6733, 5.3 to 5.5). One of the commands 257, 280 and 282 is checked by the
 /// dictionary, and its command and R bit tell the kind then; one of another command is `Other`, and isn't checked.
 ///
-/// Refuses with `Bad` and the verdict where such a message is bad, else with `NoMemory`. It takes memory for the
-/// capabilities of a good CER and for the failed AVP of a bad message alone.
+/// Refuses with `Bad` and the verdict where such a message is bad, else with `NoMemory`, which comes only for the
+/// capabilities of a good CER and for the failed AVP of a bad message.
 pub fn classify(
     alloc: Global,
     dictionary: &Dictionary,

@@ -38,8 +38,9 @@ pub fn each_run_carries()
     open_connections_carry();
 }
 
-/// Where a connection that the peer has closed isn't named again, it stays unheld, and nothing is sent on it; nor is
-/// anything behind the Close at the same event.
+/// Where no connection that the peer has closed is named again, each of these stays unheld, and nothing is sent on it at
+/// an event that doesn't name it. Behind a Close at the same event nothing is sent on its connection, whatever the
+/// driver does.
 pub fn each_close_is_last()
     ensures last { EachCloseIsLast }
     ensures behind { NothingFollowsClose }

@@ -79,9 +79,9 @@ impl World {
     /// One happening: it is done, or ignored with nothing changed.
     ///
     /// Refuses with `NoLink` where it names a link that isn't there, and with `NoMemory` where a growth was refused.
-    /// The world is then what it was. No Timeout, Restart or Lose takes memory; nor does an Ack or a Nack of a connect
-    /// that isn't pending, a delivery or a piece where nothing comes, or what comes whole to a shut end, which drops
-    /// it.
+    /// The world is then what it was. No Timeout, Restart or Lose answers `NoMemory`; nor does an Ack or a Nack of a
+    /// connect that isn't pending, a delivery or a piece where nothing comes, or what comes whole to a shut end, which
+    /// drops it.
     pub fn apply(&mut self, alloc: Global, happening: &Happening) -> Result<Effect, WorldFault>
         ensures step { IfOk result (λ effect. Effects effect
             (happens octet_peers (as_world self.old.net) (as_happening happening.now)) (as_world self.old.net)
