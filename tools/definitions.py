@@ -115,7 +115,7 @@ def read_plain(tokens, found):
 def read_vendor(tokens, found):
     """Reads a vendor, as a number or a name behind a colon, where there is one."""
     if tokens.take_if(":"):
-        return found.vendors[tokens.take(*found.vendors)]
+        return found.vendors[tokens.take(*(found.vendors or ["a vendor's name"]))]
     return tokens.number() if (tokens.peek() or "").isdigit() else None
 
 
