@@ -53,9 +53,9 @@ def damaged_lists(avps, definitions, foreign):
         yield [*before, avp._replace(data=avp.data[:-1]), *behind]
         yield [*before, avp._replace(vendor=0, flags=avp.flags | 0x80), *behind]
         yield from ([*before, avp._replace(data=data), *behind] for data in values_of(known))
-    yield avps[::-1]
+    yield from ([], avps[::-1], [*avps, *avps])
     yield [*avps, Held(UNKNOWN, None, M, b"")]
-    yield [*avps, Held(UNKNOWN, None, 0, b"")]
+    yield from ([*avps, *[Held(UNKNOWN, None, 0, b"")] * count] for count in (1, 2))
     yield from ([*avps, it] for it in foreign)
 
 
