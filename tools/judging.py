@@ -5,6 +5,7 @@ It takes definitions from elsewhere than the program does, and says of a message
 import collections
 import functools
 import re
+import struct
 
 # An AVP as it lies in octets: the vendor is None where V isn't set.
 Held = collections.namedtuple("Held", "code vendor flags data")
@@ -24,10 +25,13 @@ def held_in(octets):
     """Returns the AVPs (a tuple) that octets spell, or None where they are no sequence of whole padded AVPs."""
     found, at = [], 0
     while at < len(octets):
-        code, flags, length = (int.from_bytes(octets[at + a : at + b], "big") for a, b in ((0, 4), (4, 5), (5, 8)))
+        if len(octets) - at < 8:
+            return None
+        code, word = struct.unpack_from(">II", octets, at)
+        flags, length = word >> 24, word & 0xFFFFFF
         head = 12 if flags & V else 8
         end = at + (length + 3) // 4 * 4
-        if length < head or end > len(octets) or len(octets) - at < head:
+        if length < head or end > len(octets):
             return None
         vendor = int.from_bytes(octets[at + 8 : at + 12], "big") if flags & V else None
         found.append(Held(code, vendor, flags, octets[at + head : at + length]))
@@ -35,6 +39,7 @@ def held_in(octets):
     return tuple(found)
 
 
+@functools.lru_cache(maxsize=4096)
 def spelled(avp):
     """Returns the octets of an AVP with its padding."""
     vendor = b"" if avp.vendor is None else avp.vendor.to_bytes(4, "big")
