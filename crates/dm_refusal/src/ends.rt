@@ -1,4 +1,6 @@
 //! How a call ended, of which one request for memory may have been refused.
+ghost use Rattle.std.specs.Prelude.{◌≡◌, true, false};
+ghost use Rattle.dm_refusal.specs.declared.ends.End.{End};
 
 /// How it ended.
 #[derive(Clone, Copy, Debug, PartialEq, Eq)]
@@ -18,7 +20,10 @@ pub enum End {
 }
 
 /// The end of a call that answered, as its row or not.
-pub fn answered(refused: bool, right: bool) -> End {
+pub fn answered(refused: bool, right: bool) -> End
+    ensures right { result ≡ End.Whole → right ≡ true }
+    ensures unrefused { result ≡ End.Whole → refused ≡ false }
+{
     if !right {
         End::Changed
     } else if refused {
@@ -29,7 +34,10 @@ pub fn answered(refused: bool, right: bool) -> End {
 }
 
 /// The end of a call that wanted memory, and then answered as its row or not.
-pub fn repeated(refused: bool, right: bool) -> End {
+pub fn repeated(refused: bool, right: bool) -> End
+    ensures right { result ≡ End.Again → right ≡ true }
+    ensures refused { result ≡ End.Again → refused ≡ true }
+{
     if !refused {
         End::Alone
     } else if right {
@@ -40,7 +48,10 @@ pub fn repeated(refused: bool, right: bool) -> End {
 }
 
 /// The first end, or the second where that is worse: Whole is best, then Again.
-pub fn worse(one: End, other: End) -> End {
+pub fn worse(one: End, other: End) -> End
+    ensures one { result ≡ End.Whole → one ≡ End.Whole }
+    ensures other { result ≡ End.Whole → other ≡ End.Whole }
+{
     match (one, other) {
         (End::Whole, other) => other,
         (one, End::Whole) => one,
