@@ -10,9 +10,9 @@ use Rattle.dm_machine.specs.Unread.{reads_first}
 use Rattle.dm_links.specs.Machine.{conn, Conn, Node, tie_of, is_held, closed_node}
 use Rattle.dm_links.specs.Links.{Side, flip, Up, Open, Shut, NoMark, Coming, Delivered, View, link_of}
 use Rattle.dm_links.specs.Peers.{Ack, Gone, Arrived, Action, Send, Close, Peers, concern_by}
-use Rattle.dm_links.specs.Steps.{stepped}
 use Rattle.dm_links.specs.Worlds.{World, peer_at, Put, Message, Disconnect, put_if_fresh, told}
 use Rattle.dm_links.specs.Electing.{Talks, Reads, acks, ends, asks, passes, answers, holds_cer, cer_to_answer, IsElecting}
+use Rattle.dm_links.proofs.Columns.{stepped}
 use Rattle.dm_links.proofs.Pairs.{IsPair, ab, ba, mirror, Stands, At, not_same}
 use Rattle.dm_links.proofs.Told.{Goes}
 use Rattle.dm_links.proofs.Turns.{wait_conn_ack, wait_i_cea, elect, returns, r_open, i_open, out_ack, out_ack_lose, out_ack_win, out_cer_closed, out_cer_wait, out_cer_lose, out_cer_win, out_reject, out_cea, out_cea_returns, out_gone}

@@ -8,12 +8,12 @@ use Rattle.dm_links.specs.Machine.{conn, Node, Concern, AcksIt, EndsIt, HeardOnI
 use Rattle.dm_links.specs.Links.{Side, A, B, flip, opens, LinkPhase, Pending, Up, Cancelled, End, Fresh, Open, Shut, Link, View}
 use Rattle.dm_links.specs.Peers.{Event, Start, Stop, Timeout, Tick, Ack, Nack, Gone, Submit, Arrived, Action, Send, Close, Connect, Reply, Acts, Declines, Peers, concern_by, order_of, sends_at}
 use Rattle.dm_links.specs.Peers as peers
-use Rattle.dm_links.specs.Steps.{words_at}
 use Rattle.dm_links.specs.Worlds.{World, peer_at}
 use Rattle.dm_links.specs.Happens.{Happening, Loses, own_view}
 use Rattle.dm_links.specs.Facts.{Standing, turned, is_sound, is_up, is_pending, is_open_end, is_shut, is_none, is_coming, IsSound}
 use Rattle.dm_links.specs.Turns.{Turn}
 use Rattle.dm_links.specs.Delivery.{apps, is_open_hold, is_closing_hold, is_done_hold, is_unmade, sends_all, IsCarrier}
+use Rattle.dm_links.proofs.Columns.{words_at}
 use Rattle.dm_links.proofs.Every.{all_true, every_bool, every_tie, every_phase, every_end, every_mark, every_standing, at_standing}
 use Rattle.dm_links.proofs.Checks.{is_ready, when, is_when, is_handed, is_open_tie, same_bool}
 use Rattle.dm_links.proofs.Events.{side_sound}

@@ -4,9 +4,10 @@ use Rattle.std.proofs.lemmas.Bool.{eqb-true}
 use Rattle.dm_links.specs.Machine.{conn, Concern, EndsIt, HeardOnIt}
 use Rattle.dm_links.specs.Links.{Side, A, B, flip, LinkPhase, Up, End, Shut, Mark, Coming, Delivered, Link, by_side}
 use Rattle.dm_links.specs.Peers.{Gone, Arrived, Peers}
-use Rattle.dm_links.specs.Steps.{outgoing_mark_at, messages_at, entered}
+use Rattle.dm_links.specs.Steps.{entered}
 use Rattle.dm_links.specs.Worlds.{World, peer_at, with_links, change_at, Done, dropped}
 use Rattle.dm_links.specs.Happens.{own_view}
+use Rattle.dm_links.proofs.Columns.{outgoing_mark_at, messages_at}
 use Rattle.dm_links.proofs.Closing.{CarriesOn}
 use Rattle.dm_links.proofs.Lists.{change_at-tested}
 use Rattle.dm_links.proofs.Hearing.{may_hear}

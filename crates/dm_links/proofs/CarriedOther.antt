@@ -6,11 +6,11 @@ use Rattle.dm_machine.specs.Connection.{hold_of}
 use Rattle.dm_links.specs.Machine.{conn, Node, Tie, tie_of}
 use Rattle.dm_links.specs.Links.{Side, A, B, flip, opens, Link, by_side}
 use Rattle.dm_links.specs.Peers.{Event, Start, Stop, Timeout, Tick, Ack, Nack, Gone, Submit, Arrived, Action, Acts, Peers, concern_by, order_of, sends_at}
-use Rattle.dm_links.specs.Steps.{words_at}
 use Rattle.dm_links.specs.Worlds.{World, peer_at}
 use Rattle.dm_links.specs.Happens.{own_view}
 use Rattle.dm_links.specs.Facts.{is_shut}
 use Rattle.dm_links.specs.Delivery.{submitted_by, raised_by, ups_of, apps, is_open_hold, IsSubmitted}
+use Rattle.dm_links.proofs.Columns.{words_at}
 use Rattle.dm_links.proofs.Checks.{is_open_tie}
 use Rattle.dm_links.proofs.Closing.{CarriesOn}
 use Rattle.dm_links.proofs.Keeps.{Hands}

@@ -4,12 +4,12 @@ use Rattle.dm_machine.specs.Connection.{hold_of}
 use Rattle.dm_links.specs.Machine.{conn, Elsewhere, is_held}
 use Rattle.dm_links.specs.Links.{Side, A, B, flip, opens, Link, View, by_side, new_link}
 use Rattle.dm_links.specs.Peers.{Event, Start, Submit, Action, Reply, Acts, Declines, Peers}
-use Rattle.dm_links.specs.Steps.{acted, words_at, is_closed_at}
 use Rattle.dm_links.specs.Worlds.{World, peer_at, perform, answered}
 use Rattle.dm_links.specs.Happens.{own_view}
 use Rattle.dm_links.specs.Facts.{is_up, is_open_end}
 use Rattle.dm_links.specs.Turns.{turn_by}
 use Rattle.dm_links.specs.Delivery.{ups_of, apps}
+use Rattle.dm_links.proofs.Columns.{acted, words_at, is_closed_at}
 use Rattle.dm_links.proofs.Checks.{is_when, conclusion}
 use Rattle.dm_links.proofs.Closing.{CarriesOn}
 use Rattle.dm_links.proofs.Views.{acted_summed}

@@ -6,14 +6,15 @@ use Rattle.dm_machine.specs.Connection.{hold_of}
 use Rattle.dm_links.specs.Machine.{conn, Concern, HeardOnIt, tie_of, is_held}
 use Rattle.dm_links.specs.Links.{Side, flip, opens, LinkPhase, Up, End, Link, View, by_side}
 use Rattle.dm_links.specs.Peers.{Event, Arrived, Action, Acts, Peers, concern_by}
-use Rattle.dm_links.specs.Steps.{phase_at, own_at, messages_at, phase_after, own_after, own_settled, entered, words_at, is_closed_at, settled, stepped}
+use Rattle.dm_links.specs.Steps.{own_settled, settled}
 use Rattle.dm_links.specs.Worlds.{World, peer_at, with_peer, enter, perform, settle}
 use Rattle.dm_links.specs.Happens.{own_view}
 use Rattle.dm_links.specs.Facts.{Standing, is_up, is_open_end, is_shut, is_none}
 use Rattle.dm_links.specs.Delivery.{ups_of, apps, is_open_hold}
+use Rattle.dm_links.proofs.Columns.{phase_at, own_at, messages_at, phase_after, own_after, words_at, is_closed_at, stepped}
 use Rattle.dm_links.proofs.Checks.{step_at, is_when, is_handed, is_open_tie, conclusion}
 use Rattle.dm_links.proofs.Closing.{CarriesOn}
-use Rattle.dm_links.proofs.Views.{acted_summed}
+use Rattle.dm_links.proofs.Views.{acted_entered}
 use Rattle.dm_links.proofs.Lists.{IsStart, stepped_at}
 use Rattle.dm_links.proofs.Pairs.{mirror, links_after}
 use Rattle.dm_links.proofs.Events.{side_sound, standing_at}
@@ -65,7 +66,7 @@ module _ {P M : Type 0} (m : Peers P M) (is_app : M → Bool) (stands : P → Bo
       let over' = over_of (m.node_of p) c in
       subst (λ (x : View M). OnView is_app lost over' x said up)
       (sym (view_own t (stepped_by c e actions p) l
-      ∙ ap (λ (x : View M). settled k holds x) (acted_summed c actions (entered k v))))
+      ∙ ap (λ (x : View M). settled k holds x) (acted_entered c actions k v)))
       (own_calm is_app lost k (is_closed_at c actions) holds (over_of (m.node_of (peer_at t w)) c) over' v.phase v.own
       v.other v.incoming.messages v.incoming.mark said up calm
       (own_fits t w c e p actions l good at replies handed) way)
@@ -115,7 +116,7 @@ module _ {P M : Type 0} (m : Peers P M) (is_app : M → Bool) (stands : P → Bo
       (up ++ ups_of actions)) (sym is)
       (subst (λ (y : View M). OnView is_app lost over' y said (up ++ ups_of actions))
       (sym (view_own t (stepped HeardOnIt holds c actions) l
-      ∙ ap (λ (y : View M). settled HeardOnIt holds y) (acted_summed c actions (entered HeardOnIt v))))
+      ∙ ap (λ (y : View M). settled HeardOnIt holds y) (acted_entered c actions HeardOnIt v)))
       (subst (λ q. W q v.incoming.messages) (sym ready.0) (subst (λ ms. W Up ms) (sym front) after)))
     where
       is_after : Bool → LinkPhase → LinkPhase
@@ -150,7 +151,7 @@ module _ {P M : Type 0} (m : Peers P M) (is_app : M → Bool) (stands : P → Bo
       let same : own_view (flip t) l ≡ mirror v = mirrored t l.opener l in
       subst (λ (x : View M). OnView is_app lost over x (said ++ new) up)
       (sym (view_other t (stepped_by c e actions p) l
-      ∙ ap (λ (x : View M). mirror (settled k holds x)) (acted_summed c actions (entered k (mirror v)))))
+      ∙ ap (λ (x : View M). mirror (settled k holds x)) (acted_entered c actions k (mirror v))))
       (other_acts is_app lost k (is_closed_at c actions) holds over v.phase v.own v.other v.incoming.messages
       (words_at c actions) new v.incoming.mark said up words this
       (λ a. handed_ack mine k st handed a)

@@ -3,9 +3,10 @@ use Rattle.std.proofs.Common.{◌≡◌, ◌⊎◌, inl, inr, ℕ, Bool, true, f
 use Rattle.std.proofs.lemmas.Bool.{and_parts, and_from}
 use Rattle.dm_links.specs.Machine.{Concern, Elsewhere, StartsIt, AcksIt, NacksIt, EndsIt, HeardOnIt, Tie, Unheld, Connecting, Made, MadeOpen, Taken, is_held}
 use Rattle.dm_links.specs.Links.{LinkPhase, Pending}
-use Rattle.dm_links.specs.Steps.{marked, phase_at, own_at, other_at, incoming_mark_at, outgoing_mark_at, phase_after, own_after, mark_after, own_settled}
+use Rattle.dm_links.specs.Steps.{marked, own_settled}
 use Rattle.dm_links.specs.Worlds.{takes}
 use Rattle.dm_links.specs.Facts.{Standing, turned, is_sound, is_pending, is_up, is_fresh, is_open_end, is_shut, is_none, is_coming}
+use Rattle.dm_links.proofs.Columns.{phase_at, own_at, other_at, incoming_mark_at, outgoing_mark_at, phase_after, own_after, mark_after}
 use Rattle.dm_links.proofs.Every.{all_true, at, nth, every_bool, every_tie, every_concern, every_phase, every_end, every_mark, every_standing, at_bool, at_tie, at_concern, at_standing}
 
 -- where the first test holds, the second

@@ -6,13 +6,14 @@ use Rattle.dm_links.specs.Machine.{conn, Concern, Elsewhere, StartsIt, AcksIt, N
 use Rattle.dm_links.specs.Links.{Side, flip, opens, LinkPhase, Pending, Up, Cancelled, End, Fresh, Open, Shut, Mark, NoMark, Coming, Delivered, Link, View, view_of, link_of, by_side, new_link}
 use Rattle.dm_links.specs.Peers.{Event, Start, Stop, Timeout, Tick, Ack, Nack, Gone, Submit, Arrived, Action, Send, Close, Connect, Reply, Acts, Declines, Peers, concern_by}
 use Rattle.dm_links.specs.Peers as peers
-use Rattle.dm_links.specs.Steps.{messages_at, taken_at, added, entered, summed, shut, acted, words_at, is_closed_at, stepped}
+use Rattle.dm_links.specs.Steps.{added, entered, shut}
 use Rattle.dm_links.specs.Worlds.{World, peer_at, with_peer, with_links, change_at, enter, perform, settle, After, Done, Ignored, NoLink, answered, told, dropped}
 use Rattle.dm_links.specs.Happens.{Happening, Starts, Stops, TimesOut, Ticks, Restarts, Acks, Nacks, Delivers, Pieces, Loses, Submits, Next, NextMessage, NextDisconnect, NextNothing, next_in, comes, delivered, taking, pieced, whole_in, taken_of, lost_messages, lost, lost_link, kept_at, are_shut, restarted, restart_links, if_up, if_pending, at_link, own_view, happens, world_after, Ran, ran_on, run_from}
 use Rattle.dm_links.specs.Streams.{are_sized, is_cut, is_cut_way, is_cut_link, AreCut, sends_sized, IsSized}
+use Rattle.dm_links.proofs.Columns.{entered_by_columns, messages_at, taken_at, summed, acted, words_at, is_closed_at, stepped}
 use Rattle.dm_links.proofs.Lists.{IsStart, mapped_some, change_at-tested, performed_at, entered_at, stepped_at}
 use Rattle.dm_links.proofs.Keeps.{appended_at}
-use Rattle.dm_links.proofs.Views.{acted_summed}
+use Rattle.dm_links.proofs.Views.{acted_summed, shut_is_summed}
 use Rattle.dm_links.proofs.Pairs.{links_after}
 
 -- lists of messages
@@ -114,7 +115,7 @@ side_cut size s f l keeps h =
     (keeps (view_of mine l) (view_cut size mine l h))
 
 entered_cut : {M : Type 0} (size : M → ℕ) (k : Concern) (v : View M) → CutView size v → CutView size (entered k v)
-entered_cut size k v h =
+entered_cut size k v h = subst (λ u. CutView size u) (sym (entered_by_columns k v))
     record { incoming = way_at size k v.incoming.messages v.incoming.taken h.incoming; outgoing = h.outgoing }
 
 summed_cut : {M : Type 0} (size : M → ℕ) (closed : Bool) (words : List M) (v : View M) →
@@ -208,13 +209,16 @@ lost_cut size a b l h =
     (lost_at size near l.to_near.taken l.to_near.messages l.to_near.mark parts.0)
     (lost_at size far l.to_far.taken l.to_far.messages l.to_far.mark parts.1)
 
+shut_cut : {M : Type 0} (size : M → ℕ) (v : View M) → CutView size v → CutView size (shut v)
+shut_cut size v h = subst (λ u. CutView size u) (sym (shut_is_summed v)) (summed_cut size true [] v refl h)
+
 -- a restart
 restarted_by : {M : Type 0} (size : M → ℕ) (mine : Bool) (p : LinkPhase) (v : View M) → CutView size v →
     CutView size (elim p [ Pending ↦ elim mine [ true ↦ shut v | false ↦ v ] | _ ↦ shut v ])
-restarted_by size true Pending v h = summed_cut size true [] v refl h
+restarted_by size true Pending v h = shut_cut size v h
 restarted_by size false Pending v h = h
-restarted_by size mine Up v h = summed_cut size true [] v refl h
-restarted_by size mine Cancelled v h = summed_cut size true [] v refl h
+restarted_by size mine Up v h = shut_cut size v h
+restarted_by size mine Cancelled v h = shut_cut size v h
 
 restarted_cut : {M : Type 0} (size : M → ℕ) (mine : Bool) (v : View M) → CutView size v →
     CutView size (restarted mine v)

@@ -6,11 +6,12 @@ use Rattle.std.proofs.lemmas.Option.{slice_get_within}
 use Rattle.dm_links.specs.Machine.{conn, Node, Concern, Elsewhere, AcksIt, NacksIt, EndsIt, HeardOnIt, if_named, Tie, tie_of}
 use Rattle.dm_links.specs.Links.{Side, A, B, flip, opens, LinkPhase, Pending, Up, Cancelled, End, Fresh, Open, Shut, Mark, NoMark, Coming, Delivered, Link, View, view_of, by_side}
 use Rattle.dm_links.specs.Peers.{Event, Start, Gone, Arrived, Reply, Acts, Declines, Peers, concern_by}
-use Rattle.dm_links.specs.Steps.{messages_at, entered}
+use Rattle.dm_links.specs.Steps.{entered}
 use Rattle.dm_links.specs.Worlds.{World, peer_at, with_peer, with_links, change_at, After, Done, Ignored, answered, told}
 use Rattle.dm_links.specs.Happens.{Next, NextMessage, NextDisconnect, NextNothing, next_in, comes, delivered, taking, pieced, if_up, if_pending, at_link, own_view, world_after}
 use Rattle.dm_links.specs.Follows.{IsMachine}
 use Rattle.dm_links.specs.Facts.{Standing, turned, is_empty, is_sound, is_up, is_shut, is_coming, standing, IsSoundView, IsSoundLink, AreSound, IsSound}
+use Rattle.dm_links.proofs.Columns.{messages_at}
 use Rattle.dm_links.proofs.Every.{at_bool}
 use Rattle.dm_links.proofs.Checks.{is_when, is_handed, standing_entered, spent_of}
 use Rattle.dm_links.proofs.Ties.{MachineLaws, ties_kept}

@@ -4,14 +4,14 @@ use Rattle.std.proofs.lemmas.Option.{slice_get-map}
 use Rattle.dm_links.specs.Machine.{conn, Elsewhere, AcksIt, NacksIt, Tie, Unheld, tie_of, closed_node}
 use Rattle.dm_links.specs.Links.{Side, A, flip, opens, LinkPhase, Pending, Up, Cancelled, End, Mark, NoMark, Coming, Delivered, Direction, Link, View, view_of, by_side}
 use Rattle.dm_links.specs.Peers.{Start, Stop, Timeout, Tick, Ack, Nack, Submit, Peers}
-use Rattle.dm_links.specs.Steps.{summed}
 use Rattle.dm_links.specs.Worlds.{World, peer_at, with_peer, with_links, change_at, Ignored}
 use Rattle.dm_links.specs.Happens.{Happening, Starts, Stops, TimesOut, Ticks, Restarts, Acks, Nacks, Delivers, Pieces, Loses, Submits, next_in, whole_in, lost_messages, kept_at, lost_link, are_shut, restarted, restart_links, own_view, happens, world_after}
 use Rattle.dm_links.specs.Follows.{IsMachine}
 use Rattle.dm_links.specs.Facts.{turned, is_empty, is_sound, is_up, standing, IsSoundView, IsSoundLink, AreSound, IsSound}
+use Rattle.dm_links.proofs.Columns.{summed}
 use Rattle.dm_links.proofs.Checks.{standing_after, closes_own, restart_of, lost_of}
 use Rattle.dm_links.proofs.Ties.{MachineLaws}
-use Rattle.dm_links.proofs.Views.{nothing_summed}
+use Rattle.dm_links.proofs.Views.{nothing_summed, shut_is_summed}
 use Rattle.dm_links.proofs.Lists.{view_link, mapped_some}
 use Rattle.dm_links.proofs.Keeps.{put_in}
 use Rattle.dm_links.proofs.Events.{side_sound, sound_back, started_sound, calm_sound, one_sound, change_sound, delivered_sound, pieced_sound, if_sound, same_link, up_sound, pending_sound, there_sound, opens_self, handed_ack, handed_nack, standing_at}
@@ -72,13 +72,18 @@ summed_sound mine closed t u v h =
 pub restarted_at : {M : Type 0} (mine : Bool) (p : LinkPhase) (own other : End) (i o : Direction M) →
     restarted mine (record { phase = p; own = own; other = other; incoming = i; outgoing = o }) ≡ summed
     (closes_own mine p) [] (record { phase = p; own = own; other = other; incoming = i; outgoing = o })
-restarted_at true Pending own other i o = refl
+restarted_at true Pending own other i o = shut_is_summed
+    (record { phase = Pending; own = own; other = other; incoming = i; outgoing = o })
 restarted_at false Pending own other i o = nothing_summed
     (record { phase = Pending; own = own; other = other; incoming = i; outgoing = o })
-restarted_at true Up own other i o = refl
-restarted_at false Up own other i o = refl
-restarted_at true Cancelled own other i o = refl
-restarted_at false Cancelled own other i o = refl
+restarted_at true Up own other i o = shut_is_summed
+    (record { phase = Up; own = own; other = other; incoming = i; outgoing = o })
+restarted_at false Up own other i o = shut_is_summed
+    (record { phase = Up; own = own; other = other; incoming = i; outgoing = o })
+restarted_at true Cancelled own other i o = shut_is_summed
+    (record { phase = Cancelled; own = own; other = other; incoming = i; outgoing = o })
+restarted_at false Cancelled own other i o = shut_is_summed
+    (record { phase = Cancelled; own = own; other = other; incoming = i; outgoing = o })
 
 restart_view : {M : Type 0} (mine : Bool) (t u : Tie) (v : View M) → IsSoundView mine t u v →
     IsSoundView mine Unheld u (restarted mine v)

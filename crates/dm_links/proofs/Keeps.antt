@@ -5,13 +5,14 @@ use Rattle.std.proofs.lemmas.Option.{slice_get_within}
 use Rattle.dm_links.specs.Machine.{conn, Node, Concern, Elsewhere, StartsIt, AcksIt, NacksIt, EndsIt, HeardOnIt, Tie, Unheld, Connecting, Made, MadeOpen, Taken, tie_of, is_held}
 use Rattle.dm_links.specs.Links.{Side, A, B, flip, opens, LinkPhase, Pending, Up, Cancelled, Mark, NoMark, Coming, Delivered, Link, View, view_of, link_of, by_side, new_link}
 use Rattle.dm_links.specs.Peers.{Event, Start, Action, order_of, closes_at, sends_at, concern_by}
-use Rattle.dm_links.specs.Steps.{phase_at, messages_at, outgoing_mark_at, added, entered, summed, acted, words_at, is_closed_at, settled, stepped}
+use Rattle.dm_links.specs.Steps.{added, settled}
 use Rattle.dm_links.specs.Worlds.{takes, enter, perform, settle}
 use Rattle.dm_links.specs.Facts.{turned, is_empty, is_sound, standing, IsSoundView, IsSoundLink, AreSound}
+use Rattle.dm_links.proofs.Columns.{phase_at, messages_at, outgoing_mark_at, summed, acted, words_at, is_closed_at, stepped}
 use Rattle.dm_links.proofs.Every.{at_bool}
 use Rattle.dm_links.proofs.Checks.{is_ready, is_allowed, is_handed, after_pop, after_put, puts_in, standing_after, step_at}
 use Rattle.dm_links.proofs.Ties.{KeepsTies}
-use Rattle.dm_links.proofs.Views.{acted_summed, unsent_unsaid, sent_said}
+use Rattle.dm_links.proofs.Views.{acted_entered, acted_summed, unsent_unsaid, sent_said}
 use Rattle.dm_links.proofs.Lists.{IsStart, view_link, mapped_some, performed_at, length-perform, length-enter, length-settle, stepped_at}
 
 popped : {M : Type 0} (k : Concern) (f : Bool → Bool) (ms : List M) → after_pop k (is_empty ms) f ≡ true →
@@ -69,7 +70,7 @@ view_keeps mine k own own' other d actions v good handed law =
     (λ oe. result (is_empty (messages_at k v.incoming.messages)) oe) words v.outgoing.messages pop
     (unsent_unsaid d actions) (λ a b. sent_said d actions a b) in
     subst (λ x. IsSoundView mine own' other (settled k (is_held own') x))
-    (sym (acted_summed d actions (entered k v))) put
+    (sym (acted_entered d actions k v)) put
 
 pub link_keeps : {M : Type 0} (s : Side) (own own' other : Node) (e : Event M) (actions : List (Action M)) (d : ℕ)
     (l : Link M) →

@@ -1,6 +1,7 @@
 mod Every
 mod Checks
 mod Ties
+mod Columns
 mod Views
 mod Lists
 mod Keeps

@@ -8,8 +8,9 @@ use Rattle.dm_links.specs.Machine.{Conn, conn, Node, Concern, Elsewhere, AcksIt,
 use Rattle.dm_links.specs.Links.{Side, opens, Link, View, view_of, link_of, by_side}
 use Rattle.dm_links.specs.Peers.{Event, Start, Stop, Timeout, Tick, Ack, Nack, Gone, Submit, Arrived, Action, Connect, Send, Close, concern_by}
 use Rattle.dm_links.specs.Peers as peers
-use Rattle.dm_links.specs.Steps.{entered, said, shut, acted, settled, stepped}
+use Rattle.dm_links.specs.Steps.{entered, said, shut, settled}
 use Rattle.dm_links.specs.Worlds.{change_at, enter, perform, settle}
+use Rattle.dm_links.proofs.Columns.{acted, stepped}
 
 -- one element is changed
 change_at-same : {X : Type 0} (c : ℕ) (f : X → X) (xs : List X) →

@@ -6,14 +6,15 @@ use Rattle.std.proofs.lemmas.Bool.Decides.{nat_tests}
 use Rattle.dm_links.specs.Machine.{conn, Node, Concern, Elsewhere, AcksIt, NacksIt, EndsIt, HeardOnIt, tie_of, is_held}
 use Rattle.dm_links.specs.Links.{Side, A, B, flip, opens, LinkPhase, Pending, Up, Cancelled, End, Shut, Fresh, Open, Direction, Link, View, view_of, link_of, by_side, new_link}
 use Rattle.dm_links.specs.Peers.{Event, Start, Stop, Timeout, Tick, Ack, Nack, Gone, Submit, Arrived, Action, Reply, Acts, Declines, Peers, concern_by}
-use Rattle.dm_links.specs.Steps.{phase_at, own_at, other_at, entered, phase_after, own_after, acted, is_closed_at, own_settled, settled, stepped}
+use Rattle.dm_links.specs.Steps.{entered, own_settled, settled}
 use Rattle.dm_links.specs.Worlds.{World, peer_at, with_links, Put, change_at, enter, perform, settle, After, Done, Ignored, answered, told, dropped}
 use Rattle.dm_links.specs.Happens.{Happening, Starts, Stops, TimesOut, Ticks, Restarts, Acks, Nacks, Delivers, Pieces, Loses, Submits, Next, NextMessage, NextDisconnect, NextNothing, next_in, comes, delivered, taking, pieced, lost_link, are_shut, restarted, restart_links, if_up, if_pending, at_link, own_view, happens, world_after}
 use Rattle.dm_links.specs.Facts.{is_up, is_fresh}
 use Rattle.dm_links.specs.Making.{has_fresh_end, is_fresh_on, MakesEnd}
+use Rattle.dm_links.proofs.Columns.{entered_by_columns, phase_at, own_at, other_at, phase_after, own_after, acted, is_closed_at, stepped}
 use Rattle.dm_links.proofs.Every.{every_bool, every_concern, every_phase, every_end, at_bool, at_concern, at_phase, at_end, all_true}
 use Rattle.dm_links.proofs.Checks.{when, is_when}
-use Rattle.dm_links.proofs.Views.{acted_summed}
+use Rattle.dm_links.proofs.Views.{acted_entered}
 use Rattle.dm_links.proofs.Lists.{IsStart, change_at-tested, performed_at, entered_at, stepped_at}
 
 -- whether an end of a view is fresh, the own one or the other
@@ -70,13 +71,14 @@ step_makes b k holds d actions v h =
     is_when (fresh_stepped b k holds closed v.phase v.own v.other) (was_or_made b k v.phase v.own v.other)
     (at_end _ (at_end _ (at_phase _ (at_bool _
     (at_bool _ (at_concern _ (at_bool _ steps_checked b) k) holds) closed) v.phase) v.own) v.other)
-    (sym (ap (λ x. fresh_in b (settled k holds x)) (acted_summed d actions (entered k v))) ∙ h)
+    (sym (ap (λ x. fresh_in b (settled k holds x)) (acted_entered d actions k v)) ∙ h)
 
 entry_makes : {M : Type 0} (b : Bool) (k : Concern) (v : View M) →
     fresh_in b (entered k v) ≡ true → (fresh_in b v || (is_ack k && not b)) ≡ true
 entry_makes b k v h =
     is_when (fresh_entered b k v.phase v.own v.other) (was_or_made b k v.phase v.own v.other)
-    (at_end _ (at_end _ (at_phase _ (at_concern _ (at_bool _ entries_checked b) k) v.phase) v.own) v.other) h
+    (at_end _ (at_end _ (at_phase _ (at_concern _ (at_bool _ entries_checked b) k) v.phase) v.own) v.other)
+    (sym (ap (λ x. fresh_in b x) (entered_by_columns k v)) ∙ h)
 
 -- an end of a side, seen from a side
 side_own : {M : Type 0} (s t o : Side) (v : View M) →

@@ -5,9 +5,10 @@ use Rattle.dm_machine.specs.Moves.{Outcome, Moved}
 use Rattle.dm_links.specs.Machine.{conn, Node, Input, Command, outcome, tie_of, is_held}
 use Rattle.dm_links.specs.Links.{Side, LinkPhase, Pending, Up, End, Fresh, Open, Shut, Mark, NoMark, Coming, Direction, View, by_side}
 use Rattle.dm_links.specs.Peers.{Event, Action, Acts, Peers, concern_by}
-use Rattle.dm_links.specs.Steps.{entered, stepped}
+use Rattle.dm_links.specs.Steps.{entered}
 use Rattle.dm_links.specs.Worlds.{World, peer_at, Put, enter, puts_of, puts_at_entry, told}
 use Rattle.dm_links.specs.Electing.{Talks, IsPeerOf, Reads, awaits_cea, holds_cer, sends_cer, awaited_after, waiting_after, IsSaid, AreSaid, RepliesBy, RepliesAs, IsElecting}
+use Rattle.dm_links.proofs.Columns.{stepped}
 use Rattle.dm_links.proofs.Lists.{IsStart, entered_at}
 use Rattle.dm_links.proofs.Pairs.{IsPair, own_by, other_by, Stands, At, puts_by, names, puts_of_two}
 use Rattle.dm_links.proofs.Told.{Goes, IsCalm, told_at}

@@ -4,10 +4,10 @@ use Rattle.std.specs.Prelude.{option_map}
 use Rattle.dm_links.specs.Machine.{conn, Node, tie_of, is_held}
 use Rattle.dm_links.specs.Links.{Side, opens, Link, View, view_of, link_of, by_side}
 use Rattle.dm_links.specs.Peers.{Event, Action, Acts, Peers, concern_by}
-use Rattle.dm_links.specs.Steps.{stepped}
 use Rattle.dm_links.specs.Worlds.{World, peer_at, with_peer, Put, enter, perform, settle, puts_of, puts_at_entry, After, Done, answered, told}
 use Rattle.dm_links.specs.Quiet.{is_quiet_link}
 use Rattle.dm_links.specs.Electing.{Talks, holds_cer}
+use Rattle.dm_links.proofs.Columns.{stepped}
 use Rattle.dm_links.proofs.Lists.{IsStart, mapped_some, by_side-same, stepped_at}
 use Rattle.dm_links.proofs.Pairs.{IsPair, own_by, other_by, here_after, there_after, links_after, Stands, At}
 

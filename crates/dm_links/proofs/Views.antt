@@ -3,8 +3,10 @@ use Rattle.std.proofs.Common.{◌≡◌, ℕ, Bool, true, false, ◌||◌, ◌==
 use Rattle.dm_links.specs.Links.{LinkPhase, Pending, Up, Cancelled, End, Mark, NoMark, Coming, Delivered, Direction, View}
 use Rattle.dm_links.specs.Peers.{Action, Connect, Send, Close, order_of, closes_at, sends_at}
 use Rattle.dm_links.specs.Peers as peers
-use Rattle.dm_links.specs.Steps.{own_after, summed, said, shut, acted, words_at, is_closed_at}
+use Rattle.dm_links.specs.Machine.{Concern}
+use Rattle.dm_links.specs.Steps.{entered, said, shut}
 use Rattle.dm_links.specs.Facts.{is_empty}
+use Rattle.dm_links.proofs.Columns.{entered_columns, entered_by_columns, own_after, summed, acted, words_at, is_closed_at}
 
 abbrev viewed : {M : Type 0} → LinkPhase → End → End → Direction M → List M → ℕ → Mark → View M
 viewed p own other incoming messages taken mark =
@@ -55,8 +57,10 @@ said_summed closed x words v =
 shut_summed_at : {M : Type 0} (closed : Bool) (words : List M) (p : LinkPhase) (own other : End) (i : Direction M)
     (ms : List M) (n : ℕ) (mark : Mark) →
     summed closed words (shut (viewed p own other i ms n mark)) ≡ summed true [] (viewed p own other i ms n mark)
-shut_summed_at true words Up own other i ms n NoMark = refl
-shut_summed_at false words Up own other i ms n NoMark = refl
+shut_summed_at true words Up own other i ms n NoMark =
+    ap (λ xs. viewed Up (own_after true Up own) other i xs n Coming) (sym (append-nil ms))
+shut_summed_at false words Up own other i ms n NoMark =
+    ap (λ xs. viewed Up (own_after true Up own) other i xs n Coming) (sym (append-nil ms))
 shut_summed_at true words Up own other i ms n Coming = refl
 shut_summed_at false words Up own other i ms n Coming = refl
 shut_summed_at true words Up own other i ms n Delivered = refl
@@ -71,6 +75,9 @@ shut_summed : {M : Type 0} (closed : Bool) (words : List M) (v : View M) →
 shut_summed closed words v =
     shut_summed_at closed words v.phase v.own v.other v.incoming v.outgoing.messages v.outgoing.taken
     v.outgoing.mark
+
+pub shut_is_summed : {M : Type 0} (v : View M) → shut v ≡ summed true [] v
+shut_is_summed v = nothing_summed (shut v) ∙ shut_summed false [] v
 
 send_if : {M : Type 0} (b : Bool) (closed : Bool) (x : M) (words : List M) (v : View M) →
     summed closed words (if b then said x v else v) ≡ summed closed (if b then x ∷ words else words) v
@@ -93,6 +100,12 @@ acted_summed d (Close c ∷ actions) v =
     ∙ close_if (c.0 == d) (is_closed_at d actions) (words_at d actions) v
 acted_summed d (Connect c ∷ actions) v = acted_summed d actions v
 acted_summed d (peers.Up x ∷ actions) v = acted_summed d actions v
+
+-- what the event does, and the actions after it
+pub acted_entered : {M : Type 0} (d : ℕ) (actions : List (Action M)) (k : Concern) (v : View M) →
+    acted d actions (entered k v) ≡ summed (is_closed_at d actions) (words_at d actions) (entered_columns k v)
+acted_entered d actions k v = acted_summed d actions (entered k v)
+    ∙ ap (λ u. summed (is_closed_at d actions) (words_at d actions) u) (entered_by_columns k v)
 
 -- what isn't sent isn't said
 none_if_send : {M : Type 0} (b rest : Bool) (x : M) (words : List M) → (b || rest) ≡ false →

@@ -5,9 +5,10 @@ use Rattle.dm_machine.specs.Connection.{Hold}
 use Rattle.dm_machine.specs.Connection as hold
 use Rattle.dm_links.specs.Machine.{Concern, Elsewhere, StartsIt, AcksIt, NacksIt, EndsIt, HeardOnIt}
 use Rattle.dm_links.specs.Links.{LinkPhase, Pending, Up, Cancelled, End, Fresh, Open, Shut, Mark, NoMark, Coming, Delivered}
-use Rattle.dm_links.specs.Steps.{marked, added, phase_at, own_at, other_at, messages_at, incoming_mark_at, outgoing_mark_at, phase_after, own_after, mark_after, own_settled}
+use Rattle.dm_links.specs.Steps.{marked, added, own_settled}
 use Rattle.dm_links.specs.Facts.{is_up, is_pending, is_open_end, is_shut, is_none, is_coming}
 use Rattle.dm_links.specs.Delivery.{apps, is_open_hold, is_done_hold, is_unmade, IsRaised}
+use Rattle.dm_links.proofs.Columns.{phase_at, own_at, other_at, messages_at, incoming_mark_at, outgoing_mark_at, phase_after, own_after, mark_after}
 use Rattle.dm_links.proofs.Every.{at_bool, at_concern, at_phase, at_end, at_mark}
 use Rattle.dm_links.proofs.Checks.{is_when}
 use Rattle.dm_links.proofs.Hearing.{both, ends_own_checked, hears_other_checked, hears_own_checked, imp, imp_is, is_ack, is_end, is_imp, is_none_at, is_not, is_word, marks_other_checked, marks_own_checked, may_hear, none_is, not_is}

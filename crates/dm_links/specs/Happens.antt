@@ -43,14 +43,7 @@ delivered m c s end NextDisconnect w = comes m s (Gone (conn c)) end w
 
 -- some octets of the front message are delivered, and not its last
 abbrev pub taking : {M : Type 0} → ℕ → View M → View M
-taking k v =
-    record {
-      phase = v.phase;
-      own = v.own;
-      other = v.other;
-      outgoing = v.outgoing;
-      incoming = record { messages = v.incoming.messages; taken = v.incoming.taken + k; mark = v.incoming.mark };
-    }
+taking k view = record view { incoming = record view.incoming { taken = view.incoming.taken + k } }
 
 abbrev pub pieced : {P M : Type 0} → Peers P M → ℕ → Side → ℕ → End → ℕ → Next M → World P M → After P M
 pieced m c s k end taken NextNothing w = Ignored
@@ -86,11 +79,7 @@ kept_at B a b = b
 
 abbrev pub lost_link : {M : Type 0} → (M → ℕ) → ℕ → ℕ → Link M → Link M
 lost_link size a b l =
-    record {
-      opener = l.opener;
-      phase = l.phase;
-      near = l.near;
-      far = l.far;
+    record l {
       to_near = lost size (kept_at l.opener a b) l.to_near;
       to_far = lost size (kept_at (flip l.opener) a b) l.to_far;
     }
@@ -110,6 +99,11 @@ abbrev pub restart_puts : {M : Type 0} → Side → ℕ → List (Link M) → Li
 restart_puts s c [] = []
 restart_puts s c (l ∷ links) = put_if s (Disconnect c (flip s)) (Some l) ++ restart_puts s (c + 1) links
 
+abbrev pub restart : {P M : Type 0} → Peers P M → Side → World P M → After P M
+restart peers side world =
+    Done (with_peer side (peers.reset (peer_at side world)) (restart_links side world.links) world)
+    (restart_puts side 0 world.links)
+
 -- only on a link that is up, or whose connect is pending
 abbrev pub if_up : {X : Type 0} → LinkPhase → X → X → X
 if_up Up x y = x
@@ -119,40 +113,54 @@ abbrev pub if_pending : {X : Type 0} → LinkPhase → X → X → X
 if_pending Pending x y = x
 if_pending _ x y = y
 
+-- on the link of a number, where there is one
 abbrev pub at_link : {P M : Type 0} → Option (Link M) → (Link M → After P M) → After P M
 at_link None f = NoLink
 at_link (Some l) f = f l
 
+abbrev pub on_link : {P M : Type 0} → World P M → ℕ → (Link M → After P M) → After P M
+on_link world c f = at_link (slice_get world.links c) f
+
 abbrev pub own_view : {M : Type 0} → Side → Link M → View M
 own_view s l = view_of (opens s l.opener) l
 
+-- what is next towards a side is delivered, or k octets of it
+abbrev pub deliver : {P M : Type 0} → Peers P M → World P M → ℕ → Side → View M → After P M
+deliver peers world c side view =
+    delivered peers c side view.own (next_in view.incoming.messages view.incoming.mark) world
+
+abbrev pub deliver_piece : {P M : Type 0} → Peers P M → World P M → ℕ → Side → ℕ → View M → After P M
+deliver_piece peers world c side k view =
+    if k == 0 then Ignored else pieced peers c side k view.own view.incoming.taken
+    (next_in view.incoming.messages view.incoming.mark) world
+
+-- a loss, that both sides are told
+abbrev pub lose : {P M : Type 0} → Peers P M → World P M → ℕ → ℕ → ℕ → Link M → After P M
+lose peers world c to_a to_b l =
+    Done (with_links (change_at c (lost_link peers.size to_a to_b) world.links) world)
+    (put_if B (Disconnect c A) (Some l) ++ put_if A (Disconnect c B) (Some l))
+
+abbrev pub unless_shut : {P M : Type 0} → Link M → After P M → After P M
+unless_shut l after = if are_shut l.near l.far then Ignored else after
+
 -- the one outcome of a happening
 abbrev pub happens : {P M : Type 0} → Peers P M → World P M → Happening M → After P M
-happens m w (Starts s) = told m s (Start (conn (length w.links))) w
-happens m w (Stops s cause) = told m s (Stop cause) w
-happens m w (TimesOut s) = told m s Timeout w
-happens m w (Ticks s) = told m s Tick w
-happens m w (Submits s x) = told m s (Submit x) w
-happens m w (Restarts s) = Done (with_peer s (m.reset (peer_at s w)) (restart_links s w.links) w)
-    (restart_puts s 0 w.links)
-happens m w (Acks c) = at_link (slice_get w.links c)
-    (λ l. if_pending l.phase (told m l.opener (Ack (conn c)) w) Ignored)
-happens m w (Nacks c) = at_link (slice_get w.links c)
-    (λ l. if_pending l.phase (told m l.opener (Nack (conn c)) w) Ignored)
-happens m w (Delivers c s) =
-    at_link (slice_get w.links c)
-    (λ l. let v = own_view s l in if_up l.phase
-    (delivered m c s v.own (next_in v.incoming.messages v.incoming.mark) w) Ignored)
-happens m w (Pieces c s k) =
-    at_link (slice_get w.links c)
-    (λ l. let v = own_view s l in if_up l.phase
-    (if k == 0 then Ignored else pieced m c s k v.own v.incoming.taken
-    (next_in v.incoming.messages v.incoming.mark) w) Ignored)
-happens m w (Loses c a b) =
-    at_link (slice_get w.links c)
-    (λ l. if_up l.phase (if are_shut l.near l.far then Ignored else Done
-    (with_links (change_at c (lost_link m.size a b) w.links) w)
-    (put_if B (Disconnect c A) (Some l) ++ put_if A (Disconnect c B) (Some l))) Ignored)
+happens peers world (Starts side) = told peers side (Start (conn (length world.links))) world
+happens peers world (Stops side cause) = told peers side (Stop cause) world
+happens peers world (TimesOut side) = told peers side Timeout world
+happens peers world (Ticks side) = told peers side Tick world
+happens peers world (Submits side message) = told peers side (Submit message) world
+happens peers world (Restarts side) = restart peers side world
+happens peers world (Acks link) =
+    on_link world link (λ l. if_pending l.phase (told peers l.opener (Ack (conn link)) world) Ignored)
+happens peers world (Nacks link) =
+    on_link world link (λ l. if_pending l.phase (told peers l.opener (Nack (conn link)) world) Ignored)
+happens peers world (Delivers link side) =
+    on_link world link (λ l. if_up l.phase (deliver peers world link side (own_view side l)) Ignored)
+happens peers world (Pieces link side k) =
+    on_link world link (λ l. if_up l.phase (deliver_piece peers world link side k (own_view side l)) Ignored)
+happens peers world (Loses link to_a to_b) =
+    on_link world link (λ l. if_up l.phase (unless_shut l (lose peers world link to_a to_b l)) Ignored)
 
 -- the world after a happening; what is ignored, and what names no link, leaves it
 abbrev pub world_after : {P M : Type 0} → World P M → After P M → World P M

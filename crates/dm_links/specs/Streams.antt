@@ -51,18 +51,10 @@ EachRunIsCut P M =
 
 -- a world but for the octets delivered
 abbrev pub whole_way : {M : Type 0} → Direction M → Direction M
-whole_way d = record { messages = d.messages; taken = 0; mark = d.mark }
+whole_way d = record d { taken = 0 }
 
 abbrev pub whole_link : {M : Type 0} → Link M → Link M
-whole_link l =
-    record {
-      opener = l.opener;
-      phase = l.phase;
-      near = l.near;
-      far = l.far;
-      to_near = whole_way l.to_near;
-      to_far = whole_way l.to_far;
-    }
+whole_link l = record l { to_near = whole_way l.to_near; to_far = whole_way l.to_far }
 
 abbrev pub whole : {P M : Type 0} → World P M → World P M
 whole w = with_links (map (λ l. whole_link l) w.links) w

@@ -16,11 +16,11 @@ peer_at A w = w.a
 peer_at B w = w.b
 
 abbrev pub with_peer : {P M : Type 0} → Side → P → List (Link M) → World P M → World P M
-with_peer A p links w = record { a = p; b = w.b; links = links }
-with_peer B p links w = record { a = w.a; b = p; links = links }
+with_peer A p links w = record w { a = p; links = links }
+with_peer B p links w = record w { b = p; links = links }
 
 abbrev pub with_links : {P M : Type 0} → List (Link M) → World P M → World P M
-with_links links w = record { a = w.a; b = w.b; links = links }
+with_links links w = record w { links = links }
 
 -- what is put into the direction of a link towards a side
 pub data Put (M : Type 0) : Type 0 where
