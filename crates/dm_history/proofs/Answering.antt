@@ -19,9 +19,9 @@ use Rattle.dm_machine.specs.Unread.{reads_first, ClosesUnread}
 use Rattle.dm_peer.specs.declared.peer.Peer.{Peer}
 use Rattle.dm_peer.specs.Events.{PeerEvent, Arrived}
 use Rattle.dm_peer.specs.Configs.{wins}
-use Rattle.dm_peer.specs.Said.{Heard, word_heard}
-use Rattle.dm_peer.specs.Sent.{header_of, cer_to_answer}
-use Rattle.dm_peer.specs.After.{holds_cer, header_heard}
+use Rattle.dm_peer.specs.Said.{Heard, word_heard, header_heard}
+use Rattle.dm_peer.specs.Sent.{header_of, cer_answered}
+use Rattle.dm_machine.specs.Awaiting.{holds_cer}
 use Rattle.dm_peer.specs.Acts.{input_of}
 use Rattle.dm_peer.specs.Settled.{IsSettled}
 use Rattle.dm_history.specs.History.{Happened}
@@ -56,7 +56,7 @@ pub record CameCer (p : Peer) (e : PeerEvent) (h : Option Heard) (c : Conn) : Ty
   pub good : IsGoodCer p.config cer.message
   pub alone : holds_cer p.standing.core.state ≡ false
   pub header : header_heard h ≡ Some cer.message.header
-  pub answered : cer_to_answer p.standing.waiting h ≡ cer.message.header
+  pub answered : cer_answered p.standing.waiting h ≡ cer.message.header
 
 pub came_cer : ClosesUnread → (p : Peer) → IsSettled p → (e : PeerEvent) (h : Option Heard) (commands : List Command)
     (core : Node) → outcome p.standing.core (input_of e h) (wins p.config) ≡ moves.Moved commands core →
@@ -72,7 +72,7 @@ came_cer closes p was e h commands core o read c free held k =
       good = good_cer p.config m.message m.word;
       alone = alone;
       header = ap header_heard m.heard ∙ ap Some (heard_header p.config m.message);
-      answered = ap (λ w. cer_to_answer w h) none ∙ (ap header_of m.heard ∙ heard_header p.config m.message);
+      answered = ap (λ w. cer_answered w h) none ∙ (ap header_of m.heard ∙ heard_header p.config m.message);
     }
 
 base_cer : (p : Peer) (to : Header) (m : Message) → IsGoodCer p.config m → to ≡ m.header →
@@ -86,14 +86,14 @@ cea_to : ClosesUnread → (p : Peer) → IsSettled p → (e : PeerEvent) (h : Op
     AreRead p e h → (c : Conn) (past : List Happened) (before : Hold) → hold_of p.standing.core c ≡ before →
     hold_of core c ≡ OpenAsR → (before ≡ OpenAsR → ⊥) →
     IsCaused (concern_of (input_of e h) c) before OpenAsR (orders_to c commands) →
-    Story p.config p.standing c past before → is_base_command (cer_to_answer p.standing.waiting h).command ≡ true
+    Story p.config p.standing c past before → is_base_command (cer_answered p.standing.waiting h).command ≡ true
 cea_to closes p was e h commands core o read c past before at is differs (inl same) s = absurd (differs same)
 cea_to closes p was e h commands core o read c past before at is differs (inr (has, inl taken)) s =
     let t : HasHeard p.config p.standing c past = subst (Story p.config p.standing c past) taken s in
-    base_cer p (cer_to_answer p.standing.waiting h) t.cer t.good (ap (λ w. cer_to_answer w h) t.kept)
+    base_cer p (cer_answered p.standing.waiting h) t.cer t.good (ap (λ w. cer_answered w h) t.kept)
 cea_to closes p was e h commands core o read c past before at is differs (inr (has, inr (free, k))) s =
     let m = came_cer closes p was e h commands core o read c (at ∙ free) (λ y. cc (y, is)) k in
-    base_cer p (cer_to_answer p.standing.waiting h) m.cer.message m.good m.answered
+    base_cer p (cer_answered p.standing.waiting h) m.cer.message m.good m.answered
 
 not_before : (h : Hold) → not (is_hold OpenAsR h) ≡ true → h ≡ OpenAsR → ⊥
 not_before h e same = cc (sym (ap (λ k. not (is_hold OpenAsR k)) same) ∙ e)
@@ -103,7 +103,7 @@ pub cea_answers_base : OpensAcceptedWithCea → EachHoldIsCaused → ClosesUnrea
     outcome p.standing.core (input_of e h) (wins p.config) ≡ moves.Moved commands core → AreRead p e h → (c : Conn)
     (past : List Happened) → Story p.config p.standing c past (hold_of p.standing.core c) →
     has_order SendsCea (orders_to c commands) ≡ true →
-    is_base_command (cer_to_answer p.standing.waiting h).command ≡ true
+    is_base_command (cer_answered p.standing.waiting h).command ≡ true
 cea_answers_base accepted law closes p was e h commands core o read c past story has =
     let n = p.standing.core in
     let i = input_of e h in

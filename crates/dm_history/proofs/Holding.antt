@@ -9,7 +9,7 @@ use Rattle.dm_machine.specs.Forms.{Form, closed, wait_conn_ack, wait_i_cea, wait
 use Rattle.dm_machine.specs.Connection.{Hold, NotHeld, Pending, Made, OpenAsI, ClosingAsI, Taken, OpenAsR, ClosingAsR, hold_of}
 use Rattle.dm_machine.specs.Openings.{is_hold}
 use Rattle.dm_machine.specs.Unread.{reads_first}
-use Rattle.dm_peer.specs.After.{awaits_cea, holds_cer}
+use Rattle.dm_machine.specs.Awaiting.{awaits_cea, holds_cer}
 
 pub is_pending : (h : Hold) → is_hold Pending h ≡ true → h ≡ Pending
 is_pending Pending e = refl

@@ -21,9 +21,10 @@ use Rattle.dm_peer.specs.declared.peer.Peer.{Peer}
 use Rattle.dm_peer.specs.declared.standing.Standing.{Standing}
 use Rattle.dm_peer.specs.Events.{PeerEvent}
 use Rattle.dm_peer.specs.Configs.{wins}
-use Rattle.dm_peer.specs.Said.{Heard}
-use Rattle.dm_peer.specs.Sent.{action_of, actions_of, cer_to_answer, sent}
-use Rattle.dm_peer.specs.After.{request_in, awaits_cea, holds_cer, is_cer, header_heard, standing_after}
+use Rattle.dm_peer.specs.Said.{Heard, header_heard}
+use Rattle.dm_peer.specs.Sent.{action_of, actions_of, cer_answered, sent}
+use Rattle.dm_machine.specs.Awaiting.{awaits_cea, holds_cer}
+use Rattle.dm_peer.specs.After.{request_in, is_cer, standing_after}
 use Rattle.dm_peer.specs.Acts.{input_of, standing_at, is_unawaited, is_made, is_dropped}
 use Rattle.dm_peer.specs.Settled.{IsSettled}
 use Rattle.dm_history.specs.History.{Happened, done_at, Once, IsAmong}
@@ -90,7 +91,7 @@ module _ (laws : StepLaws) (p : Peer) (e : PeerEvent) (h : Option Heard) (comman
         (rule.0 c (before.ended c free came));
   }
 
-  sent_cea : (to : Header) → cer_to_answer p.standing.waiting h ≡ to →
+  sent_cea : (to : Header) → cer_answered p.standing.waiting h ≡ to →
       has_order SendsCea (orders_to c commands) ≡ true → WasSent c (built_cea p.config.node to 2001 None) x
   sent_cea to is has =
       let there = mapped (action_of p e h) commands (command.SendCea c) (commanded SendsCea c commands has) in
@@ -145,7 +146,7 @@ module _ (laws : StepLaws) (p : Peer) (e : PeerEvent) (h : Option Heard) (comman
         cer = t.cer;
         good = t.good;
         accepted = inl (record {
-          answered = sent_cea t.cer.header (ap (λ w. cer_to_answer w h) t.kept) has;
+          answered = sent_cea t.cer.header (ap (λ w. cer_answered w h) t.kept) has;
           heard = inr t.heard;
         });
       }

@@ -21,7 +21,7 @@ use Rattle.dm_peer.specs.declared.peer.Peer.{Peer}
 use Rattle.dm_peer.specs.Events.{PeerEvent, octets_in, cause_in}
 use Rattle.dm_peer.specs.Octets.{octets_of}
 use Rattle.dm_peer.specs.Said.{Heard}
-use Rattle.dm_peer.specs.Sent.{action_of, refusal, is_protocol_error, header_of, fault_in, cer_to_answer}
+use Rattle.dm_peer.specs.Sent.{action_of, refusal, is_protocol_error, header_of, fault_in, cer_answered}
 use Rattle.dm_history.specs.Carrying.{cer, dwr, dpr, cea, answer, error, AreOwn}
 use Rattle.dm_history.proofs.Ordered.{is_conn, same_order}
 
@@ -115,7 +115,7 @@ own_as n s t own is = subst (AreOwn n) is own
 -- the header that a command answers is that of a base message
 abbrev pub AnswersBase : Peer → Option Heard → Conn → Command → Type 0
 AnswersBase p h c a =
-    (order_to c a ≡ Some SendsCea → is_base_command (cer_to_answer p.standing.waiting h).command ≡ true)
+    (order_to c a ≡ Some SendsCea → is_base_command (cer_answered p.standing.waiting h).command ≡ true)
     × ((o : Order) → order_to c a ≡ Some o → is_prompt o ≡ true → is_base_command (header_of h).command ≡ true)
 
 pub own_sent : (p : Peer) (e : PeerEvent) (h : Option Heard) (c : Conn) (s : List ℕ) (a : Command) →
@@ -126,7 +126,7 @@ own_sent p e h c s (command.SendCer d) is base =
     inl (own_as p.config.node s (octets_of m)
     (record { message = m; own = cer p.standing.next; base = refl; spelled = refl }) (cc is))
 own_sent p e h c s (command.SendCea d) is base =
-    let to = cer_to_answer p.standing.waiting h in
+    let to = cer_answered p.standing.waiting h in
     let m = built_cea p.config.node to 2001 None in
     let b = base.0 (ap (λ t. if_ordered t SendsCea) (is_conn d c (cc is))) in
     inl (own_as p.config.node s (octets_of m)

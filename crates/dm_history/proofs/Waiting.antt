@@ -9,7 +9,8 @@ use Rattle.dm_machine.specs.declared.connection.Conn.{Conn}
 use Rattle.dm_machine.specs.declared.outputs.Command.{Command}
 use Rattle.dm_machine.specs.declared.outputs.Command.TheVariants as command
 use Rattle.dm_peer.specs.declared.standing.Awaited.{Awaited}
-use Rattle.dm_peer.specs.After.{request_in, awaited_of, is_cer, number_after}
+use Rattle.dm_machine.specs.Awaiting.{number_after}
+use Rattle.dm_peer.specs.After.{request_in, awaited_of, is_cer}
 use Rattle.dm_peer.specs.Acts.{is_unawaited}
 use Rattle.dm_history.specs.History.{IsAmong}
 use Rattle.dm_history.proofs.Among.{further}

@@ -11,7 +11,8 @@ use Rattle.dm_links.specs.Machine.{conn, Conn, Node, tie_of, is_held, closed_nod
 use Rattle.dm_links.specs.Links.{Side, flip, Up, Open, Shut, NoMark, Coming, Delivered, View, link_of}
 use Rattle.dm_links.specs.Peers.{Ack, Gone, Arrived, Action, Send, Close, Peers, concern_by}
 use Rattle.dm_links.specs.Worlds.{World, peer_at, Put, Message, Disconnect, put_if_fresh, told}
-use Rattle.dm_links.specs.Electing.{Talks, Reads, acks, ends, asks, passes, answers, holds_cer, cer_to_answer, IsElecting}
+use Rattle.dm_machine.specs.Awaiting.{holds_cer, cer_to_answer}
+use Rattle.dm_links.specs.Electing.{Talks, Reads, acks, ends, asks, passes, answers, IsElecting}
 use Rattle.dm_links.proofs.Columns.{stepped}
 use Rattle.dm_links.proofs.Pairs.{IsPair, ab, ba, mirror, Stands, At, not_same}
 use Rattle.dm_links.proofs.Told.{Goes}

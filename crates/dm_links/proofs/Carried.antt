@@ -6,7 +6,7 @@ use Rattle.dm_machine.specs.Connection.{Hold, hold_of}
 use Rattle.dm_machine.specs.Connection as hold
 use Rattle.dm_links.specs.Machine.{conn, Node, Concern, AcksIt, EndsIt, HeardOnIt, Tie, MadeOpen, Taken, tie_as, is_held}
 use Rattle.dm_links.specs.Links.{Side, A, B, flip, opens, LinkPhase, Pending, Up, Cancelled, End, Fresh, Open, Shut, Link, View}
-use Rattle.dm_links.specs.Peers.{Event, Start, Stop, Timeout, Tick, Ack, Nack, Gone, Submit, Arrived, Action, Send, Close, Connect, Reply, Acts, Declines, Peers, concern_by, order_of, sends_at}
+use Rattle.dm_links.specs.Peers.{Event, Start, Stop, Timeout, Tick, Ack, Nack, Gone, Submit, Arrived, Action, Send, Close, Connect, Reply, Acts, Declines, Peers, concern_by, deed_of, sends_at}
 use Rattle.dm_links.specs.Peers as peers
 use Rattle.dm_links.specs.Worlds.{World, peer_at}
 use Rattle.dm_links.specs.Happens.{Happening, Loses, own_view}

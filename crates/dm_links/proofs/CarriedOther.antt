@@ -5,7 +5,7 @@ use Rattle.std.proofs.lemmas.Bool.{eqb-true}
 use Rattle.dm_machine.specs.Connection.{hold_of}
 use Rattle.dm_links.specs.Machine.{conn, Node, Tie, tie_of}
 use Rattle.dm_links.specs.Links.{Side, A, B, flip, opens, Link, by_side}
-use Rattle.dm_links.specs.Peers.{Event, Start, Stop, Timeout, Tick, Ack, Nack, Gone, Submit, Arrived, Action, Acts, Peers, concern_by, order_of, sends_at}
+use Rattle.dm_links.specs.Peers.{Event, Start, Stop, Timeout, Tick, Ack, Nack, Gone, Submit, Arrived, Action, Acts, Peers, concern_by, deed_of, sends_at}
 use Rattle.dm_links.specs.Worlds.{World, peer_at}
 use Rattle.dm_links.specs.Happens.{own_view}
 use Rattle.dm_links.specs.Facts.{is_shut}
@@ -73,7 +73,7 @@ module _ {P M : Type 0} (m : Peers P M) (is_app : M → Bool) (stands : P → Bo
   or_false false = refl
 
   abbrev new_of : Side → ℕ → M → List (Action M) → List M
-  new_of t c x acts = if opens (flip t) (flip t) && sends_at c (map order_of acts) then x ∷ [] else []
+  new_of t c x acts = if opens (flip t) (flip t) && sends_at c (map deed_of acts) then x ∷ [] else []
 
   other_submits : (t : Side) (w : World P M) (c : ℕ) (x : M) (p : P) (actions : List (Action M)) (said up : List M) →
       IsCarrying m stands w →

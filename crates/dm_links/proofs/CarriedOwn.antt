@@ -4,7 +4,7 @@ use Rattle.std.specs.Prelude.{option_map}
 use Rattle.std.proofs.lemmas.Bool.{eqb-true}
 use Rattle.dm_links.specs.Machine.{Conn, conn, Concern, Elsewhere, AcksIt, NacksIt, EndsIt, HeardOnIt}
 use Rattle.dm_links.specs.Links.{Side, flip, opens, by_side}
-use Rattle.dm_links.specs.Peers.{Event, Start, Stop, Timeout, Tick, Ack, Nack, Gone, Submit, Arrived, Action, Acts, Peers, concern_by, order_of, sends_at}
+use Rattle.dm_links.specs.Peers.{Event, Start, Stop, Timeout, Tick, Ack, Nack, Gone, Submit, Arrived, Action, Acts, Peers, concern_by, deed_of, sends_at}
 use Rattle.dm_links.specs.Worlds.{World, peer_at}
 use Rattle.dm_links.specs.Happens.{own_view}
 use Rattle.dm_links.specs.Delivery.{submitted_by, raised_by, ups_of}
@@ -71,7 +71,7 @@ module _ {P M : Type 0} (m : Peers P M) (is_app : M → Bool) (stands : P → Bo
 
   own_submits : (t : Side) (c : ℕ) (e : Event M) (actions : List (Action M)) →
       submitted_by t c (turn_with t e actions) ≡ []
-  own_submits t c (Submit x) actions = no_own_submit t (sends_at c (map order_of actions)) (x ∷ [])
+  own_submits t c (Submit x) actions = no_own_submit t (sends_at c (map deed_of actions)) (x ∷ [])
   own_submits t c (Start d) actions = refl
   own_submits t c (Stop cause) actions = refl
   own_submits t c Timeout actions = refl

@@ -3,7 +3,7 @@ use Rattle.std.proofs.Common.{◌≡◌, ℕ, Bool, true, false, ◌==◌, if◌
 use Rattle.std.specs.Bool.{⊤}
 use Rattle.dm_links.specs.Machine.{Concern, Elsewhere, StartsIt, AcksIt, NacksIt, EndsIt, HeardOnIt}
 use Rattle.dm_links.specs.Links.{LinkPhase, Up, End, Shut, Mark, NoMark, Direction, nothing, View}
-use Rattle.dm_links.specs.Peers.{Action, Send, Close, Connect, order_of, closes_at}
+use Rattle.dm_links.specs.Peers.{Action, Send, Close, Connect, deed_of, closes_at}
 use Rattle.dm_links.specs.Peers as peers
 use Rattle.dm_links.specs.Steps.{added, entered, said, shut, settled}
 
@@ -113,7 +113,7 @@ words_at d (Connect c ∷ actions) = words_at d actions
 words_at d (peers.Up m ∷ actions) = words_at d actions
 
 abbrev pub is_closed_at : {M : Type 0} → ℕ → List (Action M) → Bool
-is_closed_at d actions = closes_at d (map order_of actions)
+is_closed_at d actions = closes_at d (map deed_of actions)
 
 -- the whole step
 abbrev pub stepped : {M : Type 0} → Concern → Bool → ℕ → List (Action M) → View M → View M

@@ -4,7 +4,7 @@ use Rattle.std.proofs.lemmas.Bool.Decides.{nat_tests}
 use Rattle.std.proofs.lemmas.Option.{slice_get_within}
 use Rattle.dm_links.specs.Machine.{conn, Node, Concern, Elsewhere, StartsIt, AcksIt, NacksIt, EndsIt, HeardOnIt, Tie, Unheld, Connecting, Made, MadeOpen, Taken, tie_of, is_held}
 use Rattle.dm_links.specs.Links.{Side, A, B, flip, opens, LinkPhase, Pending, Up, Cancelled, Mark, NoMark, Coming, Delivered, Link, View, view_of, link_of, by_side, new_link}
-use Rattle.dm_links.specs.Peers.{Event, Start, Action, order_of, closes_at, sends_at, concern_by}
+use Rattle.dm_links.specs.Peers.{Event, Start, Action, deed_of, closes_at, sends_at, concern_by}
 use Rattle.dm_links.specs.Steps.{added, settled}
 use Rattle.dm_links.specs.Worlds.{takes, enter, perform, settle}
 use Rattle.dm_links.specs.Facts.{turned, is_empty, is_sound, standing, IsSoundView, IsSoundLink, AreSound}
@@ -55,12 +55,12 @@ view_keeps : {M : Type 0} (mine : Bool) (k : Concern) (own own' other : Tie) (d 
     (v : View M) →
     IsSoundView mine own other v → is_handed mine k (standing own other v) ≡ true →
     (is_ready k own ≡ true →
-    is_allowed k own own' (closes_at d (map order_of actions)) (sends_at d (map order_of actions)) ≡ true) →
+    is_allowed k own own' (closes_at d (map deed_of actions)) (sends_at d (map deed_of actions)) ≡ true) →
     IsSoundView mine own' other (stepped k (is_held own') d actions v)
 view_keeps mine k own own' other d actions v good handed law =
     let s = standing own other v in
     let closed = is_closed_at d actions in
-    let sent = sends_at d (map order_of actions) in
+    let sent = sends_at d (map deed_of actions) in
     let words = words_at d actions in
     let step = step_at mine k s good handed in
     let result : Bool → Bool → Bool = λ ie oe. is_sound (turned mine (standing_after k own' closed ie oe s)) in
@@ -110,8 +110,8 @@ pub unheld_later : {M : Type 0} (own own' : Node) (e : Event M) (actions : List 
     KeepsTies own e actions own' → tie_of own c ≡ Unheld → concern_by e (conn c) ≡ Elsewhere →
     tie_of own' c ≡ Unheld
 unheld_later own own' e actions c ties none k =
-    let closed = closes_at c (map order_of actions) in
-    let sent = sends_at c (map order_of actions) in
+    let closed = closes_at c (map deed_of actions) in
+    let sent = sends_at c (map deed_of actions) in
     let F : Concern → Tie → Type 0 = λ x t. is_ready x t ≡ true →
     is_allowed x t (tie_of own' c) closed sent ≡ true in
     let law : F Elsewhere Unheld = subst (λ t. F Elsewhere t) none
@@ -191,8 +191,8 @@ start_keeps {M} s own own' other actions links good ties =
     let made = links ++ new_link s ∷ [] in
     let len : length (perform s actions made) ≡ c0 + 1 = omega
     (arith, length-perform s actions made, length-append links (new_link s ∷ [])) in
-    let closed = closes_at c0 (map order_of actions) in
-    let sent = sends_at c0 (map order_of actions) in
+    let closed = closes_at c0 (map deed_of actions) in
+    let sent = sends_at c0 (map deed_of actions) in
     let F : Concern → Tie → Type 0 = λ x t. is_ready x t ≡ true →
     is_allowed x t (tie_of own' c0) closed sent ≡ true in
     let law : F StartsIt Unheld = subst (λ t. F StartsIt t) (good.own_later c0 (omega arith))

@@ -6,28 +6,29 @@ use Rattle.dm_machine.specs.declared.inputs.Word.{Word}
 use Rattle.dm_machine.specs.declared.inputs.Word.TheVariants.{Other}
 use Rattle.dm_machine.specs.declared.outputs.Command.TheVariants as command
 use Rattle.dm_machine.specs.Moves.{Outcome, Moved, Refused}
-use Rattle.dm_links.specs.Peers.{Event, Start, Stop, Timeout, Tick, Ack, Nack, Gone, Submit, Arrived, Order, concern_by, order_of, order_of_command}
+use Rattle.dm_machine.specs.Deeds.{Deed, deed_of_command}
+use Rattle.dm_links.specs.Peers.{Event, Start, Stop, Timeout, Tick, Ack, Nack, Gone, Submit, Arrived, concern_by, deed_of}
 use Rattle.dm_links.specs.Follows.{input_told, IsRefusedByMachine, MayDecline, Follows}
 use Rattle.dm_links.specs.Kinds.{Kin, input_of, action_of, reply_by, kinds, KindsAreAMachine, TwoRuns}
 
-same_order : (a : Command) → order_of (action_of a) ≡ order_of_command a
-same_order (command.Connect c) = refl
-same_order (command.SendCer c) = refl
-same_order (command.SendCea c) = refl
-same_order (command.SendRefusal c) = refl
-same_order (command.SendDwr c) = refl
-same_order (command.SendDwa c) = refl
-same_order (command.SendDpr c) = refl
-same_order (command.SendDpa c) = refl
-same_order (command.SendSubmit c) = refl
-same_order (command.Close c) = refl
-same_order command.Up = refl
+same_deed : (a : Command) → deed_of (action_of a) ≡ deed_of_command a
+same_deed (command.Connect c) = refl
+same_deed (command.SendCer c) = refl
+same_deed (command.SendCea c) = refl
+same_deed (command.SendRefusal c) = refl
+same_deed (command.SendDwr c) = refl
+same_deed (command.SendDwa c) = refl
+same_deed (command.SendDpr c) = refl
+same_deed (command.SendDpa c) = refl
+same_deed (command.SendSubmit c) = refl
+same_deed (command.Close c) = refl
+same_deed command.Up = refl
 
-same_orders : (commands : List Command) → map order_of (map action_of commands) ≡ map order_of_command commands
-same_orders [] = refl
-same_orders (a ∷ more) =
-    ap (λ (o : Order). o ∷ map order_of (map action_of more)) (same_order a)
-    ∙ ap (λ (os : List Order). order_of_command a ∷ os) (same_orders more)
+same_deeds : (commands : List Command) → map deed_of (map action_of commands) ≡ map deed_of_command commands
+same_deeds [] = refl
+same_deeds (a ∷ more) =
+    ap (λ (o : Deed). o ∷ map deed_of (map action_of more)) (same_deed a)
+    ∙ ap (λ (os : List Deed). deed_of_command a ∷ os) (same_deeds more)
 
 named_as : (b : Bool) (k : machine.Concern) →
     concern_as (machine.if_named b k) ≡ (if b then concern_as k else Elsewhere)
@@ -91,7 +92,7 @@ follows_by p e (Moved commands n) h =
       told = same_input e;
       concerns = same_concern e;
       moves = h;
-      orders = same_orders commands;
+      deeds = same_deeds commands;
     })
 
 pub kinds_are_a_machine : KindsAreAMachine

@@ -8,7 +8,8 @@ use Rattle.dm_links.specs.Links.{Side, flip, LinkPhase, Pending, Up, Cancelled, 
 use Rattle.dm_links.specs.Peers.{Peers}
 use Rattle.dm_links.specs.Worlds.{World, peer_at}
 use Rattle.dm_links.specs.Quiet.{is_still, is_quiet_link}
-use Rattle.dm_links.specs.Electing.{Talks, awaits_cea}
+use Rattle.dm_machine.specs.Awaiting.{awaits_cea}
+use Rattle.dm_links.specs.Electing.{Talks}
 use Rattle.dm_links.specs.Settled.{IsMatchedLink, AnswersMatch}
 use Rattle.dm_links.proofs.Pairs.{IsPair, swapped, Stands, flipped}
 use Rattle.dm_links.proofs.Stages.{Stage, Unmade, Dialled, Asked, Accepted, Answered, Dropped, Halved, Parted}

@@ -9,7 +9,8 @@ use Rattle.dm_links.specs.Peers as peers
 use Rattle.dm_links.specs.Steps.{said, shut}
 use Rattle.dm_links.specs.Worlds.{World, peer_at, with_peer, Put, Message, Disconnect, change_at, takes, put_if, puts_of}
 use Rattle.dm_links.specs.Quiet.{is_quiet_link}
-use Rattle.dm_links.specs.Electing.{Talks, IsPeerOf, awaits_cea, holds_cer}
+use Rattle.dm_machine.specs.Awaiting.{awaits_cea, holds_cer}
+use Rattle.dm_links.specs.Electing.{Talks, IsPeerOf}
 use Rattle.dm_links.proofs.Lists.{change_at-tested}
 
 -- the two sides, either first

@@ -8,7 +8,8 @@ use Rattle.dm_machine.specs.Moves.{Outcome, Moved, Refused}
 use Rattle.dm_links.specs.Machine.{Input, Command, outcome}
 use Rattle.dm_links.specs.Links.{Side}
 use Rattle.dm_links.specs.Peers.{Event, Send}
-use Rattle.dm_links.specs.Electing.{IsPeerOf, Reads, starts, acks, ends, asks, passes, answers, holds_cer, waiting_after, IsSaid, AreSaid, RepliesAs}
+use Rattle.dm_machine.specs.Awaiting.{holds_cer, waiting_after}
+use Rattle.dm_links.specs.Electing.{IsPeerOf, Reads, starts, acks, ends, asks, passes, answers, IsSaid, AreSaid, RepliesAs}
 use Rattle.dm_links.specs.Talkers.{Note, Talker, is_unheld, is_unread, input_at, heard_at, number_of, action_at, talk_by, talkers, talks, TalkersAreElecting, TwoTalks, note}
 use Rattle.dm_machine.specs.declared.inputs.Word.TheVariants.{Cea}
 

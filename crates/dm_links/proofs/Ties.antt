@@ -13,7 +13,8 @@ use Rattle.dm_machine.specs.Connection.{Hold, NotHeld, Pending, OpenAsI, Closing
 use Rattle.dm_machine.specs.Connection as machine
 use Rattle.dm_machine.specs.Changes.{Change, change, allowed}
 use Rattle.dm_links.specs.Machine.{conn, Node, Command, Concern, Elsewhere, HeardOnIt, concern_as, is_shaped, Tie, Unheld, Connecting, Made, MadeOpen, Taken, tie_as, tie_of, EachConnectionChangesAsAllowed, EachStepKeepsShape}
-use Rattle.dm_links.specs.Peers.{Event, Action, Reply, Acts, Peers, concern_by, Order, order_of, order_of_command, closes_at, sends_at}
+use Rattle.dm_machine.specs.Deeds.{Deed, deed_of_command}
+use Rattle.dm_links.specs.Peers.{Event, Action, Reply, Acts, Peers, concern_by, deed_of, closes_at, sends_at}
 use Rattle.dm_links.specs.Follows.{Steps, Drops, is_droppable, Follows, IsMachine}
 use Rattle.dm_links.proofs.Every.{all_true, at}
 use Rattle.dm_links.proofs.Checks.{when, is_when, is_ready, is_allowed}
@@ -22,8 +23,8 @@ use Rattle.dm_links.proofs.Checks.{when, is_when, is_ready, is_allowed}
 abbrev pub ChangesAllowed : {M : Type 0} → Node → Event M → List (Action M) → Node → ℕ → Type 0
 ChangesAllowed n e actions next c =
     is_ready (concern_by e (conn c)) (tie_of n c) ≡ true →
-    is_allowed (concern_by e (conn c)) (tie_of n c) (tie_of next c) (closes_at c (map order_of actions))
-    (sends_at c (map order_of actions)) ≡ true
+    is_allowed (concern_by e (conn c)) (tie_of n c) (tie_of next c) (closes_at c (map deed_of actions))
+    (sends_at c (map deed_of actions)) ≡ true
 
 pub record KeepsTies {M : Type 0} (n : Node) (e : Event M) (actions : List (Action M)) (next : Node) : Type 0 where
   pub shaped : IsTrue (is_shaped next)
@@ -151,9 +152,9 @@ passing_test : (f : machine.Order → Bool) (b : Bool) (o : machine.Order) (more
     some_order f (with_order (if_ordered b o) more) ≡ (b || some_order f more)
 passing_test f b o more h = with_test f b o more ∙ ap (λ (t : Bool). t || some_order f more) (and_true b (f o) h)
 
-close_ordered : (c : ℕ) (a : Command) (os : List Order) (more : List machine.Order) →
+close_ordered : (c : ℕ) (a : Command) (os : List Deed) (more : List machine.Order) →
     closes_at c os ≡ some_order is_close more →
-    closes_at c (order_of_command a ∷ os) ≡ some_order is_close (with_order (order_to (conn c) a) more)
+    closes_at c (deed_of_command a ∷ os) ≡ some_order is_close (with_order (order_to (conn c) a) more)
 close_ordered c (command.Close d) os more h = ap (λ (b : Bool). (d.0 == c) || b) h
     ∙ sym (passing_test is_close (d.0 == c) machine.Closes more refl)
 close_ordered c command.Up os more h = h
@@ -176,9 +177,9 @@ close_ordered c (command.SendDpa d) os more h = h
 close_ordered c (command.SendSubmit d) os more h = h
     ∙ sym (without_test is_close (d.0 == c) machine.SendsSubmit more refl)
 
-send_ordered : (c : ℕ) (a : Command) (os : List Order) (more : List machine.Order) →
+send_ordered : (c : ℕ) (a : Command) (os : List Deed) (more : List machine.Order) →
     sends_at c os ≡ some_order is_send more →
-    sends_at c (order_of_command a ∷ os) ≡ some_order is_send (with_order (order_to (conn c) a) more)
+    sends_at c (deed_of_command a ∷ os) ≡ some_order is_send (with_order (order_to (conn c) a) more)
 send_ordered c (command.Close d) os more h = h ∙ sym (without_test is_send (d.0 == c) machine.Closes more refl)
 send_ordered c (command.Connect d) os more h = h ∙ sym (without_test is_send (d.0 == c) machine.Connects more refl)
 send_ordered c command.Up os more h = h
@@ -200,15 +201,15 @@ send_ordered c (command.SendSubmit d) os more h = ap (λ (b : Bool). (d.0 == c) 
     ∙ sym (passing_test is_send (d.0 == c) machine.SendsSubmit more refl)
 
 closes_ordered : (c : ℕ) (commands : List Command) →
-    closes_at c (map order_of_command commands) ≡ some_order is_close (orders_to (conn c) commands)
+    closes_at c (map deed_of_command commands) ≡ some_order is_close (orders_to (conn c) commands)
 closes_ordered c [] = refl
-closes_ordered c (a ∷ more) = close_ordered c a (map order_of_command more) (orders_to (conn c) more)
+closes_ordered c (a ∷ more) = close_ordered c a (map deed_of_command more) (orders_to (conn c) more)
     (closes_ordered c more)
 
 sends_ordered : (c : ℕ) (commands : List Command) →
-    sends_at c (map order_of_command commands) ≡ some_order is_send (orders_to (conn c) commands)
+    sends_at c (map deed_of_command commands) ≡ some_order is_send (orders_to (conn c) commands)
 sends_ordered c [] = refl
-sends_ordered c (a ∷ more) = send_ordered c a (map order_of_command more) (orders_to (conn c) more)
+sends_ordered c (a ∷ more) = send_ordered c a (map deed_of_command more) (orders_to (conn c) more)
     (sends_ordered c more)
 
 step_ties : {P M : Type 0} (m : Peers P M) (p next : P) (e : Event M) (actions : List (Action M)) →
@@ -236,9 +237,9 @@ step_ties m p next e actions law keeps shaped step =
           let closed = subst (λ (b : Bool). is_allowed k (tie_of n c) (tie_of n' c) b
           (some_order is_send orders) ≡ true) (sym (closes_ordered c commands)) named in
           let sent = subst (λ (b : Bool). is_allowed k (tie_of n c) (tie_of n' c)
-          (closes_at c (map order_of_command commands)) b ≡ true) (sym (sends_ordered c commands)) closed in
-          subst (λ (os : List Order). is_allowed k (tie_of n c) (tie_of n' c) (closes_at c os)
-          (sends_at c os) ≡ true) (sym step.orders) sent;
+          (closes_at c (map deed_of_command commands)) b ≡ true) (sym (sends_ordered c commands)) closed in
+          subst (λ (os : List Deed). is_allowed k (tie_of n c) (tie_of n' c) (closes_at c os)
+          (sends_at c os) ≡ true) (sym step.deeds) sent;
     }
 
 dropped_allowed : (k : Concern) (t : Tie) → is_droppable k t ≡ true → is_allowed k t t false false ≡ true
@@ -261,7 +262,7 @@ drop_ties {P} {M} m p next e actions shaped drop =
       changes = λ c ready.
           let F : Node → List (Action M) →
           Type 0 = λ x acts. is_allowed (concern_by e (conn c)) (tie_of n c) (tie_of x c)
-          (closes_at c (map order_of acts)) (sends_at c (map order_of acts)) ≡ true in
+          (closes_at c (map deed_of acts)) (sends_at c (map deed_of acts)) ≡ true in
           subst (λ x. F x actions) (sym drop.stays)
           (subst (λ acts. F n acts) (sym drop.silent)
           (dropped_allowed (concern_by e (conn c)) (tie_of n c) (drop.heard c)));

@@ -6,7 +6,8 @@ use Rattle.dm_links.specs.Links.{Side, opens, Link, View, view_of, link_of, by_s
 use Rattle.dm_links.specs.Peers.{Event, Action, Acts, Peers, concern_by}
 use Rattle.dm_links.specs.Worlds.{World, peer_at, with_peer, Put, enter, perform, settle, puts_of, puts_at_entry, After, Done, answered, told}
 use Rattle.dm_links.specs.Quiet.{is_quiet_link}
-use Rattle.dm_links.specs.Electing.{Talks, holds_cer}
+use Rattle.dm_machine.specs.Awaiting.{holds_cer}
+use Rattle.dm_links.specs.Electing.{Talks}
 use Rattle.dm_links.proofs.Columns.{stepped}
 use Rattle.dm_links.proofs.Lists.{IsStart, mapped_some, by_side-same, stepped_at}
 use Rattle.dm_links.proofs.Pairs.{IsPair, own_by, other_by, here_after, there_after, links_after, Stands, At}

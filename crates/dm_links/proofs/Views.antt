@@ -1,7 +1,7 @@
 -- The actions on one link, one after the other, are their sum.
 use Rattle.std.proofs.Common.{◌≡◌, ℕ, Bool, true, false, ◌||◌, ◌==◌, if◌then◌else◌, List, [], ◌∷◌, map, refl, sym, ap, ◌∙◌, append_assoc, append-nil}
 use Rattle.dm_links.specs.Links.{LinkPhase, Pending, Up, Cancelled, End, Mark, NoMark, Coming, Delivered, Direction, View}
-use Rattle.dm_links.specs.Peers.{Action, Connect, Send, Close, order_of, closes_at, sends_at}
+use Rattle.dm_links.specs.Peers.{Action, Connect, Send, Close, deed_of, closes_at, sends_at}
 use Rattle.dm_links.specs.Peers as peers
 use Rattle.dm_links.specs.Machine.{Concern}
 use Rattle.dm_links.specs.Steps.{entered, said, shut}
@@ -118,10 +118,10 @@ none_if_close : {M : Type 0} (b : Bool) (words : List M) → is_empty words ≡ 
 none_if_close true words h = refl
 none_if_close false words h = h
 
-pub unsent_unsaid : {M : Type 0} (d : ℕ) (actions : List (Action M)) → sends_at d (map order_of actions) ≡ false →
+pub unsent_unsaid : {M : Type 0} (d : ℕ) (actions : List (Action M)) → sends_at d (map deed_of actions) ≡ false →
     is_empty (words_at d actions) ≡ true
 unsent_unsaid d [] h = refl
-unsent_unsaid d (Send c x ∷ actions) h = none_if_send (c.0 == d) (sends_at d (map order_of actions)) x
+unsent_unsaid d (Send c x ∷ actions) h = none_if_send (c.0 == d) (sends_at d (map deed_of actions)) x
     (words_at d actions) h (unsent_unsaid d actions)
 unsent_unsaid d (Close c ∷ actions) h = none_if_close (c.0 == d) (words_at d actions) (unsent_unsaid d actions h)
 unsent_unsaid d (Connect c ∷ actions) h = unsent_unsaid d actions h
@@ -138,12 +138,12 @@ some_if_close : {M : Type 0} (b rest : Bool) (words : List M) → (b || rest) �
 some_if_close true rest words h g = cc
 some_if_close false rest words h g = g h
 
-pub sent_said : {M : Type 0} (d : ℕ) (actions : List (Action M)) → sends_at d (map order_of actions) ≡ true →
-    closes_at d (map order_of actions) ≡ false → is_empty (words_at d actions) ≡ false
+pub sent_said : {M : Type 0} (d : ℕ) (actions : List (Action M)) → sends_at d (map deed_of actions) ≡ true →
+    closes_at d (map deed_of actions) ≡ false → is_empty (words_at d actions) ≡ false
 sent_said d [] h e = cc
-sent_said d (Send c x ∷ actions) h e = some_if_send (c.0 == d) (sends_at d (map order_of actions)) x
+sent_said d (Send c x ∷ actions) h e = some_if_send (c.0 == d) (sends_at d (map deed_of actions)) x
     (words_at d actions) h (λ r. sent_said d actions r e)
-sent_said d (Close c ∷ actions) h e = some_if_close (c.0 == d) (closes_at d (map order_of actions))
+sent_said d (Close c ∷ actions) h e = some_if_close (c.0 == d) (closes_at d (map deed_of actions))
     (words_at d actions) e (λ r. sent_said d actions h r)
 sent_said d (Connect c ∷ actions) h e = sent_said d actions h e
 sent_said d (peers.Up x ∷ actions) h e = sent_said d actions h e

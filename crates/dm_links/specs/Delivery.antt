@@ -3,7 +3,7 @@ use Rattle.std.specs.Prelude.{◌≡◌, ℕ, Bool, true, false, not, ◌&&◌, 
 use Rattle.dm_machine.specs.Connection.{Hold, NotHeld, Pending, OpenAsI, ClosingAsI, OpenAsR, ClosingAsR, hold_of}
 use Rattle.dm_links.specs.Machine.{Conn, conn, Node, closed_node, is_shaped}
 use Rattle.dm_links.specs.Links.{Side, flip, opens, Link}
-use Rattle.dm_links.specs.Peers.{Event, Submit, Arrived, Action, Send, Acts, Peers, order_of, sends_at}
+use Rattle.dm_links.specs.Peers.{Event, Submit, Arrived, Action, Send, Acts, Peers, deed_of, sends_at}
 use Rattle.dm_links.specs.Peers as peers
 use Rattle.dm_links.specs.Worlds.{World, peer_at}
 use Rattle.dm_links.specs.Happens.{Happening, Loses, own_view, run}
@@ -15,7 +15,7 @@ use Rattle.dm_links.specs.Turns.{Turn, all_turns}
 abbrev pub submitted_by : {M : Type 0} → Side → ℕ → Turn M → List M
 submitted_by t c u =
     elim u.event [
-      | Submit x ↦ if opens (flip t) u.side && sends_at c (map order_of u.actions) then x ∷ [] else []
+      | Submit x ↦ if opens (flip t) u.side && sends_at c (map deed_of u.actions) then x ∷ [] else []
       | _ ↦ []
     ]
 

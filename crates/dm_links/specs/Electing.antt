@@ -1,14 +1,13 @@
 -- What the quiet clause asks of two peers beyond the state machine: one of them wins the election, each reads the
 -- other's CER and CEA as good ones, and an answer carries the number of its request.
-use Rattle.std.specs.Prelude.{◌≡◌, ℕ, Bool, true, false, not, if◌then◌else◌, IsTrue, ⊤, Option, Some, None, List, [], ◌∷◌}
-use Rattle.dm_machine.specs.declared.state_name.State.{State}
-use Rattle.dm_machine.specs.declared.state_name.State.TheVariants.{WaitICea, WaitConnAckElect, WaitReturns}
+use Rattle.std.specs.Prelude.{◌≡◌, ℕ, Bool, true, false, not, IsTrue, ⊤, Option, Some, None, List, [], ◌∷◌}
 use Rattle.dm_machine.specs.declared.inputs.Word.TheVariants.{Unreadable, Cer, Cea}
 use Rattle.dm_machine.specs.declared.inputs.Input.TheVariants as input
 use Rattle.dm_machine.specs.declared.outputs.Command.TheVariants as command
 use Rattle.dm_machine.specs.Moves.{Outcome, Moved, Refused}
 use Rattle.dm_machine.specs.Connection.{NotHeld, Made, hold_of}
 use Rattle.dm_machine.specs.Unread.{reads_first}
+use Rattle.dm_machine.specs.Awaiting.{awaits_cea, holds_cer, number_after, waiting_after, cer_to_answer}
 use Rattle.dm_links.specs.Machine.{Conn, Node, Input, Command, outcome}
 use Rattle.dm_links.specs.Links.{Side, A, B, flip}
 use Rattle.dm_links.specs.Peers.{Event, Start, Ack, Gone, Arrived, Action, Connect, Send, Close, Reply, Acts, Declines, Peers}
@@ -52,34 +51,10 @@ pub data Reads {P M C H : Type 0} (m : Peers P M) (t : Talks P M C H) (s : Side)
   answers : (c : Conn) (n : ℕ) → IsTrue (t.is_number n) → t.awaited_of p ≡ Some n → hold_of (m.node_of p) c ≡ Made →
       Reads m t s p (Arrived c (t.cea (t.config (flip s)) n)) (input.Heard c Cea) (Some (t.cea_header n))
 
--- the states in which a CEA is awaited, and those in which a CER waits for its CEA
-abbrev pub awaits_cea : State → Bool
-awaits_cea WaitICea = true
-awaits_cea WaitReturns = true
-awaits_cea _ = false
-
-abbrev pub holds_cer : State → Bool
-holds_cer WaitConnAckElect = true
-holds_cer WaitReturns = true
-holds_cer _ = false
-
 abbrev pub sends_cer : List Command → Bool
 sends_cer [] = false
 sends_cer (command.SendCer c ∷ more) = true
 sends_cer (_ ∷ more) = sends_cer more
-
--- a CER sets the number, in place of an older one; it goes where none is awaited any more
-abbrev pub awaited_after : State → Bool → ℕ → Option ℕ → Option ℕ
-awaited_after s sends next old = if awaits_cea s then (if sends then Some next else old) else None
-
--- the header is kept on entering the states in which it waits, and stays there
-abbrev pub waiting_after : {H : Type 0} → State → Option H → State → Option H → Option H
-waiting_after s heard s' old = if holds_cer s' then (if holds_cer s then old else heard) else None
-
--- the CER that a CEA answers: the one that waits, else the one just heard
-abbrev pub cer_to_answer : {H : Type 0} → Option H → Option H → Option H
-cer_to_answer None heard = heard
-cer_to_answer (Some waiting) heard = Some waiting
 
 -- what is done for a command: the CER has the next number, the CEA answers its CER
 abbrev pub IsSaid : {P M C H : Type 0} → Talks P M C H → Side → P → Option H → Command → Action M → Type 0
@@ -105,7 +80,7 @@ pub record RepliesBy {P M C H : Type 0} (m : Peers P M) (t : Talks P M C H) (s :
   pub node : m.node_of peer ≡ next
   pub same : IsPeerOf t s peer
   pub said : AreSaid t s p heard commands actions
-  pub awaited : t.awaited_of peer ≡ awaited_after next.state (sends_cer commands) (t.next_of p) (t.awaited_of p)
+  pub awaited : t.awaited_of peer ≡ number_after (awaits_cea next.state) (sends_cer commands) (t.next_of p) (t.awaited_of p)
   pub waiting : t.waiting_of peer ≡ waiting_after (m.node_of p).state heard next.state (t.waiting_of p)
 
 abbrev pub RepliesAs : {P M C H : Type 0} → Peers P M → Talks P M C H → Side → P → Option H → Outcome → Reply P M →

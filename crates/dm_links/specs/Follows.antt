@@ -5,7 +5,8 @@ use Rattle.dm_machine.specs.declared.inputs.Word.{Word}
 use Rattle.dm_machine.specs.declared.outputs.Refusal.{Refusal}
 use Rattle.dm_machine.specs.Moves.{Moved, Refused}
 use Rattle.dm_links.specs.Machine.{Conn, conn, Input, Command, Concern, Elsewhere, HeardOnIt, concern_of, outcome, Tie, Made, MadeOpen, Taken, tie_of, closed_node}
-use Rattle.dm_links.specs.Peers.{Event, Start, Stop, Timeout, Tick, Ack, Nack, Gone, Submit, Arrived, Action, Reply, Acts, Declines, Peers, concern_by, order_of, order_of_command}
+use Rattle.dm_machine.specs.Deeds.{deed_of_command}
+use Rattle.dm_links.specs.Peers.{Event, Start, Stop, Timeout, Tick, Ack, Nack, Gone, Submit, Arrived, Action, Reply, Acts, Declines, Peers, concern_by, deed_of}
 
 -- an event as the machine's input, with the word of what came
 abbrev pub input_told : {M : Type 0} → Event M → Word → Input
@@ -30,7 +31,7 @@ pub record Steps {P M : Type 0} (m : Peers P M) (p : P) (e : Event M) (actions :
   pub told : input ≡ input_told e word
   pub concerns : (c : Conn) → concern_of input c ≡ concern_by e c
   pub moves : outcome (m.node_of p) input wins ≡ Moved commands (m.node_of next)
-  pub orders : map order_of actions ≡ map order_of_command commands
+  pub deeds : map deed_of actions ≡ map deed_of_command commands
 
 abbrev pub is_droppable : Concern → Tie → Bool
 is_droppable Elsewhere t = true

@@ -1,7 +1,7 @@
 -- A peer in a world: whatever answers an event with actions. Its state is of any type P, its messages of any type M.
 use Rattle.std.specs.Prelude.{ℕ, Bool, false, ◌||◌, ◌==◌, List, [], ◌∷◌}
-use Rattle.dm_links.specs.Machine.{Conn, Command, Node, Concern, Elsewhere, StartsIt, AcksIt, NacksIt, EndsIt, HeardOnIt, if_named}
-use Rattle.dm_machine.specs.declared.outputs.Command.TheVariants as command
+use Rattle.dm_machine.specs.Deeds.{Deed, ConnectsOn, SendsOn, ClosesOn, HandsUp}
+use Rattle.dm_links.specs.Machine.{Conn, Node, Concern, Elsewhere, StartsIt, AcksIt, NacksIt, EndsIt, HeardOnIt, if_named}
 
 -- why a peer is told to disconnect [5.4.3]
 pub data Cause : Type 0 where
@@ -46,39 +46,20 @@ concern_by (Gone d) c = if_named d c EndsIt
 concern_by (Arrived d m) c = if_named d c HeardOnIt
 concern_by _ c = Elsewhere
 
--- an action, or a command of the machine, but for what is said
-pub data Order : Type 0 where
-  Connects : Conn → Order
-  Sends : Conn → Order
-  Closes : Conn → Order
-  HandsUp : Order
+-- what an action does, whatever it says
+abbrev pub deed_of : {M : Type 0} → Action M → Deed
+deed_of (Connect c) = ConnectsOn c
+deed_of (Send c m) = SendsOn c
+deed_of (Close c) = ClosesOn c
+deed_of (Up m) = HandsUp
 
-abbrev pub order_of : {M : Type 0} → Action M → Order
-order_of (Connect c) = Connects c
-order_of (Send c m) = Sends c
-order_of (Close c) = Closes c
-order_of (Up m) = HandsUp
-
-abbrev pub order_of_command : Command → Order
-order_of_command (command.Connect c) = Connects c
-order_of_command (command.SendCer c) = Sends c
-order_of_command (command.SendCea c) = Sends c
-order_of_command (command.SendRefusal c) = Sends c
-order_of_command (command.SendDwr c) = Sends c
-order_of_command (command.SendDwa c) = Sends c
-order_of_command (command.SendDpr c) = Sends c
-order_of_command (command.SendDpa c) = Sends c
-order_of_command (command.SendSubmit c) = Sends c
-order_of_command (command.Close c) = Closes c
-order_of_command command.Up = HandsUp
-
--- whether one of the orders closes a link, or sends on it
-abbrev pub closes_at : ℕ → List Order → Bool
+-- whether one of the deeds closes a link, or sends on it
+abbrev pub closes_at : ℕ → List Deed → Bool
 closes_at d [] = false
-closes_at d (Closes c ∷ os) = (c.0 == d) || closes_at d os
+closes_at d (ClosesOn c ∷ os) = (c.0 == d) || closes_at d os
 closes_at d (_ ∷ os) = closes_at d os
 
-abbrev pub sends_at : ℕ → List Order → Bool
+abbrev pub sends_at : ℕ → List Deed → Bool
 sends_at d [] = false
-sends_at d (Sends c ∷ os) = (c.0 == d) || sends_at d os
+sends_at d (SendsOn c ∷ os) = (c.0 == d) || sends_at d os
 sends_at d (_ ∷ os) = sends_at d os

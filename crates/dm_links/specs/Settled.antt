@@ -8,7 +8,8 @@ use Rattle.dm_links.specs.Worlds.{World, peer_at, Put, Message, Disconnect}
 use Rattle.dm_links.specs.Happens.{Happening, Ran, run}
 use Rattle.dm_links.specs.Agreement.{IsOpenOn}
 use Rattle.dm_links.specs.Quiet.{is_quiet, is_clean, made, steps, Kept, kept}
-use Rattle.dm_links.specs.Electing.{Talks, IsPeerOf, awaits_cea, IsElecting}
+use Rattle.dm_machine.specs.Awaiting.{awaits_cea}
+use Rattle.dm_links.specs.Electing.{Talks, IsPeerOf, IsElecting}
 use Rattle.dm_links.specs.Courses.{IsOnCourse}
 
 -- what is put in is so many CERs, CEAs of code 2001 and disconnects, and nothing else

@@ -14,6 +14,8 @@ pub mod Upward
 pub mod Unread
 pub mod Strangers
 pub mod Shape
+pub mod Deeds
+pub mod Awaiting
 pub mod Phases
 pub mod Defaults
 pub mod Printed

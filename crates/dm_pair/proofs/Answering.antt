@@ -10,7 +10,7 @@ use Rattle.dm_machine.specs.Table.{TableEvent, RConnCer, RConnRefusedCer, IRcvCo
 use Rattle.dm_machine.specs.Node.{Node}
 use Rattle.dm_machine.specs.Forms.{Form, closed, wait_conn_ack, wait_i_cea, wait_conn_ack_elect, wait_returns, r_open, i_open, closing}
 use Rattle.dm_machine.specs.Moves.{Outcome, Moved, Refused}
-use Rattle.dm_peer.specs.After.{holds_cer}
+use Rattle.dm_machine.specs.Awaiting.{holds_cer}
 use Rattle.dm_pair.proofs.Silent.{after}
 
 -- the events of base requests

@@ -36,7 +36,8 @@ use Rattle.dm_peer.specs.Acts as peer_acts
 use Rattle.dm_peer.specs.After as after
 use Rattle.dm_links.specs.Links.{Side, A, B, flip}
 use Rattle.dm_links.specs.Peers.{Event}
-use Rattle.dm_links.specs.Electing.{IsPeerOf, Reads, starts, acks, ends, asks, passes, answers, holds_cer, RepliesAs}
+use Rattle.dm_machine.specs.Awaiting.{holds_cer}
+use Rattle.dm_links.specs.Electing.{IsPeerOf, Reads, starts, acks, ends, asks, passes, answers, RepliesAs}
 use Rattle.dm_pair.specs.Octets.{as_reply, octet_peers}
 use Rattle.dm_pair.specs.Talking.{ArePaired, config_at, is_number, is_standing, cer_octets, cea_octets, octet_talks}
 use Rattle.dm_pair.specs.Laws.{OctetsAreElecting}

@@ -30,7 +30,7 @@ use Rattle.dm_peer.specs.Events.{octets_in, cause_in}
 use Rattle.dm_peer.specs.Configs.{wins}
 use Rattle.dm_peer.specs.Octets.{octets_of}
 use Rattle.dm_peer.specs.Said.{Heard, heard_in}
-use Rattle.dm_peer.specs.Sent.{no_header, header_of, fault_in, cer_to_answer, is_protocol_error, refusal, action_of, actions_of}
+use Rattle.dm_peer.specs.Sent.{no_header, header_of, fault_in, cer_answered, is_protocol_error, refusal, action_of, actions_of}
 use Rattle.dm_peer.specs.Acts.{Outcome, Moved, Refused, turned, input_of, outcome_of, steps, is_unread, is_dropped, heard, can_submit, acts}
 use Rattle.dm_pair.specs.Frames.{AreOctets, submitted_in, SendFrames, OctetsAreFrames}
 use Rattle.dm_pair.specs.Octets.{as_actions}
@@ -116,7 +116,7 @@ one_framed laws p e h (command.SendSubmit c) more (inl plain) rest = cc
 one_framed laws p e h (command.SendSubmit c) more (inr sent) rest = (sent, rest)
 one_framed laws p e h (command.SendCer c) more own rest = (cer_framed laws p.config.node p.standing.next, rest)
 one_framed laws p e h (command.SendCea c) more own rest =
-    (cea_framed laws p.config.node (cer_to_answer p.standing.waiting h) 2001 None, rest)
+    (cea_framed laws p.config.node (cer_answered p.standing.waiting h) 2001 None, rest)
 one_framed laws p e h (command.SendRefusal c) more own rest =
     (refusal_framed laws p.config.node (header_of h) (fault_in h), rest)
 one_framed laws p e h (command.SendDwr c) more own rest = (dwr_framed laws p.config.node p.standing.next, rest)

@@ -25,7 +25,7 @@ use Rattle.dm_links.specs.Peers.{Event, Start, Stop, Timeout, Tick, Ack, Nack, G
 use Rattle.dm_links.specs.Worlds.{World, peer_at, with_peer, with_links, After, Done, Ignored, answered}
 use Rattle.dm_links.specs.Worlds as worlds
 use Rattle.dm_links.specs.Happens.{Starts, Stops, TimesOut, Ticks, Restarts, Acks, Nacks, Delivers, Pieces, Loses, Submits, Next, NextMessage, NextDisconnect, NextNothing, next_in, comes, delivered, pieced, are_shut, restart_links, if_up, if_pending, at_link, own_view, world_after}
-use Rattle.dm_links.specs.Electing.{holds_cer}
+use Rattle.dm_machine.specs.Awaiting.{holds_cer}
 use Rattle.dm_links.specs.Joining.{WinnerDoesNotReturn}
 use Rattle.dm_pair.specs.Octets.{of_event, as_reply, octet_peers}
 use Rattle.dm_pair.specs.Talking.{ArePaired, is_number, is_standing, returns_as_loser, ArePeers}

@@ -14,42 +14,22 @@ use Rattle.dm_peer.specs.Said.{Heard, word_heard}
 use Rattle.dm_peer.specs.Acts.{Outcome, Moved, Refused, acts, input_of, is_made}
 use Rattle.dm_peer.specs.Steps as peer
 use Rattle.dm_links.specs.Machine.{conn, Elsewhere, HeardOnIt, concern_as, concern_of, tie_as, tie_of}
-use Rattle.dm_links.specs.Peers.{Event, Start, Stop, Timeout, Tick, Ack, Nack, Gone, Submit, Arrived, concern_by, Order, Connects, Sends, Closes, HandsUp, order_of, order_of_command}
+use Rattle.dm_links.specs.Peers.{Event, Start, Stop, Timeout, Tick, Ack, Nack, Gone, Submit, Arrived, concern_by, deed_of}
 use Rattle.dm_links.specs.Follows.{Steps, Drops, is_droppable, Follows, IsMachine}
 use Rattle.dm_pair.proofs.Declining.{same_input, Declined, octets_decline}
 use Rattle.dm_pair.specs.Octets.{of_event, as_action, as_actions, as_reply, octet_peers}
 
--- orders are the same on both sides
-as_order : peer.Order → Order
-as_order (peer.Connects c) = Connects c
-as_order (peer.Sends c) = Sends c
-as_order (peer.Closes c) = Closes c
-as_order peer.HandsUp = HandsUp
+-- deeds are the same on both sides
+action_done : (a : declared_action.Action) → deed_of (as_action a) ≡ peer.deed_of a
+action_done (action.Connect c) = refl
+action_done (action.Send c s) = refl
+action_done (action.Close c) = refl
+action_done (action.Up s) = refl
 
-action_ordered : (a : declared_action.Action) → order_of (as_action a) ≡ as_order (peer.order_of a)
-unfolding as_order
-action_ordered (action.Connect c) = refl
-action_ordered (action.Send c s) = refl
-action_ordered (action.Close c) = refl
-action_ordered (action.Up s) = refl
-
-command_ordered : (a : Command) → order_of_command a ≡ as_order (peer.order_of_command a)
-unfolding as_order
-command_ordered (command.Connect c) = refl
-command_ordered (command.Close c) = refl
-command_ordered command.Up = refl
-command_ordered _ = refl
-
-actions_ordered : (l : List declared_action.Action) →
-    map order_of (as_actions l) ≡ map as_order (map peer.order_of l)
-actions_ordered [] = refl
-actions_ordered (a ∷ l) = ap (λ o. o ∷ map order_of (as_actions l)) (action_ordered a)
-    ∙ ap (λ os. as_order (peer.order_of a) ∷ os) (actions_ordered l)
-
-commands_ordered : (l : List Command) → map order_of_command l ≡ map as_order (map peer.order_of_command l)
-commands_ordered [] = refl
-commands_ordered (a ∷ l) = ap (λ o. o ∷ map order_of_command l) (command_ordered a)
-    ∙ ap (λ os. as_order (peer.order_of_command a) ∷ os) (commands_ordered l)
+actions_done : (l : List declared_action.Action) → map deed_of (as_actions l) ≡ map peer.deed_of l
+actions_done [] = refl
+actions_done (a ∷ l) = ap (λ o. o ∷ map deed_of (as_actions l)) (action_done a)
+    ∙ ap (λ os. peer.deed_of a ∷ os) (actions_done l)
 
 -- an event concerns a connection as its input does
 named_as : (b : Bool) (k : machine.Concern) →
@@ -80,8 +60,7 @@ step_taken p next e actions step =
       told = same_input e step.heard;
       concerns = concerns_same e step.heard;
       moves = step.moves;
-      orders = actions_ordered actions ∙ ap (λ l. map as_order l) step.orders
-          ∙ sym (commands_ordered step.commands);
+      deeds = actions_done actions ∙ step.deeds;
     }
 
 -- what is dropped may be

@@ -21,9 +21,9 @@ use Rattle.dm_peer.specs.Events as told
 use Rattle.dm_peer.specs.Events.{cause_in}
 use Rattle.dm_peer.specs.Configs.{wins}
 use Rattle.dm_peer.specs.Octets.{octets_of}
-use Rattle.dm_peer.specs.Said.{Heard}
-use Rattle.dm_peer.specs.Sent.{header_of, fault_in, cer_to_answer, is_protocol_error, refusal, action_of, actions_of}
-use Rattle.dm_peer.specs.After.{holds_cer, header_heard}
+use Rattle.dm_peer.specs.Said.{Heard, header_heard}
+use Rattle.dm_peer.specs.Sent.{header_of, fault_in, cer_answered, is_protocol_error, refusal, action_of, actions_of}
+use Rattle.dm_machine.specs.Awaiting.{holds_cer}
 use Rattle.dm_peer.specs.Acts.{Outcome, Moved, Refused, turned, input_of, outcome_of, steps, acts}
 use Rattle.dm_links.specs.Delivery.{sends_all}
 use Rattle.dm_pair.specs.Octets.{as_actions}
@@ -46,7 +46,7 @@ header_is_base None e = cc
 header_is_base (Some h) e = e
 
 cea_base : (waits : Bool) (waiting : Option Header) (h : Option Heard) → waits_well waits waiting ≡ true →
-    (is_base_heard h ≡ true) ⊎ (waits ≡ true) → is_base_command (cer_to_answer waiting h).command ≡ true
+    (is_base_heard h ≡ true) ⊎ (waits ≡ true) → is_base_command (cer_answered waiting h).command ≡ true
 cea_base true (Some w) h e either = e
 cea_base true None h e either = cc
 cea_base false (Some w) h e either = cc
@@ -94,7 +94,7 @@ module _ (p : Peer) (e : told.PeerEvent) (h : Option Heard) (well : is_waiting_w
       (built_no_app (built_dpr p.config.node p.standing.next (cause_in e)) refl) rest
   one_sent (command.SendCea c) more plain either rest =
       and_from _ (sends_all no_app (as_actions more))
-      (built_no_app (built_cea p.config.node (cer_to_answer p.standing.waiting h) 2001 None)
+      (built_no_app (built_cea p.config.node (cer_answered p.standing.waiting h) 2001 None)
       (cea_base waits p.standing.waiting h well either)) rest
   one_sent (command.SendRefusal c) more plain either rest =
       and_from _ (sends_all no_app (as_actions more))

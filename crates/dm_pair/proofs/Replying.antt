@@ -21,32 +21,22 @@ use Rattle.dm_peer.specs.declared.peer.Peer.{Peer}
 use Rattle.dm_peer.specs.Events.{PeerEvent}
 use Rattle.dm_peer.specs.Configs.{wins}
 use Rattle.dm_peer.specs.Octets.{octets_of}
-use Rattle.dm_peer.specs.Said.{Heard}
+use Rattle.dm_peer.specs.Said.{Heard, header_heard}
 use Rattle.dm_peer.specs.Sent as sent
-use Rattle.dm_peer.specs.After.{request_in, next_after, is_cer, number_after, header_heard}
+use Rattle.dm_peer.specs.After.{request_in, next_after, is_cer}
 use Rattle.dm_peer.specs.After as after
 use Rattle.dm_peer.specs.Acts.{turned, input_of, outcome_of, steps, standing_at}
 use Rattle.dm_links.specs.Links.{Side}
 use Rattle.dm_links.specs.Peers.{Send}
-use Rattle.dm_links.specs.Electing.{IsPeerOf, awaits_cea, holds_cer, awaited_after, cer_to_answer, IsSaid, AreSaid, RepliesAs}
+use Rattle.dm_machine.specs.Awaiting.{awaits_cea, holds_cer, number_after, waiting_after, cer_to_answer}
+use Rattle.dm_links.specs.Electing.{IsPeerOf, IsSaid, AreSaid, RepliesAs}
 use Rattle.dm_pair.specs.Octets.{as_action, as_actions, as_reply, octet_peers}
 use Rattle.dm_pair.specs.Talking.{config_at, is_number, is_standing, octet_talks}
 use Rattle.dm_pair.proofs.Sending.{SendsAlike, outcome_alike}
 
--- the states are told alike
-pub awaits_alike : (s : State) → after.awaits_cea s ≡ awaits_cea s
-awaits_alike WaitICea = refl
-awaits_alike WaitReturns = refl
-awaits_alike _ = refl
-
-pub holds_alike : (s : State) → after.holds_cer s ≡ holds_cer s
-holds_alike WaitConnAckElect = refl
-holds_alike WaitReturns = refl
-holds_alike _ = refl
-
 -- the header that a CEA answers
 to_answer : (waiting : Option Header) (h : Option Heard) (to : Header) →
-    cer_to_answer waiting (header_heard h) ≡ Some to → sent.cer_to_answer waiting h ≡ to
+    cer_to_answer waiting (header_heard h) ≡ Some to → sent.cer_answered waiting h ≡ to
 to_answer None None to e = cc
 to_answer None (Some x) to e = cc
 to_answer (Some w) h to e = cc
@@ -58,7 +48,7 @@ said_at a b s p e h is (command.SendCer c) =
     ap (λ (k : Config). Send c (octets_of (built_cer k.node p.standing.next))) is
 said_at a b s p e h is (command.SendCea c) =
     λ n answers.
-    ap (λ (k : Config). Send c (octets_of (built_cea k.node (sent.cer_to_answer p.standing.waiting h) 2001 None)))
+    ap (λ (k : Config). Send c (octets_of (built_cea k.node (sent.cer_answered p.standing.waiting h) 2001 None)))
     is
     ∙ ap (λ to. Send c (octets_of (built_cea (config_at a b s).node to 2001 None)))
     (to_answer p.standing.waiting h (request_header capabilities_exchange n) answers)
@@ -101,16 +91,14 @@ pub stands_after : (p : Peer) (h : Option Heard) (commands : List Command) (core
     is_standing (standing_at p (after.standing_after p.standing h (request_in commands) core)) ≡ true
 stands_after p h commands core was shaped =
     let rest = is_shaped p.standing.core && (holds_cer p.standing.core.state || is_none p.standing.waiting) in
-    let waits = waits_after (holds_cer core.state) (after.holds_cer p.standing.core.state) p.standing.waiting
+    let waits = waits_after (holds_cer core.state) (holds_cer p.standing.core.state) p.standing.waiting
     (header_heard h) in
-    let waiting = after.waiting_after p.standing.core.state h core.state p.standing.waiting in
+    let waiting = waiting_after p.standing.core.state (header_heard h) core.state p.standing.waiting in
     and_from (is_number (next_after (request_in commands) p.standing.next))
     (is_shaped core && (holds_cer core.state || is_none waiting))
     (next_stands commands p.standing.next (and_parts (is_number p.standing.next) rest was).0)
     (and_from (is_shaped core) (holds_cer core.state || is_none waiting) shaped
-    (subst (λ b. (holds_cer core.state || is_none (if b then
-    (if after.holds_cer p.standing.core.state then p.standing.waiting else header_heard h) else None)) ≡ true)
-    (sym (holds_alike core.state)) waits))
+    waits)
 
 replies_by : (a b : Config) (s : Side) (p : Peer) (e : PeerEvent) (h : Option Heard) →
     IsPeerOf (octet_talks a b) s p → (o : moves.Outcome) → KeepsShape o → SendsAlike o →
@@ -126,13 +114,8 @@ replies_by a b s p e h is (moves.Moved commands core) kept alike =
       same = record { configured = is.configured; stands = stands_after p h commands core is.stands kept.0 };
       said = all_said a b s p e h is.configured commands;
       awaited =
-          ap (λ w. number_after w (is_cer sends) p.standing.next p.standing.awaited.cea) (awaits_alike core.state)
-          ∙ ap (λ c. awaited_after core.state c p.standing.next p.standing.awaited.cea) alike;
-      waiting =
-          ap (λ w. if w then (if after.holds_cer p.standing.core.state then p.standing.waiting else header_heard h)
-          else None) (holds_alike core.state)
-          ∙ ap (λ w. if holds_cer core.state then (if w then p.standing.waiting else header_heard h) else None)
-          (holds_alike p.standing.core.state);
+          ap (λ c. number_after (awaits_cea core.state) c p.standing.next p.standing.awaited.cea) alike;
+      waiting = refl;
     }
 
 pub turned_is : (n : Node) (i : Input) (w : Bool) → turned n i w ≡ outcome n i w

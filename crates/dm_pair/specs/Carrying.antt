@@ -6,7 +6,7 @@ use Rattle.dm_base.specs.Kinds.{is_base_command}
 use Rattle.dm_peer.specs.declared.config.Config.{Config}
 use Rattle.dm_peer.specs.declared.peer.Peer.{Peer}
 use Rattle.dm_peer.specs.Acts.{can_submit}
-use Rattle.dm_peer.specs.After.{holds_cer}
+use Rattle.dm_machine.specs.Awaiting.{holds_cer}
 use Rattle.dm_links.specs.Links.{Side}
 use Rattle.dm_links.specs.Happens.{Happening, run}
 use Rattle.dm_links.specs.Laws.{world_of}

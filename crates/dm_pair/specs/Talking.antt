@@ -12,7 +12,8 @@ use Rattle.dm_peer.specs.Hosts.{is_same_host}
 use Rattle.dm_peer.specs.Octets.{octets_of}
 use Rattle.dm_links.specs.Links.{Side, A, B}
 use Rattle.dm_links.specs.Worlds.{World}
-use Rattle.dm_links.specs.Electing.{Talks, holds_cer}
+use Rattle.dm_machine.specs.Awaiting.{holds_cer}
+use Rattle.dm_links.specs.Electing.{Talks}
 use Rattle.dm_links.specs.Joining.{is_returning}
 
 -- each is configured for the other's host, and they have an application in common (RFC 6733, 5.3)

@@ -24,7 +24,7 @@ use Rattle.dm_peer.specs.declared.config.Config.{Config}
 use Rattle.dm_peer.specs.declared.peer.Peer.{Peer}
 use Rattle.dm_peer.specs.Events.{PeerEvent, Start, Stop, Timeout, Tick, Ack, Nack, Arrived, Gone, Submit}
 use Rattle.dm_peer.specs.Said.{Heard, word_heard, heard_caps, word_of_bad, refusal_of_caps, said}
-use Rattle.dm_peer.specs.After.{holds_cer}
+use Rattle.dm_machine.specs.Awaiting.{holds_cer}
 use Rattle.dm_peer.specs.Acts.{input_of}
 use Rattle.dm_peer.specs.Steps.{has_fault, is_arrival, is_stop, is_submit, has_what_it_says}
 use Rattle.dm_peer.proofs.Entries.{after}

@@ -13,8 +13,9 @@ use Rattle.dm_machine.specs.Forms.{Form, closed, wait_conn_ack, wait_i_cea, wait
 use Rattle.dm_machine.specs.Reading.{Place, OnI, OnR, OnX, OnNew, place_of, first_message, message_on_i, message_on_x, message_event, end_event, connect_event, event_of}
 use Rattle.dm_machine.specs.Moves.{Outcome, Moved, Refused, by_event, raises_win, then_won}
 use Rattle.dm_peer.specs.Events.{PeerEvent, Start, Stop, Timeout, Tick, Ack, Nack, Arrived, Gone, Submit}
-use Rattle.dm_peer.specs.Said.{Heard, word_heard}
-use Rattle.dm_peer.specs.After.{request_in, awaits_cea, holds_cer, is_cer, header_heard}
+use Rattle.dm_peer.specs.Said.{Heard, word_heard, header_heard}
+use Rattle.dm_machine.specs.Awaiting.{awaits_cea, holds_cer}
+use Rattle.dm_peer.specs.After.{request_in, is_cer}
 use Rattle.dm_peer.specs.Acts.{input_of}
 
 abbrev pub is_conn_cer : TableEvent → Bool

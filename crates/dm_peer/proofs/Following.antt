@@ -20,27 +20,28 @@ use Rattle.dm_peer.specs.Configs.{wins}
 use Rattle.dm_peer.specs.Said.{Heard, heard_in, kind_under}
 use Rattle.dm_peer.specs.Sent.{action_of}
 use Rattle.dm_peer.specs.Acts.{Moved, Refused, turned, input_of, outcome_of, steps, is_made, is_unread, is_unawaited, is_dropped, heard, can_submit}
-use Rattle.dm_peer.specs.Steps.{order_of, order_of_command, Follows, EachEventIsOneStep}
+use Rattle.dm_machine.specs.Deeds.{deed_of_command}
+use Rattle.dm_peer.specs.Steps.{deed_of, Follows, EachEventIsOneStep}
 use Rattle.dm_peer.proofs.Asking.{fits, said_fits, are_asked, asked, all_there}
 
-order_kept : (p : Peer) (e : PeerEvent) (h : Option Heard) (c : Command) →
-    order_of (action_of p e h c) ≡ order_of_command c
-order_kept p e h (command.Connect c) = refl
-order_kept p e h (command.SendCer c) = refl
-order_kept p e h (command.SendCea c) = refl
-order_kept p e h (command.SendRefusal c) = refl
-order_kept p e h (command.SendDwr c) = refl
-order_kept p e h (command.SendDwa c) = refl
-order_kept p e h (command.SendDpr c) = refl
-order_kept p e h (command.SendDpa c) = refl
-order_kept p e h (command.SendSubmit c) = refl
-order_kept p e h (command.Close c) = refl
-order_kept p e h command.Up = refl
+deed_kept : (p : Peer) (e : PeerEvent) (h : Option Heard) (c : Command) →
+    deed_of (action_of p e h c) ≡ deed_of_command c
+deed_kept p e h (command.Connect c) = refl
+deed_kept p e h (command.SendCer c) = refl
+deed_kept p e h (command.SendCea c) = refl
+deed_kept p e h (command.SendRefusal c) = refl
+deed_kept p e h (command.SendDwr c) = refl
+deed_kept p e h (command.SendDwa c) = refl
+deed_kept p e h (command.SendDpr c) = refl
+deed_kept p e h (command.SendDpa c) = refl
+deed_kept p e h (command.SendSubmit c) = refl
+deed_kept p e h (command.Close c) = refl
+deed_kept p e h command.Up = refl
 
-orders_kept : (p : Peer) (e : PeerEvent) (h : Option Heard) (l : List Command) →
-    map order_of (map (action_of p e h) l) ≡ map order_of_command l
-orders_kept p e h [] = refl
-orders_kept p e h (c ∷ l) = rw (order_kept p e h c, orders_kept p e h l) refl
+deeds_kept : (p : Peer) (e : PeerEvent) (h : Option Heard) (l : List Command) →
+    map deed_of (map (action_of p e h) l) ≡ map deed_of_command l
+deeds_kept p e h [] = refl
+deeds_kept p e h (c ∷ l) = rw (deed_kept p e h c, deeds_kept p e h l) refl
 
 pub turned_is : (n : Node) (i : Input) (w : Bool) → turned n i w ≡ outcome n i w
 unfolding turned
@@ -58,7 +59,7 @@ by_outcome form p e h fit (moves.Moved commands core) is =
       commands = commands;
       moves = is;
       done = refl;
-      orders = orders_kept p e h commands;
+      deeds = deeds_kept p e h commands;
       told = λ settled.
           all_there p e h settled.waiting fit commands
           (ap (are_asked n.state event) (sym is) ∙ asked n (form n settled.shaped) (named_by i) (wins p.config) event);

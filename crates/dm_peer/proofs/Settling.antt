@@ -15,8 +15,9 @@ use Rattle.dm_peer.specs.declared.fault.PeerFault.TheVariants.{NotOpen, BadSubmi
 use Rattle.dm_peer.specs.declared.peer.Peer.{Peer}
 use Rattle.dm_peer.specs.Events.{PeerEvent, Start, Stop, Timeout, Tick, Ack, Nack, Arrived, Gone, Submit}
 use Rattle.dm_peer.specs.Configs.{wins}
-use Rattle.dm_peer.specs.Said.{Heard, heard_in}
-use Rattle.dm_peer.specs.After.{request_in, awaits_cea, holds_cer, is_cer, number_after, header_heard}
+use Rattle.dm_peer.specs.Said.{Heard, heard_in, header_heard}
+use Rattle.dm_machine.specs.Awaiting.{awaits_cea, holds_cer, number_after}
+use Rattle.dm_peer.specs.After.{request_in, is_cer}
 use Rattle.dm_peer.specs.Acts.{Moved, Refused, turned, input_of, outcome_of, steps, is_unread, is_dropped, heard, can_submit}
 use Rattle.dm_peer.specs.Settled.{IsSettled, FreshIsSettled, LeavesSettled, EachEventKeepsSettled}
 use Rattle.dm_peer.proofs.Following.{turned_is}

@@ -21,7 +21,7 @@ use Rattle.dm_peer.specs.declared.peer.Peer.{Peer}
 use Rattle.dm_peer.specs.Events.{PeerEvent, octets_in, cause_in}
 use Rattle.dm_peer.specs.Octets.{octets_of}
 use Rattle.dm_peer.specs.Said.{Heard}
-use Rattle.dm_peer.specs.Sent.{no_header, header_of, fault_in, cer_to_answer, is_protocol_error, refusal, action_of, actions_of}
+use Rattle.dm_peer.specs.Sent.{no_header, header_of, fault_in, cer_answered, is_protocol_error, refusal, action_of, actions_of}
 use Rattle.dm_peer.specs.Steps.{is_submit, has_what_it_says}
 use Rattle.dm_peer.specs.Spelled.{IsSpelling, SendsSpelling, IsFitting}
 
@@ -55,7 +55,7 @@ header_fits None fit = no_header_fits
 header_fits (Some h) fit = fit
 
 cer_fits : (waiting : Option Header) (h : Option Heard) → IfSome waiting HeaderFits → HeaderFits (header_of h) →
-    HeaderFits (cer_to_answer waiting h)
+    HeaderFits (cer_answered waiting h)
 cer_fits None h kept fit = fit
 cer_fits (Some to) h kept fit = kept
 
@@ -83,7 +83,7 @@ one_spelled laws p e h given (command.SendCer c) says =
     built laws (built_cer n id) (laws.cer n id given.kept.next)
 one_spelled laws p e h given (command.SendCea c) says =
     let n = p.config.node in
-    let to = cer_to_answer p.standing.waiting h in
+    let to = cer_answered p.standing.waiting h in
     built laws (built_cea n to 2001 None)
     (laws.cea n to 2001 None (cer_fits p.standing.waiting h given.kept.waiting (header_fits h given.header)))
 one_spelled laws p e h given (command.SendRefusal c) says =

@@ -21,8 +21,9 @@ use Rattle.dm_peer.specs.declared.peer.Peer.{Peer}
 use Rattle.dm_peer.specs.Events.{PeerEvent, Start, Stop, Timeout, Tick, Ack, Nack, Arrived, Gone, Submit}
 use Rattle.dm_peer.specs.Configs.{wins}
 use Rattle.dm_peer.specs.Octets.{AreOctets}
-use Rattle.dm_peer.specs.Said.{Heard, heard_in, heard_caps, kind_under, refusal_of_caps, said}
-use Rattle.dm_peer.specs.After.{request_in, next_after, holds_cer, header_heard}
+use Rattle.dm_peer.specs.Said.{Heard, heard_in, heard_caps, kind_under, refusal_of_caps, said, header_heard}
+use Rattle.dm_machine.specs.Awaiting.{holds_cer}
+use Rattle.dm_peer.specs.After.{request_in, next_after}
 use Rattle.dm_peer.specs.Acts.{Moved, Refused, turned, input_of, outcome_of, steps, is_unread, is_dropped, heard, can_submit}
 use Rattle.dm_peer.specs.Settled.{IsSettled}
 use Rattle.dm_peer.specs.Steps.{is_submit}

@@ -19,9 +19,10 @@ use Rattle.dm_peer.specs.declared.peer.Peer.{Peer}
 use Rattle.dm_peer.specs.Events.{Arrived}
 use Rattle.dm_peer.specs.Configs.{wins}
 use Rattle.dm_peer.specs.Octets.{octets_of}
-use Rattle.dm_peer.specs.Said.{Heard, heard_in, word_heard}
+use Rattle.dm_peer.specs.Said.{Heard, heard_in, word_heard, header_heard}
 use Rattle.dm_peer.specs.Sent.{actions_of, refusal, header_of, fault_in}
-use Rattle.dm_peer.specs.After.{awaits_cea, awaits_dwa, awaits_dpa, holds_cer, is_dwa, number_after, dwa_left, header_heard, request_in, standing_after}
+use Rattle.dm_machine.specs.Awaiting.{awaits_cea, awaits_dwa, awaits_dpa, holds_cer, number_after}
+use Rattle.dm_peer.specs.After.{is_dwa, dwa_left, request_in, standing_after}
 use Rattle.dm_peer.specs.Settled.{IsSettled}
 use Rattle.dm_peer.specs.Acts.{Moved, input_of, outcome_of, standing_at, steps, is_made, is_unread, is_unawaited, heard}
 use Rattle.dm_peer.specs.Strangers.{TurnsAway, OnlyTurnsAway, StrangersChangeNothing}

@@ -1,20 +1,20 @@
 -- Where a peer stands after a step: its numbers, and what it waits for.
 use Rattle.std.specs.Prelude.{ℕ, ◌+◌, ◌%◌, ◌^◌, Bool, true, false, ◌&&◌, nat_eq, Option, None, Some, List, [], ◌∷◌, if◌then◌else◌}
 use Rattle.dm_base.specs.Codes.{capabilities_exchange, device_watchdog, disconnect_peer}
-use Rattle.dm_wire.specs.declared.message.Header.{Header}
 use Rattle.dm_machine.specs.declared.state_name.State.{State}
-use Rattle.dm_machine.specs.declared.state_name.State.TheVariants.{Closed, WaitICea, WaitConnAckElect, WaitReturns, Closing}
+use Rattle.dm_machine.specs.declared.state_name.State.TheVariants.{Closed}
 use Rattle.dm_machine.specs.declared.outputs.Command.{Command}
 use Rattle.dm_machine.specs.declared.outputs.Command.TheVariants.{SendCer, SendDwr, SendDpr}
 use Rattle.dm_machine.specs.declared.inputs.Word.{Word}
 use Rattle.dm_machine.specs.declared.inputs.Word.TheVariants.{Dwa}
 use Rattle.dm_machine.specs.Node.{Node, node_at}
 use Rattle.dm_machine.specs.Moves.{is_open}
+use Rattle.dm_machine.specs.Awaiting.{awaits_cea, awaits_dwa, awaits_dpa, number_after, waiting_after}
 use Rattle.dm_peer.specs.declared.standing.Awaited.{Awaited}
 use Rattle.dm_peer.specs.declared.standing.Standing.{Standing}
 use Rattle.dm_peer.specs.declared.commands.Request.{Request}
 use Rattle.dm_peer.specs.declared.commands.Request.TheVariants as request
-use Rattle.dm_peer.specs.Said.{Heard, word_heard}
+use Rattle.dm_peer.specs.Said.{Heard, word_heard, header_heard}
 
 abbrev pub nothing_awaited : Awaited
 nothing_awaited = record { cea = None; dwa = None; dpa = None }
@@ -51,27 +51,6 @@ abbrev pub next_after : Option Request → ℕ → ℕ
 next_after None n = n
 next_after (Some r) n = (n + 1) % 2 ^ 32
 
--- the states in which a CEA is awaited
-abbrev pub awaits_cea : State → Bool
-awaits_cea WaitICea = true
-awaits_cea WaitReturns = true
-awaits_cea _ = false
-
--- those in which a DWA may be
-abbrev pub awaits_dwa : State → Bool
-awaits_dwa Closing = true
-awaits_dwa s = is_open s
-
-abbrev pub awaits_dpa : State → Bool
-awaits_dpa Closing = true
-awaits_dpa _ = false
-
--- those in which a CER waits for its CEA
-abbrev pub holds_cer : State → Bool
-holds_cer WaitConnAckElect = true
-holds_cer WaitReturns = true
-holds_cer _ = false
-
 abbrev pub is_cer : Option Request → Bool
 is_cer (Some request.Cer) = true
 is_cer _ = false
@@ -88,10 +67,6 @@ abbrev pub is_dwa : Word → Bool
 is_dwa Dwa = true
 is_dwa _ = false
 
--- a number that a request sets, in place of an older one; it goes where none is awaited any more
-abbrev pub number_after : Bool → Bool → ℕ → Option ℕ → Option ℕ
-number_after awaits sends next old = if awaits then (if sends then Some next else old) else None
-
 -- the DWR's number goes with a good DWA in an open state
 abbrev pub dwa_left : State → Option Heard → Option ℕ → Option ℕ
 dwa_left s h old = if is_open s && is_dwa (word_heard h) then None else old
@@ -104,20 +79,12 @@ awaited_after s h sent s' p =
       dpa = number_after (awaits_dpa s') (is_dpr sent) p.next p.awaited.dpa;
     }
 
-abbrev pub header_heard : Option Heard → Option Header
-header_heard None = None
-header_heard (Some h) = Some h.header
-
--- the header of a CER is kept on entering the states in which it waits, and stays there
-abbrev pub waiting_after : State → Option Heard → State → Option Header → Option Header
-waiting_after s h s' old = if holds_cer s' then (if holds_cer s then old else header_heard h) else None
-
 -- where a peer stands after commands that lead to a node
 abbrev pub standing_after : Standing → Option Heard → Option Request → Node → Standing
 standing_after p h sent core =
     record {
       core = core;
       next = next_after sent p.next;
-      waiting = waiting_after p.core.state h core.state p.waiting;
+      waiting = waiting_after p.core.state (header_heard h) core.state p.waiting;
       awaited = awaited_after p.core.state h sent core.state p;
     }

@@ -84,3 +84,8 @@ heard_at c s = option_map (heard_in c) (message_in s)
 abbrev pub word_heard : Option Heard → Word
 word_heard None = Unreadable
 word_heard (Some h) = h.word
+
+-- the header of what was heard
+abbrev pub header_heard : Option Heard → Option Header
+header_heard None = None
+header_heard (Some h) = Some h.header

@@ -9,12 +9,13 @@ use Rattle.dm_base.specs.Built.{built_cer, built_dwr, built_dpr, built_cea, buil
 use Rattle.dm_machine.specs.declared.connection.Conn.{Conn}
 use Rattle.dm_machine.specs.declared.outputs.Command.{Command}
 use Rattle.dm_machine.specs.declared.outputs.Command.TheVariants as command
+use Rattle.dm_machine.specs.Awaiting.{cer_to_answer}
 use Rattle.dm_peer.specs.declared.actions.Action.{Action}
 use Rattle.dm_peer.specs.declared.actions.Action.TheVariants.{Connect, Send, Close, Up}
 use Rattle.dm_peer.specs.declared.peer.Peer.{Peer}
 use Rattle.dm_peer.specs.Events.{PeerEvent, octets_in, cause_in}
 use Rattle.dm_peer.specs.Octets.{octets_of}
-use Rattle.dm_peer.specs.Said.{Heard}
+use Rattle.dm_peer.specs.Said.{Heard, header_heard}
 
 -- a Result-Code of a protocol error (7.1.3)
 abbrev pub is_protocol_error : ℕ → Bool
@@ -47,17 +48,16 @@ no_fault = record { code = 5012; failed = None }
 
 -- the header of what was heard
 abbrev pub header_of : Option Heard → Header
-header_of None = no_header
-header_of (Some h) = h.header
+header_of h = unwrap_or (header_heard h) no_header
 
 -- why what was heard is refused
 abbrev pub fault_in : Option Heard → Fault
 fault_in None = no_fault
 fault_in (Some h) = unwrap_or h.failure no_fault
 
--- the CER that a CEA answers: the one that waits, else the one just heard
-abbrev pub cer_to_answer : Option Header → Option Heard → Header
-cer_to_answer waiting h = unwrap_or waiting (header_of h)
+-- the header of the CER that a CEA answers
+abbrev pub cer_answered : Option Header → Option Heard → Header
+cer_answered waiting h = unwrap_or (cer_to_answer waiting (header_heard h)) no_header
 
 abbrev pub sent : Conn → Message → Action
 sent c m = Send c (octets_of m)
@@ -67,7 +67,7 @@ sent c m = Send c (octets_of m)
 abbrev pub action_of : Peer → PeerEvent → Option Heard → Command → Action
 action_of p e h (command.Connect c) = Connect c
 action_of p e h (command.SendCer c) = sent c (built_cer p.config.node p.standing.next)
-action_of p e h (command.SendCea c) = sent c (built_cea p.config.node (cer_to_answer p.standing.waiting h) 2001 None)
+action_of p e h (command.SendCea c) = sent c (built_cea p.config.node (cer_answered p.standing.waiting h) 2001 None)
 action_of p e h (command.SendRefusal c) = sent c (refusal p.config.node (header_of h) (fault_in h))
 action_of p e h (command.SendDwr c) = sent c (built_dwr p.config.node p.standing.next)
 action_of p e h (command.SendDwa c) = sent c (built_answer p.config.node (header_of h) 2001 None)

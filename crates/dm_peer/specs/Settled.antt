@@ -4,7 +4,8 @@ use Rattle.dm_machine.specs.Node.{is_shaped}
 use Rattle.dm_peer.specs.declared.config.Config.{Config}
 use Rattle.dm_peer.specs.declared.peer.Peer.{Peer}
 use Rattle.dm_peer.specs.Events.{PeerEvent}
-use Rattle.dm_peer.specs.After.{fresh, awaits_cea, awaits_dwa, awaits_dpa, holds_cer}
+use Rattle.dm_machine.specs.Awaiting.{awaits_cea, awaits_dwa, awaits_dpa, holds_cer}
+use Rattle.dm_peer.specs.After.{fresh}
 use Rattle.dm_peer.specs.Acts.{Outcome, Moved, Refused, acts}
 
 pub record IsSettled (p : Peer) : Type 0 where

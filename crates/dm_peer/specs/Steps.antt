@@ -6,6 +6,7 @@ use Rattle.dm_machine.specs.declared.connection.Conn.{Conn}
 use Rattle.dm_machine.specs.declared.outputs.Command.{Command}
 use Rattle.dm_machine.specs.declared.outputs.Command.TheVariants as command
 use Rattle.dm_machine.specs.Connection.{hold_of}
+use Rattle.dm_machine.specs.Deeds.{Deed, ConnectsOn, SendsOn, ClosesOn, HandsUp, deed_of_command}
 use Rattle.dm_machine.specs.Moves as moves
 use Rattle.dm_machine.specs.Moves.{outcome}
 use Rattle.dm_peer.specs.declared.actions.Action.{Action}
@@ -18,31 +19,12 @@ use Rattle.dm_peer.specs.Sent.{actions_of}
 use Rattle.dm_peer.specs.Acts.{Outcome, Moved, Refused, acts, input_of, is_made}
 use Rattle.dm_peer.specs.Settled.{IsSettled}
 
--- an action, or a command of the state machine, but for what is said
-pub data Order : Type 0 where
-  Connects : Conn → Order
-  Sends : Conn → Order
-  Closes : Conn → Order
-  HandsUp : Order
-
-abbrev pub order_of : Action → Order
-order_of (action.Connect c) = Connects c
-order_of (action.Send c s) = Sends c
-order_of (action.Close c) = Closes c
-order_of (action.Up s) = HandsUp
-
-abbrev pub order_of_command : Command → Order
-order_of_command (command.Connect c) = Connects c
-order_of_command (command.SendCer c) = Sends c
-order_of_command (command.SendCea c) = Sends c
-order_of_command (command.SendRefusal c) = Sends c
-order_of_command (command.SendDwr c) = Sends c
-order_of_command (command.SendDwa c) = Sends c
-order_of_command (command.SendDpr c) = Sends c
-order_of_command (command.SendDpa c) = Sends c
-order_of_command (command.SendSubmit c) = Sends c
-order_of_command (command.Close c) = Closes c
-order_of_command command.Up = HandsUp
+-- what an action does, whatever it says
+abbrev pub deed_of : Action → Deed
+deed_of (action.Connect c) = ConnectsOn c
+deed_of (action.Send c s) = SendsOn c
+deed_of (action.Close c) = ClosesOn c
+deed_of (action.Up s) = HandsUp
 
 -- the event brings octets; it is a Stop; it brings octets of the user
 abbrev pub is_arrival : PeerEvent → Bool
@@ -80,7 +62,7 @@ pub record IsStep (p : Peer) (e : PeerEvent) (actions : List Action) (next : Pee
   pub commands : List Command
   pub moves : outcome p.standing.core (input_of e heard) (wins p.config) ≡ moves.Moved commands next.standing.core
   pub done : actions ≡ actions_of p e heard commands
-  pub orders : map order_of actions ≡ map order_of_command commands
+  pub deeds : map deed_of actions ≡ map deed_of_command commands
   pub told : IsSettled p → list_all (has_what_it_says p e heard) commands ≡ true
   pub config : next.config ≡ p.config
 

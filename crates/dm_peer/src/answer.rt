@@ -5,7 +5,7 @@ ghost use Rattle.arrayvec.specs.ArrayVec.{array_vec_len};
 ghost use Rattle.dm_dict.specs.Judgement.{shown};
 ghost use Rattle.dm_peer.specs.Events.{told, octets_in, cause_in};
 ghost use Rattle.dm_peer.specs.Said.{heard_of};
-ghost use Rattle.dm_peer.specs.Sent.{sent, refusal, header_of, fault_in, cer_to_answer, action_of, actions_of, takes_memory};
+ghost use Rattle.dm_peer.specs.Sent.{sent, refusal, header_of, fault_in, cer_answered, action_of, actions_of, takes_memory};
 
 use crate::reading::HeardRef;
 use crate::sending::{
@@ -74,8 +74,8 @@ fn send_refusal(alloc: Global, conn: Conn, node: &Node, heard: Option<HeardRef<'
 }
 
 /// The CER that a CEA answers: the one that waits, else the one just heard.
-fn cer_to_answer(waiting: Option<Header>, heard: Option<HeardRef<'_>>) -> Header
-    ensures { result ≡ cer_to_answer waiting (option_map heard_of heard.entry) }
+fn cer_answered(waiting: Option<Header>, heard: Option<HeardRef<'_>>) -> Header
+    ensures { result ≡ cer_answered waiting (option_map heard_of heard.entry) }
 {
     match waiting {
         Some(to) => to,
@@ -130,7 +130,7 @@ fn action_of(
                 alloc,
                 conn,
                 node,
-                &cer_to_answer(peer.standing.waiting, heard),
+                &cer_answered(peer.standing.waiting, heard),
             )
         }
         Command::SendDwa(conn) | Command::SendDpa(conn) => {

@@ -1,8 +1,9 @@
 //! What the commands of a step leave a peer with: its numbers, and what it waits for.
 ghost use Rattle.std.specs.Prelude.{◌≡◌, Option, option_map};
 ghost use Rattle.dm_machine.specs.Moves.{is_open};
-ghost use Rattle.dm_peer.specs.Said.{Heard, heard_of, word_heard};
-ghost use Rattle.dm_peer.specs.After.{request_of, request_in, next_after, awaits_cea, awaits_dwa, awaits_dpa, holds_cer, is_cer, is_dwr, is_dpr, number_after, dwa_left, awaited_after, header_heard, waiting_after, standing_after};
+ghost use Rattle.dm_peer.specs.Said.{Heard, heard_of, word_heard, header_heard};
+ghost use Rattle.dm_machine.specs.Awaiting.{awaits_cea, awaits_dwa, awaits_dpa, holds_cer, number_after, waiting_after};
+ghost use Rattle.dm_peer.specs.After.{request_of, request_in, next_after, is_cer, is_dwr, is_dpr, dwa_left, awaited_after, standing_after};
 
 use crate::reading::HeardRef;
 use crate::standing::{Awaited, Standing};
@@ -158,20 +159,16 @@ fn holds_cer(state: State) -> bool
 /// The header that waits: kept on entering the states in which it does, and while they last.
 fn waiting_after(
     before: State,
-    heard: Option<HeardRef<'_>>,
+    heard: Option<Header>,
     after: State,
     old: Option<Header>,
 ) -> Option<Header>
-    ensures { result ≡ waiting_after before (option_map heard_of heard.entry) after old }
+    ensures { result ≡ waiting_after before heard after old }
 {
     if !holds_cer(after) {
         return None;
     }
-    if holds_cer(before) {
-        old
-    } else {
-        header_heard(heard)
-    }
+    if holds_cer(before) { old } else { heard }
 }
 
 /// Where the peer stands after a step that sends this request or none, and leads to this core.
@@ -188,7 +185,7 @@ pub(crate) fn standing_after(
     Standing {
         core,
         next: next_after(sent, standing.next),
-        waiting: waiting_after(before, heard, after, standing.waiting),
+        waiting: waiting_after(before, header_heard(heard), after, standing.waiting),
         awaited: Awaited {
             cea: cea_after(sent, after, standing),
             dwa: dwa_after(sent, after, standing.next, left),

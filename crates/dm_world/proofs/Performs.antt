@@ -4,7 +4,8 @@ use Rattle.std.specs.Prelude.{IsTrue}
 use Rattle.std.specs.List.{remove}
 use Rattle.dm_links.specs.Links.{Side}
 use Rattle.dm_links.specs.Links as links
-use Rattle.dm_links.specs.Peers.{Action, Connect, Send, Close, Up, Order, Sends, Connects, Closes, HandsUp, order_of, sends_at}
+use Rattle.dm_machine.specs.Deeds.{Deed, SendsOn, ConnectsOn, ClosesOn, HandsUp}
+use Rattle.dm_links.specs.Peers.{Action, Connect, Send, Close, Up, deed_of, sends_at}
 use Rattle.dm_links.specs.Worlds.{perform}
 use Rattle.dm_world.specs.declared.link.Link.{Link}
 use Rattle.dm_peer.specs.declared.actions.Action as declared_action
@@ -34,30 +35,30 @@ true_or : (a b c : Bool) → (a || false) ≡ true → (a || b) ≡ true
 true_or true b c h = refl
 true_or false b c h = cc
 
-sends_later : (c : ℕ) (o : Order) (os : List Order) → sends_at c os ≡ true → sends_at c (o ∷ os) ≡ true
-sends_later c (Connects d) os h = h
-sends_later c (Sends d) os h = or_true (d.0 == c) (sends_at c os) h
-sends_later c (Closes d) os h = h
+sends_later : (c : ℕ) (o : Deed) (os : List Deed) → sends_at c os ≡ true → sends_at c (o ∷ os) ≡ true
+sends_later c (ConnectsOn d) os h = h
+sends_later c (SendsOn d) os h = or_true (d.0 == c) (sends_at c os) h
+sends_later c (ClosesOn d) os h = h
 sends_later c HandsUp os h = h
 
-sends_first : (c : ℕ) (o : Order) (os : List Order) → sends_at c (o ∷ []) ≡ true → sends_at c (o ∷ os) ≡ true
-sends_first c (Connects d) os h = cc
-sends_first c (Sends d) os h = true_or (d.0 == c) (sends_at c os) false h
-sends_first c (Closes d) os h = cc
+sends_first : (c : ℕ) (o : Deed) (os : List Deed) → sends_at c (o ∷ []) ≡ true → sends_at c (o ∷ os) ≡ true
+sends_first c (ConnectsOn d) os h = cc
+sends_first c (SendsOn d) os h = true_or (d.0 == c) (sends_at c os) false h
+sends_first c (ClosesOn d) os h = cc
 sends_first c HandsUp os h = cc
 
 one_more : (s : Side) (n c : ℕ) (ls : List Link) → HasRoom s ls (suc n) c → HasRoom s ls (n + 1) c
 one_more s n c ls h = subst (λ k. HasRoom s ls k c) (sym (add-one n)) h
 
 pub room_one : (s : Side) (a : Action (List ℕ)) (rest : List (Action (List ℕ))) (ls : List Link) →
-    HasRoomFor s ls (a ∷ rest) → (c : ℕ) → IsTrue (sends_at c (order_of a ∷ [])) → HasRoom s ls 1 c
+    HasRoomFor s ls (a ∷ rest) → (c : ℕ) → IsTrue (sends_at c (deed_of a ∷ [])) → HasRoom s ls 1 c
 room_one s a rest ls h c sends =
-    less s 1 (suc (length rest)) c ls (omega arith) (h c (sends_first c (order_of a) (map order_of rest) sends))
+    less s 1 (suc (length rest)) c ls (omega arith) (h c (sends_first c (deed_of a) (map deed_of rest) sends))
 
 pub room_rest : (s : Side) (a : Action (List ℕ)) (rest : List (Action (List ℕ))) (ls next : List Link) →
     HasRoomFor s ls (a ∷ rest) → ((n c : ℕ) → HasRoom s ls (n + 1) c → HasRoom s next n c) → HasRoomFor s next rest
 room_rest s a rest ls next h keeps c sends =
-    keeps (length rest) c (one_more s (length rest) c ls (h c (sends_later c (order_of a) (map order_of rest) sends)))
+    keeps (length rest) c (one_more s (length rest) c ls (h c (sends_later c (deed_of a) (map deed_of rest) sends)))
 
 -- one turn over the actions
 pub room_now : (s : Side) (items new : List declared_action.Action) (x : declared_action.Action) (ls : List Link) →

@@ -14,7 +14,8 @@ use Rattle.dm_peer.specs.declared.actions.Action as declared_action
 use Rattle.dm_peer.specs.declared.peer.Peer.{Peer}
 use Rattle.dm_links.specs.Machine.{conn, Node, is_shaped, Concern, Elsewhere, StartsIt, AcksIt, NacksIt, EndsIt, HeardOnIt, concern_as, EachStepKeepsShape, Tie, Unheld, Connecting, Made, MadeOpen, Taken, tie_as, tie_of, is_held, held_as, Initiated, Accepted}
 use Rattle.dm_links.specs.Links.{Side}
-use Rattle.dm_links.specs.Peers.{Event, Start, Stop, Timeout, Tick, Ack, Nack, Gone, Submit, Arrived, concern_by, Order, order_of, order_of_command, sends_at, Reply, Acts}
+use Rattle.dm_machine.specs.Deeds.{Deed, deed_of_command}
+use Rattle.dm_links.specs.Peers.{Event, Start, Stop, Timeout, Tick, Ack, Nack, Gone, Submit, Arrived, concern_by, deed_of, sends_at, Reply, Acts}
 use Rattle.dm_links.specs.Follows.{Steps, Follows, IsMachine}
 use Rattle.dm_world.specs.declared.link.Link.{Link}
 use Rattle.dm_pair.specs.Octets.{as_actions, octet_peers}
@@ -39,7 +40,7 @@ other_case : (b : Bool) (o : machine.Order) (more : List machine.Order) (rest : 
 other_case true o more rest h f = cc
 other_case false o more rest h f = f h
 
-unordered : (c : ℕ) (l : List Command) → orders_to (conn c) l ≡ [] → sends_at c (map order_of_command l) ≡ false
+unordered : (c : ℕ) (l : List Command) → orders_to (conn c) l ≡ [] → sends_at c (map deed_of_command l) ≡ false
 unordered c [] h = refl
 unordered c (command.Connect d ∷ l) h = other_case (d.0 == c) machine.Connects (orders_to (conn c) l) _ h
     (unordered c l)
@@ -90,7 +91,7 @@ Alone k before after orders = IsTrue (is_hold machine.NotHeld before && not (is_
 step_unsent : (p next : Peer) (e : Event (List ℕ)) (actions : List declared_action.Action) (c : ℕ) → LeavesOthersAlone →
     IsTrue (is_shaped p.standing.core) → Steps octet_peers p e (as_actions actions) next →
     tie_of p.standing.core c ≡ Unheld → concern_by e (conn c) ≡ Elsewhere →
-    sends_at c (map order_of (as_actions actions)) ≡ false
+    sends_at c (map deed_of (as_actions actions)) ≡ false
 step_unsent p next e actions c law shaped step unheld elsewhere =
     let at : AtConnection Alone p.standing.core step.input (conn c) (moves.Moved step.commands next.standing.core) =
     subst (λ (o : moves.Outcome). AtConnection Alone p.standing.core step.input (conn c) o) step.moves
@@ -100,18 +101,18 @@ step_unsent p next e actions c law shaped step unheld elsewhere =
     (not (is_named (machine.concern_of step.input (conn c))))
     (unheld_is (hold_of p.standing.core (conn c)) unheld)
     (elsewhere_is (machine.concern_of step.input (conn c)) (step.concerns (conn c) ∙ elsewhere)))).1 in
-    ap (λ (os : List Order). sends_at c os) step.orders ∙ unordered c step.commands orders
+    ap (λ (os : List Deed). sends_at c os) step.deeds ∙ unordered c step.commands orders
 
 reply_unsent : (p next : Peer) (e : Event (List ℕ)) (actions : List declared_action.Action) (c : ℕ) → SendLaws →
     IsTrue (is_shaped p.standing.core) → octet_peers.reply p e ≡ Acts (as_actions actions) next →
     tie_of p.standing.core c ≡ Unheld → concern_by e (conn c) ≡ Elsewhere →
-    sends_at c (map order_of (as_actions actions)) ≡ false
+    sends_at c (map deed_of (as_actions actions)) ≡ false
 reply_unsent p next e actions c laws shaped is unheld elsewhere =
     let follows : Follows octet_peers p e (Acts (as_actions actions) next) =
     subst (λ (r : Reply Peer (List ℕ)). Follows octet_peers p e r) is (laws.machine.follows p e) in
     elim follows [
       | inl step ↦ step_unsent p next e actions c laws.alone shaped step unheld elsewhere
-      | inr drop ↦ ap (λ l. sends_at c (map order_of l)) drop.silent
+      | inr drop ↦ ap (λ l. sends_at c (map deed_of l)) drop.silent
     ]
 
 -- at most four actions
@@ -129,8 +130,8 @@ step_few p next e actions law shaped step =
     let keeps : KeepsShape (moves.Moved step.commands next.standing.core) = subst (λ (o : moves.Outcome). KeepsShape o)
     step.moves (law p.standing.core step.input step.wins shaped) in
     let few = le_of (length step.commands) 4 keeps.1 in
-    let same = sym (length_mapped order_of (as_actions actions)) ∙ ap (λ (os : List Order). length os) step.orders ∙
-    length_mapped order_of_command step.commands in
+    let same = sym (length_mapped deed_of (as_actions actions)) ∙ ap (λ (os : List Deed). length os) step.deeds ∙
+    length_mapped deed_of_command step.commands in
     subst (λ n. n ≤ 4) (sym same) few
 
 reply_few : (p next : Peer) (e : Event (List ℕ)) (actions : List declared_action.Action) → SendLaws →

@@ -14,7 +14,7 @@ use Rattle.dm_peer.specs.Sent.{takes_memory}
 use Rattle.dm_peer.specs.Silence.{is_silent, SilentTakesNone}
 use Rattle.dm_peer.specs.Events as told
 use Rattle.dm_links.specs.Links.{Side}
-use Rattle.dm_links.specs.Peers.{order_of, sends_at}
+use Rattle.dm_links.specs.Peers.{deed_of, sends_at}
 use Rattle.dm_world.specs.declared.link.Link.{Link}
 use Rattle.dm_world.specs.declared.net.Net.{Net}
 use Rattle.dm_world.specs.declared.pair.Pair.{Pair}
@@ -33,7 +33,7 @@ or_false_right true b h = cc
 or_false_right false b h = h
 
 none_sent : (c : ℕ) (l : List declared_action.Action) → list_any takes_memory l ≡ false →
-    sends_at c (map order_of (as_actions l)) ≡ false
+    sends_at c (map deed_of (as_actions l)) ≡ false
 none_sent c [] h = refl
 none_sent c (action.Connect d ∷ l) h =
     none_sent c l (or_false_right (takes_memory (action.Connect d)) (list_any takes_memory l) h)

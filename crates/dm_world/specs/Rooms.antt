@@ -2,7 +2,7 @@
 use Rattle.std.specs.Prelude.{ℕ, ◌≤◌, ◌==◌, Bool, false, ◌||◌, IsTrue, Option, Some, None, List, IfSome, slice_get, map, length}
 use Rattle.dm_links.specs.Links.{Side}
 use Rattle.dm_links.specs.Machine.{Conn, Initiated, Accepted, Node, held_as}
-use Rattle.dm_links.specs.Peers.{Event, Start, Ack, Nack, Gone, Arrived, Action, order_of, sends_at}
+use Rattle.dm_links.specs.Peers.{Event, Start, Ack, Nack, Gone, Arrived, Action, deed_of, sends_at}
 use Rattle.dm_world.specs.declared.link.Link.{Link}
 use Rattle.dm_world.specs.Seen.{out_room}
 
@@ -12,7 +12,7 @@ HasRoom s ls n c = IfSome (slice_get ls c) (λ l. n ≤ out_room s l)
 
 -- each link has room for all actions, where one of them is sent on it
 abbrev pub HasRoomFor : Side → List Link → List (Action (List ℕ)) → Type 0
-HasRoomFor s ls actions = (c : ℕ) → IsTrue (sends_at c (map order_of actions)) → HasRoom s ls (length actions) c
+HasRoomFor s ls actions = (c : ℕ) → IsTrue (sends_at c (map deed_of actions)) → HasRoom s ls (length actions) c
 
 -- the connection, if there is one, is the link of a number
 abbrev pub is_on : Option Conn → ℕ → Bool

@@ -1,6 +1,6 @@
 //! What a side's peer asks for is done on the links.
 ghost use Rattle.std.specs.Prelude.{◌≡◌, ℕ, ◌+◌, IsTrue, [], ◌∷◌, length, map};
-ghost use Rattle.dm_links.specs.Peers.{order_of, sends_at};
+ghost use Rattle.dm_links.specs.Peers.{deed_of, sends_at};
 ghost use Rattle.dm_links.specs.Worlds.{perform};
 ghost use Rattle.dm_pair.specs.Frames.{SendFrames};
 ghost use Rattle.dm_pair.specs.Octets.{as_action, as_actions};
@@ -13,7 +13,7 @@ use dm_peer::{Action, Actions};
 
 /// One action of the side's peer.
 fn perform_one(links: &mut Vec<Link>, side: Side, action: Action)
-    requires room { (c : ℕ) → IsTrue (sends_at c (order_of (as_action action) ∷ [])) →
+    requires room { (c : ℕ) → IsTrue (sends_at c (deed_of (as_action action) ∷ [])) →
         HasRoom (as_side side) links.old.items 1 c }
     requires frames { SendFrames (as_action action ∷ []) }
     ensures performed { as_links links.new.items ≡ perform (as_side side) (as_action action ∷ []) (as_links links.old.items) }
