@@ -8,9 +8,9 @@ use Rattle.dm_links.proofs.Checks.{is_when, conclusion}
 use Rattle.dm_links.proofs.Events.{standing_at}
 
 by_ends : {M : Type 0} (mine : Bool) (l : Link M) → is_bare (view_of mine l).incoming ≡ true →
-    is_bare (view_of mine l).outgoing ≡ true → (is_bare l.to_near && is_bare l.to_far) ≡ true
-by_ends true l h k = and_from (is_bare l.to_near) (is_bare l.to_far) h k
-by_ends false l h k = and_from (is_bare l.to_near) (is_bare l.to_far) k h
+    is_bare (view_of mine l).outgoing ≡ true → (is_bare l.to_opener && is_bare l.to_other) ≡ true
+by_ends true l h k = and_from (is_bare l.to_opener) (is_bare l.to_other) h k
+by_ends false l h k = and_from (is_bare l.to_opener) (is_bare l.to_other) k h
 
 unless_up : (b : Bool) → b ≡ false → not b ≡ true
 unless_up b h = rw h refl

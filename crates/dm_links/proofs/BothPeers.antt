@@ -1,10 +1,15 @@
 -- What each reply and each restart keeps of a peer, a happening keeps of both.
-use Rattle.std.proofs.Common.{◌≡◌, ℕ, ◌+◌, ◌==◌, Bool, true, false, nat_lt, if◌then◌else◌, Option, Some, None, List, slice_get, length, refl}
+use Rattle.std.proofs.Common.{◌≡◌, ℕ, ◌+◌, ◌==◌, Bool, true, false, nat_lt, if◌then◌else◌, Option, Some, None, List}
+use Rattle.std.proofs.Common.{slice_get, length, refl}
 use Rattle.dm_links.specs.Machine.{conn}
 use Rattle.dm_links.specs.Links.{Side, A, B, LinkPhase, Pending, Up, Cancelled, End, Fresh, Open, Shut, Link}
-use Rattle.dm_links.specs.Peers.{Event, Start, Stop, Timeout, Tick, Ack, Nack, Gone, Submit, Arrived, Action, Reply, Acts, Declines, Peers}
-use Rattle.dm_links.specs.Worlds.{World, peer_at, with_peer, with_links, After, Ignored, answered, told}
-use Rattle.dm_links.specs.Happens.{Happening, Starts, Stops, TimesOut, Ticks, Restarts, Acks, Nacks, Delivers, Pieces, Loses, Submits, Next, NextMessage, NextDisconnect, NextNothing, next_in, comes, delivered, pieced, are_shut, restart_links, if_up, if_pending, at_link, own_view, happens, world_after}
+use Rattle.dm_links.specs.Peers.{Event, Start, Stop, Timeout, Tick, Ack, Nack, Gone, Submit, Arrived, Action, Reply}
+use Rattle.dm_links.specs.Peers.{Acts, Declines, Peers}
+use Rattle.dm_links.specs.Worlds.{World, peer_at, with_peer, with_links, After, Ignored, after_reply, tell}
+use Rattle.dm_links.specs.Happens.{Happening, Starts, Stops, TimesOut, Ticks, Restarts, Acks, Nacks, Delivers, Pieces}
+use Rattle.dm_links.specs.Happens.{Loses, Submits, Next, NextMessage, NextDisconnect, NextNothing, next_in, comes}
+use Rattle.dm_links.specs.Happens.{deliver_next, deliver_part, are_shut, restart_links, if_up, if_pending, at_link}
+use Rattle.dm_links.specs.Happens.{own_view, happens, world_after}
 
 module _ {P M : Type 0} (m : Peers P M) (Keeps : P → Type 0) (w : World P M) (now : (s : Side) → Keeps (peer_at s w))
     (acts : (s : Side) (e : Event M) (actions : List (Action M)) (next : P) →
@@ -24,11 +29,11 @@ module _ {P M : Type 0} (m : Peers P M) (Keeps : P → Type 0) (w : World P M) (
   by_links links A = now A
   by_links links B = now B
 
-  replied : (t : Side) (e : Event M) (r : Reply P M) → m.reply (peer_at t w) e ≡ r → BothKeep (answered m t e w r)
+  replied : (t : Side) (e : Event M) (r : Reply P M) → m.reply (peer_at t w) e ≡ r → BothKeep (after_reply m t e w r)
   replied t e Declines is = now
   replied t e (Acts actions p) is = by_peer t p _ (acts t e actions p is)
 
-  told_both : (t : Side) (e : Event M) → BothKeep (told m t e w)
+  told_both : (t : Side) (e : Event M) → BothKeep (tell m t e w)
   told_both t e = replied t e (m.reply (peer_at t w) e) refl
 
   comes_both : (t : Side) (e : Event M) (end : End) → BothKeep (comes m t e end w)
@@ -36,7 +41,7 @@ module _ {P M : Type 0} (m : Peers P M) (Keeps : P → Type 0) (w : World P M) (
   comes_both t e Fresh = told_both t e
   comes_both t e Open = told_both t e
 
-  delivered_both : (c : ℕ) (t : Side) (end : End) (n : Next M) → BothKeep (delivered m c t end n w)
+  delivered_both : (c : ℕ) (t : Side) (end : End) (n : Next M) → BothKeep (deliver_next m c t end n w)
   delivered_both c t end NextNothing = now
   delivered_both c t end (NextMessage x) = comes_both t (Arrived (conn c) x) end
   delivered_both c t end NextDisconnect = comes_both t (Gone (conn c)) end
@@ -46,7 +51,7 @@ module _ {P M : Type 0} (m : Peers P M) (Keeps : P → Type 0) (w : World P M) (
   if_both false x y f g = g
 
   pieced_both : (c : ℕ) (t : Side) (k : ℕ) (end : End) (taken : ℕ) (n : Next M) →
-      BothKeep (pieced m c t k end taken n w)
+      BothKeep (deliver_part m c t k end taken n w)
   pieced_both c t k end taken NextNothing = now
   pieced_both c t k end taken NextDisconnect = now
   pieced_both c t k end taken (NextMessage x) =
@@ -87,4 +92,4 @@ module _ {P M : Type 0} (m : Peers P M) (Keeps : P → Type 0) (w : World P M) (
       (pieced_both c t k v.own v.incoming.taken (next_in v.incoming.messages v.incoming.mark))))
   happening_both (Loses c a b) =
       there_both (slice_get w.links c) _ (λ l.
-      up_both l.phase _ (if_both (are_shut l.near l.far) Ignored _ now (by_links _)))
+      up_both l.phase _ (if_both (are_shut l.opener_end l.other_end) Ignored _ now (by_links _)))

@@ -1,68 +1,77 @@
 -- What each direction of each link carries, and what the world looked at before it tells a side of a link.
-use Rattle.std.proofs.Common.{IsTrue, ◌≡◌, ℕ, ◌==◌, Bool, true, false, not, ◌&&◌, if◌then◌else◌, Option, Some, None, List, [], ◌∷◌, slice_get, refl, ap, ◌∙◌}
+use Rattle.std.proofs.Common.{IsTrue, ◌≡◌, ℕ, ◌==◌, Bool, true, false, not, ◌&&◌, if◌then◌else◌, Option, Some, None}
+use Rattle.std.proofs.Common.{List, [], ◌∷◌, slice_get, refl, ap, ◌∙◌}
 use Rattle.std.specs.Prelude.{⊤}
 use Rattle.std.proofs.lemmas.Bool.{and_parts}
 use Rattle.dm_machine.specs.Connection.{Hold, hold_of}
 use Rattle.dm_machine.specs.Connection as hold
-use Rattle.dm_links.specs.Machine.{conn, Node, Concern, AcksIt, EndsIt, HeardOnIt, Tie, MadeOpen, Taken, tie_as, is_held}
-use Rattle.dm_links.specs.Links.{Side, A, B, flip, opens, LinkPhase, Pending, Up, Cancelled, End, Fresh, Open, Shut, Link, View}
-use Rattle.dm_links.specs.Peers.{Event, Start, Stop, Timeout, Tick, Ack, Nack, Gone, Submit, Arrived, Action, Send, Close, Connect, Reply, Acts, Declines, Peers, concern_by, deed_of, sends_at}
+use Rattle.dm_links.specs.Machine.{conn, Node, Concern, AcksIt, EndsIt, HeardOnIt, Tie, MadeOpen, Taken, tie_as}
+use Rattle.dm_links.specs.Machine.{is_held}
+use Rattle.dm_links.specs.Links.{Side, A, B, flip, opens, LinkPhase, Pending, Up, Cancelled, End, Fresh, Open, Shut}
+use Rattle.dm_links.specs.Links.{Link, View}
+use Rattle.dm_links.specs.Peers.{Event, Start, Stop, Timeout, Tick, Ack, Nack, Gone, Submit, Arrived, Action, Send}
+use Rattle.dm_links.specs.Peers.{Close, Connect, Reply, Acts, Declines, Peers, concern_by, deed_of, sends_at}
 use Rattle.dm_links.specs.Peers as peers
 use Rattle.dm_links.specs.Worlds.{World, peer_at}
 use Rattle.dm_links.specs.Happens.{Happening, Loses, own_view}
-use Rattle.dm_links.specs.Facts.{Standing, turned, is_sound, is_up, is_pending, is_open_end, is_shut, is_none, is_coming, IsSound}
+use Rattle.dm_links.specs.Facts.{Standing, turned_over, is_sound_standing, is_up, is_pending, is_open_end, is_shut}
+use Rattle.dm_links.specs.Facts.{is_none, is_coming, IsSoundWorld}
 use Rattle.dm_links.specs.Turns.{Turn}
-use Rattle.dm_links.specs.Delivery.{apps, is_open_hold, is_closing_hold, is_done_hold, is_unmade, sends_all, IsCarrier}
+use Rattle.dm_links.specs.Delivery.{apps, is_closing_hold, is_done_hold, is_unmade, sends_all, IsCarrier}
+use Rattle.dm_machine.specs.Upward.{is_open_hold}
 use Rattle.dm_links.proofs.Columns.{words_at}
-use Rattle.dm_links.proofs.Every.{all_true, every_bool, every_tie, every_phase, every_end, every_mark, every_standing, at_standing}
+use Rattle.dm_links.proofs.Every.{all_true, every_bool, every_tie, every_phase, every_end, every_mark, every_standing}
+use Rattle.dm_links.proofs.Every.{at_standing}
 use Rattle.dm_links.proofs.Checks.{is_ready, when, is_when, is_handed, is_open_tie, same_bool}
 use Rattle.dm_links.proofs.Events.{side_sound}
 use Rattle.dm_links.proofs.Hearing.{is_ack, is_end}
 use Rattle.dm_links.proofs.Ways.{Way}
 
 -- what a direction of a link carries
-abbrev pub OnView : {M : Type 0} → (M → Bool) → Bool → Bool → View M → List M → List M → Type 0
-OnView is_app lost over v said up =
+abbrev pub WayOnView : {M : Type 0} → (M → Bool) → Bool → Bool → View M → List M → List M → Type 0
+WayOnView is_app lost over v said up =
     Way is_app lost v.phase v.own v.other v.incoming.messages v.incoming.mark over said up
 
-abbrev pub OnLink : {M : Type 0} → (M → Bool) → Bool → Bool → Side → Option (Link M) → List M → List M → Type 0
-OnLink is_app lost over t None said up = (said ≡ []) × (up ≡ [])
-OnLink is_app lost over t (Some l) said up = OnView is_app lost over (own_view t l) said up
+abbrev pub WayOnLink : {M : Type 0} → (M → Bool) → Bool → Bool → Side → Option (Link M) → List M → List M → Type 0
+WayOnLink is_app lost over t None said up = (said ≡ []) × (up ≡ [])
+WayOnLink is_app lost over t (Some l) said up = WayOnView is_app lost over (own_view t l) said up
 
 abbrev pub over_of : Node → ℕ → Bool
 over_of n c = is_done_hold (hold_of n (conn c))
 
 abbrev pub Carried : {P M : Type 0} → Peers P M → (M → Bool) → Bool → World P M → Side → ℕ → List M → List M → Type 0
 Carried m is_app lost w t c said up =
-    OnLink is_app lost (over_of (m.node_of (peer_at t w)) c) t (slice_get w.links c) said up
+    WayOnLink is_app lost (over_of (m.node_of (peer_at t w)) c) t (slice_get w.links c) said up
 
 -- a pending link has no marks
 abbrev is_blank_at : Standing → Bool
-is_blank_at s = when (is_sound s) (when (is_pending s.phase) (is_none s.in_mark && is_none s.out_mark))
+is_blank_at s = when (is_sound_standing s) (when (is_pending s.phase) (is_none s.in_mark && is_none s.out_mark))
 
 blank_checked : every_standing is_blank_at ≡ true
 unfolding all_true every_bool every_tie every_phase every_end every_mark
 blank_checked = refl
 
-pub blank_in : (mine : Bool) (s : Standing) → is_sound (turned mine s) ≡ true → is_pending s.phase ≡ true →
+pub blank_in : (mine : Bool) (s : Standing) → is_sound_standing (turned_over mine s) ≡ true → is_pending s.phase
+    ≡ true →
     is_none s.in_mark ≡ true
 blank_in true s good pending =
     (and_parts (is_none s.in_mark) (is_none s.out_mark) (is_when (is_pending s.phase) _
-    (is_when (is_sound s) _ (at_standing is_blank_at blank_checked s) good) pending)).0
+    (is_when (is_sound_standing s) _ (at_standing is_blank_at blank_checked s) good) pending)).0
 blank_in false s good pending =
-    let t = turned false s in
+    let t = turned_over false s in
     (and_parts (is_none t.in_mark) (is_none t.out_mark) (is_when (is_pending t.phase) _
-    (is_when (is_sound t) _ (at_standing is_blank_at blank_checked t) good) pending)).1
+    (is_when (is_sound_standing t) _ (at_standing is_blank_at blank_checked t) good) pending)).1
 
-pub blank_out : (mine : Bool) (s : Standing) → is_sound (turned mine s) ≡ true → is_pending s.phase ≡ true →
+pub blank_out : (mine : Bool) (s : Standing) → is_sound_standing (turned_over mine s) ≡ true → is_pending s.phase
+    ≡ true →
     is_none s.out_mark ≡ true
 blank_out true s good pending =
     (and_parts (is_none s.in_mark) (is_none s.out_mark) (is_when (is_pending s.phase) _
-    (is_when (is_sound s) _ (at_standing is_blank_at blank_checked s) good) pending)).1
+    (is_when (is_sound_standing s) _ (at_standing is_blank_at blank_checked s) good) pending)).1
 blank_out false s good pending =
-    let t = turned false s in
+    let t = turned_over false s in
     (and_parts (is_none t.in_mark) (is_none t.out_mark) (is_when (is_pending t.phase) _
-    (is_when (is_sound t) _ (at_standing is_blank_at blank_checked t) good) pending)).0
+    (is_when (is_sound_standing t) _ (at_standing is_blank_at blank_checked t) good) pending)).0
 
 -- what the world looked at
 pub handed_ack : (mine : Bool) (k : Concern) (s : Standing) → is_handed mine k s ≡ true → is_ack k ≡ true →
@@ -175,7 +184,7 @@ plain_words is_app d (peers.Up x ∷ more) h = plain_words is_app d more h
 
 -- a world with its peers as they carry messages
 pub record IsCarrying {P M : Type 0} (m : Peers P M) (stands : P → Bool) (w : World P M) : Type 0 where
-  pub sound : IsSound m w
+  pub sound : IsSoundWorld m w
   pub fits : (s : Side) → IsTrue (stands (peer_at s w))
 
 pub carrier : {P M : Type 0} (m : Peers P M) (stands : P → Bool) (s : Side) (w : World P M) → IsCarrying m stands w →

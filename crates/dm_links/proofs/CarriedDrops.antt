@@ -1,11 +1,12 @@
 -- What is dropped at a shut end keeps it.
-use Rattle.std.proofs.Common.{◌≡◌, ℕ, ◌==◌, Bool, true, if◌then◌else◌, Some, List, [], ◌∷◌, slice_get, refl, sym, ap, subst, ◌∙◌}
+use Rattle.std.proofs.Common.{◌≡◌, ℕ, ◌==◌, Bool, true, if◌then◌else◌, Some, List, [], ◌∷◌, slice_get, refl, sym, ap}
+use Rattle.std.proofs.Common.{subst, ◌∙◌}
 use Rattle.std.proofs.lemmas.Bool.{eqb-true}
 use Rattle.dm_links.specs.Machine.{conn, Concern, EndsIt, HeardOnIt}
 use Rattle.dm_links.specs.Links.{Side, A, B, flip, LinkPhase, Up, End, Shut, Mark, Coming, Delivered, Link, by_side}
 use Rattle.dm_links.specs.Peers.{Gone, Arrived, Peers}
 use Rattle.dm_links.specs.Steps.{entered}
-use Rattle.dm_links.specs.Worlds.{World, peer_at, with_links, change_at, Done, dropped}
+use Rattle.dm_links.specs.Worlds.{World, peer_at, with_links, change_at, Done, after_drop}
 use Rattle.dm_links.specs.Happens.{own_view}
 use Rattle.dm_links.proofs.Columns.{outgoing_mark_at, messages_at}
 use Rattle.dm_links.proofs.Closing.{CarriesOn}
@@ -13,7 +14,7 @@ use Rattle.dm_links.proofs.Lists.{change_at-tested}
 use Rattle.dm_links.proofs.Hearing.{may_hear}
 use Rattle.dm_links.proofs.Ways.{Way, Under, own_drops}
 use Rattle.dm_links.proofs.Mirrors.{view_other, view_own}
-use Rattle.dm_links.proofs.Carried.{OnView, over_of}
+use Rattle.dm_links.proofs.Carried.{WayOnView, over_of}
 use Rattle.dm_links.proofs.CarriedViews.{flip_view}
 use Rattle.dm_links.proofs.CarriedTold.{Keeps, kept_if, mapped_keeps}
 
@@ -45,11 +46,11 @@ module _ {P M : Type 0} (m : Peers P M) (is_app : M → Bool) (stands : P → Bo
   -- a message or a disconnect that comes to a shut end
   word_own : (t : Side) (l : Link M) (over : Bool) (x : M) (xs : List M) (said up : List M) → l.phase ≡ Up →
       (own_view t l).own ≡ Shut → (own_view t l).incoming.messages ≡ x ∷ xs →
-      OnView is_app lost over (own_view t l) said up →
-      OnView is_app lost over (own_view t (by_side t (entered HeardOnIt) l)) said up
+      WayOnView is_app lost over (own_view t l) said up →
+      WayOnView is_app lost over (own_view t (by_side t (entered HeardOnIt) l)) said up
   word_own t l over x xs said up is_now shut_now front way =
       let v = own_view t l in
-      subst (λ u. OnView is_app lost over u said up) (sym (view_own t (entered HeardOnIt) l))
+      subst (λ u. WayOnView is_app lost over u said up) (sym (view_own t (entered HeardOnIt) l))
       (subst (λ q. Way is_app lost q v.own v.other (messages_at HeardOnIt v.incoming.messages) v.incoming.mark over
       said up)
       (sym is_now)
@@ -63,26 +64,26 @@ module _ {P M : Type 0} (m : Peers P M) (is_app : M → Bool) (stands : P → Bo
       (subst (λ q. Way is_app lost q v.own v.other v.incoming.messages v.incoming.mark over said up) is_now way)))))))
 
   word_other : (t : Side) (l : Link M) (over : Bool) (said up : List M) →
-      OnView is_app lost over (own_view t l) said up →
-      OnView is_app lost over (own_view t (by_side (flip t) (entered HeardOnIt) l)) said up
+      WayOnView is_app lost over (own_view t l) said up →
+      WayOnView is_app lost over (own_view t (by_side (flip t) (entered HeardOnIt) l)) said up
   word_other t l over said up way =
-      subst (λ u. OnView is_app lost over u said up) (sym (view_other t (entered HeardOnIt) l)) way
+      subst (λ u. WayOnView is_app lost over u said up) (sym (view_other t (entered HeardOnIt) l)) way
 
   end_own : (t : Side) (l : Link M) (over : Bool) (said up : List M) → l.phase ≡ Up → (own_view t l).own ≡ Shut →
-      (own_view t l).incoming.mark ≡ Coming → OnView is_app lost over (own_view t l) said up →
-      OnView is_app lost over (own_view t (by_side t (entered EndsIt) l)) said up
+      (own_view t l).incoming.mark ≡ Coming → WayOnView is_app lost over (own_view t l) said up →
+      WayOnView is_app lost over (own_view t (by_side t (entered EndsIt) l)) said up
   end_own t l over said up is_now shut_now coming way =
       let v = own_view t l in
-      subst (λ u. OnView is_app lost over u said up) (sym (view_own t (entered EndsIt) l))
+      subst (λ u. WayOnView is_app lost over u said up) (sym (view_own t (entered EndsIt) l))
       (end_drops l.phase v.other v.incoming.messages v.incoming.mark over said up is_now coming
       (subst (λ e. Way is_app lost l.phase e v.other v.incoming.messages v.incoming.mark over said up) shut_now way))
 
   end_other : (t : Side) (l : Link M) (over : Bool) (said up : List M) → (own_view (flip t) l).own ≡ Shut →
-      OnView is_app lost over (own_view t l) said up →
-      OnView is_app lost over (own_view t (by_side (flip t) (entered EndsIt) l)) said up
+      WayOnView is_app lost over (own_view t l) said up →
+      WayOnView is_app lost over (own_view t (by_side (flip t) (entered EndsIt) l)) said up
   end_other t l over said up shut_now way =
       let v = own_view t l in
-      subst (λ u. OnView is_app lost over u said up) (sym (view_other t (entered EndsIt) l))
+      subst (λ u. WayOnView is_app lost over u said up) (sym (view_other t (entered EndsIt) l))
       (end_dropped l.phase v.own v.other v.incoming.messages v.incoming.mark over said up
       (sym (flip_view m is_app stands carries lost t l) ∙ shut_now) way)
 
@@ -90,8 +91,8 @@ module _ {P M : Type 0} (m : Peers P M) (is_app : M → Bool) (stands : P → Bo
   abbrev EntersAt : Side → Side → ℕ → World P M → Concern → ℕ → Type 0
   EntersAt t s c w k d =
       (l : Link M) (said up : List M) → (d == c) ≡ true → slice_get w.links c ≡ Some l →
-      OnView is_app lost (over_of (m.node_of (peer_at t w)) c) (own_view t l) said up →
-      OnView is_app lost (over_of (m.node_of (peer_at t w)) c) (own_view t (by_side s (entered k) l)) said up
+      WayOnView is_app lost (over_of (m.node_of (peer_at t w)) c) (own_view t l) said up →
+      WayOnView is_app lost (over_of (m.node_of (peer_at t w)) c) (own_view t (by_side s (entered k) l)) said up
 
   enters_keep : (t s : Side) (c : ℕ) (w : World P M) (k : Concern) (d : ℕ) → EntersAt t s c w k d →
       Keeps m is_app stands carries lost w t c (Done (with_links (change_at d (by_side s (entered k)) w.links) w) []) []
@@ -112,7 +113,7 @@ module _ {P M : Type 0} (m : Peers P M) (is_app : M → Bool) (stands : P → Bo
   pub word_drops : (t s : Side) (c : ℕ) (w : World P M) (d : ℕ) (l : Link M) (x : M) (xs : List M) →
       slice_get w.links d ≡ Some l → l.phase ≡ Up → (own_view s l).own ≡ Shut →
       (own_view s l).incoming.messages ≡ x ∷ xs → Keeps m is_app stands carries lost w t c
-      (dropped s (Arrived (conn d) x) w) []
+      (after_drop s (Arrived (conn d) x) w) []
   word_drops A A c w d l x xs at up_now shut_now front = enters_keep A A c w HeardOnIt d (λ z said up named there way.
       let same = moved_to w d c l z named at there in
       word_own A z _ x xs said up (ap (λ y. y.phase) (sym same) ∙ up_now)
@@ -130,7 +131,8 @@ module _ {P M : Type 0} (m : Peers P M) (is_app : M → Bool) (stands : P → Bo
 
   pub end_drop : (t s : Side) (c : ℕ) (w : World P M) (d : ℕ) (l : Link M) →
       slice_get w.links d ≡ Some l → l.phase ≡ Up → (own_view s l).own ≡ Shut →
-      (own_view s l).incoming.mark ≡ Coming → Keeps m is_app stands carries lost w t c (dropped s (Gone (conn d)) w) []
+      (own_view s l).incoming.mark ≡ Coming → Keeps m is_app stands carries lost w t c (after_drop s (Gone (conn d)) w)
+      []
   end_drop A A c w d l at up_now shut_now coming = enters_keep A A c w EndsIt d (λ z said up named there way.
       let same = moved_to w d c l z named at there in
       end_own A z _ said up (ap (λ y. y.phase) (sym same) ∙ up_now)

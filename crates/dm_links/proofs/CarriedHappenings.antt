@@ -1,17 +1,24 @@
 -- Every happening keeps what each direction of each link carries.
-use Rattle.std.proofs.Common.{◌≡◌, ℕ, ◌+◌, ◌==◌, Bool, true, false, if◌then◌else◌, nat_lt, Option, Some, None, List, [], ◌∷◌, ◌++◌, slice_get, refl, sym, ap, subst}
+use Rattle.std.proofs.Common.{◌≡◌, ℕ, ◌+◌, ◌==◌, Bool, true, false, if◌then◌else◌, nat_lt, Option, Some, None, List, []}
+use Rattle.std.proofs.Common.{◌∷◌, ◌++◌, slice_get, refl, sym, ap, subst}
 use Rattle.dm_links.specs.Machine.{conn, Elsewhere, AcksIt, NacksIt, EndsIt, HeardOnIt}
-use Rattle.dm_links.specs.Links.{Side, A, B, flip, opens, LinkPhase, Pending, Up, Cancelled, End, Fresh, Open, Shut, Coming, Link}
+use Rattle.dm_links.specs.Links.{Side, A, B, flip, opens, LinkPhase, Pending, Up, Cancelled, End, Fresh, Open, Shut}
+use Rattle.dm_links.specs.Links.{Coming, Link}
 use Rattle.dm_links.specs.Peers.{Event, Stop, Timeout, Tick, Ack, Nack, Gone, Submit, Arrived, Peers, concern_by}
-use Rattle.dm_links.specs.Worlds.{World, Put, Disconnect, put_if, peer_at, with_links, change_at, After, Done, Ignored, NoLink, told}
-use Rattle.dm_links.specs.Happens.{Happening, Starts, Stops, TimesOut, Ticks, Restarts, Acks, Nacks, Delivers, Pieces, Loses, Submits, Next, NextMessage, NextDisconnect, NextNothing, next_in, comes, delivered, pieced, lost_link, are_shut, if_up, if_pending, at_link, own_view, happens}
+use Rattle.dm_links.specs.Worlds.{World, Put, Disconnect, put_if, peer_at, with_links, change_at, After, Done, Ignored}
+use Rattle.dm_links.specs.Worlds.{NoLink, tell}
+use Rattle.dm_links.specs.Happens.{Happening, Starts, Stops, TimesOut, Ticks, Restarts, Acks, Nacks, Delivers, Pieces}
+use Rattle.dm_links.specs.Happens.{Loses, Submits, Next, NextMessage, NextDisconnect, NextNothing, next_in, comes}
+use Rattle.dm_links.specs.Happens.{deliver_next, deliver_part, lost_link, are_shut, if_up, if_pending, at_link}
+use Rattle.dm_links.specs.Happens.{own_view, happens}
 use Rattle.dm_links.specs.Follows.{IsMachine}
 use Rattle.dm_links.specs.Facts.{is_empty, is_shut}
 use Rattle.dm_links.specs.Turns.{Turn, turn_of, turn_at, turn_delivered, turn_pieced, turns_on, turns}
 use Rattle.dm_links.proofs.Checks.{is_handed}
 use Rattle.dm_links.proofs.Closing.{CarriesOn}
 use Rattle.dm_links.proofs.Keeps.{Hands}
-use Rattle.dm_links.proofs.Events.{side_sound, standing_at, hands_at, handed_heard, handed_ended, next_message, next_disconnect, opens_self}
+use Rattle.dm_links.proofs.Events.{side_sound, standing_at, hands_at, handed_heard, handed_ended, next_is_message}
+use Rattle.dm_links.proofs.Events.{next_is_disconnect, opens_self}
 use Rattle.dm_links.proofs.Events as events
 use Rattle.dm_links.proofs.Carried.{IsCarrying, names_loss}
 use Rattle.dm_links.proofs.CarriedViews.{padded}
@@ -34,7 +41,7 @@ module _ {P M : Type 0} (m : Peers P M) (is_app : M → Bool) (stands : P → Bo
       IsCarrying m stands w → slice_get w.links d ≡ Some l → l.phase ≡ Up → (own_view s l).own ≡ end →
       is_shut end ≡ false →
       (own_view s l).incoming.messages ≡ x ∷ xs →
-      Keeps m is_app stands carries lost w t c (told m s (Arrived (conn d) x) w) (turn_of m s (Arrived (conn d) x) w)
+      Keeps m is_app stands carries lost w t c (tell m s (Arrived (conn d) x) w) (turn_of m s (Arrived (conn d) x) w)
   heard_told t s c w d l end x xs good at up_now ends unshut front =
       told_keeps m is_app stands carries lost t s w c (Arrived (conn d) x) (λ q. elim q [ ]) good
       (hands_at s (m.node_of (peer_at s w)) (m.node_of (peer_at (flip s) w)) (Arrived (conn d) x) HeardOnIt w.links d l
@@ -59,7 +66,7 @@ module _ {P M : Type 0} (m : Peers P M) (is_app : M → Bool) (stands : P → Bo
       IsCarrying m stands w → slice_get w.links d ≡ Some l → l.phase ≡ Up → (own_view s l).own ≡ end →
       is_shut end ≡ false →
       (own_view s l).incoming.messages ≡ [] → (own_view s l).incoming.mark ≡ Coming →
-      Keeps m is_app stands carries lost w t c (told m s (Gone (conn d)) w) (turn_of m s (Gone (conn d)) w)
+      Keeps m is_app stands carries lost w t c (tell m s (Gone (conn d)) w) (turn_of m s (Gone (conn d)) w)
   ended_told t s c w d l end good at up_now ends unshut front coming =
       told_keeps m is_app stands carries lost t s w c (Gone (conn d)) (λ q. elim q [ ]) good
       (hands_at s (m.node_of (peer_at s w)) (m.node_of (peer_at (flip s) w)) (Gone (conn d)) EndsIt w.links d l at
@@ -80,14 +87,14 @@ module _ {P M : Type 0} (m : Peers P M) (is_app : M → Bool) (stands : P → Bo
   delivered_keeps : (t s : Side) (c : ℕ) (w : World P M) (d : ℕ) (l : Link M) (nx : Next M) →
       IsCarrying m stands w → slice_get w.links d ≡ Some l → l.phase ≡ Up →
       next_in (own_view s l).incoming.messages (own_view s l).incoming.mark ≡ nx →
-      Keeps m is_app stands carries lost w t c (delivered m d s (own_view s l).own nx w)
+      Keeps m is_app stands carries lost w t c (deliver_next m d s (own_view s l).own nx w)
       (turn_delivered m d s (own_view s l).own nx w)
   delivered_keeps t s c w d l NextNothing good at up_now nx = none_keeps t c w
   delivered_keeps t s c w d l (NextMessage x) good at up_now nx =
-      let ms = next_message (own_view s l).incoming.messages (own_view s l).incoming.mark x nx in
+      let ms = next_is_message (own_view s l).incoming.messages (own_view s l).incoming.mark x nx in
       heard_keeps t s c w d l (own_view s l).own x ms.0 good at up_now refl ms.1
   delivered_keeps t s c w d l NextDisconnect good at up_now nx =
-      let ms = next_disconnect (own_view s l).incoming.messages (own_view s l).incoming.mark nx in
+      let ms = next_is_disconnect (own_view s l).incoming.messages (own_view s l).incoming.mark nx in
       ended_keeps t s c w d l (own_view s l).own good at up_now refl ms.0 ms.1
 
   if_keeps : (t : Side) (c : ℕ) (w : World P M) (b : Bool) (x y : After P M) (us vs : List (Turn M)) →
@@ -99,12 +106,12 @@ module _ {P M : Type 0} (m : Peers P M) (is_app : M → Bool) (stands : P → Bo
   pieced_keeps : (t s : Side) (c : ℕ) (w : World P M) (d k taken : ℕ) (l : Link M) (nx : Next M) →
       IsCarrying m stands w → slice_get w.links d ≡ Some l → l.phase ≡ Up →
       next_in (own_view s l).incoming.messages (own_view s l).incoming.mark ≡ nx →
-      Keeps m is_app stands carries lost w t c (pieced m d s k (own_view s l).own taken nx w)
+      Keeps m is_app stands carries lost w t c (deliver_part m d s k (own_view s l).own taken nx w)
       (turn_pieced m d s k (own_view s l).own taken nx w)
   pieced_keeps t s c w d k taken l NextNothing good at up_now nx = none_keeps t c w
   pieced_keeps t s c w d k taken l NextDisconnect good at up_now nx = none_keeps t c w
   pieced_keeps t s c w d k taken l (NextMessage x) good at up_now nx =
-      let ms = next_message (own_view s l).incoming.messages (own_view s l).incoming.mark x nx in
+      let ms = next_is_message (own_view s l).incoming.messages (own_view s l).incoming.mark x nx in
       if_keeps t c w (nat_lt (taken + k) (m.size x)) _ _ [] _ (part_keeps m is_app stands carries lost t s c w d k)
       (heard_keeps t s c w d l (own_view s l).own x ms.0 good at up_now refl ms.1)
 
@@ -176,7 +183,7 @@ module _ {P M : Type 0} (m : Peers P M) (is_app : M → Bool) (stands : P → Bo
       (pieced_keeps t s c w d k (own_view s l).incoming.taken l
       (next_in (own_view s l).incoming.messages (own_view s l).incoming.mark) good at p refl)))
   happening_keeps is t c w (Loses d a b) good loss =
-      loses_keep (slice_get w.links d) (λ l. are_shut l.near l.far)
+      loses_keep (slice_get w.links d) (λ l. are_shut l.opener_end l.other_end)
       (λ l. put_if B (Disconnect d A) (Some l) ++ put_if A (Disconnect d B) (Some l))
     where
       by_shut : (b0 : Bool) (ps : List (Put M)) → Keeps m is_app stands carries lost w t c (if b0 then Ignored else Done

@@ -1,16 +1,18 @@
 -- Losses and pieces keep it.
-use Rattle.std.proofs.Common.{◌≡◌, ℕ, ◌+◌, ◌==◌, Bool, true, false, if◌then◌else◌, nat_le, ◌-◌, List, [], ◌∷◌, ◌++◌, refl, sym, ap, subst, ◌∙◌, append-nil, append_assoc}
-use Rattle.dm_links.specs.Links.{Side, A, B, flip, opens, LinkPhase, End, Mark, NoMark, Coming, Delivered, Link, view_of, by_side}
+use Rattle.std.proofs.Common.{◌≡◌, ℕ, ◌+◌, ◌==◌, Bool, true, false, if◌then◌else◌, nat_le, ◌-◌, List, [], ◌∷◌, ◌++◌}
+use Rattle.std.proofs.Common.{refl, sym, ap, subst, ◌∙◌, append-nil, append_assoc}
+use Rattle.dm_links.specs.Links.{Side, A, B, flip, opens, LinkPhase, End, Mark, NoMark, Coming, Delivered, Link}
+use Rattle.dm_links.specs.Links.{view_of, by_side}
 use Rattle.dm_links.specs.Peers.{Peers}
 use Rattle.dm_links.specs.Steps.{marked}
 use Rattle.dm_links.specs.Worlds.{World, peer_at, with_links, change_at, Done}
-use Rattle.dm_links.specs.Happens.{taking, lost_link, lost_messages, whole_in, kept_at, own_view}
+use Rattle.dm_links.specs.Happens.{take_part, lost_link, lost_messages, whole_in, kept_at, own_view}
 use Rattle.dm_links.specs.Delivery.{apps}
 use Rattle.dm_links.proofs.Closing.{CarriesOn}
 use Rattle.dm_links.proofs.Lists.{change_at-tested}
 use Rattle.dm_links.proofs.Ways.{Way, apps_append}
 use Rattle.dm_links.proofs.Mirrors.{view_other, view_own}
-use Rattle.dm_links.proofs.Carried.{OnView, over_of}
+use Rattle.dm_links.proofs.Carried.{WayOnView, over_of}
 use Rattle.dm_links.proofs.CarriedTold.{Keeps, kept_if, mapped_keeps}
 
 module _ {P M : Type 0} (m : Peers P M) (is_app : M → Bool) (stands : P → Bool) (carries : CarriesOn m is_app stands)
@@ -57,19 +59,19 @@ module _ {P M : Type 0} (m : Peers P M) (is_app : M → Bool) (stands : P → Bo
       }
 
   lost_view : (a b : ℕ) (mine : Bool) (l : Link M) (over : Bool) (said up : List M) → lost ≡ true →
-      OnView is_app lost over (view_of mine l) said up →
-      OnView is_app lost over (view_of mine (lost_link m.size a b l)) said up
+      WayOnView is_app lost over (view_of mine l) said up →
+      WayOnView is_app lost over (view_of mine (lost_link m.size a b l)) said up
   lost_view a b true l over said up is way =
-      let d = l.to_near in
+      let d = l.to_opener in
       let f = lost_front m.size (kept_at l.opener a b + d.taken) d.mark d.messages in
-      way_lost l.phase l.near l.far d.messages
+      way_lost l.phase l.opener_end l.other_end d.messages
       (lost_messages d.mark (whole_in m.size (kept_at l.opener a b + d.taken) d.messages) d.messages) f.0 d.mark over
       said
       up is f.1 way
   lost_view a b false l over said up is way =
-      let d = l.to_far in
+      let d = l.to_other in
       let f = lost_front m.size (kept_at (flip l.opener) a b + d.taken) d.mark d.messages in
-      way_lost l.phase l.far l.near d.messages
+      way_lost l.phase l.other_end l.opener_end d.messages
       (lost_messages d.mark (whole_in m.size (kept_at (flip l.opener) a b + d.taken) d.messages) d.messages) f.0 d.mark
       over said up is f.1 way
 
@@ -85,23 +87,27 @@ module _ {P M : Type 0} (m : Peers P M) (is_app : M → Bool) (stands : P → Bo
 
   -- a part of a message
   taken_view : (t s : Side) (k : ℕ) (l : Link M) (over : Bool) (said up : List M) →
-      OnView is_app lost over (own_view t l) said up → OnView is_app lost over (own_view t (by_side s (taking k) l))
+      WayOnView is_app lost over (own_view t l) said up → WayOnView is_app lost over
+      (own_view t (by_side s (take_part k) l))
       said up
-  taken_view A A k l over said up way = subst (λ v. OnView is_app lost over v said up) (sym (view_own A (taking k) l))
+  taken_view A A k l over said up way = subst (λ v. WayOnView is_app lost over v said up)
+      (sym (view_own A (take_part k) l))
       way
-  taken_view B B k l over said up way = subst (λ v. OnView is_app lost over v said up) (sym (view_own B (taking k) l))
+  taken_view B B k l over said up way = subst (λ v. WayOnView is_app lost over v said up)
+      (sym (view_own B (take_part k) l))
       way
-  taken_view A B k l over said up way = subst (λ v. OnView is_app lost over v said up)
-      (sym (view_other A (taking k) l)) way
-  taken_view B A k l over said up way = subst (λ v. OnView is_app lost over v said up)
-      (sym (view_other B (taking k) l)) way
+  taken_view A B k l over said up way = subst (λ v. WayOnView is_app lost over v said up)
+      (sym (view_other A (take_part k) l)) way
+  taken_view B A k l over said up way = subst (λ v. WayOnView is_app lost over v said up)
+      (sym (view_other B (take_part k) l)) way
 
   pub part_keeps : (t s : Side) (c : ℕ) (w : World P M) (d k : ℕ) →
-      Keeps m is_app stands carries lost w t c (Done (with_links (change_at d (by_side s (taking k)) w.links) w) []) []
+      Keeps m is_app stands carries lost w t c (Done (with_links (change_at d (by_side s (take_part k)) w.links) w) [])
+      []
   part_keeps t s c w d k =
-      mapped_keeps m is_app stands carries lost t c w (λ l. if d == c then by_side s (taking k) l else l)
-      (change_at d (by_side s (taking k)) w.links)
-      (change_at-tested d c (d == c) (by_side s (taking k)) w.links refl)
-      (λ l said up at way. kept_if m is_app stands carries lost t (d == c) (by_side s (taking k)) l
+      mapped_keeps m is_app stands carries lost t c w (λ l. if d == c then by_side s (take_part k) l else l)
+      (change_at d (by_side s (take_part k)) w.links)
+      (change_at-tested d c (d == c) (by_side s (take_part k)) w.links refl)
+      (λ l said up at way. kept_if m is_app stands carries lost t (d == c) (by_side s (take_part k)) l
       (over_of (m.node_of (peer_at t w)) c) said up
       (λ named. taken_view t s k l (over_of (m.node_of (peer_at t w)) c) said up way) way)

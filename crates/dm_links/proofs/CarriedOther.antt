@@ -1,15 +1,18 @@
 -- What the side across is told keeps what the directions to a side carry: what it submits comes behind all else.
-use Rattle.std.proofs.Common.{◌≡◌, ℕ, ◌==◌, Bool, true, false, ◌&&◌, ◌||◌, if◌then◌else◌, Some, None, List, [], ◌∷◌, ◌++◌, map, slice_get, refl, sym, ap, subst, ◌∙◌, append-nil}
+use Rattle.std.proofs.Common.{◌≡◌, ℕ, ◌==◌, Bool, true, false, ◌&&◌, ◌||◌, if◌then◌else◌, Some, None, List, [], ◌∷◌}
+use Rattle.std.proofs.Common.{◌++◌, map, slice_get, refl, sym, ap, subst, ◌∙◌, append-nil}
 use Rattle.std.specs.Prelude.{option_map}
 use Rattle.std.proofs.lemmas.Bool.{eqb-true}
 use Rattle.dm_machine.specs.Connection.{hold_of}
 use Rattle.dm_links.specs.Machine.{conn, Node, Tie, tie_of}
 use Rattle.dm_links.specs.Links.{Side, A, B, flip, opens, Link, by_side}
-use Rattle.dm_links.specs.Peers.{Event, Start, Stop, Timeout, Tick, Ack, Nack, Gone, Submit, Arrived, Action, Acts, Peers, concern_by, deed_of, sends_at}
+use Rattle.dm_links.specs.Peers.{Event, Start, Stop, Timeout, Tick, Ack, Nack, Gone, Submit, Arrived, Action, Acts}
+use Rattle.dm_links.specs.Peers.{Peers, concern_by, deed_of, sends_at}
 use Rattle.dm_links.specs.Worlds.{World, peer_at}
 use Rattle.dm_links.specs.Happens.{own_view}
 use Rattle.dm_links.specs.Facts.{is_shut}
-use Rattle.dm_links.specs.Delivery.{submitted_by, raised_by, ups_of, apps, is_open_hold, IsSubmitted}
+use Rattle.dm_links.specs.Delivery.{submitted_by, handed_up_by, ups_of, apps, SendsSubmitted}
+use Rattle.dm_machine.specs.Upward.{is_open_hold}
 use Rattle.dm_links.proofs.Columns.{words_at}
 use Rattle.dm_links.proofs.Checks.{is_open_tie}
 use Rattle.dm_links.proofs.Closing.{CarriesOn}
@@ -17,13 +20,14 @@ use Rattle.dm_links.proofs.Keeps.{Hands}
 use Rattle.dm_links.proofs.Events.{side_sound}
 use Rattle.dm_links.proofs.Promise.{held_there}
 use Rattle.dm_links.proofs.Ways.{IsNew, says_none, says_one}
-use Rattle.dm_links.proofs.Carried.{Carried, IsCarrying, OnLink, carrier, no_other_raise, no_other_up, open_held, open_tied, over_of, plain_words, turn_with}
+use Rattle.dm_links.proofs.Carried.{Carried, IsCarrying, WayOnLink, carrier, no_other_raise, no_other_up, open_held}
+use Rattle.dm_links.proofs.Carried.{open_tied, over_of, plain_words, turn_with}
 use Rattle.dm_links.proofs.CarriedViews.{flip_view, on_mapped, other_fits, stepped_by, tie_open}
 
 module _ {P M : Type 0} (m : Peers P M) (is_app : M → Bool) (stands : P → Bool) (carries : CarriesOn m is_app stands)
     (lost : Bool) where
   other_raises : (t : Side) (c : ℕ) (e : Event M) (actions : List (Action M)) →
-      raised_by t c (turn_with (flip t) e actions) ≡ []
+      handed_up_by t c (turn_with (flip t) e actions) ≡ []
   other_raises t c (Arrived d x) actions = no_other_raise t (d.0 == c) (ups_of actions)
   other_raises t c (Submit x) actions = no_other_up t (ups_of actions)
   other_raises t c (Start d) actions = no_other_up t (ups_of actions)
@@ -37,7 +41,7 @@ module _ {P M : Type 0} (m : Peers P M) (is_app : M → Bool) (stands : P → Bo
   abbrev After_other : (t : Side) (w : World P M) (c : ℕ) (e : Event M) (p : P) (actions : List (Action M)) →
       List M → List M → Type 0
   After_other t w c e p actions said up =
-      OnLink is_app lost (over_of (m.node_of (peer_at t w)) c) t
+      WayOnLink is_app lost (over_of (m.node_of (peer_at t w)) c) t
       (option_map (by_side (flip t) (stepped_by m is_app stands carries lost c e actions p)) (slice_get w.links c))
       said up
 
@@ -80,7 +84,7 @@ module _ {P M : Type 0} (m : Peers P M) (is_app : M → Bool) (stands : P → Bo
       Hands (flip t) (m.node_of (peer_at (flip t) w)) (m.node_of (peer_at (flip (flip t)) w)) (Submit x) w.links →
       m.reply (peer_at (flip t) w) (Submit x) ≡ Acts actions p → Carried m is_app lost w t c said up →
       After_other t w c (Submit x) p actions (said ++ submitted_by t c (turn_with (flip t) (Submit x) actions))
-      (up ++ raised_by t c (turn_with (flip t) (Submit x) actions))
+      (up ++ handed_up_by t c (turn_with (flip t) (Submit x) actions))
   other_submits t w c x p actions said up good hands replies h =
       let sides = side_sound m (flip t) w good.sound in
       let sub = carries.does.submits (peer_at (flip t) w) p x actions (carrier m stands (flip t) w good) replies in
@@ -89,27 +93,27 @@ module _ {P M : Type 0} (m : Peers P M) (is_app : M → Bool) (stands : P → Bo
       n : Node
       n = m.node_of (peer_at (flip t) w)
 
-      new_is : (sub : IsSubmitted is_app n x actions) (b : Bool) → (sub.link == c) ≡ b →
+      new_is : (sub : SendsSubmitted is_app n x actions) (b : Bool) → (sub.link == c) ≡ b →
           new_of t c x actions ≡ (if b then x ∷ [] else [])
       new_is sub b named = ap (λ acts. new_of t c x acts) sub.sends
           ∙ (flips t ((sub.link == c) || false) (x ∷ [])
           ∙ (ap (λ q. if q then x ∷ [] else []) (or_false (sub.link == c))
           ∙ ap (λ q. if q then x ∷ [] else []) named))
 
-      words_are : (sub : IsSubmitted is_app n x actions) (b : Bool) → (sub.link == c) ≡ b →
+      words_are : (sub : SendsSubmitted is_app n x actions) (b : Bool) → (sub.link == c) ≡ b →
           apps is_app (words_at c actions) ≡ (if b then x ∷ [] else [])
       words_are sub true named = ap (λ acts. apps is_app (words_at c acts)) sub.sends
           ∙ (ap (λ q. apps is_app (if q then x ∷ [] else [])) named ∙ ap (λ q. if q then x ∷ [] else []) sub.app)
       words_are sub false named = ap (λ acts. apps is_app (words_at c acts)) sub.sends
           ∙ ap (λ q. apps is_app (if q then x ∷ [] else [])) named
 
-      opened : (sub : IsSubmitted is_app n x actions) → (sub.link == c) ≡ true →
+      opened : (sub : SendsSubmitted is_app n x actions) → (sub.link == c) ≡ true →
           is_open_hold (hold_of n (conn c)) ≡ true
       opened sub named = subst (λ d. is_open_hold (hold_of n (conn d)) ≡ true) (eqb-true sub.link c named) sub.opened
 
-      by_test : (sub : IsSubmitted is_app n x actions) (b : Bool) → (sub.link == c) ≡ b →
+      by_test : (sub : SendsSubmitted is_app n x actions) (b : Bool) → (sub.link == c) ≡ b →
           After_other t w c (Submit x) p actions (said ++ submitted_by t c (turn_with (flip t) (Submit x) actions))
-          (up ++ raised_by t c (turn_with (flip t) (Submit x) actions))
+          (up ++ handed_up_by t c (turn_with (flip t) (Submit x) actions))
       by_test sub true named =
           other_by t w c (Submit x) p actions said up (new_of t c x actions) _ good hands
           (words_are sub true named ∙ sym (new_is sub true named))
@@ -117,7 +121,7 @@ module _ {P M : Type 0} (m : Peers P M) (is_app : M → Bool) (stands : P → Bo
           says_one refl is.0 (ap (λ e. is_shut e) (sym (flip_view m is_app stands carries lost t l)) ∙ is.1))
           (λ at. absurd (no_link sub named at)) (other_raises t c (Submit x) actions) h
         where
-          no_link : (sub : IsSubmitted is_app n x actions) → (sub.link == c) ≡ true → slice_get w.links c ≡ None → ⊥
+          no_link : (sub : SendsSubmitted is_app n x actions) → (sub.link == c) ≡ true → slice_get w.links c ≡ None → ⊥
           no_link sub named at =
               let there = held_there (flip t) n (m.node_of (peer_at (flip (flip t)) w)) w.links c
               (side_sound m (flip t) w good.sound)
@@ -134,10 +138,10 @@ module _ {P M : Type 0} (m : Peers P M) (is_app : M → Bool) (stands : P → Bo
       Hands (flip t) (m.node_of (peer_at (flip t) w)) (m.node_of (peer_at (flip (flip t)) w)) e w.links →
       m.reply (peer_at (flip t) w) e ≡ Acts actions p → ((x : M) → e ≡ Submit x → ⊥) → new ≡ [] →
       Carried m is_app lost w t c said up →
-      After_other t w c e p actions (said ++ new) (up ++ raised_by t c (turn_with (flip t) e actions))
+      After_other t w c e p actions (said ++ new) (up ++ handed_up_by t c (turn_with (flip t) e actions))
   other_calm t w c e p actions said up new good hands replies other is h =
       let sides = side_sound m (flip t) w good.sound in
-      other_by t w c e p actions said up new (raised_by t c (turn_with (flip t) e actions)) good hands
+      other_by t w c e p actions said up new (handed_up_by t c (turn_with (flip t) e actions)) good hands
       (plain_words is_app c actions (carries.does.others (peer_at (flip t) w) p e actions
       (carrier m stands (flip t) w good) other replies)
       ∙ sym is)
@@ -149,7 +153,7 @@ module _ {P M : Type 0} (m : Peers P M) (is_app : M → Bool) (stands : P → Bo
       Hands (flip t) (m.node_of (peer_at (flip t) w)) (m.node_of (peer_at (flip (flip t)) w)) e w.links →
       m.reply (peer_at (flip t) w) e ≡ Acts actions p → Carried m is_app lost w t c said up →
       After_other t w c e p actions (said ++ submitted_by t c (turn_with (flip t) e actions))
-      (up ++ raised_by t c (turn_with (flip t) e actions))
+      (up ++ handed_up_by t c (turn_with (flip t) e actions))
 
   pub other_step : (t : Side) (w : World P M) (c : ℕ) (e : Event M) (p : P) (actions : List (Action M)) →
       OtherStep t w c e p actions

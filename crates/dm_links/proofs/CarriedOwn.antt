@@ -1,18 +1,21 @@
 -- What a side is told keeps what the directions to it carry.
-use Rattle.std.proofs.Common.{◌≡◌, ℕ, ◌==◌, Bool, true, false, if◌then◌else◌, Some, List, [], ◌∷◌, ◌++◌, map, slice_get, refl, sym, ap, subst, ◌∙◌, append-nil}
+use Rattle.std.proofs.Common.{◌≡◌, ℕ, ◌==◌, Bool, true, false, if◌then◌else◌, Some, List, [], ◌∷◌, ◌++◌, map, slice_get}
+use Rattle.std.proofs.Common.{refl, sym, ap, subst, ◌∙◌, append-nil}
 use Rattle.std.specs.Prelude.{option_map}
 use Rattle.std.proofs.lemmas.Bool.{eqb-true}
 use Rattle.dm_links.specs.Machine.{Conn, conn, Concern, Elsewhere, AcksIt, NacksIt, EndsIt, HeardOnIt}
 use Rattle.dm_links.specs.Links.{Side, flip, opens, by_side}
-use Rattle.dm_links.specs.Peers.{Event, Start, Stop, Timeout, Tick, Ack, Nack, Gone, Submit, Arrived, Action, Acts, Peers, concern_by, deed_of, sends_at}
+use Rattle.dm_links.specs.Peers.{Event, Start, Stop, Timeout, Tick, Ack, Nack, Gone, Submit, Arrived, Action, Acts}
+use Rattle.dm_links.specs.Peers.{Peers, concern_by, deed_of, sends_at}
 use Rattle.dm_links.specs.Worlds.{World, peer_at}
 use Rattle.dm_links.specs.Happens.{own_view}
-use Rattle.dm_links.specs.Delivery.{submitted_by, raised_by, ups_of}
+use Rattle.dm_links.specs.Delivery.{submitted_by, handed_up_by, ups_of}
 use Rattle.dm_links.proofs.Closing.{CarriesOn}
-use Rattle.dm_links.proofs.Lists.{IsStart, start}
+use Rattle.dm_links.proofs.Lists.{IsStart, at_start}
 use Rattle.dm_links.proofs.Keeps.{Hands}
 use Rattle.dm_links.proofs.Hearing.{is_word}
-use Rattle.dm_links.proofs.Carried.{Carried, Front, IsCarrying, OnLink, carrier, no_own_submit, no_own_up, over_of, own_opens, turn_with}
+use Rattle.dm_links.proofs.Carried.{Carried, Front, IsCarrying, WayOnLink, carrier, no_own_submit, no_own_up, over_of}
+use Rattle.dm_links.proofs.Carried.{own_opens, turn_with}
 use Rattle.dm_links.proofs.CarriedViews.{on_mapped, own_fits, own_view_calm, own_view_heard, padded, stepped_by}
 
 module _ {P M : Type 0} (m : Peers P M) (is_app : M → Bool) (stands : P → Bool) (carries : CarriesOn m is_app stands)
@@ -20,7 +23,7 @@ module _ {P M : Type 0} (m : Peers P M) (is_app : M → Bool) (stands : P → Bo
   abbrev After_own : (t : Side) (w : World P M) (c : ℕ) (e : Event M) (p : P) (actions : List (Action M)) →
       List M → List M → Type 0
   After_own t w c e p actions said up =
-      OnLink is_app lost (over_of (m.node_of p) c) t
+      WayOnLink is_app lost (over_of (m.node_of p) c) t
       (option_map (by_side t (stepped_by m is_app stands carries lost c e actions p)) (slice_get w.links c)) said up
 
   own_calm_step : (t : Side) (w : World P M) (c : ℕ) (e : Event M) (p : P) (actions : List (Action M))
@@ -87,7 +90,7 @@ module _ {P M : Type 0} (m : Peers P M) (is_app : M → Bool) (stands : P → Bo
       Hands t (m.node_of (peer_at t w)) (m.node_of (peer_at (flip t) w)) e w.links → Front w t e →
       m.reply (peer_at t w) e ≡ Acts actions p → Carried m is_app lost w t c said up →
       After_own t w c e p actions (said ++ submitted_by t c (turn_with t e actions))
-      (up ++ raised_by t c (turn_with t e actions))
+      (up ++ handed_up_by t c (turn_with t e actions))
 
   calm_if : (b : Bool) (k : Concern) → is_word k ≡ false → is_word (if b then k else Elsewhere) ≡ false
   calm_if true k h = h
@@ -98,10 +101,10 @@ module _ {P M : Type 0} (m : Peers P M) (is_app : M → Bool) (stands : P → Bo
       IsCarrying m stands w → Hands t (m.node_of (peer_at t w)) (m.node_of (peer_at (flip t) w)) e w.links →
       m.reply (peer_at t w) e ≡ Acts actions p → is_word (concern_by e (conn c)) ≡ false →
       ((d : Conn) (x : M) → e ≡ Arrived d x → ⊥) →
-      raised_by t c (turn_with t e actions) ≡ (if opens t t then ups_of actions else []) →
+      handed_up_by t c (turn_with t e actions) ≡ (if opens t t then ups_of actions else []) →
       Carried m is_app lost w t c said up →
       After_own t w c e p actions (said ++ submitted_by t c (turn_with t e actions))
-      (up ++ raised_by t c (turn_with t e actions))
+      (up ++ handed_up_by t c (turn_with t e actions))
   own_silent t w c e p actions said up good hands replies calm other is h =
       own_calm_step t w c e p actions said up _ _ good hands replies calm (own_submits t c e actions)
       (is ∙ no_own_up t (ups_of actions)
@@ -113,7 +116,7 @@ module _ {P M : Type 0} (m : Peers P M) (is_app : M → Bool) (stands : P → Bo
       by_test (d.0 == c) refl said up good hands front replies h
     where
       raises_if : (b : Bool) → (d.0 == c) ≡ b →
-          raised_by t c (turn_with t (Arrived d x) actions) ≡ (if b then ups_of actions else [])
+          handed_up_by t c (turn_with t (Arrived d x) actions) ≡ (if b then ups_of actions else [])
       raises_if b h = own_opens t (d.0 == c) (ups_of actions) ∙ ap (λ q. if q then ups_of actions else []) h
 
       by_test : (b : Bool) → (d.0 == c) ≡ b → OwnStep t w c (Arrived d x) p actions
@@ -127,7 +130,7 @@ module _ {P M : Type 0} (m : Peers P M) (is_app : M → Bool) (stands : P → Bo
   own_step t w c (Start d) p actions no_start said up good hands front replies h = absurd (no_start (started d))
     where
       started : (d : Conn) → IsStart {M = M} (Start d)
-      started d = start d
+      started d = at_start d
   own_step t w c (Stop cause) p actions no_start said up good hands front replies h =
       own_silent t w c (Stop cause) p actions said up good hands replies refl (λ d x q. cc) refl h
   own_step t w c Timeout p actions no_start said up good hands front replies h =

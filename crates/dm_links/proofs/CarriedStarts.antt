@@ -1,10 +1,11 @@
 -- A Start keeps it.
-use Rattle.std.proofs.Common.{◌≡◌, ℕ, zero, suc, Bool, true, false, Option, Some, List, [], ◌∷◌, ◌++◌, length, slice_get, refl, sym, ap, subst, ◌∙◌, append-nil, inl, inr}
+use Rattle.std.proofs.Common.{◌≡◌, ℕ, zero, suc, Bool, true, false, Option, Some, List, [], ◌∷◌, ◌++◌, length}
+use Rattle.std.proofs.Common.{slice_get, refl, sym, ap, subst, ◌∙◌, append-nil, inl, inr}
 use Rattle.dm_machine.specs.Connection.{hold_of}
 use Rattle.dm_links.specs.Machine.{conn, Elsewhere, is_held}
 use Rattle.dm_links.specs.Links.{Side, A, B, flip, opens, Link, View, by_side, new_link}
 use Rattle.dm_links.specs.Peers.{Event, Start, Submit, Action, Reply, Acts, Declines, Peers}
-use Rattle.dm_links.specs.Worlds.{World, peer_at, perform, answered}
+use Rattle.dm_links.specs.Worlds.{World, peer_at, perform, after_reply}
 use Rattle.dm_links.specs.Happens.{own_view}
 use Rattle.dm_links.specs.Facts.{is_up, is_open_end}
 use Rattle.dm_links.specs.Turns.{turn_by}
@@ -19,14 +20,15 @@ use Rattle.dm_links.proofs.Pairs.{mirror}
 use Rattle.dm_links.proofs.Events.{side_sound, standing_at}
 use Rattle.dm_links.proofs.Ways.{says_none, own_calm, other_acts}
 use Rattle.dm_links.proofs.Mirrors.{view_other, view_own}
-use Rattle.dm_links.proofs.Carried.{Carried, IsCarrying, OnLink, OnView, carrier, held_over, over_of, plain_words, same_right}
+use Rattle.dm_links.proofs.Carried.{Carried, IsCarrying, WayOnLink, WayOnView, carrier, held_over, over_of, plain_words}
+use Rattle.dm_links.proofs.Carried.{same_right}
 use Rattle.dm_links.proofs.CarriedViews.{on_mapped, padded}
 use Rattle.dm_links.proofs.CarriedTold.{Keeps}
 
 module _ {P M : Type 0} (m : Peers P M) (is_app : M → Bool) (stands : P → Bool) (carries : CarriesOn m is_app stands)
     (lost : Bool) where
   -- a Start
-  new_view : (t s : Side) (over : Bool) → OnView is_app lost over (own_view t (new_link s)) [] []
+  new_view : (t s : Side) (over : Bool) → WayOnView is_app lost over (own_view t (new_link s)) [] []
   new_view A A over = record {
     rest = [];
     whole = refl;
@@ -53,11 +55,12 @@ module _ {P M : Type 0} (m : Peers P M) (is_app : M → Bool) (stands : P → Bo
   }
 
   appends : (t s : Side) (over : Bool) (links : List (Link M)) (c : ℕ) (said up : List M) →
-      OnLink is_app lost over t (slice_get links c) said up →
-      OnLink is_app lost over t (slice_get (links ++ new_link s ∷ []) c) said up
+      WayOnLink is_app lost over t (slice_get links c) said up →
+      WayOnLink is_app lost over t (slice_get (links ++ new_link s ∷ []) c) said up
   appends t s over [] zero said up h =
-      subst (λ (xs : List M). OnView is_app lost over (own_view t (new_link s)) xs up) (sym h.0)
-      (subst (λ (ys : List M). OnView is_app lost over (own_view t (new_link s)) [] ys) (sym h.1) (new_view t s over))
+      subst (λ (xs : List M). WayOnView is_app lost over (own_view t (new_link s)) xs up) (sym h.0)
+      (subst (λ (ys : List M). WayOnView is_app lost over (own_view t (new_link s)) [] ys) (sym h.1)
+      (new_view t s over))
   appends t s over [] (suc c) said up h = h
   appends t s over (l ∷ links) zero said up h = h
   appends t s over (l ∷ links) (suc c) said up h = appends t s over links c said up h
@@ -82,18 +85,18 @@ module _ {P M : Type 0} (m : Peers P M) (is_app : M → Bool) (stands : P → Bo
 
   start_own : (t : Side) (w : World P M) (c : ℕ) (p : P) (e : Event M) (actions : List (Action M)) (said up : List M) →
       IsCarrying m stands w → m.reply (peer_at t w) e ≡ Acts actions p → Carried m is_app lost w t c said up →
-      OnLink is_app lost (over_of (m.node_of p) c) t
+      WayOnLink is_app lost (over_of (m.node_of p) c) t
       (slice_get (perform t actions (w.links ++ new_link t ∷ [])) c) said up
   start_own t w c p e actions said up good replies h =
       let over = over_of (m.node_of (peer_at t w)) c in
       let over' = over_of (m.node_of p) c in
       let links = w.links ++ new_link t ∷ [] in
-      subst (λ (o : Option (Link M)). OnLink is_app lost over' t o said up) (sym (performed_at t actions c links))
+      subst (λ (o : Option (Link M)). WayOnLink is_app lost over' t o said up) (sym (performed_at t actions c links))
       (on_mapped m is_app stands carries lost t (by_side t (acted c actions)) over over' said up said up
       (slice_get links c)
       (λ l at way.
       let v = own_view t l in
-      subst (λ (u : View M). OnView is_app lost over' u said up)
+      subst (λ (u : View M). WayOnView is_app lost over' u said up)
       (sym (view_own t (acted c actions) l ∙ acted_summed c actions v))
       (own_calm is_app lost Elsewhere (is_closed_at c actions) false over over' v.phase v.own v.other
       v.incoming.messages
@@ -109,19 +112,20 @@ module _ {P M : Type 0} (m : Peers P M) (is_app : M → Bool) (stands : P → Bo
 
   start_other : (t : Side) (w : World P M) (c : ℕ) (p : P) (e : Event M) (actions : List (Action M))
       (said up : List M) → apps is_app (words_at c actions) ≡ [] → Carried m is_app lost w t c said up →
-      OnLink is_app lost (over_of (m.node_of (peer_at t w)) c) t
+      WayOnLink is_app lost (over_of (m.node_of (peer_at t w)) c) t
       (slice_get (perform (flip t) actions (w.links ++ new_link (flip t) ∷ [])) c) said up
   start_other t w c p e actions said up words h =
       let over = over_of (m.node_of (peer_at t w)) c in
       let links = w.links ++ new_link (flip t) ∷ [] in
-      subst (λ (o : Option (Link M)). OnLink is_app lost over t o said up) (sym (performed_at (flip t) actions c links))
+      subst (λ (o : Option (Link M)). WayOnLink is_app lost over t o said up)
+      (sym (performed_at (flip t) actions c links))
       (on_mapped m is_app stands carries lost t (by_side (flip t) (acted c actions)) over over said up said up
       (slice_get links c)
       (λ l at way.
       let v = own_view t l in
-      subst (λ (xs : List M). OnView is_app lost over (own_view t (by_side (flip t) (acted c actions) l)) xs up)
+      subst (λ (xs : List M). WayOnView is_app lost over (own_view t (by_side (flip t) (acted c actions) l)) xs up)
       (append-nil said)
-      (subst (λ (u : View M). OnView is_app lost over u (said ++ []) up)
+      (subst (λ (u : View M). WayOnView is_app lost over u (said ++ []) up)
       (sym (view_other t (acted c actions) l ∙ ap (λ (u : View M). mirror u) (acted_summed c actions (mirror v))))
       (other_acts is_app lost Elsewhere (is_closed_at c actions) false over v.phase v.own v.other v.incoming.messages
       (words_at c actions) [] v.incoming.mark said up words (says_none refl) (λ a. cc) (λ a. cc) way)))
@@ -131,7 +135,7 @@ module _ {P M : Type 0} (m : Peers P M) (is_app : M → Bool) (stands : P → Bo
   start_event w = Start (conn (length w.links))
 
   abbrev StartKeeps : Side → Side → ℕ → World P M → Reply P M → Type 0
-  StartKeeps t s c w r = Keeps m is_app stands carries lost w t c (answered m s (start_event w) w r)
+  StartKeeps t s c w r = Keeps m is_app stands carries lost w t c (after_reply m s (start_event w) w r)
       (turn_by s (start_event w) r)
 
   not_submit : (w : World P M) (x : M) → start_event w ≡ Submit x → ⊥

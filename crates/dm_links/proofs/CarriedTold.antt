@@ -1,17 +1,18 @@
 -- What either side is told keeps it, and so does what changes links alone.
-use Rattle.std.proofs.Common.{◌≡◌, ℕ, Bool, true, false, if◌then◌else◌, Option, Some, List, [], ◌∷◌, ◌++◌, slice_get, refl, sym, ap, subst, append-nil}
+use Rattle.std.proofs.Common.{◌≡◌, ℕ, Bool, true, false, if◌then◌else◌, Option, Some, List, [], ◌∷◌, ◌++◌, slice_get}
+use Rattle.std.proofs.Common.{refl, sym, ap, subst, append-nil}
 use Rattle.std.specs.Prelude.{option_map}
 use Rattle.dm_links.specs.Links.{Side, A, B, flip, Link}
 use Rattle.dm_links.specs.Peers.{Event, Reply, Acts, Declines, Peers}
-use Rattle.dm_links.specs.Worlds.{World, peer_at, with_links, enter, perform, settle, After, Done, answered, told}
+use Rattle.dm_links.specs.Worlds.{World, peer_at, with_links, enter, perform, settle, After, Done, after_reply, tell}
 use Rattle.dm_links.specs.Happens.{own_view, world_after}
 use Rattle.dm_links.specs.Turns.{Turn, turn_by, turn_of}
-use Rattle.dm_links.specs.Delivery.{submitted_by, submitted, raised_by, raised}
+use Rattle.dm_links.specs.Delivery.{submitted_by, submitted_on, handed_up_by, handed_up_on}
 use Rattle.dm_links.proofs.Closing.{CarriesOn}
 use Rattle.dm_links.proofs.Lists.{IsStart}
 use Rattle.dm_links.proofs.Keeps.{Hands}
 use Rattle.dm_links.proofs.Mirrors.{peer_other, peer_own}
-use Rattle.dm_links.proofs.Carried.{Carried, Front, IsCarrying, OnLink, OnView, over_of, turn_with}
+use Rattle.dm_links.proofs.Carried.{Carried, Front, IsCarrying, WayOnLink, WayOnView, over_of, turn_with}
 use Rattle.dm_links.proofs.CarriedViews.{into_world, on_mapped, padded}
 use Rattle.dm_links.proofs.CarriedOwn.{own_step}
 use Rattle.dm_links.proofs.CarriedOther.{other_step}
@@ -22,21 +23,21 @@ module _ {P M : Type 0} (m : Peers P M) (is_app : M → Bool) (stands : P → Bo
   abbrev pub Keeps : World P M → Side → ℕ → After P M → List (Turn M) → Type 0
   Keeps w t c after us =
       (said up : List M) → Carried m is_app lost w t c said up →
-      Carried m is_app lost (world_after w after) t c (said ++ submitted t c us) (up ++ raised t c us)
+      Carried m is_app lost (world_after w after) t c (said ++ submitted_on t c us) (up ++ handed_up_on t c us)
 
   one_turn : (over : Bool) (t : Side) (c : ℕ) (o : Option (Link M)) (u : Turn M) (said up : List M) →
-      OnLink is_app lost over t o (said ++ submitted_by t c u) (up ++ raised_by t c u) →
-      OnLink is_app lost over t o (said ++ submitted t c (u ∷ [])) (up ++ raised t c (u ∷ []))
+      WayOnLink is_app lost over t o (said ++ submitted_by t c u) (up ++ handed_up_by t c u) →
+      WayOnLink is_app lost over t o (said ++ submitted_on t c (u ∷ [])) (up ++ handed_up_on t c (u ∷ []))
   one_turn over t c o u said up h =
-      subst (λ (xs : List M). OnLink is_app lost over t o (said ++ xs) (up ++ raised t c (u ∷ [])))
+      subst (λ (xs : List M). WayOnLink is_app lost over t o (said ++ xs) (up ++ handed_up_on t c (u ∷ [])))
       (sym (append-nil (submitted_by t c u)))
-      (subst (λ (ys : List M). OnLink is_app lost over t o (said ++ submitted_by t c u) (up ++ ys))
-      (sym (append-nil (raised_by t c u))) h)
+      (subst (λ (ys : List M). WayOnLink is_app lost over t o (said ++ submitted_by t c u) (up ++ ys))
+      (sym (append-nil (handed_up_by t c u))) h)
 
   answered_own : (t : Side) (w : World P M) (c : ℕ) (e : Event M) (r : Reply P M) → (IsStart e → ⊥) →
       IsCarrying m stands w →
       Hands t (m.node_of (peer_at t w)) (m.node_of (peer_at (flip t) w)) e w.links → Front w t e →
-      m.reply (peer_at t w) e ≡ r → Keeps w t c (answered m t e w r) (turn_by t e r)
+      m.reply (peer_at t w) e ≡ r → Keeps w t c (after_reply m t e w r) (turn_by t e r)
   answered_own t w c e Declines no_start good hands front replies said up h = padded m is_app stands carries lost _ t _
       said up [] [] refl refl h
   answered_own t w c e (Acts actions p) no_start good hands front replies said up h =
@@ -49,7 +50,7 @@ module _ {P M : Type 0} (m : Peers P M) (is_app : M → Bool) (stands : P → Bo
   answered_other : (t : Side) (w : World P M) (c : ℕ) (e : Event M) (r : Reply P M) → (IsStart e → ⊥) →
       IsCarrying m stands w →
       Hands (flip t) (m.node_of (peer_at (flip t) w)) (m.node_of (peer_at (flip (flip t)) w)) e w.links →
-      m.reply (peer_at (flip t) w) e ≡ r → Keeps w t c (answered m (flip t) e w r) (turn_by (flip t) e r)
+      m.reply (peer_at (flip t) w) e ≡ r → Keeps w t c (after_reply m (flip t) e w r) (turn_by (flip t) e r)
   answered_other t w c e Declines no_start good hands replies said up h = padded m is_app stands carries lost _ t _
       said up [] [] refl refl h
   answered_other t w c e (Acts actions p) no_start good hands replies said up h =
@@ -62,7 +63,7 @@ module _ {P M : Type 0} (m : Peers P M) (is_app : M → Bool) (stands : P → Bo
 
   pub told_keeps : (t s : Side) (w : World P M) (c : ℕ) (e : Event M) → (IsStart e → ⊥) → IsCarrying m stands w →
       Hands s (m.node_of (peer_at s w)) (m.node_of (peer_at (flip s) w)) e w.links → Front w s e →
-      Keeps w t c (told m s e w) (turn_of m s e w)
+      Keeps w t c (tell m s e w) (turn_of m s e w)
   told_keeps A A w c e no_start good hands front =
       answered_own A w c e (m.reply (peer_at A w) e) no_start good hands front refl
   told_keeps B B w c e no_start good hands front =
@@ -76,17 +77,17 @@ module _ {P M : Type 0} (m : Peers P M) (is_app : M → Bool) (stands : P → Bo
   abbrev LinkKeeps : Side → ℕ → World P M → (Link M → Link M) → Type 0
   LinkKeeps t c w f =
       (l : Link M) (said up : List M) → slice_get w.links c ≡ Some l →
-      OnView is_app lost (over_of (m.node_of (peer_at t w)) c) (own_view t l) said up →
-      OnView is_app lost (over_of (m.node_of (peer_at t w)) c) (own_view t (f l)) said up
+      WayOnView is_app lost (over_of (m.node_of (peer_at t w)) c) (own_view t l) said up →
+      WayOnView is_app lost (over_of (m.node_of (peer_at t w)) c) (own_view t (f l)) said up
 
   pub mapped_keeps : (t : Side) (c : ℕ) (w : World P M) (f : Link M → Link M) (links : List (Link M)) →
       slice_get links c ≡ option_map f (slice_get w.links c) → LinkKeeps t c w f →
       Keeps w t c (Done (with_links links w) []) []
   mapped_keeps t c w f links is each said up h =
       let over = over_of (m.node_of (peer_at t w)) c in
-      subst (λ (b : Bool). OnLink is_app lost b t (slice_get links c) (said ++ []) (up ++ [])) (same_peer t)
+      subst (λ (b : Bool). WayOnLink is_app lost b t (slice_get links c) (said ++ []) (up ++ [])) (same_peer t)
       (padded m is_app stands carries lost over t (slice_get links c) said up [] [] refl refl
-      (subst (λ (o : Option (Link M)). OnLink is_app lost over t o said up) (sym is)
+      (subst (λ (o : Option (Link M)). WayOnLink is_app lost over t o said up) (sym is)
       (on_mapped m is_app stands carries lost t f over over said up said up (slice_get w.links c)
       (λ l at way. each l said up at way) (λ at e g. (e, g))
       h)))
@@ -97,8 +98,8 @@ module _ {P M : Type 0} (m : Peers P M) (is_app : M → Bool) (stands : P → Bo
       same_peer B = refl
 
   pub kept_if : (t : Side) (b : Bool) (f : Link M → Link M) (l : Link M) (over : Bool) (said up : List M) →
-      (b ≡ true → OnView is_app lost over (own_view t (f l)) said up) →
-      OnView is_app lost over (own_view t l) said up →
-      OnView is_app lost over (own_view t (if b then f l else l)) said up
+      (b ≡ true → WayOnView is_app lost over (own_view t (f l)) said up) →
+      WayOnView is_app lost over (own_view t l) said up →
+      WayOnView is_app lost over (own_view t (if b then f l else l)) said up
   kept_if t true f l over said up g h = g refl
   kept_if t false f l over said up g h = h

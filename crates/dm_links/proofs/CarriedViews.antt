@@ -1,5 +1,6 @@
 -- What a turn of either side makes of what a direction to a side carries.
-use Rattle.std.proofs.Common.{◌≡◌, ℕ, Bool, true, false, not, ◌&&◌, Option, Some, None, List, [], ◌∷◌, ◌++◌, slice_get, refl, sym, ap, subst, ◌∙◌, append-nil}
+use Rattle.std.proofs.Common.{◌≡◌, ℕ, Bool, true, false, not, ◌&&◌, Option, Some, None, List, [], ◌∷◌, ◌++◌, slice_get}
+use Rattle.std.proofs.Common.{refl, sym, ap, subst, ◌∙◌, append-nil}
 use Rattle.std.specs.Prelude.{option_map}
 use Rattle.std.proofs.lemmas.Bool.{and_parts}
 use Rattle.dm_machine.specs.Connection.{hold_of}
@@ -10,8 +11,10 @@ use Rattle.dm_links.specs.Steps.{own_settled, settled}
 use Rattle.dm_links.specs.Worlds.{World, peer_at, with_peer, enter, perform, settle}
 use Rattle.dm_links.specs.Happens.{own_view}
 use Rattle.dm_links.specs.Facts.{Standing, is_up, is_open_end, is_shut, is_none}
-use Rattle.dm_links.specs.Delivery.{ups_of, apps, is_open_hold}
-use Rattle.dm_links.proofs.Columns.{phase_at, own_at, messages_at, phase_after, own_after, words_at, is_closed_at, stepped}
+use Rattle.dm_links.specs.Delivery.{ups_of, apps}
+use Rattle.dm_machine.specs.Upward.{is_open_hold}
+use Rattle.dm_links.proofs.Columns.{phase_at, own_at, messages_at, phase_after, own_after, words_at, is_closed_at}
+use Rattle.dm_links.proofs.Columns.{stepped}
 use Rattle.dm_links.proofs.Checks.{step_at, is_when, is_handed, is_open_tie, conclusion}
 use Rattle.dm_links.proofs.Closing.{CarriesOn}
 use Rattle.dm_links.proofs.Views.{acted_entered}
@@ -21,7 +24,9 @@ use Rattle.dm_links.proofs.Events.{side_sound, standing_at}
 use Rattle.dm_links.proofs.Hearing.{is_word}
 use Rattle.dm_links.proofs.Ways.{Way, Fits, IsNew, own_calm, own_heard, other_acts}
 use Rattle.dm_links.proofs.Mirrors.{mirrored, view_other, view_own}
-use Rattle.dm_links.proofs.Carried.{Carried, IsCarrying, OnLink, OnView, blank_in, blank_out, carrier, handed_ack, handed_end, held_over, made_is, not_is, open_held, open_tied, open_unshut, over_of, same_left, same_right, up_is}
+use Rattle.dm_links.proofs.Carried.{Carried, IsCarrying, WayOnLink, WayOnView, blank_in, blank_out, carrier, handed_ack}
+use Rattle.dm_links.proofs.Carried.{handed_end, held_over, made_is, not_is, open_held, open_tied, open_unshut, over_of}
+use Rattle.dm_links.proofs.Carried.{same_left, same_right, up_is}
 
 module _ {P M : Type 0} (m : Peers P M) (is_app : M → Bool) (stands : P → Bool) (carries : CarriesOn m is_app stands)
     (lost : Bool) where
@@ -57,14 +62,14 @@ module _ {P M : Type 0} (m : Peers P M) (is_app : M → Bool) (stands : P → Bo
       IsCarrying m stands w → slice_get w.links c ≡ Some l → m.reply (peer_at t w) e ≡ Acts actions p →
       is_handed (opens t l.opener) (concern_by e (conn c)) (standing_at m t w c l) ≡ true →
       is_word (concern_by e (conn c)) ≡ false →
-      OnView is_app lost (over_of (m.node_of (peer_at t w)) c) (own_view t l) said up →
-      OnView is_app lost (over_of (m.node_of p) c) (own_view t (by_side t (stepped_by c e actions p) l)) said up
+      WayOnView is_app lost (over_of (m.node_of (peer_at t w)) c) (own_view t l) said up →
+      WayOnView is_app lost (over_of (m.node_of p) c) (own_view t (by_side t (stepped_by c e actions p) l)) said up
   own_view_calm t w c e p actions l said up good at replies handed calm way =
       let k = concern_by e (conn c) in
       let v = own_view t l in
       let holds = is_held (tie_of (m.node_of p) c) in
       let over' = over_of (m.node_of p) c in
-      subst (λ (x : View M). OnView is_app lost over' x said up)
+      subst (λ (x : View M). WayOnView is_app lost over' x said up)
       (sym (view_own t (stepped_by c e actions p) l
       ∙ ap (λ (x : View M). settled k holds x) (acted_entered c actions k v)))
       (own_calm is_app lost k (is_closed_at c actions) holds (over_of (m.node_of (peer_at t w)) c) over' v.phase v.own
@@ -87,8 +92,8 @@ module _ {P M : Type 0} (m : Peers P M) (is_app : M → Bool) (stands : P → Bo
       (own_view t l).incoming.messages ≡ x ∷ xs →
       Fits k l.phase (own_view t l).own (own_view t l).incoming.mark
       (over_of (m.node_of (peer_at t w)) c) (over_of (m.node_of p) c) →
-      OnView is_app lost (over_of (m.node_of (peer_at t w)) c) (own_view t l) said up →
-      OnView is_app lost (over_of (m.node_of p) c)
+      WayOnView is_app lost (over_of (m.node_of (peer_at t w)) c) (own_view t l) said up →
+      WayOnView is_app lost (over_of (m.node_of p) c)
       (own_view t (by_side t (stepped k (is_held (tie_of (m.node_of p) c)) c actions) l)) said (up ++ ups_of actions)
   own_view_heard t w c x xs p actions l k said up is good at replies handed front fits way =
       let v = own_view t l in
@@ -112,9 +117,9 @@ module _ {P M : Type 0} (m : Peers P M) (is_app : M → Bool) (stands : P → Bo
       let closed = is_closed_at c actions in
       let W : LinkPhase → List M → Type 0 = λ q ms. Way is_app lost (is_after closed q)
       (settled_own holds closed q v.own) v.other (tail_of ms) v.incoming.mark over' said (up ++ ups_of actions) in
-      subst (λ j. OnView is_app lost over' (own_view t (by_side t (stepped j holds c actions) l)) said
+      subst (λ j. WayOnView is_app lost over' (own_view t (by_side t (stepped j holds c actions) l)) said
       (up ++ ups_of actions)) (sym is)
-      (subst (λ (y : View M). OnView is_app lost over' y said (up ++ ups_of actions))
+      (subst (λ (y : View M). WayOnView is_app lost over' y said (up ++ ups_of actions))
       (sym (view_own t (stepped HeardOnIt holds c actions) l
       ∙ ap (λ (y : View M). settled HeardOnIt holds y) (acted_entered c actions HeardOnIt v)))
       (subst (λ q. W q v.incoming.messages) (sym ready.0) (subst (λ ms. W Up ms) (sym front) after)))
@@ -136,8 +141,8 @@ module _ {P M : Type 0} (m : Peers P M) (is_app : M → Bool) (stands : P → Bo
       is_handed (opens (flip t) l.opener) (concern_by e (conn c)) (standing_at m (flip t) w c l) ≡ true →
       apps is_app (words_at c actions) ≡ new →
       IsNew is_app lost (concern_by e (conn c)) l.phase (own_view t l).other new →
-      OnView is_app lost (over_of (m.node_of (peer_at t w)) c) (own_view t l) said up →
-      OnView is_app lost (over_of (m.node_of (peer_at t w)) c)
+      WayOnView is_app lost (over_of (m.node_of (peer_at t w)) c) (own_view t l) said up →
+      WayOnView is_app lost (over_of (m.node_of (peer_at t w)) c)
       (own_view t (by_side (flip t) (stepped_by c e actions p) l)) (said ++ new) up
   other_fits t w c e p actions l new said up good at handed words this way =
       let k = concern_by e (conn c) in
@@ -149,7 +154,7 @@ module _ {P M : Type 0} (m : Peers P M) (is_app : M → Bool) (stands : P → Bo
       let sides = side_sound m (flip t) w good.sound in
       let sound = sides.each c l at in
       let same : own_view (flip t) l ≡ mirror v = mirrored t l.opener l in
-      subst (λ (x : View M). OnView is_app lost over x (said ++ new) up)
+      subst (λ (x : View M). WayOnView is_app lost over x (said ++ new) up)
       (sym (view_other t (stepped_by c e actions p) l
       ∙ ap (λ (x : View M). mirror (settled k holds x)) (acted_entered c actions k (mirror v))))
       (other_acts is_app lost k (is_closed_at c actions) holds over v.phase v.own v.other v.incoming.messages
@@ -161,34 +166,34 @@ module _ {P M : Type 0} (m : Peers P M) (is_app : M → Bool) (stands : P → Bo
   -- a link, or none
   pub on_mapped : (t : Side) (f : Link M → Link M) (over over' : Bool) (said up said' up' : List M)
       (o : Option (Link M)) →
-      ((l : Link M) → o ≡ Some l → OnView is_app lost over (own_view t l) said up →
-      OnView is_app lost over' (own_view t (f l)) said' up') →
+      ((l : Link M) → o ≡ Some l → WayOnView is_app lost over (own_view t l) said up →
+      WayOnView is_app lost over' (own_view t (f l)) said' up') →
       (o ≡ None → said ≡ [] → up ≡ [] → (said' ≡ []) × (up' ≡ [])) →
-      OnLink is_app lost over t o said up → OnLink is_app lost over' t (option_map f o) said' up'
+      WayOnLink is_app lost over t o said up → WayOnLink is_app lost over' t (option_map f o) said' up'
   on_mapped t f over over' said up said' up' None each nothing h = nothing refl h.0 h.1
   on_mapped t f over over' said up said' up' (Some l) each nothing h = each l refl h
 
   pub padded : (over : Bool) (t : Side) (o : Option (Link M)) (said up new more : List M) → new ≡ [] → more ≡ [] →
-      OnLink is_app lost over t o said up → OnLink is_app lost over t o (said ++ new) (up ++ more)
+      WayOnLink is_app lost over t o said up → WayOnLink is_app lost over t o (said ++ new) (up ++ more)
   padded over t o said up new more e g h =
-      subst (λ (xs : List M). OnLink is_app lost over t o xs (up ++ more))
+      subst (λ (xs : List M). WayOnLink is_app lost over t o xs (up ++ more))
       (sym (ap (λ xs. said ++ xs) e ∙ append-nil said))
-      (subst (λ (ys : List M). OnLink is_app lost over t o said ys) (sym (ap (λ ys. up ++ ys) g ∙ append-nil up)) h)
+      (subst (λ (ys : List M). WayOnLink is_app lost over t o said ys) (sym (ap (λ ys. up ++ ys) g ∙ append-nil up)) h)
 
   pub into_world : (s : Side) (e : Event M) (w : World P M) (c : ℕ) (p : P) (actions : List (Action M)) (t : Side)
       (over : Bool) (said up : List M) → (IsStart e → ⊥) →
       over ≡ over_of (m.node_of (peer_at t (with_peer s p
       (settle s e (m.node_of p) (perform s actions (enter s e w.links))) w))) c →
-      OnLink is_app lost over t (option_map (by_side s (stepped_by c e actions p)) (slice_get w.links c)) said up →
+      WayOnLink is_app lost over t (option_map (by_side s (stepped_by c e actions p)) (slice_get w.links c)) said up →
       Carried m is_app lost (with_peer s p (settle s e (m.node_of p) (perform s actions (enter s e w.links))) w) t c
       said
       up
   into_world s e w c p actions t over said up no_start same h =
       let links = settle s e (m.node_of p) (perform s actions (enter s e w.links)) in
-      subst (λ (ls : List (Link M)). OnLink is_app lost (over_of (m.node_of (peer_at t (with_peer s p links w))) c) t
+      subst (λ (ls : List (Link M)). WayOnLink is_app lost (over_of (m.node_of (peer_at t (with_peer s p links w))) c) t
       (slice_get ls c) said up) (links_after s p links w)
-      (subst (λ (b : Bool). OnLink is_app lost b t (slice_get links c) said up) same
-      (subst (λ (o : Option (Link M)). OnLink is_app lost over t o said up)
+      (subst (λ (b : Bool). WayOnLink is_app lost b t (slice_get links c) said up) same
+      (subst (λ (o : Option (Link M)). WayOnLink is_app lost over t o said up)
       (sym (stepped_at s e actions (m.node_of p) c w.links no_start)) h))
 
   pub tie_open : (s : Side) (w : World P M) (c : ℕ) (l : Link M) → IsCarrying m stands w →

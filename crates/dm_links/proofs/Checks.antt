@@ -1,13 +1,18 @@
 -- What the events do to a link's standing keeps it sound: checked at every standing.
-use Rattle.std.proofs.Common.{◌≡◌, ◌⊎◌, inl, inr, ℕ, Bool, true, false, not, ◌&&◌, ◌||◌, List, [], ◌∷◌, refl, sym, subst}
+use Rattle.std.proofs.Common.{◌≡◌, ◌⊎◌, inl, inr, ℕ, Bool, true, false, not, ◌&&◌, ◌||◌, List, [], ◌∷◌, refl, sym}
+use Rattle.std.proofs.Common.{subst}
 use Rattle.std.proofs.lemmas.Bool.{and_parts, and_from}
-use Rattle.dm_links.specs.Machine.{Concern, Elsewhere, StartsIt, AcksIt, NacksIt, EndsIt, HeardOnIt, Tie, Unheld, Connecting, Made, MadeOpen, Taken, is_held}
+use Rattle.dm_links.specs.Machine.{Concern, Elsewhere, StartsIt, AcksIt, NacksIt, EndsIt, HeardOnIt, Tie, Unheld}
+use Rattle.dm_links.specs.Machine.{Connecting, Made, MadeOpen, Taken, is_held}
 use Rattle.dm_links.specs.Links.{LinkPhase, Pending}
 use Rattle.dm_links.specs.Steps.{marked, own_settled}
 use Rattle.dm_links.specs.Worlds.{takes}
-use Rattle.dm_links.specs.Facts.{Standing, turned, is_sound, is_pending, is_up, is_fresh, is_open_end, is_shut, is_none, is_coming}
-use Rattle.dm_links.proofs.Columns.{phase_at, own_at, other_at, incoming_mark_at, outgoing_mark_at, phase_after, own_after, mark_after}
-use Rattle.dm_links.proofs.Every.{all_true, at, nth, every_bool, every_tie, every_concern, every_phase, every_end, every_mark, every_standing, at_bool, at_tie, at_concern, at_standing}
+use Rattle.dm_links.specs.Facts.{Standing, turned_over, is_sound_standing, is_pending, is_up, is_fresh, is_open_end}
+use Rattle.dm_links.specs.Facts.{is_shut, is_none, is_coming}
+use Rattle.dm_links.proofs.Columns.{phase_at, own_at, other_at, incoming_mark_at, outgoing_mark_at, phase_after}
+use Rattle.dm_links.proofs.Columns.{own_after, mark_after}
+use Rattle.dm_links.proofs.Every.{all_true, at, nth, every_bool, every_tie, every_concern, every_phase, every_end}
+use Rattle.dm_links.proofs.Every.{every_mark, every_standing, at_bool, at_tie, at_concern, at_standing}
 
 -- where the first test holds, the second
 abbrev pub when : Bool → Bool → Bool
@@ -104,7 +109,7 @@ step_to mine k s t closed sent =
     when (is_allowed k s.own_tie t closed sent)
     (after_pop k s.in_empty
     (λ ie. after_put (puts_in k sent s) closed s.out_empty
-    (λ oe. is_sound (turned mine (standing_after k t closed ie oe s)))))
+    (λ oe. is_sound_standing (turned_over mine (standing_after k t closed ie oe s)))))
 
 abbrev step_by : Bool → Concern → Standing → Bool
 step_by mine k s =
@@ -113,7 +118,7 @@ step_by mine k s =
     (λ t. every_bool (λ closed. every_bool (λ sent. step_to mine k s t closed sent))))
 
 abbrev steps : Standing → Bool
-steps s = when (is_sound s) (every_bool (λ mine. every_concern (λ k. step_by mine k (turned mine s))))
+steps s = when (is_sound_standing s) (every_bool (λ mine. every_concern (λ k. step_by mine k (turned_over mine s))))
 
 steps_checked : every_standing steps ≡ true
 unfolding all_true every_bool every_tie every_concern every_phase every_end every_mark
@@ -139,14 +144,14 @@ spent_at mine k s =
     when (is_up s.phase && is_shut s.own)
     (elim k [
       | HeardOnIt ↦ when (not s.in_empty)
-          (every_bool (λ ie. is_sound (turned mine (standing_entered HeardOnIt ie s))))
+          (every_bool (λ ie. is_sound_standing (turned_over mine (standing_entered HeardOnIt ie s))))
       | EndsIt ↦ when (s.in_empty && is_coming s.in_mark)
-          (is_sound (turned mine (standing_entered EndsIt s.in_empty s)))
+          (is_sound_standing (turned_over mine (standing_entered EndsIt s.in_empty s)))
       | _ ↦ true
     ])
 
 abbrev spent : Standing → Bool
-spent s = when (is_sound s) (every_bool (λ mine. every_concern (λ k. spent_at mine k (turned mine s))))
+spent s = when (is_sound_standing s) (every_bool (λ mine. every_concern (λ k. spent_at mine k (turned_over mine s))))
 
 spent_checked : every_standing spent ≡ true
 unfolding all_true every_bool every_tie every_concern every_phase every_end every_mark
@@ -169,9 +174,10 @@ standing_lost in_empty out_empty s =
 
 abbrev lost : Standing → Bool
 lost s =
-    when (is_sound s && is_up s.phase)
-    (is_sound (standing_lost true true s) && is_sound (standing_lost true s.out_empty s) && is_sound
-    (standing_lost s.in_empty true s) && is_sound (standing_lost s.in_empty s.out_empty s))
+    when (is_sound_standing s && is_up s.phase)
+    (is_sound_standing (standing_lost true true s) && is_sound_standing (standing_lost true s.out_empty s)
+    && is_sound_standing
+    (standing_lost s.in_empty true s) && is_sound_standing (standing_lost s.in_empty s.out_empty s))
 
 lost_checked : every_standing lost ≡ true
 unfolding all_true every_bool every_tie every_concern every_phase every_end every_mark
@@ -182,14 +188,14 @@ abbrev pub closes_own : Bool → LinkPhase → Bool
 closes_own mine Pending = mine
 closes_own mine _ = true
 
-abbrev restarts : Standing → Bool
-restarts s =
-    when (is_sound s)
-    (every_bool (λ mine. is_sound
-    (turned mine (standing_after Elsewhere Unheld (closes_own mine s.phase) (turned mine s).in_empty
-    (turned mine s).out_empty (turned mine s)))))
+abbrev restart_is_sound : Standing → Bool
+restart_is_sound s =
+    when (is_sound_standing s)
+    (every_bool (λ mine. is_sound_standing
+    (turned_over mine (standing_after Elsewhere Unheld (closes_own mine s.phase) (turned_over mine s).in_empty
+    (turned_over mine s).out_empty (turned_over mine s)))))
 
-restarts_checked : every_standing restarts ≡ true
+restarts_checked : every_standing restart_is_sound ≡ true
 unfolding all_true every_bool every_tie every_concern every_phase every_end every_mark
 restarts_checked = refl
 
@@ -215,8 +221,8 @@ same_bool true b = b
 same_bool false b = not b
 
 -- nothing is under way
-abbrev pub is_calm : Standing → Bool
-is_calm s = s.in_empty && (s.out_empty && (not (is_coming s.in_mark) && not (is_coming s.out_mark)))
+abbrev pub is_calm_standing : Standing → Bool
+is_calm_standing s = s.in_empty && (s.out_empty && (not (is_coming s.in_mark) && not (is_coming s.out_mark)))
 
 abbrev pub conclusions : Bool → Standing → List Bool
 conclusions mine s =
@@ -226,20 +232,20 @@ conclusions mine s =
     ∷ when (is_held s.own_tie && is_held s.other_tie) (not (same_bool (is_taken s.own_tie) (is_taken s.other_tie)))
     ∷ when (is_open_end s.other && is_up s.phase) (is_held s.other_tie)
     ∷ when (is_up s.phase && is_fresh s.own) (not mine)
-    ∷ when (is_up s.phase && (is_held s.own_tie && is_calm s)) (is_held s.other_tie)
+    ∷ when (is_up s.phase && (is_held s.own_tie && is_calm_standing s)) (is_held s.other_tie)
     ∷ when (not (is_up s.phase)) (s.in_empty && (s.out_empty && (is_none s.in_mark && is_none s.out_mark)))
     ∷ when (is_connecting s.own_tie) (is_pending s.phase)
     ∷ []
 
 abbrev concluded : Standing → Bool
-concluded s = when (is_sound s) (every_bool (λ mine. all_true (conclusions mine (turned mine s))))
+concluded s = when (is_sound_standing s) (every_bool (λ mine. all_true (conclusions mine (turned_over mine s))))
 
 concluded_checked : every_standing concluded ≡ true
 unfolding all_true every_bool every_tie every_concern every_phase every_end every_mark
 concluded_checked = refl
 
 -- reading the checks
-sound_turned : (mine : Bool) (s : Standing) → turned mine (turned mine s) ≡ s
+sound_turned : (mine : Bool) (s : Standing) → turned_over mine (turned_over mine s) ≡ s
 sound_turned true s = refl
 sound_turned false s = refl
 
@@ -248,7 +254,7 @@ pub record IsStepOf (mine : Bool) (k : Concern) (s : Standing) : Type 0 where
   pub after : (t : Tie) (closed sent : Bool) → is_allowed k s.own_tie t closed sent ≡ true →
       after_pop k s.in_empty
       (λ ie. after_put (puts_in k sent s) closed s.out_empty
-      (λ oe. is_sound (turned mine (standing_after k t closed ie oe s)))) ≡ true
+      (λ oe. is_sound_standing (turned_over mine (standing_after k t closed ie oe s)))) ≡ true
 
 step_of : (mine : Bool) (k : Concern) (s : Standing) → step_by mine k s ≡ true → is_handed mine k s ≡ true →
     IsStepOf mine k s
@@ -264,54 +270,57 @@ step_of mine k s h handed =
           closed) sent) ok;
     }
 
-pub step_at : (mine : Bool) (k : Concern) (s : Standing) → is_sound (turned mine s) ≡ true →
+pub step_at : (mine : Bool) (k : Concern) (s : Standing) → is_sound_standing (turned_over mine s) ≡ true →
     is_handed mine k s ≡ true → IsStepOf mine k s
 step_at true k s good handed =
     step_of true k s (at_concern (λ k. step_by true k s)
-    (at_bool (λ mine. every_concern (λ k. step_by mine k (turned mine s)))
-    (is_when (is_sound s) _ (at_standing steps steps_checked s) good) true) k) handed
+    (at_bool (λ mine. every_concern (λ k. step_by mine k (turned_over mine s)))
+    (is_when (is_sound_standing s) _ (at_standing steps steps_checked s) good) true) k) handed
 step_at false k s good handed =
     step_of false k s (at_concern (λ k. step_by false k s)
-    (at_bool (λ mine. every_concern (λ k. step_by mine k (turned mine (turned false s))))
-    (is_when (is_sound (turned false s)) _ (at_standing steps steps_checked (turned false s)) good) false) k)
+    (at_bool (λ mine. every_concern (λ k. step_by mine k (turned_over mine (turned_over false s))))
+    (is_when (is_sound_standing (turned_over false s)) _ (at_standing steps steps_checked (turned_over false s)) good)
+    false) k)
     handed
 
-pub spent_of : (mine : Bool) (k : Concern) (s : Standing) → is_sound (turned mine s) ≡ true →
+pub spent_of : (mine : Bool) (k : Concern) (s : Standing) → is_sound_standing (turned_over mine s) ≡ true →
     spent_at mine k s ≡ true
 spent_of true k s good =
     at_concern (λ k. spent_at true k s)
-    (at_bool (λ mine. every_concern (λ k. spent_at mine k (turned mine s)))
-    (is_when (is_sound s) _ (at_standing spent spent_checked s) good) true) k
+    (at_bool (λ mine. every_concern (λ k. spent_at mine k (turned_over mine s)))
+    (is_when (is_sound_standing s) _ (at_standing spent spent_checked s) good) true) k
 spent_of false k s good =
     at_concern (λ k. spent_at false k s)
-    (at_bool (λ mine. every_concern (λ k. spent_at mine k (turned mine (turned false s))))
-    (is_when (is_sound (turned false s)) _ (at_standing spent spent_checked (turned false s)) good) false) k
+    (at_bool (λ mine. every_concern (λ k. spent_at mine k (turned_over mine (turned_over false s))))
+    (is_when (is_sound_standing (turned_over false s)) _ (at_standing spent spent_checked (turned_over false s)) good)
+    false) k
 
-pub restart_of : (mine : Bool) (s : Standing) → is_sound (turned mine s) ≡ true →
-    is_sound (turned mine
+pub restart_of : (mine : Bool) (s : Standing) → is_sound_standing (turned_over mine s) ≡ true →
+    is_sound_standing (turned_over mine
     (standing_after Elsewhere Unheld (closes_own mine s.phase) s.in_empty s.out_empty s)) ≡ true
 restart_of true s good =
-    at_bool (λ mine. is_sound
-    (turned mine (standing_after Elsewhere Unheld (closes_own mine s.phase) (turned mine s).in_empty
-    (turned mine s).out_empty (turned mine s))))
-    (is_when (is_sound s) _ (at_standing restarts restarts_checked s) good) true
+    at_bool (λ mine. is_sound_standing
+    (turned_over mine (standing_after Elsewhere Unheld (closes_own mine s.phase) (turned_over mine s).in_empty
+    (turned_over mine s).out_empty (turned_over mine s))))
+    (is_when (is_sound_standing s) _ (at_standing restart_is_sound restarts_checked s) good) true
 restart_of false s good =
-    let t = turned false s in
-    at_bool (λ mine. is_sound
-    (turned mine (standing_after Elsewhere Unheld (closes_own mine t.phase) (turned mine t).in_empty
-    (turned mine t).out_empty (turned mine t))))
-    (is_when (is_sound t) _ (at_standing restarts restarts_checked t) good) false
+    let t = turned_over false s in
+    at_bool (λ mine. is_sound_standing
+    (turned_over mine (standing_after Elsewhere Unheld (closes_own mine t.phase) (turned_over mine t).in_empty
+    (turned_over mine t).out_empty (turned_over mine t))))
+    (is_when (is_sound_standing t) _ (at_standing restart_is_sound restarts_checked t) good) false
 
-pub lost_of : (s : Standing) (in_empty out_empty : Bool) → is_sound s ≡ true → is_up s.phase ≡ true →
+pub lost_of : (s : Standing) (in_empty out_empty : Bool) → is_sound_standing s ≡ true → is_up s.phase ≡ true →
     (in_empty ≡ true) ⊎ (in_empty ≡ s.in_empty) → (out_empty ≡ true) ⊎ (out_empty ≡ s.out_empty) →
-    is_sound (standing_lost in_empty out_empty s) ≡ true
+    is_sound_standing (standing_lost in_empty out_empty s) ≡ true
 lost_of s ie oe good up i o =
-    let all = is_when (is_sound s && is_up s.phase) _ (at_standing lost lost_checked s)
-    (and_from (is_sound s) (is_up s.phase) good up) in
-    let p = and_parts _ (is_sound (standing_lost s.in_empty s.out_empty s)) all in
-    let q = and_parts _ (is_sound (standing_lost s.in_empty true s)) p.0 in
-    let r = and_parts (is_sound (standing_lost true true s)) (is_sound (standing_lost true s.out_empty s)) q.0 in
-    let F : Bool → Bool → Type 0 = λ x y. is_sound (standing_lost x y s) ≡ true in
+    let all = is_when (is_sound_standing s && is_up s.phase) _ (at_standing lost lost_checked s)
+    (and_from (is_sound_standing s) (is_up s.phase) good up) in
+    let p = and_parts _ (is_sound_standing (standing_lost s.in_empty s.out_empty s)) all in
+    let q = and_parts _ (is_sound_standing (standing_lost s.in_empty true s)) p.0 in
+    let r = and_parts (is_sound_standing (standing_lost true true s))
+    (is_sound_standing (standing_lost true s.out_empty s)) q.0 in
+    let F : Bool → Bool → Type 0 = λ x y. is_sound_standing (standing_lost x y s) ≡ true in
     elim i [
       | inl e ↦ elim o [
         | inl d ↦ subst (λ x. F x oe) (sym e) (subst (λ y. F true y) (sym d) r.0)
@@ -323,14 +332,14 @@ lost_of s ie oe good up i o =
       ]
     ]
 
-pub conclusion : (k : ℕ) (mine : Bool) (s : Standing) → is_sound (turned mine s) ≡ true →
+pub conclusion : (k : ℕ) (mine : Bool) (s : Standing) → is_sound_standing (turned_over mine s) ≡ true →
     nth (conclusions mine s) k ≡ true
 conclusion k true s good =
     at (conclusions true s) k
-    (at_bool (λ mine. all_true (conclusions mine (turned mine s)))
-    (is_when (is_sound s) _ (at_standing concluded concluded_checked s) good) true)
+    (at_bool (λ mine. all_true (conclusions mine (turned_over mine s)))
+    (is_when (is_sound_standing s) _ (at_standing concluded concluded_checked s) good) true)
 conclusion k false s good =
-    let t = turned false s in
+    let t = turned_over false s in
     at (conclusions false s) k
-    (at_bool (λ mine. all_true (conclusions mine (turned mine t)))
-    (is_when (is_sound t) _ (at_standing concluded concluded_checked t) good) false)
+    (at_bool (λ mine. all_true (conclusions mine (turned_over mine t)))
+    (is_when (is_sound_standing t) _ (at_standing concluded concluded_checked t) good) false)

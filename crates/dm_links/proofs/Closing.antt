@@ -10,8 +10,8 @@ use Rattle.dm_machine.specs.Connection as machine
 use Rattle.dm_machine.specs.Changes.{Change, change, allowed}
 use Rattle.dm_links.specs.Machine.{conn, Node, is_shaped}
 use Rattle.dm_links.specs.Peers.{Event, Action, Reply, Acts, Peers}
-use Rattle.dm_links.specs.Follows.{Follows, IsMachine}
-use Rattle.dm_links.specs.Delivery.{is_closing_hold, is_done_hold, Carries}
+use Rattle.dm_links.specs.Follows.{FollowsMachine, IsMachine}
+use Rattle.dm_links.specs.Delivery.{is_closing_hold, is_done_hold, CarriesMessages}
 use Rattle.dm_links.proofs.Every.{all_true}
 use Rattle.dm_links.proofs.Checks.{when, is_when}
 use Rattle.dm_links.proofs.Ties.{MachineLaws, every_way, every_word, every_hold, at_way, at_hold}
@@ -38,12 +38,12 @@ closing_over machine.ClosingAsR e = refl
 closing_over _ e = cc
 
 by_follows : {P M : Type 0} (m : Peers P M) (p next : P) (e : Event M) (actions : List (Action M)) (c : ℕ)
-    (r : Reply P M) → MachineLaws → IsTrue (is_shaped (m.node_of p)) → r ≡ Acts actions next → Follows m p e r →
+    (r : Reply P M) → MachineLaws → IsTrue (is_shaped (m.node_of p)) → r ≡ Acts actions next → FollowsMachine m p e r →
     is_closing_hold (hold_of (m.node_of p) (conn c)) ≡ true → is_done_hold (hold_of (m.node_of next) (conn c)) ≡ true
 by_follows {P} {M} m p next e actions c r laws shaped is h closing =
     let n = m.node_of p in
     let n' = m.node_of next in
-    elim (subst (λ (r : Reply P M). Follows m p e r) is h) [
+    elim (subst (λ (r : Reply P M). FollowsMachine m p e r) is h) [
       | inl step ↦
           let mk = machine.concern_of step.input (conn c) in
           let orders = orders_to (conn c) step.commands in
@@ -59,14 +59,15 @@ by_follows {P} {M} m p next e actions c r laws shaped is h closing =
 
 -- peers that carry messages, with that
 pub record CarriesOn {P M : Type 0} (m : Peers P M) (is_app : M → Bool) (stands : P → Bool) : Type 0 where
-  pub does : Carries m is_app stands
+  pub does : CarriesMessages m is_app stands
   pub closes : (p next : P) (e : Event M) (actions : List (Action M)) (c : ℕ) → IsTrue (is_shaped (m.node_of p)) →
       m.reply p e ≡ Acts actions next → IsTrue (is_closing_hold (hold_of (m.node_of p) (conn c))) →
       IsTrue (is_done_hold (hold_of (m.node_of next) (conn c)))
 
-pub carries_on : {P M : Type 0} (m : Peers P M) (is_app : M → Bool) (stands : P → Bool) → MachineLaws → IsMachine m →
-    Carries m is_app stands → CarriesOn m is_app stands
-carries_on m is_app stands laws is carries =
+pub carries_on_proof : {P M : Type 0} (m : Peers P M) (is_app : M → Bool) (stands : P → Bool) → MachineLaws →
+    IsMachine m →
+    CarriesMessages m is_app stands → CarriesOn m is_app stands
+carries_on_proof m is_app stands laws is carries =
     record {
       does = carries;
       closes = λ p next e actions c shaped replies closing.

@@ -5,7 +5,7 @@ use Rattle.dm_links.specs.Machine.{Concern, Elsewhere, StartsIt, AcksIt, NacksIt
 use Rattle.dm_links.specs.Links.{LinkPhase, Up, End, Shut, Mark, NoMark, Direction, nothing, View}
 use Rattle.dm_links.specs.Peers.{Action, Send, Close, Connect, deed_of, closes_at}
 use Rattle.dm_links.specs.Peers as peers
-use Rattle.dm_links.specs.Steps.{added, entered, said, shut, settled}
+use Rattle.dm_links.specs.Steps.{added, entered, with_sent, with_close, settled}
 
 -- a view of these parts, and with nothing else in it
 abbrev seen : {M : Type 0} → LinkPhase → End → End → Direction M → Direction M → View M
@@ -69,15 +69,15 @@ entered_by_columns HeardOnIt v = refl
 
 -- each part of a view after a Close or none
 abbrev pub phase_after : Bool → LinkPhase → LinkPhase
-phase_after true p = (shut (seen p Shut Shut (bare NoMark) (bare NoMark))).phase
+phase_after true p = (with_close (seen p Shut Shut (bare NoMark) (bare NoMark))).phase
 phase_after false p = p
 
 abbrev pub own_after : Bool → LinkPhase → End → End
-own_after true p own = (shut (seen p own Shut (bare NoMark) (bare NoMark))).own
+own_after true p own = (with_close (seen p own Shut (bare NoMark) (bare NoMark))).own
 own_after false p own = own
 
 abbrev pub mark_after : Bool → LinkPhase → Mark → Mark
-mark_after true p mark = (shut (seen p Shut Shut (bare NoMark) (bare mark))).outgoing.mark
+mark_after true p mark = (with_close (seen p Shut Shut (bare NoMark) (bare mark))).outgoing.mark
 mark_after false p mark = mark
 
 -- messages sent, and then a Close or none
@@ -99,8 +99,8 @@ summed closed words v =
 -- the actions on link d, one after the other
 abbrev pub acted : {M : Type 0} → ℕ → List (Action M) → View M → View M
 acted d [] v = v
-acted d (Send c m ∷ actions) v = acted d actions (if c.0 == d then said m v else v)
-acted d (Close c ∷ actions) v = acted d actions (if c.0 == d then shut v else v)
+acted d (Send c m ∷ actions) v = acted d actions (if c.0 == d then with_sent m v else v)
+acted d (Close c ∷ actions) v = acted d actions (if c.0 == d then with_close v else v)
 acted d (Connect c ∷ actions) v = acted d actions v
 acted d (peers.Up m ∷ actions) v = acted d actions v
 

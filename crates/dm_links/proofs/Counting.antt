@@ -1,5 +1,6 @@
 -- A piece counts as a step just where it ends its message.
-use Rattle.std.proofs.Common.{◌≡◌, ℕ, ◌+◌, ◌<◌, ◌≤◌, true, false, nat_lt, if◌then◌else◌, List, slice_get, ap, ◌∙◌, arith}
+use Rattle.std.proofs.Common.{◌≡◌, ℕ, ◌+◌, ◌<◌, ◌≤◌, true, false, nat_lt, if◌then◌else◌, List, slice_get, ap, ◌∙◌}
+use Rattle.std.proofs.Common.{arith}
 use Rattle.std.proofs.lemmas.Bool.Decides.{nat_tests}
 use Rattle.dm_links.specs.Links.{Side, Link}
 use Rattle.dm_links.specs.Peers.{Peers}
@@ -24,8 +25,8 @@ at_front m w c s l x more k front =
     ap (λ o. is_in_part_at m.size s k o) front.there
     ∙ ap (λ messages. is_in_part m.size k (record { messages = messages; taken = d.taken; mark = d.mark })) front.front
 
-pub each_piece_counts : {P M : Type 0} → EachPieceCounts P M
-each_piece_counts m w c s l x more k front =
+pub each_piece_counts_proof : {P M : Type 0} → EachPieceCounts P M
+each_piece_counts_proof m w c s l x more k front =
     let taken = (own_view s l).incoming.taken in
     let at = at_front m w c s l x more k front in
     record {

@@ -1,16 +1,27 @@
 -- Fewer octets are delivered of a front message than it has.
-use Rattle.std.proofs.Common.{◌≡◌, ℕ, ◌+◌, ◌-◌, ◌==◌, Bool, true, false, ◌&&◌, nat_lt, nat_le, if◌then◌else◌, Option, Some, None, IfSome, List, [], ◌∷◌, ◌++◌, length, slice_get, refl, sym, subst, ◌∙◌, inl, inr}
+use Rattle.std.proofs.Common.{◌≡◌, ℕ, ◌+◌, ◌-◌, ◌==◌, Bool, true, false, ◌&&◌, nat_lt, nat_le, if◌then◌else◌, Option}
+use Rattle.std.proofs.Common.{Some, None, IfSome, List, [], ◌∷◌, ◌++◌, length, slice_get, refl, sym, subst, ◌∙◌, inl}
+use Rattle.std.proofs.Common.{inr}
 use Rattle.std.proofs.lemmas.Bool.{and_parts, and_from, eqb-true, cases_Bool}
 use Rattle.std.proofs.lemmas.Option.{slice_get-map}
-use Rattle.dm_links.specs.Machine.{conn, Concern, Elsewhere, StartsIt, AcksIt, NacksIt, EndsIt, HeardOnIt, Node, tie_of, is_held}
-use Rattle.dm_links.specs.Links.{Side, flip, opens, LinkPhase, Pending, Up, Cancelled, End, Fresh, Open, Shut, Mark, NoMark, Coming, Delivered, Link, View, view_of, link_of, by_side, new_link}
-use Rattle.dm_links.specs.Peers.{Event, Start, Stop, Timeout, Tick, Ack, Nack, Gone, Submit, Arrived, Action, Send, Close, Connect, Reply, Acts, Declines, Peers, concern_by}
+use Rattle.dm_links.specs.Machine.{conn, Concern, Elsewhere, StartsIt, AcksIt, NacksIt, EndsIt, HeardOnIt, Node, tie_of}
+use Rattle.dm_links.specs.Machine.{is_held}
+use Rattle.dm_links.specs.Links.{Side, flip, opens, LinkPhase, Pending, Up, Cancelled, End, Fresh, Open, Shut, Mark}
+use Rattle.dm_links.specs.Links.{NoMark, Coming, Delivered, Link, View, view_of, link_of, by_side, new_link}
+use Rattle.dm_links.specs.Peers.{Event, Start, Stop, Timeout, Tick, Ack, Nack, Gone, Submit, Arrived, Action, Send}
+use Rattle.dm_links.specs.Peers.{Close, Connect, Reply, Acts, Declines, Peers, concern_by}
 use Rattle.dm_links.specs.Peers as peers
-use Rattle.dm_links.specs.Steps.{added, entered, shut}
-use Rattle.dm_links.specs.Worlds.{World, peer_at, with_peer, with_links, change_at, enter, perform, settle, After, Done, Ignored, NoLink, answered, told, dropped}
-use Rattle.dm_links.specs.Happens.{Happening, Starts, Stops, TimesOut, Ticks, Restarts, Acks, Nacks, Delivers, Pieces, Loses, Submits, Next, NextMessage, NextDisconnect, NextNothing, next_in, comes, delivered, taking, pieced, whole_in, taken_of, lost_messages, lost, lost_link, kept_at, are_shut, restarted, restart_links, if_up, if_pending, at_link, own_view, happens, world_after, Ran, ran_on, run_from}
+use Rattle.dm_links.specs.Steps.{added, entered, with_close}
+use Rattle.dm_links.specs.Worlds.{World, peer_at, with_peer, with_links, change_at, enter, perform, settle, After, Done}
+use Rattle.dm_links.specs.Worlds.{Ignored, NoLink, after_reply, tell, after_drop}
+use Rattle.dm_links.specs.Happens.{Happening, Starts, Stops, TimesOut, Ticks, Restarts, Acks, Nacks, Delivers, Pieces}
+use Rattle.dm_links.specs.Happens.{Loses, Submits, Next, NextMessage, NextDisconnect, NextNothing, next_in, comes}
+use Rattle.dm_links.specs.Happens.{deliver_next, take_part, deliver_part, whole_in, taken_of, lost_messages, lost}
+use Rattle.dm_links.specs.Happens.{lost_link, kept_at, are_shut, restarted, restart_links, if_up, if_pending, at_link}
+use Rattle.dm_links.specs.Happens.{own_view, happens, world_after, RunEnd, ran_on, run_from}
 use Rattle.dm_links.specs.Streams.{are_sized, is_cut, is_cut_way, is_cut_link, AreCut, sends_sized, IsSized}
-use Rattle.dm_links.proofs.Columns.{entered_by_columns, messages_at, taken_at, summed, acted, words_at, is_closed_at, stepped}
+use Rattle.dm_links.proofs.Columns.{entered_by_columns, messages_at, taken_at, summed, acted, words_at, is_closed_at}
+use Rattle.dm_links.proofs.Columns.{stepped}
 use Rattle.dm_links.proofs.Lists.{IsStart, mapped_some, change_at-tested, performed_at, entered_at, stepped_at}
 use Rattle.dm_links.proofs.Keeps.{appended_at}
 use Rattle.dm_links.proofs.Views.{acted_summed, shut_is_summed}
@@ -94,10 +105,10 @@ record CutView {M : Type 0} (size : M → ℕ) (v : View M) : Type 0 where
 view_cut : {M : Type 0} (size : M → ℕ) (mine : Bool) (l : Link M) → is_cut_link size l ≡ true →
     CutView size (view_of mine l)
 view_cut size true l h =
-    let parts = and_parts (is_cut_way size l.to_near) (is_cut_way size l.to_far) h in
+    let parts = and_parts (is_cut_way size l.to_opener) (is_cut_way size l.to_other) h in
     record { incoming = parts.0; outgoing = parts.1 }
 view_cut size false l h =
-    let parts = and_parts (is_cut_way size l.to_near) (is_cut_way size l.to_far) h in
+    let parts = and_parts (is_cut_way size l.to_opener) (is_cut_way size l.to_other) h in
     record { incoming = parts.1; outgoing = parts.0 }
 
 link_cut : {M : Type 0} (size : M → ℕ) (mine : Bool) (s : Side) (v : View M) → CutView size v →
@@ -140,7 +151,7 @@ stepped_cut size k b d actions v g h =
 
 taking_cut : {M : Type 0} (size : M → ℕ) (k : ℕ) (v : View M) (x : M) (xs : List M) →
     v.incoming.messages ≡ x ∷ xs → nat_lt (v.incoming.taken + k) (size x) ≡ true → CutView size v →
-    CutView size (taking k v)
+    CutView size (take_part k v)
 taking_cut size k v x xs e low h =
     let parts = and_parts (are_sized size v.incoming.messages)
     (is_cut size v.incoming.messages v.incoming.taken) h.incoming in
@@ -200,21 +211,21 @@ lost_at size k n ms Delivered h = same_way size ms n h
 lost_cut : {M : Type 0} (size : M → ℕ) (a b : ℕ) (l : Link M) → is_cut_link size l ≡ true →
     is_cut_link size (lost_link size a b l) ≡ true
 lost_cut size a b l h =
-    let parts = and_parts (is_cut_way size l.to_near) (is_cut_way size l.to_far) h in
-    let near = kept_at l.opener a b + l.to_near.taken in
-    let far = kept_at (flip l.opener) a b + l.to_far.taken in
-    let to_near = lost size (kept_at l.opener a b) l.to_near in
-    let to_far = lost size (kept_at (flip l.opener) a b) l.to_far in
-    and_from (is_cut_way size to_near) (is_cut_way size to_far)
-    (lost_at size near l.to_near.taken l.to_near.messages l.to_near.mark parts.0)
-    (lost_at size far l.to_far.taken l.to_far.messages l.to_far.mark parts.1)
+    let parts = and_parts (is_cut_way size l.to_opener) (is_cut_way size l.to_other) h in
+    let kept_to_opener = kept_at l.opener a b + l.to_opener.taken in
+    let kept_to_other = kept_at (flip l.opener) a b + l.to_other.taken in
+    let to_opener = lost size (kept_at l.opener a b) l.to_opener in
+    let to_other = lost size (kept_at (flip l.opener) a b) l.to_other in
+    and_from (is_cut_way size to_opener) (is_cut_way size to_other)
+    (lost_at size kept_to_opener l.to_opener.taken l.to_opener.messages l.to_opener.mark parts.0)
+    (lost_at size kept_to_other l.to_other.taken l.to_other.messages l.to_other.mark parts.1)
 
-shut_cut : {M : Type 0} (size : M → ℕ) (v : View M) → CutView size v → CutView size (shut v)
+shut_cut : {M : Type 0} (size : M → ℕ) (v : View M) → CutView size v → CutView size (with_close v)
 shut_cut size v h = subst (λ u. CutView size u) (sym (shut_is_summed v)) (summed_cut size true [] v refl h)
 
 -- a restart
 restarted_by : {M : Type 0} (size : M → ℕ) (mine : Bool) (p : LinkPhase) (v : View M) → CutView size v →
-    CutView size (elim p [ Pending ↦ elim mine [ true ↦ shut v | false ↦ v ] | _ ↦ shut v ])
+    CutView size (elim p [ Pending ↦ elim mine [ true ↦ with_close v | false ↦ v ] | _ ↦ with_close v ])
 restarted_by size true Pending v h = shut_cut size v h
 restarted_by size false Pending v h = h
 restarted_by size mine Up v h = shut_cut size v h
@@ -280,25 +291,25 @@ module _ {P M : Type 0} (m : Peers P M) (sized : IsSized m) where
   KeepsCut w after = AreCut m w → AreCut m (world_after w after)
 
   answered_cut : (s : Side) (e : Event M) (w : World P M) (r : Reply P M) → m.reply (peer_at s w) e ≡ r →
-      (IsStart e → ⊥) → KeepsCut w (answered m s e w r)
+      (IsStart e → ⊥) → KeepsCut w (after_reply m s e w r)
   answered_cut s e w Declines eq no_start good = good
   answered_cut s e w (Acts actions p) eq no_start good =
       links_cut m s p (settle s e (m.node_of p) (perform s actions (enter s e w.links))) w
       (stepped_links m s e actions (m.node_of p) w.links no_start (sized (peer_at s w) p e actions eq) good)
 
-  told_cut : (s : Side) (e : Event M) (w : World P M) → (IsStart e → ⊥) → KeepsCut w (told m s e w)
+  told_cut : (s : Side) (e : Event M) (w : World P M) → (IsStart e → ⊥) → KeepsCut w (tell m s e w)
   told_cut s e w no_start good = answered_cut s e w (m.reply (peer_at s w) e) refl no_start good
 
   started_cut : (s : Side) (w : World P M) (r : Reply P M) →
       m.reply (peer_at s w) (Start (conn (length w.links))) ≡ r →
-      KeepsCut w (answered m s (Start (conn (length w.links))) w r)
+      KeepsCut w (after_reply m s (Start (conn (length w.links))) w r)
   started_cut s w Declines eq good = good
   started_cut s w (Acts actions p) eq good =
       links_cut m s p (perform s actions (w.links ++ new_link s ∷ [])) w
       (performed_cut m.size s actions (w.links ++ new_link s ∷ [])
       (sized (peer_at s w) p (Start (conn (length w.links))) actions eq) (new_cut m.size s w.links good))
 
-  dropped_cut : (s : Side) (e : Event M) (w : World P M) → (IsStart e → ⊥) → KeepsCut w (dropped s e w)
+  dropped_cut : (s : Side) (e : Event M) (w : World P M) → (IsStart e → ⊥) → KeepsCut w (after_drop s e w)
   dropped_cut s e w no_start good d l at =
       let k = concern_by e (conn d) in
       let old = mapped_some (by_side s (entered k)) (slice_get w.links d) l
@@ -313,7 +324,7 @@ module _ {P M : Type 0} (m : Peers P M) (sized : IsSized m) where
   comes_cut s e Fresh w no_start good = told_cut s e w no_start good
 
   delivered_cut : (c : ℕ) (s : Side) (end : End) (nx : Next M) (w : World P M) →
-      KeepsCut w (delivered m c s end nx w)
+      KeepsCut w (deliver_next m c s end nx w)
   delivered_cut c s end NextNothing w good = good
   delivered_cut c s end (NextMessage x) w good = comes_cut s (Arrived (conn c) x) end w (λ q. elim q [ ]) good
   delivered_cut c s end NextDisconnect w good = comes_cut s (Gone (conn c)) end w (λ q. elim q [ ]) good
@@ -327,13 +338,13 @@ module _ {P M : Type 0} (m : Peers P M) (sized : IsSized m) where
   taken_cut : (w : World P M) (c : ℕ) (s : Side) (k : ℕ) (l : Link M) (x : M) (xs : List M) →
       slice_get w.links c ≡ Some l → (own_view s l).incoming.messages ≡ x ∷ xs →
       nat_lt ((own_view s l).incoming.taken + k) (m.size x) ≡ true →
-      AreCut m w → AreCut m (with_links (change_at c (by_side s (taking k)) w.links) w)
+      AreCut m w → AreCut m (with_links (change_at c (by_side s (take_part k)) w.links) w)
   taken_cut w c s k l x xs at front low good =
-      changed_cut m.size w.links c (by_side s (taking k)) good (λ q there h.
+      changed_cut m.size w.links c (by_side s (take_part k)) good (λ q there h.
       let same : l ≡ q = cc (at, there) in
       let mine = opens s l.opener in
-      subst (λ z. is_cut_link m.size (by_side s (taking k) z) ≡ true) same
-      (link_cut m.size mine l.opener (taking k (view_of mine l))
+      subst (λ z. is_cut_link m.size (by_side s (take_part k) z) ≡ true) same
+      (link_cut m.size mine l.opener (take_part k (view_of mine l))
       (taking_cut m.size k (view_of mine l) x xs front low (view_cut m.size mine l (good c l at)))))
 
   piece_size_cut : (b : Bool) (w w1 : World P M) (after : After P M) → (b ≡ true → AreCut m w1) →
@@ -343,14 +354,14 @@ module _ {P M : Type 0} (m : Peers P M) (sized : IsSized m) where
 
   pieced_cut : (c : ℕ) (s : Side) (k : ℕ) (l : Link M) (nx : Next M) (w : World P M) →
       slice_get w.links c ≡ Some l → next_in (own_view s l).incoming.messages (own_view s l).incoming.mark ≡ nx →
-      KeepsCut w (pieced m c s k (own_view s l).own (own_view s l).incoming.taken nx w)
+      KeepsCut w (deliver_part m c s k (own_view s l).own (own_view s l).incoming.taken nx w)
   pieced_cut c s k l NextNothing w at nx good = good
   pieced_cut c s k l NextDisconnect w at nx good = good
   pieced_cut c s k l (NextMessage x) w at nx good =
       let v = own_view s l in
       let front = front_of v.incoming.messages v.incoming.mark x nx in
       piece_size_cut (nat_lt (v.incoming.taken + k) (m.size x)) w
-      (with_links (change_at c (by_side s (taking k)) w.links) w) (comes m s (Arrived (conn c) x) v.own w)
+      (with_links (change_at c (by_side s (take_part k)) w.links) w) (comes m s (Arrived (conn c) x) v.own w)
       (λ low. taken_cut w c s k l x front.0 at front.1 low good)
       (comes_cut s (Arrived (conn c) x) v.own w (λ q. elim q [ ]) good)
 
@@ -401,37 +412,38 @@ module _ {P M : Type 0} (m : Peers P M) (sized : IsSized m) where
   happening_cut w (Restarts s) good = restart_cut s w good
   happening_cut w (Acks c) good =
       there_cut w c (slice_get w.links c) _ refl
-      (λ l at. pending_cut w l.phase (told m l.opener (Ack (conn c)) w)
+      (λ l at. pending_cut w l.phase (tell m l.opener (Ack (conn c)) w)
       (told_cut l.opener (Ack (conn c)) w (λ q. elim q [ ]))) good
   happening_cut w (Nacks c) good =
       there_cut w c (slice_get w.links c) _ refl
-      (λ l at. pending_cut w l.phase (told m l.opener (Nack (conn c)) w)
+      (λ l at. pending_cut w l.phase (tell m l.opener (Nack (conn c)) w)
       (told_cut l.opener (Nack (conn c)) w (λ q. elim q [ ]))) good
   happening_cut w (Delivers c s) good =
       there_cut w c (slice_get w.links c) _ refl
       (λ l at. up_cut w l.phase
-      (delivered m c s (own_view s l).own
+      (deliver_next m c s (own_view s l).own
       (next_in (own_view s l).incoming.messages (own_view s l).incoming.mark) w)
       (delivered_cut c s (own_view s l).own
       (next_in (own_view s l).incoming.messages (own_view s l).incoming.mark) w)) good
   happening_cut w (Pieces c s k) good =
       there_cut w c (slice_get w.links c) _ refl (λ l at.
       let nx = next_in (own_view s l).incoming.messages (own_view s l).incoming.mark in
-      let one = pieced m c s k (own_view s l).own (own_view s l).incoming.taken nx w in
+      let one = deliver_part m c s k (own_view s l).own (own_view s l).incoming.taken nx w in
       up_cut w l.phase (if k == 0 then Ignored else one)
       (λ g. if_cut w (k == 0) Ignored one g (pieced_cut c s k l nx w at refl g))) good
   happening_cut w (Loses c a b) good =
       there_cut w c (slice_get w.links c) _ refl
-      (λ l at. up_cut w l.phase _ (λ g. if_cut w (are_shut l.near l.far) Ignored _ g (lost_links_cut w c a b g)))
+      (λ l at. up_cut w l.phase _ (λ g. if_cut w (are_shut l.opener_end l.other_end) Ignored _ g
+      (lost_links_cut w c a b g)))
       good
 
-  ran_cut : (r : Ran P M) (after : After P M) → AreCut m (world_after r.world after) →
+  ran_cut : (r : RunEnd P M) (after : After P M) → AreCut m (world_after r.world after) →
       IfSome (ran_on r after) (λ z. AreCut m z.world)
   ran_cut r (Done w put) good = good
   ran_cut r Ignored good = good
   ran_cut r NoLink good = tt
 
-  pub run_cut : (o : Option (Ran P M)) (hs : List (Happening M)) → IfSome o (λ z. AreCut m z.world) →
+  pub run_cut : (o : Option (RunEnd P M)) (hs : List (Happening M)) → IfSome o (λ z. AreCut m z.world) →
       IfSome (run_from m o hs) (λ z. AreCut m z.world)
   run_cut None hs good = tt
   run_cut (Some r) [] good = good

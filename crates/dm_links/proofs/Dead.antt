@@ -1,13 +1,15 @@
 -- What two restarts leave of each link: it is cancelled with nothing under way, or both its ends are shut.
-use Rattle.std.proofs.Common.{◌≡◌, ℕ, zero, suc, ◌+◌, Bool, true, false, ◌&&◌, Some, List, [], ◌∷◌, map, slice_get, refl, sym, ap, subst, ◌∙◌, arith}
+use Rattle.std.proofs.Common.{◌≡◌, ℕ, zero, suc, ◌+◌, Bool, true, false, ◌&&◌, Some, List, [], ◌∷◌, map, slice_get}
+use Rattle.std.proofs.Common.{refl, sym, ap, subst, ◌∙◌, arith}
 use Rattle.std.specs.List.{list_all}
 use Rattle.std.proofs.lemmas.Bool.{and_parts, and_from}
 use Rattle.std.proofs.lemmas.Option.{slice_get-map}
-use Rattle.dm_links.specs.Links.{Side, A, B, opens, LinkPhase, Pending, Up, Cancelled, End, Mark, NoMark, Coming, Delivered, Direction, Link, by_side}
+use Rattle.dm_links.specs.Links.{Side, A, B, opens, LinkPhase, Pending, Up, Cancelled, End, Mark, NoMark, Coming}
+use Rattle.dm_links.specs.Links.{Delivered, Direction, Link, by_side}
 use Rattle.dm_links.specs.Peers.{Peers}
 use Rattle.dm_links.specs.Worlds.{World, change_at}
 use Rattle.dm_links.specs.Happens.{restarted, restart_links}
-use Rattle.dm_links.specs.Facts.{is_up, is_shut, IsSound}
+use Rattle.dm_links.specs.Facts.{is_up, is_shut, IsSoundWorld}
 use Rattle.dm_links.specs.Quiet.{is_still}
 use Rattle.dm_links.specs.Bare.{is_bare}
 use Rattle.dm_links.specs.Draining.{under_way_on, under_way}
@@ -19,8 +21,8 @@ abbrev pub is_dead : {M : Type 0} → Link M → Bool
 is_dead l =
     elim l.phase [
       | Pending ↦ false
-      | Up ↦ is_shut l.near && is_shut l.far
-      | Cancelled ↦ is_still l.to_near && is_still l.to_far
+      | Up ↦ is_shut l.opener_end && is_shut l.other_end
+      | Cancelled ↦ is_still l.to_opener && is_still l.to_other
     ]
 
 abbrev pub are_dead : {M : Type 0} → List (Link M) → Bool
@@ -29,16 +31,16 @@ are_dead links = list_all (λ l. is_dead l) links
 abbrev restarts_at : {M : Type 0} → Side → Link M → Link M
 restarts_at s l = by_side s (restarted (opens s l.opener)) l
 
-dead_at : {M : Type 0} (o : Side) (p : LinkPhase) (near far : End) (i j : Direction M) →
+dead_at : {M : Type 0} (o : Side) (p : LinkPhase) (u v : End) (i j : Direction M) →
     (is_up p ≡ false → (is_still i && is_still j) ≡ true) →
     is_dead (restarts_at B (restarts_at A
-    (record { opener = o; phase = p; near = near; far = far; to_near = i; to_far = j }))) ≡ true
-dead_at A Pending near far i j h = h refl
-dead_at A Cancelled near far i j h = h refl
-dead_at A Up near far i j h = refl
-dead_at B Pending near far i j h = h refl
-dead_at B Cancelled near far i j h = h refl
-dead_at B Up near far i j h = refl
+    (record { opener = o; phase = p; opener_end = u; other_end = v; to_opener = i; to_other = j }))) ≡ true
+dead_at A Pending u v i j h = h refl
+dead_at A Cancelled u v i j h = h refl
+dead_at A Up u v i j h = refl
+dead_at B Pending u v i j h = h refl
+dead_at B Cancelled u v i j h = h refl
+dead_at B Up u v i j h = refl
 
 -- where nothing was put in nothing is under way
 still_from : {M : Type 0} (ms : List M) (n : ℕ) (k : Mark) →
@@ -49,15 +51,15 @@ still_from [] n Coming h = cc
 still_from [] n Delivered h = cc
 still_from (x ∷ xs) n k h = cc
 
-still_at : {P M : Type 0} (m : Peers P M) (w : World P M) → IsSound m w → (c : ℕ) (l : Link M) →
-    slice_get w.links c ≡ Some l → is_up l.phase ≡ false → (is_still l.to_near && is_still l.to_far) ≡ true
+still_at : {P M : Type 0} (m : Peers P M) (w : World P M) → IsSoundWorld m w → (c : ℕ) (l : Link M) →
+    slice_get w.links c ≡ Some l → is_up l.phase ≡ false → (is_still l.to_opener && is_still l.to_other) ≡ true
 still_at m w good c l at down =
-    let p = and_parts (is_bare l.to_near) (is_bare l.to_far) (bare_at m w good c l at down) in
-    and_from (is_still l.to_near) (is_still l.to_far)
-    (still_from l.to_near.messages l.to_near.taken l.to_near.mark p.0)
-    (still_from l.to_far.messages l.to_far.taken l.to_far.mark p.1)
+    let p = and_parts (is_bare l.to_opener) (is_bare l.to_other) (bare_at m w good c l at down) in
+    and_from (is_still l.to_opener) (is_still l.to_other)
+    (still_from l.to_opener.messages l.to_opener.taken l.to_opener.mark p.0)
+    (still_from l.to_other.messages l.to_other.taken l.to_other.mark p.1)
 
-pub dead_after : {P M : Type 0} (m : Peers P M) (w : World P M) → IsSound m w →
+pub dead_after : {P M : Type 0} (m : Peers P M) (w : World P M) → IsSoundWorld m w →
     are_dead (restart_links B (restart_links A w.links)) ≡ true
 dead_after {P} {M} m w good =
     all_where (λ l. is_dead l) (restart_links B (restart_links A w.links))
@@ -68,7 +70,7 @@ dead_after {P} {M} m w good =
     let old = mapped_some f (slice_get w.links c) later.0 (sym (slice_get-map f w.links c) ∙ later.1) in
     let x = old.0 in
     subst (λ y. is_dead y ≡ true) (sym (later.2 ∙ ap g old.2))
-    (dead_at x.opener x.phase x.near x.far x.to_near x.to_far (still_at m w good c x old.1)))
+    (dead_at x.opener x.phase x.opener_end x.other_end x.to_opener x.to_other (still_at m w good c x old.1)))
 
 -- one link of a list is changed
 pub dead_changed : {M : Type 0} (links : List (Link M)) (c : ℕ) (l : Link M) (f : Link M → Link M) →

@@ -1,37 +1,40 @@
 -- Every run hands up in order what was submitted.
-use Rattle.std.proofs.Common.{◌≡◌, ℕ, ◌==◌, Bool, true, false, ◌||◌, Option, Some, None, IfSome, IsTrue, List, [], ◌∷◌, ◌++◌, slice_get, refl, sym, ap, subst, ◌∙◌, append-nil, append_assoc}
+use Rattle.std.proofs.Common.{◌≡◌, ℕ, ◌==◌, Bool, true, false, ◌||◌, Option, Some, None, IfSome, IsTrue, List, [], ◌∷◌}
+use Rattle.std.proofs.Common.{◌++◌, slice_get, refl, sym, ap, subst, ◌∙◌, append-nil, append_assoc}
 use Rattle.std.proofs.lemmas.Option.{IfSome_then}
 use Rattle.dm_machine.specs.Connection.{hold_of}
 use Rattle.dm_links.specs.Machine.{conn}
 use Rattle.dm_links.specs.Links.{Side, A, B, Link}
 use Rattle.dm_links.specs.Peers.{Peers}
 use Rattle.dm_links.specs.Worlds.{World, peer_at, After, Done, Ignored, NoLink}
-use Rattle.dm_links.specs.Happens.{Happening, Starts, Stops, TimesOut, Ticks, Restarts, Acks, Nacks, Delivers, Pieces, Loses, Submits, own_view, happens, world_after, Ran, ran_on, run_from, run}
+use Rattle.dm_links.specs.Happens.{Happening, Starts, Stops, TimesOut, Ticks, Restarts, Acks, Nacks, Delivers, Pieces}
+use Rattle.dm_links.specs.Happens.{Loses, Submits, own_view, happens, world_after, RunEnd, ran_on, run_from, run}
 use Rattle.dm_links.specs.Follows.{IsMachine}
-use Rattle.dm_links.specs.Facts.{IsSound}
+use Rattle.dm_links.specs.Facts.{IsSoundWorld}
 use Rattle.dm_links.specs.Laws.{world_of}
 use Rattle.dm_links.specs.Turns.{Turn, turns, all_turns}
-use Rattle.dm_links.specs.Delivery.{submitted_by, submitted, raised_by, raised, apps, Carries, loses, IsDelivered}
+use Rattle.dm_links.specs.Delivery.{submitted_by, submitted_on, handed_up_by, handed_up_on, apps, CarriesMessages}
+use Rattle.dm_links.specs.Delivery.{has_loss_of, DeliversInOrder}
 use Rattle.dm_links.proofs.Ties.{MachineLaws}
 use Rattle.dm_links.proofs.Happenings.{happens_sound}
-use Rattle.dm_links.proofs.Closing.{CarriesOn, carries_on}
+use Rattle.dm_links.proofs.Closing.{CarriesOn, carries_on_proof}
 use Rattle.dm_links.proofs.Ways.{hears_now}
-use Rattle.dm_links.proofs.Carried.{OnLink, over_of, Carried, names_loss, IsCarrying, carrier}
+use Rattle.dm_links.proofs.Carried.{WayOnLink, over_of, Carried, names_loss, IsCarrying, carrier}
 use Rattle.dm_links.proofs.CarriedViews.{tie_open}
 use Rattle.dm_links.proofs.CarriedHappenings.{happening_keeps}
 use Rattle.dm_links.proofs.BothPeers.{happening_both}
 
 submitted_append : {M : Type 0} (t : Side) (c : ℕ) (us vs : List (Turn M)) →
-    submitted t c (us ++ vs) ≡ submitted t c us ++ submitted t c vs
+    submitted_on t c (us ++ vs) ≡ submitted_on t c us ++ submitted_on t c vs
 submitted_append t c [] vs = refl
 submitted_append t c (u ∷ us) vs = ap (λ xs. submitted_by t c u ++ xs) (submitted_append t c us vs)
-    ∙ sym (append_assoc (submitted_by t c u) (submitted t c us) (submitted t c vs))
+    ∙ sym (append_assoc (submitted_by t c u) (submitted_on t c us) (submitted_on t c vs))
 
 raised_append : {M : Type 0} (t : Side) (c : ℕ) (us vs : List (Turn M)) →
-    raised t c (us ++ vs) ≡ raised t c us ++ raised t c vs
+    handed_up_on t c (us ++ vs) ≡ handed_up_on t c us ++ handed_up_on t c vs
 raised_append t c [] vs = refl
-raised_append t c (u ∷ us) vs = ap (λ xs. raised_by t c u ++ xs) (raised_append t c us vs)
-    ∙ sym (append_assoc (raised_by t c u) (raised t c us) (raised t c vs))
+raised_append t c (u ∷ us) vs = ap (λ xs. handed_up_by t c u ++ xs) (raised_append t c us vs)
+    ∙ sym (append_assoc (handed_up_by t c u) (handed_up_on t c us) (handed_up_on t c vs))
 
 or_left : (a b : Bool) → a ≡ true → (a || b) ≡ true
 or_left true b h = refl
@@ -42,13 +45,13 @@ or_right true b h = refl
 or_right false b h = h
 
 first_loss : {M : Type 0} (c : ℕ) (h : Happening M) (hs : List (Happening M)) → names_loss c h ≡ true →
-    loses c (h ∷ hs) ≡ true
-first_loss c (Loses d a b) hs e = or_left (d == c) (loses c hs) e
+    has_loss_of c (h ∷ hs) ≡ true
+first_loss c (Loses d a b) hs e = or_left (d == c) (has_loss_of c hs) e
 first_loss c _ hs e = cc
 
-later_loss : {M : Type 0} (c : ℕ) (h : Happening M) (hs : List (Happening M)) → loses c hs ≡ true →
-    loses c (h ∷ hs) ≡ true
-later_loss c (Loses d a b) hs e = or_right (d == c) (loses c hs) e
+later_loss : {M : Type 0} (c : ℕ) (h : Happening M) (hs : List (Happening M)) → has_loss_of c hs ≡ true →
+    has_loss_of c (h ∷ hs) ≡ true
+later_loss c (Loses d a b) hs e = or_right (d == c) (has_loss_of c hs) e
 later_loss c (Starts s) hs e = e
 later_loss c (Stops s cause) hs e = e
 later_loss c (TimesOut s) hs e = e
@@ -79,41 +82,42 @@ module _ {P M : Type 0} (m : Peers P M) (laws : MachineLaws) (is : IsMachine m) 
 
   abbrev RunsFrom : List (Happening M) → Type 0
   RunsFrom hs =
-      (r : Ran P M) (said up : List M) → (loses c hs ≡ true → lost ≡ true) → Runs r.world said up →
-      IfSome (run_from m (Some r) hs) (λ z. Runs z.world (said ++ submitted t c (all_turns m r.world hs))
-      (up ++ raised t c (all_turns m r.world hs)))
+      (r : RunEnd P M) (said up : List M) → (has_loss_of c hs ≡ true → lost ≡ true) → Runs r.world said up →
+      IfSome (run_from m (Some r) hs) (λ z. Runs z.world (said ++ submitted_on t c (all_turns m r.world hs))
+      (up ++ handed_up_on t c (all_turns m r.world hs)))
 
-  went_on : (hs : List (Happening M)) → RunsFrom hs → (r : Ran P M) (after : After P M) (us : List (Turn M))
-      (said up : List M) → (loses c hs ≡ true → lost ≡ true) →
-      Runs (world_after r.world after) (said ++ submitted t c us) (up ++ raised t c us) →
+  went_on : (hs : List (Happening M)) → RunsFrom hs → (r : RunEnd P M) (after : After P M) (us : List (Turn M))
+      (said up : List M) → (has_loss_of c hs ≡ true → lost ≡ true) →
+      Runs (world_after r.world after) (said ++ submitted_on t c us) (up ++ handed_up_on t c us) →
       IfSome (run_from m (ran_on r after) hs) (λ z. Runs z.world
-      (said ++ submitted t c (us ++ all_turns m (world_after r.world after) hs))
-      (up ++ raised t c (us ++ all_turns m (world_after r.world after) hs)))
+      (said ++ submitted_on t c (us ++ all_turns m (world_after r.world after) hs))
+      (up ++ handed_up_on t c (us ++ all_turns m (world_after r.world after) hs)))
   went_on hs ih r after us said up loss now = by_after after now
     where
-      both_are : (vs : List (Turn M)) (o : Option (Ran P M)) →
-          IfSome o (λ z. Runs z.world ((said ++ submitted t c us) ++ submitted t c vs)
-          ((up ++ raised t c us) ++ raised t c vs)) →
-          IfSome o (λ z. Runs z.world (said ++ submitted t c (us ++ vs)) (up ++ raised t c (us ++ vs)))
+      both_are : (vs : List (Turn M)) (o : Option (RunEnd P M)) →
+          IfSome o (λ z. Runs z.world ((said ++ submitted_on t c us) ++ submitted_on t c vs)
+          ((up ++ handed_up_on t c us) ++ handed_up_on t c vs)) →
+          IfSome o (λ z. Runs z.world (said ++ submitted_on t c (us ++ vs)) (up ++ handed_up_on t c (us ++ vs)))
       both_are vs o h =
-          subst (λ (xs : List M). IfSome o (λ z. Runs z.world xs (up ++ raised t c (us ++ vs))))
-          (append_assoc said (submitted t c us) (submitted t c vs)
+          subst (λ (xs : List M). IfSome o (λ z. Runs z.world xs (up ++ handed_up_on t c (us ++ vs))))
+          (append_assoc said (submitted_on t c us) (submitted_on t c vs)
           ∙ ap (λ xs. said ++ xs) (sym (submitted_append t c us vs)))
           (subst (λ (ys : List M). IfSome o (λ z. Runs z.world
-          ((said ++ submitted t c us) ++ submitted t c vs) ys))
-          (append_assoc up (raised t c us) (raised t c vs)
+          ((said ++ submitted_on t c us) ++ submitted_on t c vs) ys))
+          (append_assoc up (handed_up_on t c us) (handed_up_on t c vs)
           ∙ ap (λ ys. up ++ ys) (sym (raised_append t c us vs))) h)
 
       by_after : (after : After P M) →
-          Runs (world_after r.world after) (said ++ submitted t c us) (up ++ raised t c us) →
+          Runs (world_after r.world after) (said ++ submitted_on t c us) (up ++ handed_up_on t c us) →
           IfSome (run_from m (ran_on r after) hs) (λ z. Runs z.world
-          (said ++ submitted t c (us ++ all_turns m (world_after r.world after) hs))
-          (up ++ raised t c (us ++ all_turns m (world_after r.world after) hs)))
+          (said ++ submitted_on t c (us ++ all_turns m (world_after r.world after) hs))
+          (up ++ handed_up_on t c (us ++ all_turns m (world_after r.world after) hs)))
       by_after (Done w put) now =
           both_are (all_turns m w hs) _
-          (ih (record { world = w; put = r.put ++ put }) (said ++ submitted t c us) (up ++ raised t c us) loss now)
+          (ih (record { world = w; put = r.put ++ put }) (said ++ submitted_on t c us) (up
+          ++ handed_up_on t c us) loss now)
       by_after Ignored now =
-          both_are (all_turns m r.world hs) _ (ih r (said ++ submitted t c us) (up ++ raised t c us) loss now)
+          both_are (all_turns m r.world hs) _ (ih r (said ++ submitted_on t c us) (up ++ handed_up_on t c us) loss now)
       by_after NoLink now = tt
 
   runs : (hs : List (Happening M)) → RunsFrom hs
@@ -132,11 +136,12 @@ module _ {P M : Type 0} (m : Peers P M) (laws : MachineLaws) (is : IsMachine m) 
             (λ e. loss (first_loss c h hs e)) said up now.carried;
       })
 
-  delivered_at : (w : World P M) (said up : List M) → Runs w said up → IsDelivered m is_app w t c lost said up
+  delivered_at : (w : World P M) (said up : List M) → Runs w said up → DeliversInOrder m is_app w t c lost said up
   delivered_at w said up now = by_link (slice_get w.links c) refl now.carried
     where
       by_link : (o : Option (Link M)) → slice_get w.links c ≡ o →
-          OnLink is_app lost (over_of (m.node_of (peer_at t w)) c) t o said up → IsDelivered m is_app w t c lost said up
+          WayOnLink is_app lost (over_of (m.node_of (peer_at t w)) c) t o said up →
+          DeliversInOrder m is_app w t c lost said up
       by_link None at h =
           record {
             rest = [];
@@ -160,9 +165,9 @@ module _ {P M : Type 0} (m : Peers P M) (laws : MachineLaws) (is : IsMachine m) 
           }
 
   pub run_delivered : (w : World P M) (hs : List (Happening M)) → IsCarrying m stands w →
-      Carried m is_app lost w t c [] [] → (loses c hs ≡ true → lost ≡ true) →
-      IfSome (run m w hs) (λ r. IsDelivered m is_app r.world t c lost (submitted t c (all_turns m w hs))
-      (raised t c (all_turns m w hs)))
+      Carried m is_app lost w t c [] [] → (has_loss_of c hs ≡ true → lost ≡ true) →
+      IfSome (run m w hs) (λ r. DeliversInOrder m is_app r.world t c lost (submitted_on t c (all_turns m w hs))
+      (handed_up_on t c (all_turns m w hs)))
   run_delivered w hs carrying carried loss =
       IfSome_then (run m w hs)
       (runs hs (record { world = w; put = [] }) [] [] loss (record { carrying = carrying; carried = carried }))
@@ -170,12 +175,14 @@ module _ {P M : Type 0} (m : Peers P M) (laws : MachineLaws) (is : IsMachine m) 
 
 pub run_delivers : {P M : Type 0} (m : Peers P M) → MachineLaws → IsMachine m →
     (is_app : M → Bool) (stands : P → Bool) →
-    Carries m is_app stands → (a b : P) → IsSound m (world_of a b) → IsTrue (stands a) → IsTrue (stands b) →
+    CarriesMessages m is_app stands → (a b : P) → IsSoundWorld m (world_of a b) → IsTrue (stands a) →
+    IsTrue (stands b) →
     (hs : List (Happening M)) (t : Side) (c : ℕ) →
-    IfSome (run m (world_of a b) hs) (λ r. IsDelivered m is_app r.world t c (loses c hs)
-    (submitted t c (all_turns m (world_of a b) hs)) (raised t c (all_turns m (world_of a b) hs)))
+    IfSome (run m (world_of a b) hs) (λ r. DeliversInOrder m is_app r.world t c (has_loss_of c hs)
+    (submitted_on t c (all_turns m (world_of a b) hs)) (handed_up_on t c (all_turns m (world_of a b) hs)))
 run_delivers {P} {M} m laws is is_app stands carries a b sound left right hs t c =
-    run_delivered m laws is is_app stands (carries_on m is_app stands laws is carries) (loses c hs) t c (world_of a b)
+    run_delivered m laws is is_app stands (carries_on_proof m is_app stands laws is carries) (has_loss_of c hs) t c
+    (world_of a b)
     hs
     (record { sound = sound; fits = both }) (refl, refl) (λ e. e)
   where

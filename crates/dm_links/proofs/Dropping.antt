@@ -3,7 +3,8 @@ use Rattle.std.proofs.Common.{◌≡◌, ◌⊎◌, inl, inr, ℕ, suc, ◌+◌,
 use Rattle.std.specs.List.{list_all}
 use Rattle.std.proofs.lemmas.Bool.{and_parts, and_from}
 use Rattle.dm_links.specs.Machine.{Concern, HeardOnIt, EndsIt}
-use Rattle.dm_links.specs.Links.{Side, A, B, LinkPhase, Pending, Up, Cancelled, End, Fresh, Open, Shut, Mark, NoMark, Coming, Delivered, Direction, Link, by_side}
+use Rattle.dm_links.specs.Links.{Side, A, B, LinkPhase, Pending, Up, Cancelled, End, Fresh, Open, Shut, Mark, NoMark}
+use Rattle.dm_links.specs.Links.{Coming, Delivered, Direction, Link, by_side}
 use Rattle.dm_links.specs.Peers.{Peers}
 use Rattle.dm_links.specs.Steps.{entered}
 use Rattle.dm_links.specs.Worlds.{World, with_links, change_at, Done, Ignored}
@@ -28,7 +29,7 @@ pub record Discards {M : Type 0} (s : Side) (l : Link M) : Type 1 where
 
 -- a link by its parts, and one with both its ends shut
 abbrev link_at : {M : Type 0} → Side → LinkPhase → End → End → Direction M → Direction M → Link M
-link_at o p near far i j = record { opener = o; phase = p; near = near; far = far; to_near = i; to_far = j }
+link_at o p u v i j = record { opener = o; phase = p; opener_end = u; other_end = v; to_opener = i; to_other = j }
 
 abbrev shut_link : {M : Type 0} → Side → Direction M → Direction M → Link M
 shut_link o i j = link_at o Up Shut Shut i j
@@ -61,32 +62,32 @@ seen_at B B [] ti Coming js tj mj =
 seen_at B B [] ti NoMark js tj mj = inl (record { still = refl; ignored = λ m w c. refl })
 seen_at B B [] ti Delivered js tj mj = inl (record { still = refl; ignored = λ m w c. refl })
 
-still_own : {M : Type 0} (s o : Side) (near far : End) (i j : Direction M) → (is_still i && is_still j) ≡ true →
-    is_still (own_view s (link_at o Cancelled near far i j)).incoming ≡ true
-still_own A A near far i j h = (and_parts (is_still i) (is_still j) h).0
-still_own A B near far i j h = (and_parts (is_still i) (is_still j) h).1
-still_own B A near far i j h = (and_parts (is_still i) (is_still j) h).1
-still_own B B near far i j h = (and_parts (is_still i) (is_still j) h).0
+still_own : {M : Type 0} (s o : Side) (u v : End) (i j : Direction M) → (is_still i && is_still j) ≡ true →
+    is_still (own_view s (link_at o Cancelled u v i j)).incoming ≡ true
+still_own A A u v i j h = (and_parts (is_still i) (is_still j) h).0
+still_own A B u v i j h = (and_parts (is_still i) (is_still j) h).1
+still_own B A u v i j h = (and_parts (is_still i) (is_still j) h).1
+still_own B B u v i j h = (and_parts (is_still i) (is_still j) h).0
 
-pub seen : {M : Type 0} (s o : Side) (p : LinkPhase) (near far : End) (i j : Direction M) →
-    is_dead (link_at o p near far i j) ≡ true → Idles s (link_at o p near far i j) ⊎ Discards s (link_at o p near far i j)
-seen s o Pending near far i j h = cc
-seen s o Cancelled near far i j h = inl (record { still = still_own s o near far i j h; ignored = λ m w c. refl })
+pub seen : {M : Type 0} (s o : Side) (p : LinkPhase) (u v : End) (i j : Direction M) →
+    is_dead (link_at o p u v i j) ≡ true → Idles s (link_at o p u v i j) ⊎ Discards s (link_at o p u v i j)
+seen s o Pending u v i j h = cc
+seen s o Cancelled u v i j h = inl (record { still = still_own s o u v i j h; ignored = λ m w c. refl })
 seen s o Up Shut Shut i j h = seen_at o s i.messages i.taken i.mark j.messages j.taken j.mark
 seen s o Up Shut Fresh i j h = cc
 seen s o Up Shut Open i j h = cc
-seen s o Up Fresh far i j h = cc
-seen s o Up Open far i j h = cc
+seen s o Up Fresh v i j h = cc
+seen s o Up Open v i j h = cc
 
 -- where nothing comes to either side it is quiet
-both_still : {M : Type 0} (o : Side) (p : LinkPhase) (near far : End) (i j : Direction M) →
-    let l = link_at o p near far i j in is_dead l ≡ true → is_still (own_view A l).incoming ≡ true →
+both_still : {M : Type 0} (o : Side) (p : LinkPhase) (u v : End) (i j : Direction M) →
+    let l = link_at o p u v i j in is_dead l ≡ true → is_still (own_view A l).incoming ≡ true →
     is_still (own_view B l).incoming ≡ true → is_quiet_link l ≡ true
-both_still o Pending near far i j h a b = cc
-both_still A Up near far i j h a b = and_from (is_still i) (is_still j) a b
-both_still B Up near far i j h a b = and_from (is_still i) (is_still j) b a
-both_still A Cancelled near far i j h a b = and_from (is_still i) (is_still j) a b
-both_still B Cancelled near far i j h a b = and_from (is_still i) (is_still j) b a
+both_still o Pending u v i j h a b = cc
+both_still A Up u v i j h a b = and_from (is_still i) (is_still j) a b
+both_still B Up u v i j h a b = and_from (is_still i) (is_still j) b a
+both_still A Cancelled u v i j h a b = and_from (is_still i) (is_still j) a b
+both_still B Cancelled u v i j h a b = and_from (is_still i) (is_still j) b a
 
 -- the side to which something comes on a link
 record DropsOne {M : Type 0} (l : Link M) : Type 1 where
@@ -95,11 +96,11 @@ record DropsOne {M : Type 0} (l : Link M) : Type 1 where
 
 quiet_or_drops : {M : Type 0} (l : Link M) → is_dead l ≡ true → (is_quiet_link l ≡ true) ⊎ DropsOne l
 quiet_or_drops l h =
-    elim (seen A l.opener l.phase l.near l.far l.to_near l.to_far h) [
+    elim (seen A l.opener l.phase l.opener_end l.other_end l.to_opener l.to_other h) [
       | inr drops ↦ inr (record { side = A; drops = drops })
-      | inl a ↦ elim (seen B l.opener l.phase l.near l.far l.to_near l.to_far h) [
+      | inl a ↦ elim (seen B l.opener l.phase l.opener_end l.other_end l.to_opener l.to_other h) [
         | inr drops ↦ inr (record { side = B; drops = drops })
-        | inl b ↦ inl (both_still l.opener l.phase l.near l.far l.to_near l.to_far h a.still b.still)
+        | inl b ↦ inl (both_still l.opener l.phase l.opener_end l.other_end l.to_opener l.to_other h a.still b.still)
       ]
     ]
 

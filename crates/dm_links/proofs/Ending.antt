@@ -1,11 +1,12 @@
 -- From rest each clean run comes to a phase, whoever wins.
-use Rattle.std.proofs.Common.{◌≡◌, suc, ◌+◌, true, false, Option, Some, None, IfSome, List, [], length, refl, sym, ◌∙◌, arith, inl, inr}
+use Rattle.std.proofs.Common.{◌≡◌, suc, ◌+◌, true, false, Option, Some, None, IfSome, List, [], length, refl, sym, ◌∙◌}
+use Rattle.std.proofs.Common.{arith, inl, inr}
 use Rattle.std.proofs.lemmas.Bool.{cases_Bool, not-true, not-false}
 use Rattle.dm_links.specs.Links.{Side, A, B}
 use Rattle.dm_links.specs.Peers.{Peers}
 use Rattle.dm_links.specs.Worlds.{World}
-use Rattle.dm_links.specs.Happens.{Happening, Ran, run}
-use Rattle.dm_links.specs.Quiet.{is_clean, made, steps}
+use Rattle.dm_links.specs.Happens.{Happening, RunEnd, run}
+use Rattle.dm_links.specs.Quiet.{is_clean, links_made, steps_taken}
 use Rattle.dm_links.specs.Electing.{Talks, IsElecting}
 use Rattle.dm_links.specs.Settled.{IsAtRest}
 use Rattle.dm_links.proofs.Pairs.{IsPair, ab, ba}
@@ -15,23 +16,23 @@ use Rattle.dm_links.proofs.Settling.{bare, begins}
 
 module _ {P M C H : Type 0} (m : Peers P M) (t : Talks P M C H) where
   -- what a run has come to, for the side that wins and the other
-  abbrev pub EndedAt : (g l : Side) → World P M → List (Happening M) → Ran P M → Type 0
-  EndedAt g l w hs r = Ended m t g l (0 + steps m w hs) (made m g w hs) (made m l w hs) r
+  abbrev pub EndedAt : (g l : Side) → World P M → List (Happening M) → RunEnd P M → Type 0
+  EndedAt g l w hs r = Ended m t g l (0 + steps_taken m w hs) (links_made m g w hs) (links_made m l w hs) r
 
   -- what holds of each such run
-  abbrev pub HoldsAtEnd : World P M → List (Happening M) → (Ran P M → Type 0) → Type 0
+  abbrev pub HoldsAtEnd : World P M → List (Happening M) → (RunEnd P M → Type 0) → Type 0
   HoldsAtEnd w hs K =
-      (g l : Side) → IsPair g l → t.wins g ≡ true → t.wins l ≡ false → (r : Ran P M) → run m w hs ≡ Some r →
+      (g l : Side) → IsPair g l → t.wins g ≡ true → t.wins l ≡ false → (r : RunEnd P M) → run m w hs ≡ Some r →
       EndedAt g l w hs r → K r
 
-  found_end : (w : World P M) (hs : List (Happening M)) (K : Ran P M → Type 0) → HoldsAtEnd w hs K → (g l : Side) →
-      IsPair g l → t.wins g ≡ true → t.wins l ≡ false → (o : Option (Ran P M)) → run m w hs ≡ o →
+  found_end : (w : World P M) (hs : List (Happening M)) (K : RunEnd P M → Type 0) → HoldsAtEnd w hs K → (g l : Side) →
+      IsPair g l → t.wins g ≡ true → t.wins l ≡ false → (o : Option (RunEnd P M)) → run m w hs ≡ o →
       IfSome o (λ r. EndedAt g l w hs r) → IfSome o (λ r. K r)
   found_end w hs K holds g l pair wins loses None e z = tt
   found_end w hs K holds g l pair wins loses (Some r) e z = holds g l pair wins loses r e z
 
   run_ends : IsElecting m t → (w : World P M) (hs : List (Happening M)) → is_clean hs ≡ true →
-      (K : Ran P M → Type 0) → HoldsAtEnd w hs K → (g l : Side) → IsPair g l → t.wins g ≡ true → t.wins l ≡ false →
+      (K : RunEnd P M → Type 0) → HoldsAtEnd w hs K → (g l : Side) → IsPair g l → t.wins g ≡ true → t.wins l ≡ false →
       InPhase m t g l w C1 (length w.links) (suc (length w.links)) → IfSome (run m w hs) (λ r. K r)
   run_ends el w hs clean K holds g l pair wins loses q =
       found_end w hs K holds g l pair wins loses (run m w hs) refl
@@ -40,7 +41,7 @@ module _ {P M C H : Type 0} (m : Peers P M) (t : Talks P M C H) where
       (omega arith))
 
   pub each_ends : IsElecting m t → (w : World P M) → IsAtRest m t w → (hs : List (Happening M)) →
-      is_clean hs ≡ true → (K : Ran P M → Type 0) → HoldsAtEnd w hs K → IfSome (run m w hs) (λ r. K r)
+      is_clean hs ≡ true → (K : RunEnd P M → Type 0) → HoldsAtEnd w hs K → IfSome (run m w hs) (λ r. K r)
   each_ends el w rest hs clean K holds =
       let a = bare (m.node_of w.a) rest.shaped_a rest.closed_a in
       let b = bare (m.node_of w.b) rest.shaped_b rest.closed_b in

@@ -1,16 +1,22 @@
 -- Each happening keeps a world sound.
-use Rattle.std.proofs.Common.{◌≡◌, ℕ, ◌+◌, ◌≤◌, ◌==◌, Bool, true, false, not, ◌&&◌, nat_lt, if◌then◌else◌, Option, Some, None, List, [], ◌∷◌, length, slice_get, refl, sym, ap, subst, ◌∙◌, arith, inl, inr}
+use Rattle.std.proofs.Common.{◌≡◌, ℕ, ◌+◌, ◌≤◌, ◌==◌, Bool, true, false, not, ◌&&◌, nat_lt, if◌then◌else◌, Option, Some}
+use Rattle.std.proofs.Common.{None, List, [], ◌∷◌, length, slice_get, refl, sym, ap, subst, ◌∙◌, arith, inl, inr}
 use Rattle.std.proofs.lemmas.Bool.{cases_eq}
 use Rattle.std.proofs.lemmas.Bool.Decides.{nat_tests}
 use Rattle.std.proofs.lemmas.Option.{slice_get_within}
-use Rattle.dm_links.specs.Machine.{conn, Node, Concern, Elsewhere, AcksIt, NacksIt, EndsIt, HeardOnIt, if_named, Tie, tie_of}
-use Rattle.dm_links.specs.Links.{Side, A, B, flip, opens, LinkPhase, Pending, Up, Cancelled, End, Fresh, Open, Shut, Mark, NoMark, Coming, Delivered, Link, View, view_of, by_side}
+use Rattle.dm_links.specs.Machine.{conn, Node, Concern, Elsewhere, AcksIt, NacksIt, EndsIt, HeardOnIt, concern_if_named}
+use Rattle.dm_links.specs.Machine.{Tie, tie_of}
+use Rattle.dm_links.specs.Links.{Side, A, B, flip, opens, LinkPhase, Pending, Up, Cancelled, End, Fresh, Open, Shut}
+use Rattle.dm_links.specs.Links.{Mark, NoMark, Coming, Delivered, Link, View, view_of, by_side}
 use Rattle.dm_links.specs.Peers.{Event, Start, Gone, Arrived, Reply, Acts, Declines, Peers, concern_by}
 use Rattle.dm_links.specs.Steps.{entered}
-use Rattle.dm_links.specs.Worlds.{World, peer_at, with_peer, with_links, change_at, After, Done, Ignored, answered, told}
-use Rattle.dm_links.specs.Happens.{Next, NextMessage, NextDisconnect, NextNothing, next_in, comes, delivered, taking, pieced, if_up, if_pending, at_link, own_view, world_after}
+use Rattle.dm_links.specs.Worlds.{World, peer_at, with_peer, with_links, change_at, After, Done, Ignored, after_reply}
+use Rattle.dm_links.specs.Worlds.{tell}
+use Rattle.dm_links.specs.Happens.{Next, NextMessage, NextDisconnect, NextNothing, next_in, comes, deliver_next}
+use Rattle.dm_links.specs.Happens.{take_part, deliver_part, if_up, if_pending, at_link, own_view, world_after}
 use Rattle.dm_links.specs.Follows.{IsMachine}
-use Rattle.dm_links.specs.Facts.{Standing, turned, is_empty, is_sound, is_up, is_shut, is_coming, standing, IsSoundView, IsSoundLink, AreSound, IsSound}
+use Rattle.dm_links.specs.Facts.{Standing, turned_over, is_empty, is_sound_standing, is_up, is_shut, is_coming}
+use Rattle.dm_links.specs.Facts.{standing_of, IsSoundView, IsSoundLink, AreSound, IsSoundWorld}
 use Rattle.dm_links.proofs.Columns.{messages_at}
 use Rattle.dm_links.proofs.Every.{at_bool}
 use Rattle.dm_links.proofs.Checks.{is_when, is_handed, standing_entered, spent_of}
@@ -18,22 +24,22 @@ use Rattle.dm_links.proofs.Ties.{MachineLaws, ties_kept}
 use Rattle.dm_links.proofs.Lists.{IsStart, view_link, mapped_some, change_at-tested, length-change_at}
 use Rattle.dm_links.proofs.Keeps.{Hands, step_keeps, start_keeps, flip_link, sound_flip}
 
-pub side_sound : {P M : Type 0} (m : Peers P M) (s : Side) (w : World P M) → IsSound m w →
+pub side_sound : {P M : Type 0} (m : Peers P M) (s : Side) (w : World P M) → IsSoundWorld m w →
     AreSound s (m.node_of (peer_at s w)) (m.node_of (peer_at (flip s) w)) w.links
 side_sound m A w good = good
 side_sound m B w good = sound_flip A (m.node_of w.a) (m.node_of w.b) w.links good
 
 pub sound_back : {P M : Type 0} (m : Peers P M) (s : Side) (w : World P M) (p : P) (links : List (Link M)) →
-    AreSound s (m.node_of p) (m.node_of (peer_at (flip s) w)) links → IsSound m (with_peer s p links w)
+    AreSound s (m.node_of p) (m.node_of (peer_at (flip s) w)) links → IsSoundWorld m (with_peer s p links w)
 sound_back m A w p links good = good
 sound_back m B w p links good = sound_flip B (m.node_of p) (m.node_of w.a) links good
 
 -- a peer takes an event that is no Start
 answered_sound : {P M : Type 0} (m : Peers P M) → MachineLaws → IsMachine m →
-    (s : Side) (e : Event M) (w : World P M) (r : Reply P M) → m.reply (peer_at s w) e ≡ r → IsSound m w →
+    (s : Side) (e : Event M) (w : World P M) (r : Reply P M) → m.reply (peer_at s w) e ≡ r → IsSoundWorld m w →
     Hands s (m.node_of (peer_at s w)) (m.node_of (peer_at (flip s) w)) e w.links → (IsStart e → ⊥) →
     ((c : ℕ) → length w.links ≤ c → concern_by e (conn c) ≡ Elsewhere) →
-    IsSound m (world_after w (answered m s e w r))
+    IsSoundWorld m (world_after w (after_reply m s e w r))
 answered_sound m laws is s e w Declines eq good hands no_start later = good
 answered_sound m laws is s e w (Acts actions p) eq good hands no_start later =
     let g = side_sound m s w good in
@@ -44,7 +50,7 @@ answered_sound m laws is s e w (Acts actions p) eq good hands no_start later =
 
 pub started_sound : {P M : Type 0} (m : Peers P M) → MachineLaws → IsMachine m →
     (s : Side) (w : World P M) (r : Reply P M) → m.reply (peer_at s w) (Start (conn (length w.links))) ≡ r →
-    IsSound m w → IsSound m (world_after w (answered m s (Start (conn (length w.links))) w r))
+    IsSoundWorld m w → IsSoundWorld m (world_after w (after_reply m s (Start (conn (length w.links))) w r))
 started_sound m laws is s w Declines eq good = good
 started_sound {P} {M} m laws is s w (Acts actions p) eq good =
     let g = side_sound m s w good in
@@ -55,23 +61,23 @@ started_sound {P} {M} m laws is s w (Acts actions p) eq good =
 
 -- an event that concerns no link
 pub calm_sound : {P M : Type 0} (m : Peers P M) → MachineLaws → IsMachine m →
-    (s : Side) (e : Event M) (w : World P M) → IsSound m w → (IsStart e → ⊥) →
-    ((c : ℕ) → concern_by e (conn c) ≡ Elsewhere) → IsSound m (world_after w (told m s e w))
+    (s : Side) (e : Event M) (w : World P M) → IsSoundWorld m w → (IsStart e → ⊥) →
+    ((c : ℕ) → concern_by e (conn c) ≡ Elsewhere) → IsSoundWorld m (world_after w (tell m s e w))
 calm_sound m laws is s e w good no_start calm =
     answered_sound m laws is s e w (m.reply (peer_at s w) e) refl good
     (record {
       handed = λ d l at. subst
           (λ k. is_handed (opens s l.opener) k
-          (standing (tie_of (m.node_of (peer_at s w)) d) (tie_of (m.node_of (peer_at (flip s) w)) d)
+          (standing_of (tie_of (m.node_of (peer_at s w)) d) (tie_of (m.node_of (peer_at (flip s) w)) d)
           (view_of (opens s l.opener) l)) ≡ true) (sym (calm d)) refl;
     })
     no_start (λ c h. calm c)
 
 -- an event that concerns one link
-named_here : (c : ℕ) (k : Concern) → if_named (conn c) (conn c) k ≡ k
+named_here : (c : ℕ) (k : Concern) → concern_if_named (conn c) (conn c) k ≡ k
 named_here c k = grind (arith, nat_tests)
 
-named_other : (c d : ℕ) (k : Concern) → (d ≡ c → ⊥) → if_named (conn c) (conn d) k ≡ Elsewhere
+named_other : (c d : ℕ) (k : Concern) → (d ≡ c → ⊥) → concern_if_named (conn c) (conn d) k ≡ Elsewhere
 named_other c d k h = grind (arith, nat_tests)
 
 pub same_link : {X : Type 0} (xs : List X) (c : ℕ) (x y : X) → slice_get xs c ≡ Some x → slice_get xs c ≡ Some y →
@@ -79,32 +85,33 @@ pub same_link : {X : Type 0} (xs : List X) (c : ℕ) (x y : X) → slice_get xs 
 same_link xs c x y h k = cc
 
 pub hands_at : {M : Type 0} (s : Side) (own other : Node) (e : Event M) (k : Concern) (links : List (Link M)) (c : ℕ)
-    (l : Link M) → slice_get links c ≡ Some l → ((d : ℕ) → concern_by e (conn d) ≡ if_named (conn c) (conn d) k) →
+    (l : Link M) → slice_get links c ≡ Some l → ((d : ℕ) → concern_by e (conn d)
+    ≡ concern_if_named (conn c) (conn d) k) →
     is_handed (opens s l.opener) k
-    (standing (tie_of own c) (tie_of other c) (view_of (opens s l.opener) l)) ≡ true → Hands s own other e links
+    (standing_of (tie_of own c) (tie_of other c) (view_of (opens s l.opener) l)) ≡ true → Hands s own other e links
 hands_at {M} s own other e k links c l at names handed =
     let F : Concern → ℕ → Link M →
     Type 0 = λ x d y. is_handed (opens s y.opener) x
-    (standing (tie_of own d) (tie_of other d) (view_of (opens s y.opener) y)) ≡ true in
+    (standing_of (tie_of own d) (tie_of other d) (view_of (opens s y.opener) y)) ≡ true in
     record {
       handed = λ d y there. elim (cases_eq d c) [
         | inl same ↦
             let is = same_link links c l y at (subst (λ n. slice_get links n ≡ Some y) same there) in
             let here : concern_by e (conn d) ≡ k = names d
-            ∙ (ap (λ n. if_named (conn c) (conn n) k) same ∙ named_here c k) in
+            ∙ (ap (λ n. concern_if_named (conn c) (conn n) k) same ∙ named_here c k) in
             subst (λ x. F x d y) (sym here) (subst (λ n. F k n y) (sym same) (subst (λ x. F k c x) is handed))
         | inr other_link ↦ subst (λ x. F x d y) (sym (names d ∙ named_other c d k other_link)) refl
       ];
     }
 
 pub one_sound : {P M : Type 0} (m : Peers P M) → MachineLaws → IsMachine m →
-    (s : Side) (e : Event M) (k : Concern) (w : World P M) (c : ℕ) (l : Link M) → IsSound m w →
+    (s : Side) (e : Event M) (k : Concern) (w : World P M) (c : ℕ) (l : Link M) → IsSoundWorld m w →
     slice_get w.links c ≡ Some l →
-    ((d : ℕ) → concern_by e (conn d) ≡ if_named (conn c) (conn d) k) → (IsStart e → ⊥) →
+    ((d : ℕ) → concern_by e (conn d) ≡ concern_if_named (conn c) (conn d) k) → (IsStart e → ⊥) →
     is_handed (opens s l.opener) k
-    (standing (tie_of (m.node_of (peer_at s w)) c) (tie_of (m.node_of (peer_at (flip s) w)) c)
+    (standing_of (tie_of (m.node_of (peer_at s w)) c) (tie_of (m.node_of (peer_at (flip s) w)) c)
     (view_of (opens s l.opener) l)) ≡ true →
-    IsSound m (world_after w (told m s e w))
+    IsSoundWorld m (world_after w (tell m s e w))
 one_sound m laws is s e k w c l good at names no_start handed =
     let lt = slice_get_within w.links c l at in
     answered_sound m laws is s e w (m.reply (peer_at s w) e) refl good
@@ -112,9 +119,9 @@ one_sound m laws is s e k w c l good at names no_start handed =
     no_start (λ d h. names d ∙ named_other c d k (λ (q : d ≡ c). absurd (omega (arith, lt, h, q))))
 
 -- one link alone is changed
-pub change_sound : {P M : Type 0} (m : Peers P M) (w : World P M) (c : ℕ) (f : Link M → Link M) → IsSound m w →
+pub change_sound : {P M : Type 0} (m : Peers P M) (w : World P M) (c : ℕ) (f : Link M → Link M) → IsSoundWorld m w →
     ((l : Link M) → slice_get w.links c ≡ Some l → IsSoundLink A (m.node_of w.a) (m.node_of w.b) c (f l)) →
-    IsSound m (with_links (change_at c f w.links) w)
+    IsSoundWorld m (with_links (change_at c f w.links) w)
 change_sound {P} {M} m w c f good h =
     let len = length-change_at c f w.links in
     let S : ℕ → Link M → Type 0 = λ n l. IsSoundLink A (m.node_of w.a) (m.node_of w.b) n l in
@@ -144,11 +151,11 @@ to_a m A w c l h = h
 to_a m B w c l h = flip_link B l.opener (tie_of (m.node_of w.b) c) (tie_of (m.node_of w.a) c) l h
 
 side_changed : {P M : Type 0} (m : Peers P M) (s : Side) (w : World P M) (c : ℕ) (f : View M → View M) →
-    IsSound m w →
+    IsSoundWorld m w →
     ((l : Link M) → slice_get w.links c ≡ Some l →
     IsSoundView (opens s l.opener) (tie_of (m.node_of (peer_at s w)) c)
     (tie_of (m.node_of (peer_at (flip s) w)) c) (f (view_of (opens s l.opener) l))) →
-    IsSound m (with_links (change_at c (by_side s f) w.links) w)
+    IsSoundWorld m (with_links (change_at c (by_side s f) w.links) w)
 side_changed m s w c f good h =
     change_sound m w c (by_side s f) good (λ l at.
     let mine = opens s l.opener in
@@ -165,11 +172,11 @@ shut_heard : {M : Type 0} (mine : Bool) (t u : Tie) (v : View M) (x : M) (xs : L
     v.own ≡ Shut → v.incoming.messages ≡ x ∷ xs → IsSoundView mine t u v →
     IsSoundView mine t u (entered HeardOnIt v)
 shut_heard mine t u v x xs p q ms good =
-    let s = standing t u v in
+    let s = standing_of t u v in
     let here = is_when (is_up s.phase && is_shut s.own) _ (spent_of mine HeardOnIt s good)
     (handed_shut HeardOnIt s p q) in
     let waits : not s.in_empty ≡ true = ap (λ ys. not (is_empty ys)) ms in
-    at_bool (λ ie. is_sound (turned mine (standing_entered HeardOnIt ie s)))
+    at_bool (λ ie. is_sound_standing (turned_over mine (standing_entered HeardOnIt ie s)))
     (is_when (not s.in_empty) _ here waits) (is_empty (messages_at HeardOnIt v.incoming.messages))
 
 empty_coming : (s : Standing) → s.in_empty ≡ true → s.in_mark ≡ Coming → (s.in_empty && is_coming s.in_mark) ≡ true
@@ -179,7 +186,7 @@ shut_ended : {M : Type 0} (mine : Bool) (t u : Tie) (v : View M) → v.phase ≡
     v.incoming.messages ≡ [] → v.incoming.mark ≡ Coming → IsSoundView mine t u v →
     IsSoundView mine t u (entered EndsIt v)
 shut_ended mine t u v p q ms mk good =
-    let s = standing t u v in
+    let s = standing_of t u v in
     let here = is_when (is_up s.phase && is_shut s.own) _ (spent_of mine EndsIt s good)
     (handed_shut EndsIt s p q) in
     is_when (s.in_empty && is_coming s.in_mark) _ here (empty_coming s (ap (λ ys. is_empty ys) ms) mk)
@@ -206,13 +213,13 @@ pub record Meant {P M : Type 0} (m : Peers P M) (s : Side) (w : World P M) (c : 
 
 -- a link's standing at a side
 abbrev pub standing_at : {P M : Type 0} → Peers P M → Side → World P M → ℕ → Link M → Standing
-standing_at m s w c l = standing (tie_of (m.node_of (peer_at s w)) c) (tie_of (m.node_of (peer_at (flip s) w)) c)
+standing_at m s w c l = standing_of (tie_of (m.node_of (peer_at s w)) c) (tie_of (m.node_of (peer_at (flip s) w)) c)
     (own_view s l)
 
 heard_sound : {P M : Type 0} (m : Peers P M) → MachineLaws → IsMachine m →
-    (s : Side) (w : World P M) (c : ℕ) (l : Link M) (end : End) (x : M) (xs : List M) → IsSound m w →
+    (s : Side) (w : World P M) (c : ℕ) (l : Link M) (end : End) (x : M) (xs : List M) → IsSoundWorld m w →
     Meant m s w c l end → (own_view s l).incoming.messages ≡ x ∷ xs →
-    IsSound m (world_after w (comes m s (Arrived (conn c) x) end w))
+    IsSoundWorld m (world_after w (comes m s (Arrived (conn c) x) end w))
 heard_sound m laws is s w c l Shut x xs good meant ms =
     side_changed m s w c (entered HeardOnIt) good (λ k at.
     let same = same_link w.links c l k meant.there at in
@@ -230,9 +237,9 @@ heard_sound m laws is s w c l Fresh x xs good meant ms =
     (ap (λ ys. is_empty ys) ms))
 
 ended_sound : {P M : Type 0} (m : Peers P M) → MachineLaws → IsMachine m →
-    (s : Side) (w : World P M) (c : ℕ) (l : Link M) (end : End) → IsSound m w → Meant m s w c l end →
+    (s : Side) (w : World P M) (c : ℕ) (l : Link M) (end : End) → IsSoundWorld m w → Meant m s w c l end →
     (own_view s l).incoming.messages ≡ [] → (own_view s l).incoming.mark ≡ Coming →
-    IsSound m (world_after w (comes m s (Gone (conn c)) end w))
+    IsSoundWorld m (world_after w (comes m s (Gone (conn c)) end w))
 ended_sound m laws is s w c l Shut good meant ms mk =
     side_changed m s w c (entered EndsIt) good (λ k at.
     let same = same_link w.links c l k meant.there at in
@@ -249,72 +256,74 @@ ended_sound m laws is s w c l Fresh good meant ms mk =
     (handed_ended (opens s l.opener) (standing_at m s w c l) Fresh refl meant.up meant.ends
     (ap (λ ys. is_empty ys) ms) mk)
 
-pub next_message : {M : Type 0} (ms : List M) (mark : Mark) (x : M) → next_in ms mark ≡ NextMessage x →
+pub next_is_message : {M : Type 0} (ms : List M) (mark : Mark) (x : M) → next_in ms mark ≡ NextMessage x →
     (xs : List M) × (ms ≡ x ∷ xs)
-next_message (y ∷ ys) mark x h = (ys, cc)
-next_message [] NoMark x h = cc
-next_message [] Coming x h = cc
-next_message [] Delivered x h = cc
+next_is_message (y ∷ ys) mark x h = (ys, cc)
+next_is_message [] NoMark x h = cc
+next_is_message [] Coming x h = cc
+next_is_message [] Delivered x h = cc
 
-pub next_disconnect : {M : Type 0} (ms : List M) (mark : Mark) → next_in ms mark ≡ NextDisconnect →
+pub next_is_disconnect : {M : Type 0} (ms : List M) (mark : Mark) → next_in ms mark ≡ NextDisconnect →
     (ms ≡ []) × (mark ≡ Coming)
-next_disconnect (y ∷ ys) mark h = cc
-next_disconnect [] NoMark h = cc
-next_disconnect [] Coming h = (refl, refl)
-next_disconnect [] Delivered h = cc
+next_is_disconnect (y ∷ ys) mark h = cc
+next_is_disconnect [] NoMark h = cc
+next_is_disconnect [] Coming h = (refl, refl)
+next_is_disconnect [] Delivered h = cc
 
 pub delivered_sound : {P M : Type 0} (m : Peers P M) → MachineLaws → IsMachine m →
-    (s : Side) (w : World P M) (c : ℕ) (l : Link M) (next : Next M) → IsSound m w →
+    (s : Side) (w : World P M) (c : ℕ) (l : Link M) (next : Next M) → IsSoundWorld m w →
     Meant m s w c l (own_view s l).own →
     next_in (own_view s l).incoming.messages (own_view s l).incoming.mark ≡ next →
-    IsSound m (world_after w (delivered m c s (own_view s l).own next w))
+    IsSoundWorld m (world_after w (deliver_next m c s (own_view s l).own next w))
 delivered_sound m laws is s w c l NextNothing good meant n = good
 delivered_sound m laws is s w c l (NextMessage x) good meant n =
-    let ms = next_message (own_view s l).incoming.messages (own_view s l).incoming.mark x n in
+    let ms = next_is_message (own_view s l).incoming.messages (own_view s l).incoming.mark x n in
     heard_sound m laws is s w c l (own_view s l).own x ms.0 good meant ms.1
 delivered_sound m laws is s w c l NextDisconnect good meant n =
-    let ms = next_disconnect (own_view s l).incoming.messages (own_view s l).incoming.mark n in
+    let ms = next_is_disconnect (own_view s l).incoming.messages (own_view s l).incoming.mark n in
     ended_sound m laws is s w c l (own_view s l).own good meant ms.0 ms.1
 
 pub if_sound : {P M : Type 0} (m : Peers P M) (w : World P M) (b : Bool) (x y : After P M) →
-    IsSound m (world_after w x) → IsSound m (world_after w y) → IsSound m (world_after w (if b then x else y))
+    IsSoundWorld m (world_after w x) → IsSoundWorld m (world_after w y) →
+    IsSoundWorld m (world_after w (if b then x else y))
 if_sound m w true x y g h = g
 if_sound m w false x y g h = h
 
-taken_sound : {P M : Type 0} (m : Peers P M) (s : Side) (w : World P M) (c k : ℕ) → IsSound m w →
-    IsSound m (with_links (change_at c (by_side s (taking k)) w.links) w)
-taken_sound m s w c k good = side_changed m s w c (taking k) good (λ l at. (side_sound m s w good).each c l at)
+taken_sound : {P M : Type 0} (m : Peers P M) (s : Side) (w : World P M) (c k : ℕ) → IsSoundWorld m w →
+    IsSoundWorld m (with_links (change_at c (by_side s (take_part k)) w.links) w)
+taken_sound m s w c k good = side_changed m s w c (take_part k) good (λ l at. (side_sound m s w good).each c l at)
 
 pub pieced_sound : {P M : Type 0} (m : Peers P M) → MachineLaws → IsMachine m →
-    (s : Side) (w : World P M) (c k taken : ℕ) (l : Link M) (next : Next M) → IsSound m w →
+    (s : Side) (w : World P M) (c k taken : ℕ) (l : Link M) (next : Next M) → IsSoundWorld m w →
     Meant m s w c l (own_view s l).own →
     next_in (own_view s l).incoming.messages (own_view s l).incoming.mark ≡ next →
-    IsSound m (world_after w (pieced m c s k (own_view s l).own taken next w))
+    IsSoundWorld m (world_after w (deliver_part m c s k (own_view s l).own taken next w))
 pieced_sound m laws is s w c k taken l NextNothing good meant n = good
 pieced_sound m laws is s w c k taken l NextDisconnect good meant n = good
 pieced_sound m laws is s w c k taken l (NextMessage x) good meant n =
-    let ms = next_message (own_view s l).incoming.messages (own_view s l).incoming.mark x n in
+    let ms = next_is_message (own_view s l).incoming.messages (own_view s l).incoming.mark x n in
     if_sound m w (nat_lt (taken + k) (m.size x))
-    (Done (with_links (change_at c (by_side s (taking k)) w.links) w) [])
+    (Done (with_links (change_at c (by_side s (take_part k)) w.links) w) [])
     (comes m s (Arrived (conn c) x) (own_view s l).own w)
     (taken_sound m s w c k good) (heard_sound m laws is s w c l (own_view s l).own x ms.0 good meant ms.1)
 
 -- only where the link is up, or pending
 pub up_sound : {P M : Type 0} (m : Peers P M) (w : World P M) (p : LinkPhase) (x : After P M) →
-    (p ≡ Up → IsSound m (world_after w x)) → IsSound m w → IsSound m (world_after w (if_up p x Ignored))
+    (p ≡ Up → IsSoundWorld m (world_after w x)) → IsSoundWorld m w → IsSoundWorld m (world_after w (if_up p x Ignored))
 up_sound m w Up x h good = h refl
 up_sound m w Pending x h good = good
 up_sound m w Cancelled x h good = good
 
 pub pending_sound : {P M : Type 0} (m : Peers P M) (w : World P M) (p : LinkPhase) (x : After P M) →
-    (p ≡ Pending → IsSound m (world_after w x)) → IsSound m w → IsSound m (world_after w (if_pending p x Ignored))
+    (p ≡ Pending → IsSoundWorld m (world_after w x)) → IsSoundWorld m w →
+    IsSoundWorld m (world_after w (if_pending p x Ignored))
 pending_sound m w Pending x h good = h refl
 pending_sound m w Up x h good = good
 pending_sound m w Cancelled x h good = good
 
 pub there_sound : {P M : Type 0} (m : Peers P M) (w : World P M) (o : Option (Link M)) (f : Link M → After P M) →
-    ((l : Link M) → o ≡ Some l → IsSound m (world_after w (f l))) → IsSound m w →
-    IsSound m (world_after w (at_link o f))
+    ((l : Link M) → o ≡ Some l → IsSoundWorld m (world_after w (f l))) → IsSoundWorld m w →
+    IsSoundWorld m (world_after w (at_link o f))
 there_sound m w None f h good = good
 there_sound m w (Some l) f h good = h l refl
 

@@ -1,8 +1,10 @@
 -- A test at every value of a small type, by computing it at each.
 use Rattle.std.proofs.Common.{◌≡◌, ℕ, zero, suc, Bool, true, false, ◌&&◌, List, [], ◌∷◌, refl}
 use Rattle.std.proofs.lemmas.Bool.{and_parts}
-use Rattle.dm_links.specs.Machine.{Concern, Elsewhere, StartsIt, AcksIt, NacksIt, EndsIt, HeardOnIt, Tie, Unheld, Connecting, Made, MadeOpen, Taken}
-use Rattle.dm_links.specs.Links.{LinkPhase, Pending, Up, Cancelled, End, Fresh, Open, Shut, Mark, NoMark, Coming, Delivered}
+use Rattle.dm_links.specs.Machine.{Concern, Elsewhere, StartsIt, AcksIt, NacksIt, EndsIt, HeardOnIt, Tie, Unheld}
+use Rattle.dm_links.specs.Machine.{Connecting, Made, MadeOpen, Taken}
+use Rattle.dm_links.specs.Links.{LinkPhase, Pending, Up, Cancelled, End, Fresh, Open, Shut, Mark, NoMark, Coming}
+use Rattle.dm_links.specs.Links.{Delivered}
 use Rattle.dm_links.specs.Facts.{Standing}
 
 unfoldable pub all_true : List Bool → Bool

@@ -4,12 +4,13 @@ use Rattle.std.proofs.lemmas.Bool.{le-leb}
 use Rattle.dm_links.specs.Links.{Side}
 use Rattle.dm_links.specs.Peers.{Peers}
 use Rattle.dm_links.specs.Worlds.{World}
-use Rattle.dm_links.specs.Happens.{Happening, Ran}
-use Rattle.dm_links.specs.Quiet.{made, steps}
+use Rattle.dm_links.specs.Happens.{Happening, RunEnd}
+use Rattle.dm_links.specs.Quiet.{links_made, steps_taken}
 use Rattle.dm_links.specs.Electing.{Talks, IsElecting}
 use Rattle.dm_links.specs.Falling.{NothingComes, FallsQuiet}
 use Rattle.dm_links.proofs.Pairs.{IsPair}
-use Rattle.dm_links.proofs.Phases.{Phase, C1, C2, C3, C4, C5, C6, C7, C8, C9, C25, stage_g, stage_l, depth, present, InPhase}
+use Rattle.dm_links.proofs.Phases.{Phase, C1, C2, C3, C4, C5, C6, C7, C8, C9, C25, stage_g, stage_l, depth, present}
+use Rattle.dm_links.proofs.Phases.{InPhase}
 use Rattle.dm_links.proofs.Running.{Ended}
 use Rattle.dm_links.proofs.Settling.{Rests, only_g, only_l, both, by_pair}
 use Rattle.dm_links.proofs.Onward.{onward}
@@ -50,19 +51,19 @@ module _ {P M C H : Type 0} (m : Peers P M) (t : Talks P M C H) where
   at_least a n d h k = let low : a ≤ d = omega (arith, h, k) in le-leb a d low
 
   pub falls_at : IsElecting m t → (g l : Side) → IsPair g l → t.wins g ≡ true → t.wins l ≡ false →
-      (w : World P M) (hs : List (Happening M)) (r : Ran P M) →
-      Ended m t g l (0 + steps m w hs) (made m g w hs) (made m l w hs) r → FallsQuiet m t w hs r
+      (w : World P M) (hs : List (Happening M)) (r : RunEnd P M) →
+      Ended m t g l (0 + steps_taken m w hs) (links_made m g w hs) (links_made m l w hs) r → FallsQuiet m t w hs r
   falls_at el g l pair wins loses w hs r z =
       record {
         at_end = λ none. quiet_end m t g l r.world z.k z.x z.y z.phase
             (ended_rests el g l pair wins loses r.world z.k z.x z.y z.phase none);
         nine = λ n. quiet_end m t g l r.world z.k z.x z.y z.phase
-            (deep_rests z.k (at_least 9 (steps m w hs) (depth z.k) n z.reached));
+            (deep_rests z.k (at_least 9 (steps_taken m w hs) (depth z.k) n z.reached));
         four = λ alone n. quiet_end m t g l r.world z.k z.x z.y z.phase
             (elim (by_pair m t g l pair w hs alone) [
               | inl none ↦ alone_rests_l z.k z.x (sym z.made_g ∙ none)
-                  (at_least 4 (steps m w hs) (depth z.k) n z.reached)
+                  (at_least 4 (steps_taken m w hs) (depth z.k) n z.reached)
               | inr none ↦ alone_rests_g z.k z.y (sym z.made_l ∙ none)
-                  (at_least 4 (steps m w hs) (depth z.k) n z.reached)
+                  (at_least 4 (steps_taken m w hs) (depth z.k) n z.reached)
             ]);
       }

@@ -1,13 +1,14 @@
 -- A clean run can be brought to rest by Acks and deliveries, with nine steps in all.
-use Rattle.std.proofs.Common.{◌≡◌, ℕ, zero, suc, ◌+◌, ◌-◌, true, false, Some, None, IfSome, List, [], ◌∷◌, ◌++◌, length, refl, sym, ap, subst, ◌∙◌, arith, inl, inr, ◌≤◌, append-nil}
+use Rattle.std.proofs.Common.{◌≡◌, ℕ, zero, suc, ◌+◌, ◌-◌, true, false, Some, None, IfSome, List, [], ◌∷◌, ◌++◌, length}
+use Rattle.std.proofs.Common.{refl, sym, ap, subst, ◌∙◌, arith, inl, inr, ◌≤◌, append-nil}
 use Rattle.std.proofs.lemmas.Bool.{and_from, leb-true}
 use Rattle.dm_links.specs.Links.{Side}
 use Rattle.dm_links.specs.Peers.{Peers}
 use Rattle.dm_links.specs.Worlds.{World, Put, After, Done}
-use Rattle.dm_links.specs.Happens.{Happening, Acks, Delivers, happens, Ran, ran_on, run_from, run}
-use Rattle.dm_links.specs.Quiet.{is_clean_one, made, makes, kept_of, kept, cost, steps}
+use Rattle.dm_links.specs.Happens.{Happening, Acks, Delivers, happens, RunEnd, ran_on, run_from, run}
+use Rattle.dm_links.specs.Quiet.{is_clean_one, links_made, makes, kept_of, kept, cost, steps_taken}
 use Rattle.dm_links.specs.Electing.{Talks, IsElecting}
-use Rattle.dm_links.specs.Settled.{AreOpenOn}
+use Rattle.dm_links.specs.Settled.{AreOpenOnKept}
 use Rattle.dm_links.specs.Falling.{is_ack_or_delivery, are_acks_or_deliveries, CanFallQuiet}
 use Rattle.dm_links.proofs.Pairs.{IsPair}
 use Rattle.dm_links.proofs.Phases.{Phase, stage_g, stage_l, depth, present, InPhase, Went, stays, is_lost, moves}
@@ -64,11 +65,11 @@ module _ {P M C H : Type 0} (m : Peers P M) (t : Talks P M C H) where
   makes_none s w _ after e = cc
 
   -- the rest of the run
-  record Finish (g l : Side) (k : Phase) (x y n : ℕ) (r : Ran P M) : Type 0 where
+  record Finish (g l : Side) (k : Phase) (x y n : ℕ) (r : RunEnd P M) : Type 0 where
     pub more : List (Happening M)
     pub only : are_acks_or_deliveries more ≡ true
     pub few : length more ≤ n
-    pub end : Ran P M
+    pub end : RunEnd P M
     pub ran : run_from m (Some r) more ≡ Some end
     pub k' : Phase
     pub x' : ℕ
@@ -78,7 +79,7 @@ module _ {P M C H : Type 0} (m : Peers P M) (t : Talks P M C H) where
     pub same_g : present (stage_g k) x ≡ present (stage_g k') x'
     pub same_l : present (stage_l k) y ≡ present (stage_l k') y'
 
-  rests_here : (g l : Side) (n : ℕ) (k : Phase) (x y : ℕ) (r : Ran P M) → InPhase m t g l r.world k x y → Rests k →
+  rests_here : (g l : Side) (n : ℕ) (k : Phase) (x y : ℕ) (r : RunEnd P M) → InPhase m t g l r.world k x y → Rests k →
       Finish g l k x y n r
   rests_here g l n k x y r q rests =
       record {
@@ -97,7 +98,8 @@ module _ {P M C H : Type 0} (m : Peers P M) (t : Talks P M C H) where
       }
 
   next_at : IsElecting m t → (g l : Side) → IsPair g l → t.wins g ≡ true → t.wins l ≡ false →
-      (k : Phase) (x y : ℕ) (w : World P M) → InPhase m t g l w k x y → (o : StepOnward m t w) → Further g l k x y o.world
+      (k : Phase) (x y : ℕ) (w : World P M) → InPhase m t g l w k x y → (o : StepOnward m t w) →
+      Further g l k x y o.world
   next_at el g l pair wins loses k x y w q o =
       further_of g l k x y (cost m w o.h) (happens m w o.h) (makes g w o.h (happens m w o.h))
       (makes l w o.h (happens m w o.h))
@@ -109,7 +111,7 @@ module _ {P M C H : Type 0} (m : Peers P M) (t : Talks P M C H) where
   too_deep d d' a b c = omega (arith, a, b, c)
 
   finish : IsElecting m t → (g l : Side) → IsPair g l → t.wins g ≡ true → t.wins l ≡ false →
-      (n : ℕ) (k : Phase) (x y : ℕ) (r : Ran P M) → InPhase m t g l r.world k x y → 9 ≤ depth k + n →
+      (n : ℕ) (k : Phase) (x y : ℕ) (r : RunEnd P M) → InPhase m t g l r.world k x y → 9 ≤ depth k + n →
       Finish g l k x y n r
   finish el g l pair wins loses zero k x y r q low =
       elim (onward m t el g l pair wins loses r.world k x y q) [
@@ -146,8 +148,8 @@ module _ {P M C H : Type 0} (m : Peers P M) (t : Talks P M C H) where
 
   -- a run that has come to a phase
   pub can_at : IsElecting m t → (g l : Side) → IsPair g l → t.wins g ≡ true → t.wins l ≡ false →
-      (w : World P M) (hs : List (Happening M)) (r : Ran P M) → run m w hs ≡ Some r →
-      Ended m t g l (0 + steps m w hs) (made m g w hs) (made m l w hs) r → CanFallQuiet m t w hs
+      (w : World P M) (hs : List (Happening M)) (r : RunEnd P M) → run m w hs ≡ Some r →
+      Ended m t g l (0 + steps_taken m w hs) (links_made m g w hs) (links_made m l w hs) r → CanFallQuiet m t w hs
   can_at el g l pair wins loses w hs r e z =
       let deep = leb-true (depth z.k) 9 (nine_depth z.k) in
       let f = finish el g l pair wins loses (9 - depth z.k) z.k z.x z.y r z.phase (omega (arith, deep)) in
@@ -156,7 +158,7 @@ module _ {P M C H : Type 0} (m : Peers P M) (t : Talks P M C H) where
       let named : kept m t.wins w hs ≡ kept_of l (present (stage_l f.k') f.y')
       (kept_of g (present (stage_g f.k') f.x') None) =
       kept_by m t g l pair wins loses w hs
-      ∙ (ap (λ ns. kept_of l ns (kept_of g (made m g w hs) None)) (z.made_l ∙ f.same_l)
+      ∙ (ap (λ ns. kept_of l ns (kept_of g (links_made m g w hs) None)) (z.made_l ∙ f.same_l)
       ∙ ap (λ ns. kept_of l (present (stage_l f.k') f.y') (kept_of g ns None)) (z.made_g ∙ f.same_g)) in
       record {
         more = f.more;
@@ -166,6 +168,6 @@ module _ {P M C H : Type 0} (m : Peers P M) (t : Talks P M C H) where
         runs = run_joined m (Some (record { world = w; put = [] })) hs f.more
             ∙ (ap (λ q. run_from m q f.more) e ∙ f.ran);
         quiet = quiet_end m t g l f.end.world f.k' f.x' f.y' f.phase f.rests;
-        opened = subst (λ q. IfSome q (λ k. AreOpenOn m f.end.world k)) (sym named)
+        opened = subst (λ q. IfSome q (λ k. AreOpenOnKept m f.end.world k)) (sym named)
             (opened_end m t g l pair f.end.world f.k' f.x' f.y' f.phase f.rests);
       }

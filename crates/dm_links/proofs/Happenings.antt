@@ -1,20 +1,27 @@
 -- Losses, restarts, and all happenings together.
-use Rattle.std.proofs.Common.{◌≡◌, ℕ, suc, ◌+◌, ◌-◌, ◌≤◌, ◌==◌, Bool, true, false, nat_le, if◌then◌else◌, Some, List, [], ◌∷◌, length, slice_get, refl, sym, ap, subst, ◌∙◌, arith, ◌⊎◌, inl, inr}
+use Rattle.std.proofs.Common.{◌≡◌, ℕ, suc, ◌+◌, ◌-◌, ◌≤◌, ◌==◌, Bool, true, false, nat_le, if◌then◌else◌, Some, List}
+use Rattle.std.proofs.Common.{[], ◌∷◌, length, slice_get, refl, sym, ap, subst, ◌∙◌, arith, ◌⊎◌, inl, inr}
 use Rattle.std.proofs.lemmas.Option.{slice_get-map}
 use Rattle.dm_links.specs.Machine.{conn, Elsewhere, AcksIt, NacksIt, Tie, Unheld, tie_of, closed_node}
-use Rattle.dm_links.specs.Links.{Side, A, flip, opens, LinkPhase, Pending, Up, Cancelled, End, Mark, NoMark, Coming, Delivered, Direction, Link, View, view_of, by_side}
+use Rattle.dm_links.specs.Links.{Side, A, flip, opens, LinkPhase, Pending, Up, Cancelled, End, Mark, NoMark, Coming}
+use Rattle.dm_links.specs.Links.{Delivered, Direction, Link, View, view_of, by_side}
 use Rattle.dm_links.specs.Peers.{Start, Stop, Timeout, Tick, Ack, Nack, Submit, Peers}
 use Rattle.dm_links.specs.Worlds.{World, peer_at, with_peer, with_links, change_at, Ignored}
-use Rattle.dm_links.specs.Happens.{Happening, Starts, Stops, TimesOut, Ticks, Restarts, Acks, Nacks, Delivers, Pieces, Loses, Submits, next_in, whole_in, lost_messages, kept_at, lost_link, are_shut, restarted, restart_links, own_view, happens, world_after}
+use Rattle.dm_links.specs.Happens.{Happening, Starts, Stops, TimesOut, Ticks, Restarts, Acks, Nacks, Delivers, Pieces}
+use Rattle.dm_links.specs.Happens.{Loses, Submits, next_in, whole_in, lost_messages, kept_at, lost_link, are_shut}
+use Rattle.dm_links.specs.Happens.{restarted, restart_links, own_view, happens, world_after}
 use Rattle.dm_links.specs.Follows.{IsMachine}
-use Rattle.dm_links.specs.Facts.{turned, is_empty, is_sound, is_up, standing, IsSoundView, IsSoundLink, AreSound, IsSound}
+use Rattle.dm_links.specs.Facts.{turned_over, is_empty, is_sound_standing, is_up, standing_of, IsSoundView, IsSoundLink}
+use Rattle.dm_links.specs.Facts.{AreSound, IsSoundWorld}
 use Rattle.dm_links.proofs.Columns.{summed}
 use Rattle.dm_links.proofs.Checks.{standing_after, closes_own, restart_of, lost_of}
 use Rattle.dm_links.proofs.Ties.{MachineLaws}
 use Rattle.dm_links.proofs.Views.{nothing_summed, shut_is_summed}
 use Rattle.dm_links.proofs.Lists.{view_link, mapped_some}
 use Rattle.dm_links.proofs.Keeps.{put_in}
-use Rattle.dm_links.proofs.Events.{side_sound, sound_back, started_sound, calm_sound, one_sound, change_sound, delivered_sound, pieced_sound, if_sound, same_link, up_sound, pending_sound, there_sound, opens_self, handed_ack, handed_nack, standing_at}
+use Rattle.dm_links.proofs.Events.{side_sound, sound_back, started_sound, calm_sound, one_sound, change_sound}
+use Rattle.dm_links.proofs.Events.{delivered_sound, pieced_sound, if_sound, same_link, up_sound, pending_sound}
+use Rattle.dm_links.proofs.Events.{there_sound, opens_self, handed_ack, handed_nack, standing_at}
 
 -- a loss
 whole_empty : {M : Type 0} (b : Bool) (x : M) (kept rest : List M) →
@@ -40,17 +47,17 @@ up_is p h = rw h refl
 lost_view : {M : Type 0} (size : M → ℕ) (a b : ℕ) (mine : Bool) (t u : Tie) (l : Link M) → l.phase ≡ Up →
     IsSoundView mine t u (view_of mine l) → IsSoundView mine t u (view_of mine (lost_link size a b l))
 lost_view size a b true t u l p good =
-    lost_of (standing t u (view_of true l)) _ _ good (up_is l.phase p)
-    (lost_empty size (kept_at l.opener a b + l.to_near.taken) l.to_near.mark l.to_near.messages)
-    (lost_empty size (kept_at (flip l.opener) a b + l.to_far.taken) l.to_far.mark l.to_far.messages)
+    lost_of (standing_of t u (view_of true l)) _ _ good (up_is l.phase p)
+    (lost_empty size (kept_at l.opener a b + l.to_opener.taken) l.to_opener.mark l.to_opener.messages)
+    (lost_empty size (kept_at (flip l.opener) a b + l.to_other.taken) l.to_other.mark l.to_other.messages)
 lost_view size a b false t u l p good =
-    lost_of (turned false (standing t u (view_of false l))) _ _ good (up_is l.phase p)
-    (lost_empty size (kept_at l.opener a b + l.to_near.taken) l.to_near.mark l.to_near.messages)
-    (lost_empty size (kept_at (flip l.opener) a b + l.to_far.taken) l.to_far.mark l.to_far.messages)
+    lost_of (turned_over false (standing_of t u (view_of false l))) _ _ good (up_is l.phase p)
+    (lost_empty size (kept_at l.opener a b + l.to_opener.taken) l.to_opener.mark l.to_opener.messages)
+    (lost_empty size (kept_at (flip l.opener) a b + l.to_other.taken) l.to_other.mark l.to_other.messages)
 
-lost_sound : {P M : Type 0} (m : Peers P M) (w : World P M) (c a b : ℕ) (l : Link M) → IsSound m w →
+lost_sound : {P M : Type 0} (m : Peers P M) (w : World P M) (c a b : ℕ) (l : Link M) → IsSoundWorld m w →
     slice_get w.links c ≡ Some l → l.phase ≡ Up →
-    IsSound m (with_links (change_at c (lost_link m.size a b) w.links) w)
+    IsSoundWorld m (with_links (change_at c (lost_link m.size a b) w.links) w)
 lost_sound {P} {M} m w c a b l good at p =
     change_sound m w c (lost_link m.size a b) good (λ k there.
     let same = same_link w.links c l k at there in
@@ -60,13 +67,13 @@ lost_sound {P} {M} m w c a b l good at p =
 
 -- a restart
 summed_sound : {M : Type 0} (mine closed : Bool) (t u : Tie) (v : View M) →
-    is_sound (turned mine
+    is_sound_standing (turned_over mine
     (standing_after Elsewhere Unheld closed (is_empty v.incoming.messages) (is_empty v.outgoing.messages)
-    (standing t u v))) ≡ true → IsSoundView mine Unheld u (summed closed [] v)
+    (standing_of t u v))) ≡ true → IsSoundView mine Unheld u (summed closed [] v)
 summed_sound mine closed t u v h =
     put_in false closed v.phase v.outgoing.mark
-    (λ oe. is_sound (turned mine
-    (standing_after Elsewhere Unheld closed (is_empty v.incoming.messages) oe (standing t u v))))
+    (λ oe. is_sound_standing (turned_over mine
+    (standing_after Elsewhere Unheld closed (is_empty v.incoming.messages) oe (standing_of t u v))))
     [] v.outgoing.messages h (λ e. refl) (λ a b. cc)
 
 pub restarted_at : {M : Type 0} (mine : Bool) (p : LinkPhase) (own other : End) (i o : Direction M) →
@@ -89,14 +96,14 @@ restart_view : {M : Type 0} (mine : Bool) (t u : Tie) (v : View M) → IsSoundVi
     IsSoundView mine Unheld u (restarted mine v)
 restart_view mine t u v good =
     subst (λ x. IsSoundView mine Unheld u x) (sym (restarted_at mine v.phase v.own v.other v.incoming v.outgoing))
-    (summed_sound mine (closes_own mine v.phase) t u v (restart_of mine (standing t u v) good))
+    (summed_sound mine (closes_own mine v.phase) t u v (restart_of mine (standing_of t u v) good))
 
 length-restart : {M : Type 0} (s : Side) (links : List (Link M)) → length (restart_links s links) ≡ length links
 length-restart s [] = refl
 length-restart s (l ∷ links) = ap (λ n. suc n) (length-restart s links)
 
-restart_sound : {P M : Type 0} (m : Peers P M) → IsMachine m → (s : Side) (w : World P M) → IsSound m w →
-    IsSound m (with_peer s (m.reset (peer_at s w)) (restart_links s w.links) w)
+restart_sound : {P M : Type 0} (m : Peers P M) → IsMachine m → (s : Side) (w : World P M) → IsSoundWorld m w →
+    IsSoundWorld m (with_peer s (m.reset (peer_at s w)) (restart_links s w.links) w)
 restart_sound {P} {M} m is s w good =
     let g = side_sound m s w good in
     let own = m.node_of (peer_at s w) in
@@ -123,7 +130,7 @@ restart_sound {P} {M} m is s w good =
 
 -- one happening, and all
 pub happens_sound : {P M : Type 0} (m : Peers P M) → MachineLaws → IsMachine m →
-    (w : World P M) (h : Happening M) → IsSound m w → IsSound m (world_after w (happens m w h))
+    (w : World P M) (h : Happening M) → IsSoundWorld m w → IsSoundWorld m (world_after w (happens m w h))
 happens_sound m laws is w (Starts s) good = started_sound m laws is s w
     (m.reply (peer_at s w) (Start (conn (length w.links)))) refl good
 happens_sound m laws is w (Stops s cause) good = calm_sound m laws is s (Stop cause) w good (λ h. elim h [ ])
@@ -159,4 +166,4 @@ happens_sound m laws is w (Pieces c s k) good =
 happens_sound m laws is w (Loses c a b) good =
     there_sound m w (slice_get w.links c) _ (λ l at.
     up_sound m w l.phase _
-    (λ p. if_sound m w (are_shut l.near l.far) Ignored _ good (lost_sound m w c a b l good at p)) good) good
+    (λ p. if_sound m w (are_shut l.opener_end l.other_end) Ignored _ good (lost_sound m w c a b l good at p)) good) good

@@ -1,10 +1,12 @@
 -- Which ends may still hand something up, and which directions have no disconnect, at a step of either side.
 use Rattle.std.proofs.Common.{◌≡◌, Bool, true, false, not, ◌&&◌, ◌||◌, refl, ap}
 use Rattle.dm_links.specs.Machine.{Concern, AcksIt, EndsIt, HeardOnIt}
-use Rattle.dm_links.specs.Links.{LinkPhase, Pending, Up, Cancelled, End, Fresh, Open, Shut, Mark, NoMark, Coming, Delivered}
+use Rattle.dm_links.specs.Links.{LinkPhase, Pending, Up, Cancelled, End, Fresh, Open, Shut, Mark, NoMark, Coming}
+use Rattle.dm_links.specs.Links.{Delivered}
 use Rattle.dm_links.specs.Steps.{own_settled}
 use Rattle.dm_links.specs.Facts.{is_up, is_pending, is_open_end, is_shut, is_none, is_coming}
-use Rattle.dm_links.proofs.Columns.{phase_at, own_at, other_at, incoming_mark_at, outgoing_mark_at, phase_after, own_after, mark_after}
+use Rattle.dm_links.proofs.Columns.{phase_at, own_at, other_at, incoming_mark_at, outgoing_mark_at, phase_after}
+use Rattle.dm_links.proofs.Columns.{own_after, mark_after}
 use Rattle.dm_links.proofs.Every.{all_true, every_bool, every_concern, every_phase, every_end, every_mark}
 use Rattle.dm_links.proofs.Checks.{when}
 

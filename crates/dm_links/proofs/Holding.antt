@@ -3,9 +3,11 @@ use Rattle.std.proofs.Common.{◌≡◌, ℕ, true, false, List, [], ◌∷◌, 
 use Rattle.std.proofs.lemmas.Bool.{and_parts}
 use Rattle.std.proofs.lemmas.Bool.Decides.{nat_tests}
 use Rattle.dm_machine.specs.declared.state_name.State.{State}
-use Rattle.dm_machine.specs.declared.state_name.State.TheVariants.{Closed, WaitConnAck, WaitICea, WaitConnAckElect, WaitReturns, ROpen, IOpen, Closing}
+use Rattle.dm_machine.specs.declared.state_name.State.TheVariants.{Closed, WaitConnAck, WaitICea, WaitConnAckElect}
+use Rattle.dm_machine.specs.declared.state_name.State.TheVariants.{WaitReturns, ROpen, IOpen, Closing}
 use Rattle.dm_machine.specs.Node.{is_held_in, is_count_of}
-use Rattle.dm_links.specs.Machine.{Conn, Role, Initiated, Accepted, Node, node_at, is_shaped, is_same_role, tie_of, is_held}
+use Rattle.dm_links.specs.Machine.{Conn, Role, Initiated, Accepted, Node, node_at, is_shaped, is_same_role, tie_of}
+use Rattle.dm_links.specs.Machine.{is_held}
 use Rattle.dm_links.specs.Joining.{StandsOn}
 use Rattle.dm_links.proofs.Checks.{is_connecting, is_taken}
 

@@ -7,7 +7,7 @@ use Rattle.dm_links.specs.Machine.{Accepted, Node, is_same_role, tie_of, is_held
 use Rattle.dm_links.specs.Links.{Side, A, B, flip, opens, LinkPhase, Pending, Up, Cancelled}
 use Rattle.dm_links.specs.Peers.{Peers}
 use Rattle.dm_links.specs.Worlds.{World, peer_at}
-use Rattle.dm_links.specs.Facts.{is_pending, IsSound}
+use Rattle.dm_links.specs.Facts.{is_pending, IsSoundWorld}
 use Rattle.dm_links.specs.Quiet.{is_quiet_link, is_quiet}
 use Rattle.dm_links.specs.Joining.{StandsOn, AreJoined, both_closed, on_one, is_returning, QuietIsJoined}
 use Rattle.dm_links.proofs.Checks.{is_when, is_connecting, is_taken, same_bool, conclusion}
@@ -61,7 +61,7 @@ pairs a b k (two i r st hi ti hr tr) (one role c st' h t only') =
 pairs a b k (two i r st hi ti hr tr) (two i' r' st' hi' ti' hr' tr') = inr (st, st')
 
 -- two sides of a quiet world
-opposed_at : {P M : Type 0} (m : Peers P M) (w : World P M) → IsSound m w → (c : ℕ) →
+opposed_at : {P M : Type 0} (m : Peers P M) (w : World P M) → IsSoundWorld m w → (c : ℕ) →
     is_held (tie_of (m.node_of w.a) c) ≡ true → is_held (tie_of (m.node_of w.b) c) ≡ true →
     not (same_bool (is_taken (tie_of (m.node_of w.a) c)) (is_taken (tie_of (m.node_of w.b) c))) ≡ true
 opposed_at m w good c h h' =
@@ -76,7 +76,7 @@ pending_loud Pending b e h = cc
 pending_loud Up b e h = cc
 pending_loud Cancelled b e h = cc
 
-calm_at : {P M : Type 0} (m : Peers P M) (w : World P M) → IsSound m w → is_quiet w ≡ true → (s : Side) (c : ℕ) →
+calm_at : {P M : Type 0} (m : Peers P M) (w : World P M) → IsSoundWorld m w → is_quiet w ≡ true → (s : Side) (c : ℕ) →
     is_held (tie_of (m.node_of (peer_at s w)) c) ≡ true →
     is_connecting (tie_of (m.node_of (peer_at s w)) c) ≡ true → ⊥
 calm_at m w good quiet s c h p =
@@ -98,8 +98,8 @@ one_lost : {P M : Type 0} (m : Peers P M) (w : World P M) (s : Side) →
 one_lost m w A h e f = not_lost (m.node_of w.a).state e h
 one_lost m w B h e f = not_lost (m.node_of w.b).state f h
 
-pub quiet_is_joined : {P M : Type 0} → QuietIsJoined P M
-quiet_is_joined m w good quiet s away =
+pub quiet_is_joined_proof : {P M : Type 0} → QuietIsJoined P M
+quiet_is_joined_proof m w good quiet s away =
     let a = m.node_of w.a in
     let b = m.node_of w.b in
     elim (pairs a b

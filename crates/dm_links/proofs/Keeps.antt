@@ -1,19 +1,27 @@
 -- An event that a side's peer takes keeps the links sound.
-use Rattle.std.proofs.Common.{◌≡◌, ℕ, zero, suc, ◌+◌, ◌≤◌, Bool, true, false, ◌&&◌, Some, List, [], ◌∷◌, ◌++◌, length, map, slice_get, refl, sym, ap, subst, ◌∙◌, arith, ◌⊎◌, inl, inr, append-nil, length-append}
+use Rattle.std.proofs.Common.{◌≡◌, ℕ, zero, suc, ◌+◌, ◌≤◌, Bool, true, false, ◌&&◌, Some, List, [], ◌∷◌, ◌++◌, length}
+use Rattle.std.proofs.Common.{map, slice_get, refl, sym, ap, subst, ◌∙◌, arith, ◌⊎◌, inl, inr, append-nil}
+use Rattle.std.proofs.Common.{length-append}
 use Rattle.std.proofs.lemmas.Bool.Decides.{nat_tests}
 use Rattle.std.proofs.lemmas.Option.{slice_get_within}
-use Rattle.dm_links.specs.Machine.{conn, Node, Concern, Elsewhere, StartsIt, AcksIt, NacksIt, EndsIt, HeardOnIt, Tie, Unheld, Connecting, Made, MadeOpen, Taken, tie_of, is_held}
-use Rattle.dm_links.specs.Links.{Side, A, B, flip, opens, LinkPhase, Pending, Up, Cancelled, Mark, NoMark, Coming, Delivered, Link, View, view_of, link_of, by_side, new_link}
+use Rattle.dm_links.specs.Machine.{conn, Node, Concern, Elsewhere, StartsIt, AcksIt, NacksIt, EndsIt, HeardOnIt, Tie}
+use Rattle.dm_links.specs.Machine.{Unheld, Connecting, Made, MadeOpen, Taken, tie_of, is_held}
+use Rattle.dm_links.specs.Links.{Side, A, B, flip, opens, LinkPhase, Pending, Up, Cancelled, Mark, NoMark, Coming}
+use Rattle.dm_links.specs.Links.{Delivered, Link, View, view_of, link_of, by_side, new_link}
 use Rattle.dm_links.specs.Peers.{Event, Start, Action, deed_of, closes_at, sends_at, concern_by}
 use Rattle.dm_links.specs.Steps.{added, settled}
 use Rattle.dm_links.specs.Worlds.{takes, enter, perform, settle}
-use Rattle.dm_links.specs.Facts.{turned, is_empty, is_sound, standing, IsSoundView, IsSoundLink, AreSound}
-use Rattle.dm_links.proofs.Columns.{phase_at, messages_at, outgoing_mark_at, summed, acted, words_at, is_closed_at, stepped}
+use Rattle.dm_links.specs.Facts.{turned_over, is_empty, is_sound_standing, standing_of, IsSoundView, IsSoundLink}
+use Rattle.dm_links.specs.Facts.{AreSound}
+use Rattle.dm_links.proofs.Columns.{phase_at, messages_at, outgoing_mark_at, summed, acted, words_at, is_closed_at}
+use Rattle.dm_links.proofs.Columns.{stepped}
 use Rattle.dm_links.proofs.Every.{at_bool}
-use Rattle.dm_links.proofs.Checks.{is_ready, is_allowed, is_handed, after_pop, after_put, puts_in, standing_after, step_at}
+use Rattle.dm_links.proofs.Checks.{is_ready, is_allowed, is_handed, after_pop, after_put, puts_in, standing_after}
+use Rattle.dm_links.proofs.Checks.{step_at}
 use Rattle.dm_links.proofs.Ties.{KeepsTies}
 use Rattle.dm_links.proofs.Views.{acted_entered, acted_summed, unsent_unsaid, sent_said}
-use Rattle.dm_links.proofs.Lists.{IsStart, view_link, mapped_some, performed_at, length-perform, length-enter, length-settle, stepped_at}
+use Rattle.dm_links.proofs.Lists.{IsStart, view_link, mapped_some, performed_at, length-perform, length-enter}
+use Rattle.dm_links.proofs.Lists.{length-settle, stepped_at}
 
 popped : {M : Type 0} (k : Concern) (f : Bool → Bool) (ms : List M) → after_pop k (is_empty ms) f ≡ true →
     f (is_empty (messages_at k ms)) ≡ true
@@ -53,17 +61,18 @@ put_in false closed Cancelled mark f words old h g k = h
 -- a step keeps a link sound, in the view of the side that steps
 view_keeps : {M : Type 0} (mine : Bool) (k : Concern) (own own' other : Tie) (d : ℕ) (actions : List (Action M))
     (v : View M) →
-    IsSoundView mine own other v → is_handed mine k (standing own other v) ≡ true →
+    IsSoundView mine own other v → is_handed mine k (standing_of own other v) ≡ true →
     (is_ready k own ≡ true →
     is_allowed k own own' (closes_at d (map deed_of actions)) (sends_at d (map deed_of actions)) ≡ true) →
     IsSoundView mine own' other (stepped k (is_held own') d actions v)
 view_keeps mine k own own' other d actions v good handed law =
-    let s = standing own other v in
+    let s = standing_of own other v in
     let closed = is_closed_at d actions in
     let sent = sends_at d (map deed_of actions) in
     let words = words_at d actions in
     let step = step_at mine k s good handed in
-    let result : Bool → Bool → Bool = λ ie oe. is_sound (turned mine (standing_after k own' closed ie oe s)) in
+    let result : Bool → Bool → Bool = λ ie oe. is_sound_standing
+    (turned_over mine (standing_after k own' closed ie oe s)) in
     let pop = popped k (λ ie. after_put (puts_in k sent s) closed s.out_empty (λ oe. result ie oe)) v.incoming.messages
     (step.after own' closed sent (law step.ready)) in
     let put = put_in sent closed (phase_at k v.phase) (outgoing_mark_at k v.own v.outgoing.mark)
@@ -76,7 +85,7 @@ pub link_keeps : {M : Type 0} (s : Side) (own own' other : Node) (e : Event M) (
     (l : Link M) →
     IsSoundLink s own other d l →
     is_handed (opens s l.opener) (concern_by e (conn d))
-    (standing (tie_of own d) (tie_of other d) (view_of (opens s l.opener) l)) ≡ true →
+    (standing_of (tie_of own d) (tie_of other d) (view_of (opens s l.opener) l)) ≡ true →
     KeepsTies own e actions own' →
     IsSoundLink s own' other d
     (by_side s (stepped (concern_by e (conn d)) (is_held (tie_of own' d)) d actions) l)
@@ -93,7 +102,7 @@ link_keeps s own own' other e actions d l good handed ties =
 pub record Hands {M : Type 0} (s : Side) (own other : Node) (e : Event M) (links : List (Link M)) : Type 0 where
   pub handed : (d : ℕ) (l : Link M) → slice_get links d ≡ Some l →
       is_handed (opens s l.opener) (concern_by e (conn d))
-      (standing (tie_of own d) (tie_of other d) (view_of (opens s l.opener) l)) ≡ true
+      (standing_of (tie_of own d) (tie_of other d) (view_of (opens s l.opener) l)) ≡ true
 
 stays_unheld : (t : Tie) (closed sent : Bool) → is_allowed Elsewhere Unheld t closed sent ≡ true → t ≡ Unheld
 stays_unheld Unheld closed sent h = refl
@@ -142,19 +151,19 @@ step_keeps s own own' other e actions links good hands ties no_start later =
     }
 
 -- a Start makes the next link
-is_start : (t : Tie) (closed sent : Bool) → is_allowed StartsIt Unheld t closed sent ≡ true →
+start_connects : (t : Tie) (closed sent : Bool) → is_allowed StartsIt Unheld t closed sent ≡ true →
     (t ≡ Connecting) × (closed ≡ false) × (sent ≡ false)
-is_start Connecting false false h = (refl, refl, refl)
-is_start Connecting false true h = cc
-is_start Connecting true sent h = cc
-is_start Unheld true sent h = cc
-is_start Unheld false sent h = cc
-is_start Made true sent h = cc
-is_start Made false sent h = cc
-is_start MadeOpen true sent h = cc
-is_start MadeOpen false sent h = cc
-is_start Taken true sent h = cc
-is_start Taken false sent h = cc
+start_connects Connecting false false h = (refl, refl, refl)
+start_connects Connecting false true h = cc
+start_connects Connecting true sent h = cc
+start_connects Unheld true sent h = cc
+start_connects Unheld false sent h = cc
+start_connects Made true sent h = cc
+start_connects Made false sent h = cc
+start_connects MadeOpen true sent h = cc
+start_connects MadeOpen false sent h = cc
+start_connects Taken true sent h = cc
+start_connects Taken false sent h = cc
 
 new_sound : (M : Type 0) (s : Side) (own other : Tie) → own ≡ Connecting → other ≡ Unheld →
     IsSoundView {M = M} (opens s s) own other (view_of (opens s s) (new_link s))
@@ -197,7 +206,7 @@ start_keeps {M} s own own' other actions links good ties =
     is_allowed x t (tie_of own' c0) closed sent ≡ true in
     let law : F StartsIt Unheld = subst (λ t. F StartsIt t) (good.own_later c0 (omega arith))
     (subst (λ x. F x (tie_of own c0)) (start_here c0) (ties.changes c0)) in
-    let new = is_start (tie_of own' c0) closed sent (law refl) in
+    let new = start_connects (tie_of own' c0) closed sent (law refl) in
     record {
       own_shaped = ties.shaped;
       other_shaped = good.other_shaped;
@@ -213,7 +222,7 @@ start_keeps {M} s own own' other actions links good ties =
                 let G : Concern → Type 0 = λ x. IsSoundLink s own' other c
                 (by_side s (stepped x (is_held (tie_of own' c)) c actions) old.0) in
                 let handed : is_handed mine (concern_by e (conn c))
-                (standing (tie_of own c) (tie_of other c) (view_of mine old.0)) ≡ true = rw k refl in
+                (standing_of (tie_of own c) (tie_of other c) (view_of mine old.0)) ≡ true = rw k refl in
                 let kept = subst G k
                 (link_keeps s own own' other e actions c old.0 (good.each c old.0 there) handed ties) in
                 subst (λ x. IsSoundLink s own' other c x) (sym old.2) kept

@@ -7,11 +7,12 @@ use Rattle.dm_machine.specs.declared.inputs.Word.TheVariants.{Other}
 use Rattle.dm_machine.specs.declared.outputs.Command.TheVariants as command
 use Rattle.dm_machine.specs.Moves.{Outcome, Moved, Refused}
 use Rattle.dm_machine.specs.Deeds.{Deed, deed_of_command}
-use Rattle.dm_links.specs.Peers.{Event, Start, Stop, Timeout, Tick, Ack, Nack, Gone, Submit, Arrived, concern_by, deed_of}
-use Rattle.dm_links.specs.Follows.{input_told, IsRefusedByMachine, MayDecline, Follows}
-use Rattle.dm_links.specs.Kinds.{Kin, input_of, action_of, reply_by, kinds, KindsAreAMachine, TwoRuns}
+use Rattle.dm_links.specs.Peers.{Event, Start, Stop, Timeout, Tick, Ack, Nack, Gone, Submit, Arrived, concern_by}
+use Rattle.dm_links.specs.Peers.{deed_of}
+use Rattle.dm_links.specs.Follows.{input_told, IsRefusedByMachine, MayDecline, FollowsMachine}
+use Rattle.dm_links.specs.Kinds.{KindPeer, kind_input, kind_action, reply_by, kinds, KindsAreAMachine, TwoRuns}
 
-same_deed : (a : Command) → deed_of (action_of a) ≡ deed_of_command a
+same_deed : (a : Command) → deed_of (kind_action a) ≡ deed_of_command a
 same_deed (command.Connect c) = refl
 same_deed (command.SendCer c) = refl
 same_deed (command.SendCea c) = refl
@@ -24,10 +25,10 @@ same_deed (command.SendSubmit c) = refl
 same_deed (command.Close c) = refl
 same_deed command.Up = refl
 
-same_deeds : (commands : List Command) → map deed_of (map action_of commands) ≡ map deed_of_command commands
+same_deeds : (commands : List Command) → map deed_of (map kind_action commands) ≡ map deed_of_command commands
 same_deeds [] = refl
 same_deeds (a ∷ more) =
-    ap (λ (o : Deed). o ∷ map deed_of (map action_of more)) (same_deed a)
+    ap (λ (o : Deed). o ∷ map deed_of (map kind_action more)) (same_deed a)
     ∙ ap (λ (os : List Deed). deed_of_command a ∷ os) (same_deeds more)
 
 named_as : (b : Bool) (k : machine.Concern) →
@@ -35,7 +36,7 @@ named_as : (b : Bool) (k : machine.Concern) →
 named_as true k = refl
 named_as false k = refl
 
-same_concern : (e : Event Word) (c : Conn) → concern_of (input_of e) c ≡ concern_by e c
+same_concern : (e : Event Word) (c : Conn) → concern_of (kind_input e) c ≡ concern_by e c
 same_concern (Start d) c = named_as (d.0 == c.0) machine.StartsIt
 same_concern (Stop cause) c = refl
 same_concern Timeout c = refl
@@ -50,7 +51,7 @@ word_in : Event Word → Word
 word_in (Arrived c w) = w
 word_in _ = Other
 
-same_input : (e : Event Word) → input_of e ≡ input_told e (word_in e)
+same_input : (e : Event Word) → kind_input e ≡ input_told e (word_in e)
 unfolding word_in
 same_input (Start c) = refl
 same_input (Stop cause) = refl
@@ -62,21 +63,21 @@ same_input (Gone c) = refl
 same_input (Submit w) = refl
 same_input (Arrived c w) = refl
 
-may_decline : (p : Kin) (e : Event Word) → IsRefusedByMachine kinds p e → MayDecline kinds p e
-may_decline p (Submit w) h = tt
-may_decline p (Start c) h = h
-may_decline p (Stop cause) h = h
-may_decline p Timeout h = h
-may_decline p Tick h = h
-may_decline p (Ack c) h = h
-may_decline p (Nack c) h = h
-may_decline p (Gone c) h = h
-may_decline p (Arrived c w) h = h
+may_decline_proof : (p : KindPeer) (e : Event Word) → IsRefusedByMachine kinds p e → MayDecline kinds p e
+may_decline_proof p (Submit w) h = tt
+may_decline_proof p (Start c) h = h
+may_decline_proof p (Stop cause) h = h
+may_decline_proof p Timeout h = h
+may_decline_proof p Tick h = h
+may_decline_proof p (Ack c) h = h
+may_decline_proof p (Nack c) h = h
+may_decline_proof p (Gone c) h = h
+may_decline_proof p (Arrived c w) h = h
 
-follows_by : (p : Kin) (e : Event Word) (o : Outcome) → outcome p.node (input_of e) p.wins ≡ o →
-    Follows kinds p e (reply_by p.wins o)
+follows_by : (p : KindPeer) (e : Event Word) (o : Outcome) → outcome p.node (kind_input e) p.wins ≡ o →
+    FollowsMachine kinds p e (reply_by p.wins o)
 follows_by p e (Refused r) h =
-    may_decline p e
+    may_decline_proof p e
     (record {
       word = word_in e;
       wins = p.wins;
@@ -85,7 +86,7 @@ follows_by p e (Refused r) h =
     })
 follows_by p e (Moved commands n) h =
     inl (record {
-      input = input_of e;
+      input = kind_input e;
       word = word_in e;
       wins = p.wins;
       commands = commands;
@@ -95,9 +96,9 @@ follows_by p e (Moved commands n) h =
       deeds = same_deeds commands;
     })
 
-pub kinds_are_a_machine : KindsAreAMachine
-kinds_are_a_machine =
-    record { follows = λ p e. follows_by p e (outcome p.node (input_of e) p.wins) refl; resets = λ p. refl }
+pub kinds_are_a_machine_proof : KindsAreAMachine
+kinds_are_a_machine_proof =
+    record { follows = λ p e. follows_by p e (outcome p.node (kind_input e) p.wins) refl; resets = λ p. refl }
 
-pub two_runs : TwoRuns
-two_runs = record { one_side = (refl, refl); both_sides = (refl, refl) }
+pub two_runs_proof : TwoRuns
+two_runs_proof = record { one_side = (refl, refl); both_sides = (refl, refl) }

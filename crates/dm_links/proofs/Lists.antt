@@ -1,14 +1,17 @@
 -- Links after an event and the actions that answer it: each is a link before, changed in the side's view.
-use Rattle.std.proofs.Common.{◌≡◌, ℕ, zero, suc, ◌==◌, Bool, true, false, if◌then◌else◌, Option, Some, None, List, [], ◌∷◌, length, slice_get, refl, sym, ap, subst, ◌∙◌, arith}
+use Rattle.std.proofs.Common.{◌≡◌, ℕ, zero, suc, ◌==◌, Bool, true, false, if◌then◌else◌, Option, Some, None, List, []}
+use Rattle.std.proofs.Common.{◌∷◌, length, slice_get, refl, sym, ap, subst, ◌∙◌, arith}
 use Rattle.std.specs.Prelude.{option_map}
 use Rattle.std.specs.List.{list_all}
 use Rattle.std.proofs.lemmas.Bool.{and_from}
 use Rattle.std.proofs.lemmas.Bool.Decides.{nat_tests}
-use Rattle.dm_links.specs.Machine.{Conn, conn, Node, Concern, Elsewhere, AcksIt, NacksIt, EndsIt, HeardOnIt, tie_of, is_held, if_named}
+use Rattle.dm_links.specs.Machine.{Conn, conn, Node, Concern, Elsewhere, AcksIt, NacksIt, EndsIt, HeardOnIt, tie_of}
+use Rattle.dm_links.specs.Machine.{is_held, concern_if_named}
 use Rattle.dm_links.specs.Links.{Side, opens, Link, View, view_of, link_of, by_side}
-use Rattle.dm_links.specs.Peers.{Event, Start, Stop, Timeout, Tick, Ack, Nack, Gone, Submit, Arrived, Action, Connect, Send, Close, concern_by}
+use Rattle.dm_links.specs.Peers.{Event, Start, Stop, Timeout, Tick, Ack, Nack, Gone, Submit, Arrived, Action, Connect}
+use Rattle.dm_links.specs.Peers.{Send, Close, concern_by}
 use Rattle.dm_links.specs.Peers as peers
-use Rattle.dm_links.specs.Steps.{entered, said, shut, settled}
+use Rattle.dm_links.specs.Steps.{entered, with_sent, with_close, settled}
 use Rattle.dm_links.specs.Worlds.{change_at, enter, perform, settle}
 use Rattle.dm_links.proofs.Columns.{acted, stepped}
 
@@ -106,30 +109,31 @@ pub performed_at : {M : Type 0} (s : Side) (actions : List (Action M)) (d : ℕ)
     slice_get (perform s actions links) d ≡ option_map (by_side s (acted d actions)) (slice_get links d)
 performed_at s [] d links = mapped_id s (slice_get links d)
 performed_at s (Send c m ∷ actions) d links =
-    performed_at s actions d (change_at c.0 (by_side s (said m)) links)
+    performed_at s actions d (change_at c.0 (by_side s (with_sent m)) links)
     ∙ (ap (option_map (by_side s (acted d actions)))
-    (change_at-tested c.0 d (c.0 == d) (by_side s (said m)) links refl)
-    ∙ mapped_if s (c.0 == d) (said m) (acted d actions) (slice_get links d))
+    (change_at-tested c.0 d (c.0 == d) (by_side s (with_sent m)) links refl)
+    ∙ mapped_if s (c.0 == d) (with_sent m) (acted d actions) (slice_get links d))
 performed_at s (Close c ∷ actions) d links =
-    performed_at s actions d (change_at c.0 (by_side s shut) links)
-    ∙ (ap (option_map (by_side s (acted d actions))) (change_at-tested c.0 d (c.0 == d) (by_side s shut) links refl)
-    ∙ mapped_if s (c.0 == d) shut (acted d actions) (slice_get links d))
+    performed_at s actions d (change_at c.0 (by_side s with_close) links)
+    ∙ (ap (option_map (by_side s (acted d actions))) (change_at-tested c.0 d (c.0 ==
+    d) (by_side s with_close) links refl)
+    ∙ mapped_if s (c.0 == d) with_close (acted d actions) (slice_get links d))
 performed_at s (Connect c ∷ actions) d links = performed_at s actions d links
 performed_at s (peers.Up m ∷ actions) d links = performed_at s actions d links
 
 pub length-perform : {M : Type 0} (s : Side) (actions : List (Action M)) (links : List (Link M)) →
     length (perform s actions links) ≡ length links
 length-perform s [] links = refl
-length-perform s (Send c m ∷ actions) links = length-perform s actions (change_at c.0 (by_side s (said m)) links)
-    ∙ length-change_at c.0 (by_side s (said m)) links
-length-perform s (Close c ∷ actions) links = length-perform s actions (change_at c.0 (by_side s shut) links)
-    ∙ length-change_at c.0 (by_side s shut) links
+length-perform s (Send c m ∷ actions) links = length-perform s actions (change_at c.0 (by_side s (with_sent m)) links)
+    ∙ length-change_at c.0 (by_side s (with_sent m)) links
+length-perform s (Close c ∷ actions) links = length-perform s actions (change_at c.0 (by_side s with_close) links)
+    ∙ length-change_at c.0 (by_side s with_close) links
 length-perform s (Connect c ∷ actions) links = length-perform s actions links
 length-perform s (peers.Up m ∷ actions) links = length-perform s actions links
 
 -- each link as the event reaches it, but for a Start
 pub data IsStart {M : Type 0} : Event M → Type 0 where
-  start : (c : Conn) → IsStart (Start c)
+  at_start : (c : Conn) → IsStart (Start c)
 
 entered_if : {M : Type 0} (s : Side) (k : Concern) (b : Bool) (l : Link M) →
     (if b then by_side s (entered k) l else l) ≡ by_side s (entered (if b then k else Elsewhere)) l
@@ -144,13 +148,13 @@ mapped_entered s k b (Some l) = ap (λ x. Some x) (entered_if s k b l)
 
 entered_named : {M : Type 0} (s : Side) (k : Concern) (c : Conn) (d : ℕ) (links : List (Link M)) →
     slice_get (change_at c.0 (by_side s (entered k)) links) d ≡ option_map
-    (by_side s (entered (if_named c (conn d) k))) (slice_get links d)
+    (by_side s (entered (concern_if_named c (conn d) k))) (slice_get links d)
 entered_named s k c d links = change_at-tested c.0 d (c.0 == d) (by_side s (entered k)) links refl
     ∙ mapped_entered s k (c.0 == d) (slice_get links d)
 
 pub entered_at : {M : Type 0} (s : Side) (e : Event M) (d : ℕ) (links : List (Link M)) → (IsStart e → ⊥) →
     slice_get (enter s e links) d ≡ option_map (by_side s (entered (concern_by e (conn d)))) (slice_get links d)
-entered_at s (Start c) d links h = absurd (h (start c))
+entered_at s (Start c) d links h = absurd (h (at_start c))
 entered_at s (Stop c) d links h = mapped_id s (slice_get links d)
 entered_at s Timeout d links h = mapped_id s (slice_get links d)
 entered_at s Tick d links h = mapped_id s (slice_get links d)
@@ -162,7 +166,7 @@ entered_at s (Arrived c m) d links h = entered_named s HeardOnIt c d links
 
 pub length-enter : {M : Type 0} (s : Side) (e : Event M) (links : List (Link M)) → (IsStart e → ⊥) →
     length (enter s e links) ≡ length links
-length-enter s (Start c) links h = absurd (h (start c))
+length-enter s (Start c) links h = absurd (h (at_start c))
 length-enter s (Stop c) links h = refl
 length-enter s Timeout links h = refl
 length-enter s Tick links h = refl
@@ -200,16 +204,16 @@ settled_named k false holds v h = refl
 pub settled_at : {M : Type 0} (s : Side) (e : Event M) (n : Node) (d : ℕ) (links : List (Link M)) →
     (IsStart e → ⊥) → slice_get (settle s e n links) d ≡ option_map
     (by_side s (settled (concern_by e (conn d)) (is_held (tie_of n d)))) (slice_get links d)
-settled_at s (Start c) n d links h = absurd (h (start c))
+settled_at s (Start c) n d links h = absurd (h (at_start c))
 settled_at s (Stop c) n d links h = unsettled s Elsewhere (slice_get links d) (is_held (tie_of n d)) (λ v. refl)
 settled_at s Timeout n d links h = unsettled s Elsewhere (slice_get links d) (is_held (tie_of n d)) (λ v. refl)
 settled_at s Tick n d links h = unsettled s Elsewhere (slice_get links d) (is_held (tie_of n d)) (λ v. refl)
 settled_at s (Submit m) n d links h = unsettled s Elsewhere (slice_get links d) (is_held (tie_of n d)) (λ v. refl)
-settled_at s (Ack c) n d links h = unsettled s (if_named c (conn d) AcksIt) (slice_get links d)
+settled_at s (Ack c) n d links h = unsettled s (concern_if_named c (conn d) AcksIt) (slice_get links d)
     (is_held (tie_of n d)) (λ v. settled_named AcksIt (c.0 == d) (is_held (tie_of n d)) v (λ e. refl))
-settled_at s (Nack c) n d links h = unsettled s (if_named c (conn d) NacksIt) (slice_get links d)
+settled_at s (Nack c) n d links h = unsettled s (concern_if_named c (conn d) NacksIt) (slice_get links d)
     (is_held (tie_of n d)) (λ v. settled_named NacksIt (c.0 == d) (is_held (tie_of n d)) v (λ e. refl))
-settled_at s (Gone c) n d links h = unsettled s (if_named c (conn d) EndsIt) (slice_get links d)
+settled_at s (Gone c) n d links h = unsettled s (concern_if_named c (conn d) EndsIt) (slice_get links d)
     (is_held (tie_of n d)) (λ v. settled_named EndsIt (c.0 == d) (is_held (tie_of n d)) v (λ e. refl))
 settled_at s (Arrived c m) n d links h =
     change_at-tested c.0 d (c.0 == d) (by_side s (settled HeardOnIt (is_held (tie_of n c.0)))) links refl

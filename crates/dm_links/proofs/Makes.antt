@@ -1,18 +1,28 @@
 -- No happening makes an end fresh but the Ack of its link.
-use Rattle.std.proofs.Common.{◌≡◌, ℕ, zero, suc, ◌+◌, ◌==◌, Bool, true, false, not, ◌&&◌, ◌||◌, if◌then◌else◌, nat_lt, Option, Some, None, List, [], ◌∷◌, ◌++◌, length, slice_get, refl, sym, ap, subst, ◌∙◌, ◌⊎◌, inl, inr, arith}
+use Rattle.std.proofs.Common.{◌≡◌, ℕ, zero, suc, ◌+◌, ◌==◌, Bool, true, false, not, ◌&&◌, ◌||◌, if◌then◌else◌, nat_lt}
+use Rattle.std.proofs.Common.{Option, Some, None, List, [], ◌∷◌, ◌++◌, length, slice_get, refl, sym, ap, subst, ◌∙◌}
+use Rattle.std.proofs.Common.{◌⊎◌, inl, inr, arith}
 use Rattle.std.specs.Prelude.{option_map}
 use Rattle.std.proofs.lemmas.Option.{slice_get-map}
 use Rattle.std.proofs.lemmas.Bool.Decides.{nat_tests}
 use Rattle.dm_links.specs.Machine.{conn, Node, Concern, Elsewhere, AcksIt, NacksIt, EndsIt, HeardOnIt, tie_of, is_held}
-use Rattle.dm_links.specs.Links.{Side, A, B, flip, opens, LinkPhase, Pending, Up, Cancelled, End, Shut, Fresh, Open, Direction, Link, View, view_of, link_of, by_side, new_link}
-use Rattle.dm_links.specs.Peers.{Event, Start, Stop, Timeout, Tick, Ack, Nack, Gone, Submit, Arrived, Action, Reply, Acts, Declines, Peers, concern_by}
+use Rattle.dm_links.specs.Links.{Side, A, B, flip, opens, LinkPhase, Pending, Up, Cancelled, End, Shut, Fresh, Open}
+use Rattle.dm_links.specs.Links.{Direction, Link, View, view_of, link_of, by_side, new_link}
+use Rattle.dm_links.specs.Peers.{Event, Start, Stop, Timeout, Tick, Ack, Nack, Gone, Submit, Arrived, Action, Reply}
+use Rattle.dm_links.specs.Peers.{Acts, Declines, Peers, concern_by}
 use Rattle.dm_links.specs.Steps.{entered, own_settled, settled}
-use Rattle.dm_links.specs.Worlds.{World, peer_at, with_links, Put, change_at, enter, perform, settle, After, Done, Ignored, answered, told, dropped}
-use Rattle.dm_links.specs.Happens.{Happening, Starts, Stops, TimesOut, Ticks, Restarts, Acks, Nacks, Delivers, Pieces, Loses, Submits, Next, NextMessage, NextDisconnect, NextNothing, next_in, comes, delivered, taking, pieced, lost_link, are_shut, restarted, restart_links, if_up, if_pending, at_link, own_view, happens, world_after}
+use Rattle.dm_links.specs.Worlds.{World, peer_at, with_links, Put, change_at, enter, perform, settle, After, Done}
+use Rattle.dm_links.specs.Worlds.{Ignored, after_reply, tell, after_drop}
+use Rattle.dm_links.specs.Happens.{Happening, Starts, Stops, TimesOut, Ticks, Restarts, Acks, Nacks, Delivers, Pieces}
+use Rattle.dm_links.specs.Happens.{Loses, Submits, Next, NextMessage, NextDisconnect, NextNothing, next_in, comes}
+use Rattle.dm_links.specs.Happens.{deliver_next, take_part, deliver_part, lost_link, are_shut, restarted, restart_links}
+use Rattle.dm_links.specs.Happens.{if_up, if_pending, at_link, own_view, happens, world_after}
 use Rattle.dm_links.specs.Facts.{is_up, is_fresh}
 use Rattle.dm_links.specs.Making.{has_fresh_end, is_fresh_on, MakesEnd}
-use Rattle.dm_links.proofs.Columns.{entered_by_columns, phase_at, own_at, other_at, phase_after, own_after, acted, is_closed_at, stepped}
-use Rattle.dm_links.proofs.Every.{every_bool, every_concern, every_phase, every_end, at_bool, at_concern, at_phase, at_end, all_true}
+use Rattle.dm_links.proofs.Columns.{entered_by_columns, phase_at, own_at, other_at, phase_after, own_after, acted}
+use Rattle.dm_links.proofs.Columns.{is_closed_at, stepped}
+use Rattle.dm_links.proofs.Every.{every_bool, every_concern, every_phase, every_end, at_bool, at_concern, at_phase}
+use Rattle.dm_links.proofs.Every.{at_end, all_true}
 use Rattle.dm_links.proofs.Checks.{when, is_when}
 use Rattle.dm_links.proofs.Views.{acted_entered}
 use Rattle.dm_links.proofs.Lists.{IsStart, change_at-tested, performed_at, entered_at, stepped_at}
@@ -41,15 +51,15 @@ fresh_stepped b k holds closed p own other =
 abbrev fresh_entered : Bool → Concern → LinkPhase → End → End → Bool
 fresh_entered b k p own other = fresh_of b (phase_at k p) (own_at k own) (other_at k other)
 
-abbrev was_or_made : Bool → Concern → LinkPhase → End → End → Bool
-was_or_made b k p own other = fresh_of b p own other || (is_ack k && not b)
+abbrev was_or_made_at : Bool → Concern → LinkPhase → End → End → Bool
+was_or_made_at b k p own other = fresh_of b p own other || (is_ack k && not b)
 
 abbrev step_at : Bool → Concern → Bool → Bool → LinkPhase → End → End → Bool
 step_at b k holds closed p own other =
-    when (fresh_stepped b k holds closed p own other) (was_or_made b k p own other)
+    when (fresh_stepped b k holds closed p own other) (was_or_made_at b k p own other)
 
 abbrev entry_at : Bool → Concern → LinkPhase → End → End → Bool
-entry_at b k p own other = when (fresh_entered b k p own other) (was_or_made b k p own other)
+entry_at b k p own other = when (fresh_entered b k p own other) (was_or_made_at b k p own other)
 
 steps_checked : every_bool
     (λ b. every_concern (λ k. every_bool
@@ -68,7 +78,7 @@ step_makes : {M : Type 0} (b : Bool) (k : Concern) (holds : Bool) (d : ℕ) (act
     fresh_in b (stepped k holds d actions v) ≡ true → (fresh_in b v || (is_ack k && not b)) ≡ true
 step_makes b k holds d actions v h =
     let closed = is_closed_at d actions in
-    is_when (fresh_stepped b k holds closed v.phase v.own v.other) (was_or_made b k v.phase v.own v.other)
+    is_when (fresh_stepped b k holds closed v.phase v.own v.other) (was_or_made_at b k v.phase v.own v.other)
     (at_end _ (at_end _ (at_phase _ (at_bool _
     (at_bool _ (at_concern _ (at_bool _ steps_checked b) k) holds) closed) v.phase) v.own) v.other)
     (sym (ap (λ x. fresh_in b (settled k holds x)) (acted_entered d actions k v)) ∙ h)
@@ -76,7 +86,7 @@ step_makes b k holds d actions v h =
 entry_makes : {M : Type 0} (b : Bool) (k : Concern) (v : View M) →
     fresh_in b (entered k v) ≡ true → (fresh_in b v || (is_ack k && not b)) ≡ true
 entry_makes b k v h =
-    is_when (fresh_entered b k v.phase v.own v.other) (was_or_made b k v.phase v.own v.other)
+    is_when (fresh_entered b k v.phase v.own v.other) (was_or_made_at b k v.phase v.own v.other)
     (at_end _ (at_end _ (at_phase _ (at_concern _ (at_bool _ entries_checked b) k) v.phase) v.own) v.other)
     (sym (ap (λ x. fresh_in b x) (entered_by_columns k v)) ∙ h)
 
@@ -148,7 +158,7 @@ links_make s t e actions n d links other h =
     (ap (λ o. is_fresh_on s o) (sym (stepped_at t e actions n d links other)) ∙ h)
 
 answer_makes : {P M : Type 0} (m : Peers P M) (s t : Side) (e : Event M) (w : World P M) (r : Reply P M) (d : ℕ) →
-    (IsStart e → ⊥) → is_fresh_on s (slice_get (world_after w (answered m t e w r)).links d) ≡ true →
+    (IsStart e → ⊥) → is_fresh_on s (slice_get (world_after w (after_reply m t e w r)).links d) ≡ true →
     WasOrMade (is_fresh_on s (slice_get w.links d)) (is_ack (concern_by e (conn d))) (opens s t)
 answer_makes m s t e w Declines d other h = inl h
 answer_makes m s A e w (Acts actions p) d other h = links_make s A e actions (m.node_of p) d w.links other h
@@ -164,13 +174,13 @@ unacked was acks mine none (inl h) = h
 unacked was acks mine none (inr p) = let e = p.0 in cc
 
 told_makes : {P M : Type 0} (m : Peers P M) (s t : Side) (e : Event M) (w : World P M) (d : ℕ) → (IsStart e → ⊥) →
-    is_ack (concern_by e (conn d)) ≡ false → MakesNone w s d (told m t e w)
+    is_ack (concern_by e (conn d)) ≡ false → MakesNone w s d (tell m t e w)
 told_makes m s t e w d other calm h =
     unacked (is_fresh_on s (slice_get w.links d)) (is_ack (concern_by e (conn d))) (opens s t) calm
     (answer_makes m s t e w (m.reply (peer_at t w) e) d other h)
 
 dropped_makes : {P M : Type 0} (s t : Side) (e : Event M) (w : World P M) (d : ℕ) → (IsStart e → ⊥) →
-    is_ack (concern_by e (conn d)) ≡ false → MakesNone w s d (dropped t e w)
+    is_ack (concern_by e (conn d)) ≡ false → MakesNone w s d (after_drop t e w)
 dropped_makes s t e w d other calm h =
     let k = concern_by e (conn d) in
     unacked (is_fresh_on s (slice_get w.links d)) (is_ack k) (opens s t) calm
@@ -206,7 +216,7 @@ performed_makes s t actions d links h =
     (ap (λ o. is_fresh_on s o) (sym (performed_at t actions d links)) ∙ h))
 
 started_makes : {P M : Type 0} (m : Peers P M) (s t : Side) (w : World P M) (r : Reply P M) (d : ℕ) →
-    MakesNone w s d (answered m t (Start (conn (length w.links))) w r)
+    MakesNone w s d (after_reply m t (Start (conn (length w.links))) w r)
 started_makes m s t w Declines d h = h
 started_makes m s A w (Acts actions p) d h =
     appended_makes s A w.links d (performed_makes s A actions d (w.links ++ new_link A ∷ []) h)
@@ -234,8 +244,8 @@ changed_makes w s d c f put g h =
     (ap (λ o. is_fresh_on s o) (sym (change_at-tested c d (c == d) f w.links refl)) ∙ h)
 
 taken_makes : {M : Type 0} (s t : Side) (k : ℕ) (l : Link M) →
-    has_fresh_end s (by_side t (taking k) l) ≡ true → has_fresh_end s l ≡ true
-taken_makes s t k l h = fresh_seen s t l ∙ (sym (fresh_by s t (taking k) l) ∙ h)
+    has_fresh_end s (by_side t (take_part k) l) ≡ true → has_fresh_end s l ≡ true
+taken_makes s t k l h = fresh_seen s t l ∙ (sym (fresh_by s t (take_part k) l) ∙ h)
 
 -- what is delivered
 if_makes : {P M : Type 0} (w : World P M) (s : Side) (d : ℕ) (b : Bool) (x y : After P M) → MakesNone w s d x →
@@ -261,7 +271,7 @@ there_makes w s d None f g = λ h. h
 there_makes w s d (Some l) f g = g l
 
 delivered_makes : {P M : Type 0} (m : Peers P M) (s t : Side) (w : World P M) (d c : ℕ) (end : End) (next : Next M) →
-    MakesNone w s d (delivered m c t end next w)
+    MakesNone w s d (deliver_next m c t end next w)
 delivered_makes m s t w d c end NextNothing = λ h. h
 delivered_makes m s t w d c end (NextMessage x) =
     comes_makes m s t (Arrived (conn c) x) end w d (λ i. elim i [ ]) (named_calm (c == d) HeardOnIt refl)
@@ -269,12 +279,12 @@ delivered_makes m s t w d c end NextDisconnect =
     comes_makes m s t (Gone (conn c)) end w d (λ i. elim i [ ]) (named_calm (c == d) EndsIt refl)
 
 pieced_makes : {P M : Type 0} (m : Peers P M) (s t : Side) (w : World P M) (d c k taken : ℕ) (end : End)
-    (next : Next M) → MakesNone w s d (pieced m c t k end taken next w)
+    (next : Next M) → MakesNone w s d (deliver_part m c t k end taken next w)
 pieced_makes m s t w d c k taken end NextNothing = λ h. h
 pieced_makes m s t w d c k taken end NextDisconnect = λ h. h
 pieced_makes m s t w d c k taken end (NextMessage x) =
     if_makes w s d (nat_lt (taken + k) (m.size x)) _ _
-    (changed_makes w s d c (by_side t (taking k)) [] (taken_makes s t k))
+    (changed_makes w s d c (by_side t (take_part k)) [] (taken_makes s t k))
     (comes_makes m s t (Arrived (conn c) x) end w d (λ i. elim i [ ]) (named_calm (c == d) HeardOnIt refl))
 
 -- a restart
@@ -317,7 +327,7 @@ other_side B B h = cc
 ack_makes : {P M : Type 0} (m : Peers P M) (s : Side) (w : World P M) (c d : ℕ) (l : Link M) (p : LinkPhase) →
     slice_get w.links c ≡ Some l →
     is_fresh_on s
-    (slice_get (world_after w (if_pending p (told m l.opener (Ack (conn c)) w) Ignored)).links d) ≡ true →
+    (slice_get (world_after w (if_pending p (tell m l.opener (Ack (conn c)) w) Ignored)).links d) ≡ true →
     (is_fresh_on s (slice_get w.links d) ≡ true) ⊎ MakesEnd w (Acks c) s d
 ack_makes m s w c d l Up at h = inl h
 ack_makes m s w c d l Cancelled at h = inl h
@@ -338,7 +348,7 @@ ack_makes {P} {M} m s w c d l Pending at h =
 acks_make : {P M : Type 0} (m : Peers P M) (s : Side) (w : World P M) (c d : ℕ) (o : Option (Link M)) →
     slice_get w.links c ≡ o →
     is_fresh_on s (slice_get (world_after w
-    (at_link o (λ l. if_pending l.phase (told m l.opener (Ack (conn c)) w) Ignored))).links d) ≡ true →
+    (at_link o (λ l. if_pending l.phase (tell m l.opener (Ack (conn c)) w) Ignored))).links d) ≡ true →
     (is_fresh_on s (slice_get w.links d) ≡ true) ⊎ MakesEnd w (Acks c) s d
 acks_make m s w c d None at h = inl h
 acks_make m s w c d (Some l) at h = ack_makes m s w c d l l.phase at h
@@ -370,5 +380,5 @@ makes_ends m w (Pieces c t k) s d f =
     (next_in (own_view t l).incoming.messages (own_view t l).incoming.mark)))) f)
 makes_ends m w (Loses c a b) s d f =
     inl (there_makes w s d (slice_get w.links c) _ (λ l. up_makes w s d l.phase _
-    (if_makes w s d (are_shut l.near l.far) Ignored _ (λ h. h)
+    (if_makes w s d (are_shut l.opener_end l.other_end) Ignored _ (λ h. h)
     (changed_makes w s d c (lost_link m.size a b) [] (λ l h. h)))) f)

@@ -1,5 +1,6 @@
 -- In each phase what is under way carries the number that is awaited.
-use Rattle.std.proofs.Common.{◌≡◌, ℕ, ◌==◌, Bool, true, false, ◌&&◌, IsTrue, Some, List, [], ◌∷◌, slice_get, refl, sym, ap, subst, ◌∙◌, inl, inr}
+use Rattle.std.proofs.Common.{◌≡◌, ℕ, ◌==◌, Bool, true, false, ◌&&◌, IsTrue, Some, List, [], ◌∷◌, slice_get, refl, sym}
+use Rattle.std.proofs.Common.{ap, subst, ◌∙◌, inl, inr}
 use Rattle.std.specs.Prelude.{option_map, All}
 use Rattle.std.proofs.lemmas.Bool.{cases_Bool, and_parts, eqb-true}
 use Rattle.std.proofs.lemmas.List.Elements.{All-nil, All-cons}
@@ -34,10 +35,10 @@ both_still Up b h = h
 both_still Cancelled b h = h
 
 -- what is under way on a link of a stage
-record Carries {M : Type 0} (s : Side) (a b : M) (l : Link M) : Type 0 where
+record CarriesNumbered {M : Type 0} (s : Side) (a b : M) (l : Link M) : Type 0 where
   pub opener : l.opener ≡ s
-  pub asked : All (λ x. x ≡ a) l.to_far.messages
-  pub answered : All (λ x. x ≡ b) l.to_near.messages
+  pub asked : All (λ x. x ≡ a) l.to_other.messages
+  pub answered : All (λ x. x ≡ b) l.to_opener.messages
 
 none_of : {M : Type 0} (a : M) → All (λ x. x ≡ a) []
 none_of a = All-nil (λ x. x ≡ a)
@@ -45,41 +46,42 @@ none_of a = All-nil (λ x. x ≡ a)
 one_of : {M : Type 0} (a : M) → All (λ x. x ≡ a) (a ∷ [])
 one_of a = All-cons (λ x. x ≡ a) a [] refl (none_of a)
 
-carried : {M : Type 0} (s : Side) (a b : M) (l q : Link M) → Some l ≡ Some q → Carries s a b l → Carries s a b q
-carried {M} s a b l q e h = let same : l ≡ q = cc e in subst (λ z. Carries s a b z) same h
+carried_along : {M : Type 0} (s : Side) (a b : M) (l q : Link M) → Some l ≡ Some q → CarriesNumbered s a b l →
+    CarriesNumbered s a b q
+carried_along {M} s a b l q e h = let same : l ≡ q = cc e in subst (λ z. CarriesNumbered s a b z) same h
 
 module _ {P M C H : Type 0} (m : Peers P M) (t : Talks P M C H) where
   stage_carries : (s o : Side) (st : Stage) (h i j : ℕ) (q : Link M) →
       option_map (link_of true s) (own_at m t s o st h i j) ≡ Some q →
-      Carries s (t.cer (t.config s) h) (t.cea (t.config o) h) q
+      CarriesNumbered s (t.cer (t.config s) h) (t.cea (t.config o) h) q
   stage_carries s o Unmade h i j q e = cc
-  stage_carries s o Dialled h i j q e = carried s (t.cer (t.config s) h) (t.cea (t.config o) h) _ q e
+  stage_carries s o Dialled h i j q e = carried_along s (t.cer (t.config s) h) (t.cea (t.config o) h) _ q e
       (record { opener = refl; asked = none_of (t.cer (t.config s) h); answered = none_of (t.cea (t.config o) h) })
-  stage_carries s o Asked h i j q e = carried s (t.cer (t.config s) h) (t.cea (t.config o) h) _ q e
+  stage_carries s o Asked h i j q e = carried_along s (t.cer (t.config s) h) (t.cea (t.config o) h) _ q e
       (record { opener = refl; asked = one_of (t.cer (t.config s) h); answered = none_of (t.cea (t.config o) h) })
-  stage_carries s o Accepted h i j q e = carried s (t.cer (t.config s) h) (t.cea (t.config o) h) _ q e
+  stage_carries s o Accepted h i j q e = carried_along s (t.cer (t.config s) h) (t.cea (t.config o) h) _ q e
       (record { opener = refl; asked = none_of (t.cer (t.config s) h); answered = none_of (t.cea (t.config o) h) })
-  stage_carries s o Answered h i j q e = carried s (t.cer (t.config s) h) (t.cea (t.config o) h) _ q e
+  stage_carries s o Answered h i j q e = carried_along s (t.cer (t.config s) h) (t.cea (t.config o) h) _ q e
       (record { opener = refl; asked = none_of (t.cer (t.config s) h); answered = one_of (t.cea (t.config o) h) })
-  stage_carries s o Dropped h i j q e = carried s (t.cer (t.config s) h) (t.cea (t.config o) h) _ q e
+  stage_carries s o Dropped h i j q e = carried_along s (t.cer (t.config s) h) (t.cea (t.config o) h) _ q e
       (record { opener = refl; asked = one_of (t.cer (t.config s) h); answered = none_of (t.cea (t.config o) h) })
-  stage_carries s o Halved h i j q e = carried s (t.cer (t.config s) h) (t.cea (t.config o) h) _ q e
+  stage_carries s o Halved h i j q e = carried_along s (t.cer (t.config s) h) (t.cea (t.config o) h) _ q e
       (record { opener = refl; asked = none_of (t.cer (t.config s) h); answered = none_of (t.cea (t.config o) h) })
-  stage_carries s o (Parted a b) h i j q e = carried s (t.cer (t.config s) h) (t.cea (t.config o) h) _ q e
+  stage_carries s o (Parted a b) h i j q e = carried_along s (t.cer (t.config s) h) (t.cea (t.config o) h) _ q e
       (record { opener = refl; asked = none_of (t.cer (t.config s) h); answered = none_of (t.cea (t.config o) h) })
 
-  quiet_carries : (s : Side) (a b : M) (q : Link M) → is_quiet_link q ≡ true → q.opener ≡ s → Carries s a b q
+  quiet_carries : (s : Side) (a b : M) (q : Link M) → is_quiet_link q ≡ true → q.opener ≡ s → CarriesNumbered s a b q
   quiet_carries s a b q h e =
-      let parts = and_parts (is_still q.to_near) (is_still q.to_far)
-      (both_still q.phase (is_still q.to_near && is_still q.to_far) h) in
+      let parts = and_parts (is_still q.to_opener) (is_still q.to_other)
+      (both_still q.phase (is_still q.to_opener && is_still q.to_other) h) in
       record {
         opener = e;
-        asked = subst (λ ms. All (λ x. x ≡ a) ms) (sym (still_none q.to_far parts.1)) (All-nil (λ x. x ≡ a));
-        answered = subst (λ ms. All (λ x. x ≡ b) ms) (sym (still_none q.to_near parts.0)) (All-nil (λ x. x ≡ b));
+        asked = subst (λ ms. All (λ x. x ≡ a) ms) (sym (still_none q.to_other parts.1)) (All-nil (λ x. x ≡ a));
+        answered = subst (λ ms. All (λ x. x ≡ b) ms) (sym (still_none q.to_opener parts.0)) (All-nil (λ x. x ≡ b));
       }
 
   matches : (s o : Side) → IsPair s o → (w : World P M) (n : Node) (h h' : ℕ) (q : Link M) →
-      Stands m t s (peer_at s w) n h h' → Carries s (t.cer (t.config s) h) (t.cea (t.config o) h) q →
+      Stands m t s (peer_at s w) n h h' → CarriesNumbered s (t.cer (t.config s) h) (t.cea (t.config o) h) q →
       IsTrue (awaits_cea (m.node_of (peer_at q.opener w)).state) → IsMatchedLink t w q
   matches s o pair w n h h' q a c awaits =
       record {
@@ -87,9 +89,9 @@ module _ {P M C H : Type 0} (m : Peers P M) (t : Talks P M C H) where
         awaited = ap (λ z. t.awaited_of (peer_at z w)) c.opener
             ∙ a.awaits (subst (λ (k : Node). awaits_cea k.state ≡ true) a.node
             (subst (λ z. awaits_cea (m.node_of (peer_at z w)).state ≡ true) c.opener awaits));
-        asked = subst (λ z. All (λ x. x ≡ t.cer (t.config z) h) q.to_far.messages) (sym c.opener) c.asked;
-        answered = subst (λ z. All (λ x. x ≡ t.cea (t.config (flip z)) h) q.to_near.messages) (sym c.opener)
-            (subst (λ z. All (λ x. x ≡ t.cea (t.config z) h) q.to_near.messages) (sym (flipped pair)) c.answered);
+        asked = subst (λ z. All (λ x. x ≡ t.cer (t.config z) h) q.to_other.messages) (sym c.opener) c.asked;
+        answered = subst (λ z. All (λ x. x ≡ t.cea (t.config (flip z)) h) q.to_opener.messages) (sym c.opener)
+            (subst (λ z. All (λ x. x ≡ t.cea (t.config z) h) q.to_opener.messages) (sym (flipped pair)) c.answered);
       }
 
   pub phase_matches : (g l : Side) → IsPair g l → (w : World P M) (k : Phase) (x y : ℕ) → InPhase m t g l w k x y →

@@ -9,9 +9,11 @@ use Rattle.dm_links.specs.Electing.{Talks, IsElecting}
 use Rattle.dm_links.specs.Falling.{is_ack_or_delivery}
 use Rattle.dm_links.proofs.Pairs.{IsPair, swapped, mirror}
 use Rattle.dm_links.proofs.Stages.{Stage}
-use Rattle.dm_links.proofs.Acting.{own_at, acks_plain, acks_lose, acks_win, cer_closed, cer_lose, cer_win_late, cer_rejected, cea_plain, cea_returns}
+use Rattle.dm_links.proofs.Acting.{own_at, acks_plain, acks_lose, acks_win, cer_closed, cer_lose, cer_win_late}
+use Rattle.dm_links.proofs.Acting.{cer_rejected, cea_plain, cea_returns}
 use Rattle.dm_links.proofs.Starting.{shut_own, shut_other}
-use Rattle.dm_links.proofs.Phases.{Phase, C1, C2, C3, C4, C5, C6, C7, C8, C9, C10, C11, C12, C13, C14, C15, C16, C17, C18, C19, C20, C21, C22, C23, C24, C25, node_g, node_l, stage_g, stage_l, InPhase}
+use Rattle.dm_links.proofs.Phases.{Phase, C1, C2, C3, C4, C5, C6, C7, C8, C9, C10, C11, C12, C13, C14, C15, C16, C17}
+use Rattle.dm_links.proofs.Phases.{C18, C19, C20, C21, C22, C23, C24, C25, node_g, node_l, stage_g, stage_l, InPhase}
 use Rattle.dm_links.proofs.Phasing.{acked, arrives, acked_own, arrives_own, arrives_other, flip_in}
 use Rattle.dm_links.proofs.Running.{ack_of, delivery_of}
 use Rattle.dm_links.proofs.Settling.{Rests, idle, only_g, only_l, both}

@@ -6,15 +6,16 @@ use Rattle.dm_links.specs.Machine.{closed_node}
 use Rattle.dm_links.specs.Links.{Side, A, B, Link}
 use Rattle.dm_links.specs.Peers.{Peers}
 use Rattle.dm_links.specs.Worlds.{World, peer_at, Put, Done}
-use Rattle.dm_links.specs.Happens.{Happening, Starts, Restarts, Acks, Delivers, at_link, happens, Ran, ran_on, run_from, run}
+use Rattle.dm_links.specs.Happens.{Happening, Starts, Restarts, Acks, Delivers, at_link, happens, RunEnd, ran_on}
+use Rattle.dm_links.specs.Happens.{run_from, run}
 use Rattle.dm_links.specs.Follows.{IsMachine}
-use Rattle.dm_links.specs.Facts.{IsSound}
+use Rattle.dm_links.specs.Facts.{IsSoundWorld}
 use Rattle.dm_links.specs.Quiet.{is_quiet_link, is_quiet}
 use Rattle.dm_links.specs.Electing.{Talks, IsPeerOf, IsElecting}
-use Rattle.dm_links.specs.Settled.{AreOpenOn}
+use Rattle.dm_links.specs.Settled.{AreOpenOnKept}
 use Rattle.dm_links.specs.Recovering.{CanClear, CanOpen, ResetKeepsPeer}
 use Rattle.dm_links.proofs.Lists.{same_test}
-use Rattle.dm_links.proofs.Pairs.{IsPair, ab, ba, swapped, mirror, At, at_flip}
+use Rattle.dm_links.proofs.Pairs.{IsPair, ab, ba, swapped, mirror, AreAt, at_flip}
 use Rattle.dm_links.proofs.Stages.{Dialled, Asked, Accepted, Answered}
 use Rattle.dm_links.proofs.Turns.{wait_i_cea, i_open, r_open}
 use Rattle.dm_links.proofs.Acting.{own_at, acks_plain, cer_closed, cea_plain}
@@ -24,25 +25,25 @@ use Rattle.dm_links.proofs.Running.{ack_of, delivery_of}
 use Rattle.dm_links.proofs.Settling.{are_open, begins}
 use Rattle.dm_links.proofs.Runs.{run_joined}
 use Rattle.dm_links.proofs.Resting.{quiet_where}
-use Rattle.dm_links.proofs.Clearing.{can_clear}
+use Rattle.dm_links.proofs.Clearing.{can_clear_proof}
 
 -- four happenings that are done
-four_done : {P M : Type 0} (m : Peers P M) (r : Ran P M) (h1 h2 h3 h4 : Happening M) (w1 w2 w3 w4 : World P M)
+four_done : {P M : Type 0} (m : Peers P M) (r : RunEnd P M) (h1 h2 h3 h4 : Happening M) (w1 w2 w3 w4 : World P M)
     (p1 p2 p3 p4 : List (Put M)) → happens m r.world h1 ≡ Done w1 p1 → happens m w1 h2 ≡ Done w2 p2 →
     happens m w2 h3 ≡ Done w3 p3 → happens m w3 h4 ≡ Done w4 p4 →
     run_from m (Some r) (h1 ∷ h2 ∷ h3 ∷ h4 ∷ []) ≡ Some
     (record { world = w4; put = r.put ++ p1 ++ p2 ++ p3 ++ p4 })
 four_done {P} {M} m r h1 h2 h3 h4 w1 w2 w3 w4 p1 p2 p3 p4 e1 e2 e3 e4 =
-    let r1 : Ran P M = record { world = w1; put = r.put ++ p1 } in
-    let r2 : Ran P M = record { world = w2; put = r.put ++ p1 ++ p2 } in
-    let r3 : Ran P M = record { world = w3; put = r.put ++ p1 ++ p2 ++ p3 } in
+    let r1 : RunEnd P M = record { world = w1; put = r.put ++ p1 } in
+    let r2 : RunEnd P M = record { world = w2; put = r.put ++ p1 ++ p2 } in
+    let r3 : RunEnd P M = record { world = w3; put = r.put ++ p1 ++ p2 ++ p3 } in
     ap (λ a. run_from m (ran_on r a) (h2 ∷ h3 ∷ h4 ∷ [])) e1
     ∙ (ap (λ a. run_from m (ran_on r1 a) (h3 ∷ h4 ∷ [])) e2
     ∙ (ap (λ a. run_from m (ran_on r2 a) (h4 ∷ [])) e3 ∙ ap (λ a. run_from m (ran_on r3 a) []) e4))
 
 module _ {P M C H : Type 0} (m : Peers P M) (t : Talks P M C H) where
   quiet_open : (s o : Side) (w : World P M) (x y h h' : ℕ) →
-      At m t s o w x y (own_at m t s o Accepted h 0 0) None (i_open x) (r_open x) h h' → is_quiet w ≡ true
+      AreAt m t s o w x y (own_at m t s o Accepted h 0 0) None (i_open x) (r_open x) h h' → is_quiet w ≡ true
   quiet_open s o w x y h h' a =
       quiet_where w x y (λ z at. same_test (λ l. is_quiet_link l) _ z (sym a.at_x ∙ at) refl)
       (λ z at. absurd (no_link z (sym a.at_y ∙ at))) (λ d z at hx hy. a.others d z at hx hy)
@@ -51,13 +52,13 @@ module _ {P M C H : Type 0} (m : Peers P M) (t : Talks P M C H) where
       no_link z e = cc
 
   -- from where both are closed and nothing is under way
-  record Opened (s o : Side) (r : Ran P M) (n : ℕ) : Type 0 where
-    pub end : Ran P M
+  record Opened (s o : Side) (r : RunEnd P M) (n : ℕ) : Type 0 where
+    pub end : RunEnd P M
     pub runs : run_from m (Some r) (Starts s ∷ Acks n ∷ Delivers n o ∷ Delivers n s ∷ []) ≡ Some end
     pub quiet : is_quiet end.world ≡ true
-    pub opened : AreOpenOn m end.world (record { opener = s; link = n })
+    pub opened : AreOpenOnKept m end.world (record { opener = s; link = n })
 
-  open_from : IsElecting m t → (s o : Side) → IsPair s o → (r : Ran P M) → IsPeerOf t s (peer_at s r.world) →
+  open_from : IsElecting m t → (s o : Side) → IsPair s o → (r : RunEnd P M) → IsPeerOf t s (peer_at s r.world) →
       IsPeerOf t o (peer_at o r.world) → m.node_of (peer_at s r.world) ≡ closed_node →
       m.node_of (peer_at o r.world) ≡ closed_node → is_quiet r.world ≡ true →
       Opened s o r (length r.world.links)
@@ -100,14 +101,14 @@ module _ {P M C H : Type 0} (m : Peers P M) (t : Talks P M C H) where
       (run_joined m (Some (record { world = w; put = [] })) (Restarts A ∷ Restarts B ∷ c.more) last
       ∙ (ap (λ q. run_from m q last) c.runs ∙ z.runs))
 
-  pub can_open : IsMachine m → IsElecting m t → ResetKeepsPeer m t → (w : World P M) → IsSound m w →
+  pub can_open : IsMachine m → IsElecting m t → ResetKeepsPeer m t → (w : World P M) → IsSoundWorld m w →
       IsPeerOf t A w.a → IsPeerOf t B w.b → (s : Side) → CanOpen m w s
   can_open is el keeps w good a b s =
-      let c = can_clear m w good in
-      let peer_a : IsPeerOf t A c.end.world.a = subst (λ p. IsPeerOf t A p) (sym c.left) (keeps A w.a a) in
-      let peer_b : IsPeerOf t B c.end.world.b = subst (λ p. IsPeerOf t B p) (sym c.right) (keeps B w.b b) in
-      let closed_a = ap (λ p. m.node_of p) c.left ∙ is.resets w.a in
-      let closed_b = ap (λ p. m.node_of p) c.right ∙ is.resets w.b in
+      let c = can_clear_proof m w good in
+      let peer_a : IsPeerOf t A c.end.world.a = subst (λ p. IsPeerOf t A p) (sym c.same_a) (keeps A w.a a) in
+      let peer_b : IsPeerOf t B c.end.world.b = subst (λ p. IsPeerOf t B p) (sym c.same_b) (keeps B w.b b) in
+      let closed_a = ap (λ p. m.node_of p) c.same_a ∙ is.resets w.a in
+      let closed_b = ap (λ p. m.node_of p) c.same_b ∙ is.resets w.b in
       elim s as (λ s. CanOpen m w s) [
         | A ↦
             let z = open_from el A B ab c.end peer_a peer_b closed_a closed_b c.quiet in
@@ -117,7 +118,7 @@ module _ {P M C H : Type 0} (m : Peers P M) (t : Talks P M C H) where
               end = z.end;
               runs = joined w A B c z;
               quiet = z.quiet;
-              opened = subst (λ n. AreOpenOn m z.end.world (record { opener = A; link = n })) c.links z.opened;
+              opened = subst (λ n. AreOpenOnKept m z.end.world (record { opener = A; link = n })) c.links z.opened;
             }
         | B ↦
             let z = open_from el B A ba c.end peer_b peer_a closed_b closed_a c.quiet in
@@ -127,6 +128,6 @@ module _ {P M C H : Type 0} (m : Peers P M) (t : Talks P M C H) where
               end = z.end;
               runs = joined w B A c z;
               quiet = z.quiet;
-              opened = subst (λ n. AreOpenOn m z.end.world (record { opener = B; link = n })) c.links z.opened;
+              opened = subst (λ n. AreOpenOnKept m z.end.world (record { opener = B; link = n })) c.links z.opened;
             }
       ]

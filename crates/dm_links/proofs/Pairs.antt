@@ -1,13 +1,15 @@
 -- A world of a clean run, as one side sees it: its own link of the run, the other side's, and quiet links beside them.
-use Rattle.std.proofs.Common.{◌≡◌, ℕ, ◌==◌, Bool, true, false, ◌&&◌, ◌||◌, IsTrue, if◌then◌else◌, Option, Some, None, List, [], ◌∷◌, ◌++◌, slice_get, refl, ap, ◌∙◌, arith}
+use Rattle.std.proofs.Common.{◌≡◌, ℕ, ◌==◌, Bool, true, false, ◌&&◌, ◌||◌, IsTrue, if◌then◌else◌, Option, Some, None}
+use Rattle.std.proofs.Common.{List, [], ◌∷◌, ◌++◌, slice_get, refl, ap, ◌∙◌, arith}
 use Rattle.std.specs.Prelude.{option_map}
 use Rattle.std.proofs.lemmas.Bool.{cases_Bool, and_parts, or_cases, eqb-true}
 use Rattle.dm_links.specs.Machine.{Node}
 use Rattle.dm_links.specs.Links.{Side, A, B, flip, Link, View, link_of, by_side}
 use Rattle.dm_links.specs.Peers.{Event, Action, Send, Close, Connect, Reply, Acts, Peers, concern_by}
 use Rattle.dm_links.specs.Peers as peers
-use Rattle.dm_links.specs.Steps.{said, shut}
-use Rattle.dm_links.specs.Worlds.{World, peer_at, with_peer, Put, Message, Disconnect, change_at, takes, put_if, puts_of}
+use Rattle.dm_links.specs.Steps.{with_sent, with_close}
+use Rattle.dm_links.specs.Worlds.{World, peer_at, with_peer, Put, Message, Disconnect, change_at, takes, put_if}
+use Rattle.dm_links.specs.Worlds.{puts_of}
 use Rattle.dm_links.specs.Quiet.{is_quiet_link}
 use Rattle.dm_machine.specs.Awaiting.{awaits_cea, holds_cer}
 use Rattle.dm_links.specs.Electing.{Talks, IsPeerOf}
@@ -78,7 +80,7 @@ pub record Stands {P M C H : Type 0} (m : Peers P M) (t : Talks P M C H) (s : Si
   pub waits : holds_cer n.state ≡ true → t.waiting_of p ≡ Some (t.cer_header h')
   pub number : IsTrue (t.is_number h)
 
-pub record At {P M C H : Type 0} (m : Peers P M) (t : Talks P M C H) (s o : Side) (w : World P M) (x y : ℕ)
+pub record AreAt {P M C H : Type 0} (m : Peers P M) (t : Talks P M C H) (s o : Side) (w : World P M) (x y : ℕ)
     (u v : Option (View M)) (n n' : Node) (h h' : ℕ) : Type 0 where
   pub own : Stands m t s (peer_at s w) n h h'
   pub other : Stands m t o (peer_at o w) n' h' h
@@ -93,7 +95,7 @@ not_same x y h = grind (arith, Rattle.std.proofs.lemmas.Bool.Decides.nat_tests)
 
 pub at_flip : {P M C H : Type 0} (m : Peers P M) (t : Talks P M C H) (s o : Side) (w : World P M) (x y : ℕ)
     (u v : Option (View M)) (n n' : Node) (h h' : ℕ) →
-    At m t s o w x y u v n n' h h' → At m t o s w y x (option_map mirror v) (option_map mirror u) n' n h' h
+    AreAt m t s o w x y u v n n' h h' → AreAt m t o s w y x (option_map mirror v) (option_map mirror u) n' n h' h
 at_flip m t s o w x y u v n n' h h' a =
     record {
       own = a.other;
@@ -117,10 +119,10 @@ abbrev pub puts_by : {M : Type 0} → Side → ℕ → ℕ → List (Action M) �
 puts_by o x y [] u v = []
 puts_by o x y (Send c a ∷ more) u v =
     (if c.0 == x then put_at (Message c.0 o a) u else put_at (Message c.0 o a) v)
-    ++ puts_by o x y more (done_if (c.0 == x) (said a) u) (done_if (c.0 == y) (said a) v)
+    ++ puts_by o x y more (done_if (c.0 == x) (with_sent a) u) (done_if (c.0 == y) (with_sent a) v)
 puts_by o x y (Close c ∷ more) u v =
     (if c.0 == x then put_at (Disconnect c.0 o) u else put_at (Disconnect c.0 o) v)
-    ++ puts_by o x y more (done_if (c.0 == x) shut u) (done_if (c.0 == y) shut v)
+    ++ puts_by o x y more (done_if (c.0 == x) with_close u) (done_if (c.0 == y) with_close v)
 puts_by o x y (Connect c ∷ more) u v = puts_by o x y more u v
 puts_by o x y (peers.Up a ∷ more) u v = puts_by o x y more u v
 
@@ -146,7 +148,7 @@ other_put s o ba p None = refl
 other_put s o ba p (Some v) = refl
 
 -- the two links of a list
-record Two {M : Type 0} (s o : Side) (links : List (Link M)) (x y : ℕ) (u v : Option (View M)) : Type 0 where
+record AreTwo {M : Type 0} (s o : Side) (links : List (Link M)) (x y : ℕ) (u v : Option (View M)) : Type 0 where
   pub pair : IsPair s o
   pub at_x : slice_get links x ≡ option_map (link_of true s) u
   pub at_y : slice_get links y ≡ option_map (link_of false o) v
@@ -166,8 +168,8 @@ other_if s o pair false f None = refl
 other_if s o pair false f (Some v) = refl
 
 two_changed : {M : Type 0} (s o : Side) (links : List (Link M)) (x y : ℕ) (u v : Option (View M)) (c : ℕ)
-    (f : View M → View M) → Two s o links x y u v →
-    Two s o (change_at c (by_side s f) links) x y (done_if (c == x) f u) (done_if (c == y) f v)
+    (f : View M → View M) → AreTwo s o links x y u v →
+    AreTwo s o (change_at c (by_side s f) links) x y (done_if (c == x) f u) (done_if (c == y) f v)
 two_changed s o links x y u v c f two =
     record {
       pair = two.pair;
@@ -180,7 +182,7 @@ two_changed s o links x y u v c f two =
     }
 
 put_tested : {M : Type 0} (s o : Side) (links : List (Link M)) (x y : ℕ) (u v : Option (View M)) (c : ℕ)
-    (p : Put M) (b : Bool) → (c == x) ≡ b → Two s o links x y u v → (b || (c == y)) ≡ true →
+    (p : Put M) (b : Bool) → (c == x) ≡ b → AreTwo s o links x y u v → (b || (c == y)) ≡ true →
     put_if s p (slice_get links c) ≡ (if b then put_at p u else put_at p v)
 put_tested s o links x y u v c p true e two h =
     ap (λ n. put_if s p (slice_get links n)) (eqb-true c x e)
@@ -190,28 +192,29 @@ put_tested s o links x y u v c p false e two h =
     ∙ (ap (put_if s p) two.at_y ∙ other_put s o two.pair p v)
 
 puts_seen : {M : Type 0} (s o : Side) (actions : List (Action M)) (links : List (Link M)) (x y : ℕ)
-    (u v : Option (View M)) → Two s o links x y u v → names x y actions ≡ true →
+    (u v : Option (View M)) → AreTwo s o links x y u v → names x y actions ≡ true →
     puts_of s actions links ≡ puts_by o x y actions u v
 puts_seen s o [] links x y u v two h = refl
 puts_seen s o (Connect c ∷ more) links x y u v two h = puts_seen s o more links x y u v two h
 puts_seen s o (peers.Up a ∷ more) links x y u v two h = puts_seen s o more links x y u v two h
 puts_seen {M} s o (Send c a ∷ more) links x y u v two h =
     let parts = and_parts ((c.0 == x) || (c.0 == y)) (names x y more) h in
-    let rest = puts_seen s o more (change_at c.0 (by_side s (said a)) links) x y (done_if (c.0 == x) (said a) u)
-    (done_if (c.0 == y) (said a) v) (two_changed s o links x y u v c.0 (said a) two) parts.1 in
+    let rest = puts_seen s o more (change_at c.0 (by_side s (with_sent a)) links) x y
+    (done_if (c.0 == x) (with_sent a) u)
+    (done_if (c.0 == y) (with_sent a) v) (two_changed s o links x y u v c.0 (with_sent a) two) parts.1 in
     ap (λ (z : Side). put_if s (Message c.0 z a) (slice_get links c.0) ++ puts_of s more
-    (change_at c.0 (by_side s (said a)) links)) (flipped two.pair)
-    ∙ (ap (λ (ps : List (Put M)). ps ++ puts_of s more (change_at c.0 (by_side s (said a)) links))
+    (change_at c.0 (by_side s (with_sent a)) links)) (flipped two.pair)
+    ∙ (ap (λ (ps : List (Put M)). ps ++ puts_of s more (change_at c.0 (by_side s (with_sent a)) links))
     (put_tested s o links x y u v c.0 (Message c.0 o a) (c.0 == x) refl two parts.0)
     ∙ ap (λ (ps : List (Put M)).
     (if c.0 == x then put_at (Message c.0 o a) u else put_at (Message c.0 o a) v) ++ ps) rest)
 puts_seen {M} s o (Close c ∷ more) links x y u v two h =
     let parts = and_parts ((c.0 == x) || (c.0 == y)) (names x y more) h in
-    let rest = puts_seen s o more (change_at c.0 (by_side s shut) links) x y (done_if (c.0 == x) shut u)
-    (done_if (c.0 == y) shut v) (two_changed s o links x y u v c.0 shut two) parts.1 in
+    let rest = puts_seen s o more (change_at c.0 (by_side s with_close) links) x y (done_if (c.0 == x) with_close u)
+    (done_if (c.0 == y) with_close v) (two_changed s o links x y u v c.0 with_close two) parts.1 in
     ap (λ (z : Side). put_if s (Disconnect c.0 z) (slice_get links c.0) ++ puts_of s more
-    (change_at c.0 (by_side s shut) links)) (flipped two.pair)
-    ∙ (ap (λ (ps : List (Put M)). ps ++ puts_of s more (change_at c.0 (by_side s shut) links))
+    (change_at c.0 (by_side s with_close) links)) (flipped two.pair)
+    ∙ (ap (λ (ps : List (Put M)). ps ++ puts_of s more (change_at c.0 (by_side s with_close) links))
     (put_tested s o links x y u v c.0 (Disconnect c.0 o) (c.0 == x) refl two parts.0)
     ∙ ap (λ (ps : List (Put M)).
     (if c.0 == x then put_at (Disconnect c.0 o) u else put_at (Disconnect c.0 o) v) ++ ps) rest)

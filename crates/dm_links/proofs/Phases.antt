@@ -7,7 +7,7 @@ use Rattle.dm_links.specs.Links.{Side, Coming, Delivered}
 use Rattle.dm_links.specs.Peers.{Peers}
 use Rattle.dm_links.specs.Worlds.{World, Put, Disconnect, After, Done, Ignored, NoLink}
 use Rattle.dm_links.specs.Electing.{Talks}
-use Rattle.dm_links.proofs.Pairs.{mirror, At}
+use Rattle.dm_links.proofs.Pairs.{mirror, AreAt}
 use Rattle.dm_links.proofs.Turns.{wait_conn_ack, wait_i_cea, elect, returns, r_open, i_open}
 use Rattle.dm_links.proofs.Stages.{Stage, Unmade, Dialled, Asked, Accepted, Answered, Dropped, Halved, Parted}
 use Rattle.dm_links.proofs.Acting.{own_at, cer_put, cea_put}
@@ -209,7 +209,7 @@ module _ {P M C H : Type 0} (m : Peers P M) (t : Talks P M C H) where
     pub j : ℕ
     pub i' : ℕ
     pub j' : ℕ
-    pub at : At m t g l w x y (own_at m t g l (stage_g k) h i j)
+    pub at : AreAt m t g l w x y (own_at m t g l (stage_g k) h i j)
         (option_map mirror (own_at m t l g (stage_l k) h' i' j')) (node_g k x y) (node_l k x y) h h'
 
   -- what a happening that counts for so many steps does to it, with the links that it makes; n and n' are the numbers

@@ -1,18 +1,20 @@
 -- From the steps of one side to the phases.
-use Rattle.std.proofs.Common.{◌≡◌, ℕ, ◌+◌, ◌==◌, nat_le, Bool, true, false, if◌then◌else◌, Option, Some, None, List, [], ◌++◌, refl, sym, ap, subst, ◌∙◌}
+use Rattle.std.proofs.Common.{◌≡◌, ℕ, ◌+◌, ◌==◌, nat_le, Bool, true, false, if◌then◌else◌, Option, Some, None, List, []}
+use Rattle.std.proofs.Common.{◌++◌, refl, sym, ap, subst, ◌∙◌}
 use Rattle.std.specs.Prelude.{option_map}
 use Rattle.std.proofs.lemmas.Bool.{leb-true}
 use Rattle.dm_links.specs.Machine.{conn}
 use Rattle.dm_links.specs.Links.{Side, NoMark, Coming, Delivered, View, link_of}
 use Rattle.dm_links.specs.Peers.{Ack, Peers}
-use Rattle.dm_links.specs.Worlds.{World, Put, After, Ignored, NoLink, told}
-use Rattle.dm_links.specs.Happens.{next_in, delivered, pieced, if_up, if_pending, at_link, own_view}
+use Rattle.dm_links.specs.Worlds.{World, Put, After, Ignored, NoLink, tell}
+use Rattle.dm_links.specs.Happens.{next_in, deliver_next, deliver_part, if_up, if_pending, at_link, own_view}
 use Rattle.dm_links.specs.Electing.{Talks}
-use Rattle.dm_links.proofs.Pairs.{IsPair, ab, ba, mirror, At, at_flip}
+use Rattle.dm_links.proofs.Pairs.{IsPair, ab, ba, mirror, AreAt, at_flip}
 use Rattle.dm_links.proofs.Told.{Goes}
 use Rattle.dm_links.proofs.Stages.{Stage, Unmade, Dialled, Asked, Accepted, Answered, Dropped, Halved, Parted}
 use Rattle.dm_links.proofs.Acting.{own_at}
-use Rattle.dm_links.proofs.Phases.{Phase, node_g, node_l, stage_g, stage_l, depth, present, put_so_far, Adds, InPhase, Went, stays, is_lost, moves}
+use Rattle.dm_links.proofs.Phases.{Phase, node_g, node_l, stage_g, stage_l, depth, present, put_so_far, Adds, InPhase}
+use Rattle.dm_links.proofs.Phases.{Went, stays, is_lost, moves}
 
 pub mirror_twice : {M : Type 0} (u : Option (View M)) → option_map mirror (option_map mirror u) ≡ u
 mirror_twice None = refl
@@ -21,22 +23,22 @@ mirror_twice (Some v) = refl
 -- an Ack, a delivery and a piece, by a side's view of the link
 abbrev pub acked : {P M : Type 0} → Peers P M → Side → ℕ → World P M → Option (View M) → After P M
 acked m s c w None = NoLink
-acked m s c w (Some z) = if_pending z.phase (told m s (Ack (conn c)) w) Ignored
+acked m s c w (Some z) = if_pending z.phase (tell m s (Ack (conn c)) w) Ignored
 
 abbrev pub arrives : {P M : Type 0} → Peers P M → Side → ℕ → World P M → Option (View M) → After P M
 arrives m s c w None = NoLink
 arrives m s c w (Some z) = if_up z.phase
-    (delivered m c s z.own (next_in z.incoming.messages z.incoming.mark) w) Ignored
+    (deliver_next m c s z.own (next_in z.incoming.messages z.incoming.mark) w) Ignored
 
-abbrev pub pieces : {P M : Type 0} → Peers P M → Side → ℕ → ℕ → World P M → Option (View M) → After P M
-pieces m s c n w None = NoLink
-pieces m s c n w (Some z) =
-    if_up z.phase (if n == 0 then Ignored else pieced m c s n z.own z.incoming.taken
+abbrev pub pieces_in : {P M : Type 0} → Peers P M → Side → ℕ → ℕ → World P M → Option (View M) → After P M
+pieces_in m s c n w None = NoLink
+pieces_in m s c n w (Some z) =
+    if_up z.phase (if n == 0 then Ignored else deliver_part m c s n z.own z.incoming.taken
     (next_in z.incoming.messages z.incoming.mark) w) Ignored
 
 pub acked_own : {P M : Type 0} (m : Peers P M) (s : Side) (c : ℕ) (w : World P M) (u : Option (View M)) →
     at_link (option_map (link_of true s) u)
-    (λ l. if_pending l.phase (told m l.opener (Ack (conn c)) w) Ignored) ≡ acked m s c w u
+    (λ l. if_pending l.phase (tell m l.opener (Ack (conn c)) w) Ignored) ≡ acked m s c w u
 acked_own m s c w None = refl
 acked_own m s c w (Some z) = refl
 
@@ -44,7 +46,7 @@ pub arrives_own : {P M : Type 0} (m : Peers P M) (s o : Side) → IsPair s o →
     (c : ℕ) (w : World P M) (u : Option (View M)) →
     at_link (option_map (link_of true s) u)
     (λ l. let v = own_view s l in if_up l.phase
-    (delivered m c s v.own (next_in v.incoming.messages v.incoming.mark) w) Ignored) ≡ arrives m s c w u
+    (deliver_next m c s v.own (next_in v.incoming.messages v.incoming.mark) w) Ignored) ≡ arrives m s c w u
 arrives_own m s o ab c w None = refl
 arrives_own m s o ab c w (Some z) = refl
 arrives_own m s o ba c w None = refl
@@ -54,7 +56,7 @@ pub arrives_other : {P M : Type 0} (m : Peers P M) (s o : Side) → IsPair s o �
     (c : ℕ) (w : World P M) (u : Option (View M)) →
     at_link (option_map (link_of false o) u)
     (λ l. let v = own_view s l in if_up l.phase
-    (delivered m c s v.own (next_in v.incoming.messages v.incoming.mark) w) Ignored) ≡ arrives m s c w u
+    (deliver_next m c s v.own (next_in v.incoming.messages v.incoming.mark) w) Ignored) ≡ arrives m s c w u
 arrives_other m s o ab c w None = refl
 arrives_other m s o ab c w (Some z) = refl
 arrives_other m s o ba c w None = refl
@@ -124,17 +126,17 @@ module _ {P M C H : Type 0} (m : Peers P M) (t : Talks P M C H) where
 
   -- the world as the lesser side sees it
   pub flip_in : (g l : Side) (w : World P M) (k : Phase) (x y : ℕ) → (q : InPhase m t g l w k x y) →
-      At m t l g w y x (own_at m t l g (stage_l k) q.h' q.i' q.j')
+      AreAt m t l g w y x (own_at m t l g (stage_l k) q.h' q.i' q.j')
       (option_map mirror (own_at m t g l (stage_g k) q.h q.i q.j)) (node_l k x y) (node_g k x y) q.h' q.h
   flip_in g l w k x y q =
-      subst (λ u. At m t l g w y x u (option_map mirror (own_at m t g l (stage_g k) q.h q.i q.j)) (node_l k x y)
+      subst (λ u. AreAt m t l g w y x u (option_map mirror (own_at m t g l (stage_g k) q.h q.i q.j)) (node_l k x y)
       (node_g k x y) q.h' q.h) (mirror_twice (own_at m t l g (stage_l k) q.h' q.i' q.j'))
       (at_flip m t g l w x y (own_at m t g l (stage_g k) q.h q.i q.j)
       (option_map mirror (own_at m t l g (stage_l k) q.h' q.i' q.j')) (node_g k x y)
       (node_l k x y) q.h q.h' q.at)
 
   abbrev pub flip_out : (g l : Side) (w : World P M) (k : Phase) (x y h h' i j i' j' : ℕ) →
-      At m t l g w y x (own_at m t l g (stage_l k) h' i' j') (option_map mirror (own_at m t g l (stage_g k) h i j))
+      AreAt m t l g w y x (own_at m t l g (stage_l k) h' i' j') (option_map mirror (own_at m t g l (stage_g k) h i j))
       (node_l k x y) (node_g k x y) h' h → InPhase m t g l w k x y
   flip_out g l w k x y h h' i j i' j' a =
       record {
@@ -144,7 +146,7 @@ module _ {P M C H : Type 0} (m : Peers P M) (t : Talks P M C H) where
         j = j;
         i' = i';
         j' = j';
-        at = subst (λ u. At m t g l w x y u (option_map mirror (own_at m t l g (stage_l k) h' i' j'))
+        at = subst (λ u. AreAt m t g l w x y u (option_map mirror (own_at m t l g (stage_l k) h' i' j'))
             (node_g k x y) (node_l k x y) h h') (mirror_twice (own_at m t g l (stage_g k) h i j))
             (at_flip m t l g w y x (own_at m t l g (stage_l k) h' i' j')
             (option_map mirror (own_at m t g l (stage_g k) h i j)) (node_l k x y) (node_g k x y) h' h a);

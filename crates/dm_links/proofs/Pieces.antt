@@ -1,22 +1,26 @@
 -- A piece that ends no message leaves the phase as it is, one that ends its message is the delivery; and what comes to
 -- any other link is ignored.
-use Rattle.std.proofs.Common.{◌≡◌, ℕ, ◌+◌, ◌==◌, Bool, true, false, ◌&&◌, nat_lt, if◌then◌else◌, Option, Some, None, List, [], ◌∷◌, slice_get, refl, sym, ap, subst, ◌∙◌, append-nil, arith}
+use Rattle.std.proofs.Common.{◌≡◌, ℕ, ◌+◌, ◌==◌, Bool, true, false, ◌&&◌, nat_lt, if◌then◌else◌, Option, Some, None}
+use Rattle.std.proofs.Common.{List, [], ◌∷◌, slice_get, refl, sym, ap, subst, ◌∙◌, append-nil, arith}
 use Rattle.std.specs.Prelude.{option_map}
 use Rattle.std.proofs.lemmas.Bool.{and_parts}
 use Rattle.dm_links.specs.Machine.{conn, Node}
-use Rattle.dm_links.specs.Links.{Side, opens, LinkPhase, Pending, Up, Cancelled, End, Mark, NoMark, Coming, Delivered, Link, View, view_of, link_of, by_side}
+use Rattle.dm_links.specs.Links.{Side, opens, LinkPhase, Pending, Up, Cancelled, End, Mark, NoMark, Coming, Delivered}
+use Rattle.dm_links.specs.Links.{Link, View, view_of, link_of, by_side}
 use Rattle.dm_links.specs.Peers.{Arrived, Peers}
 use Rattle.dm_links.specs.Worlds.{World, with_links, change_at, After, Done, Ignored}
-use Rattle.dm_links.specs.Happens.{NextNothing, next_in, comes, delivered, taking, pieced, if_up, if_pending, own_view}
+use Rattle.dm_links.specs.Happens.{NextNothing, next_in, comes, deliver_next, take_part, deliver_part, if_up}
+use Rattle.dm_links.specs.Happens.{if_pending, own_view}
 use Rattle.dm_links.specs.Quiet.{is_still, is_quiet_link, is_in_part}
 use Rattle.dm_links.specs.Electing.{Talks}
 use Rattle.dm_links.proofs.Lists.{change_at-tested}
-use Rattle.dm_links.proofs.Pairs.{IsPair, mirror, own_by, other_by, Stands, At, not_same}
+use Rattle.dm_links.proofs.Pairs.{IsPair, mirror, own_by, other_by, Stands, AreAt, not_same}
 use Rattle.dm_links.proofs.Stages.{Stage, Unmade, Dialled, Asked, Accepted, Answered, Dropped, Halved, Parted}
 use Rattle.dm_links.proofs.Acting.{itself, own_at}
 use Rattle.dm_links.proofs.Starting.{same_peers}
-use Rattle.dm_links.proofs.Phases.{Phase, node_g, node_l, stage_g, stage_l, present, as_before, put_so_far, Adds, InPhase, Went, stays, moves}
-use Rattle.dm_links.proofs.Phasing.{arrives, pieces, flip_in, flip_out}
+use Rattle.dm_links.proofs.Phases.{Phase, node_g, node_l, stage_g, stage_l, present, as_before, put_so_far, Adds}
+use Rattle.dm_links.proofs.Phases.{InPhase, Went, stays, moves}
+use Rattle.dm_links.proofs.Phasing.{arrives, pieces_in, flip_in, flip_out}
 
 same_map : {X : Type 0} (o : Option X) → option_map (λ x. x) o ≡ o
 same_map None = refl
@@ -31,11 +35,11 @@ still_next [] n Delivered h = refl
 still_next (x ∷ xs) n mark h = cc
 
 quiet_ways : {M : Type 0} (l : Link M) → is_quiet_link l ≡ true → l.phase ≡ Up →
-    (is_still l.to_near && is_still l.to_far) ≡ true
+    (is_still l.to_opener && is_still l.to_other) ≡ true
 quiet_ways l h e = subst
-    (λ (p : LinkPhase). elim p [ Pending ↦ false | _ ↦ is_still l.to_near && is_still l.to_far ] ≡ true) e h
+    (λ (p : LinkPhase). elim p [ Pending ↦ false | _ ↦ is_still l.to_opener && is_still l.to_other ] ≡ true) e h
 
-seen_still : {M : Type 0} (mine : Bool) (l : Link M) → is_still l.to_near ≡ true → is_still l.to_far ≡ true →
+seen_still : {M : Type 0} (mine : Bool) (l : Link M) → is_still l.to_opener ≡ true → is_still l.to_other ≡ true →
     is_still (view_of mine l).incoming ≡ true
 seen_still true l h g = h
 seen_still false l h g = g
@@ -43,7 +47,7 @@ seen_still false l h g = g
 quiet_next : {M : Type 0} (mine : Bool) (l : Link M) → is_quiet_link l ≡ true → l.phase ≡ Up →
     next_in (view_of mine l).incoming.messages (view_of mine l).incoming.mark ≡ NextNothing
 quiet_next mine l h e =
-    let parts = and_parts (is_still l.to_near) (is_still l.to_far) (quiet_ways l h e) in
+    let parts = and_parts (is_still l.to_opener) (is_still l.to_other) (quiet_ways l h e) in
     let v = view_of mine l in
     still_next v.incoming.messages v.incoming.taken v.incoming.mark (seen_still mine l parts.0 parts.1)
 
@@ -54,7 +58,7 @@ both_ignored false after e = e
 
 -- octets delivered of what is under way
 pub taken_own : {M : Type 0} (st : Stage) (P C H : Type 0) (m : Peers P M) (t : Talks P M C H) (s o : Side)
-    (h i j n : ℕ) → option_map (taking n) (own_at m t s o st h i j) ≡ own_at m t s o st h (i + n) j
+    (h i j n : ℕ) → option_map (take_part n) (own_at m t s o st h i j) ≡ own_at m t s o st h (i + n) j
 taken_own Unmade P C H m t s o h i j n = refl
 taken_own Dialled P C H m t s o h i j n = refl
 taken_own Asked P C H m t s o h i j n = refl
@@ -65,7 +69,7 @@ taken_own Halved P C H m t s o h i j n = refl
 taken_own (Parted a b) P C H m t s o h i j n = refl
 
 pub taken_other : {M : Type 0} (st : Stage) (P C H : Type 0) (m : Peers P M) (t : Talks P M C H) (s o : Side)
-    (h i j n : ℕ) → option_map (taking n) (option_map mirror (own_at m t o s st h i j)) ≡ option_map mirror
+    (h i j n : ℕ) → option_map (take_part n) (option_map mirror (own_at m t o s st h i j)) ≡ option_map mirror
     (own_at m t o s st h i (j + n))
 taken_other Unmade P C H m t s o h i j n = refl
 taken_other Dialled P C H m t s o h i j n = refl
@@ -85,8 +89,8 @@ module _ {P M C H : Type 0} (m : Peers P M) (t : Talks P M C H) where
   -- one of the two links is changed
   pub change_own : (s o : Side) → IsPair s o →
       (w : World P M) (x y : ℕ) (u v u1 : Option (View M)) (n n' : Node) (h h' : ℕ) (f : View M → View M) →
-      At m t s o w x y u v n n' h h' → option_map f u ≡ u1 →
-      At m t s o (with_links (change_at x (by_side s f) w.links) w) x y u1 v n n' h h'
+      AreAt m t s o w x y u v n n' h h' → option_map f u ≡ u1 →
+      AreAt m t s o (with_links (change_at x (by_side s f) w.links) w) x y u1 v n n' h h'
   change_own s o pair w x y u v u1 n n' h h' f a e =
       let links = change_at x (by_side s f) w.links in
       record {
@@ -102,8 +106,8 @@ module _ {P M C H : Type 0} (m : Peers P M) (t : Talks P M C H) where
 
   pub change_other : (s o : Side) → IsPair s o →
       (w : World P M) (x y : ℕ) (u v v1 : Option (View M)) (n n' : Node) (h h' : ℕ) (f : View M → View M) →
-      At m t s o w x y u v n n' h h' → option_map f v ≡ v1 →
-      At m t s o (with_links (change_at y (by_side s f) w.links) w) x y u v1 n n' h h'
+      AreAt m t s o w x y u v n n' h h' → option_map f v ≡ v1 →
+      AreAt m t s o (with_links (change_at y (by_side s f) w.links) w) x y u v1 n n' h h'
   change_other s o pair w x y u v v1 n n' h h' f a e =
       let links = change_at y (by_side s f) w.links in
       record {
@@ -120,7 +124,7 @@ module _ {P M C H : Type 0} (m : Peers P M) (t : Talks P M C H) where
       }
 
   abbrev pub take_gg : (g l : Side) → IsPair g l → (w : World P M) (k : Phase) (x y n : ℕ) → InPhase m t g l w k x y →
-      InPhase m t g l (with_links (change_at x (by_side g (taking n)) w.links) w) k x y
+      InPhase m t g l (with_links (change_at x (by_side g (take_part n)) w.links) w) k x y
   take_gg g l pair w k x y n q =
       record {
         h = q.h;
@@ -132,12 +136,12 @@ module _ {P M C H : Type 0} (m : Peers P M) (t : Talks P M C H) where
         at = change_own g l pair w x y (own_at m t g l (stage_g k) q.h q.i q.j)
             (option_map mirror (own_at m t l g (stage_l k) q.h' q.i' q.j'))
             (own_at m t g l (stage_g k) q.h (q.i + n) q.j)
-            (node_g k x y) (node_l k x y) q.h q.h' (taking n) q.at
+            (node_g k x y) (node_l k x y) q.h q.h' (take_part n) q.at
             (taken_own (stage_g k) P C H m t g l q.h q.i q.j n);
       }
 
   abbrev pub take_lg : (g l : Side) → IsPair g l → (w : World P M) (k : Phase) (x y n : ℕ) → InPhase m t g l w k x y →
-      InPhase m t g l (with_links (change_at y (by_side g (taking n)) w.links) w) k x y
+      InPhase m t g l (with_links (change_at y (by_side g (take_part n)) w.links) w) k x y
   take_lg g l pair w k x y n q =
       record {
         h = q.h;
@@ -149,37 +153,37 @@ module _ {P M C H : Type 0} (m : Peers P M) (t : Talks P M C H) where
         at = change_other g l pair w x y (own_at m t g l (stage_g k) q.h q.i q.j)
             (option_map mirror (own_at m t l g (stage_l k) q.h' q.i' q.j'))
             (option_map mirror (own_at m t l g (stage_l k) q.h' q.i' (q.j' + n)))
-            (node_g k x y) (node_l k x y) q.h q.h' (taking n) q.at
+            (node_g k x y) (node_l k x y) q.h q.h' (take_part n) q.at
             (taken_other (stage_l k) P C H m t g l q.h' q.i' q.j' n);
       }
 
   abbrev pub take_ll : (g l : Side) → IsPair l g → (w : World P M) (k : Phase) (x y n : ℕ) → InPhase m t g l w k x y →
-      InPhase m t g l (with_links (change_at y (by_side l (taking n)) w.links) w) k x y
+      InPhase m t g l (with_links (change_at y (by_side l (take_part n)) w.links) w) k x y
   take_ll g l pair w k x y n q =
-      flip_out m t g l (with_links (change_at y (by_side l (taking n)) w.links) w) k x y q.h q.h' q.i q.j
+      flip_out m t g l (with_links (change_at y (by_side l (take_part n)) w.links) w) k x y q.h q.h' q.i q.j
       (q.i' + n) q.j'
       (change_own l g pair w y x (own_at m t l g (stage_l k) q.h' q.i' q.j')
       (option_map mirror (own_at m t g l (stage_g k) q.h q.i q.j))
       (own_at m t l g (stage_l k) q.h' (q.i' + n) q.j')
-      (node_l k x y) (node_g k x y) q.h' q.h (taking n) (flip_in m t g l w k x y q)
+      (node_l k x y) (node_g k x y) q.h' q.h (take_part n) (flip_in m t g l w k x y q)
       (taken_own (stage_l k) P C H m t l g q.h' q.i' q.j' n))
 
   abbrev pub take_gl : (g l : Side) → IsPair l g → (w : World P M) (k : Phase) (x y n : ℕ) → InPhase m t g l w k x y →
-      InPhase m t g l (with_links (change_at x (by_side l (taking n)) w.links) w) k x y
+      InPhase m t g l (with_links (change_at x (by_side l (take_part n)) w.links) w) k x y
   take_gl g l pair w k x y n q =
-      flip_out m t g l (with_links (change_at x (by_side l (taking n)) w.links) w) k x y q.h q.h' q.i
+      flip_out m t g l (with_links (change_at x (by_side l (take_part n)) w.links) w) k x y q.h q.h' q.i
       (q.j + n) q.i' q.j'
       (change_other l g pair w y x (own_at m t l g (stage_l k) q.h' q.i' q.j')
       (option_map mirror (own_at m t g l (stage_g k) q.h q.i q.j))
       (option_map mirror (own_at m t g l (stage_g k) q.h q.i (q.j + n)))
-      (node_l k x y) (node_g k x y) q.h' q.h (taking n) (flip_in m t g l w k x y q)
+      (node_l k x y) (node_g k x y) q.h' q.h (take_part n) (flip_in m t g l w k x y q)
       (taken_other (stage_g k) P C H m t l g q.h q.i q.j n))
 
   -- a piece to a side, by the view of the link: it is a step where it ends its message
   abbrev pub PieceWent : (g l : Side) (k : Phase) (x y h h' : ℕ) (w : World P M) (s : Side) (n c : ℕ) →
       Option (View M) → Type 0
   PieceWent g l k x y h h' w s n c u =
-      Went m t g l k x y h h' (if is_seen_in_part m.size n u then 0 else 1) (pieces m s c n w u) [] []
+      Went m t g l k x y h h' (if is_seen_in_part m.size n u then 0 else 1) (pieces_in m s c n w u) [] []
 
   none_added : (g l : Side) (k : Phase) (x y h h' : ℕ) → Adds m t g l k k x y h h' x y h h' []
   none_added g l k x y h h' = record {
@@ -196,17 +200,17 @@ module _ {P M C H : Type 0} (m : Peers P M) (t : Talks P M C H) where
 
   piece_next : (g l : Side) (k : Phase) (x y : ℕ) (s : Side) (c n : ℕ) (w : World P M) (end : End) (taken : ℕ)
       (messages : List M) (mark : Mark) →
-      (q : InPhase m t g l (with_links (change_at c (by_side s (taking n)) w.links) w) k x y) →
-      Went m t g l k x y q.h q.h' 1 (delivered m c s end (next_in messages mark) w) [] [] →
+      (q : InPhase m t g l (with_links (change_at c (by_side s (take_part n)) w.links) w) k x y) →
+      Went m t g l k x y q.h q.h' 1 (deliver_next m c s end (next_in messages mark) w) [] [] →
       Went m t g l k x y q.h q.h'
       (if is_in_part m.size n (record { messages = messages; taken = taken; mark = mark }) then 0 else 1)
-      (pieced m c s n end taken (next_in messages mark) w) [] []
+      (deliver_part m c s n end taken (next_in messages mark) w) [] []
   piece_next g l k x y s c n w end taken [] NoMark q h = stays
   piece_next g l k x y s c n w end taken [] Coming q h = stays
   piece_next g l k x y s c n w end taken [] Delivered q h = stays
   piece_next g l k x y s c n w end taken (a ∷ more) mark q h =
       piece_size g l k x y (nat_lt (taken + n) (m.size a))
-      (with_links (change_at c (by_side s (taking n)) w.links) w) (comes m s (Arrived (conn c) a) end w) q h
+      (with_links (change_at c (by_side s (take_part n)) w.links) w) (comes m s (Arrived (conn c) a) end w) q h
 
   piece_none : {h h' : ℕ} (g l : Side) (k : Phase) (x y i : ℕ) (b : Bool) (after : After P M) →
       Went m t g l k x y h h' i after [] [] → Went m t g l k x y h h' i (if b then Ignored else after) [] []
@@ -221,15 +225,15 @@ module _ {P M C H : Type 0} (m : Peers P M) (t : Talks P M C H) where
   piece_up g l k x y i Cancelled one two f h = stays
 
   pub pieces_went : (g l : Side) (k : Phase) (x y : ℕ) (s : Side) (c n : ℕ) (w : World P M) (u : Option (View M)) →
-      (q : InPhase m t g l (with_links (change_at c (by_side s (taking n)) w.links) w) k x y) →
+      (q : InPhase m t g l (with_links (change_at c (by_side s (take_part n)) w.links) w) k x y) →
       Went m t g l k x y q.h q.h' 1 (arrives m s c w u) [] [] → PieceWent g l k x y q.h q.h' w s n c u
   pieces_went g l k x y s c n w None q h = h
   pieces_went g l k x y s c n w (Some z) q h =
       let nx = next_in z.incoming.messages z.incoming.mark in
       let i = if is_in_part m.size n z.incoming then 0 else 1 in
-      piece_up g l k x y i z.phase (delivered m c s z.own nx w)
-      (if n == 0 then Ignored else pieced m c s n z.own z.incoming.taken nx w)
-      (λ one. piece_none g l k x y i (n == 0) (pieced m c s n z.own z.incoming.taken nx w)
+      piece_up g l k x y i z.phase (deliver_next m c s z.own nx w)
+      (if n == 0 then Ignored else deliver_part m c s n z.own z.incoming.taken nx w)
+      (λ one. piece_none g l k x y i (n == 0) (deliver_part m c s n z.own z.incoming.taken nx w)
       (piece_next g l k x y s c n w z.own z.incoming.taken z.incoming.messages z.incoming.mark q one)) h
 
   -- what comes to another link
@@ -241,7 +245,7 @@ module _ {P M C H : Type 0} (m : Peers P M) (t : Talks P M C H) where
 
   pub quiet_ack : {h h' : ℕ} (g l : Side) (k : Phase) (x y : ℕ) (q : Link M) (after : After P M) →
       is_quiet_link q ≡ true → Went m t g l k x y h h' 1 (if_pending q.phase after Ignored) [] []
-  quiet_ack g l k x y q after h = quiet_pending g l k x y q.phase (is_still q.to_near && is_still q.to_far) after h
+  quiet_ack g l k x y q after h = quiet_pending g l k x y q.phase (is_still q.to_opener && is_still q.to_other) after h
 
   quiet_up : {h h' : ℕ} (n : ℕ) (g l : Side) (k : Phase) (x y : ℕ) (p : LinkPhase) (after : After P M) →
       (p ≡ Up → after ≡ Ignored) →
@@ -253,22 +257,22 @@ module _ {P M C H : Type 0} (m : Peers P M) (t : Talks P M C H) where
   pub quiet_arrives : {h h' : ℕ} (g l : Side) (k : Phase) (x y : ℕ) (s : Side) (c : ℕ) (w : World P M) (q : Link M) →
       is_quiet_link q ≡ true →
       Went m t g l k x y h h' 1 (let v = own_view s q in if_up q.phase
-      (delivered m c s v.own (next_in v.incoming.messages v.incoming.mark) w) Ignored) [] []
+      (deliver_next m c s v.own (next_in v.incoming.messages v.incoming.mark) w) Ignored) [] []
   quiet_arrives g l k x y s c w q h =
       let v = own_view s q in
-      quiet_up 1 g l k x y q.phase (delivered m c s v.own (next_in v.incoming.messages v.incoming.mark) w)
-      (λ e. ap (λ nx. delivered m c s v.own nx w) (quiet_next (opens s q.opener) q h e))
+      quiet_up 1 g l k x y q.phase (deliver_next m c s v.own (next_in v.incoming.messages v.incoming.mark) w)
+      (λ e. ap (λ nx. deliver_next m c s v.own nx w) (quiet_next (opens s q.opener) q h e))
 
   pub quiet_pieces : {h h' : ℕ} (g l : Side) (k : Phase) (x y i : ℕ) (s : Side) (c n : ℕ) (w : World P M) (q : Link M) →
       is_quiet_link q ≡ true →
       Went m t g l k x y h h' i (let v = own_view s q in if_up q.phase
-      (if n == 0 then Ignored else pieced m c s n v.own v.incoming.taken
+      (if n == 0 then Ignored else deliver_part m c s n v.own v.incoming.taken
       (next_in v.incoming.messages v.incoming.mark) w) Ignored) [] []
   quiet_pieces g l k x y i s c n w q h =
       let v = own_view s q in
       quiet_up i g l k x y q.phase
-      (if n == 0 then Ignored else pieced m c s n v.own v.incoming.taken
+      (if n == 0 then Ignored else deliver_part m c s n v.own v.incoming.taken
       (next_in v.incoming.messages v.incoming.mark) w)
       (λ e. both_ignored (n == 0)
-      (pieced m c s n v.own v.incoming.taken (next_in v.incoming.messages v.incoming.mark) w)
-      (ap (λ nx. pieced m c s n v.own v.incoming.taken nx w) (quiet_next (opens s q.opener) q h e)))
+      (deliver_part m c s n v.own v.incoming.taken (next_in v.incoming.messages v.incoming.mark) w)
+      (ap (λ nx. deliver_part m c s n v.own v.incoming.taken nx w) (quiet_next (opens s q.opener) q h e)))

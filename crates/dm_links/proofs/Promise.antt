@@ -1,5 +1,6 @@
 -- What a sound world has.
-use Rattle.std.proofs.Common.{◌≡◌, ℕ, zero, suc, ◌<◌, Bool, true, false, not, ◌&&◌, ◌||◌, IsTrue, Option, Some, None, IfSome, List, [], ◌∷◌, length, slice_get, refl, sym, ap, subst, arith, ◌⊎◌, inl, inr}
+use Rattle.std.proofs.Common.{◌≡◌, ℕ, zero, suc, ◌<◌, Bool, true, false, not, ◌&&◌, ◌||◌, IsTrue, Option, Some, None}
+use Rattle.std.proofs.Common.{IfSome, List, [], ◌∷◌, length, slice_get, refl, sym, ap, subst, arith, ◌⊎◌, inl, inr}
 use Rattle.std.specs.Prelude.{◌↔◌}
 use Rattle.std.proofs.lemmas.Bool.{cases_eq, cases_lt, and_parts, and_from, or_cases}
 use Rattle.std.proofs.lemmas.Bool.Decides.{nat_tests}
@@ -7,28 +8,32 @@ use Rattle.std.proofs.lemmas.Option.{IfSome_then}
 use Rattle.dm_machine.specs.declared.state_name.State.{State}
 use Rattle.dm_machine.specs.declared.state_name.State.TheVariants.{ROpen, IOpen}
 use Rattle.dm_machine.specs.Node.{is_held_in, is_count_of}
-use Rattle.dm_links.specs.Machine.{Conn, conn, Role, Initiated, Accepted, Node, node_at, held_as, is_shaped, is_same_role, is_open, Tie, Unheld, tie_of, is_held}
-use Rattle.dm_links.specs.Links.{Side, A, B, flip, opens, LinkPhase, Pending, Up, Cancelled, End, Fresh, Open, Shut, Mark, NoMark, Coming, Delivered, Link}
+use Rattle.dm_links.specs.Machine.{Conn, conn, Role, Initiated, Accepted, Node, node_at, held_as, is_shaped}
+use Rattle.dm_links.specs.Machine.{is_same_role, is_open, Tie, Unheld, tie_of, is_held}
+use Rattle.dm_links.specs.Links.{Side, A, B, flip, opens, LinkPhase, Pending, Up, Cancelled, End, Fresh, Open, Shut}
+use Rattle.dm_links.specs.Links.{Mark, NoMark, Coming, Delivered, Link}
 use Rattle.dm_links.specs.Peers.{Peers}
 use Rattle.dm_links.specs.Worlds.{World, peer_at, After, Done, Ignored, NoLink}
-use Rattle.dm_links.specs.Happens.{Happening, own_view, happens, world_after, Ran, ran_on, run_from, run}
+use Rattle.dm_links.specs.Happens.{Happening, own_view, happens, world_after, RunEnd, ran_on, run_from, run}
 use Rattle.dm_links.specs.Follows.{IsMachine}
-use Rattle.dm_links.specs.Facts.{Standing, turned, is_sound, is_up, is_pending, is_open_end, is_coming, AreSound, IsSound}
-use Rattle.dm_links.specs.Agreement.{IsOpenOn, IsComing, Agreed, EndsAreHeld, HeldAreLinks, OpenIsMatched}
+use Rattle.dm_links.specs.Facts.{Standing, turned_over, is_sound_standing, is_up, is_pending, is_open_end, is_coming}
+use Rattle.dm_links.specs.Facts.{AreSound, IsSoundWorld}
+use Rattle.dm_links.specs.Agreement.{IsOpenOn, HasComingDisconnect, Agreed, EndsAreHeld, HeldAreLinks, OpenIsMatched}
 use Rattle.dm_links.specs.Laws.{Promised}
-use Rattle.dm_links.proofs.Every.{all_true, every_bool, every_tie, every_phase, every_end, every_mark, every_standing, at_standing}
+use Rattle.dm_links.proofs.Every.{all_true, every_bool, every_tie, every_phase, every_end, every_mark, every_standing}
+use Rattle.dm_links.proofs.Every.{at_standing}
 use Rattle.dm_links.proofs.Checks.{when, is_when, is_open_tie, is_taken, same_bool, conclusion}
 use Rattle.dm_links.proofs.Ties.{MachineLaws}
 use Rattle.dm_links.proofs.Events.{side_sound, standing_at}
 use Rattle.dm_links.proofs.Happenings.{happens_sound}
 
 -- an open node holds one connection, in the role of its state
-record Opens (n : Node) (r : Role) (c : ℕ) : Type 0 where
+record OpensBy (n : Node) (r : Role) (c : ℕ) : Type 0 where
   pub tie : is_open_tie (tie_of n c) ≡ true
   pub role : is_taken (tie_of n c) ≡ is_same_role r Accepted
   pub only : (d : ℕ) → is_held (tie_of n d) ≡ true → c ≡ d
 
-opens_r : (c n : ℕ) → Opens (node_at ROpen ((Accepted, conn c) ∷ []) n) Accepted c
+opens_r : (c n : ℕ) → OpensBy (node_at ROpen ((Accepted, conn c) ∷ []) n) Accepted c
 opens_r c n = record {
   tie = grind (arith, nat_tests);
   role = grind (arith, nat_tests);
@@ -36,7 +41,7 @@ opens_r c n = record {
       (arith, nat_tests, h);
 }
 
-opens_i : (c n : ℕ) → Opens (node_at IOpen ((Initiated, conn c) ∷ []) n) Initiated c
+opens_i : (c n : ℕ) → OpensBy (node_at IOpen ((Initiated, conn c) ∷ []) n) Initiated c
 opens_i c n = record {
   tie = grind (arith, nat_tests);
   role = grind (arith, nat_tests);
@@ -48,17 +53,17 @@ some_is : (x y : Conn) → Some x ≡ Some y → x ≡ y
 some_is x y h = cc
 
 opens_at : (s : State) (held : List (Role × Conn)) (n : ℕ) (r : Role) (c : ℕ) → IsTrue (is_held_in s held) →
-    IsTrue (is_open s) → held_as r held ≡ Some (conn c) → Opens (node_at s held n) r c
+    IsTrue (is_open s) → held_as r held ≡ Some (conn c) → OpensBy (node_at s held n) r c
 opens_at ROpen ((Accepted, x) ∷ []) n Accepted c h o e =
-    subst (λ y. Opens (node_at ROpen ((Accepted, y) ∷ []) n) Accepted c) (sym (some_is x (conn c) e)) (opens_r c n)
+    subst (λ y. OpensBy (node_at ROpen ((Accepted, y) ∷ []) n) Accepted c) (sym (some_is x (conn c) e)) (opens_r c n)
 opens_at ROpen ((Accepted, x) ∷ []) n Initiated c h o e = cc
 opens_at IOpen ((Initiated, x) ∷ []) n Initiated c h o e =
-    subst (λ y. Opens (node_at IOpen ((Initiated, y) ∷ []) n) Initiated c) (sym (some_is x (conn c) e))
+    subst (λ y. OpensBy (node_at IOpen ((Initiated, y) ∷ []) n) Initiated c) (sym (some_is x (conn c) e))
     (opens_i c n)
 opens_at IOpen ((Initiated, x) ∷ []) n Accepted c h o e = cc
 opens_at _ _ n r c h o e = cc
 
-opens_on : (n : Node) (r : Role) (c : ℕ) → IsTrue (is_shaped n) → IsOpenOn n r c → Opens n r c
+opens_on : (n : Node) (r : Role) (c : ℕ) → IsTrue (is_shaped n) → IsOpenOn n r c → OpensBy n r c
 opens_on n r c h o = opens_at n.state n.held n.count r c
     (and_parts (is_held_in n.state n.held) (is_count_of n.state n.count) h).0 o.is_open o.holds
 
@@ -128,7 +133,7 @@ is_open_at e h = rw h refl
 -- a cancelled link has no open end, and no side holds it
 abbrev none_cancelled : Standing → Bool
 none_cancelled s =
-    when (is_sound s)
+    when (is_sound_standing s)
     (when (not (is_up s.phase) && not (is_pending s.phase))
     (same_bool (is_open_end s.own) (is_held s.own_tie) && same_bool (is_open_end s.other) (is_held s.other_tie)))
 
@@ -136,27 +141,27 @@ none_cancelled_checked : every_standing none_cancelled ≡ true
 unfolding all_true every_bool every_tie every_phase every_end every_mark
 none_cancelled_checked = refl
 
-cancelled_ends : (mine : Bool) (s : Standing) → is_sound (turned mine s) ≡ true → s.phase ≡ Cancelled →
+cancelled_ends : (mine : Bool) (s : Standing) → is_sound_standing (turned_over mine s) ≡ true → s.phase ≡ Cancelled →
     same_bool (is_open_end s.own) (is_held s.own_tie) ≡ true
 cancelled_ends mine s good is = by_mine mine good
   where
-    both : (s : Standing) → is_sound s ≡ true → s.phase ≡ Cancelled →
+    both : (s : Standing) → is_sound_standing s ≡ true → s.phase ≡ Cancelled →
         (same_bool (is_open_end s.own) (is_held s.own_tie) ≡ true)
         × (same_bool (is_open_end s.other) (is_held s.other_tie) ≡ true)
     both s good is =
         and_parts (same_bool (is_open_end s.own) (is_held s.own_tie))
         (same_bool (is_open_end s.other) (is_held s.other_tie))
         (is_when (not (is_up s.phase) && not (is_pending s.phase)) _
-        (is_when (is_sound s) _ (at_standing none_cancelled none_cancelled_checked s) good)
+        (is_when (is_sound_standing s) _ (at_standing none_cancelled none_cancelled_checked s) good)
         (ap (λ p. not (is_up p) && not (is_pending p)) is))
 
-    by_mine : (mine : Bool) → is_sound (turned mine s) ≡ true →
+    by_mine : (mine : Bool) → is_sound_standing (turned_over mine s) ≡ true →
         same_bool (is_open_end s.own) (is_held s.own_tie) ≡ true
     by_mine true good = (both s good is).0
-    by_mine false good = (both (turned false s) good is).1
+    by_mine false good = (both (turned_over false s) good is).1
 
-ends_are_held : {P M : Type 0} (m : Peers P M) (w : World P M) → IsSound m w → EndsAreHeld m w
-ends_are_held m w good s c l at unpending = by_phase l.phase refl
+ends_are_held_proof : {P M : Type 0} (m : Peers P M) (w : World P M) → IsSoundWorld m w → EndsAreHeld m w
+ends_are_held_proof m w good s c l at unpending = by_phase l.phase refl
   where
     st : Standing
     st = standing_at m s w c l
@@ -177,8 +182,8 @@ ends_are_held m w good s c l at unpending = by_phase l.phase refl
     by_phase Cancelled e =
         both_ways (cancelled_ends (opens s l.opener) st ((side_sound m s w good).each c l at) e)
 
-held_are_links : {P M : Type 0} (m : Peers P M) (w : World P M) → IsSound m w → HeldAreLinks m w
-held_are_links m w good s c held =
+held_are_links_proof : {P M : Type 0} (m : Peers P M) (w : World P M) → IsSoundWorld m w → HeldAreLinks m w
+held_are_links_proof m w good s c held =
     let g = side_sound m s w good in
     let at = held_there s (m.node_of (peer_at s w)) (m.node_of (peer_at (flip s) w)) w.links c g held in
     let l = at.0 in
@@ -197,8 +202,8 @@ held_are_links m w good s c held =
     }
 
 -- where a node is open, the other end is open or a disconnect is coming
-open_is_matched : {P M : Type 0} (m : Peers P M) (w : World P M) → IsSound m w → OpenIsMatched m w
-open_is_matched m w good s r c o =
+open_is_matched_proof : {P M : Type 0} (m : Peers P M) (w : World P M) → IsSoundWorld m w → OpenIsMatched m w
+open_is_matched_proof m w good s r c o =
     let g = side_sound m s w good in
     let own = m.node_of (peer_at s w) in
     let tie = (opens_on own r c g.own_shaped o).tie in
@@ -218,11 +223,11 @@ open_is_matched m w good s r c o =
     }
 
 -- the other side holds it, or a disconnect is coming
-other_holds : {P M : Type 0} (m : Peers P M) (w : World P M) → IsSound m w → (s : Side) (r : Role) (c : ℕ) →
+other_holds : {P M : Type 0} (m : Peers P M) (w : World P M) → IsSoundWorld m w → (s : Side) (r : Role) (c : ℕ) →
     IsOpenOn (m.node_of (peer_at s w)) r c →
-    (is_held (tie_of (m.node_of (peer_at (flip s) w)) c) ≡ true) ⊎ IsComing w c s
+    (is_held (tie_of (m.node_of (peer_at (flip s) w)) c) ≡ true) ⊎ HasComingDisconnect w c s
 other_holds m w good s r c o =
-    let match = open_is_matched m w good s r c o in
+    let match = open_is_matched_proof m w good s r c o in
     let l = match.link in
     let st = standing_at m s w c l in
     elim match.matched [
@@ -243,12 +248,12 @@ roles_apart Accepted Accepted a b p q h =
     cc (subst (λ x. not (same_bool x (is_same_role Accepted Accepted)) ≡ true) p
     (subst (λ y. not (same_bool a y) ≡ true) q h))
 
-opposite : {P M : Type 0} (m : Peers P M) (w : World P M) → IsSound m w → (r r' : Role) (c : ℕ) →
+opposite : {P M : Type 0} (m : Peers P M) (w : World P M) → IsSoundWorld m w → (r r' : Role) (c : ℕ) →
     IsOpenOn (m.node_of w.a) r c → IsOpenOn (m.node_of w.b) r' c → is_same_role r r' ≡ false
 opposite m w good r r' c o o' =
     let mine = opens_on (m.node_of w.a) r c good.own_shaped o in
     let other = opens_on (m.node_of w.b) r' c good.other_shaped o' in
-    let match = open_is_matched m w good A r c o in
+    let match = open_is_matched_proof m w good A r c o in
     let st = standing_at m A w c match.link in
     let here = is_when (is_held st.own_tie && is_held st.other_tie) _
     (conclusion 3 (opens A match.link.opener) st (good.each c match.link match.there))
@@ -256,8 +261,8 @@ opposite m w good r r' c o o' =
     (open_held st.other_tie other.tie)) in
     roles_apart r r' (is_taken st.own_tie) (is_taken st.other_tie) mine.role other.role here
 
-agreed : {P M : Type 0} (m : Peers P M) (w : World P M) → IsSound m w → Agreed m w
-agreed m w good =
+agreed_proof : {P M : Type 0} (m : Peers P M) (w : World P M) → IsSoundWorld m w → Agreed m w
+agreed_proof m w good =
     record {
       one_a = λ r r' c d o o'.
           (opens_on (m.node_of w.a) r c good.own_shaped o).only d
@@ -286,26 +291,26 @@ agreed m w good =
           ];
     }
 
-pub promised : {P M : Type 0} (m : Peers P M) (w : World P M) → IsSound m w → Promised m w
-promised m w good =
+pub promised_proof : {P M : Type 0} (m : Peers P M) (w : World P M) → IsSoundWorld m w → Promised m w
+promised_proof m w good =
     record {
-      agreed = agreed m w good;
-      ends_are_held = ends_are_held m w good;
+      agreed = agreed_proof m w good;
+      ends_are_held = ends_are_held_proof m w good;
       held_are_links =
-          held_are_links m w good;
-      open_is_matched = open_is_matched m w good;
+          held_are_links_proof m w good;
+      open_is_matched = open_is_matched_proof m w good;
     }
 
 -- runs
-ran_sound : {P M : Type 0} (m : Peers P M) (r : Ran P M) (o : After P M) → IsSound m (world_after r.world o) →
-    IfSome (ran_on r o) (λ r. IsSound m r.world)
+ran_sound : {P M : Type 0} (m : Peers P M) (r : RunEnd P M) (o : After P M) → IsSoundWorld m (world_after r.world o) →
+    IfSome (ran_on r o) (λ r. IsSoundWorld m r.world)
 ran_sound m r (Done next put) good = good
 ran_sound m r Ignored good = good
 ran_sound m r NoLink good = tt
 
 pub run_sound : {P M : Type 0} (m : Peers P M) → MachineLaws → IsMachine m →
-    (o : Option (Ran P M)) (hs : List (Happening M)) → IfSome o (λ r. IsSound m r.world) →
-    IfSome (run_from m o hs) (λ r. IsSound m r.world)
+    (o : Option (RunEnd P M)) (hs : List (Happening M)) → IfSome o (λ r. IsSoundWorld m r.world) →
+    IfSome (run_from m o hs) (λ r. IsSoundWorld m r.world)
 run_sound m laws is None hs good = tt
 run_sound m laws is (Some r) [] good = good
 run_sound m laws is (Some r) (h ∷ hs) good =
@@ -313,7 +318,7 @@ run_sound m laws is (Some r) (h ∷ hs) good =
     (ran_sound m r (happens m r.world h) (happens_sound m laws is r.world h good))
 
 pub run_promised : {P M : Type 0} (m : Peers P M) → MachineLaws → IsMachine m →
-    (w : World P M) (hs : List (Happening M)) → IsSound m w → IfSome (run m w hs) (λ r. Promised m r.world)
+    (w : World P M) (hs : List (Happening M)) → IsSoundWorld m w → IfSome (run m w hs) (λ r. Promised m r.world)
 run_promised m laws is w hs good =
     IfSome_then (run m w hs) (run_sound m laws is (Some (record { world = w; put = [] })) hs good)
-    (λ r sound. promised m r.world sound)
+    (λ r sound. promised_proof m r.world sound)

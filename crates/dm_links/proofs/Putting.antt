@@ -1,16 +1,18 @@
 -- What the phases of a clean run have put in is the beginning of the run's course.
-use Rattle.std.proofs.Common.{◌≡◌, ℕ, Bool, true, false, nat_le, if◌then◌else◌, Option, Some, None, List, [], ◌∷◌, ◌++◌, length, ◌≤◌, refl, sym, ap, subst, ◌∙◌}
+use Rattle.std.proofs.Common.{◌≡◌, ℕ, Bool, true, false, nat_le, if◌then◌else◌, Option, Some, None, List, [], ◌∷◌, ◌++◌}
+use Rattle.std.proofs.Common.{length, ◌≤◌, refl, sym, ap, subst, ◌∙◌}
 use Rattle.std.proofs.lemmas.Bool.{leb-true}
 use Rattle.dm_links.specs.Links.{Side, A, B, flip, opens}
 use Rattle.dm_links.specs.Peers.{Peers}
 use Rattle.dm_links.specs.Worlds.{Put, Disconnect}
-use Rattle.dm_links.specs.Quiet.{Kept, kept_of}
+use Rattle.dm_links.specs.Quiet.{KeptLink, kept_of}
 use Rattle.dm_links.specs.Electing.{Talks}
-use Rattle.dm_links.specs.Courses.{cers_on, decided, course}
+use Rattle.dm_links.specs.Courses.{cers_on, after_cers, course}
 use Rattle.dm_links.proofs.Pairs.{IsPair, ab, ba}
 use Rattle.dm_links.proofs.Stages.{Stage, Unmade}
 use Rattle.dm_links.proofs.Acting.{cer_put, cea_put}
-use Rattle.dm_links.proofs.Phases.{Phase, C1, C2, C3, C4, C5, C10, C11, C12, C13, C14, C15, C16, C17, C18, C19, C25, stage_g, stage_l, present, put_so_far}
+use Rattle.dm_links.proofs.Phases.{Phase, C1, C2, C3, C4, C5, C10, C11, C12, C13, C14, C15, C16, C17, C18, C19, C25}
+use Rattle.dm_links.proofs.Phases.{stage_g, stage_l, present, put_so_far}
 
 -- of two sides, by the greater one
 abbrev pub by_greater : {X : Type 0} → Side → X → X → Side → X
@@ -89,18 +91,18 @@ module _ {P M C H : Type 0} (m : Peers P M) (t : Talks P M C H) where
 
   -- a course by other links that are the same
   decided_by : (numbers : Side → ℕ) (links links' : Side → List ℕ) → ((s : Side) → links s ≡ links' s) →
-      (k : Option Kept) → decided t numbers links k ≡ decided t numbers links' k
+      (k : Option KeptLink) → after_cers t numbers links k ≡ after_cers t numbers links' k
   decided_by numbers links links' e None = refl
   decided_by numbers links links' e (Some k) = rw (e (flip k.opener)) refl
 
-  pub course_by : (numbers : Side → ℕ) (first : Side) (links links' : Side → List ℕ) (k k' : Option Kept) →
+  pub course_by : (numbers : Side → ℕ) (first : Side) (links links' : Side → List ℕ) (k k' : Option KeptLink) →
       ((s : Side) → links s ≡ links' s) → k ≡ k' →
       course t numbers first links k ≡ course t numbers first links' k'
   course_by numbers first links links' k k' e same =
       ap (λ (ns : List ℕ). cers_on t numbers first ns ++ cers_on t numbers (flip first) (links (flip first))
-      ++ decided t numbers links k) (e first)
+      ++ after_cers t numbers links k) (e first)
       ∙ (ap (λ (ns : List ℕ). cers_on t numbers first (links' first) ++ cers_on t numbers (flip first) ns
-      ++ decided t numbers links k) (e (flip first))
+      ++ after_cers t numbers links k) (e (flip first))
       ∙ (ap (λ (ps : List (Put M)). cers_on t numbers first (links' first)
       ++ cers_on t numbers (flip first) (links' (flip first)) ++ ps) (decided_by numbers links links' e k)
-      ∙ ap (λ (o : Option Kept). course t numbers first links' o) same))
+      ∙ ap (λ (o : Option KeptLink). course t numbers first links' o) same))

@@ -7,7 +7,7 @@ use Rattle.dm_links.specs.Peers.{Peers}
 use Rattle.dm_links.specs.Worlds.{World}
 use Rattle.dm_links.specs.Quiet.{is_quiet_link, is_quiet, kept_of}
 use Rattle.dm_links.specs.Electing.{Talks}
-use Rattle.dm_links.specs.Settled.{AreOpenOn}
+use Rattle.dm_links.specs.Settled.{AreOpenOnKept}
 use Rattle.dm_links.proofs.Pairs.{IsPair, swapped}
 use Rattle.dm_links.proofs.Stages.{Stage, Unmade, Accepted, Parted}
 use Rattle.dm_links.proofs.Acting.{own_at}
@@ -67,7 +67,7 @@ module _ {P M C H : Type 0} (m : Peers P M) (t : Talks P M C H) where
   -- and both are open there on the link that is kept
   pub opened_end : (g l : Side) → IsPair g l → (w : World P M) (k : Phase) (x y : ℕ) → InPhase m t g l w k x y →
       Rests k → IfSome (kept_of l (present (stage_l k) y) (kept_of g (present (stage_g k) x) None))
-      (λ z. AreOpenOn m w z)
+      (λ z. AreOpenOnKept m w z)
   opened_end g l pair w k x y q idle = tt
   opened_end g l pair w k x y q only_g = are_open m t g l pair w x q.at.own.node q.at.other.node
   opened_end g l pair w k x y q only_l = are_open m t l g (swapped pair) w y q.at.other.node q.at.own.node

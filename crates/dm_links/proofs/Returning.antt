@@ -1,5 +1,6 @@
 -- A side that wins its elections doesn't come to wait for the other's disconnect.
-use Rattle.std.proofs.Common.{◌≡◌, ℕ, ◌==◌, Bool, true, false, not, ◌&&◌, ◌||◌, if◌then◌else◌, Option, Some, None, List, [], ◌∷◌, refl, sym, subst, ◌∙◌, arith}
+use Rattle.std.proofs.Common.{◌≡◌, ℕ, ◌==◌, Bool, true, false, not, ◌&&◌, ◌||◌, if◌then◌else◌, Option, Some, None, List}
+use Rattle.std.proofs.Common.{[], ◌∷◌, refl, sym, subst, ◌∙◌, arith}
 use Rattle.std.specs.Prelude.{⊤}
 use Rattle.std.specs.List.{list_all}
 use Rattle.std.proofs.lemmas.Bool.{and_parts}
@@ -15,7 +16,8 @@ use Rattle.dm_machine.specs.Table as table
 use Rattle.dm_machine.specs.Node.{Node, node_at}
 use Rattle.dm_machine.specs.Reading.{named_by, event_of}
 use Rattle.dm_machine.specs.Rows.{rows, event_code, is_for, row_in, state_code}
-use Rattle.dm_machine.specs.Moves.{Outcome, Moved, Refused, by_no_row, by_event, has_elect, raises_win, after_commands, then_won, outcome}
+use Rattle.dm_machine.specs.Moves.{Outcome, Moved, Refused, by_no_row, by_event, has_elect, raises_win, after_commands}
+use Rattle.dm_machine.specs.Moves.{then_won, outcome}
 use Rattle.dm_links.specs.Joining.{is_returning, WinnerDoesNotReturn}
 
 -- by the number of the state
@@ -90,6 +92,6 @@ by_code : (s : State) → is_returning s ≡ has_returned s
 by_code WaitReturns = refl
 by_code _ = refl
 
-pub winner_does_not_return : WinnerDoesNotReturn
-winner_does_not_return n next i commands away moves =
+pub winner_does_not_return_proof : WinnerDoesNotReturn
+winner_does_not_return_proof n next i commands away moves =
     by_code next.state ∙ subst (λ o. IsElsewhere o) moves (winner_elsewhere n i (sym (by_code n.state) ∙ away))

@@ -1,20 +1,27 @@
 -- Each happening of a clean run leads from phase to phase, and so does a run.
-use Rattle.std.proofs.Common.{◌≡◌, ℕ, ◌+◌, ◌==◌, Bool, true, false, if◌then◌else◌, Option, Some, None, IfSome, List, [], ◌∷◌, ◌++◌, slice_get, refl, sym, ap, subst, ◌∙◌, arith, append-nil, append_assoc, ◌⊎◌, inl, inr, ◌≤◌}
+use Rattle.std.proofs.Common.{◌≡◌, ℕ, ◌+◌, ◌==◌, Bool, true, false, if◌then◌else◌, Option, Some, None, IfSome, List, []}
+use Rattle.std.proofs.Common.{◌∷◌, ◌++◌, slice_get, refl, sym, ap, subst, ◌∙◌, arith, append-nil, append_assoc, ◌⊎◌}
+use Rattle.std.proofs.Common.{inl, inr, ◌≤◌}
 use Rattle.std.specs.Prelude.{option_map}
 use Rattle.std.proofs.lemmas.Bool.{cases_Bool, and_parts, eqb-true}
 use Rattle.dm_links.specs.Machine.{conn}
 use Rattle.dm_links.specs.Links.{Side, A, B, Link, View, link_of}
 use Rattle.dm_links.specs.Peers.{Ack, Peers}
-use Rattle.dm_links.specs.Worlds.{World, Put, After, Ignored, told}
-use Rattle.dm_links.specs.Happens.{Happening, Starts, Stops, TimesOut, Ticks, Restarts, Acks, Nacks, Delivers, Pieces, Loses, Submits, next_in, delivered, pieced, if_up, if_pending, at_link, own_view, happens, world_after, Ran, ran_on, run_from}
-use Rattle.dm_links.specs.Quiet.{is_quiet_link, is_clean_one, is_clean, is_in_part_at, makes, made, cost, steps_of, steps}
+use Rattle.dm_links.specs.Worlds.{World, Put, After, Ignored, tell}
+use Rattle.dm_links.specs.Happens.{Happening, Starts, Stops, TimesOut, Ticks, Restarts, Acks, Nacks, Delivers, Pieces}
+use Rattle.dm_links.specs.Happens.{Loses, Submits, next_in, deliver_next, deliver_part, if_up, if_pending, at_link}
+use Rattle.dm_links.specs.Happens.{own_view, happens, world_after, RunEnd, ran_on, run_from}
+use Rattle.dm_links.specs.Quiet.{is_quiet_link, is_clean_one, is_clean, is_in_part_at, makes, links_made, cost}
+use Rattle.dm_links.specs.Quiet.{steps_of, steps_taken}
 use Rattle.dm_links.specs.Electing.{Talks, IsElecting}
 use Rattle.dm_links.proofs.Pairs.{IsPair, ab, ba, swapped, mirror}
 use Rattle.dm_links.proofs.Acting.{own_at}
-use Rattle.dm_links.proofs.Phases.{Phase, C1, stage_g, stage_l, depth, present, put_so_far, Adds, InPhase, Went, stays, is_lost, moves}
+use Rattle.dm_links.proofs.Phases.{Phase, C1, stage_g, stage_l, depth, present, put_so_far, Adds, InPhase, Went, stays}
+use Rattle.dm_links.proofs.Phases.{is_lost, moves}
 use Rattle.dm_links.proofs.Phasing.{acked_own, arrives_own, arrives_other, flip_in}
 use Rattle.dm_links.proofs.Table.{ack_g, ack_l, arrive_gg, arrive_gl, arrive_ll, arrive_lg, start_g, start_l}
-use Rattle.dm_links.proofs.Pieces.{PieceWent, take_gg, take_gl, take_ll, take_lg, pieces_went, quiet_ack, quiet_arrives, quiet_pieces}
+use Rattle.dm_links.proofs.Pieces.{PieceWent, take_gg, take_gl, take_ll, take_lg, pieces_went, quiet_ack, quiet_arrives}
+use Rattle.dm_links.proofs.Pieces.{quiet_pieces}
 
 pub either_side : (g l : Side) → IsPair g l → (s : Side) → (s ≡ g) ⊎ (s ≡ l)
 either_side g l ab A = inl refl
@@ -24,16 +31,16 @@ either_side g l ba B = inl refl
 
 -- what the link of a number is, as a happening asks
 abbrev pub ack_of : {P M : Type 0} → Peers P M → ℕ → World P M → Link M → After P M
-ack_of m c w l = if_pending l.phase (told m l.opener (Ack (conn c)) w) Ignored
+ack_of m c w l = if_pending l.phase (tell m l.opener (Ack (conn c)) w) Ignored
 
 abbrev pub delivery_of : {P M : Type 0} → Peers P M → ℕ → Side → World P M → Link M → After P M
 delivery_of m c s w l = let v = own_view s l in if_up l.phase
-    (delivered m c s v.own (next_in v.incoming.messages v.incoming.mark) w) Ignored
+    (deliver_next m c s v.own (next_in v.incoming.messages v.incoming.mark) w) Ignored
 
 abbrev piece_of : {P M : Type 0} → Peers P M → ℕ → Side → ℕ → World P M → Link M → After P M
 piece_of m c s n w l =
     let v = own_view s l in if_up l.phase
-    (if n == 0 then Ignored else pieced m c s n v.own v.incoming.taken
+    (if n == 0 then Ignored else deliver_part m c s n v.own v.incoming.taken
     (next_in v.incoming.messages v.incoming.mark) w) Ignored
 
 module _ {P M C H : Type 0} (m : Peers P M) (t : Talks P M C H) where
@@ -66,7 +73,7 @@ module _ {P M C H : Type 0} (m : Peers P M) (t : Talks P M C H) where
   ack_went el g l pair wins loses w k x y q c =
       let f = flip_in m t g l w k x y q in
       which_link g l w k x y q (λ d o. WentAt g l k x y q.h q.h' 1 (at_link o (ack_of m d w))) (λ d. is_lost)
-      (λ d z h. quiet_ack m t g l k x y z (told m z.opener (Ack (conn d)) w) h)
+      (λ d z h. quiet_ack m t g l k x y z (tell m z.opener (Ack (conn d)) w) h)
       (subst (λ a. WentAt g l k x y q.h q.h' 1 a)
       (sym (ap (λ o. at_link o (ack_of m x w)) q.at.at_x
       ∙ acked_own m g x w (own_at m t g l (stage_g k) q.h q.i q.j)))
@@ -217,7 +224,7 @@ module _ {P M C H : Type 0} (m : Peers P M) (t : Talks P M C H) where
       }
 
   -- what a run has come to, with its steps and the links that it made
-  pub record Ended (g l : Side) (n : ℕ) (gs ls : List ℕ) (r : Ran P M) : Type 0 where
+  pub record Ended (g l : Side) (n : ℕ) (gs ls : List ℕ) (r : RunEnd P M) : Type 0 where
     pub k : Phase
     pub x : ℕ
     pub y : ℕ
@@ -229,42 +236,48 @@ module _ {P M C H : Type 0} (m : Peers P M) (t : Talks P M C H) where
 
   abbrev RunsFrom : (g l : Side) → List (Happening M) → Type 0
   RunsFrom g l hs =
-      (k : Phase) (x y n : ℕ) (r : Ran P M) → (q : InPhase m t g l r.world k x y) →
+      (k : Phase) (x y n : ℕ) (r : RunEnd P M) → (q : InPhase m t g l r.world k x y) →
       HasPut g l k x y q.h q.h' r.put → n ≤ depth k →
-      IfSome (run_from m (Some r) hs) (λ z. Ended g l (n + steps m r.world hs)
-      (present (stage_g k) x ++ made m g r.world hs) (present (stage_l k) y ++ made m l r.world hs) z)
+      IfSome (run_from m (Some r) hs) (λ z. Ended g l (n + steps_taken m r.world hs)
+      (present (stage_g k) x ++ links_made m g r.world hs) (present (stage_l k) y ++ links_made m l r.world hs) z)
 
   went_on : (g l : Side) (h : Happening M) (hs : List (Happening M)) → RunsFrom g l hs → (k : Phase) (x y n : ℕ)
-      (r : Ran P M) → (q : InPhase m t g l r.world k x y) → HasPut g l k x y q.h q.h' r.put → n ≤ depth k →
+      (r : RunEnd P M) → (q : InPhase m t g l r.world k x y) → HasPut g l k x y q.h q.h' r.put → n ≤ depth k →
       (after : After P M) (gs ls : List ℕ) → Went m t g l k x y q.h q.h' (cost m r.world h) after gs ls →
       IfSome (run_from m (ran_on r after) hs) (λ z. Ended g l
-      (n + (steps_of m r.world h after + steps m (world_after r.world after) hs))
-      (present (stage_g k) x ++ (gs ++ made m g (world_after r.world after) hs))
-      (present (stage_l k) y ++ (ls ++ made m l (world_after r.world after) hs)) z)
+      (n + (steps_of m r.world h after + steps_taken m (world_after r.world after) hs))
+      (present (stage_g k) x ++ (gs ++ links_made m g (world_after r.world after) hs))
+      (present (stage_l k) y ++ (ls ++ links_made m l (world_after r.world after) hs)) z)
   went_on g l h hs ih k x y n r q put low after gs ls stays =
-      let same : n + steps m r.world hs ≡ n + (0 + steps m r.world hs) = omega arith in
+      let same : n + steps_taken m r.world hs ≡ n + (0 + steps_taken m r.world hs) = omega arith in
       subst (λ (j : ℕ). IfSome (run_from m (Some r) hs) (λ z. Ended g l j
-      (present (stage_g k) x ++ made m g r.world hs) (present (stage_l k) y ++ made m l r.world hs) z)) same
+      (present (stage_g k) x ++ links_made m g r.world hs) (present (stage_l k) y ++ links_made m l r.world hs) z)) same
       (ih k x y n r q put low)
   went_on g l h hs ih k x y n r q put low after gs ls is_lost = tt
   went_on g l h hs ih k x y n r q put low after gs ls
       (moves w more gs0 ls0 k' x' y' q' adds e0 e4 e5) =
-      let r' : Ran P M = record { world = w; put = r.put ++ more } in
+      let r' : RunEnd P M = record { world = w; put = r.put ++ more } in
       let has = puts_on g l k k' x y q.h q.h' x' y' q'.h q'.h' r.put more put adds in
       let next = ih k' x' y' (n + cost m r.world h) r' q' has (omega (arith, low, e0)) in
-      let same_g : present (stage_g k') x' ++ made m g w hs ≡ present (stage_g k) x ++ (gs0 ++ made m g w hs) =
-      ap (λ (ns : List ℕ). ns ++ made m g w hs) (sym e4)
-      ∙ append_assoc (present (stage_g k) x) gs0 (made m g w hs) in
-      let same_l : present (stage_l k') y' ++ made m l w hs ≡ present (stage_l k) y ++ (ls0 ++ made m l w hs) =
-      ap (λ (ns : List ℕ). ns ++ made m l w hs) (sym e5)
-      ∙ append_assoc (present (stage_l k) y) ls0 (made m l w hs) in
-      let same_n : n + cost m r.world h + steps m w hs ≡ n + (cost m r.world h + steps m w hs) = omega arith in
+      let same_g : present (stage_g k') x' ++ links_made m g w hs ≡ present (stage_g k) x
+      ++ (gs0 ++ links_made m g w hs) =
+      ap (λ (ns : List ℕ). ns ++ links_made m g w hs) (sym e4)
+      ∙ append_assoc (present (stage_g k) x) gs0 (links_made m g w hs) in
+      let same_l : present (stage_l k') y' ++ links_made m l w hs ≡ present (stage_l k) y
+      ++ (ls0 ++ links_made m l w hs) =
+      ap (λ (ns : List ℕ). ns ++ links_made m l w hs) (sym e5)
+      ∙ append_assoc (present (stage_l k) y) ls0 (links_made m l w hs) in
+      let same_n : n + cost m r.world h + steps_taken m w hs ≡ n + (cost m r.world h + steps_taken m w hs) =
+      omega arith in
       subst (λ (j : ℕ). IfSome (run_from m (Some r') hs) (λ z. Ended g l j
-      (present (stage_g k) x ++ (gs0 ++ made m g w hs)) (present (stage_l k) y ++ (ls0 ++ made m l w hs)) z)) same_n
-      (subst (λ (ns : List ℕ). IfSome (run_from m (Some r') hs) (λ z. Ended g l (n + cost m r.world h + steps m w hs)
-      (present (stage_g k) x ++ (gs0 ++ made m g w hs)) ns z)) same_l
-      (subst (λ (ns : List ℕ). IfSome (run_from m (Some r') hs) (λ z. Ended g l (n + cost m r.world h + steps m w hs) ns
-      (present (stage_l k') y' ++ made m l w hs) z)) same_g next))
+      (present (stage_g k) x ++ (gs0 ++ links_made m g w hs)) (present (stage_l k) y
+      ++ (ls0 ++ links_made m l w hs)) z)) same_n
+      (subst (λ (ns : List ℕ). IfSome (run_from m (Some r') hs)
+      (λ z. Ended g l (n + cost m r.world h + steps_taken m w hs)
+      (present (stage_g k) x ++ (gs0 ++ links_made m g w hs)) ns z)) same_l
+      (subst (λ (ns : List ℕ). IfSome (run_from m (Some r') hs)
+      (λ z. Ended g l (n + cost m r.world h + steps_taken m w hs) ns
+      (present (stage_l k') y' ++ links_made m l w hs) z)) same_g next))
 
   pub runs : IsElecting m t → (g l : Side) → IsPair g l → t.wins g ≡ true → t.wins l ≡ false →
       (hs : List (Happening M)) → is_clean hs ≡ true → RunsFrom g l hs

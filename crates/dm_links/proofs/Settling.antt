@@ -1,5 +1,7 @@
 -- What a clean run comes to.
-use Rattle.std.proofs.Common.{◌≡◌, ℕ, zero, suc, ◌+◌, Bool, true, false, nat_le, if◌then◌else◌, Option, Some, None, IfSome, List, [], ◌∷◌, ◌++◌, length, slice_get, refl, sym, ap, subst, ◌∙◌, arith, inl, inr, ◌≤◌, ◌⊎◌}
+use Rattle.std.proofs.Common.{◌≡◌, ℕ, zero, suc, ◌+◌, Bool, true, false, nat_le, if◌then◌else◌, Option, Some, None}
+use Rattle.std.proofs.Common.{IfSome, List, [], ◌∷◌, ◌++◌, length, slice_get, refl, sym, ap, subst, ◌∙◌, arith, inl}
+use Rattle.std.proofs.Common.{inr, ◌≤◌, ◌⊎◌}
 use Rattle.std.specs.Prelude.{option_map}
 use Rattle.std.specs.List.{list_all}
 use Rattle.std.proofs.lemmas.Bool.{and_parts, eqb-true, leb-true, ne_eqb}
@@ -10,17 +12,18 @@ use Rattle.dm_links.specs.Machine.{Conn, Role, Initiated, Accepted, Node, node_a
 use Rattle.dm_links.specs.Links.{Side, A, B, NoMark, Coming, Delivered, link_of}
 use Rattle.dm_links.specs.Peers.{Peers}
 use Rattle.dm_links.specs.Worlds.{World, peer_at, Put}
-use Rattle.dm_links.specs.Happens.{Happening, Ran}
+use Rattle.dm_links.specs.Happens.{Happening, RunEnd}
 use Rattle.dm_links.specs.Agreement.{IsOpenOn}
-use Rattle.dm_links.specs.Quiet.{is_quiet_link, is_quiet, made, Kept, kept_of, kept, steps}
+use Rattle.dm_links.specs.Quiet.{is_quiet_link, is_quiet, links_made, KeptLink, kept_of, kept, steps_taken}
 use Rattle.dm_links.specs.Electing.{Talks, IsPeerOf, IsElecting}
-use Rattle.dm_links.specs.Settled.{Tally, AtMost, disconnects, AreOpenOn, FellQuiet, Settled}
+use Rattle.dm_links.specs.Settled.{Tally, AtMost, disconnects, AreOpenOnKept, FellQuiet, IsSettledRun}
 use Rattle.dm_links.specs.Courses.{IsOnCourse}
 use Rattle.dm_links.proofs.Pairs.{IsPair, ab, ba, swapped, Stands}
 use Rattle.dm_links.proofs.Turns.{i_open, r_open}
 use Rattle.dm_links.proofs.Stages.{Stage, Unmade, Dialled, Asked, Accepted, Answered, Dropped, Halved, Parted}
 use Rattle.dm_links.proofs.Acting.{own_at}
-use Rattle.dm_links.proofs.Phases.{Phase, C1, C2, C3, C4, C5, C6, C7, C8, C9, C25, stage_g, stage_l, depth, present, InPhase}
+use Rattle.dm_links.proofs.Phases.{Phase, C1, C2, C3, C4, C5, C6, C7, C8, C9, C25, stage_g, stage_l, depth, present}
+use Rattle.dm_links.proofs.Phases.{InPhase}
 use Rattle.dm_links.proofs.Phasing.{flip_in}
 use Rattle.dm_links.proofs.Running.{HasPut, Ended}
 use Rattle.dm_links.proofs.Matching.{phase_matches}
@@ -85,12 +88,12 @@ pub data Rests : Phase → Type 0 where
   only_l : Rests C9
   both : Rests C25
 
-rests : (k : Phase) → still (stage_g k) ≡ true → still (stage_l k) ≡ true → Rests k
-rests C1 p q = idle
-rests C8 p q = only_g
-rests C9 p q = only_l
-rests C25 p q = both
-rests _ p q = cc
+rests_when_still : (k : Phase) → still (stage_g k) ≡ true → still (stage_l k) ≡ true → Rests k
+rests_when_still C1 p q = idle
+rests_when_still C8 p q = only_g
+rests_when_still C9 p q = only_l
+rests_when_still C25 p q = both
+rests_when_still _ p q = cc
 
 opens_as_i : (n : Node) (x : ℕ) → n ≡ i_open x → IsOpenOn n Initiated x
 opens_as_i n x e = subst (λ k. IsOpenOn k Initiated x) (sym e) (record { is_open = refl; holds = refl })
@@ -132,7 +135,7 @@ module _ {P M C H : Type 0} (m : Peers P M) (t : Talks P M C H) where
   quiet_at s o w d (Parted Delivered Delivered) h i j q e = refl
 
   pub are_open : (g l : Side) → IsPair g l → (w : World P M) (x : ℕ) → m.node_of (peer_at g w) ≡ i_open x →
-      m.node_of (peer_at l w) ≡ r_open x → AreOpenOn m w (record { opener = g; link = x })
+      m.node_of (peer_at l w) ≡ r_open x → AreOpenOnKept m w (record { opener = g; link = x })
   are_open g l ab w x e e' =
       record {
         opener = opens_as_i (m.node_of (peer_at g w)) x e;
@@ -149,29 +152,29 @@ module _ {P M C H : Type 0} (m : Peers P M) (t : Talks P M C H) where
   -- the link that is kept, by who wins
   pub kept_by : (g l : Side) → IsPair g l → t.wins g ≡ true → t.wins l ≡ false →
       (w : World P M) (hs : List (Happening M)) →
-      kept m t.wins w hs ≡ kept_of l (made m l w hs) (kept_of g (made m g w hs) None)
+      kept m t.wins w hs ≡ kept_of l (links_made m l w hs) (kept_of g (links_made m g w hs) None)
   kept_by g l ab wins loses w hs = rw wins refl
   kept_by g l ba wins loses w hs = rw loses refl
 
   -- the counts by sides
-  abbrev CountedBy : Ran P M → List ℕ → List ℕ → Type 0
+  abbrev CountedBy : RunEnd P M → List ℕ → List ℕ → Type 0
   CountedBy r gs ls = Tally t r.put (length gs + length ls) 1 (disconnects gs ls)
 
-  by_sides : (g l : Side) → IsPair g l → (w : World P M) (hs : List (Happening M)) (r : Ran P M) (gs ls : List ℕ) →
-      made m g w hs ≡ gs → made m l w hs ≡ ls → CountedBy r gs ls → CountedBy r ls gs →
-      CountedBy r (made m A w hs) (made m B w hs)
-  by_sides g l ab w hs r gs ls e e' c c' = subst (λ ns. CountedBy r ns (made m B w hs)) (sym e)
+  by_sides : (g l : Side) → IsPair g l → (w : World P M) (hs : List (Happening M)) (r : RunEnd P M) (gs ls : List ℕ) →
+      links_made m g w hs ≡ gs → links_made m l w hs ≡ ls → CountedBy r gs ls → CountedBy r ls gs →
+      CountedBy r (links_made m A w hs) (links_made m B w hs)
+  by_sides g l ab w hs r gs ls e e' c c' = subst (λ ns. CountedBy r ns (links_made m B w hs)) (sym e)
       (subst (λ ns. CountedBy r gs ns) (sym e') c)
-  by_sides g l ba w hs r gs ls e e' c c' = subst (λ ns. CountedBy r ns (made m B w hs)) (sym e')
+  by_sides g l ba w hs r gs ls e e' c c' = subst (λ ns. CountedBy r ns (links_made m B w hs)) (sym e')
       (subst (λ ns. CountedBy r ls ns) (sym e) c')
 
-  abbrev QuietlyEnds : (w : World P M) (hs : List (Happening M)) (r : Ran P M) → Option Kept → Type 0
+  abbrev QuietlyEnds : (w : World P M) (hs : List (Happening M)) (r : RunEnd P M) → Option KeptLink → Type 0
   QuietlyEnds w hs r o = IfSome o (λ k. FellQuiet m t w hs r k)
 
   fell : (g l : Side) → IsPair g l →
-      (w : World P M) (hs : List (Happening M)) (r : Ran P M) (k : Phase) (x y : ℕ) → Rests k →
+      (w : World P M) (hs : List (Happening M)) (r : RunEnd P M) (k : Phase) (x y : ℕ) → Rests k →
       (q : InPhase m t g l r.world k x y) → HasPut m t g l k x y q.h q.h' r.put →
-      made m g w hs ≡ present (stage_g k) x → made m l w hs ≡ present (stage_l k) y →
+      links_made m g w hs ≡ present (stage_g k) x → links_made m l w hs ≡ present (stage_l k) y →
       QuietlyEnds w hs r (kept_of l (present (stage_l k) y) (kept_of g (present (stage_g k) x) None))
   fell g l pair w hs r k x y idle q put e e' = tt
   fell g l pair w hs r k x y only_g q put e e' =
@@ -197,33 +200,34 @@ module _ {P M C H : Type 0} (m : Peers P M) (t : Talks P M C H) where
       }
 
   pub by_pair : (g l : Side) → IsPair g l → (w : World P M) (hs : List (Happening M)) →
-      (made m A w hs ≡ []) ⊎ (made m B w hs ≡ []) → (made m g w hs ≡ []) ⊎ (made m l w hs ≡ [])
+      (links_made m A w hs ≡ []) ⊎ (links_made m B w hs ≡ []) → (links_made m g w hs ≡ []) ⊎ (links_made m l w hs ≡ [])
   by_pair g l ab w hs h = h
   by_pair g l ba w hs h = elim h [ inl e ↦ inr e | inr e ↦ inl e ]
 
   four_by : (g l : Side) (w : World P M) (hs : List (Happening M)) (k : Phase) (x y : ℕ) →
-      made m g w hs ≡ present (stage_g k) x → made m l w hs ≡ present (stage_l k) y →
-      (made m g w hs ≡ []) ⊎ (made m l w hs ≡ []) → 0 + steps m w hs ≤ depth k → steps m w hs ≤ 4
+      links_made m g w hs ≡ present (stage_g k) x → links_made m l w hs ≡ present (stage_l k) y →
+      (links_made m g w hs ≡ []) ⊎ (links_made m l w hs ≡ []) → 0 + steps_taken m w hs ≤ depth k →
+      steps_taken m w hs ≤ 4
   four_by g l w hs k x y e e' alone h =
       elim alone [
-        | inl none ↦ four_low k (steps m w hs) (alone_l k x (sym e ∙ none)) h
-        | inr none ↦ four_low k (steps m w hs) (alone_g k y (sym e' ∙ none)) h
+        | inl none ↦ four_low k (steps_taken m w hs) (alone_l k x (sym e ∙ none)) h
+        | inr none ↦ four_low k (steps_taken m w hs) (alone_g k y (sym e' ∙ none)) h
       ]
 
   rests_at : (g l : Side) (w : World P M) (k : Phase) (x y : ℕ) → InPhase m t g l w k x y → is_quiet w ≡ true →
       Rests k
   rests_at g l w k x y q quiet =
-      rests k (quiet_at g l w x (stage_g k) q.h q.i q.j quiet q.at.at_x)
+      rests_when_still k (quiet_at g l w x (stage_g k) q.h q.i q.j quiet q.at.at_x)
       (quiet_at l g w y (stage_l k) q.h' q.i' q.j' quiet (flip_in m t g l w k x y q).at_x)
 
   -- the link that is kept, in the phase that a run ends in
   kept_in : (g l : Side) → IsPair g l → t.wins g ≡ true → t.wins l ≡ false →
-      (w : World P M) (hs : List (Happening M)) (r : Ran P M) →
-      (z : Ended m t g l (0 + steps m w hs) (made m g w hs) (made m l w hs) r) →
+      (w : World P M) (hs : List (Happening M)) (r : RunEnd P M) →
+      (z : Ended m t g l (0 + steps_taken m w hs) (links_made m g w hs) (links_made m l w hs) r) →
       kept m t.wins w hs ≡ kept_of l (present (stage_l z.k) z.y) (kept_of g (present (stage_g z.k) z.x) None)
   kept_in g l pair wins loses w hs r z =
       kept_by g l pair wins loses w hs
-      ∙ (ap (λ ns. kept_of l ns (kept_of g (made m g w hs) None)) z.made_l
+      ∙ (ap (λ ns. kept_of l ns (kept_of g (links_made m g w hs) None)) z.made_l
       ∙ ap (λ ns. kept_of l (present (stage_l z.k) z.y) (kept_of g ns None)) z.made_g)
 
   -- where a run rests nothing is to come
@@ -234,33 +238,33 @@ module _ {P M C H : Type 0} (m : Peers P M) (t : Talks P M C H) where
   none_to_come g l k b x y h h' both = refl
 
   on_its_course : (g l : Side) → IsPair g l → t.wins g ≡ true → t.wins l ≡ false →
-      (w : World P M) (hs : List (Happening M)) (r : Ran P M) →
-      Ended m t g l (0 + steps m w hs) (made m g w hs) (made m l w hs) r → IsOnCourse m t w hs r
+      (w : World P M) (hs : List (Happening M)) (r : RunEnd P M) →
+      Ended m t g l (0 + steps_taken m w hs) (links_made m g w hs) (links_made m l w hs) r → IsOnCourse m t w hs r
   on_its_course g l pair wins loses w hs r z =
       let q = z.phase in
       let b = z.put.first in
       let rest = still_to_come m t g l z.k b z.x z.y q.h q.h' in
       let numbers = by_greater g q.h q.h' in
       let first = if is_led z.k b then g else l in
-      let links = by_each g l pair (λ s. made m s w hs) (present (stage_g z.k) z.x) (present (stage_l z.k) z.y)
+      let links = by_each g l pair (λ s. links_made m s w hs) (present (stage_g z.k) z.x) (present (stage_l z.k) z.y)
       z.made_g z.made_l in
       record {
-        one_each = one_at_most g l pair (λ s. made m s w hs) z.k z.x z.y links;
+        one_each = one_at_most g l pair (λ s. links_made m s w hs) z.k z.x z.y links;
         numbers = numbers;
         first = first;
         to_come = rest;
         put = ap (λ (ps : List (Put M)). ps ++ rest) z.put.all
             ∙ (on_course m t g l pair b z.k z.x z.y q.h q.h'
-            ∙ sym (course_by m t numbers first (λ s. made m s w hs)
+            ∙ sym (course_by m t numbers first (λ s. links_made m s w hs)
             (by_greater g (present (stage_g z.k) z.x) (present (stage_l z.k) z.y)) (kept m t.wins w hs) _ links
             (kept_in g l pair wins loses w hs r z)));
         ended = λ quiet. none_to_come g l z.k b z.x z.y q.h q.h' (rests_at g l r.world z.k z.x z.y q quiet);
       }
 
   pub settled : (g l : Side) → IsPair g l → t.wins g ≡ true → t.wins l ≡ false →
-      (w : World P M) (hs : List (Happening M)) (r : Ran P M) →
-      Ended m t g l (0 + steps m w hs) (made m g w hs) (made m l w hs) r →
-      Settled m t w hs r
+      (w : World P M) (hs : List (Happening M)) (r : RunEnd P M) →
+      Ended m t g l (0 + steps_taken m w hs) (links_made m g w hs) (links_made m l w hs) r →
+      IsSettledRun m t w hs r
   settled g l pair wins loses w hs r z =
       record {
         put = subst (λ ps. AtMost t ps) (sym z.put.all)
@@ -271,7 +275,7 @@ module _ {P M C H : Type 0} (m : Peers P M) (t : Talks P M C H) where
             let here = fell g l pair w hs r z.k z.x z.y rest z.phase z.put z.made_g z.made_l in
             subst (λ o. QuietlyEnds w hs r o) (sym (kept_in g l pair wins loses w hs r z)) here;
         matched = phase_matches m t g l pair r.world z.k z.x z.y z.phase;
-        nine = nine_by z.k (steps m w hs) z.reached;
+        nine = nine_by z.k (steps_taken m w hs) z.reached;
         four = λ alone. four_by g l w hs z.k z.x z.y z.made_g z.made_l (by_pair g l pair w hs alone) z.reached;
       }
 

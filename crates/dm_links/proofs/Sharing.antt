@@ -3,11 +3,12 @@ use Rattle.std.proofs.Common.{◌≡◌, ℕ, Bool, true, false, not, ◌&&◌, 
 use Rattle.std.proofs.lemmas.Bool.{and_parts, and_from}
 use Rattle.dm_machine.specs.declared.state_name.State.TheVariants.{Closed}
 use Rattle.dm_links.specs.Machine.{is_held}
-use Rattle.dm_links.specs.Links.{Side, A, B, flip, opens, LinkPhase, Pending, Up, Cancelled, Mark, NoMark, Coming, Delivered, Direction, Link, view_of}
+use Rattle.dm_links.specs.Links.{Side, A, B, flip, opens, LinkPhase, Pending, Up, Cancelled, Mark, NoMark, Coming}
+use Rattle.dm_links.specs.Links.{Delivered, Direction, Link, view_of}
 use Rattle.dm_links.specs.Peers.{Peers}
 use Rattle.dm_links.specs.Worlds.{World, peer_at}
 use Rattle.dm_links.specs.Happens.{own_view}
-use Rattle.dm_links.specs.Facts.{is_up, is_pending, is_empty, is_coming, IsSound}
+use Rattle.dm_links.specs.Facts.{is_up, is_pending, is_empty, is_coming, IsSoundWorld}
 use Rattle.dm_links.specs.Quiet.{is_still, is_quiet_link, is_quiet}
 use Rattle.dm_links.specs.Sharing.{HoldsLink, QuietIsShared}
 use Rattle.dm_links.proofs.Checks.{is_when, conclusion}
@@ -34,12 +35,13 @@ not_pending Up b mine q h = (refl, q)
 not_pending Pending b mine q h = cc
 not_pending Cancelled b mine q h = cc
 
-seen_both : {M : Type 0} (mine : Bool) (l : Link M) → is_still l.to_near ≡ true → is_still l.to_far ≡ true →
+seen_both : {M : Type 0} (mine : Bool) (l : Link M) → is_still l.to_opener ≡ true → is_still l.to_other ≡ true →
     (is_still (view_of mine l).incoming ≡ true) × (is_still (view_of mine l).outgoing ≡ true)
 seen_both true l a b = (a, b)
 seen_both false l a b = (b, a)
 
-pub shares : {P M : Type 0} (m : Peers P M) (w : World P M) → IsSound m w → is_quiet w ≡ true → (s : Side) (c : ℕ) →
+pub shares : {P M : Type 0} (m : Peers P M) (w : World P M) → IsSoundWorld m w → is_quiet w ≡ true →
+    (s : Side) (c : ℕ) →
     HoldsLink m w s c → HoldsLink m w (flip s) c
 shares m w good quiet s c held =
     let g = side_sound m s w good in
@@ -49,9 +51,9 @@ shares m w good quiet s c held =
     let mine = opens s l.opener in
     let sound = g.each c l at.1 in
     let here = is_when (is_held st.own_tie) _ (conclusion 1 mine st sound) held in
-    let calm = not_pending l.phase (is_still l.to_near && is_still l.to_far) mine
+    let calm = not_pending l.phase (is_still l.to_opener && is_still l.to_other) mine
     (all_at (λ z. is_quiet_link z) w.links c l quiet at.1) here in
-    let ways = and_parts (is_still l.to_near) (is_still l.to_far) calm.1 in
+    let ways = and_parts (is_still l.to_opener) (is_still l.to_other) calm.1 in
     let seen = seen_both mine l ways.0 ways.1 in
     let i = still_at (own_view s l).incoming seen.0 in
     let o = still_at (own_view s l).outgoing seen.1 in
@@ -60,7 +62,7 @@ shares m w good quiet s c held =
     (and_from st.out_empty _ o.0 (and_from (not (is_coming st.in_mark)) (not (is_coming st.out_mark)) i.1 o.1)))))
 
 -- where one side is Closed, what the other held it would hold too
-closed_both : {P M : Type 0} (m : Peers P M) (w : World P M) → IsSound m w → is_quiet w ≡ true → (s : Side) →
+closed_both : {P M : Type 0} (m : Peers P M) (w : World P M) → IsSoundWorld m w → is_quiet w ≡ true → (s : Side) →
     (m.node_of (peer_at s w)).state ≡ Closed → (m.node_of (peer_at (flip s) w)).state ≡ Closed
 closed_both m w good quiet s e =
     let g = side_sound m s w good in
@@ -79,6 +81,6 @@ closed_both m w good quiet s e =
         back A h = h
         back B h = h
 
-pub quiet_is_shared : {P M : Type 0} → QuietIsShared P M
-quiet_is_shared m w good quiet =
+pub quiet_is_shared_proof : {P M : Type 0} → QuietIsShared P M
+quiet_is_shared_proof m w good quiet =
     record { held = λ s c h. shares m w good quiet s c h; closed = λ s e. closed_both m w good quiet s e }

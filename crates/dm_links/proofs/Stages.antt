@@ -3,15 +3,17 @@ use Rattle.std.proofs.Common.{◌≡◌, ℕ, true, IsTrue, Option, Some, None, 
 use Rattle.std.specs.Prelude.{option_map}
 use Rattle.dm_machine.specs.Moves.{Outcome, Moved}
 use Rattle.dm_links.specs.Machine.{conn, Node, Input, Command, outcome, tie_of, is_held}
-use Rattle.dm_links.specs.Links.{Side, LinkPhase, Pending, Up, End, Fresh, Open, Shut, Mark, NoMark, Coming, Direction, View, by_side}
+use Rattle.dm_links.specs.Links.{Side, LinkPhase, Pending, Up, End, Fresh, Open, Shut, Mark, NoMark, Coming, Direction}
+use Rattle.dm_links.specs.Links.{View, by_side}
 use Rattle.dm_links.specs.Peers.{Event, Action, Acts, Peers, concern_by}
 use Rattle.dm_links.specs.Steps.{entered}
-use Rattle.dm_links.specs.Worlds.{World, peer_at, Put, enter, puts_of, puts_at_entry, told}
+use Rattle.dm_links.specs.Worlds.{World, peer_at, Put, enter, puts_of, puts_at_entry, tell}
 use Rattle.dm_machine.specs.Awaiting.{awaits_cea, holds_cer, number_after, waiting_after}
-use Rattle.dm_links.specs.Electing.{Talks, IsPeerOf, Reads, sends_cer, IsSaid, AreSaid, RepliesBy, RepliesAs, IsElecting}
+use Rattle.dm_links.specs.Electing.{Talks, IsPeerOf, IsReadAs, sends_cer, IsSaid, AreSaid, RepliesBy, RepliesAs}
+use Rattle.dm_links.specs.Electing.{IsElecting}
 use Rattle.dm_links.proofs.Columns.{stepped}
 use Rattle.dm_links.proofs.Lists.{IsStart, entered_at}
-use Rattle.dm_links.proofs.Pairs.{IsPair, own_by, other_by, Stands, At, puts_by, names, puts_of_two}
+use Rattle.dm_links.proofs.Pairs.{IsPair, own_by, other_by, Stands, AreAt, puts_by, names, puts_of_two}
 use Rattle.dm_links.proofs.Told.{Goes, IsCalm, told_at}
 
 -- not made; its connect is pending; its CER is under way; it is accepted, or done; its CEA is under way. After a won
@@ -26,8 +28,8 @@ pub data Stage : Type 0 where
   Halved : Stage
   Parted : Mark → Mark → Stage
 
-abbrev pub way : {M : Type 0} → List M → ℕ → Mark → Direction M
-way ms n mark = record { messages = ms; taken = n; mark = mark }
+abbrev pub direction_of : {M : Type 0} → List M → ℕ → Mark → Direction M
+direction_of ms n mark = record { messages = ms; taken = n; mark = mark }
 
 abbrev pub seen : {M : Type 0} → LinkPhase → End → End → Direction M → Direction M → View M
 seen p own other i o = record { phase = p; own = own; other = other; incoming = i; outgoing = o }
@@ -35,13 +37,13 @@ seen p own other i o = record { phase = p; own = own; other = other; incoming = 
 -- acts its opener sees it, with its CER, its CEA, and the octets delivered of what is under way
 abbrev pub stage_view : {M : Type 0} → Stage → M → M → ℕ → ℕ → Option (View M)
 stage_view Unmade a b j k = None
-stage_view Dialled a b j k = Some (seen Pending Shut Shut (way [] j NoMark) (way [] k NoMark))
-stage_view Asked a b j k = Some (seen Up Open Fresh (way [] j NoMark) (way (a ∷ []) k NoMark))
-stage_view Accepted a b j k = Some (seen Up Open Open (way [] j NoMark) (way [] k NoMark))
-stage_view Answered a b j k = Some (seen Up Open Open (way (b ∷ []) j NoMark) (way [] k NoMark))
-stage_view Dropped a b j k = Some (seen Up Shut Fresh (way [] j NoMark) (way (a ∷ []) k Coming))
-stage_view Halved a b j k = Some (seen Up Shut Open (way [] j NoMark) (way [] k Coming))
-stage_view (Parted i o) a b j k = Some (seen Up Shut Shut (way [] j i) (way [] k o))
+stage_view Dialled a b j k = Some (seen Pending Shut Shut (direction_of [] j NoMark) (direction_of [] k NoMark))
+stage_view Asked a b j k = Some (seen Up Open Fresh (direction_of [] j NoMark) (direction_of (a ∷ []) k NoMark))
+stage_view Accepted a b j k = Some (seen Up Open Open (direction_of [] j NoMark) (direction_of [] k NoMark))
+stage_view Answered a b j k = Some (seen Up Open Open (direction_of (b ∷ []) j NoMark) (direction_of [] k NoMark))
+stage_view Dropped a b j k = Some (seen Up Shut Fresh (direction_of [] j NoMark) (direction_of (a ∷ []) k Coming))
+stage_view Halved a b j k = Some (seen Up Shut Open (direction_of [] j NoMark) (direction_of [] k Coming))
+stage_view (Parted i o) a b j k = Some (seen Up Shut Shut (direction_of [] j i) (direction_of [] k o))
 
 -- what commands make a peer do
 module _ {P M C H : Type 0} (m : Peers P M) (t : Talks P M C H) where
@@ -74,7 +76,7 @@ module _ {P M C H : Type 0} (m : Peers P M) (t : Talks P M C H) where
       ∙ ap (λ (bs : List (Action M)). x ∷ bs) (two_said s p heard d e y z acts g k h.1)
 
   pub replied : IsElecting m t → (s : Side) (p : P) (e : Event M) (i : Input) (heard : Option H) → IsPeerOf t s p →
-      Reads m t s p e i heard → (n : Node) → m.node_of p ≡ n → (commands : List Command) (next : Node) →
+      IsReadAs m t s p e i heard → (n : Node) → m.node_of p ≡ n → (commands : List Command) (next : Node) →
       outcome n i (t.wins s) ≡ Moved commands next → RepliesBy m t s p heard commands next (m.reply p e)
   replied el s p e i heard is reads n node commands next out =
       subst (λ (o : Outcome). RepliesAs m t s p heard o (m.reply p e))
@@ -102,8 +104,8 @@ module _ {P M C H : Type 0} (m : Peers P M) (t : Talks P M C H) where
   pub turn : IsElecting m t → (s o : Side) → IsPair s o →
       (w : World P M) (x y : ℕ) (u v u1 v1 : Option (View M)) (n n' n1 : Node) (h h' h1 : ℕ) (e : Event M)
       (i : Input) (heard : Option H) (commands : List Command)
-      (actions : List (Action M)) (ps : List (Put M)) → At m t s o w x y u v n n' h h' →
-      (IsStart e → ⊥) → Reads m t s (peer_at s w) e i heard → outcome n i (t.wins s) ≡ Moved commands n1 →
+      (actions : List (Action M)) (ps : List (Put M)) → AreAt m t s o w x y u v n n' h h' →
+      (IsStart e → ⊥) → IsReadAs m t s (peer_at s w) e i heard → outcome n i (t.wins s) ≡ Moved commands n1 →
       ((acts : List (Action M)) → AreSaid t s (peer_at s w) heard commands acts → acts ≡ actions) →
       (awaits_cea n1.state ≡ true →
       number_after (awaits_cea n1.state) (sends_cer commands) (t.next_of (peer_at s w))
@@ -115,7 +117,7 @@ module _ {P M C H : Type 0} (m : Peers P M) (t : Talks P M C H) where
       option_map (stepped (concern_by e (conn y)) (is_held (tie_of n1 y)) y actions) v ≡ v1 →
       IsCalm e actions x y → names x y actions ≡ true → puts_at_entry s e w.links ≡ [] →
       puts_by o x y actions (option_map (entered (concern_by e (conn x))) u)
-      (option_map (entered (concern_by e (conn y))) v) ≡ ps → Goes m t s o x y u1 v1 n1 n' h1 h' (told m s e w) ps
+      (option_map (entered (concern_by e (conn y))) v) ≡ ps → Goes m t s o x y u1 v1 n1 n' h1 h' (tell m s e w) ps
   turn el s o pair w x y u v u1 v1 n n' n1 h h' h1 e i heard commands actions ps a no_start reads
       out said f g number still to_u to_v calm named at_entry puts =
       let p = peer_at s w in

@@ -1,5 +1,6 @@
 -- Starts, and disconnects that come to a shut end, in a clean run.
-use Rattle.std.proofs.Common.{◌≡◌, ℕ, zero, suc, ◌==◌, true, false, Option, Some, None, List, [], ◌∷◌, ◌++◌, length, slice_get, refl, sym, ap, subst, ◌∙◌, arith, inl, inr}
+use Rattle.std.proofs.Common.{◌≡◌, ℕ, zero, suc, ◌==◌, true, false, Option, Some, None, List, [], ◌∷◌, ◌++◌, length}
+use Rattle.std.proofs.Common.{slice_get, refl, sym, ap, subst, ◌∙◌, arith, inl, inr}
 use Rattle.std.specs.Prelude.{option_map}
 use Rattle.std.proofs.lemmas.Bool.{ne_eqb}
 use Rattle.std.proofs.lemmas.Option.{slice_get_within}
@@ -11,12 +12,13 @@ use Rattle.dm_links.specs.Machine.{conn, Node, outcome, closed_node}
 use Rattle.dm_links.specs.Links.{Side, A, B, Coming, Delivered, Link, View, link_of, by_side, new_link}
 use Rattle.dm_links.specs.Peers.{Event, Start, Gone, Action, Connect, Acts, Declines, Peers, concern_by}
 use Rattle.dm_links.specs.Steps.{entered}
-use Rattle.dm_links.specs.Worlds.{World, peer_at, with_peer, with_links, enter, Ignored, answered, told, dropped}
+use Rattle.dm_links.specs.Worlds.{World, peer_at, with_peer, with_links, enter, Ignored, after_reply, tell, after_drop}
 use Rattle.dm_links.specs.Quiet.{is_quiet_link}
-use Rattle.dm_links.specs.Electing.{Talks, starts, RepliesAs, IsElecting}
+use Rattle.dm_links.specs.Electing.{Talks, reads_start, RepliesAs, IsElecting}
 use Rattle.dm_links.proofs.Lists.{IsStart, mapped_some, entered_at}
 use Rattle.dm_links.proofs.Keeps.{appended_at}
-use Rattle.dm_links.proofs.Pairs.{IsPair, mirror, own_by, other_by, here_after, there_after, links_after, Stands, At, not_same}
+use Rattle.dm_links.proofs.Pairs.{IsPair, mirror, own_by, other_by, here_after, there_after, links_after, Stands, AreAt}
+use Rattle.dm_links.proofs.Pairs.{not_same}
 use Rattle.dm_links.proofs.Told.{Goes, calm_link}
 use Rattle.dm_links.proofs.Turns.{wait_conn_ack, out_start}
 use Rattle.dm_links.proofs.Stages.{Dialled, Parted, one_said, replied, stands_by}
@@ -45,10 +47,10 @@ module _ {P M C H : Type 0} (m : Peers P M) (t : Talks P M C H) where
   -- what comes to a shut end
   pub dropped_at : (s o : Side) → IsPair s o →
       (w : World P M) (x y : ℕ) (u v u1 v1 : Option (View M)) (n n' : Node) (h h' : ℕ) (e : Event M) →
-      At m t s o w x y u v n n' h h' → (IsStart e → ⊥) →
+      AreAt m t s o w x y u v n n' h h' → (IsStart e → ⊥) →
       option_map (entered (concern_by e (conn x))) u ≡ u1 → option_map (entered (concern_by e (conn y))) v ≡ v1 →
       ((d : ℕ) (z : View M) → (x == d) ≡ false → (y == d) ≡ false → entered (concern_by e (conn d)) z ≡ z) →
-      Goes m t s o x y u1 v1 n n' h h' (dropped s e w) []
+      Goes m t s o x y u1 v1 n n' h h' (after_drop s e w) []
   dropped_at s o pair w x y u v u1 v1 n n' h h' e a no_start to_u to_v calm =
       let links = enter s e w.links in
       record {
@@ -77,9 +79,9 @@ module _ {P M C H : Type 0} (m : Peers P M) (t : Talks P M C H) where
 
   pub shut_own : (s o : Side) → IsPair s o →
       (w : World P M) (x y j k : ℕ) (v : Option (View M)) (n n' : Node) (h h' : ℕ) (mark : _) →
-      At m t s o w x y (own_at m t s o (Parted Coming mark) h j k) v n n' h h' →
+      AreAt m t s o w x y (own_at m t s o (Parted Coming mark) h j k) v n n' h h' →
       Goes m t s o x y (own_at m t s o (Parted Delivered mark) h j k) v n n' h h'
-      (dropped s (Gone (conn x)) w) []
+      (after_drop s (Gone (conn x)) w) []
   shut_own s o pair w x y j k v n n' h h' mark a =
       let xx = itself x in
       let xy = a.apart in
@@ -89,9 +91,9 @@ module _ {P M C H : Type 0} (m : Peers P M) (t : Talks P M C H) where
 
   pub shut_other : (s o : Side) → IsPair s o →
       (w : World P M) (x y j k : ℕ) (u : Option (View M)) (n n' : Node) (h h' : ℕ) (mark : _) →
-      At m t s o w x y u (option_map mirror (own_at m t o s (Parted mark Coming) h' j k)) n n' h h' →
+      AreAt m t s o w x y u (option_map mirror (own_at m t o s (Parted mark Coming) h' j k)) n n' h h' →
       Goes m t s o x y u (option_map mirror (own_at m t o s (Parted mark Delivered) h' j k)) n n' h h'
-      (dropped s (Gone (conn y)) w) []
+      (after_drop s (Gone (conn y)) w) []
   shut_other s o pair w x y j k u n n' h h' mark a =
       let yy = itself y in
       let yx = not_same x y a.apart in
@@ -106,12 +108,12 @@ module _ {P M C H : Type 0} (m : Peers P M) (t : Talks P M C H) where
       slice_get (w.links ++ new_link s ∷ []) y ≡ option_map (link_of false o) v → (length w.links == y) ≡ false →
       ((d : ℕ) (l : Link M) → slice_get w.links d ≡ Some l → (y == d) ≡ false → is_quiet_link l ≡ true) →
       Goes m t s o (length w.links) y (own_at m t s o Dialled h 0 0) v (wait_conn_ack (length w.links)) n' h h'
-      (told m s (Start (conn (length w.links))) w) []
+      (tell m s (Start (conn (length w.links))) w) []
   start_of el s o pair w y v n' h h' own other at_y apart others =
       let x = length w.links in
       let p = peer_at s w in
       let e : Event M = Start (conn x) in
-      let r = replied m t el s p e (input.Start (conn x)) None own.peer (starts (conn x)) closed_node own.node
+      let r = replied m t el s p e (input.Start (conn x)) None own.peer (reads_start (conn x)) closed_node own.node
       (command.Connect (conn x) ∷ []) (wait_conn_ack x) (out_start x (t.wins s)) in
       let act : Action M = Connect (conn x) in
       let said = one_said m t s p None (command.Connect (conn x)) act r.actions (λ b q. q) r.said in
@@ -124,7 +126,7 @@ module _ {P M C H : Type 0} (m : Peers P M) (t : Talks P M C H) where
       record {
         world = w1;
         put = [];
-        is = ap (λ q. answered m s e w q) reply;
+        is = ap (λ q. after_reply m s e w q) reply;
         at = record {
           own = subst (λ q. Stands m t s q (wait_conn_ack x) h h')
               (sym (here_after s o pair r.peer links w)) stands;
@@ -148,9 +150,9 @@ module _ {P M C H : Type 0} (m : Peers P M) (t : Talks P M C H) where
   none_there xs c d z h g = ne_eqb c d (λ e. cc (h, subst (λ k. slice_get xs k ≡ Some z) (sym e) g))
 
   pub start_first : IsElecting m t → (s o : Side) → IsPair s o → (w : World P M) (x y : ℕ) (n' : Node) (h h' : ℕ) →
-      At m t s o w x y None None closed_node n' h h' →
+      AreAt m t s o w x y None None closed_node n' h h' →
       Goes m t s o (length w.links) (suc (length w.links)) (own_at m t s o Dialled h 0 0) None
-      (wait_conn_ack (length w.links)) n' h h' (told m s (Start (conn (length w.links))) w) []
+      (wait_conn_ack (length w.links)) n' h h' (tell m s (Start (conn (length w.links))) w) []
   start_first el s o pair w x y n' h h' a =
       start_of el s o pair w (suc (length w.links)) None n' h h' a.own a.other (appended_past w.links (new_link s))
       (ne_eqb _ _ (λ e. absurd (omega (arith, e))))
@@ -158,9 +160,9 @@ module _ {P M C H : Type 0} (m : Peers P M) (t : Talks P M C H) where
 
   pub start_second : IsElecting m t → (s o : Side) → IsPair s o →
       (w : World P M) (x y : ℕ) (z : View M) (n' : Node) (h h' : ℕ) →
-      At m t s o w x y None (Some z) closed_node n' h h' →
+      AreAt m t s o w x y None (Some z) closed_node n' h h' →
       Goes m t s o (length w.links) y (own_at m t s o Dialled h 0 0) (Some z)
-      (wait_conn_ack (length w.links)) n' h h' (told m s (Start (conn (length w.links))) w) []
+      (wait_conn_ack (length w.links)) n' h h' (tell m s (Start (conn (length w.links))) w) []
   start_second el s o pair w x y z n' h h' a =
       let within = slice_get_within w.links y (link_of false o z) a.at_y in
       start_of el s o pair w y (Some z) n' h h' a.own a.other
@@ -172,12 +174,12 @@ module _ {P M C H : Type 0} (m : Peers P M) (t : Talks P M C H) where
   pub start_declined : IsElecting m t → (s : Side) (w : World P M) (n : Node) (h h' : ℕ) →
       Stands m t s (peer_at s w) n h h' →
       outcome n (input.Start (conn (length w.links))) (t.wins s) ≡ Refused NotClosed →
-      told m s (Start (conn (length w.links))) w ≡ Ignored
+      tell m s (Start (conn (length w.links))) w ≡ Ignored
   start_declined el s w n h h' own out =
       let p = peer_at s w in
       let e : Event M = Start (conn (length w.links)) in
       let declined : m.reply p e ≡ Declines =
       subst (λ (o : Outcome). RepliesAs m t s p None o (m.reply p e))
       (ap (λ (k : Node). outcome k (input.Start (conn (length w.links))) (t.wins s)) own.node ∙ out)
-      (el.replies s p e (input.Start (conn (length w.links))) None own.peer (starts (conn (length w.links)))) in
-      ap (λ q. answered m s e w q) declined
+      (el.replies s p e (input.Start (conn (length w.links))) None own.peer (reads_start (conn (length w.links)))) in
+      ap (λ q. after_reply m s e w q) declined

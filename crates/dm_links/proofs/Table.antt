@@ -1,21 +1,28 @@
 -- The table of a clean run: what an Ack, a delivery and a Start come to in each phase.
-use Rattle.std.proofs.Common.{◌≡◌, ℕ, suc, ◌+◌, nat_le, Bool, true, false, if◌then◌else◌, List, [], ◌∷◌, ◌++◌, length, refl, sym, ap, subst, ◌∙◌}
+use Rattle.std.proofs.Common.{◌≡◌, ℕ, suc, ◌+◌, nat_le, Bool, true, false, if◌then◌else◌, List, [], ◌∷◌, ◌++◌, length}
+use Rattle.std.proofs.Common.{refl, sym, ap, subst, ◌∙◌}
 use Rattle.std.specs.Prelude.{option_map}
 use Rattle.std.proofs.lemmas.Bool.{leb-true}
 use Rattle.dm_links.specs.Machine.{conn}
 use Rattle.dm_links.specs.Links.{Side, opens, Coming, Delivered}
 use Rattle.dm_links.specs.Peers.{Start, Peers}
-use Rattle.dm_links.specs.Worlds.{World, peer_at, After, Ignored, told}
+use Rattle.dm_links.specs.Worlds.{World, peer_at, After, Ignored, tell}
 use Rattle.dm_links.specs.Happens.{Starts}
 use Rattle.dm_links.specs.Quiet.{makes}
 use Rattle.dm_links.specs.Electing.{Talks, IsElecting}
 use Rattle.dm_links.proofs.Pairs.{IsPair, ab, ba, swapped, mirror}
 use Rattle.dm_links.proofs.Told.{Goes}
-use Rattle.dm_links.proofs.Turns.{out_start_wait, out_start_cea, out_start_elect, out_start_returns, out_start_r, out_start_i}
-use Rattle.dm_links.proofs.Acting.{own_at, acks_plain, acks_lose, acks_win, cer_closed, cer_wait, cer_lose, cer_late, cer_win, cer_win_late, cer_rejected, cea_plain, cea_returns, gone_returns}
+use Rattle.dm_links.proofs.Turns.{out_start_wait, out_start_cea, out_start_elect, out_start_returns, out_start_r}
+use Rattle.dm_links.proofs.Turns.{out_start_i}
+use Rattle.dm_links.proofs.Acting.{own_at, acks_plain, acks_lose, acks_win, cer_closed, cer_wait, cer_lose, cer_late}
+use Rattle.dm_links.proofs.Acting.{cer_win, cer_win_late, cer_rejected, cea_plain, cea_returns, gone_returns}
 use Rattle.dm_links.proofs.Starting.{shut_own, shut_other, start_first, start_second, start_declined}
-use Rattle.dm_links.proofs.Phases.{Phase, C1, C2, C3, C4, C5, C6, C7, C8, C9, C10, C11, C12, C13, C14, C15, C16, C17, C18, C19, C20, C21, C22, C23, C24, C25, node_g, node_l, stage_g, stage_l, depth, present, put_so_far, as_before, greater_first, other_first, InPhase, Went, stays, moves}
-use Rattle.dm_links.proofs.Phasing.{acked, arrives, idle_ack, idle_own, idle_other, flip_in, flip_out, adds_either, went_own, went_other}
+use Rattle.dm_links.proofs.Phases.{Phase, C1, C2, C3, C4, C5, C6, C7, C8, C9, C10, C11, C12, C13, C14, C15, C16, C17}
+use Rattle.dm_links.proofs.Phases.{C18, C19, C20, C21, C22, C23, C24, C25, node_g, node_l, stage_g, stage_l, depth}
+use Rattle.dm_links.proofs.Phases.{present, put_so_far, as_before, greater_first, other_first, InPhase, Went, stays}
+use Rattle.dm_links.proofs.Phases.{moves}
+use Rattle.dm_links.proofs.Phasing.{acked, arrives, idle_ack, idle_own, idle_other, flip_in, flip_out, adds_either}
+use Rattle.dm_links.proofs.Phasing.{went_own, went_other}
 
 self_opens : (g l : Side) → IsPair g l → opens g g ≡ true
 self_opens g l ab = refl
@@ -380,7 +387,7 @@ module _ {P M C H : Type 0} (m : Peers P M) (t : Talks P M C H) where
       ∙ (one_made (opens l l) n n (self_opens l g (swapped pair)) refl ∙ sym e5)))
 
   pub start_g : IsElecting m t → (g l : Side) → IsPair g l → (w : World P M) (k : Phase) (x y : ℕ) →
-      (q : InPhase m t g l w k x y) → MadeBy g l g k x y q.h q.h' w (told m g (Start (conn (length w.links))) w)
+      (q : InPhase m t g l w k x y) → MadeBy g l g k x y q.h q.h' w (tell m g (Start (conn (length w.links))) w)
   start_g el g l pair w C1 x y q = started_g g l pair C1 C2 x y (suc (length w.links)) w q.h q.h' 0 0 _
       (start_first m t el g l pair w x y (node_l C1 x y) q.h q.h' q.at) refl refl refl refl refl refl
   start_g el g l pair w C2 x y q = declined g l g C2 x y w _
@@ -434,7 +441,7 @@ module _ {P M C H : Type 0} (m : Peers P M) (t : Talks P M C H) where
       (start_declined m t el g w (node_g C25 x y) q.h q.h' q.at.own (out_start_r y (length w.links) (t.wins g)))
 
   pub start_l : IsElecting m t → (g l : Side) → IsPair g l → (w : World P M) (k : Phase) (x y : ℕ) →
-      (q : InPhase m t g l w k x y) → MadeBy g l l k x y q.h q.h' w (told m l (Start (conn (length w.links))) w)
+      (q : InPhase m t g l w k x y) → MadeBy g l l k x y q.h q.h' w (tell m l (Start (conn (length w.links))) w)
   start_l el g l pair w C1 x y q = started_l g l pair C1 C3 x y (suc (length w.links)) w q.h q.h' 0 0 _
       (start_first m t el l g (swapped pair) w y x (node_g C1 x y) q.h' q.h (flip_in m t g l w C1 x y q))
       refl refl refl refl refl refl

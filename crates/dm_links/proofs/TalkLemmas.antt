@@ -1,5 +1,6 @@
 -- The state machine with numbers makes peers that elect.
-use Rattle.std.proofs.Common.{◌≡◌, ℕ, Bool, true, false, not, ◌&&◌, ◌||◌, Option, Some, None, List, [], ◌∷◌, map, if◌then◌else◌, refl, ap, subst}
+use Rattle.std.proofs.Common.{◌≡◌, ℕ, Bool, true, false, not, ◌&&◌, ◌||◌, Option, Some, None, List, [], ◌∷◌, map}
+use Rattle.std.proofs.Common.{if◌then◌else◌, refl, ap, subst}
 use Rattle.std.specs.Prelude.{is_none}
 use Rattle.dm_machine.specs.declared.outputs.Command.TheVariants as command
 use Rattle.dm_machine.specs.declared.state_name.State.{State}
@@ -9,15 +10,18 @@ use Rattle.dm_links.specs.Machine.{Input, Command, outcome}
 use Rattle.dm_links.specs.Links.{Side}
 use Rattle.dm_links.specs.Peers.{Event, Send}
 use Rattle.dm_machine.specs.Awaiting.{holds_cer, waiting_after}
-use Rattle.dm_links.specs.Electing.{IsPeerOf, Reads, starts, acks, ends, asks, passes, answers, IsSaid, AreSaid, RepliesAs}
-use Rattle.dm_links.specs.Talkers.{Note, Talker, is_unheld, is_unread, input_at, heard_at, number_of, action_at, talk_by, talkers, talks, TalkersAreElecting, TwoTalks, note}
+use Rattle.dm_links.specs.Electing.{IsPeerOf, IsReadAs, reads_start, reads_ack, reads_end, reads_cer, leaves_cer}
+use Rattle.dm_links.specs.Electing.{reads_cea, IsSaid, AreSaid, RepliesAs}
+use Rattle.dm_links.specs.Talkers.{Note, Talker, is_unheld, is_unread_by, talker_input, talker_heard, number_or_zero}
+use Rattle.dm_links.specs.Talkers.{talker_action, talk_by, talkers, talk_of_talkers, TalkersAreElecting, TwoTalks}
+use Rattle.dm_links.specs.Talkers.{note_of}
 use Rattle.dm_machine.specs.declared.inputs.Word.TheVariants.{Cea}
 
-said_at : (s : Side) (p : Talker) (heard : Option ℕ) → p.wins ≡ talks.config s → (c : Command) →
-    IsSaid talks s p heard c (action_at p heard c)
+said_at : (s : Side) (p : Talker) (heard : Option ℕ) → p.wins ≡ talk_of_talkers.config s → (c : Command) →
+    IsSaid talk_of_talkers s p heard c (talker_action p heard c)
 said_at s p heard e (command.Connect c) = refl
 said_at s p heard e (command.SendCer c) = refl
-said_at s p heard e (command.SendCea c) = λ n h. ap (λ o. Send c (note Cea (number_of o))) h
+said_at s p heard e (command.SendCea c) = λ n h. ap (λ o. Send c (note_of Cea (number_or_zero o))) h
 said_at s p heard e (command.SendRefusal c) = tt
 said_at s p heard e (command.SendDwr c) = tt
 said_at s p heard e (command.SendDwa c) = tt
@@ -27,8 +31,8 @@ said_at s p heard e (command.SendSubmit c) = tt
 said_at s p heard e (command.Close c) = refl
 said_at s p heard e command.Up = tt
 
-all_said : (s : Side) (p : Talker) (heard : Option ℕ) → p.wins ≡ talks.config s → (commands : List Command) →
-    AreSaid talks s p heard commands (map (action_at p heard) commands)
+all_said : (s : Side) (p : Talker) (heard : Option ℕ) → p.wins ≡ talk_of_talkers.config s → (commands : List Command) →
+    AreSaid talk_of_talkers s p heard commands (map (talker_action p heard) commands)
 all_said s p heard e [] = tt
 all_said s p heard e (c ∷ more) = (said_at s p heard e c, all_said s p heard e more)
 
@@ -41,12 +45,12 @@ stands_after from next heard old = stands_if (holds_cer next) (holds_cer from) h
     stands_if true c heard old = refl
     stands_if false c heard old = refl
 
-talks_by : (s : Side) (p : Talker) (heard : Option ℕ) (o : Outcome) → IsPeerOf talks s p →
-    RepliesAs talkers talks s p heard o (talk_by p heard o)
+talks_by : (s : Side) (p : Talker) (heard : Option ℕ) (o : Outcome) → IsPeerOf talk_of_talkers s p →
+    RepliesAs talkers talk_of_talkers s p heard o (talk_by p heard o)
 talks_by s p heard (Refused r) is = refl
 talks_by s p heard (Moved commands n) is =
     record {
-      actions = map (action_at p heard) commands;
+      actions = map (talker_action p heard) commands;
       peer = _;
       replies = refl;
       node = refl;
@@ -57,16 +61,19 @@ talks_by s p heard (Moved commands n) is =
     }
 
 -- the reply at an input that the event is read as
-replies_at : (s : Side) (p : Talker) (e : Event Note) (i : Input) (heard : Option ℕ) → IsPeerOf talks s p →
-    input_at p e ≡ i → heard_at p e ≡ heard →
-    RepliesAs talkers talks s p heard (outcome p.node i (talks.wins s)) (talkers.reply p e)
+replies_at : (s : Side) (p : Talker) (e : Event Note) (i : Input) (heard : Option ℕ) → IsPeerOf talk_of_talkers s p →
+    talker_input p e ≡ i → talker_heard p e ≡ heard →
+    RepliesAs talkers talk_of_talkers s p heard (outcome p.node i (talk_of_talkers.wins s)) (talkers.reply p e)
 replies_at s p e i heard is at_i at_h =
-    subst (λ j. RepliesAs talkers talks s p heard (outcome p.node j (talks.wins s)) (talkers.reply p e)) at_i
-    (subst (λ h. RepliesAs talkers talks s p h (outcome p.node (input_at p e) (talks.wins s)) (talkers.reply p e))
+    subst (λ j. RepliesAs talkers talk_of_talkers s p heard (outcome p.node j (talk_of_talkers.wins s))
+    (talkers.reply p e)) at_i
+    (subst (λ h. RepliesAs talkers talk_of_talkers s p h (outcome p.node (talker_input p e) (talk_of_talkers.wins s))
+    (talkers.reply p e))
     at_h
-    (subst (λ b. RepliesAs talkers talks s p (heard_at p e) (outcome p.node (input_at p e) b) (talkers.reply p e))
+    (subst (λ b. RepliesAs talkers talk_of_talkers s p (talker_heard p e) (outcome p.node (talker_input p e) b)
+    (talkers.reply p e))
     is.configured
-    (talks_by s p (heard_at p e) (outcome p.node (input_at p e) p.wins) is)))
+    (talks_by s p (talker_heard p e) (outcome p.node (talker_input p e) p.wins) is)))
 
 unread_reads : (first : Bool) (h : Hold) → first ≡ true → (not first && is_unheld h) ≡ false
 unread_reads true h e = refl
@@ -88,29 +95,30 @@ if_false : {X : Type 0} (b : Bool) (x y : X) → b ≡ false → (if b then x el
 if_false true x y e = cc
 if_false false x y e = refl
 
-talker_replies : (s : Side) (p : Talker) (e : Event Note) (i : Input) (heard : Option ℕ) → IsPeerOf talks s p →
-    Reads talkers talks s p e i heard →
-    RepliesAs talkers talks s p heard (outcome p.node i (talks.wins s)) (talkers.reply p e)
-talker_replies s p e i heard is (starts c) = replies_at s p e i heard is refl refl
-talker_replies s p e i heard is (acks c) = replies_at s p e i heard is refl refl
-talker_replies s p e i heard is (ends c) = replies_at s p e i heard is refl refl
-talker_replies s p e i heard is (asks c n number first new) =
+talker_replies : (s : Side) (p : Talker) (e : Event Note) (i : Input) (heard : Option ℕ) →
+    IsPeerOf talk_of_talkers s p →
+    IsReadAs talkers talk_of_talkers s p e i heard →
+    RepliesAs talkers talk_of_talkers s p heard (outcome p.node i (talk_of_talkers.wins s)) (talkers.reply p e)
+talker_replies s p e i heard is (reads_start c) = replies_at s p e i heard is refl refl
+talker_replies s p e i heard is (reads_ack c) = replies_at s p e i heard is refl refl
+talker_replies s p e i heard is (reads_end c) = replies_at s p e i heard is refl refl
+talker_replies s p e i heard is (reads_cer c n number first new) =
     let reads = unread_reads _ (hold_of p.node c) first in
-    replies_at s p e i heard is (if_false (is_unread p c) _ _ reads) (if_false (is_unread p c) _ _ reads)
-talker_replies s p e i heard is (passes c n first new) =
+    replies_at s p e i heard is (if_false (is_unread_by p c) _ _ reads) (if_false (is_unread_by p c) _ _ reads)
+talker_replies s p e i heard is (leaves_cer c n first new) =
     let reads = unread_passes _ (hold_of p.node c) first new in
-    replies_at s p e i heard is (if_true (is_unread p c) _ _ reads) (if_true (is_unread p c) _ _ reads)
-talker_replies s p e i heard is (answers c n number awaited made) =
+    replies_at s p e i heard is (if_true (is_unread_by p c) _ _ reads) (if_true (is_unread_by p c) _ _ reads)
+talker_replies s p e i heard is (reads_cea c n number awaited made) =
     let reads = unread_made _ (hold_of p.node c) made in
-    replies_at s p e i heard is (if_false (is_unread p c) _ _ reads) (if_false (is_unread p c) _ _ reads)
+    replies_at s p e i heard is (if_false (is_unread_by p c) _ _ reads) (if_false (is_unread_by p c) _ _ reads)
 
 none_of : (b : Bool) (o : Option ℕ) → (b || is_none o) ≡ true → not b ≡ true → o ≡ None
 none_of true o h e = cc
 none_of false None h e = refl
 none_of false (Some n) h e = cc
 
-pub talkers_are_electing : TalkersAreElecting
-talkers_are_electing =
+pub talkers_are_electing_proof : TalkersAreElecting
+talkers_are_electing_proof =
     record {
       one_wins = refl;
       numbers = λ p h. refl;
@@ -118,8 +126,8 @@ talkers_are_electing =
       replies = talker_replies;
     }
 
-pub two_talks : TwoTalks
-two_talks =
+pub two_talks_proof : TwoTalks
+two_talks_proof =
     record {
       one_side = (refl, refl);
       its_link = refl;

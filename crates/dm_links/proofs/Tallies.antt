@@ -5,29 +5,30 @@ use Rattle.dm_links.specs.Links.{Side}
 use Rattle.dm_links.specs.Peers.{Peers}
 use Rattle.dm_links.specs.Worlds.{Put}
 use Rattle.dm_links.specs.Electing.{Talks}
-use Rattle.dm_links.specs.Settled.{Tally, nothing, cer, cea, disconnect, AtMost}
+use Rattle.dm_links.specs.Settled.{Tally, no_more, one_cer, one_cea, one_disconnect, AtMost}
 use Rattle.dm_links.proofs.Pairs.{IsPair, ab, ba, swapped}
 use Rattle.dm_links.proofs.Acting.{cer_put, cea_put}
-use Rattle.dm_links.proofs.Phases.{Phase, C1, C2, C3, C4, C5, C6, C7, C8, C9, C10, C11, C12, C13, C14, C15, C16, C17, C18, C19, C25, both_cers, put_so_far}
+use Rattle.dm_links.proofs.Phases.{Phase, C1, C2, C3, C4, C5, C6, C7, C8, C9, C10, C11, C12, C13, C14, C15, C16, C17}
+use Rattle.dm_links.proofs.Phases.{C18, C19, C25, both_cers, put_so_far}
 
 module _ {P M C H : Type 0} (m : Peers P M) (t : Talks P M C H) where
   tally_cer : (s o : Side) → IsPair s o → (c n : ℕ) (more : List (Put M)) (a b d : ℕ) → Tally t more a b d →
       Tally t (cer_put m t s o c n ∷ more) (1 + a) b d
-  tally_cer s o ab c n more a b d h = cer c s n more a b d h
-  tally_cer s o ba c n more a b d h = cer c s n more a b d h
+  tally_cer s o ab c n more a b d h = one_cer c s n more a b d h
+  tally_cer s o ba c n more a b d h = one_cer c s n more a b d h
 
   tally_cea : (s o : Side) → IsPair s o → (c n : ℕ) (more : List (Put M)) (a b d : ℕ) → Tally t more a b d →
       Tally t (cea_put m t s o c n ∷ more) a (1 + b) d
-  tally_cea s o ab c n more a b d h = cea c o n more a b d h
-  tally_cea s o ba c n more a b d h = cea c o n more a b d h
+  tally_cea s o ab c n more a b d h = one_cea c o n more a b d h
+  tally_cea s o ba c n more a b d h = one_cea c o n more a b d h
 
   one_asks : (s o : Side) → IsPair s o → (c n : ℕ) → Tally t (cer_put m t s o c n ∷ []) 1 0 0
-  one_asks s o pair c n = tally_cer s o pair c n [] 0 0 0 nothing
+  one_asks s o pair c n = tally_cer s o pair c n [] 0 0 0 no_more
 
   pub one_answered : (s o : Side) → IsPair s o → (c n : ℕ) →
       Tally t (cer_put m t s o c n ∷ cea_put m t s o c n ∷ []) 1 1 0
   one_answered s o pair c n =
-      tally_cer s o pair c n _ 0 1 0 (tally_cea s o pair c n [] 0 0 0 nothing)
+      tally_cer s o pair c n _ 0 1 0 (tally_cea s o pair c n [] 0 0 0 no_more)
 
   both_ask : (g l : Side) → IsPair g l → (b : Bool) (x y h h' : ℕ) (more : List (Put M)) (i j : ℕ) →
       Tally t more 0 i j → Tally t (both_cers m t g l b x y h h' ++ more) 2 i j
@@ -40,7 +41,7 @@ module _ {P M C H : Type 0} (m : Peers P M) (t : Talks P M C H) where
       Tally t (put_so_far m t g l C25 b x y h h') 2 1 2
   all_counted g l pair b x y h h' =
       both_ask g l pair b x y h h' _ 1 2
-      (disconnect x l _ 0 1 1 (tally_cea l g (swapped pair) y h' _ 0 0 1 (disconnect x g [] 0 0 0 nothing)))
+      (one_disconnect x l _ 0 1 1 (tally_cea l g (swapped pair) y h' _ 0 0 1 (one_disconnect x g [] 0 0 0 no_more)))
 
   few : (put : List (Put M)) (a b d : ℕ) → nat_le a 2 ≡ true → nat_le b 1 ≡ true → nat_le d 2 ≡ true →
       Tally t put a b d → AtMost t put
@@ -56,7 +57,7 @@ module _ {P M C H : Type 0} (m : Peers P M) (t : Talks P M C H) where
       }
 
   none_few : AtMost t []
-  none_few = few [] 0 0 0 refl refl refl nothing
+  none_few = few [] 0 0 0 refl refl refl no_more
 
   asks_few : (s o : Side) → IsPair s o → (c n : ℕ) → AtMost t (cer_put m t s o c n ∷ [])
   asks_few s o pair c n = few _ 1 0 0 refl refl refl (one_asks s o pair c n)
@@ -65,14 +66,14 @@ module _ {P M C H : Type 0} (m : Peers P M) (t : Talks P M C H) where
   answered_few s o pair c n = few _ 1 1 0 refl refl refl (one_answered s o pair c n)
 
   both_few : (g l : Side) → IsPair g l → (b : Bool) (x y h h' : ℕ) → AtMost t (both_cers m t g l b x y h h')
-  both_few g l pair true x y h h' = few _ 2 0 0 refl refl refl (both_ask g l pair true x y h h' [] 0 0 nothing)
-  both_few g l pair false x y h h' = few _ 2 0 0 refl refl refl (both_ask g l pair false x y h h' [] 0 0 nothing)
+  both_few g l pair true x y h h' = few _ 2 0 0 refl refl refl (both_ask g l pair true x y h h' [] 0 0 no_more)
+  both_few g l pair false x y h h' = few _ 2 0 0 refl refl refl (both_ask g l pair false x y h h' [] 0 0 no_more)
 
   won_few : (g l : Side) → IsPair g l → (b : Bool) (x y h h' : ℕ) → AtMost t (put_so_far m t g l C17 b x y h h')
   won_few g l pair b x y h h' =
       few _ 2 1 1 refl refl refl
       (both_ask g l pair b x y h h' _ 1 1
-      (disconnect x l _ 0 1 0 (tally_cea l g (swapped pair) y h' [] 0 0 0 nothing)))
+      (one_disconnect x l _ 0 1 0 (tally_cea l g (swapped pair) y h' [] 0 0 0 no_more)))
 
   all_few : (g l : Side) → IsPair g l → (b : Bool) (x y h h' : ℕ) → AtMost t (put_so_far m t g l C25 b x y h h')
   all_few g l pair b x y h h' = few _ 2 1 2 refl refl refl (all_counted g l pair b x y h h')

@@ -1,5 +1,6 @@
 -- What a step of a peer that moves as the machine does to a link: taken from the machine's laws.
-use Rattle.std.proofs.Common.{◌≡◌, ℕ, ◌==◌, Bool, true, false, ◌&&◌, ◌||◌, IsTrue, List, [], ◌∷◌, map, refl, sym, ap, subst, ◌∙◌, inl, inr}
+use Rattle.std.proofs.Common.{◌≡◌, ℕ, ◌==◌, Bool, true, false, ◌&&◌, ◌||◌, IsTrue, List, [], ◌∷◌, map, refl, sym, ap}
+use Rattle.std.proofs.Common.{subst, ◌∙◌, inl, inr}
 use Rattle.std.proofs.lemmas.List.Elements.{All-contains}
 use Rattle.std.proofs.lemmas.List.Sums.{AllPass-from_list_all}
 use Rattle.std.specs.List.{list_all}
@@ -9,13 +10,16 @@ use Rattle.dm_machine.specs.declared.inputs.Word.TheVariants as word
 use Rattle.dm_machine.specs.declared.outputs.Command.TheVariants as command
 use Rattle.dm_machine.specs.Moves.{Outcome}
 use Rattle.dm_machine.specs.Shape.{KeepsShape}
-use Rattle.dm_machine.specs.Connection.{Hold, NotHeld, Pending, OpenAsI, ClosingAsI, OpenAsR, ClosingAsR, hold_of, if_ordered, order_to, with_order, orders_to, AtConnection}
+use Rattle.dm_machine.specs.Connection.{Hold, NotHeld, Pending, OpenAsI, ClosingAsI, OpenAsR, ClosingAsR, hold_of}
+use Rattle.dm_machine.specs.Connection.{if_ordered, order_to, with_order, orders_to, AtConnection}
 use Rattle.dm_machine.specs.Connection as machine
 use Rattle.dm_machine.specs.Changes.{Change, change, allowed}
-use Rattle.dm_links.specs.Machine.{conn, Node, Command, Concern, Elsewhere, HeardOnIt, concern_as, is_shaped, Tie, Unheld, Connecting, Made, MadeOpen, Taken, tie_as, tie_of, EachConnectionChangesAsAllowed, EachStepKeepsShape}
+use Rattle.dm_links.specs.Machine.{conn, Node, Command, Concern, Elsewhere, HeardOnIt, concern_as, is_shaped, Tie}
+use Rattle.dm_links.specs.Machine.{Unheld, Connecting, Made, MadeOpen, Taken, tie_as, tie_of}
+use Rattle.dm_links.specs.Machine.{EachConnectionChangesAsAllowed, EachStepKeepsShape}
 use Rattle.dm_machine.specs.Deeds.{Deed, deed_of_command}
 use Rattle.dm_links.specs.Peers.{Event, Action, Reply, Acts, Peers, concern_by, deed_of, closes_at, sends_at}
-use Rattle.dm_links.specs.Follows.{Steps, Drops, is_droppable, Follows, IsMachine}
+use Rattle.dm_links.specs.Follows.{StepsAsMachine, Drops, is_droppable, FollowsMachine, IsMachine}
 use Rattle.dm_links.proofs.Every.{all_true, at}
 use Rattle.dm_links.proofs.Checks.{when, is_when, is_ready, is_allowed}
 
@@ -214,7 +218,7 @@ sends_ordered c (a ∷ more) = send_ordered c a (map deed_of_command more) (orde
 
 step_ties : {P M : Type 0} (m : Peers P M) (p next : P) (e : Event M) (actions : List (Action M)) →
     EachConnectionChangesAsAllowed → EachStepKeepsShape → IsTrue (is_shaped (m.node_of p)) →
-    Steps m p e actions next → KeepsTies (m.node_of p) e actions (m.node_of next)
+    StepsAsMachine m p e actions next → KeepsTies (m.node_of p) e actions (m.node_of next)
 step_ties m p next e actions law keeps shaped step =
     let n = m.node_of p in
     let n' = m.node_of next in
@@ -270,9 +274,9 @@ drop_ties {P} {M} m p next e actions shaped drop =
 
 replied : {P M : Type 0} (m : Peers P M) (p next : P) (e : Event M) (actions : List (Action M)) (r : Reply P M) →
     EachConnectionChangesAsAllowed → EachStepKeepsShape → IsTrue (is_shaped (m.node_of p)) →
-    r ≡ Acts actions next → Follows m p e r → KeepsTies (m.node_of p) e actions (m.node_of next)
+    r ≡ Acts actions next → FollowsMachine m p e r → KeepsTies (m.node_of p) e actions (m.node_of next)
 replied {P} {M} m p next e actions r law keeps shaped is h =
-    elim (subst (λ (r : Reply P M). Follows m p e r) is h) [
+    elim (subst (λ (r : Reply P M). FollowsMachine m p e r) is h) [
       | inl step ↦ step_ties m p next e actions law keeps shaped step
       | inr drop ↦ drop_ties m p next e actions shaped drop
     ]

@@ -4,13 +4,14 @@ use Rattle.std.specs.Prelude.{option_map}
 use Rattle.dm_links.specs.Machine.{conn, Node, tie_of, is_held}
 use Rattle.dm_links.specs.Links.{Side, opens, Link, View, view_of, link_of, by_side}
 use Rattle.dm_links.specs.Peers.{Event, Action, Acts, Peers, concern_by}
-use Rattle.dm_links.specs.Worlds.{World, peer_at, with_peer, Put, enter, perform, settle, puts_of, puts_at_entry, After, Done, answered, told}
+use Rattle.dm_links.specs.Worlds.{World, peer_at, with_peer, Put, enter, perform, settle, puts_of, puts_at_entry, After}
+use Rattle.dm_links.specs.Worlds.{Done, after_reply, tell}
 use Rattle.dm_links.specs.Quiet.{is_quiet_link}
 use Rattle.dm_machine.specs.Awaiting.{holds_cer}
 use Rattle.dm_links.specs.Electing.{Talks}
 use Rattle.dm_links.proofs.Columns.{stepped}
 use Rattle.dm_links.proofs.Lists.{IsStart, mapped_some, by_side-same, stepped_at}
-use Rattle.dm_links.proofs.Pairs.{IsPair, own_by, other_by, here_after, there_after, links_after, Stands, At}
+use Rattle.dm_links.proofs.Pairs.{IsPair, own_by, other_by, here_after, there_after, links_after, Stands, AreAt}
 
 -- a happening that is done, what it leaves, and what it puts in
 pub record Goes {P M C H : Type 0} (m : Peers P M) (t : Talks P M C H) (s o : Side) (x y : ℕ)
@@ -18,7 +19,7 @@ pub record Goes {P M C H : Type 0} (m : Peers P M) (t : Talks P M C H) (s o : Si
   pub world : World P M
   pub put : List (Put M)
   pub is : after ≡ Done world put
-  pub at : At m t s o world x y u v n n' h h'
+  pub at : AreAt m t s o world x y u v n n' h h'
   pub is_put : put ≡ puts
 
 -- what actions don't name stays
@@ -48,13 +49,13 @@ module _ {P M C H : Type 0} (m : Peers P M) (t : Talks P M C H) where
   pub told_at : (s o : Side) → IsPair s o →
       (w : World P M) (x y : ℕ) (u v u1 v1 : Option (View M)) (n n' n1 : Node) (h h' h1 : ℕ) (e : Event M)
       (actions : List (Action M)) (p : P) (puts : List (Put M)) →
-      At m t s o w x y u v n n' h h' → (IsStart e → ⊥) → m.reply (peer_at s w) e ≡ Acts actions p →
+      AreAt m t s o w x y u v n n' h h' → (IsStart e → ⊥) → m.reply (peer_at s w) e ≡ Acts actions p →
       Stands m t s p n1 h1 h' → (holds_cer n'.state ≡ true → h1 ≡ h) →
       option_map (stepped (concern_by e (conn x)) (is_held (tie_of n1 x)) x actions) u ≡ u1 →
       option_map (stepped (concern_by e (conn y)) (is_held (tie_of n1 y)) y actions) v ≡ v1 →
       IsCalm e actions x y →
       puts_at_entry s e w.links ++ puts_of s actions (enter s e w.links) ≡ puts →
-      Goes m t s o x y u1 v1 n1 n' h1 h' (told m s e w) puts
+      Goes m t s o x y u1 v1 n1 n' h1 h' (tell m s e w) puts
   told_at s o pair w x y u v u1 v1 n n' n1 h h' h1 e actions p puts a no_start reply stands still to_u
       to_v calm is_put =
       let links = settle s e (m.node_of p) (perform s actions (enter s e w.links)) in
@@ -69,7 +70,7 @@ module _ {P M C H : Type 0} (m : Peers P M) (t : Talks P M C H) where
       record {
         world = w1;
         put = puts_at_entry s e w.links ++ puts_of s actions (enter s e w.links);
-        is = ap (λ r. answered m s e w r) reply;
+        is = ap (λ r. after_reply m s e w r) reply;
         at = record {
           own = subst (λ q. Stands m t s q n1 h1 h') (sym (here_after s o pair p links w)) stands;
           other = other_stays m t o (peer_at o w) (peer_at o w1) n' h' h h1

@@ -1,6 +1,7 @@
 -- The machine's steps in a clean run, at an initiated connection x and an accepted one y.
 use Rattle.std.proofs.Common.{◌≡◌, ℕ, ◌==◌, Bool, true, false, [], ◌∷◌, refl}
-use Rattle.dm_machine.specs.declared.state_name.State.TheVariants.{WaitConnAck, WaitICea, WaitConnAckElect, WaitReturns, ROpen, IOpen}
+use Rattle.dm_machine.specs.declared.state_name.State.TheVariants.{WaitConnAck, WaitICea, WaitConnAckElect, WaitReturns}
+use Rattle.dm_machine.specs.declared.state_name.State.TheVariants.{ROpen, IOpen}
 use Rattle.dm_machine.specs.declared.inputs.Word.TheVariants.{Unreadable, Cer, Cea}
 use Rattle.dm_machine.specs.declared.inputs.Input.TheVariants.{Start, Ack, Gone, Heard}
 use Rattle.dm_machine.specs.declared.outputs.Command.TheVariants.{Connect, SendCer, SendCea, Close}

@@ -1,12 +1,15 @@
 -- The actions on one link, one after the other, are their sum.
-use Rattle.std.proofs.Common.{◌≡◌, ℕ, Bool, true, false, ◌||◌, ◌==◌, if◌then◌else◌, List, [], ◌∷◌, map, refl, sym, ap, ◌∙◌, append_assoc, append-nil}
-use Rattle.dm_links.specs.Links.{LinkPhase, Pending, Up, Cancelled, End, Mark, NoMark, Coming, Delivered, Direction, View}
+use Rattle.std.proofs.Common.{◌≡◌, ℕ, Bool, true, false, ◌||◌, ◌==◌, if◌then◌else◌, List, [], ◌∷◌, map, refl, sym, ap}
+use Rattle.std.proofs.Common.{◌∙◌, append_assoc, append-nil}
+use Rattle.dm_links.specs.Links.{LinkPhase, Pending, Up, Cancelled, End, Mark, NoMark, Coming, Delivered, Direction}
+use Rattle.dm_links.specs.Links.{View}
 use Rattle.dm_links.specs.Peers.{Action, Connect, Send, Close, deed_of, closes_at, sends_at}
 use Rattle.dm_links.specs.Peers as peers
 use Rattle.dm_links.specs.Machine.{Concern}
-use Rattle.dm_links.specs.Steps.{entered, said, shut}
+use Rattle.dm_links.specs.Steps.{entered, with_sent, with_close}
 use Rattle.dm_links.specs.Facts.{is_empty}
-use Rattle.dm_links.proofs.Columns.{entered_columns, entered_by_columns, own_after, summed, acted, words_at, is_closed_at}
+use Rattle.dm_links.proofs.Columns.{entered_columns, entered_by_columns, own_after, summed, acted, words_at}
+use Rattle.dm_links.proofs.Columns.{is_closed_at}
 
 abbrev viewed : {M : Type 0} → LinkPhase → End → End → Direction M → List M → ℕ → Mark → View M
 viewed p own other incoming messages taken mark =
@@ -33,7 +36,7 @@ nothing_summed v = nothing_summed_at v.phase v.own v.other v.incoming v.outgoing
 
 said_summed_at : {M : Type 0} (closed : Bool) (x : M) (words : List M) (p : LinkPhase) (own other : End)
     (i : Direction M) (ms : List M) (n : ℕ) (mark : Mark) →
-    summed closed words (said x (viewed p own other i ms n mark)) ≡ summed closed (x ∷ words)
+    summed closed words (with_sent x (viewed p own other i ms n mark)) ≡ summed closed (x ∷ words)
     (viewed p own other i ms n mark)
 said_summed_at true x words Up own other i ms n NoMark = ap
     (λ xs. viewed Up (own_after true Up own) other i xs n Coming) (append_assoc ms (x ∷ []) words)
@@ -49,14 +52,14 @@ said_summed_at true x words Cancelled own other i ms n mark = refl
 said_summed_at false x words Cancelled own other i ms n mark = refl
 
 said_summed : {M : Type 0} (closed : Bool) (x : M) (words : List M) (v : View M) →
-    summed closed words (said x v) ≡ summed closed (x ∷ words) v
+    summed closed words (with_sent x v) ≡ summed closed (x ∷ words) v
 said_summed closed x words v =
     said_summed_at closed x words v.phase v.own v.other v.incoming v.outgoing.messages v.outgoing.taken
     v.outgoing.mark
 
 shut_summed_at : {M : Type 0} (closed : Bool) (words : List M) (p : LinkPhase) (own other : End) (i : Direction M)
     (ms : List M) (n : ℕ) (mark : Mark) →
-    summed closed words (shut (viewed p own other i ms n mark)) ≡ summed true [] (viewed p own other i ms n mark)
+    summed closed words (with_close (viewed p own other i ms n mark)) ≡ summed true [] (viewed p own other i ms n mark)
 shut_summed_at true words Up own other i ms n NoMark =
     ap (λ xs. viewed Up (own_after true Up own) other i xs n Coming) (sym (append-nil ms))
 shut_summed_at false words Up own other i ms n NoMark =
@@ -71,21 +74,21 @@ shut_summed_at true words Cancelled own other i ms n mark = refl
 shut_summed_at false words Cancelled own other i ms n mark = refl
 
 shut_summed : {M : Type 0} (closed : Bool) (words : List M) (v : View M) →
-    summed closed words (shut v) ≡ summed true [] v
+    summed closed words (with_close v) ≡ summed true [] v
 shut_summed closed words v =
     shut_summed_at closed words v.phase v.own v.other v.incoming v.outgoing.messages v.outgoing.taken
     v.outgoing.mark
 
-pub shut_is_summed : {M : Type 0} (v : View M) → shut v ≡ summed true [] v
-shut_is_summed v = nothing_summed (shut v) ∙ shut_summed false [] v
+pub shut_is_summed : {M : Type 0} (v : View M) → with_close v ≡ summed true [] v
+shut_is_summed v = nothing_summed (with_close v) ∙ shut_summed false [] v
 
 send_if : {M : Type 0} (b : Bool) (closed : Bool) (x : M) (words : List M) (v : View M) →
-    summed closed words (if b then said x v else v) ≡ summed closed (if b then x ∷ words else words) v
+    summed closed words (if b then with_sent x v else v) ≡ summed closed (if b then x ∷ words else words) v
 send_if true closed x words v = said_summed closed x words v
 send_if false closed x words v = refl
 
 close_if : {M : Type 0} (b : Bool) (closed : Bool) (words : List M) (v : View M) →
-    summed closed words (if b then shut v else v) ≡ summed (b || closed) (if b then [] else words) v
+    summed closed words (if b then with_close v else v) ≡ summed (b || closed) (if b then [] else words) v
 close_if true closed words v = shut_summed closed words v
 close_if false closed words v = refl
 
@@ -93,10 +96,10 @@ pub acted_summed : {M : Type 0} (d : ℕ) (actions : List (Action M)) (v : View 
     acted d actions v ≡ summed (is_closed_at d actions) (words_at d actions) v
 acted_summed d [] v = nothing_summed v
 acted_summed d (Send c x ∷ actions) v =
-    acted_summed d actions (if c.0 == d then said x v else v)
+    acted_summed d actions (if c.0 == d then with_sent x v else v)
     ∙ send_if (c.0 == d) (is_closed_at d actions) x (words_at d actions) v
 acted_summed d (Close c ∷ actions) v =
-    acted_summed d actions (if c.0 == d then shut v else v)
+    acted_summed d actions (if c.0 == d then with_close v else v)
     ∙ close_if (c.0 == d) (is_closed_at d actions) (words_at d actions) v
 acted_summed d (Connect c ∷ actions) v = acted_summed d actions v
 acted_summed d (peers.Up x ∷ actions) v = acted_summed d actions v

@@ -1,17 +1,23 @@
 -- What a direction of a link carries, at a step of either side: what was submitted is what was handed up and the rest.
-use Rattle.std.proofs.Common.{◌≡◌, Bool, true, false, not, ◌&&◌, if◌then◌else◌, List, [], ◌∷◌, ◌++◌, refl, sym, ap, subst, ◌∙◌, append_assoc, append-nil, ◌⊎◌, inl, inr}
+use Rattle.std.proofs.Common.{◌≡◌, Bool, true, false, not, ◌&&◌, if◌then◌else◌, List, [], ◌∷◌, ◌++◌, refl, sym, ap}
+use Rattle.std.proofs.Common.{subst, ◌∙◌, append_assoc, append-nil, ◌⊎◌, inl, inr}
 use Rattle.std.proofs.lemmas.Bool.{and_parts}
 use Rattle.dm_machine.specs.Connection.{Hold}
 use Rattle.dm_machine.specs.Connection as hold
 use Rattle.dm_links.specs.Machine.{Concern, Elsewhere, StartsIt, AcksIt, NacksIt, EndsIt, HeardOnIt}
-use Rattle.dm_links.specs.Links.{LinkPhase, Pending, Up, Cancelled, End, Fresh, Open, Shut, Mark, NoMark, Coming, Delivered}
+use Rattle.dm_links.specs.Links.{LinkPhase, Pending, Up, Cancelled, End, Fresh, Open, Shut, Mark, NoMark, Coming}
+use Rattle.dm_links.specs.Links.{Delivered}
 use Rattle.dm_links.specs.Steps.{marked, added, own_settled}
 use Rattle.dm_links.specs.Facts.{is_up, is_pending, is_open_end, is_shut, is_none, is_coming}
-use Rattle.dm_links.specs.Delivery.{apps, is_open_hold, is_done_hold, is_unmade, IsRaised}
-use Rattle.dm_links.proofs.Columns.{phase_at, own_at, other_at, messages_at, incoming_mark_at, outgoing_mark_at, phase_after, own_after, mark_after}
+use Rattle.dm_links.specs.Delivery.{apps, is_done_hold, is_unmade, IsHandedUp}
+use Rattle.dm_machine.specs.Upward.{is_open_hold}
+use Rattle.dm_links.proofs.Columns.{phase_at, own_at, other_at, messages_at, incoming_mark_at, outgoing_mark_at}
+use Rattle.dm_links.proofs.Columns.{phase_after, own_after, mark_after}
 use Rattle.dm_links.proofs.Every.{at_bool, at_concern, at_phase, at_end, at_mark}
 use Rattle.dm_links.proofs.Checks.{is_when}
-use Rattle.dm_links.proofs.Hearing.{both, ends_own_checked, hears_other_checked, hears_own_checked, imp, imp_is, is_ack, is_end, is_imp, is_none_at, is_not, is_word, marks_other_checked, marks_own_checked, may_hear, none_is, not_is}
+use Rattle.dm_links.proofs.Hearing.{both, ends_own_checked, hears_other_checked, hears_own_checked, imp, imp_is, is_ack}
+use Rattle.dm_links.proofs.Hearing.{is_end, is_imp, is_none_at, is_not, is_word, marks_other_checked, marks_own_checked}
+use Rattle.dm_links.proofs.Hearing.{may_hear, none_is, not_is}
 
 -- what is left is what is under way, and, of a direction that has its disconnect after a loss, what was dropped
 pub record Under {M : Type 0} (is_app : M → Bool) (lost : Bool) (messages : List M) (mark : Mark)
@@ -193,7 +199,7 @@ module _ {M : Type 0} (is_app : M → Bool) (lost : Bool) where
   pub own_heard : (closed holds : Bool) (own other : End) (before after : Hold) (x : M) (xs ups : List M)
       (mark : Mark) (said up : List M) → is_shut own ≡ false → is_unmade before ≡ false →
       (is_up Up ≡ true → is_open_end own ≡ true → is_done_hold before ≡ true → is_done_hold after ≡ true) →
-      IsRaised is_app before after x ups →
+      IsHandedUp is_app before after x ups →
       Way is_app lost Up own other (x ∷ xs) mark (is_done_hold before) said up →
       Way is_app lost (phase_after closed Up) (own_settled HeardOnIt holds (own_after closed Up own)) other xs mark
       (is_done_hold after) said (up ++ ups)

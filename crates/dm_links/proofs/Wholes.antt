@@ -1,15 +1,19 @@
 -- It makes no difference how messages were cut.
-use Rattle.std.proofs.Common.{◌≡◌, ℕ, zero, suc, ◌+◌, ◌<◌, ◌==◌, Bool, true, false, nat_lt, if◌then◌else◌, Some, List, [], ◌∷◌, ◌++◌, map, slice_get, refl, sym, ap, subst, ◌∙◌, arith}
+use Rattle.std.proofs.Common.{◌≡◌, ℕ, zero, suc, ◌+◌, ◌<◌, ◌==◌, Bool, true, false, nat_lt, if◌then◌else◌, Some, List}
+use Rattle.std.proofs.Common.{[], ◌∷◌, ◌++◌, map, slice_get, refl, sym, ap, subst, ◌∙◌, arith}
 use Rattle.std.proofs.lemmas.Bool.{lt-ltb, le-ltb, ne_eqb}
 use Rattle.std.proofs.lemmas.Option.{slice_get-map}
 use Rattle.std.specs.Prelude.{option_map}
 use Rattle.dm_links.specs.Machine.{conn}
-use Rattle.dm_links.specs.Links.{Side, A, B, opens, LinkPhase, Pending, Up, Cancelled, End, Direction, Link, view_of, link_of, by_side}
+use Rattle.dm_links.specs.Links.{Side, A, B, opens, LinkPhase, Pending, Up, Cancelled, End, Direction, Link, view_of}
+use Rattle.dm_links.specs.Links.{link_of, by_side}
 use Rattle.dm_links.specs.Peers.{Arrived, Peers}
 use Rattle.dm_links.specs.Steps.{marked}
 use Rattle.dm_links.specs.Worlds.{World, with_links, Put, takes, put_if, Disconnect, change_at, After, Done, Ignored}
-use Rattle.dm_links.specs.Happens.{Delivers, Pieces, Loses, next_in, comes, delivered, taking, pieced, whole_in, lost_messages, lost, lost_link, are_shut, if_up, at_link, own_view, happens}
-use Rattle.dm_links.specs.Streams.{whole_way, whole_link, whole, whole_after, IsFront, IsPiece, EachLossAddsUp}
+use Rattle.dm_links.specs.Happens.{Delivers, Pieces, Loses, next_in, comes, deliver_next, take_part, deliver_part}
+use Rattle.dm_links.specs.Happens.{whole_in, lost_messages, lost, lost_link, are_shut, if_up, at_link, own_view}
+use Rattle.dm_links.specs.Happens.{happens}
+use Rattle.dm_links.specs.Streams.{whole_way, whole_link, whole_world, whole_after, IsFront, IsPiece, EachLossAddsUp}
 
 -- one link is changed
 same_mapped : {X Y : Type 0} (g : X → Y) (f : X → X) (c : ℕ) (xs : List X) → ((x : X) → g (f x) ≡ g x) →
@@ -35,47 +39,47 @@ change_mapped g f f' (suc c) (x ∷ xs) l at h e = ap (λ y. y ∷ map g (change
 
 -- a piece
 taking_whole : {M : Type 0} (mine : Bool) (k : ℕ) (l : Link M) →
-    whole_link (link_of mine l.opener (taking k (view_of mine l))) ≡ whole_link l
+    whole_link (link_of mine l.opener (take_part k (view_of mine l))) ≡ whole_link l
 taking_whole true k l = refl
 taking_whole false k l = refl
 
 taken_whole : {P M : Type 0} (w : World P M) (c : ℕ) (s : Side) (k : ℕ) →
-    whole (with_links (change_at c (by_side s (taking k)) w.links) w) ≡ whole w
+    whole_world (with_links (change_at c (by_side s (take_part k)) w.links) w) ≡ whole_world w
 taken_whole w c s k = ap (λ ls. with_links ls w)
-    (same_mapped (λ l. whole_link l) (by_side s (taking k)) c w.links (λ l. taking_whole (opens s l.opener) k l))
+    (same_mapped (λ l. whole_link l) (by_side s (take_part k)) c w.links (λ l. taking_whole (opens s l.opener) k l))
 
 module _ {P M : Type 0} (m : Peers P M) where
   piece_is : (w : World P M) (c : ℕ) (s : Side) (l : Link M) (x : M) (more : List M) (k : ℕ) → 0 < k →
       IsFront w c s l x more →
       happens m w (Pieces c s k) ≡ (if nat_lt ((own_view s l).incoming.taken + k) (m.size x) then Done
-      (with_links (change_at c (by_side s (taking k)) w.links) w) [] else comes m s (Arrived (conn c) x)
+      (with_links (change_at c (by_side s (take_part k)) w.links) w) [] else comes m s (Arrived (conn c) x)
       (own_view s l).own w)
   piece_is w c s l x more k low front =
       let v = own_view s l in
       let some : (k == 0) ≡ false = ne_eqb k 0 (λ e. absurd (omega (arith, low, e))) in
       ap (λ o. at_link o (λ q. let u = own_view s q in if_up q.phase
-      (if k == 0 then Ignored else pieced m c s k u.own u.incoming.taken
+      (if k == 0 then Ignored else deliver_part m c s k u.own u.incoming.taken
       (next_in u.incoming.messages u.incoming.mark) w) Ignored)) front.there
-      ∙ (ap (λ p. if_up p (if k == 0 then Ignored else pieced m c s k v.own v.incoming.taken
+      ∙ (ap (λ p. if_up p (if k == 0 then Ignored else deliver_part m c s k v.own v.incoming.taken
       (next_in v.incoming.messages v.incoming.mark) w) Ignored) front.up
-      ∙ (ap (λ b. if b then Ignored else pieced m c s k v.own v.incoming.taken
+      ∙ (ap (λ b. if b then Ignored else deliver_part m c s k v.own v.incoming.taken
       (next_in v.incoming.messages v.incoming.mark) w) some
-      ∙ ap (λ ms. pieced m c s k v.own v.incoming.taken (next_in ms v.incoming.mark) w) front.front))
+      ∙ ap (λ ms. deliver_part m c s k v.own v.incoming.taken (next_in ms v.incoming.mark) w) front.front))
 
   delivery_is : (w : World P M) (c : ℕ) (s : Side) (l : Link M) (x : M) (more : List M) → IsFront w c s l x more →
       happens m w (Delivers c s) ≡ comes m s (Arrived (conn c) x) (own_view s l).own w
   delivery_is w c s l x more front =
       let v = own_view s l in
       ap (λ o. at_link o (λ q. let u = own_view s q in if_up q.phase
-      (delivered m c s u.own (next_in u.incoming.messages u.incoming.mark) w) Ignored)) front.there
-      ∙ (ap (λ p. if_up p (delivered m c s v.own (next_in v.incoming.messages v.incoming.mark) w) Ignored) front.up
-      ∙ ap (λ ms. delivered m c s v.own (next_in ms v.incoming.mark) w) front.front)
+      (deliver_next m c s u.own (next_in u.incoming.messages u.incoming.mark) w) Ignored)) front.there
+      ∙ (ap (λ p. if_up p (deliver_next m c s v.own (next_in v.incoming.messages v.incoming.mark) w) Ignored) front.up
+      ∙ ap (λ ms. deliver_next m c s v.own (next_in ms v.incoming.mark) w) front.front)
 
   pub piece_adds_up : (w : World P M) (c : ℕ) (s : Side) (l : Link M) (x : M) (more : List M) (k : ℕ) → 0 < k →
       IsFront w c s l x more → IsPiece m w c s l x k
   piece_adds_up w c s l x more k low front =
       let n = (own_view s l).incoming.taken + k in
-      let w1 = with_links (change_at c (by_side s (taking k)) w.links) w in
+      let w1 = with_links (change_at c (by_side s (take_part k)) w.links) w in
       let after = comes m s (Arrived (conn c) x) (own_view s l).own w in
       record {
         part = λ h.
@@ -106,23 +110,23 @@ way_lost size k d =
     let same : k + d.taken ≡ k + d.taken + 0 = omega arith in ap (λ n. lost_way size n d) same
 
 abbrev loss_at : {M : Type 0} → Side → LinkPhase → End → End → Direction M → Direction M → Link M
-loss_at o p near far d e = record { opener = o; phase = p; near = near; far = far; to_near = d; to_far = e }
+loss_at o p u v d e = record { opener = o; phase = p; opener_end = u; other_end = v; to_opener = d; to_other = e }
 
-lost_at : {M : Type 0} (size : M → ℕ) (a b : ℕ) (o : Side) (p : LinkPhase) (near far : End) (d e : Direction M) →
-    (let l = loss_at o p near far d e in
+lost_at : {M : Type 0} (size : M → ℕ) (a b : ℕ) (o : Side) (p : LinkPhase) (u v : End) (d e : Direction M) →
+    (let l = loss_at o p u v d e in
     whole_link (lost_link size a b l) ≡ whole_link
     (lost_link size (a + (own_view A l).incoming.taken) (b + (own_view B l).incoming.taken) (whole_link l)))
-lost_at size a b A p near far d e = ap (λ x. loss_at A p near far x (whole_way (lost size b e)))
-    (way_lost size a d) ∙ ap (λ y. loss_at A p near far (whole_way (lost size (a + d.taken) (whole_way d))) y)
+lost_at size a b A p u v d e = ap (λ x. loss_at A p u v x (whole_way (lost size b e)))
+    (way_lost size a d) ∙ ap (λ y. loss_at A p u v (whole_way (lost size (a + d.taken) (whole_way d))) y)
     (way_lost size b e)
-lost_at size a b B p near far d e = ap (λ x. loss_at B p near far x (whole_way (lost size a e)))
-    (way_lost size b d) ∙ ap (λ y. loss_at B p near far (whole_way (lost size (b + d.taken) (whole_way d))) y)
+lost_at size a b B p u v d e = ap (λ x. loss_at B p u v x (whole_way (lost size a e)))
+    (way_lost size b d) ∙ ap (λ y. loss_at B p u v (whole_way (lost size (b + d.taken) (whole_way d))) y)
     (way_lost size a e)
 
 link_lost : {M : Type 0} (size : M → ℕ) (a b : ℕ) (l : Link M) →
     whole_link (lost_link size a b l) ≡ whole_link
     (lost_link size (a + (own_view A l).incoming.taken) (b + (own_view B l).incoming.taken) (whole_link l))
-link_lost size a b l = lost_at size a b l.opener l.phase l.near l.far l.to_near l.to_far
+link_lost size a b l = lost_at size a b l.opener l.phase l.opener_end l.other_end l.to_opener l.to_other
 
 abbrev put_at : {M : Type 0} → Bool → Put M → Link M → List (Put M)
 put_at mine p l = elim (takes l.phase (view_of mine l).outgoing.mark) [ true ↦ p ∷ [] | false ↦ [] ]
@@ -136,17 +140,17 @@ put_whole s p l = by_side_of (opens s l.opener)
     by_side_of false = refl
 
 same_outcomes : {P M : Type 0} (p : LinkPhase) (b : Bool) (w v : World P M) (ps qs : List (Put M)) →
-    whole w ≡ whole v → ps ≡ qs →
+    whole_world w ≡ whole_world v → ps ≡ qs →
     whole_after (if_up p (if b then Ignored else Done w ps) Ignored)
     ≡ whole_after (if_up p (if b then Ignored else Done v qs) Ignored)
 same_outcomes Up true w v ps qs e f = refl
-same_outcomes Up false w v ps qs e f = ap (λ x. Done x ps) e ∙ ap (λ xs. Done (whole v) xs) f
+same_outcomes Up false w v ps qs e f = ap (λ x. Done x ps) e ∙ ap (λ xs. Done (whole_world v) xs) f
 same_outcomes Pending b w v ps qs e f = refl
 same_outcomes Cancelled b w v ps qs e f = refl
 
 abbrev loss_of : {P M : Type 0} → Peers P M → World P M → ℕ → ℕ → ℕ → Link M → After P M
 loss_of m w c a b l =
-    if_up l.phase (if are_shut l.near l.far then Ignored else Done
+    if_up l.phase (if are_shut l.opener_end l.other_end then Ignored else Done
     (with_links (change_at c (lost_link m.size a b) w.links) w)
     (put_if B (Disconnect c A) (Some l) ++ put_if A (Disconnect c B) (Some l))) Ignored
 
@@ -154,20 +158,21 @@ pub loss_adds_up : {P M : Type 0} → EachLossAddsUp P M
 loss_adds_up m w c a b l at =
     let a' = a + (own_view A l).incoming.taken in
     let b' = b + (own_view B l).incoming.taken in
-    let v = whole w in
+    let v = whole_world w in
     let k = whole_link l in
     let there : slice_get v.links c ≡ Some k = slice_get-map (λ q. whole_link q) w.links c
     ∙ ap (option_map (λ q. whole_link q)) at in
     let one : happens m w (Loses c a b) ≡ loss_of m w c a b l = ap (λ o. at_link o (loss_of m w c a b)) at in
     let two : happens m v (Loses c a' b') ≡ loss_of m v c a' b' k = ap
     (λ o. at_link o (loss_of m v c a' b')) there in
-    let lost_both : whole (with_links (change_at c (lost_link m.size a b) w.links) w) ≡ whole
+    let lost_both : whole_world (with_links (change_at c (lost_link m.size a b) w.links) w) ≡ whole_world
     (with_links (change_at c (lost_link m.size a' b') v.links) v) =
     ap (λ ls. with_links ls w)
     (change_mapped (λ q. whole_link q) (lost_link m.size a b) (lost_link m.size a' b') c w.links l at
     (λ q. refl) (link_lost m.size a b l)) in
     ap whole_after one
-    ∙ (same_outcomes l.phase (are_shut l.near l.far) (with_links (change_at c (lost_link m.size a b) w.links) w)
+    ∙ (same_outcomes l.phase (are_shut l.opener_end l.other_end)
+    (with_links (change_at c (lost_link m.size a b) w.links) w)
     (with_links (change_at c (lost_link m.size a' b') v.links) v)
     (put_if B (Disconnect c A) (Some l) ++ put_if A (Disconnect c B) (Some l))
     (put_if B (Disconnect c A) (Some k) ++ put_if A (Disconnect c B) (Some k)) lost_both

@@ -12,7 +12,7 @@ pub record IsOpenOn (n : Node) (role : Role) (c : ℕ) : Type 0 where
   pub holds : held_as role n.held ≡ Some (conn c)
 
 -- a disconnect is coming to a side on a link
-pub record IsComing {P M : Type 0} (w : World P M) (c : ℕ) (s : Side) : Type 0 where
+pub record HasComingDisconnect {P M : Type 0} (w : World P M) (c : ℕ) (s : Side) : Type 0 where
   pub link : Link M
   pub there : slice_get w.links c ≡ Some link
   pub coming : (own_view s link).incoming.mark ≡ Coming
@@ -25,8 +25,8 @@ pub record AreOpposite (role role' : Role) (c d : ℕ) : Type 0 where
 -- on two links, with a disconnect coming to each
 pub record AreParting {P M : Type 0} (w : World P M) (c d : ℕ) : Type 0 where
   pub apart : c ≡ d → ⊥
-  pub to_a : IsComing w c A
-  pub to_b : IsComing w d B
+  pub to_a : HasComingDisconnect w c A
+  pub to_b : HasComingDisconnect w d B
 
 -- neither side is open on two connections; if both are open, it is on one in opposite roles, or each has a disconnect
 -- coming to it

@@ -3,7 +3,7 @@ use Rattle.std.specs.Prelude.{◌≡◌, ℕ, Bool, ◌&&◌, IsTrue, IsFalse, S
 use Rattle.dm_links.specs.Links.{Direction, Link}
 use Rattle.dm_links.specs.Peers.{Peers}
 use Rattle.dm_links.specs.Worlds.{World}
-use Rattle.dm_links.specs.Facts.{is_empty, is_none, is_up, IsSound}
+use Rattle.dm_links.specs.Facts.{is_empty, is_none, is_up, IsSoundWorld}
 
 -- a direction with no message, and without a disconnect, coming or delivered
 abbrev pub is_bare : {M : Type 0} → Direction M → Bool
@@ -12,5 +12,5 @@ is_bare d = is_empty d.messages && is_none d.mark
 -- both directions of each link that isn't up are so, in every sound world
 abbrev pub OnlyUpLinksCarry : Type 0 → Type 0 → Type 0
 OnlyUpLinksCarry P M =
-    (m : Peers P M) (w : World P M) → IsSound m w → (c : ℕ) (l : Link M) → slice_get w.links c ≡ Some l →
-    IsFalse (is_up l.phase) → IsTrue (is_bare l.to_near && is_bare l.to_far)
+    (m : Peers P M) (w : World P M) → IsSoundWorld m w → (c : ℕ) (l : Link M) → slice_get w.links c ≡ Some l →
+    IsFalse (is_up l.phase) → IsTrue (is_bare l.to_opener && is_bare l.to_other)

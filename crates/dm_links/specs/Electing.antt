@@ -10,7 +10,8 @@ use Rattle.dm_machine.specs.Unread.{reads_first}
 use Rattle.dm_machine.specs.Awaiting.{awaits_cea, holds_cer, number_after, waiting_after, cer_to_answer}
 use Rattle.dm_links.specs.Machine.{Conn, Node, Input, Command, outcome}
 use Rattle.dm_links.specs.Links.{Side, A, B, flip}
-use Rattle.dm_links.specs.Peers.{Event, Start, Ack, Gone, Arrived, Action, Connect, Send, Close, Reply, Acts, Declines, Peers}
+use Rattle.dm_links.specs.Peers.{Event, Start, Ack, Gone, Arrived, Action, Connect, Send, Close, Reply, Acts, Declines}
+use Rattle.dm_links.specs.Peers.{Peers}
 
 -- two peers that talk: a peer's configuration (C), the number of its next request, the number of the CEA that it
 -- awaits, and the header (H) of a CER that waits for its CEA; whether it stands as its type asks
@@ -38,18 +39,18 @@ pub record IsPeerOf {P M C H : Type 0} (t : Talks P M C H) (s : Side) (p : P) : 
 
 -- what an event of a clean run is to the machine, and the header of the message that is read: the first message of a
 -- new connection is read in some states alone, and a CEA where it is awaited
-pub data Reads {P M C H : Type 0} (m : Peers P M) (t : Talks P M C H) (s : Side) (p : P) : Event M → Input →
+pub data IsReadAs {P M C H : Type 0} (m : Peers P M) (t : Talks P M C H) (s : Side) (p : P) : Event M → Input →
     Option H → Type 0 where
-  starts : (c : Conn) → Reads m t s p (Start c) (input.Start c) None
-  acks : (c : Conn) → Reads m t s p (Ack c) (input.Ack c) None
-  ends : (c : Conn) → Reads m t s p (Gone c) (input.Gone c) None
-  asks : (c : Conn) (n : ℕ) → IsTrue (t.is_number n) → IsTrue (reads_first (m.node_of p).state) →
+  reads_start : (c : Conn) → IsReadAs m t s p (Start c) (input.Start c) None
+  reads_ack : (c : Conn) → IsReadAs m t s p (Ack c) (input.Ack c) None
+  reads_end : (c : Conn) → IsReadAs m t s p (Gone c) (input.Gone c) None
+  reads_cer : (c : Conn) (n : ℕ) → IsTrue (t.is_number n) → IsTrue (reads_first (m.node_of p).state) →
       hold_of (m.node_of p) c ≡ NotHeld →
-      Reads m t s p (Arrived c (t.cer (t.config (flip s)) n)) (input.Heard c Cer) (Some (t.cer_header n))
-  passes : (c : Conn) (n : ℕ) → IsTrue (not (reads_first (m.node_of p).state)) → hold_of (m.node_of p) c ≡ NotHeld →
-      Reads m t s p (Arrived c (t.cer (t.config (flip s)) n)) (input.Heard c Unreadable) None
-  answers : (c : Conn) (n : ℕ) → IsTrue (t.is_number n) → t.awaited_of p ≡ Some n → hold_of (m.node_of p) c ≡ Made →
-      Reads m t s p (Arrived c (t.cea (t.config (flip s)) n)) (input.Heard c Cea) (Some (t.cea_header n))
+      IsReadAs m t s p (Arrived c (t.cer (t.config (flip s)) n)) (input.Heard c Cer) (Some (t.cer_header n))
+  leaves_cer : (c : Conn) (n : ℕ) → IsTrue (not (reads_first (m.node_of p).state)) → hold_of (m.node_of p) c ≡ NotHeld →
+      IsReadAs m t s p (Arrived c (t.cer (t.config (flip s)) n)) (input.Heard c Unreadable) None
+  reads_cea : (c : Conn) (n : ℕ) → IsTrue (t.is_number n) → t.awaited_of p ≡ Some n → hold_of (m.node_of p) c ≡ Made →
+      IsReadAs m t s p (Arrived c (t.cea (t.config (flip s)) n)) (input.Heard c Cea) (Some (t.cea_header n))
 
 abbrev pub sends_cer : List Command → Bool
 sends_cer [] = false
@@ -80,7 +81,8 @@ pub record RepliesBy {P M C H : Type 0} (m : Peers P M) (t : Talks P M C H) (s :
   pub node : m.node_of peer ≡ next
   pub same : IsPeerOf t s peer
   pub said : AreSaid t s p heard commands actions
-  pub awaited : t.awaited_of peer ≡ number_after (awaits_cea next.state) (sends_cer commands) (t.next_of p) (t.awaited_of p)
+  pub awaited : t.awaited_of peer ≡ number_after (awaits_cea next.state) (sends_cer commands) (t.next_of p)
+      (t.awaited_of p)
   pub waiting : t.waiting_of peer ≡ waiting_after (m.node_of p).state heard next.state (t.waiting_of p)
 
 abbrev pub RepliesAs : {P M C H : Type 0} → Peers P M → Talks P M C H → Side → P → Option H → Outcome → Reply P M →
@@ -94,5 +96,5 @@ pub record IsElecting {P M C H : Type 0} (m : Peers P M) (t : Talks P M C H) : T
   pub keeps_none : (p : P) → IsTrue (t.is_standing p) → IsTrue (not (holds_cer (m.node_of p).state)) →
       t.waiting_of p ≡ None
   pub replies : (s : Side) (p : P) (e : Event M) (i : Input) (heard : Option H) → IsPeerOf t s p →
-      Reads m t s p e i heard →
+      IsReadAs m t s p e i heard →
       RepliesAs m t s p heard (outcome (m.node_of p) i (t.wins s)) (m.reply p e)

@@ -1,7 +1,9 @@
 -- What holds of each link between two happenings, whatever the messages say and whoever wins.
-use Rattle.std.specs.Prelude.{◌≡◌, ℕ, ◌≤◌, Bool, true, false, not, ◌&&◌, ◌||◌, IsTrue, List, [], ◌∷◌, Some, slice_get, length}
+use Rattle.std.specs.Prelude.{◌≡◌, ℕ, ◌≤◌, Bool, true, false, not, ◌&&◌, ◌||◌, IsTrue, List, [], ◌∷◌, Some, slice_get}
+use Rattle.std.specs.Prelude.{length}
 use Rattle.dm_links.specs.Machine.{Node, is_shaped, Tie, Unheld, Connecting, Made, MadeOpen, Taken, tie_of, is_held}
-use Rattle.dm_links.specs.Links.{Side, A, opens, LinkPhase, Pending, Up, Cancelled, End, Fresh, Open, Shut, Mark, NoMark, Coming, Delivered, Link, View, view_of}
+use Rattle.dm_links.specs.Links.{Side, A, opens, LinkPhase, Pending, Up, Cancelled, End, Fresh, Open, Shut, Mark}
+use Rattle.dm_links.specs.Links.{NoMark, Coming, Delivered, Link, View, view_of}
 use Rattle.dm_links.specs.Peers.{Peers}
 use Rattle.dm_links.specs.Worlds.{World}
 
@@ -17,9 +19,9 @@ pub record Standing : Type 0 where
   pub in_mark : Mark
   pub out_mark : Mark
 
-abbrev pub turned : Bool → Standing → Standing
-turned true s = s
-turned false s =
+abbrev pub turned_over : Bool → Standing → Standing
+turned_over true s = s
+turned_over false s =
     record {
       own_tie = s.other_tie;
       other_tie = s.own_tie;
@@ -100,8 +102,8 @@ fresh_fits Fresh _ in_empty out_empty out_mark = in_empty && not (out_empty && i
 fresh_fits _ _ in_empty out_empty out_mark = true
 
 -- a link as its opener sees it
-abbrev pub is_sound : Standing → Bool
-is_sound s =
+abbrev pub is_sound_standing : Standing → Bool
+is_sound_standing s =
     elim s.phase [
       | Pending ↦ elim s.own_tie [ Connecting ↦ not (is_held s.other_tie) && is_blank s | _ ↦ false ]
       | Cancelled ↦ not (is_held s.own_tie) && not (is_held s.other_tie) && is_blank s
@@ -112,8 +114,8 @@ is_sound s =
           s.out_mark
     ]
 
-abbrev pub standing : {M : Type 0} → Tie → Tie → View M → Standing
-standing own other v =
+abbrev pub standing_of : {M : Type 0} → Tie → Tie → View M → Standing
+standing_of own other v =
     record {
       own_tie = own;
       other_tie = other;
@@ -128,7 +130,7 @@ standing own other v =
 
 -- a view is sound, of the opener or of the other side
 abbrev pub IsSoundView : {M : Type 0} → Bool → Tie → Tie → View M → Type 0
-IsSoundView mine own other v = IsTrue (is_sound (turned mine (standing own other v)))
+IsSoundView mine own other v = IsTrue (is_sound_standing (turned_over mine (standing_of own other v)))
 
 abbrev pub IsSoundLink : {M : Type 0} → Side → Node → Node → ℕ → Link M → Type 0
 IsSoundLink s own other c l = IsSoundView (opens s l.opener) (tie_of own c) (tie_of other c)
@@ -142,5 +144,5 @@ pub record AreSound {M : Type 0} (s : Side) (own other : Node) (links : List (Li
   pub own_later : (c : ℕ) → length links ≤ c → tie_of own c ≡ Unheld
   pub other_later : (c : ℕ) → length links ≤ c → tie_of other c ≡ Unheld
 
-abbrev pub IsSound : {P M : Type 0} → Peers P M → World P M → Type 0
-IsSound m w = AreSound A (m.node_of w.a) (m.node_of w.b) w.links
+abbrev pub IsSoundWorld : {P M : Type 0} → Peers P M → World P M → Type 0
+IsSoundWorld m w = AreSound A (m.node_of w.a) (m.node_of w.b) w.links

@@ -4,10 +4,10 @@ use Rattle.std.specs.List.{list_all}
 use Rattle.dm_links.specs.Links.{A, B}
 use Rattle.dm_links.specs.Peers.{Peers}
 use Rattle.dm_links.specs.Worlds.{World, Put, Done}
-use Rattle.dm_links.specs.Happens.{Happening, Acks, Delivers, Ran, happens, run}
-use Rattle.dm_links.specs.Quiet.{is_quiet, is_clean, made, steps, kept}
+use Rattle.dm_links.specs.Happens.{Happening, Acks, Delivers, RunEnd, happens, run}
+use Rattle.dm_links.specs.Quiet.{is_quiet, is_clean, links_made, steps_taken, kept}
 use Rattle.dm_links.specs.Electing.{Talks, IsElecting}
-use Rattle.dm_links.specs.Settled.{AreOpenOn, IsAtRest}
+use Rattle.dm_links.specs.Settled.{AreOpenOnKept, IsAtRest}
 
 -- only Acks and deliveries
 abbrev pub is_ack_or_delivery : {M : Type 0} → Happening M → Bool
@@ -24,11 +24,11 @@ pub record CanFallQuiet {P M C H : Type 0} (m : Peers P M) (t : Talks P M C H) (
     (hs : List (Happening M)) : Type 0 where
   pub more : List (Happening M)
   pub only : IsTrue (are_acks_or_deliveries more)
-  pub few : steps m w hs + length more ≤ 9
-  pub end : Ran P M
+  pub few : steps_taken m w hs + length more ≤ 9
+  pub end : RunEnd P M
   pub runs : run m w (hs ++ more) ≡ Some end
   pub quiet : IsTrue (is_quiet end.world)
-  pub opened : IfSome (kept m t.wins w hs) (λ k. AreOpenOn m end.world k)
+  pub opened : IfSome (kept m t.wins w hs) (λ k. AreOpenOnKept m end.world k)
 
 -- each clean run of two closed peers, from where nothing is under way, can fall quiet
 abbrev pub EachCleanRunCanFallQuiet : Type 0 → Type 0 → Type 0 → Type 0 → Type 0
@@ -44,10 +44,11 @@ NothingComes {P} {M} m w =
 
 -- a run is quiet where nothing comes any more, after nine steps, and after four where one side alone starts
 pub record FallsQuiet {P M C H : Type 0} (m : Peers P M) (t : Talks P M C H) (w : World P M)
-    (hs : List (Happening M)) (r : Ran P M) : Type 0 where
+    (hs : List (Happening M)) (r : RunEnd P M) : Type 0 where
   pub at_end : NothingComes m r.world → IsTrue (is_quiet r.world)
-  pub nine : 9 ≤ steps m w hs → IsTrue (is_quiet r.world)
-  pub four : (made m A w hs ≡ []) ⊎ (made m B w hs ≡ []) → 4 ≤ steps m w hs → IsTrue (is_quiet r.world)
+  pub nine : 9 ≤ steps_taken m w hs → IsTrue (is_quiet r.world)
+  pub four : (links_made m A w hs ≡ []) ⊎ (links_made m B w hs ≡ []) → 4 ≤ steps_taken m w hs →
+      IsTrue (is_quiet r.world)
 
 -- each clean run of two closed peers, from where nothing is under way, falls quiet, in whatever order things come
 abbrev pub EachCleanRunFallsQuiet : Type 0 → Type 0 → Type 0 → Type 0 → Type 0

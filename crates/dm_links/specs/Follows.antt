@@ -4,9 +4,11 @@ use Rattle.dm_machine.specs.declared.inputs.Input.TheVariants as input
 use Rattle.dm_machine.specs.declared.inputs.Word.{Word}
 use Rattle.dm_machine.specs.declared.outputs.Refusal.{Refusal}
 use Rattle.dm_machine.specs.Moves.{Moved, Refused}
-use Rattle.dm_links.specs.Machine.{Conn, conn, Input, Command, Concern, Elsewhere, HeardOnIt, concern_of, outcome, Tie, Made, MadeOpen, Taken, tie_of, closed_node}
+use Rattle.dm_links.specs.Machine.{Conn, conn, Input, Command, Concern, Elsewhere, HeardOnIt, concern_of, outcome, Tie}
+use Rattle.dm_links.specs.Machine.{Made, MadeOpen, Taken, tie_of, closed_node}
 use Rattle.dm_machine.specs.Deeds.{deed_of_command}
-use Rattle.dm_links.specs.Peers.{Event, Start, Stop, Timeout, Tick, Ack, Nack, Gone, Submit, Arrived, Action, Reply, Acts, Declines, Peers, concern_by, deed_of}
+use Rattle.dm_links.specs.Peers.{Event, Start, Stop, Timeout, Tick, Ack, Nack, Gone, Submit, Arrived, Action, Reply}
+use Rattle.dm_links.specs.Peers.{Acts, Declines, Peers, concern_by, deed_of}
 
 -- an event as the machine's input, with the word of what came
 abbrev pub input_told : {M : Type 0} → Event M → Word → Input
@@ -22,7 +24,7 @@ input_told (Arrived c x) word = input.Heard c word
 
 -- one step of the machine, at the event with some word, with an action for each command; its input concerns each
 -- connection as the event does
-pub record Steps {P M : Type 0} (m : Peers P M) (p : P) (e : Event M) (actions : List (Action M))
+pub record StepsAsMachine {P M : Type 0} (m : Peers P M) (p : P) (e : Event M) (actions : List (Action M))
     (next : P) : Type 0 where
   pub input : Input
   pub word : Word
@@ -63,12 +65,12 @@ abbrev pub MayDecline : {P M : Type 0} → Peers P M → P → Event M → Type 
 MayDecline m p (Submit x) = ⊤
 MayDecline m p e = IsRefusedByMachine m p e
 
-abbrev pub Follows : {P M : Type 0} → Peers P M → P → Event M → Reply P M → Type 0
-Follows m p e Declines = MayDecline m p e
-Follows m p e (Acts actions next) = Steps m p e actions next ⊎ Drops m p e actions next
+abbrev pub FollowsMachine : {P M : Type 0} → Peers P M → P → Event M → Reply P M → Type 0
+FollowsMachine m p e Declines = MayDecline m p e
+FollowsMachine m p e (Acts actions next) = StepsAsMachine m p e actions next ⊎ Drops m p e actions next
 
 -- each reply is a step of the machine, or drops a message, or declines; and a restart leaves the peer Closed. It says
 -- nothing of what is said and handed up, of who wins, or of the word that a message is taken for
 pub record IsMachine {P M : Type 0} (m : Peers P M) : Type 0 where
-  pub follows : (p : P) (e : Event M) → Follows m p e (m.reply p e)
+  pub follows : (p : P) (e : Event M) → FollowsMachine m p e (m.reply p e)
   pub resets : (p : P) → m.node_of (m.reset p) ≡ closed_node

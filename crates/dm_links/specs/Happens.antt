@@ -1,10 +1,13 @@
 -- What may happen to a world, and what it does.
-use Rattle.std.specs.Prelude.{ℕ, ◌+◌, ◌-◌, Bool, true, false, nat_lt, nat_le, ◌==◌, if◌then◌else◌, List, [], ◌∷◌, ◌++◌, length, map, Option, Some, None, slice_get}
+use Rattle.std.specs.Prelude.{ℕ, ◌+◌, ◌-◌, Bool, true, false, nat_lt, nat_le, ◌==◌, if◌then◌else◌, List, [], ◌∷◌, ◌++◌}
+use Rattle.std.specs.Prelude.{length, map, Option, Some, None, slice_get}
 use Rattle.dm_links.specs.Machine.{conn}
-use Rattle.dm_links.specs.Links.{Side, A, B, flip, opens, LinkPhase, Pending, Up, End, Shut, Mark, Coming, Delivered, Direction, Link, View, view_of, by_side}
+use Rattle.dm_links.specs.Links.{Side, A, B, flip, opens, LinkPhase, Pending, Up, End, Shut, Mark, Coming, Delivered}
+use Rattle.dm_links.specs.Links.{Direction, Link, View, view_of, by_side}
 use Rattle.dm_links.specs.Peers.{Cause, Event, Start, Stop, Timeout, Tick, Ack, Nack, Gone, Submit, Arrived, Peers}
-use Rattle.dm_links.specs.Steps.{marked, shut}
-use Rattle.dm_links.specs.Worlds.{World, peer_at, with_peer, with_links, Put, Disconnect, put_if, change_at, After, Done, Ignored, NoLink, told, dropped}
+use Rattle.dm_links.specs.Steps.{marked, with_close}
+use Rattle.dm_links.specs.Worlds.{World, peer_at, with_peer, with_links, Put, Disconnect, put_if, change_at, After}
+use Rattle.dm_links.specs.Worlds.{Done, Ignored, NoLink, tell, after_drop}
 
 -- a Lose names how many of the first octets towards A and towards B are kept, a Piece how many are delivered
 pub data Happening (M : Type 0) : Type 0 where
@@ -33,23 +36,23 @@ next_in [] _ = NextNothing
 
 -- an event comes to an end
 abbrev pub comes : {P M : Type 0} → Peers P M → Side → Event M → End → World P M → After P M
-comes m s e Shut w = dropped s e w
-comes m s e _ w = told m s e w
+comes m s e Shut w = after_drop s e w
+comes m s e _ w = tell m s e w
 
-abbrev pub delivered : {P M : Type 0} → Peers P M → ℕ → Side → End → Next M → World P M → After P M
-delivered m c s end NextNothing w = Ignored
-delivered m c s end (NextMessage x) w = comes m s (Arrived (conn c) x) end w
-delivered m c s end NextDisconnect w = comes m s (Gone (conn c)) end w
+abbrev pub deliver_next : {P M : Type 0} → Peers P M → ℕ → Side → End → Next M → World P M → After P M
+deliver_next m c s end NextNothing w = Ignored
+deliver_next m c s end (NextMessage x) w = comes m s (Arrived (conn c) x) end w
+deliver_next m c s end NextDisconnect w = comes m s (Gone (conn c)) end w
 
 -- some octets of the front message are delivered, and not its last
-abbrev pub taking : {M : Type 0} → ℕ → View M → View M
-taking k view = record view { incoming = record view.incoming { taken = view.incoming.taken + k } }
+abbrev pub take_part : {M : Type 0} → ℕ → View M → View M
+take_part k view = record view { incoming = record view.incoming { taken = view.incoming.taken + k } }
 
-abbrev pub pieced : {P M : Type 0} → Peers P M → ℕ → Side → ℕ → End → ℕ → Next M → World P M → After P M
-pieced m c s k end taken NextNothing w = Ignored
-pieced m c s k end taken NextDisconnect w = Ignored
-pieced m c s k end taken (NextMessage x) w =
-    if nat_lt (taken + k) (m.size x) then Done (with_links (change_at c (by_side s (taking k)) w.links) w) []
+abbrev pub deliver_part : {P M : Type 0} → Peers P M → ℕ → Side → ℕ → End → ℕ → Next M → World P M → After P M
+deliver_part m c s k end taken NextNothing w = Ignored
+deliver_part m c s k end taken NextDisconnect w = Ignored
+deliver_part m c s k end taken (NextMessage x) w =
+    if nat_lt (taken + k) (m.size x) then Done (with_links (change_at c (by_side s (take_part k)) w.links) w) []
     else comes m s (Arrived (conn c) x) end w
 
 -- the first messages that lie wholly in k octets
@@ -80,8 +83,8 @@ kept_at B a b = b
 abbrev pub lost_link : {M : Type 0} → (M → ℕ) → ℕ → ℕ → Link M → Link M
 lost_link size a b l =
     record l {
-      to_near = lost size (kept_at l.opener a b) l.to_near;
-      to_far = lost size (kept_at (flip l.opener) a b) l.to_far;
+      to_opener = lost size (kept_at l.opener a b) l.to_opener;
+      to_other = lost size (kept_at (flip l.opener) a b) l.to_other;
     }
 
 abbrev pub are_shut : End → End → Bool
@@ -90,7 +93,7 @@ are_shut _ _ = false
 
 -- a restart of a side: each of its ends is shut, and the connects that it asked for are cancelled
 abbrev pub restarted : {M : Type 0} → Bool → View M → View M
-restarted mine v = elim v.phase [ Pending ↦ elim mine [ true ↦ shut v | false ↦ v ] | _ ↦ shut v ]
+restarted mine v = elim v.phase [ Pending ↦ elim mine [ true ↦ with_close v | false ↦ v ] | _ ↦ with_close v ]
 
 abbrev pub restart_links : {M : Type 0} → Side → List (Link M) → List (Link M)
 restart_links s links = map (λ l. by_side s (restarted (opens s l.opener)) l) links
@@ -127,11 +130,11 @@ own_view s l = view_of (opens s l.opener) l
 -- what is next towards a side is delivered, or k octets of it
 abbrev pub deliver : {P M : Type 0} → Peers P M → World P M → ℕ → Side → View M → After P M
 deliver peers world c side view =
-    delivered peers c side view.own (next_in view.incoming.messages view.incoming.mark) world
+    deliver_next peers c side view.own (next_in view.incoming.messages view.incoming.mark) world
 
 abbrev pub deliver_piece : {P M : Type 0} → Peers P M → World P M → ℕ → Side → ℕ → View M → After P M
 deliver_piece peers world c side k view =
-    if k == 0 then Ignored else pieced peers c side k view.own view.incoming.taken
+    if k == 0 then Ignored else deliver_part peers c side k view.own view.incoming.taken
     (next_in view.incoming.messages view.incoming.mark) world
 
 -- a loss, that both sides are told
@@ -141,20 +144,20 @@ lose peers world c to_a to_b l =
     (put_if B (Disconnect c A) (Some l) ++ put_if A (Disconnect c B) (Some l))
 
 abbrev pub unless_shut : {P M : Type 0} → Link M → After P M → After P M
-unless_shut l after = if are_shut l.near l.far then Ignored else after
+unless_shut l after = if are_shut l.opener_end l.other_end then Ignored else after
 
 -- the one outcome of a happening
 abbrev pub happens : {P M : Type 0} → Peers P M → World P M → Happening M → After P M
-happens peers world (Starts side) = told peers side (Start (conn (length world.links))) world
-happens peers world (Stops side cause) = told peers side (Stop cause) world
-happens peers world (TimesOut side) = told peers side Timeout world
-happens peers world (Ticks side) = told peers side Tick world
-happens peers world (Submits side message) = told peers side (Submit message) world
+happens peers world (Starts side) = tell peers side (Start (conn (length world.links))) world
+happens peers world (Stops side cause) = tell peers side (Stop cause) world
+happens peers world (TimesOut side) = tell peers side Timeout world
+happens peers world (Ticks side) = tell peers side Tick world
+happens peers world (Submits side message) = tell peers side (Submit message) world
 happens peers world (Restarts side) = restart peers side world
 happens peers world (Acks link) =
-    on_link world link (λ l. if_pending l.phase (told peers l.opener (Ack (conn link)) world) Ignored)
+    on_link world link (λ l. if_pending l.phase (tell peers l.opener (Ack (conn link)) world) Ignored)
 happens peers world (Nacks link) =
-    on_link world link (λ l. if_pending l.phase (told peers l.opener (Nack (conn link)) world) Ignored)
+    on_link world link (λ l. if_pending l.phase (tell peers l.opener (Nack (conn link)) world) Ignored)
 happens peers world (Delivers link side) =
     on_link world link (λ l. if_up l.phase (deliver peers world link side (own_view side l)) Ignored)
 happens peers world (Pieces link side k) =
@@ -169,20 +172,20 @@ world_after w Ignored = w
 world_after w NoLink = w
 
 -- a world and all that was put into its directions
-pub record Ran (P M : Type 0) : Type 0 where
+pub record RunEnd (P M : Type 0) : Type 0 where
   pub world : World P M
   pub put : List (Put M)
 
-abbrev pub ran_on : {P M : Type 0} → Ran P M → After P M → Option (Ran P M)
+abbrev pub ran_on : {P M : Type 0} → RunEnd P M → After P M → Option (RunEnd P M)
 ran_on r (Done next put) = Some (record { world = next; put = r.put ++ put })
 ran_on r Ignored = Some r
 ran_on r NoLink = None
 
 -- happenings one after the other, unless one names no link
-abbrev pub run_from : {P M : Type 0} → Peers P M → Option (Ran P M) → List (Happening M) → Option (Ran P M)
+abbrev pub run_from : {P M : Type 0} → Peers P M → Option (RunEnd P M) → List (Happening M) → Option (RunEnd P M)
 run_from m None hs = None
 run_from m (Some r) [] = Some r
 run_from m (Some r) (h ∷ hs) = run_from m (ran_on r (happens m r.world h)) hs
 
-abbrev pub run : {P M : Type 0} → Peers P M → World P M → List (Happening M) → Option (Ran P M)
+abbrev pub run : {P M : Type 0} → Peers P M → World P M → List (Happening M) → Option (RunEnd P M)
 run m w hs = run_from m (Some (record { world = w; put = [] })) hs

@@ -7,7 +7,7 @@ use Rattle.dm_links.specs.Machine.{conn, Role, Initiated, Accepted, Node, Input,
 use Rattle.dm_links.specs.Links.{Side}
 use Rattle.dm_links.specs.Peers.{Peers}
 use Rattle.dm_links.specs.Worlds.{World, peer_at}
-use Rattle.dm_links.specs.Facts.{IsSound}
+use Rattle.dm_links.specs.Facts.{IsSoundWorld}
 use Rattle.dm_links.specs.Quiet.{is_quiet}
 
 -- the states in which a side may be left with one connection, which it initiated or accepted
@@ -38,7 +38,7 @@ is_returning _ = false
 -- in every sound world in which nothing is under way, if one side at least didn't lose its election to the other
 abbrev pub QuietIsJoined : Type 0 → Type 0 → Type 0
 QuietIsJoined P M =
-    (m : Peers P M) (w : World P M) → IsSound m w → IsTrue (is_quiet w) → (s : Side) →
+    (m : Peers P M) (w : World P M) → IsSoundWorld m w → IsTrue (is_quiet w) → (s : Side) →
     IsFalse (is_returning (m.node_of (peer_at s w)).state) → AreJoined (m.node_of w.a) (m.node_of w.b)
 
 -- a side that wins its elections doesn't come to wait for the other's disconnect

@@ -5,7 +5,7 @@ use Rattle.dm_links.specs.Peers.{Peers}
 use Rattle.dm_links.specs.Worlds.{World}
 use Rattle.dm_links.specs.Happens.{Happening, happens, world_after, run}
 use Rattle.dm_links.specs.Follows.{IsMachine}
-use Rattle.dm_links.specs.Facts.{IsSound}
+use Rattle.dm_links.specs.Facts.{IsSoundWorld}
 use Rattle.dm_links.specs.Agreement.{Agreed, EndsAreHeld, HeldAreLinks, OpenIsMatched}
 
 abbrev pub world_of : {P M : Type 0} → P → P → World P M
@@ -14,13 +14,13 @@ world_of a b = record { a = a; b = b; links = [] }
 -- two closed peers without links are sound
 abbrev pub ClosedIsSound : Type 0 → Type 0 → Type 0
 ClosedIsSound P M =
-    (m : Peers P M) (a b : P) → m.node_of a ≡ closed_node → m.node_of b ≡ closed_node → IsSound m (world_of a b)
+    (m : Peers P M) (a b : P) → m.node_of a ≡ closed_node → m.node_of b ≡ closed_node → IsSoundWorld m (world_of a b)
 
 -- each happening keeps a world sound
 abbrev pub HappeningKeepsSound : Type 0 → Type 0 → Type 0
 HappeningKeepsSound P M =
-    (m : Peers P M) → IsMachine m → (w : World P M) (h : Happening M) → IsSound m w →
-    IsSound m (world_after w (happens m w h))
+    (m : Peers P M) → IsMachine m → (w : World P M) (h : Happening M) → IsSoundWorld m w →
+    IsSoundWorld m (world_after w (happens m w h))
 
 -- what a sound world has
 pub record Promised {P M : Type 0} (m : Peers P M) (w : World P M) : Type 0 where
@@ -30,7 +30,7 @@ pub record Promised {P M : Type 0} (m : Peers P M) (w : World P M) : Type 0 wher
   pub open_is_matched : OpenIsMatched m w
 
 abbrev pub SoundIsPromised : Type 0 → Type 0 → Type 0
-SoundIsPromised P M = (m : Peers P M) (w : World P M) → IsSound m w → Promised m w
+SoundIsPromised P M = (m : Peers P M) (w : World P M) → IsSoundWorld m w → Promised m w
 
 -- two closed peers keep the promise after every list of happenings
 abbrev pub EachRunIsPromised : Type 0 → Type 0 → Type 0

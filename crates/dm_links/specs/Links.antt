@@ -40,21 +40,29 @@ pub record Direction (M : Type 0) : Type 0 where
   pub taken : ℕ
   pub mark : Mark
 
--- near is the opener's end, far the other side's; to_near comes in at the opener's end
+-- the opener's end and the other side's, and the directions in which things come in at them
 pub record Link (M : Type 0) : Type 0 where
   pub opener : Side
   pub phase : LinkPhase
-  pub near : End
-  pub far : End
-  pub to_near : Direction M
-  pub to_far : Direction M
+  pub opener_end : End
+  pub other_end : End
+  pub to_opener : Direction M
+  pub to_other : Direction M
 
 abbrev pub nothing : {M : Type 0} → Direction M
 nothing = record { messages = []; taken = 0; mark = NoMark }
 
 -- a link as a Start makes it; an end without standing is written as shut
 abbrev pub new_link : {M : Type 0} → Side → Link M
-new_link s = record { opener = s; phase = Pending; near = Shut; far = Shut; to_near = nothing; to_far = nothing }
+new_link s =
+    record {
+      opener = s;
+      phase = Pending;
+      opener_end = Shut;
+      other_end = Shut;
+      to_opener = nothing;
+      to_other = nothing;
+    }
 
 -- a link as one side sees it
 pub record View (M : Type 0) : Type 0 where
@@ -69,10 +77,10 @@ abbrev pub view_of : {M : Type 0} → Bool → Link M → View M
 view_of mine l =
     record {
       phase = l.phase;
-      own = elim mine [ true ↦ l.near | false ↦ l.far ];
-      other = elim mine [ true ↦ l.far | false ↦ l.near ];
-      incoming = elim mine [ true ↦ l.to_near | false ↦ l.to_far ];
-      outgoing = elim mine [ true ↦ l.to_far | false ↦ l.to_near ];
+      own = elim mine [ true ↦ l.opener_end | false ↦ l.other_end ];
+      other = elim mine [ true ↦ l.other_end | false ↦ l.opener_end ];
+      incoming = elim mine [ true ↦ l.to_opener | false ↦ l.to_other ];
+      outgoing = elim mine [ true ↦ l.to_other | false ↦ l.to_opener ];
     }
 
 abbrev pub link_of : {M : Type 0} → Bool → Side → View M → Link M
@@ -80,10 +88,10 @@ link_of mine opener v =
     record {
       opener = opener;
       phase = v.phase;
-      near = elim mine [ true ↦ v.own | false ↦ v.other ];
-      far = elim mine [ true ↦ v.other | false ↦ v.own ];
-      to_near = elim mine [ true ↦ v.incoming | false ↦ v.outgoing ];
-      to_far = elim mine [ true ↦ v.outgoing | false ↦ v.incoming ];
+      opener_end = elim mine [ true ↦ v.own | false ↦ v.other ];
+      other_end = elim mine [ true ↦ v.other | false ↦ v.own ];
+      to_opener = elim mine [ true ↦ v.incoming | false ↦ v.outgoing ];
+      to_other = elim mine [ true ↦ v.outgoing | false ↦ v.incoming ];
     }
 
 -- a link after a side's view of it has changed

@@ -27,8 +27,8 @@ pub data Concern : Type 0 where
   EndsIt : Concern
   HeardOnIt : Concern
 
-abbrev pub if_named : Conn → Conn → Concern → Concern
-if_named d c k = if d.0 == c.0 then k else Elsewhere
+abbrev pub concern_if_named : Conn → Conn → Concern → Concern
+concern_if_named d c k = if d.0 == c.0 then k else Elsewhere
 
 abbrev pub concern_as : hold.Concern → Concern
 concern_as hold.StartsIt = StartsIt

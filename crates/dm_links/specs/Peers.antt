@@ -1,7 +1,8 @@
 -- A peer in a world: whatever answers an event with actions. Its state is of any type P, its messages of any type M.
 use Rattle.std.specs.Prelude.{ℕ, Bool, false, ◌||◌, ◌==◌, List, [], ◌∷◌}
 use Rattle.dm_machine.specs.Deeds.{Deed, ConnectsOn, SendsOn, ClosesOn, HandsUp}
-use Rattle.dm_links.specs.Machine.{Conn, Node, Concern, Elsewhere, StartsIt, AcksIt, NacksIt, EndsIt, HeardOnIt, if_named}
+use Rattle.dm_links.specs.Machine.{Conn, Node, Concern, Elsewhere, StartsIt, AcksIt, NacksIt, EndsIt, HeardOnIt}
+use Rattle.dm_links.specs.Machine.{concern_if_named}
 
 -- why a peer is told to disconnect [5.4.3]
 pub data Cause : Type 0 where
@@ -39,11 +40,11 @@ pub record Peers (P M : Type 0) : Type 0 where
 
 -- how an event concerns a connection
 abbrev pub concern_by : {M : Type 0} → Event M → Conn → Concern
-concern_by (Start d) c = if_named d c StartsIt
-concern_by (Ack d) c = if_named d c AcksIt
-concern_by (Nack d) c = if_named d c NacksIt
-concern_by (Gone d) c = if_named d c EndsIt
-concern_by (Arrived d m) c = if_named d c HeardOnIt
+concern_by (Start d) c = concern_if_named d c StartsIt
+concern_by (Ack d) c = concern_if_named d c AcksIt
+concern_by (Nack d) c = concern_if_named d c NacksIt
+concern_by (Gone d) c = concern_if_named d c EndsIt
+concern_by (Arrived d m) c = concern_if_named d c HeardOnIt
 concern_by _ c = Elsewhere
 
 -- what an action does, whatever it says

@@ -1,5 +1,6 @@
 -- When nothing is under way, runs without losses, and the connection that is kept.
-use Rattle.std.specs.Prelude.{ℕ, ◌+◌, Bool, true, false, ◌&&◌, nat_lt, if◌then◌else◌, Option, Some, None, List, [], ◌∷◌, ◌++◌, length, slice_get}
+use Rattle.std.specs.Prelude.{ℕ, ◌+◌, Bool, true, false, ◌&&◌, nat_lt, if◌then◌else◌, Option, Some, None, List, [], ◌∷◌}
+use Rattle.std.specs.Prelude.{◌++◌, length, slice_get}
 use Rattle.std.specs.List.{list_all}
 use Rattle.dm_links.specs.Links.{Side, A, B, opens, Pending, Coming, Direction, Link}
 use Rattle.dm_links.specs.Peers.{Peers}
@@ -11,7 +12,7 @@ abbrev pub is_still : {M : Type 0} → Direction M → Bool
 is_still d = elim d.messages [ [] ↦ elim d.mark [ Coming ↦ false | _ ↦ true ] | x ∷ xs ↦ false ]
 
 abbrev pub is_quiet_link : {M : Type 0} → Link M → Bool
-is_quiet_link l = elim l.phase [ Pending ↦ false | _ ↦ is_still l.to_near && is_still l.to_far ]
+is_quiet_link l = elim l.phase [ Pending ↦ false | _ ↦ is_still l.to_opener && is_still l.to_other ]
 
 -- no link is pending, and no direction has a message or a disconnect that is coming
 abbrev pub is_quiet : {P M : Type 0} → World P M → Bool
@@ -34,9 +35,9 @@ makes s w (Starts t) (Done next put) = if opens s t then length w.links ∷ [] e
 makes s w _ _ = []
 
 -- the links that the taken Starts of a side make in a run
-abbrev pub made : {P M : Type 0} → Peers P M → Side → World P M → List (Happening M) → List ℕ
-made m s w [] = []
-made m s w (h ∷ hs) = makes s w h (happens m w h) ++ made m s (world_after w (happens m w h)) hs
+abbrev pub links_made : {P M : Type 0} → Peers P M → Side → World P M → List (Happening M) → List ℕ
+links_made m s w [] = []
+links_made m s w (h ∷ hs) = makes s w h (happens m w h) ++ links_made m s (world_after w (happens m w h)) hs
 
 -- whether a piece of k octets leaves the front message of a direction in part
 abbrev pub is_in_part : {M : Type 0} → (M → ℕ) → ℕ → Direction M → Bool
@@ -56,22 +57,22 @@ steps_of m w h (Done next put) = cost m w h
 steps_of m w h _ = 0
 
 -- the steps of a run: its happenings that aren't ignored, but for pieces that end no message
-abbrev pub steps : {P M : Type 0} → Peers P M → World P M → List (Happening M) → ℕ
-steps m w [] = 0
-steps m w (h ∷ hs) = steps_of m w h (happens m w h) + steps m (world_after w (happens m w h)) hs
+abbrev pub steps_taken : {P M : Type 0} → Peers P M → World P M → List (Happening M) → ℕ
+steps_taken m w [] = 0
+steps_taken m w (h ∷ hs) = steps_of m w h (happens m w h) + steps_taken m (world_after w (happens m w h)) hs
 
 -- a link and its opener
-pub record Kept : Type 0 where
+pub record KeptLink : Type 0 where
   pub opener : Side
   pub link : ℕ
 
-abbrev pub kept_of : Side → List ℕ → Option Kept → Option Kept
+abbrev pub kept_of : Side → List ℕ → Option KeptLink → Option KeptLink
 kept_of s [] else_kept = else_kept
 kept_of s (c ∷ cs) else_kept = Some (record { opener = s; link = c })
 
 -- of the links that taken Starts make: the only one, or, where both sides made one, that of the side whose host comes
 -- first, which doesn't win the election [5.6.4]
-abbrev pub kept : {P M : Type 0} → Peers P M → (Side → Bool) → World P M → List (Happening M) → Option Kept
+abbrev pub kept : {P M : Type 0} → Peers P M → (Side → Bool) → World P M → List (Happening M) → Option KeptLink
 kept m wins w hs =
-    if wins A then kept_of B (made m B w hs) (kept_of A (made m A w hs) None)
-    else kept_of A (made m A w hs) (kept_of B (made m B w hs) None)
+    if wins A then kept_of B (links_made m B w hs) (kept_of A (links_made m A w hs) None)
+    else kept_of A (links_made m A w hs) (kept_of B (links_made m B w hs) None)

@@ -4,12 +4,12 @@ use Rattle.std.specs.List.{list_all}
 use Rattle.dm_links.specs.Links.{Side, A, B, flip}
 use Rattle.dm_links.specs.Peers.{Peers}
 use Rattle.dm_links.specs.Worlds.{World}
-use Rattle.dm_links.specs.Happens.{Happening, Starts, Restarts, Acks, Delivers, Ran, run}
+use Rattle.dm_links.specs.Happens.{Happening, Starts, Restarts, Acks, Delivers, RunEnd, run}
 use Rattle.dm_links.specs.Follows.{IsMachine}
-use Rattle.dm_links.specs.Facts.{IsSound}
+use Rattle.dm_links.specs.Facts.{IsSoundWorld}
 use Rattle.dm_links.specs.Quiet.{is_quiet}
 use Rattle.dm_links.specs.Electing.{Talks, IsPeerOf, IsElecting}
-use Rattle.dm_links.specs.Settled.{AreOpenOn}
+use Rattle.dm_links.specs.Settled.{AreOpenOnKept}
 
 -- only deliveries
 abbrev pub is_delivery : {M : Type 0} → Happening M → Bool
@@ -23,16 +23,16 @@ are_deliveries hs = list_all (λ h. is_delivery h) hs
 pub record CanClear {P M : Type 0} (m : Peers P M) (w : World P M) : Type 0 where
   pub more : List (Happening M)
   pub only : IsTrue (are_deliveries more)
-  pub end : Ran P M
+  pub end : RunEnd P M
   pub runs : run m w (Restarts A ∷ Restarts B ∷ more) ≡ Some end
   pub quiet : IsTrue (is_quiet end.world)
-  pub left : end.world.a ≡ m.reset w.a
-  pub right : end.world.b ≡ m.reset w.b
+  pub same_a : end.world.a ≡ m.reset w.a
+  pub same_b : end.world.b ≡ m.reset w.b
   pub links : length end.world.links ≡ length w.links
 
 -- so it is from each sound world
 abbrev pub EachWorldCanClear : Type 0 → Type 0 → Type 0
-EachWorldCanClear P M = (m : Peers P M) (w : World P M) → IsSound m w → CanClear m w
+EachWorldCanClear P M = (m : Peers P M) (w : World P M) → IsSoundWorld m w → CanClear m w
 
 -- a side's Start, the Ack of the link that it makes, and a delivery to each side
 abbrev pub steps_to_open : {M : Type 0} → Side → ℕ → List (Happening M)
@@ -42,10 +42,10 @@ steps_to_open s c = Starts s ∷ Acks c ∷ Delivers c (flip s) ∷ Delivers c s
 pub record CanOpen {P M : Type 0} (m : Peers P M) (w : World P M) (s : Side) : Type 0 where
   pub clearing : List (Happening M)
   pub only : IsTrue (are_deliveries clearing)
-  pub end : Ran P M
+  pub end : RunEnd P M
   pub runs : run m w (Restarts A ∷ Restarts B ∷ (clearing ++ steps_to_open s (length w.links))) ≡ Some end
   pub quiet : IsTrue (is_quiet end.world)
-  pub opened : AreOpenOn m end.world (record { opener = s; link = length w.links })
+  pub opened : AreOpenOnKept m end.world (record { opener = s; link = length w.links })
 
 -- a restart leaves a peer its side's
 abbrev pub ResetKeepsPeer : {P M C H : Type 0} → Peers P M → Talks P M C H → Type 0
@@ -55,4 +55,4 @@ ResetKeepsPeer {P} m t = (s : Side) (p : P) → IsPeerOf t s p → IsPeerOf t s 
 abbrev pub EachWorldCanOpen : Type 0 → Type 0 → Type 0 → Type 0 → Type 0
 EachWorldCanOpen P M C H =
     (m : Peers P M) (t : Talks P M C H) → IsMachine m → IsElecting m t → ResetKeepsPeer m t → (w : World P M) →
-    IsSound m w → IsPeerOf t A w.a → IsPeerOf t B w.b → (s : Side) → CanOpen m w s
+    IsSoundWorld m w → IsPeerOf t A w.a → IsPeerOf t B w.b → (s : Side) → CanOpen m w s

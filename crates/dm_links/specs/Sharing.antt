@@ -5,7 +5,7 @@ use Rattle.dm_links.specs.Machine.{tie_of, is_held}
 use Rattle.dm_links.specs.Links.{Side, flip}
 use Rattle.dm_links.specs.Peers.{Peers}
 use Rattle.dm_links.specs.Worlds.{World, peer_at}
-use Rattle.dm_links.specs.Facts.{IsSound}
+use Rattle.dm_links.specs.Facts.{IsSoundWorld}
 use Rattle.dm_links.specs.Quiet.{is_quiet}
 
 -- a side holds a link
@@ -20,4 +20,4 @@ pub record AreShared {P M : Type 0} (m : Peers P M) (w : World P M) : Type 0 whe
 
 -- in every sound world in which nothing is under way
 abbrev pub QuietIsShared : Type 0 → Type 0 → Type 0
-QuietIsShared P M = (m : Peers P M) (w : World P M) → IsSound m w → IsTrue (is_quiet w) → AreShared m w
+QuietIsShared P M = (m : Peers P M) (w : World P M) → IsSoundWorld m w → IsTrue (is_quiet w) → AreShared m w

@@ -1,8 +1,9 @@
--- What a step of a side does to a link, in its view: what the event does, what each action does, and how a fresh end that
--- was heard on is settled.
+-- What a step of a side does to a link, in its view: what the event does, what each action does, and how a fresh end
+-- that was heard on is settled.
 use Rattle.std.specs.Prelude.{Bool, true, false, List, [], ◌∷◌, ◌++◌, drop}
 use Rattle.dm_links.specs.Machine.{Concern, AcksIt, NacksIt, EndsIt, HeardOnIt}
-use Rattle.dm_links.specs.Links.{LinkPhase, Pending, Up, Cancelled, End, Fresh, Open, Shut, Mark, NoMark, Coming, Delivered, Direction, View}
+use Rattle.dm_links.specs.Links.{LinkPhase, Pending, Up, Cancelled, End, Fresh, Open, Shut, Mark, NoMark, Coming}
+use Rattle.dm_links.specs.Links.{Delivered, Direction, View}
 
 -- a direction's mark after a disconnect is put in
 abbrev pub marked : Mark → Mark
@@ -23,8 +24,8 @@ abbrev pub answering_mark : End → Mark → Mark
 answering_mark Fresh mark = marked mark
 answering_mark _ mark = mark
 
--- what an event does to the view of its side: an Ack makes the ends, a Nack cancels the link, a message is taken from the
--- front, and the disconnect that comes shuts the own end
+-- what an event does to the view of its side: an Ack makes the ends, a Nack cancels the link, a message is taken from
+-- the front, and the disconnect that comes shuts the own end
 abbrev pub entered : {M : Type 0} → Concern → View M → View M
 entered AcksIt view = record view { phase = Up; own = Open; other = Fresh }
 entered NacksIt view = record view { phase = Cancelled }
@@ -37,19 +38,19 @@ entered EndsIt view = record view {
 entered _ view = view
 
 -- a message is sent
-abbrev pub said : {M : Type 0} → M → View M → View M
-said message view =
+abbrev pub with_sent : {M : Type 0} → M → View M → View M
+with_sent message view =
     let way = view.outgoing
     in record view { outgoing = record way { messages = added view.phase way.mark (message ∷ []) way.messages } }
 
 -- a Close cancels a pending link; on one that is up it shuts the own end and puts the disconnect in
-abbrev pub shut_in : {M : Type 0} → LinkPhase → View M → View M
-shut_in Pending view = record view { phase = Cancelled }
-shut_in Up view = record view { own = Shut; outgoing = record view.outgoing { mark = marked view.outgoing.mark } }
-shut_in Cancelled view = view
+abbrev pub with_close_in : {M : Type 0} → LinkPhase → View M → View M
+with_close_in Pending view = record view { phase = Cancelled }
+with_close_in Up view = record view { own = Shut; outgoing = record view.outgoing { mark = marked view.outgoing.mark } }
+with_close_in Cancelled view = view
 
-abbrev pub shut : {M : Type 0} → View M → View M
-shut view = shut_in view.phase view
+abbrev pub with_close : {M : Type 0} → View M → View M
+with_close view = with_close_in view.phase view
 
 -- a fresh end that was heard on is open where the peer took the connection, else shut
 abbrev pub own_settled : Concern → Bool → End → End

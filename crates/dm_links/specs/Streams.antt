@@ -1,6 +1,7 @@
 -- Octets of a front message that were delivered: how many they may be, and that it makes no difference how a message
 -- was cut.
-use Rattle.std.specs.Prelude.{◌≡◌, ℕ, ◌+◌, ◌<◌, ◌≤◌, Bool, true, ◌&&◌, ◌==◌, nat_lt, IsTrue, IfSome, Some, List, [], ◌∷◌, map, slice_get}
+use Rattle.std.specs.Prelude.{◌≡◌, ℕ, ◌+◌, ◌<◌, ◌≤◌, Bool, true, ◌&&◌, ◌==◌, nat_lt, IsTrue, IfSome, Some, List, []}
+use Rattle.std.specs.Prelude.{◌∷◌, map, slice_get}
 use Rattle.std.specs.List.{list_all}
 use Rattle.dm_links.specs.Links.{Side, A, B, Up, Direction, Link}
 use Rattle.dm_links.specs.Peers.{Event, Action, Send, Acts, Peers}
@@ -21,7 +22,7 @@ abbrev pub is_cut_way : {M : Type 0} → (M → ℕ) → Direction M → Bool
 is_cut_way size d = are_sized size d.messages && is_cut size d.messages d.taken
 
 abbrev pub is_cut_link : {M : Type 0} → (M → ℕ) → Link M → Bool
-is_cut_link size l = is_cut_way size l.to_near && is_cut_way size l.to_far
+is_cut_link size l = is_cut_way size l.to_opener && is_cut_way size l.to_other
 
 abbrev pub AreCut : {P M : Type 0} → Peers P M → World P M → Type 0
 AreCut {P} {M} m w = (c : ℕ) (l : Link M) → slice_get w.links c ≡ Some l → IsTrue (is_cut_link m.size l)
@@ -54,10 +55,10 @@ abbrev pub whole_way : {M : Type 0} → Direction M → Direction M
 whole_way d = record d { taken = 0 }
 
 abbrev pub whole_link : {M : Type 0} → Link M → Link M
-whole_link l = record l { to_near = whole_way l.to_near; to_far = whole_way l.to_far }
+whole_link l = record l { to_opener = whole_way l.to_opener; to_other = whole_way l.to_other }
 
-abbrev pub whole : {P M : Type 0} → World P M → World P M
-whole w = with_links (map (λ l. whole_link l) w.links) w
+abbrev pub whole_world : {P M : Type 0} → World P M → World P M
+whole_world w = with_links (map (λ l. whole_link l) w.links) w
 
 -- a link that is up, with a front message in the direction to a side
 pub record IsFront {P M : Type 0} (w : World P M) (c : ℕ) (s : Side) (l : Link M) (x : M)
@@ -70,7 +71,7 @@ pub record IsFront {P M : Type 0} (w : World P M) (c : ℕ) (s : Side) (l : Link
 pub record IsPartOnly {P M : Type 0} (w : World P M) (after : After P M) : Type 0 where
   pub world : World P M
   pub is : after ≡ Done world []
-  pub same : whole world ≡ whole w
+  pub same : whole_world world ≡ whole_world w
 
 -- a piece that ends no message changes nothing else; one that ends its message is the delivery
 pub record IsPiece {P M : Type 0} (m : Peers P M) (w : World P M) (c : ℕ) (s : Side) (l : Link M) (x : M)
@@ -85,7 +86,7 @@ EachPieceAddsUp P M =
 
 -- an outcome but for the octets delivered
 abbrev pub whole_after : {P M : Type 0} → After P M → After P M
-whole_after (Done w put) = Done (whole w) put
+whole_after (Done w put) = Done (whole_world w) put
 whole_after Ignored = Ignored
 whole_after NoLink = NoLink
 
@@ -96,4 +97,4 @@ EachLossAddsUp P M =
     (m : Peers P M) (w : World P M) (c a b : ℕ) (l : Link M) → slice_get w.links c ≡ Some l →
     whole_after (happens m w (Loses c a b))
     ≡ whole_after
-    (happens m (whole w) (Loses c (a + (own_view A l).incoming.taken) (b + (own_view B l).incoming.taken)))
+    (happens m (whole_world w) (Loses c (a + (own_view A l).incoming.taken) (b + (own_view B l).incoming.taken)))

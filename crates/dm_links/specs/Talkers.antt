@@ -1,8 +1,10 @@
 -- The state machine with numbers as peers: a message is its word and the number of its request. It shows that peers as
 -- the quiet clause asks for them exist, and what the definitions say of two runs.
-use Rattle.std.specs.Prelude.{◌≡◌, ℕ, Bool, true, false, not, ◌&&◌, ◌||◌, if◌then◌else◌, is_none, Option, Some, None, IfSome, List, [], ◌∷◌, map, length}
+use Rattle.std.specs.Prelude.{◌≡◌, ℕ, Bool, true, false, not, ◌&&◌, ◌||◌, if◌then◌else◌, is_none, Option, Some, None}
+use Rattle.std.specs.Prelude.{IfSome, List, [], ◌∷◌, map, length}
 use Rattle.dm_machine.specs.declared.inputs.Word.{Word}
-use Rattle.dm_machine.specs.declared.inputs.Word.TheVariants.{Unreadable, Cer, Cea, CeaFailed, Dwr, Dwa, Dpr, Dpa, Other}
+use Rattle.dm_machine.specs.declared.inputs.Word.TheVariants.{Unreadable, Cer, Cea, CeaFailed, Dwr, Dwa, Dpr, Dpa}
+use Rattle.dm_machine.specs.declared.inputs.Word.TheVariants.{Other}
 use Rattle.dm_machine.specs.declared.inputs.Input.TheVariants as input
 use Rattle.dm_machine.specs.declared.outputs.Command.TheVariants as command
 use Rattle.dm_machine.specs.Connection.{Hold, NotHeld, hold_of}
@@ -10,7 +12,8 @@ use Rattle.dm_machine.specs.Moves.{Outcome, Moved, Refused}
 use Rattle.dm_machine.specs.Unread.{reads_first}
 use Rattle.dm_links.specs.Machine.{Conn, Node, Input, Command, outcome, closed_node}
 use Rattle.dm_links.specs.Links.{Side, A, B}
-use Rattle.dm_links.specs.Peers.{Event, Start, Stop, Timeout, Tick, Ack, Nack, Gone, Submit, Arrived, Action, Connect, Send, Close, Reply, Acts, Declines, Peers}
+use Rattle.dm_links.specs.Peers.{Event, Start, Stop, Timeout, Tick, Ack, Nack, Gone, Submit, Arrived, Action, Connect}
+use Rattle.dm_links.specs.Peers.{Send, Close, Reply, Acts, Declines, Peers}
 use Rattle.dm_links.specs.Peers as peers
 use Rattle.dm_links.specs.Worlds.{World, Message, Disconnect}
 use Rattle.dm_links.specs.Happens.{run}
@@ -24,8 +27,8 @@ pub record Note : Type 0 where
   pub word : Word
   pub number : ℕ
 
-abbrev pub note : Word → ℕ → Note
-note w n = record { word = w; number = n }
+abbrev pub note_of : Word → ℕ → Note
+note_of w n = record { word = w; number = n }
 
 pub record Talker : Type 0 where
   pub node : Node
@@ -39,40 +42,40 @@ is_unheld NotHeld = true
 is_unheld _ = false
 
 -- the first message of a new connection isn't read in some states
-abbrev pub is_unread : Talker → Conn → Bool
-is_unread p c = not (reads_first p.node.state) && is_unheld (hold_of p.node c)
+abbrev pub is_unread_by : Talker → Conn → Bool
+is_unread_by p c = not (reads_first p.node.state) && is_unheld (hold_of p.node c)
 
-abbrev pub input_at : Talker → Event Note → Input
-input_at p (Start c) = input.Start c
-input_at p (Stop cause) = input.Stop
-input_at p Timeout = input.Timeout
-input_at p Tick = input.Tick
-input_at p (Ack c) = input.Ack c
-input_at p (Nack c) = input.Nack c
-input_at p (Gone c) = input.Gone c
-input_at p (Submit x) = input.Submit
-input_at p (Arrived c x) = if is_unread p c then input.Heard c Unreadable else input.Heard c x.word
+abbrev pub talker_input : Talker → Event Note → Input
+talker_input p (Start c) = input.Start c
+talker_input p (Stop cause) = input.Stop
+talker_input p Timeout = input.Timeout
+talker_input p Tick = input.Tick
+talker_input p (Ack c) = input.Ack c
+talker_input p (Nack c) = input.Nack c
+talker_input p (Gone c) = input.Gone c
+talker_input p (Submit x) = input.Submit
+talker_input p (Arrived c x) = if is_unread_by p c then input.Heard c Unreadable else input.Heard c x.word
 
-abbrev pub heard_at : Talker → Event Note → Option ℕ
-heard_at p (Arrived c x) = if is_unread p c then None else Some x.number
-heard_at p _ = None
+abbrev pub talker_heard : Talker → Event Note → Option ℕ
+talker_heard p (Arrived c x) = if is_unread_by p c then None else Some x.number
+talker_heard p _ = None
 
-abbrev pub number_of : Option ℕ → ℕ
-number_of None = 0
-number_of (Some n) = n
+abbrev pub number_or_zero : Option ℕ → ℕ
+number_or_zero None = 0
+number_or_zero (Some n) = n
 
-abbrev pub action_at : Talker → Option ℕ → Command → Action Note
-action_at p heard (command.Connect c) = Connect c
-action_at p heard (command.SendCer c) = Send c (note Cer p.next)
-action_at p heard (command.SendCea c) = Send c (note Cea (number_of (cer_to_answer p.waiting heard)))
-action_at p heard (command.SendRefusal c) = Send c (note CeaFailed 0)
-action_at p heard (command.SendDwr c) = Send c (note Dwr 0)
-action_at p heard (command.SendDwa c) = Send c (note Dwa 0)
-action_at p heard (command.SendDpr c) = Send c (note Dpr 0)
-action_at p heard (command.SendDpa c) = Send c (note Dpa 0)
-action_at p heard (command.SendSubmit c) = Send c (note Other 0)
-action_at p heard (command.Close c) = Close c
-action_at p heard command.Up = peers.Up (note Other 0)
+abbrev pub talker_action : Talker → Option ℕ → Command → Action Note
+talker_action p heard (command.Connect c) = Connect c
+talker_action p heard (command.SendCer c) = Send c (note_of Cer p.next)
+talker_action p heard (command.SendCea c) = Send c (note_of Cea (number_or_zero (cer_to_answer p.waiting heard)))
+talker_action p heard (command.SendRefusal c) = Send c (note_of CeaFailed 0)
+talker_action p heard (command.SendDwr c) = Send c (note_of Dwr 0)
+talker_action p heard (command.SendDwa c) = Send c (note_of Dwa 0)
+talker_action p heard (command.SendDpr c) = Send c (note_of Dpr 0)
+talker_action p heard (command.SendDpa c) = Send c (note_of Dpa 0)
+talker_action p heard (command.SendSubmit c) = Send c (note_of Other 0)
+talker_action p heard (command.Close c) = Close c
+talker_action p heard command.Up = peers.Up (note_of Other 0)
 
 abbrev pub talker_after : Talker → Option ℕ → List Command → Node → Talker
 talker_after p heard commands n =
@@ -85,19 +88,19 @@ talker_after p heard commands n =
     }
 
 abbrev pub talk_by : Talker → Option ℕ → Outcome → Reply Talker Note
-talk_by p heard (Moved commands n) = Acts (map (action_at p heard) commands) (talker_after p heard commands n)
+talk_by p heard (Moved commands n) = Acts (map (talker_action p heard) commands) (talker_after p heard commands n)
 talk_by p heard (Refused r) = Declines
 
 -- a closed one, that uses a number
-abbrev pub talker : Bool → ℕ → Talker
-talker wins next = record { node = closed_node; wins = wins; next = next; awaited = None; waiting = None }
+abbrev pub closed_talker : Bool → ℕ → Talker
+closed_talker wins next = record { node = closed_node; wins = wins; next = next; awaited = None; waiting = None }
 
 abbrev pub talkers : Peers Talker Note
 talkers =
     record {
       node_of = λ p. p.node;
-      reply = λ p e. talk_by p (heard_at p e) (outcome p.node (input_at p e) p.wins);
-      reset = λ p. talker p.wins p.next;
+      reply = λ p e. talk_by p (talker_heard p e) (outcome p.node (talker_input p e) p.wins);
+      reset = λ p. closed_talker p.wins p.next;
       size = λ x. 1;
     }
 
@@ -106,8 +109,8 @@ abbrev pub is_a : Side → Bool
 is_a A = true
 is_a B = false
 
-abbrev pub talks : Talks Talker Note Bool ℕ
-talks =
+abbrev pub talk_of_talkers : Talks Talker Note Bool ℕ
+talk_of_talkers =
     record {
       config_of = λ p. p.wins;
       next_of = λ p. p.next;
@@ -117,17 +120,17 @@ talks =
       config = is_a;
       wins = is_a;
       is_number = λ n. true;
-      cer = λ c n. note Cer n;
-      cea = λ c n. note Cea n;
+      cer = λ c n. note_of Cer n;
+      cea = λ c n. note_of Cea n;
       cer_header = λ n. n;
       cea_header = λ n. n;
     }
 
 abbrev pub TalkersAreElecting : Type 0
-TalkersAreElecting = IsElecting talkers talks
+TalkersAreElecting = IsElecting talkers talk_of_talkers
 
 abbrev pub two_talkers : World Talker Note
-two_talkers = world_of (talker true 7) (talker false 8)
+two_talkers = world_of (closed_talker true 7) (closed_talker false 8)
 
 -- one side starts: its CER and the CEA are put in on its link. Both start, and the link of the side that doesn't win is
 -- kept: a CER on each link, the winner's disconnect of its own, its CEA on the other, and the disconnect in turn
@@ -136,8 +139,9 @@ pub record TwoTalks : Type 0 where
   pub its_link : kept talkers is_a two_talkers one_starts ≡ Some (record { opener = A; link = 0 })
   pub both_sides : IfSome (run talkers two_talkers both_start) (λ r. (is_quiet r.world ≡ true) × (length r.put ≡ 5))
   pub one_course : IfSome (run talkers two_talkers one_starts)
-      (λ r. r.put ≡ Message 0 B (note Cer 7) ∷ Message 0 A (note Cea 7) ∷ [])
+      (λ r. r.put ≡ Message 0 B (note_of Cer 7) ∷ Message 0 A (note_of Cea 7) ∷ [])
   pub both_courses : IfSome (run talkers two_talkers both_start)
-      (λ r. r.put ≡ Message 0 B (note Cer 7) ∷ Message 1 A (note Cer 8) ∷ Disconnect 0 B ∷ Message 1 B (note Cea 8)
+      (λ r. r.put ≡ Message 0 B (note_of Cer 7) ∷ Message 1 A (note_of Cer 8) ∷ Disconnect 0 B ∷
+      Message 1 B (note_of Cea 8)
       ∷ Disconnect 0 A ∷ [])
   pub kept_link : kept talkers is_a two_talkers both_start ≡ Some (record { opener = B; link = 1 })

@@ -1,10 +1,14 @@
 -- What the peers of a run were told and what they did, in order: what happens as `happens` and `run` say it.
-use Rattle.std.specs.Prelude.{ℕ, ◌+◌, nat_lt, ◌==◌, if◌then◌else◌, Option, Some, None, List, [], ◌∷◌, ◌++◌, length, slice_get}
+use Rattle.std.specs.Prelude.{ℕ, ◌+◌, nat_lt, ◌==◌, if◌then◌else◌, Option, Some, None, List, [], ◌∷◌, ◌++◌, length}
+use Rattle.std.specs.Prelude.{slice_get}
 use Rattle.dm_links.specs.Machine.{conn}
 use Rattle.dm_links.specs.Links.{Side, End, Shut, Link}
-use Rattle.dm_links.specs.Peers.{Event, Start, Stop, Timeout, Tick, Ack, Nack, Gone, Submit, Arrived, Action, Reply, Acts, Declines, Peers}
+use Rattle.dm_links.specs.Peers.{Event, Start, Stop, Timeout, Tick, Ack, Nack, Gone, Submit, Arrived, Action, Reply}
+use Rattle.dm_links.specs.Peers.{Acts, Declines, Peers}
 use Rattle.dm_links.specs.Worlds.{World, peer_at}
-use Rattle.dm_links.specs.Happens.{Happening, Starts, Stops, TimesOut, Ticks, Restarts, Acks, Nacks, Delivers, Pieces, Loses, Submits, Next, NextMessage, NextDisconnect, NextNothing, next_in, if_up, if_pending, own_view, happens, world_after}
+use Rattle.dm_links.specs.Happens.{Happening, Starts, Stops, TimesOut, Ticks, Restarts, Acks, Nacks, Delivers, Pieces}
+use Rattle.dm_links.specs.Happens.{Loses, Submits, Next, NextMessage, NextDisconnect, NextNothing, next_in, if_up}
+use Rattle.dm_links.specs.Happens.{if_pending, own_view, happens, world_after}
 
 -- a side's peer was told an event, and did this
 pub record Turn (M : Type 0) : Type 0 where

@@ -1,10 +1,12 @@
 -- A world: two peers and their links; what an event of a side does to them, and what is put into directions.
 use Rattle.std.specs.Prelude.{ℕ, zero, suc, Bool, true, false, List, [], ◌∷◌, ◌++◌, Option, Some, None, slice_get}
 use Rattle.dm_links.specs.Machine.{Node, AcksIt, NacksIt, EndsIt, HeardOnIt, tie_of, is_held}
-use Rattle.dm_links.specs.Links.{Side, A, B, flip, opens, LinkPhase, Up, Fresh, Mark, NoMark, Link, new_link, view_of, by_side}
-use Rattle.dm_links.specs.Peers.{Event, Start, Ack, Nack, Gone, Arrived, Action, Connect, Send, Close, Reply, Acts, Declines, Peers}
+use Rattle.dm_links.specs.Links.{Side, A, B, flip, opens, LinkPhase, Up, Fresh, Mark, NoMark, Link, new_link, view_of}
+use Rattle.dm_links.specs.Links.{by_side}
+use Rattle.dm_links.specs.Peers.{Event, Start, Ack, Nack, Gone, Arrived, Action, Connect, Send, Close, Reply, Acts}
+use Rattle.dm_links.specs.Peers.{Declines, Peers}
 use Rattle.dm_links.specs.Peers as peers
-use Rattle.dm_links.specs.Steps.{entered, said, shut, settled}
+use Rattle.dm_links.specs.Steps.{entered, with_sent, with_close, settled}
 
 pub record World (P M : Type 0) : Type 0 where
   pub a : P
@@ -45,8 +47,8 @@ enter s _ links = links
 -- the links after the actions of a side's peer, one after the other
 abbrev pub perform : {M : Type 0} → Side → List (Action M) → List (Link M) → List (Link M)
 perform s [] links = links
-perform s (Send c m ∷ actions) links = perform s actions (change_at c.0 (by_side s (said m)) links)
-perform s (Close c ∷ actions) links = perform s actions (change_at c.0 (by_side s shut) links)
+perform s (Send c m ∷ actions) links = perform s actions (change_at c.0 (by_side s (with_sent m)) links)
+perform s (Close c ∷ actions) links = perform s actions (change_at c.0 (by_side s with_close) links)
 perform s (Connect c ∷ actions) links = perform s actions links
 perform s (peers.Up m ∷ actions) links = perform s actions links
 
@@ -70,10 +72,10 @@ abbrev pub puts_of : {M : Type 0} → Side → List (Action M) → List (Link M)
 puts_of s [] links = []
 puts_of s (Send c m ∷ actions) links =
     put_if s (Message c.0 (flip s) m) (slice_get links c.0) ++ puts_of s actions
-    (change_at c.0 (by_side s (said m)) links)
+    (change_at c.0 (by_side s (with_sent m)) links)
 puts_of s (Close c ∷ actions) links =
     put_if s (Disconnect c.0 (flip s)) (slice_get links c.0) ++ puts_of s actions
-    (change_at c.0 (by_side s shut) links)
+    (change_at c.0 (by_side s with_close) links)
 puts_of s (Connect c ∷ actions) links = puts_of s actions links
 puts_of s (peers.Up m ∷ actions) links = puts_of s actions links
 
@@ -93,15 +95,15 @@ pub data After (P M : Type 0) : Type 0 where
   NoLink : After P M
 
 -- a side's peer takes an event
-abbrev pub answered : {P M : Type 0} → Peers P M → Side → Event M → World P M → Reply P M → After P M
-answered m s e w Declines = Ignored
-answered m s e w (Acts actions p) =
+abbrev pub after_reply : {P M : Type 0} → Peers P M → Side → Event M → World P M → Reply P M → After P M
+after_reply m s e w Declines = Ignored
+after_reply m s e w (Acts actions p) =
     Done (with_peer s p (settle s e (m.node_of p) (perform s actions (enter s e w.links))) w)
     (puts_at_entry s e w.links ++ puts_of s actions (enter s e w.links))
 
-abbrev pub told : {P M : Type 0} → Peers P M → Side → Event M → World P M → After P M
-told m s e w = answered m s e w (m.reply (peer_at s w) e)
+abbrev pub tell : {P M : Type 0} → Peers P M → Side → Event M → World P M → After P M
+tell m s e w = after_reply m s e w (m.reply (peer_at s w) e)
 
 -- what comes to a shut end is dropped
-abbrev pub dropped : {P M : Type 0} → Side → Event M → World P M → After P M
-dropped s e w = Done (with_links (enter s e w.links) w) []
+abbrev pub after_drop : {P M : Type 0} → Side → Event M → World P M → After P M
+after_drop s e w = Done (with_links (enter s e w.links) w) []

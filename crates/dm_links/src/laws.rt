@@ -46,11 +46,11 @@ pub fn each_run_is_promised<P, M>()
     each_step_keeps_shape();
 }
 
-/// After every list of happenings, losses and restarts too, what a side's user was handed up on a link is a front of what
-/// the other side's user submitted on it: each message once, in order, as it was, and nothing else. Where the side is
-/// open on the link and the link had no loss, the rest is what is under way.
+/// After every list of happenings, losses and restarts too, what a side's user was handed up on a link is a front of
+/// what the other side's user submitted on it: each message once, in order, as it was, and nothing else. Where the side
+/// is open on the link and the link had no loss, the rest is what is under way.
 ///
-/// It holds of peers that send what is submitted and hand up what comes (`Carries`).
+/// It holds of peers that send what is submitted and hand up what comes (`CarriesMessages`).
 pub fn each_run_delivers<P, M>()
     ensures { EachRunDelivers P M }
 {
@@ -148,8 +148,8 @@ pub fn kinds_are_a_machine()
     ensures { KindsAreAMachine }
 {}
 
-/// What the definitions say of two runs: one side starts, and it is the initiator; both start, and the connection that the greater
-/// host accepts is kept (RFC 6733, 5.6.4).
+/// What the definitions say of two runs: one side starts, and it is the initiator; both start, and the connection that
+/// the greater host accepts is kept (RFC 6733, 5.6.4).
 pub fn two_runs()
     ensures { TwoRuns }
 {}

@@ -1,5 +1,5 @@
-use Rattle.dm_links.proofs.Clearing.{can_clear}
+use Rattle.dm_links.proofs.Clearing.{can_clear_proof}
 use Rattle.dm_links.proofs.laws.each_world_can_clear.Goals as goal
 
 pub returns : goal.returns
-returns g c = can_clear
+returns g c = can_clear_proof
