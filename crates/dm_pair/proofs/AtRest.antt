@@ -2,13 +2,13 @@
 use Rattle.std.proofs.Common.{ℕ, List, refl}
 use Rattle.dm_peer.specs.declared.peer.Peer.{Peer}
 use Rattle.dm_links.specs.Worlds.{World}
-use Rattle.dm_links.specs.Facts.{IsSound}
+use Rattle.dm_links.specs.Facts.{IsSoundWorld}
 use Rattle.dm_links.specs.Settled.{IsAtRest}
 use Rattle.dm_pair.specs.Octets.{octet_peers}
 use Rattle.dm_pair.specs.Talking.{ArePeers, octet_talks}
 use Rattle.dm_pair.specs.Laws.{AreClosed}
 
-pub are_at_rest : (w : World Peer (List ℕ)) → IsSound octet_peers w → ArePeers w → AreClosed w →
+pub are_at_rest : (w : World Peer (List ℕ)) → IsSoundWorld octet_peers w → ArePeers w → AreClosed w →
     IsAtRest octet_peers (octet_talks w.a.config w.b.config) w
 are_at_rest w sound peers closed =
     record {

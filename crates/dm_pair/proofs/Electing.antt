@@ -37,7 +37,7 @@ use Rattle.dm_peer.specs.After as after
 use Rattle.dm_links.specs.Links.{Side, A, B, flip}
 use Rattle.dm_links.specs.Peers.{Event}
 use Rattle.dm_machine.specs.Awaiting.{holds_cer}
-use Rattle.dm_links.specs.Electing.{IsPeerOf, Reads, starts, acks, ends, asks, passes, answers, RepliesAs}
+use Rattle.dm_links.specs.Electing.{IsPeerOf, IsReadAs, reads_start, reads_ack, reads_end, reads_cer, leaves_cer, reads_cea, RepliesAs}
 use Rattle.dm_pair.specs.Octets.{as_reply, octet_peers}
 use Rattle.dm_pair.specs.Talking.{ArePaired, config_at, is_number, is_standing, cer_octets, cea_octets, octet_talks}
 use Rattle.dm_pair.specs.Laws.{OctetsAreElecting}
@@ -153,13 +153,13 @@ stepped below a b s p e h is steps_so =
 octet_replies : Below → (a b : Config) → ArePaired a b →
     (s : Side) (p : Peer) (e : Event (List ℕ)) (i : Input) (heard : Option Header) →
     IsPeerOf (octet_talks a b) s p →
-    Reads octet_peers (octet_talks a b) s p e i heard →
+    IsReadAs octet_peers (octet_talks a b) s p e i heard →
     RepliesAs octet_peers (octet_talks a b) s p heard (outcome p.standing.core i (wins (config_at a b s)))
     (octet_peers.reply p e)
-octet_replies below a b paired s p e i heard is (starts c) = stepped below a b s p (told.Start c) None is refl
-octet_replies below a b paired s p e i heard is (acks c) = stepped below a b s p (told.Ack c) None is refl
-octet_replies below a b paired s p e i heard is (ends c) = stepped below a b s p (told.Gone c) None is refl
-octet_replies below a b paired s p e i heard is (asks c n number first new) =
+octet_replies below a b paired s p e i heard is (reads_start c) = stepped below a b s p (told.Start c) None is refl
+octet_replies below a b paired s p e i heard is (reads_ack c) = stepped below a b s p (told.Ack c) None is refl
+octet_replies below a b paired s p e i heard is (reads_end c) = stepped below a b s p (told.Gone c) None is refl
+octet_replies below a b paired s p e i heard is (reads_cer c n number first new) =
     let x = cer_octets (config_at a b (flip s)) n in
     let h = good (request_header capabilities_exchange n) Cer in
     let from = config_at a b (flip s) in
@@ -169,12 +169,12 @@ octet_replies below a b paired s p e i heard is (asks c n number first new) =
     stepped below a b s p (told.Arrived c x) (Some h) is
     (acts_heard p c x h (reads_new p.standing.core.state (hold_of p.standing.core c) first new) hears
     (λ k same. new_kept p c new k))
-octet_replies below a b paired s p e i heard is (passes c n first new) =
+octet_replies below a b paired s p e i heard is (leaves_cer c n first new) =
     let x = cer_octets (config_at a b (flip s)) n in
     stepped below a b s p (told.Arrived c x) None is
     (if_true (is_unread p.standing.core.state (hold_of p.standing.core c)) _ _
     (passes_new p.standing.core.state (hold_of p.standing.core c) first new))
-octet_replies below a b paired s p e i heard is (answers c n number awaited made) =
+octet_replies below a b paired s p e i heard is (reads_cea c n number awaited made) =
     let x = cea_octets (config_at a b (flip s)) n in
     let h = good (answer_header false (request_header capabilities_exchange n)) Cea in
     let from = config_at a b (flip s) in

@@ -20,7 +20,8 @@ use Rattle.dm_machine.specs.Moves as moves
 use Rattle.dm_machine.specs.Moves.{outcome}
 use Rattle.dm_peer.specs.Configs.{wins}
 use Rattle.dm_links.specs.Machine.{conn}
-use Rattle.dm_links.specs.Delivery.{is_open_hold, is_done_hold, is_unmade}
+use Rattle.dm_links.specs.Delivery.{is_done_hold, is_unmade}
+use Rattle.dm_machine.specs.Upward.{is_open_hold}
 use Rattle.dm_pair.proofs.Silent.{is_silent}
 use Rattle.dm_pair.proofs.Wording.{silent_step}
 

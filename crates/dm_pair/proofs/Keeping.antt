@@ -22,9 +22,9 @@ use Rattle.dm_peer.specs.After.{fresh}
 use Rattle.dm_links.specs.Machine.{conn}
 use Rattle.dm_links.specs.Links.{Side, A, B, LinkPhase, Pending, Up, Cancelled, End, Fresh, Open, Shut, Link}
 use Rattle.dm_links.specs.Peers.{Event, Start, Stop, Timeout, Tick, Ack, Nack, Gone, Submit, Arrived}
-use Rattle.dm_links.specs.Worlds.{World, peer_at, with_peer, with_links, After, Done, Ignored, answered}
+use Rattle.dm_links.specs.Worlds.{World, peer_at, with_peer, with_links, After, Done, Ignored, after_reply}
 use Rattle.dm_links.specs.Worlds as worlds
-use Rattle.dm_links.specs.Happens.{Starts, Stops, TimesOut, Ticks, Restarts, Acks, Nacks, Delivers, Pieces, Loses, Submits, Next, NextMessage, NextDisconnect, NextNothing, next_in, comes, delivered, pieced, are_shut, restart_links, if_up, if_pending, at_link, own_view, world_after}
+use Rattle.dm_links.specs.Happens.{Starts, Stops, TimesOut, Ticks, Restarts, Acks, Nacks, Delivers, Pieces, Loses, Submits, Next, NextMessage, NextDisconnect, NextNothing, next_in, comes, deliver_next, deliver_part, are_shut, restart_links, if_up, if_pending, at_link, own_view, world_after}
 use Rattle.dm_machine.specs.Awaiting.{holds_cer}
 use Rattle.dm_links.specs.Joining.{WinnerDoesNotReturn}
 use Rattle.dm_pair.specs.Octets.{of_event, as_reply, octet_peers}
@@ -135,12 +135,12 @@ links_kept links w are =
     }
 
 answered_kept : (s : Side) (e : Event (List ℕ)) (w : World Peer (List ℕ)) (o : Outcome) → ArePeers w →
-    Keeps (peer_at s w) o → ArePeers (world_after w (answered octet_peers s e w (as_reply o)))
+    Keeps (peer_at s w) o → ArePeers (world_after w (after_reply octet_peers s e w (as_reply o)))
 answered_kept s e w (Moved actions next) are keeps = peer_kept s next _ w are keeps.0 keeps.1
 answered_kept s e w (Refused f) are keeps = are
 
 told_kept : Machine → (s : Side) (e : Event (List ℕ)) (w : World Peer (List ℕ)) → ArePeers w →
-    ArePeers (world_after w (worlds.told octet_peers s e w))
+    ArePeers (world_after w (worlds.tell octet_peers s e w))
 told_kept machine s e w are =
     answered_kept s e w (acts (peer_at s w) (of_event e)) are
     (acts_keep machine (peer_at s w) (of_event e) (kept_at s w are))
@@ -152,7 +152,7 @@ comes_kept machine s e Fresh w are = told_kept machine s e w are
 comes_kept machine s e Open w are = told_kept machine s e w are
 
 delivered_kept : Machine → (c : ℕ) (s : Side) (end : End) (n : Next (List ℕ)) (w : World Peer (List ℕ)) →
-    ArePeers w → ArePeers (world_after w (delivered octet_peers c s end n w))
+    ArePeers w → ArePeers (world_after w (deliver_next octet_peers c s end n w))
 delivered_kept machine c s end NextNothing w are = are
 delivered_kept machine c s end (NextMessage x) w are = comes_kept machine s (Arrived (conn c) x) end w are
 delivered_kept machine c s end NextDisconnect w are = comes_kept machine s (Gone (conn c)) end w are
@@ -184,7 +184,7 @@ there_kept w None f are each = are
 there_kept w (Some l) f are each = each l
 
 pieced_kept : Machine → (c : ℕ) (s : Side) (k : ℕ) (end : End) (taken : ℕ) (n : Next (List ℕ))
-    (w : World Peer (List ℕ)) → ArePeers w → AfterKept w (pieced octet_peers c s k end taken n w)
+    (w : World Peer (List ℕ)) → ArePeers w → AfterKept w (deliver_part octet_peers c s k end taken n w)
 pieced_kept machine c s k end taken NextNothing w are = are
 pieced_kept machine c s k end taken NextDisconnect w are = are
 pieced_kept machine c s k end taken (NextMessage x) w are =
@@ -247,4 +247,4 @@ happening_keeps_peers machine w (Pieces c s k) are =
     (pieced_kept machine c s k v.own v.incoming.taken (next_in v.incoming.messages v.incoming.mark) w are)))
 happening_keeps_peers machine w (Loses c a b) are =
     there_kept w (slice_get w.links c) _ are (λ l.
-    up_kept w l.phase _ are (if_kept w (are_shut l.near l.far) Ignored _ are (links_kept _ w are)))
+    up_kept w l.phase _ are (if_kept w (are_shut l.opener_end l.other_end) Ignored _ are (links_kept _ w are)))

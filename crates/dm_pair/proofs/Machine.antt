@@ -15,7 +15,7 @@ use Rattle.dm_peer.specs.Acts.{Outcome, Moved, Refused, acts, input_of, is_made}
 use Rattle.dm_peer.specs.Steps as peer
 use Rattle.dm_links.specs.Machine.{conn, Elsewhere, HeardOnIt, concern_as, concern_of, tie_as, tie_of}
 use Rattle.dm_links.specs.Peers.{Event, Start, Stop, Timeout, Tick, Ack, Nack, Gone, Submit, Arrived, concern_by, deed_of}
-use Rattle.dm_links.specs.Follows.{Steps, Drops, is_droppable, Follows, IsMachine}
+use Rattle.dm_links.specs.Follows.{StepsAsMachine, Drops, is_droppable, FollowsMachine, IsMachine}
 use Rattle.dm_pair.proofs.Declining.{same_input, Declined, octets_decline}
 use Rattle.dm_pair.specs.Octets.{of_event, as_action, as_actions, as_reply, octet_peers}
 
@@ -50,7 +50,7 @@ concerns_same (Submit s) h c = refl
 concerns_same (Arrived d s) h c = named_as (d.0 == c.0) (machine.HeardOnIt (word_heard h))
 
 step_taken : (p next : Peer) (e : Event (List ℕ)) (actions : List declared_action.Action) →
-    peer.IsStep p (of_event e) actions next → Steps octet_peers p e (as_actions actions) next
+    peer.IsStep p (of_event e) actions next → StepsAsMachine octet_peers p e (as_actions actions) next
 step_taken p next e actions step =
     record {
       input = input_of (of_event e) step.heard;
@@ -125,7 +125,7 @@ drop_taken p next e actions drop =
     }
 
 reply_follows : (p : Peer) (e : Event (List ℕ)) (o : Outcome) → peer.Follows p (of_event e) o → Declined p e o →
-    Follows octet_peers p e (as_reply o)
+    FollowsMachine octet_peers p e (as_reply o)
 reply_follows p e (Moved actions next) (inl step) may = inl (step_taken p next e actions step)
 reply_follows p e (Moved actions next) (inr drop) may = inr (drop_taken p next e actions drop)
 reply_follows p e (Refused fault) h may = may

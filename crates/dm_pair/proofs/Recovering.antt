@@ -5,9 +5,9 @@ use Rattle.dm_wire.specs.declared.message.Header.{Header}
 use Rattle.dm_peer.specs.declared.config.Config.{Config}
 use Rattle.dm_peer.specs.declared.peer.Peer.{Peer}
 use Rattle.dm_links.specs.Follows.{IsMachine}
-use Rattle.dm_links.specs.Facts.{IsSound}
+use Rattle.dm_links.specs.Facts.{IsSoundWorld}
 use Rattle.dm_links.specs.Worlds.{World, After, Done, Ignored, NoLink}
-use Rattle.dm_links.specs.Happens.{Happening, happens, world_after, Ran, ran_on, run_from, run}
+use Rattle.dm_links.specs.Happens.{Happening, happens, world_after, RunEnd, ran_on, run_from, run}
 use Rattle.dm_links.specs.Laws.{ClosedIsSound, HappeningKeepsSound, world_of}
 use Rattle.dm_links.specs.Recovering.{EachWorldCanOpen, ResetKeepsPeer}
 use Rattle.dm_pair.specs.Octets.{octet_peers}
@@ -38,15 +38,15 @@ pub record RunLaws : Type 0 where
 
 -- a sound world of such peers
 abbrev IsPeerWorld : World Peer (List ℕ) → Type 0
-IsPeerWorld w = IsSound octet_peers w × ArePeers w
+IsPeerWorld w = IsSoundWorld octet_peers w × ArePeers w
 
-ran_good : (r : Ran Peer (List ℕ)) (o : After Peer (List ℕ)) → IsPeerWorld (world_after r.world o) →
+ran_good : (r : RunEnd Peer (List ℕ)) (o : After Peer (List ℕ)) → IsPeerWorld (world_after r.world o) →
     IfSome (ran_on r o) (λ z. IsPeerWorld z.world)
 ran_good r (Done next put) good = good
 ran_good r Ignored good = good
 ran_good r NoLink good = tt
 
-run_good : RunLaws → (o : Option (Ran Peer (List ℕ))) (hs : List (Happening (List ℕ))) →
+run_good : RunLaws → (o : Option (RunEnd Peer (List ℕ))) (hs : List (Happening (List ℕ))) →
     IfSome o (λ r. IsPeerWorld r.world) → IfSome (run_from octet_peers o hs) (λ r. IsPeerWorld r.world)
 run_good laws None hs good = tt
 run_good laws (Some r) [] good = good

@@ -23,7 +23,8 @@ use Rattle.dm_peer.specs.Configs.{wins}
 use Rattle.dm_peer.specs.Sent.{actions_of}
 use Rattle.dm_peer.specs.Acts.{Refused, turned, outcome_of, steps, can_submit}
 use Rattle.dm_links.specs.Peers.{Action, Acts, Submit}
-use Rattle.dm_links.specs.Delivery.{is_open_hold, IsSubmitted}
+use Rattle.dm_links.specs.Delivery.{SendsSubmitted}
+use Rattle.dm_machine.specs.Upward.{is_open_hold}
 use Rattle.dm_pair.specs.Octets.{as_actions, as_reply, octet_peers}
 use Rattle.dm_pair.specs.Carrying.{is_app}
 use Rattle.dm_pair.proofs.Replying.{turned_is}
@@ -50,7 +51,7 @@ by_form n (closing role x) w h = cc
 by_outcome : (p next : Peer) (x : List ℕ) (actions : List (Action (List ℕ))) (o : moves.Outcome) →
     SendsAt p.standing.core o → is_app x ≡ true →
     as_reply (outcome_of p (told.Submit x) None o) ≡ Acts actions next →
-    IsSubmitted is_app p.standing.core x actions
+    SendsSubmitted is_app p.standing.core x actions
 by_outcome p next x actions (moves.Moved commands core) sends app is =
     let e : told.PeerEvent = told.Submit x in
     let same : as_actions (actions_of p e None commands) ≡ actions = cc in
@@ -66,7 +67,7 @@ by_tests : (p next : Peer) (x : List ℕ) (actions : List (Action (List ℕ))) (
     (b ≡ true → SendsAt p.standing.core (turned p.standing.core input.Submit (wins p.config))) →
     (can ≡ true → is_app x ≡ true) →
     as_reply (if b then (if can then steps p (told.Submit x) None else Refused BadSubmit) else Refused NotOpen)
-    ≡ Acts actions next → IsSubmitted is_app p.standing.core x actions
+    ≡ Acts actions next → SendsSubmitted is_app p.standing.core x actions
 by_tests p next x actions true true sends app is =
     by_outcome p next x actions (turned p.standing.core input.Submit (wins p.config)) (sends refl) (app refl) is
 by_tests p next x actions true false sends app is = cc
@@ -74,7 +75,7 @@ by_tests p next x actions false can sends app is = cc
 
 pub octets_submit : EachShapeIsAForm → (p next : Peer) (x : List ℕ) (actions : List (Action (List ℕ))) →
     is_shaped (octet_peers.node_of p) ≡ true → octet_peers.reply p (Submit x) ≡ Acts actions next →
-    IsSubmitted is_app (octet_peers.node_of p) x actions
+    SendsSubmitted is_app (octet_peers.node_of p) x actions
 octets_submit form p next x actions shaped is =
     let n = p.standing.core in
     let w = wins p.config in

@@ -11,7 +11,7 @@ use Rattle.dm_links.specs.Links.{Side}
 use Rattle.dm_links.specs.Happens.{Happening, run}
 use Rattle.dm_links.specs.Laws.{world_of}
 use Rattle.dm_links.specs.Turns.{all_turns}
-use Rattle.dm_links.specs.Delivery.{submitted, raised, loses, Carries, IsDelivered}
+use Rattle.dm_links.specs.Delivery.{submitted_on, handed_up_on, has_loss_of, CarriesMessages, DeliversInOrder}
 use Rattle.dm_pair.specs.Octets.{octet_peers}
 use Rattle.dm_pair.specs.Laws.{fresh_peer}
 
@@ -30,7 +30,7 @@ is_waiting_well p = waits_well (holds_cer p.standing.core.state) p.standing.wait
 
 -- peers over octets carry messages of applications
 abbrev pub OctetsCarry : Type 0
-OctetsCarry = Carries octet_peers is_app is_waiting_well
+OctetsCarry = CarriesMessages octet_peers is_app is_waiting_well
 
 -- two new peers, whatever their configurations, after every list of happenings: what was handed up to a side on a link
 -- is a front of what the other side submitted on it; where the side is open on it and it had no loss, the rest is under
@@ -40,4 +40,4 @@ EachOctetRunDelivers =
     (a b : Config) (hs : List (Happening (List ℕ))) (t : Side) (c : ℕ) →
     IfSome (run octet_peers (world_of (fresh_peer a) (fresh_peer b)) hs)
     (λ r. let us = all_turns octet_peers (world_of (fresh_peer a) (fresh_peer b)) hs in
-    IsDelivered octet_peers is_app r.world t c (loses c hs) (submitted t c us) (raised t c us))
+    DeliversInOrder octet_peers is_app r.world t c (has_loss_of c hs) (submitted_on t c us) (handed_up_on t c us))

@@ -7,10 +7,10 @@ use Rattle.dm_peer.specs.After.{fresh}
 use Rattle.dm_links.specs.Laws.{world_of}
 use Rattle.dm_links.specs.Worlds.{World}
 use Rattle.dm_links.specs.Happens.{Happening, happens, world_after, run}
-use Rattle.dm_links.specs.Facts.{IsSound}
+use Rattle.dm_links.specs.Facts.{IsSoundWorld}
 use Rattle.dm_links.specs.Quiet.{is_quiet, is_clean}
 use Rattle.dm_links.specs.Electing.{IsElecting}
-use Rattle.dm_links.specs.Settled.{Settled}
+use Rattle.dm_links.specs.Settled.{IsSettledRun}
 use Rattle.dm_links.specs.Falling.{CanFallQuiet, FallsQuiet}
 use Rattle.dm_links.specs.Streams.{IsSized}
 use Rattle.dm_pair.specs.Octets.{octet_peers}
@@ -45,21 +45,21 @@ pub record AreClosed (w : World Peer (List ℕ)) : Type 0 where
 -- what each clean run of them comes to
 abbrev pub EachOctetRunSettles : Type 0
 EachOctetRunSettles =
-    (w : World Peer (List ℕ)) → IsSound octet_peers w → ArePeers w → AreClosed w → (hs : List (Happening (List ℕ))) →
+    (w : World Peer (List ℕ)) → IsSoundWorld octet_peers w → ArePeers w → AreClosed w → (hs : List (Happening (List ℕ))) →
     IsTrue (is_clean hs) →
-    IfSome (run octet_peers w hs) (λ r. Settled octet_peers (octet_talks w.a.config w.b.config) w hs r)
+    IfSome (run octet_peers w hs) (λ r. IsSettledRun octet_peers (octet_talks w.a.config w.b.config) w hs r)
 
 -- each clean run of them falls quiet, in whatever order things come
 abbrev pub EachOctetRunFallsQuiet : Type 0
 EachOctetRunFallsQuiet =
-    (w : World Peer (List ℕ)) → IsSound octet_peers w → ArePeers w → AreClosed w → (hs : List (Happening (List ℕ))) →
+    (w : World Peer (List ℕ)) → IsSoundWorld octet_peers w → ArePeers w → AreClosed w → (hs : List (Happening (List ℕ))) →
     IsTrue (is_clean hs) →
     IfSome (run octet_peers w hs) (λ r. FallsQuiet octet_peers (octet_talks w.a.config w.b.config) w hs r)
 
 -- and can do so within nine steps in all, with both open then on the connection that is kept
 abbrev pub EachOctetRunCanFallQuiet : Type 0
 EachOctetRunCanFallQuiet =
-    (w : World Peer (List ℕ)) → IsSound octet_peers w → ArePeers w → AreClosed w → (hs : List (Happening (List ℕ))) →
+    (w : World Peer (List ℕ)) → IsSoundWorld octet_peers w → ArePeers w → AreClosed w → (hs : List (Happening (List ℕ))) →
     IsTrue (is_clean hs) →
     IfSome (run octet_peers w hs) (λ r. CanFallQuiet octet_peers (octet_talks w.a.config w.b.config) w hs)
 

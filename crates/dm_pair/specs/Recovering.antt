@@ -6,7 +6,7 @@ use Rattle.dm_links.specs.Links.{Side}
 use Rattle.dm_links.specs.Laws.{world_of}
 use Rattle.dm_links.specs.Worlds.{World}
 use Rattle.dm_links.specs.Happens.{Happening, run}
-use Rattle.dm_links.specs.Facts.{IsSound}
+use Rattle.dm_links.specs.Facts.{IsSoundWorld}
 use Rattle.dm_links.specs.Quiet.{is_quiet}
 use Rattle.dm_links.specs.Joining.{AreJoined}
 use Rattle.dm_links.specs.Recovering.{CanOpen}
@@ -17,7 +17,7 @@ use Rattle.dm_pair.specs.Laws.{fresh_peer}
 -- from each sound world of such peers a list of happenings opens both, with a Start of either side
 abbrev pub EachOctetWorldCanOpen : Type 0
 EachOctetWorldCanOpen =
-    (w : World Peer (List ℕ)) → IsSound octet_peers w → ArePeers w → (s : Side) → CanOpen octet_peers w s
+    (w : World Peer (List ℕ)) → IsSoundWorld octet_peers w → ArePeers w → (s : Side) → CanOpen octet_peers w s
 
 -- so it is after any list of happenings to two new peers
 abbrev pub EachOctetRunCanOpen : Type 0
@@ -29,7 +29,7 @@ EachOctetRunCanOpen =
 -- in each sound world of such peers in which nothing is under way they are joined
 abbrev pub OctetQuietIsJoined : Type 0
 OctetQuietIsJoined =
-    (w : World Peer (List ℕ)) → IsSound octet_peers w → ArePeers w → IsTrue (is_quiet w) →
+    (w : World Peer (List ℕ)) → IsSoundWorld octet_peers w → ArePeers w → IsTrue (is_quiet w) →
     AreJoined w.a.standing.core w.b.standing.core
 
 -- so it is wherever a run of two new peers falls quiet

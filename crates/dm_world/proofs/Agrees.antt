@@ -8,7 +8,7 @@ use Rattle.dm_links.specs.Links.{Side, A, B, Coming, NoMark, Delivered, Mark, Li
 use Rattle.dm_links.specs.Peers.{Peers}
 use Rattle.dm_links.specs.Worlds.{World}
 use Rattle.dm_links.specs.Happens.{own_view}
-use Rattle.dm_links.specs.Agreement.{IsOpenOn, IsComing, AreOpposite, AreParting, Agreed}
+use Rattle.dm_links.specs.Agreement.{IsOpenOn, HasComingDisconnect, AreOpposite, AreParting, Agreed}
 use Rattle.dm_world.specs.Agreeing.{open_as, is_coming_at, are_one, are_agreed, shared, first, agrees, AreOpenOn, open_on_both}
 
 same_number : (a b : ℕ) → (a == b) ≡ true → a ≡ b
@@ -53,11 +53,11 @@ mark_coming Coming h = refl
 mark_coming Delivered h = cc
 
 coming_is : {P : Type 0} (w : World P (List ℕ)) (c : ℕ) (s : Side) (o : Option (Link (List ℕ))) →
-    slice_get w.links c ≡ o → is_coming_at s o ≡ true → IsComing w c s
+    slice_get w.links c ≡ o → is_coming_at s o ≡ true → HasComingDisconnect w c s
 coming_is w c s None at h = cc
 coming_is w c s (Some l) at h = record { link = l; there = at; coming = mark_coming (own_view s l).incoming.mark h }
 
-is_coming : {P : Type 0} (w : World P (List ℕ)) (c : ℕ) (s : Side) → IsComing w c s →
+is_coming : {P : Type 0} (w : World P (List ℕ)) (c : ℕ) (s : Side) → HasComingDisconnect w c s →
     is_coming_at s (slice_get w.links c) ≡ true
 is_coming w c s h =
     rw h.there (ap (λ (m : Mark). elim m [ Coming ↦ true | _ ↦ false ]) h.coming)

@@ -4,7 +4,7 @@ use Rattle.std.specs.Prelude.{IsTrue, option_map}
 use Rattle.std.proofs.lemmas.Bool.Decides.{nat_tests}
 use Rattle.dm_links.specs.Machine.{Conn, Node, is_shaped, Tie, Unheld, Connecting, Made, MadeOpen, Taken, tie_of, is_held, held_as, Initiated, Accepted}
 use Rattle.dm_links.specs.Links.{Side, A, B, opens, LinkPhase, Pending, Up, Cancelled, End, Fresh, Open, Shut, Mark, NoMark, Coming, Delivered, Direction, Link, View, view_of, link_of}
-use Rattle.dm_links.specs.Facts.{is_none, is_shut, is_up, is_fresh, standing, turned, is_sound, AreSound, opener_fits, other_fits, end_fits, fresh_fits, is_empty}
+use Rattle.dm_links.specs.Facts.{is_none, is_shut, is_up, is_fresh, standing_of, turned_over, is_sound_standing, AreSound, opener_fits, other_fits, end_fits, fresh_fits, is_empty}
 use Rattle.dm_links.specs.Happens.{restarted, restart_links, own_view}
 use Rattle.dm_links.specs.Worlds.{change_at}
 use Rattle.dm_links.specs.Making.{is_fresh_on}
@@ -107,7 +107,7 @@ other_shut Open ie im om h f g = cc
 other_shut Fresh ie im om h f g = cc
 
 sound_inert : (b : Bool) (p : LinkPhase) (u : Tie) (own other : End) (ie oe : Bool) (im om : Mark) →
-    is_sound (turned b (record {
+    is_sound_standing (turned_over b (record {
       own_tie = Unheld;
       other_tie = u;
       phase = p;
@@ -133,20 +133,20 @@ sound_inert false Up u own other ie oe im om h f =
 
 -- the soundness of a link, from either side
 from_b : (o : Side) (l : Link (List ℕ)) (ta tb : Tie) →
-    is_sound (turned (opens A o) (standing ta tb (view_of (opens A o) l))) ≡ is_sound
-    (turned (opens B o) (standing tb ta (view_of (opens B o) l)))
+    is_sound_standing (turned_over (opens A o) (standing_of ta tb (view_of (opens A o) l))) ≡ is_sound_standing
+    (turned_over (opens B o) (standing_of tb ta (view_of (opens B o) l)))
 from_b A l ta tb = refl
 from_b B l ta tb = refl
 
 unheld_inert : (s : Side) (l : Link (List ℕ)) (t u : Tie) → t ≡ Unheld →
-    is_sound (turned (opens s l.opener) (standing t u (own_view s l))) ≡ true → is_fresh_on s (Some l) ≡ false →
+    is_sound_standing (turned_over (opens s l.opener) (standing_of t u (own_view s l))) ≡ true → is_fresh_on s (Some l) ≡ false →
     restart_link s l ≡ l
 unheld_inert s l t u unheld sound fresh =
     let v = own_view s l in
     inert_link s l
     (sound_inert (opens s l.opener) l.phase u v.own v.other (is_empty v.incoming.messages)
     (is_empty v.outgoing.messages) v.incoming.mark v.outgoing.mark
-    (subst (λ (x : Tie). is_sound (turned (opens s l.opener) (standing x u v)) ≡ true) unheld sound) fresh)
+    (subst (λ (x : Tie). is_sound_standing (turned_over (opens s l.opener) (standing_of x u v)) ≡ true) unheld sound) fresh)
 
 -- one element is changed
 get_same : (c : ℕ) (f : Link (List ℕ) → Link (List ℕ)) (xs : List (Link (List ℕ))) →

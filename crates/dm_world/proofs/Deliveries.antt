@@ -7,7 +7,7 @@ use Rattle.dm_links.specs.Machine.{conn}
 use Rattle.dm_links.specs.Links.{Side, Link, by_side, LinkPhase, Pending, Up, Cancelled, End, Mark, NoMark, Coming, Delivered}
 use Rattle.dm_links.specs.Peers.{Arrived, Gone}
 use Rattle.dm_links.specs.Worlds.{World, After, Done, Ignored, with_links, change_at}
-use Rattle.dm_links.specs.Happens.{happens, Delivers, Pieces, delivered, pieced, taking, comes, own_view, next_in, if_up, at_link, NextMessage, NextDisconnect, NextNothing}
+use Rattle.dm_links.specs.Happens.{happens, Delivers, Pieces, deliver_next, deliver_part, take_part, comes, own_view, next_in, if_up, at_link, NextMessage, NextDisconnect, NextNothing}
 use Rattle.dm_links.specs.Happens as happens
 use Rattle.dm_world.specs.declared.fault.Effect.{Effect}
 use Rattle.dm_world.specs.declared.fault.Effect.TheVariants as effect
@@ -43,19 +43,19 @@ disconnect_next Pending ms mk h = cc
 disconnect_next Cancelled ms mk h = cc
 
 only_up : (w : World Peer (List ℕ)) (c : ℕ) (s : Side) (end : End) (p : LinkPhase) (n : happens.Next (List ℕ)) →
-    if_up p (delivered octet_peers c s end n w) Ignored ≡ delivered octet_peers c s end (if_up p n NextNothing) w
+    if_up p (deliver_next octet_peers c s end n w) Ignored ≡ deliver_next octet_peers c s end (if_up p n NextNothing) w
 only_up w c s end Up n = refl
 only_up w c s end Pending n = refl
 only_up w c s end Cancelled n = refl
 
 delivers_is : (w : World Peer (List ℕ)) (c : ℕ) (s : Side) (l : Link (List ℕ)) → slice_get w.links c ≡ Some l →
     happens octet_peers w (Delivers c s) ≡
-    delivered octet_peers c s (own_view s l).own
+    deliver_next octet_peers c s (own_view s l).own
     (if_up l.phase (next_in (own_view s l).incoming.messages (own_view s l).incoming.mark) NextNothing) w
 delivers_is w c s l there =
     ap (λ o. at_link o
     (λ k. if_up k.phase
-    (delivered octet_peers c s (own_view s k).own
+    (deliver_next octet_peers c s (own_view s k).own
     (next_in (own_view s k).incoming.messages (own_view s k).incoming.mark) w) Ignored)) there
     ∙ only_up w c s (own_view s l).own l.phase (next_in (own_view s l).incoming.messages (own_view s l).incoming.mark)
 
@@ -67,7 +67,7 @@ pub message_step : (s : Side) (c : ℕ) (effect : Effect) (w w' : World Peer (Li
     Effects effect (happens octet_peers w (Delivers c s)) w w'
 message_step s c effect w w' l there next step =
     let n = message_next l.phase (own_view s l).incoming.messages (own_view s l).incoming.mark next in
-    let is = delivers_is w c s l there ∙ ap (λ n. delivered octet_peers c s (own_view s l).own n w) n.next in
+    let is = delivers_is w c s l there ∙ ap (λ n. deliver_next octet_peers c s (own_view s l).own n w) n.next in
     subst (λ (a : After Peer (List ℕ)). Effects effect a w w') (sym is) (step l n.message there n.front)
 
 pub disconnect_step : (s : Side) (c : ℕ) (effect : Effect) (w w' : World Peer (List ℕ)) (l : Link (List ℕ)) →
@@ -77,7 +77,7 @@ pub disconnect_step : (s : Side) (c : ℕ) (effect : Effect) (w w' : World Peer 
     Effects effect (happens octet_peers w (Delivers c s)) w w'
 disconnect_step s c effect w w' l there next step =
     let n = disconnect_next l.phase (own_view s l).incoming.messages (own_view s l).incoming.mark next in
-    let is = delivers_is w c s l there ∙ ap (λ n. delivered octet_peers c s (own_view s l).own n w) n in
+    let is = delivers_is w c s l there ∙ ap (λ n. deliver_next octet_peers c s (own_view s l).own n w) n in
     subst (λ (a : After Peer (List ℕ)). Effects effect a w w') (sym is) (step l there)
 
 -- a piece: of no octets, none
@@ -94,8 +94,8 @@ not_none k some = grind (arith, nat_tests)
 
 only_up_piece : (w : World Peer (List ℕ)) (c : ℕ) (s : Side) (k : ℕ) (end : End) (taken : ℕ) (p : LinkPhase)
     (n : happens.Next (List ℕ)) (b : Bool) → b ≡ false →
-    if_up p (if b then Ignored else pieced octet_peers c s k end taken n w) Ignored
-    ≡ pieced octet_peers c s k end taken (if_up p n NextNothing) w
+    if_up p (if b then Ignored else deliver_part octet_peers c s k end taken n w) Ignored
+    ≡ deliver_part octet_peers c s k end taken (if_up p n NextNothing) w
 only_up_piece w c s k end taken Up n b some = rw some refl
 only_up_piece w c s k end taken Pending n b some = refl
 only_up_piece w c s k end taken Cancelled n b some = refl
@@ -103,13 +103,13 @@ only_up_piece w c s k end taken Cancelled n b some = refl
 -- as it is cut from the direction of a link
 abbrev piece_of : World Peer (List ℕ) → ℕ → Side → ℕ → Link (List ℕ) → After Peer (List ℕ)
 piece_of w c s k l =
-    pieced octet_peers c s k (own_view s l).own (own_view s l).incoming.taken
+    deliver_part octet_peers c s k (own_view s l).own (own_view s l).incoming.taken
     (next_in (own_view s l).incoming.messages (own_view s l).incoming.mark) w
 
 pieces_is : (w : World Peer (List ℕ)) (c : ℕ) (s : Side) (k : ℕ) (l : Link (List ℕ)) → slice_get w.links c ≡ Some l →
     0 < k →
     happens octet_peers w (Pieces c s k)
-    ≡ pieced octet_peers c s k (own_view s l).own (own_view s l).incoming.taken
+    ≡ deliver_part octet_peers c s k (own_view s l).own (own_view s l).incoming.taken
     (if_up l.phase (next_in (own_view s l).incoming.messages (own_view s l).incoming.mark) NextNothing) w
 pieces_is w c s k l there some =
     ap (λ o. at_link o (λ j. if_up j.phase (if k == 0 then Ignored else piece_of w c s k j) Ignored)) there
@@ -126,7 +126,7 @@ no_piece s c k w l there none = (
 
 -- where no message is next, none
 none_next : (w : World Peer (List ℕ)) (c : ℕ) (s : Side) (k : ℕ) (end : End) (taken : ℕ) (n : happens.Next (List ℕ)) →
-    (kind_of n ≡ next.Disconnect) ⊎ (kind_of n ≡ next.Nothing) → pieced octet_peers c s k end taken n w ≡ Ignored
+    (kind_of n ≡ next.Disconnect) ⊎ (kind_of n ≡ next.Nothing) → deliver_part octet_peers c s k end taken n w ≡ Ignored
 none_next w c s k end taken (NextMessage x) (inl is) = cc
 none_next w c s k end taken (NextMessage x) (inr is) = cc
 none_next w c s k end taken NextDisconnect is = refl
@@ -156,18 +156,18 @@ cut_false n k a h = let above : a ≤ n + k = omega arith in grind (arith, nat_t
 -- a piece that ends no message
 pub part_step : (s : Side) (c k : ℕ) (w w' : World Peer (List ℕ)) (l : Link (List ℕ)) → slice_get w.links c ≡ Some l →
     next_to s l ≡ next.Message → 0 < k → k < left_to s l →
-    w' ≡ with_links (change_at c (by_side s (taking k)) w.links) w →
+    w' ≡ with_links (change_at c (by_side s (take_part k)) w.links) w →
     Effects effect.Done (happens octet_peers w (Pieces c s k)) w w'
 part_step s c k w w' l there is_next some below is =
     let v = own_view s l in
     let n = message_next l.phase v.incoming.messages v.incoming.mark is_next in
     let front = front_is v.incoming.messages n.message n.front in
     let cut = cut_true v.incoming.taken k (length n.message) (rw (← front) below) in
-    let done = with_links (change_at c (by_side s (taking k)) w.links) w in
+    let done = with_links (change_at c (by_side s (take_part k)) w.links) w in
     let last = comes octet_peers s (Arrived (conn c) n.message) v.own w in (
       [],
       pieces_is w c s k l there some
-          ∙ ap (λ x. pieced octet_peers c s k v.own v.incoming.taken x w) n.next
+          ∙ ap (λ x. deliver_part octet_peers c s k v.own v.incoming.taken x w) n.next
           ∙ ap (λ b. if b then Done done [] else last) cut
           ∙ ap (λ (a : World Peer (List ℕ)). Done a []) (sym is),
     )
@@ -184,10 +184,10 @@ last_step s c k outcome w w' l there is_next some above step =
     let n = message_next l.phase v.incoming.messages v.incoming.mark is_next in
     let front = front_is v.incoming.messages n.message n.front in
     let cut = cut_false v.incoming.taken k (length n.message) (rw (← front) above) in
-    let done = with_links (change_at c (by_side s (taking k)) w.links) w in
+    let done = with_links (change_at c (by_side s (take_part k)) w.links) w in
     let last = comes octet_peers s (Arrived (conn c) n.message) v.own w in
     let is =
     pieces_is w c s k l there some
-    ∙ ap (λ x. pieced octet_peers c s k v.own v.incoming.taken x w) n.next
+    ∙ ap (λ x. deliver_part octet_peers c s k v.own v.incoming.taken x w) n.next
     ∙ ap (λ b. if b then Done done [] else last) cut in
     subst (λ (a : After Peer (List ℕ)). Effects outcome a w w') (sym is) (step l n.message there n.front)

@@ -6,7 +6,7 @@ use Rattle.dm_links.specs.Machine.{conn}
 use Rattle.dm_links.specs.Links.{A, B, Link, LinkPhase, Pending, Up, Cancelled}
 use Rattle.dm_links.specs.Peers.{Ack, Nack}
 use Rattle.dm_links.specs.Facts.{is_pending}
-use Rattle.dm_links.specs.Worlds.{World, Put, Disconnect, After, Done, Ignored, with_links, with_peer, peer_at, change_at, put_if, told}
+use Rattle.dm_links.specs.Worlds.{World, Put, Disconnect, After, Done, Ignored, with_links, with_peer, peer_at, change_at, put_if, tell}
 use Rattle.dm_links.specs.Happens.{happens, Acks, Nacks, Loses, at_link, if_pending, if_up, are_shut, lost_link, restart_links, restart_puts}
 use Rattle.dm_world.specs.declared.fault.Effect.{Effect}
 use Rattle.dm_world.specs.declared.fault.Effect.TheVariants as effect
@@ -31,21 +31,21 @@ pending_is Cancelled false x y h = refl
 -- an Ack, and a Nack
 acks_is : (w : World Peer (List ℕ)) (c : ℕ) (l : Link (List ℕ)) (b : Bool) → slice_get w.links c ≡ Some l →
     is_pending l.phase ≡ b →
-    happens octet_peers w (Acks c) ≡ (if b then told octet_peers l.opener (Ack (conn c)) w else Ignored)
+    happens octet_peers w (Acks c) ≡ (if b then tell octet_peers l.opener (Ack (conn c)) w else Ignored)
 acks_is w c l b there h =
-    ap (λ o. at_link o (λ k. if_pending k.phase (told octet_peers k.opener (Ack (conn c)) w) Ignored)) there
-    ∙ pending_is l.phase b (told octet_peers l.opener (Ack (conn c)) w) Ignored h
+    ap (λ o. at_link o (λ k. if_pending k.phase (tell octet_peers k.opener (Ack (conn c)) w) Ignored)) there
+    ∙ pending_is l.phase b (tell octet_peers l.opener (Ack (conn c)) w) Ignored h
 
 nacks_is : (w : World Peer (List ℕ)) (c : ℕ) (l : Link (List ℕ)) (b : Bool) → slice_get w.links c ≡ Some l →
     is_pending l.phase ≡ b →
-    happens octet_peers w (Nacks c) ≡ (if b then told octet_peers l.opener (Nack (conn c)) w else Ignored)
+    happens octet_peers w (Nacks c) ≡ (if b then tell octet_peers l.opener (Nack (conn c)) w else Ignored)
 nacks_is w c l b there h =
-    ap (λ o. at_link o (λ k. if_pending k.phase (told octet_peers k.opener (Nack (conn c)) w) Ignored)) there
-    ∙ pending_is l.phase b (told octet_peers l.opener (Nack (conn c)) w) Ignored h
+    ap (λ o. at_link o (λ k. if_pending k.phase (tell octet_peers k.opener (Nack (conn c)) w) Ignored)) there
+    ∙ pending_is l.phase b (tell octet_peers l.opener (Nack (conn c)) w) Ignored h
 
 pub ack_step : (outcome : Effect) (w w' : World Peer (List ℕ)) (c : ℕ) (l : Link (List ℕ)) →
     slice_get w.links c ≡ Some l → is_pending l.phase ≡ true →
-    Effects outcome (told octet_peers l.opener (Ack (conn c)) w) w w' →
+    Effects outcome (tell octet_peers l.opener (Ack (conn c)) w) w w' →
     Effects outcome (happens octet_peers w (Acks c)) w w'
 ack_step outcome w w' c l there h step = subst (λ (a : After Peer (List ℕ)). Effects outcome a w w')
     (sym (acks_is w c l true there h)) step
@@ -56,7 +56,7 @@ ack_ignored w c l there h = (acks_is w c l false there h, refl)
 
 pub nack_step : (outcome : Effect) (w w' : World Peer (List ℕ)) (c : ℕ) (l : Link (List ℕ)) →
     slice_get w.links c ≡ Some l → is_pending l.phase ≡ true →
-    Effects outcome (told octet_peers l.opener (Nack (conn c)) w) w w' →
+    Effects outcome (tell octet_peers l.opener (Nack (conn c)) w) w w' →
     Effects outcome (happens octet_peers w (Nacks c)) w w'
 nack_step outcome w w' c l there h step = subst (λ (a : After Peer (List ℕ)). Effects outcome a w w')
     (sym (nacks_is w c l true there h)) step
@@ -81,9 +81,9 @@ lose_step w w' c a b l there h is =
     let puts : Link (List ℕ) → List (Put (List ℕ)) = λ k. put_if B (Disconnect c A) (Some k) ++
     put_if A (Disconnect c B) (Some k) in (
       puts l,
-      ap (λ o. at_link o (λ k. if_up k.phase (if are_shut k.near k.far then Ignored else Done lost (puts k)) Ignored))
+      ap (λ o. at_link o (λ k. if_up k.phase (if are_shut k.opener_end k.other_end then Ignored else Done lost (puts k)) Ignored))
           there
-          ∙ lost_if l.phase (are_shut l.near l.far) Ignored (Done lost (puts l)) h
+          ∙ lost_if l.phase (are_shut l.opener_end l.other_end) Ignored (Done lost (puts l)) h
           ∙ ap (λ (v : World Peer (List ℕ)). Done v (puts l)) (sym is),
     )
 

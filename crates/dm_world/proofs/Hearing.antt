@@ -68,9 +68,9 @@ pub heard_step : (s : Side) (c : ℕ) (x y : List ℕ) (actions : ArrayVec decla
     IsAnswerOf s (told.Arrived (conn c) y) (Some actions) old.pair new.pair →
     as_links new.links.items ≡ links_after s (Arrived (conn c) y) actions.items (peer_of s new.pair)
     (as_links old.links.items) →
-    Effects effect.Done (worlds.told octet_peers s (Arrived (conn c) x) (as_world old)) (as_world old) (as_world new)
+    Effects effect.Done (worlds.tell octet_peers s (Arrived (conn c) x) (as_world old)) (as_world old) (as_world new)
 heard_step s c x y actions old new same answer links =
-    subst (λ z. Effects effect.Done (worlds.told octet_peers s (Arrived (conn c) z) (as_world old)) (as_world old)
+    subst (λ z. Effects effect.Done (worlds.tell octet_peers s (Arrived (conn c) z) (as_world old)) (as_world old)
     (as_world new)) same
     (done_step s (told.Arrived (conn c) y) old new actions answer links)
 
@@ -78,8 +78,8 @@ heard_step s c x y actions old new same answer links =
 pub heard_none : (s : Side) (c : ℕ) (x y : List ℕ) (old new : Net) → y ≡ x →
     IsAnswerOf s (told.Arrived (conn c) y) None old.pair new.pair →
     as_links new.links.items ≡ as_links old.links.items →
-    Effects effect.Ignored (worlds.told octet_peers s (Arrived (conn c) x) (as_world old)) (as_world old) (as_world new)
+    Effects effect.Ignored (worlds.tell octet_peers s (Arrived (conn c) x) (as_world old)) (as_world old) (as_world new)
 heard_none s c x y old new same answer links =
-    subst (λ z. Effects effect.Ignored (worlds.told octet_peers s (Arrived (conn c) z) (as_world old)) (as_world old)
+    subst (λ z. Effects effect.Ignored (worlds.tell octet_peers s (Arrived (conn c) z) (as_world old)) (as_world old)
     (as_world new)) same
     (ignored_step s (told.Arrived (conn c) y) old new answer links)

@@ -3,7 +3,7 @@ use Rattle.std.proofs.Common.{◌≡◌, ℕ, ◌+◌, ◌<◌, ◌≤◌, List,
 use Rattle.std.proofs.lemmas.List.{drop_more, drop_all}
 use Rattle.dm_links.specs.Machine.{Node}
 use Rattle.dm_links.specs.Links.{Side, A, B, Link}
-use Rattle.dm_links.specs.Facts.{AreSound, IsSound}
+use Rattle.dm_links.specs.Facts.{AreSound, IsSoundWorld}
 use Rattle.dm_links.specs.Worlds.{peer_at, with_peer, change_at}
 use Rattle.dm_links.specs.Happens.{restart_links}
 use Rattle.dm_pair.specs.Octets.{octet_peers}
@@ -44,7 +44,7 @@ world_of B old new links pair is = cc
 
 -- the links of a world that has started anew for a side
 pub links_anew : (s : Side) (old : Net) (made : MadeEnds) (first done : List (Link (List ℕ))) →
-    IsSound octet_peers (as_world old) → AreNamed made (as_links old.links.items) →
+    IsSoundWorld octet_peers (as_world old) → AreNamed made (as_links old.links.items) →
     first ≡ restart_each s (ends_of s made) (as_links old.links.items) →
     done ≡ restart_each s (held_numbers (peer_of s old.pair).standing.core) first →
     done ≡ restart_links s (as_links old.links.items)
@@ -57,7 +57,7 @@ links_anew B old made first done sound named named_done held_done =
     named_done held_done
 
 pub world_anew : (s : Side) (old new : Net) (made : MadeEnds) (first : List (Link (List ℕ))) →
-    IsSound octet_peers (as_world old) → AreNamed made (as_links old.links.items) →
+    IsSoundWorld octet_peers (as_world old) → AreNamed made (as_links old.links.items) →
     new.pair ≡ with_peer_of s (reset_of (peer_of s old.pair)) old.pair →
     first ≡ restart_each s (ends_of s made) (as_links old.links.items) →
     as_links new.links.items ≡ restart_each s (held_numbers (peer_of s old.pair).standing.core) first →

@@ -4,7 +4,7 @@ use Rattle.std.proofs.lemmas.List.{take_more}
 use Rattle.dm_peer.specs.declared.peer.Peer.{Peer}
 use Rattle.dm_links.specs.Peers.{Peers}
 use Rattle.dm_links.specs.Worlds.{World, Put, After, Done, Ignored}
-use Rattle.dm_links.specs.Happens.{Happening, Ran, ran_on, run_from, run, happens}
+use Rattle.dm_links.specs.Happens.{Happening, RunEnd, ran_on, run_from, run, happens}
 use Rattle.dm_world.specs.declared.fault.Effect.{Effect}
 use Rattle.dm_world.specs.declared.fault.Effect.TheVariants as effect
 use Rattle.dm_world.specs.declared.fault.WorldFault.{WorldFault}
@@ -13,16 +13,16 @@ use Rattle.dm_world.specs.Happening.{as_happening, may_want}
 use Rattle.dm_pair.specs.Octets.{octet_peers}
 use Rattle.dm_world.specs.Views.{Effects, IsFault, IsEnd}
 
-run_none : {P M : Type 0} (m : Peers P M) (o : Option (Ran P M)) → run_from m o [] ≡ o
+run_none : {P M : Type 0} (m : Peers P M) (o : Option (RunEnd P M)) → run_from m o [] ≡ o
 run_none m None = refl
 run_none m (Some r) = refl
 
-ran_same : {P M : Type 0} (m : Peers P M) (h : Happening M) (q r : Ran P M) → Some q ≡ Some r →
+ran_same : {P M : Type 0} (m : Peers P M) (h : Happening M) (q r : RunEnd P M) → Some q ≡ Some r →
     ran_on q (happens m q.world h) ≡ ran_on r (happens m r.world h)
-ran_same {P} {M} m h q r is = let same : q ≡ r = cc in ap (λ (x : Ran P M). ran_on x (happens m x.world h)) same
+ran_same {P} {M} m h q r is = let same : q ≡ r = cc in ap (λ (x : RunEnd P M). ran_on x (happens m x.world h)) same
 
-run_snoc : {P M : Type 0} (m : Peers P M) (o : Option (Ran P M)) (hs : List (Happening M)) (h : Happening M)
-    (r : Ran P M) → run_from m o hs ≡ Some r → run_from m o (hs ++ h ∷ []) ≡ ran_on r (happens m r.world h)
+run_snoc : {P M : Type 0} (m : Peers P M) (o : Option (RunEnd P M)) (hs : List (Happening M)) (h : Happening M)
+    (r : RunEnd P M) → run_from m o hs ≡ Some r → run_from m o (hs ++ h ∷ []) ≡ ran_on r (happens m r.world h)
 run_snoc m None hs h r is = cc
 run_snoc m (Some q) [] h r is = run_none m (ran_on q (happens m q.world h)) ∙ ran_same m h q r is
 run_snoc m (Some q) (k ∷ hs) h r is = run_snoc m (ran_on q (happens m q.world k)) hs h r is
@@ -32,14 +32,14 @@ snoc_done : {P M : Type 0} (m : Peers P M) (w v v' : World P M) (put more : List
     (h : Happening M) → run m w hs ≡ Some (record { world = v; put = put }) → happens m v h ≡ Done v' more →
     run m w (hs ++ h ∷ []) ≡ Some (record { world = v'; put = put ++ more })
 snoc_done {P} {M} m w v v' put more hs h ran step =
-    let r : Ran P M = record { world = v; put = put } in
+    let r : RunEnd P M = record { world = v; put = put } in
     run_snoc m (Some (record { world = w; put = [] })) hs h r ran ∙ ap (λ (a : After P M). ran_on r a) step
 
 snoc_ignored : {P M : Type 0} (m : Peers P M) (w v v' : World P M) (put : List (Put M)) (hs : List (Happening M))
     (h : Happening M) → run m w hs ≡ Some (record { world = v; put = put }) → happens m v h ≡ Ignored → v' ≡ v →
     run m w (hs ++ h ∷ []) ≡ Some (record { world = v'; put = put })
 snoc_ignored {P} {M} m w v v' put hs h ran step same =
-    let r : Ran P M = record { world = v; put = put } in
+    let r : RunEnd P M = record { world = v; put = put } in
     run_snoc m (Some (record { world = w; put = [] })) hs h r ran ∙ ap (λ (a : After P M). ran_on r a) step
     ∙ ap (λ (x : World P M). Some (record { world = x; put = put })) (sym same)
 

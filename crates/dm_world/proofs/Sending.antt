@@ -16,7 +16,7 @@ use Rattle.dm_links.specs.Machine.{conn, Node, is_shaped, Concern, Elsewhere, St
 use Rattle.dm_links.specs.Links.{Side}
 use Rattle.dm_machine.specs.Deeds.{Deed, deed_of_command}
 use Rattle.dm_links.specs.Peers.{Event, Start, Stop, Timeout, Tick, Ack, Nack, Gone, Submit, Arrived, concern_by, deed_of, sends_at, Reply, Acts}
-use Rattle.dm_links.specs.Follows.{Steps, Follows, IsMachine}
+use Rattle.dm_links.specs.Follows.{StepsAsMachine, FollowsMachine, IsMachine}
 use Rattle.dm_world.specs.declared.link.Link.{Link}
 use Rattle.dm_pair.specs.Octets.{as_actions, octet_peers}
 use Rattle.dm_world.specs.Rooms.{HasRoomFor, is_on, named, HasRoomToSend}
@@ -89,7 +89,7 @@ Alone k before after orders = IsTrue (is_hold machine.NotHeld before && not (is_
     (after ≡ machine.NotHeld) × (orders ≡ [])
 
 step_unsent : (p next : Peer) (e : Event (List ℕ)) (actions : List declared_action.Action) (c : ℕ) → LeavesOthersAlone →
-    IsTrue (is_shaped p.standing.core) → Steps octet_peers p e (as_actions actions) next →
+    IsTrue (is_shaped p.standing.core) → StepsAsMachine octet_peers p e (as_actions actions) next →
     tie_of p.standing.core c ≡ Unheld → concern_by e (conn c) ≡ Elsewhere →
     sends_at c (map deed_of (as_actions actions)) ≡ false
 step_unsent p next e actions c law shaped step unheld elsewhere =
@@ -108,8 +108,8 @@ reply_unsent : (p next : Peer) (e : Event (List ℕ)) (actions : List declared_a
     tie_of p.standing.core c ≡ Unheld → concern_by e (conn c) ≡ Elsewhere →
     sends_at c (map deed_of (as_actions actions)) ≡ false
 reply_unsent p next e actions c laws shaped is unheld elsewhere =
-    let follows : Follows octet_peers p e (Acts (as_actions actions) next) =
-    subst (λ (r : Reply Peer (List ℕ)). Follows octet_peers p e r) is (laws.machine.follows p e) in
+    let follows : FollowsMachine octet_peers p e (Acts (as_actions actions) next) =
+    subst (λ (r : Reply Peer (List ℕ)). FollowsMachine octet_peers p e r) is (laws.machine.follows p e) in
     elim follows [
       | inl step ↦ step_unsent p next e actions c laws.alone shaped step unheld elsewhere
       | inr drop ↦ ap (λ l. sends_at c (map deed_of l)) drop.silent
@@ -124,7 +124,7 @@ le_of : (a b : ℕ) → nat_le a b ≡ true → a ≤ b
 le_of a b h = grind (arith, nat_tests)
 
 step_few : (p next : Peer) (e : Event (List ℕ)) (actions : List declared_action.Action) → EachStepKeepsShape →
-    IsTrue (is_shaped p.standing.core) → Steps octet_peers p e (as_actions actions) next →
+    IsTrue (is_shaped p.standing.core) → StepsAsMachine octet_peers p e (as_actions actions) next →
     length (as_actions actions) ≤ 4
 step_few p next e actions law shaped step =
     let keeps : KeepsShape (moves.Moved step.commands next.standing.core) = subst (λ (o : moves.Outcome). KeepsShape o)
@@ -138,8 +138,8 @@ reply_few : (p next : Peer) (e : Event (List ℕ)) (actions : List declared_acti
     IsTrue (is_shaped p.standing.core) → octet_peers.reply p e ≡ Acts (as_actions actions) next →
     length (as_actions actions) ≤ 4
 reply_few p next e actions laws shaped is =
-    let follows : Follows octet_peers p e (Acts (as_actions actions) next) =
-    subst (λ (r : Reply Peer (List ℕ)). Follows octet_peers p e r) is (laws.machine.follows p e) in
+    let follows : FollowsMachine octet_peers p e (Acts (as_actions actions) next) =
+    subst (λ (r : Reply Peer (List ℕ)). FollowsMachine octet_peers p e r) is (laws.machine.follows p e) in
     elim follows [
       | inl step ↦ step_few p next e actions laws.keeps shaped step
       | inr drop ↦ let none : length (as_actions actions) ≡ 0 = ap (λ l. length l) drop.silent in omega arith
@@ -201,8 +201,8 @@ pub reply_shaped : (p next : Peer) (e : Event (List ℕ)) (actions : List declar
     IsTrue (is_shaped p.standing.core) → octet_peers.reply p e ≡ Acts (as_actions actions) next →
     IsTrue (is_shaped next.standing.core)
 reply_shaped p next e actions laws shaped is =
-    let follows : Follows octet_peers p e (Acts (as_actions actions) next) =
-    subst (λ (r : Reply Peer (List ℕ)). Follows octet_peers p e r) is (laws.machine.follows p e) in
+    let follows : FollowsMachine octet_peers p e (Acts (as_actions actions) next) =
+    subst (λ (r : Reply Peer (List ℕ)). FollowsMachine octet_peers p e r) is (laws.machine.follows p e) in
     elim follows [
       | inl step ↦
           (subst (λ (o : moves.Outcome). KeepsShape o) step.moves

@@ -10,7 +10,7 @@ use Rattle.dm_peer.specs.Events as told
 use Rattle.dm_links.specs.Machine.{Conn, conn}
 use Rattle.dm_links.specs.Links.{Side, A, B, flip, Link, new_link}
 use Rattle.dm_links.specs.Peers.{Event, Start, Acts, Declines}
-use Rattle.dm_links.specs.Worlds.{World, peer_at, with_peer, Put, enter, perform, settle, puts_of, puts_at_entry, After, Done, Ignored, answered}
+use Rattle.dm_links.specs.Worlds.{World, peer_at, with_peer, Put, enter, perform, settle, puts_of, puts_at_entry, After, Done, Ignored, after_reply}
 use Rattle.dm_links.specs.Worlds as worlds
 use Rattle.dm_world.specs.declared.fault.Effect as effect_of
 use Rattle.dm_world.specs.declared.fault.Effect.TheVariants as effect
@@ -77,7 +77,7 @@ pub done_step : (s : Side) (e : told.PeerEvent) (old new : Net) (actions : Array
     IsAnswerOf s e (Some actions) old.pair new.pair →
     as_links new.links.items ≡ links_after s (as_event e) actions.items (peer_of s new.pair)
     (as_links old.links.items) →
-    Effects effect.Done (worlds.told octet_peers s (as_event e) (as_world old)) (as_world old) (as_world new)
+    Effects effect.Done (worlds.tell octet_peers s (as_event e) (as_world old)) (as_world old) (as_world new)
 done_step s e old new actions answer links =
     let w = as_world old in
     let next = peer_of s new.pair in
@@ -87,7 +87,7 @@ done_step s e old new actions answer links =
     ap (λ p. octet_peers.reply p (as_event e)) (peer_same s old) ∙
     reply_is (peer_of s old.pair) e (Moved actions.items next) answer.0 in (
       put,
-      ap (λ r. answered octet_peers s (as_event e) w r) reply
+      ap (λ r. after_reply octet_peers s (as_event e) w r) reply
           ∙ ap (λ v. Done v put)
           (world_is s old new next (links_after s (as_event e) actions.items next (as_links old.links.items)) refl
           answer.1 links),
@@ -136,20 +136,20 @@ room_seen s ls p q a b is names h =
 -- a refusal is ignored
 pub ignored_step : (s : Side) (e : told.PeerEvent) (old new : Net) → IsAnswerOf s e None old.pair new.pair →
     as_links new.links.items ≡ as_links old.links.items →
-    Effects effect.Ignored (worlds.told octet_peers s (as_event e) (as_world old)) (as_world old) (as_world new)
+    Effects effect.Ignored (worlds.tell octet_peers s (as_event e) (as_world old)) (as_world old) (as_world new)
 ignored_step s e old new answer links =
     let w = as_world old in
     let refused = answer.0.0 in
     let reply : octet_peers.reply (peer_at s w) (as_event e) ≡ Declines =
     ap (λ p. octet_peers.reply p (as_event e)) (peer_same s old) ∙
     reply_is (peer_of s old.pair) e (Refused refused.0) refused.1 in (
-      ap (λ r. answered octet_peers s (as_event e) w r) reply,
+      ap (λ r. after_reply octet_peers s (as_event e) w r) reply,
       world_same s old new answer.0.1 answer.1 links,
     )
 
 -- a Start names the next link
 abbrev pub Starting : effect_of.Effect → ℕ → Side → Net → Net → Type 0
-Starting outcome n s old new = Effects outcome (worlds.told octet_peers s (Start (conn n)) (as_world old))
+Starting outcome n s old new = Effects outcome (worlds.tell octet_peers s (Start (conn n)) (as_world old))
     (as_world old) (as_world new)
 
 pub started : (s : Side) (n : ℕ) (old new : Net) (actions : ArrayVec declared_action.Action) →

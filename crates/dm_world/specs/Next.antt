@@ -19,7 +19,7 @@ next_to s l =
 
 -- a link that isn't up, or both of whose ends are shut
 abbrev pub is_past_loss : Link (List ℕ) → Bool
-is_past_loss l = if_up l.phase (are_shut l.near l.far) true
+is_past_loss l = if_up l.phase (are_shut l.opener_end l.other_end) true
 
 -- how many octets of the front message are still to come to a side
 abbrev pub left_to : Side → Link (List ℕ) → ℕ

@@ -29,10 +29,10 @@ as_link l =
     record {
       opener = as_side l.opener;
       phase = as_phase l.phase;
-      near = as_end l.near;
-      far = as_end l.far;
-      to_near = l.to_near.direction;
-      to_far = l.to_far.direction;
+      opener_end = as_end l.opener_end;
+      other_end = as_end l.other_end;
+      to_opener = l.to_opener.direction;
+      to_other = l.to_other.direction;
     }
 
 abbrev pub as_links : List declared_link.Link → List (Link (List ℕ))
@@ -40,7 +40,7 @@ as_links ls = map as_link ls
 
 -- how many more messages of a side a link has room for
 abbrev pub out_room : Side → declared_link.Link → ℕ
-out_room s l = elim (opens s (as_side l.opener)) [ true ↦ l.to_far.room | false ↦ l.to_near.room ]
+out_room s l = elim (opens s (as_side l.opener)) [ true ↦ l.to_other.room | false ↦ l.to_opener.room ]
 
 -- a link after a restart of a side
 abbrev pub restart_link : Side → Link (List ℕ) → Link (List ℕ)

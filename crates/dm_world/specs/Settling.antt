@@ -7,7 +7,7 @@ use Rattle.dm_links.specs.Quiet.{is_clean}
 use Rattle.dm_links.specs.Falling.{CanFallQuiet, FallsQuiet}
 use Rattle.dm_links.specs.Links.{Side}
 use Rattle.dm_links.specs.Recovering.{CanOpen}
-use Rattle.dm_links.specs.Settled.{Settled}
+use Rattle.dm_links.specs.Settled.{IsSettledRun}
 use Rattle.dm_pair.specs.Octets.{octet_peers}
 use Rattle.dm_pair.specs.Talking.{octet_talks}
 use Rattle.dm_world.specs.declared.happening.Happening.{Happening}
@@ -22,7 +22,7 @@ AreClean list = IsTrue (is_clean (map as_happening list))
 abbrev pub RunSettles : World Peer (List ℕ) → List Happening → Type 0
 RunSettles w list =
     IfSome (run octet_peers w (map as_happening list))
-    (λ r. Settled octet_peers (octet_talks w.a.config w.b.config) w (map as_happening list) r)
+    (λ r. IsSettledRun octet_peers (octet_talks w.a.config w.b.config) w (map as_happening list) r)
 
 -- it is quiet where no Ack and no delivery is done any more, after nine steps, and after four where one side alone
 -- starts

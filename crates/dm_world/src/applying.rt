@@ -1,6 +1,6 @@
 //! One happening is one step of the world.
 ghost use Rattle.std.specs.Prelude.{◌≡◌, false, IfOk, IfErr, OnErr, slice_get};
-ghost use Rattle.dm_links.specs.Facts.{IsSound};
+ghost use Rattle.dm_links.specs.Facts.{IsSoundWorld};
 ghost use Rattle.dm_links.specs.Happens.{happens, Nacks, Loses, Submits};
 ghost use Rattle.dm_pair.specs.Octets.{octet_peers};
 ghost use Rattle.dm_world.specs.Ends.{AreNamed, AreSameEnds, AreEndsAfter};
@@ -76,7 +76,7 @@ impl Net {
         happening: &Happening,
     ) -> Result<Effect, WorldFault>
         requires shaped { AreShaped self.old }
-        requires sound { IsSound octet_peers (as_world self.old) }
+        requires sound { IsSoundWorld octet_peers (as_world self.old) }
         requires named { AreNamed made.old (as_links self.old.links.items) }
         ensures step { IfOk result (λ effect. Effects effect
             (happens octet_peers (as_world self.old) (as_happening happening.now)) (as_world self.old)

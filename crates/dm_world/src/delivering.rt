@@ -36,7 +36,7 @@ impl Net {
         requires there { index < length self.old.links.items }
         ensures step { IfOk result (λ effect. (x : List ℕ) →
             front_of (as_side side) (slice_get (as_links self.old.links.items) index) ≡ Some x →
-            Effects effect (worlds.told octet_peers (as_side side) (Arrived (conn index) x) (as_world self.old))
+            Effects effect (worlds.tell octet_peers (as_side side) (Arrived (conn index) x) (as_world self.old))
             (as_world self.old) (as_world self.new)) }
         ensures unchanged { OnErr result (as_world self.new ≡ as_world self.old) }
     {

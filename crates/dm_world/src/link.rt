@@ -3,8 +3,8 @@ ghost use Rattle.std.specs.Prelude.{◌≡◌, ◌+◌, ◌<◌, ◌≤◌, Bool
 ghost use Rattle.dm_framer.specs.Frames.{IsFrame};
 ghost use Rattle.dm_links.specs.Links.{new_link, opens, by_side, view_of};
 ghost use Rattle.dm_links.specs.Machine.{AcksIt, NacksIt, EndsIt, HeardOnIt};
-ghost use Rattle.dm_links.specs.Steps.{said, shut, entered, settled};
-ghost use Rattle.dm_links.specs.Happens.{taking, lost_link, own_view, are_shut};
+ghost use Rattle.dm_links.specs.Steps.{with_sent, with_close, entered, settled};
+ghost use Rattle.dm_links.specs.Happens.{take_part, lost_link, own_view, are_shut};
 ghost use Rattle.dm_links.specs.Facts.{is_pending};
 ghost use Rattle.dm_links.specs.Quiet.{is_quiet_link};
 ghost use Rattle.dm_world.specs.Seen.{as_side, as_end, as_link, out_room, restart_link};
@@ -52,15 +52,15 @@ pub(crate) enum Next {
     Nothing,
 }
 
-/// A link. The near end is the opener's.
+/// A link, with the end of its opener and the other one.
 #[derive(Debug, Drop)]
 pub(crate) struct Link {
     pub(crate) opener: Side,
     pub(crate) phase: Phase,
-    near: End,
-    far: End,
-    to_near: Direction,
-    to_far: Direction,
+    opener_end: End,
+    other_end: End,
+    to_opener: Direction,
+    to_other: Direction,
 }
 
 impl Link {
@@ -71,10 +71,10 @@ impl Link {
         Link {
             opener,
             phase: Phase::Pending,
-            near: End::Shut,
-            far: End::Shut,
-            to_near: Direction::new(alloc),
-            to_far: Direction::new(alloc),
+            opener_end: End::Shut,
+            other_end: End::Shut,
+            to_opener: Direction::new(alloc),
+            to_other: Direction::new(alloc),
         }
     }
 
@@ -95,9 +95,9 @@ impl Link {
         ensures kept { out_room (as_side side) self.old ≤ out_room (as_side side) self.new }
     {
         if self.is_opener(side) {
-            self.to_far.reserve(count)
+            self.to_other.reserve(count)
         } else {
-            self.to_near.reserve(count)
+            self.to_opener.reserve(count)
         }
     }
 
@@ -105,31 +105,31 @@ impl Link {
     pub(crate) fn say(&mut self, side: Side, message: Octets)
         requires room { 0 < out_room (as_side side) self.old }
         requires frame { IsFrame 16777212 message }
-        ensures said { as_link self.new ≡ by_side (as_side side) (said message) (as_link self.old) }
+        ensures said { as_link self.new ≡ by_side (as_side side) (with_sent message) (as_link self.old) }
         ensures room { out_room (as_side side) self.old ≤ out_room (as_side side) self.new + 1 }
     {
         let mine = self.is_opener(side);
         match (self.phase, mine) {
-            (Phase::Up, true) => self.to_far.put(message),
-            (Phase::Up, false) => self.to_near.put(message),
+            (Phase::Up, true) => self.to_other.put(message),
+            (Phase::Up, false) => self.to_opener.put(message),
             _ => {}
         }
     }
 
     /// The side closes the link.
     pub(crate) fn close(&mut self, side: Side)
-        ensures closed { as_link self.new ≡ by_side (as_side side) shut (as_link self.old) }
+        ensures closed { as_link self.new ≡ by_side (as_side side) with_close (as_link self.old) }
         ensures room { out_room (as_side side) self.old ≤ out_room (as_side side) self.new }
     {
         let mine = self.is_opener(side);
         match (self.phase, mine) {
             (Phase::Up, true) => {
-                self.near = End::Shut;
-                self.to_far.put_disconnect();
+                self.opener_end = End::Shut;
+                self.to_other.put_disconnect();
             }
             (Phase::Up, false) => {
-                self.far = End::Shut;
-                self.to_near.put_disconnect();
+                self.other_end = End::Shut;
+                self.to_opener.put_disconnect();
             }
             (Phase::Pending, _) => self.phase = Phase::Cancelled,
             _ => {}
@@ -141,9 +141,9 @@ impl Link {
         ensures { as_end result ≡ (own_view (as_side side) (as_link self.now)).own }
     {
         if self.is_opener(side) {
-            self.near
+            self.opener_end
         } else {
-            self.far
+            self.other_end
         }
     }
 
@@ -152,9 +152,9 @@ impl Link {
         ensures { option_map (λ octets. octets.now) result ≡ slice_get (own_view (as_side side) (as_link self.now)).incoming.messages 0 }
     {
         if self.is_opener(side) {
-            self.to_near.front()
+            self.to_opener.front()
         } else {
-            self.to_far.front()
+            self.to_other.front()
         }
     }
 
@@ -165,9 +165,9 @@ impl Link {
         ensures framer { IfOk result (λ found. IfSome found (λ handed. handed.framer ≡ holding [])) }
     {
         if self.is_opener(side) {
-            self.to_near.hand_out()
+            self.to_opener.hand_out()
         } else {
-            self.to_far.hand_out()
+            self.to_other.hand_out()
         }
     }
 
@@ -176,22 +176,22 @@ impl Link {
         ensures { result ≡ left_to (as_side side) (as_link self.now) }
     {
         if self.is_opener(side) {
-            self.to_near.left()
+            self.to_opener.left()
         } else {
-            self.to_far.left()
+            self.to_other.left()
         }
     }
 
     /// So many octets of the front message come to the side, and not its last. Where memory is wanted, nothing changes.
     pub(crate) fn take(&mut self, side: Side, count: usize) -> Result<(), NoMemory>
         requires { count < left_to (as_side side) (as_link self.old) }
-        ensures taken { OnOk result (as_link self.new ≡ by_side (as_side side) (taking count) (as_link self.old)) }
+        ensures taken { OnOk result (as_link self.new ≡ by_side (as_side side) (take_part count) (as_link self.old)) }
         ensures unchanged { OnErr result (as_link self.new ≡ as_link self.old) }
     {
         if self.is_opener(side) {
-            self.to_near.take(count)
+            self.to_opener.take(count)
         } else {
-            self.to_far.take(count)
+            self.to_other.take(count)
         }
     }
 
@@ -200,9 +200,9 @@ impl Link {
         ensures { mark_of result ≡ (own_view (as_side side) (as_link self.now)).incoming.mark }
     {
         if self.is_opener(side) {
-            self.to_near.mark()
+            self.to_opener.mark()
         } else {
-            self.to_far.mark()
+            self.to_other.mark()
         }
     }
 
@@ -213,11 +213,11 @@ impl Link {
     {
         self.phase = Phase::Up;
         if self.is_opener(side) {
-            self.near = End::Open;
-            self.far = End::Fresh;
+            self.opener_end = End::Open;
+            self.other_end = End::Fresh;
         } else {
-            self.far = End::Open;
-            self.near = End::Fresh;
+            self.other_end = End::Open;
+            self.opener_end = End::Fresh;
         }
     }
 
@@ -236,9 +236,9 @@ impl Link {
         ensures room { out_room (as_side side) self.old ≤ out_room (as_side side) self.new }
     {
         if self.is_opener(side) {
-            self.to_near.take_front(framer);
+            self.to_opener.take_front(framer);
         } else {
-            self.to_far.take_front(framer);
+            self.to_other.take_front(framer);
         }
     }
 
@@ -249,17 +249,17 @@ impl Link {
     {
         let mine = self.is_opener(side);
         if mine {
-            self.to_near.deliver_disconnect();
-            if let End::Fresh = self.near {
-                self.to_far.put_disconnect();
+            self.to_opener.deliver_disconnect();
+            if let End::Fresh = self.opener_end {
+                self.to_other.put_disconnect();
             }
-            self.near = End::Shut;
+            self.opener_end = End::Shut;
         } else {
-            self.to_far.deliver_disconnect();
-            if let End::Fresh = self.far {
-                self.to_near.put_disconnect();
+            self.to_other.deliver_disconnect();
+            if let End::Fresh = self.other_end {
+                self.to_opener.put_disconnect();
             }
-            self.far = End::Shut;
+            self.other_end = End::Shut;
         }
     }
 
@@ -269,9 +269,9 @@ impl Link {
     {
         let settled = if holds { End::Open } else { End::Shut };
         let mine = self.is_opener(side);
-        match (mine, self.near, self.far) {
-            (true, End::Fresh, _) => self.near = settled,
-            (false, _, End::Fresh) => self.far = settled,
+        match (mine, self.opener_end, self.other_end) {
+            (true, End::Fresh, _) => self.opener_end = settled,
+            (false, _, End::Fresh) => self.other_end = settled,
             _ => {}
         }
     }
@@ -282,12 +282,12 @@ impl Link {
     {
         match self.opener {
             Side::A => {
-                self.to_near.lose(to_a);
-                self.to_far.lose(to_b);
+                self.to_opener.lose(to_a);
+                self.to_other.lose(to_b);
             }
             Side::B => {
-                self.to_near.lose(to_b);
-                self.to_far.lose(to_a);
+                self.to_opener.lose(to_b);
+                self.to_other.lose(to_a);
             }
         }
     }
@@ -305,9 +305,9 @@ impl Link {
 
     /// Whether both ends are shut.
     pub(crate) fn is_shut(&self) -> bool
-        ensures { result ≡ are_shut (as_end self.now.near) (as_end self.now.far) }
+        ensures { result ≡ are_shut (as_end self.now.opener_end) (as_end self.now.other_end) }
     {
-        match (self.near, self.far) {
+        match (self.opener_end, self.other_end) {
             (End::Shut, End::Shut) => true,
             _ => false,
         }
@@ -319,7 +319,7 @@ impl Link {
     {
         match self.phase {
             Phase::Pending => false,
-            _ => self.to_near.is_still() && self.to_far.is_still(),
+            _ => self.to_opener.is_still() && self.to_other.is_still(),
         }
     }
 

@@ -3,9 +3,9 @@ ghost use Rattle.std.specs.Prelude.{◌≡◌, ℕ, ◌+◌, ◌<◌, ◌≤◌,
 ghost use Rattle.dm_framer.specs.Frames.{IsFrame};
 ghost use Rattle.dm_links.specs.Links.{by_side};
 ghost use Rattle.dm_links.specs.Machine.{AcksIt, NacksIt, EndsIt, HeardOnIt};
-ghost use Rattle.dm_links.specs.Steps.{said, shut, entered, settled};
+ghost use Rattle.dm_links.specs.Steps.{with_sent, with_close, entered, settled};
 ghost use Rattle.dm_links.specs.Worlds.{change_at};
-ghost use Rattle.dm_links.specs.Happens.{taking, lost_link};
+ghost use Rattle.dm_links.specs.Happens.{take_part, lost_link};
 ghost use Rattle.std.specs.List.{list_all};
 ghost use Rattle.dm_links.specs.Quiet.{is_quiet_link};
 ghost use Rattle.dm_world.specs.Agreeing.{is_coming_at};
@@ -44,7 +44,7 @@ pub(crate) fn reserve(
 pub(crate) fn say(links: &mut Vec<Link>, side: Side, index: usize, message: Octets)
     requires room { HasRoom (as_side side) links.old.items 1 index }
     requires frame { IsFrame 16777212 message }
-    ensures said { as_links links.new.items ≡ change_at index (by_side (as_side side) (said message)) (as_links links.old.items) }
+    ensures said { as_links links.new.items ≡ change_at index (by_side (as_side side) (with_sent message)) (as_links links.old.items) }
     ensures room { (n c : ℕ) → HasRoom (as_side side) links.old.items (n + 1) c → HasRoom (as_side side) links.new.items n c }
 {
     if index < links.len() {
@@ -54,7 +54,7 @@ pub(crate) fn say(links: &mut Vec<Link>, side: Side, index: usize, message: Octe
 
 /// The side closes the link, if there is one.
 pub(crate) fn close(links: &mut Vec<Link>, side: Side, index: usize)
-    ensures closed { as_links links.new.items ≡ change_at index (by_side (as_side side) shut) (as_links links.old.items) }
+    ensures closed { as_links links.new.items ≡ change_at index (by_side (as_side side) with_close) (as_links links.old.items) }
     ensures room { (n c : ℕ) → HasRoom (as_side side) links.old.items n c → HasRoom (as_side side) links.new.items n c }
 {
     if index < links.len() {
@@ -92,7 +92,7 @@ pub(crate) fn take(
 ) -> Result<(), NoMemory>
     requires { IfSome (slice_get (as_links links.old.items) index) (λ link. count < left_to (as_side side) link) }
     ensures taken { OnOk result (as_links links.new.items
-        ≡ change_at index (by_side (as_side side) (taking count)) (as_links links.old.items)) }
+        ≡ change_at index (by_side (as_side side) (take_part count)) (as_links links.old.items)) }
     ensures unchanged { OnErr result (as_links links.new.items ≡ as_links links.old.items) }
 {
     if index < links.len() {

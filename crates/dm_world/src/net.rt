@@ -73,7 +73,7 @@ impl Net {
         requires plain { is_plain (told event) ≡ true }
         requires octets { AreOctets (submitted_in (told event)) }
         ensures step { IfOk result (λ effect. Effects effect
-            (worlds.told octet_peers (as_side side) (as_event (told event.entry)) (as_world self.old))
+            (worlds.tell octet_peers (as_side side) (as_event (told event.entry)) (as_world self.old))
             (as_world self.old) (as_world self.new)) }
         ensures unchanged { OnErr result (as_world self.new ≡ as_world self.old) }
     {

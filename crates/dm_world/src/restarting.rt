@@ -1,6 +1,6 @@
 //! The connect of a link that comes about, which makes an end, and a Restart, which goes over the ends that were made.
 ghost use Rattle.std.specs.Prelude.{◌≡◌, ◌++◌, IfOk, IfErr, OnErr, slice_get};
-ghost use Rattle.dm_links.specs.Facts.{IsSound};
+ghost use Rattle.dm_links.specs.Facts.{IsSoundWorld};
 ghost use Rattle.dm_links.specs.Happens.{happens, Acks, restart_links};
 ghost use Rattle.dm_links.specs.Worlds.{with_peer, peer_at};
 ghost use Rattle.dm_pair.specs.Octets.{octet_peers};
@@ -83,7 +83,7 @@ impl Net {
     /// The side starts anew. That changes no links but those on which an end was made for it, and those that its peer
     /// holds.
     pub(crate) fn restart(&mut self, made: &mut MadeEnds, side: Side)
-        requires sound { IsSound octet_peers (as_world self.old) }
+        requires sound { IsSoundWorld octet_peers (as_world self.old) }
         requires named { AreNamed made.old (as_links self.old.links.items) }
         ensures anew { as_world self.new ≡ with_peer (as_side side)
             (reset_of (peer_at (as_side side) (as_world self.old)))

@@ -1,5 +1,5 @@
 //! A world: two peers and the links between them.
-ghost use Rattle.dm_links.specs.Facts.{IsSound};
+ghost use Rattle.dm_links.specs.Facts.{IsSoundWorld};
 ghost use Rattle.dm_links.specs.Streams.{AreCut};
 ghost use Rattle.dm_pair.specs.Octets.{octet_peers};
 ghost use Rattle.dm_pair.specs.Talking.{ArePeers};
@@ -34,7 +34,7 @@ use std::alloc::Global;
 pub struct World {
     pub(crate) net: Net,
     made: MadeEnds,
-    pub ghost sound: { IsSound octet_peers (as_world net) } by { Prim.hlevel props },
+    pub ghost sound: { IsSoundWorld octet_peers (as_world net) } by { Prim.hlevel props },
     pub ghost peers: { ArePeers (as_world net) } by { Prim.hlevel props },
     pub ghost cut: { AreCut octet_peers (as_world net) } by { Prim.hlevel props },
     pub ghost named: { AreNamed made (as_links net.links.items) } by { Prim.hlevel props },
