@@ -1,13 +1,12 @@
 -- The state machine as peers moves as the state machine.
-use Rattle.std.proofs.Common.{◌≡◌, ◌==◌, Bool, true, false, if◌then◌else◌, List, [], ◌∷◌, map, refl, sym, ap, ◌∙◌, inl}
-use Rattle.dm_machine.specs.Connection as machine
-use Rattle.dm_links.specs.Machine.{Conn, Command, outcome, Elsewhere, concern_as, concern_of}
+use Rattle.std.proofs.Common.{◌≡◌, List, [], ◌∷◌, map, refl, sym, ap, ◌∙◌, inl}
+use Rattle.dm_links.specs.Machine.{Command, outcome}
 use Rattle.dm_machine.specs.declared.inputs.Word.{Word}
 use Rattle.dm_machine.specs.declared.inputs.Word.TheVariants.{Other}
 use Rattle.dm_machine.specs.declared.outputs.Command.TheVariants as command
 use Rattle.dm_machine.specs.Moves.{Outcome, Moved, Refused}
 use Rattle.dm_machine.specs.Deeds.{Deed, deed_of_command}
-use Rattle.dm_links.specs.Peers.{Event, Start, Stop, Timeout, Tick, Ack, Nack, Gone, Submit, Arrived, concern_by}
+use Rattle.dm_links.specs.Peers.{Event, Start, Stop, Timeout, Tick, Ack, Nack, Gone, Submit, Arrived}
 use Rattle.dm_links.specs.Peers.{deed_of}
 use Rattle.dm_links.specs.Follows.{input_told, IsRefusedByMachine, MayDecline, FollowsMachine}
 use Rattle.dm_links.specs.Kinds.{KindPeer, kind_input, kind_action, reply_by, kinds, KindsAreAMachine, TwoRuns}
@@ -30,22 +29,6 @@ same_deeds [] = refl
 same_deeds (a ∷ more) =
     ap (λ (o : Deed). o ∷ map deed_of (map kind_action more)) (same_deed a)
     ∙ ap (λ (os : List Deed). deed_of_command a ∷ os) (same_deeds more)
-
-named_as : (b : Bool) (k : machine.Concern) →
-    concern_as (machine.if_named b k) ≡ (if b then concern_as k else Elsewhere)
-named_as true k = refl
-named_as false k = refl
-
-same_concern : (e : Event Word) (c : Conn) → concern_of (kind_input e) c ≡ concern_by e c
-same_concern (Start d) c = named_as (d.0 == c.0) machine.StartsIt
-same_concern (Stop cause) c = refl
-same_concern Timeout c = refl
-same_concern Tick c = refl
-same_concern (Ack d) c = named_as (d.0 == c.0) machine.AcksIt
-same_concern (Nack d) c = named_as (d.0 == c.0) machine.NacksIt
-same_concern (Gone d) c = named_as (d.0 == c.0) machine.EndsIt
-same_concern (Submit w) c = refl
-same_concern (Arrived d w) c = named_as (d.0 == c.0) (machine.HeardOnIt w)
 
 word_in : Event Word → Word
 word_in (Arrived c w) = w
@@ -91,7 +74,6 @@ follows_by p e (Moved commands n) h =
       wins = p.wins;
       commands = commands;
       told = same_input e;
-      concerns = same_concern e;
       moves = h;
       deeds = same_deeds commands;
     })

@@ -1,5 +1,6 @@
 mod Every
 mod Checks
+mod Concerns
 mod Ties
 mod Columns
 mod Views

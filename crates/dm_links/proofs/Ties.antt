@@ -14,12 +14,13 @@ use Rattle.dm_machine.specs.Connection.{Hold, NotHeld, Pending, OpenAsI, Closing
 use Rattle.dm_machine.specs.Connection.{if_ordered, order_to, with_order, orders_to, AtConnection}
 use Rattle.dm_machine.specs.Connection as machine
 use Rattle.dm_machine.specs.Changes.{Change, change, allowed}
-use Rattle.dm_links.specs.Machine.{conn, Node, Command, Concern, Elsewhere, HeardOnIt, concern_as, is_shaped, Tie}
+use Rattle.dm_links.specs.Machine.{conn, Node, Command, Concern, Elsewhere, HeardOnIt, is_shaped, Tie}
 use Rattle.dm_links.specs.Machine.{Unheld, Connecting, Made, MadeOpen, Taken, tie_as, tie_of}
 use Rattle.dm_links.specs.Machine.{EachConnectionChangesAsAllowed, EachStepKeepsShape}
 use Rattle.dm_machine.specs.Deeds.{Deed, deed_of_command}
 use Rattle.dm_links.specs.Peers.{Event, Action, Reply, Acts, Peers, concern_by, deed_of, closes_at, sends_at}
 use Rattle.dm_links.specs.Follows.{StepsAsMachine, Drops, is_droppable, FollowsMachine, IsMachine}
+use Rattle.dm_links.proofs.Concerns.{concern_as, told_concern}
 use Rattle.dm_links.proofs.Every.{all_true, at}
 use Rattle.dm_links.proofs.Checks.{when, is_when, is_ready, is_allowed}
 
@@ -229,7 +230,8 @@ step_ties m p next e actions law keeps shaped step =
           let orders = orders_to (conn c) commands in
           let mk = machine.concern_of step.input (conn c) in
           let k = concern_by e (conn c) in
-          let same : concern_as mk ≡ k = step.concerns (conn c) in
+          let same : concern_as mk ≡ k = ap (λ i. concern_as (machine.concern_of i (conn c))) step.told
+          ∙ told_concern e step.word (conn c) in
           let raw : Contains (allowed mk (hold_of n (conn c))) (change (hold_of n' (conn c)) orders) =
           subst (λ (o : Outcome). AtConnection
           (λ j before after os. Contains (allowed j before) (change after os)) n step.input (conn c) o)

@@ -4,7 +4,7 @@ use Rattle.dm_machine.specs.declared.inputs.Input.TheVariants as input
 use Rattle.dm_machine.specs.declared.inputs.Word.{Word}
 use Rattle.dm_machine.specs.declared.outputs.Refusal.{Refusal}
 use Rattle.dm_machine.specs.Moves.{Moved, Refused}
-use Rattle.dm_links.specs.Machine.{Conn, conn, Input, Command, Concern, Elsewhere, HeardOnIt, concern_of, outcome, Tie}
+use Rattle.dm_links.specs.Machine.{Conn, conn, Input, Command, Concern, Elsewhere, HeardOnIt, outcome, Tie}
 use Rattle.dm_links.specs.Machine.{Made, MadeOpen, Taken, tie_of, closed_node}
 use Rattle.dm_machine.specs.Deeds.{deed_of_command}
 use Rattle.dm_links.specs.Peers.{Event, Start, Stop, Timeout, Tick, Ack, Nack, Gone, Submit, Arrived, Action, Reply}
@@ -22,8 +22,7 @@ input_told (Gone c) word = input.Gone c
 input_told (Submit x) word = input.Submit
 input_told (Arrived c x) word = input.Heard c word
 
--- one step of the machine, at the event with some word, with an action for each command; its input concerns each
--- connection as the event does
+-- one step of the machine, at the event with some word, with an action for each command
 pub record StepsAsMachine {P M : Type 0} (m : Peers P M) (p : P) (e : Event M) (actions : List (Action M))
     (next : P) : Type 0 where
   pub input : Input
@@ -31,7 +30,6 @@ pub record StepsAsMachine {P M : Type 0} (m : Peers P M) (p : P) (e : Event M) (
   pub wins : Bool
   pub commands : List Command
   pub told : input ≡ input_told e word
-  pub concerns : (c : Conn) → concern_of input c ≡ concern_by e c
   pub moves : outcome (m.node_of p) input wins ≡ Moved commands (m.node_of next)
   pub deeds : map deed_of actions ≡ map deed_of_command commands
 

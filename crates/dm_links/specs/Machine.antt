@@ -30,17 +30,6 @@ pub data Concern : Type 0 where
 abbrev pub concern_if_named : Conn → Conn → Concern → Concern
 concern_if_named d c k = if d.0 == c.0 then k else Elsewhere
 
-abbrev pub concern_as : hold.Concern → Concern
-concern_as hold.StartsIt = StartsIt
-concern_as hold.AcksIt = AcksIt
-concern_as hold.NacksIt = NacksIt
-concern_as hold.EndsIt = EndsIt
-concern_as (hold.HeardOnIt w) = HeardOnIt
-concern_as _ = Elsewhere
-
-abbrev pub concern_of : Input → Conn → Concern
-concern_of i c = concern_as (hold.concern_of i c)
-
 -- how a node holds a connection: not; initiated and not yet made; initiated and made; open as its initiator; accepted
 pub data Tie : Type 0 where
   Unheld : Tie
