@@ -1,8 +1,7 @@
 -- Peers over octets move as the state machine.
-use Rattle.std.proofs.Common.{◌≡◌, ℕ, ◌==◌, Bool, true, false, if◌then◌else◌, Option, List, [], ◌∷◌, map, refl, sym, ap, subst, ◌∙◌, inl, inr, arith}
+use Rattle.std.proofs.Common.{◌≡◌, ℕ, ◌==◌, Bool, true, false, if◌then◌else◌, List, [], ◌∷◌, map, refl, ap, subst, ◌∙◌, inl, inr, arith}
 use Rattle.std.proofs.lemmas.Bool.Decides.{nat_tests}
 use Rattle.dm_machine.specs.declared.connection.Conn.{Conn}
-use Rattle.dm_machine.specs.declared.outputs.Command.{Command}
 use Rattle.dm_machine.specs.declared.outputs.Command.TheVariants as command
 use Rattle.dm_machine.specs.Connection as machine
 use Rattle.dm_peer.specs.declared.actions.Action as declared_action
@@ -10,10 +9,10 @@ use Rattle.dm_peer.specs.declared.actions.Action.TheVariants as action
 use Rattle.dm_peer.specs.declared.peer.Peer.{Peer}
 use Rattle.dm_peer.specs.Events as told
 use Rattle.dm_peer.specs.Configs.{wins}
-use Rattle.dm_peer.specs.Said.{Heard, word_heard}
+use Rattle.dm_peer.specs.Said.{word_heard}
 use Rattle.dm_peer.specs.Acts.{Outcome, Moved, Refused, acts, input_of, is_made}
 use Rattle.dm_peer.specs.Steps as peer
-use Rattle.dm_links.specs.Machine.{conn, Elsewhere, HeardOnIt, concern_as, concern_of, tie_as, tie_of}
+use Rattle.dm_links.specs.Machine.{conn, Elsewhere, HeardOnIt, tie_as, tie_of}
 use Rattle.dm_links.specs.Peers.{Event, Start, Stop, Timeout, Tick, Ack, Nack, Gone, Submit, Arrived, concern_by, deed_of}
 use Rattle.dm_links.specs.Follows.{StepsAsMachine, Drops, is_droppable, FollowsMachine, IsMachine}
 use Rattle.dm_pair.proofs.Declining.{same_input, Declined, octets_decline}
@@ -31,24 +30,6 @@ actions_done [] = refl
 actions_done (a ∷ l) = ap (λ o. o ∷ map deed_of (as_actions l)) (action_done a)
     ∙ ap (λ os. peer.deed_of a ∷ os) (actions_done l)
 
--- an event concerns a connection as its input does
-named_as : (b : Bool) (k : machine.Concern) →
-    concern_as (machine.if_named b k) ≡ (if b then concern_as k else Elsewhere)
-named_as true k = refl
-named_as false k = refl
-
-concerns_same : (e : Event (List ℕ)) (h : Option Heard) (c : Conn) →
-    concern_of (input_of (of_event e) h) c ≡ concern_by e c
-concerns_same (Start d) h c = named_as (d.0 == c.0) machine.StartsIt
-concerns_same (Stop cause) h c = refl
-concerns_same Timeout h c = refl
-concerns_same Tick h c = refl
-concerns_same (Ack d) h c = named_as (d.0 == c.0) machine.AcksIt
-concerns_same (Nack d) h c = named_as (d.0 == c.0) machine.NacksIt
-concerns_same (Gone d) h c = named_as (d.0 == c.0) machine.EndsIt
-concerns_same (Submit s) h c = refl
-concerns_same (Arrived d s) h c = named_as (d.0 == c.0) (machine.HeardOnIt (word_heard h))
-
 step_taken : (p next : Peer) (e : Event (List ℕ)) (actions : List declared_action.Action) →
     peer.IsStep p (of_event e) actions next → StepsAsMachine octet_peers p e (as_actions actions) next
 step_taken p next e actions step =
@@ -58,7 +39,6 @@ step_taken p next e actions step =
       wins = wins p.config;
       commands = step.commands;
       told = same_input e step.heard;
-      concerns = concerns_same e step.heard;
       moves = step.moves;
       deeds = actions_done actions ∙ step.deeds;
     }

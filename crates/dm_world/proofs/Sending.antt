@@ -2,6 +2,7 @@
 use Rattle.std.proofs.Common.{◌≡◌, ℕ, suc, ◌≤◌, Bool, true, false, not, ◌&&◌, ◌||◌, ◌==◌, if◌then◌else◌, List, [], ◌∷◌, length, map, refl, sym, ap, subst, ◌∙◌, inl, inr, arith}
 use Rattle.std.specs.Prelude.{◌⊎◌, IsTrue, nat_le}
 use Rattle.std.proofs.lemmas.Bool.Decides.{nat_tests}
+use Rattle.dm_machine.specs.declared.inputs.Word.{Word}
 use Rattle.dm_machine.specs.declared.outputs.Command.{Command}
 use Rattle.dm_machine.specs.declared.outputs.Command.TheVariants as command
 use Rattle.dm_machine.specs.Moves.{outcome}
@@ -12,11 +13,11 @@ use Rattle.dm_machine.specs.Openings.{LeavesOthersAlone, is_hold, is_named}
 use Rattle.dm_machine.specs.Shape.{KeepsShape}
 use Rattle.dm_peer.specs.declared.actions.Action as declared_action
 use Rattle.dm_peer.specs.declared.peer.Peer.{Peer}
-use Rattle.dm_links.specs.Machine.{conn, Node, is_shaped, Concern, Elsewhere, StartsIt, AcksIt, NacksIt, EndsIt, HeardOnIt, concern_as, EachStepKeepsShape, Tie, Unheld, Connecting, Made, MadeOpen, Taken, tie_as, tie_of, is_held, held_as, Initiated, Accepted}
+use Rattle.dm_links.specs.Machine.{Conn, conn, Node, is_shaped, Concern, Elsewhere, StartsIt, AcksIt, NacksIt, EndsIt, HeardOnIt, EachStepKeepsShape, Tie, Unheld, Connecting, Made, MadeOpen, Taken, tie_as, tie_of, is_held, held_as, Initiated, Accepted}
 use Rattle.dm_links.specs.Links.{Side}
 use Rattle.dm_machine.specs.Deeds.{Deed, deed_of_command}
 use Rattle.dm_links.specs.Peers.{Event, Start, Stop, Timeout, Tick, Ack, Nack, Gone, Submit, Arrived, concern_by, deed_of, sends_at, Reply, Acts}
-use Rattle.dm_links.specs.Follows.{StepsAsMachine, FollowsMachine, IsMachine}
+use Rattle.dm_links.specs.Follows.{input_told, StepsAsMachine, FollowsMachine, IsMachine}
 use Rattle.dm_world.specs.declared.link.Link.{Link}
 use Rattle.dm_pair.specs.Octets.{as_actions, octet_peers}
 use Rattle.dm_world.specs.Rooms.{HasRoomFor, is_on, named, HasRoomToSend}
@@ -68,17 +69,23 @@ unheld_is machine.Taken e = cc
 unheld_is machine.OpenAsR e = cc
 unheld_is machine.ClosingAsR e = cc
 
-elsewhere_is : (k : machine.Concern) → concern_as k ≡ Elsewhere → not (is_named k) ≡ true
-elsewhere_is machine.StartsIt e = cc
-elsewhere_is machine.AcksIt e = cc
-elsewhere_is machine.NacksIt e = cc
-elsewhere_is machine.EndsIt e = cc
-elsewhere_is (machine.HeardOnIt w) e = cc
-elsewhere_is machine.NamesAnother e = refl
-elsewhere_is machine.Stops e = refl
-elsewhere_is machine.TimesOut e = refl
-elsewhere_is machine.Ticks e = refl
-elsewhere_is machine.Submits e = refl
+-- what an event doesn't concern it doesn't name
+unless_named : (b : Bool) (k : Concern) (told : machine.Concern) → (k ≡ Elsewhere → ⊥) →
+    (if b then k else Elsewhere) ≡ Elsewhere → not (is_named (machine.if_named b told)) ≡ true
+unless_named true k told no e = absurd (no e)
+unless_named false k told no e = refl
+
+elsewhere_is : (e : Event (List ℕ)) (w : Word) (c : Conn) → concern_by e c ≡ Elsewhere →
+    not (is_named (machine.concern_of (input_told e w) c)) ≡ true
+elsewhere_is (Start d) w c e = unless_named (d.0 == c.0) StartsIt machine.StartsIt (λ k. cc) e
+elsewhere_is (Stop cause) w c e = refl
+elsewhere_is Timeout w c e = refl
+elsewhere_is Tick w c e = refl
+elsewhere_is (Ack d) w c e = unless_named (d.0 == c.0) AcksIt machine.AcksIt (λ k. cc) e
+elsewhere_is (Nack d) w c e = unless_named (d.0 == c.0) NacksIt machine.NacksIt (λ k. cc) e
+elsewhere_is (Gone d) w c e = unless_named (d.0 == c.0) EndsIt machine.EndsIt (λ k. cc) e
+elsewhere_is (Submit s) w c e = refl
+elsewhere_is (Arrived d s) w c e = unless_named (d.0 == c.0) HeardOnIt (machine.HeardOnIt w) (λ k. cc) e
 
 both_true : (a b : Bool) → a ≡ true → b ≡ true → (a && b) ≡ true
 both_true true b h g = g
@@ -100,7 +107,8 @@ step_unsent p next e actions c law shaped step unheld elsewhere =
     (at (both_true (is_hold machine.NotHeld (hold_of p.standing.core (conn c)))
     (not (is_named (machine.concern_of step.input (conn c))))
     (unheld_is (hold_of p.standing.core (conn c)) unheld)
-    (elsewhere_is (machine.concern_of step.input (conn c)) (step.concerns (conn c) ∙ elsewhere)))).1 in
+    (ap (λ i. not (is_named (machine.concern_of i (conn c)))) step.told
+    ∙ elsewhere_is e step.word (conn c) elsewhere))).1 in
     ap (λ (os : List Deed). sends_at c os) step.deeds ∙ unordered c step.commands orders
 
 reply_unsent : (p next : Peer) (e : Event (List ℕ)) (actions : List declared_action.Action) (c : ℕ) → SendLaws →
