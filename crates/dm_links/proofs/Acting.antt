@@ -17,9 +17,9 @@ use Rattle.dm_links.specs.Electing.{Talks, IsReadAs, reads_ack, reads_end, reads
 use Rattle.dm_links.proofs.Columns.{stepped}
 use Rattle.dm_links.proofs.Pairs.{IsPair, ab, ba, mirror, Stands, AreAt, not_same}
 use Rattle.dm_links.proofs.Told.{Goes}
-use Rattle.dm_links.proofs.Turns.{wait_conn_ack, wait_i_cea, elect, returns, r_open, i_open, out_ack, out_ack_lose}
-use Rattle.dm_links.proofs.Turns.{out_ack_win, out_cer_closed, out_cer_wait, out_cer_lose, out_cer_win, out_reject}
-use Rattle.dm_links.proofs.Turns.{out_cea, out_cea_returns, out_gone}
+use Rattle.dm_links.proofs.CleanSteps.{wait_conn_ack, wait_i_cea, elect, returns, r_open, i_open, out_ack, out_ack_lose}
+use Rattle.dm_links.proofs.CleanSteps.{out_ack_win, out_cer_closed, out_cer_wait, out_cer_lose, out_cer_win, out_reject}
+use Rattle.dm_links.proofs.CleanSteps.{out_cea, out_cea_returns, out_gone}
 use Rattle.dm_links.proofs.Stages.{Stage, Dialled, Asked, Accepted, Answered, Dropped, Halved, Parted, direction_of}
 use Rattle.dm_links.proofs.Stages.{seen, stage_view, turn, none_said, one_said, two_said, three_said}
 

@@ -12,7 +12,8 @@ use Rattle.dm_links.proofs.Columns.{outgoing_mark_at, messages_at}
 use Rattle.dm_links.proofs.Closing.{CarriesOn}
 use Rattle.dm_links.proofs.Lists.{change_at-tested}
 use Rattle.dm_links.proofs.Hearing.{may_hear}
-use Rattle.dm_links.proofs.Ways.{Way, Under, own_drops}
+use Rattle.dm_links.proofs.Ways.{Way, Under}
+use Rattle.dm_links.proofs.WaysHeard.{own_drops}
 use Rattle.dm_links.proofs.Mirrors.{view_other, view_own}
 use Rattle.dm_links.proofs.Carried.{WayOnView, over_of}
 use Rattle.dm_links.proofs.CarriedViews.{flip_view}

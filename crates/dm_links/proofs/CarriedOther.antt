@@ -19,7 +19,7 @@ use Rattle.dm_links.proofs.Closing.{CarriesOn}
 use Rattle.dm_links.proofs.Keeps.{Hands}
 use Rattle.dm_links.proofs.Events.{side_sound}
 use Rattle.dm_links.proofs.Promise.{held_there}
-use Rattle.dm_links.proofs.Ways.{IsNew, says_none, says_one}
+use Rattle.dm_links.proofs.WaysOther.{IsNew, says_none, says_one}
 use Rattle.dm_links.proofs.Carried.{Carried, IsCarrying, WayOnLink, carrier, no_other_raise, no_other_up, open_held}
 use Rattle.dm_links.proofs.Carried.{open_tied, over_of, plain_words, turn_with}
 use Rattle.dm_links.proofs.CarriedViews.{flip_view, on_mapped, other_fits, stepped_by, tie_open}

@@ -12,7 +12,8 @@ use Rattle.dm_links.proofs.Checks.{closes_own}
 use Rattle.dm_links.proofs.Closing.{CarriesOn}
 use Rattle.dm_links.proofs.Pairs.{mirror}
 use Rattle.dm_links.proofs.Happenings.{restarted_at}
-use Rattle.dm_links.proofs.Ways.{says_none, own_calm, other_acts}
+use Rattle.dm_links.proofs.WaysOther.{says_none, other_acts}
+use Rattle.dm_links.proofs.WaysOwn.{own_calm}
 use Rattle.dm_links.proofs.Mirrors.{view_other, view_own}
 use Rattle.dm_links.proofs.Carried.{Carried, WayOnLink, WayOnView, over_of}
 use Rattle.dm_links.proofs.CarriedViews.{on_mapped, padded}

@@ -18,7 +18,8 @@ use Rattle.dm_links.proofs.Lists.{performed_at}
 use Rattle.dm_links.proofs.Keeps.{appended_at}
 use Rattle.dm_links.proofs.Pairs.{mirror}
 use Rattle.dm_links.proofs.Events.{side_sound, standing_at}
-use Rattle.dm_links.proofs.Ways.{says_none, own_calm, other_acts}
+use Rattle.dm_links.proofs.WaysOther.{says_none, other_acts}
+use Rattle.dm_links.proofs.WaysOwn.{own_calm}
 use Rattle.dm_links.proofs.Mirrors.{view_other, view_own}
 use Rattle.dm_links.proofs.Carried.{Carried, IsCarrying, WayOnLink, WayOnView, carrier, held_over, over_of, plain_words}
 use Rattle.dm_links.proofs.Carried.{same_right}

@@ -22,7 +22,10 @@ use Rattle.dm_links.proofs.Lists.{IsStart, stepped_at}
 use Rattle.dm_links.proofs.Pairs.{mirror, links_after}
 use Rattle.dm_links.proofs.Events.{side_sound, standing_at}
 use Rattle.dm_links.proofs.Hearing.{is_word}
-use Rattle.dm_links.proofs.Ways.{Way, Fits, IsNew, own_calm, own_heard, other_acts}
+use Rattle.dm_links.proofs.Ways.{Way}
+use Rattle.dm_links.proofs.WaysOwn.{Fits, own_calm}
+use Rattle.dm_links.proofs.WaysOther.{IsNew, other_acts}
+use Rattle.dm_links.proofs.WaysHeard.{own_heard}
 use Rattle.dm_links.proofs.Mirrors.{mirrored, view_other, view_own}
 use Rattle.dm_links.proofs.Carried.{Carried, IsCarrying, WayOnLink, WayOnView, blank_in, blank_out, carrier, handed_ack}
 use Rattle.dm_links.proofs.Carried.{handed_end, held_over, made_is, not_is, open_held, open_tied, open_unshut, over_of}

@@ -18,7 +18,7 @@ use Rattle.dm_links.specs.Delivery.{has_loss_of, DeliversInOrder}
 use Rattle.dm_links.proofs.Ties.{MachineLaws}
 use Rattle.dm_links.proofs.Happenings.{happens_sound}
 use Rattle.dm_links.proofs.Closing.{CarriesOn, carries_on_proof}
-use Rattle.dm_links.proofs.Ways.{hears_now}
+use Rattle.dm_links.proofs.WaysHeard.{hears_now}
 use Rattle.dm_links.proofs.Carried.{WayOnLink, over_of, Carried, names_loss, IsCarrying, carrier}
 use Rattle.dm_links.proofs.CarriedViews.{tie_open}
 use Rattle.dm_links.proofs.CarriedHappenings.{happening_keeps}

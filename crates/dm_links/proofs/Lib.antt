@@ -12,7 +12,7 @@ mod Promise
 mod KindLemmas
 mod Pairs
 mod Told
-mod Turns
+mod CleanSteps
 mod Stages
 mod Acting
 mod Starting
@@ -39,6 +39,9 @@ mod Falling
 mod Sharing
 mod Hearing
 mod Ways
+mod WaysOwn
+mod WaysHeard
+mod WaysOther
 mod Mirrors
 mod Carried
 mod CarriedViews

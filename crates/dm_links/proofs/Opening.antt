@@ -17,7 +17,7 @@ use Rattle.dm_links.specs.Recovering.{CanClear, CanOpen, ResetKeepsPeer}
 use Rattle.dm_links.proofs.Lists.{same_test}
 use Rattle.dm_links.proofs.Pairs.{IsPair, ab, ba, swapped, mirror, AreAt, at_flip}
 use Rattle.dm_links.proofs.Stages.{Dialled, Asked, Accepted, Answered}
-use Rattle.dm_links.proofs.Turns.{wait_i_cea, i_open, r_open}
+use Rattle.dm_links.proofs.CleanSteps.{wait_i_cea, i_open, r_open}
 use Rattle.dm_links.proofs.Acting.{own_at, acks_plain, cer_closed, cea_plain}
 use Rattle.dm_links.proofs.Starting.{start_first}
 use Rattle.dm_links.proofs.Phasing.{acked_own, arrives_own, arrives_other}

@@ -8,7 +8,7 @@ use Rattle.dm_links.specs.Peers.{Peers}
 use Rattle.dm_links.specs.Worlds.{World, Put, Disconnect, After, Done, Ignored, NoLink}
 use Rattle.dm_links.specs.Electing.{Talks}
 use Rattle.dm_links.proofs.Pairs.{mirror, AreAt}
-use Rattle.dm_links.proofs.Turns.{wait_conn_ack, wait_i_cea, elect, returns, r_open, i_open}
+use Rattle.dm_links.proofs.CleanSteps.{wait_conn_ack, wait_i_cea, elect, returns, r_open, i_open}
 use Rattle.dm_links.proofs.Stages.{Stage, Unmade, Dialled, Asked, Accepted, Answered, Dropped, Halved, Parted}
 use Rattle.dm_links.proofs.Acting.{own_at, cer_put, cea_put}
 

@@ -19,7 +19,7 @@ use Rattle.dm_links.specs.Electing.{Talks, IsPeerOf, IsElecting}
 use Rattle.dm_links.specs.Settled.{Tally, AtMost, disconnects, AreOpenOnKept, FellQuiet, IsSettledRun}
 use Rattle.dm_links.specs.Courses.{IsOnCourse}
 use Rattle.dm_links.proofs.Pairs.{IsPair, ab, ba, swapped, Stands}
-use Rattle.dm_links.proofs.Turns.{i_open, r_open}
+use Rattle.dm_links.proofs.CleanSteps.{i_open, r_open}
 use Rattle.dm_links.proofs.Stages.{Stage, Unmade, Dialled, Asked, Accepted, Answered, Dropped, Halved, Parted}
 use Rattle.dm_links.proofs.Acting.{own_at}
 use Rattle.dm_links.proofs.Phases.{Phase, C1, C2, C3, C4, C5, C6, C7, C8, C9, C25, stage_g, stage_l, depth, present}

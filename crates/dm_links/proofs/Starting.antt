@@ -20,7 +20,7 @@ use Rattle.dm_links.proofs.Keeps.{appended_at}
 use Rattle.dm_links.proofs.Pairs.{IsPair, mirror, own_by, other_by, here_after, there_after, links_after, Stands, AreAt}
 use Rattle.dm_links.proofs.Pairs.{not_same}
 use Rattle.dm_links.proofs.Told.{Goes, calm_link}
-use Rattle.dm_links.proofs.Turns.{wait_conn_ack, out_start}
+use Rattle.dm_links.proofs.CleanSteps.{wait_conn_ack, out_start}
 use Rattle.dm_links.proofs.Stages.{Dialled, Parted, one_said, replied, stands_by}
 use Rattle.dm_links.proofs.Acting.{unnamed, itself, own_at}
 

@@ -12,8 +12,8 @@ use Rattle.dm_links.specs.Quiet.{makes}
 use Rattle.dm_links.specs.Electing.{Talks, IsElecting}
 use Rattle.dm_links.proofs.Pairs.{IsPair, ab, ba, swapped, mirror}
 use Rattle.dm_links.proofs.Told.{Goes}
-use Rattle.dm_links.proofs.Turns.{out_start_wait, out_start_cea, out_start_elect, out_start_returns, out_start_r}
-use Rattle.dm_links.proofs.Turns.{out_start_i}
+use Rattle.dm_links.proofs.CleanSteps.{out_start_wait, out_start_cea, out_start_elect, out_start_returns, out_start_r}
+use Rattle.dm_links.proofs.CleanSteps.{out_start_i}
 use Rattle.dm_links.proofs.Acting.{own_at, acks_plain, acks_lose, acks_win, cer_closed, cer_wait, cer_lose, cer_late}
 use Rattle.dm_links.proofs.Acting.{cer_win, cer_win_late, cer_rejected, cea_plain, cea_returns, gone_returns}
 use Rattle.dm_links.proofs.Starting.{shut_own, shut_other, start_first, start_second, start_declined}
