@@ -2,7 +2,7 @@
 use Rattle.std.proofs.Common.{◌≡◌, ℕ, Bool, true, false, ◌==◌, if◌then◌else◌, List, [], ◌∷◌, map, refl}
 use Rattle.std.specs.Bool.{⊤}
 use Rattle.dm_links.specs.Machine.{Concern, Elsewhere, StartsIt, AcksIt, NacksIt, EndsIt, HeardOnIt}
-use Rattle.dm_links.specs.Links.{LinkPhase, Up, End, Shut, Mark, NoMark, Direction, nothing, View}
+use Rattle.dm_links.specs.Links.{LinkPhase, Up, End, Shut, Mark, NoMark, Direction, empty_direction, View}
 use Rattle.dm_links.specs.Peers.{Action, Send, Close, Connect, deed_of, closes_at}
 use Rattle.dm_links.specs.Peers as peers
 use Rattle.dm_links.specs.Steps.{added, entered, with_sent, with_close, settled}
@@ -27,7 +27,7 @@ other_at k other = (entered k (seen Up Shut other (bare NoMark) (bare NoMark))).
 
 abbrev pub messages_at : {M : Type 0} → Concern → List M → List M
 messages_at k ms =
-    (entered k (seen Up Shut Shut (record { messages = ms; taken = 0; mark = NoMark }) nothing)).incoming.messages
+    (entered k (seen Up Shut Shut (record { messages = ms; taken = 0; mark = NoMark }) empty_direction)).incoming.messages
 
 abbrev pub taken_at : Concern → ℕ → ℕ
 taken_at k n =

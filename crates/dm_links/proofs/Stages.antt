@@ -9,7 +9,7 @@ use Rattle.dm_links.specs.Peers.{Event, Action, Acts, Peers, concern_by}
 use Rattle.dm_links.specs.Steps.{entered}
 use Rattle.dm_links.specs.Worlds.{World, peer_at, Put, enter, puts_of, puts_at_entry, tell}
 use Rattle.dm_machine.specs.Awaiting.{awaits_cea, holds_cer, number_after, waiting_after}
-use Rattle.dm_links.specs.Electing.{Talks, IsPeerOf, IsReadAs, sends_cer, IsSaid, AreSaid, RepliesBy, RepliesAs}
+use Rattle.dm_links.specs.Electing.{Talks, IsPeerOf, IsReadAs, has_send_cer, IsSaid, AreSaid, RepliesBy, RepliesAs}
 use Rattle.dm_links.specs.Electing.{IsElecting}
 use Rattle.dm_links.proofs.Columns.{stepped}
 use Rattle.dm_links.proofs.Lists.{IsStart, entered_at}
@@ -86,7 +86,7 @@ module _ {P M C H : Type 0} (m : Peers P M) (t : Talks P M C H) where
   pub stands_by : (s : Side) (p : P) (e : Event M) (heard : Option H) (commands : List Command) (n next : Node)
       (h h' : ℕ) → m.node_of p ≡ n → (r : RepliesBy m t s p heard commands next (m.reply p e)) →
       (awaits_cea next.state ≡ true →
-      number_after (awaits_cea next.state) (sends_cer commands) (t.next_of p) (t.awaited_of p) ≡ Some h) →
+      number_after (awaits_cea next.state) (has_send_cer commands) (t.next_of p) (t.awaited_of p) ≡ Some h) →
       (holds_cer next.state ≡ true →
       waiting_after n.state heard next.state (t.waiting_of p) ≡ Some (t.cer_header h')) →
       IsTrue (t.is_number h) → Stands m t s r.peer next h h'
@@ -108,7 +108,7 @@ module _ {P M C H : Type 0} (m : Peers P M) (t : Talks P M C H) where
       (IsStart e → ⊥) → IsReadAs m t s (peer_at s w) e i heard → outcome n i (t.wins s) ≡ Moved commands n1 →
       ((acts : List (Action M)) → AreSaid t s (peer_at s w) heard commands acts → acts ≡ actions) →
       (awaits_cea n1.state ≡ true →
-      number_after (awaits_cea n1.state) (sends_cer commands) (t.next_of (peer_at s w))
+      number_after (awaits_cea n1.state) (has_send_cer commands) (t.next_of (peer_at s w))
       (t.awaited_of (peer_at s w)) ≡ Some h1) →
       (holds_cer n1.state ≡ true →
       waiting_after n.state heard n1.state (t.waiting_of (peer_at s w)) ≡ Some (t.cer_header h')) →

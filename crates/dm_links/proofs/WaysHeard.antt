@@ -7,7 +7,7 @@ use Rattle.dm_links.specs.Machine.{HeardOnIt}
 use Rattle.dm_links.specs.Links.{LinkPhase, Up, End, Fresh, Open, Shut, Mark}
 use Rattle.dm_links.specs.Steps.{own_settled}
 use Rattle.dm_links.specs.Facts.{is_up, is_open_end, is_shut}
-use Rattle.dm_links.specs.Delivery.{apps, is_done_hold, is_unmade, IsHandedUp}
+use Rattle.dm_links.specs.Delivery.{apps, is_done_hold, is_unmade, HandsUpHeard}
 use Rattle.dm_machine.specs.Upward.{is_open_hold}
 use Rattle.dm_links.proofs.Columns.{phase_after, own_after}
 use Rattle.dm_links.proofs.Every.{at_bool, at_end}
@@ -92,7 +92,7 @@ module _ {M : Type 0} (is_app : M → Bool) (lost : Bool) where
   pub own_heard : (closed holds : Bool) (own other : End) (before after : Hold) (x : M) (xs ups : List M)
       (mark : Mark) (said up : List M) → is_shut own ≡ false → is_unmade before ≡ false →
       (is_up Up ≡ true → is_open_end own ≡ true → is_done_hold before ≡ true → is_done_hold after ≡ true) →
-      IsHandedUp is_app before after x ups →
+      HandsUpHeard is_app before after x ups →
       Way is_app lost Up own other (x ∷ xs) mark (is_done_hold before) said up →
       Way is_app lost (phase_after closed Up) (own_settled HeardOnIt holds (own_after closed Up own)) other xs mark
       (is_done_hold after) said (up ++ ups)

@@ -78,7 +78,7 @@ pub record SendsSubmitted {M : Type 0} (is_app : M → Bool) (n : Node) (x : M) 
 
 -- a message of an application is handed up as it is on the connection on which the node is open, and ends any other
 -- that is made; no other message is handed up
-pub record IsHandedUp {M : Type 0} (is_app : M → Bool) (before after : Hold) (x : M) (ups : List M) : Type 0 where
+pub record HandsUpHeard {M : Type 0} (is_app : M → Bool) (before after : Hold) (x : M) (ups : List M) : Type 0 where
   pub hands : ups ≡ (if is_app x && is_open_hold before then x ∷ [] else [])
   pub ends : IsTrue (is_app x) → is_open_hold before ≡ false → is_unmade before ≡ false → IsTrue (is_done_hold after)
 
@@ -97,7 +97,7 @@ pub record CarriesMessages {P M : Type 0} (m : Peers P M) (is_app : M → Bool) 
       IsTrue (sends_all (λ x. not (is_app x)) actions)
   pub hears : (p next : P) (c : ℕ) (x : M) (actions : List (Action M)) → IsCarrier m stands p →
       m.reply p (Arrived (conn c) x) ≡ Acts actions next →
-      IsHandedUp is_app (hold_of (m.node_of p) (conn c)) (hold_of (m.node_of next) (conn c)) x (ups_of actions)
+      HandsUpHeard is_app (hold_of (m.node_of p) (conn c)) (hold_of (m.node_of next) (conn c)) x (ups_of actions)
   pub silent : (p next : P) (e : Event M) (actions : List (Action M)) → IsCarrier m stands p →
       ((c : Conn) (x : M) → e ≡ Arrived c x → ⊥) → m.reply p e ≡ Acts actions next → ups_of actions ≡ []
   pub keeps : (p next : P) (e : Event M) (actions : List (Action M)) → IsCarrier m stands p →

@@ -52,10 +52,10 @@ pub data IsReadAs {P M C H : Type 0} (m : Peers P M) (t : Talks P M C H) (s : Si
   reads_cea : (c : Conn) (n : ℕ) → IsTrue (t.is_number n) → t.awaited_of p ≡ Some n → hold_of (m.node_of p) c ≡ Made →
       IsReadAs m t s p (Arrived c (t.cea (t.config (flip s)) n)) (input.Heard c Cea) (Some (t.cea_header n))
 
-abbrev pub sends_cer : List Command → Bool
-sends_cer [] = false
-sends_cer (command.SendCer c ∷ more) = true
-sends_cer (_ ∷ more) = sends_cer more
+abbrev pub has_send_cer : List Command → Bool
+has_send_cer [] = false
+has_send_cer (command.SendCer c ∷ more) = true
+has_send_cer (_ ∷ more) = has_send_cer more
 
 -- what is done for a command: the CER has the next number, the CEA answers its CER
 abbrev pub IsSaid : {P M C H : Type 0} → Talks P M C H → Side → P → Option H → Command → Action M → Type 0
@@ -81,7 +81,7 @@ pub record RepliesBy {P M C H : Type 0} (m : Peers P M) (t : Talks P M C H) (s :
   pub node : m.node_of peer ≡ next
   pub same : IsPeerOf t s peer
   pub said : AreSaid t s p heard commands actions
-  pub awaited : t.awaited_of peer ≡ number_after (awaits_cea next.state) (sends_cer commands) (t.next_of p)
+  pub awaited : t.awaited_of peer ≡ number_after (awaits_cea next.state) (has_send_cer commands) (t.next_of p)
       (t.awaited_of p)
   pub waiting : t.waiting_of peer ≡ waiting_after (m.node_of p).state heard next.state (t.waiting_of p)
 

@@ -11,17 +11,17 @@ use Rattle.dm_links.specs.Facts.{IsSoundWorld}
 use Rattle.dm_links.specs.Quiet.{is_quiet}
 
 -- the states in which a side may be left with one connection, which it initiated or accepted
-abbrev pub may_stand : Role → State → Bool
-may_stand Initiated WaitICea = true
-may_stand Initiated IOpen = true
-may_stand Initiated Closing = true
-may_stand Accepted ROpen = true
-may_stand Accepted Closing = true
-may_stand _ _ = false
+abbrev pub can_rest_in : Role → State → Bool
+can_rest_in Initiated WaitICea = true
+can_rest_in Initiated IOpen = true
+can_rest_in Initiated Closing = true
+can_rest_in Accepted ROpen = true
+can_rest_in Accepted Closing = true
+can_rest_in _ _ = false
 
 -- it holds that link alone, in one of those states
 pub record StandsOn (n : Node) (role : Role) (c : ℕ) : Type 0 where
-  pub state : IsTrue (may_stand role n.state)
+  pub state : IsTrue (can_rest_in role n.state)
   pub held : n.held ≡ (role, conn c) ∷ []
 
 -- both are Closed, or each stands on one link alone, the same one, in opposite roles

@@ -49,8 +49,8 @@ pub record Link (M : Type 0) : Type 0 where
   pub to_opener : Direction M
   pub to_other : Direction M
 
-abbrev pub nothing : {M : Type 0} → Direction M
-nothing = record { messages = []; taken = 0; mark = NoMark }
+abbrev pub empty_direction : {M : Type 0} → Direction M
+empty_direction = record { messages = []; taken = 0; mark = NoMark }
 
 -- a link as a Start makes it; an end without standing is written as shut
 abbrev pub new_link : {M : Type 0} → Side → Link M
@@ -60,8 +60,8 @@ new_link s =
       phase = Pending;
       opener_end = Shut;
       other_end = Shut;
-      to_opener = nothing;
-      to_other = nothing;
+      to_opener = empty_direction;
+      to_other = empty_direction;
     }
 
 -- a link as one side sees it

@@ -21,7 +21,7 @@ use Rattle.dm_links.specs.Laws.{world_of}
 use Rattle.dm_links.specs.Kinds.{one_starts, both_start}
 use Rattle.dm_links.specs.Quiet.{is_quiet, kept}
 use Rattle.dm_machine.specs.Awaiting.{awaits_cea, holds_cer, number_after, waiting_after, cer_to_answer}
-use Rattle.dm_links.specs.Electing.{Talks, sends_cer, IsElecting}
+use Rattle.dm_links.specs.Electing.{Talks, has_send_cer, IsElecting}
 
 pub record Note : Type 0 where
   pub word : Word
@@ -83,7 +83,7 @@ talker_after p heard commands n =
       node = n;
       wins = p.wins;
       next = p.next;
-      awaited = number_after (awaits_cea n.state) (sends_cer commands) p.next p.awaited;
+      awaited = number_after (awaits_cea n.state) (has_send_cer commands) p.next p.awaited;
       waiting = waiting_after p.node.state heard n.state p.waiting;
     }
 
