@@ -9,7 +9,7 @@ use Rattle.dm_peer.specs.declared.actions.Action as declared_action
 use Rattle.dm_peer.specs.Acts.{Outcome, Moved, Refused, acts}
 use Rattle.dm_links.specs.Machine.{conn}
 use Rattle.dm_links.specs.Peers.{Event, Start, Stop, Timeout, Tick, Ack, Nack, Gone, Submit, Arrived, Action, Acts}
-use Rattle.dm_links.specs.Delivery.{ups_of, sends_all, IsHandedUp}
+use Rattle.dm_links.specs.Delivery.{ups_of, sends_all, HandsUpHeard}
 use Rattle.dm_pair.specs.Octets.{of_event, as_actions, as_reply}
 use Rattle.dm_pair.specs.Carrying.{is_app, OctetsCarry}
 use Rattle.dm_pair.proofs.Submitting.{octets_submit}
@@ -61,7 +61,7 @@ octets_carry form changes =
           (acts_send_none p (of_event e) (form p.standing.core it.shaped) it.fit (no_submit e other)));
       hears = λ p next c s actions it is.
           let r = of_reply (acts p (of_event (Arrived (conn c) s))) actions next is in
-          subst (λ (l : List (Action (List ℕ))). IsHandedUp is_app (hold_of p.standing.core (conn c))
+          subst (λ (l : List (Action (List ℕ))). HandsUpHeard is_app (hold_of p.standing.core (conn c))
           (hold_of next.standing.core (conn c)) s (ups_of l)) r.same
           (subst (λ o. RaisesAt p c s o) r.moved
           (arrival_raises changes p it.shaped (form p.standing.core it.shaped) c s));

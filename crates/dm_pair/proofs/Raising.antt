@@ -23,7 +23,7 @@ use Rattle.dm_peer.specs.Said.{Heard, heard_in, word_heard}
 use Rattle.dm_peer.specs.After.{awaited_of}
 use Rattle.dm_peer.specs.Acts.{Outcome, Moved, Refused, turned, input_of, outcome_of, steps, is_made, is_unread, is_dropped, heard, can_submit, acts}
 use Rattle.dm_links.specs.Machine.{conn}
-use Rattle.dm_links.specs.Delivery.{ups_of, IsHandedUp}
+use Rattle.dm_links.specs.Delivery.{ups_of, HandsUpHeard}
 use Rattle.dm_machine.specs.Upward.{is_open_hold}
 use Rattle.dm_pair.specs.Octets.{as_actions}
 use Rattle.dm_pair.specs.Carrying.{is_app}
@@ -38,7 +38,7 @@ use Rattle.dm_pair.proofs.Ending.{ends_word, done_after, closed_silent}
 -- one step, at a message that comes on a connection
 abbrev pub RaisesAt : Peer → ℕ → List ℕ → Outcome → Type 0
 RaisesAt p c s (Moved actions next) =
-    IsHandedUp is_app (hold_of p.standing.core (conn c)) (hold_of next.standing.core (conn c)) s
+    HandsUpHeard is_app (hold_of p.standing.core (conn c)) (hold_of next.standing.core (conn c)) s
     (ups_of (as_actions actions))
 RaisesAt p c s (Refused f) = ⊤
 

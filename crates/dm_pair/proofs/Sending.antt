@@ -11,7 +11,7 @@ use Rattle.dm_machine.specs.Reading.{named_by, event_of}
 use Rattle.dm_machine.specs.Rows.{rows, row_in}
 use Rattle.dm_machine.specs.Moves.{Outcome, Moved, Refused, outcome, by_event, raises_win, then_won}
 use Rattle.dm_peer.specs.After.{request_in, is_cer}
-use Rattle.dm_links.specs.Electing.{sends_cer}
+use Rattle.dm_links.specs.Electing.{has_send_cer}
 
 -- the outcome of an event of the table
 abbrev after : Node → TableEvent → Option Conn → Bool → Outcome
@@ -21,7 +21,7 @@ after n e new wins =
     if raises_win found wins then then_won first else first
 
 abbrev pub SendsAlike : Outcome → Type 0
-SendsAlike (Moved commands next) = is_cer (request_in commands) ≡ sends_cer commands
+SendsAlike (Moved commands next) = is_cer (request_in commands) ≡ has_send_cer commands
 SendsAlike (Refused r) = ⊤
 
 abbrev same : Bool → Bool → Bool
@@ -29,7 +29,7 @@ same true b = b
 same false b = not b
 
 abbrev sends_alike : Outcome → Bool
-sends_alike (Moved commands next) = same (is_cer (request_in commands)) (sends_cer commands)
+sends_alike (Moved commands next) = same (is_cer (request_in commands)) (has_send_cer commands)
 sends_alike (Refused r) = true
 
 by_form : (n : Node) → Form n → (new : Option Conn) (wins : Bool) (e : TableEvent) →
@@ -82,7 +82,7 @@ same_is false true e = cc
 same_is false false e = refl
 
 alike_is : (o : Outcome) → sends_alike o ≡ true → SendsAlike o
-alike_is (Moved commands next) e = same_is (is_cer (request_in commands)) (sends_cer commands) e
+alike_is (Moved commands next) e = same_is (is_cer (request_in commands)) (has_send_cer commands) e
 alike_is (Refused r) e = tt
 
 pub outcome_alike : (n : Node) → Form n → (i : Input) (wins : Bool) → SendsAlike (outcome n i wins)

@@ -3,7 +3,7 @@ ghost use Rattle.std.specs.Prelude.{◌≡◌, ℕ, ◌+◌, ◌<◌, ◌≤◌,
 ghost use Rattle.dm_framer.specs.declared.fault.FrameFault.{FrameFault};
 ghost use Rattle.dm_framer.specs.Frames.{IsFrame};
 ghost use Rattle.dm_world.specs.Fed.{holding, left_in};
-ghost use Rattle.dm_links.specs.Links.{nothing};
+ghost use Rattle.dm_links.specs.Links.{empty_direction};
 ghost use Rattle.dm_links.specs.Happens.{whole_in, lost};
 ghost use Rattle.dm_world.specs.Ways.{with_message, with_disconnect, with_taken, without_front, with_disconnect_delivered, mark_of};
 ghost use Rattle.dm_links.specs.Quiet.{is_still};
@@ -103,7 +103,7 @@ fn whole_messages(queue: &VecDeque<Octets>, kept: usize) -> usize
 impl Direction {
     /// Nothing was sent.
     pub(crate) fn new(alloc: Global) -> Direction
-        ensures { result.direction ≡ nothing }
+        ensures { result.direction ≡ empty_direction }
     {
         Direction {
             queue: VecDeque::new(alloc),
