@@ -7,9 +7,9 @@ use Rattle.dm_machine.specs.Connection.{Hold, NotHeld, Pending, Made, OpenAsI, T
 use Rattle.dm_machine.specs.Openings.{is_hold, has_order, is_ack, is_good_cea}
 use Rattle.dm_machine.specs.Causes.{IsCaused, EachHoldIsCaused}
 use Rattle.dm_machine.specs.Answering.{has_its_request, AnswersWhatIsHeard}
-use Rattle.dm_machine.proofs.Every.{all_true, every_word}
+use Rattle.dm_machine.specs.EachStep.{everywhere}
 use Rattle.dm_machine.proofs.ChangeLemmas.{same_hold}
-use Rattle.dm_machine.proofs.OpeningLaw.{every_hold, every_concern, ChangeTest, every_change, passes, from_changes, SeenTest, from_agreed, is_any}
+use Rattle.dm_machine.proofs.OpeningLaw.{ChangeTest, every_change, passes, from_changes, SeenTest, from_agreed, is_any}
 
 abbrev is_good_cer : Concern → Bool
 is_good_cer (HeardOnIt Cer) = true
@@ -30,7 +30,7 @@ abbrev caused_test : ChangeTest
 caused_test k h x = fits_cause k h x.next x.orders
 
 checked : every_change caused_test ≡ true
-unfolding all_true every_word every_hold every_concern
+unfolding everywhere
 checked = refl
 
 the_cer : (k : Concern) → is_good_cer k ≡ true → k ≡ HeardOnIt Cer
@@ -95,5 +95,5 @@ abbrev all_answer : SeenTest
 all_answer k before after orders = list_all (has_its_request k) orders
 
 pub answers_heard : AnswersWhatIsHeard
-unfolding all_true every_word every_hold every_concern
+unfolding everywhere
 answers_heard = from_agreed all_answer is_any refl

@@ -57,7 +57,7 @@ same_number m n e = grind (arith, nat_tests)
 pub same_hold : (h k : Hold) → is_hold h k ≡ true → h ≡ k
 same_hold h k e = sym (hold_from-code h) ∙ (ap hold_from (same_number (hold_code h) (hold_code k) e) ∙ hold_from-code k)
 
-same_order : (o p : Order) → is_order o p ≡ true → o ≡ p
+pub same_order : (o p : Order) → is_order o p ≡ true → o ≡ p
 same_order o p e = sym (order_from-code o) ∙
     (ap order_from (same_number (order_code o) (order_code p) e) ∙ order_from-code p)
 
@@ -84,16 +84,16 @@ same_change x y e =
     ap (λ (h : Hold). change h x.orders) (same_hold x.next y.next both.0)
     ∙ ap (λ (orders : List Order). change y.next orders) (same_orders x.orders y.orders both.1)
 
-abbrev pub is_among : Change → List Change → Bool
-is_among x [] = false
-is_among x (y ∷ ys) = is_change y x || is_among x ys
+abbrev pub lists_change : Change → List Change → Bool
+lists_change x [] = false
+lists_change x (y ∷ ys) = is_change y x || lists_change x ys
 
-found : (x y : Change) (ys : List Change) (b : Bool) → is_change y x ≡ b → (b || is_among x ys) ≡ true →
-    (is_among x ys ≡ true → Contains ys x) → Contains (y ∷ ys) x
+found : (x y : Change) (ys : List Change) (b : Bool) → is_change y x ≡ b → (b || lists_change x ys) ≡ true →
+    (lists_change x ys ≡ true → Contains ys x) → Contains (y ∷ ys) x
 found x y ys true e h further = subst (λ (z : Change). Contains (y ∷ ys) z) (same_change y x e)
     (Contains-append_left (y ∷ []) ys y (Contains-push [] y))
 found x y ys false e h further = Contains-append_right (y ∷ []) ys x (further h)
 
-pub among : (x : Change) (ys : List Change) → is_among x ys ≡ true → Contains ys x
+pub among : (x : Change) (ys : List Change) → lists_change x ys ≡ true → Contains ys x
 among x [] h = absurd cc
 among x (y ∷ ys) h = found x y ys (is_change y x) refl h (among x ys)

@@ -3,7 +3,9 @@ pub mod Marks
 pub mod Every
 pub mod FormLemmas
 pub mod Steps
+pub mod EachStepLaw
 pub mod ChangeLemmas
+pub mod Ordered
 pub mod StepFacts
 pub mod ShapeLaw
 pub mod ConnectionLaw

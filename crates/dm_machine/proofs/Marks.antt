@@ -1,15 +1,11 @@
 -- A node and an input as they look from one connection: that one is called 1 and every other one 0.
-use Rattle.std.proofs.Common.{◌≡◌, ℕ, Bool, true, false, not, ◌&&◌, ◌||◌, ◌==◌, if◌then◌else◌, Option, Some, None, List, [], ◌∷◌, refl, arith}
+use Rattle.std.proofs.Common.{◌≡◌, Bool, true, false, not, ◌&&◌, ◌||◌, ◌==◌, if◌then◌else◌, Option, Some, None, List, [], ◌∷◌, refl, arith}
 use Rattle.std.proofs.lemmas.Bool.Decides.{nat_tests}
 use Rattle.dm_machine.specs.declared.connection.Conn.{Conn}
 use Rattle.dm_machine.specs.declared.phase.Role.{Role}
 use Rattle.dm_machine.specs.declared.state_name.State.{State}
-use Rattle.dm_machine.specs.declared.inputs.Input.{Input}
-use Rattle.dm_machine.specs.declared.inputs.Input.TheVariants.{Start, Stop, Timeout, Tick, Ack, Nack, Gone, Submit, Heard}
-use Rattle.dm_machine.specs.Table.{TableEvent, IRcvConnAck, IRcvConnNack}
-use Rattle.dm_machine.specs.Table as table
 use Rattle.dm_machine.specs.Node.{Node}
-use Rattle.dm_machine.specs.Reading.{Place, OnI, OnR, OnX, OnNew, place_as, place_of, named_by, message_event, end_event, connect_event, tick_event, event_of}
+use Rattle.dm_machine.specs.Reading.{Place, OnI, OnR, OnX, OnNew, place_as, place_of, place_in}
 use Rattle.dm_machine.proofs.Renamed.{renamed_held, renamed_node, renamed_new}
 
 -- the connection that is looked at, and any other
@@ -25,33 +21,6 @@ mark_if false = another
 
 abbrev pub mark : Conn → Conn → Conn
 mark c x = mark_if (x.0 == c.0)
-
--- the event of an input, once the place of its connection is known
-abbrev pub event_in : State → ℕ → Input → Place → TableEvent
-event_in s n (Start c) at = table.Start
-event_in s n Stop at = table.Stop
-event_in s n Timeout at = table.Timeout
-event_in s n Tick at = tick_event n
-event_in s n (Ack c) at = connect_event IRcvConnAck at
-event_in s n (Nack c) at = connect_event IRcvConnNack at
-event_in s n (Gone c) at = end_event s at
-event_in s n Submit at = table.SendMessage
-event_in s n (Heard c w) at = message_event s w at
-
-abbrev pub place_in : Node → Option Conn → Place
-place_in n None = OnNew
-place_in n (Some d) = place_of n.state n.held d
-
-pub is_read : (n : Node) (i : Input) → event_of n i ≡ event_in n.state n.count i (place_in n (named_by i))
-is_read n (Start c) = refl
-is_read n Stop = refl
-is_read n Timeout = refl
-is_read n Tick = refl
-is_read n (Ack c) = refl
-is_read n (Nack c) = refl
-is_read n (Gone c) = refl
-is_read n Submit = refl
-is_read n (Heard c w) = refl
 
 -- whether a marked connection can stand at a place of a marked node
 abbrev pub is_place : Place → Place → Bool

@@ -12,48 +12,45 @@ use Rattle.dm_machine.specs.Moves.{Outcome, Moved, Refused, outcome}
 use Rattle.dm_machine.specs.Connection.{Hold, NotHeld, Pending, Made, OpenAsI, ClosingAsI, Taken, OpenAsR, ClosingAsR, Concern, NamesAnother, Stops, TimesOut, Ticks, Submits, StartsIt, AcksIt, NacksIt, EndsIt, HeardOnIt, hold_of, concern_of, Order, SendsCer, SendsCea, Closes, orders_to, AtConnection, AtEachStep}
 use Rattle.dm_machine.specs.Changes.{Change, change, allowed}
 use Rattle.dm_machine.specs.Openings.{is_hold, has_order, is_entered, is_ack, is_good_cea, is_named, is_left_unclosed, OpensAcceptedWithCea, OpensInitiatedAtCea, SendsCerAtAck, ClosesWhatItGivesUp, LeavesOthersAlone, ends_at_close, EndsAtClose}
-use Rattle.dm_machine.proofs.Every.{all_true, at, every_word, at_word}
+use Rattle.dm_machine.specs.EachStep.{words, everywhere}
+use Rattle.dm_machine.proofs.Every.{at, at_word}
 use Rattle.dm_machine.proofs.Steps.{when, is_when}
 use Rattle.dm_machine.proofs.ChangeLemmas.{same_hold, are_orders, same_orders}
 use Rattle.dm_machine.proofs.ConnectionLaw.{each_connection}
 
-abbrev holds : (Hold → Bool) → List Bool
-holds f = f NotHeld ∷ f Pending ∷ f Made ∷ f OpenAsI ∷ f ClosingAsI ∷ f Taken ∷ f OpenAsR ∷ f ClosingAsR ∷ []
+abbrev holds : List Hold
+holds = NotHeld ∷ Pending ∷ Made ∷ OpenAsI ∷ ClosingAsI ∷ Taken ∷ OpenAsR ∷ ClosingAsR ∷ []
 
-unfoldable pub every_hold : (Hold → Bool) → Bool
-every_hold f = all_true (holds f)
+at_hold : (f : Hold → Bool) → everywhere f holds ≡ true → (h : Hold) → f h ≡ true
+at_hold f e NotHeld = at f holds 0 e
+at_hold f e Pending = at f holds 1 e
+at_hold f e Made = at f holds 2 e
+at_hold f e OpenAsI = at f holds 3 e
+at_hold f e ClosingAsI = at f holds 4 e
+at_hold f e Taken = at f holds 5 e
+at_hold f e OpenAsR = at f holds 6 e
+at_hold f e ClosingAsR = at f holds 7 e
 
-at_hold : (f : Hold → Bool) → every_hold f ≡ true → (h : Hold) → f h ≡ true
-unfolding every_hold
-at_hold f e NotHeld = at (holds f) 0 e
-at_hold f e Pending = at (holds f) 1 e
-at_hold f e Made = at (holds f) 2 e
-at_hold f e OpenAsI = at (holds f) 3 e
-at_hold f e ClosingAsI = at (holds f) 4 e
-at_hold f e Taken = at (holds f) 5 e
-at_hold f e OpenAsR = at (holds f) 6 e
-at_hold f e ClosingAsR = at (holds f) 7 e
+-- how an input concerns a connection, but for messages
+abbrev concerns : List Concern
+concerns = NamesAnother ∷ Stops ∷ TimesOut ∷ Ticks ∷ Submits ∷ StartsIt ∷ AcksIt ∷ NacksIt ∷ EndsIt ∷ []
 
-abbrev concerns : (Concern → Bool) → List Bool
-concerns f =
-    f NamesAnother ∷ f Stops ∷ f TimesOut ∷ f Ticks ∷ f Submits ∷ f StartsIt ∷ f AcksIt ∷ f NacksIt ∷ f EndsIt ∷
-    every_word (λ w. f (HeardOnIt w)) ∷ []
-
-unfoldable pub every_concern : (Concern → Bool) → Bool
-every_concern f = all_true (concerns f)
+abbrev every_concern : (Concern → Bool) → Bool
+every_concern f = everywhere f concerns && everywhere (λ w. f (HeardOnIt w)) words
 
 at_concern : (f : Concern → Bool) → every_concern f ≡ true → (k : Concern) → f k ≡ true
-unfolding every_concern
-at_concern f e NamesAnother = at (concerns f) 0 e
-at_concern f e Stops = at (concerns f) 1 e
-at_concern f e TimesOut = at (concerns f) 2 e
-at_concern f e Ticks = at (concerns f) 3 e
-at_concern f e Submits = at (concerns f) 4 e
-at_concern f e StartsIt = at (concerns f) 5 e
-at_concern f e AcksIt = at (concerns f) 6 e
-at_concern f e NacksIt = at (concerns f) 7 e
-at_concern f e EndsIt = at (concerns f) 8 e
-at_concern f e (HeardOnIt w) = at_word (λ v. f (HeardOnIt v)) (at (concerns f) 9 e) w
+at_concern f e = by (and_parts (everywhere f concerns) (everywhere (λ w. f (HeardOnIt w)) words) e) where
+  by : (everywhere f concerns ≡ true) × (everywhere (λ w. f (HeardOnIt w)) words ≡ true) → (k : Concern) → f k ≡ true
+  by p NamesAnother = at f concerns 0 p.0
+  by p Stops = at f concerns 1 p.0
+  by p TimesOut = at f concerns 2 p.0
+  by p Ticks = at f concerns 3 p.0
+  by p Submits = at f concerns 4 p.0
+  by p StartsIt = at f concerns 5 p.0
+  by p AcksIt = at f concerns 6 p.0
+  by p NacksIt = at f concerns 7 p.0
+  by p EndsIt = at f concerns 8 p.0
+  by p (HeardOnIt w) = at_word (λ v. f (HeardOnIt v)) p.1 w
 
 -- a fact of each listed change, by how it concerns the connection and what that was
 abbrev pub OfListed : (Concern → Hold → Change → Type 0) → Type 0
@@ -63,11 +60,11 @@ abbrev pub ChangeTest : Type 0
 ChangeTest = Concern → Hold → Change → Bool
 
 abbrev pub every_change : ChangeTest → Bool
-every_change test = every_concern (λ k. every_hold (λ h. list_all (test k h) (allowed k h)))
+every_change test = every_concern (λ k. everywhere (λ h. list_all (test k h) (allowed k h)) holds)
 
 pub passes : (test : ChangeTest) → every_change test ≡ true → OfListed (λ k h x. test k h x ≡ true)
 passes test e k h x m =
-    let at_k = at_concern (λ j. every_hold (λ g. list_all (test j g) (allowed j g))) e k in
+    let at_k = at_concern (λ j. everywhere (λ g. list_all (test j g) (allowed j g)) holds) e k in
     let at_h = at_hold (λ g. list_all (test k g) (allowed k g)) at_k h in
     All-contains (λ y. test k h y ≡ true) (allowed k h) x (AllPass-from_list_all (test k h) (allowed k h) at_h) m
 
@@ -135,19 +132,19 @@ abbrev is_gone : SeenTest
 is_gone k before after orders = is_hold NotHeld after && not (is_left_unclosed k before)
 
 pub accepted : OpensAcceptedWithCea
-unfolding all_true every_word every_hold every_concern
+unfolding everywhere
 accepted = from_agreed enters_open_as_r has_cea refl
 
 pub initiated : OpensInitiatedAtCea
-unfolding all_true every_word every_hold every_concern
+unfolding everywhere
 initiated = from_agreed enters_open_as_i is_answered refl
 
 pub asked : SendsCerAtAck
-unfolding all_true every_word every_hold every_concern
+unfolding everywhere
 asked = from_agreed has_cer is_made refl
 
 pub closed : ClosesWhatItGivesUp
-unfolding all_true every_word every_hold every_concern
+unfolding everywhere
 closed = from_agreed has_close is_gone refl
 
 abbrev is_other : Concern → Hold → Bool
@@ -157,7 +154,7 @@ abbrev leaves_alone : ChangeTest
 leaves_alone k h x = when (is_other k h) (is_hold x.next NotHeld && are_orders x.orders [])
 
 left_checked : every_change leaves_alone ≡ true
-unfolding all_true every_word every_hold every_concern
+unfolding everywhere
 left_checked = refl
 
 left_alone : OfListed (λ k h x. IsTrue (is_other k h) → (x.next ≡ NotHeld) × (x.orders ≡ []))
@@ -178,5 +175,5 @@ abbrev pub is_any : SeenTest
 is_any k before after orders = true
 
 pub last : EndsAtClose
-unfolding all_true every_word every_hold every_concern
+unfolding everywhere
 last = from_agreed nothing_follows is_any refl

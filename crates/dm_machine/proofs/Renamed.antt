@@ -11,14 +11,7 @@ use Rattle.dm_machine.specs.declared.outputs.Command.TheVariants.{Connect, SendC
 use Rattle.dm_machine.specs.Table.{TableEvent, Start, IRcvConnNack, WinElection, SendMessage, Stop, Act, ISndConnReq, RAccept, RSndCea, ISndCer, Error, IDisc, RDisc, RReject, XSndMessage, XSndDwa, XSndDpr, XSndDpa, XDisc, RSndRefusal, XSndRefusal, XSndDwr, Row}
 use Rattle.dm_machine.specs.Rows.{rows, row_in}
 use Rattle.dm_machine.specs.Node.{Node, node_at, is_same_role, held_as, only_held, without, pair_of}
-use Rattle.dm_machine.specs.Moves.{to_one, commands_of, held_after, all_commands, all_held, held_at, count_after, Outcome, Moved, Refused, by_row, by_no_row, by_event, raises_win, after_commands, then_won}
-
--- what an event that is read already gives
-abbrev pub after : Node → TableEvent → Option Conn → Bool → Outcome
-after n e new wins =
-    let found = row_in rows n.state e in
-    let first = by_event found n e new in
-    if raises_win found wins then then_won first else first
+use Rattle.dm_machine.specs.Moves.{to_one, commands_of, held_after, all_commands, all_held, held_at, count_after, Outcome, Moved, Refused, by_row, by_no_row, by_event, raises_win, after_commands, then_won, by_table}
 
 -- everything with each connection put through a map
 abbrev pub renamed_held : (Conn → Conn) → List (Role × Conn) → List (Role × Conn)
@@ -155,13 +148,13 @@ commands_of-renamed f XSndRefusal new held = to_only f SendRefusal (λ c. refl) 
 commands_of-renamed f XSndDwr new held = to_only f SendDwr (λ c. refl) held
 commands_of-renamed f _ new held = refl
 
-held_after-renamed : (f : Conn → Conn) (a : Act) (new : Option Conn) (held : List (Role × Conn)) →
+held_by_table-renamed : (f : Conn → Conn) (a : Act) (new : Option Conn) (held : List (Role × Conn)) →
     held_after a (renamed_new f new) (renamed_held f held) ≡ renamed_held f (held_after a new held)
-held_after-renamed f ISndConnReq new held = first_held f new held
-held_after-renamed f RAccept new held = last_held f new held
-held_after-renamed f IDisc new held = without-renamed f Initiated held
-held_after-renamed f RDisc new held = without-renamed f Accepted held
-held_after-renamed f _ new held = refl
+held_by_table-renamed f ISndConnReq new held = first_held f new held
+held_by_table-renamed f RAccept new held = last_held f new held
+held_by_table-renamed f IDisc new held = without-renamed f Initiated held
+held_by_table-renamed f RDisc new held = without-renamed f Accepted held
+held_by_table-renamed f _ new held = refl
 
 all_commands-renamed : (f : Conn → Conn) (acts : List Act) (new : Option Conn) (held : List (Role × Conn)) →
     all_commands acts (renamed_new f new) (renamed_held f held) ≡ renamed_commands f (all_commands acts new held)
@@ -170,14 +163,14 @@ all_commands-renamed f (a ∷ acts) new held =
     appended f (commands_of a (renamed_new f new) (renamed_held f held))
     (all_commands acts (renamed_new f new) (held_after a (renamed_new f new) (renamed_held f held)))
     (commands_of a new held) (all_commands acts new (held_after a new held)) (commands_of-renamed f a new held)
-    (ap (all_commands acts (renamed_new f new)) (held_after-renamed f a new held) ∙
+    (ap (all_commands acts (renamed_new f new)) (held_by_table-renamed f a new held) ∙
     all_commands-renamed f acts new (held_after a new held))
 
 all_held-renamed : (f : Conn → Conn) (acts : List Act) (new : Option Conn) (held : List (Role × Conn)) →
     all_held acts (renamed_new f new) (renamed_held f held) ≡ renamed_held f (all_held acts new held)
 all_held-renamed f [] new held = refl
 all_held-renamed f (a ∷ acts) new held =
-    ap (all_held acts (renamed_new f new)) (held_after-renamed f a new held) ∙
+    ap (all_held acts (renamed_new f new)) (held_by_table-renamed f a new held) ∙
     all_held-renamed f acts new (held_after a new held)
 
 held_at-renamed : (f : Conn → Conn) (e : TableEvent) (held : List (Role × Conn)) →
@@ -228,9 +221,9 @@ won_if : (f : Conn → Conn) (b : Bool) (o from : Outcome) → o ≡ renamed_out
 won_if f true o from h = ap then_won h ∙ then_won-renamed f from
 won_if f false o from h = h
 
-pub after-renamed : (f : Conn → Conn) (n : Node) (e : TableEvent) (new : Option Conn) (wins : Bool) →
-    after (renamed_node f n) e (renamed_new f new) wins ≡ renamed_outcome f (after n e new wins)
-after-renamed f n e new wins =
+pub by_table-renamed : (f : Conn → Conn) (n : Node) (e : TableEvent) (new : Option Conn) (wins : Bool) →
+    by_table (renamed_node f n) e (renamed_new f new) wins ≡ renamed_outcome f (by_table n e new wins)
+by_table-renamed f n e new wins =
     let found = row_in rows n.state e in
     won_if f (raises_win found wins) (by_event found (renamed_node f n) e (renamed_new f new)) (by_event found n e new)
     (by_event-renamed f found n e new)

@@ -13,9 +13,9 @@ use Rattle.dm_machine.specs.Connection.{hold_of, concern_of, orders_to}
 use Rattle.dm_machine.specs.Changes.{change, allowed}
 use Rattle.dm_machine.proofs.Renamed.{renamed_node, renamed_input, renamed_outcome}
 use Rattle.dm_machine.proofs.Marks.{this, mark}
-use Rattle.dm_machine.proofs.Every.{all_true, every_bool, every_mark, every_count, every_place, every_word, every_input}
-use Rattle.dm_machine.proofs.Steps.{StepTest, every_node, every_step, at_step}
-use Rattle.dm_machine.proofs.ChangeLemmas.{is_among}
+use Rattle.dm_machine.specs.EachStep.{everywhere}
+use Rattle.dm_machine.proofs.Steps.{MarkedTest, every_step, at_step}
+use Rattle.dm_machine.proofs.ChangeLemmas.{lists_change}
 use Rattle.std.specs.Prelude.{IsTrue}
 
 -- two connections are told apart only if one of them is looked at
@@ -25,25 +25,25 @@ is_held_seen WaitReturns ((Initiated, i) ∷ (Accepted, r) ∷ []) = not ((i.0 =
 is_held_seen s held = is_held_in s held
 
 -- the change of the connection that is looked at is listed
-abbrev pub is_listed : StepTest
-is_listed n i (Moved commands next) = is_among (change (hold_of next this) (orders_to this commands))
+abbrev pub is_listed : MarkedTest
+is_listed n i (Moved commands next) = lists_change (change (hold_of next this) (orders_to this commands))
     (allowed (concern_of i this) (hold_of n this))
 is_listed n i (Refused r) = true
 
 -- the next node has its shape, and there are few commands
-abbrev pub is_kept : StepTest
+abbrev pub is_kept : MarkedTest
 is_kept n i (Moved commands next) = (is_held_seen next.state next.held && is_count_of next.state next.count) &&
     nat_le (length commands) 4
 is_kept n i (Refused r) = true
 
-abbrev is_right : StepTest
+abbrev is_right : MarkedTest
 is_right n i o = is_listed n i o && is_kept n i o
 
 checked : every_step is_right ≡ true
-unfolding all_true every_bool every_mark every_count every_place every_word every_input every_node
+unfolding everywhere
 checked = refl
 
-abbrev seen : StepTest → Node → Input → Bool → Conn → Bool
+abbrev seen : MarkedTest → Node → Input → Bool → Conn → Bool
 seen test n i wins c = test (renamed_node (mark c) n) (renamed_input (mark c) i)
     (renamed_outcome (mark c) (outcome n i wins))
 

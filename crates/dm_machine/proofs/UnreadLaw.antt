@@ -14,10 +14,9 @@ use Rattle.dm_machine.specs.Rows.{rows, row_in}
 use Rattle.dm_machine.specs.Node.{Node}
 use Rattle.dm_machine.specs.Forms.{Form, closed, wait_conn_ack, wait_i_cea, wait_conn_ack_elect, wait_returns, r_open, i_open, closing}
 use Rattle.dm_machine.specs.Reading.{Place, OnI, OnR, OnX, OnNew, place_as, place_of, first_message, message_on_i, message_event, event_of, end_event}
-use Rattle.dm_machine.specs.Moves.{Moved, raises_win, by_event, then_won}
+use Rattle.dm_machine.specs.Moves.{Moved, raises_win, by_event, then_won, by_table}
 use Rattle.dm_machine.specs.Connection.{Hold, NotHeld, Pending, Made, Taken, hold_as, hold_in, hold_of}
 use Rattle.dm_machine.specs.Unread.{reads_first, ClosesUnread, DropsBeforeAck, ReadsAsPeerDisc, EndsAtWord}
-use Rattle.dm_machine.proofs.Renamed.{after}
 use Rattle.dm_machine.proofs.FormLemmas.{form_of}
 
 -- the place of what a connection is to a node
@@ -54,7 +53,7 @@ pub placed : (n : Node) (c : Conn) (h : Hold) → hold_of n c ≡ h → place_of
 placed n c h e = place_of-hold n.state n.held c ∙ ap place_at e
 
 pub rejected : (n : Node) → Form n → IsTrue (not (reads_first n.state)) → (c : Conn) (wins : Bool) (w : Word) →
-    after n (first_message w) (Some c) wins ≡ Moved (Close c ∷ []) n
+    by_table n (first_message w) (Some c) wins ≡ Moved (Close c ∷ []) n
 rejected n (wait_conn_ack_elect i r apart) g c wins Cer = refl
 rejected n (wait_conn_ack_elect i r apart) g c wins CerRefused = refl
 rejected n (wait_conn_ack_elect i r apart) g c wins _ = refl
@@ -76,7 +75,7 @@ rejected n (wait_i_cea i) g c wins w = absurd cc
 
 pub closes_unread : ClosesUnread
 closes_unread n c w wins shaped unread not_held =
-    ap (λ (p : Place). after n (message_event n.state w p) (Some c) wins) (placed n c NotHeld not_held)
+    ap (λ (p : Place). by_table n (message_event n.state w p) (Some c) wins) (placed n c NotHeld not_held)
     ∙ rejected n (form_of n shaped) unread c wins w
 
 -- a connection is pending only where a message on I is no event
@@ -113,16 +112,16 @@ no_row ROpen = refl
 no_row IOpen = refl
 no_row Closing = refl
 
-after_nothing : (n : Node) (new : Option Conn) (wins : Bool) → after n NoEvent new wins ≡ Moved [] n
-after_nothing n new wins =
+nothing_follows : (n : Node) (new : Option Conn) (wins : Bool) → by_table n NoEvent new wins ≡ Moved [] n
+nothing_follows n new wins =
     ap (λ (r : Option Row). if raises_win r wins then then_won (by_event r n NoEvent new) else by_event r n NoEvent new)
     (no_row n.state)
 
 pub drops_before_ack : DropsBeforeAck
 drops_before_ack n c w wins shaped pending =
-    ap (λ (p : Place). after n (message_event n.state w p) (Some c) wins) (placed n c Pending pending)
-    ∙ (ap (λ (e : TableEvent). after n e (Some c) wins) (no_event n.state n.held c w pending) ∙
-    after_nothing n (Some c) wins)
+    ap (λ (p : Place). by_table n (message_event n.state w p) (Some c) wins) (placed n c Pending pending)
+    ∙ (ap (λ (e : TableEvent). by_table n e (Some c) wins) (no_event n.state n.held c w pending) ∙
+    nothing_follows n (Some c) wins)
 
 pub reads_as_peer_disc : ReadsAsPeerDisc
 reads_as_peer_disc n c w taken = ap (λ (p : Place). message_event n.state w p) (placed n c Taken taken)
@@ -132,5 +131,5 @@ ends_as_peer_disc n c taken = ap (λ (p : Place). end_event n.state p) (placed n
 
 pub ends_at_word : EndsAtWord
 ends_at_word n c w wins taken =
-    ap (λ (e : TableEvent). after n e (Some c) wins)
+    ap (λ (e : TableEvent). by_table n e (Some c) wins)
     (reads_as_peer_disc n c w taken ∙ sym (ends_as_peer_disc n c taken))

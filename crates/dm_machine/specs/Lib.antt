@@ -8,12 +8,14 @@ pub mod Moves
 pub mod Connection
 pub mod Changes
 pub mod Openings
+pub mod Ordered
 pub mod Causes
 pub mod Answering
 pub mod Upward
 pub mod Unread
 pub mod Strangers
 pub mod Shape
+pub mod EachStep
 pub mod Deeds
 pub mod Awaiting
 pub mod Phases

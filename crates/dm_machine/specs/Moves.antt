@@ -126,13 +126,16 @@ abbrev pub then_won : Outcome → Outcome
 then_won (Refused r) = Refused r
 then_won (Moved before n) = after_commands before (by_event (row_in rows n.state WinElection) n WinElection None)
 
+-- the outcome of an event of the table
+abbrev pub by_table : Node → TableEvent → Option Conn → Bool → Outcome
+by_table n e new wins =
+    let found = row_in rows n.state e in
+    let first = by_event found n e new in
+    if raises_win found wins then then_won first else first
+
 -- the one outcome of an input
 abbrev pub outcome : Node → Input → Bool → Outcome
-outcome n i wins =
-    let e = event_of n i in
-    let found = row_in rows n.state e in
-    let first = by_event found n e (named_by i) in
-    if raises_win found wins then then_won first else first
+outcome n i wins = by_table n (event_of n i) (named_by i) wins
 
 -- the step that an input makes
 abbrev pub Moves : Node → Input → Bool → List Command → Node → Type 0

@@ -57,8 +57,8 @@ is_named EndsIt = true
 is_named (HeardOnIt w) = true
 is_named _ = false
 
--- what isn't held afterwards and yet isn't closed: a pending connection at its Nack or its end, and one that wasn't held
--- and isn't heard from
+-- what isn't held afterwards and yet isn't closed: a pending connection at its Nack or its end, and one that wasn't
+-- held and isn't heard from
 abbrev pub is_left_unclosed : Concern → Hold → Bool
 is_left_unclosed (HeardOnIt w) h = false
 is_left_unclosed k NotHeld = true

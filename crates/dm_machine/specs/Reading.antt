@@ -99,13 +99,22 @@ connect_event e _ = NoEvent
 abbrev pub tick_event : ℕ → TableEvent
 tick_event n = if n == 0 then FirstTick else (if n == 1 then SecondTick else ThirdTick)
 
+-- the place of the connection that an input names, if it names one
+abbrev pub place_in : Node → Option Conn → Place
+place_in n None = OnNew
+place_in n (Some c) = place_of n.state n.held c
+
+-- the event by the state, the watchdog's count and that place
+abbrev pub event_at : State → ℕ → Place → Input → TableEvent
+event_at s n at (input.Start c) = Start
+event_at s n at input.Stop = Stop
+event_at s n at input.Timeout = Timeout
+event_at s n at input.Tick = tick_event n
+event_at s n at (input.Ack c) = connect_event IRcvConnAck at
+event_at s n at (input.Nack c) = connect_event IRcvConnNack at
+event_at s n at (input.Gone c) = end_event s at
+event_at s n at input.Submit = SendMessage
+event_at s n at (input.Heard c w) = message_event s w at
+
 abbrev pub event_of : Node → Input → TableEvent
-event_of n (input.Start c) = Start
-event_of n input.Stop = Stop
-event_of n input.Timeout = Timeout
-event_of n input.Tick = tick_event n.count
-event_of n (input.Ack c) = connect_event IRcvConnAck (place_of n.state n.held c)
-event_of n (input.Nack c) = connect_event IRcvConnNack (place_of n.state n.held c)
-event_of n (input.Gone c) = end_event n.state (place_of n.state n.held c)
-event_of n input.Submit = SendMessage
-event_of n (input.Heard c w) = message_event n.state w (place_of n.state n.held c)
+event_of n i = event_at n.state n.count (place_in n (named_by i)) i

@@ -3,6 +3,7 @@
 ghost use Rattle.dm_machine.specs.Answering.{AnswersWhatIsHeard};
 ghost use Rattle.dm_machine.specs.Causes.{EachHoldIsCaused};
 ghost use Rattle.dm_machine.specs.Changes.{EachConnectionChangesAsAllowed};
+ghost use Rattle.dm_machine.specs.EachStep.{EachStepHolds};
 ghost use Rattle.dm_machine.specs.Forms.{EachShapeIsAForm, EachFormIsShaped};
 ghost use Rattle.dm_machine.specs.Openings.{
   OpensAcceptedWithCea,
@@ -12,6 +13,7 @@ ghost use Rattle.dm_machine.specs.Openings.{
   LeavesOthersAlone,
   EndsAtClose,
 };
+ghost use Rattle.dm_machine.specs.Ordered.{OrdersAreToldApart, EachOrderIsACommand, EachCommandIsAnOrder};
 ghost use Rattle.dm_machine.specs.Rows.{HasOneRowEach};
 ghost use Rattle.dm_machine.specs.Shape.{EachStepKeepsShape};
 ghost use Rattle.dm_machine.specs.Strangers.{TurnsStrangersAway};
@@ -27,6 +29,13 @@ ghost use Rattle.dm_machine.specs.Unread.{
 /// and what it is ordered.
 pub fn each_connection_changes_as_allowed()
     ensures { EachConnectionChangesAsAllowed }
+{}
+
+/// What a connection is ordered are commands, and a command to it is an order.
+pub fn each_order_is_a_command()
+    ensures apart { OrdersAreToldApart }
+    ensures command { EachOrderIsACommand }
+    ensures order { EachCommandIsAnOrder }
 {}
 
 /// What those changes come to: which command or message goes with each opening, when a CER goes out, what is closed,
@@ -65,6 +74,12 @@ pub fn open_connections_carry()
 pub fn each_node_has_its_form()
     ensures formed { EachShapeIsAForm }
     ensures shaped { EachFormIsShaped }
+{}
+
+/// A test of a step that looks at no connection holds of every step, where it holds of the few that the states, the
+/// places of a connection and the inputs make: those are proved by computing.
+pub fn each_step_is_one_of_few()
+    ensures { EachStepHolds }
 {}
 
 /// What shape a node keeps: which connections each state holds, and which counts. A step gives at most four commands.

@@ -1,0 +1,40 @@
+-- What a connection is ordered, and the commands: each order is a command, and each command to it an order.
+use Rattle.std.specs.Prelude.{◌≡◌, true, Some, List, ◌∷◌, ◌++◌}
+use Rattle.dm_machine.specs.declared.connection.Conn.{Conn}
+use Rattle.dm_machine.specs.declared.outputs.Command.{Command}
+use Rattle.dm_machine.specs.declared.outputs.Command.TheVariants as command
+use Rattle.dm_machine.specs.Connection.{Order, Connects, SendsCer, SendsCea, SendsRefusal, SendsDwr, SendsDwa, SendsDpr, SendsDpa, SendsSubmit, Closes, order_to, orders_to}
+use Rattle.dm_machine.specs.Openings.{is_order, has_order}
+
+-- an element of a list, with what stands before and behind it
+abbrev pub IsAmong : {X : Type 0} → List X → X → Type 0
+IsAmong {X} xs x = (earlier : List X) × (later : List X) × (xs ≡ earlier ++ x ∷ later)
+
+-- the command of an order
+abbrev pub command_for : Order → Conn → Command
+command_for Connects c = command.Connect c
+command_for SendsCer c = command.SendCer c
+command_for SendsCea c = command.SendCea c
+command_for SendsRefusal c = command.SendRefusal c
+command_for SendsDwr c = command.SendDwr c
+command_for SendsDwa c = command.SendDwa c
+command_for SendsDpr c = command.SendDpr c
+command_for SendsDpa c = command.SendDpa c
+command_for SendsSubmit c = command.SendSubmit c
+command_for Closes c = command.Close c
+
+-- orders are told apart by their numbers
+abbrev pub OrdersAreToldApart : Type 0
+OrdersAreToldApart = (o p : Order) → is_order o p ≡ true → o ≡ p
+
+-- what a connection is ordered is among the commands
+abbrev pub EachOrderIsACommand : Type 0
+EachOrderIsACommand =
+    (o : Order) (c : Conn) (commands : List Command) → has_order o (orders_to c commands) ≡ true →
+    IsAmong commands (command_for o c)
+
+-- a command to a connection is among what it is ordered
+abbrev pub EachCommandIsAnOrder : Type 0
+EachCommandIsAnOrder =
+    (o : Order) (c : Conn) (commands : List Command) (a : Command) → IsAmong commands a → order_to c a ≡ Some o →
+    has_order o (orders_to c commands) ≡ true
