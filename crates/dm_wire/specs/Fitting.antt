@@ -5,6 +5,7 @@ use Rattle.dm_wire.specs.declared.avp.Avp.{Avp}
 use Rattle.dm_wire.specs.declared.message.Message.{Message}
 use Rattle.dm_wire.specs.Spelling.{avp_length, SpellsAvp, SpellsList, SpellsMessage}
 use Rattle.dm_wire.specs.Canonical.{canonical_avp, canonical_list, message_size, canonical_message}
+use Rattle.dm_wire.specs.Codes.{max_message_len}
 use Rattle.dm_wire.specs.Limits.{AvpFits, HeaderFits}
 use Rattle.dm_wire.specs.Members.{padded}
 
@@ -20,8 +21,8 @@ AvpSized = (a : Avp) → length (canonical_avp a) ≡ padded (avp_length a)
 abbrev pub ListSpelled : Type 0
 ListSpelled = (l : List Avp) → All AvpFits l → SpellsList l (canonical_list l)
 
--- a message of at most 16777212 octets
+-- a message of at most the greatest Message Length
 abbrev pub MessageSpelled : Type 0
 MessageSpelled =
-    (m : Message) → HeaderFits m.header → All AvpFits m.avps → message_size m ≤ 16777212 →
+    (m : Message) → HeaderFits m.header → All AvpFits m.avps → message_size m ≤ max_message_len →
     SpellsMessage m (canonical_message m)

@@ -1,6 +1,7 @@
 pub mod AvpEquality
 pub mod Borrowed
 pub mod Canonical
+pub mod Codes
 pub mod Extents
 pub mod Fitting
 pub mod Finding

@@ -6,10 +6,11 @@ use Rattle.dm_wire.specs.declared.message.Header.{Header}
 use Rattle.dm_wire.specs.declared.message.Message.{Message}
 use Rattle.dm_wire.specs.Spelling.{avp_length}
 use Rattle.dm_wire.specs.Canonical.{message_size}
+use Rattle.dm_wire.specs.Codes.{max_command, max_avp_len, max_message_len}
 
 -- the AVP Length is above the greatest that three octets hold (4.1)
 abbrev pub IsLongAvp : Avp → Type 0
-IsLongAvp a = 16777215 < avp_length a
+IsLongAvp a = max_avp_len < avp_length a
 
 -- the AVP Length of one is
 abbrev pub IsLongList : List Avp → Type 0
@@ -18,7 +19,7 @@ IsLongList l = Any IsLongAvp l
 -- an AVP Length is, the Message Length is above the greatest multiple of 4 that three octets hold, or the Command Code
 -- above what three octets hold (3)
 abbrev pub IsLongMessage : Message → Type 0
-IsLongMessage m = IsLongList m.avps ⊎ (16777212 < message_size m) ⊎ (16777215 < m.header.command)
+IsLongMessage m = IsLongList m.avps ⊎ (max_message_len < message_size m) ⊎ (max_command < m.header.command)
 
 -- the code, the AVP Length and the Vendor-ID fit their fields (4.1)
 pub record AvpFits (a : Avp) : Type 0 where

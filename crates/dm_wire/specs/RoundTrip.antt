@@ -3,6 +3,7 @@ use Rattle.std.specs.Prelude.{◌≡◌, ℕ, ◌^◌, ◌<◌, ◌≤◌, List,
 use Rattle.dm_wire.specs.declared.avp.Avp.{Avp}
 use Rattle.dm_wire.specs.declared.message.Header.{Header}
 use Rattle.dm_wire.specs.declared.message.Message.{Message}
+use Rattle.dm_wire.specs.Codes.{max_message_len}
 use Rattle.dm_wire.specs.Spelling.{SpellsList, SpellsHeader, SpellsMessage}
 use Rattle.dm_wire.specs.Canonical.{canonical_list, canonical_header, canonical_message}
 
@@ -29,6 +30,6 @@ ListReadsBack = (l k : List Avp) (s : List ℕ) → SpellsList l s → SpellsLis
 -- a header whose fields have room is spelled by its canonical octets
 abbrev pub CanonicalHeaderSpelled : Type 0
 CanonicalHeaderSpelled =
-    (h : Header) (size : ℕ) → size ≤ 16777212 → h.command < 256 ^ 3 → h.application < 256 ^ 4 → h.hop_id < 256 ^ 4 →
-    h.end_id < 256 ^ 4
+    (h : Header) (size : ℕ) → size ≤ max_message_len → h.command < 256 ^ 3 → h.application < 256 ^ 4
+    → h.hop_id < 256 ^ 4 → h.end_id < 256 ^ 4
     → SpellsHeader h size (canonical_header h size)

@@ -6,6 +6,7 @@ use Rattle.std.specs.Int.{bytes_high_first}
 use Rattle.dm_wire.specs.declared.avp.Avp.{Avp}
 use Rattle.dm_wire.specs.declared.message.Header.{Header}
 use Rattle.dm_wire.specs.declared.message.Message.{Message}
+use Rattle.dm_wire.specs.Codes.{max_message_len}
 
 -- the k octets of a number, the most significant first (3: network byte order)
 abbrev pub be : ℕ → ℕ → List ℕ
@@ -57,7 +58,7 @@ pub record SpellsHeader (h : Header) (size : ℕ) (s : List ℕ) : Type 0 where
   pub proxiable_bit : is_set flags 64 ≡ h.proxiable
   pub error_bit : is_set flags 32 ≡ h.error
   pub retransmit_bit : is_set flags 16 ≡ h.retransmit
-  pub size_fits : size ≤ 16777212
+  pub size_fits : size ≤ max_message_len
   pub command_fits : h.command < 256 ^ 3
   pub application_fits : h.application < 256 ^ 4
   pub hop_fits : h.hop_id < 256 ^ 4

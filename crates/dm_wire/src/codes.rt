@@ -2,4 +2,5 @@
 
 pub mod avps;
 pub mod commands;
+pub mod limits;
 pub mod results;

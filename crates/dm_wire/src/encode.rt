@@ -4,19 +4,17 @@ ghost use Rattle.dm_wire.specs.Spelling.{SpellsList, SpellsMessage};
 ghost use Rattle.dm_wire.specs.Canonical.{canonical_list, canonical_header, canonical_message, message_size};
 ghost use Rattle.dm_wire.specs.Limits.{IsLongList, IsLongMessage};
 
+use crate::codes::limits::{HEADER_LEN, MAX_MESSAGE_LEN};
 use crate::put::{header_octets, put_list};
 use crate::size::list_size;
 use crate::{Avp, Message, WireFault};
 use std::alloc::Global;
 
-/// The greatest Message Length: its field holds 16777215, and it is a multiple of 4.
-const MAX_MESSAGE_LEN: usize = 0xff_fffc;
-
-/// The octets that a header takes.
-const HEADER_LEN: usize = 20;
+/// The most octets that the AVPs of a message take.
+const MAX_REST: usize = (MAX_MESSAGE_LEN - HEADER_LEN) as usize;
 
 /// The most AVPs of a message: each takes at least 8 octets.
-const MAX_AVPS: usize = (MAX_MESSAGE_LEN - HEADER_LEN) / 8;
+const MAX_AVPS: usize = MAX_REST / 8;
 
 /// The AVPs as octets, one after the other, with zero padding and zero reserved bits, as the data of
 /// a Grouped AVP (RFC 6733, 4.4).
@@ -43,16 +41,16 @@ pub fn encode_avps(alloc: Global, avps: &[Avp]) -> Result<Vec<u8>, WireFault>
 /// How many octets the AVPs of a message take. `None` where the Length of one, or the Message Length, doesn't fit.
 fn message_rest(avps: &[Avp]) -> Option<usize>
     ensures size { IfSome result (λ n. n ≡ length (canonical_list avps.now)) }
-    ensures fits { IfSome result (λ n. n ≤ 16777192) }
+    ensures fits { IfSome result (λ n. n ≤ MAX_REST) }
     ensures spelled { IfSome result (λ n. SpellsList avps.now (canonical_list avps.now)) }
-    ensures none { IfNone result (IsLongList avps.now ⊎ (16777192 < length (canonical_list avps.now))) }
+    ensures none { IfNone result (IsLongList avps.now ⊎ (MAX_REST < length (canonical_list avps.now))) }
 {
     // So few AVPs that the sum of their sizes is exact.
     if avps.len() > MAX_AVPS {
         return None;
     }
     let rest = list_size(avps)?;
-    if rest > MAX_MESSAGE_LEN - HEADER_LEN {
+    if rest > MAX_REST {
         return None;
     }
     Some(rest)
@@ -68,7 +66,7 @@ fn sized_header(message: &Message) -> Option<([u8; 20], usize)>
     ensures none { IfNone result (IsLongMessage message.now) }
 {
     let rest = message_rest(message.avps.as_slice())?;
-    let size = HEADER_LEN + rest;
+    let size = HEADER_LEN as usize + rest;
     let header = header_octets(message.header, size as u32)?;
     Some((header, size))
 }

@@ -33,5 +33,6 @@ pub use list::{AvpsRef, spells_avps};
 pub use message::{Header, Message};
 pub use message_ref::MessageRef;
 pub use octets::Octets;
+pub use put::{header_octets, put_avp};
 pub use read::first_avp;
 pub use walk::AvpWalk;

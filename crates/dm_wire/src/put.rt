@@ -1,10 +1,14 @@
 //! AVPs and headers to octets (RFC 6733, 3 and 4.1).
 ghost use Rattle.std.specs.Prelude.{◌≡◌, ◌^◌, ◌<◌, ◌≤◌, ◌++◌, ◌∷◌, OnOk, IfSome, IfNone};
 ghost use Rattle.dm_wire.specs.Spelling.{be, avp_length, vendor_octets, SpellsList, SpellsHeader};
-ghost use Rattle.dm_wire.specs.Canonical.{worth, avp_flags, zeros, canonical_avp, canonical_list, header_flags, canonical_header};
+ghost use Rattle.dm_wire.specs.Borrowed.{avp_of};
+ghost use Rattle.dm_wire.specs.Canonical.{worth, avp_flags, zeros, canonical_avp, canonical_list};
+ghost use Rattle.dm_wire.specs.Canonical.{header_flags, canonical_header};
+ghost use Rattle.dm_wire.specs.Codes.{max_command, max_message_len};
 
+use crate::codes::limits::MAX_COMMAND;
 use crate::size::header_len;
-use crate::{Avp, Header};
+use crate::{Avp, AvpRef, Header};
 use byteorder::{BigEndian, ByteOrder};
 use std::alloc::AllocError;
 
@@ -16,16 +20,16 @@ fn bit(set: bool, value: u8) -> u8
 }
 
 /// The flag octet of the AVP, with zero reserved bits.
-fn avp_flag_octet(avp: &Avp) -> u8
-    ensures { result ≡ avp_flags avp.now }
+fn avp_flag_octet(avp: AvpRef<'_>) -> u8
+    ensures { result ≡ avp_flags (avp_of avp.entry) }
 {
     bit(avp.vendor.is_some(), 0x80) | bit(avp.mandatory, 0x40) | bit(avp.protected, 0x20)
 }
 
 /// The first eight octets of the header of the AVP with this Length.
-fn avp_header(avp: &Avp, length: u32) -> [u8; 8]
+fn avp_header(avp: AvpRef<'_>, length: u32) -> [u8; 8]
     requires { length < 256 ^ 3 }
-    ensures { result ≡ be avp.now.code 4 ++ avp_flags avp.now ∷ be length 3 }
+    ensures { result ≡ be avp.entry.code 4 ++ avp_flags (avp_of avp.entry) ∷ be length 3 }
 {
     let mut header = [0; 8];
     BigEndian::write_u32(&mut header, avp.code);
@@ -61,17 +65,17 @@ fn put_padding(out: &mut Vec<u8>, length: usize) -> Result<(), AllocError>
     Ok(())
 }
 
-/// The AVP, appended with zero padding and zero reserved bits.
-fn put_avp(out: &mut Vec<u8>, avp: &Avp) -> Result<(), AllocError>
-    requires { avp_length avp.now < 256 ^ 3 }
-    ensures { OnOk result (out.new.items ≡ out.old.items ++ canonical_avp avp.now) }
+/// The AVP, appended with zero padding and zero reserved bits (RFC 6733, 4.1), or want of memory. It takes
+/// `AvpRef::padded_len` octets of room.
+pub fn put_avp(out: &mut Vec<u8>, avp: AvpRef<'_>) -> Result<(), AllocError>
+    requires { avp_length (avp_of avp) < 256 ^ 3 }
+    ensures { OnOk result (out.new.items ≡ out.old.items ++ canonical_avp (avp_of avp.entry)) }
 {
-    let data = avp.bytes.as_slice();
-    let length = header_len(avp.vendor) + data.len();
+    let length = header_len(avp.vendor) + avp.bytes.len();
     let header = avp_header(avp, length as u32);
     out.extend_from_slice(&header)?;
     put_vendor(out, avp.vendor)?;
-    out.extend_from_slice(data)?;
+    out.extend_from_slice(avp.bytes)?;
     put_padding(out, length)?;
     Ok(())
 }
@@ -83,7 +87,7 @@ pub(crate) fn put_list(out: &mut Vec<u8>, avps: &[Avp]) -> Result<(), AllocError
 {
     let mut left = avps;
     while let [avp, rest @ ..] = left {
-        put_avp(out, avp)?;
+        put_avp(out, avp.borrowed())?;
         left = rest;
     }
     Ok(())
@@ -99,14 +103,15 @@ fn header_flag_octet(header: Header) -> u8
         | bit(header.retransmit, 0x10)
 }
 
-/// The header of a message of this many octets. `None` where the Command Code doesn't fit.
-pub(crate) fn header_octets(header: Header, size: u32) -> Option<[u8; 20]>
-    requires { size ≤ 16777212 }
+/// The header of a message of this many octets, with zero reserved bits (RFC 6733, 3). `None` where the Command Code
+/// doesn't fit. It takes no memory.
+pub fn header_octets(header: Header, size: u32) -> Option<[u8; 20]>
+    requires { size ≤ max_message_len }
     ensures octets { IfSome result (λ octets. octets ≡ canonical_header header size) }
     ensures spelled { IfSome result (λ octets. SpellsHeader header size octets) }
-    ensures none { IfNone result (16777215 < header.command) }
+    ensures none { IfNone result (max_command < header.command) }
 {
-    if header.command > 0xff_ffff {
+    if header.command > MAX_COMMAND {
         return None;
     }
     let mut octets = [0; 20];

@@ -2,25 +2,35 @@
 ghost use Rattle.std.specs.Prelude.{◌≡◌, ◌-◌, ◌%◌, ◌^◌, ◌<◌, ◌≤◌, length, IfSome, IfNone};
 ghost use Rattle.dm_wire.specs.Spelling.{avp_header_len, avp_length, SpellsAvp, SpellsList};
 ghost use Rattle.dm_wire.specs.Canonical.{canonical_avp, canonical_list};
+ghost use Rattle.dm_wire.specs.Borrowed.{avp_of};
+ghost use Rattle.dm_wire.specs.Codes.{max_avp_len};
 ghost use Rattle.dm_wire.specs.Limits.{IsLongAvp, IsLongList};
 
-use crate::Avp;
-
-/// The greatest AVP Length that its field holds.
-const MAX_AVP_LEN: usize = 0xff_ffff;
+use crate::codes::limits::MAX_AVP_LEN;
+use crate::{Avp, AvpRef};
 
 impl Avp {
     /// The AVP Length: the octets of header and data, without padding (RFC 6733, 4.1). `None` where
     /// it would pass 16777215, the greatest that its field holds. It takes no memory.
     pub fn wire_len(&self) -> Option<u32>
-        ensures some { IfSome result (λ n. (n ≡ avp_length self.now) × (n ≤ 16777215)) }
+        ensures some { IfSome result (λ n. (n ≡ avp_length self.now) × (n ≤ max_avp_len)) }
         ensures none { IfNone result (IsLongAvp self.now) }
     {
         let length = avp_len(self);
-        if length > MAX_AVP_LEN {
+        if length > MAX_AVP_LEN as usize {
             return None;
         }
         Some(length as u32)
+    }
+}
+
+impl AvpRef<'_> {
+    /// The octets that the AVP takes: header, data and padding (RFC 6733, 4.1). It takes no memory.
+    #[tactic(auto, using(crate::proofs::Canonicals::canonical_size))]
+    pub fn padded_len(&self) -> usize
+        ensures { result ≡ length (canonical_avp (avp_of self.now)) }
+    {
+        (header_len(self.vendor) + self.bytes.len() + 3) / 4 * 4
     }
 }
 
@@ -39,7 +49,7 @@ pub(crate) fn header_len(vendor: Option<u32>) -> usize
 fn avp_len(avp: &Avp) -> usize
     ensures len { result ≡ avp_length avp.now }
     ensures fits { result < 2 ^ 64 - 3 }
-    ensures spelled { result ≤ 16777215 → SpellsAvp avp.now (canonical_avp avp.now) }
+    ensures spelled { result ≤ max_avp_len → SpellsAvp avp.now (canonical_avp avp.now) }
 {
     // The contract speaks of the code, whose range is known once it is read.
     let _code = avp.code;
@@ -49,10 +59,10 @@ fn avp_len(avp: &Avp) -> usize
 /// 1 for a Length that its field doesn't hold, else 0: a number to add up, and no branch.
 fn too_long(length: usize) -> usize
     ensures one { result ≤ 1 }
-    ensures none { result ≡ 0 → length ≤ 16777215 }
-    ensures some { 0 < result → 16777215 < length }
+    ensures none { result ≡ 0 → length ≤ max_avp_len }
+    ensures some { 0 < result → max_avp_len < length }
 {
-    usize::from(length > MAX_AVP_LEN)
+    usize::from(length > MAX_AVP_LEN as usize)
 }
 
 /// The octets that the AVPs take, of which the lowest 64 bits are told. `None` where the Length of one doesn't fit.
