@@ -10,9 +10,9 @@ use Rattle.dm_wire.specs.declared.message.Header.{Header}
 use Rattle.dm_value.specs.declared.address.Ip.{Ip}
 use Rattle.dm_value.specs.declared.address.Ip.TheVariants.{V4, V6}
 use Rattle.dm_value.specs.Flaws.{is_visible, is_visible_text}
-use Rattle.dm_definitions.specs.declared.def.CommandDef.{CommandDef}
-use Rattle.dm_definitions.specs.Base.{base_avps, base_definitions}
-use Rattle.dm_definitions.specs.Base as base
+use Rattle.dm_tables.specs.declared.def.CommandDef.{CommandDef}
+use Rattle.dm_tables.specs.Base.{base_avps, base_definitions}
+use Rattle.dm_tables.specs.Base as base
 use Rattle.dm_dict.specs.Faults.{faults, wrong_bits, command_for, group_faults}
 use Rattle.dm_base.specs.declared.node.Node.{Node}
 use Rattle.dm_base.specs.Fit.{is_name, is_sized, are_addresses, is_product}

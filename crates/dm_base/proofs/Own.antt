@@ -8,7 +8,7 @@ use Rattle.dm_wire.specs.Spelling.{be, avp_length}
 use Rattle.dm_wire.specs.Canonical.{canonical_avp}
 use Rattle.dm_wire.specs.declared.avp.Avp.{Avp}
 use Rattle.dm_wire.specs.declared.message.Header.{Header}
-use Rattle.dm_definitions.specs.Base.{base_definitions}
+use Rattle.dm_tables.specs.Base.{base_definitions}
 use Rattle.dm_dict.specs.Faults.{Fault, faults, first}
 use Rattle.dm_base.specs.declared.node.Node.{Node}
 use Rattle.dm_base.specs.declared.kind.Cause.{Cause}

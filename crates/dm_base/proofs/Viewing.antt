@@ -3,7 +3,7 @@ use Rattle.std.proofs.Common.{◌≡◌, ℕ, Bool, true, false, Option, None, S
 use Rattle.dm_wire.specs.declared.avp.Avp.{Avp}
 use Rattle.dm_wire.specs.declared.message.Message.{Message}
 use Rattle.dm_wire.specs.Members.{members}
-use Rattle.dm_definitions.specs.Definitions.{Definitions}
+use Rattle.dm_tables.specs.Definitions.{Definitions}
 use Rattle.dm_dict.specs.Faults.{Fault, faults, first}
 use Rattle.dm_base.specs.declared.kind.Kind.{Kind}
 use Rattle.dm_base.specs.declared.kind.Kind.TheVariants as kinds

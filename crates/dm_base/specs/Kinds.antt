@@ -6,8 +6,8 @@ use Rattle.std.specs.Int.{cast_signed, w32}
 use Rattle.byteorder.specs.Endian.{big_number}
 use Rattle.dm_wire.specs.declared.avp.Avp.{Avp}
 use Rattle.dm_wire.specs.declared.message.Message.{Message}
-use Rattle.dm_definitions.specs.Base.{base_definitions}
-use Rattle.dm_definitions.specs.Definitions.{Definitions}
+use Rattle.dm_tables.specs.Base.{base_definitions}
+use Rattle.dm_tables.specs.Definitions.{Definitions}
 use Rattle.dm_wire.specs.Members.{members}
 use Rattle.dm_dict.specs.Faults.{Fault, faults, first}
 use Rattle.dm_base.specs.Codes.{capabilities_exchange, device_watchdog, disconnect_peer, auth_application_id, acct_application_id, vendor_specific_application_id, origin_host, result_code, disconnect_cause, origin_realm, inband_security_id}

@@ -4,7 +4,7 @@ use Rattle.std.specs.Prelude.{◌≡◌, ℕ, pos, ◌^◌, ◌<◌, [], Option}
 use Rattle.dm_wire.specs.declared.avp.Avp.{Avp}
 use Rattle.dm_wire.specs.declared.message.Header.{Header}
 use Rattle.dm_wire.specs.Limits.{HeaderFits}
-use Rattle.dm_definitions.specs.Base.{base_definitions}
+use Rattle.dm_tables.specs.Base.{base_definitions}
 use Rattle.dm_dict.specs.Faults.{faults}
 use Rattle.dm_base.specs.declared.node.Node.{Node}
 use Rattle.dm_base.specs.declared.kind.Cause.{Cause}

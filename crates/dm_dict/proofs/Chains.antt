@@ -1,8 +1,8 @@
 -- The first fault of lists of faults, one after the other.
 use Rattle.std.proofs.Common.{◌≡◌, ◌<◌, ◌≤◌, ℕ, zero, suc, ◌+◌, Option, None, Some, List, [], ◌∷◌, ◌++◌, length, get_or, drop, flat_map, refl, sym, ◌∙◌, arith, append_assoc, Bool, true, false, if◌then◌else◌, min, slice_index, slice_index_or}
 use Rattle.dm_wire.specs.declared.avp.Avp.{Avp}
-use Rattle.dm_definitions.specs.declared.rule.Entry.{Entry}
-use Rattle.dm_definitions.specs.declared.def.AvpDef.{AvpDef}
+use Rattle.dm_tables.specs.declared.rule.Entry.{Entry}
+use Rattle.dm_tables.specs.declared.def.AvpDef.{AvpDef}
 use Rattle.dm_dict.specs.Rules.{definition, counts, count, is_at}
 use Rattle.dm_dict.specs.Faults.{Fault, first, avp_faults}
 use Rattle.dm_dict.specs.Counters.{IsCountedBut}

@@ -4,10 +4,10 @@ use Rattle.std.specs.Prelude.{IsSome, if◌then◌else◌}
 use Rattle.std.specs.List.{list_any, list_all}
 use Rattle.std.specs.Cmp.Lexicographic.{pointwise, same_text}
 use Rattle.std.proofs.lemmas.Bool.{and_parts}
-use Rattle.dm_definitions.specs.declared.rule.Entry.{Entry}
-use Rattle.dm_definitions.specs.declared.def.AvpDef.{AvpDef}
-use Rattle.dm_definitions.specs.Definitions.{is_named}
-use Rattle.dm_definitions.specs.Sound.{is_any, is_known, knows_rule}
+use Rattle.dm_tables.specs.declared.rule.Entry.{Entry}
+use Rattle.dm_tables.specs.declared.def.AvpDef.{AvpDef}
+use Rattle.dm_tables.specs.Definitions.{is_named}
+use Rattle.dm_tables.specs.Sound.{is_any, is_known, knows_rule}
 use Rattle.dm_dict.specs.Examples.{HasExamples, MissingHasExample}
 use Rattle.dm_dict.specs.Faults.{example, example_of}
 use Rattle.dm_dict.specs.Rules.{stands_for_any}

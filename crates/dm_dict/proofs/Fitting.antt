@@ -4,11 +4,11 @@ use Rattle.std.proofs.lemmas.Bool.{and_parts}
 use Rattle.std.proofs.lemmas.List.Folds.{list_any-append}
 use Rattle.std.specs.List.{list_any, list_all, position_from}
 use Rattle.std.specs.Cmp.Lexicographic.{pointwise, same_text}
-use Rattle.dm_definitions.specs.declared.rule.Entry.{Entry}
-use Rattle.dm_definitions.specs.declared.def.AvpDef.{AvpDef}
-use Rattle.dm_definitions.specs.declared.def.CommandDef.{CommandDef}
-use Rattle.dm_definitions.specs.Definitions.{Definitions, is_named, is_coded, is_headed}
-use Rattle.dm_definitions.specs.Sound.{each_after, is_sound, is_sound_vendor, is_sound_avp, is_sound_command, is_sound_entry, is_sound_rule, is_any, is_closed, knows_rule}
+use Rattle.dm_tables.specs.declared.rule.Entry.{Entry}
+use Rattle.dm_tables.specs.declared.def.AvpDef.{AvpDef}
+use Rattle.dm_tables.specs.declared.def.CommandDef.{CommandDef}
+use Rattle.dm_tables.specs.Definitions.{Definitions, is_named, is_coded, is_headed}
+use Rattle.dm_tables.specs.Sound.{each_after, is_sound, is_sound_vendor, is_sound_avp, is_sound_command, is_sound_entry, is_sound_rule, is_any, is_closed, knows_rule}
 use Rattle.dm_dict.specs.Rules.{is_called}
 use Rattle.dm_dict.specs.Apart.{AtMostOne, IsApart, IsFit, IsOwnName}
 

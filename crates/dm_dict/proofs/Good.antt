@@ -7,9 +7,9 @@ use Rattle.dm_value.specs.declared.avp_type.AvpType.{AvpType}
 use Rattle.dm_value.specs.declared.avp_type.AvpType.TheVariants.{Grouped}
 use Rattle.dm_value.specs.declared.fault.NoMemory.{NoMemory}
 use Rattle.dm_value.specs.Decided.{FlawDecides}
-use Rattle.dm_definitions.specs.declared.rule.Entry.{Entry}
-use Rattle.dm_definitions.specs.declared.def.AvpDef.{AvpDef}
-use Rattle.dm_definitions.specs.Definitions.{Definitions}
+use Rattle.dm_tables.specs.declared.rule.Entry.{Entry}
+use Rattle.dm_tables.specs.declared.def.AvpDef.{AvpDef}
+use Rattle.dm_tables.specs.Definitions.{Definitions}
 use Rattle.dm_dict.specs.declared.verdict.Verdict.{Verdict}
 use Rattle.dm_dict.specs.declared.verdict.Verdict.TheVariants.{Good}
 use Rattle.dm_dict.specs.Faults.{Fault, first, faults}

@@ -4,10 +4,10 @@ use Rattle.dm_wire.specs.declared.avp.Avp.{Avp}
 use Rattle.dm_wire.specs.declared.message.Message.{Message}
 use Rattle.dm_value.specs.declared.avp_type.AvpType.TheVariants.{Grouped}
 use Rattle.dm_value.specs.Decided.{FlawDecides}
-use Rattle.dm_definitions.specs.declared.rule.Entry.{Entry}
-use Rattle.dm_definitions.specs.declared.def.AvpDef.{AvpDef}
-use Rattle.dm_definitions.specs.declared.def.CommandDef.{CommandDef}
-use Rattle.dm_definitions.specs.Definitions.{Definitions}
+use Rattle.dm_tables.specs.declared.rule.Entry.{Entry}
+use Rattle.dm_tables.specs.declared.def.AvpDef.{AvpDef}
+use Rattle.dm_tables.specs.declared.def.CommandDef.{CommandDef}
+use Rattle.dm_tables.specs.Definitions.{Definitions}
 use Rattle.dm_dict.specs.Codes.{avp_unsupported, avp_not_allowed, invalid_hdr_bits, missing_avp, avp_occurs_too_many_times}
 use Rattle.dm_dict.specs.Faults.{Fault, first, faults, message_faults, command_for, wrong_bits, fault_of, fault_without_avp, is_failed_avp, data_faults, avp_faults, excess_faults, entry_faults, example, group_faults, member_faults, list_faults}
 use Rattle.dm_dict.specs.Keeping.{MayStand, KeepsAs, IsWithinBounds, KeepsTo, IsGood}

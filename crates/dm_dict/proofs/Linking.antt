@@ -4,10 +4,10 @@ use Rattle.std.proofs.lemmas.Bool.{and_parts}
 use Rattle.std.specs.List.{position_from, list_any, list_all}
 use Rattle.std.specs.Option.{option_eq, option_or}
 use Rattle.std.specs.Cmp.Lexicographic.{same_text}
-use Rattle.dm_definitions.specs.declared.rule.Entry.{Entry}
-use Rattle.dm_definitions.specs.declared.def.AvpDef.{AvpDef}
-use Rattle.dm_definitions.specs.Definitions.{is_named, is_coded}
-use Rattle.dm_definitions.specs.Sound.{is_any, is_known, knows_rule}
+use Rattle.dm_tables.specs.declared.rule.Entry.{Entry}
+use Rattle.dm_tables.specs.declared.def.AvpDef.{AvpDef}
+use Rattle.dm_tables.specs.Definitions.{is_named, is_coded}
+use Rattle.dm_tables.specs.Sound.{is_any, is_known, knows_rule}
 use Rattle.dm_dict.specs.Rules.{is_called, names, stands_for_any}
 use Rattle.dm_dict.specs.Apart.{IsFit, IsOwnName}
 use Rattle.dm_dict.specs.Links.{link, rule_links}

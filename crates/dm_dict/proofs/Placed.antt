@@ -11,11 +11,11 @@ use Rattle.dm_value.specs.declared.avp_type.AvpType.TheVariants.{Grouped}
 use Rattle.dm_value.specs.declared.fault.ValueFault.{ValueFault}
 use Rattle.dm_value.specs.declared.fault.ValueFault.TheVariants.{WrongLength, WrongValue, TooLong, NoMemory}
 use Rattle.dm_value.specs.Flaws.{flaw}
-use Rattle.dm_definitions.specs.declared.rule.Entry.{Entry}
-use Rattle.dm_definitions.specs.declared.values.EnumValue.{EnumValue}
-use Rattle.dm_definitions.specs.declared.def.AvpDef.{AvpDef}
-use Rattle.dm_definitions.specs.declared.def.CommandDef.{CommandDef}
-use Rattle.dm_definitions.specs.Definitions.{Definitions}
+use Rattle.dm_tables.specs.declared.rule.Entry.{Entry}
+use Rattle.dm_tables.specs.declared.values.EnumValue.{EnumValue}
+use Rattle.dm_tables.specs.declared.def.AvpDef.{AvpDef}
+use Rattle.dm_tables.specs.declared.def.CommandDef.{CommandDef}
+use Rattle.dm_tables.specs.Definitions.{Definitions}
 use Rattle.dm_dict.specs.declared.judged.Judged.{Judged}
 use Rattle.dm_dict.specs.declared.judged.Judged.TheVariants as judged
 use Rattle.dm_dict.specs.declared.judged.Failed.TheVariants.{Nothing, Found, Example}

@@ -4,8 +4,8 @@ use Rattle.std.specs.List.{position_from, list_any}
 use Rattle.std.specs.Option.{option_and_then, option_or}
 use Rattle.std.specs.Cmp.Lexicographic.{same_text}
 use Rattle.std.proofs.lemmas.List.Folds.{list_any_at}
-use Rattle.dm_definitions.specs.declared.rule.Entry.{Entry}
-use Rattle.dm_definitions.specs.declared.def.AvpDef.{AvpDef}
+use Rattle.dm_tables.specs.declared.rule.Entry.{Entry}
+use Rattle.dm_tables.specs.declared.def.AvpDef.{AvpDef}
 use Rattle.dm_dict.specs.Rules.{is_called, names, stands_for_any, counts, entry_for, is_at}
 use Rattle.dm_dict.specs.Apart.{AtMostOne, IsApart, IsOwnName}
 

@@ -8,11 +8,11 @@ use Rattle.std.specs.Char.{is_ascii_alphanumeric}
 use Rattle.std.specs.Int.{is_in_range}
 use Rattle.std.specs.List.{list_all}
 use Rattle.std.specs.Str.{IsUtf8}
-use Rattle.dm_definitions.specs.declared.def.AvpDef.{AvpDef}
-use Rattle.dm_definitions.specs.declared.def.CommandDef.{CommandDef}
-use Rattle.dm_definitions.specs.declared.def.VendorDef.{VendorDef}
-use Rattle.dm_definitions.specs.declared.values.EnumValue.{EnumValue}
-use Rattle.dm_definitions.specs.Sound.{each_after, goes_on, is_proper_name, is_sound_avp, is_sound_command, is_sound_value, is_sound_vendor}
+use Rattle.dm_tables.specs.declared.def.AvpDef.{AvpDef}
+use Rattle.dm_tables.specs.declared.def.CommandDef.{CommandDef}
+use Rattle.dm_tables.specs.declared.def.VendorDef.{VendorDef}
+use Rattle.dm_tables.specs.declared.values.EnumValue.{EnumValue}
+use Rattle.dm_tables.specs.Sound.{each_after, goes_on, is_proper_name, is_sound_avp, is_sound_command, is_sound_value, is_sound_vendor}
 use Rattle.dm_dict.specs.Texts.{NamesAreText}
 
 either : (a b : Bool) → (a || b) ≡ true → (a ≡ true) ⊎ (b ≡ true)

@@ -12,7 +12,7 @@ use Rattle.dm_value.specs.Decided.{AreOctets, FlawDecides}
 use Rattle.dm_value.specs.Flaws.{flaw}
 use Rattle.dm_value.specs.Meaning.{Means}
 use Rattle.dm_dict.specs.Codes.{invalid_avp_value}
-use Rattle.dm_definitions.specs.declared.values.EnumValue.{EnumValue}
+use Rattle.dm_tables.specs.declared.values.EnumValue.{EnumValue}
 use Rattle.dm_dict.specs.Faults.{first, fault_of, value_faults, is_left_out, unlisted_faults, data_faults, Fault}
 use Rattle.dm_dict.specs.Typed.{IsTypedData}
 

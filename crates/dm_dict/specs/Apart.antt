@@ -3,10 +3,10 @@ use Rattle.std.specs.Prelude.{◌≡◌, ℕ, Bool, true, false, Option, Some, L
 use Rattle.std.specs.List.{list_any, position_from}
 use Rattle.std.specs.Cmp.Lexicographic.{pointwise}
 use Rattle.std.specs.Prelude.{nat_eq}
-use Rattle.dm_definitions.specs.declared.rule.Entry.{Entry}
-use Rattle.dm_definitions.specs.declared.def.AvpDef.{AvpDef}
-use Rattle.dm_definitions.specs.Definitions.{is_coded, is_named}
-use Rattle.dm_definitions.specs.Sound.{knows_rule}
+use Rattle.dm_tables.specs.declared.rule.Entry.{Entry}
+use Rattle.dm_tables.specs.declared.def.AvpDef.{AvpDef}
+use Rattle.dm_tables.specs.Definitions.{is_coded, is_named}
+use Rattle.dm_tables.specs.Sound.{knows_rule}
 use Rattle.dm_dict.specs.Rules.{is_called}
 
 -- at most one entry passes the test

@@ -1,9 +1,9 @@
 -- What an entry has fewer of than it wants has an example, unless the entry is `AVP` (RFC 6733, 7.5).
 use Rattle.std.specs.Prelude.{◌≡◌, true, false, IsSome, List}
-use Rattle.dm_definitions.specs.declared.rule.Entry.{Entry}
-use Rattle.dm_definitions.specs.declared.def.AvpDef.{AvpDef}
-use Rattle.dm_definitions.specs.Definitions.{Definitions}
-use Rattle.dm_definitions.specs.Sound.{is_closed}
+use Rattle.dm_tables.specs.declared.rule.Entry.{Entry}
+use Rattle.dm_tables.specs.declared.def.AvpDef.{AvpDef}
+use Rattle.dm_tables.specs.Definitions.{Definitions}
+use Rattle.dm_tables.specs.Sound.{is_closed}
 use Rattle.dm_dict.specs.Faults.{example}
 use Rattle.dm_dict.specs.Rules.{stands_for_any}
 use Rattle.dm_dict.specs.Typed.{Each}

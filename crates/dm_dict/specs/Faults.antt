@@ -13,12 +13,12 @@ use Rattle.dm_value.specs.declared.fault.ValueFault.{ValueFault}
 use Rattle.dm_value.specs.declared.fault.ValueFault.TheVariants.{WrongLength, WrongValue}
 use Rattle.dm_value.specs.Columns.{least_length}
 use Rattle.dm_value.specs.Flaws.{flaw}
-use Rattle.dm_definitions.specs.declared.rule.Entry.{Entry}
-use Rattle.dm_definitions.specs.declared.values.EnumValue.{EnumValue}
-use Rattle.dm_definitions.specs.Listed.{is_unlisted}
-use Rattle.dm_definitions.specs.declared.def.AvpDef.{AvpDef}
-use Rattle.dm_definitions.specs.declared.def.CommandDef.{CommandDef}
-use Rattle.dm_definitions.specs.Definitions.{Definitions, is_named, is_headed}
+use Rattle.dm_tables.specs.declared.rule.Entry.{Entry}
+use Rattle.dm_tables.specs.declared.values.EnumValue.{EnumValue}
+use Rattle.dm_tables.specs.Listed.{is_unlisted}
+use Rattle.dm_tables.specs.declared.def.AvpDef.{AvpDef}
+use Rattle.dm_tables.specs.declared.def.CommandDef.{CommandDef}
+use Rattle.dm_tables.specs.Definitions.{Definitions, is_named, is_headed}
 use Rattle.dm_wire.specs.Members.{members}
 use Rattle.dm_dict.specs.Codes.{command_unsupported, invalid_hdr_bits, avp_unsupported, invalid_avp_value, missing_avp, avp_not_allowed, avp_occurs_too_many_times, invalid_avp_length, failed_avp}
 use Rattle.dm_dict.specs.Rules.{definition, stands_for_any, counted, count, entry_for, allows}

@@ -2,10 +2,10 @@
 use Rattle.std.specs.Prelude.{◌≡◌, ◌≢◌, ℕ, zero, suc, ◌<◌, ◌≤◌, false, Option, None, Some, IfSome, List}
 use Rattle.dm_wire.specs.declared.avp.Avp.{Avp}
 use Rattle.dm_wire.specs.declared.message.Message.{Message}
-use Rattle.dm_definitions.specs.declared.rule.Entry.{Entry}
-use Rattle.dm_definitions.specs.declared.def.AvpDef.{AvpDef}
-use Rattle.dm_definitions.specs.declared.def.CommandDef.{CommandDef}
-use Rattle.dm_definitions.specs.Definitions.{Definitions}
+use Rattle.dm_tables.specs.declared.rule.Entry.{Entry}
+use Rattle.dm_tables.specs.declared.def.AvpDef.{AvpDef}
+use Rattle.dm_tables.specs.declared.def.CommandDef.{CommandDef}
+use Rattle.dm_tables.specs.Definitions.{Definitions}
 use Rattle.dm_dict.specs.Faults.{command_for, wrong_bits, is_failed_avp, is_left_out, faults, first}
 use Rattle.dm_dict.specs.Rules.{definition, entry_for, count}
 use Rattle.dm_dict.specs.Typed.{IsTypedData, Each}

@@ -1,8 +1,8 @@
 -- Definitions with the links of their rules.
 use Rattle.std.specs.Prelude.{◌≡◌, ℕ, true, Option, List, map}
-use Rattle.dm_definitions.specs.declared.def.AvpDef.{AvpDef}
-use Rattle.dm_definitions.specs.Definitions.{Definitions}
-use Rattle.dm_definitions.specs.Sound.{knows_rule}
+use Rattle.dm_tables.specs.declared.def.AvpDef.{AvpDef}
+use Rattle.dm_tables.specs.Definitions.{Definitions}
+use Rattle.dm_tables.specs.Sound.{knows_rule}
 use Rattle.dm_dict.specs.declared.linked.Linked.{Linked}
 use Rattle.dm_dict.specs.declared.linked.LinkedRule.{LinkedRule}
 use Rattle.dm_dict.specs.Apart.{IsApart}

@@ -1,8 +1,8 @@
 -- Names are text.
 use Rattle.std.specs.Prelude.{◌≡◌, true, All}
 use Rattle.std.specs.Str.{IsUtf8}
-use Rattle.dm_definitions.specs.Definitions.{Definitions}
-use Rattle.dm_definitions.specs.Sound.{is_sound}
+use Rattle.dm_tables.specs.Definitions.{Definitions}
+use Rattle.dm_tables.specs.Sound.{is_sound}
 
 -- the names of vendors, AVPs, listed values and commands are UTF-8
 pub record HasTextNames (d : Definitions) : Type 0 where

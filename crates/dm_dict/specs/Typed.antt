@@ -6,8 +6,8 @@ use Rattle.dm_value.specs.declared.avp_type.AvpType.{AvpType}
 use Rattle.dm_value.specs.declared.avp_type.AvpType.TheVariants.{Grouped}
 use Rattle.dm_value.specs.declared.value.Value.{Value}
 use Rattle.dm_value.specs.Meaning.{Means}
-use Rattle.dm_definitions.specs.declared.def.AvpDef.{AvpDef}
-use Rattle.dm_definitions.specs.Definitions.{Definitions}
+use Rattle.dm_tables.specs.declared.def.AvpDef.{AvpDef}
+use Rattle.dm_tables.specs.Definitions.{Definitions}
 use Rattle.dm_dict.specs.Faults.{is_failed_avp, faults, first}
 use Rattle.dm_wire.specs.Members.{members}
 use Rattle.dm_dict.specs.Rules.{definition}

@@ -19,7 +19,7 @@ use crate::linked::{Linked, LinkedAvp, LinkedRule};
 use crate::rules::{allows, look_up};
 use crate::windows::judge_entries;
 use byteorder::{BigEndian, ByteOrder};
-use dm_definitions::AvpDef;
+use dm_tables::AvpDef;
 use dm_value::{AvpType, ValueFault, value_fault};
 use dm_wire::{AvpRef, AvpsRef, spells_avps};
 

@@ -9,7 +9,7 @@ ghost use Rattle.dm_dict.specs.Rules.{is_at};
 
 use crate::linked::LinkedRule;
 use crate::rules::look_up;
-use dm_definitions::Definitions;
+use dm_dict_text::Definitions;
 use dm_wire::AvpsRef;
 
 pub(crate) fn no_counts() -> [u16; 256]

@@ -4,14 +4,13 @@ ghost use Rattle.std.specs.Option.{option_copied, option_to_list};
 ghost use Rattle.dm_wire.specs.declared.avp.Avp.{Avp};
 ghost use Rattle.dm_wire.specs.declared.message.Message.{Message};
 ghost use Rattle.dm_wire.specs.Spelling.{SpellsList};
-ghost use Rattle.dm_definitions.specs.declared.fault.DictFault.{DictFault};
-ghost use Rattle.dm_definitions.specs.declared.fault.DictFault.TheVariants as faults_of;
-ghost use Rattle.dm_definitions.specs.Definitions.{Definitions, nothing_defined, is_vendor, is_named, is_coded, is_headed};
-ghost use Rattle.dm_definitions.specs.Sound.{is_sound, is_closed};
-ghost use Rattle.dm_definitions.specs.Base.{base_definitions};
-ghost use Rattle.dm_definitions.specs.Meaning.{vendor_number};
-ghost use Rattle.dm_definitions.specs.Printed.{printed};
-ghost use Rattle.dm_definitions.specs.Outcome.{Defines, IsFirstFault};
+ghost use Rattle.dm_dict_text.specs.declared.fault.DictFault.{DictFault};
+ghost use Rattle.dm_dict_text.specs.declared.fault.DictFault.TheVariants as faults_of;
+ghost use Rattle.dm_tables.specs.Definitions.{Definitions, nothing_defined, is_vendor, is_named, is_coded, is_headed, vendor_number};
+ghost use Rattle.dm_tables.specs.Sound.{is_sound, is_closed};
+ghost use Rattle.dm_tables.specs.Base.{base_definitions};
+ghost use Rattle.dm_dict_text.specs.Printed.{printed};
+ghost use Rattle.dm_dict_text.specs.Outcome.{Defines, IsFirstFault};
 ghost use Rattle.dm_dict.specs.Faults.{faults, first};
 ghost use Rattle.dm_dict.specs.Found.{IsOneOf, IfFound};
 ghost use Rattle.dm_dict.specs.Judgement.{shown, verdict_of};
@@ -21,7 +20,7 @@ use crate::judge::{judge_message, judge_spelled};
 use crate::laws::good_is_typed;
 use crate::linked::Linked;
 use crate::{AvpDef, CommandDef, DictFault, Judged, NoMemory, Verdict};
-use dm_definitions::Definitions;
+use dm_dict_text::Definitions;
 use dm_wire::{AvpsRef, Message, MessageRef};
 use std::alloc::Global;
 use std::marker::Model;
@@ -35,7 +34,7 @@ pub struct Dictionary {
 }
 
 impl Model for Dictionary {
-    ghost use Rattle.dm_definitions.specs.Definitions.{Definitions};
+    ghost use Rattle.dm_tables.specs.Definitions.{Definitions};
 
     ghost Value = { Definitions };
 

@@ -1,8 +1,8 @@
 //! Whether a list has as many AVPs as an entry of a rule wants (RFC 6733, 3.2 and 7.1.5).
 ghost use Rattle.std.specs.Prelude.{◌≡◌, ◌<◌, true, false, nat_lt, None, List, length, min, slice_get, slice_index_or};
 ghost use Rattle.dm_wire.specs.declared.avp.Avp.{Avp};
-ghost use Rattle.dm_definitions.specs.declared.def.AvpDef.{AvpDef};
-ghost use Rattle.dm_definitions.specs.declared.rule.Entry.{Entry};
+ghost use Rattle.dm_tables.specs.declared.def.AvpDef.{AvpDef};
+ghost use Rattle.dm_tables.specs.declared.rule.Entry.{Entry};
 ghost use Rattle.dm_dict.specs.Apart.{IsFit};
 ghost use Rattle.dm_dict.specs.Linked.{IsRule};
 ghost use Rattle.dm_wire.specs.Borrowed.{Lists};
@@ -15,7 +15,8 @@ use crate::codes::{AVP_OCCURS_TOO_MANY_TIMES, MISSING_AVP};
 use crate::judged::{Failed, Judged};
 use crate::linked::LinkedRule;
 use crate::rules::counts_avp;
-use dm_definitions::{Definitions, Entry};
+use dm_dict_text::Definitions;
+use dm_tables::Entry;
 use dm_value::least_len;
 use dm_wire::AvpsRef;
 

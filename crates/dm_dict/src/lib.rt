@@ -18,7 +18,8 @@ mod verdict;
 mod windows;
 
 pub use dictionary::Dictionary;
-pub use dm_definitions::{AvpDef, CommandDef, DictFault, Entry, EnumValue, Form, Rule, Values};
+pub use dm_dict_text::DictFault;
+pub use dm_tables::{AvpDef, CommandDef, Entry, EnumValue, Form, Rule, Values};
 pub use dm_value::{
     Address, AvpType, Ip, NoMemory, Text, Utc, Value, ValueFault, least_len, read_value,
     unix_seconds, utc_date, value_fault, write_value,

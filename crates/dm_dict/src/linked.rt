@@ -2,12 +2,13 @@
 //! and 4.1).
 ghost use Rattle.std.specs.Prelude.{◌≡◌, ◌++◌, [], find, map, option_map, slice_get, IfOk, IfSome, OnOk};
 ghost use Rattle.std.specs.Option.{option_and_then};
-ghost use Rattle.dm_definitions.specs.Definitions.{Definitions, nothing_defined, is_headed};
+ghost use Rattle.dm_tables.specs.Definitions.{Definitions, nothing_defined, is_headed};
 ghost use Rattle.dm_dict.specs.Links.{rule_links};
 ghost use Rattle.dm_dict.specs.Linked.{IsLinked, avp_links, command_links};
 
 use crate::links::Links;
-use dm_definitions::{AvpDef, CommandDef, Definitions, Rule};
+use dm_dict_text::Definitions;
+use dm_tables::{AvpDef, CommandDef, Rule};
 use dm_value::NoMemory;
 use std::alloc::Global;
 

@@ -5,7 +5,8 @@ ghost use Rattle.std.specs.Option.{option_eq, option_or};
 ghost use Rattle.indexmap.specs.IndexMap.{get_by};
 ghost use Rattle.dm_dict.specs.Links.{rule_links};
 
-use dm_definitions::{Definitions, Rule};
+use dm_dict_text::Definitions;
+use dm_tables::Rule;
 use dm_value::NoMemory;
 use indexmap::IndexMap;
 use std::alloc::Global;

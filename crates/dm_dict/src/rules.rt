@@ -1,14 +1,15 @@
 //! Under which entry of a rule an AVP stands (RFC 6733, 3.2).
 ghost use Rattle.std.specs.Prelude.{◌≡◌, ◌<◌, ℕ, length, slice_get, slice_index_or};
 ghost use Rattle.std.specs.Option.{option_and_then};
-ghost use Rattle.dm_definitions.specs.declared.rule.Entry.{Entry};
+ghost use Rattle.dm_tables.specs.declared.rule.Entry.{Entry};
 ghost use Rattle.dm_dict.specs.Rules.{definition, is_at, counts, entry_for, allows};
 ghost use Rattle.dm_dict.specs.Apart.{IsFit};
 ghost use Rattle.dm_dict.specs.Linked.{IsRule};
 ghost use Rattle.dm_wire.specs.Borrowed.{avp_of};
 
 use crate::linked::LinkedRule;
-use dm_definitions::{Definitions, Rule};
+use dm_dict_text::Definitions;
+use dm_tables::Rule;
 use dm_wire::AvpRef;
 
 /// Whether an AVP may stand under the entry: there is one, and its max isn't 0.

@@ -1,8 +1,8 @@
 //! Whether a list has as many AVPs as the entries of a rule want, 256 entries at a time (RFC 6733, 3.2 and 7.1.5).
 ghost use Rattle.std.specs.Prelude.{◌≡◌, ◌+◌, ◌<◌, ◌≤◌, ◌⊎◌, true, false, List, length, drop, slice_index_or, flat_map};
 ghost use Rattle.dm_wire.specs.declared.avp.Avp.{Avp};
-ghost use Rattle.dm_definitions.specs.declared.def.AvpDef.{AvpDef};
-ghost use Rattle.dm_definitions.specs.declared.rule.Entry.{Entry};
+ghost use Rattle.dm_tables.specs.declared.def.AvpDef.{AvpDef};
+ghost use Rattle.dm_tables.specs.declared.rule.Entry.{Entry};
 ghost use Rattle.dm_dict.specs.Apart.{IsFit};
 ghost use Rattle.dm_dict.specs.Linked.{IsRule};
 ghost use Rattle.dm_wire.specs.Borrowed.{Lists};
@@ -15,7 +15,8 @@ use crate::counts::counts_from;
 use crate::entries::judge_entry;
 use crate::judged::Judged;
 use crate::linked::LinkedRule;
-use dm_definitions::{Definitions, Entry, Rule};
+use dm_dict_text::Definitions;
+use dm_tables::{Entry, Rule};
 use dm_wire::AvpsRef;
 
 /// Whether the number of the entry's AVPs has a bound: a min, or a max other than 0.

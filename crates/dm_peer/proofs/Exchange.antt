@@ -3,7 +3,7 @@ use Rattle.std.proofs.Common.{◌≡◌, ℕ, Bool, true, not, Option, None, Som
 use Rattle.dm_wire.specs.declared.message.Message.{Message}
 use Rattle.dm_wire.specs.RoundTrip.{CanonicalSpells}
 use Rattle.dm_wire.specs.Whole.{SpelledIsIn}
-use Rattle.dm_definitions.specs.Definitions.{Definitions}
+use Rattle.dm_tables.specs.Definitions.{Definitions}
 use Rattle.dm_base.specs.declared.kind.Kind.{Kind}
 use Rattle.dm_base.specs.declared.kind.Kind.TheVariants as kinds
 use Rattle.dm_base.specs.Kinds.{kind, IsBase}

@@ -2,7 +2,7 @@
 ghost use Rattle.std.specs.Prelude.{◌≡◌, ◌⊎◌, ◌↔◌, IfOk, IfErr, Some, None, Err, true, false};
 ghost use Rattle.dm_base.specs.Before.{lower};
 ghost use Rattle.dm_base.specs.Fit.{is_name};
-ghost use Rattle.dm_definitions.specs.Base.{base_definitions};
+ghost use Rattle.dm_tables.specs.Base.{base_definitions};
 ghost use Rattle.dm_peer.specs.declared.fault.ConfigFault.{ConfigFault};
 ghost use Rattle.dm_peer.specs.declared.fault.ConfigFault.TheVariants as config_faults;
 ghost use Rattle.dm_peer.specs.Hosts.{is_same_host, config_fault};

@@ -1,6 +1,7 @@
 //! The base dictionary, told from outside, and that its calls succeed with memory at hand.
 use crate::text::joined;
-use dm_definitions::{AvpType, Definitions, Form};
+use dm_dict_text::Definitions;
+use dm_tables::{AvpType, Form};
 use std::alloc::Global;
 use std::process::Abort;
 

@@ -4,7 +4,7 @@ use Rattle.std.proofs.Math.Bool.{Bool-set}
 use Rattle.std.proofs.Math.Path.{path_j'}
 use Rattle.dm_value.specs.declared.address.Ip.{Ip}
 use Rattle.dm_value.specs.declared.address.Ip.TheVariants.{V4}
-use Rattle.dm_definitions.specs.Base.{base_definitions}
+use Rattle.dm_tables.specs.Base.{base_definitions}
 use Rattle.dm_base.specs.Fit.{is_name, are_addresses, is_number, is_product, are_ids}
 use Rattle.dm_base.specs.declared.node.Node.{Node}
 use Rattle.dm_peer.specs.declared.config.Config.{Config}

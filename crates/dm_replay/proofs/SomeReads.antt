@@ -4,7 +4,7 @@ use Rattle.std.specs.Str.{is_utf8}
 use Rattle.std.proofs.lemmas.Str.{is_utf8-from_IsUtf8, IsUtf8-from_ascii}
 use Rattle.std.proofs.lemmas.Bool.{lt-ltb, and_from}
 use Rattle.dm_value.specs.declared.address.Ip.TheVariants.{V4}
-use Rattle.dm_definitions.specs.Base.{base_definitions}
+use Rattle.dm_tables.specs.Base.{base_definitions}
 use Rattle.dm_base.specs.Before.{lower, order}
 use Rattle.dm_base.specs.Fit.{is_name, is_number, is_product, are_ids}
 use Rattle.dm_base.specs.declared.node.Node.{Node}

@@ -1,7 +1,7 @@
 -- What a text is read as.
 use Rattle.std.specs.Prelude.{◌≡◌, ℕ, List, [], ◌∷◌, codes, Option, Some, None, Result, Ok, Err}
 use Rattle.dm_value.specs.declared.address.Ip.TheVariants.{V4}
-use Rattle.dm_definitions.specs.Base.{base_definitions}
+use Rattle.dm_tables.specs.Base.{base_definitions}
 use Rattle.dm_base.specs.declared.node.Node.{Node}
 use Rattle.dm_peer.specs.declared.config.Config.{Config}
 use Rattle.dm_base.specs.Before.{lower}

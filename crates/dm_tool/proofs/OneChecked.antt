@@ -1,9 +1,9 @@
 -- What check prints for an input that begins with a dictionary is one text.
 use Rattle.std.proofs.Common.{◌≡◌, ◌⊎◌, inl, inr, ◌++◌, ◌∷◌, [], ℕ, Bool, false, List, ap, sym, ◌∙◌, subst}
-use Rattle.dm_definitions.specs.declared.fault.DictFault.{DictFault}
-use Rattle.dm_definitions.specs.Definitions.{Definitions}
-use Rattle.dm_definitions.specs.Outcome.{Defines, IsFirstFault}
-use Rattle.dm_definitions.specs.OneOutcome.{OneDefinition, OneFault, NoDefinitionRefused}
+use Rattle.dm_dict_text.specs.declared.fault.DictFault.{DictFault}
+use Rattle.dm_tables.specs.Definitions.{Definitions}
+use Rattle.dm_dict_text.specs.Outcome.{Defines, IsFirstFault}
+use Rattle.dm_dict_text.specs.OneOutcome.{OneDefinition, OneFault, NoDefinitionRefused}
 use Rattle.dm_tool.specs.HexLines.{PrintsAll}
 use Rattle.dm_tool.specs.Check.{checked, dictionary_fault_text}
 use Rattle.dm_tool.specs.Divided.{dictionary_part, message_part}

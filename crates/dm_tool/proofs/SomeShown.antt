@@ -8,10 +8,10 @@ use Rattle.dm_wire.specs.declared.fault.WireFault.{WireFault}
 use Rattle.dm_wire.specs.Spelling.{SpellsMessage}
 use Rattle.dm_wire.specs.Refusal.{Refuses}
 use Rattle.dm_wire.specs.OneAnswer.{MessageOrFault}
-use Rattle.dm_definitions.specs.declared.fault.DictFault.{DictFault}
-use Rattle.dm_definitions.specs.Definitions.{Definitions}
-use Rattle.dm_definitions.specs.Outcome.{Defines, IsFirstFault}
-use Rattle.dm_definitions.specs.OneOutcome.{SomeOutcome}
+use Rattle.dm_dict_text.specs.declared.fault.DictFault.{DictFault}
+use Rattle.dm_tables.specs.Definitions.{Definitions}
+use Rattle.dm_dict_text.specs.Outcome.{Defines, IsFirstFault}
+use Rattle.dm_dict_text.specs.OneOutcome.{SomeOutcome}
 use Rattle.dm_text.specs.Hexadecimal.{without_spaces, line_octets}
 use Rattle.dm_text.specs.Lines.{content_lines}
 use Rattle.dm_tool.specs.Text.{fault_text}

@@ -3,11 +3,11 @@ use Rattle.std.specs.Prelude.{◌≡◌, ◌⊎◌, ℕ, Bool, true, false, Opti
 use Rattle.std.specs.Fmt.{decimal}
 use Rattle.dm_wire.specs.declared.avp.Avp.{Avp}
 use Rattle.dm_wire.specs.declared.message.Message.{Message}
-use Rattle.dm_definitions.specs.declared.fault.DictFault.{DictFault}
-use Rattle.dm_definitions.specs.declared.fault.DictFault.TheVariants.{Syntax, Range, Duplicate, Order, UnknownName, NoMemory}
-use Rattle.dm_definitions.specs.Definitions.{Definitions}
-use Rattle.dm_definitions.specs.Base.{base_definitions}
-use Rattle.dm_definitions.specs.Outcome.{Defines, IsFirstFault}
+use Rattle.dm_dict_text.specs.declared.fault.DictFault.{DictFault}
+use Rattle.dm_dict_text.specs.declared.fault.DictFault.TheVariants.{Syntax, Range, Duplicate, Order, UnknownName, NoMemory}
+use Rattle.dm_tables.specs.Definitions.{Definitions}
+use Rattle.dm_tables.specs.Base.{base_definitions}
+use Rattle.dm_dict_text.specs.Outcome.{Defines, IsFirstFault}
 use Rattle.dm_dict.specs.declared.verdict.Verdict.{Verdict}
 use Rattle.dm_dict.specs.declared.verdict.Verdict.TheVariants.{Good, Bad}
 use Rattle.dm_dict.specs.Faults.{faults, first}

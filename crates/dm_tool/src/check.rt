@@ -2,8 +2,8 @@
 ghost use Rattle.std.specs.Prelude.{◌≡◌, ◌≢◌, ◌++◌, ◌∷◌, [], false, IfOk, IfErr};
 ghost use Rattle.dm_tool.specs.Check.{dictionary_fault_text, ChecksText, ChecksWithDictionary};
 ghost use Rattle.dm_tool.specs.Run.{Checks, Ran};
-ghost use Rattle.dm_definitions.specs.Base.{base_definitions};
-ghost use Rattle.dm_definitions.specs.declared.fault.DictFault.TheVariants as dict;
+ghost use Rattle.dm_tables.specs.Base.{base_definitions};
+ghost use Rattle.dm_dict_text.specs.declared.fault.DictFault.TheVariants as dict;
 
 use crate::choice::Choice;
 use crate::divide::divide;

@@ -10,9 +10,9 @@ pub fn one_text()
     dm_wire::laws::one_message();
     dm_wire::laws::one_refusal();
     dm_wire::laws::no_message_refused();
-    dm_definitions::laws::one_definition();
-    dm_definitions::laws::one_fault();
-    dm_definitions::laws::no_definition_refused();
+    dm_dict_text::laws::one_definition();
+    dm_dict_text::laws::one_fault();
+    dm_dict_text::laws::no_definition_refused();
     dm_replay::laws::one_replay();
 }
 
@@ -25,7 +25,7 @@ pub fn some_text()
     dm_wire::laws::reads_back();
     dm_wire::laws::equal_messages();
     dm_wire::laws::no_message_refused();
-    dm_definitions::laws::some_outcome();
+    dm_dict_text::laws::some_outcome();
     dm_replay::laws::some_replay();
 }
 

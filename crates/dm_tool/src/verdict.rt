@@ -1,7 +1,7 @@
 //! Verdicts and faults of dictionaries as text.
 ghost use Rattle.std.specs.Prelude.{◌≡◌, ◌≢◌, ◌++◌, OnOk, IfErr};
 ghost use Rattle.std.specs.Option.{option_copied};
-ghost use Rattle.dm_definitions.specs.declared.fault.DictFault.TheVariants as dict;
+ghost use Rattle.dm_dict_text.specs.declared.fault.DictFault.TheVariants as dict;
 ghost use Rattle.dm_tool.specs.Check.{failed_text, verdict_text, dictionary_fault_text};
 
 use crate::fault::ToolFault;

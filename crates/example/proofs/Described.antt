@@ -6,8 +6,8 @@ use Rattle.dm_value.specs.declared.value.Value.{Value}
 use Rattle.dm_value.specs.declared.fault.ValueFault.{ValueFault}
 use Rattle.dm_value.specs.declared.fault.ValueFault.TheVariants.{NoMemory}
 use Rattle.dm_value.specs.Meaning.{Means}
-use Rattle.dm_definitions.specs.declared.def.AvpDef.{AvpDef}
-use Rattle.dm_definitions.specs.Definitions.{Definitions, is_coded}
+use Rattle.dm_tables.specs.declared.def.AvpDef.{AvpDef}
+use Rattle.dm_tables.specs.Definitions.{Definitions, is_coded}
 use Rattle.example.specs.Answering.{Describes, line_text}
 
 value_or : Value → Result Value ValueFault → Value

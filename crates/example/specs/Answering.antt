@@ -11,8 +11,8 @@ use Rattle.dm_value.specs.declared.value.Value.TheVariants.{Uint32}
 use Rattle.dm_value.specs.declared.avp_type.AvpType.TheVariants.{Unsigned32}
 use Rattle.dm_value.specs.Meaning.{Means}
 use Rattle.dm_value.specs.Printed.{value_text}
-use Rattle.dm_definitions.specs.declared.def.AvpDef.{AvpDef}
-use Rattle.dm_definitions.specs.Definitions.{Definitions, is_coded}
+use Rattle.dm_tables.specs.declared.def.AvpDef.{AvpDef}
+use Rattle.dm_tables.specs.Definitions.{Definitions, is_coded}
 use Rattle.dm_dict.specs.declared.verdict.Verdict.{Verdict}
 use Rattle.dm_dict.specs.declared.verdict.Verdict.TheVariants.{Good, Bad}
 

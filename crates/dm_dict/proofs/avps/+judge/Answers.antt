@@ -1,6 +1,6 @@
 -- One AVP after the other.
 use Rattle.std.proofs.Common.{◌≡◌, Some, find, sym, ◌∙◌, ap, arith}
-use Rattle.dm_definitions.specs.Definitions.{is_coded}
+use Rattle.dm_tables.specs.Definitions.{is_coded}
 use Rattle.dm_wire.specs.Borrowed.{avp_of}
 use Rattle.dm_dict.specs.Faults.{avp_faults, group_faults}
 use Rattle.dm_dict.specs.Rules.{definition, entry_for, allows}

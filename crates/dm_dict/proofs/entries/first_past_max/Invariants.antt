@@ -1,6 +1,6 @@
 use Rattle.std.proofs.Common.{◌≡◌, List, slice_index_or, slice_get}
 use Rattle.dm_wire.specs.declared.avp.Avp.{Avp}
-use Rattle.dm_definitions.specs.declared.rule.Entry.{Entry}
+use Rattle.dm_tables.specs.declared.rule.Entry.{Entry}
 use Rattle.dm_wire.specs.Borrowed.{Lists, size_of}
 use Rattle.dm_dict.specs.Rules.{counted}
 use Rattle.dm_dict.proofs.entries.first_past_max.Given as goal

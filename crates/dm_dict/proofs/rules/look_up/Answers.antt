@@ -3,7 +3,7 @@ use Rattle.std.proofs.Common.{◌≡◌, ◌∙◌, refl, ap, slice_get}
 use Rattle.std.specs.List.{position_from}
 use Rattle.std.specs.Option.{option_and_then}
 use Rattle.dm_wire.specs.Borrowed.{avp_of}
-use Rattle.dm_definitions.specs.Definitions.{is_coded}
+use Rattle.dm_tables.specs.Definitions.{is_coded}
 use Rattle.dm_dict.specs.Rules.{definition, names, stands_for_any, is_at}
 use Rattle.dm_dict.proofs.Standing.{found, place_of, entry_at_place, counts_at_place}
 use Rattle.dm_dict.proofs.Linking.{linked_place, own_names}

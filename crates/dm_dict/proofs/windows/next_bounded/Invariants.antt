@@ -1,6 +1,6 @@
 use Rattle.std.proofs.Common.{◌≡◌, ◌≤◌, ◌-◌, List, length, drop, flat_map}
 use Rattle.dm_wire.specs.declared.avp.Avp.{Avp}
-use Rattle.dm_definitions.specs.declared.def.AvpDef.{AvpDef}
+use Rattle.dm_tables.specs.declared.def.AvpDef.{AvpDef}
 use Rattle.dm_dict.specs.Faults.{entry_faults, first}
 use Rattle.dm_dict.proofs.windows.next_bounded.Given as goal
 

@@ -1,6 +1,6 @@
 use Rattle.std.proofs.Common.{true, false}
-use Rattle.dm_definitions.specs.Base.{base_definitions}
-use Rattle.dm_definitions.specs.OneOutcome.{SomeOutcome}
+use Rattle.dm_tables.specs.Base.{base_definitions}
+use Rattle.dm_dict_text.specs.OneOutcome.{SomeOutcome}
 use Rattle.dm_tool.specs.declared.choice.Choice.TheVariants.{Show, Check, Build, Replay}
 use Rattle.dm_tool.specs.Show.{shown}
 use Rattle.dm_tool.specs.Check.{checked}

@@ -1,7 +1,7 @@
 -- The command at its place.
 use Rattle.std.proofs.Common.{◌∙◌, ap, slice_get}
 use Rattle.std.specs.Option.{option_and_then}
-use Rattle.dm_definitions.specs.Definitions.{is_headed}
+use Rattle.dm_tables.specs.Definitions.{is_headed}
 use Rattle.dm_dict.proofs.Standing.{found}
 use Rattle.dm_dict.proofs.linked.Linked.command.Goals as goal
 

@@ -1,6 +1,0 @@
-use Rattle.std.proofs.Common.{◌≡◌, map, take}
-use Rattle.dm_definitions.specs.Rows.{row_entry}
-use Rattle.dm_definitions.proofs.base.rule_of_rows.Given as goal
-
-abbrev pub invariant-loop-row : goal.invariant-loop-row
-invariant-loop-row l = l.entries.items ≡ map row_entry (take l.row-index l.rows)

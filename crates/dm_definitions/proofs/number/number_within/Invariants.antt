@@ -1,9 +1,0 @@
-use Rattle.std.proofs.Common.{◌≡◌, ◌≤◌, drop}
-use Rattle.dm_definitions.specs.Meaning.{number_after, number_of}
-use Rattle.dm_definitions.proofs.number.number_within.Given as goal
-
-abbrev pub invariant-loop-digit : goal.invariant-loop-digit
-invariant-loop-digit l = record {
-  small : l.number ≤ l.limit;
-  value : number_after l.number (drop l.digit-index l.digits) ≡ number_of l.digits;
-}

@@ -1,7 +1,0 @@
-use Rattle.std.proofs.Common.{◌∙◌}
-use Rattle.dm_definitions.specs.Definitions.{is_vendor}
-use Rattle.dm_definitions.proofs.Found.{is_found}
-use Rattle.dm_definitions.proofs.vendors.Vendors.has_name.Goals as goal
-
-pub returns : goal.returns
-returns c = c.is_some.ensures ∙ is_found (is_vendor c.args.name.now) c.args.self.now.items.items _ c.by_name.ensures

@@ -1,0 +1,5 @@
+use Rattle.dm_dict_text.proofs.OneOutcome.{one_fault}
+use Rattle.dm_dict_text.proofs.laws.one_fault.Goals as goal
+
+pub returns : goal.returns
+returns c = one_fault

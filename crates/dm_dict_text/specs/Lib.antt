@@ -1,0 +1,15 @@
+pub mod Printed
+pub mod Meaning
+pub mod Making
+pub mod Kinds
+pub mod Faults
+pub mod FirstVersion
+pub mod FirstFaults
+pub mod FirstOutcome
+pub mod OneOutcome
+pub mod Outcome
+pub mod ItemFaults
+pub mod Numbers
+pub mod Entries
+pub mod Listing
+pub mod Worded

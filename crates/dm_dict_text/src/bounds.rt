@@ -1,0 +1,75 @@
+//! How often an entry of a dictionary text lets its AVP stand (RFC 6733, 3.2).
+ghost use Rattle.std.specs.Prelude.{◌≡◌, [], Some, option_map, IfOk, IfErr};
+ghost use Rattle.dm_grammar.specs.Views.{view_option, view_qualifier, view_entry};
+ghost use Rattle.dm_dict_text.specs.Meaning.{number, plain_min, starred_min, low_or, min_of, max_of};
+ghost use Rattle.dm_dict_text.specs.Faults.{first_of, option_faults, above_faults, bound_faults};
+
+use crate::DictFault;
+use crate::number::number;
+use dm_grammar::{EntryItem, Form, Token};
+
+/// The least number without a qualifier.
+fn plain_min(form: Form) -> u32
+    ensures { result ≡ plain_min form }
+{
+    match form {
+        Form::Fixed | Form::Required => 1,
+        Form::Optional => 0,
+    }
+}
+
+/// The least number where the qualifier has none.
+fn starred_min(form: Form) -> u32
+    ensures { result ≡ starred_min form }
+{
+    match form {
+        Form::Fixed | Form::Optional => 0,
+        Form::Required => 1,
+    }
+}
+
+/// The least number of a qualifier.
+fn low(form: Form, word: Option<Token<'_>>) -> Result<u32, DictFault>
+    ensures value { IfOk result (λ n. n ≡ low_or form (view_option word.entry)) }
+    ensures good { IfOk result (λ _. option_faults u32.MAX (view_option word.entry) ≡ []) }
+    ensures fault { IfErr result (λ f. first_of (option_faults u32.MAX (view_option word.entry)) ≡ Some f) }
+{
+    match word {
+        Some(word) => number(word, u32::MAX),
+        None => Ok(starred_min(form)),
+    }
+}
+
+/// The greatest number of a qualifier.
+fn high(min: u32, word: Option<Token<'_>>) -> Result<Option<u32>, DictFault>
+    ensures value { IfOk result (λ n. n ≡ option_map number (view_option word.entry)) }
+    ensures good { IfOk result (λ _. above_faults min (view_option word.entry) ≡ []) }
+    ensures fault { IfErr result (λ f. first_of (above_faults min (view_option word.entry)) ≡ Some f) }
+{
+    let Some(word) = word else {
+        return Ok(None);
+    };
+    let max = number(word, u32::MAX)?;
+    if max < min {
+        Err(DictFault::Range(word.line))
+    } else {
+        Ok(Some(max))
+    }
+}
+
+/// The least and the greatest number of an entry.
+pub fn bounds(item: &EntryItem<'_>) -> Result<(u32, Option<u32>), DictFault>
+    ensures min { IfOk result (λ b. b.0 ≡ min_of (view_entry item.now).form (view_entry item.now).qualifier) }
+    ensures max { IfOk result (λ b. b.1 ≡ max_of (view_entry item.now).qualifier) }
+    ensures good { IfOk result (λ _. bound_faults (view_entry item.now) ≡ []) }
+    ensures fault { IfErr result (λ f. first_of (bound_faults (view_entry item.now)) ≡ Some f) }
+{
+    match item.qualifier {
+        Some(qualifier) => {
+            let min = low(item.form, qualifier.low)?;
+            let max = high(min, qualifier.high)?;
+            Ok((min, max))
+        }
+        None => Ok((plain_min(item.form), Some(1))),
+    }
+}

@@ -1,0 +1,144 @@
+//! Whether the name and the numbers of an item are good and new.
+ghost use Rattle.std.specs.Prelude.{◌≡◌, [], Some, option_map, unwrap_or, OnOk, IfOk, IfErr};
+ghost use Rattle.dm_grammar.specs.Views.{view, view_vendor, view_vend_option, view_option, view_command};
+ghost use Rattle.dm_tables.specs.Tables.{defined, IsIndexed, IsTables};
+ghost use Rattle.dm_dict_text.specs.Making.{making};
+ghost use Rattle.dm_dict_text.specs.Meaning.{number, vendor_of};
+ghost use Rattle.dm_dict_text.specs.Faults.{first_of, is_defined, is_taken, vendor_item_faults, vend_faults, name_faults, code_faults, title_faults, head_faults};
+
+use crate::DictFault;
+use crate::number::{number, optional_number};
+use dm_grammar::{CommandItem, Token, VendorItem, VendorWord};
+use dm_tables::Tables;
+use indexmap::IndexSet;
+
+/// The greatest Command Code (RFC 6733, 3).
+const COMMAND_LIMIT: u32 = 16777215;
+
+/// The name and the number of a vendor.
+pub fn check_vendor(tables: &Tables, item: &VendorItem<'_>) -> Result<u32, DictFault>
+    requires { IsIndexed tables.now }
+    ensures number { IfOk result (λ n. n ≡ number (view item.now.number)) }
+    ensures good { IfOk result (λ _. vendor_item_faults tables.now.vendors.items.items (view_vendor item.now) ≡ []) }
+    ensures fault { IfErr result (λ f. first_of (vendor_item_faults tables.now.vendors.items.items (view_vendor item.now)) ≡ Some f) }
+{
+    if tables.vendors.has_name(item.name.text) {
+        return Err(DictFault::Duplicate(item.name.line));
+    }
+    let number = number(item.number, u32::MAX)?;
+    if tables.vendors.has_number(number) {
+        return Err(DictFault::Duplicate(item.number.line));
+    }
+    Ok(number)
+}
+
+/// Whether an AVP has the name, a stray too.
+pub fn is_defined(tables: &Tables, strays: &IndexSet<&[u8]>, name: &[u8]) -> bool
+    requires { IsIndexed tables.now }
+    ensures { result ≡ is_defined (making tables.now strays.now) name.now }
+{
+    tables.has_name(name) || strays.contains(name)
+}
+
+/// The name of an AVP, which must not be AVP.
+pub fn check_name(
+    tables: &Tables,
+    strays: &IndexSet<&[u8]>,
+    word: Token<'_>,
+) -> Result<(), DictFault>
+    requires { IsIndexed tables.now }
+    ensures good { OnOk result (name_faults (making tables.now strays.now) (view word.entry) ≡ []) }
+    ensures fault { IfErr result (λ f. first_of (name_faults (making tables.now strays.now) (view word.entry)) ≡ Some f) }
+{
+    if word.text == b"AVP".as_slice() || is_defined(tables, strays, word.text) {
+        Err(DictFault::Duplicate(word.line))
+    } else {
+        Ok(())
+    }
+}
+
+/// The vendor that is written, if any; None where it is a name that no vendor has.
+fn vendor_of(
+    tables: &Tables,
+    word: Option<VendorWord<'_>>,
+) -> Result<Option<Option<u32>>, DictFault>
+    requires { IsIndexed tables.now }
+    ensures vendor { IfOk result (λ v. v ≡ vendor_of tables.now.vendors.items.items (view_vend_option word.entry)) }
+    ensures good { IfOk result (λ _. vend_faults (view_vend_option word.entry) ≡ []) }
+    ensures fault { IfErr result (λ f. first_of (vend_faults (view_vend_option word.entry)) ≡ Some f) }
+{
+    match word {
+        None => Ok(Some(None)),
+        Some(VendorWord::Numbered(word)) => Ok(Some(Some(number(word, u32::MAX)?))),
+        Some(VendorWord::Named(word)) => match tables.vendors.number_of(word.text) {
+            Some(number) => Ok(Some(Some(number))),
+            None => Ok(None),
+        },
+    }
+}
+
+/// Whether an AVP has the code and vendor. Where the vendor isn't known, the code isn't compared.
+fn is_taken(tables: &Tables, code: u32, vendor: Option<Option<u32>>) -> bool
+    requires { IsIndexed tables.now }
+    ensures { result ≡ is_taken tables.now.avps.items code vendor }
+{
+    match vendor {
+        Some(vendor) => tables.has_code(code, vendor),
+        None => false,
+    }
+}
+
+/// The code and the vendor of an AVP. No vendor is known where it is a name that no vendor has.
+pub fn check_code(
+    tables: &Tables,
+    code: Token<'_>,
+    vendor: Option<VendorWord<'_>>,
+) -> Result<(u32, Option<Option<u32>>), DictFault>
+    requires { IsTables tables.now }
+    ensures code { IfOk result (λ x. x.0 ≡ number (view code.entry)) }
+    ensures vendor { IfOk result (λ x. x.1 ≡ vendor_of tables.now.vendors.items.items (view_vend_option vendor.entry)) }
+    ensures good { IfOk result (λ _. code_faults (defined tables.now) (view code.entry) (view_vend_option vendor.entry) ≡ []) }
+    ensures fault { IfErr result (λ f. first_of (code_faults (defined tables.now) (view code.entry) (view_vend_option vendor.entry)) ≡ Some f) }
+{
+    let line = code.line;
+    let code = number(code, u32::MAX)?;
+    match vendor_of(tables, vendor) {
+        Ok(vendor) => {
+            if is_taken(tables, code, vendor) {
+                Err(DictFault::Duplicate(line))
+            } else {
+                Ok((code, vendor))
+            }
+        }
+        Err(fault) => Err(fault),
+    }
+}
+
+/// The name of a command.
+pub fn check_title(tables: &Tables, word: Token<'_>) -> Result<(), DictFault>
+    requires { IsIndexed tables.now }
+    ensures good { OnOk result (title_faults tables.now.commands.items (view word.entry) ≡ []) }
+    ensures fault { IfErr result (λ f. first_of (title_faults tables.now.commands.items (view word.entry)) ≡ Some f) }
+{
+    if tables.has_title(word.text) {
+        Err(DictFault::Duplicate(word.line))
+    } else {
+        Ok(())
+    }
+}
+
+/// The code and the Application-ID of a command.
+pub fn check_head(tables: &Tables, item: &CommandItem<'_>) -> Result<(u32, u32), DictFault>
+    requires { IsIndexed tables.now }
+    ensures code { IfOk result (λ x. x.0 ≡ number (view_command item.now).code) }
+    ensures application { IfOk result (λ x. x.1 ≡ unwrap_or (option_map number (view_command item.now).application) 0) }
+    ensures good { IfOk result (λ _. head_faults tables.now.commands.items (view_command item.now) ≡ []) }
+    ensures fault { IfErr result (λ f. first_of (head_faults tables.now.commands.items (view_command item.now)) ≡ Some f) }
+{
+    let code = number(item.code, COMMAND_LIMIT)?;
+    if tables.has_head(code, item.request, item.error) {
+        return Err(DictFault::Duplicate(item.code.line));
+    }
+    let application = optional_number(item.application, u32::MAX)?;
+    Ok((code, application.unwrap_or(0)))
+}

@@ -1,0 +1,201 @@
+//! The items of a dictionary text, defined one after the other (RFC 6733, 3.2).
+ghost use Rattle.std.specs.Prelude.{◌≡◌, ◌⊎◌, ℕ, [], ◌∷◌, ◌++◌, map, nat_eq, true, false, Option, Some, None, OnOk, IfErr};
+ghost use Rattle.std.specs.List.{list_all, list_any};
+ghost use Rattle.std.specs.Cmp.Lexicographic.{pointwise};
+ghost use Rattle.dm_grammar.specs.Views.{view_vendor, view_avp, view_group, view_command, view_item};
+ghost use Rattle.dm_dict_text.specs.declared.fault.DictFault.TheVariants as faults;
+ghost use Rattle.dm_tables.specs.Definitions.{with_vendor, with_command};
+ghost use Rattle.dm_tables.specs.Sound.{is_sound_avp};
+ghost use Rattle.dm_tables.specs.Tables.{defined, IsTables};
+ghost use Rattle.dm_dict_text.specs.Making.{making};
+ghost use Rattle.dm_dict_text.specs.Worded.{is_worded_vendor, is_worded_avp, is_worded_group, is_worded_command, is_worded};
+ghost use Rattle.dm_dict_text.specs.Meaning.{vendor_def_of, command_def_of, placed, with_item, with_items};
+ghost use Rattle.dm_dict_text.specs.Faults.{Stops, vendor_item_faults, avp_item_faults, group_item_faults, command_item_faults, item_faults, items_faults};
+ghost use Rattle.dm_grammar.specs.Items.Written.{AvpIs, GroupIs};
+
+use crate::DictFault;
+use crate::checks::{check_code, check_head, check_name, check_title, check_vendor};
+use crate::entries::rule;
+use crate::kind::kind_of;
+use crate::list::list;
+use dm_grammar::{AvpItem, CommandItem, GroupItem, Item, VendorItem};
+use dm_tables::{AvpDef, CommandDef, Rule, Tables, Values, VendorDef};
+use dm_value::AvpType;
+use dm_wire::Octets;
+use indexmap::IndexSet;
+use std::alloc::Global;
+
+/// Defines a vendor.
+fn define_vendor(alloc: Global, tables: &mut Tables, item: &VendorItem<'_>) -> Result<(), DictFault>
+    requires tables { IsTables tables.old }
+    requires worded { is_worded_vendor (view_vendor item.now) ≡ true }
+    ensures good { OnOk result (vendor_item_faults tables.old.vendors.items.items (view_vendor item.now) ≡ []) }
+    ensures added { OnOk result (defined tables.new ≡ with_vendor (defined tables.old) (vendor_def_of (view_vendor item.now))) }
+    ensures tables { OnOk result (IsTables tables.new) }
+    ensures fault { IfErr result (Stops (vendor_item_faults tables.old.vendors.items.items (view_vendor item.now))) }
+{
+    let number = check_vendor(tables, item)?;
+    let vendor = VendorDef {
+        name: Octets::from_slice(alloc, item.name.text)?,
+        number,
+    };
+    tables.add_vendor(alloc, vendor)?;
+    Ok(())
+}
+
+/// Puts an AVP behind the others, or notes its name among the strays where its vendor isn't known.
+fn place<'a>(
+    alloc: Global,
+    tables: &mut Tables,
+    strays: &mut IndexSet<&'a [u8]>,
+    name: &'a [u8],
+    vendor: Option<Option<u32>>,
+    avp: AvpDef,
+) -> Result<(), DictFault>
+    requires tables { IsTables tables.old }
+    requires new { list_any (pointwise nat_eq name.now) (making tables.old strays.old).strays ≡ false }
+    requires sound { (v : Option ℕ) → vendor ≡ Some v → is_sound_avp tables.old.avps.items avp ≡ true }
+    ensures added { OnOk result (making tables.new strays.new ≡ placed (making tables.old strays.old) name.now (λ _. avp) vendor) }
+    ensures tables { OnOk result (IsTables tables.new) }
+    ensures fault { IfErr result (λ f. f ≡ faults.NoMemory) }
+{
+    match vendor {
+        Some(_) => {
+            tables.add_avp(alloc, avp)?;
+        }
+        None => {
+            drop(avp);
+            strays.insert(name)?;
+        }
+    }
+    Ok(())
+}
+
+/// Defines an AVP, or notes its name among the strays where its vendor isn't known. An unknown type is no
+/// fault here.
+fn define_avp<'a>(
+    alloc: Global,
+    tables: &mut Tables,
+    strays: &mut IndexSet<&'a [u8]>,
+    item: &AvpItem<'a>,
+) -> Result<(), DictFault>
+    requires tables { IsTables tables.old }
+    requires worded { is_worded_avp (view_avp item.now) ≡ true }
+    ensures good { OnOk result (avp_item_faults (making tables.old strays.old) (view_avp item.now) ≡ []) }
+    ensures added { OnOk result (making tables.new strays.new ≡ with_item (making tables.old strays.old) (AvpIs (view_avp item.now))) }
+    ensures tables { OnOk result (IsTables tables.new) }
+    ensures fault { IfErr result (Stops (avp_item_faults (making tables.old strays.old) (view_avp item.now))) }
+{
+    check_name(tables, strays, item.name)?;
+    let (code, vendor) = check_code(tables, item.code, item.vendor)?;
+    let name = Octets::from_slice(alloc, item.name.text)?;
+    let values = list(alloc, item.values.as_slice())?;
+    let avp = AvpDef {
+        name,
+        code,
+        vendor: vendor.unwrap_or(None),
+        kind: kind_of(item.kind.text).unwrap_or(AvpType::OctetString),
+        rule: Rule::empty(alloc),
+        values,
+    };
+    place(alloc, tables, strays, item.name.text, vendor, avp)
+}
+
+/// Defines a Grouped AVP, or notes its name among the strays where its vendor isn't known.
+fn define_group<'a>(
+    alloc: Global,
+    tables: &mut Tables,
+    strays: &mut IndexSet<&'a [u8]>,
+    item: &GroupItem<'a>,
+) -> Result<(), DictFault>
+    requires tables { IsTables tables.old }
+    requires worded { is_worded_group (view_group item.now) ≡ true }
+    ensures good { OnOk result (group_item_faults (making tables.old strays.old) (view_group item.now) ≡ []) }
+    ensures added { OnOk result (making tables.new strays.new ≡ with_item (making tables.old strays.old) (GroupIs (view_group item.now))) }
+    ensures tables { OnOk result (IsTables tables.new) }
+    ensures fault { IfErr result (Stops (group_item_faults (making tables.old strays.old) (view_group item.now))) }
+{
+    check_name(tables, strays, item.name)?;
+    let (code, vendor) = check_code(tables, item.code, item.vendor)?;
+    let name = Octets::from_slice(alloc, item.name.text)?;
+    let rule = rule(alloc, item.rule.as_slice())?;
+    let avp = AvpDef {
+        name,
+        code,
+        vendor: vendor.unwrap_or(None),
+        kind: AvpType::Grouped,
+        rule,
+        values: Values::empty(alloc),
+    };
+    place(alloc, tables, strays, item.name.text, vendor, avp)
+}
+
+/// Defines a command.
+fn define_command(
+    alloc: Global,
+    tables: &mut Tables,
+    item: &CommandItem<'_>,
+) -> Result<(), DictFault>
+    requires tables { IsTables tables.old }
+    requires worded { is_worded_command (view_command item.now) ≡ true }
+    ensures good { OnOk result (command_item_faults tables.old.commands.items (view_command item.now) ≡ []) }
+    ensures added { OnOk result (defined tables.new ≡ with_command (defined tables.old) (command_def_of (view_command item.now))) }
+    ensures tables { OnOk result (IsTables tables.new) }
+    ensures fault { IfErr result (Stops (command_item_faults tables.old.commands.items (view_command item.now))) }
+{
+    check_title(tables, item.name)?;
+    let (code, application) = check_head(tables, item)?;
+    let command = CommandDef {
+        name: Octets::from_slice(alloc, item.name.text)?,
+        code,
+        request: item.request,
+        proxiable: item.proxiable,
+        err: item.error,
+        application,
+        rule: rule(alloc, item.rule.as_slice())?,
+    };
+    tables.add_command(alloc, command)?;
+    Ok(())
+}
+
+/// Defines an item.
+fn define<'a>(
+    alloc: Global,
+    tables: &mut Tables,
+    strays: &mut IndexSet<&'a [u8]>,
+    item: &Item<'a>,
+) -> Result<(), DictFault>
+    requires tables { IsTables tables.old }
+    requires worded { is_worded (view_item item.now) ≡ true }
+    ensures good { OnOk result (item_faults (making tables.old strays.old) (view_item item.now) ≡ []) }
+    ensures added { OnOk result (making tables.new strays.new ≡ with_item (making tables.old strays.old) (view_item item.now)) }
+    ensures tables { OnOk result (IsTables tables.new) }
+    ensures fault { IfErr result (Stops (item_faults (making tables.old strays.old) (view_item item.now))) }
+{
+    match item {
+        Item::Vendor(item) => define_vendor(alloc, tables, item),
+        Item::Avp(item) => define_avp(alloc, tables, strays, item),
+        Item::Group(item) => define_group(alloc, tables, strays, item),
+        Item::Command(item) => define_command(alloc, tables, item),
+    }
+}
+
+/// Defines the items, in order.
+pub fn define_all<'a>(
+    alloc: Global,
+    tables: &mut Tables,
+    strays: &mut IndexSet<&'a [u8]>,
+    items: &[Item<'a>],
+) -> Result<(), DictFault>
+    requires tables { IsTables tables.old }
+    requires worded { list_all is_worded (map view_item items.now) ≡ true }
+    ensures good { OnOk result (items_faults (making tables.old strays.old) (map view_item items.now) ≡ []) }
+    ensures added { OnOk result (making tables.new strays.new ≡ with_items (making tables.old strays.old) (map view_item items.now)) }
+    ensures tables { OnOk result (IsTables tables.new) }
+    ensures fault { IfErr result (Stops (items_faults (making tables.old strays.old) (map view_item items.now))) }
+{
+    for item in items {
+        define(alloc, tables, strays, item)?;
+    }
+    Ok(())
+}

@@ -1,0 +1,131 @@
+//! The rule of an item of a dictionary text (RFC 6733, 3.2).
+ghost use Rattle.std.specs.Prelude.{◌≡◌, [], false, map, fold, nat_eq, OnOk, IfOk, IfErr};
+ghost use Rattle.std.specs.Cmp.Lexicographic.{pointwise};
+ghost use Rattle.indexmap.specs.IndexSet.{contains_by};
+ghost use Rattle.dm_grammar.specs.Views.{view_entry};
+ghost use Rattle.dm_tables.specs.EntryEquality.{form_number};
+ghost use Rattle.dm_dict_text.specs.Meaning.{min_of, max_of};
+ghost use Rattle.dm_dict_text.specs.Faults.{Stops, rule_entry_faults, with_entry, rule_faults};
+
+use crate::DictFault;
+use crate::bounds::bounds;
+use dm_grammar::{EntryItem, Form};
+use dm_tables::{Entry, Rule};
+use dm_wire::Octets;
+use indexmap::IndexSet;
+use std::alloc::Global;
+
+/// The place of a form in a rule: fixed, then required, then optional entries.
+fn rank(form: Form) -> u8
+    ensures { result ≡ form_number form }
+{
+    match form {
+        Form::Fixed => 0,
+        Form::Required => 1,
+        Form::Optional => 2,
+    }
+}
+
+/// The entries of a rule so far, their names, and the form that was reached.
+#[derive(Drop)]
+struct Entries<'a> {
+    entries: Vec<Entry>,
+    names: IndexSet<&'a [u8]>,
+    reached: Form,
+}
+
+impl<'a> Entries<'a> {
+    ghost use Rattle.dm_dict_text.specs.Entries.{IsNoted};
+
+    /// No entries. It takes no memory.
+    fn new(alloc: Global) -> Entries<'a>
+        ensures empty { result.entries.items ≡ [] }
+        ensures noted { IsNoted result }
+    {
+        Entries {
+            entries: Vec::new(alloc),
+            names: IndexSet::new(alloc),
+            reached: Form::Fixed,
+        }
+    }
+
+    /// The numbers of an entry that may stand behind the others.
+    fn check(&self, item: &EntryItem<'a>) -> Result<(u32, Option<u32>), DictFault>
+        requires { IsNoted self.now }
+        ensures min { IfOk result (λ b. b.0 ≡ min_of (view_entry item.now).form (view_entry item.now).qualifier) }
+        ensures max { IfOk result (λ b. b.1 ≡ max_of (view_entry item.now).qualifier) }
+        ensures good { IfOk result (λ _. rule_entry_faults self.now.entries.items (view_entry item.now) ≡ []) }
+        ensures new { IfOk result (λ _.
+            contains_by (λ k. pointwise nat_eq item.now.name.text.now k.now) self.now.names ≡ false) }
+        ensures fault { IfErr result (Stops (rule_entry_faults self.now.entries.items (view_entry item.now))) }
+    {
+        let range = bounds(item)?;
+        let word = item.name;
+        if self.names.contains(word.text) {
+            return Err(DictFault::Duplicate(word.line));
+        }
+        if rank(item.form) < rank(self.reached) {
+            return Err(DictFault::Order(word.line));
+        }
+        Ok(range)
+    }
+
+    /// One entry more, behind the others.
+    fn add(&mut self, alloc: Global, item: &EntryItem<'a>) -> Result<(), DictFault>
+        requires { IsNoted self.old }
+        ensures good { OnOk result (rule_entry_faults self.old.entries.items (view_entry item.now) ≡ []) }
+        ensures added { OnOk result (self.new.entries.items ≡ with_entry self.old.entries.items (view_entry item.now)) }
+        ensures noted { OnOk result (IsNoted self.new) }
+        ensures fault { IfErr result (Stops (rule_entry_faults self.old.entries.items (view_entry item.now))) }
+    {
+        let (min, max) = self.check(item)?;
+        let form = item.form;
+        let word = item.name.text;
+        self.names.insert(word)?;
+        let name = Octets::from_slice(alloc, word)?;
+        self.entries.push(Entry {
+            form,
+            name,
+            min,
+            max,
+        })?;
+        self.reached = form;
+        Ok(())
+    }
+
+    /// The entries of the items, in order, where there are none.
+    fn add_all(&mut self, alloc: Global, items: &[EntryItem<'a>]) -> Result<(), DictFault>
+        requires empty { self.old.entries.items ≡ [] }
+        requires noted { IsNoted self.old }
+        ensures added { OnOk result (self.new.entries.items ≡ fold with_entry [] (map view_entry items.now)) }
+        ensures good { OnOk result (rule_faults (map view_entry items.now) ≡ []) }
+        ensures fault { IfErr result (Stops (rule_faults (map view_entry items.now))) }
+    {
+        for item in items {
+            self.add(alloc, item)?;
+        }
+        Ok(())
+    }
+}
+
+/// The entries of the items.
+fn entries_of(alloc: Global, items: &[EntryItem<'_>]) -> Result<Vec<Entry>, DictFault>
+    ensures value { IfOk result (λ entries. entries.items ≡ fold with_entry [] (map view_entry items.now)) }
+    ensures good { IfOk result (λ _. rule_faults (map view_entry items.now) ≡ []) }
+    ensures fault { IfErr result (Stops (rule_faults (map view_entry items.now))) }
+{
+    let mut rule = Entries::new(alloc);
+    let done = rule.add_all(alloc, items);
+    let Entries { entries, .. } = rule;
+    done.and(Ok(entries))
+}
+
+/// The rule of the items.
+pub fn rule(alloc: Global, items: &[EntryItem<'_>]) -> Result<Rule, DictFault>
+    ensures value { IfOk result (λ rule. rule ≡ fold with_entry [] (map view_entry items.now)) }
+    ensures good { IfOk result (λ _. rule_faults (map view_entry items.now) ≡ []) }
+    ensures fault { IfErr result (Stops (rule_faults (map view_entry items.now))) }
+{
+    let entries = entries_of(alloc, items)?;
+    Ok(Rule::from_vec(entries))
+}

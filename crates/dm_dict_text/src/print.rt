@@ -1,0 +1,317 @@
+//! The text of definitions (RFC 6733, 3.2).
+ghost use Rattle.std.specs.Prelude.{◌≡◌, ◌++◌, ◌∷◌, [], OnOk};
+ghost use Rattle.std.specs.List.{flat_map, list_all};
+ghost use Rattle.std.specs.Fmt.{decimal};
+ghost use Rattle.dm_dict_text.specs.Printed.{type_name, spaced, spaced_number, spaced_option, decimal_option, opening, closing, entry_text, rule_text, vendor_line, value_text, next_value, list_text, plain_end, plain_line, rule_end, group_head, group_line, avp_line, flag_text, flags_text, command_head, command_line, has_none, is_first_version, version_line, printed};
+ghost use Rattle.dm_tables.specs.Tables.{defined};
+
+use dm_grammar::Form;
+use dm_tables::{AvpDef, CommandDef, Entry, EnumValue, Rule, Tables, VendorDef};
+use dm_value::{AvpType, NoMemory};
+use std::alloc::Global;
+
+/// The name of a type.
+fn type_word(kind: AvpType) -> &'static [u8]
+    ensures { result.now ≡ type_name kind }
+{
+    match kind {
+        AvpType::OctetString => b"OctetString",
+        AvpType::Integer32 => b"Integer32",
+        AvpType::Integer64 => b"Integer64",
+        AvpType::Unsigned32 => b"Unsigned32",
+        AvpType::Unsigned64 => b"Unsigned64",
+        AvpType::Address => b"Address",
+        AvpType::Time => b"Time",
+        AvpType::UTF8String => b"UTF8String",
+        AvpType::DiameterIdentity => b"DiameterIdentity",
+        AvpType::DiameterURI => b"DiameterURI",
+        AvpType::Enumerated => b"Enumerated",
+        AvpType::Grouped => b"Grouped",
+    }
+}
+
+/// The brackets of a form, with their spaces.
+fn brackets(form: Form) -> (&'static [u8], &'static [u8])
+    ensures open { result.0.now ≡ opening form }
+    ensures close { result.1.now ≡ closing form }
+{
+    match form {
+        Form::Fixed => (b" < ", b" >"),
+        Form::Required => (b" { ", b" }"),
+        Form::Optional => (b" [ ", b" ]"),
+    }
+}
+
+fn put(text: &mut Vec<u8>, piece: &[u8]) -> Result<(), NoMemory>
+    ensures { OnOk result (text.new.items ≡ text.old.items ++ piece.now) }
+{
+    text.extend_from_slice(piece)?;
+    Ok(())
+}
+
+fn put_decimal(alloc: Global, text: &mut Vec<u8>, number: u32) -> Result<(), NoMemory>
+    ensures { OnOk result (text.new.items ≡ text.old.items ++ decimal number) }
+{
+    let digits = format!(in alloc; "{number}")?;
+    put(text, digits.as_bytes())
+}
+
+fn put_number(alloc: Global, text: &mut Vec<u8>, number: u32) -> Result<(), NoMemory>
+    ensures { OnOk result (text.new.items ≡ text.old.items ++ spaced_number number) }
+{
+    put(text, b" ")?;
+    put_decimal(alloc, text, number)
+}
+
+fn put_option(alloc: Global, text: &mut Vec<u8>, number: Option<u32>) -> Result<(), NoMemory>
+    ensures { OnOk result (text.new.items ≡ text.old.items ++ spaced_option number) }
+{
+    match number {
+        Some(number) => put_number(alloc, text, number),
+        None => Ok(()),
+    }
+}
+
+fn put_bound(alloc: Global, text: &mut Vec<u8>, number: Option<u32>) -> Result<(), NoMemory>
+    ensures { OnOk result (text.new.items ≡ text.old.items ++ decimal_option number) }
+{
+    match number {
+        Some(number) => put_decimal(alloc, text, number),
+        None => Ok(()),
+    }
+}
+
+fn put_flag(text: &mut Vec<u8>, flag: bool, word: &[u8]) -> Result<(), NoMemory>
+    ensures { OnOk result (text.new.items ≡ text.old.items ++ flag_text flag word.now) }
+{
+    if flag { put(text, word) } else { Ok(()) }
+}
+
+fn put_entry(alloc: Global, text: &mut Vec<u8>, entry: &Entry) -> Result<(), NoMemory>
+    ensures { OnOk result (text.new.items ≡ text.old.items ++ entry_text entry.now) }
+{
+    let (open, close) = brackets(entry.form);
+    put_number(alloc, text, entry.min)?;
+    put(text, b"*")?;
+    put_bound(alloc, text, entry.max)?;
+    put(text, open)?;
+    put(text, entry.name.as_slice())?;
+    put(text, close)
+}
+
+fn put_entries(alloc: Global, text: &mut Vec<u8>, entries: &[Entry]) -> Result<(), NoMemory>
+    ensures { OnOk result (text.new.items ≡ text.old.items ++ rule_text entries.now) }
+{
+    for entry in entries {
+        put_entry(alloc, text, entry)?;
+    }
+    Ok(())
+}
+
+/// What stands behind the numbers of a head: its end, the rule and the end of the line.
+fn put_rule(alloc: Global, text: &mut Vec<u8>, rule: &Rule) -> Result<(), NoMemory>
+    ensures { OnOk result (text.new.items ≡ text.old.items ++ rule_end rule.now) }
+{
+    put(text, b" >")?;
+    put_entries(alloc, text, rule.as_slice())?;
+    put(text, b"\n")
+}
+
+fn put_kind(text: &mut Vec<u8>, kind: AvpType) -> Result<(), NoMemory>
+    ensures { OnOk result (text.new.items ≡ text.old.items ++ spaced (type_name kind)) }
+{
+    put(text, b" ")?;
+    put(text, type_word(kind))
+}
+
+fn put_value(alloc: Global, text: &mut Vec<u8>, value: &EnumValue) -> Result<(), NoMemory>
+    ensures { OnOk result (text.new.items ≡ text.old.items ++ value_text value.now) }
+{
+    put(text, b" ")?;
+    put(text, value.name.as_slice())?;
+    put_number(alloc, text, value.number.unsigned_abs())
+}
+
+fn put_next_value(alloc: Global, text: &mut Vec<u8>, value: &EnumValue) -> Result<(), NoMemory>
+    ensures { OnOk result (text.new.items ≡ text.old.items ++ next_value value.now) }
+{
+    put(text, b",")?;
+    put_value(alloc, text, value)
+}
+
+fn put_more_values(alloc: Global, text: &mut Vec<u8>, values: &[EnumValue]) -> Result<(), NoMemory>
+    ensures { OnOk result (text.new.items ≡ text.old.items ++ flat_map next_value values.now) }
+{
+    for value in values {
+        put_next_value(alloc, text, value)?;
+    }
+    Ok(())
+}
+
+/// A list of values, where there is one.
+fn put_list(alloc: Global, text: &mut Vec<u8>, values: &[EnumValue]) -> Result<(), NoMemory>
+    ensures { OnOk result (text.new.items ≡ text.old.items ++ list_text values.now) }
+{
+    match values {
+        [] => Ok(()),
+        [first, more @ ..] => {
+            put(text, b" {")?;
+            put_value(alloc, text, first)?;
+            put_more_values(alloc, text, more)?;
+            put(text, b" }")
+        }
+    }
+}
+
+/// What stands behind the code of an AVP that isn't Grouped.
+fn put_plain_end(alloc: Global, text: &mut Vec<u8>, avp: &AvpDef) -> Result<(), NoMemory>
+    ensures { OnOk result (text.new.items ≡ text.old.items ++ plain_end avp.now) }
+{
+    put_kind(text, avp.kind)?;
+    put_option(alloc, text, avp.vendor)?;
+    put_list(alloc, text, avp.values.as_slice())?;
+    put(text, b"\n")
+}
+
+fn put_plain(alloc: Global, text: &mut Vec<u8>, avp: &AvpDef) -> Result<(), NoMemory>
+    ensures { OnOk result (text.new.items ≡ text.old.items ++ plain_line avp.now) }
+{
+    put(text, b"@ ")?;
+    put(text, avp.name.as_slice())?;
+    put_number(alloc, text, avp.code)?;
+    put_plain_end(alloc, text, avp)
+}
+
+fn put_group_head(alloc: Global, text: &mut Vec<u8>, avp: &AvpDef) -> Result<(), NoMemory>
+    ensures { OnOk result (text.new.items ≡ text.old.items ++ group_head avp.now) }
+{
+    put(text, b" > ::= < AVP Header:")?;
+    put_number(alloc, text, avp.code)?;
+    put_option(alloc, text, avp.vendor)
+}
+
+fn put_group(alloc: Global, text: &mut Vec<u8>, avp: &AvpDef) -> Result<(), NoMemory>
+    ensures { OnOk result (text.new.items ≡ text.old.items ++ group_line avp.now) }
+{
+    put(text, b"< ")?;
+    put(text, avp.name.as_slice())?;
+    put_group_head(alloc, text, avp)?;
+    put_rule(alloc, text, &avp.rule)
+}
+
+fn put_avp(alloc: Global, text: &mut Vec<u8>, avp: &AvpDef) -> Result<(), NoMemory>
+    ensures { OnOk result (text.new.items ≡ text.old.items ++ avp_line avp.now) }
+{
+    match avp.kind {
+        AvpType::Grouped => put_group(alloc, text, avp),
+        _ => put_plain(alloc, text, avp),
+    }
+}
+
+fn put_flags(text: &mut Vec<u8>, command: &CommandDef) -> Result<(), NoMemory>
+    ensures { OnOk result (text.new.items ≡ text.old.items ++ flags_text command.now) }
+{
+    put_flag(text, command.request, b", REQ")?;
+    put_flag(text, command.proxiable, b", PXY")?;
+    put_flag(text, command.err, b", ERR")
+}
+
+fn put_command_head(alloc: Global, text: &mut Vec<u8>, command: &CommandDef) -> Result<(), NoMemory>
+    ensures { OnOk result (text.new.items ≡ text.old.items ++ command_head command.now) }
+{
+    put(text, b" > ::= < Diameter Header:")?;
+    put_number(alloc, text, command.code)?;
+    put_flags(text, command)?;
+    put_number(alloc, text, command.application)
+}
+
+fn put_command(alloc: Global, text: &mut Vec<u8>, command: &CommandDef) -> Result<(), NoMemory>
+    ensures { OnOk result (text.new.items ≡ text.old.items ++ command_line command.now) }
+{
+    put(text, b"< ")?;
+    put(text, command.name.as_slice())?;
+    put_command_head(alloc, text, command)?;
+    put_rule(alloc, text, &command.rule)
+}
+
+/// Puts the line of each AVP behind the text.
+fn put_avps(alloc: Global, text: &mut Vec<u8>, avps: &[AvpDef]) -> Result<(), NoMemory>
+    ensures { OnOk result (text.new.items ≡ text.old.items ++ flat_map avp_line avps.now) }
+{
+    for avp in avps {
+        put_avp(alloc, text, avp)?;
+    }
+    Ok(())
+}
+
+/// Puts the line of each command behind the text.
+fn put_commands(alloc: Global, text: &mut Vec<u8>, commands: &[CommandDef]) -> Result<(), NoMemory>
+    ensures { OnOk result (text.new.items ≡ text.old.items ++ flat_map command_line commands.now) }
+{
+    for command in commands {
+        put_command(alloc, text, command)?;
+    }
+    Ok(())
+}
+
+fn put_vendor(alloc: Global, text: &mut Vec<u8>, vendor: &VendorDef) -> Result<(), NoMemory>
+    ensures { OnOk result (text.new.items ≡ text.old.items ++ vendor_line vendor.now) }
+{
+    put(text, b"@ vendor ")?;
+    put(text, vendor.name.as_slice())?;
+    put_number(alloc, text, vendor.number)?;
+    put(text, b"\n")
+}
+
+/// Puts the line of each vendor behind the text.
+fn put_vendors(alloc: Global, text: &mut Vec<u8>, vendors: &[VendorDef]) -> Result<(), NoMemory>
+    ensures { OnOk result (text.new.items ≡ text.old.items ++ flat_map vendor_line vendors.now) }
+{
+    for vendor in vendors {
+        put_vendor(alloc, text, vendor)?;
+    }
+    Ok(())
+}
+
+/// Whether no AVP has a list of values.
+fn has_no_lists(avps: &[AvpDef]) -> bool
+    ensures { result ≡ list_all (λ a. has_none a.values) avps.now }
+{
+    for avp in avps {
+        if let [_, ..] = avp.values.as_slice() {
+            return false;
+        }
+    }
+    true
+}
+
+/// Whether there are no vendors and no lists of values.
+fn is_first_version(tables: &Tables) -> bool
+    ensures { result ≡ is_first_version (defined tables.now) }
+{
+    match tables.vendors.items.as_slice() {
+        [] => has_no_lists(tables.avps.as_slice()),
+        _ => false,
+    }
+}
+
+/// Puts the line of the version, where a text of version 1 doesn't say it all.
+fn put_version(text: &mut Vec<u8>, tables: &Tables) -> Result<(), NoMemory>
+    ensures { OnOk result (text.new.items ≡ text.old.items ++ version_line (defined tables.now)) }
+{
+    if is_first_version(tables) {
+        Ok(())
+    } else {
+        put(text, b"@ 2\n")
+    }
+}
+
+/// Puts the text of all definitions behind the text.
+pub fn put_tables(alloc: Global, text: &mut Vec<u8>, tables: &Tables) -> Result<(), NoMemory>
+    ensures { OnOk result (text.new.items ≡ text.old.items ++ printed (defined tables.now)) }
+{
+    put_version(text, tables)?;
+    put_vendors(alloc, text, tables.vendors.items.as_slice())?;
+    put_avps(alloc, text, tables.avps.as_slice())?;
+    put_commands(alloc, text, tables.commands.as_slice())
+}

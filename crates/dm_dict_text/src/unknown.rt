@@ -1,0 +1,137 @@
+//! The names of a dictionary text that nothing defines (RFC 6733, 3.2).
+ghost use Rattle.std.specs.Prelude.{◌≡◌, ◌≤◌, ◌+◌, length, map, take, fold};
+ghost use Rattle.dm_grammar.specs.Views.{view, view_vend_option, view_entry, view_item};
+ghost use Rattle.dm_tables.specs.Tables.{IsIndexed};
+ghost use Rattle.dm_dict_text.specs.Making.{making};
+ghost use Rattle.dm_tables.specs.Vendored.{IsVendored};
+ghost use Rattle.dm_dict_text.specs.Meaning.{vendor_count};
+ghost use Rattle.dm_dict_text.specs.Faults.{first_of, entry_unknown, rule_unknown, vend_unknown, kind_unknown, unknown, vendors_with, items_unknown};
+
+use crate::DictFault;
+use crate::checks::is_defined;
+use crate::kind::kind_of;
+use dm_grammar::{EntryItem, Item, Token, VendorWord};
+use dm_tables::{Tables, VendorDef, Vendors};
+use indexmap::IndexSet;
+
+/// The fault of an entry that names no AVP.
+fn unknown_entry(
+    tables: &Tables,
+    strays: &IndexSet<&[u8]>,
+    entry: &EntryItem<'_>,
+) -> Option<DictFault>
+    requires { IsIndexed tables.now }
+    ensures { result ≡ first_of (entry_unknown (making tables.now strays.now) (view_entry entry.now)) }
+{
+    let word = entry.name;
+    if word.text == b"AVP".as_slice() || is_defined(tables, strays, word.text) {
+        None
+    } else {
+        Some(DictFault::UnknownName(word.line))
+    }
+}
+
+/// The first fault of entries that name no AVP.
+fn unknown_in_rule(
+    tables: &Tables,
+    strays: &IndexSet<&[u8]>,
+    rule: &[EntryItem<'_>],
+) -> Option<DictFault>
+    requires { IsIndexed tables.now }
+    ensures { result ≡ first_of (rule_unknown (making tables.now strays.now) (map view_entry rule.now)) }
+{
+    for entry in rule {
+        let fault = unknown_entry(tables, strays, entry);
+        if fault.is_some() {
+            return fault;
+        }
+    }
+    None
+}
+
+/// The fault of a name that none of the first vendors, so many, has.
+fn unknown_vendor(
+    vendors: &Vendors,
+    first: usize,
+    word: Option<VendorWord<'_>>,
+) -> Option<DictFault>
+    requires { IsVendored vendors.now }
+    ensures { result ≡ first_of (vend_unknown (take first vendors.now.items.items) (view_vend_option word.entry)) }
+{
+    match word {
+        Some(VendorWord::Named(word)) if !vendors.has_name_among(first, word.text) => {
+            Some(DictFault::UnknownName(word.line))
+        }
+        _ => None,
+    }
+}
+
+/// The fault of a name that no type has.
+fn unknown_kind(word: Token<'_>) -> Option<DictFault>
+    ensures { result ≡ first_of (kind_unknown (view word.entry)) }
+{
+    if kind_of(word.text).is_some() {
+        None
+    } else {
+        Some(DictFault::UnknownName(word.line))
+    }
+}
+
+/// The first fault of a type, a vendor or an entry of an item that nothing defines. The item stands behind the
+/// first vendors, so many.
+fn unknown_in_item(
+    tables: &Tables,
+    strays: &IndexSet<&[u8]>,
+    first: usize,
+    item: &Item<'_>,
+) -> Option<DictFault>
+    requires { IsIndexed tables.now }
+    ensures { result ≡ first_of (unknown (making tables.now strays.now) (take first tables.now.vendors.items.items) (view_item item.now)) }
+{
+    match item {
+        Item::Vendor(_) => None,
+        Item::Avp(avp) => {
+            unknown_kind(avp.kind).or(unknown_vendor(&tables.vendors, first, avp.vendor))
+        }
+        Item::Group(group) => unknown_vendor(&tables.vendors, first, group.vendor).or(
+            unknown_in_rule(tables, strays, group.rule.as_slice()),
+        ),
+        Item::Command(command) => unknown_in_rule(tables, strays, command.rule.as_slice()),
+    }
+}
+
+/// How many of the vendors stand before what is behind the item, where so many stand before it.
+fn behind(vendors: &[VendorDef], before: usize, item: &Item<'_>) -> usize
+    requires { before + vendor_count (view_item item.now) ≤ length vendors.now }
+    ensures { result ≡ before + vendor_count (view_item item.now) }
+{
+    match item {
+        Item::Vendor(_) => before + 1,
+        Item::Avp(_) | Item::Group(_) | Item::Command(_) => before,
+    }
+}
+
+/// The first fault of a type, a vendor or an entry that nothing defines. The items stand behind the first
+/// vendors, so many, and the others are theirs.
+pub fn first_unknown(
+    tables: &Tables,
+    strays: &IndexSet<&[u8]>,
+    first: usize,
+    items: &[Item<'_>],
+) -> Option<DictFault>
+    requires indexed { IsIndexed tables.now }
+    requires within { first ≤ length tables.now.vendors.items.items }
+    requires theirs { fold vendors_with (take first tables.now.vendors.items.items) (map view_item items.now)
+        ≡ tables.now.vendors.items.items }
+    ensures { result ≡ first_of (items_unknown (making tables.now strays.now) (take first tables.now.vendors.items.items) (map view_item items.now)) }
+{
+    let mut seen = first;
+    for item in items {
+        let fault = unknown_in_item(tables, strays, seen, item);
+        if fault.is_some() {
+            return fault;
+        }
+        seen = behind(tables.vendors.items.as_slice(), seen, item);
+    }
+    None
+}

@@ -1,0 +1,7 @@
+pub mod Places
+pub mod Members
+pub mod Earlier
+pub mod Keys
+pub mod Only
+pub mod BaseSound
+pub mod Found

@@ -1,0 +1,13 @@
+pub mod EntryEquality
+pub mod ValueEquality
+pub mod Listed
+pub mod Numbered
+pub mod Definitions
+pub mod Sound
+pub mod SoundParts
+pub mod OneOfEach
+pub mod Positions
+pub mod Vendored
+pub mod Tables
+pub mod Rows
+pub mod Base
