@@ -9,6 +9,7 @@
    It includes no header, so that the toolchain's compiler alone builds it. */
 typedef unsigned long size;
 extern void *__libc_malloc(size);
+extern void *__libc_calloc(size, size);
 extern void *__libc_realloc(void *, size);
 extern char *getenv(const char *);
 extern int open(const char *, int, ...);
@@ -78,6 +79,15 @@ void *malloc(size n) {
     void *block;
     if (is_for_us(n, &block)) return block;
     return is_refused(n) ? 0 : __libc_malloc(n);
+}
+
+void *calloc(size count, size width) {
+    size n;
+    void *block;
+    /* (what no number holds isn't to be had either way) */
+    if (__builtin_mul_overflow(count, width, &n)) return __libc_calloc(count, width);
+    if (is_for_us(n, &block)) return block;
+    return is_refused(n) ? 0 : __libc_calloc(count, width);
 }
 
 void *realloc(void *old, size n) {
