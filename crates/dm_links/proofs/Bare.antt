@@ -4,8 +4,9 @@ use Rattle.std.proofs.lemmas.Bool.{and_parts, and_from}
 use Rattle.dm_links.specs.Links.{A, opens, Link, view_of}
 use Rattle.dm_links.specs.Facts.{is_up, is_none}
 use Rattle.dm_links.specs.Bare.{is_bare, OnlyUpLinksCarry}
-use Rattle.dm_links.proofs.Checks.{is_when, conclusion}
-use Rattle.dm_links.proofs.Events.{standing_at}
+use Rattle.dm_links.proofs.StandingSteps.{is_when}
+use Rattle.dm_links.proofs.Checks.{conclusion}
+use Rattle.dm_links.proofs.Comings.{standing_at}
 
 by_ends : {M : Type 0} (mine : Bool) (l : Link M) → is_bare (view_of mine l).incoming ≡ true →
     is_bare (view_of mine l).outgoing ≡ true → (is_bare l.to_opener && is_bare l.to_other) ≡ true

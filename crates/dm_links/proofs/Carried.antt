@@ -22,7 +22,8 @@ use Rattle.dm_machine.specs.Upward.{is_open_hold}
 use Rattle.dm_links.proofs.Columns.{words_at}
 use Rattle.dm_links.proofs.Every.{all_true, every_bool, every_tie, every_phase, every_end, every_mark, every_standing}
 use Rattle.dm_links.proofs.Every.{at_standing}
-use Rattle.dm_links.proofs.Checks.{is_ready, when, is_when, is_handed, is_open_tie, same_bool}
+use Rattle.dm_links.proofs.StandingSteps.{is_ready, when, is_when, is_handed}
+use Rattle.dm_links.proofs.StandingOthers.{is_open_tie, same_bool}
 use Rattle.dm_links.proofs.Events.{side_sound}
 use Rattle.dm_links.proofs.Hearing.{is_ack, is_end}
 use Rattle.dm_links.proofs.Ways.{Way}

@@ -14,12 +14,13 @@ use Rattle.dm_links.specs.Happens.{own_view, happens}
 use Rattle.dm_links.specs.Follows.{IsMachine}
 use Rattle.dm_links.specs.Facts.{is_empty, is_shut}
 use Rattle.dm_links.specs.Turns.{Turn, turn_of, turn_at, turn_delivered, turn_pieced, turns_on, turns}
-use Rattle.dm_links.proofs.Checks.{is_handed}
+use Rattle.dm_links.proofs.StandingSteps.{is_handed}
 use Rattle.dm_links.proofs.Closing.{CarriesOn}
 use Rattle.dm_links.proofs.Keeps.{Hands}
-use Rattle.dm_links.proofs.Events.{side_sound, standing_at, hands_at, handed_heard, handed_ended, next_is_message}
-use Rattle.dm_links.proofs.Events.{next_is_disconnect, opens_self}
-use Rattle.dm_links.proofs.Events as events
+use Rattle.dm_links.proofs.Events.{hands_at}
+use Rattle.dm_links.proofs.Comings.{standing_at, handed_heard, handed_ended, next_is_message}
+use Rattle.dm_links.proofs.Comings.{next_is_disconnect, opens_self}
+use Rattle.dm_links.proofs.Comings as comings
 use Rattle.dm_links.proofs.Carried.{IsCarrying, names_loss}
 use Rattle.dm_links.proofs.CarriedViews.{padded}
 use Rattle.dm_links.proofs.CarriedTold.{Keeps, told_keeps}
@@ -165,14 +166,14 @@ module _ {P M : Type 0} (m : Peers P M) (is_app : M → Bool) (stands : P → Bo
       told_keeps m is_app stands carries lost t l.opener w c (Ack (conn d)) (λ q. elim q [ ]) good
       (hands_at l.opener (m.node_of (peer_at l.opener w)) (m.node_of (peer_at (flip l.opener) w)) (Ack (conn d)) AcksIt
       w.links d l at (λ n. refl)
-      (events.handed_ack (opens l.opener l.opener) (standing_at m l.opener w d l) (opens_self l.opener) p)) tt))
+      (comings.handed_ack (opens l.opener l.opener) (standing_at m l.opener w d l) (opens_self l.opener) p)) tt))
   happening_keeps is t c w (Nacks d) good loss =
       there_keeps t c w d (slice_get w.links d) _ _ refl (λ l at. pending_keeps t c w l.phase _ _ (λ p.
       told_keeps m is_app stands carries lost t l.opener w c (Nack (conn d)) (λ q. elim q [ ]) good
       (hands_at l.opener (m.node_of (peer_at l.opener w)) (m.node_of (peer_at (flip l.opener) w)) (Nack (conn d))
       NacksIt
       w.links d l at (λ n. refl)
-      (events.handed_nack (opens l.opener l.opener) (standing_at m l.opener w d l) (opens_self l.opener) p)) tt))
+      (comings.handed_nack (opens l.opener l.opener) (standing_at m l.opener w d l) (opens_self l.opener) p)) tt))
   happening_keeps is t c w (Delivers d s) good loss =
       there_keeps t c w d (slice_get w.links d) _ _ refl (λ l at. up_keeps t c w l.phase _ _ (λ p.
       delivered_keeps t s c w d l (next_in (own_view s l).incoming.messages (own_view s l).incoming.mark) good at p

@@ -14,11 +14,11 @@ use Rattle.dm_links.specs.Facts.{is_shut}
 use Rattle.dm_links.specs.Delivery.{submitted_by, handed_up_by, ups_of, apps, SendsSubmitted}
 use Rattle.dm_machine.specs.Upward.{is_open_hold}
 use Rattle.dm_links.proofs.Columns.{words_at}
-use Rattle.dm_links.proofs.Checks.{is_open_tie}
+use Rattle.dm_links.proofs.StandingOthers.{is_open_tie}
 use Rattle.dm_links.proofs.Closing.{CarriesOn}
 use Rattle.dm_links.proofs.Keeps.{Hands}
 use Rattle.dm_links.proofs.Events.{side_sound}
-use Rattle.dm_links.proofs.Promise.{held_there}
+use Rattle.dm_links.proofs.OpenNodes.{held_there}
 use Rattle.dm_links.proofs.WaysOther.{IsNew, says_none, says_one}
 use Rattle.dm_links.proofs.Carried.{Carried, IsCarrying, WayOnLink, carrier, no_other_raise, no_other_up, open_held}
 use Rattle.dm_links.proofs.Carried.{open_tied, over_of, plain_words, turn_with}

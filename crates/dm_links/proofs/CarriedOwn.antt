@@ -11,7 +11,7 @@ use Rattle.dm_links.specs.Worlds.{World, peer_at}
 use Rattle.dm_links.specs.Happens.{own_view}
 use Rattle.dm_links.specs.Delivery.{submitted_by, handed_up_by, ups_of}
 use Rattle.dm_links.proofs.Closing.{CarriesOn}
-use Rattle.dm_links.proofs.Lists.{IsStart, at_start}
+use Rattle.dm_links.proofs.Stepped.{IsStart, at_start}
 use Rattle.dm_links.proofs.Keeps.{Hands}
 use Rattle.dm_links.proofs.Hearing.{is_word}
 use Rattle.dm_links.proofs.Carried.{Carried, Front, IsCarrying, WayOnLink, carrier, no_own_submit, no_own_up, over_of}

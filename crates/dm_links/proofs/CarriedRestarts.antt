@@ -8,7 +8,7 @@ use Rattle.dm_links.specs.Peers.{Peers}
 use Rattle.dm_links.specs.Worlds.{World, peer_at, with_peer, Done}
 use Rattle.dm_links.specs.Happens.{restarted, restart_links, own_view}
 use Rattle.dm_links.specs.Follows.{IsMachine}
-use Rattle.dm_links.proofs.Checks.{closes_own}
+use Rattle.dm_links.proofs.StandingOthers.{closes_own}
 use Rattle.dm_links.proofs.Closing.{CarriesOn}
 use Rattle.dm_links.proofs.Pairs.{mirror}
 use Rattle.dm_links.proofs.Happenings.{restarted_at}

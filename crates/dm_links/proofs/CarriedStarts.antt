@@ -11,13 +11,15 @@ use Rattle.dm_links.specs.Facts.{is_up, is_open_end}
 use Rattle.dm_links.specs.Turns.{turn_by}
 use Rattle.dm_links.specs.Delivery.{ups_of, apps}
 use Rattle.dm_links.proofs.Columns.{acted, words_at, is_closed_at}
-use Rattle.dm_links.proofs.Checks.{is_when, conclusion}
+use Rattle.dm_links.proofs.StandingSteps.{is_when}
+use Rattle.dm_links.proofs.Checks.{conclusion}
 use Rattle.dm_links.proofs.Closing.{CarriesOn}
 use Rattle.dm_links.proofs.Views.{acted_summed}
-use Rattle.dm_links.proofs.Lists.{performed_at}
-use Rattle.dm_links.proofs.Keeps.{appended_at}
+use Rattle.dm_links.proofs.Stepped.{performed_at}
+use Rattle.dm_links.proofs.StartKeeps.{appended_at}
 use Rattle.dm_links.proofs.Pairs.{mirror}
-use Rattle.dm_links.proofs.Events.{side_sound, standing_at}
+use Rattle.dm_links.proofs.Events.{side_sound}
+use Rattle.dm_links.proofs.Comings.{standing_at}
 use Rattle.dm_links.proofs.WaysOther.{says_none, other_acts}
 use Rattle.dm_links.proofs.WaysOwn.{own_calm}
 use Rattle.dm_links.proofs.Mirrors.{view_other, view_own}

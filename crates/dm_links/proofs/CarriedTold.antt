@@ -9,7 +9,7 @@ use Rattle.dm_links.specs.Happens.{own_view, world_after}
 use Rattle.dm_links.specs.Turns.{Turn, turn_by, turn_of}
 use Rattle.dm_links.specs.Delivery.{submitted_by, submitted_on, handed_up_by, handed_up_on}
 use Rattle.dm_links.proofs.Closing.{CarriesOn}
-use Rattle.dm_links.proofs.Lists.{IsStart}
+use Rattle.dm_links.proofs.Stepped.{IsStart}
 use Rattle.dm_links.proofs.Keeps.{Hands}
 use Rattle.dm_links.proofs.Mirrors.{peer_other, peer_own}
 use Rattle.dm_links.proofs.Carried.{Carried, Front, IsCarrying, WayOnLink, WayOnView, over_of, turn_with}

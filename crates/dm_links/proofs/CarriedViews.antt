@@ -15,12 +15,15 @@ use Rattle.dm_links.specs.Delivery.{ups_of, apps}
 use Rattle.dm_machine.specs.Upward.{is_open_hold}
 use Rattle.dm_links.proofs.Columns.{phase_at, own_at, messages_at, phase_after, own_after, words_at, is_closed_at}
 use Rattle.dm_links.proofs.Columns.{stepped}
-use Rattle.dm_links.proofs.Checks.{step_at, is_when, is_handed, is_open_tie, conclusion}
+use Rattle.dm_links.proofs.Checks.{step_at, conclusion}
+use Rattle.dm_links.proofs.StandingSteps.{is_when, is_handed}
+use Rattle.dm_links.proofs.StandingOthers.{is_open_tie}
 use Rattle.dm_links.proofs.Closing.{CarriesOn}
 use Rattle.dm_links.proofs.Views.{acted_entered}
-use Rattle.dm_links.proofs.Lists.{IsStart, stepped_at}
+use Rattle.dm_links.proofs.Stepped.{IsStart, stepped_at}
 use Rattle.dm_links.proofs.Pairs.{mirror, links_after}
-use Rattle.dm_links.proofs.Events.{side_sound, standing_at}
+use Rattle.dm_links.proofs.Events.{side_sound}
+use Rattle.dm_links.proofs.Comings.{standing_at}
 use Rattle.dm_links.proofs.Hearing.{is_word}
 use Rattle.dm_links.proofs.Ways.{Way}
 use Rattle.dm_links.proofs.WaysOwn.{Fits, own_calm}

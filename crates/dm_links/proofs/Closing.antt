@@ -13,8 +13,9 @@ use Rattle.dm_links.specs.Peers.{Event, Action, Reply, Acts, Peers}
 use Rattle.dm_links.specs.Follows.{FollowsMachine, IsMachine}
 use Rattle.dm_links.specs.Delivery.{is_closing_hold, is_done_hold, CarriesMessages}
 use Rattle.dm_links.proofs.Every.{all_true}
-use Rattle.dm_links.proofs.Checks.{when, is_when}
-use Rattle.dm_links.proofs.Ties.{MachineLaws, every_way, every_word, every_hold, at_way, at_hold}
+use Rattle.dm_links.proofs.StandingSteps.{when, is_when}
+use Rattle.dm_links.proofs.Ties.{MachineLaws}
+use Rattle.dm_links.proofs.EveryHold.{every_way, every_word, every_hold, at_way, at_hold}
 
 abbrev stays_closing : Hold → Change → Bool
 stays_closing h x = when (is_closing_hold h) (is_done_hold x.next)

@@ -27,7 +27,8 @@ other_at k other = (entered k (seen Up Shut other (bare NoMark) (bare NoMark))).
 
 abbrev pub messages_at : {M : Type 0} → Concern → List M → List M
 messages_at k ms =
-    (entered k (seen Up Shut Shut (record { messages = ms; taken = 0; mark = NoMark }) empty_direction)).incoming.messages
+    (entered k
+    (seen Up Shut Shut (record { messages = ms; taken = 0; mark = NoMark }) empty_direction)).incoming.messages
 
 abbrev pub taken_at : Concern → ℕ → ℕ
 taken_at k n =

@@ -1,239 +1,32 @@
 -- Fewer octets are delivered of a front message than it has.
-use Rattle.std.proofs.Common.{◌≡◌, ℕ, ◌+◌, ◌-◌, ◌==◌, Bool, true, false, ◌&&◌, nat_lt, nat_le, if◌then◌else◌, Option}
+use Rattle.std.proofs.Common.{◌≡◌, ℕ, ◌+◌, ◌==◌, Bool, true, false, nat_lt, if◌then◌else◌, Option}
 use Rattle.std.proofs.Common.{Some, None, IfSome, List, [], ◌∷◌, ◌++◌, length, slice_get, refl, sym, subst, ◌∙◌, inl}
 use Rattle.std.proofs.Common.{inr}
-use Rattle.std.proofs.lemmas.Bool.{and_parts, and_from, eqb-true, cases_Bool}
+use Rattle.std.proofs.lemmas.Bool.{eqb-true, cases_Bool}
 use Rattle.std.proofs.lemmas.Option.{slice_get-map}
-use Rattle.dm_links.specs.Machine.{conn, Concern, Elsewhere, StartsIt, AcksIt, NacksIt, EndsIt, HeardOnIt, Node, tie_of}
+use Rattle.dm_links.specs.Machine.{conn, Node, tie_of}
 use Rattle.dm_links.specs.Machine.{is_held}
-use Rattle.dm_links.specs.Links.{Side, flip, opens, LinkPhase, Pending, Up, Cancelled, End, Fresh, Open, Shut, Mark}
-use Rattle.dm_links.specs.Links.{NoMark, Coming, Delivered, Link, View, view_of, link_of, by_side, new_link}
-use Rattle.dm_links.specs.Peers.{Event, Start, Stop, Timeout, Tick, Ack, Nack, Gone, Submit, Arrived, Action, Send}
-use Rattle.dm_links.specs.Peers.{Close, Connect, Reply, Acts, Declines, Peers, concern_by}
-use Rattle.dm_links.specs.Peers as peers
-use Rattle.dm_links.specs.Steps.{added, entered, with_close}
+use Rattle.dm_links.specs.Links.{Side, opens, LinkPhase, Pending, Up, Cancelled, End, Fresh, Open, Shut, Mark}
+use Rattle.dm_links.specs.Links.{NoMark, Coming, Delivered, Link, view_of, by_side, new_link}
+use Rattle.dm_links.specs.Peers.{Event, Start, Stop, Timeout, Tick, Ack, Nack, Gone, Submit, Arrived, Action}
+use Rattle.dm_links.specs.Peers.{Reply, Acts, Declines, Peers, concern_by}
+use Rattle.dm_links.specs.Steps.{entered}
 use Rattle.dm_links.specs.Worlds.{World, peer_at, with_peer, with_links, change_at, enter, perform, settle, After, Done}
 use Rattle.dm_links.specs.Worlds.{Ignored, NoLink, after_reply, tell, after_drop}
 use Rattle.dm_links.specs.Happens.{Happening, Starts, Stops, TimesOut, Ticks, Restarts, Acks, Nacks, Delivers, Pieces}
 use Rattle.dm_links.specs.Happens.{Loses, Submits, Next, NextMessage, NextDisconnect, NextNothing, next_in, comes}
-use Rattle.dm_links.specs.Happens.{deliver_next, take_part, deliver_part, whole_in, taken_of, lost_messages, lost}
-use Rattle.dm_links.specs.Happens.{lost_link, kept_at, are_shut, restarted, restart_links, if_up, if_pending, at_link}
+use Rattle.dm_links.specs.Happens.{deliver_next, take_part, deliver_part}
+use Rattle.dm_links.specs.Happens.{lost_link, are_shut, restarted, restart_links, if_up, if_pending, at_link}
 use Rattle.dm_links.specs.Happens.{own_view, happens, world_after, RunEnd, ran_on, run_from}
-use Rattle.dm_links.specs.Streams.{are_sized, is_cut, is_cut_way, is_cut_link, AreCut, sends_sized, IsSized}
-use Rattle.dm_links.proofs.Columns.{entered_by_columns, messages_at, taken_at, summed, acted, words_at, is_closed_at}
+use Rattle.dm_links.specs.Streams.{is_cut_link, AreCut, sends_sized, IsSized}
+use Rattle.dm_links.proofs.Columns.{acted}
 use Rattle.dm_links.proofs.Columns.{stepped}
-use Rattle.dm_links.proofs.Lists.{IsStart, mapped_some, change_at-tested, performed_at, entered_at, stepped_at}
-use Rattle.dm_links.proofs.Keeps.{appended_at}
-use Rattle.dm_links.proofs.Views.{acted_summed, shut_is_summed}
+use Rattle.dm_links.proofs.Stepped.{IsStart, performed_at, entered_at, stepped_at}
+use Rattle.dm_links.proofs.Lists.{mapped_some, change_at-tested}
+use Rattle.dm_links.proofs.StartKeeps.{appended_at}
 use Rattle.dm_links.proofs.Pairs.{links_after}
-
--- lists of messages
-sized_append : {M : Type 0} (size : M → ℕ) (xs ys : List M) → are_sized size xs ≡ true → are_sized size ys ≡ true →
-    are_sized size (xs ++ ys) ≡ true
-sized_append size [] ys h g = g
-sized_append size (x ∷ xs) ys h g =
-    let parts = and_parts (nat_lt 0 (size x)) (are_sized size xs) h in
-    and_from (nat_lt 0 (size x)) (are_sized size (xs ++ ys)) parts.0 (sized_append size xs ys parts.1 g)
-
-cut_append : {M : Type 0} (size : M → ℕ) (xs ys : List M) (n : ℕ) → is_cut size xs n ≡ true →
-    are_sized size ys ≡ true → is_cut size (xs ++ ys) n ≡ true
-cut_append size [] [] n h g = h
-cut_append size [] (y ∷ ys) n h g = subst (λ k. nat_lt k (size y) ≡ true) (sym (eqb-true n 0 h))
-    (and_parts (nat_lt 0 (size y)) (are_sized size ys) g).0
-cut_append size (x ∷ xs) ys n h g = h
-
-abbrev is_way : {M : Type 0} → (M → ℕ) → List M → ℕ → Bool
-is_way size ms n = are_sized size ms && is_cut size ms n
-
-way_append : {M : Type 0} (size : M → ℕ) (xs ys : List M) (n : ℕ) → is_way size xs n ≡ true →
-    are_sized size ys ≡ true → is_way size (xs ++ ys) n ≡ true
-way_append size xs ys n h g =
-    let parts = and_parts (are_sized size xs) (is_cut size xs n) h in
-    and_from (are_sized size (xs ++ ys)) (is_cut size (xs ++ ys) n) (sized_append size xs ys parts.0 g)
-    (cut_append size xs ys n parts.1 g)
-
-way_popped : {M : Type 0} (size : M → ℕ) (ms : List M) (n : ℕ) → is_way size ms n ≡ true →
-    is_way size (messages_at HeardOnIt ms) 0 ≡ true
-way_popped size [] n h = refl
-way_popped size (x ∷ []) n h = refl
-way_popped size (x ∷ y ∷ ys) n h =
-    let parts = and_parts (are_sized size (x ∷ y ∷ ys)) (nat_lt n (size x)) h in
-    let rest = (and_parts (nat_lt 0 (size x)) (are_sized size (y ∷ ys)) parts.0).1 in
-    and_from (are_sized size (y ∷ ys)) (nat_lt 0 (size y)) rest
-    (and_parts (nat_lt 0 (size y)) (are_sized size ys) rest).0
-
-way_at : {M : Type 0} (size : M → ℕ) (k : Concern) (ms : List M) (n : ℕ) → is_way size ms n ≡ true →
-    is_way size (messages_at k ms) (taken_at k n) ≡ true
-way_at size HeardOnIt ms n h = way_popped size ms n h
-way_at size Elsewhere ms n h = h
-way_at size StartsIt ms n h = h
-way_at size AcksIt ms n h = h
-way_at size NacksIt ms n h = h
-way_at size EndsIt ms n h = h
-
-way_added : {M : Type 0} (size : M → ℕ) (p : LinkPhase) (mark : Mark) (words old : List M) (n : ℕ) →
-    is_way size old n ≡ true → are_sized size words ≡ true → is_way size (added p mark words old) n ≡ true
-way_added size Up NoMark words old n h g = way_append size old words n h g
-way_added size Up Coming words old n h g = h
-way_added size Up Delivered words old n h g = h
-way_added size Pending mark words old n h g = h
-way_added size Cancelled mark words old n h g = h
-
-sized_if : {M : Type 0} (size : M → ℕ) (b : Bool) (xs ys : List M) → are_sized size xs ≡ true →
-    are_sized size ys ≡ true → are_sized size (if b then xs else ys) ≡ true
-sized_if size true xs ys h g = h
-sized_if size false xs ys h g = g
-
-words_sized : {M : Type 0} (size : M → ℕ) (d : ℕ) (actions : List (Action M)) → sends_sized size actions ≡ true →
-    are_sized size (words_at d actions) ≡ true
-words_sized size d [] h = refl
-words_sized size d (Send c x ∷ more) h =
-    let parts = and_parts (nat_lt 0 (size x)) (sends_sized size more) h in
-    let rest = words_sized size d more parts.1 in
-    sized_if size (c.0 == d) (x ∷ words_at d more) (words_at d more)
-    (and_from (nat_lt 0 (size x)) (are_sized size (words_at d more)) parts.0 rest) rest
-words_sized size d (Close c ∷ more) h = sized_if size (c.0 == d) [] (words_at d more) refl
-    (words_sized size d more h)
-words_sized size d (Connect c ∷ more) h = words_sized size d more h
-words_sized size d (peers.Up x ∷ more) h = words_sized size d more h
-
--- views and links
-record CutView {M : Type 0} (size : M → ℕ) (v : View M) : Type 0 where
-  pub incoming : is_way size v.incoming.messages v.incoming.taken ≡ true
-  pub outgoing : is_way size v.outgoing.messages v.outgoing.taken ≡ true
-
-view_cut : {M : Type 0} (size : M → ℕ) (mine : Bool) (l : Link M) → is_cut_link size l ≡ true →
-    CutView size (view_of mine l)
-view_cut size true l h =
-    let parts = and_parts (is_cut_way size l.to_opener) (is_cut_way size l.to_other) h in
-    record { incoming = parts.0; outgoing = parts.1 }
-view_cut size false l h =
-    let parts = and_parts (is_cut_way size l.to_opener) (is_cut_way size l.to_other) h in
-    record { incoming = parts.1; outgoing = parts.0 }
-
-link_cut : {M : Type 0} (size : M → ℕ) (mine : Bool) (s : Side) (v : View M) → CutView size v →
-    is_cut_link size (link_of mine s v) ≡ true
-link_cut size true s v h = and_from (is_way size v.incoming.messages v.incoming.taken)
-    (is_way size v.outgoing.messages v.outgoing.taken) h.incoming h.outgoing
-link_cut size false s v h = and_from (is_way size v.outgoing.messages v.outgoing.taken)
-    (is_way size v.incoming.messages v.incoming.taken) h.outgoing h.incoming
-
-side_cut : {M : Type 0} (size : M → ℕ) (s : Side) (f : View M → View M) (l : Link M) →
-    ((v : View M) → CutView size v → CutView size (f v)) → is_cut_link size l ≡ true →
-    is_cut_link size (by_side s f l) ≡ true
-side_cut size s f l keeps h =
-    let mine = opens s l.opener in link_cut size mine l.opener (f (view_of mine l))
-    (keeps (view_of mine l) (view_cut size mine l h))
-
-entered_cut : {M : Type 0} (size : M → ℕ) (k : Concern) (v : View M) → CutView size v → CutView size (entered k v)
-entered_cut size k v h = subst (λ u. CutView size u) (sym (entered_by_columns k v))
-    record { incoming = way_at size k v.incoming.messages v.incoming.taken h.incoming; outgoing = h.outgoing }
-
-summed_cut : {M : Type 0} (size : M → ℕ) (closed : Bool) (words : List M) (v : View M) →
-    are_sized size words ≡ true → CutView size v → CutView size (summed closed words v)
-summed_cut size closed words v g h =
-    record {
-      incoming = h.incoming;
-      outgoing =
-          way_added size v.phase v.outgoing.mark words v.outgoing.messages v.outgoing.taken h.outgoing g;
-    }
-
-acted_cut : {M : Type 0} (size : M → ℕ) (d : ℕ) (actions : List (Action M)) (v : View M) →
-    sends_sized size actions ≡ true → CutView size v → CutView size (acted d actions v)
-acted_cut size d actions v g h = subst (λ u. CutView size u) (sym (acted_summed d actions v))
-    (summed_cut size (is_closed_at d actions) (words_at d actions) v (words_sized size d actions g) h)
-
-stepped_cut : {M : Type 0} (size : M → ℕ) (k : Concern) (b : Bool) (d : ℕ) (actions : List (Action M))
-    (v : View M) → sends_sized size actions ≡ true → CutView size v → CutView size (stepped k b d actions v)
-stepped_cut size k b d actions v g h =
-    let after = acted_cut size d actions (entered k v) g (entered_cut size k v h) in
-    record { incoming = after.incoming; outgoing = after.outgoing }
-
-taking_cut : {M : Type 0} (size : M → ℕ) (k : ℕ) (v : View M) (x : M) (xs : List M) →
-    v.incoming.messages ≡ x ∷ xs → nat_lt (v.incoming.taken + k) (size x) ≡ true → CutView size v →
-    CutView size (take_part k v)
-taking_cut size k v x xs e low h =
-    let parts = and_parts (are_sized size v.incoming.messages)
-    (is_cut size v.incoming.messages v.incoming.taken) h.incoming in
-    record {
-      incoming = and_from (are_sized size v.incoming.messages)
-          (is_cut size v.incoming.messages (v.incoming.taken + k)) parts.0
-          (subst (λ ms. is_cut size ms (v.incoming.taken + k) ≡ true) (sym e) low);
-      outgoing = h.outgoing;
-    }
-
--- a loss
-cut_if : {M : Type 0} (size : M → ℕ) (b : Bool) (x : M) (kept : List M) (n : ℕ) → nat_lt n (size x) ≡ true →
-    is_cut size (if b then x ∷ kept else []) (taken_of (if b then x ∷ kept else []) n) ≡ true
-cut_if size true x kept n h = h
-cut_if size false x kept n h = refl
-
-kept_sized : {M : Type 0} (size : M → ℕ) (k : ℕ) (ms : List M) → are_sized size ms ≡ true →
-    are_sized size (whole_in size k ms) ≡ true
-kept_sized size k [] h = refl
-kept_sized size k (x ∷ xs) h =
-    let parts = and_parts (nat_lt 0 (size x)) (are_sized size xs) h in
-    sized_if size (nat_le (size x) k) (x ∷ whole_in size (k - size x) xs) []
-    (and_from (nat_lt 0 (size x)) (are_sized size (whole_in size (k - size x) xs)) parts.0
-    (kept_sized size (k - size x) xs parts.1)) refl
-
-kept_cut : {M : Type 0} (size : M → ℕ) (k n : ℕ) (ms : List M) → is_cut size ms n ≡ true →
-    is_cut size (whole_in size k ms) (taken_of (whole_in size k ms) n) ≡ true
-kept_cut size k n [] h = refl
-kept_cut size k n (x ∷ xs) h = cut_if size (nat_le (size x) k) x (whole_in size (k - size x) xs) n h
-
-kept_way : {M : Type 0} (size : M → ℕ) (k n : ℕ) (ms : List M) → is_way size ms n ≡ true →
-    is_way size (whole_in size k ms) (taken_of (whole_in size k ms) n) ≡ true
-kept_way size k n ms h =
-    let parts = and_parts (are_sized size ms) (is_cut size ms n) h in
-    and_from (are_sized size (whole_in size k ms))
-    (is_cut size (whole_in size k ms) (taken_of (whole_in size k ms) n)) (kept_sized size k ms parts.0)
-    (kept_cut size k n ms parts.1)
-
-same_cut : {M : Type 0} (size : M → ℕ) (ms : List M) (n : ℕ) → is_cut size ms n ≡ true →
-    is_cut size ms (taken_of ms n) ≡ true
-same_cut size [] n h = refl
-same_cut size (x ∷ xs) n h = h
-
-same_way : {M : Type 0} (size : M → ℕ) (ms : List M) (n : ℕ) → is_way size ms n ≡ true →
-    is_way size ms (taken_of ms n) ≡ true
-same_way size ms n h =
-    let parts = and_parts (are_sized size ms) (is_cut size ms n) h in and_from (are_sized size ms)
-    (is_cut size ms (taken_of ms n)) parts.0 (same_cut size ms n parts.1)
-
-lost_at : {M : Type 0} (size : M → ℕ) (k n : ℕ) (ms : List M) (mark : Mark) → is_way size ms n ≡ true →
-    is_way size (lost_messages mark (whole_in size k ms) ms)
-    (taken_of (lost_messages mark (whole_in size k ms) ms) n) ≡ true
-lost_at size k n ms NoMark h = kept_way size k n ms h
-lost_at size k n ms Coming h = kept_way size k n ms h
-lost_at size k n ms Delivered h = same_way size ms n h
-
-lost_cut : {M : Type 0} (size : M → ℕ) (a b : ℕ) (l : Link M) → is_cut_link size l ≡ true →
-    is_cut_link size (lost_link size a b l) ≡ true
-lost_cut size a b l h =
-    let parts = and_parts (is_cut_way size l.to_opener) (is_cut_way size l.to_other) h in
-    let kept_to_opener = kept_at l.opener a b + l.to_opener.taken in
-    let kept_to_other = kept_at (flip l.opener) a b + l.to_other.taken in
-    let to_opener = lost size (kept_at l.opener a b) l.to_opener in
-    let to_other = lost size (kept_at (flip l.opener) a b) l.to_other in
-    and_from (is_cut_way size to_opener) (is_cut_way size to_other)
-    (lost_at size kept_to_opener l.to_opener.taken l.to_opener.messages l.to_opener.mark parts.0)
-    (lost_at size kept_to_other l.to_other.taken l.to_other.messages l.to_other.mark parts.1)
-
-shut_cut : {M : Type 0} (size : M → ℕ) (v : View M) → CutView size v → CutView size (with_close v)
-shut_cut size v h = subst (λ u. CutView size u) (sym (shut_is_summed v)) (summed_cut size true [] v refl h)
-
--- a restart
-restarted_by : {M : Type 0} (size : M → ℕ) (mine : Bool) (p : LinkPhase) (v : View M) → CutView size v →
-    CutView size (elim p [ Pending ↦ elim mine [ true ↦ with_close v | false ↦ v ] | _ ↦ with_close v ])
-restarted_by size true Pending v h = shut_cut size v h
-restarted_by size false Pending v h = h
-restarted_by size mine Up v h = shut_cut size v h
-restarted_by size mine Cancelled v h = shut_cut size v h
-
-restarted_cut : {M : Type 0} (size : M → ℕ) (mine : Bool) (v : View M) → CutView size v →
-    CutView size (restarted mine v)
-restarted_cut size mine v h = restarted_by size mine v.phase v h
+use Rattle.dm_links.proofs.CutViews.{view_cut, link_cut, side_cut, entered_cut, acted_cut, stepped_cut, taking_cut}
+use Rattle.dm_links.proofs.CutViews.{lost_cut, restarted_cut}
 
 -- all links
 abbrev CutLinks : {M : Type 0} → (M → ℕ) → List (Link M) → Type 0

@@ -14,7 +14,7 @@ use Rattle.dm_links.specs.Quiet.{is_quiet, cost, steps_of, steps_taken}
 use Rattle.dm_links.specs.Draining.{under_way, both_restarted, is_ack_nack_or_delivery, are_acks_nacks_or_deliveries}
 use Rattle.dm_links.specs.Draining.{Drains, EachRestartedRunDrains}
 use Rattle.dm_links.proofs.Running.{delivery_of}
-use Rattle.dm_links.proofs.Settling.{all_at}
+use Rattle.dm_links.proofs.Depths.{all_at}
 use Rattle.dm_links.proofs.Dead.{is_dead, are_dead, dead_after, dead_changed, less_changed}
 use Rattle.dm_links.proofs.Dropping.{seen, find}
 use Rattle.dm_links.proofs.Clearing.{too_few, less_found}

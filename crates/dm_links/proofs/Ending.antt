@@ -12,7 +12,8 @@ use Rattle.dm_links.specs.Settled.{IsAtRest}
 use Rattle.dm_links.proofs.Pairs.{IsPair, ab, ba}
 use Rattle.dm_links.proofs.Phases.{C1, InPhase}
 use Rattle.dm_links.proofs.Running.{nothing_put, Ended, runs}
-use Rattle.dm_links.proofs.Settling.{bare, begins}
+use Rattle.dm_links.proofs.Depths.{bare}
+use Rattle.dm_links.proofs.Settling.{begins}
 
 module _ {P M C H : Type 0} (m : Peers P M) (t : Talks P M C H) where
   -- what a run has come to, for the side that wins and the other

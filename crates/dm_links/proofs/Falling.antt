@@ -12,7 +12,8 @@ use Rattle.dm_links.proofs.Pairs.{IsPair}
 use Rattle.dm_links.proofs.Phases.{Phase, C1, C2, C3, C4, C5, C6, C7, C8, C9, C25, stage_g, stage_l, depth, present}
 use Rattle.dm_links.proofs.Phases.{InPhase}
 use Rattle.dm_links.proofs.Running.{Ended}
-use Rattle.dm_links.proofs.Settling.{Rests, only_g, only_l, both, by_pair}
+use Rattle.dm_links.proofs.Depths.{Rests, only_g, only_l, both}
+use Rattle.dm_links.proofs.Settling.{by_pair}
 use Rattle.dm_links.proofs.Onward.{onward}
 use Rattle.dm_links.proofs.Resting.{quiet_end}
 

@@ -13,7 +13,8 @@ use Rattle.dm_links.specs.Falling.{is_ack_or_delivery, are_acks_or_deliveries, C
 use Rattle.dm_links.proofs.Pairs.{IsPair}
 use Rattle.dm_links.proofs.Phases.{Phase, stage_g, stage_l, depth, present, InPhase, Went, stays, is_lost, moves}
 use Rattle.dm_links.proofs.Running.{Ended, happening_went}
-use Rattle.dm_links.proofs.Settling.{Rests, nine_depth, kept_by}
+use Rattle.dm_links.proofs.Depths.{Rests, nine_depth}
+use Rattle.dm_links.proofs.Settling.{kept_by}
 use Rattle.dm_links.proofs.Runs.{run_joined}
 use Rattle.dm_links.proofs.Onward.{StepOnward, onward}
 use Rattle.dm_links.proofs.Resting.{quiet_end, opened_end}

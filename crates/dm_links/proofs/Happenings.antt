@@ -14,14 +14,17 @@ use Rattle.dm_links.specs.Follows.{IsMachine}
 use Rattle.dm_links.specs.Facts.{turned_over, is_empty, is_sound_standing, is_up, standing_of, IsSoundView, IsSoundLink}
 use Rattle.dm_links.specs.Facts.{AreSound, IsSoundWorld}
 use Rattle.dm_links.proofs.Columns.{summed}
-use Rattle.dm_links.proofs.Checks.{standing_after, closes_own, restart_of, lost_of}
+use Rattle.dm_links.proofs.StandingSteps.{standing_after}
+use Rattle.dm_links.proofs.StandingOthers.{closes_own}
+use Rattle.dm_links.proofs.Checks.{restart_of, lost_of}
 use Rattle.dm_links.proofs.Ties.{MachineLaws}
 use Rattle.dm_links.proofs.Views.{nothing_summed, shut_is_summed}
 use Rattle.dm_links.proofs.Lists.{view_link, mapped_some}
 use Rattle.dm_links.proofs.Keeps.{put_in}
 use Rattle.dm_links.proofs.Events.{side_sound, sound_back, started_sound, calm_sound, one_sound, change_sound}
-use Rattle.dm_links.proofs.Events.{delivered_sound, pieced_sound, if_sound, same_link, up_sound, pending_sound}
-use Rattle.dm_links.proofs.Events.{there_sound, opens_self, handed_ack, handed_nack, standing_at}
+use Rattle.dm_links.proofs.Comings.{delivered_sound, pieced_sound, if_sound, up_sound, pending_sound}
+use Rattle.dm_links.proofs.Events.{same_link}
+use Rattle.dm_links.proofs.Comings.{there_sound, opens_self, handed_ack, handed_nack, standing_at}
 
 -- a loss
 whole_empty : {M : Type 0} (b : Bool) (x : M) (kept rest : List M) →

@@ -8,7 +8,7 @@ use Rattle.dm_links.specs.Facts.{is_up, is_pending, is_open_end, is_shut, is_non
 use Rattle.dm_links.proofs.Columns.{phase_at, own_at, other_at, incoming_mark_at, outgoing_mark_at, phase_after}
 use Rattle.dm_links.proofs.Columns.{own_after, mark_after}
 use Rattle.dm_links.proofs.Every.{all_true, every_bool, every_concern, every_phase, every_end, every_mark}
-use Rattle.dm_links.proofs.Checks.{when}
+use Rattle.dm_links.proofs.StandingSteps.{when}
 
 -- whether an end may still hand something up, by whether its node is done with the link
 abbrev pub may_hear : LinkPhase → End → Bool → Bool

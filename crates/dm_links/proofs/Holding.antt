@@ -9,7 +9,7 @@ use Rattle.dm_machine.specs.Node.{is_held_in, is_count_of}
 use Rattle.dm_links.specs.Machine.{Conn, Role, Initiated, Accepted, Node, node_at, is_shaped, is_same_role, tie_of}
 use Rattle.dm_links.specs.Machine.{is_held}
 use Rattle.dm_links.specs.Joining.{StandsOn}
-use Rattle.dm_links.proofs.Checks.{is_connecting, is_taken}
+use Rattle.dm_links.proofs.StandingOthers.{is_connecting, is_taken}
 
 -- nothing; one link alone, as its initiator or having accepted it; one of each; or one whose connect is pending
 pub data HeldLinks (n : Node) : Type 0 where

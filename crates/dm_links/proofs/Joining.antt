@@ -10,10 +10,14 @@ use Rattle.dm_links.specs.Worlds.{World, peer_at}
 use Rattle.dm_links.specs.Facts.{is_pending, IsSoundWorld}
 use Rattle.dm_links.specs.Quiet.{is_quiet_link, is_quiet}
 use Rattle.dm_links.specs.Joining.{StandsOn, AreJoined, both_closed, on_one, is_returning, QuietIsJoined}
-use Rattle.dm_links.proofs.Checks.{is_when, is_connecting, is_taken, same_bool, conclusion}
-use Rattle.dm_links.proofs.Events.{side_sound, standing_at}
-use Rattle.dm_links.proofs.Promise.{held_there, roles_apart}
-use Rattle.dm_links.proofs.Settling.{all_at}
+use Rattle.dm_links.proofs.StandingSteps.{is_when}
+use Rattle.dm_links.proofs.StandingOthers.{is_connecting, is_taken, same_bool}
+use Rattle.dm_links.proofs.Checks.{conclusion}
+use Rattle.dm_links.proofs.Events.{side_sound}
+use Rattle.dm_links.proofs.Comings.{standing_at}
+use Rattle.dm_links.proofs.OpenNodes.{held_there}
+use Rattle.dm_links.proofs.Promise.{roles_apart}
+use Rattle.dm_links.proofs.Depths.{all_at}
 use Rattle.dm_links.proofs.Sharing.{shares}
 use Rattle.dm_links.proofs.Holding.{HeldLinks, none, one, two, pends, holding_of, none_held}
 

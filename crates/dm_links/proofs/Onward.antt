@@ -16,7 +16,7 @@ use Rattle.dm_links.proofs.Phases.{Phase, C1, C2, C3, C4, C5, C6, C7, C8, C9, C1
 use Rattle.dm_links.proofs.Phases.{C18, C19, C20, C21, C22, C23, C24, C25, node_g, node_l, stage_g, stage_l, InPhase}
 use Rattle.dm_links.proofs.Phasing.{acked, arrives, acked_own, arrives_own, arrives_other, flip_in}
 use Rattle.dm_links.proofs.Running.{ack_of, delivery_of}
-use Rattle.dm_links.proofs.Settling.{Rests, idle, only_g, only_l, both}
+use Rattle.dm_links.proofs.Depths.{Rests, idle, only_g, only_l, both}
 
 module _ {P M C H : Type 0} (m : Peers P M) (t : Talks P M C H) where
   -- an Ack or a delivery that is done

@@ -1,133 +1,31 @@
 -- What a sound world has.
-use Rattle.std.proofs.Common.{◌≡◌, ℕ, zero, suc, ◌<◌, Bool, true, false, not, ◌&&◌, ◌||◌, IsTrue, Option, Some, None}
-use Rattle.std.proofs.Common.{IfSome, List, [], ◌∷◌, length, slice_get, refl, sym, ap, subst, arith, ◌⊎◌, inl, inr}
+use Rattle.std.proofs.Common.{◌≡◌, ℕ, Bool, true, false, not, ◌&&◌, ◌||◌, Option, Some, None}
+use Rattle.std.proofs.Common.{IfSome, List, [], ◌∷◌, refl, sym, ap, subst, ◌⊎◌, inl, inr}
 use Rattle.std.specs.Prelude.{◌↔◌}
-use Rattle.std.proofs.lemmas.Bool.{cases_eq, cases_lt, and_parts, and_from, or_cases}
-use Rattle.std.proofs.lemmas.Bool.Decides.{nat_tests}
+use Rattle.std.proofs.lemmas.Bool.{cases_eq, and_parts, and_from, or_cases}
 use Rattle.std.proofs.lemmas.Option.{IfSome_then}
-use Rattle.dm_machine.specs.declared.state_name.State.{State}
-use Rattle.dm_machine.specs.declared.state_name.State.TheVariants.{ROpen, IOpen}
-use Rattle.dm_machine.specs.Node.{is_held_in, is_count_of}
-use Rattle.dm_links.specs.Machine.{Conn, conn, Role, Initiated, Accepted, Node, node_at, held_as, is_shaped}
-use Rattle.dm_links.specs.Machine.{is_same_role, is_open, Tie, Unheld, tie_of, is_held}
-use Rattle.dm_links.specs.Links.{Side, A, B, flip, opens, LinkPhase, Pending, Up, Cancelled, End, Fresh, Open, Shut}
-use Rattle.dm_links.specs.Links.{Mark, NoMark, Coming, Delivered, Link}
+use Rattle.dm_links.specs.Machine.{Role, Initiated, Accepted}
+use Rattle.dm_links.specs.Machine.{is_same_role, tie_of, is_held}
+use Rattle.dm_links.specs.Links.{Side, A, B, flip, opens, LinkPhase, Pending, Up, Cancelled, Open}
 use Rattle.dm_links.specs.Peers.{Peers}
 use Rattle.dm_links.specs.Worlds.{World, peer_at, After, Done, Ignored, NoLink}
 use Rattle.dm_links.specs.Happens.{Happening, own_view, happens, world_after, RunEnd, ran_on, run_from, run}
 use Rattle.dm_links.specs.Follows.{IsMachine}
 use Rattle.dm_links.specs.Facts.{Standing, turned_over, is_sound_standing, is_up, is_pending, is_open_end, is_coming}
-use Rattle.dm_links.specs.Facts.{AreSound, IsSoundWorld}
+use Rattle.dm_links.specs.Facts.{IsSoundWorld}
 use Rattle.dm_links.specs.Agreement.{IsOpenOn, HasComingDisconnect, Agreed, EndsAreHeld, HeldAreLinks, OpenIsMatched}
 use Rattle.dm_links.specs.Laws.{Promised}
 use Rattle.dm_links.proofs.Every.{all_true, every_bool, every_tie, every_phase, every_end, every_mark, every_standing}
 use Rattle.dm_links.proofs.Every.{at_standing}
-use Rattle.dm_links.proofs.Checks.{when, is_when, is_open_tie, is_taken, same_bool, conclusion}
+use Rattle.dm_links.proofs.StandingSteps.{when, is_when}
+use Rattle.dm_links.proofs.StandingOthers.{is_open_tie, is_taken, same_bool}
+use Rattle.dm_links.proofs.Checks.{conclusion}
 use Rattle.dm_links.proofs.Ties.{MachineLaws}
-use Rattle.dm_links.proofs.Events.{side_sound, standing_at}
+use Rattle.dm_links.proofs.Events.{side_sound}
+use Rattle.dm_links.proofs.Comings.{standing_at}
 use Rattle.dm_links.proofs.Happenings.{happens_sound}
-
--- an open node holds one connection, in the role of its state
-record OpensBy (n : Node) (r : Role) (c : ℕ) : Type 0 where
-  pub tie : is_open_tie (tie_of n c) ≡ true
-  pub role : is_taken (tie_of n c) ≡ is_same_role r Accepted
-  pub only : (d : ℕ) → is_held (tie_of n d) ≡ true → c ≡ d
-
-opens_r : (c n : ℕ) → OpensBy (node_at ROpen ((Accepted, conn c) ∷ []) n) Accepted c
-opens_r c n = record {
-  tie = grind (arith, nat_tests);
-  role = grind (arith, nat_tests);
-  only = λ d h. grind
-      (arith, nat_tests, h);
-}
-
-opens_i : (c n : ℕ) → OpensBy (node_at IOpen ((Initiated, conn c) ∷ []) n) Initiated c
-opens_i c n = record {
-  tie = grind (arith, nat_tests);
-  role = grind (arith, nat_tests);
-  only = λ d h. grind
-      (arith, nat_tests, h);
-}
-
-some_is : (x y : Conn) → Some x ≡ Some y → x ≡ y
-some_is x y h = cc
-
-opens_at : (s : State) (held : List (Role × Conn)) (n : ℕ) (r : Role) (c : ℕ) → IsTrue (is_held_in s held) →
-    IsTrue (is_open s) → held_as r held ≡ Some (conn c) → OpensBy (node_at s held n) r c
-opens_at ROpen ((Accepted, x) ∷ []) n Accepted c h o e =
-    subst (λ y. OpensBy (node_at ROpen ((Accepted, y) ∷ []) n) Accepted c) (sym (some_is x (conn c) e)) (opens_r c n)
-opens_at ROpen ((Accepted, x) ∷ []) n Initiated c h o e = cc
-opens_at IOpen ((Initiated, x) ∷ []) n Initiated c h o e =
-    subst (λ y. OpensBy (node_at IOpen ((Initiated, y) ∷ []) n) Initiated c) (sym (some_is x (conn c) e))
-    (opens_i c n)
-opens_at IOpen ((Initiated, x) ∷ []) n Accepted c h o e = cc
-opens_at _ _ n r c h o e = cc
-
-opens_on : (n : Node) (r : Role) (c : ℕ) → IsTrue (is_shaped n) → IsOpenOn n r c → OpensBy n r c
-opens_on n r c h o = opens_at n.state n.held n.count r c
-    (and_parts (is_held_in n.state n.held) (is_count_of n.state n.count) h).0 o.is_open o.holds
-
--- the link of a number
-there_below : {X : Type 0} (xs : List X) (c : ℕ) → c < length xs → (x : X) × (slice_get xs c ≡ Some x)
-there_below [] c h = absurd (omega (arith, h))
-there_below (x ∷ xs) zero h = (x, refl)
-there_below (x ∷ xs) (suc c) h = there_below xs c (omega (arith, h))
-
-not_held : (t : Tie) → t ≡ Unheld → is_held t ≡ true → ⊥
-not_held t e h = cc (ap is_held e, h)
-
-pub held_there : {M : Type 0} (s : Side) (own other : Node) (links : List (Link M)) (c : ℕ) →
-    AreSound s own other links → is_held (tie_of own c) ≡ true → (l : Link M) × (slice_get links c ≡ Some l)
-held_there s own other links c good held =
-    elim (cases_lt c (length links)) [
-      | inl lt ↦ there_below links c lt
-      | inr late ↦ absurd (not_held (tie_of own c) (good.own_later c late) held)
-    ]
-
-open_held : (t : Tie) → is_open_tie t ≡ true → is_held t ≡ true
-open_held Unheld h = cc
-open_held _ h = refl
-
-open_is : (e : End) → is_open_end e ≡ true → e ≡ Open
-open_is Open h = refl
-open_is Fresh h = cc
-open_is Shut h = cc
-
-coming_is : (k : Mark) → is_coming k ≡ true → k ≡ Coming
-coming_is Coming h = refl
-coming_is NoMark h = cc
-coming_is Delivered h = cc
-
-up_is : (p : LinkPhase) → is_up p ≡ true → p ≡ Up
-up_is Up h = refl
-up_is Pending h = cc
-up_is Cancelled h = cc
-
-is_up_at : (p : LinkPhase) → p ≡ Up → is_up p ≡ true
-is_up_at p h = rw h refl
-
-pending_is : (p : LinkPhase) → is_pending p ≡ true → p ≡ Pending
-pending_is Pending h = refl
-pending_is Up h = cc
-pending_is Cancelled h = cc
-
-opener_is : (s o : Side) → opens s o ≡ true → o ≡ s
-opener_is A A h = refl
-opener_is B B h = refl
-opener_is A B h = cc
-opener_is B A h = cc
-
-same_left : (a b : Bool) → same_bool a b ≡ true → b ≡ true → a ≡ true
-same_left true b h g = refl
-same_left false true h g = cc
-same_left false false h g = cc
-
-same_right : (a b : Bool) → same_bool a b ≡ true → a ≡ true → b ≡ true
-same_right true b h g = h
-same_right false b h g = cc
-
-is_open_at : (e : End) → e ≡ Open → is_open_end e ≡ true
-is_open_at e h = rw h refl
+use Rattle.dm_links.proofs.OpenNodes.{opens_on, held_there, open_held, open_is, coming_is, up_is, is_up_at, pending_is}
+use Rattle.dm_links.proofs.OpenNodes.{opener_is, same_left, same_right, is_open_at}
 
 -- a side's open ends are what it holds
 -- a cancelled link has no open end, and no side holds it

@@ -13,7 +13,8 @@ use Rattle.dm_links.proofs.Stages.{Stage, Unmade, Accepted, Parted}
 use Rattle.dm_links.proofs.Acting.{own_at}
 use Rattle.dm_links.proofs.Phases.{Phase, stage_g, stage_l, present, InPhase}
 use Rattle.dm_links.proofs.Phasing.{flip_in}
-use Rattle.dm_links.proofs.Settling.{Rests, idle, only_g, only_l, both, still, are_open}
+use Rattle.dm_links.proofs.Depths.{Rests, idle, only_g, only_l, both, still}
+use Rattle.dm_links.proofs.Settling.{are_open}
 use Rattle.dm_links.proofs.Lists.{all_where, same_test}
 
 -- a world is quiet where the links of two numbers are, and all others

@@ -19,7 +19,9 @@ use Rattle.dm_links.proofs.Acting.{own_at}
 use Rattle.dm_links.proofs.Phases.{Phase, C1, stage_g, stage_l, depth, present, put_so_far, Adds, InPhase, Went, stays}
 use Rattle.dm_links.proofs.Phases.{is_lost, moves}
 use Rattle.dm_links.proofs.Phasing.{acked_own, arrives_own, arrives_other, flip_in}
-use Rattle.dm_links.proofs.Table.{ack_g, ack_l, arrive_gg, arrive_gl, arrive_ll, arrive_lg, start_g, start_l}
+use Rattle.dm_links.proofs.TableAcks.{ack_g, ack_l}
+use Rattle.dm_links.proofs.TableDelivers.{arrive_gg, arrive_gl, arrive_ll, arrive_lg}
+use Rattle.dm_links.proofs.TableStarts.{start_g, start_l}
 use Rattle.dm_links.proofs.Pieces.{PieceWent, take_gg, take_gl, take_ll, take_lg, pieces_went, quiet_ack, quiet_arrives}
 use Rattle.dm_links.proofs.Pieces.{quiet_pieces}
 

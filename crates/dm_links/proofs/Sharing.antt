@@ -11,10 +11,12 @@ use Rattle.dm_links.specs.Happens.{own_view}
 use Rattle.dm_links.specs.Facts.{is_up, is_pending, is_empty, is_coming, IsSoundWorld}
 use Rattle.dm_links.specs.Quiet.{is_still, is_quiet_link, is_quiet}
 use Rattle.dm_links.specs.Sharing.{HoldsLink, QuietIsShared}
-use Rattle.dm_links.proofs.Checks.{is_when, conclusion}
-use Rattle.dm_links.proofs.Events.{side_sound, standing_at}
-use Rattle.dm_links.proofs.Promise.{held_there}
-use Rattle.dm_links.proofs.Settling.{all_at}
+use Rattle.dm_links.proofs.StandingSteps.{is_when}
+use Rattle.dm_links.proofs.Checks.{conclusion}
+use Rattle.dm_links.proofs.Events.{side_sound}
+use Rattle.dm_links.proofs.Comings.{standing_at}
+use Rattle.dm_links.proofs.OpenNodes.{held_there}
+use Rattle.dm_links.proofs.Depths.{all_at}
 use Rattle.dm_links.proofs.Holding.{none, one, two, pends, holding_of, none_held}
 
 empty_still : {M : Type 0} (ms : List M) (n : ℕ) (k : Mark) →

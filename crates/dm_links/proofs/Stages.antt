@@ -12,7 +12,7 @@ use Rattle.dm_machine.specs.Awaiting.{awaits_cea, holds_cer, number_after, waiti
 use Rattle.dm_links.specs.Electing.{Talks, IsPeerOf, IsReadAs, has_send_cer, IsSaid, AreSaid, RepliesBy, RepliesAs}
 use Rattle.dm_links.specs.Electing.{IsElecting}
 use Rattle.dm_links.proofs.Columns.{stepped}
-use Rattle.dm_links.proofs.Lists.{IsStart, entered_at}
+use Rattle.dm_links.proofs.Stepped.{IsStart, entered_at}
 use Rattle.dm_links.proofs.Pairs.{IsPair, own_by, other_by, Stands, AreAt, puts_by, names, puts_of_two}
 use Rattle.dm_links.proofs.Told.{Goes, IsCalm, told_at}
 

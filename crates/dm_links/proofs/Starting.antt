@@ -15,8 +15,9 @@ use Rattle.dm_links.specs.Steps.{entered}
 use Rattle.dm_links.specs.Worlds.{World, peer_at, with_peer, with_links, enter, Ignored, after_reply, tell, after_drop}
 use Rattle.dm_links.specs.Quiet.{is_quiet_link}
 use Rattle.dm_links.specs.Electing.{Talks, reads_start, RepliesAs, IsElecting}
-use Rattle.dm_links.proofs.Lists.{IsStart, mapped_some, entered_at}
-use Rattle.dm_links.proofs.Keeps.{appended_at}
+use Rattle.dm_links.proofs.Stepped.{IsStart, entered_at}
+use Rattle.dm_links.proofs.Lists.{mapped_some}
+use Rattle.dm_links.proofs.StartKeeps.{appended_at}
 use Rattle.dm_links.proofs.Pairs.{IsPair, mirror, own_by, other_by, here_after, there_after, links_after, Stands, AreAt}
 use Rattle.dm_links.proofs.Pairs.{not_same}
 use Rattle.dm_links.proofs.Told.{Goes, calm_link}

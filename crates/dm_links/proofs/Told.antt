@@ -10,7 +10,8 @@ use Rattle.dm_links.specs.Quiet.{is_quiet_link}
 use Rattle.dm_machine.specs.Awaiting.{holds_cer}
 use Rattle.dm_links.specs.Electing.{Talks}
 use Rattle.dm_links.proofs.Columns.{stepped}
-use Rattle.dm_links.proofs.Lists.{IsStart, mapped_some, by_side-same, stepped_at}
+use Rattle.dm_links.proofs.Stepped.{IsStart, stepped_at}
+use Rattle.dm_links.proofs.Lists.{mapped_some, by_side-same}
 use Rattle.dm_links.proofs.Pairs.{IsPair, own_by, other_by, here_after, there_after, links_after, Stands, AreAt}
 
 -- a happening that is done, what it leaves, and what it puts in

@@ -10,7 +10,7 @@ use Rattle.dm_links.specs.Delivery.{apps}
 use Rattle.dm_links.proofs.Columns.{phase_at, own_at, other_at, outgoing_mark_at}
 use Rattle.dm_links.proofs.Columns.{phase_after, own_after, mark_after}
 use Rattle.dm_links.proofs.Every.{at_bool, at_concern, at_phase, at_end, at_mark}
-use Rattle.dm_links.proofs.Checks.{is_when}
+use Rattle.dm_links.proofs.StandingSteps.{is_when}
 use Rattle.dm_links.proofs.Hearing.{both, hears_other_checked, imp, imp_is, is_ack}
 use Rattle.dm_links.proofs.Hearing.{is_imp, is_none_at, is_not, marks_other_checked}
 use Rattle.dm_links.proofs.Hearing.{may_hear, none_is, not_is}

@@ -1,4 +1,4 @@
-use Rattle.dm_links.proofs.Makes.{makes_ends}
+use Rattle.dm_links.proofs.MakesEnds.{makes_ends}
 use Rattle.dm_links.proofs.laws.acks_make_ends.Goals as goal
 
 pub returns : goal.returns
