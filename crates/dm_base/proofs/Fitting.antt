@@ -8,6 +8,7 @@ use Rattle.std.proofs.lemmas.Str.{is_utf8-from_IsUtf8}
 use Rattle.dm_value.specs.declared.address.Ip.{Ip}
 use Rattle.dm_value.specs.Flaws.{is_visible_text}
 use Rattle.dm_base.specs.declared.node_fault.NodeFault.TheVariants.{BadHost, NoAddress, TooLong}
+use Rattle.dm_base.specs.Codes.{max_name_len, max_addresses, max_ids}
 use Rattle.dm_base.specs.Refusals.{is_long, node_fault}
 use Rattle.dm_base.specs.Fit.{is_number, is_name, is_sized, are_addresses, are_ids, is_product}
 
@@ -56,12 +57,12 @@ no_fault host realm addresses product auth acct h sized text ids more =
     none_of (is_visible_text host && is_visible_text realm) (nat_eq (length addresses) 0)
     (is_long host realm addresses product auth acct) h in
     let (host_is, realm_is) = and_parts (is_visible_text host) (is_visible_text realm) names in
-    let first = nat_lt 255 (length host) in
-    let second = nat_lt 255 (length realm) in
-    let third = nat_lt 255 (length product) in
-    let fourth = nat_lt 64 (length addresses) in
-    let fifth = nat_lt 256 (length auth) in
-    let (five, f) = neither (first || second || third || fourth || fifth) (nat_lt 256 (length acct)) short in
+    let first = nat_lt max_name_len (length host) in
+    let second = nat_lt max_name_len (length realm) in
+    let third = nat_lt max_name_len (length product) in
+    let fourth = nat_lt max_addresses (length addresses) in
+    let fifth = nat_lt max_ids (length auth) in
+    let (five, f) = neither (first || second || third || fourth || fifth) (nat_lt max_ids (length acct)) short in
     let (four, e) = neither (first || second || third || fourth) fifth five in
     let (three, d) = neither (first || second || third) fourth four in
     let (two, c) = neither (first || second) third three in
@@ -69,12 +70,12 @@ no_fault host realm addresses product auth acct h sized text ids more =
     let not_none : nat_lt 0 (length addresses) ≡ true =
     lt-ltb 0 (length addresses) (let n = eqb-false (length addresses) 0 some in omega arith) in
     record {
-      host_is = both _ _ host_is (at_most 255 (length host) a);
-      realm_is = both _ _ realm_is (at_most 255 (length realm) b);
-      addresses_are = both _ _ (both _ _ not_none (at_most 64 (length addresses) d)) sized;
-      product_is = both _ _ text (at_most 255 (length product) c);
-      auth_are = both _ _ (at_most 256 (length auth) e) ids;
-      acct_are = both _ _ (at_most 256 (length acct) f) more;
+      host_is = both _ _ host_is (at_most max_name_len (length host) a);
+      realm_is = both _ _ realm_is (at_most max_name_len (length realm) b);
+      addresses_are = both _ _ (both _ _ not_none (at_most max_addresses (length addresses) d)) sized;
+      product_is = both _ _ text (at_most max_name_len (length product) c);
+      auth_are = both _ _ (at_most max_ids (length auth) e) ids;
+      acct_are = both _ _ (at_most max_ids (length acct) f) more;
     }
 
 -- the same of parts that were looked at as slices
@@ -90,11 +91,13 @@ pub one_number : (n : ℕ) → n < 4294967296 → is_number n ≡ true
 one_number n h = lt-ltb n 4294967296 h
 
 -- how many addresses and ids a node has
-pub few_addresses : (l : List Ip) → are_addresses l ≡ true → length l ≤ 64
+pub few_addresses : (l : List Ip) → are_addresses l ≡ true → length l ≤ max_addresses
 few_addresses l h =
-    let (both, sized) = and_parts (nat_lt 0 (length l) && nat_le (length l) 64) (list_all is_sized l) h in
-    let (some, few) = and_parts (nat_lt 0 (length l)) (nat_le (length l) 64) both in
-    leb-true (length l) 64 few
+    let (both, sized) = and_parts (nat_lt 0 (length l) && nat_le (length l) max_addresses) (list_all is_sized l) h in
+    let (some, few) = and_parts (nat_lt 0 (length l)) (nat_le (length l) max_addresses) both in
+    leb-true (length l) max_addresses few
 
-pub few_ids : (l : List ℕ) → are_ids l ≡ true → length l ≤ 256
-few_ids l h = let (few, ids) = and_parts (nat_le (length l) 256) (list_all is_number l) h in leb-true (length l) 256 few
+pub few_ids : (l : List ℕ) → are_ids l ≡ true → length l ≤ max_ids
+few_ids l h =
+    let (few, ids) = and_parts (nat_le (length l) max_ids) (list_all is_number l) h in
+    leb-true (length l) max_ids few

@@ -17,6 +17,9 @@ use Rattle.dm_dict.specs.Faults.{faults, wrong_bits, command_for, group_faults}
 use Rattle.dm_base.specs.declared.node.Node.{Node}
 use Rattle.dm_base.specs.Fit.{is_name, is_sized, are_addresses, is_product}
 use Rattle.dm_base.specs.declared.kind.Cause.{Cause}
+use Rattle.dm_base.specs.Codes.{capabilities_exchange, device_watchdog, disconnect_peer, host_ip_address}
+use Rattle.dm_base.specs.Codes.{auth_application_id, acct_application_id, origin_host, origin_realm, vendor_id}
+use Rattle.dm_base.specs.Codes.{result_code, product_name, disconnect_cause, failed_avp, longest_failed, max_name_len}
 use Rattle.dm_base.specs.Built.{avp, number_avp, address_avp, product_avp, origin, application_avps, behind_addresses, capabilities, failed_avps, result_avp, request_header, answer_header, cause_number, built_cer, built_dwr, built_dpr, built_cea, built_answer, built_error}
 use Rattle.dm_base.proofs.Shapes.{Part, One, Many, IsRight, Each, IsShaped, keeps, shaped_right}
 
@@ -26,19 +29,19 @@ Right code a = IsRight base_avps code a
 -- the text has an octet, and all are visible
 visible : (s : List ℕ) → is_name s ≡ true → (nat_lt (length s) 1 ≡ false) × (list_all is_visible s ≡ true)
 visible s h =
-    let (text, short) = and_parts (is_visible_text s) (nat_le (length s) 255) h in
+    let (text, short) = and_parts (is_visible_text s) (nat_le (length s) max_name_len) h in
     let (some, all) = and_parts (nat_lt 0 (length s)) (list_all is_visible s) text in
     (le-ltb (length s) 1 (let k = ltb-true 0 (length s) some in omega arith), all)
 
-pub host_right : (s : List ℕ) → is_name s ≡ true → Right 264 (avp 264 s)
+pub host_right : (s : List ℕ) → is_name s ≡ true → Right origin_host (avp origin_host s)
 host_right s h =
     let (some, all) = visible s h in record { is_defined = refl; faultless = λ groups. rw (some, all) refl }
 
-pub realm_right : (s : List ℕ) → is_name s ≡ true → Right 296 (avp 296 s)
+pub realm_right : (s : List ℕ) → is_name s ≡ true → Right origin_realm (avp origin_realm s)
 realm_right s h =
     let (some, all) = visible s h in record { is_defined = refl; faultless = λ groups. rw (some, all) refl }
 
-pub address_right : (a : Ip) → is_sized a ≡ true → Right 257 (address_avp a)
+pub address_right : (a : Ip) → is_sized a ≡ true → Right host_ip_address (address_avp a)
 address_right (V4 a) h =
     let four : length a ≡ 4 = eqb-true (length a) 4 h in
     record { is_defined = refl; faultless = λ groups. rw four refl }
@@ -46,40 +49,40 @@ address_right (V6 a) h =
     let four : length a ≡ 16 = eqb-true (length a) 16 h in
     record { is_defined = refl; faultless = λ groups. rw four refl }
 
-pub addresses_right : (l : List Ip) → list_all is_sized l ≡ true → Each (Right 257) (map address_avp l)
+pub addresses_right : (l : List Ip) → list_all is_sized l ≡ true → Each (Right host_ip_address) (map address_avp l)
 addresses_right [] h = tt
 addresses_right (a ∷ l) h =
     let (here, behind) = and_parts (is_sized a) (list_all is_sized l) h in
     (address_right a here, addresses_right l behind)
 
-pub vendor_right : (n : ℕ) → Right 266 (number_avp 266 n)
+pub vendor_right : (n : ℕ) → Right vendor_id (number_avp vendor_id n)
 vendor_right n = record { is_defined = refl; faultless = λ groups. refl }
 
-pub product_right : (s : List ℕ) → is_product s ≡ true → Right 269 (product_avp s)
+pub product_right : (s : List ℕ) → is_product s ≡ true → Right product_name (product_avp s)
 product_right s h =
-    let (text, short) = and_parts (is_utf8 s) (nat_le (length s) 255) h in
+    let (text, short) = and_parts (is_utf8 s) (nat_le (length s) max_name_len) h in
     let none : nat_lt (length s) 0 ≡ false = le-ltb (length s) 0 (omega arith) in
     record { is_defined = refl; faultless = λ groups. rw (none, text) refl }
 
-pub auth_right : (l : List ℕ) → Each (Right 258) (map (number_avp 258) l)
+pub auth_right : (l : List ℕ) → Each (Right auth_application_id) (map (number_avp auth_application_id) l)
 auth_right [] = tt
 auth_right (n ∷ l) = (record { is_defined = refl; faultless = λ groups. refl }, auth_right l)
 
-pub acct_right : (l : List ℕ) → Each (Right 259) (map (number_avp 259) l)
+pub acct_right : (l : List ℕ) → Each (Right acct_application_id) (map (number_avp acct_application_id) l)
 acct_right [] = tt
 acct_right (n ∷ l) = (record { is_defined = refl; faultless = λ groups. refl }, acct_right l)
 
-pub result_right : (n : ℕ) → Right 268 (number_avp 268 n)
+pub result_right : (n : ℕ) → Right result_code (number_avp result_code n)
 result_right n = record { is_defined = refl; faultless = λ groups. refl }
 
-pub cause_right : (n : ℕ) → Right 273 (number_avp 273 n)
+pub cause_right : (n : ℕ) → Right disconnect_cause (number_avp disconnect_cause n)
 cause_right n = record { is_defined = refl; faultless = λ groups. refl }
 
-pub failed_right : (s : List ℕ) → Right 279 (avp 279 s)
+pub failed_right : (s : List ℕ) → Right failed_avp (avp failed_avp s)
 failed_right s = record { is_defined = refl; faultless = λ groups. refl }
 
 abbrev two_shape : List Part → List Part
-two_shape ps = One 264 ∷ One 296 ∷ ps
+two_shape ps = One origin_host ∷ One origin_realm ∷ ps
 
 abbrev Shaped : List Part → List Avp → Type 0
 Shaped ps l = IsShaped base_avps ps l
@@ -88,47 +91,50 @@ pub origin_shaped : (n : Node) (ps : List Part) (rest : List Avp) → Shaped ps 
     → Shaped (two_shape ps) (origin n rest)
 origin_shaped n ps rest s =
     let realm = realm_right n.realm n.fit_realm in
-    (avp 264 n.host, _, refl, host_right n.host n.fit_host, (avp 296 n.realm, rest, refl, realm, s))
+    (avp origin_host n.host, _, refl, host_right n.host n.fit_host, (avp origin_realm n.realm, rest, refl, realm, s))
 
 pub addresses_shaped : (l : List Ip) (ps : List Part) (rest : List Avp) → are_addresses l ≡ true → Shaped ps rest
-    → Shaped (One 257 ∷ Many 257 ∷ ps) (map address_avp l ++ rest)
+    → Shaped (One host_ip_address ∷ Many host_ip_address ∷ ps) (map address_avp l ++ rest)
 addresses_shaped [] ps rest h s = absurd (cc)
 addresses_shaped (a ∷ l) ps rest h s =
     let (both, sized) = and_parts _ _ h in
     let (here, behind) = and_parts (is_sized a) (list_all is_sized l) sized in
     (address_avp a, _, refl, address_right a here, (map address_avp l, rest, refl, addresses_right l behind, s))
 
-abbrev caps_shape : List Part
-caps_shape = One 264 ∷ One 296 ∷ One 257 ∷ Many 257 ∷ One 266 ∷ One 269 ∷ Many 279 ∷ Many 258 ∷ Many 259 ∷ []
+abbrev behind_shape : List Part
+behind_shape =
+    One vendor_id ∷ One product_name ∷ Many failed_avp ∷ Many auth_application_id ∷ Many acct_application_id ∷ []
 
-pub failed_shaped : (f : Option Avp) → Each (Right 279) (failed_avps f)
+abbrev caps_shape : List Part
+caps_shape = two_shape (One host_ip_address ∷ Many host_ip_address ∷ behind_shape)
+
+pub failed_shaped : (f : Option Avp) → Each (Right failed_avp) (failed_avps f)
 failed_shaped None = tt
-failed_shaped (Some a) = by (nat_le (avp_length a) 4096) where
-  by : (b : Bool) → Each (Right 279) (if b then avp 279 (canonical_avp a) ∷ [] else [])
+failed_shaped (Some a) = by (nat_le (avp_length a) longest_failed) where
+  by : (b : Bool) → Each (Right failed_avp) (if b then avp failed_avp (canonical_avp a) ∷ [] else [])
   by true = (failed_right (canonical_avp a), tt)
   by false = tt
 
-abbrev behind_shape : List Part
-behind_shape = One 266 ∷ One 269 ∷ Many 279 ∷ Many 258 ∷ Many 259 ∷ []
-
-behind_shaped : (n : Node) (failed : List Avp) → Each (Right 279) failed
+behind_shaped : (n : Node) (failed : List Avp) → Each (Right failed_avp) failed
     → Shaped behind_shape (behind_addresses n failed)
 behind_shaped n failed f =
-    let acct : Shaped (Many 259 ∷ []) (map (number_avp 259) n.acct) =
-    (map (number_avp 259) n.acct, [], sym (append-nil (map (number_avp 259) n.acct)), acct_right n.acct, refl) in
-    let auth : Shaped (Many 258 ∷ Many 259 ∷ []) (application_avps n) =
-    (map (number_avp 258) n.auth, map (number_avp 259) n.acct, refl, auth_right n.auth, acct) in
-    let inner : Shaped (Many 279 ∷ Many 258 ∷ Many 259 ∷ []) (failed ++ application_avps n) =
+    let acct_avps = map (number_avp acct_application_id) n.acct in
+    let acct : Shaped (Many acct_application_id ∷ []) acct_avps =
+    (acct_avps, [], sym (append-nil acct_avps), acct_right n.acct, refl) in
+    let auth : Shaped (Many auth_application_id ∷ Many acct_application_id ∷ []) (application_avps n) =
+    (map (number_avp auth_application_id) n.auth, acct_avps, refl, auth_right n.auth, acct) in
+    let inner : Shaped (Many failed_avp ∷ Many auth_application_id ∷ Many acct_application_id ∷ [])
+    (failed ++ application_avps n) =
     (failed, application_avps n, refl, f, auth) in
     let product = product_right n.product n.fit_product in
-    (number_avp 266 n.vendor, _, refl, vendor_right n.vendor, (product_avp n.product, _, refl, product, inner))
+    (number_avp vendor_id n.vendor, _, refl, vendor_right n.vendor, (product_avp n.product, _, refl, product, inner))
 
-pub capabilities_shaped : (n : Node) (failed : List Avp) → Each (Right 279) failed
+pub capabilities_shaped : (n : Node) (failed : List Avp) → Each (Right failed_avp) failed
     → Shaped caps_shape (capabilities n failed)
 capabilities_shaped n failed f =
     let behind = behind_shaped n failed f in
     let addresses = addresses_shaped n.addresses behind_shape (behind_addresses n failed) n.fit_addresses behind in
-    origin_shaped n (One 257 ∷ Many 257 ∷ behind_shape)
+    origin_shaped n (One host_ip_address ∷ Many host_ip_address ∷ behind_shape)
     (map address_avp n.addresses ++ behind_addresses n failed) addresses
 
 -- the messages whose AVPs are of a shape that keeps to the command's rule
@@ -142,36 +148,38 @@ cer_rule = refl
 
 pub good_cer : (n : Node) (id : ℕ) → faults base_definitions (built_cer n id) ≡ []
 good_cer n id =
-    good (request_header 257 id) base.cer caps_shape (capabilities n []) refl refl
+    good (request_header capabilities_exchange id) base.cer caps_shape (capabilities n []) refl refl
     (capabilities_shaped n [] tt) cer_rule
 
 dwr_rule : keeps base_avps base.dwr.rule (two_shape []) ≡ true
 dwr_rule = refl
 
 pub good_dwr : (n : Node) (id : ℕ) → faults base_definitions (built_dwr n id) ≡ []
-good_dwr n id = good (request_header 280 id) base.dwr (two_shape []) _ refl refl (origin_shaped n [] [] refl) dwr_rule
+good_dwr n id =
+    good (request_header device_watchdog id) base.dwr (two_shape []) _ refl refl (origin_shaped n [] [] refl) dwr_rule
 
-dpr_rule : keeps base_avps base.dpr.rule (two_shape (One 273 ∷ [])) ≡ true
+dpr_rule : keeps base_avps base.dpr.rule (two_shape (One disconnect_cause ∷ [])) ≡ true
 dpr_rule = refl
 
 pub good_dpr : (n : Node) (id : ℕ) (cause : Cause) → faults base_definitions (built_dpr n id cause) ≡ []
 good_dpr n id cause =
-    good (request_header 282 id) base.dpr (two_shape (One 273 ∷ [])) _ refl refl
-    (origin_shaped n (One 273 ∷ []) _
-    (number_avp 273 (cause_number cause), [], refl, cause_right (cause_number cause), refl)) dpr_rule
+    good (request_header disconnect_peer id) base.dpr (two_shape (One disconnect_cause ∷ [])) _ refl refl
+    (origin_shaped n (One disconnect_cause ∷ []) _
+    (number_avp disconnect_cause (cause_number cause), [], refl, cause_right (cause_number cause), refl)) dpr_rule
 
-cea_rule : keeps base_avps base.cea.rule (One 268 ∷ caps_shape) ≡ true
+cea_rule : keeps base_avps base.cea.rule (One result_code ∷ caps_shape) ≡ true
 cea_rule = refl
 
-pub good_cea : (n : Node) (to : Header) (code : ℕ) (failed : Option Avp) → to.command ≡ 257
+pub good_cea : (n : Node) (to : Header) (code : ℕ) (failed : Option Avp) → to.command ≡ capabilities_exchange
     → faults base_definitions (built_cea n to code failed) ≡ []
 good_cea n to code failed h =
-    good (answer_header false to) base.cea (One 268 ∷ caps_shape) (built_cea n to code failed).avps (rw h refl) refl
+    good (answer_header false to) base.cea (One result_code ∷ caps_shape) (built_cea n to code failed).avps
+    (rw h refl) refl
     (result_avp code, _, refl, result_right code, capabilities_shaped n (failed_avps failed) (failed_shaped failed))
     cea_rule
 
 abbrev answer_shape : List Part
-answer_shape = One 268 ∷ two_shape (Many 279 ∷ [])
+answer_shape = One result_code ∷ two_shape (Many failed_avp ∷ [])
 
 answer_shaped : (n : Node) (to : Header) (code : ℕ) (failed : Option Avp)
     → Shaped answer_shape (built_answer n to code failed).avps
@@ -180,7 +188,7 @@ answer_shaped n to code failed = (
   _,
   refl,
   result_right code,
-  origin_shaped n (Many 279 ∷ []) _
+  origin_shaped n (Many failed_avp ∷ []) _
       (failed_avps failed, [], sym (append-nil (failed_avps failed)), failed_shaped failed, refl),
 )
 
@@ -190,20 +198,20 @@ dwa_rule = refl
 dpa_rule : keeps base_avps base.dpa.rule answer_shape ≡ true
 dpa_rule = refl
 
-pub good_dwa : (n : Node) (to : Header) (code : ℕ) (failed : Option Avp) → to.command ≡ 280
+pub good_dwa : (n : Node) (to : Header) (code : ℕ) (failed : Option Avp) → to.command ≡ device_watchdog
     → faults base_definitions (built_answer n to code failed) ≡ []
 good_dwa n to code failed h =
     good (answer_header false to) base.dwa answer_shape _ (rw h refl) refl (answer_shaped n to code failed) dwa_rule
 
-pub good_dpa : (n : Node) (to : Header) (code : ℕ) (failed : Option Avp) → to.command ≡ 282
+pub good_dpa : (n : Node) (to : Header) (code : ℕ) (failed : Option Avp) → to.command ≡ disconnect_peer
     → faults base_definitions (built_answer n to code failed) ≡ []
 good_dpa n to code failed h =
     good (answer_header false to) base.dpa answer_shape _ (rw h refl) refl (answer_shaped n to code failed) dpa_rule
 
-error_rule : keeps base_avps base.answer_message.rule (two_shape (One 268 ∷ [])) ≡ true
+error_rule : keeps base_avps base.answer_message.rule (two_shape (One result_code ∷ [])) ≡ true
 error_rule = refl
 
 pub good_error : (n : Node) (to : Header) (code : ℕ) → faults base_definitions (built_error n to code) ≡ []
 good_error n to code =
-    good (answer_header true to) base.answer_message (two_shape (One 268 ∷ [])) _ refl refl
-    (origin_shaped n (One 268 ∷ []) _ (result_avp code, [], refl, result_right code, refl)) error_rule
+    good (answer_header true to) base.answer_message (two_shape (One result_code ∷ [])) _ refl refl
+    (origin_shaped n (One result_code ∷ []) _ (result_avp code, [], refl, result_right code, refl)) error_rule

@@ -17,6 +17,8 @@ use Rattle.dm_base.specs.declared.kind.Kind.{Kind}
 use Rattle.dm_base.specs.declared.kind.Kind.TheVariants as kinds
 use Rattle.dm_base.specs.Fit.{is_number}
 use Rattle.dm_base.specs.Kinds.{application_ids, security_ids, caps_of, is_base_command, kind_of, kind_or_fault, IsBase}
+use Rattle.dm_base.specs.Codes.{capabilities_exchange, device_watchdog, disconnect_peer}
+use Rattle.dm_base.specs.Codes.{auth_application_id, acct_application_id, failed_avp, longest_failed}
 use Rattle.dm_base.specs.Built.{avp, number_avp, address_avp, application_avps, behind_addresses, capabilities, failed_avps, own_caps, cause_number, built_cer, built_dwr, built_dpr, built_cea, built_answer}
 use Rattle.dm_base.proofs.Good.{good_cer, good_dwr, good_dpr, good_cea, good_dwa, good_dpa}
 
@@ -38,11 +40,11 @@ told f code (n ∷ ids) rest h e =
     let (here, behind) = and_parts (is_number n) (list_all is_number ids) h in
     rw (e n, number_read n (ltb-true n 4294967296 here), told f code ids rest behind e) refl
 
-failed_passed : (f : Avp → List ℕ) (o : Option Avp) (rest : List Avp) → ((s : List ℕ) → f (avp 279 s) ≡ [])
-    → flat_map f (failed_avps o ++ rest) ≡ flat_map f rest
+failed_passed : (f : Avp → List ℕ) (o : Option Avp) (rest : List Avp)
+    → ((s : List ℕ) → f (avp failed_avp s) ≡ []) → flat_map f (failed_avps o ++ rest) ≡ flat_map f rest
 failed_passed f None rest h = refl
-failed_passed f (Some a) rest h = by (nat_le (avp_length a) 4096) where
-  by : (b : Bool) → flat_map f ((if b then avp 279 (canonical_avp a) ∷ [] else []) ++ rest) ≡ flat_map f rest
+failed_passed f (Some a) rest h = by (nat_le (avp_length a) longest_failed) where
+  by : (b : Bool) → flat_map f ((if b then avp failed_avp (canonical_avp a) ∷ [] else []) ++ rest) ≡ flat_map f rest
   by true = rw (h (canonical_avp a)) refl
   by false = refl
 
@@ -50,17 +52,18 @@ applications_own : (n : Node) → flat_map application_ids (application_avps n) 
 applications_own n =
     let (few, auth) = and_parts _ _ n.fit_auth in
     let (small, acct) = and_parts _ _ n.fit_acct in
-    let last : flat_map application_ids (map (number_avp 259) n.acct) ≡ n.acct =
-    ap (flat_map application_ids) (sym (append-nil (map (number_avp 259) n.acct)))
-    ∙ told application_ids 259 n.acct [] acct (λ k. refl) ∙ append-nil n.acct in
-    told application_ids 258 n.auth (map (number_avp 259) n.acct) auth (λ k. refl)
+    let last : flat_map application_ids (map (number_avp acct_application_id) n.acct) ≡ n.acct =
+    ap (flat_map application_ids) (sym (append-nil (map (number_avp acct_application_id) n.acct)))
+    ∙ told application_ids acct_application_id n.acct [] acct (λ k. refl) ∙ append-nil n.acct in
+    told application_ids auth_application_id n.auth (map (number_avp acct_application_id) n.acct) auth (λ k. refl)
     ∙ ap (λ (l : List ℕ). n.auth ++ l) last
 
 security_none : (n : Node) → flat_map security_ids (application_avps n) ≡ []
 security_none n =
-    passed security_ids (number_avp 258) n.auth (map (number_avp 259) n.acct) (λ k. refl)
-    ∙ ap (flat_map security_ids) (sym (append-nil (map (number_avp 259) n.acct)))
-    ∙ passed security_ids (number_avp 259) n.acct [] (λ k. refl)
+    passed security_ids (number_avp auth_application_id) n.auth (map (number_avp acct_application_id) n.acct)
+    (λ k. refl)
+    ∙ ap (flat_map security_ids) (sym (append-nil (map (number_avp acct_application_id) n.acct)))
+    ∙ passed security_ids (number_avp acct_application_id) n.acct [] (λ k. refl)
 
 -- capabilities tell those of the node
 pub caps_own : (n : Node) (failed : Option Avp) → caps_of (capabilities n (failed_avps failed)) ≡ own_caps n
@@ -91,7 +94,7 @@ kind_dwr n id = record {
 }
 
 cause_read : (n : Node) (cause : Cause)
-    → kind_of 282 true (built_dpr n 0 cause).avps ≡ kinds.Dpr (pos (cause_number cause))
+    → kind_of disconnect_peer true (built_dpr n 0 cause).avps ≡ kinds.Dpr (pos (cause_number cause))
 cause_read n Rebooting = refl
 cause_read n Busy = refl
 cause_read n DoNotWantToTalkToYou = refl
@@ -100,12 +103,13 @@ pub kind_dpr : (n : Node) (id : ℕ) (cause : Cause)
     → IsBase (built_dpr n id cause) (kinds.Dpr (pos (cause_number cause)))
 kind_dpr n id cause = record {
   of_kind =
-      good_kind true (faults base_definitions (built_dpr n id cause)) (kind_of 282 true (built_dpr n 0 cause).avps)
+      good_kind true (faults base_definitions (built_dpr n id cause))
+      (kind_of disconnect_peer true (built_dpr n 0 cause).avps)
       (kinds.Dpr (pos (cause_number cause))) refl (good_dpr n id cause) (cause_read n cause);
 }
 
-pub kind_cea : (n : Node) (to : Header) (code : ℕ) (failed : Option Avp) → to.command ≡ 257 → code < 256 ^ 4
-    → IsBase (built_cea n to code failed) (kinds.Cea code)
+pub kind_cea : (n : Node) (to : Header) (code : ℕ) (failed : Option Avp) → to.command ≡ capabilities_exchange
+    → code < 256 ^ 4 → IsBase (built_cea n to code failed) (kinds.Cea code)
 kind_cea n to code failed h fits = record {
   of_kind =
       good_kind (is_base_command to.command) (faults base_definitions (built_cea n to code failed))
@@ -113,7 +117,7 @@ kind_cea n to code failed h fits = record {
       (rw h refl) (good_cea n to code failed h) (rw h (ap kinds.Cea (number_read code fits)));
 }
 
-pub kind_dwa : (n : Node) (to : Header) (code : ℕ) (failed : Option Avp) → to.command ≡ 280
+pub kind_dwa : (n : Node) (to : Header) (code : ℕ) (failed : Option Avp) → to.command ≡ device_watchdog
     → IsBase (built_answer n to code failed) kinds.Dwa
 kind_dwa n to code failed h = record {
   of_kind =
@@ -122,7 +126,7 @@ kind_dwa n to code failed h = record {
       (rw h refl) (good_dwa n to code failed h) (rw h refl);
 }
 
-pub kind_dpa : (n : Node) (to : Header) (code : ℕ) (failed : Option Avp) → to.command ≡ 282
+pub kind_dpa : (n : Node) (to : Header) (code : ℕ) (failed : Option Avp) → to.command ≡ disconnect_peer
     → IsBase (built_answer n to code failed) kinds.Dpa
 kind_dpa n to code failed h = record {
   of_kind =

@@ -17,6 +17,10 @@ use Rattle.dm_value.specs.Flaws.{is_visible_text}
 use Rattle.dm_base.specs.declared.node.Node.{Node}
 use Rattle.dm_base.specs.Spelled.{HasSpelling}
 use Rattle.dm_base.specs.Fit.{is_name, is_sized, is_product, is_number}
+use Rattle.dm_base.specs.Codes.{capabilities_exchange, device_watchdog, disconnect_peer}
+use Rattle.dm_base.specs.Codes.{auth_application_id, acct_application_id, origin_host, origin_realm, vendor_id}
+use Rattle.dm_base.specs.Codes.{result_code, disconnect_cause, failed_avp, longest_failed}
+use Rattle.dm_base.specs.Codes.{max_name_len, max_addresses, max_ids}
 use Rattle.dm_base.specs.Built.{avp, number_avp, address_avp, product_avp, origin, application_avps, behind_addresses, capabilities, failed_avps, result_avp, request_header, answer_header, cause_number, built_cer, built_dwr, built_dpr, built_cea, built_answer, built_error}
 use Rattle.dm_base.specs.Laws.{CerIsSpelled, CeaIsSpelled, DwrIsSpelled, DprIsSpelled, AnswerIsSpelled, ErrorIsSpelled}
 use Rattle.dm_base.proofs.Shapes.{Each}
@@ -84,14 +88,14 @@ addresses_small (V6 a ∷ l) h =
 
 name_small : (code : ℕ) (s : List ℕ) → code ≤ 299 → is_name s ≡ true → IsSmall (avp code s)
 name_small code s h name =
-    let (text, short) = and_parts (is_visible_text s) (nat_le (length s) 255) name in
-    let few = leb-true (length s) 255 short in
+    let (text, short) = and_parts (is_visible_text s) (nat_le (length s) max_name_len) name in
+    let few = leb-true (length s) max_name_len short in
     record { code = h; length = omega arith; vendor = refl }
 
 product_small : (s : List ℕ) → is_product s ≡ true → IsSmall (product_avp s)
 product_small s name =
-    let (text, short) = and_parts (is_utf8 s) (nat_le (length s) 255) name in
-    let few = leb-true (length s) 255 short in
+    let (text, short) = and_parts (is_utf8 s) (nat_le (length s) max_name_len) name in
+    let few = leb-true (length s) max_name_len short in
     record { code = omega arith; length = omega arith; vendor = refl }
 
 number_small : (code n : ℕ) → code ≤ 299 → IsSmall (number_avp code n)
@@ -99,35 +103,36 @@ number_small code n h = record { code = h; length = omega arith; vendor = refl }
 
 failed_small : AvpSized → (f : Option Avp) → Each IsSmall (failed_avps f) × (length (failed_avps f) ≤ 1)
 failed_small sized None = (tt, omega arith)
-failed_small sized (Some a) = by (nat_le (avp_length a) 4096) refl where
+failed_small sized (Some a) = by (nat_le (avp_length a) longest_failed) refl where
   failed : Bool → List Avp
-  failed b = if b then avp 279 (canonical_avp a) ∷ [] else []
+  failed b = if b then avp failed_avp (canonical_avp a) ∷ [] else []
 
-  by : (b : Bool) → nat_le (avp_length a) 4096 ≡ b → Each IsSmall (failed b) × (length (failed b) ≤ 1)
+  by : (b : Bool) → nat_le (avp_length a) longest_failed ≡ b → Each IsSmall (failed b) × (length (failed b) ≤ 1)
   by true e =
-      let few = leb-true (avp_length a) 4096 e in
+      let few = leb-true (avp_length a) longest_failed e in
       let size = sized a in
       ((record { code = omega arith; length = omega arith; vendor = refl }, tt), omega arith)
   by false e = (tt, omega arith)
 
 origin_small : (n : Node) (rest : List Avp) → Each IsSmall rest → Each IsSmall (origin n rest)
 origin_small n rest s =
-    (name_small 264 n.host (omega arith) n.fit_host, (name_small 296 n.realm (omega arith) n.fit_realm, s))
+    let realm = name_small origin_realm n.realm (omega arith) n.fit_realm in
+    (name_small origin_host n.host (omega arith) n.fit_host, (realm, s))
 
 applications_small : (n : Node) → Each IsSmall (application_avps n)
 applications_small n =
-    each_both IsSmall (map (number_avp 258) n.auth) (map (number_avp 259) n.acct)
-    (numbers_small 258 n.auth (omega arith)) (numbers_small 259 n.acct (omega arith))
+    each_both IsSmall (map (number_avp auth_application_id) n.auth) (map (number_avp acct_application_id) n.acct)
+    (numbers_small auth_application_id n.auth (omega arith)) (numbers_small acct_application_id n.acct (omega arith))
 
 capabilities_small : (n : Node) (failed : List Avp) → Each IsSmall failed → Each IsSmall (capabilities n failed)
 capabilities_small n failed f =
     let behind : Each IsSmall (failed ++ application_avps n) =
     each_both IsSmall failed (application_avps n) f (applications_small n) in
     let parts : Each IsSmall (behind_addresses n failed) =
-    (number_small 266 n.vendor (omega arith), (product_small n.product n.fit_product, behind)) in
+    (number_small vendor_id n.vendor (omega arith), (product_small n.product n.fit_product, behind)) in
     let (some, sized) =
-    and_parts (nat_lt 0 (length n.addresses) && nat_le (length n.addresses) 64) (list_all is_sized n.addresses)
-    n.fit_addresses in
+    and_parts (nat_lt 0 (length n.addresses) && nat_le (length n.addresses) max_addresses)
+    (list_all is_sized n.addresses) n.fit_addresses in
     origin_small n (map address_avp n.addresses ++ behind_addresses n failed)
     (each_both IsSmall (map address_avp n.addresses) (behind_addresses n failed)
     (addresses_small n.addresses sized) parts)
@@ -135,14 +140,15 @@ capabilities_small n failed f =
 capabilities_few : (n : Node) (failed : List Avp) → length failed ≤ 1 → length (capabilities n failed) ≤ 600
 capabilities_few n failed f =
     let (both, sized) =
-    and_parts (nat_lt 0 (length n.addresses) && nat_le (length n.addresses) 64) (list_all is_sized n.addresses)
-    n.fit_addresses in
-    let (some, addresses) = and_parts (nat_lt 0 (length n.addresses)) (nat_le (length n.addresses) 64) both in
-    let (auth, x) = and_parts (nat_le (length n.auth) 256) (list_all is_number n.auth) n.fit_auth in
-    let (acct, y) = and_parts (nat_le (length n.acct) 256) (list_all is_number n.acct) n.fit_acct in
-    let a = leb-true (length n.addresses) 64 addresses in
-    let b = leb-true (length n.auth) 256 auth in
-    let c = leb-true (length n.acct) 256 acct in
+    and_parts (nat_lt 0 (length n.addresses) && nat_le (length n.addresses) max_addresses)
+    (list_all is_sized n.addresses) n.fit_addresses in
+    let (some, addresses) =
+    and_parts (nat_lt 0 (length n.addresses)) (nat_le (length n.addresses) max_addresses) both in
+    let (auth, x) = and_parts (nat_le (length n.auth) max_ids) (list_all is_number n.auth) n.fit_auth in
+    let (acct, y) = and_parts (nat_le (length n.acct) max_ids) (list_all is_number n.acct) n.fit_acct in
+    let a = leb-true (length n.addresses) max_addresses addresses in
+    let b = leb-true (length n.auth) max_ids auth in
+    let c = leb-true (length n.acct) max_ids acct in
     simp (length-append, length-map) (omega arith)
 
 -- the header of a request
@@ -156,35 +162,36 @@ answer_fits error to h = record { command = h.command; application = h.applicati
 pub cer_spelled : Laws → CerIsSpelled
 cer_spelled laws n id i =
     let few = capabilities_few n [] (omega arith) in
-    message_spelled laws (built_cer n id) (request_fits 257 id (omega arith) i) (capabilities_small n [] tt)
-    (omega arith)
+    message_spelled laws (built_cer n id) (request_fits capabilities_exchange id (omega arith) i)
+    (capabilities_small n [] tt) (omega arith)
 
 pub cea_spelled : Laws → CeaIsSpelled
 cea_spelled laws n to code failed h =
     let (small, one) = failed_small laws.sized failed in
     let few = capabilities_few n (failed_avps failed) one in
     message_spelled laws (built_cea n to code failed) (answer_fits false to h)
-    (number_small 268 code (omega arith), capabilities_small n (failed_avps failed) small) (omega arith)
+    (number_small result_code code (omega arith), capabilities_small n (failed_avps failed) small) (omega arith)
 
 pub dwr_spelled : Laws → DwrIsSpelled
 dwr_spelled laws n id i =
-    message_spelled laws (built_dwr n id) (request_fits 280 id (omega arith) i) (origin_small n [] tt) (omega arith)
+    message_spelled laws (built_dwr n id) (request_fits device_watchdog id (omega arith) i)
+    (origin_small n [] tt) (omega arith)
 
 pub dpr_spelled : Laws → DprIsSpelled
 dpr_spelled laws n id cause i =
-    let cause_avp = number_avp 273 (cause_number cause) in
-    let one : Each IsSmall (cause_avp ∷ []) = (number_small 273 (cause_number cause) (omega arith), tt) in
-    message_spelled laws (built_dpr n id cause) (request_fits 282 id (omega arith) i)
+    let cause_avp = number_avp disconnect_cause (cause_number cause) in
+    let one : Each IsSmall (cause_avp ∷ []) = (number_small disconnect_cause (cause_number cause) (omega arith), tt) in
+    message_spelled laws (built_dpr n id cause) (request_fits disconnect_peer id (omega arith) i)
     (origin_small n (cause_avp ∷ []) one) (omega arith)
 
 pub answer_spelled : Laws → AnswerIsSpelled
 answer_spelled laws n to code failed h =
     let (small, one) = failed_small laws.sized failed in
     message_spelled laws (built_answer n to code failed) (answer_fits false to h)
-    (number_small 268 code (omega arith), origin_small n (failed_avps failed) small) (omega arith)
+    (number_small result_code code (omega arith), origin_small n (failed_avps failed) small) (omega arith)
 
 pub error_spelled : Laws → ErrorIsSpelled
 error_spelled laws n to code h =
-    let one : Each IsSmall (result_avp code ∷ []) = (number_small 268 code (omega arith), tt) in
+    let one : Each IsSmall (result_avp code ∷ []) = (number_small result_code code (omega arith), tt) in
     message_spelled laws (built_error n to code) (answer_fits true to h) (origin_small n (result_avp code ∷ []) one)
     (omega arith)

@@ -7,7 +7,9 @@ use Rattle.dm_wire.specs.declared.message.Header.{Header}
 use Rattle.dm_wire.specs.declared.message.Message.{Message}
 use Rattle.dm_value.specs.declared.address.Ip.{Ip}
 use Rattle.dm_value.specs.declared.address.Ip.TheVariants.{V4, V6}
-use Rattle.dm_base.specs.Codes.{capabilities_exchange, device_watchdog, disconnect_peer, host_ip_address, auth_application_id, acct_application_id, origin_host, vendor_id, result_code, product_name, disconnect_cause, failed_avp, origin_realm}
+use Rattle.dm_base.specs.Codes.{capabilities_exchange, device_watchdog, disconnect_peer, host_ip_address}
+use Rattle.dm_base.specs.Codes.{auth_application_id, acct_application_id, origin_host, origin_realm, vendor_id}
+use Rattle.dm_base.specs.Codes.{result_code, product_name, disconnect_cause, failed_avp, longest_failed}
 use Rattle.dm_base.specs.declared.kind.Caps.{Caps}
 use Rattle.dm_base.specs.declared.kind.Cause.{Cause}
 use Rattle.dm_base.specs.declared.kind.Cause.TheVariants.{Rebooting, Busy, DoNotWantToTalkToYou}
@@ -50,10 +52,10 @@ behind_addresses n failed = number_avp vendor_id n.vendor ∷ product_avp n.prod
 abbrev pub capabilities : Node → List Avp → List Avp
 capabilities n failed = origin n (map address_avp n.addresses ++ behind_addresses n failed)
 
--- a Failed-AVP with the canonical octets of the failed AVP, unless its AVP Length is above 4096 (7.5; the limit is own)
+-- a Failed-AVP with the canonical octets of the failed AVP, unless its AVP Length is above the own limit (7.5)
 abbrev pub failed_avps : Option Avp → List Avp
 failed_avps None = []
-failed_avps (Some a) = if nat_le (avp_length a) 4096 then avp failed_avp (canonical_avp a) ∷ [] else []
+failed_avps (Some a) = if nat_le (avp_length a) longest_failed then avp failed_avp (canonical_avp a) ∷ [] else []
 
 -- Result-Code (7.1)
 abbrev pub result_avp : ℕ → Avp

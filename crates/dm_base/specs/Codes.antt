@@ -1,57 +1,43 @@
--- The codes of the base messages and their AVPs (RFC 6733, 3.1 and 4.5).
+-- The numbers of the base messages (RFC 6733, 3.1, 4.5 and 7.1), and own limits: those that the code names.
 use Rattle.std.specs.Prelude.{ℕ}
+use Rattle.dm_wire.specs.declared.codes.commands.TheConstants.{CAPABILITIES_EXCHANGE, DEVICE_WATCHDOG, DISCONNECT_PEER}
+use Rattle.dm_wire.specs.declared.codes.avps.TheConstants.{DISCONNECT_CAUSE, RESULT_CODE}
+use Rattle.dm_wire.specs.declared.codes.results.TheConstants.{SUCCESS}
+-- AVP Codes
+pub use Rattle.dm_wire.specs.declared.codes.avps.TheConstants.{ACCT_APPLICATION_ID as acct_application_id}
+pub use Rattle.dm_wire.specs.declared.codes.avps.TheConstants.{AUTH_APPLICATION_ID as auth_application_id}
+pub use Rattle.dm_wire.specs.declared.codes.avps.TheConstants.{FAILED_AVP as failed_avp, VENDOR_ID as vendor_id}
+pub use Rattle.dm_wire.specs.declared.codes.avps.TheConstants.{HOST_IP_ADDRESS as host_ip_address}
+pub use Rattle.dm_wire.specs.declared.codes.avps.TheConstants.{INBAND_SECURITY_ID as inband_security_id}
+pub use Rattle.dm_wire.specs.declared.codes.avps.TheConstants.{ORIGIN_HOST as origin_host, ORIGIN_REALM as origin_realm}
+pub use Rattle.dm_wire.specs.declared.codes.avps.TheConstants.{PRODUCT_NAME as product_name}
+pub use Rattle.dm_wire.specs.declared.codes.avps.TheConstants.{VENDOR_SPECIFIC_APPLICATION_ID as vendor_specific_application_id}
+-- the Application-ID of a relay, and the Inband-Security-Id of a connection without security
+pub use Rattle.dm_base.specs.declared.codes.TheConstants.{RELAY as relay, NO_INBAND_SECURITY as no_inband_security}
+-- own limits
+pub use Rattle.dm_base.specs.declared.limits.TheConstants.{MAX_NAME_LEN as max_name_len, MAX_IDS as max_ids}
+pub use Rattle.dm_base.specs.declared.limits.TheConstants.{MAX_ADDRESSES as max_addresses}
+pub use Rattle.dm_base.specs.declared.limits.TheConstants.{LONGEST_FAILED as longest_failed}
 
--- Command Codes (5.3, 5.5 and 5.4)
+-- What crates above cite is defined here, since what a file hands on isn't exported.
+
+-- Command Codes
 abbrev pub capabilities_exchange : ℕ
-capabilities_exchange = 257
+capabilities_exchange = CAPABILITIES_EXCHANGE
 
 abbrev pub device_watchdog : ℕ
-device_watchdog = 280
+device_watchdog = DEVICE_WATCHDOG
 
 abbrev pub disconnect_peer : ℕ
-disconnect_peer = 282
+disconnect_peer = DISCONNECT_PEER
 
 -- AVP Codes
-abbrev pub host_ip_address : ℕ
-host_ip_address = 257
-
-abbrev pub auth_application_id : ℕ
-auth_application_id = 258
-
-abbrev pub acct_application_id : ℕ
-acct_application_id = 259
-
-abbrev pub vendor_specific_application_id : ℕ
-vendor_specific_application_id = 260
-
-abbrev pub origin_host : ℕ
-origin_host = 264
-
-abbrev pub vendor_id : ℕ
-vendor_id = 266
+abbrev pub disconnect_cause : ℕ
+disconnect_cause = DISCONNECT_CAUSE
 
 abbrev pub result_code : ℕ
-result_code = 268
+result_code = RESULT_CODE
 
-abbrev pub product_name : ℕ
-product_name = 269
-
-abbrev pub disconnect_cause : ℕ
-disconnect_cause = 273
-
-abbrev pub failed_avp : ℕ
-failed_avp = 279
-
-abbrev pub origin_realm : ℕ
-origin_realm = 296
-
-abbrev pub inband_security_id : ℕ
-inband_security_id = 299
-
--- the Application-ID of a relay, which has all applications in common with all (2.4)
-abbrev pub relay : ℕ
-relay = 0xffffffff
-
--- the Inband-Security-Id NO_INBAND_SECURITY (6.10)
-abbrev pub no_inband_security : ℕ
-no_inband_security = 0
+-- the Result-Code DIAMETER_SUCCESS
+abbrev pub success : ℕ
+success = SUCCESS

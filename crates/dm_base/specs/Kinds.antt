@@ -10,7 +10,9 @@ use Rattle.dm_tables.specs.Base.{base_definitions}
 use Rattle.dm_tables.specs.Definitions.{Definitions}
 use Rattle.dm_wire.specs.Members.{members}
 use Rattle.dm_dict.specs.Faults.{Fault, faults, first}
-use Rattle.dm_base.specs.Codes.{capabilities_exchange, device_watchdog, disconnect_peer, auth_application_id, acct_application_id, vendor_specific_application_id, origin_host, result_code, disconnect_cause, origin_realm, inband_security_id}
+use Rattle.dm_base.specs.Codes.{capabilities_exchange, device_watchdog, disconnect_peer, origin_host, origin_realm}
+use Rattle.dm_base.specs.Codes.{auth_application_id, acct_application_id, vendor_specific_application_id}
+use Rattle.dm_base.specs.Codes.{inband_security_id, result_code, disconnect_cause}
 use Rattle.dm_base.specs.declared.kind.Caps.{Caps}
 use Rattle.dm_base.specs.declared.kind.Kind.{Kind}
 use Rattle.dm_base.specs.declared.kind.Kind.TheVariants as kinds

@@ -9,6 +9,7 @@ use Rattle.dm_dict.specs.Faults.{faults}
 use Rattle.dm_base.specs.declared.node.Node.{Node}
 use Rattle.dm_base.specs.declared.kind.Cause.{Cause}
 use Rattle.dm_base.specs.declared.kind.Kind.TheVariants as kinds
+use Rattle.dm_base.specs.Codes.{capabilities_exchange, device_watchdog, disconnect_peer}
 use Rattle.dm_base.specs.Kinds.{IsBase}
 use Rattle.dm_base.specs.Spelled.{HasSpelling}
 use Rattle.dm_base.specs.Built.{own_caps, cause_number, built_cer, built_cea, built_dwr, built_dpr, built_answer, built_error}
@@ -18,7 +19,7 @@ CerIsOwn = (n : Node) (id : ℕ) → IsBase (built_cer n id) (kinds.Cer (own_cap
 
 abbrev pub CeaIsOwn : Type 0
 CeaIsOwn =
-    (n : Node) (to : Header) (code : ℕ) (failed : Option Avp) → to.command ≡ 257 → code < 256 ^ 4
+    (n : Node) (to : Header) (code : ℕ) (failed : Option Avp) → to.command ≡ capabilities_exchange → code < 256 ^ 4
     → IsBase (built_cea n to code failed) (kinds.Cea code)
 
 abbrev pub DwrIsOwn : Type 0
@@ -26,7 +27,7 @@ DwrIsOwn = (n : Node) (id : ℕ) → IsBase (built_dwr n id) kinds.Dwr
 
 abbrev pub DwaIsOwn : Type 0
 DwaIsOwn =
-    (n : Node) (to : Header) (code : ℕ) (failed : Option Avp) → to.command ≡ 280
+    (n : Node) (to : Header) (code : ℕ) (failed : Option Avp) → to.command ≡ device_watchdog
     → IsBase (built_answer n to code failed) kinds.Dwa
 
 abbrev pub DprIsOwn : Type 0
@@ -34,7 +35,7 @@ DprIsOwn = (n : Node) (id : ℕ) (cause : Cause) → IsBase (built_dpr n id caus
 
 abbrev pub DpaIsOwn : Type 0
 DpaIsOwn =
-    (n : Node) (to : Header) (code : ℕ) (failed : Option Avp) → to.command ≡ 282
+    (n : Node) (to : Header) (code : ℕ) (failed : Option Avp) → to.command ≡ disconnect_peer
     → IsBase (built_answer n to code failed) kinds.Dpa
 
 abbrev pub ErrorIsGood : Type 0

@@ -2,17 +2,18 @@
 use Rattle.std.specs.Prelude.{ℕ, Bool, ◌&&◌, ◌||◌, not, nat_eq, nat_lt, Option, None, Some, List, length, if◌then◌else◌}
 use Rattle.dm_value.specs.declared.address.Ip.{Ip}
 use Rattle.dm_value.specs.Flaws.{is_visible_text}
+use Rattle.dm_base.specs.Codes.{max_name_len, max_addresses, max_ids}
 use Rattle.dm_base.specs.declared.node_fault.NodeFault.{NodeFault}
 use Rattle.dm_base.specs.declared.node_fault.NodeFault.TheVariants.{BadHost, NoAddress, TooLong}
 
 abbrev pub is_long : List ℕ → List ℕ → List Ip → List ℕ → List ℕ → List ℕ → Bool
 is_long host realm addresses product auth acct =
-    nat_lt 255 (length host)
-    || nat_lt 255 (length realm)
-    || nat_lt 255 (length product)
-    || nat_lt 64 (length addresses)
-    || nat_lt 256 (length auth)
-    || nat_lt 256 (length acct)
+    nat_lt max_name_len (length host)
+    || nat_lt max_name_len (length realm)
+    || nat_lt max_name_len (length product)
+    || nat_lt max_addresses (length addresses)
+    || nat_lt max_ids (length auth)
+    || nat_lt max_ids (length acct)
 
 -- in this order
 abbrev pub node_fault : List ℕ → List ℕ → List Ip → List ℕ → List ℕ → List ℕ → Option NodeFault

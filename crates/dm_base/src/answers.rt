@@ -5,6 +5,7 @@ ghost use Rattle.dm_wire.specs.Limits.{HeaderFits};
 ghost use Rattle.dm_base.specs.Spelled.{HasSpelling};
 ghost use Rattle.dm_base.specs.declared.kind.Kind.TheVariants as kinds;
 ghost use Rattle.dm_base.specs.Kinds.{IsGood, IsBase};
+ghost use Rattle.dm_base.specs.Codes.{capabilities_exchange, device_watchdog, disconnect_peer};
 ghost use Rattle.dm_base.specs.Built.{answer_header, built_cea, built_answer, built_error};
 
 use crate::Node;
@@ -29,7 +30,7 @@ pub fn cea(
     ensures built { IfOk result (λ m. m ≡ built_cea node.now to.now code (option_copied failed.entry)) }
     ensures spelled { to.now.command < 256 ^ 3
         → HasSpelling (built_cea node.now to.now code (option_copied failed.entry)) }
-    ensures kind { to.now.command ≡ 257
+    ensures kind { to.now.command ≡ capabilities_exchange
         → IsBase (built_cea node.now to.now code (option_copied failed.entry)) (kinds.Cea code) }
 {
     built_is_spelled();
@@ -78,7 +79,7 @@ pub fn dwa(
     ensures built { IfOk result (λ m. m ≡ built_answer node.now to.now code (option_copied failed.entry)) }
     ensures spelled { to.now.command < 256 ^ 3
         → HasSpelling (built_answer node.now to.now code (option_copied failed.entry)) }
-    ensures kind { to.now.command ≡ 280
+    ensures kind { to.now.command ≡ device_watchdog
         → IsBase (built_answer node.now to.now code (option_copied failed.entry)) kinds.Dwa }
 {
     built_is_spelled();
@@ -98,7 +99,7 @@ pub fn dpa(
     ensures built { IfOk result (λ m. m ≡ built_answer node.now to.now code (option_copied failed.entry)) }
     ensures spelled { to.now.command < 256 ^ 3
         → HasSpelling (built_answer node.now to.now code (option_copied failed.entry)) }
-    ensures kind { to.now.command ≡ 282
+    ensures kind { to.now.command ≡ disconnect_peer
         → IsBase (built_answer node.now to.now code (option_copied failed.entry)) kinds.Dpa }
 {
     built_is_spelled();

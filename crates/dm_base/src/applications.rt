@@ -2,9 +2,11 @@
 ghost use Rattle.std.specs.Prelude.{◌≡◌, ◌≤◌, length};
 ghost use Rattle.std.specs.List.{list_any};
 ghost use Rattle.std.specs.List.Sorted.{IsNonDecreasing, IsPermutation};
+ghost use Rattle.dm_base.specs.Codes.{max_ids};
 ghost use Rattle.dm_base.specs.Common.{holds, is_own, is_relay, meets, is_common, are_common, is_secure};
 
 use crate::codes::{NO_INBAND_SECURITY, RELAY};
+use crate::limits::MAX_IDS;
 use crate::{Caps, Node};
 
 /// Whether the id is among ids that rise.
@@ -19,8 +21,8 @@ fn finds(sorted: &[u32], id: u32) -> bool
 }
 
 /// The ids, sorted in the space.
-pub(crate) fn sorted_in<'a>(space: &'a mut [u32; 256], ids: &[u32]) -> &'a [u32]
-    requires { length ids.now ≤ 256 }
+pub(crate) fn sorted_in<'a>(space: &'a mut [u32; MAX_IDS], ids: &[u32]) -> &'a [u32]
+    requires { length ids.now ≤ max_ids }
     ensures rising { IsNonDecreasing result.now }
     ensures same { IsPermutation ids.now result.now }
 {
@@ -64,7 +66,7 @@ pub(crate) fn is_relay(node: &Node) -> bool
 fn meets(node: &Node, theirs: &[u32]) -> bool
     ensures { result ≡ meets node.now theirs.now }
 {
-    let (mut auth, mut acct) = ([0; 256], [0; 256]);
+    let (mut auth, mut acct) = ([0; MAX_IDS], [0; MAX_IDS]);
     let auth = sorted_in(&mut auth, node.auth.as_slice());
     let acct = sorted_in(&mut acct, node.acct.as_slice());
     meets_sorted(auth, acct, theirs)

@@ -12,6 +12,7 @@ ghost use Rattle.dm_wire.specs.Borrowed.{Lists};
 use crate::Node;
 use crate::applications::{is_own, is_relay, sorted_in};
 use crate::codes::NO_INBAND_SECURITY;
+use crate::limits::MAX_IDS;
 use crate::reading::{is_vendor_specific, plain_id, security_id};
 use dm_wire::{AvpRef, AvpsRef, spells_avps};
 
@@ -120,7 +121,7 @@ impl CapsRef<'_> {
         if is_relay(node) {
             return true;
         }
-        let (mut auth, mut acct) = ([0; 256], [0; 256]);
+        let (mut auth, mut acct) = ([0; MAX_IDS], [0; MAX_IDS]);
         let auth = sorted_in(&mut auth, node.auth.as_slice());
         let acct = sorted_in(&mut acct, node.acct.as_slice());
         list_meets(auth, acct, AvpsRef::Spelled(self.rest))

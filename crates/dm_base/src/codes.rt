@@ -8,7 +8,7 @@ pub use dm_wire::codes::avps::{
 };
 pub use dm_wire::codes::commands::{CAPABILITIES_EXCHANGE, DEVICE_WATCHDOG, DISCONNECT_PEER};
 pub use dm_wire::codes::results::{
-    NO_COMMON_APPLICATION, NO_COMMON_SECURITY, SUCCESS, UNKNOWN_PEER,
+    NO_COMMON_APPLICATION, NO_COMMON_SECURITY, SUCCESS, UNABLE_TO_COMPLY, UNKNOWN_PEER,
 };
 
 /// The Application-ID of a relay, which has every application in common with everyone (2.4).

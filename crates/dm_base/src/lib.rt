@@ -12,6 +12,7 @@ mod headers;
 mod kind;
 mod kind_ref;
 pub mod laws;
+mod limits;
 mod lists;
 mod names;
 mod node;

@@ -3,10 +3,8 @@ ghost use Rattle.std.specs.Prelude.{◌≡◌};
 ghost use Rattle.dm_value.specs.Flaws.{is_visible_text};
 ghost use Rattle.dm_base.specs.Fit.{is_name};
 
+use crate::limits::MAX_NAME_LEN;
 use dm_dict::{AvpType, value_fault};
-
-/// The octets that the name of a host, a realm or a product may have at most (the limit is own).
-pub(crate) const MAX_NAME_LEN: usize = 255;
 
 /// Whether the octets are a text of at least one octet, all visible.
 pub(crate) fn is_visible_text(octets: &[u8]) -> bool

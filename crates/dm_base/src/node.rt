@@ -6,7 +6,8 @@ ghost use Rattle.std.specs.Str.{is_utf8};
 ghost use Rattle.dm_base.specs.Refusals.{node_fault};
 ghost use Rattle.dm_base.specs.Fit.{is_sized, is_name, are_addresses, is_number, is_product, are_ids};
 
-use crate::names::{MAX_NAME_LEN, is_visible_text};
+use crate::limits::{MAX_ADDRESSES, MAX_IDS, MAX_NAME_LEN};
+use crate::names::is_visible_text;
 use crate::{IdList, IpList, NodeFault};
 use dm_dict::{Ip, Text};
 use dm_wire::Octets;
@@ -50,9 +51,9 @@ fn fault_of(
     if host.len() > MAX_NAME_LEN
         || realm.len() > MAX_NAME_LEN
         || product.len() > MAX_NAME_LEN
-        || addresses.len() > 64
-        || auth.len() > 256
-        || acct.len() > 256
+        || addresses.len() > MAX_ADDRESSES
+        || auth.len() > MAX_IDS
+        || acct.len() > MAX_IDS
     {
         return Some(NodeFault::TooLong);
     }

@@ -3,6 +3,7 @@ ghost use Rattle.std.specs.Prelude.{◌≡◌, ◌++◌, ◌∷◌, [], IfOk, On
 ghost use Rattle.std.specs.Option.{option_copied};
 ghost use Rattle.dm_wire.specs.Spelling.{avp_length};
 ghost use Rattle.dm_wire.specs.Canonical.{canonical_avp};
+ghost use Rattle.dm_base.specs.Codes.{longest_failed};
 ghost use Rattle.dm_base.specs.Built.{avp, number_avp, address_avp, product_avp, origin, capabilities, failed_avps};
 
 use crate::Node;
@@ -10,6 +11,7 @@ use crate::codes::{
     ACCT_APPLICATION_ID, AUTH_APPLICATION_ID, FAILED_AVP, HOST_IP_ADDRESS, ORIGIN_HOST,
     ORIGIN_REALM, PRODUCT_NAME, VENDOR_ID,
 };
+use crate::limits::LONGEST_FAILED;
 use dm_dict::{Ip, NoMemory};
 use dm_wire::{Avp, Octets, encode_avps};
 use std::alloc::Global;
@@ -17,9 +19,6 @@ use std::slice;
 
 /// The octets of an address of IPv6 with its family.
 const LONGEST_ADDRESS: usize = 18;
-
-/// The greatest AVP Length of a failed AVP that is handed back (own).
-const LONGEST_FAILED: u32 = 4096;
 
 /// An AVP without vendor, with the M bit, of these octets, which are moved and not copied.
 fn holding(code: u32, octets: Vec<u8>) -> Avp
@@ -104,7 +103,7 @@ fn spelled(alloc: Global, avp: &Avp) -> Result<Vec<u8>, NoMemory>
 
 /// Whether a failed AVP is short enough to be handed back.
 fn is_short(avp: &Avp) -> bool
-    ensures { result ≡ nat_le (avp_length avp.now) 4096 }
+    ensures { result ≡ nat_le (avp_length avp.now) longest_failed }
 {
     match avp.wire_len() {
         Some(length) => length <= LONGEST_FAILED,
