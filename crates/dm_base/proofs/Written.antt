@@ -5,51 +5,43 @@ use Rattle.dm_value.specs.Flaws.{is_visible_text}
 use Rattle.dm_wire.specs.declared.avp.Avp.{Avp}
 use Rattle.dm_wire.specs.declared.message.Header.{Header}
 use Rattle.dm_wire.specs.declared.message.Message.{Message}
-use Rattle.dm_wire.specs.Spelling.{be, avp_length, SpellsMessage}
-use Rattle.dm_wire.specs.Canonical.{zeros, canonical_avp, canonical_list, canonical_message}
+use Rattle.dm_wire.specs.Spelling.{avp_length, SpellsMessage}
+use Rattle.dm_wire.specs.Canonical.{canonical_avp, canonical_list, canonical_message}
 use Rattle.dm_wire.specs.Fitting.{AvpSized}
 use Rattle.dm_wire.specs.Limits.{HeaderFits}
 use Rattle.dm_wire.specs.RoundTrip.{CanonicalSpells}
 use Rattle.dm_wire.specs.Members.{padded}
-use Rattle.dm_base.specs.Codes.{origin_host, origin_realm}
+use Rattle.dm_base.specs.Codes.{success, max_name_len}
 use Rattle.dm_base.specs.Fit.{is_name}
-use Rattle.dm_base.specs.Built.{avp, origin, result_avp, built_answer}
+use Rattle.dm_base.specs.Built.{built_answer}
 use Rattle.dm_base.specs.Laws.{AnswerIsSpelled}
 use Rattle.dm_base.specs.Spelled.{HasSpelling, IsSpelledBy}
 use Rattle.dm_base.specs.declared.node.Node.{Node}
 
 -- a name is short
-pub short : (s : List ℕ) → is_name s ≡ true → length s ≤ 255
+pub short : (s : List ℕ) → is_name s ≡ true → length s ≤ max_name_len
 short s h =
-    let (_, few) = and_parts (is_visible_text s) (nat_le (length s) 255) h in
-    leb-true (length s) 255 few
+    let (_, few) = and_parts (is_visible_text s) (nat_le (length s) max_name_len) h in
+    leb-true (length s) max_name_len few
 
-pub short_host : (n : Node) → length n.host ≤ 255
+pub short_host : (n : Node) → length n.host ≤ max_name_len
 short_host n = short n.host n.fit_host
 
-pub short_realm : (n : Node) → length n.realm ≤ 255
+pub short_realm : (n : Node) → length n.realm ≤ max_name_len
 short_realm n = short n.realm n.fit_realm
-
--- header, data and padding, appended in turn
-pub avp_put : (code : ℕ) (bytes o0 o1 o2 o3 header : List ℕ) → header ≡ be code 4 ++ 64 ∷ be (8 + length bytes) 3
-    → o1 ≡ o0 ++ header → o2 ≡ o1 ++ bytes → o3 ≡ o2 ++ zeros (8 + length bytes)
-    → o3 ≡ o0 ++ canonical_avp (avp code bytes)
-avp_put code bytes o0 o1 o2 o3 header eh e1 e2 e3 = e3 ∙ rw (e2, e1, eh) (simp append_assoc)
 
 -- three lists, appended in turn
 appended : (x y z o0 o1 o2 o3 : List ℕ) → o1 ≡ o0 ++ x → o2 ≡ o1 ++ y → o3 ≡ o2 ++ z
     → o3 ≡ o0 ++ (x ++ (y ++ (z ++ [])))
 appended x y z o0 o1 o2 o3 e1 e2 e3 = e3 ∙ rw (e2, e1) (simp (append_assoc, append-nil))
 
--- Result-Code, Origin-Host and Origin-Realm, appended in turn
-pub list_put : (n : Node) (host realm o0 o1 o2 o3 : List ℕ) → host ≡ n.host → realm ≡ n.realm
-    → o1 ≡ o0 ++ canonical_avp (result_avp 2001) → o2 ≡ o1 ++ canonical_avp (avp origin_host host)
-    → o3 ≡ o2 ++ canonical_avp (avp origin_realm realm) → o3 ≡ o0 ++ canonical_list (result_avp 2001 ∷ origin n [])
-list_put n host realm o0 o1 o2 o3 eh er e1 e2 e3 =
-    appended (canonical_avp (result_avp 2001)) (canonical_avp (avp origin_host n.host))
-    (canonical_avp (avp origin_realm n.realm)) o0 o1 o2 o3 e1
-    (e2 ∙ ap (λ s. o1 ++ canonical_avp (avp origin_host s)) eh)
-    (e3 ∙ ap (λ s. o2 ++ canonical_avp (avp origin_realm s)) er)
+-- three AVPs, appended in turn
+pub list_put : (a b c x y z : Avp) (o0 o1 o2 o3 : List ℕ) → x ≡ a → y ≡ b → z ≡ c → o1 ≡ o0 ++ canonical_avp x
+    → o2 ≡ o1 ++ canonical_avp y → o3 ≡ o2 ++ canonical_avp z → o3 ≡ o0 ++ canonical_list (a ∷ b ∷ c ∷ [])
+list_put a b c x y z o0 o1 o2 o3 ea eb ec e1 e2 e3 =
+    appended (canonical_avp a) (canonical_avp b) (canonical_avp c) o0 o1 o2 o3
+    (e1 ∙ ap (λ v. o0 ++ canonical_avp v) ea) (e2 ∙ ap (λ v. o1 ++ canonical_avp v) eb)
+    (e3 ∙ ap (λ v. o2 ++ canonical_avp v) ec)
 
 -- how long three lists are together
 summed : (x y z : List ℕ) → length (x ++ (y ++ (z ++ []))) ≡ length x + length y + length z
@@ -68,6 +60,6 @@ canonical_spelled law m s has e = record { spelled = subst (SpellsMessage m) (sy
 
 -- so what is written spells the answer of success
 pub success_spelled : CanonicalSpells → AnswerIsSpelled → (n : Node) (to : Header) (s : List ℕ) → HeaderFits to
-    → s ≡ canonical_message (built_answer n to 2001 None) → IsSpelledBy (built_answer n to 2001 None) s
+    → s ≡ canonical_message (built_answer n to success None) → IsSpelledBy (built_answer n to success None) s
 success_spelled law spelled n to s fits e =
-    canonical_spelled law (built_answer n to 2001 None) s (spelled n to 2001 None fits) e
+    canonical_spelled law (built_answer n to success None) s (spelled n to success None fits) e
