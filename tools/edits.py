@@ -82,6 +82,21 @@ def functions_of(texts, known):
     return found
 
 
+def every_function(texts, but=()):
+    """Returns the functions of these texts, by the names that their places give them, but those that stand where these
+    do."""
+    taken = {(it.file, it.first) for it in but}
+    files = [it for it in texts if it.startswith("src/") and it.endswith(".rt")]
+    return [it for file in files for it in functions_in(file, texts[file]) if (file, it.first) not in taken]
+
+
+def asked_as(function):
+    """Returns the name by which a check can be asked for a function before it has said what it calls it: the end of the
+    name, where it is a method, whose impl may stand in another module than its type."""
+    words = function.name.split("::")
+    return "::".join(words[-2:] if len(words) > 1 and words[-2][0].isupper() else words)
+
+
 def texts_of(folder):
     """Returns the texts of the crate's files by their paths in it."""
     texts = {}

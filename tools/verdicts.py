@@ -1,5 +1,6 @@
 """What a check of many edits says of each: the lines that decide, in the order in which they do."""
 import collections
+import os
 import re
 
 # REFUSED: values were found that break a goal of the function. UNPROVED: a goal of it isn't proved, and no such values
@@ -80,3 +81,64 @@ def culprits(edits, functions, said):
     """Returns the edits in whose functions the front end found an error, where it stopped the whole round."""
     errors = [it for it in lines_in(said) if it.is_error]
     return [edit for edit in edits if any(is_in(it, functions[edit.function.name]) for it in errors)]
+
+
+def is_all_proved(said):
+    """Returns whether the crate, or each function that was asked for, is proved."""
+    last = said.rstrip("\n").split("\n")[-1]
+    asked = re.fullmatch(r"only=(\d+) proved=(\d+)", last)
+    return last.startswith("logic=proved ") or bool(asked) and asked[1] == asked[2] != "0"
+
+
+def unproved(crate, said):
+    """Returns the functions that aren't proved, as the check names them."""
+    return re.findall(rf"(?m)^fn {crate}::(\S+): (?!proved$)", said)
+
+
+def refusal_by(crate, law, said):
+    """Returns the line that says why this function isn't proved, where it alone was asked for; none where it is proved,
+    and none where all that is said is that proof files name what is gone."""
+    if not any(it == law or it.endswith(f"::{law}") for it in unproved(crate, said)):
+        return None
+    told = [it for it in lines_in(said) if it.is_goal or it.is_error]
+    return next((it.text for it in told if not GONE.search(it.text)), None)
+
+
+def imports_of(crate, text):
+    """Returns the files of the crate's definitions and proofs that a text imports."""
+    found = re.findall(rf"Rattle\.{crate}\.((?:specs|proofs)(?:\.\w+)+)", text)
+    return {it.replace(".", "/") + ".antt" for it in found}
+
+
+def seconds_of(crate, folder):
+    """Returns how long the last check took over each file of the crate that it checked anew, by what it kept here."""
+    made = [os.path.join(at, name) for at, _, names in os.walk(folder) for name in names]
+    ended = sorted((os.path.getmtime(it), os.path.basename(it)) for it in made)
+    found = {}
+    for (before, _), (after, name) in zip(ended, ended[1:]):
+        module = re.fullmatch(rf"Rattle-{crate}-((?:specs|proofs)\..*)\.oantt", name)
+        if module:
+            found[module[1].replace(".", "/") + ".antt"] = after - before
+    return found
+
+
+def nearest(crate, names, texts, changed, seconds):
+    """Returns the function of these whose proof hangs on the changed files by those that take least; none of none."""
+    above = {}
+
+    def hanging(file):
+        """Returns the files by which this one hangs on the changed ones, with itself."""
+        if file not in above:
+            found = {file} if file in changed else set()
+            for it in imports_of(crate, texts[file]) & texts.keys():
+                found |= hanging(it)
+            above[file] = found | {file} if found else found
+        return above[file]
+
+    def sum_of(name):
+        folder = f"proofs/{name.replace('::', '/')}/"
+        files = set().union(*(hanging(it) for it in texts if it.startswith(folder)))
+        files |= {it for it in seconds if it.startswith(folder)}
+        return sum(seconds.get(it, 0) for it in files)
+
+    return min(names, key=lambda it: (sum_of(it), it), default=None)
