@@ -9,3 +9,4 @@ pub mod Placed
 pub mod Standing
 pub mod Texts
 pub mod Valued
+pub mod ReadOutcomes

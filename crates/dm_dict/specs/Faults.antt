@@ -22,6 +22,7 @@ use Rattle.dm_tables.specs.Definitions.{Definitions, is_named, is_headed}
 use Rattle.dm_wire.specs.Members.{members}
 use Rattle.dm_dict.specs.Codes.{command_unsupported, invalid_hdr_bits, avp_unsupported, invalid_avp_value, missing_avp, avp_not_allowed, avp_occurs_too_many_times, invalid_avp_length, failed_avp}
 use Rattle.dm_dict.specs.Rules.{definition, stands_for_any, counted, count, entry_for, allows}
+use Rattle.dm_dict.specs.Limits.{group_limit, any_command}
 
 -- A fault: its Result-Code and the failed AVP, which stands alone, without the groups round it: that Failed-AVP has them too
 -- is a MAY (7.5).
@@ -122,7 +123,7 @@ is_error_answer h = not h.request && h.error
 
 -- the command whose rule the message has (3)
 abbrev pub command_for : Definitions → Header → Option CommandDef
-command_for d h = find (is_headed (if is_error_answer h then 0 else h.command) h.request (is_error_answer h)) d.commands
+command_for d h = find (is_headed (if is_error_answer h then any_command else h.command) h.request (is_error_answer h)) d.commands
 
 -- the E bit in a request, or the T bit in an answer (3)
 abbrev pub wrong_bits : Header → Bool
@@ -133,7 +134,7 @@ wrong_bits h = (h.request && h.error) || (not h.request && h.retransmit)
 abbrev pub message_faults : List AvpDef → Message → Option CommandDef → List Fault
 message_faults avps m None = fault_without_avp command_unsupported
 message_faults avps m (Some c) = (if wrong_bits m.header then fault_without_avp invalid_hdr_bits else []) ++
-    list_faults 8 avps c.rule m.avps
+    list_faults group_limit avps c.rule m.avps
 
 abbrev pub faults : Definitions → Message → List Fault
 faults d m = message_faults d.avps m (command_for d m.header)

@@ -9,6 +9,7 @@ use Rattle.dm_tables.specs.Definitions.{Definitions}
 use Rattle.dm_dict.specs.Faults.{command_for, wrong_bits, is_failed_avp, is_left_out, faults, first}
 use Rattle.dm_dict.specs.Rules.{definition, entry_for, count}
 use Rattle.dm_dict.specs.Typed.{IsTypedData, Each}
+use Rattle.dm_dict.specs.Limits.{list_limit}
 
 -- an AVP of this definition may stand under the rule: an entry names it, or is `AVP`, and the entry's max isn't 0
 pub record MayStand (rule : List Entry) (f : AvpDef) : Type 0 where
@@ -41,7 +42,7 @@ pub record IsGood (d : Definitions) (m : Message) : Type 0 where
   pub command : CommandDef
   pub defined : command_for d m.header ≡ Some command
   pub bits : wrong_bits m.header ≡ false
-  pub keeps : KeepsTo 9 d.avps command.rule m.avps
+  pub keeps : KeepsTo list_limit d.avps command.rule m.avps
 
 -- a message with which nothing is wrong is good
 abbrev pub GoodKeepsRules : Type 0

@@ -1,7 +1,8 @@
--- Definitions with the links of their rules.
+-- Tables with the links of their rules.
 use Rattle.std.specs.Prelude.{◌≡◌, ℕ, true, Option, List, map}
 use Rattle.dm_tables.specs.declared.def.AvpDef.{AvpDef}
 use Rattle.dm_tables.specs.Definitions.{Definitions}
+use Rattle.dm_tables.specs.Tables.{defined, IsDictionary}
 use Rattle.dm_tables.specs.Sound.{knows_rule}
 use Rattle.dm_dict.specs.declared.linked.Linked.{Linked}
 use Rattle.dm_dict.specs.declared.linked.LinkedRule.{LinkedRule}
@@ -15,10 +16,11 @@ avp_links d = map (λ a. rule_links d.avps a.rule) d.avps
 abbrev pub command_links : Definitions → List (List (Option ℕ))
 command_links d = map (λ c. rule_links d.avps c.rule) d.commands
 
--- the links are those of the definitions
+-- the tables are a dictionary's, and the links are theirs
 pub record IsLinked (t : Linked) : Type 0 where
-  pub avps : t.avps.items ≡ avp_links t.definitions
-  pub commands : t.commands.items ≡ command_links t.definitions
+  pub dictionary : IsDictionary t.tables
+  pub avps : t.avps.items ≡ avp_links (defined t.tables)
+  pub commands : t.commands.items ≡ command_links (defined t.tables)
 
 -- no two entries have one name, each names a definition or is `AVP`, and the links are theirs
 pub record IsRule (avps : List AvpDef) (rule : LinkedRule) : Type 0 where

@@ -7,6 +7,7 @@ use Rattle.dm_tables.specs.declared.rule.Entry.{Entry}
 use Rattle.dm_tables.specs.declared.def.AvpDef.{AvpDef}
 use Rattle.dm_tables.specs.Definitions.{is_named}
 use Rattle.dm_dict.specs.declared.links.Links.TheInside.{Inside}
+use Rattle.dm_dict.specs.Limits.{short_rule}
 
 -- the link of an entry: the place of the definition that has its name; `AVP` has none
 abbrev pub link : List AvpDef → Entry → Option ℕ
@@ -19,5 +20,5 @@ rule_links avps rule = map (link avps) rule
 -- the place of the first entry without a link, and an index of the first place of each link where the rule is long
 pub record IsPlaced (links : Inside) : Type 0 where
   pub any : links.any ≡ position_from (option_eq nat_eq None) 0 links.items.items
-  pub places : 16 < length links.items.items → (k : ℕ)
+  pub places : short_rule < length links.items.items → (k : ℕ)
       → get_by (nat_eq k) links.places ≡ position_from (option_eq nat_eq (Some k)) 0 links.items.items

@@ -11,6 +11,7 @@ use Rattle.dm_tables.specs.Definitions.{Definitions}
 use Rattle.dm_dict.specs.Faults.{is_failed_avp, faults, first}
 use Rattle.dm_wire.specs.Members.{members}
 use Rattle.dm_dict.specs.Rules.{definition}
+use Rattle.dm_dict.specs.Limits.{list_limit}
 
 -- the data has a value of its type; that of a group is AVPs, and they are as `inside` says
 abbrev pub IsTypedData : (List Avp → Type 0) → AvpType → List ℕ → Type 0
@@ -33,4 +34,4 @@ AreTyped (suc n) avps l = Each (λ a. IsTypedAs (AreTyped n avps) a (definition 
 
 -- where nothing is wrong with a message, its AVPs and those of the eight groups inside each other have values
 abbrev pub GoodIsTyped : Type 0
-GoodIsTyped = (d : Definitions) (m : Message) → first (faults d m) ≡ None → AreTyped 9 d.avps m.avps
+GoodIsTyped = (d : Definitions) (m : Message) → first (faults d m) ≡ None → AreTyped list_limit d.avps m.avps

@@ -52,11 +52,11 @@ fn judge_avp<'a>(
     depth: u32,
 ) -> Judged<'a>
     requires linked { IsLinked dictionary.now }
-    requires fit { IsFit dictionary.now.definitions.avps }
-    requires def { option_and_then (slice_get dictionary.now.definitions.avps) place
-        ≡ definition dictionary.now.definitions.avps (avp_of avp) }
-    ensures fault { shown result ≡ first (avp_faults (group_faults depth dictionary.now.definitions.avps) allowed
-        (avp_of avp.entry) (definition dictionary.now.definitions.avps (avp_of avp.entry))) }
+    requires fit { IsFit dictionary.now.tables.avps.items }
+    requires def { option_and_then (slice_get dictionary.now.tables.avps.items) place
+        ≡ definition dictionary.now.tables.avps.items (avp_of avp) }
+    ensures fault { shown result ≡ first (avp_faults (group_faults depth dictionary.now.tables.avps.items) allowed
+        (avp_of avp.entry) (definition dictionary.now.tables.avps.items (avp_of avp.entry))) }
     ensures missing { finds_missing result ≡ false }
 {
     let failed = Failed::Found(avp);
@@ -111,9 +111,9 @@ fn judge_group<'a>(
     depth: u32,
 ) -> Judged<'a>
     requires linked { IsLinked dictionary.now }
-    requires fit { IsFit dictionary.now.definitions.avps }
-    requires rule { IsRule dictionary.now.definitions.avps rule }
-    ensures fault { shown result ≡ first (group_faults depth dictionary.now.definitions.avps rule.entry.entries.now
+    requires fit { IsFit dictionary.now.tables.avps.items }
+    requires rule { IsRule dictionary.now.tables.avps.items rule }
+    ensures fault { shown result ≡ first (group_faults depth dictionary.now.tables.avps.items rule.entry.entries.now
         (avp_of avp.entry)) }
     ensures missing { finds_missing result ≡ false }
 {
@@ -141,16 +141,16 @@ pub(crate) fn judge_list<'a>(
     depth: u32,
 ) -> Judged<'a>
     requires linked { IsLinked dictionary.now }
-    requires fit { IsFit dictionary.now.definitions.avps }
-    requires rule { IsRule dictionary.now.definitions.avps rule }
+    requires fit { IsFit dictionary.now.tables.avps.items }
+    requires rule { IsRule dictionary.now.tables.avps.items rule }
     ensures fault { (l : List Avp) → Lists list.entry l
-        → shown result ≡ first (list_faults depth dictionary.now.definitions.avps rule.entry.entries.now l) }
+        → shown result ≡ first (list_faults depth dictionary.now.tables.avps.items rule.entry.entries.now l) }
     ensures missing { finds_missing result ≡ false }
 {
     let mut counts = no_counts();
     let mut left = list;
     while let Some((avp, rest)) = left.split_first() {
-        let (place, at) = look_up(&dictionary.definitions, rule, avp);
+        let (place, at) = look_up(&dictionary.tables, rule, avp);
         match judge_avp(dictionary, place, allows(rule.entries, at), avp, depth) {
             Judged::Good => {}
             Judged::Bad { code, failed } => return Judged::Bad { code, failed },
@@ -158,5 +158,5 @@ pub(crate) fn judge_list<'a>(
         count_one(&mut counts, 0, at);
         left = rest;
     }
-    judge_entries(&dictionary.definitions, rule, &counts, list)
+    judge_entries(&dictionary.tables, rule, &counts, list)
 }

@@ -1,15 +1,17 @@
 //! How many AVPs the entries of a rule count, 256 entries at a time, each up to 65535 (RFC 6733, 3.2).
 ghost use Rattle.std.specs.Prelude.{◌≡◌, ◌+◌, ◌<◌, ℕ, List, min, slice_index, if◌then◌else◌};
 ghost use Rattle.dm_wire.specs.declared.avp.Avp.{Avp};
+ghost use Rattle.dm_tables.specs.Tables.{IsTables};
 ghost use Rattle.dm_dict.specs.Apart.{IsFit};
 ghost use Rattle.dm_dict.specs.Linked.{IsRule};
 ghost use Rattle.dm_wire.specs.Borrowed.{Lists};
 ghost use Rattle.dm_dict.specs.Counters.{IsCounted};
 ghost use Rattle.dm_dict.specs.Rules.{is_at};
+ghost use Rattle.dm_dict.specs.Limits.{window, counter_limit};
 
 use crate::linked::LinkedRule;
 use crate::rules::look_up;
-use dm_dict_text::Definitions;
+use dm_tables::Tables;
 use dm_wire::AvpsRef;
 
 pub(crate) fn no_counts() -> [u16; 256]
@@ -20,9 +22,9 @@ pub(crate) fn no_counts() -> [u16; 256]
 
 /// One AVP more for the entry at the place, if it is one of the 256 from `from` on. A counter stops at 65535.
 pub(crate) fn count_one(counts: &mut [u16; 256], from: usize, at: Option<usize>)
-    ensures { (i : ℕ) → i < 256
+    ensures { (i : ℕ) → i < window
         → slice_index counts.new i
-        ≡ (if is_at at (from + i) then min (slice_index counts.old i + 1) 65535 else slice_index counts.old i) }
+        ≡ (if is_at at (from + i) then min (slice_index counts.old i + 1) counter_limit else slice_index counts.old i) }
 {
     if let Some(at) = at {
         if at >= from && at - from < 256 {
@@ -33,19 +35,20 @@ pub(crate) fn count_one(counts: &mut [u16; 256], from: usize, at: Option<usize>)
 
 /// How many AVPs of the list each of the 256 entries from `from` on counts, up to 65535.
 pub(crate) fn counts_from(
-    dictionary: &Definitions,
+    tables: &Tables,
     rule: LinkedRule<'_>,
     from: usize,
     list: AvpsRef<'_>,
 ) -> [u16; 256]
-    requires fit { IsFit dictionary.now.avps }
-    requires rule { IsRule dictionary.now.avps rule }
-    ensures { (l : List Avp) → Lists list.entry l → IsCounted dictionary.now.avps rule.entry.entries.now l from result }
+    requires tables { IsTables tables.now }
+    requires fit { IsFit tables.now.avps.items }
+    requires rule { IsRule tables.now.avps.items rule }
+    ensures { (l : List Avp) → Lists list.entry l → IsCounted tables.now.avps.items rule.entry.entries.now l from result }
 {
     let mut counts = no_counts();
     let mut left = list;
     while let Some((avp, rest)) = left.split_first() {
-        let (_, at) = look_up(dictionary, rule, avp);
+        let (_, at) = look_up(tables, rule, avp);
         count_one(&mut counts, from, at);
         left = rest;
     }

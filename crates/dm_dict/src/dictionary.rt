@@ -7,6 +7,7 @@ ghost use Rattle.dm_wire.specs.Spelling.{SpellsList};
 ghost use Rattle.dm_dict_text.specs.declared.fault.DictFault.{DictFault};
 ghost use Rattle.dm_dict_text.specs.declared.fault.DictFault.TheVariants as faults_of;
 ghost use Rattle.dm_tables.specs.Definitions.{Definitions, nothing_defined, is_vendor, is_named, is_coded, is_headed, vendor_number};
+ghost use Rattle.dm_tables.specs.Tables.{defined, IsDictionary};
 ghost use Rattle.dm_tables.specs.Sound.{is_sound, is_closed};
 ghost use Rattle.dm_tables.specs.Base.{base_definitions};
 ghost use Rattle.dm_dict_text.specs.Printed.{printed};
@@ -15,12 +16,16 @@ ghost use Rattle.dm_dict.specs.Faults.{faults, first};
 ghost use Rattle.dm_dict.specs.Found.{IsOneOf, IfFound};
 ghost use Rattle.dm_dict.specs.Judgement.{shown, verdict_of};
 ghost use Rattle.dm_dict.specs.Typed.{AreTyped};
+ghost use Rattle.dm_dict.specs.Limits.{list_limit};
 
 use crate::judge::{judge_message, judge_spelled};
 use crate::laws::good_is_typed;
 use crate::linked::Linked;
 use crate::{AvpDef, CommandDef, DictFault, Judged, NoMemory, Verdict};
-use dm_dict_text::Definitions;
+use dm_dict_text::laws::{no_definition_refused, one_definition, one_fault};
+use dm_dict_text::{print_tables, read_tables};
+use dm_tables::laws::one_of_each;
+use dm_tables::{Tables, base_tables};
 use dm_wire::{AvpsRef, Message, MessageRef};
 use std::alloc::Global;
 use std::marker::Model;
@@ -38,19 +43,21 @@ impl Model for Dictionary {
 
     ghost Value = { Definitions };
 
+    ghost use Rattle.dm_tables.specs.Tables.{defined};
     ghost use Rattle.dm_dict.specs.Linked.{IsLinked};
 
-    ghost view = { λ dictionary. dictionary.linked.definitions };
+    ghost view = { λ dictionary. defined dictionary.linked.tables };
 
     ghost invariant = { λ dictionary. IsLinked dictionary.linked };
 }
 
-/// The dictionary of the definitions, or want of memory for the links of their rules.
-fn link(alloc: Global, definitions: Definitions) -> Result<Dictionary, NoMemory>
-    ensures { IfOk result (λ dictionary. dictionary ≡ definitions) }
+/// The dictionary of the tables, or want of memory for the links of their rules.
+fn link(alloc: Global, tables: Tables) -> Result<Dictionary, NoMemory>
+    requires { IsDictionary tables }
+    ensures { IfOk result (λ dictionary. dictionary ≡ defined tables) }
 {
     Ok(Dictionary {
-        linked: Linked::new(alloc, definitions)?,
+        linked: Linked::new(alloc, tables)?,
     })
 }
 
@@ -68,8 +75,8 @@ impl Dictionary {
     pub fn base(alloc: Global) -> Result<Dictionary, NoMemory>
         ensures { IfOk result (λ dictionary. dictionary ≡ base_definitions) }
     {
-        let definitions = Definitions::base(alloc)?;
-        link(alloc, definitions)
+        let tables = base_tables(alloc)?;
+        link(alloc, tables)
     }
 
     /// The definitions of the old dictionary, followed by those of the text in the command code format
@@ -85,8 +92,11 @@ impl Dictionary {
         ensures only { (new : Definitions) → Defines text.now old.now new → (result ≡ Ok new) ⊎ (result ≡ Err faults_of.NoMemory) }
         ensures refuses { (f : DictFault) → IsFirstFault text.now old.now f → (result ≡ Err f) ⊎ (result ≡ Err faults_of.NoMemory) }
     {
-        match Definitions::read(alloc, text, &old.linked.definitions) {
-            Ok(definitions) => Ok(link(alloc, definitions)?),
+        one_definition();
+        one_fault();
+        no_definition_refused();
+        match read_tables(alloc, text, &old.linked.tables) {
+            Ok(tables) => Ok(link(alloc, tables)?),
             Err(fault) => Err(fault),
         }
     }
@@ -99,7 +109,7 @@ impl Dictionary {
         // Read over the empty dictionary it gives this dictionary again.
         ensures again { IfOk result (λ text. Defines text.items nothing_defined self.now) }
     {
-        self.linked.definitions.print(alloc)
+        print_tables(alloc, &self.linked.tables)
     }
 
     /// The number of the vendor of the name (own). It takes no memory.
@@ -108,7 +118,8 @@ impl Dictionary {
         // No other vendor has the name.
         ensures one { filter (is_vendor name.now) self.now.vendors ≡ option_to_list (find (is_vendor name.now) self.now.vendors) }
     {
-        self.linked.definitions.vendor_by_name(name)
+        one_of_each();
+        self.linked.tables.vendors.number_of(name)
     }
 
     /// The AVP of the name (RFC 6733, 3.2). It takes no memory.
@@ -117,7 +128,8 @@ impl Dictionary {
         // No other definition has the name.
         ensures one { filter (is_named name.now) self.now.avps ≡ option_to_list (option_copied result) }
     {
-        self.linked.definitions.avp_by_name(name)
+        one_of_each();
+        self.linked.tables.avp_by_name(name)
     }
 
     /// The AVP of the AVP Code and Vendor-ID (4.1). No vendor and vendor 0 are two. It takes no memory.
@@ -126,7 +138,8 @@ impl Dictionary {
         // No other definition has the code with the vendor.
         ensures one { filter (is_coded code vendor) self.now.avps ≡ option_to_list (option_copied result) }
     {
-        self.linked.definitions.avp_by_code(code, vendor)
+        one_of_each();
+        self.linked.tables.avp_by_code(code, vendor)
     }
 
     /// The command of the Command Code, for a request or an answer, with or without the E bit (3.1).
@@ -136,7 +149,8 @@ impl Dictionary {
         // No other definition has the code with the bits.
         ensures one { filter (is_headed code request err) self.now.commands ≡ option_to_list (option_copied result) }
     {
-        self.linked.definitions.command(code, request, err)
+        one_of_each();
+        self.linked.tables.command_by_head(code, request, err)
     }
 
     /// The laws that every dictionary keeps to: each definition is sound beside those before it, and each entry
@@ -145,7 +159,7 @@ impl Dictionary {
         ensures sound { is_sound self.now ≡ true }
         ensures closed { is_closed self.now ≡ true }
     {
-        self.linked.definitions.soundness();
+        let _tables = &self.linked.tables;
     }
 
     /// What the dictionary says of the message: good, or its first fault in this order (own; the codes
@@ -168,7 +182,7 @@ impl Dictionary {
         // The first of all faults, or good where there is none.
         ensures verdict { IfOk result (λ verdict. verdict ≡ verdict_of (first (faults self.now message.now))) }
         // Where it is good each AVP that is defined has a value of its type, in eight groups inside each other too.
-        ensures typed { IfOk result (λ verdict. verdict ≡ Verdict.Good → AreTyped 9 self.now.avps message.now.avps) }
+        ensures typed { IfOk result (λ verdict. verdict ≡ Verdict.Good → AreTyped list_limit self.now.avps message.now.avps) }
         // Memory is wanted for the failed AVP alone.
         ensures memory { OnErr result (IsSomeAnd (first (faults self.now message.now)) (λ fault. IsSome fault.failed)) }
     {

@@ -3,6 +3,7 @@ ghost use Rattle.std.specs.Prelude.{◌≡◌, ◌<◌, true, false, nat_lt, Non
 ghost use Rattle.dm_wire.specs.declared.avp.Avp.{Avp};
 ghost use Rattle.dm_tables.specs.declared.def.AvpDef.{AvpDef};
 ghost use Rattle.dm_tables.specs.declared.rule.Entry.{Entry};
+ghost use Rattle.dm_tables.specs.Tables.{IsTables};
 ghost use Rattle.dm_dict.specs.Apart.{IsFit};
 ghost use Rattle.dm_dict.specs.Linked.{IsRule};
 ghost use Rattle.dm_wire.specs.Borrowed.{Lists};
@@ -10,25 +11,26 @@ ghost use Rattle.dm_dict.specs.Faults.{example, entry_faults, first};
 ghost use Rattle.dm_dict.specs.Found.{is_found, finds_missing};
 ghost use Rattle.dm_dict.specs.Judgement.{failed_of, shown};
 ghost use Rattle.dm_dict.specs.Rules.{count, counted};
+ghost use Rattle.dm_dict.specs.Limits.{counter_limit};
 
 use crate::codes::{AVP_OCCURS_TOO_MANY_TIMES, MISSING_AVP};
 use crate::judged::{Failed, Judged};
 use crate::linked::LinkedRule;
 use crate::rules::counts_avp;
-use dm_dict_text::Definitions;
-use dm_tables::Entry;
+use dm_tables::{Entry, Tables};
 use dm_value::least_len;
 use dm_wire::AvpsRef;
 
 /// The example of an AVP that the entry names; `AVP` has none.
-fn example(dictionary: &Definitions, entry: &Entry) -> Failed<'static>
-    ensures example { failed_of result ≡ example dictionary.now.avps entry.now }
+fn example(tables: &Tables, entry: &Entry) -> Failed<'static>
+    requires { IsTables tables.now }
+    ensures example { failed_of result ≡ example tables.now.avps.items entry.now }
     ensures made { is_found result ≡ false }
 {
     if b"AVP".as_slice() == entry.name.as_slice() {
         return Failed::Nothing;
     }
-    match dictionary.avp_by_name(entry.name.as_slice()) {
+    match tables.avp_by_name(entry.name.as_slice()) {
         Some(def) => Failed::Example {
             code: def.code,
             vendor: def.vendor,
@@ -40,22 +42,23 @@ fn example(dictionary: &Definitions, entry: &Entry) -> Failed<'static>
 
 /// The AVP that has `max` before it among those that the entry at the place counts.
 fn first_past_max<'a>(
-    dictionary: &Definitions,
+    tables: &Tables,
     rule: LinkedRule<'_>,
     at: usize,
     max: u32,
     list: AvpsRef<'a>,
 ) -> Failed<'a>
-    requires fit { IsFit dictionary.now.avps }
-    requires rule { IsRule dictionary.now.avps rule }
+    requires tables { IsTables tables.now }
+    requires fit { IsFit tables.now.avps.items }
+    requires rule { IsRule tables.now.avps.items rule }
     requires within { at < length rule.entries.now }
     ensures { (l : List Avp) (e : Entry) → Lists list.entry l → e ≡ slice_index_or rule.entry.entries.now at e
-        → failed_of result ≡ slice_get (counted dictionary.now.avps rule.entry.entries.now l e) max }
+        → failed_of result ≡ slice_get (counted tables.now.avps.items rule.entry.entries.now l e) max }
 {
     let mut before = max;
     let mut left = list;
     while let Some((avp, rest)) = left.split_first() {
-        if counts_avp(dictionary, rule, at, avp) {
+        if counts_avp(tables, rule, at, avp) {
             if before == 0 {
                 return Failed::Found(avp);
             }
@@ -68,24 +71,25 @@ fn first_past_max<'a>(
 
 /// Whether the entry at the place, which has this counter, counts more AVPs of the list than `number`.
 fn counts_above(
-    dictionary: &Definitions,
+    tables: &Tables,
     rule: LinkedRule<'_>,
     at: usize,
     number: u32,
     counter: u16,
     list: AvpsRef<'_>,
 ) -> bool
-    requires fit { IsFit dictionary.now.avps }
-    requires rule { IsRule dictionary.now.avps rule }
+    requires tables { IsTables tables.now }
+    requires fit { IsFit tables.now.avps.items }
+    requires rule { IsRule tables.now.avps.items rule }
     requires within { at < length rule.entries.now }
     ensures { (l : List Avp) (e : Entry) → Lists list.entry l → e ≡ slice_index_or rule.entry.entries.now at e
-        → counter ≡ min (count dictionary.now.avps rule.entry.entries.now l e) 65535
-        → result ≡ nat_lt number (count dictionary.now.avps rule.entry.entries.now l e) }
+        → counter ≡ min (count tables.now.avps.items rule.entry.entries.now l e) counter_limit
+        → result ≡ nat_lt number (count tables.now.avps.items rule.entry.entries.now l e) }
 {
     if counter < u16::MAX || number < u16::MAX as u32 {
         return number < counter as u32;
     }
-    match first_past_max(dictionary, rule, at, number, list) {
+    match first_past_max(tables, rule, at, number, list) {
         Failed::Nothing => false,
         Failed::Found(_) | Failed::Example { .. } => true,
     }
@@ -93,23 +97,24 @@ fn counts_above(
 
 /// The first fault of the entry at the place, which has this counter, by its bounds.
 fn judge_bounds<'a>(
-    dictionary: &Definitions,
+    tables: &Tables,
     rule: LinkedRule<'_>,
     at: usize,
     counter: u16,
     list: AvpsRef<'a>,
 ) -> Judged<'a>
-    requires fit { IsFit dictionary.now.avps }
-    requires rule { IsRule dictionary.now.avps rule }
+    requires tables { IsTables tables.now }
+    requires fit { IsFit tables.now.avps.items }
+    requires rule { IsRule tables.now.avps.items rule }
     requires within { at < length rule.entries.now }
     ensures fault { (l : List Avp) (e : Entry) → Lists list.entry l → e ≡ slice_index_or rule.entry.entries.now at e
-        → counter ≡ min (count dictionary.now.avps rule.entry.entries.now l e) 65535
-        → shown result ≡ first (entry_faults dictionary.now.avps rule.entry.entries.now l e) }
+        → counter ≡ min (count tables.now.avps.items rule.entry.entries.now l e) counter_limit
+        → shown result ≡ first (entry_faults tables.now.avps.items rule.entry.entries.now l e) }
     ensures missing { finds_missing result ≡ false }
 {
     let entry = &rule.entries.as_slice()[at];
-    if entry.min > 0 && !counts_above(dictionary, rule, at, entry.min - 1, counter, list) {
-        let failed = example(dictionary, entry);
+    if entry.min > 0 && !counts_above(tables, rule, at, entry.min - 1, counter, list) {
+        let failed = example(tables, entry);
         return Judged::Bad {
             code: MISSING_AVP,
             failed,
@@ -117,8 +122,8 @@ fn judge_bounds<'a>(
     }
     match entry.max {
         Some(max) => {
-            if max > 0 && counts_above(dictionary, rule, at, max, counter, list) {
-                let failed = first_past_max(dictionary, rule, at, max, list);
+            if max > 0 && counts_above(tables, rule, at, max, counter, list) {
+                let failed = first_past_max(tables, rule, at, max, list);
                 return Judged::Bad {
                     code: AVP_OCCURS_TOO_MANY_TIMES,
                     failed,
@@ -133,7 +138,7 @@ fn judge_bounds<'a>(
 /// Whether the counter alone shows that the entry has no fault.
 fn is_kept(entry: &Entry, counter: u16) -> bool
     ensures { (avps : List AvpDef) (rule : List Entry) (l : List Avp)
-        → counter ≡ min (count avps rule l entry.now) 65535 → result ≡ true
+        → counter ≡ min (count avps rule l entry.now) counter_limit → result ≡ true
         → None ≡ first (entry_faults avps rule l entry.now) }
 {
     if (counter as u32) < entry.min {
@@ -147,23 +152,24 @@ fn is_kept(entry: &Entry, counter: u16) -> bool
 
 /// The first fault of the entry at the place, which has this counter.
 pub(crate) fn judge_entry<'a>(
-    dictionary: &Definitions,
+    tables: &Tables,
     rule: LinkedRule<'_>,
     at: usize,
     counter: u16,
     list: AvpsRef<'a>,
 ) -> Judged<'a>
-    requires fit { IsFit dictionary.now.avps }
-    requires rule { IsRule dictionary.now.avps rule }
+    requires tables { IsTables tables.now }
+    requires fit { IsFit tables.now.avps.items }
+    requires rule { IsRule tables.now.avps.items rule }
     requires within { at < length rule.entries.now }
     ensures fault { (l : List Avp) (e : Entry) → Lists list.entry l → e ≡ slice_index_or rule.entry.entries.now at e
-        → counter ≡ min (count dictionary.now.avps rule.entry.entries.now l e) 65535
-        → shown result ≡ first (entry_faults dictionary.now.avps rule.entry.entries.now l e) }
+        → counter ≡ min (count tables.now.avps.items rule.entry.entries.now l e) counter_limit
+        → shown result ≡ first (entry_faults tables.now.avps.items rule.entry.entries.now l e) }
     ensures missing { finds_missing result ≡ false }
 {
     if is_kept(&rule.entries.as_slice()[at], counter) {
         Judged::Good
     } else {
-        judge_bounds(dictionary, rule, at, counter, list)
+        judge_bounds(tables, rule, at, counter, list)
     }
 }

@@ -3,6 +3,7 @@ ghost use Rattle.std.specs.Prelude.{◌≡◌, false, List, option_map, IfSome};
 ghost use Rattle.dm_wire.specs.declared.avp.Avp.{Avp};
 ghost use Rattle.dm_wire.specs.Borrowed.{Lists};
 ghost use Rattle.dm_wire.specs.Spelling.{SpellsList};
+ghost use Rattle.dm_tables.specs.Tables.{defined};
 ghost use Rattle.dm_dict.specs.Faults.{command_for, wrong_bits, faults, first};
 ghost use Rattle.dm_dict.specs.Found.{finds_missing};
 ghost use Rattle.dm_dict.specs.Judgement.{shown};
@@ -24,9 +25,9 @@ const GROUPS: u32 = 8;
 fn command_for<'d>(dictionary: &'d Linked, header: &Header) -> Option<LinkedCommand<'d>>
     requires { IsLinked dictionary.now }
     ensures def { option_map (λ command. command.def.now) result
-        ≡ command_for dictionary.now.definitions header.now }
+        ≡ command_for (defined dictionary.now.tables) header.now }
     ensures links { IfSome result (λ command. command.links.now
-        ≡ rule_links dictionary.now.definitions.avps command.def.now.rule) }
+        ≡ rule_links dictionary.now.tables.avps.items command.def.now.rule) }
 {
     let error_answer = !header.request && header.error;
     let code = if error_answer { 0 } else { header.command };
@@ -41,7 +42,7 @@ pub(crate) fn judge_message<'a>(
 ) -> Judged<'a>
     requires linked { IsLinked dictionary.now }
     ensures fault { (l : List Avp) → Lists list.entry l
-        → shown result ≡ first (faults dictionary.now.definitions (record { header = header.now; avps = l })) }
+        → shown result ≡ first (faults (defined dictionary.now.tables) (record { header = header.now; avps = l })) }
     ensures missing { finds_missing result ≡ false }
 {
     let failed = Failed::Nothing;
@@ -57,7 +58,6 @@ pub(crate) fn judge_message<'a>(
             failed,
         };
     }
-    dictionary.definitions.soundness();
     let rule = LinkedRule {
         entries: &def.rule,
         links,
@@ -73,7 +73,7 @@ pub(crate) fn judge_spelled<'a>(
 ) -> Judged<'a>
     requires linked { IsLinked dictionary.now }
     ensures fault { (l : List Avp) → SpellsList l octets.now
-        → shown result ≡ first (faults dictionary.now.definitions (record { header = header.now; avps = l })) }
+        → shown result ≡ first (faults (defined dictionary.now.tables) (record { header = header.now; avps = l })) }
     ensures missing { finds_missing result ≡ false }
 {
     members_spell();

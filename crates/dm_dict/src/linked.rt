@@ -1,21 +1,21 @@
-//! Definitions with the links of their rules, so that an AVP's place under a rule is found by its code (RFC 6733, 3.2
+//! Tables with the links of their rules, so that an AVP's place under a rule is found by its code (RFC 6733, 3.2
 //! and 4.1).
 ghost use Rattle.std.specs.Prelude.{◌≡◌, ◌++◌, [], find, map, option_map, slice_get, IfOk, IfSome, OnOk};
 ghost use Rattle.std.specs.Option.{option_and_then};
-ghost use Rattle.dm_tables.specs.Definitions.{Definitions, nothing_defined, is_headed};
+ghost use Rattle.dm_tables.specs.Definitions.{nothing_defined, is_headed};
+ghost use Rattle.dm_tables.specs.Tables.{defined, IsTables, IsDictionary};
 ghost use Rattle.dm_dict.specs.Links.{rule_links};
 ghost use Rattle.dm_dict.specs.Linked.{IsLinked, avp_links, command_links};
 
 use crate::links::Links;
-use dm_dict_text::Definitions;
-use dm_tables::{AvpDef, CommandDef, Rule};
+use dm_tables::{AvpDef, CommandDef, Rule, Tables};
 use dm_value::NoMemory;
 use std::alloc::Global;
 
-/// Definitions, and the links of each AVP's rule and of each command's, in the same order.
+/// Tables, and the links of each AVP's rule and of each command's, in the same order.
 #[derive(Debug, Drop)]
 pub(crate) struct Linked {
-    pub(crate) definitions: Definitions,
+    pub(crate) tables: Tables,
     pub(crate) avps: Vec<Links>,
     pub(crate) commands: Vec<Links>,
 }
@@ -42,29 +42,23 @@ pub(crate) struct LinkedCommand<'d> {
 }
 
 /// The links of each AVP's rule, behind the others.
-fn link_avps(
-    alloc: Global,
-    definitions: &Definitions,
-    links: &mut Vec<Links>,
-) -> Result<(), NoMemory>
-    ensures { OnOk result (links.new.items ≡ links.old.items ++ avp_links definitions.now) }
+fn link_avps(alloc: Global, tables: &Tables, links: &mut Vec<Links>) -> Result<(), NoMemory>
+    requires { IsTables tables.now }
+    ensures { OnOk result (links.new.items ≡ links.old.items ++ avp_links (defined tables.now)) }
 {
-    for def in definitions.avps() {
-        links.push(Links::of_rule(alloc, definitions, &def.rule)?)?;
+    for def in tables.avps.as_slice() {
+        links.push(Links::of_rule(alloc, tables, &def.rule)?)?;
     }
     Ok(())
 }
 
 /// The links of each command's rule, behind the others.
-fn link_commands(
-    alloc: Global,
-    definitions: &Definitions,
-    links: &mut Vec<Links>,
-) -> Result<(), NoMemory>
-    ensures { OnOk result (links.new.items ≡ links.old.items ++ command_links definitions.now) }
+fn link_commands(alloc: Global, tables: &Tables, links: &mut Vec<Links>) -> Result<(), NoMemory>
+    requires { IsTables tables.now }
+    ensures { OnOk result (links.new.items ≡ links.old.items ++ command_links (defined tables.now)) }
 {
-    for def in definitions.commands() {
-        links.push(Links::of_rule(alloc, definitions, &def.rule)?)?;
+    for def in tables.commands.as_slice() {
+        links.push(Links::of_rule(alloc, tables, &def.rule)?)?;
     }
     Ok(())
 }
@@ -72,23 +66,24 @@ fn link_commands(
 impl Linked {
     /// No definitions. It takes no memory.
     pub(crate) fn empty(alloc: Global) -> Linked
-        ensures empty { result.definitions ≡ nothing_defined }
+        ensures empty { defined result.tables ≡ nothing_defined }
         ensures linked { IsLinked result }
     {
         Linked {
-            definitions: Definitions::empty(alloc),
+            tables: Tables::new(alloc),
             avps: Vec::new(alloc),
             commands: Vec::new(alloc),
         }
     }
 
-    /// The definitions with their links, or want of memory for the links.
-    pub(crate) fn new(alloc: Global, definitions: Definitions) -> Result<Linked, NoMemory>
-        ensures same { IfOk result (λ linked. linked.definitions ≡ definitions) }
+    /// The tables with their links, or want of memory for the links.
+    pub(crate) fn new(alloc: Global, tables: Tables) -> Result<Linked, NoMemory>
+        requires { IsDictionary tables }
+        ensures same { IfOk result (λ linked. linked.tables ≡ tables) }
         ensures linked { IfOk result IsLinked }
     {
         let mut linked = Linked {
-            definitions,
+            tables,
             avps: Vec::new(alloc),
             commands: Vec::new(alloc),
         };
@@ -96,28 +91,29 @@ impl Linked {
         done.and(Ok(linked))
     }
 
-    /// Links the definitions, where there are no links.
+    /// Links the tables, where there are no links.
     fn link(&mut self, alloc: Global) -> Result<(), NoMemory>
+        requires dictionary { IsDictionary self.old.tables }
         requires avps { self.old.avps.items ≡ [] }
         requires commands { self.old.commands.items ≡ [] }
-        ensures same { OnOk result (self.new.definitions ≡ self.old.definitions) }
+        ensures same { OnOk result (self.new.tables ≡ self.old.tables) }
         ensures linked { OnOk result (IsLinked self.new) }
     {
-        link_avps(alloc, &self.definitions, &mut self.avps)?;
-        link_commands(alloc, &self.definitions, &mut self.commands)
+        link_avps(alloc, &self.tables, &mut self.avps)?;
+        link_commands(alloc, &self.tables, &mut self.commands)
     }
 
     /// The definition of an AVP at the place, with the links of its rule.
     pub(crate) fn avp_at(&self, place: Option<usize>) -> Option<LinkedAvp<'_>>
         requires { IsLinked self.now }
         ensures def { option_map (λ avp. avp.def.now) result
-            ≡ option_and_then (slice_get self.now.definitions.avps) place }
+            ≡ option_and_then (slice_get self.now.tables.avps.items) place }
         ensures links { IfSome result (λ avp. avp.links.now
-            ≡ rule_links self.now.definitions.avps avp.def.now.rule) }
+            ≡ rule_links self.now.tables.avps.items avp.def.now.rule) }
     {
         match place {
             Some(place) if place < self.avps.len() => Some(LinkedAvp {
-                def: &self.definitions.avps()[place],
+                def: &self.tables.avps.as_slice()[place],
                 links: &self.avps[place],
             }),
             _ => None,
@@ -128,24 +124,24 @@ impl Linked {
     pub(crate) fn command(&self, code: u32, request: bool, err: bool) -> Option<LinkedCommand<'_>>
         requires { IsLinked self.now }
         ensures def { option_map (λ command. command.def.now) result
-            ≡ find (is_headed code request err) self.now.definitions.commands }
+            ≡ find (is_headed code request err) self.now.tables.commands.items }
         ensures links { IfSome result (λ command. command.links.now
-            ≡ rule_links self.now.definitions.avps command.def.now.rule) }
+            ≡ rule_links self.now.tables.avps.items command.def.now.rule) }
     {
-        self.command_at(self.definitions.command_place(code, request, err))
+        self.command_at(self.tables.command_place(code, request, err))
     }
 
     /// The definition of a command at the place, with the links of its rule.
     fn command_at(&self, place: Option<usize>) -> Option<LinkedCommand<'_>>
         requires { IsLinked self.now }
         ensures def { option_map (λ command. command.def.now) result
-            ≡ option_and_then (slice_get self.now.definitions.commands) place }
+            ≡ option_and_then (slice_get self.now.tables.commands.items) place }
         ensures links { IfSome result (λ command. command.links.now
-            ≡ rule_links self.now.definitions.avps command.def.now.rule) }
+            ≡ rule_links self.now.tables.avps.items command.def.now.rule) }
     {
         match place {
             Some(place) if place < self.commands.len() => Some(LinkedCommand {
-                def: &self.definitions.commands()[place],
+                def: &self.tables.commands.as_slice()[place],
                 links: &self.commands[place],
             }),
             _ => None,

@@ -3,10 +3,11 @@ ghost use Rattle.std.specs.Prelude.{◌≡◌, ◌<◌, ℕ, Some, None, if◌th
 ghost use Rattle.std.specs.List.{position_from};
 ghost use Rattle.std.specs.Option.{option_eq, option_or};
 ghost use Rattle.indexmap.specs.IndexMap.{get_by};
+ghost use Rattle.dm_tables.specs.Tables.{IsTables};
 ghost use Rattle.dm_dict.specs.Links.{rule_links};
+ghost use Rattle.dm_dict.specs.Limits.{short_rule};
 
-use dm_dict_text::Definitions;
-use dm_tables::Rule;
+use dm_tables::{Rule, Tables};
 use dm_value::NoMemory;
 use indexmap::IndexMap;
 use std::alloc::Global;
@@ -73,7 +74,7 @@ fn places(alloc: Global, links: &[Option<usize>]) -> Result<IndexMap<usize, usiz
 
 /// The places of the links of a long rule. Those of a short one aren't wanted.
 fn index(alloc: Global, links: &[Option<usize>]) -> Result<IndexMap<usize, usize>, NoMemory>
-    ensures { IfOk result (λ places. 16 < length links.now → (k : ℕ)
+    ensures { IfOk result (λ places. short_rule < length links.now → (k : ℕ)
         → get_by (nat_eq k) places ≡ position_from (option_eq nat_eq (Some k)) 0 links.now) }
 {
     if links.len() <= SHORT_RULE {
@@ -96,17 +97,14 @@ fn place_among(links: &[Option<usize>], link: Option<usize>) -> Option<usize>
 }
 
 /// The links of the entries of a rule, in order.
-fn links_to(
-    alloc: Global,
-    definitions: &Definitions,
-    rule: &Rule,
-) -> Result<Vec<Option<usize>>, NoMemory>
-    ensures { IfOk result (λ links. links.items ≡ rule_links definitions.now.avps rule.now) }
+fn links_to(alloc: Global, tables: &Tables, rule: &Rule) -> Result<Vec<Option<usize>>, NoMemory>
+    requires { IsTables tables.now }
+    ensures { IfOk result (λ links. links.items ≡ rule_links tables.now.avps.items rule.now) }
 {
     let entries = rule.as_slice();
     let mut links = Vec::with_capacity(alloc, entries.len())?;
     for entry in entries {
-        links.push(definitions.place_by_name(entry.name.as_slice()))?;
+        links.push(tables.place_by_name(entry.name.as_slice()))?;
     }
     Ok(links)
 }
@@ -122,14 +120,11 @@ impl Links {
     }
 
     /// The links of the entries of a rule.
-    pub(crate) fn of_rule(
-        alloc: Global,
-        definitions: &Definitions,
-        rule: &Rule,
-    ) -> Result<Links, NoMemory>
-        ensures { IfOk result (λ links. links ≡ rule_links definitions.now.avps rule.now) }
+    pub(crate) fn of_rule(alloc: Global, tables: &Tables, rule: &Rule) -> Result<Links, NoMemory>
+        requires { IsTables tables.now }
+        ensures { IfOk result (λ links. links ≡ rule_links tables.now.avps.items rule.now) }
     {
-        let items = links_to(alloc, definitions, rule)?;
+        let items = links_to(alloc, tables, rule)?;
         Links::new(alloc, items)
     }
 

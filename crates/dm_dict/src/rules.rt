@@ -2,14 +2,14 @@
 ghost use Rattle.std.specs.Prelude.{◌≡◌, ◌<◌, ℕ, length, slice_get, slice_index_or};
 ghost use Rattle.std.specs.Option.{option_and_then};
 ghost use Rattle.dm_tables.specs.declared.rule.Entry.{Entry};
+ghost use Rattle.dm_tables.specs.Tables.{IsTables};
 ghost use Rattle.dm_dict.specs.Rules.{definition, is_at, counts, entry_for, allows};
 ghost use Rattle.dm_dict.specs.Apart.{IsFit};
 ghost use Rattle.dm_dict.specs.Linked.{IsRule};
 ghost use Rattle.dm_wire.specs.Borrowed.{avp_of};
 
 use crate::linked::LinkedRule;
-use dm_dict_text::Definitions;
-use dm_tables::Rule;
+use dm_tables::{Rule, Tables};
 use dm_wire::AvpRef;
 
 /// Whether an AVP may stand under the entry: there is one, and its max isn't 0.
@@ -25,39 +25,36 @@ pub(crate) fn allows(rule: &Rule, at: Option<usize>) -> bool
 /// Where the definition of the AVP stands among the AVPs, and where under the rule the AVP stands: at the entry that is
 /// linked to its definition, else at `AVP`. An AVP without definition stands at `AVP`.
 pub(crate) fn look_up(
-    dictionary: &Definitions,
+    tables: &Tables,
     rule: LinkedRule<'_>,
     avp: AvpRef<'_>,
 ) -> (Option<usize>, Option<usize>)
-    requires fit { IsFit dictionary.now.avps }
-    requires rule { IsRule dictionary.now.avps rule }
-    ensures def { option_and_then (slice_get dictionary.now.avps) result.0
-        ≡ definition dictionary.now.avps (avp_of avp.entry) }
+    requires tables { IsTables tables.now }
+    requires fit { IsFit tables.now.avps.items }
+    requires rule { IsRule tables.now.avps.items rule }
+    ensures def { option_and_then (slice_get tables.now.avps.items) result.0
+        ≡ definition tables.now.avps.items (avp_of avp.entry) }
     ensures entry { option_and_then (slice_get rule.entry.entries.now) result.1
-        ≡ entry_for rule.entry.entries.now (definition dictionary.now.avps (avp_of avp.entry)) }
+        ≡ entry_for rule.entry.entries.now (definition tables.now.avps.items (avp_of avp.entry)) }
     ensures counts { (i : ℕ) (e : Entry) → i < length rule.entry.entries.now
         → e ≡ slice_index_or rule.entry.entries.now i e
-        → is_at result.1 i ≡ counts rule.entry.entries.now e (definition dictionary.now.avps (avp_of avp.entry)) }
+        → is_at result.1 i ≡ counts rule.entry.entries.now e (definition tables.now.avps.items (avp_of avp.entry)) }
 {
-    let definition = dictionary.place_by_code(avp.code, avp.vendor);
+    let definition = tables.place_by_code(avp.code, avp.vendor);
     let linked = rule.links.place(definition);
     (definition, linked.or(rule.links.place(None)))
 }
 
 /// Whether the entry at the place counts the AVP.
-pub(crate) fn counts_avp(
-    dictionary: &Definitions,
-    rule: LinkedRule<'_>,
-    at: usize,
-    avp: AvpRef<'_>,
-) -> bool
-    requires fit { IsFit dictionary.now.avps }
-    requires rule { IsRule dictionary.now.avps rule }
+pub(crate) fn counts_avp(tables: &Tables, rule: LinkedRule<'_>, at: usize, avp: AvpRef<'_>) -> bool
+    requires tables { IsTables tables.now }
+    requires fit { IsFit tables.now.avps.items }
+    requires rule { IsRule tables.now.avps.items rule }
     requires within { at < length rule.entries.now }
     ensures { (e : Entry) → e ≡ slice_index_or rule.entry.entries.now at e
-        → result ≡ counts rule.entry.entries.now e (definition dictionary.now.avps (avp_of avp.entry)) }
+        → result ≡ counts rule.entry.entries.now e (definition tables.now.avps.items (avp_of avp.entry)) }
 {
-    let (_, place) = look_up(dictionary, rule, avp);
+    let (_, place) = look_up(tables, rule, avp);
     match place {
         Some(place) => place == at,
         None => false,

@@ -3,6 +3,7 @@ ghost use Rattle.std.specs.Prelude.{◌≡◌, ◌+◌, ◌<◌, ◌≤◌, ◌�
 ghost use Rattle.dm_wire.specs.declared.avp.Avp.{Avp};
 ghost use Rattle.dm_tables.specs.declared.def.AvpDef.{AvpDef};
 ghost use Rattle.dm_tables.specs.declared.rule.Entry.{Entry};
+ghost use Rattle.dm_tables.specs.Tables.{IsTables};
 ghost use Rattle.dm_dict.specs.Apart.{IsFit};
 ghost use Rattle.dm_dict.specs.Linked.{IsRule};
 ghost use Rattle.dm_wire.specs.Borrowed.{Lists};
@@ -10,13 +11,13 @@ ghost use Rattle.dm_dict.specs.Counters.{IsCounted, before, is_bounded};
 ghost use Rattle.dm_dict.specs.Faults.{entry_faults, first};
 ghost use Rattle.dm_dict.specs.Found.{finds_missing};
 ghost use Rattle.dm_dict.specs.Judgement.{shown};
+ghost use Rattle.dm_dict.specs.Limits.{window};
 
 use crate::counts::counts_from;
 use crate::entries::judge_entry;
 use crate::judged::Judged;
 use crate::linked::LinkedRule;
-use dm_dict_text::Definitions;
-use dm_tables::{Entry, Rule};
+use dm_tables::{Entry, Rule, Tables};
 use dm_wire::AvpsRef;
 
 /// Whether the number of the entry's AVPs has a bound: a min, or a max other than 0.
@@ -50,30 +51,31 @@ fn window_end(size: usize, from: usize) -> usize
     requires { from ≤ size }
     ensures above { from ≤ result }
     ensures within { result ≤ size }
-    ensures most { result ≤ from + 256 }
-    ensures last { (result ≡ size) ⊎ (result ≡ from + 256) }
+    ensures most { result ≤ from + window }
+    ensures last { (result ≡ size) ⊎ (result ≡ from + window) }
 {
     if size - from < 256 { size } else { from + 256 }
 }
 
 /// The first fault of the 256 entries from `from` on.
 fn judge_window<'a>(
-    dictionary: &Definitions,
+    tables: &Tables,
     rule: LinkedRule<'_>,
     from: usize,
     counts: &[u16; 256],
     list: AvpsRef<'a>,
 ) -> Judged<'a>
-    requires fit { IsFit dictionary.now.avps }
-    requires rule { IsRule dictionary.now.avps rule }
+    requires tables { IsTables tables.now }
+    requires fit { IsFit tables.now.avps.items }
+    requires rule { IsRule tables.now.avps.items rule }
     requires within { from ≤ length rule.entries.now }
-    ensures fault { (l : List Avp) → Lists list.entry l → IsCounted dictionary.now.avps rule.entry.entries.now l from counts.now
-        → first (flat_map (entry_faults dictionary.now.avps rule.entry.entries.now l) (drop from rule.entry.entries.now))
-        ≡ before (shown result) (first (flat_map (entry_faults dictionary.now.avps rule.entry.entries.now l) (drop (from + 256) rule.entry.entries.now))) }
+    ensures fault { (l : List Avp) → Lists list.entry l → IsCounted tables.now.avps.items rule.entry.entries.now l from counts.now
+        → first (flat_map (entry_faults tables.now.avps.items rule.entry.entries.now l) (drop from rule.entry.entries.now))
+        ≡ before (shown result) (first (flat_map (entry_faults tables.now.avps.items rule.entry.entries.now l) (drop (from + window) rule.entry.entries.now))) }
     ensures missing { finds_missing result ≡ false }
 {
     for at in from..window_end(rule.entries.as_slice().len(), from) {
-        match judge_entry(dictionary, rule, at, counts[at - from], list) {
+        match judge_entry(tables, rule, at, counts[at - from], list) {
             Judged::Good => {}
             Judged::Bad { code, failed } => return Judged::Bad { code, failed },
         }
@@ -83,22 +85,19 @@ fn judge_window<'a>(
 
 /// The first fault of the entries from the 256th on. Each window of 256 begins at an entry that has a
 /// bound, and looks all AVPs up once more.
-fn judge_further<'a>(
-    dictionary: &Definitions,
-    rule: LinkedRule<'_>,
-    list: AvpsRef<'a>,
-) -> Judged<'a>
-    requires fit { IsFit dictionary.now.avps }
-    requires rule { IsRule dictionary.now.avps rule }
+fn judge_further<'a>(tables: &Tables, rule: LinkedRule<'_>, list: AvpsRef<'a>) -> Judged<'a>
+    requires tables { IsTables tables.now }
+    requires fit { IsFit tables.now.avps.items }
+    requires rule { IsRule tables.now.avps.items rule }
     ensures fault { (l : List Avp) → Lists list.entry l
-        → shown result ≡ first (flat_map (entry_faults dictionary.now.avps rule.entry.entries.now l) (drop 256 rule.entry.entries.now)) }
+        → shown result ≡ first (flat_map (entry_faults tables.now.avps.items rule.entry.entries.now l) (drop window rule.entry.entries.now)) }
     ensures missing { finds_missing result ≡ false }
 {
     let size = rule.entries.as_slice().len();
     let mut from = next_bounded(rule.entries, 256);
     while from < size {
-        let counts = counts_from(dictionary, rule, from, list);
-        match judge_window(dictionary, rule, from, &counts, list) {
+        let counts = counts_from(tables, rule, from, list);
+        match judge_window(tables, rule, from, &counts, list) {
             Judged::Good => {}
             Judged::Bad { code, failed } => return Judged::Bad { code, failed },
         }
@@ -109,19 +108,20 @@ fn judge_further<'a>(
 
 /// The first fault of the entries of the rule, of which the first 256 have these counters.
 pub(crate) fn judge_entries<'a>(
-    dictionary: &Definitions,
+    tables: &Tables,
     rule: LinkedRule<'_>,
     counts: &[u16; 256],
     list: AvpsRef<'a>,
 ) -> Judged<'a>
-    requires fit { IsFit dictionary.now.avps }
-    requires rule { IsRule dictionary.now.avps rule }
-    ensures fault { (l : List Avp) → Lists list.entry l → IsCounted dictionary.now.avps rule.entry.entries.now l 0 counts.now
-        → shown result ≡ first (flat_map (entry_faults dictionary.now.avps rule.entry.entries.now l) rule.entry.entries.now) }
+    requires tables { IsTables tables.now }
+    requires fit { IsFit tables.now.avps.items }
+    requires rule { IsRule tables.now.avps.items rule }
+    ensures fault { (l : List Avp) → Lists list.entry l → IsCounted tables.now.avps.items rule.entry.entries.now l 0 counts.now
+        → shown result ≡ first (flat_map (entry_faults tables.now.avps.items rule.entry.entries.now l) rule.entry.entries.now) }
     ensures missing { finds_missing result ≡ false }
 {
-    match judge_window(dictionary, rule, 0, counts, list) {
-        Judged::Good => judge_further(dictionary, rule, list),
+    match judge_window(tables, rule, 0, counts, list) {
+        Judged::Good => judge_further(tables, rule, list),
         Judged::Bad { code, failed } => Judged::Bad { code, failed },
     }
 }

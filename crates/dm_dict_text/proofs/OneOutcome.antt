@@ -1,9 +1,9 @@
 -- A text has one outcome.
-use Rattle.std.proofs.Common.{◌≡◌, ◌⊎◌, ℕ, List, [], Option, Some, Result, Ok, Err, sym, ap, subst, ◌∙◌, inl, inr}
+use Rattle.std.proofs.Common.{◌≡◌, ℕ, List, [], Option, Some, Ok, Err, sym, ap, subst, ◌∙◌, inl, inr}
 use Rattle.dm_grammar.specs.Items.{Written}
 use Rattle.dm_grammar.specs.Told.{told}
 use Rattle.dm_dict_text.specs.declared.fault.DictFault.{DictFault}
-use Rattle.dm_dict_text.specs.declared.fault.DictFault.TheVariants.{NoMemory, Syntax}
+use Rattle.dm_dict_text.specs.declared.fault.DictFault.TheVariants.{Syntax}
 use Rattle.dm_tables.specs.Definitions.{Definitions}
 use Rattle.dm_dict_text.specs.Meaning.{made, with_items}
 use Rattle.dm_dict_text.specs.Faults.{first_of}
@@ -48,27 +48,3 @@ one_fault text old f g (inr s) (inr t) =
     let same = same_items text s.items t.items s.grammatical t.grammatical in
     one_first (first_of (all_faults old t.items)) f g
     (subst (λ (is : List Written). first_of (all_faults old is) ≡ Some f) same s.first) t.first
-
-module _ (text : List ℕ) (old : Definitions) where
-  pub only_at_ok : (made new : Definitions) → Defines text old made → Defines text old new
-      → (◌≡◌ {A = Result Definitions DictFault} (Ok made) (Ok new)) ⊎
-      (◌≡◌ {A = Result Definitions DictFault} (Ok made) (Err NoMemory))
-  only_at_ok made new d e = inl (ap Ok (one_definition text old made new d e))
-
-  pub only_at_err : (f : DictFault) (new : Definitions) → (f ≡ NoMemory) ⊎ IsFirstFault text old f
-      → Defines text old new
-      → (◌≡◌ {A = Result Definitions DictFault} (Err f) (Ok new)) ⊎
-      (◌≡◌ {A = Result Definitions DictFault} (Err f) (Err NoMemory))
-  only_at_err f new (inl e) d = inr (ap Err e)
-  only_at_err f new (inr h) d = no_outcome text old new f d h
-
-  pub refuses_at_ok : (made : Definitions) (f : DictFault) → Defines text old made → IsFirstFault text old f
-      → (◌≡◌ {A = Result Definitions DictFault} (Ok made) (Err f)) ⊎
-      (◌≡◌ {A = Result Definitions DictFault} (Ok made) (Err NoMemory))
-  refuses_at_ok made f d h = no_outcome text old made f d h
-
-  pub refuses_at_err : (g f : DictFault) → (g ≡ NoMemory) ⊎ IsFirstFault text old g → IsFirstFault text old f
-      → (◌≡◌ {A = Result Definitions DictFault} (Err g) (Err f)) ⊎
-      (◌≡◌ {A = Result Definitions DictFault} (Err g) (Err NoMemory))
-  refuses_at_err g f (inl e) h = inr (ap Err e)
-  refuses_at_err g f (inr k) h = inl (ap Err (one_fault text old g f k h))

@@ -4,7 +4,6 @@
 mod bounds;
 mod checks;
 mod define;
-mod definitions;
 mod entries;
 mod fault;
 mod kind;
@@ -12,8 +11,10 @@ pub mod laws;
 mod list;
 mod number;
 mod print;
-mod read;
+mod tables_to_text;
+mod text_to_tables;
 mod unknown;
 
-pub use definitions::Definitions;
 pub use fault::DictFault;
+pub use tables_to_text::print_tables;
+pub use text_to_tables::read_tables;

@@ -1,7 +1,9 @@
 //! The base dictionary, told from outside, and that its calls succeed with memory at hand.
+ghost use Rattle.dm_tables.specs.Tables.{IsDictionary};
+
 use crate::text::joined;
-use dm_dict_text::Definitions;
-use dm_tables::{AvpType, Form};
+use dm_dict::{AvpType, Dictionary, Form};
+use dm_tables::{Tables, base_tables};
 use std::alloc::Global;
 use std::process::Abort;
 
@@ -69,26 +71,26 @@ fn base_text(rt: &(impl Abort + AllocGlobal), others: &str) -> String {
     joined(rt, &[PLAIN, others])
 }
 
-fn prints(alloc: Global, definitions: &Definitions, text: &[u8]) -> bool {
+fn prints(alloc: Global, definitions: &Dictionary, text: &[u8]) -> bool {
     match definitions.print(alloc) {
         Ok(printed) => printed.as_slice() == text,
         Err(_) => false,
     }
 }
 
-fn base(rt: &(impl Abort + AllocGlobal)) -> Definitions {
-    Definitions::base(rt.alloc()).expect(rt, "the base definitions")
+fn base(rt: &(impl Abort + AllocGlobal)) -> Dictionary {
+    Dictionary::base(rt.alloc()).expect(rt, "the base definitions")
 }
 
-fn read(rt: &(impl Abort + AllocGlobal), text: &[u8]) -> Definitions {
-    let empty = Definitions::empty(rt.alloc());
-    let read = Definitions::read(rt.alloc(), text, &empty);
+fn read(rt: &(impl Abort + AllocGlobal), text: &[u8]) -> Dictionary {
+    let empty = Dictionary::empty(rt.alloc());
+    let read = Dictionary::read(rt.alloc(), text, &empty);
     drop(empty);
     read.expect(rt, "definitions")
 }
 
 /// Whether the definitions are printed as the base dictionary's.
-fn prints_base(rt: &(impl Abort + AllocGlobal), definitions: &Definitions) -> bool {
+fn prints_base(rt: &(impl Abort + AllocGlobal), definitions: &Dictionary) -> bool {
     let text = base_text(rt, PRINTED);
     let same = prints(rt.alloc(), definitions, text.as_bytes());
     drop(text);
@@ -104,49 +106,50 @@ fn reads_as_base(rt: &(impl Abort + AllocGlobal), others: &str) -> bool {
     same
 }
 
-fn has_user_name(definitions: &Definitions) -> bool {
+fn has_user_name(definitions: &Dictionary) -> bool {
     definitions.avp_by_name(b"User-Name").is_some()
         || definitions.avp_by_code(1, None).is_some()
         || definitions.command(257, true, false).is_some()
 }
 
-fn finds_avps(base: &Definitions) -> Option<bool> {
+fn finds_avps(base: &Dictionary) -> Option<bool> {
     let by_name = base.avp_by_name(b"Failed-AVP")?;
     let by_code = base.avp_by_code(279, None)?;
     Some(by_name == by_code && by_name.kind == AvpType::Grouped)
 }
 
-fn finds_no_others(base: &Definitions) -> bool {
+fn finds_no_others(base: &Dictionary) -> bool {
     base.avp_by_name(b"AVP").is_none()
         && base.avp_by_code(279, Some(0)).is_none()
         && base.command(257, true, true).is_none()
 }
 
-fn finds_places(base: &Definitions) -> Option<bool> {
+fn finds_places(tables: &Tables) -> Option<bool>
+    requires { IsDictionary tables.now }
+{
     let name = b"Vendor-Id".as_slice();
-    let place = base.place_by_name(name)?;
-    let avp = base.avps().get(place)?;
-    let cer = base.commands().get(base.command_place(257, true, false)?)?;
+    let place = tables.place_by_name(name)?;
+    let avp = tables.avps.as_slice().get(place)?;
+    let cer = tables.command_by_head(257, true, false)?;
     let entry = cer.rule.as_slice().get(3)?;
     Some(
-        base.place_by_code(266, None)? == place
+        tables.place_by_code(266, None)? == place
             && avp.name.as_slice() == name
             && entry.name.as_slice() == name
             && entry.form == Form::Required,
     )
 }
 
-fn copies(base: &Definitions) -> Option<bool> {
+fn copies(base: &Dictionary) -> Option<bool> {
     let cer = base.command(257, true, false)?;
     let copy = cer.clone().ok()?;
     Some(copy == *cer)
 }
 
-fn assert_base(rt: &(impl Abort + AllocGlobal), base: &Definitions) {
+fn assert_base(rt: &(impl Abort + AllocGlobal), base: &Dictionary) {
     assert!(rt; prints_base(rt, base), "printed");
     assert!(rt; finds_avps(base) == Some(true), "AVPs");
     assert!(rt; finds_no_others(base), "no others");
-    assert!(rt; finds_places(base) == Some(true), "a place");
     assert!(rt; copies(base) == Some(true), "a copy");
 }
 
@@ -164,8 +167,15 @@ fn base_is_printed_and_found(rt: HostRuntime) {
 }
 
 #[test]
+fn base_tables_are_found(rt: HostRuntime) {
+    let tables = base_tables(rt.alloc()).expect(&rt, "the base tables");
+    assert!(rt; finds_places(&tables) == Some(true), "a place");
+    drop(tables);
+}
+
+#[test]
 fn empty_prints_nothing(rt: HostRuntime) {
-    let empty = Definitions::empty(rt.alloc());
+    let empty = Dictionary::empty(rt.alloc());
     assert!(rt; prints(rt.alloc(), &empty, b""));
     assert!(rt; !has_user_name(&empty));
     drop(empty);

@@ -13,7 +13,7 @@ judge_avp-judge_group-requires t c =
     let def = c.in-Some.field-0.def.now in
     let code = c.args.avp.code in
     let vendor = c.args.avp.vendor in
-    let found : find (is_coded code vendor) c.args.dictionary.now.definitions.avps ≡ Some
+    let found : find (is_coded code vendor) c.args.dictionary.now.tables.avps.items ≡ Some
     def = sym (c.in-Some.ensures.def ∙ c.requires.def) in (
       omega arith,
       (
@@ -31,7 +31,7 @@ judge_avp-judge_group-requires t c =
 
 pub judge_list-loop-avp-preserved : goal.judge_list-loop-avp-preserved
 judge_list-loop-avp-preserved t c =
-    let avps = c.args.dictionary.now.definitions.avps in
+    let avps = c.args.dictionary.now.tables.avps.items in
     let rule = c.args.rule.entries.now in
     let a = avp_of c.in-Some.avp in
     let G = group_faults c.args.depth avps in

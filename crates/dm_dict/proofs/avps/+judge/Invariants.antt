@@ -18,12 +18,12 @@ decreases-judge_group l = 3 * l.depth
 abbrev pub invariant-judge_list-loop-avp : goal.invariant-judge_list-loop-avp
 invariant-judge_list-loop-avp l =
     (all : List Avp) → Lists l.list all → (m : List Avp) × Lists l.left m
-    × (first (list_faults l.depth l.dictionary.definitions.avps l.rule.entries.now all)
+    × (first (list_faults l.depth l.dictionary.tables.avps.items l.rule.entries.now all)
     ≡ first (flat_map
-    (λ a. avp_faults (group_faults l.depth l.dictionary.definitions.avps)
-    (allows (entry_for l.rule.entries.now (definition l.dictionary.definitions.avps a))) a (definition l.dictionary.definitions.avps a)) m
-    ++ flat_map (entry_faults l.dictionary.definitions.avps l.rule.entries.now all) l.rule.entries.now))
-    × IsCountedBut l.dictionary.definitions.avps l.rule.entries.now all m 0 l.counts
+    (λ a. avp_faults (group_faults l.depth l.dictionary.tables.avps.items)
+    (allows (entry_for l.rule.entries.now (definition l.dictionary.tables.avps.items a))) a (definition l.dictionary.tables.avps.items a)) m
+    ++ flat_map (entry_faults l.dictionary.tables.avps.items l.rule.entries.now all) l.rule.entries.now))
+    × IsCountedBut l.dictionary.tables.avps.items l.rule.entries.now all m 0 l.counts
 
 abbrev pub decreases-judge_list-loop-avp : goal.decreases-judge_list-loop-avp
 decreases-judge_list-loop-avp l = size_of l.left

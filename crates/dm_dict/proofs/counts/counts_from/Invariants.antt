@@ -7,7 +7,7 @@ use Rattle.dm_dict.proofs.counts.counts_from.Given as goal
 abbrev pub invariant-loop-avp : goal.invariant-loop-avp
 invariant-loop-avp l =
     (all : List Avp) → Lists l.list all →
-    (m : List Avp) × Lists l.left m × IsCountedBut l.dictionary.avps l.rule.entries.now all m l.from l.counts
+    (m : List Avp) × Lists l.left m × IsCountedBut l.tables.avps.items l.rule.entries.now all m l.from l.counts
 
 abbrev pub decreases-loop-avp : goal.decreases-loop-avp
 decreases-loop-avp l = size_of l.left

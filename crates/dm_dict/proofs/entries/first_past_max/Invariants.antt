@@ -9,8 +9,8 @@ abbrev pub invariant-loop-avp : goal.invariant-loop-avp
 invariant-loop-avp l =
     (all : List Avp) (e : Entry) → Lists l.list all → e ≡ slice_index_or l.rule.entries.now l.at e
     → (m : List Avp) × Lists l.left m
-    × (slice_get (counted l.dictionary.avps l.rule.entries.now all e) l.max ≡
-    slice_get (counted l.dictionary.avps l.rule.entries.now m e) l.before)
+    × (slice_get (counted l.tables.avps.items l.rule.entries.now all e) l.max ≡
+    slice_get (counted l.tables.avps.items l.rule.entries.now m e) l.before)
 
 abbrev pub decreases-loop-avp : goal.decreases-loop-avp
 decreases-loop-avp l = size_of l.left

@@ -10,31 +10,31 @@ use Rattle.dm_dict.proofs.Linking.{linked_place, own_names}
 use Rattle.dm_dict.proofs.rules.look_up.Goals as goal
 
 place_is : (c : goal.After-or) → c.or.result ≡ place_of c.args.rule.entries.now
-    (definition c.args.dictionary.now.avps (avp_of c.args.avp))
+    (definition c.args.tables.now.avps.items (avp_of c.args.avp))
 place_is c =
     let rule = c.requires.rule in
     c.or.ensures ∙ (rw (c.place-linked.ensures, c.place.ensures)
-    (linked_place c.args.dictionary.now.avps c.args.rule.entries.now c.args.rule.links.now
+    (linked_place c.args.tables.now.avps.items c.args.rule.entries.now c.args.rule.links.now
     (is_coded c.args.avp.code c.args.avp.vendor) c.place_by_code-definition.result c.requires.fit rule.closed
     rule.linked c.place_by_code-definition.ensures))
 
 pub returns-clause-def : goal.returns-clause-def
 returns-clause-def c =
-    let avps = c.args.dictionary.now.avps in
+    let avps = c.args.tables.now.avps.items in
     ap (option_and_then (slice_get avps)) c.place_by_code-definition.ensures ∙ found
     (is_coded c.args.avp.code c.args.avp.vendor) avps
 
 pub returns-clause-entry : goal.returns-clause-entry
 returns-clause-entry c =
     let rule = c.args.rule.entries.now in
-    let f = definition c.args.dictionary.now.avps (avp_of c.args.avp) in
+    let f = definition c.args.tables.now.avps.items (avp_of c.args.avp) in
     rw (place_is c) (entry_at_place rule f _ _ refl refl)
 
 pub returns-clause-counts : goal.returns-clause-counts
 returns-clause-counts c = λ i e within at.
     let rule = c.args.rule.entries.now in
-    let f = definition c.args.dictionary.now.avps (avp_of c.args.avp) in
+    let f = definition c.args.tables.now.avps.items (avp_of c.args.avp) in
     ap (λ o. is_at o i) (place_is c) ∙
     counts_at_place rule f (position_from (names f) 0 rule) (position_from stands_for_any 0 rule)
     c.requires.rule.apart
-    (own_names c.args.dictionary.now.avps c.args.avp.code c.args.avp.vendor c.requires.fit) refl refl i e within at
+    (own_names c.args.tables.now.avps.items c.args.avp.code c.args.avp.vendor c.requires.fit) refl refl i e within at

@@ -6,7 +6,7 @@ use Rattle.dm_dict.proofs.windows.judge_window.Goals as goal
 
 pub returns-in-Bad-clause-fault : goal.returns-in-Bad-clause-fault
 returns-in-Bad-clause-fault c = λ l h counted.
-    let F = entry_faults c.args.dictionary.now.avps c.args.rule.entries.now l in
+    let F = entry_faults c.args.tables.now.avps.items c.args.rule.entries.now l in
     let at = c.loop-at.at in
     let size = ap length c.as_slice.ensures in
     let within : at < length c.args.rule.entries.now = omega arith in
@@ -16,7 +16,7 @@ returns-in-Bad-clause-fault c = λ l h counted.
 
 pub loop-at-preserved : goal.loop-at-preserved
 loop-at-preserved c = λ l h counted.
-    let F = entry_faults c.args.dictionary.now.avps c.args.rule.entries.now l in
+    let F = entry_faults c.args.tables.now.avps.items c.args.rule.entries.now l in
     let at = c.loop-at.at in
     let size = ap length c.as_slice.ensures in
     let within : at < length c.args.rule.entries.now = omega arith in

@@ -7,6 +7,6 @@ use Rattle.dm_dict.proofs.windows.judge_window.Given as goal
 
 abbrev pub invariant-loop-at : goal.invariant-loop-at
 invariant-loop-at l =
-    (all : List Avp) → Lists l.list all → IsCounted l.dictionary.avps l.rule.entries.now all l.from l.counts
-    → first (flat_map (entry_faults l.dictionary.avps l.rule.entries.now all) (drop l.from l.rule.entries.now)) ≡
-    first (flat_map (entry_faults l.dictionary.avps l.rule.entries.now all) (drop l.at l.rule.entries.now))
+    (all : List Avp) → Lists l.list all → IsCounted l.tables.avps.items l.rule.entries.now all l.from l.counts
+    → first (flat_map (entry_faults l.tables.avps.items l.rule.entries.now all) (drop l.from l.rule.entries.now)) ≡
+    first (flat_map (entry_faults l.tables.avps.items l.rule.entries.now all) (drop l.at l.rule.entries.now))

@@ -1,5 +1,6 @@
 -- What was found first, copied.
 use Rattle.dm_dict.proofs.Good.{good_result}
+use Rattle.dm_tables.specs.Tables.{defined}
 use Rattle.dm_dict.proofs.dictionary.Dictionary.check.Goals as goal
 
 pub returns-clause-verdict : goal.returns-clause-verdict
@@ -15,4 +16,4 @@ returns-clause-typed c =
     rw (← c.self.view_is)
     (good_result c.verdict.result _ _
     (rw (c.judge_message.ensures.fault c.args.message.now.avps c.as_slice.ensures) at c.verdict.ensures.found)
-    (c.good_is_typed.ensures c.self.inside.linked.definitions c.args.message.now))
+    (c.good_is_typed.ensures (defined c.self.inside.linked.tables) c.args.message.now))

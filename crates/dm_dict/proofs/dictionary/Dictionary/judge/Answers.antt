@@ -4,6 +4,7 @@ use Rattle.dm_wire.specs.declared.message.Message.{Message}
 use Rattle.dm_dict.specs.Faults.{faults, first}
 use Rattle.dm_dict.specs.Judgement.{verdict_of}
 use Rattle.dm_dict.proofs.Placed.{found_placed}
+use Rattle.dm_tables.specs.Tables.{defined}
 use Rattle.dm_dict.proofs.dictionary.Dictionary.judge.Goals as goal
 
 pub returns-clause-verdict : goal.returns-clause-verdict
@@ -15,10 +16,10 @@ returns-clause-checked c = λ m same spelled.
     (λ i. record { header = sym same i; avps = m.avps }) in
     rw (← c.self.view_is)
     (ap verdict_of
-    (c.judge_spelled.ensures.fault m.avps spelled ∙ ap (λ (x : Message). first (faults c.self.inside.linked.definitions x))
+    (c.judge_spelled.ensures.fault m.avps spelled ∙ ap (λ (x : Message). first (faults (defined c.self.inside.linked.tables) x))
     whole))
 
 pub returns-clause-found : goal.returns-clause-found
 returns-clause-found c = λ l spelled.
-    found_placed c.self.inside.linked.definitions (record { header = c.args.message.now.header; avps = l })
+    found_placed (defined c.self.inside.linked.tables) (record { header = c.args.message.now.header; avps = l })
     c.judge_spelled.result (c.judge_spelled.ensures.fault l spelled) c.judge_spelled.ensures.missing

@@ -7,6 +7,6 @@ use Rattle.dm_dict.proofs.linked.Linked.command.Goals as goal
 
 pub returns-clause-def : goal.returns-clause-def
 returns-clause-def c =
-    let commands = c.args.self.now.definitions.commands in
+    let commands = c.args.self.now.tables.commands.items in
     c.command_at.ensures.def ∙ ap (option_and_then (slice_get commands)) c.command_place.ensures ∙ found
     (is_headed c.args.code c.args.request c.args.err) commands

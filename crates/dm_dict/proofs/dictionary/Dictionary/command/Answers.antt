@@ -1,0 +1,8 @@
+use Rattle.dm_tables.specs.Tables.{defined}
+use Rattle.dm_dict.proofs.dictionary.Dictionary.command.Goals as goal
+
+pub returns-clause-one : goal.returns-clause-one
+returns-clause-one c =
+    rw (c.command_by_head.ensures, ← c.self.view_is)
+    ((c.one_of_each.ensures (defined c.self.inside.linked.tables) c.self.invariant.dictionary.tables.sound).head
+    c.args.code c.args.request c.args.err)

@@ -1,0 +1,26 @@
+-- The limits of judging (own).
+use Rattle.std.specs.Prelude.{ℕ, suc}
+
+-- how many groups may stand inside each other
+abbrev pub group_limit : ℕ
+group_limit = 8
+
+-- the lists of a message that are judged: its own, and those of the groups inside each other
+abbrev pub list_limit : ℕ
+list_limit = suc group_limit
+
+-- how many entries of a rule are counted in one walk
+abbrev pub window : ℕ
+window = 256
+
+-- where a counter stops
+abbrev pub counter_limit : ℕ
+counter_limit = 65535
+
+-- the entries of a rule among which a link is sooner found one by one than by its hash
+abbrev pub short_rule : ℕ
+short_rule = 16
+
+-- the command of the rule of every answer with the E bit
+abbrev pub any_command : ℕ
+any_command = 0

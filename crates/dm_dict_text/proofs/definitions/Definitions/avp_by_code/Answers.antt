@@ -1,7 +1,0 @@
-use Rattle.dm_tables.specs.Tables.{defined}
-use Rattle.dm_dict_text.proofs.definitions.Definitions.avp_by_code.Goals as goal
-
-pub returns-clause-one : goal.returns-clause-one
-returns-clause-one c =
-    rw (c.avp_by_code.ensures, ← c.self.view_is)
-    ((c.one_of_each.ensures (defined c.self.inside.tables) c.self.invariant.tables.sound).code c.args.code c.args.vendor)

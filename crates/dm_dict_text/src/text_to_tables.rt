@@ -1,0 +1,78 @@
+//! A text read into tables (RFC 6733, 3.2).
+ghost use Rattle.std.specs.Prelude.{◌≡◌, ◌⊎◌, [], map, true, OnOk, IfOk, IfErr};
+ghost use Rattle.std.specs.List.{list_all};
+ghost use Rattle.dm_grammar.specs.Views.{view_item};
+ghost use Rattle.dm_dict_text.specs.declared.fault.DictFault.TheVariants as faults;
+ghost use Rattle.dm_tables.specs.Definitions.{nothing_defined};
+ghost use Rattle.dm_tables.specs.Tables.{defined, IsTables, IsDictionary};
+ghost use Rattle.dm_dict_text.specs.Worded.{is_worded};
+ghost use Rattle.dm_dict_text.specs.Meaning.{made, with_items};
+ghost use Rattle.dm_dict_text.specs.Faults.{Stops};
+ghost use Rattle.dm_dict_text.specs.Outcome.{Defines, IsFirstFault, all_faults};
+
+use crate::DictFault;
+use crate::define::define_all;
+use crate::unknown::first_unknown;
+use dm_grammar::{Item, items_law, read_items};
+use dm_tables::Tables;
+use indexmap::IndexSet;
+use std::alloc::Global;
+
+/// Adds the definitions of the old tables and those of the items to tables without any; the names of strays
+/// are put into a set without any.
+fn add_items<'a>(
+    alloc: Global,
+    tables: &mut Tables,
+    strays: &mut IndexSet<&'a [u8]>,
+    old: &Tables,
+    items: &[Item<'a>],
+) -> Result<(), DictFault>
+    requires tables { IsTables tables.old }
+    requires empty { defined tables.old ≡ nothing_defined }
+    requires none { strays.old.keys ≡ [] }
+    requires old { IsDictionary old.now }
+    requires worded { list_all is_worded (map view_item items.now) ≡ true }
+    ensures good { OnOk result (all_faults (defined old.now) (map view_item items.now) ≡ []) }
+    ensures added { OnOk result (defined tables.new ≡ (with_items (made (defined old.now)) (map view_item items.now)).definitions) }
+    ensures dictionary { OnOk result (IsDictionary tables.new) }
+    ensures fault { IfErr result (Stops (all_faults (defined old.now) (map view_item items.now))) }
+{
+    tables.add_all(alloc, old)?;
+    define_all(alloc, tables, strays, items)?;
+    let vendors = old.vendors.items.as_slice().len();
+    match first_unknown(tables, strays, vendors, items) {
+        Some(fault) => Err(fault),
+        None => Ok(()),
+    }
+}
+
+/// The definitions of the old tables, followed by those of the items.
+fn tables_of(alloc: Global, old: &Tables, items: &[Item<'_>]) -> Result<Tables, DictFault>
+    requires old { IsDictionary old.now }
+    requires worded { list_all is_worded (map view_item items.now) ≡ true }
+    ensures good { IfOk result (λ _. all_faults (defined old.now) (map view_item items.now) ≡ []) }
+    ensures added { IfOk result (λ new. defined new ≡ (with_items (made (defined old.now)) (map view_item items.now)).definitions) }
+    ensures dictionary { IfOk result IsDictionary }
+    ensures fault { IfErr result (Stops (all_faults (defined old.now) (map view_item items.now))) }
+{
+    let mut tables = Tables::new(alloc);
+    let mut strays = IndexSet::new(alloc);
+    let done = add_items(alloc, &mut tables, &mut strays, old, items);
+    drop(strays);
+    done.and(Ok(tables))
+}
+
+/// The definitions of the old tables, followed by those of the text in the command code format (RFC 6733, 3.2), of
+/// version 1 or 2; or the text's first fault, or want of memory.
+pub fn read_tables(alloc: Global, text: &[u8], old: &Tables) -> Result<Tables, DictFault>
+    requires { IsDictionary old.now }
+    ensures defines { IfOk result (λ new. Defines text.now (defined old.now) (defined new)) }
+    ensures dictionary { IfOk result IsDictionary }
+    ensures fault { IfErr result (λ f. (f ≡ faults.NoMemory) ⊎ IsFirstFault text.now (defined old.now) f) }
+{
+    items_law();
+    let found = read_items(alloc, text)?;
+    let tables = tables_of(alloc, old, found.as_slice());
+    drop(found);
+    tables
+}
