@@ -4,6 +4,7 @@ pub mod Every
 pub mod FormLemmas
 pub mod Steps
 pub mod EachStepLaw
+pub mod StateLaws
 pub mod ChangeLemmas
 pub mod Ordered
 pub mod StepFacts

@@ -7,10 +7,10 @@ use Rattle.dm_machine.specs.declared.outputs.Command.{Command}
 use Rattle.dm_machine.specs.declared.outputs.Command.TheVariants as command
 use Rattle.dm_machine.specs.Connection.{Order, Connects, SendsCer, SendsCea, SendsRefusal, SendsDwr, SendsDwa, SendsDpr, SendsDpa, SendsSubmit, Closes, if_ordered, order_to, with_order, orders_to}
 use Rattle.dm_machine.specs.Openings.{is_order, has_order}
-use Rattle.dm_machine.specs.Ordered.{IsAmong, command_for, EachOrderIsACommand, EachCommandIsAnOrder}
+use Rattle.dm_machine.specs.Ordered.{StandsAmong, command_for, EachOrderIsACommand, EachCommandIsAnOrder}
 use Rattle.dm_machine.proofs.ChangeLemmas.{same_order}
 
-further : (y x : Command) (xs : List Command) → IsAmong xs x → IsAmong (y ∷ xs) x
+further : (y x : Command) (xs : List Command) → StandsAmong xs x → StandsAmong (y ∷ xs) x
 further y x xs (earlier, later, e) = (y ∷ earlier, later, ap (λ l. y ∷ l) e)
 
 pub same_conn : (d c : Conn) → (d.0 == c.0) ≡ true → d ≡ c
@@ -38,8 +38,8 @@ ordered_as c (command.Close d) o e = ordered_by d c command.Close Closes o refl 
 ordered_as c command.Up o e = absurd (cc e)
 
 ordered_first : (want : Order) (c : Conn) (a : Command) (l : List Command) →
-    (has_order want (orders_to c l) ≡ true → IsAmong l (command_for want c)) → (o : Option Order) → order_to c a ≡ o →
-    has_order want (with_order o (orders_to c l)) ≡ true → IsAmong (a ∷ l) (command_for want c)
+    (has_order want (orders_to c l) ≡ true → StandsAmong l (command_for want c)) → (o : Option Order) → order_to c a ≡ o →
+    has_order want (with_order o (orders_to c l)) ≡ true → StandsAmong (a ∷ l) (command_for want c)
 ordered_first want c a l rest None is e = further a (command_for want c) l (rest e)
 ordered_first want c a l rest (Some o) is e =
     elim (or_cases (is_order want o) (has_order want (orders_to c l)) e) [

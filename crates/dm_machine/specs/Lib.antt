@@ -16,6 +16,8 @@ pub mod Unread
 pub mod Strangers
 pub mod Shape
 pub mod EachStep
+pub mod Refusals
+pub mod Elections
 pub mod Deeds
 pub mod Awaiting
 pub mod Phases

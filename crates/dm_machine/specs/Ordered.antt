@@ -7,8 +7,8 @@ use Rattle.dm_machine.specs.Connection.{Order, Connects, SendsCer, SendsCea, Sen
 use Rattle.dm_machine.specs.Openings.{is_order, has_order}
 
 -- an element of a list, with what stands before and behind it
-abbrev pub IsAmong : {X : Type 0} → List X → X → Type 0
-IsAmong {X} xs x = (earlier : List X) × (later : List X) × (xs ≡ earlier ++ x ∷ later)
+abbrev pub StandsAmong : {X : Type 0} → List X → X → Type 0
+StandsAmong {X} xs x = (earlier : List X) × (later : List X) × (xs ≡ earlier ++ x ∷ later)
 
 -- the command of an order
 abbrev pub command_for : Order → Conn → Command
@@ -31,10 +31,10 @@ OrdersAreToldApart = (o p : Order) → is_order o p ≡ true → o ≡ p
 abbrev pub EachOrderIsACommand : Type 0
 EachOrderIsACommand =
     (o : Order) (c : Conn) (commands : List Command) → has_order o (orders_to c commands) ≡ true →
-    IsAmong commands (command_for o c)
+    StandsAmong commands (command_for o c)
 
 -- a command to a connection is among what it is ordered
 abbrev pub EachCommandIsAnOrder : Type 0
 EachCommandIsAnOrder =
-    (o : Order) (c : Conn) (commands : List Command) (a : Command) → IsAmong commands a → order_to c a ≡ Some o →
+    (o : Order) (c : Conn) (commands : List Command) (a : Command) → StandsAmong commands a → order_to c a ≡ Some o →
     has_order o (orders_to c commands) ≡ true

@@ -4,6 +4,7 @@ ghost use Rattle.dm_machine.specs.Answering.{AnswersWhatIsHeard};
 ghost use Rattle.dm_machine.specs.Causes.{EachHoldIsCaused};
 ghost use Rattle.dm_machine.specs.Changes.{EachConnectionChangesAsAllowed};
 ghost use Rattle.dm_machine.specs.EachStep.{EachStepHolds};
+ghost use Rattle.dm_machine.specs.Elections.{WinnerCountsInElections};
 ghost use Rattle.dm_machine.specs.Forms.{EachShapeIsAForm, EachFormIsShaped};
 ghost use Rattle.dm_machine.specs.Openings.{
   OpensAcceptedWithCea,
@@ -14,6 +15,7 @@ ghost use Rattle.dm_machine.specs.Openings.{
   EndsAtClose,
 };
 ghost use Rattle.dm_machine.specs.Ordered.{OrdersAreToldApart, EachOrderIsACommand, EachCommandIsAnOrder};
+ghost use Rattle.dm_machine.specs.Refusals.{RefusesByState};
 ghost use Rattle.dm_machine.specs.Rows.{HasOneRowEach};
 ghost use Rattle.dm_machine.specs.Shape.{EachStepKeepsShape};
 ghost use Rattle.dm_machine.specs.Strangers.{TurnsStrangersAway};
@@ -100,6 +102,13 @@ pub fn unread_words_are_alike()
 /// is closed, behind an answer where a CER is refused; but for a good CER where first messages are read.
 pub fn strangers_are_turned_away()
     ensures { TurnsStrangersAway }
+{}
+
+/// What goes by the state: which inputs are refused, and that it counts who would win an election only where one can be
+/// held.
+pub fn each_state_decides()
+    ensures refused { RefusesByState }
+    ensures elected { WinnerCountsInElections }
 {}
 
 /// The state table with the own rows: a state and an event have at most one row, and it is the one that is followed.
