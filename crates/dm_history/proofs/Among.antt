@@ -3,16 +3,16 @@ use Rattle.std.proofs.Common.{◌≡◌, List, [], ◌∷◌, ◌++◌, map, ref
 use Rattle.std.proofs.lemmas.List.{map-append}
 use Rattle.dm_machine.specs.declared.outputs.Command.{Command}
 use Rattle.dm_peer.specs.declared.actions.Action.{Action}
-use Rattle.dm_history.specs.History.{IsAmong}
+use Rattle.dm_history.specs.History.{StandsAmong}
 
-pub further : {A : Type 0} (y x : A) (xs : List A) → IsAmong xs x → IsAmong (y ∷ xs) x
+pub further : {A : Type 0} (y x : A) (xs : List A) → StandsAmong xs x → StandsAmong (y ∷ xs) x
 further y x xs (earlier, later, e) = (y ∷ earlier, later, ap (λ l. y ∷ l) e)
 
-pub none_among : {A : Type 0} (x : A) → IsAmong [] x → ⊥
+pub none_among : {A : Type 0} (x : A) → StandsAmong [] x → ⊥
 none_among x ([], later, e) = cc e
 none_among x (y ∷ earlier, later, e) = cc e
 
-pub mapped : (f : Command → Action) (l : List Command) (a : Command) → IsAmong l a → IsAmong (map f l) (f a)
+pub mapped : (f : Command → Action) (l : List Command) (a : Command) → StandsAmong l a → StandsAmong (map f l) (f a)
 mapped f l a (earlier, later, e) = (map f earlier, map f later, ap (map f) e ∙ map-append f earlier (a ∷ later))
 
 -- the command of an action, with those before and behind it

@@ -25,15 +25,15 @@ use Rattle.dm_machine.specs.Awaiting.{holds_cer}
 use Rattle.dm_peer.specs.Acts.{input_of}
 use Rattle.dm_peer.specs.Settled.{IsSettled}
 use Rattle.dm_history.specs.History.{Happened}
-use Rattle.dm_history.specs.Meant.{IsGoodCer}
+use Rattle.dm_history.specs.Meant.{IsAcceptableCer}
 use Rattle.dm_history.proofs.Words.{good_cer, heard_header}
 use Rattle.dm_history.proofs.Commands.{cer_asks, base_word}
 use Rattle.dm_history.proofs.Turning.{AreRead}
-use Rattle.dm_history.proofs.Holding.{is_accepted, reads_none}
+use Rattle.dm_history.proofs.Holding.{is_open_as_r, reads_none}
 use Rattle.dm_history.proofs.Waiting.{none_there, exchange_is_base}
-use Rattle.dm_history.proofs.Coming.{Came, came_on}
+use Rattle.dm_history.proofs.Coming.{WordCame, came_on}
 use Rattle.dm_history.proofs.Sending.{asked_for, asks_base, asks_readable}
-use Rattle.dm_history.proofs.Stories.{HasHeard, Story}
+use Rattle.dm_history.proofs.Stories.{HasHeard, StoryOf}
 
 -- where a connection is taken, a first message is read
 reads : ClosesUnread → (p : Peer) → IsSettled p → (e : PeerEvent) (h : Option Heard) (commands : List Command)
@@ -51,9 +51,9 @@ reads closes p was e h commands core o c free held s is = elim (cases_Bool (read
 ]
 
 -- the good CER by which a connection is taken: no other waits, so it is the one that is answered
-pub record CameCer (p : Peer) (e : PeerEvent) (h : Option Heard) (c : Conn) : Type 0 where
-  pub cer : Came p e h c Cer
-  pub good : IsGoodCer p.config cer.message
+pub record TakenByCer (p : Peer) (e : PeerEvent) (h : Option Heard) (c : Conn) : Type 0 where
+  pub cer : WordCame p e h c Cer
+  pub good : IsAcceptableCer p.config cer.message
   pub alone : holds_cer p.standing.core.state ≡ false
   pub header : header_heard h ≡ Some cer.message.header
   pub answered : cer_answered p.standing.waiting h ≡ cer.message.header
@@ -61,7 +61,7 @@ pub record CameCer (p : Peer) (e : PeerEvent) (h : Option Heard) (c : Conn) : Ty
 pub came_cer : ClosesUnread → (p : Peer) → IsSettled p → (e : PeerEvent) (h : Option Heard) (commands : List Command)
     (core : Node) → outcome p.standing.core (input_of e h) (wins p.config) ≡ moves.Moved commands core →
     AreRead p e h → (c : Conn) → hold_of p.standing.core c ≡ NotHeld → (hold_of core c ≡ NotHeld → ⊥) →
-    concern_of (input_of e h) c ≡ HeardOnIt Cer → CameCer p e h c
+    concern_of (input_of e h) c ≡ HeardOnIt Cer → TakenByCer p e h c
 came_cer closes p was e h commands core o read c free held k =
     let m = came_on p e h c Cer read (λ y. cc y) k in
     let alone = reads_none p.standing.core.state
@@ -75,7 +75,7 @@ came_cer closes p was e h commands core o read c free held k =
       answered = ap (λ w. cer_answered w h) none ∙ (ap header_of m.heard ∙ heard_header p.config m.message);
     }
 
-base_cer : (p : Peer) (to : Header) (m : Message) → IsGoodCer p.config m → to ≡ m.header →
+base_cer : (p : Peer) (to : Header) (m : Message) → IsAcceptableCer p.config m → to ≡ m.header →
     is_base_command to.command ≡ true
 base_cer p to m good is =
     ap (λ x. is_base_command x.command) is ∙ exchange_is_base m.header.command (cer_asks p.config m good).0
@@ -86,10 +86,10 @@ cea_to : ClosesUnread → (p : Peer) → IsSettled p → (e : PeerEvent) (h : Op
     AreRead p e h → (c : Conn) (past : List Happened) (before : Hold) → hold_of p.standing.core c ≡ before →
     hold_of core c ≡ OpenAsR → (before ≡ OpenAsR → ⊥) →
     IsCaused (concern_of (input_of e h) c) before OpenAsR (orders_to c commands) →
-    Story p.config p.standing c past before → is_base_command (cer_answered p.standing.waiting h).command ≡ true
+    StoryOf p.config p.standing c past before → is_base_command (cer_answered p.standing.waiting h).command ≡ true
 cea_to closes p was e h commands core o read c past before at is differs (inl same) s = absurd (differs same)
 cea_to closes p was e h commands core o read c past before at is differs (inr (has, inl taken)) s =
-    let t : HasHeard p.config p.standing c past = subst (Story p.config p.standing c past) taken s in
+    let t : HasHeard p.config p.standing c past = subst (StoryOf p.config p.standing c past) taken s in
     base_cer p (cer_answered p.standing.waiting h) t.cer t.good (ap (λ w. cer_answered w h) t.kept)
 cea_to closes p was e h commands core o read c past before at is differs (inr (has, inr (free, k))) s =
     let m = came_cer closes p was e h commands core o read c (at ∙ free) (λ y. cc (y, is)) k in
@@ -101,7 +101,7 @@ not_before h e same = cc (sym (ap (λ k. not (is_hold OpenAsR k)) same) ∙ e)
 pub cea_answers_base : OpensAcceptedWithCea → EachHoldIsCaused → ClosesUnread → (p : Peer) → IsSettled p →
     (e : PeerEvent) (h : Option Heard) (commands : List Command) (core : Node) →
     outcome p.standing.core (input_of e h) (wins p.config) ≡ moves.Moved commands core → AreRead p e h → (c : Conn)
-    (past : List Happened) → Story p.config p.standing c past (hold_of p.standing.core c) →
+    (past : List Happened) → StoryOf p.config p.standing c past (hold_of p.standing.core c) →
     has_order SendsCea (orders_to c commands) ≡ true →
     is_base_command (cer_answered p.standing.waiting h).command ≡ true
 cea_answers_base accepted law closes p was e h commands core o read c past story has =
@@ -111,7 +111,7 @@ cea_answers_base accepted law closes p was e h commands core o read c past story
     subst (AtConnection (λ k before after orders. is_entered OpenAsR before after ≡ has_order SendsCea orders) n i c) o
     (accepted n i (wins p.config) c was.shaped) in
     let both = and_parts (not (is_hold OpenAsR (hold_of n c))) (is_hold OpenAsR (hold_of core c)) (entered ∙ has) in
-    let now = is_accepted (hold_of core c) both.1 in
+    let now = is_open_as_r (hold_of core c) both.1 in
     let caused : IsCaused (concern_of i c) (hold_of n c) (hold_of core c) (orders_to c commands) =
     subst (AtConnection IsCaused n i c) o (law n i (wins p.config) c was.shaped) in
     cea_to closes p was e h commands core o read c past (hold_of n c) refl now (not_before (hold_of n c) both.0)

@@ -1,54 +1,42 @@
--- What is closed isn't held, and nothing is sent on it.
-use Rattle.std.proofs.Common.{◌≡◌, ◌⊎◌, inl, inr, ℕ, ◌==◌, Bool, true, false, not, ◌&&◌, Option, None, Some, List, [], ◌∷◌, ◌++◌, refl, sym, subst, ap, ◌∙◌}
+-- What has ended isn't held, and nothing is sent on it.
+use Rattle.std.proofs.Common.{◌≡◌, inl, inr, ℕ, true, false, not, ◌&&◌, Option, None, Some, List, [], ◌∷◌, ◌++◌, refl, sym, subst, ap, ◌∙◌}
 use Rattle.std.specs.Prelude.{IsTrue}
 use Rattle.std.proofs.lemmas.Bool.{and_parts, and_from}
 use Rattle.dm_machine.specs.declared.connection.Conn.{Conn}
 use Rattle.dm_machine.specs.declared.outputs.Command.{Command}
-use Rattle.dm_machine.specs.Connection.{NotHeld, hold_of, Concern, StartsIt, AcksIt, NacksIt, EndsIt, HeardOnIt, if_named, concern_of, Order, Closes, order_to, with_order, orders_to, AtConnection}
+use Rattle.dm_machine.specs.Connection.{NotHeld, hold_of, concern_of, Order, Closes, order_to, with_order, orders_to, AtConnection}
+use Rattle.dm_machine.specs.Changes.{EachConnectionChangesAsAllowed}
 use Rattle.dm_machine.specs.Openings.{is_hold, has_order, is_named, is_left_unclosed, ends_at_close, ClosesWhatItGivesUp, LeavesOthersAlone, EndsAtClose}
 use Rattle.dm_peer.specs.declared.actions.Action.{Action}
 use Rattle.dm_peer.specs.declared.actions.Action.TheVariants.{Send, Close}
 use Rattle.dm_peer.specs.declared.config.Config.{Config}
 use Rattle.dm_peer.specs.declared.peer.Peer.{Peer}
-use Rattle.dm_peer.specs.Events.{PeerEvent, Start, Stop, Timeout, Tick, Ack, Nack, Arrived, Gone, Submit}
+use Rattle.dm_peer.specs.Events.{PeerEvent}
 use Rattle.dm_peer.specs.Configs.{wins}
-use Rattle.dm_peer.specs.Said.{Heard, word_heard}
+use Rattle.dm_peer.specs.Said.{Heard}
 use Rattle.dm_peer.specs.Sent.{action_of}
 use Rattle.dm_peer.specs.Acts.{Moved, input_of}
 use Rattle.dm_peer.specs.Settled.{IsSettled, FreshIsSettled, EachEventKeepsSettled}
-use Rattle.dm_history.specs.History.{Happened, done_at, declined_at, new_peer, Became, untold, done, declined, IsAmong}
-use Rattle.dm_history.specs.Naming.{names_conn, IsClosing, WasClosed, NamesNone}
-use Rattle.dm_history.specs.Closings.{EachCloseIsLast, NothingFollowsClose}
+use Rattle.dm_history.specs.History.{Happened, done_at, new_peer, Became, untold, done, declined, StandsAmong}
+use Rattle.dm_history.specs.Naming.{names_conn, IsClosing, EndedSince}
+use Rattle.dm_history.specs.Over.{EachEndIsLast, NothingFollowsClose}
 use Rattle.dm_history.proofs.Among.{none_among, sourced}
+use Rattle.dm_history.proofs.Concerns.{names_as}
 use Rattle.dm_history.proofs.Ordered.{ordered}
-use Rattle.dm_history.proofs.Turning.{IsTurn, Turns, turns}
+use Rattle.dm_history.proofs.Turning.{IsTurn, TurnsAs, turns}
 use Rattle.dm_history.proofs.Holding.{is_free}
 use Rattle.dm_history.proofs.Lasting.{stays_settled}
+use Rattle.dm_history.proofs.Unmade.{ended_free, stays_unmade}
 use Rattle.dm_history.proofs.Sending.{sends_order, closes_order}
 
 -- the laws of one step that it rests on
 pub record CloseLaws : Type 0 where
+  pub changes : EachConnectionChangesAsAllowed
   pub fresh : FreshIsSettled
   pub kept : EachEventKeepsSettled
   pub closed : ClosesWhatItGivesUp
   pub alone : LeavesOthersAlone
   pub last : EndsAtClose
-
-not_named : (b : Bool) (k : Concern) → b ≡ false → not (is_named (if_named b k)) ≡ true
-not_named true k e = cc
-not_named false k e = refl
-
-unnamed : (e : PeerEvent) (h : Option Heard) (c : Conn) → names_conn e c ≡ false →
-    not (is_named (concern_of (input_of e h) c)) ≡ true
-unnamed (Start d) h c e = not_named (d.0 == c.0) StartsIt e
-unnamed (Ack d) h c e = not_named (d.0 == c.0) AcksIt e
-unnamed (Nack d) h c e = not_named (d.0 == c.0) NacksIt e
-unnamed (Gone d) h c e = not_named (d.0 == c.0) EndsIt e
-unnamed (Arrived d s) h c e = not_named (d.0 == c.0) (HeardOnIt (word_heard h)) e
-unnamed (Stop cause) h c e = refl
-unnamed Timeout h c e = refl
-unnamed Tick h c e = refl
-unnamed (Submit s) h c e = refl
 
 -- a connection that isn't held nor named is left alone
 alone_at : LeavesOthersAlone → (p : Peer) → IsSettled p → (e : PeerEvent) (actions : List Action) (next : Peer) →
@@ -61,11 +49,11 @@ alone_at alone p was e actions next t c free other =
     IsTrue (is_hold NotHeld before && not (is_named k)) → (after ≡ NotHeld) × (orders ≡ [])) n i c) t.moves
     (alone n i (wins p.config) c was.shaped)
     (and_from (is_hold NotHeld (hold_of n c)) (not (is_named (concern_of i c))) (ap (is_hold NotHeld) free)
-    (unnamed e t.heard c other))
+    (ap not (names_as e t.heard c ∙ other)))
 
 -- one that is closed isn't held
 closed_at : ClosesWhatItGivesUp → (p : Peer) → IsSettled p → (e : PeerEvent) (actions : List Action) (next : Peer) →
-    (t : IsTurn p e actions next) → (c : Conn) → IsAmong actions (Close c) → hold_of t.core c ≡ NotHeld
+    (t : IsTurn p e actions next) → (c : Conn) → StandsAmong actions (Close c) → hold_of t.core c ≡ NotHeld
 closed_at closed p was e actions next t c (earlier, later, stands) =
     let n = p.standing.core in
     let i = input_of e t.heard in
@@ -82,60 +70,67 @@ closed_at closed p was e actions next t c (earlier, later, stands) =
     (sym law ∙ has)).0
 
 sent_none : (p : Peer) (e : PeerEvent) (h : Option Heard) (l : List Command) (c : Conn) (s : List ℕ)
-    (a : Command) → IsAmong l a → action_of p e h a ≡ Send c s → orders_to c l ≡ [] → ⊥
+    (a : Command) → StandsAmong l a → action_of p e h a ≡ Send c s → orders_to c l ≡ [] → ⊥
 sent_none p e h l c s a there is none =
     let o = sends_order p e h a c s is in
     cc (sym (ap (has_order o.0) none) ∙ ordered o.0 c l a there o.1)
 
 silent_at : LeavesOthersAlone → (p : Peer) → IsSettled p → (c : Conn) → hold_of p.standing.core c ≡ NotHeld →
     (e : PeerEvent) (actions : List Action) (next : Peer) (s : List ℕ) → names_conn e c ≡ false →
-    Turns p e (Moved actions next) → IsAmong actions (Send c s) → ⊥
+    TurnsAs p e (Moved actions next) → StandsAmong actions (Send c s) → ⊥
 silent_at alone p was c free e actions next s other (inr d) there =
-    none_among (Send c s) (subst (λ (l : List Action). IsAmong l (Send c s)) d.none there)
+    none_among (Send c s) (subst (λ (l : List Action). StandsAmong l (Send c s)) d.none there)
 silent_at alone p was c free e actions next s other (inl t) (earlier, later, stands) =
     let a = sourced (action_of p e t.heard) t.commands (Send c s) earlier later (sym t.acted ∙ stands) in
     sent_none p e t.heard t.commands c s a.command (a.before, a.behind, a.stands) a.gives
     (alone_at alone p was e actions next t c free other).1
 
-free_after : ClosesWhatItGivesUp → LeavesOthersAlone → (p : Peer) → IsSettled p → (e : PeerEvent)
-    (actions : List Action) (next : Peer) (c : Conn) → Turns p e (Moved actions next) →
-    IsAmong actions (Close c) ⊎ ((hold_of p.standing.core c ≡ NotHeld) × (names_conn e c ≡ false)) →
+closed_free : ClosesWhatItGivesUp → (p : Peer) → IsSettled p → (e : PeerEvent) (actions : List Action) (next : Peer)
+    (c : Conn) → TurnsAs p e (Moved actions next) → StandsAmong actions (Close c) →
     hold_of next.standing.core c ≡ NotHeld
-free_after closed alone p was e actions next c (inr d) (inl there) =
-    absurd (none_among (Close c) (subst (λ (l : List Action). IsAmong l (Close c)) d.none there))
-free_after closed alone p was e actions next c (inr d) (inr (free, other)) =
-    ap (λ q. hold_of q.standing.core c) d.same ∙ free
-free_after closed alone p was e actions next c (inl t) (inl there) =
+closed_free closed p was e actions next c (inr d) there =
+    absurd (none_among (Close c) (subst (λ (l : List Action). StandsAmong l (Close c)) d.none there))
+closed_free closed p was e actions next c (inl t) there =
     ap (λ q. hold_of q.standing.core c) t.stands ∙ closed_at closed p was e actions next t c there
-free_after closed alone p was e actions next c (inl t) (inr (free, other)) =
+
+unnamed_free : LeavesOthersAlone → (p : Peer) → IsSettled p → (e : PeerEvent) (actions : List Action) (next : Peer)
+    (c : Conn) → TurnsAs p e (Moved actions next) → hold_of p.standing.core c ≡ NotHeld → names_conn e c ≡ false →
+    hold_of next.standing.core c ≡ NotHeld
+unnamed_free alone p was e actions next c (inr d) free other = ap (λ q. hold_of q.standing.core c) d.same ∙ free
+unnamed_free alone p was e actions next c (inl t) free other =
     ap (λ q. hold_of q.standing.core c) t.stands ∙ (alone_at alone p was e actions next t c free other).0
 
 closing_now : (e : PeerEvent) (actions : List Action) (c : Conn) → IsClosing c (done_at e actions) →
-    IsAmong actions (Close c)
+    StandsAmong actions (Close c)
 closing_now e actions c x =
     let same : x.actions ≡ actions = cc x.did in
-    subst (λ (l : List Action). IsAmong l (Close c)) same x.closes
+    subst (λ (l : List Action). StandsAmong l (Close c)) same x.closes
 
-not_declined : (e : PeerEvent) (c : Conn) → IsClosing c (declined_at e) → ⊥
-not_declined e c x = cc x.did
+none_did : {l : List Action} → None ≡ Some l → ⊥
+none_did e = cc e
 
 stays_free : CloseLaws → (config : Config) (next : ℕ) (past : List Happened) (p : Peer) (c : Conn) →
-    Became (new_peer config next) past p → NamesNone WasClosed past → WasClosed c past →
-    hold_of p.standing.core c ≡ NotHeld
-stays_free laws config next past p c untold rule was = absurd was
-stays_free laws config next past p c (done older q e actions after lived is) rule (inl x) =
-    free_after laws.closed laws.alone q (stays_settled laws.fresh laws.kept config next older q lived) e actions p c
-    (turns q e actions after is) (inl (closing_now e actions c x))
-stays_free laws config next past p c (done older q e actions after lived is) rule (inr was) =
-    free_after laws.closed laws.alone q (stays_settled laws.fresh laws.kept config next older q lived) e actions p c
-    (turns q e actions after is) (inr (stays_free laws config next older q c lived rule.1 was, rule.0 c was))
-stays_free laws config next past p c (declined older q e lived) rule (inl x) = absurd (not_declined e c x)
-stays_free laws config next past p c (declined older q e lived) rule (inr was) =
-    stays_free laws config next older q c lived rule.1 was
+    Became (new_peer config next) past p → EndedSince c past → hold_of p.standing.core c ≡ NotHeld
+stays_free laws config next past p c untold was = absurd was
+stays_free laws config next past p c (done older q e actions after lived is) was =
+    let settled = stays_settled laws.fresh laws.kept config next older q lived in
+    let turn = turns q e actions after is in
+    elim was [
+      | inl x ↦ closed_free laws.closed q settled e actions p c turn (closing_now e actions c x)
+      | inr (inl (x, first)) ↦
+          ended_free laws.changes q settled e actions p c older x.ends first
+          (stays_unmade laws.fresh laws.kept laws.changes config next older q c lived) turn
+      | inr (inr (other, was)) ↦
+          unnamed_free laws.alone q settled e actions p c turn (stays_free laws config next older q c lived was) other
+    ]
+stays_free laws config next past p c (declined older q e lived) (inl x) = absurd (none_did x.did)
+stays_free laws config next past p c (declined older q e lived) (inr (inl (x, first))) = absurd (none_did x.did)
+stays_free laws config next past p c (declined older q e lived) (inr (inr (other, was))) =
+    stays_free laws config next older q c lived was
 
-pub closed_is_last : CloseLaws → EachCloseIsLast
-closed_is_last laws config next past p c lived rule was =
-    let free = stays_free laws config next past p c lived rule was in
+pub ended_is_last : CloseLaws → EachEndIsLast
+ended_is_last laws config next past p c lived was =
+    let free = stays_free laws config next past p c lived was in
     let settled = stays_settled laws.fresh laws.kept config next past p lived in
     record {
       free = free;
@@ -163,8 +158,8 @@ ends_behind c a (x ∷ before) behind is e =
     ends_behind c a before behind is (ends_further (order_to c x) (orders_to c (before ++ a ∷ behind)) e)
 
 behind_none : EndsAtClose → (p : Peer) → IsSettled p → (e : PeerEvent) (after : Peer) (c : Conn) (s : List ℕ)
-    (earlier later : List Action) → Turns p e (Moved (earlier ++ Close c ∷ later) after) →
-    IsAmong later (Send c s) → ⊥
+    (earlier later : List Action) → TurnsAs p e (Moved (earlier ++ Close c ∷ later) after) →
+    StandsAmong later (Send c s) → ⊥
 behind_none last p was e after c s earlier later (inr d) there =
     none_among (Close c) (earlier, later, sym d.none)
 behind_none last p was e after c s earlier later (inl t) (first, more, stands) =

@@ -7,7 +7,7 @@ use Rattle.dm_machine.specs.declared.inputs.Word.{Word}
 use Rattle.dm_machine.specs.declared.inputs.Word.TheVariants.{Unreadable}
 use Rattle.dm_machine.specs.Connection.{Concern, NamesAnother, StartsIt, AcksIt, NacksIt, EndsIt, HeardOnIt, if_named, concern_of}
 use Rattle.dm_peer.specs.declared.peer.Peer.{Peer}
-use Rattle.dm_peer.specs.Events.{PeerEvent, Start, Stop, Timeout, Tick, Ack, Nack, Arrived, Gone, Submit}
+use Rattle.dm_peer.specs.Events.{PeerEvent, Start, Ack, Nack, Arrived, Gone}
 use Rattle.dm_peer.specs.Said.{Heard, heard_in, word_heard}
 use Rattle.dm_peer.specs.Acts.{input_of, is_dropped}
 use Rattle.dm_history.proofs.Ordered.{same_conn}
@@ -27,10 +27,7 @@ heard_on (Start d) h c w k = absurd (cc (named d c StartsIt (HeardOnIt w) (d.0 =
 heard_on (Ack d) h c w k = absurd (cc (named d c AcksIt (HeardOnIt w) (d.0 == c.0) refl k (λ x. cc x)).1)
 heard_on (Nack d) h c w k = absurd (cc (named d c NacksIt (HeardOnIt w) (d.0 == c.0) refl k (λ x. cc x)).1)
 heard_on (Gone d) h c w k = absurd (cc (named d c EndsIt (HeardOnIt w) (d.0 == c.0) refl k (λ x. cc x)).1)
-heard_on (Stop cause) h c w k = absurd cc
-heard_on Timeout h c w k = absurd cc
-heard_on Tick h c w k = absurd cc
-heard_on (Submit s) h c w k = absurd cc
+heard_on _ h c w k = absurd cc
 
 pub acked_by : (e : PeerEvent) (h : Option Heard) (c : Conn) → concern_of (input_of e h) c ≡ AcksIt → e ≡ Ack c
 acked_by (Ack d) h c k = ap Ack (named d c AcksIt AcksIt (d.0 == c.0) refl k (λ x. cc x)).0
@@ -39,13 +36,10 @@ acked_by (Arrived d s) h c k =
 acked_by (Start d) h c k = absurd (cc (named d c StartsIt AcksIt (d.0 == c.0) refl k (λ x. cc x)).1)
 acked_by (Nack d) h c k = absurd (cc (named d c NacksIt AcksIt (d.0 == c.0) refl k (λ x. cc x)).1)
 acked_by (Gone d) h c k = absurd (cc (named d c EndsIt AcksIt (d.0 == c.0) refl k (λ x. cc x)).1)
-acked_by (Stop cause) h c k = absurd cc
-acked_by Timeout h c k = absurd cc
-acked_by Tick h c k = absurd cc
-acked_by (Submit s) h c k = absurd cc
+acked_by _ h c k = absurd cc
 
 -- the message of a word that was heard on a connection
-pub record Came (p : Peer) (e : PeerEvent) (h : Option Heard) (c : Conn) (w : Word) : Type 0 where
+pub record WordCame (p : Peer) (e : PeerEvent) (h : Option Heard) (c : Conn) (w : Word) : Type 0 where
   pub octets : List ℕ
   pub message : Message
   pub came : e ≡ Arrived c octets
@@ -55,7 +49,7 @@ pub record Came (p : Peer) (e : PeerEvent) (h : Option Heard) (c : Conn) (w : Wo
   pub awaited : is_dropped p c message.header ≡ false
 
 pub came_by : (p : Peer) (e : PeerEvent) (h : Option Heard) (c : Conn) (w : Word) → AreRead p e h →
-    (Unreadable ≡ w → ⊥) → (s : List ℕ) → e ≡ Arrived c s → word_heard h ≡ w → Came p e h c w
+    (Unreadable ≡ w → ⊥) → (s : List ℕ) → e ≡ Arrived c s → word_heard h ≡ w → WordCame p e h c w
 came_by p e None c w read differs s is word = absurd (differs word)
 came_by p e (Some said) c w read differs s is word =
     let conn : read.conn ≡ c = cc (read.came, is) in
@@ -70,7 +64,7 @@ came_by p e (Some said) c w read differs s is word =
     }
 
 pub came_on : (p : Peer) (e : PeerEvent) (h : Option Heard) (c : Conn) (w : Word) → AreRead p e h →
-    (Unreadable ≡ w → ⊥) → concern_of (input_of e h) c ≡ HeardOnIt w → Came p e h c w
+    (Unreadable ≡ w → ⊥) → concern_of (input_of e h) c ≡ HeardOnIt w → WordCame p e h c w
 came_on p e h c w read differs k =
     let o = heard_on e h c w k in
     came_by p e h c w read differs o.0 o.1 o.2

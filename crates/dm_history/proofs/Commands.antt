@@ -13,7 +13,7 @@ use Rattle.dm_machine.specs.declared.inputs.Word.{Word}
 use Rattle.dm_machine.specs.declared.inputs.Word.TheVariants.{Other}
 use Rattle.dm_peer.specs.declared.config.Config.{Config}
 use Rattle.dm_peer.specs.Said.{heard_in, refusal_of_caps, said, kind_under}
-use Rattle.dm_history.specs.Meant.{IsGoodCer, IsGoodCea}
+use Rattle.dm_history.specs.Meant.{IsAcceptableCer, IsAcceptableCea}
 use Rattle.dm_history.proofs.Words.{not_bad, caps_word, code_word}
 
 -- a message of another command is no base message, and the other way round
@@ -106,13 +106,13 @@ kind_parts r m true None k is e =
     (nat_eq m.header.command disconnect_peer) m.header.request _ _ _
     (ap (is_cer_or_cea r) same ∙ is)
 
-pub cea_answers : (c : Config) (m : Message) → IsGoodCea c m →
+pub cea_answers : (c : Config) (m : Message) → IsAcceptableCea c m →
     (nat_eq m.header.command capabilities_exchange ≡ true) × (m.header.request ≡ false)
 cea_answers c m good =
     kind_parts false m (is_base_command m.header.command) (first (faults c.dictionary m)) (kinds.Cea good.code) refl
     good.checked
 
-pub cer_asks : (c : Config) (m : Message) → IsGoodCer c m →
+pub cer_asks : (c : Config) (m : Message) → IsAcceptableCer c m →
     (nat_eq m.header.command capabilities_exchange ≡ true) × (m.header.request ≡ true)
 cer_asks c m good =
     kind_parts true m (is_base_command m.header.command) (first (faults c.dictionary m)) (kinds.Cer good.caps) refl

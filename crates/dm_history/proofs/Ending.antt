@@ -1,51 +1,28 @@
--- A connection on which something came, and that isn't held, is over: it was closed, or it has ended.
-use Rattle.std.proofs.Common.{◌≡◌, ◌⊎◌, inl, inr, ℕ, ◌==◌, Bool, true, false, not, ◌&&◌, Option, None, Some, List, ◌∷◌, refl, sym, subst, ap, ◌∙◌}
+-- On a connection that isn't held nothing came since it was closed or told ended.
+use Rattle.std.proofs.Common.{◌≡◌, ◌⊎◌, inl, inr, ℕ, ◌==◌, true, false, not, ◌&&◌, Option, None, Some, List, ◌∷◌, refl, sym, subst, ap, ◌∙◌}
 use Rattle.std.proofs.lemmas.Bool.{cases_Bool}
 use Rattle.dm_machine.specs.declared.connection.Conn.{Conn}
 use Rattle.dm_machine.specs.declared.outputs.Command.TheVariants as command
-use Rattle.dm_machine.specs.Connection.{Hold, NotHeld, hold_of, Concern, StartsIt, AcksIt, NacksIt, EndsIt, HeardOnIt, if_named, concern_of, Closes, orders_to, AtConnection}
+use Rattle.dm_machine.specs.Connection.{Hold, NotHeld, hold_of, Concern, NacksIt, EndsIt, HeardOnIt, if_named, concern_of, Closes, orders_to, AtConnection}
 use Rattle.dm_machine.specs.Openings.{is_hold, has_order, is_left_unclosed, ClosesWhatItGivesUp}
 use Rattle.dm_peer.specs.declared.actions.Action.{Action}
 use Rattle.dm_peer.specs.declared.actions.Action.TheVariants.{Close}
 use Rattle.dm_peer.specs.declared.peer.Peer.{Peer}
-use Rattle.dm_peer.specs.Events.{PeerEvent, Start, Stop, Timeout, Tick, Ack, Nack, Arrived, Gone, Submit}
+use Rattle.dm_peer.specs.Events.{PeerEvent, Arrived}
 use Rattle.dm_peer.specs.Configs.{wins}
 use Rattle.dm_peer.specs.Said.{Heard, word_heard}
 use Rattle.dm_peer.specs.Sent.{action_of}
 use Rattle.dm_peer.specs.Acts.{Moved, input_of, is_made}
 use Rattle.dm_peer.specs.Settled.{IsSettled}
-use Rattle.dm_history.specs.History.{Happened, done_at, declined_at, IsAmong}
-use Rattle.dm_history.specs.Naming.{tells_end, IsClosing, IsEnding}
+use Rattle.dm_history.specs.History.{Happened, done_at, declined_at, StandsAmong}
+use Rattle.dm_history.specs.Naming.{IsClosing, IsEnding}
 use Rattle.dm_history.specs.Opened.{HasArrived}
 use Rattle.dm_history.proofs.Among.{mapped}
-use Rattle.dm_history.proofs.Ordered.{same_number, commanded}
-use Rattle.dm_history.proofs.Turning.{IsTurn, Turns}
+use Rattle.dm_history.proofs.Concerns.{is_end, ends_as}
+use Rattle.dm_history.proofs.Ordered.{same_conn, same_number, is_conn, commanded}
+use Rattle.dm_history.proofs.Turning.{IsTurn, TurnsAs}
 use Rattle.dm_history.proofs.Holding.{is_free}
-use Rattle.dm_history.proofs.Stories.{EndedIfCame}
-
-abbrev is_end : Concern → Bool
-is_end NacksIt = true
-is_end EndsIt = true
-is_end _ = false
-
-named_end : (b : Bool) (k : Concern) → is_end k ≡ true → is_end (if_named b k) ≡ b
-named_end true k e = e
-named_end false k e = refl
-
-named_other : (b : Bool) (k : Concern) → is_end k ≡ false → is_end (if_named b k) ≡ false
-named_other true k e = e
-named_other false k e = refl
-
-ends_as : (e : PeerEvent) (h : Option Heard) (c : Conn) → is_end (concern_of (input_of e h) c) ≡ tells_end e c
-ends_as (Nack d) h c = named_end (d.0 == c.0) NacksIt refl
-ends_as (Gone d) h c = named_end (d.0 == c.0) EndsIt refl
-ends_as (Start d) h c = named_other (d.0 == c.0) StartsIt refl
-ends_as (Ack d) h c = named_other (d.0 == c.0) AcksIt refl
-ends_as (Arrived d s) h c = named_other (d.0 == c.0) (HeardOnIt (word_heard h)) refl
-ends_as (Stop cause) h c = refl
-ends_as Timeout h c = refl
-ends_as Tick h c = refl
-ends_as (Submit s) h c = refl
+use Rattle.dm_history.proofs.Stories.{UnheardIfFree}
 
 -- what was held, and isn't closed, has ended
 left_ends : (k : Concern) (h : Hold) → is_left_unclosed k h ≡ true → is_hold NotHeld h ≡ false → is_end k ≡ true
@@ -73,7 +50,7 @@ given_up closed p was e actions next t c free unleft =
     record {
       actions = actions;
       did = refl;
-      closes = subst (λ (l : List Action). IsAmong l (Close c)) (sym t.acted) there;
+      closes = subst (λ (l : List Action). StandsAmong l (Close c)) (sym t.acted) there;
     }
 
 ended_now : ClosesWhatItGivesUp → (p : Peer) → IsSettled p → (e : PeerEvent) (actions : List Action) (next : Peer) →
@@ -93,9 +70,12 @@ ended_now closed p was e actions next t c free held =
       | inr unleft ↦ inl (given_up closed p was e actions next t c free unleft)
     ]
 
-arrived_at : (e : PeerEvent) (actions : List Action) (c : Conn) → HasArrived c (done_at e actions) →
-    (s : List ℕ) × (e ≡ Arrived c s)
-arrived_at e actions c x = (x.octets, ap (λ y. y.event) x.came)
+arrives_on : (e : PeerEvent) (c : Conn) → ((s : List ℕ) × (e ≡ Arrived c s)) ⊎ ((s : List ℕ) → e ≡ Arrived c s → ⊥)
+arrives_on (Arrived d s) c = elim (cases_Bool (d.0 == c.0)) [
+  | inl same ↦ inl (s, ap (λ x. Arrived x s) (same_conn d c same))
+  | inr other ↦ inr (λ t is. cc (sym (is_conn d c (cc is)) ∙ other))
+]
+arrives_on _ c = inr (λ t is. cc is)
 
 heard_concern : (e : PeerEvent) (h : Option Heard) (c : Conn) (s : List ℕ) → e ≡ Arrived c s →
     concern_of (input_of e h) c ≡ HeardOnIt (word_heard h)
@@ -103,43 +83,40 @@ heard_concern e h c s is =
     ap (λ f. concern_of (input_of f h) c) is
     ∙ ap (λ b. if_named b (HeardOnIt (word_heard h))) (same_number c.0)
 
-closed_unheld : ClosesWhatItGivesUp → (p : Peer) → IsSettled p → (e : PeerEvent) (actions : List Action)
-    (next : Peer) → (t : IsTurn p e actions next) → (c : Conn) → hold_of t.core c ≡ NotHeld →
-    HasArrived c (done_at e actions) → IsClosing c (done_at e actions)
-closed_unheld closed p was e actions next t c free x =
-    let came = arrived_at e actions c x in
-    given_up closed p was e actions next t c free
-    (ap (λ k. is_left_unclosed k (hold_of p.standing.core c)) (heard_concern e t.heard c came.0 came.1))
+none_came : (e : PeerEvent) (actions : List Action) (c : Conn) → ((s : List ℕ) → e ≡ Arrived c s → ⊥) →
+    HasArrived c (done_at e actions) → ⊥
+none_came e actions c none x = none x.octets (ap (λ y. y.event) x.came)
 
 not_made : (h : Hold) → is_made h ≡ true → h ≡ NotHeld → ⊥
 not_made h made free = cc (sym (ap is_made free) ∙ made)
 
-pub ended_next : ClosesWhatItGivesUp → (p : Peer) → IsSettled p → (e : PeerEvent) (actions : List Action)
-    (next : Peer) (past : List Happened) → Turns p e (Moved actions next) → EndedIfCame p past →
-    EndedIfCame next (done_at e actions ∷ past)
-ended_next closed p was e actions next past (inl t) before c free came =
+pub unheard_next : ClosesWhatItGivesUp → (p : Peer) → IsSettled p → (e : PeerEvent) (actions : List Action)
+    (next : Peer) (past : List Happened) → TurnsAs p e (Moved actions next) → UnheardIfFree p past →
+    UnheardIfFree next (done_at e actions ∷ past)
+unheard_next closed p was e actions next past (inl t) before c free =
     let now : hold_of t.core c ≡ NotHeld = ap (λ q. hold_of q.standing.core c) (sym t.stands) ∙ free in
     elim (cases_Bool (is_hold NotHeld (hold_of p.standing.core c))) [
-      | inl unheld ↦ elim came [
-        | inl x ↦ inl (inl (closed_unheld closed p was e actions next t c now x))
-        | inr older ↦ inr (before c (is_free (hold_of p.standing.core c) unheld) older)
+      | inl unheld ↦ elim (arrives_on e c) [
+        | inl (s, is) ↦
+            inl (inl (given_up closed p was e actions next t c now
+            (ap (λ k. is_left_unclosed k (hold_of p.standing.core c)) (heard_concern e t.heard c s is))))
+        | inr none ↦ inr (none_came e actions c none, before c (is_free (hold_of p.standing.core c) unheld))
       ]
       | inr held ↦ inl (ended_now closed p was e actions next t c now held)
     ]
-ended_next closed p was e actions next past (inr d) before c free came =
+unheard_next closed p was e actions next past (inr d) before c free =
     let now : hold_of p.standing.core c ≡ NotHeld = ap (λ q. hold_of q.standing.core c) (sym d.same) ∙ free in
-    elim came [
-      | inl x ↦
-          let there : d.conn ≡ c = cc (d.came, (arrived_at e actions c x).1) in
+    elim (arrives_on e c) [
+      | inl (s, is) ↦
+          let there : d.conn ≡ c = cc (d.came, is) in
           let made = ap (λ q. is_made (hold_of p.standing.core q)) (sym there) ∙ d.made in
           absurd (not_made (hold_of p.standing.core c) made now)
-      | inr older ↦ inr (before c now older)
+      | inr none ↦ inr (none_came e actions c none, before c now)
     ]
 
 none_done : (l : List Action) → None ≡ Some l → ⊥
 none_done l e = cc e
 
-pub ended_declined : (p : Peer) (e : PeerEvent) (past : List Happened) → EndedIfCame p past →
-    EndedIfCame p (declined_at e ∷ past)
-ended_declined p e past before c free (inl x) = absurd (none_done x.actions (ap (λ y. y.did) x.came))
-ended_declined p e past before c free (inr older) = inr (before c free older)
+pub unheard_declined : (p : Peer) (e : PeerEvent) (past : List Happened) → UnheardIfFree p past →
+    UnheardIfFree p (declined_at e ∷ past)
+unheard_declined p e past before c free = inr (λ x. none_done x.actions (ap (λ y. y.did) x.came), before c free)

@@ -73,6 +73,6 @@ reads_none WaitConnAck e = refl
 reads_none WaitICea e = refl
 reads_none _ e = cc
 
-pub is_accepted : (h : Hold) → is_hold OpenAsR h ≡ true → h ≡ OpenAsR
-is_accepted OpenAsR e = refl
-is_accepted _ e = cc
+pub is_open_as_r : (h : Hold) → is_hold OpenAsR h ≡ true → h ≡ OpenAsR
+is_open_as_r OpenAsR e = refl
+is_open_as_r _ e = cc

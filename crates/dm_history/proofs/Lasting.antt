@@ -7,7 +7,7 @@ use Rattle.dm_peer.specs.Events.{PeerEvent}
 use Rattle.dm_peer.specs.Acts.{Moved, acts}
 use Rattle.dm_peer.specs.Settled.{IsSettled, FreshIsSettled, LeavesSettled, EachEventKeepsSettled}
 use Rattle.dm_history.specs.History.{Happened, new_peer, Became, untold, done, declined}
-use Rattle.dm_history.proofs.Turning.{Turns, turns}
+use Rattle.dm_history.proofs.Turning.{TurnsAs, turns}
 
 pub settled_next : EachEventKeepsSettled → (p : Peer) (e : PeerEvent) (actions : List Action) (next : Peer) →
     acts p e ≡ Moved actions next → IsSettled p → IsSettled next
@@ -21,7 +21,7 @@ stays_settled fresh kept config next past p (done older q e actions after lived 
 stays_settled fresh kept config next past p (declined older q e lived) =
     stays_settled fresh kept config next older q lived
 
-same_config : (p : Peer) (e : PeerEvent) (actions : List Action) (next : Peer) → Turns p e (Moved actions next) →
+same_config : (p : Peer) (e : PeerEvent) (actions : List Action) (next : Peer) → TurnsAs p e (Moved actions next) →
     next.config ≡ p.config
 same_config p e actions next (inl t) = ap (λ q. q.config) t.stands
 same_config p e actions next (inr d) = ap (λ q. q.config) d.same

@@ -1,11 +1,13 @@
 mod Among
 mod Ordered
+mod Concerns
 mod Words
 mod Commands
 mod Turning
 mod Holding
 mod Waiting
 mod Lasting
+mod Unmade
 mod Coming
 mod Stories
 mod Ending
@@ -14,5 +16,5 @@ mod Submitting
 mod Answering
 mod OneTurn
 mod Telling
-mod Carrying
+mod UserMessages
 mod Closings

@@ -1,5 +1,5 @@
 -- One turn, as it looks from one connection: it goes on with what the connection has been through.
-use Rattle.std.proofs.Common.{◌≡◌, inl, inr, ℕ, true, false, ◌&&◌, Option, None, List, ◌∷◌, refl, sym, subst, ap, ◌∙◌, Bool}
+use Rattle.std.proofs.Common.{◌≡◌, inl, inr, ℕ, true, false, ◌&&◌, Option, None, List, ◌∷◌, refl, sym, subst, ap, ◌∙◌}
 use Rattle.std.proofs.lemmas.Bool.{and_parts, cases_Bool}
 use Rattle.dm_wire.specs.declared.message.Header.{Header}
 use Rattle.dm_wire.specs.declared.message.Message.{Message}
@@ -27,22 +27,18 @@ use Rattle.dm_machine.specs.Awaiting.{awaits_cea, holds_cer}
 use Rattle.dm_peer.specs.After.{request_in, is_cer, standing_after}
 use Rattle.dm_peer.specs.Acts.{input_of, standing_at, is_unawaited, is_made, is_dropped}
 use Rattle.dm_peer.specs.Settled.{IsSettled}
-use Rattle.dm_history.specs.History.{Happened, done_at, Once, IsAmong}
-use Rattle.dm_history.specs.Naming.{names_conn}
+use Rattle.dm_history.specs.History.{Happened, done_at, Once, StandsAmong}
 use Rattle.dm_history.specs.Opened.{HasCome, CameFirst, WasSent, IsAsked}
 use Rattle.dm_history.proofs.Among.{mapped}
-use Rattle.dm_history.proofs.Ordered.{same_number, is_conn, commanded, ordered}
+use Rattle.dm_history.proofs.Ordered.{is_conn, commanded, ordered}
 use Rattle.dm_history.proofs.Words.{good_cea}
 use Rattle.dm_history.proofs.Commands.{cea_answers}
 use Rattle.dm_history.proofs.Turning.{AreRead}
 use Rattle.dm_history.proofs.Holding.{is_pending, holds_taken, awaits_made, pending_awaits_none}
 use Rattle.dm_history.proofs.Waiting.{awaited_number, none_there, number_kept, number_set, header_kept, header_set, cer_among}
-use Rattle.dm_history.proofs.Coming.{acked_by, Came, came_on}
-use Rattle.dm_history.proofs.Stories.{StepLaws, HasAsked, HasHeard, Story, later, IsTold}
-use Rattle.dm_history.proofs.Answering.{CameCer, came_cer}
-
-named_over : (b : Bool) → b ≡ true → b ≡ false → ⊥
-named_over b named over = cc (named, over)
+use Rattle.dm_history.proofs.Coming.{acked_by, WordCame, came_on}
+use Rattle.dm_history.proofs.Stories.{StepLaws, HasAsked, HasHeard, StoryOf, later, IsTold}
+use Rattle.dm_history.proofs.Answering.{TakenByCer, came_cer}
 
 unawaited_made : (p : Peer) (c : Conn) (m : Message) → hold_of p.standing.core c ≡ Made →
     is_dropped p c m.header ≡ false → is_unawaited p.standing.awaited m.header ≡ false
@@ -75,7 +71,7 @@ module _ (laws : StepLaws) (p : Peer) (e : PeerEvent) (h : Option Heard) (comman
   after_form : Form core
   after_form = laws.form core settled.shaped
 
-  came_now : (w : Word) → (m : Came p e h c w) → HasCome c m.message x
+  came_now : (w : Word) → (m : WordCame p e h c w) → HasCome c m.message x
   came_now w m = record {
     octets = m.octets;
     actions = actions_of p e h commands;
@@ -83,13 +79,9 @@ module _ (laws : StepLaws) (p : Peer) (e : PeerEvent) (h : Option Heard) (comman
     came = ap (λ y. done_at y (actions_of p e h commands)) m.came;
   }
 
-  -- as the first message there, since no connection that is over was named
-  first_now : hold_of n c ≡ NotHeld → (m : Came p e h c Cer) → CameFirst c m.message x past
-  first_now free m = record {
-    come = came_now Cer m;
-    first = λ rule came. named_over (names_conn e c) (ap (λ f. names_conn f c) m.came ∙ same_number c.0)
-        (rule.0 c (before.ended c free came));
-  }
+  -- as the first message there
+  first_now : hold_of n c ≡ NotHeld → (m : WordCame p e h c Cer) → CameFirst c m.message x past
+  first_now free m = record { come = came_now Cer m; first = before.unheard c free }
 
   sent_cea : (to : Header) → cer_answered p.standing.waiting h ≡ to →
       has_order SendsCea (orders_to c commands) ≡ true → WasSent c (built_cea p.config.node to 2001 None) x
@@ -98,7 +90,7 @@ module _ (laws : StepLaws) (p : Peer) (e : PeerEvent) (h : Option Heard) (comman
       record {
         actions = actions_of p e h commands;
         did = refl;
-        sent = subst (λ (t : Header). IsAmong (actions_of p e h commands)
+        sent = subst (λ (t : Header). StandsAmong (actions_of p e h commands)
             (sent c (built_cea p.config.node t 2001 None))) is there;
       }
 
@@ -129,16 +121,16 @@ module _ (laws : StepLaws) (p : Peer) (e : PeerEvent) (h : Option Heard) (comman
     | inr y ↦ y
   ]
 
-  was_it : (was h' : Hold) → was ≡ h' → Story p.config p.standing c past was → Story p.config p.standing c past h'
-  was_it was h' same s = subst (Story p.config p.standing c past) same s
+  was_it : (was h' : Hold) → was ≡ h' → StoryOf p.config p.standing c past was → StoryOf p.config p.standing c past h'
+  was_it was h' same s = subst (StoryOf p.config p.standing c past) same s
 
   now_cer : hold_of n c ≡ NotHeld → (hold_of core c ≡ NotHeld → ⊥) → concern_of i c ≡ HeardOnIt Cer →
-      CameCer p e h c
+      TakenByCer p e h c
   now_cer free held k = came_cer laws.closes p before.settled e h commands core o read c free held k
 
   go : (was after : Hold) → hold_of n c ≡ was → hold_of core c ≡ after →
-      IsCaused (concern_of i c) was after (orders_to c commands) → Story p.config p.standing c past was →
-      Story p.config after_it c (x ∷ past) after
+      IsCaused (concern_of i c) was after (orders_to c commands) → StoryOf p.config p.standing c past was →
+      StoryOf p.config after_it c (x ∷ past) after
   go was OpenAsR at is (inl same) s = later p.config after_it c x past OpenAsR (was_it was OpenAsR same s)
   go was OpenAsR at is (inr (has, inl taken)) s =
       let t : HasHeard p.config p.standing c past = was_it was Taken taken s in
@@ -218,5 +210,5 @@ module _ (laws : StepLaws) (p : Peer) (e : PeerEvent) (h : Option Heard) (comman
   go was ClosingAsI at is k s = tt
   go was ClosingAsR at is k s = tt
 
-  pub goes_on : Story p.config after_it c (x ∷ past) (hold_of core c)
+  pub goes_on : StoryOf p.config after_it c (x ∷ past) (hold_of core c)
   goes_on = go (hold_of n c) (hold_of core c) refl refl caused_by (before.story c)

@@ -1,5 +1,5 @@
 -- An order of a connection is a command, and a command of it is an order.
-use Rattle.std.proofs.Common.{◌≡◌, inl, inr, ℕ, zero, suc, Bool, true, false, ◌||◌, ◌==◌, Option, None, Some, List, [], ◌∷◌, ◌++◌, refl, sym, ap, ◌∙◌, arith}
+use Rattle.std.proofs.Common.{◌≡◌, inl, inr, ℕ, Bool, true, false, ◌||◌, ◌==◌, Option, None, Some, List, [], ◌∷◌, ◌++◌, refl, sym, ap, ◌∙◌, arith}
 use Rattle.std.proofs.lemmas.Bool.{eqb-true, or_cases, or_right}
 use Rattle.std.proofs.lemmas.Bool.Decides.{nat_tests}
 use Rattle.dm_machine.specs.declared.connection.Conn.{Conn}
@@ -7,7 +7,7 @@ use Rattle.dm_machine.specs.declared.outputs.Command.{Command}
 use Rattle.dm_machine.specs.declared.outputs.Command.TheVariants as command
 use Rattle.dm_machine.specs.Connection.{Order, Connects, SendsCer, SendsCea, SendsRefusal, SendsDwr, SendsDwa, SendsDpr, SendsDpa, SendsSubmit, Closes, if_ordered, order_to, with_order, orders_to}
 use Rattle.dm_machine.specs.Openings.{order_code, is_order, has_order}
-use Rattle.dm_history.specs.History.{IsAmong}
+use Rattle.dm_history.specs.History.{StandsAmong}
 use Rattle.dm_history.proofs.Among.{further}
 
 pub same_conn : (d c : Conn) → (d.0 == c.0) ≡ true → d ≡ c
@@ -19,33 +19,18 @@ same_number n = grind (arith, nat_tests)
 pub is_conn : (d c : Conn) → d ≡ c → (d.0 == c.0) ≡ true
 is_conn d c same = ap (λ x. x.0 == c.0) same ∙ same_number c.0
 
-abbrev order_from : ℕ → Order
-order_from zero = Connects
-order_from (suc zero) = SendsCer
-order_from (suc (suc zero)) = SendsCea
-order_from (suc (suc (suc zero))) = SendsRefusal
-order_from (suc (suc (suc (suc zero)))) = SendsDwr
-order_from (suc (suc (suc (suc (suc zero))))) = SendsDwa
-order_from (suc (suc (suc (suc (suc (suc zero)))))) = SendsDpr
-order_from (suc (suc (suc (suc (suc (suc (suc zero))))))) = SendsDpa
-order_from (suc (suc (suc (suc (suc (suc (suc (suc zero)))))))) = SendsSubmit
-order_from _ = Closes
-
-order_from-code : (o : Order) → order_from (order_code o) ≡ o
-order_from-code Connects = refl
-order_from-code SendsCer = refl
-order_from-code SendsCea = refl
-order_from-code SendsRefusal = refl
-order_from-code SendsDwr = refl
-order_from-code SendsDwa = refl
-order_from-code SendsDpr = refl
-order_from-code SendsDpa = refl
-order_from-code SendsSubmit = refl
-order_from-code Closes = refl
-
 pub same_order : (o p : Order) → is_order o p ≡ true → o ≡ p
-same_order o p e =
-    sym (order_from-code o) ∙ (ap order_from (eqb-true (order_code o) (order_code p) e) ∙ order_from-code p)
+same_order Connects Connects e = refl
+same_order SendsCer SendsCer e = refl
+same_order SendsCea SendsCea e = refl
+same_order SendsRefusal SendsRefusal e = refl
+same_order SendsDwr SendsDwr e = refl
+same_order SendsDwa SendsDwa e = refl
+same_order SendsDpr SendsDpr e = refl
+same_order SendsDpa SendsDpa e = refl
+same_order SendsSubmit SendsSubmit e = refl
+same_order Closes Closes e = refl
+same_order _ _ e = cc
 
 -- the command of an order
 abbrev pub command_for : Order → Conn → Command
@@ -79,8 +64,8 @@ ordered_as c (command.Close d) o e = ordered_by d c command.Close Closes o refl 
 ordered_as c command.Up o e = absurd (cc e)
 
 ordered_first : (want : Order) (c : Conn) (a : Command) (l : List Command) →
-    (has_order want (orders_to c l) ≡ true → IsAmong l (command_for want c)) → (o : Option Order) → order_to c a ≡ o →
-    has_order want (with_order o (orders_to c l)) ≡ true → IsAmong (a ∷ l) (command_for want c)
+    (has_order want (orders_to c l) ≡ true → StandsAmong l (command_for want c)) → (o : Option Order) →
+    order_to c a ≡ o → has_order want (with_order o (orders_to c l)) ≡ true → StandsAmong (a ∷ l) (command_for want c)
 ordered_first want c a l rest None is e = further a (command_for want c) l (rest e)
 ordered_first want c a l rest (Some o) is e =
     elim (or_cases (is_order want o) (has_order want (orders_to c l)) e) [
@@ -91,7 +76,7 @@ ordered_first want c a l rest (Some o) is e =
 
 -- what a connection is ordered is among the commands
 pub commanded : (want : Order) (c : Conn) (l : List Command) → has_order want (orders_to c l) ≡ true →
-    IsAmong l (command_for want c)
+    StandsAmong l (command_for want c)
 commanded want c [] e = absurd (cc e)
 commanded want c (a ∷ l) e = ordered_first want c a l (commanded want c l) (order_to c a) refl e
 
@@ -109,7 +94,7 @@ ordered_at o c a (x ∷ before) behind is =
     has_further o (order_to c x) (orders_to c (before ++ a ∷ behind)) (ordered_at o c a before behind is)
 
 -- a command of a connection is ordered to it
-pub ordered : (o : Order) (c : Conn) (l : List Command) (a : Command) → IsAmong l a → order_to c a ≡ Some o →
+pub ordered : (o : Order) (c : Conn) (l : List Command) (a : Command) → StandsAmong l a → order_to c a ≡ Some o →
     has_order o (orders_to c l) ≡ true
 ordered o c l a (before, behind, e) is =
     ap (λ t. has_order o (orders_to c t)) e ∙ ordered_at o c a before behind is

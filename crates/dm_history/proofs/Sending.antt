@@ -38,37 +38,17 @@ sends_order p e h (command.SendDpr d) c s is = (SendsDpr, ap (λ b. if_ordered b
 sends_order p e h (command.SendDpa d) c s is = (SendsDpa, ap (λ b. if_ordered b SendsDpa) (is_conn d c (cc is)))
 sends_order p e h (command.SendSubmit d) c s is =
     (SendsSubmit, ap (λ b. if_ordered b SendsSubmit) (is_conn d c (cc is)))
-sends_order p e h (command.Connect d) c s is = absurd (cc is)
-sends_order p e h (command.Close d) c s is = absurd (cc is)
-sends_order p e h command.Up c s is = absurd (cc is)
+sends_order p e h _ c s is = absurd (cc is)
 
 pub closes_order : (p : Peer) (e : PeerEvent) (h : Option Heard) (a : Command) (c : Conn) →
     action_of p e h a ≡ Close c → order_to c a ≡ Some Closes
 closes_order p e h (command.Close d) c is = ap (λ b. if_ordered b Closes) (is_conn d c (cc is))
-closes_order p e h (command.Connect d) c is = absurd (cc is)
-closes_order p e h (command.SendCer d) c is = absurd (cc is)
-closes_order p e h (command.SendCea d) c is = absurd (cc is)
-closes_order p e h (command.SendRefusal d) c is = absurd (cc is)
-closes_order p e h (command.SendDwr d) c is = absurd (cc is)
-closes_order p e h (command.SendDwa d) c is = absurd (cc is)
-closes_order p e h (command.SendDpr d) c is = absurd (cc is)
-closes_order p e h (command.SendDpa d) c is = absurd (cc is)
-closes_order p e h (command.SendSubmit d) c is = absurd (cc is)
-closes_order p e h command.Up c is = absurd (cc is)
+closes_order p e h _ c is = absurd (cc is)
 
 pub up_command : (p : Peer) (e : PeerEvent) (h : Option Heard) (a : Command) (s : List ℕ) →
     action_of p e h a ≡ Up s → (a ≡ command.Up) × (octets_in e ≡ s)
 up_command p e h command.Up s is = (refl, cc is)
-up_command p e h (command.Close d) s is = absurd (cc is)
-up_command p e h (command.Connect d) s is = absurd (cc is)
-up_command p e h (command.SendCer d) s is = absurd (cc is)
-up_command p e h (command.SendCea d) s is = absurd (cc is)
-up_command p e h (command.SendRefusal d) s is = absurd (cc is)
-up_command p e h (command.SendDwr d) s is = absurd (cc is)
-up_command p e h (command.SendDwa d) s is = absurd (cc is)
-up_command p e h (command.SendDpr d) s is = absurd (cc is)
-up_command p e h (command.SendDpa d) s is = absurd (cc is)
-up_command p e h (command.SendSubmit d) s is = absurd (cc is)
+up_command p e h _ s is = absurd (cc is)
 
 -- an order that answers what is heard, with what it answers
 each_has : (k : Concern) (o : Order) (orders : List Order) → list_all (has_its_request k) orders ≡ true →
@@ -159,6 +139,4 @@ own_sent p e h c s (command.SendDpa d) is base =
     (record { message = m; own = answer to 2001 None; base = b; spelled = refl }) (cc is))
 own_sent p e h c s (command.SendSubmit d) is base =
     inr (cc is, ap (λ t. if_ordered t SendsSubmit) (is_conn d c (cc is)))
-own_sent p e h c s (command.Connect d) is base = absurd (cc is)
-own_sent p e h c s (command.Close d) is base = absurd (cc is)
-own_sent p e h c s command.Up is base = absurd (cc is)
+own_sent p e h c s _ is base = absurd (cc is)

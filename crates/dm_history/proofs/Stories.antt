@@ -13,9 +13,8 @@ use Rattle.dm_peer.specs.declared.peer.Peer.{Peer}
 use Rattle.dm_peer.specs.declared.standing.Standing.{Standing}
 use Rattle.dm_peer.specs.Settled.{IsSettled, FreshIsSettled, EachEventKeepsSettled}
 use Rattle.dm_history.specs.History.{Happened, Once}
-use Rattle.dm_history.specs.Naming.{HasEnded}
-use Rattle.dm_history.specs.Meant.{IsGoodCer}
-use Rattle.dm_history.specs.Opened.{HasArrived, CameFirst, IsAsked, OpenedByCer, OpenedByCea}
+use Rattle.dm_history.specs.Meant.{IsAcceptableCer}
+use Rattle.dm_history.specs.Opened.{IsUnheard, CameFirst, IsAsked, OpenedByCer, OpenedByCea}
 
 -- the laws of one step that it rests on
 pub record StepLaws : Type 0 where
@@ -35,19 +34,19 @@ pub record HasAsked (config : Config) (standing : Standing) (c : Conn) (past : L
 
 pub record HasHeard (config : Config) (standing : Standing) (c : Conn) (past : List Happened) : Type 0 where
   pub cer : Message
-  pub good : IsGoodCer config cer
+  pub good : IsAcceptableCer config cer
   pub kept : standing.waiting ≡ Some cer.header
   pub heard : Once (λ y earlier. CameFirst c cer y earlier) past
 
-abbrev pub Story : Config → Standing → Conn → List Happened → Hold → Type 0
-Story config standing c past Made = HasAsked config standing c past
-Story config standing c past Taken = HasHeard config standing c past
-Story config standing c past OpenAsR = OpenedByCer config c past
-Story config standing c past OpenAsI = OpenedByCea config c past
-Story config standing c past h = ⊤
+abbrev pub StoryOf : Config → Standing → Conn → List Happened → Hold → Type 0
+StoryOf config standing c past Made = HasAsked config standing c past
+StoryOf config standing c past Taken = HasHeard config standing c past
+StoryOf config standing c past OpenAsR = OpenedByCer config c past
+StoryOf config standing c past OpenAsI = OpenedByCea config c past
+StoryOf config standing c past h = ⊤
 
 pub later : (config : Config) (standing : Standing) (c : Conn) (x : Happened) (past : List Happened) (h : Hold) →
-    Story config standing c past h → Story config standing c (x ∷ past) h
+    StoryOf config standing c past h → StoryOf config standing c (x ∷ past) h
 later config standing c x past Made s = record { id = s.id; kept = s.kept; asked = inr s.asked }
 later config standing c x past Taken s = record { cer = s.cer; good = s.good; kept = s.kept; heard = inr s.heard }
 later config standing c x past OpenAsR s = record { cer = s.cer; good = s.good; accepted = inr s.accepted }
@@ -57,12 +56,11 @@ later config standing c x past Pending s = tt
 later config standing c x past ClosingAsI s = tt
 later config standing c x past ClosingAsR s = tt
 
--- a connection on which something came, and that isn't held, is over
-abbrev pub EndedIfCame : Peer → List Happened → Type 0
-EndedIfCame p past =
-    (c : Conn) → hold_of p.standing.core c ≡ NotHeld → Once (λ y earlier. HasArrived c y) past → HasEnded c past
+-- on a connection that isn't held nothing came since it was closed or told ended
+abbrev pub UnheardIfFree : Peer → List Happened → Type 0
+UnheardIfFree p past = (c : Conn) → hold_of p.standing.core c ≡ NotHeld → IsUnheard c past
 
 pub record IsTold (p : Peer) (past : List Happened) : Type 0 where
   pub settled : IsSettled p
-  pub ended : EndedIfCame p past
-  pub story : (c : Conn) → Story p.config p.standing c past (hold_of p.standing.core c)
+  pub unheard : UnheardIfFree p past
+  pub story : (c : Conn) → StoryOf p.config p.standing c past (hold_of p.standing.core c)

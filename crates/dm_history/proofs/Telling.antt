@@ -13,20 +13,20 @@ use Rattle.dm_peer.specs.Acts.{Moved, standing_at}
 use Rattle.dm_peer.specs.Settled.{IsSettled}
 use Rattle.dm_history.specs.History.{Happened, done_at, declined_at, new_peer, Became, untold, done, declined}
 use Rattle.dm_history.specs.Opened.{IsOpened, EachOpeningWasAsked}
-use Rattle.dm_history.proofs.Turning.{Turns, turns}
+use Rattle.dm_history.proofs.Turning.{TurnsAs, turns}
 use Rattle.dm_history.proofs.Lasting.{settled_next, stays_configured}
-use Rattle.dm_history.proofs.Stories.{StepLaws, EndedIfCame, Story, later, IsTold}
-use Rattle.dm_history.proofs.Ending.{ended_next, ended_declined}
+use Rattle.dm_history.proofs.Stories.{StepLaws, UnheardIfFree, StoryOf, later, IsTold}
+use Rattle.dm_history.proofs.Ending.{unheard_next, unheard_declined}
 use Rattle.dm_history.proofs.OneTurn.{goes_on}
 
 by_turn : StepLaws → (p : Peer) (e : PeerEvent) (actions : List Action) (next : Peer) (past : List Happened) →
-    IsTold p past → IsSettled next → Turns p e (Moved actions next) → IsTold next (done_at e actions ∷ past)
+    IsTold p past → IsSettled next → TurnsAs p e (Moved actions next) → IsTold next (done_at e actions ∷ past)
 by_turn laws p e actions next past before settled (inr d) =
     subst (λ (q : Peer). IsTold q (done_at e actions ∷ past)) (sym d.same)
     (record {
       settled = before.settled;
-      ended = subst (λ (q : Peer). EndedIfCame q (done_at e actions ∷ past)) d.same
-          (ended_next laws.closed p before.settled e actions next past (inr d) before.ended);
+      unheard = subst (λ (q : Peer). UnheardIfFree q (done_at e actions ∷ past)) d.same
+          (unheard_next laws.closed p before.settled e actions next past (inr d) before.unheard);
       story = λ c. later p.config p.standing c (done_at e actions) past (hold_of p.standing.core c) (before.story c);
     })
 by_turn laws p e actions next past before settled (inl t) =
@@ -34,9 +34,9 @@ by_turn laws p e actions next past before settled (inl t) =
     let kept : IsSettled there = subst IsSettled t.stands settled in
     let told : IsTold there (done_at e (actions_of p e t.heard t.commands) ∷ past) = record {
       settled = kept;
-      ended = subst (λ (q : Peer). EndedIfCame q (done_at e (actions_of p e t.heard t.commands) ∷ past)) t.stands
-          (subst (λ (a : List Action). EndedIfCame next (done_at e a ∷ past)) t.acted
-          (ended_next laws.closed p before.settled e actions next past (inl t) before.ended));
+      unheard = subst (λ (q : Peer). UnheardIfFree q (done_at e (actions_of p e t.heard t.commands) ∷ past)) t.stands
+          (subst (λ (a : List Action). UnheardIfFree next (done_at e a ∷ past)) t.acted
+          (unheard_next laws.closed p before.settled e actions next past (inl t) before.unheard));
       story = goes_on laws p e t.heard t.commands t.core past before kept t.moves t.read;
     } in
     subst (λ (q : Peer). IsTold q (done_at e actions ∷ past)) (sym t.stands)
@@ -45,7 +45,7 @@ by_turn laws p e actions next past before settled (inl t) =
 pub stays_told : StepLaws → (config : Config) (next : ℕ) (past : List Happened) (p : Peer) →
     Became (new_peer config next) past p → IsTold p past
 stays_told laws config next past p untold =
-    record { settled = laws.fresh config next; ended = λ c free came. absurd came; story = λ c. tt }
+    record { settled = laws.fresh config next; unheard = λ c free. tt; story = λ c. tt }
 stays_told laws config next past p (done older q e actions after lived is) =
     let before = stays_told laws config next older q lived in
     by_turn laws q e actions after older before (settled_next laws.kept q e actions after is before.settled)
@@ -54,12 +54,12 @@ stays_told laws config next past p (declined older q e lived) =
     let before = stays_told laws config next older q lived in
     record {
       settled = before.settled;
-      ended = ended_declined q e older before.ended;
+      unheard = unheard_declined q e older before.unheard;
       story = λ c. later q.config q.standing c (declined_at e) older (hold_of q.standing.core c) (before.story c);
     }
 
 shown : (config : Config) (standing : Standing) (c : Conn) (past : List Happened) (h : Hold) →
-    Story config standing c past h → IsOpened config c past h
+    StoryOf config standing c past h → IsOpened config c past h
 shown config standing c past OpenAsR s = s
 shown config standing c past OpenAsI s = s
 shown config standing c past _ s = tt

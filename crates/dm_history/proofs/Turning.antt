@@ -57,12 +57,12 @@ pub record DropsAnswer (p : Peer) (e : PeerEvent) (actions : List Action) (next 
   pub came : e ≡ Arrived conn octets
   pub made : is_made (hold_of p.standing.core conn) ≡ true
 
-abbrev pub Turns : Peer → PeerEvent → Outcome → Type 0
-Turns p e (Moved actions next) = IsTurn p e actions next ⊎ DropsAnswer p e actions next
-Turns p e (Refused f) = ⊤
+abbrev pub TurnsAs : Peer → PeerEvent → Outcome → Type 0
+TurnsAs p e (Moved actions next) = IsTurn p e actions next ⊎ DropsAnswer p e actions next
+TurnsAs p e (Refused f) = ⊤
 
 by_outcome : (p : Peer) (e : PeerEvent) (h : Option Heard) → AreRead p e h → (o : moves.Outcome) →
-    outcome p.standing.core (input_of e h) (wins p.config) ≡ o → Turns p e (outcome_of p e h o)
+    outcome p.standing.core (input_of e h) (wins p.config) ≡ o → TurnsAs p e (outcome_of p e h o)
 by_outcome p e h read (moves.Refused r) is = tt
 by_outcome p e h read (moves.Moved commands core) is =
     inl (record {
@@ -75,17 +75,17 @@ by_outcome p e h read (moves.Moved commands core) is =
       read = read;
     })
 
-step_turns : (p : Peer) (e : PeerEvent) (h : Option Heard) → AreRead p e h → Turns p e (steps p e h)
+step_turns : (p : Peer) (e : PeerEvent) (h : Option Heard) → AreRead p e h → TurnsAs p e (steps p e h)
 step_turns p e h read =
     let i = input_of e h in
     by_outcome p e h read (turned p.standing.core i (wins p.config)) (sym (turned_is p.standing.core i (wins p.config)))
 
-step : (p : Peer) (e : PeerEvent) → Turns p e (steps p e None)
+step : (p : Peer) (e : PeerEvent) → TurnsAs p e (steps p e None)
 step p e = step_turns p e None tt
 
 dropping : (p : Peer) (c : Conn) (s : List ℕ) (m : Message) → message_in s ≡ Some m →
     (b : Bool) → is_dropped p c m.header ≡ b →
-    Turns p (Arrived c s) (if b then Moved [] p else steps p (Arrived c s) (Some (heard_in p.config m)))
+    TurnsAs p (Arrived c s) (if b then Moved [] p else steps p (Arrived c s) (Some (heard_in p.config m)))
 dropping p c s m is true drop =
     inr (record {
       none = refl;
@@ -108,23 +108,23 @@ dropping p c s m is false drop =
     })
 
 reading : (p : Peer) (c : Conn) (s : List ℕ) (o : Option Message) → message_in s ≡ o →
-    Turns p (Arrived c s) (heard p (Arrived c s) c o)
+    TurnsAs p (Arrived c s) (heard p (Arrived c s) c o)
 reading p c s None is = step p (Arrived c s)
 reading p c s (Some m) is = dropping p c s m is (is_dropped p c m.header) refl
 
 arriving : (p : Peer) (c : Conn) (s : List ℕ) (unread : Bool) →
-    Turns p (Arrived c s) (if unread then steps p (Arrived c s) None else heard p (Arrived c s) c (message_in s))
+    TurnsAs p (Arrived c s) (if unread then steps p (Arrived c s) None else heard p (Arrived c s) c (message_in s))
 arriving p c s true = step p (Arrived c s)
 arriving p c s false = reading p c s (message_in s) refl
 
 submitting : (p : Peer) (s : List ℕ) (is_open_now can : Bool) →
-    Turns p (Submit s)
+    TurnsAs p (Submit s)
     (if is_open_now then (if can then steps p (Submit s) None else Refused BadSubmit) else Refused NotOpen)
 submitting p s false can = tt
 submitting p s true false = tt
 submitting p s true true = step p (Submit s)
 
-outcome_turns : (p : Peer) (e : PeerEvent) → Turns p e (acts p e)
+outcome_turns : (p : Peer) (e : PeerEvent) → TurnsAs p e (acts p e)
 outcome_turns p (Arrived c s) = arriving p c s (is_unread p.standing.core.state (hold_of p.standing.core c))
 outcome_turns p (Submit s) = submitting p s (is_open p.standing.core.state) (can_submit (message_in s))
 outcome_turns p (Start c) = step p (Start c)
@@ -136,5 +136,5 @@ outcome_turns p (Nack c) = step p (Nack c)
 outcome_turns p (Gone c) = step p (Gone c)
 
 pub turns : (p : Peer) (e : PeerEvent) (actions : List Action) (next : Peer) → acts p e ≡ Moved actions next →
-    Turns p e (Moved actions next)
-turns p e actions next is = subst (Turns p e) is (outcome_turns p e)
+    TurnsAs p e (Moved actions next)
+turns p e actions next is = subst (TurnsAs p e) is (outcome_turns p e)

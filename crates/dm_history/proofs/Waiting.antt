@@ -12,7 +12,7 @@ use Rattle.dm_peer.specs.declared.standing.Awaited.{Awaited}
 use Rattle.dm_machine.specs.Awaiting.{number_after}
 use Rattle.dm_peer.specs.After.{request_in, awaited_of, is_cer}
 use Rattle.dm_peer.specs.Acts.{is_unawaited}
-use Rattle.dm_history.specs.History.{IsAmong}
+use Rattle.dm_history.specs.History.{StandsAmong}
 use Rattle.dm_history.proofs.Among.{further}
 
 -- an answer of command 257 that isn't dropped has the number that is awaited
@@ -76,13 +76,13 @@ header_set true true heard old e f = cc
 header_set false s heard old e f = cc
 
 -- a CER that is the first request of commands is among them
-abbrev pub SentCer : List Command → Type 0
-SentCer l = (d : Conn) × IsAmong l (command.SendCer d)
+abbrev pub CerSent : List Command → Type 0
+CerSent l = (d : Conn) × StandsAmong l (command.SendCer d)
 
-cer_later : (a : Command) (more : List Command) → SentCer more → SentCer (a ∷ more)
+cer_later : (a : Command) (more : List Command) → CerSent more → CerSent (a ∷ more)
 cer_later a more (d, there) = (d, further a (command.SendCer d) more there)
 
-pub cer_among : (l : List Command) → is_cer (request_in l) ≡ true → SentCer l
+pub cer_among : (l : List Command) → is_cer (request_in l) ≡ true → CerSent l
 cer_among [] e = absurd (cc e)
 cer_among (command.SendCer d ∷ more) e = (d, ([], more, refl))
 cer_among (command.SendDwr d ∷ more) e = absurd (cc e)

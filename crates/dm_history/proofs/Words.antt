@@ -15,7 +15,7 @@ use Rattle.dm_machine.specs.declared.inputs.Word.TheVariants.{Cer, CerRefused, C
 use Rattle.dm_peer.specs.declared.config.Config.{Config}
 use Rattle.dm_peer.specs.Hosts.{is_same_host}
 use Rattle.dm_peer.specs.Said.{heard_in, heard_caps, refusal_of_caps, said, kind_under}
-use Rattle.dm_history.specs.Meant.{IsGoodCer, IsGoodCea}
+use Rattle.dm_history.specs.Meant.{IsAcceptableCer, IsAcceptableCea}
 
 -- a message that fails its check has a word of its own
 abbrev is_bad : Word → Bool
@@ -66,11 +66,7 @@ cer_of : (c : Config) (h : Header) (r : Result Kind Fault) → (said c h r).word
 cer_of c h (Ok (kinds.Cer caps)) e = (caps, refl, none_refused h (refusal_of_caps c caps) e)
 cer_of c h (Ok (kinds.Cea code)) e =
     absurd (code_word (nat_le 2000 code && nat_le code 2999) Cer e (λ x. cc x) (λ x. cc x))
-cer_of c h (Ok kinds.Dwr) e = absurd (cc e)
-cer_of c h (Ok kinds.Dwa) e = absurd (cc e)
-cer_of c h (Ok (kinds.Dpr cause)) e = absurd (cc e)
-cer_of c h (Ok kinds.Dpa) e = absurd (cc e)
-cer_of c h (Ok kinds.Other) e = absurd (cc e)
+cer_of c h (Ok _) e = absurd (cc e)
 cer_of c h (Err f) e =
     absurd (not_bad (nat_eq h.command capabilities_exchange) (nat_eq h.command device_watchdog) h.request Cer e refl)
 
@@ -79,11 +75,7 @@ cea_of : (c : Config) (h : Header) (r : Result Kind Fault) → (said c h r).word
 cea_of c h (Ok (kinds.Cea code)) e = (code, refl, is_success (nat_le 2000 code && nat_le code 2999) e)
 cea_of c h (Ok (kinds.Cer caps)) e =
     absurd (caps_word h (refusal_of_caps c caps) Cea e (λ x. cc x) (λ x. cc x))
-cea_of c h (Ok kinds.Dwr) e = absurd (cc e)
-cea_of c h (Ok kinds.Dwa) e = absurd (cc e)
-cea_of c h (Ok (kinds.Dpr cause)) e = absurd (cc e)
-cea_of c h (Ok kinds.Dpa) e = absurd (cc e)
-cea_of c h (Ok kinds.Other) e = absurd (cc e)
+cea_of c h (Ok _) e = absurd (cc e)
 cea_of c h (Err f) e =
     absurd (not_bad (nat_eq h.command capabilities_exchange) (nat_eq h.command device_watchdog) h.request Cea e refl)
 
@@ -99,13 +91,13 @@ kind_is : (c : Config) (m : Message) → kind_under c m ≡ kind c.dictionary m
 unfolding kind_under
 kind_is c m = refl
 
-pub good_cer : (c : Config) (m : Message) → (heard_in c m).word ≡ Cer → IsGoodCer c m
+pub good_cer : (c : Config) (m : Message) → (heard_in c m).word ≡ Cer → IsAcceptableCer c m
 good_cer c m e =
     let x = cer_of c m.header (kind_under c m) e in
     let t = none_of_three 3010 5010 5017 (is_same_host x.0.host c.peer) (is_common x.0 c.node) (is_secure x.0) x.2 in
     record { caps = x.0; checked = sym (kind_is c m) ∙ x.1; named = t.0; shared = t.1; secure = t.2 }
 
-pub good_cea : (c : Config) (m : Message) → (heard_in c m).word ≡ Cea → IsGoodCea c m
+pub good_cea : (c : Config) (m : Message) → (heard_in c m).word ≡ Cea → IsAcceptableCea c m
 good_cea c m e =
     let x = cea_of c m.header (kind_under c m) e in
     let t = and_parts (nat_le 2000 x.0) (nat_le x.0 2999) x.2 in
@@ -117,13 +109,7 @@ same_header c h (Ok (kinds.Cer caps)) = by_refusal (refusal_of_caps c caps) wher
   by_refusal : (o : Option ℕ) → (heard_caps h o).header ≡ h
   by_refusal None = refl
   by_refusal (Some code) = refl
-same_header c h (Ok (kinds.Cea code)) = refl
-same_header c h (Ok kinds.Dwr) = refl
-same_header c h (Ok kinds.Dwa) = refl
-same_header c h (Ok (kinds.Dpr cause)) = refl
-same_header c h (Ok kinds.Dpa) = refl
-same_header c h (Ok kinds.Other) = refl
-same_header c h (Err f) = refl
+same_header c h _ = refl
 
 pub heard_header : (c : Config) (m : Message) → (heard_in c m).header ≡ m.header
 heard_header c m = same_header c m.header (kind_under c m)

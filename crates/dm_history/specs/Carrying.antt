@@ -18,25 +18,25 @@ use Rattle.dm_peer.specs.declared.peer.Peer.{Peer}
 use Rattle.dm_peer.specs.Events.{PeerEvent, Arrived, Submit}
 use Rattle.dm_peer.specs.Octets.{octets_of}
 use Rattle.dm_peer.specs.Acts.{Moved, acts}
-use Rattle.dm_history.specs.History.{Happened, new_peer, Became, IsAmong}
+use Rattle.dm_history.specs.History.{Happened, new_peer, Became, StandsAmong}
 
 -- the peer is open on the connection
 abbrev pub StandsOpen : Peer → Conn → Type 0
 StandsOpen p c = is_open_hold (hold_of p.standing.core c) ≡ true
 
 -- a CER, DWR or DPR of the node, or an answer of it
-pub data IsOwn (n : Node) : Message → Type 0 where
-  cer : (id : ℕ) → IsOwn n (built_cer n id)
-  dwr : (id : ℕ) → IsOwn n (built_dwr n id)
-  dpr : (id : ℕ) (cause : Cause) → IsOwn n (built_dpr n id cause)
-  cea : (to : Header) (code : ℕ) (failed : Option Avp) → IsOwn n (built_cea n to code failed)
-  answer : (to : Header) (code : ℕ) (failed : Option Avp) → IsOwn n (built_answer n to code failed)
-  error : (to : Header) (code : ℕ) → IsOwn n (built_error n to code)
+pub data IsOwnMessage (n : Node) : Message → Type 0 where
+  cer : (id : ℕ) → IsOwnMessage n (built_cer n id)
+  dwr : (id : ℕ) → IsOwnMessage n (built_dwr n id)
+  dpr : (id : ℕ) (cause : Cause) → IsOwnMessage n (built_dpr n id cause)
+  cea : (to : Header) (code : ℕ) (failed : Option Avp) → IsOwnMessage n (built_cea n to code failed)
+  answer : (to : Header) (code : ℕ) (failed : Option Avp) → IsOwnMessage n (built_answer n to code failed)
+  error : (to : Header) (code : ℕ) → IsOwnMessage n (built_error n to code)
 
 -- the octets are those of such a message, of command 257, 280 or 282
 pub record AreOwn (n : Node) (s : List ℕ) : Type 0 where
   pub message : Message
-  pub own : IsOwn n message
+  pub own : IsOwnMessage n message
   pub base : is_base_command message.header.command ≡ true
   pub spelled : s ≡ octets_of message
 
@@ -47,7 +47,7 @@ pub record SpellOther (s : List ℕ) : Type 0 where
   pub other : is_base_command message.header.command ≡ false
 
 -- the octets that are handed up came just then, on the connection on which the peer is open
-pub record IsHandedUp (p : Peer) (e : PeerEvent) (s : List ℕ) : Type 0 where
+pub record CameOnOpen (p : Peer) (e : PeerEvent) (s : List ℕ) : Type 0 where
   pub conn : Conn
   pub came : e ≡ Arrived conn s
   pub opened : StandsOpen p conn
@@ -61,10 +61,10 @@ pub record IsPassedOn (p : Peer) (e : PeerEvent) (c : Conn) (s : List ℕ) : Typ
 
 -- all octets that are handed up are so, and all that are sent are the node's own or passed on
 pub record IsCarried (n : Node) (p : Peer) (e : PeerEvent) (actions : List Action) : Type 0 where
-  pub up : (s : List ℕ) → IsAmong actions (Up s) → IsHandedUp p e s
-  pub sent : (c : Conn) (s : List ℕ) → IsAmong actions (Send c s) → AreOwn n s ⊎ IsPassedOn p e c s
+  pub up : (s : List ℕ) → StandsAmong actions (Up s) → CameOnOpen p e s
+  pub sent : (c : Conn) (s : List ℕ) → StandsAmong actions (Send c s) → AreOwn n s ⊎ IsPassedOn p e c s
 
-pub record Carries (n : Node) (p : Peer) : Type 0 where
+pub record CarriesNext (n : Node) (p : Peer) : Type 0 where
   pub only : (e : PeerEvent) (actions : List Action) (next : Peer) → acts p e ≡ Moved actions next →
       IsCarried n p e actions
   -- a message of another command that comes on the open connection is handed up, and nothing else done
@@ -77,4 +77,4 @@ pub record Carries (n : Node) (p : Peer) : Type 0 where
 abbrev pub EachRunCarries : Type 0
 EachRunCarries =
     (config : Config) (next : ℕ) (past : List Happened) (p : Peer) →
-    Became (new_peer config next) past p → Carries config.node p
+    Became (new_peer config next) past p → CarriesNext config.node p

@@ -40,5 +40,5 @@ Once P [] = ⊥
 Once P (x ∷ past) = P x past ⊎ Once P past
 
 -- the element stands among them
-abbrev pub IsAmong : {A : Type 0} → List A → A → Type 0
-IsAmong {A} xs x = (earlier : List A) × (later : List A) × (xs ≡ earlier ++ x ∷ later)
+abbrev pub StandsAmong : {A : Type 0} → List A → A → Type 0
+StandsAmong {A} xs x = (earlier : List A) × (later : List A) × (xs ≡ earlier ++ x ∷ later)

@@ -3,4 +3,4 @@ pub mod Naming
 pub mod Meant
 pub mod Opened
 pub mod Carrying
-pub mod Closings
+pub mod Over

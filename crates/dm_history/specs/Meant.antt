@@ -10,7 +10,7 @@ use Rattle.dm_peer.specs.Hosts.{is_same_host}
 
 -- the message passes its check as a CER of the configured host, has an application in common and asks for no security
 -- mechanism
-pub record IsGoodCer (c : Config) (m : Message) : Type 0 where
+pub record IsAcceptableCer (c : Config) (m : Message) : Type 0 where
   pub caps : Caps
   pub checked : kind c.dictionary m ≡ Ok (kinds.Cer caps)
   pub named : is_same_host caps.host c.peer ≡ true
@@ -18,7 +18,7 @@ pub record IsGoodCer (c : Config) (m : Message) : Type 0 where
   pub secure : is_secure caps ≡ true
 
 -- it passes its check as a CEA with a Result-Code of success, 2000 to 2999
-pub record IsGoodCea (c : Config) (m : Message) : Type 0 where
+pub record IsAcceptableCea (c : Config) (m : Message) : Type 0 where
   pub code : ℕ
   pub checked : kind c.dictionary m ≡ Ok (kinds.Cea code)
   pub least : nat_le 2000 code ≡ true

@@ -1,5 +1,5 @@
 -- How a connection was opened, whatever the other side is (RFC 6733, 5.3 and 5.6).
-use Rattle.std.specs.Prelude.{◌≡◌, ⊤, ℕ, None, Some, List, ◌∷◌}
+use Rattle.std.specs.Prelude.{◌≡◌, ◌⊎◌, ⊤, ℕ, None, Some, List, [], ◌∷◌}
 use Rattle.dm_wire.specs.declared.message.Message.{Message}
 use Rattle.dm_wire.specs.Whole.{message_in}
 use Rattle.dm_base.specs.declared.node.Node.{Node}
@@ -12,9 +12,9 @@ use Rattle.dm_peer.specs.declared.config.Config.{Config}
 use Rattle.dm_peer.specs.declared.peer.Peer.{Peer}
 use Rattle.dm_peer.specs.Events.{Ack, Arrived}
 use Rattle.dm_peer.specs.Octets.{octets_of}
-use Rattle.dm_history.specs.History.{Happened, done_at, new_peer, Became, Once, IsAmong}
-use Rattle.dm_history.specs.Naming.{HasEnded, NamesNone}
-use Rattle.dm_history.specs.Meant.{IsGoodCer, IsGoodCea}
+use Rattle.dm_history.specs.History.{Happened, done_at, new_peer, Became, Once, StandsAmong}
+use Rattle.dm_history.specs.Naming.{IsClosing, IsEnding}
+use Rattle.dm_history.specs.Meant.{IsAcceptableCer, IsAcceptableCea}
 
 -- the message came on the connection
 pub record HasCome (c : Conn) (m : Message) (x : Happened) : Type 0 where
@@ -29,16 +29,21 @@ pub record HasArrived (c : Conn) (x : Happened) : Type 0 where
   pub actions : List Action
   pub came : x ≡ done_at (Arrived c octets) actions
 
--- the message came on it, as the first there where no connection was named again that was over
+-- nothing came on it since it last was closed or told ended, or ever
+abbrev pub IsUnheard : Conn → List Happened → Type 0
+IsUnheard c [] = ⊤
+IsUnheard c (x ∷ past) = (IsClosing c x ⊎ IsEnding c x) ⊎ ((HasArrived c x → ⊥) × IsUnheard c past)
+
+-- the message came on it, as the first there
 pub record CameFirst (c : Conn) (m : Message) (x : Happened) (past : List Happened) : Type 0 where
   pub come : HasCome c m x
-  pub first : NamesNone HasEnded (x ∷ past) → Once (λ y earlier. HasArrived c y) past → ⊥
+  pub first : IsUnheard c past
 
 -- the message was sent on it
 pub record WasSent (c : Conn) (m : Message) (x : Happened) : Type 0 where
   pub actions : List Action
   pub did : x.did ≡ Some actions
-  pub sent : IsAmong actions (Send c (octets_of m))
+  pub sent : StandsAmong actions (Send c (octets_of m))
 
 -- the CEA that accepts the CER was sent on the connection, on which the CER had come first, then or before
 pub record IsAccepted (n : Node) (c : Conn) (cer : Message) (x : Happened) (past : List Happened) : Type 0 where
@@ -58,13 +63,13 @@ pub record IsAnswered (n : Node) (c : Conn) (cea : Message) (x : Happened) (past
 -- as responder: a good CER came on the connection as its first message, and was answered with success
 pub record OpenedByCer (config : Config) (c : Conn) (past : List Happened) : Type 0 where
   pub cer : Message
-  pub good : IsGoodCer config cer
+  pub good : IsAcceptableCer config cer
   pub accepted : Once (IsAccepted config.node c cer) past
 
 -- as initiator: the own CER was sent on it at its Ack, and a good CEA of its number came
 pub record OpenedByCea (config : Config) (c : Conn) (past : List Happened) : Type 0 where
   pub cea : Message
-  pub good : IsGoodCea config cea
+  pub good : IsAcceptableCea config cea
   pub answered : Once (IsAnswered config.node c cea) past
 
 -- by what a connection is to a peer: how it was opened

@@ -1,5 +1,5 @@
 -- By what each connection has been through, and by where an action comes from.
-use Rattle.dm_history.proofs.Carrying.{carries}
+use Rattle.dm_history.proofs.UserMessages.{carries}
 use Rattle.dm_history.proofs.laws.each_run_carries.Goals as goal
 
 pub returns : goal.returns

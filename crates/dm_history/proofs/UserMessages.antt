@@ -20,19 +20,19 @@ use Rattle.dm_machine.specs.Upward.{is_open_hold, is_submitted, SubmitsWhereOpen
 use Rattle.dm_peer.specs.declared.actions.Action.{Action}
 use Rattle.dm_peer.specs.declared.actions.Action.TheVariants.{Send, Up}
 use Rattle.dm_peer.specs.declared.peer.Peer.{Peer}
-use Rattle.dm_peer.specs.Events.{PeerEvent, Start, Stop, Timeout, Tick, Ack, Nack, Arrived, Gone, Submit, octets_in}
+use Rattle.dm_peer.specs.Events.{PeerEvent, Arrived, octets_in}
 use Rattle.dm_peer.specs.Configs.{wins}
 use Rattle.dm_peer.specs.Said.{Heard, heard_in, word_heard}
 use Rattle.dm_peer.specs.Sent.{action_of}
 use Rattle.dm_peer.specs.After.{standing_after}
 use Rattle.dm_peer.specs.Acts.{Moved, acts, input_of, outcome_of, standing_at, steps, is_unread, is_made, is_unawaited, heard}
 use Rattle.dm_peer.specs.Settled.{IsSettled}
-use Rattle.dm_history.specs.History.{Happened, IsAmong}
-use Rattle.dm_history.specs.Carrying.{StandsOpen, IsHandedUp, AreOwn, IsPassedOn, IsCarried, Carries, EachRunCarries}
+use Rattle.dm_history.specs.History.{Happened, StandsAmong}
+use Rattle.dm_history.specs.Carrying.{StandsOpen, CameOnOpen, AreOwn, IsPassedOn, IsCarried, CarriesNext, EachRunCarries}
 use Rattle.dm_history.proofs.Among.{none_among, sourced}
 use Rattle.dm_history.proofs.Ordered.{ordered}
 use Rattle.dm_history.proofs.Commands.{other_word, other_command}
-use Rattle.dm_history.proofs.Turning.{IsTurn, Turns, turns, turned_is}
+use Rattle.dm_history.proofs.Turning.{IsTurn, TurnsAs, turns, turned_is}
 use Rattle.dm_history.proofs.Lasting.{stays_configured}
 use Rattle.dm_history.proofs.Coming.{came_by}
 use Rattle.dm_history.proofs.Sending.{AnswersBase, up_command, own_sent}
@@ -67,20 +67,13 @@ has_up_at l a before behind is up =
 heard_by : (e : PeerEvent) (h : Option Heard) (c : Conn) (s : List ℕ) → input_of e h ≡ input.Heard c Other →
     octets_in e ≡ s → (e ≡ Arrived c s) × (word_heard h ≡ Other)
 heard_by (Arrived d t) h c s i is = (cc (i, is), cc i)
-heard_by (Start d) h c s i is = absurd (cc i)
-heard_by (Stop cause) h c s i is = absurd (cc i)
-heard_by Timeout h c s i is = absurd (cc i)
-heard_by Tick h c s i is = absurd (cc i)
-heard_by (Ack d) h c s i is = absurd (cc i)
-heard_by (Nack d) h c s i is = absurd (cc i)
-heard_by (Gone d) h c s i is = absurd (cc i)
-heard_by (Submit t) h c s i is = absurd (cc i)
+heard_by _ h c s i is = absurd (cc i)
 
 spelled_as : (t s : List ℕ) (m : Message) → t ≡ s → message_in t ≡ Some m → message_in s ≡ Some m
 spelled_as t s m same is = subst (λ (x : List ℕ). message_in x ≡ Some m) same is
 
 handed_up : HandsUpWhereOpen → (p : Peer) → IsSettled p → (e : PeerEvent) (actions : List Action) (next : Peer) →
-    IsTurn p e actions next → (s : List ℕ) → IsAmong actions (Up s) → IsHandedUp p e s
+    IsTurn p e actions next → (s : List ℕ) → StandsAmong actions (Up s) → CameOnOpen p e s
 handed_up law p was e actions next t s (earlier, later, stands) =
     let n = p.standing.core in
     let i = input_of e t.heard in
@@ -106,12 +99,12 @@ handed_up law p was e actions next t s (earlier, later, stands) =
 
 sent_by : CarryLaws → (p : Peer) (past : List Happened) → IsTold p past → (e : PeerEvent) (actions : List Action)
     (next : Peer) → acts p e ≡ Moved actions next → IsTurn p e actions next → (c : Conn) (s : List ℕ) →
-    IsAmong actions (Send c s) → AreOwn p.config.node s ⊎ IsPassedOn p e c s
+    StandsAmong actions (Send c s) → AreOwn p.config.node s ⊎ IsPassedOn p e c s
 sent_by laws p past told e actions next is t c s (earlier, later, stands) =
     let n = p.standing.core in
     let i = input_of e t.heard in
     let a = sourced (action_of p e t.heard) t.commands (Send c s) earlier later (sym t.acted ∙ stands) in
-    let there : IsAmong t.commands a.command = (a.before, a.behind, a.stands) in
+    let there : StandsAmong t.commands a.command = (a.before, a.behind, a.stands) in
     let base : AnswersBase p t.heard c a.command = (
       λ cea. cea_answers_base laws.accepted laws.steps.caused laws.steps.closes p told.settled e t.heard t.commands
           t.core t.moves t.read c past (told.story c) (ordered SendsCea c t.commands a.command there cea),
@@ -132,12 +125,12 @@ sent_by laws p past told e actions next is t c s (earlier, later, stands) =
     ]
 
 carried : CarryLaws → (p : Peer) (past : List Happened) → IsTold p past → (e : PeerEvent) (actions : List Action)
-    (next : Peer) → acts p e ≡ Moved actions next → Turns p e (Moved actions next) →
+    (next : Peer) → acts p e ≡ Moved actions next → TurnsAs p e (Moved actions next) →
     IsCarried p.config.node p e actions
 carried laws p past told e actions next is (inr d) =
     record {
-      up = λ s a. absurd (none_among (Up s) (subst (λ (l : List Action). IsAmong l (Up s)) d.none a));
-      sent = λ c s a. absurd (none_among (Send c s) (subst (λ (l : List Action). IsAmong l (Send c s)) d.none a));
+      up = λ s a. absurd (none_among (Up s) (subst (λ (l : List Action). StandsAmong l (Up s)) d.none a));
+      sent = λ c s a. absurd (none_among (Send c s) (subst (λ (l : List Action). StandsAmong l (Send c s)) d.none a));
     }
 carried laws p past told e actions next is (inl t) =
     record {
@@ -182,7 +175,7 @@ each_up law p was c s m opened is other =
 pub carries : CarryLaws → EachRunCarries
 carries laws config next past p lived =
     let told = stays_told laws.steps config next past p lived in
-    subst (λ k. Carries k.node p) (stays_configured config next past p lived)
+    subst (λ k. CarriesNext k.node p) (stays_configured config next past p lived)
     (record {
       only = λ e actions after is. carried laws p past told e actions after is (turns p e actions after is);
       each = each_up laws.each p told.settled;
