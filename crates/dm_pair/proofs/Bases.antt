@@ -1,6 +1,6 @@
 -- Messages of base commands: they are heard as such, and no other message is; what a node builds is no application's.
 use Rattle.std.proofs.Common.{◌≡◌, ℕ, Bool, true, false, not, ◌&&◌, ◌||◌, nat_le, Option, None, Some, List, ◌∷◌, ◌++◌, drop, if◌then◌else◌, refl, sym, ap, subst, nat_eq}
-use Rattle.std.specs.Prelude.{option_map, Result, Ok, Err}
+use Rattle.std.specs.Prelude.{option_map, Result, Ok}
 use Rattle.std.proofs.lemmas.Bool.{eqb-true}
 use Rattle.dm_wire.specs.declared.avp.Avp.{Avp}
 use Rattle.dm_wire.specs.declared.message.Header.{Header}
@@ -34,13 +34,7 @@ caps_header h (Some code) = refl
 
 said_header : (c : Config) (h : Header) (r : Result Kind Fault) → (said c h r).header ≡ h
 said_header c h (Ok (kinds.Cer caps)) = caps_header h (refusal_of_caps c caps)
-said_header c h (Ok (kinds.Cea code)) = refl
-said_header c h (Ok kinds.Dwr) = refl
-said_header c h (Ok kinds.Dwa) = refl
-said_header c h (Ok (kinds.Dpr cause)) = refl
-said_header c h (Ok kinds.Dpa) = refl
-said_header c h (Ok kinds.Other) = refl
-said_header c h (Err f) = refl
+said_header c h _ = refl
 
 pub heard_header : (c : Config) (m : Message) → (heard_in c m).header ≡ m.header
 heard_header c m = said_header c m.header (kind_under c m)

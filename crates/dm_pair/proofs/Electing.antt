@@ -1,5 +1,5 @@
 -- Two peers over octets elect.
-use Rattle.std.proofs.Common.{◌≡◌, ◌<◌, ℕ, ◌^◌, Bool, true, false, not, ◌&&◌, ◌||◌, nat_eq, Option, Some, None, option_map, List, if◌then◌else◌, Result, Ok, Err, refl, sym, ap, subst, ◌∙◌, arith}
+use Rattle.std.proofs.Common.{◌≡◌, ◌<◌, ℕ, ◌^◌, Bool, true, false, not, ◌&&◌, ◌||◌, nat_eq, Option, Some, None, option_map, List, if◌then◌else◌, refl, sym, ap, subst, ◌∙◌, arith}
 use Rattle.std.specs.Prelude.{is_none}
 use Rattle.std.specs.Option.{option_eq}
 use Rattle.std.proofs.lemmas.Bool.{and_parts}
@@ -8,9 +8,6 @@ use Rattle.dm_wire.specs.declared.message.Header.{Header}
 use Rattle.dm_wire.specs.declared.message.Message.{Message}
 use Rattle.dm_wire.specs.Limits.{HeaderFits}
 use Rattle.dm_wire.specs.Whole.{message_in}
-use Rattle.dm_dict.specs.Faults.{Fault}
-use Rattle.dm_base.specs.declared.kind.Kind.{Kind}
-use Rattle.dm_base.specs.declared.kind.Kind.TheVariants as kinds
 use Rattle.dm_base.specs.Codes.{capabilities_exchange}
 use Rattle.dm_base.specs.Built.{request_header, answer_header}
 use Rattle.dm_base.specs.Common.{are_common, CommonBothWays}
@@ -19,7 +16,7 @@ use Rattle.dm_machine.specs.declared.inputs.Input.{Input}
 use Rattle.dm_machine.specs.declared.inputs.Word.TheVariants.{Cer, Cea}
 use Rattle.dm_machine.specs.declared.state_name.State.{State}
 use Rattle.dm_machine.specs.Node.{is_shaped}
-use Rattle.dm_machine.specs.Forms.{EachShapeIsAForm}
+use Rattle.dm_machine.specs.EachStep.{EachStepHolds}
 use Rattle.dm_machine.specs.Shape.{EachStepKeepsShape}
 use Rattle.dm_machine.specs.Connection.{Hold, NotHeld, Made, hold_of}
 use Rattle.dm_machine.specs.Unread.{reads_first}
@@ -29,35 +26,21 @@ use Rattle.dm_peer.specs.declared.peer.Peer.{Peer}
 use Rattle.dm_peer.specs.Events as told
 use Rattle.dm_peer.specs.Configs.{wins}
 use Rattle.dm_peer.specs.Hosts.{is_same_host}
-use Rattle.dm_peer.specs.Said.{Heard, good, heard_caps, refusal_of_caps, said, kind_under, heard_in, heard_at}
+use Rattle.dm_peer.specs.Said.{Heard, good, heard_in, heard_at, header_heard}
 use Rattle.dm_peer.specs.Laws.{CerIsGood, CeaIsGood}
 use Rattle.dm_peer.specs.Acts.{acts, steps, is_made, is_unread, is_unawaited, is_dropped}
 use Rattle.dm_peer.specs.Acts as peer_acts
-use Rattle.dm_peer.specs.After as after
 use Rattle.dm_links.specs.Links.{Side, A, B, flip}
 use Rattle.dm_links.specs.Peers.{Event}
 use Rattle.dm_machine.specs.Awaiting.{holds_cer}
 use Rattle.dm_links.specs.Electing.{IsPeerOf, IsReadAs, reads_start, reads_ack, reads_end, reads_cer, leaves_cer, reads_cea, RepliesAs}
 use Rattle.dm_pair.specs.Octets.{as_reply, octet_peers}
-use Rattle.dm_pair.specs.Talking.{ArePaired, config_at, is_number, is_standing, cer_octets, cea_octets, octet_talks}
+use Rattle.dm_base.specs.Fit.{is_number}
+use Rattle.dm_pair.specs.Talking.{ArePaired, config_at, is_standing, cer_octets, cea_octets, octet_talks}
 use Rattle.dm_pair.specs.Laws.{OctetsAreElecting}
+use Rattle.dm_pair.proofs.Bases.{heard_header}
 use Rattle.dm_pair.proofs.Winning.{one_wins}
 use Rattle.dm_pair.proofs.Replying.{step_replies}
-
--- what is heard has the header of its message
-caps_header : (h : Header) (code : Option ℕ) → (heard_caps h code).header ≡ h
-caps_header h None = refl
-caps_header h (Some code) = refl
-
-said_header : (c : Config) (h : Header) (r : Result Kind Fault) → (said c h r).header ≡ h
-said_header c h (Ok (kinds.Cer caps)) = caps_header h (refusal_of_caps c caps)
-said_header c h (Ok (kinds.Cea code)) = refl
-said_header c h (Ok kinds.Dwr) = refl
-said_header c h (Ok kinds.Dwa) = refl
-said_header c h (Ok (kinds.Dpr cause)) = refl
-said_header c h (Ok kinds.Dpa) = refl
-said_header c h (Ok kinds.Other) = refl
-said_header c h (Err f) = refl
 
 if_true : {X : Type 0} (b : Bool) (x y : X) → b ≡ true → (if b then x else y) ≡ x
 if_true true x y e = refl
@@ -75,7 +58,7 @@ heard_of p e c None h is kept = cc
 heard_of p e c (Some m) h is kept =
     let this : heard_in p.config m ≡ h = cc in
     let header : m.header ≡ h.header =
-    sym (said_header p.config m.header (kind_under p.config m)) ∙ ap (λ (x : Heard). x.header) this in
+    sym (heard_header p.config m) ∙ ap (λ (x : Heard). x.header) this in
     if_false (is_dropped p c m.header) _ _ (kept m.header header) ∙ ap (λ x. steps p e (Some x)) this
 
 acts_heard : (p : Peer) (c : Conn) (x : List ℕ) (h : Heard) →
@@ -134,7 +117,7 @@ shares both a b paired B = paired.common
 
 -- what is used of the crates below
 pub record Below : Type 0 where
-  pub form : EachShapeIsAForm
+  pub steps : EachStepHolds
   pub shape : EachStepKeepsShape
   pub both : CommonBothWays
   pub cer : CerIsGood
@@ -143,12 +126,12 @@ pub record Below : Type 0 where
 -- the reply where the peer takes a step
 stepped : Below → (a b : Config) (s : Side) (p : Peer) (e : told.PeerEvent) (h : Option Heard) →
     IsPeerOf (octet_talks a b) s p → acts p e ≡ steps p e h →
-    RepliesAs octet_peers (octet_talks a b) s p (after.header_heard h)
+    RepliesAs octet_peers (octet_talks a b) s p (header_heard h)
     (outcome p.standing.core (peer_acts.input_of e h) (wins (config_at a b s))) (as_reply (acts p e))
 stepped below a b s p e h is steps_so =
-    subst (λ o. RepliesAs octet_peers (octet_talks a b) s p (after.header_heard h)
+    subst (λ o. RepliesAs octet_peers (octet_talks a b) s p (header_heard h)
     (outcome p.standing.core (peer_acts.input_of e h) (wins (config_at a b s))) (as_reply o)) (sym steps_so)
-    (step_replies below.form below.shape a b s p e h is)
+    (step_replies below.steps below.shape a b s p e h is)
 
 octet_replies : Below → (a b : Config) → ArePaired a b →
     (s : Side) (p : Peer) (e : Event (List ℕ)) (i : Input) (heard : Option Header) →

@@ -1,18 +1,15 @@
 -- A message of an application that comes where the peer is not open hands nothing up, and ends the connection.
-use Rattle.std.proofs.Common.{◌≡◌, ℕ, ◌==◌, Bool, true, false, List, if◌then◌else◌, refl, ap, subst, arith}
+use Rattle.std.proofs.Common.{◌≡◌, ℕ, ◌==◌, Bool, true, false, List, refl, ap, subst, arith}
 use Rattle.std.specs.Prelude.{Contains}
 use Rattle.std.specs.List.{list_all}
 use Rattle.std.proofs.lemmas.Bool.Decides.{nat_tests}
 use Rattle.std.proofs.lemmas.List.Elements.{All-contains}
 use Rattle.std.proofs.lemmas.List.Sums.{AllPass-from_list_all}
-use Rattle.dm_machine.specs.declared.connection.Conn.{Conn}
-use Rattle.dm_machine.specs.declared.phase.Role.TheVariants.{Initiated, Accepted}
 use Rattle.dm_machine.specs.declared.inputs.Input.TheVariants as input
 use Rattle.dm_machine.specs.declared.inputs.Word.{Word}
 use Rattle.dm_machine.specs.declared.inputs.Word.TheVariants.{Unreadable, Other}
 use Rattle.dm_machine.specs.declared.outputs.Command.{Command}
 use Rattle.dm_machine.specs.Node.{Node, is_shaped}
-use Rattle.dm_machine.specs.Forms.{Form, closed, wait_conn_ack, wait_i_cea, wait_conn_ack_elect, wait_returns, r_open, i_open, closing}
 use Rattle.dm_machine.specs.Connection.{Hold, hold_of, orders_to, AtConnection}
 use Rattle.dm_machine.specs.Connection as hold
 use Rattle.dm_machine.specs.Changes.{Change, change, allowed, at_word, EachConnectionChangesAsAllowed}
@@ -22,8 +19,6 @@ use Rattle.dm_peer.specs.Configs.{wins}
 use Rattle.dm_links.specs.Machine.{conn}
 use Rattle.dm_links.specs.Delivery.{is_done_hold, is_unmade}
 use Rattle.dm_machine.specs.Upward.{is_open_hold}
-use Rattle.dm_pair.proofs.Silent.{is_silent}
-use Rattle.dm_pair.proofs.Wording.{silent_step}
 
 -- such a message, or one that isn't looked at, ends what is made and not open
 abbrev pub ends_word : Word → Bool
@@ -74,54 +69,3 @@ done_after changes n next c w wins commands shaped is ends opened unmade =
     let there : Contains (at_word before w) x = subst (λ k. Contains (allowed k before) x) (word_concern c w) raw in
     All-contains (λ y. is_done_after y ≡ true) (at_word before w) x
     (AllPass-from_list_all is_done_after (at_word before w) (done_listed w before ends opened unmade)) there
-
--- a message of an application elsewhere hands nothing up
-pub closed_silent : (n : Node) → Form n → (c : Conn) (w : Bool) → is_open_hold (hold_of n c) ≡ false →
-    is_silent (outcome n (input.Heard c Other) w) ≡ true
-closed_silent n closed c w h = silent_step n closed (input.Heard c Other) w refl
-closed_silent n (wait_conn_ack i) c w h = silent_at (i.0 == c.0) refl
-  where
-    silent_at : (b : Bool) → (i.0 == c.0) ≡ b → is_silent (outcome n (input.Heard c Other) w) ≡ true
-    silent_at true e = silent_step n (wait_conn_ack i) (input.Heard c Other) w (rw e refl)
-    silent_at false e = silent_step n (wait_conn_ack i) (input.Heard c Other) w (rw e refl)
-closed_silent n (wait_i_cea i) c w h = silent_at (i.0 == c.0) refl
-  where
-    silent_at : (b : Bool) → (i.0 == c.0) ≡ b → is_silent (outcome n (input.Heard c Other) w) ≡ true
-    silent_at true e = silent_step n (wait_i_cea i) (input.Heard c Other) w (rw e refl)
-    silent_at false e = silent_step n (wait_i_cea i) (input.Heard c Other) w (rw e refl)
-closed_silent n (wait_conn_ack_elect i r apart) c w h = silent_at (i.0 == c.0) (r.0 == c.0) refl refl
-  where
-    silent_at : (b d : Bool) → (i.0 == c.0) ≡ b → (r.0 == c.0) ≡ d →
-        is_silent (outcome n (input.Heard c Other) w) ≡ true
-    silent_at true d e f = silent_step n (wait_conn_ack_elect i r apart) (input.Heard c Other) w (rw e refl)
-    silent_at false true e f = silent_step n (wait_conn_ack_elect i r apart) (input.Heard c Other) w (rw (e, f) refl)
-    silent_at false false e f = silent_step n (wait_conn_ack_elect i r apart) (input.Heard c Other) w (rw (e, f) refl)
-closed_silent n (wait_returns i r apart) c w h = silent_at (i.0 == c.0) (r.0 == c.0) refl refl
-  where
-    silent_at : (b d : Bool) → (i.0 == c.0) ≡ b → (r.0 == c.0) ≡ d →
-        is_silent (outcome n (input.Heard c Other) w) ≡ true
-    silent_at true d e f = silent_step n (wait_returns i r apart) (input.Heard c Other) w (rw e refl)
-    silent_at false true e f = silent_step n (wait_returns i r apart) (input.Heard c Other) w (rw (e, f) refl)
-    silent_at false false e f = silent_step n (wait_returns i r apart) (input.Heard c Other) w (rw (e, f) refl)
-closed_silent n (r_open r k few) c w h = silent_at (r.0 == c.0) refl h
-  where
-    silent_at : (b : Bool) → (r.0 == c.0) ≡ b → is_open_hold (if b then hold.OpenAsR else hold.NotHeld) ≡ false →
-        is_silent (outcome n (input.Heard c Other) w) ≡ true
-    silent_at true e g = cc
-    silent_at false e g = silent_step n (r_open r k few) (input.Heard c Other) w (rw e refl)
-closed_silent n (i_open i k few) c w h = silent_at (i.0 == c.0) refl h
-  where
-    silent_at : (b : Bool) → (i.0 == c.0) ≡ b → is_open_hold (if b then hold.OpenAsI else hold.NotHeld) ≡ false →
-        is_silent (outcome n (input.Heard c Other) w) ≡ true
-    silent_at true e g = cc
-    silent_at false e g = silent_step n (i_open i k few) (input.Heard c Other) w (rw e refl)
-closed_silent n (closing Initiated x) c w h = silent_at (x.0 == c.0) refl
-  where
-    silent_at : (b : Bool) → (x.0 == c.0) ≡ b → is_silent (outcome n (input.Heard c Other) w) ≡ true
-    silent_at true e = rw e refl
-    silent_at false e = silent_step n (closing Initiated x) (input.Heard c Other) w (rw e refl)
-closed_silent n (closing Accepted x) c w h = silent_at (x.0 == c.0) refl
-  where
-    silent_at : (b : Bool) → (x.0 == c.0) ≡ b → is_silent (outcome n (input.Heard c Other) w) ≡ true
-    silent_at true e = rw e refl
-    silent_at false e = silent_step n (closing Accepted x) (input.Heard c Other) w (rw e refl)

@@ -16,10 +16,8 @@ use Rattle.dm_base.specs.Codes.{capabilities_exchange}
 use Rattle.dm_base.specs.Spelled.{HasSpelling}
 use Rattle.dm_base.specs.Laws.{CerIsSpelled, CeaIsSpelled, DwrIsSpelled, DprIsSpelled, AnswerIsSpelled, ErrorIsSpelled}
 use Rattle.dm_base.specs.Built.{built_cer, built_dwr, built_dpr, built_cea, built_answer, built_error}
-use Rattle.dm_machine.specs.declared.connection.Conn.{Conn}
 use Rattle.dm_machine.specs.declared.outputs.Command.{Command}
 use Rattle.dm_machine.specs.declared.outputs.Command.TheVariants as command
-use Rattle.dm_machine.specs.Connection.{hold_of}
 use Rattle.dm_machine.specs.Moves as moves
 use Rattle.dm_machine.specs.Moves.{is_open}
 use Rattle.dm_peer.specs.declared.actions.Action as declared_action
@@ -29,13 +27,15 @@ use Rattle.dm_peer.specs.Events as told
 use Rattle.dm_peer.specs.Events.{octets_in, cause_in}
 use Rattle.dm_peer.specs.Configs.{wins}
 use Rattle.dm_peer.specs.Octets.{octets_of}
-use Rattle.dm_peer.specs.Said.{Heard, heard_in}
+use Rattle.dm_peer.specs.Said.{Heard}
 use Rattle.dm_peer.specs.Sent.{no_header, header_of, fault_in, cer_answered, is_protocol_error, refusal, action_of, actions_of}
-use Rattle.dm_peer.specs.Acts.{Outcome, Moved, Refused, turned, input_of, outcome_of, steps, is_unread, is_dropped, heard, can_submit, acts}
-use Rattle.dm_pair.specs.Frames.{AreOctets, submitted_in, SendFrames, OctetsAreFrames}
+use Rattle.dm_peer.specs.Acts.{Outcome, Moved, Refused, turned, input_of, outcome_of, steps, can_submit, acts}
+use Rattle.dm_peer.specs.Octets.{AreOctets}
+use Rattle.dm_pair.specs.Frames.{submitted_in, SendFrames, OctetsAreFrames}
 use Rattle.dm_pair.specs.Octets.{as_actions}
-use Rattle.dm_pair.proofs.Plain.{is_plain, are_plain, is_submit_input, IsPlain, outcome_plain}
+use Rattle.dm_pair.proofs.Plain.{is_plain, are_plain, is_submit_input, PlainOutcome, outcome_plain}
 use Rattle.dm_pair.proofs.Replying.{turned_is}
+use Rattle.dm_pair.proofs.Walking.{no_submit, walked}
 
 -- the laws that it rests on
 pub record FrameLaws : Type 0 where
@@ -147,9 +147,9 @@ plain_step laws p e h other =
     let i = input_of e h in
     let n = p.standing.core in
     let w = wins p.config in
-    by_outcome (turned n i w) (subst IsPlain (sym (turned_is n i w)) (outcome_plain n i w other))
+    by_outcome (turned n i w) (subst PlainOutcome (sym (turned_is n i w)) (outcome_plain n i w other))
   where
-    by_outcome : (o : moves.Outcome) → IsPlain o → FramedOutcome (outcome_of p e h o)
+    by_outcome : (o : moves.Outcome) → PlainOutcome o → FramedOutcome (outcome_of p e h o)
     by_outcome (moves.Moved commands core) is = all_framed laws p e h commands (inl is)
     by_outcome (moves.Refused r) is = tt
 
@@ -159,21 +159,6 @@ submit_step laws p s sent = by_outcome (turned p.standing.core (input_of (told.S
     by_outcome : (o : moves.Outcome) → FramedOutcome (outcome_of p (told.Submit s) None o)
     by_outcome (moves.Moved commands core) = all_framed laws p (told.Submit s) None commands (inr sent)
     by_outcome (moves.Refused r) = tt
-
-dropped : FrameLaws → (p : Peer) (c : Conn) (s : List ℕ) (m : Message) (b : Bool) →
-    FramedOutcome (if b then Moved [] p else steps p (told.Arrived c s) (Some (heard_in p.config m)))
-dropped laws p c s m true = tt
-dropped laws p c s m false = plain_step laws p (told.Arrived c s) (Some (heard_in p.config m)) refl
-
-read : FrameLaws → (p : Peer) (c : Conn) (s : List ℕ) (o : Option Message) →
-    FramedOutcome (heard p (told.Arrived c s) c o)
-read laws p c s None = plain_step laws p (told.Arrived c s) None refl
-read laws p c s (Some m) = dropped laws p c s m (is_dropped p c m.header)
-
-arrived : FrameLaws → (p : Peer) (c : Conn) (s : List ℕ) (unread : Bool) →
-    FramedOutcome (if unread then steps p (told.Arrived c s) None else heard p (told.Arrived c s) c (message_in s))
-arrived laws p c s true = plain_step laws p (told.Arrived c s) None refl
-arrived laws p c s false = read laws p c s (message_in s)
 
 -- octets that can be submitted are a frame
 can_framed : FrameLaws → (s : List ℕ) → AreOctets s → (o : Option Message) → message_in s ≡ o →
@@ -189,18 +174,11 @@ submits laws p s true false sent = tt
 submits laws p s true true sent = submit_step laws p s (sent refl)
 
 acts_framed : FrameLaws → (p : Peer) (e : told.PeerEvent) → AreOctets (submitted_in e) → FramedOutcome (acts p e)
-acts_framed laws p (told.Arrived c s) octets =
-    arrived laws p c s (is_unread p.standing.core.state (hold_of p.standing.core c))
 acts_framed laws p (told.Submit s) octets =
     submits laws p s (is_open p.standing.core.state) (can_submit (message_in s))
     (can_framed laws s octets (message_in s) refl)
-acts_framed laws p (told.Start c) octets = plain_step laws p (told.Start c) None refl
-acts_framed laws p (told.Stop cause) octets = plain_step laws p (told.Stop cause) None refl
-acts_framed laws p told.Timeout octets = plain_step laws p told.Timeout None refl
-acts_framed laws p told.Tick octets = plain_step laws p told.Tick None refl
-acts_framed laws p (told.Ack c) octets = plain_step laws p (told.Ack c) None refl
-acts_framed laws p (told.Nack c) octets = plain_step laws p (told.Nack c) None refl
-acts_framed laws p (told.Gone c) octets = plain_step laws p (told.Gone c) None refl
+acts_framed laws p e octets =
+    walked p FramedOutcome tt e (λ is f. tt) (λ h may. plain_step laws p e h (no_submit e h refl))
 
 pub octets_are_frames : FrameLaws → OctetsAreFrames
 octets_are_frames laws p next e actions octets is = subst FramedOutcome is (acts_framed laws p e octets)

@@ -1,8 +1,7 @@
 -- Peers over octets move as the state machine.
-use Rattle.std.proofs.Common.{◌≡◌, ℕ, ◌==◌, Bool, true, false, if◌then◌else◌, List, [], ◌∷◌, map, refl, ap, subst, ◌∙◌, inl, inr, arith}
+use Rattle.std.proofs.Common.{◌≡◌, ℕ, ◌==◌, Bool, true, false, if◌then◌else◌, List, [], ◌∷◌, map, refl, sym, ap, subst, ◌∙◌, inl, inr, arith}
 use Rattle.std.proofs.lemmas.Bool.Decides.{nat_tests}
 use Rattle.dm_machine.specs.declared.connection.Conn.{Conn}
-use Rattle.dm_machine.specs.declared.outputs.Command.TheVariants as command
 use Rattle.dm_machine.specs.Connection as machine
 use Rattle.dm_peer.specs.declared.actions.Action as declared_action
 use Rattle.dm_peer.specs.declared.actions.Action.TheVariants as action
@@ -13,7 +12,7 @@ use Rattle.dm_peer.specs.Said.{word_heard}
 use Rattle.dm_peer.specs.Acts.{Outcome, Moved, Refused, acts, input_of, is_made}
 use Rattle.dm_peer.specs.Steps as peer
 use Rattle.dm_links.specs.Machine.{conn, Elsewhere, HeardOnIt, tie_as, tie_of}
-use Rattle.dm_links.specs.Peers.{Event, Start, Stop, Timeout, Tick, Ack, Nack, Gone, Submit, Arrived, concern_by, deed_of}
+use Rattle.dm_links.specs.Peers.{Event, Arrived, concern_by, deed_of}
 use Rattle.dm_links.specs.Follows.{StepsAsMachine, Drops, is_droppable, FollowsMachine, IsMachine}
 use Rattle.dm_pair.proofs.Declining.{same_input, Declined, octets_decline}
 use Rattle.dm_pair.specs.Octets.{of_event, as_action, as_actions, as_reply, octet_peers}
@@ -47,12 +46,7 @@ step_taken p next e actions step =
 made_droppable : (h : machine.Hold) → is_made h ≡ true → is_droppable HeardOnIt (tie_as h) ≡ true
 made_droppable machine.NotHeld m = cc
 made_droppable machine.Pending m = cc
-made_droppable machine.Made m = refl
-made_droppable machine.OpenAsI m = refl
-made_droppable machine.ClosingAsI m = refl
-made_droppable machine.Taken m = refl
-made_droppable machine.OpenAsR m = refl
-made_droppable machine.ClosingAsR m = refl
+made_droppable _ m = refl
 
 same_number : (a b : ℕ) → (a == b) ≡ true → a ≡ b
 same_number a b h = grind (arith, nat_tests)
@@ -65,32 +59,17 @@ dropped_at p d c true e made =
     subst (λ n. is_droppable HeardOnIt (tie_of p.standing.core n) ≡ true) (same_number d.0 c e) at_d
 dropped_at p d c false e made = refl
 
-drop_heard : (p : Peer) (e : Event (List ℕ)) (d : Conn) (s : List ℕ) (c : ℕ) → of_event e ≡ told.Arrived d s →
-    is_made (machine.hold_of p.standing.core d) ≡ true →
-    is_droppable (concern_by e (conn c)) (tie_of p.standing.core c) ≡ true
-drop_heard p (Arrived d' s') d s c is made =
-    let same : d ≡ d' = cc in
-    dropped_at p d' c (d'.0 == c) refl (subst (λ x. is_made (machine.hold_of p.standing.core x) ≡ true) same made)
-drop_heard p (Start d') d s c is made = cc
-drop_heard p (Stop cause) d s c is made = cc
-drop_heard p Timeout d s c is made = cc
-drop_heard p Tick d s c is made = cc
-drop_heard p (Ack d') d s c is made = cc
-drop_heard p (Nack d') d s c is made = cc
-drop_heard p (Gone d') d s c is made = cc
-drop_heard p (Submit s') d s c is made = cc
-
 -- the event that brings octets
 arrives : (e : Event (List ℕ)) (d : Conn) (s : List ℕ) → of_event e ≡ told.Arrived d s → e ≡ Arrived d s
 arrives (Arrived d' s') d s is = cc
-arrives (Start d') d s is = cc
-arrives (Stop cause) d s is = cc
-arrives Timeout d s is = cc
-arrives Tick d s is = cc
-arrives (Ack d') d s is = cc
-arrives (Nack d') d s is = cc
-arrives (Gone d') d s is = cc
-arrives (Submit s') d s is = cc
+arrives _ d s is = cc
+
+drop_heard : (p : Peer) (e : Event (List ℕ)) (d : Conn) (s : List ℕ) (c : ℕ) → of_event e ≡ told.Arrived d s →
+    is_made (machine.hold_of p.standing.core d) ≡ true →
+    is_droppable (concern_by e (conn c)) (tie_of p.standing.core c) ≡ true
+drop_heard p e d s c is made =
+    subst (λ (f : Event (List ℕ)). is_droppable (concern_by f (conn c)) (tie_of p.standing.core c) ≡ true)
+    (sym (arrives e d s is)) (dropped_at p d c (d.0 == c) refl made)
 
 drop_taken : (p next : Peer) (e : Event (List ℕ)) (actions : List declared_action.Action) →
     peer.IsDrop p (of_event e) actions next → Drops octet_peers p e (as_actions actions) next

@@ -12,9 +12,9 @@ use Rattle.dm_base.specs.Built.{built_cer, built_dwr, built_dpr, built_cea, buil
 use Rattle.dm_base.specs.Kinds.{is_base_command}
 use Rattle.dm_machine.specs.declared.outputs.Command.{Command}
 use Rattle.dm_machine.specs.declared.outputs.Command.TheVariants as command
-use Rattle.dm_machine.specs.Forms.{Form}
+use Rattle.dm_machine.specs.EachStep.{EachStepHolds}
+use Rattle.dm_machine.specs.Node.{is_shaped}
 use Rattle.dm_machine.specs.Moves as moves
-use Rattle.dm_machine.specs.Moves.{outcome}
 use Rattle.dm_peer.specs.declared.actions.Action as declared_action
 use Rattle.dm_peer.specs.declared.peer.Peer.{Peer}
 use Rattle.dm_peer.specs.Events as told
@@ -28,12 +28,11 @@ use Rattle.dm_peer.specs.Acts.{Outcome, Moved, Refused, turned, input_of, outcom
 use Rattle.dm_links.specs.Delivery.{sends_all}
 use Rattle.dm_pair.specs.Octets.{as_actions}
 use Rattle.dm_pair.specs.Carrying.{is_app, waits_well, is_waiting_well}
-use Rattle.dm_pair.proofs.Plain.{is_plain, are_plain, is_submit_input, IsPlain, outcome_plain}
+use Rattle.dm_pair.proofs.Plain.{is_plain, are_plain, is_submit_input, PlainOutcome, outcome_plain}
 use Rattle.dm_pair.proofs.Replying.{turned_is}
 use Rattle.dm_pair.proofs.Bases.{base_sent}
-use Rattle.dm_pair.proofs.Answering.{answers_none, asks_none}
-use Rattle.dm_pair.proofs.Wording.{asks_none_step}
-use Rattle.dm_pair.proofs.Walking.{MayHear, is_base_heard, hears_base, walked}
+use Rattle.dm_pair.proofs.Stepping.{answers_none, asks_none, asks_none_step}
+use Rattle.dm_pair.proofs.Walking.{MayHear, is_submit_event, no_submit, is_base_heard, hears_base, walked}
 
 abbrev no_app : List ℕ → Bool
 no_app s = not (is_app s)
@@ -131,32 +130,33 @@ abbrev pub SendsNone : Outcome → Type 0
 SendsNone (Moved actions next) = NoApps actions
 SendsNone (Refused f) = ⊤
 
-abbrev pub WaitsWell : Outcome → Type 0
-WaitsWell (Moved actions next) = is_waiting_well next ≡ true
-WaitsWell (Refused f) = ⊤
+abbrev pub KeepsWaiting : Outcome → Type 0
+KeepsWaiting (Moved actions next) = is_waiting_well next ≡ true
+KeepsWaiting (Refused f) = ⊤
 
-asks_at : (p : Peer) (e : told.PeerEvent) (h : Option Heard) → Form p.standing.core → MayHear p h →
+asks_at : EachStepHolds → (p : Peer) (e : told.PeerEvent) (h : Option Heard) → is_shaped p.standing.core ≡ true →
+    MayHear p h →
     (is_base_heard h ≡ true) ⊎ (asks_none p.standing.core
     (turned p.standing.core (input_of e h) (wins p.config)) ≡ true)
-asks_at p e h form may =
+asks_at laws p e h shaped may =
     let n = p.standing.core in
     let i = input_of e h in
     elim (hears_base p e h may) [
       | inl is ↦ inl is
       | inr is ↦ inr (subst (λ o. asks_none n o ≡ true) (sym (turned_is n i (wins p.config)))
-          (asks_none_step n form i (wins p.config) is))
+          (asks_none_step laws n shaped i (wins p.config) is))
     ]
 
-step_sends : (p : Peer) (e : told.PeerEvent) (h : Option Heard) → Form p.standing.core → is_waiting_well p ≡ true →
-    MayHear p h → is_submit_input (input_of e h) ≡ false → SendsNone (steps p e h)
-step_sends p e h form well may other =
+step_sends : EachStepHolds → (p : Peer) (e : told.PeerEvent) (h : Option Heard) → is_shaped p.standing.core ≡ true →
+    is_waiting_well p ≡ true → MayHear p h → is_submit_input (input_of e h) ≡ false → SendsNone (steps p e h)
+step_sends laws p e h shaped well may other =
     let n = p.standing.core in
     let i = input_of e h in
     by_outcome (turned n i (wins p.config))
-    (subst IsPlain (sym (turned_is n i (wins p.config))) (outcome_plain n i (wins p.config) other))
-    (asks_at p e h form may)
+    (subst PlainOutcome (sym (turned_is n i (wins p.config))) (outcome_plain n i (wins p.config) other))
+    (asks_at laws p e h shaped may)
   where
-    by_outcome : (o : moves.Outcome) → IsPlain o →
+    by_outcome : (o : moves.Outcome) → PlainOutcome o →
         (is_base_heard h ≡ true) ⊎ (asks_none p.standing.core o ≡ true) → SendsNone (outcome_of p e h o)
     by_outcome (moves.Moved commands core) plain (inl is) = all_sent p e h well commands plain (inl is)
     by_outcome (moves.Moved commands core) plain (inr is) =
@@ -165,13 +165,13 @@ step_sends p e h form well may other =
         (not (holds_cer core.state) || holds_cer p.standing.core.state) is).0)
     by_outcome (moves.Refused r) plain either = tt
 
-step_waits : (p : Peer) (e : told.PeerEvent) (h : Option Heard) → Form p.standing.core → is_waiting_well p ≡ true →
-    MayHear p h → WaitsWell (steps p e h)
-step_waits p e h form well may =
-    by_outcome (turned p.standing.core (input_of e h) (wins p.config)) (asks_at p e h form may)
+step_waits : EachStepHolds → (p : Peer) (e : told.PeerEvent) (h : Option Heard) → is_shaped p.standing.core ≡ true →
+    is_waiting_well p ≡ true → MayHear p h → KeepsWaiting (steps p e h)
+step_waits laws p e h shaped well may =
+    by_outcome (turned p.standing.core (input_of e h) (wins p.config)) (asks_at laws p e h shaped may)
   where
     by_outcome : (o : moves.Outcome) → (is_base_heard h ≡ true) ⊎ (asks_none p.standing.core o ≡ true) →
-        WaitsWell (outcome_of p e h o)
+        KeepsWaiting (outcome_of p e h o)
     by_outcome (moves.Moved commands core) (inl is) =
         waits_after (holds_cer core.state) (holds_cer p.standing.core.state) p.standing.waiting h well (inl is)
     by_outcome (moves.Moved commands core) (inr is) =
@@ -180,26 +180,12 @@ step_waits p e h form well may =
         (not (holds_cer core.state) || holds_cer p.standing.core.state) is).1)
     by_outcome (moves.Refused r) either = tt
 
-abbrev pub is_submit_event : told.PeerEvent → Bool
-is_submit_event (told.Submit s) = true
-is_submit_event _ = false
+pub acts_send_none : EachStepHolds → (p : Peer) (e : told.PeerEvent) → is_shaped p.standing.core ≡ true →
+    is_waiting_well p ≡ true → is_submit_event e ≡ false → SendsNone (acts p e)
+acts_send_none laws p e shaped well other =
+    walked p SendsNone refl e (λ is f. tt) (λ h may. step_sends laws p e h shaped well may (no_submit e h other))
 
-no_submit : (e : told.PeerEvent) (h : Option Heard) → is_submit_event e ≡ false → is_submit_input (input_of e h) ≡ false
-no_submit (told.Submit s) h other = cc
-no_submit (told.Start c) h other = refl
-no_submit (told.Stop cause) h other = refl
-no_submit told.Timeout h other = refl
-no_submit told.Tick h other = refl
-no_submit (told.Ack c) h other = refl
-no_submit (told.Nack c) h other = refl
-no_submit (told.Arrived c s) h other = refl
-no_submit (told.Gone c) h other = refl
-
-pub acts_send_none : (p : Peer) (e : told.PeerEvent) → Form p.standing.core → is_waiting_well p ≡ true →
-    is_submit_event e ≡ false → SendsNone (acts p e)
-acts_send_none p e form well other =
-    walked p SendsNone (λ f. tt) refl e (λ h may. step_sends p e h form well may (no_submit e h other))
-
-pub acts_wait_well : (p : Peer) (e : told.PeerEvent) → Form p.standing.core → is_waiting_well p ≡ true →
-    WaitsWell (acts p e)
-acts_wait_well p e form well = walked p WaitsWell (λ f. tt) well e (λ h may. step_waits p e h form well may)
+pub acts_wait_well : EachStepHolds → (p : Peer) (e : told.PeerEvent) → is_shaped p.standing.core ≡ true →
+    is_waiting_well p ≡ true → KeepsWaiting (acts p e)
+acts_wait_well laws p e shaped well =
+    walked p KeepsWaiting well e (λ is f. tt) (λ h may. step_waits laws p e h shaped well may)

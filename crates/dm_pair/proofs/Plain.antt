@@ -174,38 +174,38 @@ no_submit n (input.Gone c) is = on_end n.state (place_of n.state n.held c)
 no_submit n input.Submit is = cc
 
 -- the outcome
-abbrev pub IsPlain : Outcome → Type 0
-IsPlain (Moved commands next) = are_plain commands ≡ true
-IsPlain (Refused r) = ⊤
+abbrev pub PlainOutcome : Outcome → Type 0
+PlainOutcome (Moved commands next) = are_plain commands ≡ true
+PlainOutcome (Refused r) = ⊤
 
-none_plain : (n : Node) (e : TableEvent) → IsPlain (by_no_row n e)
+none_plain : (n : Node) (e : TableEvent) → PlainOutcome (by_no_row n e)
 none_plain n table.Start = tt
 none_plain n table.Stop = tt
 none_plain n SendMessage = tt
 none_plain n _ = refl
 
 event_plain : (found : Option Row) → PlainRow found → (n : Node) (e : TableEvent) (new : Option Conn) →
-    IsPlain (by_event found n e new)
+    PlainOutcome (by_event found n e new)
 event_plain None plain n e new = none_plain n e
 event_plain (Some r) plain n e new = acts_plain r.acts plain new (held_at e n.held)
 
-after_plain : (before : List Command) (o : Outcome) → are_plain before ≡ true → IsPlain o →
-    IsPlain (after_commands before o)
+after_plain : (before : List Command) (o : Outcome) → are_plain before ≡ true → PlainOutcome o →
+    PlainOutcome (after_commands before o)
 after_plain before (Refused r) a b = tt
 after_plain before (Moved more n) a b = both_plain before more a b
 
-won_plain : (o : Outcome) → IsPlain o → IsPlain (then_won o)
+won_plain : (o : Outcome) → PlainOutcome o → PlainOutcome (then_won o)
 won_plain (Refused r) plain = tt
 won_plain (Moved before n) plain =
     after_plain before (by_event (row_in rows n.state WinElection) n WinElection None) plain
     (event_plain (row_in rows n.state WinElection) (row_plain rows rows_fine n.state WinElection refl)
     n WinElection None)
 
-either_plain : (b : Bool) (o : Outcome) → IsPlain o → IsPlain (if b then then_won o else o)
+either_plain : (b : Bool) (o : Outcome) → PlainOutcome o → PlainOutcome (if b then then_won o else o)
 either_plain true o plain = won_plain o plain
 either_plain false o plain = plain
 
-pub outcome_plain : (n : Node) (i : Input) (wins : Bool) → is_submit_input i ≡ false → IsPlain (outcome n i wins)
+pub outcome_plain : (n : Node) (i : Input) (wins : Bool) → is_submit_input i ≡ false → PlainOutcome (outcome n i wins)
 outcome_plain n i wins other =
     let e = event_of n i in
     let found = row_in rows n.state e in

@@ -9,13 +9,12 @@ use Rattle.dm_machine.specs.declared.inputs.Input.TheVariants as input
 use Rattle.dm_machine.specs.declared.inputs.Word.TheVariants.{Other}
 use Rattle.dm_machine.specs.declared.state_name.State.{State}
 use Rattle.dm_machine.specs.Node.{is_shaped}
-use Rattle.dm_machine.specs.Forms.{Form}
-use Rattle.dm_machine.specs.Connection.{Hold, hold_of, orders_to, AtConnection}
+use Rattle.dm_machine.specs.Upward.{is_open_hold, has_up, IsHeardOpen, HandsUpWhereOpen, HandsUpEach}
+use Rattle.dm_machine.specs.Connection.{Hold, hold_of}
 use Rattle.dm_machine.specs.Connection as hold
 use Rattle.dm_machine.specs.Changes.{EachConnectionChangesAsAllowed}
 use Rattle.dm_machine.specs.Moves as moves
 use Rattle.dm_machine.specs.Moves.{outcome}
-use Rattle.dm_machine.specs.Reading.{place_of}
 use Rattle.dm_peer.specs.declared.peer.Peer.{Peer}
 use Rattle.dm_peer.specs.Events as told
 use Rattle.dm_peer.specs.Configs.{wins}
@@ -24,16 +23,13 @@ use Rattle.dm_peer.specs.After.{awaited_of}
 use Rattle.dm_peer.specs.Acts.{Outcome, Moved, Refused, turned, input_of, outcome_of, steps, is_made, is_unread, is_dropped, heard, can_submit, acts}
 use Rattle.dm_links.specs.Machine.{conn}
 use Rattle.dm_links.specs.Delivery.{ups_of, HandsUpHeard}
-use Rattle.dm_machine.specs.Upward.{is_open_hold}
 use Rattle.dm_pair.specs.Octets.{as_actions}
 use Rattle.dm_pair.specs.Carrying.{is_app}
 use Rattle.dm_pair.proofs.Replying.{turned_is}
 use Rattle.dm_pair.proofs.Bases.{is_other, other_heard, base_heard}
-use Rattle.dm_pair.proofs.Silent.{has_up, is_silent}
-use Rattle.dm_pair.proofs.Wording.{word_message, silent_step}
-use Rattle.dm_pair.proofs.Submitting.{hears_open}
+use Rattle.dm_pair.proofs.Silent.{is_silent, silent_step}
 use Rattle.dm_pair.proofs.Upward.{ups_none, not_up}
-use Rattle.dm_pair.proofs.Ending.{ends_word, done_after, closed_silent}
+use Rattle.dm_pair.proofs.Ending.{ends_word, done_after}
 
 -- one step, at a message that comes on a connection
 abbrev pub RaisesAt : Peer → ℕ → List ℕ → Outcome → Type 0
@@ -42,8 +38,8 @@ RaisesAt p c s (Moved actions next) =
     (ups_of (as_actions actions))
 RaisesAt p c s (Refused f) = ⊤
 
-module _ (changes : EachConnectionChangesAsAllowed) (p : Peer) (shaped : is_shaped p.standing.core ≡ true)
-    (form : Form p.standing.core) (c : ℕ) (s : List ℕ) where
+module _ (changes : EachConnectionChangesAsAllowed) (ups : HandsUpWhereOpen) (each : HandsUpEach) (p : Peer)
+    (shaped : is_shaped p.standing.core ≡ true) (c : ℕ) (s : List ℕ) where
   abbrev before : Hold
   before = hold_of p.standing.core (conn c)
 
@@ -76,10 +72,10 @@ module _ (changes : EachConnectionChangesAsAllowed) (p : Peer) (shaped : is_shap
       RaisesAt p c s (steps p now h)
   open_step h other app opened =
       let n = p.standing.core in
-      let up = hears_open n form (conn c) (wins p.config) opened in
+      let up = each n (conn c) (wins p.config) shaped opened in
       subst (λ o. RaisesAt p c s (outcome_of p now h o))
       (sym (turned_is n (input_of now h) (wins p.config)
-      ∙ (ap (λ w. outcome n (input.Heard (conn c) w) (wins p.config)) other ∙ up.1)))
+      ∙ (ap (λ w. outcome n (input.Heard (conn c) w) (wins p.config)) other ∙ up)))
       (record {
         hands = sym (ap (λ b. if b then s ∷ [] else []) (both app opened));
         ends = λ a closed_now made. cc;
@@ -98,12 +94,21 @@ module _ (changes : EachConnectionChangesAsAllowed) (p : Peer) (shaped : is_shap
   unread_closed state hold.OpenAsR h = cc
   unread_closed state _ h = refl
 
+  closed_silent : (h : Option Heard) → (word_heard h ≡ Other → is_open_hold before ≡ false) →
+      is_silent (outcome p.standing.core (input_of now h) (wins p.config)) ≡ true
+  closed_silent h closed = silent_step ups p.standing.core shaped (input_of now h) (wins p.config) none
+    where
+      none : IsHeardOpen p.standing.core (input_of now h) → ⊥
+      none here =
+          let there : conn c ≡ here.conn = cc here.heard in
+          let opened : is_open_hold before ≡ true =
+          ap (λ d. is_open_hold (hold_of p.standing.core d)) there ∙ here.opened in
+          let both = sym opened ∙ closed (cc here.heard) in
+          cc
+
   unheard_silent : (h : Option Heard) → is_other (word_heard h) ≡ false →
       is_silent (outcome p.standing.core (input_of now h) (wins p.config)) ≡ true
-  unheard_silent h other =
-      let n = p.standing.core in
-      silent_step n form (input_of now h) (wins p.config)
-      (word_message n.state (place_of n.state n.held (conn c)) (word_heard h) other)
+  unheard_silent h other = closed_silent h (λ word. let both = sym (ap is_other word) ∙ other in cc)
 
   unread_step : is_unread p.standing.core.state before ≡ true → RaisesAt p c s (steps p now None)
   unread_step unread =
@@ -120,12 +125,8 @@ module _ (changes : EachConnectionChangesAsAllowed) (p : Peer) (shaped : is_shap
       is_open_hold before ≡ opened → RaisesAt p c s (steps p now (Some (heard_in p.config m)))
   app_step m base app true opened = open_step (Some (heard_in p.config m)) (other_heard p.config m base) app opened
   app_step m base app false opened =
-      let n = p.standing.core in
-      let word = other_heard p.config m base in
-      quiet_step (Some (heard_in p.config m))
-      (subst (λ w. is_silent (outcome n (input.Heard (conn c) w) (wins p.config)) ≡ true) (sym word)
-      (closed_silent n form (conn c) (wins p.config) opened))
-      (none_open (is_app s) (is_open_hold before) opened) (λ yes. ap ends_word word)
+      quiet_step (Some (heard_in p.config m)) (closed_silent (Some (heard_in p.config m)) (λ word. opened))
+      (none_open (is_app s) (is_open_hold before) opened) (λ yes. ap ends_word (other_heard p.config m base))
 
   message_step : (m : Message) → message_in s ≡ Some m → (base : Bool) → is_base_command m.header.command ≡ base →
       RaisesAt p c s (steps p now (Some (heard_in p.config m)))

@@ -6,13 +6,11 @@ use Rattle.std.proofs.lemmas.Bool.Decides.{nat_tests}
 use Rattle.dm_wire.specs.declared.message.Header.{Header}
 use Rattle.dm_base.specs.Codes.{capabilities_exchange}
 use Rattle.dm_base.specs.Built.{request_header, built_cer, built_cea}
-use Rattle.dm_machine.specs.declared.state_name.State.{State}
-use Rattle.dm_machine.specs.declared.state_name.State.TheVariants.{WaitICea, WaitConnAckElect, WaitReturns}
 use Rattle.dm_machine.specs.declared.outputs.Command.{Command}
 use Rattle.dm_machine.specs.declared.outputs.Command.TheVariants as command
 use Rattle.dm_machine.specs.declared.inputs.Input.{Input}
 use Rattle.dm_machine.specs.Node.{Node, is_shaped}
-use Rattle.dm_machine.specs.Forms.{EachShapeIsAForm}
+use Rattle.dm_machine.specs.EachStep.{EachStepHolds}
 use Rattle.dm_machine.specs.Shape.{KeepsShape, EachStepKeepsShape}
 use Rattle.dm_machine.specs.Moves as moves
 use Rattle.dm_machine.specs.Moves.{outcome}
@@ -23,7 +21,7 @@ use Rattle.dm_peer.specs.Configs.{wins}
 use Rattle.dm_peer.specs.Octets.{octets_of}
 use Rattle.dm_peer.specs.Said.{Heard, header_heard}
 use Rattle.dm_peer.specs.Sent as sent
-use Rattle.dm_peer.specs.After.{request_in, next_after, is_cer}
+use Rattle.dm_peer.specs.After.{request_in, next_after}
 use Rattle.dm_peer.specs.After as after
 use Rattle.dm_peer.specs.Acts.{turned, input_of, outcome_of, steps, standing_at}
 use Rattle.dm_links.specs.Links.{Side}
@@ -31,8 +29,9 @@ use Rattle.dm_links.specs.Peers.{Send}
 use Rattle.dm_machine.specs.Awaiting.{awaits_cea, holds_cer, number_after, waiting_after, cer_to_answer}
 use Rattle.dm_links.specs.Electing.{IsPeerOf, IsSaid, AreSaid, RepliesAs}
 use Rattle.dm_pair.specs.Octets.{as_action, as_actions, as_reply, octet_peers}
-use Rattle.dm_pair.specs.Talking.{config_at, is_number, is_standing, octet_talks}
-use Rattle.dm_pair.proofs.Sending.{SendsAlike, outcome_alike}
+use Rattle.dm_base.specs.Fit.{is_number}
+use Rattle.dm_pair.specs.Talking.{config_at, is_standing, octet_talks}
+use Rattle.dm_pair.proofs.Stepping.{SendsAlike, outcome_alike}
 
 -- the header that a CEA answers
 to_answer : (waiting : Option Header) (h : Option Heard) (to : Header) →
@@ -52,14 +51,8 @@ said_at a b s p e h is (command.SendCea c) =
     is
     ∙ ap (λ to. Send c (octets_of (built_cea (config_at a b s).node to 2001 None)))
     (to_answer p.standing.waiting h (request_header capabilities_exchange n) answers)
-said_at a b s p e h is (command.SendRefusal c) = tt
-said_at a b s p e h is (command.SendDwr c) = tt
-said_at a b s p e h is (command.SendDwa c) = tt
-said_at a b s p e h is (command.SendDpr c) = tt
-said_at a b s p e h is (command.SendDpa c) = tt
-said_at a b s p e h is (command.SendSubmit c) = tt
 said_at a b s p e h is (command.Close c) = refl
-said_at a b s p e h is command.Up = tt
+said_at a b s p e h is _ = tt
 
 all_said : (a b : Config) (s : Side) (p : Peer) (e : PeerEvent) (h : Option Heard) → p.config ≡ config_at a b s →
     (commands : List Command) →
@@ -129,11 +122,11 @@ shaped_of p h =
     (and_parts (is_shaped p.standing.core) waits rest.1).0
 
 -- a step is the machine's
-pub step_replies : EachShapeIsAForm → EachStepKeepsShape →
+pub step_replies : EachStepHolds → EachStepKeepsShape →
     (a b : Config) (s : Side) (p : Peer) (e : PeerEvent) (h : Option Heard) → IsPeerOf (octet_talks a b) s p →
     RepliesAs octet_peers (octet_talks a b) s p (header_heard h)
     (outcome p.standing.core (input_of e h) (wins (config_at a b s))) (as_reply (steps p e h))
-step_replies form shape a b s p e h is =
+step_replies laws shape a b s p e h is =
     let n = p.standing.core in
     let i = input_of e h in
     let shaped = shaped_of p is.stands in
@@ -142,4 +135,4 @@ step_replies form shape a b s p e h is =
     (subst (λ o. RepliesAs octet_peers (octet_talks a b) s p (header_heard h) (outcome n i (wins p.config))
     (as_reply (outcome_of p e h o))) (sym (turned_is n i (wins p.config)))
     (replies_by a b s p e h is (outcome n i (wins p.config)) (shape n i (wins p.config) shaped)
-    (outcome_alike n (form n shaped) i (wins p.config))))
+    (outcome_alike laws n shaped i (wins p.config))))

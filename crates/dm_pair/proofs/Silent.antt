@@ -1,73 +1,22 @@
--- No step hands anything up but at a message on the connection on which the node is open.
-use Rattle.std.proofs.Common.{◌≡◌, Bool, true, false, not, ◌||◌, Option, None, Some, List, [], ◌∷◌, if◌then◌else◌, refl}
-use Rattle.dm_machine.specs.declared.connection.Conn.{Conn}
-use Rattle.dm_machine.specs.declared.phase.Role.TheVariants.{Initiated, Accepted}
-use Rattle.dm_machine.specs.declared.outputs.Command.{Command}
-use Rattle.dm_machine.specs.declared.outputs.Command.TheVariants as command
-use Rattle.dm_machine.specs.Table.{TableEvent, RConnCer, IRcvConnAck, XRcvMessage}
-use Rattle.dm_machine.specs.Node.{Node}
-use Rattle.dm_machine.specs.Forms.{Form, closed, wait_conn_ack, wait_i_cea, wait_conn_ack_elect, wait_returns, r_open, i_open, closing}
-use Rattle.dm_machine.specs.Rows.{rows, row_in}
-use Rattle.dm_machine.specs.Moves.{Outcome, Moved, Refused, by_event, raises_win, then_won}
-
-abbrev pub after : Node → TableEvent → Option Conn → Bool → Outcome
-after n e new wins =
-    let found = row_in rows n.state e in
-    let first = by_event found n e new in
-    if raises_win found wins then then_won first else first
-
-abbrev pub has_up : List Command → Bool
-has_up [] = false
-has_up (command.Up ∷ more) = true
-has_up (_ ∷ more) = has_up more
+-- No step hands anything up but at a message of another command on the connection on which the node is open.
+use Rattle.std.proofs.Common.{◌≡◌, Bool, true, false, not, refl}
+use Rattle.dm_machine.specs.declared.inputs.Input.{Input}
+use Rattle.dm_machine.specs.Node.{Node, is_shaped}
+use Rattle.dm_machine.specs.Moves.{Outcome, Moved, Refused, outcome}
+use Rattle.dm_machine.specs.Upward.{has_up, IsHeardOpen, UpIsHeard, HandsUpWhereOpen}
 
 abbrev pub is_silent : Outcome → Bool
 is_silent (Moved commands next) = not (has_up commands)
 is_silent (Refused r) = true
 
-abbrev pub is_message : TableEvent → Bool
-is_message XRcvMessage = true
-is_message _ = false
+silent_unless : (b : Bool) → (b ≡ true → ⊥) → not b ≡ true
+silent_unless true none = absurd (none refl)
+silent_unless false none = refl
 
-pub by_form : (n : Node) → Form n → (new : Option Conn) (wins : Bool) (e : TableEvent) →
-    (is_message e || is_silent (after n e new wins)) ≡ true
-by_form n closed None wins RConnCer = refl
-by_form n closed None wins _ = refl
-by_form n closed (Some c) wins RConnCer = refl
-by_form n closed (Some c) wins _ = refl
-by_form n (wait_conn_ack i) None wins RConnCer = refl
-by_form n (wait_conn_ack i) None wins _ = refl
-by_form n (wait_conn_ack i) (Some c) wins RConnCer = refl
-by_form n (wait_conn_ack i) (Some c) wins _ = refl
-by_form n (wait_i_cea i) None true RConnCer = refl
-by_form n (wait_i_cea i) None false RConnCer = refl
-by_form n (wait_i_cea i) None wins _ = refl
-by_form n (wait_i_cea i) (Some c) true RConnCer = refl
-by_form n (wait_i_cea i) (Some c) false RConnCer = refl
-by_form n (wait_i_cea i) (Some c) wins _ = refl
-by_form n (wait_conn_ack_elect i r apart) None true IRcvConnAck = refl
-by_form n (wait_conn_ack_elect i r apart) None false IRcvConnAck = refl
-by_form n (wait_conn_ack_elect i r apart) None wins _ = refl
-by_form n (wait_conn_ack_elect i r apart) (Some c) true IRcvConnAck = refl
-by_form n (wait_conn_ack_elect i r apart) (Some c) false IRcvConnAck = refl
-by_form n (wait_conn_ack_elect i r apart) (Some c) wins _ = refl
-by_form n (wait_returns i r apart) None wins RConnCer = refl
-by_form n (wait_returns i r apart) None wins _ = refl
-by_form n (wait_returns i r apart) (Some c) wins RConnCer = refl
-by_form n (wait_returns i r apart) (Some c) wins _ = refl
-by_form n (r_open r k few) None wins RConnCer = refl
-by_form n (r_open r k few) None wins _ = refl
-by_form n (r_open r k few) (Some c) wins RConnCer = refl
-by_form n (r_open r k few) (Some c) wins _ = refl
-by_form n (i_open i k few) None wins RConnCer = refl
-by_form n (i_open i k few) None wins _ = refl
-by_form n (i_open i k few) (Some c) wins RConnCer = refl
-by_form n (i_open i k few) (Some c) wins _ = refl
-by_form n (closing Initiated x) None wins RConnCer = refl
-by_form n (closing Initiated x) None wins _ = refl
-by_form n (closing Initiated x) (Some c) wins RConnCer = refl
-by_form n (closing Initiated x) (Some c) wins _ = refl
-by_form n (closing Accepted x) None wins RConnCer = refl
-by_form n (closing Accepted x) None wins _ = refl
-by_form n (closing Accepted x) (Some c) wins RConnCer = refl
-by_form n (closing Accepted x) (Some c) wins _ = refl
+silent_outcome : (n : Node) (i : Input) (o : Outcome) → UpIsHeard n i o → (IsHeardOpen n i → ⊥) → is_silent o ≡ true
+silent_outcome n i (Moved commands next) up none = silent_unless (has_up commands) (λ is. none (up is))
+silent_outcome n i (Refused r) up none = refl
+
+pub silent_step : HandsUpWhereOpen → (n : Node) → is_shaped n ≡ true → (i : Input) (wins : Bool) →
+    (IsHeardOpen n i → ⊥) → is_silent (outcome n i wins) ≡ true
+silent_step ups n shaped i wins none = silent_outcome n i (outcome n i wins) (ups n i wins shaped) none

@@ -7,12 +7,10 @@ use Rattle.std.proofs.lemmas.Bool.Decides.{nat_tests}
 use Rattle.dm_wire.specs.declared.message.Message.{Message}
 use Rattle.dm_wire.specs.Members.{members}
 use Rattle.dm_wire.specs.Whole.{message_in, has_header, with_header}
-use Rattle.dm_machine.specs.declared.connection.Conn.{Conn}
 use Rattle.dm_machine.specs.declared.outputs.Command.{Command}
 use Rattle.dm_machine.specs.declared.outputs.Command.TheVariants as command
-use Rattle.dm_machine.specs.Connection.{hold_of}
 use Rattle.dm_machine.specs.Moves as moves
-use Rattle.dm_machine.specs.Moves.{is_open, outcome}
+use Rattle.dm_machine.specs.Moves.{is_open}
 use Rattle.dm_peer.specs.declared.actions.Action as declared_action
 use Rattle.dm_peer.specs.declared.fault.PeerFault.TheVariants.{NotOpen, BadSubmit}
 use Rattle.dm_peer.specs.declared.peer.Peer.{Peer}
@@ -20,15 +18,16 @@ use Rattle.dm_peer.specs.Events as told
 use Rattle.dm_peer.specs.Events.{octets_in}
 use Rattle.dm_peer.specs.Configs.{wins}
 use Rattle.dm_peer.specs.Octets.{octets_of}
-use Rattle.dm_peer.specs.Said.{Heard, heard_in}
+use Rattle.dm_peer.specs.Said.{Heard}
 use Rattle.dm_peer.specs.Sent.{action_of, actions_of}
-use Rattle.dm_peer.specs.Acts.{Outcome, Moved, Refused, turned, input_of, outcome_of, steps, is_unread, is_dropped, heard, can_submit, acts}
+use Rattle.dm_peer.specs.Acts.{Outcome, Moved, Refused, turned, input_of, outcome_of, steps, can_submit, acts}
 use Rattle.dm_links.specs.Peers.{Acts}
 use Rattle.dm_links.specs.Streams.{sends_sized}
 use Rattle.dm_pair.specs.Octets.{of_event, as_actions, as_reply}
 use Rattle.dm_pair.specs.Laws.{OctetsAreSized}
-use Rattle.dm_pair.proofs.Plain.{is_plain, are_plain, is_submit_input, IsPlain, outcome_plain}
+use Rattle.dm_pair.proofs.Plain.{is_plain, are_plain, is_submit_input, PlainOutcome, outcome_plain}
 use Rattle.dm_pair.proofs.Replying.{turned_is}
+use Rattle.dm_pair.proofs.Walking.{no_submit, walked}
 
 abbrev has_octets : List ℕ → Bool
 has_octets s = nat_lt 0 (length s)
@@ -106,12 +105,12 @@ plain_fine true commands plain = all_fine true refl commands
 plain_fine false commands plain = plain
 
 step_sized : (p : Peer) (e : told.PeerEvent) (h : Option Heard) →
-    ((o : moves.Outcome) → turned p.standing.core (input_of e h) (wins p.config) ≡ o → IsPlain o) →
+    ((o : moves.Outcome) → turned p.standing.core (input_of e h) (wins p.config) ≡ o → PlainOutcome o) →
     SizedOutcome (steps p e h)
 step_sized p e h plain =
     by_outcome (turned p.standing.core (input_of e h) (wins p.config)) (plain _ refl)
   where
-    by_outcome : (o : moves.Outcome) → IsPlain o → SizedOutcome (outcome_of p e h o)
+    by_outcome : (o : moves.Outcome) → PlainOutcome o → SizedOutcome (outcome_of p e h o)
     by_outcome (moves.Moved commands core) is =
         all_sized p e h commands (plain_fine (has_octets (octets_in e)) commands is)
     by_outcome (moves.Refused r) is = tt
@@ -122,7 +121,7 @@ plain_step p e h other =
     let i = input_of e h in
     let n = p.standing.core in
     let w = wins p.config in
-    step_sized p e h (λ o is. subst IsPlain (sym (turned_is n i w) ∙ is) (outcome_plain n i w other))
+    step_sized p e h (λ o is. subst PlainOutcome (sym (turned_is n i w) ∙ is) (outcome_plain n i w other))
 
 submit_step : (p : Peer) (s : List ℕ) → has_octets s ≡ true → SizedOutcome (steps p (told.Submit s) None)
 submit_step p s has = by_outcome (turned p.standing.core (input_of (told.Submit s) None) (wins p.config))
@@ -131,20 +130,6 @@ submit_step p s has = by_outcome (turned p.standing.core (input_of (told.Submit 
     by_outcome (moves.Moved commands core) =
         all_sized p (told.Submit s) None commands (all_fine (has_octets s) has commands)
     by_outcome (moves.Refused r) = tt
-
-dropped : (p : Peer) (c : Conn) (s : List ℕ) (m : Message) (b : Bool) →
-    SizedOutcome (if b then Moved [] p else steps p (told.Arrived c s) (Some (heard_in p.config m)))
-dropped p c s m true = refl
-dropped p c s m false = plain_step p (told.Arrived c s) (Some (heard_in p.config m)) refl
-
-read : (p : Peer) (c : Conn) (s : List ℕ) (o : Option Message) → SizedOutcome (heard p (told.Arrived c s) c o)
-read p c s None = plain_step p (told.Arrived c s) None refl
-read p c s (Some m) = dropped p c s m (is_dropped p c m.header)
-
-arrived : (p : Peer) (c : Conn) (s : List ℕ) (unread : Bool) →
-    SizedOutcome (if unread then steps p (told.Arrived c s) None else heard p (told.Arrived c s) c (message_in s))
-arrived p c s true = plain_step p (told.Arrived c s) None refl
-arrived p c s false = read p c s (message_in s)
 
 submits : (p : Peer) (s : List ℕ) (is_open_now can : Bool) → (can ≡ true → has_octets s ≡ true) →
     SizedOutcome
@@ -158,16 +143,9 @@ can_sized s None is can = cc
 can_sized s (Some m) is can = spelled_sized s m is
 
 acts_sized : (p : Peer) (e : told.PeerEvent) → SizedOutcome (acts p e)
-acts_sized p (told.Arrived c s) = arrived p c s (is_unread p.standing.core.state (hold_of p.standing.core c))
 acts_sized p (told.Submit s) =
     submits p s (is_open p.standing.core.state) (can_submit (message_in s)) (can_sized s (message_in s) refl)
-acts_sized p (told.Start c) = plain_step p (told.Start c) None refl
-acts_sized p (told.Stop cause) = plain_step p (told.Stop cause) None refl
-acts_sized p told.Timeout = plain_step p told.Timeout None refl
-acts_sized p told.Tick = plain_step p told.Tick None refl
-acts_sized p (told.Ack c) = plain_step p (told.Ack c) None refl
-acts_sized p (told.Nack c) = plain_step p (told.Nack c) None refl
-acts_sized p (told.Gone c) = plain_step p (told.Gone c) None refl
+acts_sized p e = walked p SizedOutcome refl e (λ is f. tt) (λ h may. plain_step p e h (no_submit e h refl))
 
 pub octets_are_sized : OctetsAreSized
 octets_are_sized p next e actions is = by_reply (acts p (of_event e)) (acts_sized p (of_event e)) is

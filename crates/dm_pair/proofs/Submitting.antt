@@ -1,5 +1,5 @@
 -- A Submit is sent as it is, on the connection on which the peer is open.
-use Rattle.std.proofs.Common.{◌≡◌, ℕ, ◌==◌, Bool, true, false, if◌then◌else◌, None, List, [], ◌∷◌, refl, sym, ap, subst, ◌∙◌, arith}
+use Rattle.std.proofs.Common.{◌≡◌, ℕ, Bool, true, false, if◌then◌else◌, None, List, [], ◌∷◌, refl, sym, ap, subst, ◌∙◌, arith}
 use Rattle.std.specs.Prelude.{⊤}
 use Rattle.std.proofs.lemmas.Bool.Decides.{nat_tests}
 use Rattle.dm_wire.specs.Whole.{message_in}
@@ -7,13 +7,9 @@ use Rattle.dm_machine.specs.declared.connection.Conn.{Conn}
 use Rattle.dm_machine.specs.declared.inputs.Input.TheVariants as input
 use Rattle.dm_machine.specs.declared.outputs.Command.{Command}
 use Rattle.dm_machine.specs.declared.outputs.Command.TheVariants as command
-use Rattle.dm_machine.specs.Node.{Node, node_at, is_shaped}
+use Rattle.dm_machine.specs.Node.{Node, is_shaped}
 use Rattle.dm_machine.specs.Forms.{Form, EachShapeIsAForm, closed, wait_conn_ack, wait_i_cea, wait_conn_ack_elect, wait_returns, r_open, i_open, closing}
-use Rattle.dm_machine.specs.declared.inputs.Word.TheVariants.{Other}
-use Rattle.dm_machine.specs.declared.phase.Role.TheVariants.{Initiated, Accepted}
-use Rattle.dm_machine.specs.declared.state_name.State.TheVariants.{ROpen, IOpen}
 use Rattle.dm_machine.specs.Connection.{hold_of}
-use Rattle.dm_machine.specs.Connection as hold
 use Rattle.dm_machine.specs.Moves as moves
 use Rattle.dm_machine.specs.Moves.{is_open, outcome}
 use Rattle.dm_peer.specs.declared.peer.Peer.{Peer}
@@ -81,28 +77,3 @@ octets_submit form p next x actions shaped is =
     let w = wins p.config in
     by_tests p next x actions (is_open n.state) (can_submit (message_in x))
     (λ h. subst (λ o. SendsAt n o) (sym (turned_is n input.Submit w)) (by_form n (form n shaped) w h)) (λ h. h) is
-
--- a message of an application on the connection on which a node is open is handed up, and nothing else is done
-pub hears_open : (n : Node) → Form n → (c : Conn) (w : Bool) → is_open_hold (hold_of n c) ≡ true →
-    (next : Node) × (outcome n (input.Heard c Other) w ≡ moves.Moved (command.Up ∷ []) next)
-hears_open n closed c w h = cc
-hears_open n (wait_conn_ack i) c w h = absurd (grind (arith, nat_tests, h))
-hears_open n (wait_i_cea i) c w h = absurd (grind (arith, nat_tests, h))
-hears_open n (wait_conn_ack_elect i r e) c w h = absurd (grind (arith, nat_tests, h))
-hears_open n (wait_returns i r e) c w h = absurd (grind (arith, nat_tests, h))
-hears_open n (r_open r k few) c w h = by_test (r.0 == c.0) refl h
-  where
-    by_test : (b : Bool) → (r.0 == c.0) ≡ b → is_open_hold (if b then hold.OpenAsR else hold.NotHeld) ≡ true →
-        (next : Node) × (outcome (node_at ROpen ((Accepted, r) ∷ []) k) (input.Heard c Other) w
-        ≡ moves.Moved (command.Up ∷ []) next)
-    by_test true e g = (node_at ROpen ((Accepted, r) ∷ []) 0, rw e refl)
-    by_test false e g = cc
-hears_open n (i_open r k few) c w h = by_test (r.0 == c.0) refl h
-  where
-    by_test : (b : Bool) → (r.0 == c.0) ≡ b → is_open_hold (if b then hold.OpenAsI else hold.NotHeld) ≡ true →
-        (next : Node) × (outcome (node_at IOpen ((Initiated, r) ∷ []) k) (input.Heard c Other) w
-        ≡ moves.Moved (command.Up ∷ []) next)
-    by_test true e g = (node_at IOpen ((Initiated, r) ∷ []) 0, rw e refl)
-    by_test false e g = cc
-hears_open n (closing Initiated x) c w h = absurd (grind (arith, nat_tests, h))
-hears_open n (closing Accepted x) c w h = absurd (grind (arith, nat_tests, h))

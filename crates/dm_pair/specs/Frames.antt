@@ -1,16 +1,13 @@
 -- Every message that a peer over octets sends is a frame of a stream (RFC 6733, 3).
-use Rattle.std.specs.Prelude.{◌≡◌, ◌<◌, ⊤, ℕ, List, [], ◌∷◌, slice_index}
+use Rattle.std.specs.Prelude.{◌≡◌, ⊤, ℕ, List, [], ◌∷◌}
 use Rattle.dm_framer.specs.Frames.{IsFrame}
 use Rattle.dm_peer.specs.declared.actions.Action as declared_action
 use Rattle.dm_peer.specs.declared.peer.Peer.{Peer}
 use Rattle.dm_peer.specs.Acts.{Moved, acts}
 use Rattle.dm_peer.specs.Events.{PeerEvent, Submit}
+use Rattle.dm_peer.specs.Octets.{AreOctets}
 use Rattle.dm_links.specs.Peers.{Action, Send}
 use Rattle.dm_pair.specs.Octets.{as_actions}
-
--- each number is one of an octet
-abbrev pub AreOctets : List ℕ → Type 0
-AreOctets s = (i : ℕ) → slice_index s i < 256
 
 -- the octets that an event submits
 abbrev pub submitted_in : PeerEvent → List ℕ

@@ -1,9 +1,10 @@
 -- Two peers over octets that are configured for each other, as the laws of clean runs see them.
-use Rattle.std.specs.Prelude.{◌≡◌, ℕ, ◌^◌, Bool, true, false, not, ◌&&◌, ◌||◌, nat_lt, is_none, None, List, IsTrue}
+use Rattle.std.specs.Prelude.{◌≡◌, ℕ, Bool, true, false, not, ◌&&◌, ◌||◌, is_none, None, List, IsTrue}
 use Rattle.dm_wire.specs.declared.message.Header.{Header}
 use Rattle.dm_base.specs.Codes.{capabilities_exchange}
 use Rattle.dm_base.specs.Built.{request_header, answer_header, built_cer, built_cea}
 use Rattle.dm_base.specs.Common.{are_common}
+use Rattle.dm_base.specs.Fit.{is_number}
 use Rattle.dm_machine.specs.Node.{is_shaped}
 use Rattle.dm_peer.specs.declared.config.Config.{Config}
 use Rattle.dm_peer.specs.declared.peer.Peer.{Peer}
@@ -25,10 +26,6 @@ pub record ArePaired (a b : Config) : Type 0 where
 abbrev pub config_at : Config → Config → Side → Config
 config_at a b A = a
 config_at a b B = b
-
--- the number of a request, which four octets hold (3)
-abbrev pub is_number : ℕ → Bool
-is_number n = nat_lt n (2 ^ 32)
 
 -- a peer as every list of events leaves it: the shape of its node, its next number, and a CER waits for its CEA in the
 -- states for it alone

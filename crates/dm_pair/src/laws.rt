@@ -1,8 +1,10 @@
 //! Laws of two peers over octets. Each function is a law: it does nothing but call the laws that it stands on, and its
 //! contract is the law. They stand for the world of two peers.
 ghost use Rattle.dm_links.specs.Follows.{IsMachine};
-ghost use Rattle.dm_pair.specs.Laws.{OctetsAreElecting, FreshArePeers, HappeningKeepsPeers, OctetsAreSized, EachOctetRunSettles, EachOctetRunFallsQuiet, EachOctetRunCanFallQuiet};
-ghost use Rattle.dm_pair.specs.Recovering.{EachOctetWorldCanOpen, EachOctetRunCanOpen, OctetQuietIsJoined, EachOctetQuietRunIsJoined};
+ghost use Rattle.dm_pair.specs.Laws.{OctetsAreElecting, FreshArePeers, HappeningKeepsPeers, OctetsAreSized};
+ghost use Rattle.dm_pair.specs.Laws.{EachOctetRunSettles, EachOctetRunFallsQuiet, EachOctetRunCanFallQuiet};
+ghost use Rattle.dm_pair.specs.Recovering.{EachOctetWorldCanOpen, EachOctetRunCanOpen};
+ghost use Rattle.dm_pair.specs.Recovering.{OctetQuietIsJoined, EachOctetQuietRunIsJoined};
 ghost use Rattle.dm_pair.specs.Carrying.{OctetsCarry, EachOctetRunDelivers};
 ghost use Rattle.dm_pair.specs.Frames.{OctetsAreFrames};
 ghost use Rattle.dm_pair.specs.Octets.{octet_peers};
@@ -14,7 +16,8 @@ use dm_links::laws::{
     quiet_is_joined, winner_does_not_return,
 };
 use dm_machine::laws::{
-    each_connection_changes_as_allowed, each_node_has_its_form, each_step_keeps_shape,
+    each_connection_changes_as_allowed, each_node_has_its_form, each_step_is_one_of_few,
+    each_step_keeps_shape, open_connections_carry,
 };
 use dm_peer::laws::{each_event_is_one_step, sent_is_good};
 use dm_peer::{Config, Peer};
@@ -34,7 +37,7 @@ pub fn octets_are_electing()
     ensures { OctetsAreElecting }
 {
     common_is_shared();
-    each_node_has_its_form();
+    each_step_is_one_of_few();
     each_step_keeps_shape();
     sent_is_good();
 }
@@ -143,6 +146,8 @@ pub fn octets_carry()
 {
     each_connection_changes_as_allowed();
     each_node_has_its_form();
+    each_step_is_one_of_few();
+    open_connections_carry();
 }
 
 /// After every list of happenings of two new peers, losses and restarts too and whatever their configurations, what a

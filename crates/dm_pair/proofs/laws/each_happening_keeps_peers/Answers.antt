@@ -1,4 +1,4 @@
-use Rattle.dm_pair.proofs.Keeping.{fresh_are_peers, happening_keeps_peers}
+use Rattle.dm_pair.proofs.KeepingWorld.{fresh_are_peers, happening_keeps_peers}
 use Rattle.dm_pair.proofs.laws.each_happening_keeps_peers.Goals as goal
 
 pub returns-clause-fresh : goal.returns-clause-fresh

@@ -1,4 +1,4 @@
-use Rattle.dm_pair.proofs.Recovering.{run_is_joined}
+use Rattle.dm_pair.proofs.CanOpen.{run_is_joined}
 use Rattle.dm_pair.proofs.laws.each_octet_quiet_run_is_joined.Goals as goal
 
 pub returns : goal.returns

@@ -1,4 +1,4 @@
-use Rattle.dm_pair.proofs.Recovering.{world_can_open}
+use Rattle.dm_pair.proofs.CanOpen.{world_can_open}
 use Rattle.dm_pair.proofs.laws.each_octet_world_can_open.Goals as goal
 
 pub returns : goal.returns

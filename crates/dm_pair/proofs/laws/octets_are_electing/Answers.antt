@@ -5,7 +5,7 @@ pub returns : goal.returns
 returns c =
     octets_are_electing
     (record {
-      form = c.each_node_has_its_form.ensures.formed;
+      steps = c.each_step_is_one_of_few.ensures;
       shape = c.each_step_keeps_shape.ensures;
       both = c.common_is_shared.ensures.both;
       cer = c.sent_is_good.ensures.cer;

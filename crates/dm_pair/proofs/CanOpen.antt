@@ -14,7 +14,7 @@ use Rattle.dm_pair.specs.Octets.{octet_peers}
 use Rattle.dm_pair.specs.Talking.{ArePaired, ArePeers, octet_talks}
 use Rattle.dm_pair.specs.Laws.{OctetsAreElecting, FreshArePeers, HappeningKeepsPeers, fresh_peer}
 use Rattle.dm_pair.specs.Recovering.{EachOctetWorldCanOpen, EachOctetRunCanOpen, OctetQuietIsJoined, EachOctetQuietRunIsJoined}
-use Rattle.dm_pair.proofs.Keeping.{fresh_stands, next_of}
+use Rattle.dm_pair.proofs.KeepingWorld.{fresh_stands, next_of}
 
 reset_keeps_peer : (a b : Config) → ResetKeepsPeer octet_peers (octet_talks a b)
 reset_keeps_peer a b s p is =

@@ -1,104 +1,25 @@
 -- Whatever happens keeps two peers over octets as the laws of clean runs ask for them.
-use Rattle.std.proofs.Common.{◌≡◌, ℕ, ◌+◌, ◌==◌, Bool, true, false, nat_lt, Option, Some, None, List, [], length, slice_get, if◌then◌else◌, refl, sym, subst, ◌<◌, ◌^◌, arith}
-use Rattle.std.specs.Prelude.{⊤, ◌&&◌, ◌||◌, is_none}
+use Rattle.std.proofs.Common.{◌≡◌, ℕ, ◌+◌, ◌==◌, Bool, true, false, nat_lt, Option, Some, None, List, length, slice_get, if◌then◌else◌, refl, sym, subst, ◌<◌, ◌^◌, arith}
+use Rattle.std.specs.Prelude.{◌&&◌, ◌||◌, is_none}
 use Rattle.std.proofs.lemmas.Bool.{and_parts, and_from}
 use Rattle.std.proofs.lemmas.Bool.Decides.{nat_tests}
-use Rattle.dm_wire.specs.declared.message.Message.{Message}
-use Rattle.dm_wire.specs.Whole.{message_in}
-use Rattle.dm_machine.specs.declared.connection.Conn.{Conn}
 use Rattle.dm_machine.specs.Node.{is_shaped}
-use Rattle.dm_machine.specs.Shape.{KeepsShape, EachStepKeepsShape}
-use Rattle.dm_machine.specs.Connection.{hold_of}
-use Rattle.dm_machine.specs.Moves as moves
-use Rattle.dm_machine.specs.Moves.{is_open, outcome}
 use Rattle.dm_peer.specs.declared.config.Config.{Config}
-use Rattle.dm_peer.specs.declared.fault.PeerFault.TheVariants.{NotOpen, BadSubmit}
 use Rattle.dm_peer.specs.declared.peer.Peer.{Peer}
-use Rattle.dm_peer.specs.Events as told
-use Rattle.dm_peer.specs.Configs.{wins}
-use Rattle.dm_peer.specs.Said.{Heard, heard_in}
-use Rattle.dm_peer.specs.Acts.{Outcome, Moved, Refused, turned, input_of, outcome_of, steps, is_unread, is_dropped, heard, can_submit, acts}
+use Rattle.dm_peer.specs.Acts.{Outcome, Moved, Refused, acts}
 use Rattle.dm_peer.specs.After.{fresh}
 use Rattle.dm_links.specs.Machine.{conn}
 use Rattle.dm_links.specs.Links.{Side, A, B, LinkPhase, Pending, Up, Cancelled, End, Fresh, Open, Shut, Link}
 use Rattle.dm_links.specs.Peers.{Event, Start, Stop, Timeout, Tick, Ack, Nack, Gone, Submit, Arrived}
-use Rattle.dm_links.specs.Worlds.{World, peer_at, with_peer, with_links, After, Done, Ignored, after_reply}
+use Rattle.dm_links.specs.Worlds.{World, peer_at, with_peer, with_links, After, Ignored, after_reply}
 use Rattle.dm_links.specs.Worlds as worlds
 use Rattle.dm_links.specs.Happens.{Starts, Stops, TimesOut, Ticks, Restarts, Acks, Nacks, Delivers, Pieces, Loses, Submits, Next, NextMessage, NextDisconnect, NextNothing, next_in, comes, deliver_next, deliver_part, are_shut, restart_links, if_up, if_pending, at_link, own_view, world_after}
 use Rattle.dm_machine.specs.Awaiting.{holds_cer}
-use Rattle.dm_links.specs.Joining.{WinnerDoesNotReturn}
 use Rattle.dm_pair.specs.Octets.{of_event, as_reply, octet_peers}
-use Rattle.dm_pair.specs.Talking.{ArePaired, is_number, is_standing, returns_as_loser, ArePeers}
+use Rattle.dm_base.specs.Fit.{is_number}
+use Rattle.dm_pair.specs.Talking.{ArePaired, is_standing, ArePeers}
 use Rattle.dm_pair.specs.Laws.{FreshArePeers, HappeningKeepsPeers}
-use Rattle.dm_pair.proofs.Returning.{step_returns}
-use Rattle.dm_pair.proofs.Replying.{stands_after, turned_is, shaped_of}
-
--- what is taken of the state machine
-pub record Machine : Type 0 where
-  pub shape : EachStepKeepsShape
-  pub winner : WinnerDoesNotReturn
-
--- what each event keeps of a peer
-abbrev IsKept : Peer → Type 0
-IsKept p = (is_standing p ≡ true) × (returns_as_loser p ≡ true)
-
--- a peer after its outcome: configured as before, and kept
-abbrev Keeps : Peer → Outcome → Type 0
-Keeps p (Moved actions next) = (next.config ≡ p.config) × IsKept next
-Keeps p (Refused f) = ⊤
-
-by_outcome : WinnerDoesNotReturn → (p : Peer) (e : told.PeerEvent) (h : Option Heard) (o : moves.Outcome) →
-    outcome p.standing.core (input_of e h) (wins p.config) ≡ o → IsKept p → KeepsShape o →
-    Keeps p (outcome_of p e h o)
-by_outcome law p e h (moves.Refused r) is was kept = tt
-by_outcome law p e h (moves.Moved commands core) is was kept =
-    (refl, (stands_after p h commands core was.0 kept.0, step_returns law p e h commands core is was.1))
-
-step_keeps : Machine → (p : Peer) (e : told.PeerEvent) (h : Option Heard) → IsKept p → Keeps p (steps p e h)
-step_keeps machine p e h was =
-    let n = p.standing.core in
-    let i = input_of e h in
-    let w = wins p.config in
-    by_outcome machine.winner p e h (turned n i w) (sym (turned_is n i w)) was
-    (subst KeepsShape (sym (turned_is n i w)) (machine.shape n i w (shaped_of p was.0)))
-
-acts_keep : Machine → (p : Peer) (e : told.PeerEvent) → IsKept p → Keeps p (acts p e)
-acts_keep machine = kept where
-  moved : (p : Peer) (e : told.PeerEvent) (h : Option Heard) → IsKept p → Keeps p (steps p e h)
-  moved = step_keeps machine
-
-  dropped : (p : Peer) (c : Conn) (s : List ℕ) (m : Message) (b : Bool) → IsKept p →
-      Keeps p (if b then Moved [] p else steps p (told.Arrived c s) (Some (heard_in p.config m)))
-  dropped p c s m true was = (refl, was)
-  dropped p c s m false was = moved p (told.Arrived c s) (Some (heard_in p.config m)) was
-
-  read : (p : Peer) (c : Conn) (s : List ℕ) (o : Option Message) → IsKept p →
-      Keeps p (heard p (told.Arrived c s) c o)
-  read p c s None was = moved p (told.Arrived c s) None was
-  read p c s (Some m) was = dropped p c s m (is_dropped p c m.header) was
-
-  arrived : (p : Peer) (c : Conn) (s : List ℕ) (unread : Bool) → IsKept p →
-      Keeps p (if unread then steps p (told.Arrived c s) None else heard p (told.Arrived c s) c (message_in s))
-  arrived p c s true was = moved p (told.Arrived c s) None was
-  arrived p c s false was = read p c s (message_in s) was
-
-  submits : (p : Peer) (s : List ℕ) (is_open_now can : Bool) → IsKept p →
-      Keeps p
-      (if is_open_now then (if can then steps p (told.Submit s) None else Refused BadSubmit) else Refused NotOpen)
-  submits p s false can was = tt
-  submits p s true false was = tt
-  submits p s true true was = moved p (told.Submit s) None was
-
-  kept : (p : Peer) (e : told.PeerEvent) → IsKept p → Keeps p (acts p e)
-  kept p (told.Arrived c s) was = arrived p c s (is_unread p.standing.core.state (hold_of p.standing.core c)) was
-  kept p (told.Submit s) was = submits p s (is_open p.standing.core.state) (can_submit (message_in s)) was
-  kept p (told.Start c) was = moved p (told.Start c) None was
-  kept p (told.Stop cause) was = moved p (told.Stop cause) None was
-  kept p told.Timeout was = moved p told.Timeout None was
-  kept p told.Tick was = moved p told.Tick None was
-  kept p (told.Ack c) was = moved p (told.Ack c) None was
-  kept p (told.Nack c) was = moved p (told.Nack c) None was
-  kept p (told.Gone c) was = moved p (told.Gone c) None was
+use Rattle.dm_pair.proofs.KeepingPeer.{MachineLaws, IsKept, KeepsPeer, acts_keep}
 
 -- a side's peer in a world of two
 kept_at : (s : Side) (w : World Peer (List ℕ)) → ArePeers w → IsKept (peer_at s w)
@@ -135,23 +56,23 @@ links_kept links w are =
     }
 
 answered_kept : (s : Side) (e : Event (List ℕ)) (w : World Peer (List ℕ)) (o : Outcome) → ArePeers w →
-    Keeps (peer_at s w) o → ArePeers (world_after w (after_reply octet_peers s e w (as_reply o)))
+    KeepsPeer (peer_at s w) o → ArePeers (world_after w (after_reply octet_peers s e w (as_reply o)))
 answered_kept s e w (Moved actions next) are keeps = peer_kept s next _ w are keeps.0 keeps.1
 answered_kept s e w (Refused f) are keeps = are
 
-told_kept : Machine → (s : Side) (e : Event (List ℕ)) (w : World Peer (List ℕ)) → ArePeers w →
+told_kept : MachineLaws → (s : Side) (e : Event (List ℕ)) (w : World Peer (List ℕ)) → ArePeers w →
     ArePeers (world_after w (worlds.tell octet_peers s e w))
 told_kept machine s e w are =
     answered_kept s e w (acts (peer_at s w) (of_event e)) are
     (acts_keep machine (peer_at s w) (of_event e) (kept_at s w are))
 
-comes_kept : Machine → (s : Side) (e : Event (List ℕ)) (end : End) (w : World Peer (List ℕ)) →
+comes_kept : MachineLaws → (s : Side) (e : Event (List ℕ)) (end : End) (w : World Peer (List ℕ)) →
     ArePeers w → ArePeers (world_after w (comes octet_peers s e end w))
 comes_kept machine s e Shut w are = links_kept _ w are
 comes_kept machine s e Fresh w are = told_kept machine s e w are
 comes_kept machine s e Open w are = told_kept machine s e w are
 
-delivered_kept : Machine → (c : ℕ) (s : Side) (end : End) (n : Next (List ℕ)) (w : World Peer (List ℕ)) →
+delivered_kept : MachineLaws → (c : ℕ) (s : Side) (end : End) (n : Next (List ℕ)) (w : World Peer (List ℕ)) →
     ArePeers w → ArePeers (world_after w (deliver_next octet_peers c s end n w))
 delivered_kept machine c s end NextNothing w are = are
 delivered_kept machine c s end (NextMessage x) w are = comes_kept machine s (Arrived (conn c) x) end w are
@@ -183,7 +104,7 @@ there_kept : (w : World Peer (List ℕ)) (o : Option (Link (List ℕ))) (f : Lin
 there_kept w None f are each = are
 there_kept w (Some l) f are each = each l
 
-pieced_kept : Machine → (c : ℕ) (s : Side) (k : ℕ) (end : End) (taken : ℕ) (n : Next (List ℕ))
+pieced_kept : MachineLaws → (c : ℕ) (s : Side) (k : ℕ) (end : End) (taken : ℕ) (n : Next (List ℕ))
     (w : World Peer (List ℕ)) → ArePeers w → AfterKept w (deliver_part octet_peers c s k end taken n w)
 pieced_kept machine c s k end taken NextNothing w are = are
 pieced_kept machine c s k end taken NextDisconnect w are = are
@@ -221,7 +142,7 @@ fresh_are_peers a b paired left right =
       right_returns = refl;
     }
 
-pub happening_keeps_peers : Machine → HappeningKeepsPeers
+pub happening_keeps_peers : MachineLaws → HappeningKeepsPeers
 happening_keeps_peers machine w (Starts s) are = told_kept machine s (Start (conn (length w.links))) w are
 happening_keeps_peers machine w (Stops s cause) are = told_kept machine s (Stop cause) w are
 happening_keeps_peers machine w (TimesOut s) are = told_kept machine s Timeout w are
