@@ -4,7 +4,7 @@ use Rattle.dm_wire.specs.declared.message.Header.{Header}
 use Rattle.dm_wire.specs.declared.message.Message.{Message}
 use Rattle.dm_wire.specs.Limits.{HeaderFits}
 use Rattle.dm_base.specs.declared.kind.Cause.{Cause}
-use Rattle.dm_base.specs.Codes.{capabilities_exchange, device_watchdog, disconnect_peer}
+use Rattle.dm_base.specs.Codes.{capabilities_exchange, device_watchdog, disconnect_peer, success}
 use Rattle.dm_base.specs.Built.{built_cer, built_cea, built_dwr, built_dpr, built_answer}
 use Rattle.dm_base.specs.Common.{are_common}
 use Rattle.dm_base.specs.Spelled.{HasSpelling}
@@ -33,7 +33,7 @@ CerIsGood =
 abbrev pub CeaIsGood : Type 0
 CeaIsGood =
     (c d : Config) (to : Header) → HeaderFits to → to.command ≡ capabilities_exchange
-    → IsHeardAs c (built_cea d.node to 2001 None) Cea
+    → IsHeardAs c (built_cea d.node to success None) Cea
 
 -- and so are a watchdog, a disconnect and their answers (5.4 and 5.5)
 abbrev pub DwrIsGood : Type 0
@@ -42,7 +42,7 @@ DwrIsGood = (c d : Config) (id : ℕ) → id < 256 ^ 4 → IsHeardAs c (built_dw
 abbrev pub DwaIsGood : Type 0
 DwaIsGood =
     (c d : Config) (to : Header) → HeaderFits to → to.command ≡ device_watchdog
-    → IsHeardAs c (built_answer d.node to 2001 None) Dwa
+    → IsHeardAs c (built_answer d.node to success None) Dwa
 
 abbrev pub DprIsGood : Type 0
 DprIsGood = (c d : Config) (id : ℕ) (cause : Cause) → id < 256 ^ 4 → IsHeardAs c (built_dpr d.node id cause) Dpr
@@ -50,4 +50,4 @@ DprIsGood = (c d : Config) (id : ℕ) (cause : Cause) → id < 256 ^ 4 → IsHea
 abbrev pub DpaIsGood : Type 0
 DpaIsGood =
     (c d : Config) (to : Header) → HeaderFits to → to.command ≡ disconnect_peer
-    → IsHeardAs c (built_answer d.node to 2001 None) Dpa
+    → IsHeardAs c (built_answer d.node to success None) Dpa

@@ -1,6 +1,9 @@
 -- What a message says to a peer: its word, and why it is refused (RFC 6733, 5.3 and 5.6).
 use Rattle.std.specs.Prelude.{ℕ, not, ◌&&◌, nat_eq, nat_le, Option, None, Some, option_map, List, Result, Ok, Err, if◌then◌else◌}
 use Rattle.dm_base.specs.Codes.{capabilities_exchange, device_watchdog}
+use Rattle.dm_wire.specs.declared.codes.results.TheConstants.{UNKNOWN_PEER as unknown_peer}
+use Rattle.dm_wire.specs.declared.codes.results.TheConstants.{NO_COMMON_APPLICATION as no_common_application}
+use Rattle.dm_wire.specs.declared.codes.results.TheConstants.{NO_COMMON_SECURITY as no_common_security}
 use Rattle.dm_wire.specs.declared.message.Header.{Header}
 use Rattle.dm_wire.specs.declared.message.Message.{Message}
 use Rattle.dm_dict.specs.Faults.{Fault}
@@ -40,12 +43,13 @@ word_of_bad h =
     else (if nat_eq h.command device_watchdog then (if h.request then DwrBad else DwaBad)
     else (if h.request then DprBad else DpaBad))
 
--- why the capabilities of a peer are refused, in this order: 3010 where it isn't the configured one, 5010 where no
--- application is common, 5017 where it wants a security mechanism (5.3)
+-- why the capabilities of a peer are refused, in this order: it isn't the configured one, no application is common, it
+-- wants a security mechanism (5.3)
 abbrev pub refusal_of_caps : Config → Caps → Option ℕ
 refusal_of_caps c caps =
-    if not (is_same_host caps.host c.peer) then Some 3010
-    else (if not (is_common caps c.node) then Some 5010 else (if not (is_secure caps) then Some 5017 else None))
+    if not (is_same_host caps.host c.peer) then Some unknown_peer
+    else (if not (is_common caps c.node) then Some no_common_application
+    else (if not (is_secure caps) then Some no_common_security else None))
 
 abbrev pub heard_caps : Header → Option ℕ → Heard
 heard_caps h None = good h Cer

@@ -1,6 +1,7 @@
 -- What a command asks of the caller: the messages that a peer sends (RFC 6733, 5.3 to 5.6).
 use Rattle.std.specs.Prelude.{ℕ, Bool, true, false, ◌&&◌, nat_eq, nat_le, nat_lt, unwrap_or, Option, None, Some, List, map, if◌then◌else◌}
-use Rattle.dm_base.specs.Codes.{capabilities_exchange}
+use Rattle.dm_base.specs.Codes.{capabilities_exchange, success}
+use Rattle.dm_wire.specs.declared.codes.results.TheConstants.{UNABLE_TO_COMPLY as unable_to_comply}
 use Rattle.dm_wire.specs.declared.message.Header.{Header}
 use Rattle.dm_wire.specs.declared.message.Message.{Message}
 use Rattle.dm_dict.specs.Faults.{Fault}
@@ -44,7 +45,7 @@ no_header =
     }
 
 abbrev pub no_fault : Fault
-no_fault = record { code = 5012; failed = None }
+no_fault = record { code = unable_to_comply; failed = None }
 
 -- the header of what was heard
 abbrev pub header_of : Option Heard → Header
@@ -67,12 +68,12 @@ sent c m = Send c (octets_of m)
 abbrev pub action_of : Peer → PeerEvent → Option Heard → Command → Action
 action_of p e h (command.Connect c) = Connect c
 action_of p e h (command.SendCer c) = sent c (built_cer p.config.node p.standing.next)
-action_of p e h (command.SendCea c) = sent c (built_cea p.config.node (cer_answered p.standing.waiting h) 2001 None)
+action_of p e h (command.SendCea c) = sent c (built_cea p.config.node (cer_answered p.standing.waiting h) success None)
 action_of p e h (command.SendRefusal c) = sent c (refusal p.config.node (header_of h) (fault_in h))
 action_of p e h (command.SendDwr c) = sent c (built_dwr p.config.node p.standing.next)
-action_of p e h (command.SendDwa c) = sent c (built_answer p.config.node (header_of h) 2001 None)
+action_of p e h (command.SendDwa c) = sent c (built_answer p.config.node (header_of h) success None)
 action_of p e h (command.SendDpr c) = sent c (built_dpr p.config.node p.standing.next (cause_in e))
-action_of p e h (command.SendDpa c) = sent c (built_answer p.config.node (header_of h) 2001 None)
+action_of p e h (command.SendDpa c) = sent c (built_answer p.config.node (header_of h) success None)
 action_of p e h (command.SendSubmit c) = Send c (octets_in e)
 action_of p e h (command.Close c) = Close c
 action_of p e h command.Up = Up (octets_in e)

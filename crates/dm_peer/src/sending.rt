@@ -1,6 +1,7 @@
 //! The messages that a peer sends, as octets (RFC 6733, 5.3 to 5.6).
 ghost use Rattle.std.specs.Prelude.{◌≡◌, IfOk, None};
 ghost use Rattle.std.specs.Option.{option_copied};
+ghost use Rattle.dm_base.specs.Codes.{success};
 ghost use Rattle.dm_base.specs.Built.{built_cer, built_cea, built_dwr, built_dpr, built_answer};
 ghost use Rattle.dm_peer.specs.Sent.{sent, is_protocol_error, refusal};
 
@@ -47,7 +48,7 @@ pub(crate) fn send_dpr(alloc: Global, conn: Conn, node: &Node, next: u32, cause:
 
 /// A CEA of success is to be sent.
 pub(crate) fn send_cea(alloc: Global, conn: Conn, node: &Node, to: &Header) -> Sending
-    ensures { IfOk result (λ action. action ≡ sent conn (built_cea node.now to.now 2001 None)) }
+    ensures { IfOk result (λ action. action ≡ sent conn (built_cea node.now to.now success None)) }
 {
     sent(alloc, conn, cea(alloc, node, to, SUCCESS, None)?)
 }
@@ -55,7 +56,7 @@ pub(crate) fn send_cea(alloc: Global, conn: Conn, node: &Node, to: &Header) -> S
 /// A DWA or DPA of success is to be sent.
 #[tactic(auto, unfolding(crate::specs::Octets::octets_of))]
 pub(crate) fn send_success(alloc: Global, conn: Conn, node: &Node, to: &Header) -> Sending
-    ensures { IfOk result (λ action. action ≡ sent conn (built_answer node.now to.now 2001 None)) }
+    ensures { IfOk result (λ action. action ≡ sent conn (built_answer node.now to.now success None)) }
 {
     match success_octets(alloc, node, to) {
         Ok(octets) => Ok(Action::Send(conn, Octets::from_vec(octets))),
