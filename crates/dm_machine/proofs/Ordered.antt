@@ -38,7 +38,8 @@ ordered_as c (command.Close d) o e = ordered_by d c command.Close Closes o refl 
 ordered_as c command.Up o e = absurd (cc e)
 
 ordered_first : (want : Order) (c : Conn) (a : Command) (l : List Command) →
-    (has_order want (orders_to c l) ≡ true → StandsAmong l (command_for want c)) → (o : Option Order) → order_to c a ≡ o →
+    (has_order want (orders_to c l) ≡ true → StandsAmong l (command_for want c)) → (o : Option Order) →
+    order_to c a ≡ o →
     has_order want (with_order o (orders_to c l)) ≡ true → StandsAmong (a ∷ l) (command_for want c)
 ordered_first want c a l rest None is e = further a (command_for want c) l (rest e)
 ordered_first want c a l rest (Some o) is e =

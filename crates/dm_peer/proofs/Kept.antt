@@ -1,10 +1,11 @@
--- A fresh peer holds what every peer does.
-use Rattle.std.proofs.Common.{ℕ, ◌<◌, ◌^◌}
-use Rattle.dm_peer.specs.declared.config.Config.{Config}
+-- Where a fresh peer stands holds what every peer does.
+use Rattle.std.proofs.Common.{ℕ, ◌<◌, ◌^◌, refl}
 use Rattle.dm_peer.specs.After.{fresh}
-use Rattle.dm_peer.specs.Kept.{IsKept}
-use Rattle.dm_peer.proofs.Settling.{fresh_is_settled}
-use Rattle.dm_peer.proofs.Spelling.{fresh_is_fitting}
+use Rattle.dm_peer.specs.KeptAt.{IsKeptAt}
 
-pub fresh_is_kept : (c : Config) (next : ℕ) → next < 256 ^ 4 → IsKept (record { config = c; standing = fresh next })
-fresh_is_kept c next fit = record { settled = fresh_is_settled c next; fitting = fresh_is_fitting c next fit }
+pub fresh_is_kept : (next : ℕ) → next < 256 ^ 4 → IsKeptAt (fresh next)
+fresh_is_kept next fit =
+    record {
+      settled = record { shaped = refl; cea = refl; dwa = λ none. refl; dpa = λ none. refl; waiting = refl };
+      fitting = record { next = fit; waiting = tt };
+    }

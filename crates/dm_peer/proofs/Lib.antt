@@ -1,5 +1,7 @@
 mod Asking
-mod Entries
+mod Headers
+mod Cases
+mod Few
 mod Exchange
 mod Following
 mod Owning

@@ -16,7 +16,7 @@ use Rattle.dm_base.specs.Laws.{CerIsSpelled, CeaIsSpelled, DwrIsSpelled, DprIsSp
 use Rattle.dm_base.specs.Built.{built_cer, built_dwr, built_dpr, built_cea, built_answer, built_error}
 use Rattle.dm_machine.specs.declared.outputs.Command.{Command}
 use Rattle.dm_machine.specs.declared.outputs.Command.TheVariants as command
-use Rattle.dm_machine.specs.Forms.{EachShapeIsAForm}
+use Rattle.dm_machine.specs.EachStep.{EachStepHolds}
 use Rattle.dm_peer.specs.declared.peer.Peer.{Peer}
 use Rattle.dm_peer.specs.Events.{PeerEvent, octets_in, cause_in}
 use Rattle.dm_peer.specs.Octets.{octets_of}
@@ -25,9 +25,9 @@ use Rattle.dm_peer.specs.Sent.{no_header, header_of, fault_in, cer_answered, is_
 use Rattle.dm_peer.specs.Steps.{is_submit, has_what_it_says}
 use Rattle.dm_peer.specs.Spelled.{IsSpelling, SendsSpelling, IsFitting}
 
--- the laws that it rests on: of the state machine's forms, of octets, and of what a node builds
+-- the laws that it rests on: of the state machine's steps, of octets, and of what a node builds
 pub record SpellingLaws : Type 0 where
-  pub form : EachShapeIsAForm
+  pub few : EachStepHolds
   pub within : MessageInSpells
   pub canonical : CanonicalSpells
   pub cer : CerIsSpelled

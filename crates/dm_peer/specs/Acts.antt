@@ -10,11 +10,13 @@ use Rattle.dm_machine.specs.declared.state_name.State.{State}
 use Rattle.dm_machine.specs.declared.inputs.Input.{Input}
 use Rattle.dm_machine.specs.declared.inputs.Input.TheVariants as input
 use Rattle.dm_machine.specs.Node.{Node}
-use Rattle.dm_machine.specs.Connection.{Hold, NotHeld, Pending, hold_of}
+use Rattle.dm_machine.specs.Connection.{Hold, hold_of}
 use Rattle.dm_machine.specs.Unread.{reads_first}
 use Rattle.dm_machine.specs.Moves.{is_open, outcome}
 use Rattle.dm_machine.specs.Moves as moves
 use Rattle.dm_peer.specs.declared.actions.Action.{Action}
+use Rattle.dm_peer.specs.declared.arrivals.Footing.{Footing}
+use Rattle.dm_peer.specs.declared.arrivals.Footing.TheVariants.{New, Unmade, Made}
 use Rattle.dm_peer.specs.declared.fault.PeerFault.{PeerFault}
 use Rattle.dm_peer.specs.declared.fault.PeerFault.TheVariants.{NotOpen, BadSubmit, NoMemory}
 use Rattle.dm_peer.specs.declared.standing.Awaited.{Awaited}
@@ -23,6 +25,7 @@ use Rattle.dm_peer.specs.declared.peer.Peer.{Peer}
 use Rattle.dm_peer.specs.Faults.{fault_of}
 use Rattle.dm_peer.specs.Events.{PeerEvent, Start, Stop, Timeout, Tick, Ack, Nack, Arrived, Gone, Submit}
 use Rattle.dm_peer.specs.Configs.{wins}
+use Rattle.dm_peer.specs.Places.{footing_of, has_made}
 use Rattle.dm_wire.specs.Whole.{message_in}
 use Rattle.dm_peer.specs.Said.{Heard, heard_in, word_heard}
 use Rattle.dm_peer.specs.Sent.{actions_of, takes_memory}
@@ -62,16 +65,17 @@ steps p e h = outcome_of p e h (turned p.standing.core (input_of e h) (wins p.co
 
 -- a connection that is held and made
 abbrev pub is_made : Hold → Bool
-is_made NotHeld = false
-is_made Pending = false
-is_made _ = true
+is_made hold = has_made (footing_of hold)
 
 -- (own) octets that aren't looked at: on a connection before its Ack, and on a new one where the state reads no first
 -- message
+abbrev pub is_unread_on : State → Footing → Bool
+is_unread_on s New = not (reads_first s)
+is_unread_on s Unmade = true
+is_unread_on s Made = false
+
 abbrev pub is_unread : State → Hold → Bool
-is_unread s NotHeld = not (reads_first s)
-is_unread s Pending = true
-is_unread s _ = false
+is_unread s hold = is_unread_on s (footing_of hold)
 
 -- (own) an answer that nothing awaits: of command 257, 280 or 282, with another number than its request (6.2.1)
 abbrev pub is_unawaited : Awaited → Header → Bool

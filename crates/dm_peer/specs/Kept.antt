@@ -1,8 +1,6 @@
 -- What holds of every peer: a new one, and one after each event and each `reset`.
 use Rattle.dm_peer.specs.declared.peer.Peer.{Peer}
-use Rattle.dm_peer.specs.Settled.{IsSettled}
-use Rattle.dm_peer.specs.Spelled.{IsFitting}
+use Rattle.dm_peer.specs.KeptAt.{IsKeptAt}
 
-pub record IsKept (p : Peer) : Type 0 where
-  pub settled : IsSettled p
-  pub fitting : IsFitting p
+abbrev pub IsKept : Peer → Type 0
+IsKept p = IsKeptAt p.standing

@@ -15,6 +15,10 @@ use Rattle.dm_peer.specs.Hosts.{is_same_host}
 use Rattle.dm_peer.specs.Octets.{octets_of}
 use Rattle.dm_peer.specs.Said.{good, heard_in, heard_at}
 
+-- what is heard of a message has its header
+abbrev pub HeardHasItsHeader : Type 0
+HeardHasItsHeader = (c : Config) (m : Message) → (heard_in c m).header ≡ m.header
+
 -- what is sent is heard as it was meant
 abbrev pub SentIsHeard : Type 0
 SentIsHeard = (c : Config) (m : Message) → HasSpelling m → heard_at c (octets_of m) ≡ Some (heard_in c m)

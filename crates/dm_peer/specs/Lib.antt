@@ -1,6 +1,6 @@
 pub mod Defaults
-pub mod PeerView
 pub mod Events
+pub mod KeptAt
 pub mod Faults
 pub mod Hosts
 pub mod Configs
@@ -12,6 +12,7 @@ pub mod After
 pub mod Acts
 pub mod Silence
 pub mod Refusing
+pub mod Cases
 pub mod Settled
 pub mod Strangers
 pub mod Spelled

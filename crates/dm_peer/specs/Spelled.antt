@@ -1,7 +1,6 @@
 -- What a peer sends is a message: the octets of each Send spell one (RFC 6733, 3).
-use Rattle.std.specs.Prelude.{ℕ, ◌<◌, ◌^◌, ⊤, IfSome, List, All}
+use Rattle.std.specs.Prelude.{ℕ, ◌<◌, ◌^◌, ⊤, List, All}
 use Rattle.dm_wire.specs.declared.message.Message.{Message}
-use Rattle.dm_wire.specs.Limits.{HeaderFits}
 use Rattle.dm_wire.specs.Spelling.{SpellsMessage}
 use Rattle.dm_peer.specs.declared.actions.Action.{Action}
 use Rattle.dm_peer.specs.declared.actions.Action.TheVariants.{Send}
@@ -11,6 +10,7 @@ use Rattle.dm_peer.specs.Events.{PeerEvent, octets_in}
 use Rattle.dm_peer.specs.Octets.{AreOctets}
 use Rattle.dm_peer.specs.After.{fresh}
 use Rattle.dm_peer.specs.Settled.{IsSettled}
+use Rattle.dm_peer.specs.KeptAt.{IsFittingAt}
 use Rattle.dm_peer.specs.Acts.{Outcome, Moved, Refused, acts}
 
 -- the octets spell some message
@@ -23,9 +23,8 @@ SendsSpelling (Send c s) = IsSpelling s
 SendsSpelling _ = ⊤
 
 -- the numbers that a peer goes by fit their fields: its next one, and those of the CER that waits
-pub record IsFitting (p : Peer) : Type 0 where
-  pub next : p.standing.next < 256 ^ 4
-  pub waiting : IfSome p.standing.waiting HeaderFits
+abbrev pub IsFitting : Peer → Type 0
+IsFitting p = IsFittingAt p.standing
 
 -- those of a new peer do, and of one after `reset`, where the next one does
 abbrev pub FreshIsFitting : Type 0

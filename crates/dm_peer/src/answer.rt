@@ -5,7 +5,16 @@ ghost use Rattle.arrayvec.specs.ArrayVec.{array_vec_len};
 ghost use Rattle.dm_dict.specs.Judgement.{shown};
 ghost use Rattle.dm_peer.specs.Events.{told, octets_in, cause_in};
 ghost use Rattle.dm_peer.specs.Said.{heard_of};
-ghost use Rattle.dm_peer.specs.Sent.{sent, refusal, header_of, fault_in, cer_answered, action_of, actions_of, takes_memory};
+ghost use Rattle.dm_peer.specs.Sent.{
+  sent,
+  refusal,
+  header_of,
+  fault_in,
+  cer_answered,
+  action_of,
+  actions_of,
+  takes_memory,
+};
 
 use crate::reading::HeardRef;
 use crate::sending::{
@@ -118,7 +127,8 @@ fn action_of(
         (action_of peer.now (told event.entry) (option_map heard_of heard.entry) command))) }
 {
     let node = &peer.config.node;
-    let next = peer.standing.next;
+    let standing = peer.standing.get();
+    let next = standing.next;
     match command {
         Command::Connect(conn) => Ok(Action::Connect(conn)),
         Command::Close(conn) => Ok(Action::Close(conn)),
@@ -126,12 +136,7 @@ fn action_of(
         Command::SendDwr(conn) => send_dwr(alloc, conn, node, next),
         Command::SendDpr(conn) => send_dpr(alloc, conn, node, next, cause_in(event)),
         Command::SendCea(conn) => {
-            send_cea(
-                alloc,
-                conn,
-                node,
-                &cer_answered(peer.standing.waiting, heard),
-            )
+            send_cea(alloc, conn, node, &cer_answered(standing.waiting, heard))
         }
         Command::SendDwa(conn) | Command::SendDpa(conn) => {
             send_success(alloc, conn, node, &header_of(heard))

@@ -1,16 +1,26 @@
 //! Which octets that come are looked at, and which answers are dropped.
-ghost use Rattle.std.specs.Prelude.{◌≡◌};
+ghost use Rattle.std.specs.Prelude.{◌≡◌, ◌&&◌};
 ghost use Rattle.dm_machine.specs.Connection.{hold_of};
 ghost use Rattle.dm_machine.specs.Unread.{reads_first};
-ghost use Rattle.dm_peer.specs.Acts.{is_made, is_unread, is_unawaited, is_dropped};
-ghost use Rattle.dm_peer.specs.Places.{is_on, before_ack};
+ghost use Rattle.dm_peer.specs.Acts.{is_unread_on, is_unawaited};
+ghost use Rattle.dm_peer.specs.Places.{is_on, before_ack, footing_of, has_made};
 
-use crate::Peer;
 use crate::standing::Awaited;
 use dm_base::is_base_command;
 use dm_machine::laws::each_node_has_its_form;
 use dm_machine::{Conn, Core, State};
 use dm_wire::Header;
+
+/// How a connection stands to a peer, as far as what comes on it asks.
+#[derive(Clone, Copy)]
+pub(crate) enum Footing {
+    /// The peer doesn't hold it.
+    New,
+    /// The peer opens it, and it isn't made yet.
+    Unmade,
+    /// The peer holds it, and it is made.
+    Made,
+}
 
 /// Whether the connection is the one held.
 fn is_on(held: Option<Conn>, conn: Conn) -> bool
@@ -19,19 +29,6 @@ fn is_on(held: Option<Conn>, conn: Conn) -> bool
     match held {
         Some(held) => held.0 == conn.0,
         None => false,
-    }
-}
-
-/// Whether the core holds the connection, and it is made.
-fn is_made(core: &Core, conn: Conn) -> bool
-    ensures { result ≡ is_made (hold_of core.now conn) }
-{
-    each_node_has_its_form();
-    let state = core.state();
-    if is_on(core.initiated(), conn) {
-        !before_ack(state)
-    } else {
-        is_on(core.accepted(), conn)
     }
 }
 
@@ -45,6 +42,25 @@ fn before_ack(state: State) -> bool
     }
 }
 
+/// How the connection stands to the core.
+pub(crate) fn stood_on(core: &Core, conn: Conn) -> Footing
+    ensures { result ≡ footing_of (hold_of core.now conn) }
+{
+    each_node_has_its_form();
+    let state = core.state();
+    if is_on(core.initiated(), conn) {
+        if before_ack(state) {
+            Footing::Unmade
+        } else {
+            Footing::Made
+        }
+    } else if is_on(core.accepted(), conn) {
+        Footing::Made
+    } else {
+        Footing::New
+    }
+}
+
 /// Whether the first message of a new connection is read.
 fn reads_first(state: State) -> bool
     ensures { result ≡ reads_first state }
@@ -55,16 +71,14 @@ fn reads_first(state: State) -> bool
     }
 }
 
-/// Whether octets on the connection aren't looked at.
-pub(crate) fn is_unread(core: &Core, conn: Conn) -> bool
-    ensures { result ≡ is_unread core.now.state (hold_of core.now conn) }
+/// Whether octets on a connection that stands so aren't looked at.
+pub(crate) fn is_unread(state: State, footing: Footing) -> bool
+    ensures { result ≡ is_unread_on state footing }
 {
-    each_node_has_its_form();
-    let state = core.state();
-    if is_on(core.initiated(), conn) {
-        before_ack(state)
-    } else {
-        !is_on(core.accepted(), conn) && !reads_first(state)
+    match footing {
+        Footing::New => !reads_first(state),
+        Footing::Unmade => true,
+        Footing::Made => false,
     }
 }
 
@@ -78,9 +92,12 @@ fn is_unawaited(awaited: &Awaited, header: &Header) -> bool
     awaited.of(header.command) != Some(header.hop_id)
 }
 
-/// Whether a message of this header is dropped on the connection.
-pub(crate) fn is_dropped(peer: &Peer, conn: Conn, header: &Header) -> bool
-    ensures { result ≡ is_dropped peer.now conn header.now }
+/// Whether a message of this header is dropped on a connection that stands so.
+pub(crate) fn is_dropped(awaited: &Awaited, footing: Footing, header: &Header) -> bool
+    ensures { result ≡ (has_made footing && is_unawaited awaited.now header.now) }
 {
-    is_made(&peer.standing.core, conn) && is_unawaited(&peer.standing.awaited, header)
+    match footing {
+        Footing::Made => is_unawaited(awaited, header),
+        Footing::New | Footing::Unmade => false,
+    }
 }

@@ -3,7 +3,17 @@ ghost use Rattle.std.specs.Prelude.{◌≡◌, Option, option_map};
 ghost use Rattle.dm_machine.specs.Moves.{is_open};
 ghost use Rattle.dm_peer.specs.Said.{Heard, heard_of, word_heard, header_heard};
 ghost use Rattle.dm_machine.specs.Awaiting.{awaits_cea, awaits_dwa, awaits_dpa, holds_cer, number_after, waiting_after};
-ghost use Rattle.dm_peer.specs.After.{request_of, request_in, next_after, is_cer, is_dwr, is_dpr, dwa_left, awaited_after, standing_after};
+ghost use Rattle.dm_peer.specs.After.{
+  request_of,
+  request_in,
+  next_after,
+  is_cer,
+  is_dwr,
+  is_dpr,
+  dwa_left,
+  awaited_after,
+  standing_after,
+};
 
 use crate::reading::HeardRef;
 use crate::standing::{Awaited, Standing};

@@ -26,7 +26,8 @@ pub struct Config {
     pub ghost based: { dictionary ≡ base_definitions },
 }
 
-/// Whether the octets are two names of one host, upper and lower case taken as one (RFC 6733, 5.6.4). It takes no memory.
+/// Whether the octets are two names of one host, upper and lower case taken as one (RFC 6733, 5.6.4). It takes no
+/// memory.
 pub fn is_same_host(one: &[u8], other: &[u8]) -> bool
     ensures value { result ≡ is_same_host one.now other.now }
     ensures same { (result ≡ true) ↔ (lower one.now ≡ lower other.now) }

@@ -28,6 +28,6 @@ pub(crate) fn kept_answer(alloc: Global, peer: &Peer, event: Event<'_>) -> Answe
     each_send_is_spelled();
     strangers_change_nothing();
     brings_octets(event);
-    let _kept = &peer.standing;
+    let _kept = peer.standing.get();
     answer(alloc, peer, event)
 }

@@ -1,7 +1,17 @@
 //! Laws of peers. Each function is a law: it does nothing but call the laws that it stands on, and its contract is the
 //! law.
+ghost use Rattle.dm_peer.specs.Cases.{EachEventIsACase};
 ghost use Rattle.dm_peer.specs.Kept.{IsKept};
-ghost use Rattle.dm_peer.specs.Laws.{SentIsHeard, CerIsGood, CeaIsGood, DwrIsGood, DwaIsGood, DprIsGood, DpaIsGood};
+ghost use Rattle.dm_peer.specs.Laws.{
+  HeardHasItsHeader,
+  SentIsHeard,
+  CerIsGood,
+  CeaIsGood,
+  DwrIsGood,
+  DwaIsGood,
+  DprIsGood,
+  DpaIsGood,
+};
 ghost use Rattle.dm_peer.specs.Refusing.{RefusesByRule};
 ghost use Rattle.dm_peer.specs.Settled.{FreshIsSettled, EachEventKeepsSettled};
 ghost use Rattle.dm_peer.specs.Silence.{SilentTakesNone};
@@ -12,10 +22,16 @@ ghost use Rattle.dm_peer.specs.Strangers.{StrangersChangeNothing};
 use crate::Peer;
 use dm_base::laws::{built_is_own, built_is_spelled, common_is_shared};
 use dm_machine::laws::{
-    each_node_has_its_form, each_step_keeps_shape, strangers_are_turned_away,
+    each_state_decides, each_step_is_one_of_few, each_step_keeps_shape, strangers_are_turned_away,
     unread_words_are_alike,
 };
 use dm_wire::laws::{canonical_spells, message_in_spells, spelled_is_in};
+
+/// What an event comes to, case by case: a step of the state machine, after what was heard; an answer that nothing
+/// awaits, which is dropped; or a Submit that is refused. The law stands for users, and the others rest on it.
+pub fn each_event_is_a_case()
+    ensures { EachEventIsACase }
+{}
 
 /// Each event is one step of the state machine, with an action for each command, which says what is there: an answer
 /// its request, a refusal its fault; or an answer that nothing awaits is dropped, and nothing changes. The law stands
@@ -23,7 +39,7 @@ use dm_wire::laws::{canonical_spells, message_in_spells, spelled_is_in};
 pub fn each_event_is_one_step()
     ensures { EachEventIsOneStep }
 {
-    each_node_has_its_form();
+    each_step_is_one_of_few();
 }
 
 /// What a peer waits for goes by its state: a new peer's, one's after `reset`, and each event keeps it so. The law
@@ -32,7 +48,7 @@ pub fn each_event_keeps_settled()
     ensures fresh { FreshIsSettled }
     ensures kept { EachEventKeepsSettled }
 {
-    each_node_has_its_form();
+    each_step_is_one_of_few();
     each_step_keeps_shape();
 }
 
@@ -41,7 +57,7 @@ pub fn each_event_keeps_settled()
 pub fn every_peer_is_kept(peer: &Peer)
     ensures { IsKept peer.now }
 {
-    let _kept = &peer.standing;
+    let _kept = peer.standing.get();
 }
 
 /// At a Start, at a Timeout, where octets aren't looked at, and where an answer is dropped, nothing is sent or handed
@@ -49,7 +65,7 @@ pub fn every_peer_is_kept(peer: &Peer)
 pub fn silent_takes_none()
     ensures { SilentTakesNone }
 {
-    each_node_has_its_form();
+    each_step_is_one_of_few();
     unread_words_are_alike();
 }
 
@@ -67,7 +83,7 @@ pub fn strangers_change_nothing()
 pub fn refusals_go_by_rule()
     ensures { RefusesByRule }
 {
-    each_node_has_its_form();
+    each_state_decides();
 }
 
 /// What a peer sends is a message: at each event the octets of each Send spell one, since the numbers that it goes by
@@ -76,11 +92,16 @@ pub fn each_send_is_spelled()
     ensures fresh { FreshIsFitting }
     ensures kept { EachSendIsSpelled }
 {
-    each_node_has_its_form();
+    each_step_is_one_of_few();
     message_in_spells();
     canonical_spells();
     built_is_spelled();
 }
+
+/// What is heard of a message has its header.
+pub fn heard_has_its_header()
+    ensures { HeardHasItsHeader }
+{}
 
 /// The octets that a message is sent as are heard as that message. The law stands for users.
 pub fn what_is_sent_is_heard()

@@ -17,42 +17,28 @@ ghost use Rattle.dm_peer.specs.declared.fault.PeerFault.TheVariants.{NoMemory};
 use crate::commands::is_open;
 use crate::keeping::kept_answer;
 use crate::laws::{refusals_go_by_rule, silent_takes_none};
-use crate::standing::Standing;
+use crate::standing::Kept;
 use crate::{Actions, Config, Event, PeerFault};
 use dm_machine::{Conn, State};
 use std::alloc::Global;
-use std::marker::Model;
 
 /// A peer: its configuration, and where it stands (RFC 6733, 5.6). What holds of each is said by
 /// `laws::every_peer_is_kept`.
 #[derive(Debug, Drop)]
 pub struct Peer {
     pub(crate) config: Config,
-    pub(crate) standing: Standing,
-}
-
-impl Model for Peer {
-    ghost use Rattle.dm_peer.specs.PeerView.{PeerView};
-
-    ghost Value = { PeerView };
-
-    ghost use Rattle.dm_peer.specs.Kept.{IsKept};
-
-    ghost view = { λ p. record { config = p.config; standing = p.standing } };
-
-    ghost invariant = { λ p. IsKept (record { config = p.config; standing = p.standing }) };
+    pub(crate) standing: Kept,
 }
 
 impl Peer {
     /// A closed peer of the configuration. It takes no memory.
-    #[tactic(auto, using(crate::proofs::Kept::fresh_is_kept))]
     pub fn new(config: Config) -> Peer
         ensures config { result.config ≡ config }
         ensures standing { result.standing ≡ fresh config.first_id }
         // The first number is one of four octets.
         ensures number { config.first_id < 2 ^ 32 }
     {
-        let standing = Standing::new(config.first_id);
+        let standing = Kept::fresh(config.first_id);
         Peer { config, standing }
     }
 
@@ -60,10 +46,11 @@ impl Peer {
     pub fn reset(&mut self)
         ensures { self.new ≡ standing_at self.old (fresh self.old.standing.next) }
     {
-        self.standing = Standing::new(self.standing.next);
+        self.standing = Kept::fresh(self.standing.get().next);
     }
 
-    /// What the peer does at the event (RFC 6733, 5.6): at most four actions, in the order in which they are to be done.
+    /// What the peer does at the event (RFC 6733, 5.6): at most four actions, in the order in which they are to be
+    /// done.
     ///
     /// # Errors
     /// `NotClosed` for a Start outside Closed, `NotOpen` for a Stop or Submit outside R-Open and I-Open, `BadSubmit`
@@ -92,7 +79,7 @@ impl Peer {
         refusals_go_by_rule();
         let _shaped = self.state();
         let (standing, actions) = kept_answer(alloc, self, event)?;
-        self.standing = standing;
+        self.standing = Kept::new(standing);
         Ok(actions)
     }
 
@@ -101,21 +88,21 @@ impl Peer {
         ensures value { result ≡ self.now.standing.core.state }
         ensures shaped { IsTrue (is_shaped self.now.standing.core) }
     {
-        self.standing.core.state()
+        self.standing.get().core.state()
     }
 
     /// The connection that this peer opened. It takes no memory.
     pub fn initiated(&self) -> Option<Conn>
         ensures { result ≡ held_as Initiated self.now.standing.core.held }
     {
-        self.standing.core.initiated()
+        self.standing.get().core.initiated()
     }
 
     /// The connection that the other side opened. It takes no memory.
     pub fn accepted(&self) -> Option<Conn>
         ensures { result ≡ held_as Accepted self.now.standing.core.held }
     {
-        self.standing.core.accepted()
+        self.standing.get().core.accepted()
     }
 
     /// Whether the state is R-Open or I-Open. It takes no memory.
@@ -130,6 +117,6 @@ impl Peer {
     pub fn awaited(&self, command: u32) -> Option<u32>
         ensures { result ≡ awaited_of self.now.standing.awaited command }
     {
-        self.standing.awaited.of(command)
+        self.standing.get().awaited.of(command)
     }
 }

@@ -5,7 +5,17 @@ ghost use Rattle.dm_wire.specs.Spelling.{SpellsList};
 ghost use Rattle.dm_base.specs.declared.kind.Caps.{Caps};
 ghost use Rattle.dm_base.specs.declared.kind.Kind.{Kind};
 ghost use Rattle.dm_base.specs.Shown.{ShowsCaps, ShowsKind};
-ghost use Rattle.dm_peer.specs.Said.{good, heard_of, heard_in, kind_under, said_by_kind, word_of_bad, word_of_code, refusal_of_caps, heard_caps};
+ghost use Rattle.dm_peer.specs.Said.{
+  good,
+  heard_of,
+  heard_in,
+  kind_under,
+  said_by_kind,
+  word_of_bad,
+  word_of_code,
+  refusal_of_caps,
+  heard_caps,
+};
 
 use crate::Config;
 use crate::config::is_same_host;

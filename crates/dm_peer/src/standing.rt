@@ -5,6 +5,8 @@ ghost use Rattle.dm_peer.specs.After.{awaited_of, nothing_awaited, fresh};
 use dm_base::codes::{CAPABILITIES_EXCHANGE, DEVICE_WATCHDOG, DISCONNECT_PEER};
 use dm_machine::Core;
 use dm_wire::Header;
+use std::fmt::{self, Debug, Formatter, Write};
+use std::marker::Model;
 
 /// The Hop-by-Hop Identifiers of the requests that await their answers (RFC 6733, 3).
 #[derive(Clone, Copy, Debug)]
@@ -75,5 +77,63 @@ impl Standing {
             waiting: None,
             awaited: Awaited::nothing(),
         }
+    }
+}
+
+/// Where a peer stands, with what holds of each. A peer has this in place of a model of its own, so that whoever owns a
+/// peer has nothing to show where it goes.
+#[derive(Clone, Copy)]
+pub(crate) struct Kept {
+    standing: Standing,
+}
+
+impl Model for Kept {
+    ghost use Rattle.dm_peer.specs.declared.standing.Standing.{Standing};
+    ghost use Rattle.dm_peer.specs.KeptAt.{IsKeptAt};
+
+    ghost Value = { Standing };
+
+    ghost view = { λ k. k.standing };
+
+    ghost invariant = { λ k. IsKeptAt k.standing };
+
+    ghost inverse = { λ s. record { standing = s } };
+}
+
+impl Kept {
+    ghost use Rattle.std.specs.Prelude.{◌≡◌};
+    ghost use Rattle.dm_peer.specs.After.{fresh};
+    ghost use Rattle.dm_peer.specs.KeptAt.{IsKeptAt};
+
+    /// Closed with no connections, awaiting nothing, with this next number.
+    #[tactic(auto, using(crate::proofs::Kept::fresh_is_kept))]
+    pub(crate) fn fresh(next: u32) -> Kept
+        ensures { result ≡ fresh next }
+    {
+        Kept {
+            standing: Standing::new(next),
+        }
+    }
+
+    pub(crate) fn new(standing: Standing) -> Kept
+        requires { IsKeptAt standing }
+        ensures { result ≡ standing }
+    {
+        Kept { standing }
+    }
+
+    /// Where the peer stands.
+    pub(crate) fn get(&self) -> &Standing
+        ensures value { result.now ≡ self.now }
+        ensures kept { IsKeptAt self.now }
+    {
+        &self.standing
+    }
+}
+
+impl Debug for Kept {
+    /// Where the peer stands alone.
+    fn fmt<W: Write>(&self, f: &mut Formatter<W>) -> fmt::Result {
+        self.standing.fmt(f)
     }
 }

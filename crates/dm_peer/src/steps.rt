@@ -1,8 +1,10 @@
 //! What an event comes to: the octets that it brings are read, and the state machine takes one step.
-ghost use Rattle.std.specs.Prelude.{◌≡◌, IfOk, IfErr, List, Some, None, option_map};
+ghost use Rattle.std.specs.Prelude.{◌≡◌, ◌&&◌, IfOk, IfErr, List, Some, None, option_map};
 ghost use Rattle.dm_wire.specs.declared.avp.Avp.{Avp};
 ghost use Rattle.dm_wire.specs.Spelling.{SpellsList};
 ghost use Rattle.dm_wire.specs.Whole.{message_in};
+ghost use Rattle.dm_machine.specs.Connection.{hold_of};
+ghost use Rattle.dm_machine.specs.Elections.{holds_elections};
 ghost use Rattle.dm_machine.specs.Moves as moves;
 ghost use Rattle.dm_machine.specs.declared.outputs.Refusal.{Refusal};
 ghost use Rattle.dm_peer.specs.Acts.{
@@ -16,34 +18,55 @@ ghost use Rattle.dm_peer.specs.Acts.{
   IsRefused,
   can_submit,
 };
+ghost use Rattle.dm_peer.specs.Configs.{wins};
 ghost use Rattle.dm_peer.specs.Events.{told, Arrived, Submit};
 ghost use Rattle.dm_peer.specs.Faults.{fault_of};
+ghost use Rattle.dm_peer.specs.Places.{footing_of};
 ghost use Rattle.dm_peer.specs.Said.{heard_of};
 
 use crate::answer::actions_of;
-use crate::arrivals::{is_dropped, is_unread};
+use crate::arrivals::{Footing, is_dropped, is_unread, stood_on};
 use crate::commands::{request_in, standing_after, word_heard};
 use crate::message::read_message;
 use crate::reading::{HeardRef, hear};
 use crate::standing::Standing;
-use crate::{Actions, Event, Peer, PeerFault};
+use crate::{Actions, Config, Event, Peer, PeerFault};
 use arrayvec::ArrayVec;
 use dm_base::is_base_command;
-use dm_machine::{Commands, Conn, Core, Input, step};
+use dm_machine::laws::each_state_decides;
+use dm_machine::{Commands, Conn, Core, Input, State, step};
 use dm_wire::MessageRef;
 use std::alloc::Global;
 
 /// What an event comes to: where the peer stands then, and what is to be done.
 pub(crate) type Answer = Result<(Standing, Actions), PeerFault>;
 
+/// Whether the state can hold an election.
+fn holds_elections(state: State) -> bool
+    ensures { result ≡ holds_elections state }
+{
+    match state {
+        State::WaitICea | State::WaitConnAckElect => true,
+        _ => false,
+    }
+}
+
+/// Whether the own side wins where an election can be held: elsewhere hosts aren't compared.
+fn may_win(config: &Config, state: State) -> bool
+    ensures { result ≡ (holds_elections state && wins config.now) }
+{
+    holds_elections(state) && config.wins()
+}
+
 /// One step of the state machine.
 #[tactic(auto, unfolding(crate::specs::Acts::turned))]
-fn turned(core: &Core, input: Input, wins: bool) -> Result<(Core, Commands), PeerFault>
-    ensures moved { IfOk result (λ r. turned core.now input wins ≡ moves.Moved r.1.items r.0) }
+fn turned(core: &Core, input: Input, config: &Config) -> Result<(Core, Commands), PeerFault>
+    ensures moved { IfOk result (λ r. turned core.now input (wins config.now) ≡ moves.Moved r.1.items r.0) }
     ensures refused { IfErr result (λ f. (r : Refusal)
-        × (turned core.now input wins ≡ moves.Refused r) × (f ≡ fault_of r)) }
+        × (turned core.now input (wins config.now) ≡ moves.Refused r) × (f ≡ fault_of r)) }
 {
-    match step(core, input, wins) {
+    each_state_decides();
+    match step(core, input, may_win(config, core.state())) {
         Ok(turn) => Ok(turn),
         Err(refusal) => Err(PeerFault::from(refusal)),
     }
@@ -73,9 +96,10 @@ fn steps(alloc: Global, peer: &Peer, event: Event<'_>, heard: Option<HeardRef<'_
     ensures refused { IfErr result (IsRefused (steps peer.now (told event.entry) (option_map heard_of heard.entry))) }
 {
     let input = input_of(event, heard);
-    let (core, commands) = turned(&peer.standing.core, input, peer.config.wins())?;
+    let before = peer.standing.get();
+    let (core, commands) = turned(&before.core, input, &peer.config)?;
     let sent = request_in(commands.as_slice());
-    let standing = standing_after(&peer.standing, heard, sent, core);
+    let standing = standing_after(before, heard, sent, core);
     let actions = actions_of(alloc, peer, event, heard, &commands)?;
     Ok((standing, actions))
 }
@@ -86,8 +110,10 @@ fn heard(
     peer: &Peer,
     event: Event<'_>,
     conn: Conn,
+    footing: Footing,
     message: &MessageRef<'_>,
 ) -> Answer
+    requires { footing ≡ footing_of (hold_of peer.now.standing.core conn) }
     ensures moved { (l : List Avp) → SpellsList l message.now.rest.now
         → IfOk result (λ r.
         heard peer.now (told event.entry) conn (Some (record { header = message.now.header; avps = l }))
@@ -96,8 +122,9 @@ fn heard(
         → IfErr result (IsRefused
         (heard peer.now (told event.entry) conn (Some (record { header = message.now.header; avps = l })))) }
 {
-    if is_dropped(peer, conn, &message.header) {
-        return Ok((peer.standing, ArrayVec::new()));
+    let standing = peer.standing.get();
+    if is_dropped(&standing.awaited, footing, &message.header) {
+        return Ok((*standing, ArrayVec::new()));
     }
     steps(alloc, peer, event, Some(hear(&peer.config, message)))
 }
@@ -109,11 +136,13 @@ fn arrived(alloc: Global, peer: &Peer, conn: Conn, octets: &[u8]) -> Answer
     ensures refused { IfErr result (IsRefused (acts peer.now (Arrived conn octets.now))) }
 {
     let event = Event::Arrived(conn, octets);
-    if is_unread(&peer.standing.core, conn) {
+    let core = &peer.standing.get().core;
+    let footing = stood_on(core, conn);
+    if is_unread(core.state(), footing) {
         return steps(alloc, peer, event, None);
     }
     match read_message(octets) {
-        Some(message) => heard(alloc, peer, event, conn, &message),
+        Some(message) => heard(alloc, peer, event, conn, footing, &message),
         None => steps(alloc, peer, event, None),
     }
 }

@@ -6,4 +6,4 @@ pub returns-clause-fresh : goal.returns-clause-fresh
 returns-clause-fresh c = fresh_is_settled
 
 pub returns-clause-kept : goal.returns-clause-kept
-returns-clause-kept c = each_event_keeps_settled c.each_node_has_its_form.ensures.formed c.each_step_keeps_shape.ensures
+returns-clause-kept c = each_event_keeps_settled c.each_step_is_one_of_few.ensures c.each_step_keeps_shape.ensures

@@ -9,7 +9,7 @@ pub returns-clause-kept : goal.returns-clause-kept
 returns-clause-kept c =
     each_send_is_spelled
     (record {
-      form = c.each_node_has_its_form.ensures.formed;
+      few = c.each_step_is_one_of_few.ensures;
       within = c.message_in_spells.ensures;
       canonical = c.canonical_spells.ensures;
       cer = c.built_is_spelled.ensures.cer;

@@ -1,6 +1,6 @@
--- By the forms of a node.
+-- By the state machine's refusals.
 use Rattle.dm_peer.proofs.Refusing.{refuses_by_rule}
 use Rattle.dm_peer.proofs.laws.refusals_go_by_rule.Goals as goal
 
 pub returns : goal.returns
-returns c = refuses_by_rule c.each_node_has_its_form.ensures.formed
+returns c = refuses_by_rule c.each_state_decides.ensures.refused
