@@ -14,6 +14,7 @@ use Rattle.dm_machine.specs.Moves.{outcome}
 use Rattle.dm_machine.specs.Connection.{Hold, NotHeld, OpenAsR, hold_of, concern_of, HeardOnIt, Order, SendsCea, orders_to, AtConnection}
 use Rattle.dm_machine.specs.Openings.{is_hold, has_order, is_entered, OpensAcceptedWithCea}
 use Rattle.dm_machine.specs.Causes.{IsCaused, EachHoldIsCaused}
+use Rattle.dm_machine.specs.Ordered.{OrdersAreToldApart}
 use Rattle.dm_machine.specs.Answering.{is_prompt, has_its_request, AnswersWhatIsHeard}
 use Rattle.dm_machine.specs.Unread.{reads_first, ClosesUnread}
 use Rattle.dm_peer.specs.declared.peer.Peer.{Peer}
@@ -118,18 +119,19 @@ cea_answers_base accepted law closes p was e h commands core o read c past story
     (subst (λ k. IsCaused (concern_of i c) (hold_of n c) k (orders_to c commands)) now caused) story
 
 -- every other answer is that of a base message that was heard
-pub prompt_answers_base : AnswersWhatIsHeard → (p : Peer) → IsSettled p → (e : PeerEvent) (h : Option Heard)
+pub prompt_answers_base : AnswersWhatIsHeard → OrdersAreToldApart → (p : Peer) → IsSettled p → (e : PeerEvent)
+    (h : Option Heard)
     (commands : List Command) (core : Node) →
     outcome p.standing.core (input_of e h) (wins p.config) ≡ moves.Moved commands core → AreRead p e h → (c : Conn)
     (want : Order) → is_prompt want ≡ true → has_order want (orders_to c commands) ≡ true →
     is_base_command (header_of h).command ≡ true
-prompt_answers_base answers p was e h commands core o read c want prompt has =
+prompt_answers_base answers apart p was e h commands core o read c want prompt has =
     let n = p.standing.core in
     let i = input_of e h in
     let all : list_all (has_its_request (concern_of i c)) (orders_to c commands) ≡ true =
     subst (AtConnection (λ k before after orders. list_all (has_its_request k) orders ≡ true) n i c) o
     (answers n i (wins p.config) c was.shaped) in
-    let asked = asked_for (concern_of i c) want (orders_to c commands) all prompt has in
+    let asked = asked_for apart (concern_of i c) want (orders_to c commands) all prompt has in
     let m = came_on p e h c asked.0 read (asks_readable asked.0 want asked.2) asked.1 in
     ap (λ x. is_base_command x.command) (ap header_of m.heard ∙ heard_header p.config m.message)
     ∙ base_word p.config m.message asked.0 m.word (asks_base asked.0 want asked.2)

@@ -10,7 +10,7 @@ use Rattle.dm_peer.specs.declared.peer.Peer.{Peer}
 use Rattle.dm_peer.specs.Events.{PeerEvent, Start, Ack, Nack, Arrived, Gone}
 use Rattle.dm_peer.specs.Said.{Heard, heard_in, word_heard}
 use Rattle.dm_peer.specs.Acts.{input_of, is_dropped}
-use Rattle.dm_history.proofs.Ordered.{same_conn}
+use Rattle.dm_history.proofs.SameConn.{same_conn}
 use Rattle.dm_history.proofs.Turning.{AreRead}
 
 named : (d c : Conn) (k wanted : Concern) (b : Bool) → (d.0 == c.0) ≡ b → if_named b k ≡ wanted →

@@ -4,6 +4,7 @@ use Rattle.std.proofs.lemmas.Bool.{cases_Bool}
 use Rattle.dm_machine.specs.declared.connection.Conn.{Conn}
 use Rattle.dm_machine.specs.declared.outputs.Command.TheVariants as command
 use Rattle.dm_machine.specs.Connection.{Hold, NotHeld, hold_of, Concern, NacksIt, EndsIt, HeardOnIt, if_named, concern_of, Closes, orders_to, AtConnection}
+use Rattle.dm_machine.specs.Ordered.{EachOrderIsACommand}
 use Rattle.dm_machine.specs.Openings.{is_hold, has_order, is_left_unclosed, ClosesWhatItGivesUp}
 use Rattle.dm_peer.specs.declared.actions.Action.{Action}
 use Rattle.dm_peer.specs.declared.actions.Action.TheVariants.{Close}
@@ -19,7 +20,7 @@ use Rattle.dm_history.specs.Naming.{IsClosing, IsEnding}
 use Rattle.dm_history.specs.Opened.{HasArrived}
 use Rattle.dm_history.proofs.Among.{mapped}
 use Rattle.dm_history.proofs.Concerns.{is_end, ends_as}
-use Rattle.dm_history.proofs.Ordered.{same_conn, same_number, is_conn, commanded}
+use Rattle.dm_history.proofs.SameConn.{same_conn, same_number, is_conn}
 use Rattle.dm_history.proofs.Turning.{IsTurn, TurnsAs}
 use Rattle.dm_history.proofs.Holding.{is_free}
 use Rattle.dm_history.proofs.Stories.{UnheardIfFree}
@@ -32,11 +33,12 @@ left_ends (HeardOnIt w) h e held = cc e
 left_ends _ NotHeld e held = cc held
 left_ends _ _ e held = cc e
 
-given_up : ClosesWhatItGivesUp → (p : Peer) → IsSettled p → (e : PeerEvent) (actions : List Action) (next : Peer) →
+given_up : ClosesWhatItGivesUp → EachOrderIsACommand → (p : Peer) → IsSettled p → (e : PeerEvent)
+    (actions : List Action) (next : Peer) →
     (t : IsTurn p e actions next) → (c : Conn) → hold_of t.core c ≡ NotHeld →
     is_left_unclosed (concern_of (input_of e t.heard) c) (hold_of p.standing.core c) ≡ false →
     IsClosing c (done_at e actions)
-given_up closed p was e actions next t c free unleft =
+given_up closed orders p was e actions next t c free unleft =
     let n = p.standing.core in
     let i = input_of e t.heard in
     let law : has_order Closes (orders_to c t.commands)
@@ -46,18 +48,19 @@ given_up closed p was e actions next t c free unleft =
     (closed n i (wins p.config) c was.shaped) in
     let has = law ∙ (ap (λ h. is_hold NotHeld h && not (is_left_unclosed (concern_of i c) (hold_of n c))) free
     ∙ ap (λ b. is_hold NotHeld NotHeld && not b) unleft) in
-    let there = mapped (action_of p e t.heard) t.commands (command.Close c) (commanded Closes c t.commands has) in
+    let there = mapped (action_of p e t.heard) t.commands (command.Close c) (orders Closes c t.commands has) in
     record {
       actions = actions;
       did = refl;
       closes = subst (λ (l : List Action). StandsAmong l (Close c)) (sym t.acted) there;
     }
 
-ended_now : ClosesWhatItGivesUp → (p : Peer) → IsSettled p → (e : PeerEvent) (actions : List Action) (next : Peer) →
+ended_now : ClosesWhatItGivesUp → EachOrderIsACommand → (p : Peer) → IsSettled p → (e : PeerEvent)
+    (actions : List Action) (next : Peer) →
     (t : IsTurn p e actions next) → (c : Conn) → hold_of t.core c ≡ NotHeld →
     is_hold NotHeld (hold_of p.standing.core c) ≡ false →
     IsClosing c (done_at e actions) ⊎ IsEnding c (done_at e actions)
-ended_now closed p was e actions next t c free held =
+ended_now closed orders p was e actions next t c free held =
     let k = concern_of (input_of e t.heard) c in
     let before = hold_of p.standing.core c in
     elim (cases_Bool (is_left_unclosed k before)) [
@@ -67,7 +70,7 @@ ended_now closed p was e actions next t c free held =
             did = refl;
             ends = sym (ends_as e t.heard c) ∙ left_ends k before left held;
           })
-      | inr unleft ↦ inl (given_up closed p was e actions next t c free unleft)
+      | inr unleft ↦ inl (given_up closed orders p was e actions next t c free unleft)
     ]
 
 arrives_on : (e : PeerEvent) (c : Conn) → ((s : List ℕ) × (e ≡ Arrived c s)) ⊎ ((s : List ℕ) → e ≡ Arrived c s → ⊥)
@@ -90,21 +93,22 @@ none_came e actions c none x = none x.octets (ap (λ y. y.event) x.came)
 not_made : (h : Hold) → is_made h ≡ true → h ≡ NotHeld → ⊥
 not_made h made free = cc (sym (ap is_made free) ∙ made)
 
-pub unheard_next : ClosesWhatItGivesUp → (p : Peer) → IsSettled p → (e : PeerEvent) (actions : List Action)
+pub unheard_next : ClosesWhatItGivesUp → EachOrderIsACommand → (p : Peer) → IsSettled p → (e : PeerEvent)
+    (actions : List Action)
     (next : Peer) (past : List Happened) → TurnsAs p e (Moved actions next) → UnheardIfFree p past →
     UnheardIfFree next (done_at e actions ∷ past)
-unheard_next closed p was e actions next past (inl t) before c free =
+unheard_next closed orders p was e actions next past (inl t) before c free =
     let now : hold_of t.core c ≡ NotHeld = ap (λ q. hold_of q.standing.core c) (sym t.stands) ∙ free in
     elim (cases_Bool (is_hold NotHeld (hold_of p.standing.core c))) [
       | inl unheld ↦ elim (arrives_on e c) [
         | inl (s, is) ↦
-            inl (inl (given_up closed p was e actions next t c now
+            inl (inl (given_up closed orders p was e actions next t c now
             (ap (λ k. is_left_unclosed k (hold_of p.standing.core c)) (heard_concern e t.heard c s is))))
         | inr none ↦ inr (none_came e actions c none, before c (is_free (hold_of p.standing.core c) unheld))
       ]
-      | inr held ↦ inl (ended_now closed p was e actions next t c now held)
+      | inr held ↦ inl (ended_now closed orders p was e actions next t c now held)
     ]
-unheard_next closed p was e actions next past (inr d) before c free =
+unheard_next closed orders p was e actions next past (inr d) before c free =
     let now : hold_of p.standing.core c ≡ NotHeld = ap (λ q. hold_of q.standing.core c) (sym d.same) ∙ free in
     elim (arrives_on e c) [
       | inl (s, is) ↦

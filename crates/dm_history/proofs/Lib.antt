@@ -1,5 +1,5 @@
 mod Among
-mod Ordered
+mod SameConn
 mod Concerns
 mod Words
 mod Commands

@@ -30,7 +30,7 @@ use Rattle.dm_peer.specs.Settled.{IsSettled}
 use Rattle.dm_history.specs.History.{Happened, done_at, Once, StandsAmong}
 use Rattle.dm_history.specs.Opened.{HasCome, CameFirst, WasSent, IsAsked}
 use Rattle.dm_history.proofs.Among.{mapped}
-use Rattle.dm_history.proofs.Ordered.{is_conn, commanded, ordered}
+use Rattle.dm_history.proofs.SameConn.{is_conn}
 use Rattle.dm_history.proofs.Words.{good_cea}
 use Rattle.dm_history.proofs.Commands.{cea_answers}
 use Rattle.dm_history.proofs.Turning.{AreRead}
@@ -86,7 +86,7 @@ module _ (laws : StepLaws) (p : Peer) (e : PeerEvent) (h : Option Heard) (comman
   sent_cea : (to : Header) → cer_answered p.standing.waiting h ≡ to →
       has_order SendsCea (orders_to c commands) ≡ true → WasSent c (built_cea p.config.node to 2001 None) x
   sent_cea to is has =
-      let there = mapped (action_of p e h) commands (command.SendCea c) (commanded SendsCea c commands has) in
+      let there = mapped (action_of p e h) commands (command.SendCea c) (laws.commands SendsCea c commands has) in
       record {
         actions = actions_of p e h commands;
         did = refl;
@@ -99,7 +99,7 @@ module _ (laws : StepLaws) (p : Peer) (e : PeerEvent) (h : Option Heard) (comman
       record {
         actions = actions_of p e h commands;
         did = refl;
-        sent = mapped (action_of p e h) commands (command.SendCer c) (commanded SendsCer c commands has);
+        sent = mapped (action_of p e h) commands (command.SendCer c) (laws.commands SendsCer c commands has);
       }
 
   -- a CER is sent at the Ack of a connection that is pending alone, so none where a CEA is awaited
@@ -115,7 +115,7 @@ module _ (laws : StepLaws) (p : Peer) (e : PeerEvent) (h : Option Heard) (comman
   no_cer_here awaits = elim (cases_Bool (is_cer (request_in commands))) [
     | inl y ↦
         let r = cer_among commands y in
-        let has = ordered SendsCer r.0 commands (command.SendCer r.0) r.1
+        let has = laws.orders SendsCer r.0 commands (command.SendCer r.0) r.1
         (ap (λ b. if_ordered b SendsCer) (is_conn r.0 r.0 refl)) in
         absurd (cc (sym awaits ∙ pending_awaits_none n before_form r.0 (cer_pends r.0 has)))
     | inr y ↦ y

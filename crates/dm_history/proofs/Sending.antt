@@ -15,6 +15,7 @@ use Rattle.dm_machine.specs.declared.outputs.Command.{Command}
 use Rattle.dm_machine.specs.declared.outputs.Command.TheVariants as command
 use Rattle.dm_machine.specs.Connection.{Concern, HeardOnIt, Order, SendsCer, SendsCea, SendsRefusal, SendsDwr, SendsDwa, SendsDpr, SendsDpa, SendsSubmit, Closes, if_ordered, order_to}
 use Rattle.dm_machine.specs.Openings.{is_order, has_order}
+use Rattle.dm_machine.specs.Ordered.{OrdersAreToldApart}
 use Rattle.dm_machine.specs.Answering.{is_prompt, asks_for, has_its_request}
 use Rattle.dm_peer.specs.declared.actions.Action.TheVariants.{Send, Close, Up}
 use Rattle.dm_peer.specs.declared.peer.Peer.{Peer}
@@ -23,7 +24,7 @@ use Rattle.dm_peer.specs.Octets.{octets_of}
 use Rattle.dm_peer.specs.Said.{Heard}
 use Rattle.dm_peer.specs.Sent.{action_of, refusal, is_protocol_error, header_of, fault_in, cer_answered}
 use Rattle.dm_history.specs.Carrying.{cer, dwr, dpr, cea, answer, error, AreOwn}
-use Rattle.dm_history.proofs.Ordered.{is_conn, same_order}
+use Rattle.dm_history.proofs.SameConn.{is_conn}
 
 -- a command that sends on a connection is an order of it, and one that closes it closes it
 pub sends_order : (p : Peer) (e : PeerEvent) (h : Option Heard) (a : Command) (c : Conn) (s : List ℕ) →
@@ -51,14 +52,15 @@ up_command p e h command.Up s is = (refl, cc is)
 up_command p e h _ s is = absurd (cc is)
 
 -- an order that answers what is heard, with what it answers
-each_has : (k : Concern) (o : Order) (orders : List Order) → list_all (has_its_request k) orders ≡ true →
+each_has : OrdersAreToldApart → (k : Concern) (o : Order) (orders : List Order) → list_all
+    (has_its_request k) orders ≡ true →
     has_order o orders ≡ true → has_its_request k o ≡ true
-each_has k o [] all has = absurd (cc has)
-each_has k o (x ∷ rest) all has =
+each_has apart k o [] all has = absurd (cc has)
+each_has apart k o (x ∷ rest) all has =
     let both = and_parts (has_its_request k x) (list_all (has_its_request k) rest) all in
     elim (or_cases (is_order o x) (has_order o rest) has) [
-      | inl same ↦ ap (has_its_request k) (same_order o x same) ∙ both.0
-      | inr r ↦ each_has k o rest both.1 r
+      | inl same ↦ ap (has_its_request k) (apart o x same) ∙ both.0
+      | inr r ↦ each_has apart k o rest both.1 r
     ]
 
 abbrev IsAskedFor : Concern → Order → Type 0
@@ -68,9 +70,10 @@ prompted : (k : Concern) (o : Order) → has_its_request k o ≡ true → is_pro
 prompted (HeardOnIt w) o has prompt = (w, refl, sym (ap (λ b. not b || asks_for w o) prompt) ∙ has)
 prompted _ o has prompt = absurd (cc (prompt, has))
 
-pub asked_for : (k : Concern) (o : Order) (orders : List Order) → list_all (has_its_request k) orders ≡ true →
+pub asked_for : OrdersAreToldApart → (k : Concern) (o : Order) (orders : List Order) → list_all
+    (has_its_request k) orders ≡ true →
     is_prompt o ≡ true → has_order o orders ≡ true → IsAskedFor k o
-asked_for k o orders all prompt has = prompted k o (each_has k o orders all has) prompt
+asked_for apart k o orders all prompt has = prompted k o (each_has apart k o orders all has) prompt
 
 pub asks_base : (w : Word) (o : Order) → asks_for w o ≡ true → Other ≡ w → ⊥
 asks_base w o asks same = cc (ap (λ v. asks_for v o) same ∙ asks)

@@ -6,6 +6,7 @@ use Rattle.dm_machine.specs.declared.connection.Conn.{Conn}
 use Rattle.dm_machine.specs.Forms.{EachShapeIsAForm}
 use Rattle.dm_machine.specs.Connection.{Hold, NotHeld, Pending, Made, OpenAsI, ClosingAsI, Taken, OpenAsR, ClosingAsR, hold_of}
 use Rattle.dm_machine.specs.Openings.{SendsCerAtAck, ClosesWhatItGivesUp}
+use Rattle.dm_machine.specs.Ordered.{EachOrderIsACommand, EachCommandIsAnOrder}
 use Rattle.dm_machine.specs.Causes.{EachHoldIsCaused}
 use Rattle.dm_machine.specs.Unread.{ClosesUnread}
 use Rattle.dm_peer.specs.declared.config.Config.{Config}
@@ -23,6 +24,8 @@ pub record StepLaws : Type 0 where
   pub asked : SendsCerAtAck
   pub closes : ClosesUnread
   pub closed : ClosesWhatItGivesUp
+  pub commands : EachOrderIsACommand
+  pub orders : EachCommandIsAnOrder
   pub fresh : FreshIsSettled
   pub kept : EachEventKeepsSettled
 

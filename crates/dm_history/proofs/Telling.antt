@@ -26,7 +26,7 @@ by_turn laws p e actions next past before settled (inr d) =
     (record {
       settled = before.settled;
       unheard = subst (λ (q : Peer). UnheardIfFree q (done_at e actions ∷ past)) d.same
-          (unheard_next laws.closed p before.settled e actions next past (inr d) before.unheard);
+          (unheard_next laws.closed laws.commands p before.settled e actions next past (inr d) before.unheard);
       story = λ c. later p.config p.standing c (done_at e actions) past (hold_of p.standing.core c) (before.story c);
     })
 by_turn laws p e actions next past before settled (inl t) =
@@ -36,7 +36,7 @@ by_turn laws p e actions next past before settled (inl t) =
       settled = kept;
       unheard = subst (λ (q : Peer). UnheardIfFree q (done_at e (actions_of p e t.heard t.commands) ∷ past)) t.stands
           (subst (λ (a : List Action). UnheardIfFree next (done_at e a ∷ past)) t.acted
-          (unheard_next laws.closed p before.settled e actions next past (inl t) before.unheard));
+          (unheard_next laws.closed laws.commands p before.settled e actions next past (inl t) before.unheard));
       story = goes_on laws p e t.heard t.commands t.core past before kept t.moves t.read;
     } in
     subst (λ (q : Peer). IsTold q (done_at e actions ∷ past)) (sym t.stands)

@@ -16,6 +16,7 @@ use Rattle.dm_machine.specs.Moves.{outcome}
 use Rattle.dm_machine.specs.Connection.{Hold, OpenAsI, OpenAsR, hold_of, concern_of, SendsCea, SendsSubmit, orders_to, AtConnection}
 use Rattle.dm_machine.specs.Openings.{has_order, OpensAcceptedWithCea}
 use Rattle.dm_machine.specs.Answering.{AnswersWhatIsHeard}
+use Rattle.dm_machine.specs.Ordered.{OrdersAreToldApart}
 use Rattle.dm_machine.specs.Upward.{is_open_hold, is_submitted, SubmitsWhereOpen, has_up, UpIsHeard, HandsUpWhereOpen, HandsUpEach, OpenOnOne}
 use Rattle.dm_peer.specs.declared.actions.Action.{Action}
 use Rattle.dm_peer.specs.declared.actions.Action.TheVariants.{Send, Up}
@@ -30,7 +31,6 @@ use Rattle.dm_peer.specs.Settled.{IsSettled}
 use Rattle.dm_history.specs.History.{Happened, StandsAmong}
 use Rattle.dm_history.specs.Carrying.{StandsOpen, CameOnOpen, AreOwn, IsPassedOn, IsCarried, CarriesNext, EachRunCarries}
 use Rattle.dm_history.proofs.Among.{none_among, sourced}
-use Rattle.dm_history.proofs.Ordered.{ordered}
 use Rattle.dm_history.proofs.Commands.{other_word, other_command}
 use Rattle.dm_history.proofs.Turning.{IsTurn, TurnsAs, turns, turned_is}
 use Rattle.dm_history.proofs.Lasting.{stays_configured}
@@ -50,6 +50,7 @@ pub record CarryLaws : Type 0 where
   pub up : HandsUpWhereOpen
   pub each : HandsUpEach
   pub one : OpenOnOne
+  pub apart : OrdersAreToldApart
 
 up_behind : (a : Command) (l : List Command) → has_up l ≡ true → has_up (a ∷ l) ≡ true
 up_behind command.Up l e = refl
@@ -107,9 +108,9 @@ sent_by laws p past told e actions next is t c s (earlier, later, stands) =
     let there : StandsAmong t.commands a.command = (a.before, a.behind, a.stands) in
     let base : AnswersBase p t.heard c a.command = (
       λ cea. cea_answers_base laws.accepted laws.steps.caused laws.steps.closes p told.settled e t.heard t.commands
-          t.core t.moves t.read c past (told.story c) (ordered SendsCea c t.commands a.command there cea),
-      λ o answer prompt. prompt_answers_base laws.answers p told.settled e t.heard t.commands t.core t.moves t.read c o
-          prompt (ordered o c t.commands a.command there answer),
+          t.core t.moves t.read c past (told.story c) (laws.steps.orders SendsCea c t.commands a.command there cea),
+      λ o answer prompt. prompt_answers_base laws.answers laws.apart p told.settled e t.heard t.commands t.core t.moves
+          t.read c o prompt (laws.steps.orders o c t.commands a.command there answer),
     ) in
     elim (own_sent p e t.heard c s a.command a.gives base) [
       | inl own ↦ inl own
@@ -120,7 +121,7 @@ sent_by laws p past told e actions next is t c s (earlier, later, stands) =
           has_order SendsSubmit orders ≡ (is_submitted k && is_open_hold before)) n i c) t.moves
           (laws.submits n i (wins p.config) c told.settled.shaped) in
           let both = and_parts (is_submitted (concern_of i c)) (is_open_hold (hold_of n c))
-          (sym law ∙ ordered SendsSubmit c t.commands a.command there x.1) in
+          (sym law ∙ laws.steps.orders SendsSubmit c t.commands a.command there x.1) in
           inr (passed_on p e actions next is c s (submitted_by e t.heard c s both.0 x.0) both.1)
     ]
 

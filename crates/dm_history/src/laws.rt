@@ -6,8 +6,8 @@ ghost use Rattle.dm_history.specs.Opened.{EachOpeningWasAsked};
 
 use dm_machine::laws::{
     each_answer_has_its_request, each_connection_changes_as_allowed, each_hold_is_caused,
-    each_node_has_its_form, each_opening_has_its_message, open_connections_carry,
-    unread_words_are_alike,
+    each_node_has_its_form, each_opening_has_its_message, each_order_is_a_command,
+    open_connections_carry, unread_words_are_alike,
 };
 use dm_peer::laws::each_event_keeps_settled;
 
@@ -21,6 +21,7 @@ pub fn each_opening_was_asked()
     each_node_has_its_form();
     each_hold_is_caused();
     each_opening_has_its_message();
+    each_order_is_a_command();
     unread_words_are_alike();
 }
 
@@ -35,6 +36,7 @@ pub fn each_run_carries()
     each_hold_is_caused();
     each_opening_has_its_message();
     each_answer_has_its_request();
+    each_order_is_a_command();
     unread_words_are_alike();
     open_connections_carry();
 }
@@ -49,4 +51,5 @@ pub fn each_end_is_last()
     each_connection_changes_as_allowed();
     each_event_keeps_settled();
     each_opening_has_its_message();
+    each_order_is_a_command();
 }

@@ -11,5 +11,6 @@ returns c =
       closed = c.each_opening_has_its_message.ensures.closed;
       alone = c.each_opening_has_its_message.ensures.alone;
       last = c.each_opening_has_its_message.ensures.last;
+      orders = c.each_order_is_a_command.ensures.order;
     } in
     record { last = ended_is_last laws; behind = nothing_follows laws }

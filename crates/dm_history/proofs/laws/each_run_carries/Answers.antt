@@ -11,6 +11,8 @@ returns c =
         asked = c.each_opening_has_its_message.ensures.asked;
         closes = c.unread_words_are_alike.ensures.rejected;
         closed = c.each_opening_has_its_message.ensures.closed;
+        commands = c.each_order_is_a_command.ensures.command;
+        orders = c.each_order_is_a_command.ensures.order;
         fresh = c.each_event_keeps_settled.ensures.fresh;
         kept = c.each_event_keeps_settled.ensures.kept;
       };
@@ -20,4 +22,5 @@ returns c =
       up = c.open_connections_carry.ensures.up;
       each = c.open_connections_carry.ensures.each;
       one = c.open_connections_carry.ensures.one;
+      apart = c.each_order_is_a_command.ensures.apart;
     })
