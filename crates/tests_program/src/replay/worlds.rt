@@ -1,5 +1,5 @@
 //! Worlds by their own calls: how many happenings are done, of which kind, and what stands at the end.
-use crate::rows::{
+use super::rows::{
     BOTH_START_SCRIPT, ELECT_BEFORE_ACK_SCRIPT, ONE_SIDE_STARTS_SCRIPT, WINNER_FIRST_SCRIPT,
 };
 use dm_replay::{Script, read_script};

@@ -2,6 +2,7 @@
 
 mod broken;
 mod examples;
+mod histories;
 mod octets;
 mod own_rules;
 mod rows;

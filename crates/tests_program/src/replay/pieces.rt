@@ -1,5 +1,5 @@
 //! The rows again, with each message delivered octet by octet.
-use crate::rows::{
+use super::rows::{
     BOTH_START, CROSSED_OPEN, CUT_ANSWER, ELECT_BEFORE_ACK, ONE_SIDE_STARTS, RESTART_FRESH_END,
     STOPS, SUBMIT_BETWEEN, TICKS, WINNER_FIRST,
 };

@@ -1,5 +1,4 @@
-//! Tests of what no clause of the crates below says: values from outside, printed text, devices that fail, and
-//! that calls succeed with memory at hand.
+//! Tests of dictionaries: their definitions, their texts, and what they say of messages.
 //!
 //! A test ends where memory is short. What is checked in a test are its steps, and not the values that it compares:
 //! so it is one call of a helper, which has one way out, and owns at most one dictionary.
@@ -9,7 +8,3 @@
 mod definitions;
 #[cfg(test)]
 mod dictionary;
-#[cfg(test)]
-mod program;
-#[cfg(test)]
-mod text;

@@ -1,7 +1,6 @@
 //! The base dictionary, told from outside, and that its calls succeed with memory at hand.
 ghost use Rattle.dm_tables.specs.Tables.{IsDictionary};
 
-use crate::text::joined;
 use dm_dict::{AvpType, Dictionary, Form};
 use dm_tables::{Tables, base_tables};
 use std::alloc::Global;
@@ -68,7 +67,7 @@ const WRITTEN: &str = "\
 
 /// The text of the base dictionary, with its groups and commands in this form.
 fn base_text(rt: &(impl Abort + AllocGlobal), others: &str) -> String {
-    joined(rt, &[PLAIN, others])
+    format!(in rt.alloc(); "{PLAIN}{others}").expect(rt, "memory")
 }
 
 fn prints(alloc: Global, definitions: &Dictionary, text: &[u8]) -> bool {

@@ -1,6 +1,5 @@
 //! Entries of many AVPs, and a rule of many entries.
 use super::rows::assert_over_base;
-use crate::text::joined;
 use std::process::Abort;
 
 /// One AVP more, with M, whose data is this number.
@@ -31,7 +30,7 @@ fn request_of_many(rt: &(impl Abort + AllocGlobal), count: u32) -> String {
 /// A dictionary of a command whose rule has the entry alone.
 fn rule_of(rt: &(impl Abort + AllocGlobal), entry: &str) -> String {
     let head = "@ Foo 5000 Unsigned32 < Q > ::= < Diameter Header: 300, REQ > ";
-    joined(rt, &[head, entry])
+    format!(in rt.alloc(); "{head}{entry}").expect(rt, "memory")
 }
 
 fn assert_counted(rt: &(impl Abort + AllocGlobal), entry: &str, count: u32, want: &str) {

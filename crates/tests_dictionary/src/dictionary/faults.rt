@@ -1,6 +1,5 @@
 //! Numbers of dictionary texts, and the order of their faults: what each text's first fault is.
 use super::texts::{assert_faults_over_base, assert_faults_over_empty};
-use crate::text::repeated;
 use dm_dict::DictFault;
 use std::process::Abort;
 
@@ -127,25 +126,35 @@ fn faults_in_order(rt: HostRuntime) {
     assert_faults_over_base(&rt, ORDER_ROWS);
 }
 
-/// A text with 5,000 of the digit between its two parts has this fault alone.
+/// The text with 5,000 of the digit between its two parts.
+fn long_text(rt: &(impl Abort + AllocGlobal), head: &str, digit: u8, tail: &str) -> Vec<u8> {
+    let mut text = Vec::from_slice(rt.alloc(), head.as_bytes()).expect(rt, "memory");
+    let size = usize::saturating_add(head.len(), 5000);
+    text.resize(size, digit).expect(rt, "memory");
+    text.extend_from_slice(tail.as_bytes()).expect(rt, "memory");
+    text
+}
+
+/// That text has this fault alone.
 fn assert_digits(
     rt: &(impl Abort + AllocGlobal),
     head: &str,
-    digit: &str,
+    digit: u8,
     tail: &str,
     fault: Option<DictFault>,
 ) {
-    let text = repeated(rt, head, digit, 5000, tail);
-    assert_faults_over_empty(rt, &[(text.as_bytes(), fault)]);
+    let text = long_text(rt, head, digit, tail);
+    assert_faults_over_empty(rt, &[(text.as_slice(), fault)]);
+    drop(text);
 }
 
 #[test]
 fn numbers_of_5000_digits(rt: HostRuntime) {
     let rule = "< G > ::= < AVP Header: 5 > ";
     let range = Some(DictFault::Range(1));
-    assert_digits(&rt, "@ Foo ", "0", "5 Time", None);
-    assert_digits(&rt, "@ Foo ", "9", " Time", range);
-    assert_digits(&rt, rule, "0", "1*1 { AVP }", None);
-    assert_digits(&rt, rule, "9", "*[ AVP ]", range);
-    assert_digits(&rt, rule, "0", "*5[ AVP ]", None);
+    assert_digits(&rt, "@ Foo ", b'0', "5 Time", None);
+    assert_digits(&rt, "@ Foo ", b'9', " Time", range);
+    assert_digits(&rt, rule, b'0', "1*1 { AVP }", None);
+    assert_digits(&rt, rule, b'9', "*[ AVP ]", range);
+    assert_digits(&rt, rule, b'0', "*5[ AVP ]", None);
 }

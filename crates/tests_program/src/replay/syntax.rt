@@ -1,5 +1,5 @@
 //! Which lines a script may have where.
-use crate::rows::assert_replayed;
+use super::rows::assert_replayed;
 use std::process::Abort;
 
 const PEERS: &str = "peer A b.example 4\npeer B a.example 4\n";
