@@ -138,10 +138,12 @@ fn are_done(rt: &(impl Abort + AllocGlobal), actions: &[Action], done: &[Done<'_
 fn does(rt: &(impl Abort + AllocGlobal), peer: &mut Peer, case: &Case<'_>) -> bool {
     let (told, done, state) = *case;
     let octets = octets_of(rt, digits(told));
-    match peer.on(rt.alloc(), event(told, octets.as_slice())) {
+    let is_right = match peer.on(rt.alloc(), event(told, octets.as_slice())) {
         Ok(actions) => are_done(rt, actions.as_slice(), done) && peer.state() == state,
         Err(_) => false,
-    }
+    };
+    drop(octets);
+    is_right
 }
 
 /// The peer does all this, one after the other.
@@ -151,26 +153,46 @@ fn check(rt: &(impl Abort + AllocGlobal), peer: &mut Peer, cases: &[Case<'_>]) {
     }
 }
 
+/// What b.example asks on the accepted connection.
+const HEARS: Told<'static> = Told::Hears(R, CER_OF_B);
+
+const TO_WAIT_CONN_ACK: &[Case<'static>] = &[STARTED];
+
+const TO_WAIT_I_CEA: &[Case<'static>] = &[STARTED, ACKED];
+
+const TO_WAIT_CONN_ACK_ELECT: &[Case<'static>] = &[STARTED, (HEARS, &[], State::WaitConnAckElect)];
+
+const TO_WAIT_RETURNS: &[Case<'static>] = &[STARTED, ACKED, (HEARS, &[], State::WaitReturns)];
+
+const TO_R_OPEN: &[Case<'static>] = &[(HEARS, &[Done::Send(R, CEA_OF_A)], State::ROpen)];
+
+const TO_I_OPEN: &[Case<'static>] = &[STARTED, ACKED, OPENED];
+
+const TO_CLOSING: &[Case<'static>] = &[
+    STARTED,
+    ACKED,
+    OPENED,
+    (Told::Stop, &[Done::Send(I, DPR_2)], State::Closing),
+];
+
+/// What brings a.example from Closed to the state.
+fn way_to(state: State) -> &'static [Case<'static>] {
+    match state {
+        State::Closed => &[],
+        State::WaitConnAck => TO_WAIT_CONN_ACK,
+        State::WaitICea => TO_WAIT_I_CEA,
+        State::WaitConnAckElect => TO_WAIT_CONN_ACK_ELECT,
+        State::WaitReturns => TO_WAIT_RETURNS,
+        State::ROpen => TO_R_OPEN,
+        State::IOpen => TO_I_OPEN,
+        State::Closing => TO_CLOSING,
+    }
+}
+
 /// a.example, configured for b.example, in this state. It loses elections.
 fn in_state(rt: &(impl Abort + AllocGlobal), state: State) -> Peer {
     let mut peer = peer(rt, b"a.example", b"b.example", 4);
-    let accepting = [Done::Send(R, CEA_OF_A)];
-    let stopping = [Done::Send(I, DPR_2)];
-    let hears = Told::Hears(R, CER_OF_B);
-    match state {
-        State::Closed => {}
-        State::WaitConnAck => check(rt, &mut peer, &[STARTED]),
-        State::WaitICea => check(rt, &mut peer, &[STARTED, ACKED]),
-        State::WaitConnAckElect => check(rt, &mut peer, &[STARTED, (hears, &[], state)]),
-        State::WaitReturns => check(rt, &mut peer, &[STARTED, ACKED, (hears, &[], state)]),
-        State::ROpen => check(rt, &mut peer, &[(hears, &accepting, state)]),
-        State::IOpen => check(rt, &mut peer, &[STARTED, ACKED, OPENED]),
-        State::Closing => check(
-            rt,
-            &mut peer,
-            &[STARTED, ACKED, OPENED, (Told::Stop, &stopping, state)],
-        ),
-    }
+    check(rt, &mut peer, way_to(state));
     peer
 }
 
