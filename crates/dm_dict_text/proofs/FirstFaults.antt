@@ -8,7 +8,8 @@ use Rattle.dm_grammar.specs.Tokens.{Word, tokens}
 use Rattle.dm_grammar.specs.Items as written
 use Rattle.dm_grammar.specs.Items.{AvpParts, GroupParts, Written}
 use Rattle.dm_grammar.specs.Items.Vend.{NumberedBy}
-use Rattle.dm_grammar.specs.Told.{told}
+use Rattle.dm_grammar.specs.Spelling.{AreItems}
+use Rattle.dm_grammar.specs.Syntax.{IsSyntaxFault}
 use Rattle.dm_grammar.specs.FirstVersion.{FirstItem, Breaks, as_written, AreFirstWritten}
 use Rattle.dm_grammar.specs.FirstVersion.FirstItem.{FirstAvpIs, FirstGroupIs, FirstCommandIs}
 use Rattle.dm_dict_text.specs.declared.fault.DictFault.{DictFault}
@@ -126,10 +127,10 @@ same_faults d is =
 
 -- of a whole text that its grammar reads by version 1
 abbrev pub ReadsFirst : List ℕ → Type 0
-ReadsFirst text = (is : List Written) → (told text ≡ Ok is) ↔ AreFirstWritten is (tokens text)
+ReadsFirst text = (is : List Written) → AreItems is (tokens text) ↔ AreFirstWritten is (tokens text)
 
 abbrev pub BreaksFirst : List ℕ → Type 0
-BreaksFirst text = (line : ℕ) → (told text ≡ Err line) ↔ Breaks text line
+BreaksFirst text = (line : ℕ) → IsSyntaxFault text line ↔ Breaks text line
 
 made_followed : (d new : Definitions) (is : List FirstItem)
     → new ≡ (with_items (made d) (map as_written is)).definitions → new ≡ first_with_items d is

@@ -5,7 +5,8 @@ use Rattle.dm_grammar.specs.Items.{Written}
 use Rattle.dm_grammar.specs.Items.Written.{VendorIs, AvpIs, GroupIs, CommandIs}
 use Rattle.dm_grammar.specs.declared.item.Item.{Item}
 use Rattle.dm_grammar.specs.Views.{view_item}
-use Rattle.dm_grammar.specs.Told.{told}
+use Rattle.dm_grammar.specs.Spelling.{AreItems}
+use Rattle.dm_grammar.specs.Tokens.{tokens}
 use Rattle.dm_dict_text.specs.declared.fault.DictFault.{DictFault}
 use Rattle.dm_dict_text.specs.declared.fault.DictFault.TheVariants.{NoMemory}
 use Rattle.dm_tables.specs.declared.tables.Tables.{Tables}
@@ -19,9 +20,9 @@ use Rattle.dm_dict_text.specs.Outcome.{Defines, IsFirstFault, all_faults}
 use Rattle.dm_dict_text.proofs.Along.{stops_left, first_right, none_both}
 use Rattle.dm_dict_text.proofs.Closed.{closed_with, item_vendors}
 
-pub seen : (text : List ℕ) (found items : List Item) → told text ≡ Ok (map view_item found) → items ≡ found
-    → told text ≡ Ok (map view_item items)
-seen text found items e same = subst (λ (l : List Item). told text ≡ Ok (map view_item l)) (sym same) e
+pub seen : (text : List ℕ) (found items : List Item) → AreItems (map view_item found) (tokens text) → items ≡ found
+    → AreItems (map view_item items) (tokens text)
+seen text found items e same = subst (λ (l : List Item). AreItems (map view_item l) (tokens text)) (sym same) e
 
 no_first : (fs : List DictFault) → first_of fs ≡ None → fs ≡ []
 no_first [] e = refl
@@ -120,7 +121,7 @@ module _ (old : Definitions) (items : List Written) where
         subst (λ (d : Definitions). is_closed d ≡ true) (sym added_here)
         (closed_with old items closed (none_unknown n e h))
 
-  module _ (text : List ℕ) (grammatical : told text ≡ Ok items) where
+  module _ (text : List ℕ) (grammatical : AreItems items (tokens text)) where
     pub reads : (r : Result Tables DictFault) → IfOk r (λ _. all_faults old items ≡ [])
         → IfOk r (λ new. defined new ≡ (with_items (made old) items).definitions) →
         IfOk r (λ new. Defines text old (defined new))

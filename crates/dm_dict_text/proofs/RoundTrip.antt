@@ -1,5 +1,5 @@
 -- The printed text of a dictionary defines the same dictionary.
-use Rattle.std.proofs.Common.{◌≡◌, ◌↔◌, ℕ, true, false, List, [], Ok, sym, ap, subst, ◌∙◌}
+use Rattle.std.proofs.Common.{◌≡◌, ℕ, true, false, List, [], sym, ap, subst, ◌∙◌}
 use Rattle.std.proofs.lemmas.Bool.{and_parts}
 use Rattle.std.specs.List.{list_all}
 use Rattle.dm_grammar.specs.Grammar as grammar
@@ -7,7 +7,6 @@ use Rattle.dm_grammar.specs.Symbols.{is_number, symbol_of_word}
 use Rattle.dm_grammar.specs.Tokens.{Word, tokens}
 use Rattle.dm_grammar.specs.Items.{Written}
 use Rattle.dm_grammar.specs.Spelling.{AreItems}
-use Rattle.dm_grammar.specs.Told.{told}
 use Rattle.dm_tables.specs.Definitions.{Definitions, nothing_defined}
 use Rattle.dm_tables.specs.Sound.{is_sound, is_closed, knows_rule}
 use Rattle.dm_dict_text.specs.Printed.{printed, is_first_version}
@@ -22,9 +21,8 @@ use Rattle.dm_dict_text.proofs.PrintItems.{written_all, all_words, first_line, a
 use Rattle.dm_dict_text.proofs.PrintDefined.{AreAdded, all_added, no_unknown}
 
 pub printed_again : ((w : List ℕ) → is_number w ≡ false → grammar.is_name (symbol_of_word w) ≡ true)
-    → ((text : List ℕ) (items : List Written) → (told text ≡ Ok items) ↔ AreItems items (tokens text))
     → (d : Definitions) → is_sound d ≡ true → is_closed d ≡ true → Defines (printed d) nothing_defined d
-printed_again names law d sound closed =
+printed_again names d sound closed =
     let parts = sound_parts d sound in
     let (known, known_too) = and_parts (list_all (λ a. knows_rule d.avps a.rule) d.avps)
     (list_all (λ c. knows_rule d.avps c.rule) d.commands) closed in
@@ -39,14 +37,13 @@ printed_again names law d sound closed =
     (λ k. commands_tokens k [] d.commands parts.commands))) in
     let spelled : AreItems items (tokens (printed d)) = subst (λ (ws : List Word). AreItems items ws) (sym words)
     (are_items names d parts.vendors parts.avps parts.commands) in
-    let grammatical : told (printed d) ≡ Ok items = (law (printed d) items).1 spelled in
     let added : AreAdded nothing_defined items d = all_added (first_line first) d parts.vendors parts.avps
     parts.commands in
     let nothing_unknown : items_unknown (with_items (made nothing_defined) items) [] items ≡ [] = ap
     (λ m. items_unknown m [] items) added.added ∙ no_unknown (first_line first) d known known_too in
     record {
       items = items;
-      grammatical = grammatical;
+      grammatical = spelled;
       faultless = none_both (items_faults (made nothing_defined) items) _ added.faultless nothing_unknown;
       followed = ap (λ m. m.definitions) (sym added.added);
     }

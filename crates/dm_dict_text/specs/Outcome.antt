@@ -1,7 +1,9 @@
 -- What a dictionary text defines behind other definitions, and its first fault (RFC 6733, 3.2).
-use Rattle.std.specs.Prelude.{ℕ, ◌≡◌, ◌⊎◌, List, [], ◌++◌, Some, Ok, Err}
+use Rattle.std.specs.Prelude.{ℕ, ◌≡◌, ◌⊎◌, List, [], ◌++◌, Some}
 use Rattle.dm_grammar.specs.Items.{Written}
-use Rattle.dm_grammar.specs.Told.{told}
+use Rattle.dm_grammar.specs.Spelling.{AreItems}
+use Rattle.dm_grammar.specs.Syntax.{IsSyntaxFault}
+use Rattle.dm_grammar.specs.Tokens.{tokens}
 use Rattle.dm_dict_text.specs.declared.fault.DictFault.{DictFault}
 use Rattle.dm_dict_text.specs.declared.fault.DictFault.TheVariants.{Syntax}
 use Rattle.dm_tables.specs.Definitions.{Definitions}
@@ -15,16 +17,16 @@ all_faults old items = items_faults (made old) items ++ items_unknown (with_item
 -- the text has items without fault, and the new definitions are the old ones followed by theirs
 pub record Defines (text : List ℕ) (old new : Definitions) : Type 0 where
   pub items : List Written
-  pub grammatical : told text ≡ Ok items
+  pub grammatical : AreItems items (tokens text)
   pub faultless : all_faults old items ≡ []
   pub followed : new ≡ (with_items (made old) items).definitions
 
 -- the text has items, and the fault is their first
 pub record HasFault (text : List ℕ) (old : Definitions) (fault : DictFault) : Type 0 where
   pub items : List Written
-  pub grammatical : told text ≡ Ok items
+  pub grammatical : AreItems items (tokens text)
   pub first : first_of (all_faults old items) ≡ Some fault
 
 -- a Syntax fault anywhere comes before the others
 abbrev pub IsFirstFault : List ℕ → Definitions → DictFault → Type 0
-IsFirstFault text old fault = ((line : ℕ) × (fault ≡ Syntax line) × (told text ≡ Err line)) ⊎ HasFault text old fault
+IsFirstFault text old fault = ((line : ℕ) × (fault ≡ Syntax line) × IsSyntaxFault text line) ⊎ HasFault text old fault

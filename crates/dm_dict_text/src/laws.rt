@@ -4,27 +4,35 @@ ghost use Rattle.dm_dict_text.specs.FirstOutcome.{DefinesFirstVersion, FaultsOfF
 ghost use Rattle.dm_dict_text.specs.FirstVersion.{PrintsFirstVersion};
 ghost use Rattle.dm_dict_text.specs.OneOutcome.{OneDefinition, OneFault, NoDefinitionRefused, SomeOutcome};
 
-use dm_grammar::first_version_law;
+use dm_grammar::{first_version_law, items_law};
 
 /// Behind the same old definitions a text defines one whole at most (RFC 6733, 3.2).
 pub fn one_definition()
     ensures { OneDefinition }
-{}
+{
+    items_law();
+}
 
 /// One fault at most is a text's first.
 pub fn one_fault()
     ensures { OneFault }
-{}
+{
+    items_law();
+}
 
 /// A text that defines something has no first fault.
 pub fn no_definition_refused()
     ensures { NoDefinitionRefused }
-{}
+{
+    items_law();
+}
 
 /// A text defines something or has a first fault. The law stands for users.
 pub fn some_outcome()
     ensures { SomeOutcome }
-{}
+{
+    items_law();
+}
 
 /// Definitions without vendors and lists of values are printed as a text of version 1. The law stands for
 /// users.

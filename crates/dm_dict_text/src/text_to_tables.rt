@@ -13,7 +13,7 @@ ghost use Rattle.dm_dict_text.specs.Outcome.{Defines, IsFirstFault, all_faults};
 use crate::DictFault;
 use crate::define::define_all;
 use crate::unknown::first_unknown;
-use dm_grammar::{Item, items_law, read_items};
+use dm_grammar::{Item, read_items};
 use dm_tables::Tables;
 use indexmap::IndexSet;
 use std::alloc::Global;
@@ -70,7 +70,6 @@ pub fn read_tables(alloc: Global, text: &[u8], old: &Tables) -> Result<Tables, D
     ensures dictionary { IfOk result IsDictionary }
     ensures fault { IfErr result (λ f. (f ≡ faults.NoMemory) ⊎ IsFirstFault text.now (defined old.now) f) }
 {
-    items_law();
     let found = read_items(alloc, text)?;
     let tables = tables_of(alloc, old, found.as_slice());
     drop(found);

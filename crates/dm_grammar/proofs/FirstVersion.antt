@@ -11,16 +11,15 @@ use Rattle.dm_grammar.specs.Grammar.{may_end}
 use Rattle.dm_grammar.specs.Items.{Vend, Value, AvpParts, GroupParts, Written}
 use Rattle.dm_grammar.specs.Items.Vend.{NumberedBy, NamedBy}
 use Rattle.dm_grammar.specs.Items.Written.{VendorIs, AvpIs, GroupIs, CommandIs}
-use Rattle.dm_grammar.specs.Told.{told}
-use Rattle.dm_grammar.specs.Syntax.{Takes, Leads, StandsAtToken, StandsAtEnd}
+use Rattle.dm_grammar.specs.Syntax.{Takes, Leads, StandsAtToken, StandsAtEnd, IsSyntaxFault}
 use Rattle.dm_grammar.specs.Spelling.{Phrase, Spells, Ends, AreItems, name_is, number_is, number_may, vend_may, kind_and_values, type_of, title, second, group_vendor, entries, item, items}
 use Rattle.dm_grammar.specs.Spelling.Phrase.{Never, Empty, Two, Mark, This, ◌then◌, ◌or◌}
 use Rattle.dm_grammar.specs.FirstVersion.{FirstItem, first_item, first_items, AreFirst, CanBegin, BreaksAtToken, BreaksAtEnd, Breaks, as_written, AreFirstWritten}
 use Rattle.dm_grammar.specs.FirstVersion.FirstItem.{FirstAvpIs, FirstGroupIs, FirstCommandIs}
-use Rattle.dm_grammar.proofs.Syntax.{AllTaken, ok_taken, one_place, fault_law}
+use Rattle.dm_grammar.proofs.Syntax.{AllTaken, ok_taken, one_place}
 use Rattle.dm_grammar.proofs.Walks.{before_items}
 use Rattle.dm_grammar.proofs.Spelled.{items_there, first_text, second_text}
-use Rattle.dm_grammar.proofs.ItemsLaw.{onward, written_law}
+use Rattle.dm_grammar.proofs.ItemsLaw.{onward}
 use Rattle.dm_grammar.proofs.Onward.{HasItems}
 use Rattle.dm_grammar.proofs.Endings.{rest_of, rest_taken}
 
@@ -150,12 +149,8 @@ are_items : (is : List Written) (ws : List Word) → AreFirstWritten is ws → A
 are_items is ws h = inl (subst (λ (is : List Written). AreOfFirst is ws) (sym h.1.0) (from_first h.0 ws h.1.1))
 
 pub items_of_first : (text : List ℕ) (is : List Written) → is_second (tokens text) ≡ false →
-    (told text ≡ Ok is) ↔ AreFirstWritten is (tokens text)
-items_of_first text is e =
-    let law = written_law text is in (
-      λ h. only_first is (tokens text) e (law.0 h),
-      λ h. law.1 (are_items is (tokens text) h),
-    )
+    AreItems is (tokens text) ↔ AreFirstWritten is (tokens text)
+items_of_first text is e = (only_first is (tokens text) e, are_items is (tokens text))
 
 -- steps one behind the other
 joined : (a b : List Word) (p m q : Place) → Leads First p a m → Leads First m b q → Leads First p (a ++ b) q
@@ -276,11 +271,10 @@ StandsIn b ws last line =
     StandsAtToken v Text body line ⊎ StandsAtEnd v Text body last line
 
 pub fault_of_first : (text : List ℕ) (line : ℕ) → is_second (tokens text) ≡ false →
-    (told text ≡ Err line) ↔ Breaks text line
+    IsSyntaxFault text line ↔ Breaks text line
 fault_of_first text line e =
-    let law = fault_law text line in
     let ws = tokens text in
     let last = last_line text in (
-      λ h. stands_breaks ws last line (subst (λ (b : Bool). StandsIn b ws last line) e (law.0 h)),
-      λ h. law.1 (subst (λ (b : Bool). StandsIn b ws last line) (sym e) (breaks_stands ws last line h)),
+      λ h. stands_breaks ws last line (subst (λ (b : Bool). StandsIn b ws last line) e h),
+      λ h. subst (λ (b : Bool). StandsIn b ws last line) (sym e) (breaks_stands ws last line h),
     )

@@ -147,7 +147,7 @@ whole false is ws e h = inl h
 same_items : (a b : List Written) (r : Result (List Written) ℕ) → r ≡ Ok a → r ≡ Ok b → a ≡ b
 same_items a b r e f = cc
 
-told_written : (text : List ℕ) (is : List Written) → told text ≡ Ok is → AreItems is (tokens text)
+pub told_written : (text : List ℕ) (is : List Written) → told text ≡ Ok is → AreItems is (tokens text)
 told_written text is h =
     let how = reading_of text in
     let ws = tokens text in
@@ -157,9 +157,6 @@ told_written text is h =
     let spelled : AreItems r.items ws = whole (is_second ws) r.items ws refl r.spelled in
     let same : r.items ≡ is = same_items r.items is (told text) (spelled_told text r.items spelled) h in
     subst (λ (is : List Written). AreItems is ws) same spelled
-
-pub written_law : (text : List ℕ) (is : List Written) → (told text ≡ Ok is) ↔ AreItems is (tokens text)
-written_law text is = (told_written text is, spelled_told text is)
 
 -- one list of items at most
 same_list : (a b : List Written) (r : Result Told ℕ) → r ≡ Ok (before_items a) → r ≡ Ok (before_items b) → a ≡ b

@@ -8,6 +8,7 @@ pub mod FirstVersion
 pub mod HeadWalks
 pub mod Heads
 pub mod ItemsLaw
+pub mod Outcomes
 pub mod MoreSteps
 pub mod Onward
 pub mod OnwardAvps

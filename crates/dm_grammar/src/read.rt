@@ -7,7 +7,10 @@ ghost use Rattle.dm_grammar.specs.declared.terminal.Terminal.TheVariants.{One};
 ghost use Rattle.dm_grammar.specs.Places.Place.{AtSign, Text};
 ghost use Rattle.dm_grammar.specs.Places.Role.{TitleIs};
 ghost use Rattle.dm_grammar.specs.Readers.{IfSyntax, begins, with_head, with_item, with_rule};
+ghost use Rattle.dm_grammar.specs.Spelling.{AreItems};
+ghost use Rattle.dm_grammar.specs.Syntax.{IsSyntaxFault};
 ghost use Rattle.dm_grammar.specs.Told.{Told, collect, filled, items_told, told};
+ghost use Rattle.dm_grammar.specs.Tokens.{tokens};
 ghost use Rattle.dm_grammar.specs.Views.{view, view_entry, view_head, view_item, view_words};
 
 use crate::avp::avp_item;
@@ -162,13 +165,8 @@ fn items<'a>(alloc: Global, tokens: &[Token<'a>], how: Reading) -> Result<Vec<It
     done.and(Ok(found))
 }
 
-/// The items of a dictionary text (RFC 6733 section 3.2) of version 1 or 2, in order. The tokens are borrowed from the text.
-///
-/// # Errors
-///
-/// `Syntax` with the line of the first token that can't stand there, or the last line where the text ends
-/// too early; `NoMemory`.
-pub fn read_items(alloc: Global, text: &[u8]) -> Result<Vec<Item<'_>>, ItemFault>
+/// What the text tells, behind its version.
+fn text_items(alloc: Global, text: &[u8]) -> Result<Vec<Item<'_>>, ItemFault>
     ensures items { IfOk result (λ items. told text.now ≡ Ok (map view_item items.items)) }
     ensures fault { IfErr result (λ fault. IfSyntax fault (λ line. told text.now ≡ Err line)) }
 {
@@ -178,4 +176,22 @@ pub fn read_items(alloc: Global, text: &[u8]) -> Result<Vec<Item<'_>>, ItemFault
     let found = items(alloc, body, Reading { version, last });
     drop(all);
     found
+}
+
+/// The items of a dictionary text (RFC 6733 section 3.2) of version 1 or 2, in order. The tokens are borrowed from the text.
+///
+/// # Errors
+///
+/// `Syntax` with the line of the first token that can't stand there, or the last line where the text ends
+/// too early; `NoMemory`.
+pub fn read_items(alloc: Global, text: &[u8]) -> Result<Vec<Item<'_>>, ItemFault>
+    // The tokens of the text are these items, form by form.
+    ensures items { IfOk result (λ items. AreItems (map view_item items.items) (tokens text.now)) }
+    // No step of the grammar takes the token there, or the text can't end.
+    ensures fault { IfErr result (λ fault. IfSyntax fault (IsSyntaxFault text.now)) }
+{
+    match text_items(alloc, text) {
+        Ok(items) => Ok(items),
+        Err(fault) => Err(fault),
+    }
 }
