@@ -1,5 +1,5 @@
 -- What a text of version 1 tells is what the grammar of version 1 says of it.
-use Rattle.std.proofs.Common.{◌≡◌, ℕ, List, [], ◌∷◌, ◌++◌, map, drop, Option, Some, None, option_map, Ok, Err, refl, Bool, true, false, if◌then◌else◌, ap, sym, subst, ◌∙◌, ◌↔◌, ◌⊎◌, inl, inr}
+use Rattle.std.proofs.Common.{◌≡◌, ℕ, List, [], ◌∷◌, ◌++◌, map, drop, Option, Some, None, option_map, refl, Bool, true, false, if◌then◌else◌, ap, sym, subst, ◌∙◌, ◌↔◌, ◌⊎◌, inl, inr}
 use Rattle.dm_grammar.specs.declared.symbol.Symbol.TheVariants as symbols
 use Rattle.dm_grammar.specs.declared.reading.Reading.{Reading}
 use Rattle.dm_grammar.specs.declared.reading.Version.TheVariants.{First, Second}

@@ -1,5 +1,5 @@
 -- Tokens that steps take are some items; and these items are what they tell.
-use Rattle.std.proofs.Common.{◌≡◌, ℕ, List, [], ◌∷◌, drop, codes, nat_eq, Result, Ok, None, refl, Bool, true, false, ap, sym, subst, ◌∙◌, ◌↔◌, inl, inr, if◌then◌else◌}
+use Rattle.std.proofs.Common.{◌≡◌, ℕ, List, [], ◌∷◌, drop, codes, nat_eq, Result, Ok, None, refl, Bool, true, false, ap, sym, subst, ◌∙◌, inl, inr, if◌then◌else◌}
 use Rattle.std.specs.Cmp.Lexicographic.{pointwise, same_text}
 use Rattle.std.proofs.lemmas.Bool.{and_parts}
 use Rattle.dm_grammar.specs.declared.symbol.Symbol.{Symbol}
