@@ -1,7 +1,6 @@
 //! The lines of a replay.
 ghost use Rattle.std.specs.Prelude.{◌≡◌, ◌++◌, IfOk, OnOk};
 ghost use Rattle.dm_machine.specs.Printed.{state_text};
-ghost use Rattle.dm_world.specs.Views.{as_world};
 ghost use Rattle.dm_replay.specs.Text.{held_text, node_text, effect_text, trace_line, nolink_line, answer_text, link_text, end_line};
 
 use dm_dict::NoMemory;
@@ -18,7 +17,7 @@ pub fn trace(
     effect: Effect,
     world: &World,
 ) -> Result<Vec<u8>, NoMemory>
-    ensures { IfOk result (λ line. line.items ≡ trace_line number effect (as_world world.now.net)) }
+    ensures { IfOk result (λ line. line.items ≡ trace_line number effect world.now) }
 {
     let mut line = Vec::new(alloc);
     push_trace(&mut line, number, effect, world)?;
@@ -32,7 +31,7 @@ pub fn push_trace(
     effect: Effect,
     world: &World,
 ) -> Result<(), AllocError>
-    ensures { OnOk result (text.new.items ≡ text.old.items ++ trace_line number effect (as_world world.now.net)) }
+    ensures { OnOk result (text.new.items ≡ text.old.items ++ trace_line number effect world.now) }
 {
     push_decimal(text, number as u64)?;
     push_effect(text, effect)?;
@@ -54,7 +53,7 @@ pub fn push_nolink(text: &mut Vec<u8>, number: usize) -> Result<(), AllocError>
 
 /// Appends the last line.
 pub fn push_end(text: &mut Vec<u8>, world: &World) -> Result<(), AllocError>
-    ensures { OnOk result (text.new.items ≡ text.old.items ++ end_line (as_world world.now.net)) }
+    ensures { OnOk result (text.new.items ≡ text.old.items ++ end_line world.now) }
 {
     text.extend_from_slice(b"end agreed=")?;
     push_answer(text, world.agreed())?;

@@ -1,7 +1,6 @@
 //! A script, replayed.
 ghost use Rattle.std.specs.Prelude.{◌≡◌, ◌++◌, ◌∷◌, [], true, false, codes, IfOk, OnOk, Ok, Err, Some, None, Option, Result};
 ghost use Rattle.dm_peer.specs.Hosts.{is_same_host};
-ghost use Rattle.dm_world.specs.Views.{as_world};
 ghost use Rattle.dm_replay.specs.declared.fault.ScriptFault.{ScriptFault};
 ghost use Rattle.dm_replay.specs.declared.script.Script.{Script};
 ghost use Rattle.dm_replay.specs.Replay.{replay_from, script_text, text_of, ReplaysText};
@@ -61,8 +60,8 @@ fn replay(
     list: &[Happening],
     text: &mut Vec<u8>,
 ) -> Result<bool, NoMemory>
-    ensures text { OnOk result (text.new.items ≡ text.old.items ++ (replay_from 1 (as_world world.old.net) list.now).0) }
-    ensures good { IfOk result (λ good. good ≡ (replay_from 1 (as_world world.old.net) list.now).1) }
+    ensures text { OnOk result (text.new.items ≡ text.old.items ++ (replay_from 1 world.old list.now).0) }
+    ensures good { IfOk result (λ good. good ≡ (replay_from 1 world.old list.now).1) }
 {
     let mut count = 0;
     let mut rest = list;

@@ -1,5 +1,6 @@
 -- What is looked up tells whether two peers agree.
-use Rattle.std.proofs.Common.{◌≡◌, ℕ, ◌==◌, Bool, true, false, ◌&&◌, if◌then◌else◌, Option, Some, None, List, slice_get, refl, sym, ap, subst, ◌∙◌, inl, inr, arith}
+use Rattle.std.proofs.Common.{◌≡◌, ℕ, ◌==◌, Bool, true, false, ◌&&◌, if◌then◌else◌, Option, Some, None, List}
+use Rattle.std.proofs.Common.{slice_get, refl, sym, ap, subst, ◌∙◌, inl, inr, arith}
 use Rattle.std.specs.Prelude.{◌⊎◌, ◌↔◌, IsTrue, IfSome}
 use Rattle.std.specs.Option.{IfNone}
 use Rattle.std.proofs.lemmas.Bool.Decides.{nat_tests}
@@ -9,7 +10,8 @@ use Rattle.dm_links.specs.Peers.{Peers}
 use Rattle.dm_links.specs.Worlds.{World}
 use Rattle.dm_links.specs.Happens.{own_view}
 use Rattle.dm_links.specs.Agreement.{IsOpenOn, HasComingDisconnect, AreOpposite, AreParting, Agreed}
-use Rattle.dm_world.specs.Agreeing.{open_as, is_coming_at, are_one, are_agreed, shared, first, agrees, AreOpenOn, open_on_both}
+use Rattle.dm_world.specs.Agreeing.{open_in_role, is_coming_at, are_one, are_agreed, shared, first_found, agrees}
+use Rattle.dm_world.specs.Agreeing.{AreBothOpenOn, open_on_both}
 
 same_number : (a b : ℕ) → (a == b) ≡ true → a ≡ b
 same_number a b h = grind (arith, nat_tests)
@@ -39,11 +41,11 @@ some_if : (b : Bool) (o : Option Conn) (x : Conn) → IsTrue b → o ≡ Some x 
 some_if true o x t h = h
 some_if false o x t h = cc
 
-pub is_open_on : (n : Node) (r : Role) (c : ℕ) → open_as r n ≡ Some (conn c) → IsOpenOn n r c
+pub is_open_on : (n : Node) (r : Role) (c : ℕ) → open_in_role r n ≡ Some (conn c) → IsOpenOn n r c
 is_open_on n r c h =
     let parts = if_some (is_open n.state) (held_as r n.held) (conn c) h in record { is_open = parts.0; holds = parts.1 }
 
-pub open_on_is : (n : Node) (r : Role) (c : ℕ) → IsOpenOn n r c → open_as r n ≡ Some (conn c)
+pub open_on_is : (n : Node) (r : Role) (c : ℕ) → IsOpenOn n r c → open_in_role r n ≡ Some (conn c)
 open_on_is n r c h = some_if (is_open n.state) (held_as r n.held) (conn c) h.is_open h.holds
 
 -- a disconnect is coming
@@ -143,12 +145,12 @@ fit_same w r r' c d e (inr part) = inr part
 
 -- the six tests
 record Tests {P : Type 0} (a b : Node) (w : World P (List ℕ)) : Type 0 where
-  one_a : are_one (open_as Initiated a) (open_as Accepted a) ≡ true
-  one_b : are_one (open_as Initiated b) (open_as Accepted b) ≡ true
-  ii : are_agreed false w.links (open_as Initiated a) (open_as Initiated b) ≡ true
-  ia : are_agreed true w.links (open_as Initiated a) (open_as Accepted b) ≡ true
-  ai : are_agreed true w.links (open_as Accepted a) (open_as Initiated b) ≡ true
-  aa : are_agreed false w.links (open_as Accepted a) (open_as Accepted b) ≡ true
+  one_a : are_one (open_in_role Initiated a) (open_in_role Accepted a) ≡ true
+  one_b : are_one (open_in_role Initiated b) (open_in_role Accepted b) ≡ true
+  ii : are_agreed false w.links (open_in_role Initiated a) (open_in_role Initiated b) ≡ true
+  ia : are_agreed true w.links (open_in_role Initiated a) (open_in_role Accepted b) ≡ true
+  ai : are_agreed true w.links (open_in_role Accepted a) (open_in_role Initiated b) ≡ true
+  aa : are_agreed false w.links (open_in_role Accepted a) (open_in_role Accepted b) ≡ true
 
 tests_of : (t u v x y z : Bool) → (t && u && v && x && y && z) ≡ true →
     (t ≡ true) × (u ≡ true) × (v ≡ true) × (x ≡ true) × (y ≡ true) × (z ≡ true)
@@ -159,11 +161,11 @@ of_tests : (t u v x y z : Bool) → t ≡ true → u ≡ true → v ≡ true →
     (t && u && v && x && y && z) ≡ true
 of_tests t u v x y z ht hu hv hx hy hz = rw ht (rw hu (rw hv (rw hx (rw hy (rw hz refl)))))
 
-one_side : (n : Node) (r r' : Role) (c d : ℕ) → are_one (open_as Initiated n) (open_as Accepted n) ≡ true →
+one_side : (n : Node) (r r' : Role) (c d : ℕ) → are_one (open_in_role Initiated n) (open_in_role Accepted n) ≡ true →
     IsOpenOn n r c → IsOpenOn n r' d → c ≡ d
-one_side n Initiated Initiated c d t h g = same_some (open_as Initiated n) c d (open_on_is n Initiated c h)
+one_side n Initiated Initiated c d t h g = same_some (open_in_role Initiated n) c d (open_on_is n Initiated c h)
     (open_on_is n Initiated d g)
-one_side n Accepted Accepted c d t h g = same_some (open_as Accepted n) c d (open_on_is n Accepted c h)
+one_side n Accepted Accepted c d t h g = same_some (open_in_role Accepted n) c d (open_on_is n Accepted c h)
     (open_on_is n Accepted d g)
 one_side n Initiated Accepted c d t h g = one_to _ _ c d t (open_on_is n Initiated c h) (open_on_is n Accepted d g)
 one_side n Accepted Initiated c d t h g =
@@ -173,17 +175,17 @@ both_sides : {P : Type 0} (a b : Node) (w : World P (List ℕ)) (r r' : Role) (c
     IsOpenOn b r' d → AreOpposite r r' c d ⊎ AreParting w c d
 both_sides a b w Initiated Initiated c d t h g =
     same_fits w Initiated Initiated c d
-    (agreed_to false w (open_as Initiated a) (open_as Initiated b) c d t.ii (open_on_is a Initiated c h)
+    (agreed_to false w (open_in_role Initiated a) (open_in_role Initiated b) c d t.ii (open_on_is a Initiated c h)
     (open_on_is b Initiated d g))
 both_sides a b w Initiated Accepted c d t h g = opposite_fits w Initiated Accepted c d refl
-    (agreed_to true w (open_as Initiated a) (open_as Accepted b) c d t.ia (open_on_is a Initiated c h)
+    (agreed_to true w (open_in_role Initiated a) (open_in_role Accepted b) c d t.ia (open_on_is a Initiated c h)
     (open_on_is b Accepted d g))
 both_sides a b w Accepted Initiated c d t h g = opposite_fits w Accepted Initiated c d refl
-    (agreed_to true w (open_as Accepted a) (open_as Initiated b) c d t.ai (open_on_is a Accepted c h)
+    (agreed_to true w (open_in_role Accepted a) (open_in_role Initiated b) c d t.ai (open_on_is a Accepted c h)
     (open_on_is b Initiated d g))
 both_sides a b w Accepted Accepted c d t h g =
     same_fits w Accepted Accepted c d
-    (agreed_to false w (open_as Accepted a) (open_as Accepted b) c d t.aa (open_on_is a Accepted c h)
+    (agreed_to false w (open_in_role Accepted a) (open_in_role Accepted b) c d t.aa (open_on_is a Accepted c h)
     (open_on_is b Accepted d g))
 
 tests_agree : {P : Type 0} (m : Peers P (List ℕ)) (w : World P (List ℕ)) → Tests (m.node_of w.a) (m.node_of w.b) w →
@@ -201,20 +203,20 @@ agree_tests m w agreed =
     let a = m.node_of w.a in
     let b = m.node_of w.b in
     record {
-      one_a = one_from (open_as Initiated a) (open_as Accepted a)
+      one_a = one_from (open_in_role Initiated a) (open_in_role Accepted a)
           (λ c d h g. agreed.one_a Initiated Accepted c d (is_open_on a Initiated c h) (is_open_on a Accepted d g));
-      one_b = one_from (open_as Initiated b) (open_as Accepted b)
+      one_b = one_from (open_in_role Initiated b) (open_in_role Accepted b)
           (λ c d h g. agreed.one_b Initiated Accepted c d (is_open_on b Initiated c h) (is_open_on b Accepted d g));
-      ii = agreed_from false w (open_as Initiated a) (open_as Initiated b)
+      ii = agreed_from false w (open_in_role Initiated a) (open_in_role Initiated b)
           (λ c d h g. fit_same w Initiated Initiated c d refl
           (agreed.both Initiated Initiated c d (is_open_on a Initiated c h) (is_open_on b Initiated d g)));
-      ia = agreed_from true w (open_as Initiated a) (open_as Accepted b)
+      ia = agreed_from true w (open_in_role Initiated a) (open_in_role Accepted b)
           (λ c d h g. fit_opposite w Initiated Accepted c d
           (agreed.both Initiated Accepted c d (is_open_on a Initiated c h) (is_open_on b Accepted d g)));
-      ai = agreed_from true w (open_as Accepted a) (open_as Initiated b)
+      ai = agreed_from true w (open_in_role Accepted a) (open_in_role Initiated b)
           (λ c d h g. fit_opposite w Accepted Initiated c d
           (agreed.both Accepted Initiated c d (is_open_on a Accepted c h) (is_open_on b Initiated d g)));
-      aa = agreed_from false w (open_as Accepted a) (open_as Accepted b)
+      aa = agreed_from false w (open_in_role Accepted a) (open_in_role Accepted b)
           (λ c d h g. fit_same w Accepted Accepted c d refl
           (agreed.both Accepted Accepted c d (is_open_on a Accepted c h) (is_open_on b Accepted d g)));
     }
@@ -224,12 +226,12 @@ pub agrees_as : {P : Type 0} (m : Peers P (List ℕ)) (w : World P (List ℕ)) �
 agrees_as m w =
     let a = m.node_of w.a in
     let b = m.node_of w.b in
-    let t = are_one (open_as Initiated a) (open_as Accepted a) in
-    let u = are_one (open_as Initiated b) (open_as Accepted b) in
-    let v = are_agreed false w.links (open_as Initiated a) (open_as Initiated b) in
-    let x = are_agreed true w.links (open_as Initiated a) (open_as Accepted b) in
-    let y = are_agreed true w.links (open_as Accepted a) (open_as Initiated b) in
-    let z = are_agreed false w.links (open_as Accepted a) (open_as Accepted b) in (
+    let t = are_one (open_in_role Initiated a) (open_in_role Accepted a) in
+    let u = are_one (open_in_role Initiated b) (open_in_role Accepted b) in
+    let v = are_agreed false w.links (open_in_role Initiated a) (open_in_role Initiated b) in
+    let x = are_agreed true w.links (open_in_role Initiated a) (open_in_role Accepted b) in
+    let y = are_agreed true w.links (open_in_role Accepted a) (open_in_role Initiated b) in
+    let z = are_agreed false w.links (open_in_role Accepted a) (open_in_role Accepted b) in (
       λ h. let p = tests_of t u v x y z h in
           tests_agree m w (record { one_a = p.0; one_b = p.1; ii = p.2; ia = p.3; ai = p.4; aa = p.5 }),
       λ h. let p = agree_tests m w h in of_tests t u v x y z p.one_a p.one_b p.ii p.ia p.ai p.aa,
@@ -256,34 +258,37 @@ shared_none (Some x) (Some y) c h hx hy = none_if (x.0 == y.0) x y c refl h hx h
 shared_none None y c h hx hy = cc
 shared_none (Some x) None c h hx hy = cc
 
-first_none : (x y : Option Conn) → first x y ≡ None → (x ≡ None) × (y ≡ None)
+first_none : (x y : Option Conn) → first_found x y ≡ None → (x ≡ None) × (y ≡ None)
 first_none None y h = (refl, h)
 first_none (Some x) y h = cc
 
-first_some : (x y : Option Conn) (c : Conn) → first x y ≡ Some c → (x ≡ Some c) ⊎ (y ≡ Some c)
+first_some : (x y : Option Conn) (c : Conn) → first_found x y ≡ Some c → (x ≡ Some c) ⊎ (y ≡ Some c)
 first_some None y c h = inr h
 first_some (Some x) y c h = inl h
 
-opens_on : (a b : Node) (r r' : Role) (c : Conn) → shared (open_as r a) (open_as r' b) ≡ Some c → AreOpenOn a b c.0
+opens_on : (a b : Node) (r r' : Role) (c : Conn) →
+    shared (open_in_role r a) (open_in_role r' b) ≡ Some c → AreBothOpenOn a b c.0
 opens_on a b r r' c h =
-    let both = both_some (open_as r a) (open_as r' b) c h in
+    let both = both_some (open_in_role r a) (open_in_role r' b) c h in
     record { role_a = r; role_b = r'; open_a = is_open_on a r c.0 both.0; open_b = is_open_on b r' c.0 both.1 }
 
-pub found_open : (a b : Node) (c : Conn) → open_on_both a b ≡ Some c → AreOpenOn a b c.0
+pub found_open : (a b : Node) (c : Conn) → open_on_both a b ≡ Some c → AreBothOpenOn a b c.0
 found_open a b c h =
     elim (first_some
-    (first (shared (open_as Initiated a) (open_as Accepted b)) (shared (open_as Accepted a) (open_as Initiated b)))
-    (first (shared (open_as Initiated a) (open_as Initiated b)) (shared (open_as Accepted a) (open_as Accepted b)))
+    (first_found (shared (open_in_role Initiated a) (open_in_role Accepted b))
+    (shared (open_in_role Accepted a) (open_in_role Initiated b)))
+    (first_found (shared (open_in_role Initiated a) (open_in_role Initiated b))
+    (shared (open_in_role Accepted a) (open_in_role Accepted b)))
     c h) [
       | inl g ↦
-          elim (first_some (shared (open_as Initiated a) (open_as Accepted b))
-          (shared (open_as Accepted a) (open_as Initiated b)) c g) [
+          elim (first_some (shared (open_in_role Initiated a) (open_in_role Accepted b))
+          (shared (open_in_role Accepted a) (open_in_role Initiated b)) c g) [
             | inl e ↦ opens_on a b Initiated Accepted c e
             | inr e ↦ opens_on a b Accepted Initiated c e
           ]
       | inr g ↦
-          elim (first_some (shared (open_as Initiated a) (open_as Initiated b))
-          (shared (open_as Accepted a) (open_as Accepted b)) c g) [
+          elim (first_some (shared (open_in_role Initiated a) (open_in_role Initiated b))
+          (shared (open_in_role Accepted a) (open_in_role Accepted b)) c g) [
             | inl e ↦ opens_on a b Initiated Initiated c e
             | inr e ↦ opens_on a b Accepted Accepted c e
           ]
@@ -299,13 +304,13 @@ none_by_role a b Initiated Initiated c h oa ob = shared_none _ _ c (first_none _
 none_by_role a b Accepted Accepted c h oa ob = shared_none _ _ c (first_none _ _ (first_none _ _ h).1).1
     (open_on_is a Accepted c oa) (open_on_is b Accepted c ob)
 
-pub none_open : (a b : Node) → open_on_both a b ≡ None → (c : ℕ) → AreOpenOn a b c → ⊥
+pub none_open : (a b : Node) → open_on_both a b ≡ None → (c : ℕ) → AreBothOpenOn a b c → ⊥
 none_open a b h c both = none_by_role a b both.role_a both.role_b c h both.open_a both.open_b
 
-pub found_if : (a b : Node) (o : Option Conn) → o ≡ open_on_both a b → IfSome o (λ c. AreOpenOn a b c.0)
+pub found_if : (a b : Node) (o : Option Conn) → o ≡ open_on_both a b → IfSome o (λ c. AreBothOpenOn a b c.0)
 found_if a b None h = tt
 found_if a b (Some c) h = found_open a b c (sym h)
 
-pub none_if_none : (a b : Node) (o : Option Conn) → o ≡ open_on_both a b → IfNone o ((c : ℕ) → AreOpenOn a b c → ⊥)
+pub none_if_none : (a b : Node) (o : Option Conn) → o ≡ open_on_both a b → IfNone o ((c : ℕ) → AreBothOpenOn a b c → ⊥)
 none_if_none a b None h = none_open a b (sym h)
 none_if_none a b (Some c) h = tt

@@ -1,15 +1,19 @@
 -- A restart changes the links on which a side's end is fresh, and those that its peer holds, and no others.
-use Rattle.std.proofs.Common.{◌≡◌, ℕ, zero, suc, ◌==◌, Bool, true, false, not, ◌&&◌, ◌||◌, if◌then◌else◌, Option, Some, None, List, [], ◌∷◌, ◌++◌, slice_get, refl, sym, ap, subst, ◌∙◌, arith}
+use Rattle.std.proofs.Common.{◌≡◌, ℕ, zero, suc, ◌==◌, Bool, true, false, not, ◌&&◌, ◌||◌, if◌then◌else◌, Option}
+use Rattle.std.proofs.Common.{Some, None, List, [], ◌∷◌, ◌++◌, slice_get, refl, sym, ap, subst, ◌∙◌, arith}
 use Rattle.std.specs.Prelude.{IsTrue, option_map}
 use Rattle.std.proofs.lemmas.Bool.Decides.{nat_tests}
-use Rattle.dm_links.specs.Machine.{Conn, Node, is_shaped, Tie, Unheld, Connecting, Made, MadeOpen, Taken, tie_of, is_held, held_as, Initiated, Accepted}
-use Rattle.dm_links.specs.Links.{Side, A, B, opens, LinkPhase, Pending, Up, Cancelled, End, Fresh, Open, Shut, Mark, NoMark, Coming, Delivered, Direction, Link, View, view_of, link_of}
-use Rattle.dm_links.specs.Facts.{is_none, is_shut, is_up, is_fresh, standing_of, turned_over, is_sound_standing, AreSound, opener_fits, other_fits, end_fits, fresh_fits, is_empty}
+use Rattle.dm_links.specs.Machine.{Conn, Node, is_shaped, Tie, Unheld, Connecting, Made, MadeOpen, Taken, tie_of}
+use Rattle.dm_links.specs.Machine.{is_held, held_as, Initiated, Accepted}
+use Rattle.dm_links.specs.Links.{Side, A, B, opens, LinkPhase, Pending, Up, Cancelled, End, Fresh, Open, Shut, Mark}
+use Rattle.dm_links.specs.Links.{NoMark, Coming, Delivered, Direction, Link, View, view_of, link_of}
+use Rattle.dm_links.specs.Facts.{is_none, is_shut, is_up, is_fresh, standing_of, turned_over, is_sound_standing, AreSound, opener_fits}
+use Rattle.dm_links.specs.Facts.{other_fits, end_fits, fresh_fits, is_empty}
 use Rattle.dm_links.specs.Happens.{restarted, restart_links, own_view}
 use Rattle.dm_links.specs.Worlds.{change_at}
 use Rattle.dm_links.specs.Making.{is_fresh_on}
 use Rattle.dm_world.specs.Ends.{is_among, NamesFresh, restart_each, numbers, held_numbers}
-use Rattle.dm_world.specs.Rooms.{is_on}
+use Rattle.dm_world.specs.Rooms.{is_conn}
 use Rattle.dm_world.specs.Seen.{restart_link}
 use Rattle.dm_world.proofs.Held.{held_by_role}
 
@@ -252,7 +256,7 @@ among_append c [] ds = refl
 among_append c (d ∷ cs) ds = ap (λ b. (d == c) || b) (among_append c cs ds)
     ∙ or_assoc (d == c) (is_among c cs) (is_among c ds)
 
-among_number : (o : Option Conn) (c : ℕ) → is_among c (numbers o) ≡ is_on o c
+among_number : (o : Option Conn) (c : ℕ) → is_among c (numbers o) ≡ is_conn o c
 among_number None c = refl
 among_number (Some d) c = or_false (d.0 == c)
 
@@ -288,7 +292,7 @@ not_held n c shaped h =
     let no_i = sym (among_number (held_as Initiated n.held) c) ∙ or_left (is_among c i) (is_among c r) apart in
     let no_r = sym (among_number (held_as Accepted n.held) c) ∙ or_right (is_among c i) (is_among c r) apart in
     tie_unheld (tie_of n c) (held_by_role n c shaped
-    ∙ both_false (is_on (held_as Initiated n.held) c) (is_on (held_as Accepted n.held) c) no_i no_r)
+    ∙ both_false (is_conn (held_as Initiated n.held) c) (is_conn (held_as Accepted n.held) c) no_i no_r)
 
 pub restarts_all : (s : Side) (n m : Node) (cs : List ℕ) (ls : List (Link (List ℕ))) → AreSound s n m ls →
     NamesFresh s cs ls → restart_each s (cs ++ held_numbers n) ls ≡ restart_links s ls

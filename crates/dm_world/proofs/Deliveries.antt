@@ -1,20 +1,23 @@
 -- A delivery comes to what is next.
-use Rattle.std.proofs.Common.{◌≡◌, ℕ, ◌+◌, ◌-◌, ◌<◌, ◌≤◌, ◌==◌, Bool, true, false, nat_lt, Some, List, [], ◌∷◌, length, slice_get, refl, sym, ap, subst, ◌∙◌, ◌⊎◌, inl, inr, arith}
+use Rattle.std.proofs.Common.{◌≡◌, ℕ, ◌+◌, ◌-◌, ◌<◌, ◌≤◌, ◌==◌, Bool, true, false, nat_lt, Some, List, [], ◌∷◌}
+use Rattle.std.proofs.Common.{length, slice_get, refl, sym, ap, subst, ◌∙◌, ◌⊎◌, inl, inr, arith}
 use Rattle.std.specs.Prelude.{if◌then◌else◌}
 use Rattle.std.proofs.lemmas.Bool.Decides.{nat_tests}
 use Rattle.dm_peer.specs.declared.peer.Peer.{Peer}
 use Rattle.dm_links.specs.Machine.{conn}
-use Rattle.dm_links.specs.Links.{Side, Link, by_side, LinkPhase, Pending, Up, Cancelled, End, Mark, NoMark, Coming, Delivered}
+use Rattle.dm_links.specs.Links.{Side, Link, by_side, LinkPhase, Pending, Up, Cancelled, End, Mark, NoMark, Coming}
+use Rattle.dm_links.specs.Links.{Delivered}
 use Rattle.dm_links.specs.Peers.{Arrived, Gone}
 use Rattle.dm_links.specs.Worlds.{World, After, Done, Ignored, with_links, change_at}
-use Rattle.dm_links.specs.Happens.{happens, Delivers, Pieces, deliver_next, deliver_part, take_part, comes, own_view, next_in, if_up, at_link, NextMessage, NextDisconnect, NextNothing}
+use Rattle.dm_links.specs.Happens.{happens, Delivers, Pieces, deliver_next, deliver_part, take_part, comes, own_view, next_in}
+use Rattle.dm_links.specs.Happens.{if_up, at_link, NextMessage, NextDisconnect, NextNothing}
 use Rattle.dm_links.specs.Happens as happens
 use Rattle.dm_world.specs.declared.fault.Effect.{Effect}
 use Rattle.dm_world.specs.declared.fault.Effect.TheVariants as effect
-use Rattle.dm_world.specs.declared.link.Next.TheVariants as next
+use Rattle.dm_world.specs.declared.direction.Next.TheVariants as next
 use Rattle.dm_pair.specs.Octets.{octet_peers}
 use Rattle.dm_world.specs.Fed.{front_in}
-use Rattle.dm_world.specs.Next.{kind_of, next_to, left_to}
+use Rattle.dm_world.specs.Next.{next_kind, next_to, octets_to_come_to}
 use Rattle.dm_world.specs.Views.{Effects}
 
 record IsNextMessage (ms : List (List ℕ)) (n : happens.Next (List ℕ)) : Type 0 where
@@ -23,7 +26,7 @@ record IsNextMessage (ms : List (List ℕ)) (n : happens.Next (List ℕ)) : Type
   next : n ≡ NextMessage message
 
 message_next : (p : LinkPhase) (ms : List (List ℕ)) (mk : Mark) →
-    kind_of (if_up p (next_in ms mk) NextNothing) ≡ next.Message →
+    next_kind (if_up p (next_in ms mk) NextNothing) ≡ next.Message →
     IsNextMessage ms (if_up p (next_in ms mk) NextNothing)
 message_next Up (x ∷ xs) mk h = record { message = x; front = refl; next = refl }
 message_next Up [] NoMark h = cc
@@ -33,7 +36,7 @@ message_next Pending ms mk h = cc
 message_next Cancelled ms mk h = cc
 
 disconnect_next : (p : LinkPhase) (ms : List (List ℕ)) (mk : Mark) →
-    kind_of (if_up p (next_in ms mk) NextNothing) ≡ next.Disconnect →
+    next_kind (if_up p (next_in ms mk) NextNothing) ≡ next.Disconnect →
     if_up p (next_in ms mk) NextNothing ≡ NextDisconnect
 disconnect_next Up (x ∷ xs) mk h = cc
 disconnect_next Up [] NoMark h = cc
@@ -126,7 +129,7 @@ no_piece s c k w l there none = (
 
 -- where no message is next, none
 none_next : (w : World Peer (List ℕ)) (c : ℕ) (s : Side) (k : ℕ) (end : End) (taken : ℕ) (n : happens.Next (List ℕ)) →
-    (kind_of n ≡ next.Disconnect) ⊎ (kind_of n ≡ next.Nothing) → deliver_part octet_peers c s k end taken n w ≡ Ignored
+    (next_kind n ≡ next.Disconnect) ⊎ (next_kind n ≡ next.Nothing) → deliver_part octet_peers c s k end taken n w ≡ Ignored
 none_next w c s k end taken (NextMessage x) (inl is) = cc
 none_next w c s k end taken (NextMessage x) (inr is) = cc
 none_next w c s k end taken NextDisconnect is = refl
@@ -155,7 +158,7 @@ cut_false n k a h = let above : a ≤ n + k = omega arith in grind (arith, nat_t
 
 -- a piece that ends no message
 pub part_step : (s : Side) (c k : ℕ) (w w' : World Peer (List ℕ)) (l : Link (List ℕ)) → slice_get w.links c ≡ Some l →
-    next_to s l ≡ next.Message → 0 < k → k < left_to s l →
+    next_to s l ≡ next.Message → 0 < k → k < octets_to_come_to s l →
     w' ≡ with_links (change_at c (by_side s (take_part k)) w.links) w →
     Effects effect.Done (happens octet_peers w (Pieces c s k)) w w'
 part_step s c k w w' l there is_next some below is =
@@ -174,7 +177,7 @@ part_step s c k w w' l there is_next some below is =
 
 -- a piece that ends its message is the delivery
 pub last_step : (s : Side) (c k : ℕ) (outcome : Effect) (w w' : World Peer (List ℕ)) (l : Link (List ℕ)) →
-    slice_get w.links c ≡ Some l → next_to s l ≡ next.Message → 0 < k → left_to s l ≤ k →
+    slice_get w.links c ≡ Some l → next_to s l ≡ next.Message → 0 < k → octets_to_come_to s l ≤ k →
     ((l : Link (List ℕ)) (x : List ℕ) → slice_get w.links c ≡ Some l →
     slice_get (own_view s l).incoming.messages 0 ≡ Some x →
     Effects outcome (comes octet_peers s (Arrived (conn c) x) (own_view s l).own w) w w') →

@@ -1,11 +1,12 @@
 -- A direction stays one of frames, with the octets of the front one that were delivered in its framer.
-use Rattle.std.proofs.Common.{◌≡◌, ℕ, ◌+◌, ◌-◌, ◌<◌, true, nat_lt, None, List, [], ◌∷◌, ◌++◌, length, take, drop, get_or, sym, ap, subst, ◌∙◌, arith}
+use Rattle.std.proofs.Common.{◌≡◌, ℕ, ◌+◌, ◌-◌, ◌<◌, true, nat_lt, None, List, [], ◌∷◌, ◌++◌, length, take, drop}
+use Rattle.std.proofs.Common.{Some, slice_get, sym, ap, subst, ◌∙◌, arith}
 use Rattle.std.proofs.lemmas.Bool.Decides.{nat_tests}
 use Rattle.std.proofs.lemmas.List.{append-nil, take-append-drop, take-take, drop-take, take_rest}
 use Rattle.dm_framer.specs.Frames.{IsFrame, Framed}
 use Rattle.dm_framer.specs.Laws.{WholeFrames}
 use Rattle.dm_framer.specs.Stream.{Stream}
-use Rattle.dm_world.specs.Fed.{front_in, left_in, holding, IsFed}
+use Rattle.dm_world.specs.Fed.{front_in, octets_to_come, holding, IsFed}
 
 above_is : (a b : ℕ) → a < b → nat_lt a b ≡ true
 above_is a b h = grind (arith, nat_tests)
@@ -17,7 +18,7 @@ take_both n k s =
     ∙ ap (λ t. take n (take (n + k) s) ++ t) (sym (drop-take n k s))
     ∙ take-append-drop n (take (n + k) s)
 
-fed_more : (ms : List (List ℕ)) (n k : ℕ) (old framer : Stream) → IsFed ms n old → k < left_in ms n →
+fed_more : (ms : List (List ℕ)) (n k : ℕ) (old framer : Stream) → IsFed ms n old → k < octets_to_come ms n →
     framer ≡ holding (old.octets ++ take k (drop n (front_in ms))) → IsFed ms (n + k) framer
 fed_more [] n k old framer was below is = absurd (omega arith)
 fed_more (x ∷ xs) n k old framer was below is =
@@ -28,14 +29,14 @@ fed_more (x ∷ xs) n k old framer was below is =
     }
 
 -- as a slice of the front message feeds them
-pub fed_piece : (ms : List (List ℕ)) (n k : ℕ) (old framer : Stream) (x y : List ℕ) → IsFed ms n old →
-    k < left_in ms n → x ≡ get_or ms 0 x → y ≡ x →
+pub fed_piece : (ms : List (List ℕ)) (n k : ℕ) (old framer : Stream) (y : List ℕ) → IsFed ms n old →
+    k < octets_to_come ms n → Some y ≡ slice_get ms 0 →
     framer ≡ record { octets = old.octets ++ take (n + k - n) (drop n y); max = old.max; fault = old.fault } →
     IsFed ms (n + k) framer
-fed_piece [] n k old framer x y was below at same is = absurd (omega arith)
-fed_piece (z ∷ zs) n k old framer x y was below at same is =
+fed_piece [] n k old framer y was below at is = absurd (omega arith)
+fed_piece (z ∷ zs) n k old framer y was below at is =
     let size : n + k - n ≡ k = omega arith in
-    let front : y ≡ z = same ∙ at in
+    let front : y ≡ z = cc in
     let now : framer ≡ record { octets = old.octets ++ take k (drop n z); max = 16777212; fault = None } =
     is
     ∙ ap (λ (i : ℕ). record { octets = old.octets ++ take i (drop n y); max = old.max; fault = old.fault }) size

@@ -2,12 +2,15 @@
 use Rattle.std.proofs.Common.{◌≡◌, ℕ, Bool, true, false, ◌||◌, ◌==◌, if◌then◌else◌, List, [], ◌∷◌, refl, ◌∙◌}
 use Rattle.std.specs.Prelude.{◌&&◌, IsTrue}
 use Rattle.dm_machine.specs.declared.state_name.State.{State}
-use Rattle.dm_machine.specs.declared.state_name.State.TheVariants.{Closed, WaitConnAck, WaitICea, WaitConnAckElect, WaitReturns, ROpen, IOpen, Closing}
+use Rattle.dm_machine.specs.declared.state_name.State.TheVariants.{Closed, WaitConnAck, WaitICea, WaitConnAckElect}
+use Rattle.dm_machine.specs.declared.state_name.State.TheVariants.{WaitReturns, ROpen, IOpen, Closing}
 use Rattle.dm_machine.specs.Node.{is_held_in, is_count_of}
-use Rattle.dm_machine.specs.Connection.{Hold, NotHeld, Pending, OpenAsI, OpenAsR, ClosingAsI, ClosingAsR, hold_as, hold_in}
+use Rattle.dm_machine.specs.Connection.{Hold, NotHeld, Pending, OpenAsI, OpenAsR, ClosingAsI, ClosingAsR, hold_as}
+use Rattle.dm_machine.specs.Connection.{hold_in}
 use Rattle.dm_machine.specs.Connection as machine
-use Rattle.dm_links.specs.Machine.{conn, Conn, Role, Initiated, Accepted, Node, held_as, is_shaped, tie_as, tie_of, is_held}
-use Rattle.dm_world.specs.Rooms.{is_on, holds}
+use Rattle.dm_links.specs.Machine.{conn, Conn, Role, Initiated, Accepted, Node, held_as, is_shaped, tie_as, tie_of}
+use Rattle.dm_links.specs.Machine.{is_held}
+use Rattle.dm_world.specs.Rooms.{is_conn, holds_link}
 
 abbrev is_tied : Hold → Bool
 is_tied h = is_held (tie_as h)
@@ -26,7 +29,7 @@ or_false true = refl
 or_false false = refl
 
 roles_hold : (s : State) (held : List (Role × Conn)) (c : ℕ) → is_held_in s held ≡ true →
-    is_tied (hold_in s held (conn c)) ≡ (is_on (held_as Initiated held) c || is_on (held_as Accepted held) c)
+    is_tied (hold_in s held (conn c)) ≡ (is_conn (held_as Initiated held) c || is_conn (held_as Accepted held) c)
 roles_hold Closed [] c h = refl
 roles_hold WaitConnAck ((Initiated, i) ∷ []) c h = one_tie (i.0 == c) Pending refl ∙ or_false (i.0 == c)
 roles_hold WaitICea ((Initiated, i) ∷ []) c h = one_tie (i.0 == c) machine.Made refl ∙ or_false (i.0 == c)
@@ -44,6 +47,6 @@ first_true : (a b : Bool) → (a && b) ≡ true → a ≡ true
 first_true true b h = refl
 first_true false b h = cc
 
-pub held_by_role : (n : Node) (c : ℕ) → IsTrue (is_shaped n) → is_held (tie_of n c) ≡ holds n c
+pub held_by_role : (n : Node) (c : ℕ) → IsTrue (is_shaped n) → is_held (tie_of n c) ≡ holds_link n c
 held_by_role n c shaped =
     roles_hold n.state n.held c (first_true (is_held_in n.state n.held) (is_count_of n.state n.count) shaped)

@@ -1,7 +1,7 @@
 pub mod Whole
 pub mod Fed
 pub mod Changed
-pub mod Cuts
+pub mod Keeps
 pub mod Quiets
 pub mod Agrees
 pub mod Performs

@@ -1,11 +1,14 @@
 -- The lists name each fresh end, whatever happens.
-use Rattle.std.proofs.Common.{◌≡◌, ℕ, zero, suc, ◌==◌, Bool, true, false, ◌&&◌, ◌||◌, Option, Some, None, List, [], ◌∷◌, ◌++◌, slice_get, refl, sym, ap, subst, ◌∙◌, ◌⊎◌, inl, inr, arith}
+use Rattle.std.proofs.Common.{◌≡◌, ℕ, zero, suc, ◌==◌, Bool, true, false, ◌&&◌, ◌||◌, Option, Some, None, List, []}
+use Rattle.std.proofs.Common.{◌∷◌, ◌++◌, slice_get, refl, sym, ap, subst, ◌∙◌, ◌⊎◌, inl, inr, arith}
 use Rattle.std.specs.Prelude.{Result, Ok, Err, IfOk, OnErr}
 use Rattle.std.proofs.lemmas.Bool.Decides.{nat_tests}
 use Rattle.dm_peer.specs.declared.peer.Peer.{Peer}
-use Rattle.dm_links.specs.Links.{Side, A, B, flip, opens, LinkPhase, Pending, Up, Cancelled, End, Direction, Link, View, view_of, link_of}
-use Rattle.dm_links.specs.Worlds.{World, peer_at, with_peer, After}
-use Rattle.dm_links.specs.Happens.{Starts, Stops, TimesOut, Ticks, Restarts, Acks, Nacks, Delivers, Pieces, Loses, Submits, happens, world_after, restarted, restart_links}
+use Rattle.dm_links.specs.Links.{Side, A, B, flip, opens, LinkPhase, Pending, Up, Cancelled, End, Direction, Link}
+use Rattle.dm_links.specs.Links.{View, view_of, link_of}
+use Rattle.dm_links.specs.Worlds.{peer_at, with_peer, After}
+use Rattle.dm_links.specs.Happens.{Starts, Stops, TimesOut, Ticks, Restarts, Acks, Nacks, Delivers, Pieces, Loses}
+use Rattle.dm_links.specs.Happens.{Submits, happens, world_after, restarted, restart_links}
 use Rattle.dm_links.specs.Facts.{is_up, is_fresh}
 use Rattle.dm_links.specs.Happens as happens
 use Rattle.dm_links.specs.Making.{has_fresh_end, is_fresh_on, MakesEnd, AcksMakeEnds}
@@ -19,40 +22,37 @@ use Rattle.dm_world.specs.declared.made.MadeEnds.{MadeEnds}
 use Rattle.dm_world.specs.Ends.{ends_of, AreSameEnds, is_among, AreNamed, IsMade, AreCleared, AreEndsAfter}
 use Rattle.dm_world.specs.Happening.{as_happening}
 use Rattle.dm_world.specs.Seen.{as_side, restart_link}
-use Rattle.dm_world.specs.Views.{Effects}
+use Rattle.dm_world.specs.Views.{OctetWorld, Effects}
 use Rattle.dm_world.proofs.Anew.{among_append}
-
-abbrev pub Octets : Type 0
-Octets = World Peer (List ℕ)
 
 -- no link, no fresh end
 pub none_named : (m : MadeEnds) → AreNamed m []
 none_named m s c h = cc
 
-pub after_is : (outcome : Effect) (after : After Peer (List ℕ)) (w w' : Octets) → Effects outcome after w w' →
+pub after_is : (outcome : Effect) (after : After Peer (List ℕ)) (w w' : OctetWorld) → Effects outcome after w w' →
     world_after w after ≡ w'
 after_is effect.Done after w w' e = ap (λ a. world_after w a) e.1
 after_is effect.Ignored after w w' e = ap (λ a. world_after w a) e.0 ∙ sym e.1
 
 -- an end that is fresh after a step was fresh before, or is made
-fresh_by : (outcome : Effect) (h : happens.Happening (List ℕ)) (w w' : Octets) (s : Side) (c : ℕ) →
+fresh_by : (outcome : Effect) (h : happens.Happening (List ℕ)) (w w' : OctetWorld) (s : Side) (c : ℕ) →
     AcksMakeEnds Peer (List ℕ) → Effects outcome (happens octet_peers w h) w w' →
     is_fresh_on s (slice_get w'.links c) ≡ true →
     (is_fresh_on s (slice_get w.links c) ≡ true) ⊎ MakesEnd w h s c
 fresh_by outcome h w w' s c law step fresh =
     law octet_peers w h s c
-    (ap (λ (v : Octets). is_fresh_on s (slice_get v.links c)) (after_is outcome (happens octet_peers w h) w w' step)
+    (ap (λ (v : OctetWorld). is_fresh_on s (slice_get v.links c)) (after_is outcome (happens octet_peers w h) w w' step)
     ∙ fresh)
 
 -- nothing happens
-pub named_still : (w w' : Octets) (old new : MadeEnds) → AreNamed old w.links → w' ≡ w → AreSameEnds old new →
+pub named_still : (w w' : OctetWorld) (old new : MadeEnds) → AreNamed old w.links → w' ≡ w → AreSameEnds old new →
     AreNamed new w'.links
 named_still w w' old new named is same s c fresh =
     ap (λ cs. is_among c cs) (same s)
-    ∙ named s c (ap (λ (v : Octets). is_fresh_on s (slice_get v.links c)) (sym is) ∙ fresh)
+    ∙ named s c (ap (λ (v : OctetWorld). is_fresh_on s (slice_get v.links c)) (sym is) ∙ fresh)
 
 -- nothing is named besides, where no Ack happens
-same_named : (outcome : Effect) (h : happens.Happening (List ℕ)) (w w' : Octets) (old new : MadeEnds) →
+same_named : (outcome : Effect) (h : happens.Happening (List ℕ)) (w w' : OctetWorld) (old new : MadeEnds) →
     AcksMakeEnds Peer (List ℕ) → ((c : ℕ) → h ≡ Acks c → ⊥) → AreNamed old w.links →
     Effects outcome (happens octet_peers w h) w w' → AreSameEnds old new → AreNamed new w'.links
 same_named outcome h w w' old new law other named step same s c fresh =
@@ -115,7 +115,8 @@ restarts_of t = Restarts t
 same_number : (c d : ℕ) → acks_on c ≡ acks_on d → c ≡ d
 same_number c d e = cc
 
-acked_named : (w w' : Octets) (d : ℕ) (o : Option (Link (List ℕ))) (old new : MadeEnds) → AcksMakeEnds Peer (List ℕ) →
+acked_named : (w w' : OctetWorld) (d : ℕ) (o : Option (Link (List ℕ))) (old new : MadeEnds) →
+    AcksMakeEnds Peer (List ℕ) →
     AreNamed old w.links → slice_get w.links d ≡ o → Effects effect.Done (happens octet_peers w (Acks d)) w w' →
     IsMade effect.Done o d old new → AreNamed new w'.links
 acked_named w w' d None old new law named at step same s c fresh =
@@ -139,7 +140,7 @@ acked_named w w' d (Some l) old new law named at step adds s c fresh =
     ]
 
 -- (an Ack that is ignored names nothing)
-acked_after : (outcome : Effect) (w w' : Octets) (d : ℕ) (old new : MadeEnds) → AcksMakeEnds Peer (List ℕ) →
+acked_after : (outcome : Effect) (w w' : OctetWorld) (d : ℕ) (old new : MadeEnds) → AcksMakeEnds Peer (List ℕ) →
     AreNamed old w.links → Effects outcome (happens octet_peers w (Acks d)) w w' →
     IsMade outcome (slice_get w.links d) d old new → AreNamed new w'.links
 acked_after effect.Done w w' d old new law named step made =
@@ -174,11 +175,11 @@ stale_links s [] c = refl
 stale_links s (l ∷ ls) zero = stale_link s l
 stale_links s (l ∷ ls) (suc c) = stale_links s ls c
 
-links_after : (t : Side) (p : Peer) (ls : List (Link (List ℕ))) (w : Octets) → (with_peer t p ls w).links ≡ ls
+links_after : (t : Side) (p : Peer) (ls : List (Link (List ℕ))) (w : OctetWorld) → (with_peer t p ls w).links ≡ ls
 links_after A p ls w = refl
 links_after B p ls w = refl
 
-cleared_named : (outcome : Effect) (w w' : Octets) (t : Side) (old new : MadeEnds) → AcksMakeEnds Peer (List ℕ) →
+cleared_named : (outcome : Effect) (w w' : OctetWorld) (t : Side) (old new : MadeEnds) → AcksMakeEnds Peer (List ℕ) →
     AreNamed old w.links → Effects outcome (happens octet_peers w (Restarts t)) w w' → AreCleared t old new →
     AreNamed new w'.links
 cleared_named outcome w w' t old new law named step cleared s c fresh =
@@ -193,7 +194,7 @@ cleared_named outcome w w' t old new law named step cleared s c fresh =
       | inr e ↦
           let links : restart_links t w.links ≡ w'.links =
           sym (links_after t (octet_peers.reset (peer_at t w)) (restart_links t w.links) w)
-          ∙ ap (λ (v : Octets). v.links) (after_is outcome (happens octet_peers w (Restarts t)) w w' step) in
+          ∙ ap (λ (v : OctetWorld). v.links) (after_is outcome (happens octet_peers w (Restarts t)) w w' step) in
           let stale : is_fresh_on s (slice_get w'.links c) ≡ false =
           subst (λ ls. is_fresh_on s (slice_get ls c) ≡ false) links
           (subst (λ u. is_fresh_on u (slice_get (restart_links t w.links) c) ≡ false) e (stale_links t w.links c)) in
@@ -201,7 +202,7 @@ cleared_named outcome w w' t old new law named step cleared s c fresh =
     ]
 
 -- all happenings
-pub named_after : (outcome : Effect) (h : declared_happening.Happening) (w w' : Octets) (old new : MadeEnds) →
+pub named_after : (outcome : Effect) (h : declared_happening.Happening) (w w' : OctetWorld) (old new : MadeEnds) →
     AcksMakeEnds Peer (List ℕ) → AreNamed old w.links →
     Effects outcome (happens octet_peers w (as_happening h)) w w' → AreEndsAfter outcome h w.links old new →
     AreNamed new w'.links
@@ -242,7 +243,7 @@ made_one outcome o l c old roomy new t done there same is added other =
     (subst (λ (x : Option (Link (List ℕ))). IsMade effect.Done x c old new) (sym there) made)
 
 -- and nothing happens where it is refused
-pub named_result : (r : Result Effect WorldFault) (h : declared_happening.Happening) (w w' : Octets)
+pub named_result : (r : Result Effect WorldFault) (h : declared_happening.Happening) (w w' : OctetWorld)
     (old new : MadeEnds) → AcksMakeEnds Peer (List ℕ) → AreNamed old w.links →
     IfOk r (λ outcome. Effects outcome (happens octet_peers w (as_happening h)) w w') → OnErr r (w' ≡ w) →
     IfOk r (λ outcome. AreEndsAfter outcome h w.links old new) → OnErr r (AreSameEnds old new) →

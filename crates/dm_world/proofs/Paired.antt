@@ -1,5 +1,6 @@
 -- Two configurations that make a world are configured for each other.
-use Rattle.std.proofs.Common.{◌≡◌, ℕ, Bool, true, false, not, if◌then◌else◌, List, [], ◌∷◌, Some, None, nat_lt, refl, ◌∙◌}
+use Rattle.std.proofs.Common.{◌≡◌, ℕ, Bool, true, false, not, if◌then◌else◌, List, [], ◌∷◌, Some, None, nat_lt, refl}
+use Rattle.std.proofs.Common.{◌∙◌}
 use Rattle.std.specs.declared.cmp.Ordering.TheVariants.{Less, Greater}
 use Rattle.dm_base.specs.Before.{lower, order}
 use Rattle.dm_base.specs.Common.{are_common}

@@ -1,7 +1,7 @@
 -- Happenings one after the other.
-use Rattle.std.proofs.Common.{◌≡◌, ℕ, zero, suc, ◌+◌, ◌<◌, Option, Some, None, List, [], ◌∷◌, ◌++◌, length, take, map, get_or, slice_get, refl, sym, ap, subst, ◌∙◌, arith}
+use Rattle.std.proofs.Common.{◌≡◌, ℕ, zero, suc, ◌+◌, ◌<◌, Option, Some, None, List, [], ◌∷◌, ◌++◌, length, take, map}
+use Rattle.std.proofs.Common.{get_or, slice_get, refl, sym, ap, subst, ◌∙◌, arith}
 use Rattle.std.proofs.lemmas.List.{take_more}
-use Rattle.dm_peer.specs.declared.peer.Peer.{Peer}
 use Rattle.dm_links.specs.Peers.{Peers}
 use Rattle.dm_links.specs.Worlds.{World, Put, After, Done, Ignored}
 use Rattle.dm_links.specs.Happens.{Happening, RunEnd, ran_on, run_from, run, happens}
@@ -11,7 +11,8 @@ use Rattle.dm_world.specs.declared.fault.WorldFault.{WorldFault}
 use Rattle.dm_world.specs.declared.happening.Happening as declared_happening
 use Rattle.dm_world.specs.Happening.{as_happening, may_want}
 use Rattle.dm_pair.specs.Octets.{octet_peers}
-use Rattle.dm_world.specs.Views.{Effects, IsFault, IsEnd}
+use Rattle.dm_world.specs.Settling.{RanTo}
+use Rattle.dm_world.specs.Views.{OctetWorld, Effects, IsFault, IsEnd}
 
 run_none : {P M : Type 0} (m : Peers P M) (o : Option (RunEnd P M)) → run_from m o [] ≡ o
 run_none m None = refl
@@ -43,17 +44,12 @@ snoc_ignored {P} {M} m w v v' put hs h ran step same =
     run_snoc m (Some (record { world = w; put = [] })) hs h r ran ∙ ap (λ (a : After P M). ran_on r a) step
     ∙ ap (λ (x : World P M). Some (record { world = x; put = put })) (sym same)
 
--- a run from one world to another
-abbrev pub RanTo : World Peer (List ℕ) → List declared_happening.Happening → World Peer (List ℕ) → Type 0
-RanTo w list w' = (put : List (Put (List ℕ))) ×
-    (run octet_peers w (map as_happening list) ≡ Some (record { world = w'; put = put }))
-
 map_snoc : (list : List declared_happening.Happening) (h : declared_happening.Happening) →
     map as_happening (list ++ h ∷ []) ≡ map as_happening list ++ as_happening h ∷ []
 map_snoc [] h = refl
 map_snoc (x ∷ list) h = ap (λ z. as_happening x ∷ z) (map_snoc list h)
 
-ran_snoc : (outcome : Effect) (w v v' : World Peer (List ℕ)) (list : List declared_happening.Happening)
+ran_snoc : (outcome : Effect) (w v v' : OctetWorld) (list : List declared_happening.Happening)
     (h : declared_happening.Happening) → RanTo w list v →
     Effects outcome (happens octet_peers v (as_happening h)) v v' → RanTo w (list ++ h ∷ []) v'
 ran_snoc effect.Done w v v' list h ran step = (
@@ -67,7 +63,7 @@ ran_snoc effect.Ignored w v v' list h ran step = (
       (as_happening h) ran.1 step.0 step.1,
 )
 
-pub ran_more : (outcome : Effect) (w v v' : World Peer (List ℕ)) (list : List declared_happening.Happening) (i : ℕ)
+pub ran_more : (outcome : Effect) (w v v' : OctetWorld) (list : List declared_happening.Happening) (i : ℕ)
     (h : declared_happening.Happening) → RanTo w (take i list) v → i < length list → h ≡ get_or list i h →
     Effects outcome (happens octet_peers v (as_happening h)) v v' → RanTo w (take (i + 1) list) v'
 ran_more outcome w v v' list i h ran lt at step =
@@ -75,7 +71,7 @@ ran_more outcome w v v' list i h ran lt at step =
     ap (λ z. take i list ++ z ∷ []) (sym at) in
     subst (λ l. RanTo w l v') (sym more) (ran_snoc outcome w v v' (take i list) h ran step)
 
-pub ran_none : (w : World Peer (List ℕ)) (list : List declared_happening.Happening) → RanTo w (take 0 list) w
+pub ran_none : (w : OctetWorld) (list : List declared_happening.Happening) → RanTo w (take 0 list) w
 ran_none w list = ([], refl)
 
 element_at : (list : List declared_happening.Happening) (i : ℕ) (h : declared_happening.Happening) → i < length list →
@@ -84,14 +80,14 @@ element_at [] i h lt at = absurd (omega arith)
 element_at (x ∷ list) zero h lt at = ap (λ z. Some z) (sym at)
 element_at (x ∷ list) (suc i) h lt at = element_at list i h (omega arith) at
 
-pub ended_at : (f : WorldFault) (v v' : World Peer (List ℕ)) (list : List declared_happening.Happening) (i : ℕ)
+pub ended_at : (f : WorldFault) (v v' : OctetWorld) (list : List declared_happening.Happening) (i : ℕ)
     (h : declared_happening.Happening) → i < length list → h ≡ get_or list i h → v' ≡ v →
     IsFault f (may_want v h) (happens octet_peers v (as_happening h)) → IsEnd f (slice_get list i) v'
 ended_at f v v' list i h lt at same fault =
     subst (λ o. IsEnd f o v') (sym (element_at list i h lt at))
-    (subst (λ (x : World Peer (List ℕ)). IsFault f (may_want x h) (happens octet_peers x (as_happening h))) (sym same)
+    (subst (λ (x : OctetWorld). IsFault f (may_want x h) (happens octet_peers x (as_happening h))) (sym same)
     fault)
 
-pub ran_still : (w v v' : World Peer (List ℕ)) (list : List declared_happening.Happening) → v' ≡ v → RanTo w list v →
+pub ran_still : (w v v' : OctetWorld) (list : List declared_happening.Happening) → v' ≡ v → RanTo w list v →
     RanTo w list v'
-ran_still w v v' list same ran = subst (λ (x : World Peer (List ℕ)). RanTo w list x) (sym same) ran
+ran_still w v v' list same ran = subst (λ (x : OctetWorld). RanTo w list x) (sym same) ran

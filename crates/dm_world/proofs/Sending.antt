@@ -1,4 +1,4 @@
--- A peer sends on the links that it holds, and on the one that the event names.
+-- A peer sends on the links that it holds_link, and on the one that the event names.
 use Rattle.std.proofs.Common.{◌≡◌, ℕ, suc, ◌≤◌, Bool, true, false, not, ◌&&◌, ◌||◌, ◌==◌, if◌then◌else◌, List, [], ◌∷◌, length, map, refl, sym, ap, subst, ◌∙◌, inl, inr, arith}
 use Rattle.std.specs.Prelude.{◌⊎◌, IsTrue, nat_le}
 use Rattle.std.proofs.lemmas.Bool.Decides.{nat_tests}
@@ -20,7 +20,7 @@ use Rattle.dm_links.specs.Peers.{Event, Start, Stop, Timeout, Tick, Ack, Nack, G
 use Rattle.dm_links.specs.Follows.{input_told, StepsAsMachine, FollowsMachine, IsMachine}
 use Rattle.dm_world.specs.declared.link.Link.{Link}
 use Rattle.dm_pair.specs.Octets.{as_actions, octet_peers}
-use Rattle.dm_world.specs.Rooms.{HasRoomFor, is_on, named, HasRoomToSend}
+use Rattle.dm_world.specs.Rooms.{HasRoomFor, is_conn, named, HasRoomToSend}
 use Rattle.dm_world.proofs.Changed.{less}
 use Rattle.dm_world.proofs.Held.{held_by_role}
 
@@ -165,7 +165,7 @@ if_decided : (b : Bool) (k : Concern) → (b ≡ true) ⊎ ((if b then k else El
 if_decided true k = inl refl
 if_decided false k = inr refl
 
-named_decided : (e : Event (List ℕ)) (c : ℕ) → (is_on (named e) c ≡ true) ⊎ (concern_by e (conn c) ≡ Elsewhere)
+named_decided : (e : Event (List ℕ)) (c : ℕ) → (is_conn (named e) c ≡ true) ⊎ (concern_by e (conn c) ≡ Elsewhere)
 named_decided (Start d) c = if_decided (d.0 == c) StartsIt
 named_decided (Ack d) c = if_decided (d.0 == c) AcksIt
 named_decided (Nack d) c = if_decided (d.0 == c) NacksIt
@@ -191,14 +191,14 @@ pub room_for_reply : (s : Side) (ls : List Link) (p next : Peer) (e : Event (Lis
     HasRoomFor s ls (as_actions actions)
 room_for_reply s ls p next e actions laws shaped room is c sends =
     let n = p.standing.core in
-    let held = is_on (held_as Initiated n.held) c || is_on (held_as Accepted n.held) c in
+    let held = is_conn (held_as Initiated n.held) c || is_conn (held_as Accepted n.held) c in
     let few = reply_few p next e actions laws shaped is in
     less s (length (as_actions actions)) 4 c ls few
     (elim (tie_decided (tie_of n c)) [
-      | inl held_there ↦ room c (or_left held (is_on (named e) c) (sym (held_by_role n c shaped) ∙ held_there))
+      | inl held_there ↦ room c (or_left held (is_conn (named e) c) (sym (held_by_role n c shaped) ∙ held_there))
       | inr unheld ↦
           elim (named_decided e c) [
-            | inl there ↦ room c (or_right held (is_on (named e) c) there)
+            | inl there ↦ room c (or_right held (is_conn (named e) c) there)
             | inr elsewhere ↦ let clash : true ≡ false = sym sends ∙
                 reply_unsent p next e actions c laws shaped is unheld elsewhere in absurd (cc)
           ]

@@ -1,8 +1,11 @@
 -- Where nothing is sent or handed up, no room is needed and memory isn't wanted.
-use Rattle.std.proofs.Common.{◌≡◌, ℕ, Bool, true, false, ◌||◌, Some, None, List, [], ◌∷◌, map, refl, sym, ap, ◌∙◌, inl, inr}
+use Rattle.std.proofs.Common.{◌≡◌, ℕ, Bool, true, false, ◌||◌, Some, None, List, [], ◌∷◌, map, refl, sym, ap, ◌∙◌}
+use Rattle.std.proofs.Common.{inl, inr}
+use Rattle.std.specs.Prelude.{IsTrue}
 use Rattle.std.specs.List.{list_any}
 use Rattle.arrayvec.specs.ArrayVec.{ArrayVec}
 use Rattle.dm_machine.specs.Moves as moves
+use Rattle.dm_machine.specs.Node.{is_shaped}
 use Rattle.dm_machine.specs.declared.outputs.Refusal.TheVariants as refusal
 use Rattle.dm_peer.specs.declared.actions.Action as declared_action
 use Rattle.dm_peer.specs.declared.actions.Action.TheVariants as action
@@ -21,8 +24,6 @@ use Rattle.dm_world.specs.declared.pair.Pair.{Pair}
 use Rattle.dm_world.specs.Asking.{peer_of, IsAnswerOf, IsWant}
 use Rattle.dm_pair.specs.Octets.{as_actions}
 use Rattle.dm_world.specs.Rooms.{HasRoomFor}
-use Rattle.dm_world.specs.Views.{AreShaped}
-use Rattle.dm_world.proofs.Telling.{shaped_of}
 
 or_false_left : (a b : Bool) → (a || b) ≡ false → a ≡ false
 or_false_left true b h = cc
@@ -45,12 +46,13 @@ none_sent c (action.Up s ∷ l) h =
 
 -- actions that take no memory need no room
 pub silent_room : (s : Side) (e : told.PeerEvent) (old : Net) (new : Pair) (actions : ArrayVec declared_action.Action)
-    (ls : List Link) → SilentTakesNone → AreShaped old → is_silent (peer_of s old.pair) e ≡ true →
+    (ls : List Link) → SilentTakesNone →
+    IsTrue (is_shaped (peer_of s old.pair).standing.core) → is_silent (peer_of s old.pair) e ≡ true →
     IsAnswerOf s e (Some actions) old.pair new → HasRoomFor s ls (as_actions actions.items)
 silent_room s e old new actions ls law shaped silent answer =
     let p = peer_of s old.pair in
     let none : list_any takes_memory actions.items ≡ false = ap wants_memory (sym answer.0) ∙
-    law p e (shaped_of s old shaped) silent in
+    law p e shaped silent in
     λ c sends. let clash : true ≡ false = sym sends ∙ none_sent c actions.items none in absurd (cc)
 
 -- the machine never refuses for want of memory
@@ -60,11 +62,12 @@ no_fault p e (moves.Refused refusal.NotClosed) h = cc
 no_fault p e (moves.Refused refusal.NotOpen) h = cc
 
 -- at a Timeout memory can't be wanted
-pub timeout_wants_none : (s : Side) (old : Net) → SilentTakesNone → AreShaped old →
+pub timeout_wants_none : (s : Side) (old : Net) → SilentTakesNone →
+    IsTrue (is_shaped (peer_of s old.pair).standing.core) →
     IsWant (acts (peer_of s old.pair) told.Timeout) → ⊥
 timeout_wants_none s old law shaped (inl wants) =
     let p = peer_of s old.pair in
-    let clash : true ≡ false = sym wants ∙ law p told.Timeout (shaped_of s old shaped) refl in cc
+    let clash : true ≡ false = sym wants ∙ law p told.Timeout shaped refl in cc
 timeout_wants_none s old law shaped (inr refused) =
     let p = peer_of s old.pair in
     no_fault p told.Timeout (turned p.standing.core (input_of told.Timeout None) (wins p.config)) refused

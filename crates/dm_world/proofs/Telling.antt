@@ -1,6 +1,7 @@
 -- What a side is told comes to one step of the world.
-use Rattle.std.proofs.Common.{◌≡◌, ℕ, true, Option, Some, None, List, [], ◌∷◌, ◌++◌, length, refl, ap, subst, ◌∙◌, arith}
-use Rattle.std.specs.Prelude.{IsTrue}
+use Rattle.std.proofs.Common.{◌≡◌, ℕ, Option, Some, None, List, [], ◌∷◌, ◌++◌, length, refl, ap, subst, ◌∙◌}
+use Rattle.std.proofs.Common.{arith}
+use Rattle.std.specs.Prelude.{Result, Ok, Err, IfOk, IfSome, IsTrue}
 use Rattle.arrayvec.specs.ArrayVec.{ArrayVec}
 use Rattle.dm_machine.specs.Node.{is_shaped}
 use Rattle.dm_peer.specs.declared.actions.Action as declared_action
@@ -10,7 +11,8 @@ use Rattle.dm_peer.specs.Events as told
 use Rattle.dm_links.specs.Machine.{Conn, conn}
 use Rattle.dm_links.specs.Links.{Side, A, B, flip, Link, new_link}
 use Rattle.dm_links.specs.Peers.{Event, Start, Acts, Declines}
-use Rattle.dm_links.specs.Worlds.{World, peer_at, with_peer, Put, enter, perform, settle, puts_of, puts_at_entry, After, Done, Ignored, after_reply}
+use Rattle.dm_links.specs.Worlds.{World, peer_at, with_peer, Put, enter, perform, settle, puts_of, puts_at_entry}
+use Rattle.dm_links.specs.Worlds.{After, Done, Ignored, after_reply}
 use Rattle.dm_links.specs.Worlds as worlds
 use Rattle.dm_world.specs.declared.fault.Effect as effect_of
 use Rattle.dm_world.specs.declared.fault.Effect.TheVariants as effect
@@ -18,13 +20,14 @@ use Rattle.dm_world.specs.declared.net.Net.{Net}
 use Rattle.dm_world.specs.declared.pair.Pair.{Pair}
 use Rattle.dm_world.specs.Asking.{peer_of, IsAnswerOf}
 use Rattle.dm_peer.specs.Octets.{AreOctets}
-use Rattle.dm_pair.specs.Frames.{submitted_in, SendFrames, OctetsAreFrames}
+use Rattle.dm_pair.specs.Frames.{submitted_in, OctetsAreFrames}
 use Rattle.dm_pair.specs.Octets.{as_cause, of_cause, of_event, as_event, as_actions, as_reply, octet_peers}
 use Rattle.dm_world.specs.declared.link.Link as declared_link
-use Rattle.dm_world.specs.Rooms.{HasRoom, HasRoomFor, HasRoomToSend, named}
+use Rattle.dm_world.specs.Rooms.{HasRoomToSend, CanSend, named}
 use Rattle.dm_world.proofs.Sending.{SendLaws, room_for_reply}
 use Rattle.dm_world.specs.Seen.{as_link, as_links}
-use Rattle.dm_world.specs.Views.{as_world, Effects, AreShaped, is_plain}
+use Rattle.dm_world.specs.Telling.{links_after}
+use Rattle.dm_world.specs.Views.{as_world, Effects}
 use Rattle.dm_base.specs.declared.kind.Cause as declared_cause
 use Rattle.dm_base.specs.declared.kind.Cause.TheVariants as cause
 
@@ -49,10 +52,6 @@ pub reply_is : (p : Peer) (e : told.PeerEvent) (o : Outcome) → acts p e ≡ o 
     octet_peers.reply p (as_event e) ≡ as_reply o
 reply_is p e o is = ap (λ x. as_reply (acts p x)) (event_same e) ∙ ap as_reply is
 
-pub shaped_of : (s : Side) (n : Net) → AreShaped n → IsTrue (is_shaped (peer_of s n.pair).standing.core)
-shaped_of A n h = h.0
-shaped_of B n h = h.1
-
 peer_same : (s : Side) (n : Net) → peer_at s (as_world n) ≡ peer_of s n.pair
 peer_same A n = refl
 peer_same B n = refl
@@ -68,11 +67,6 @@ world_same : (s : Side) (old new : Net) → peer_of s new.pair ≡ peer_of s old
     as_world new ≡ as_world old
 world_same A old new is other ls = cc
 world_same B old new is other ls = cc
-
--- the links after an event of a side
-abbrev pub links_after : Side → Event (List ℕ) → List declared_action.Action → Peer → List (Link (List ℕ)) →
-    List (Link (List ℕ))
-links_after s e actions next ls = settle s e next.standing.core (perform s (as_actions actions) (enter s e ls))
 
 pub done_step : (s : Side) (e : told.PeerEvent) (old new : Net) (actions : ArrayVec declared_action.Action) →
     IsAnswerOf s e (Some actions) old.pair new.pair →
@@ -94,45 +88,42 @@ done_step s e old new actions answer links =
           answer.1 links),
     )
 
-settle_plain : (s : Side) (e : told.PeerEvent) (next : Peer) (ls : List (Link (List ℕ))) → is_plain e ≡ true →
-    ls ≡ settle s (as_event e) next.standing.core ls
-settle_plain s (told.Arrived c x) next ls h = cc
-settle_plain s (told.Start c) next ls h = refl
-settle_plain s (told.Stop c) next ls h = refl
-settle_plain s told.Timeout next ls h = refl
-settle_plain s told.Tick next ls h = refl
-settle_plain s (told.Ack c) next ls h = refl
-settle_plain s (told.Nack c) next ls h = refl
-settle_plain s (told.Gone c) next ls h = refl
-settle_plain s (told.Submit x) next ls h = refl
-
-pub plain_links : (s : Side) (e : told.PeerEvent) (actions : List declared_action.Action) (next : Peer)
-    (old roomy entered done : List (Link (List ℕ))) → is_plain e ≡ true → roomy ≡ old →
-    entered ≡ enter s (as_event e) roomy → done ≡ perform s (as_actions actions) entered →
-    done ≡ links_after s (as_event e) actions next old
-plain_links s e actions next old roomy entered done plain room enters performs =
-    performs
-    ∙ ap (λ ls. perform s (as_actions actions) ls) (enters ∙ ap (λ ls. enter s (as_event e) ls) room)
-    ∙ settle_plain s e next (perform s (as_actions actions) (enter s (as_event e) old)) plain
-
--- what is sent has room, also after the event reached the side
-pub room_after : (s : Side) (e : told.PeerEvent) (old : Net) (new : Pair) (actions : ArrayVec declared_action.Action)
-    (ls next : List declared_link.Link) → SendLaws → AreShaped old →
-    HasRoomToSend s ls (peer_of s old.pair).standing.core (named (as_event e)) →
-    IsAnswerOf s e (Some actions) old.pair new → ((n c : ℕ) → HasRoom s ls n c → HasRoom s next n c) →
-    HasRoomFor s next (as_actions actions.items)
-room_after s e old new actions ls next laws shaped room answer keeps =
-    let p = peer_of s old.pair in
-    let reply = reply_is p e (Moved actions.items (peer_of s new)) answer.0 in
-    let here = room_for_reply s ls p (peer_of s new) (as_event e) actions.items laws (shaped_of s old shaped) room
-    reply in
-    λ c sends. keeps _ c (here c sends)
+-- a peer that was asked stands behind the event, and its links are those that it was asked with
+pub followed : (s : Side) (e : Event (List ℕ)) (actions : List declared_action.Action) (p q : Peer)
+    (mid old done : List (Link (List ℕ))) → p ≡ q → mid ≡ old → done ≡ links_after s e actions p mid →
+    done ≡ links_after s e actions q old
+followed s e actions p q mid old done is room follows =
+    follows
+    ∙ ap (λ (x : Peer). links_after s e actions x mid) is
+    ∙ ap (λ ls. links_after s e actions q ls) room
 
 pub room_seen : (s : Side) (ls : List declared_link.Link) (p q : Peer) (a b : Option Conn) → q ≡ p → b ≡ a →
     HasRoomToSend s ls q.standing.core b → HasRoomToSend s ls p.standing.core a
 room_seen s ls p q a b is names h =
     subst (λ (x : Peer). HasRoomToSend s ls x.standing.core a) is
     (subst (λ n. HasRoomToSend s ls q.standing.core n) names h)
+
+-- what is sent has room, and is a frame
+pub can_send : {E : Type 0} (r : Result (Option (ArrayVec declared_action.Action)) E) (s : Side) (e : told.PeerEvent)
+    (old new : Pair) (ls : List declared_link.Link) → SendLaws → OctetsAreFrames → AreOctets (submitted_in e) →
+    IsTrue (is_shaped (peer_of s old).standing.core) →
+    HasRoomToSend s ls (peer_of s old).standing.core (named (as_event e)) →
+    IfOk r (λ answer. IsAnswerOf s e answer old new) →
+    IfOk r (λ answer. IfSome answer (λ actions. CanSend s ls actions.items))
+can_send (Err f) s e old new ls laws frames octets shaped room answer = tt
+can_send (Ok None) s e old new ls laws frames octets shaped room answer = tt
+can_send (Ok (Some actions)) s e old new ls laws frames octets shaped room answer =
+    let p = peer_of s old in
+    let next = peer_of s new in
+    record {
+      room = room_for_reply s ls p next (as_event e) actions.items laws shaped room
+          (reply_is p e (Moved actions.items next) answer.0);
+      frames = frames p next e actions.items octets answer.0;
+    }
+
+pub world_unchanged : (old new : Net) → new.pair ≡ old.pair → as_links new.links.items ≡ as_links old.links.items →
+    as_world new ≡ as_world old
+world_unchanged old new pair links = cc
 
 -- a refusal is ignored
 pub ignored_step : (s : Side) (e : told.PeerEvent) (old new : Net) → IsAnswerOf s e None old.pair new.pair →
@@ -183,11 +174,3 @@ start_links s actions old roomy pushed done l room pushes new performs =
 -- no octets are octets
 pub no_octets : AreOctets []
 no_octets i = omega arith
-
--- what is sent are frames
-pub sends_frames : (s : Side) (e : told.PeerEvent) (old : Net) (new : Pair)
-    (actions : ArrayVec declared_action.Action) →
-    OctetsAreFrames → AreOctets (submitted_in e) → IsAnswerOf s e (Some actions) old.pair new →
-    SendFrames (as_actions actions.items)
-sends_frames s e old new actions law octets answer =
-    law (peer_of s old.pair) (peer_of s new) e actions.items octets answer.0

@@ -1,9 +1,10 @@
 -- Where a piece of a message may want memory.
-use Rattle.std.proofs.Common.{◌≡◌, ◌<◌, ℕ, Bool, true, false, ◌||◌, not, nat_lt, Option, Some, List, refl, ap, ◌∙◌, arith}
+use Rattle.std.proofs.Common.{◌≡◌, ◌<◌, ℕ, Bool, true, false, ◌||◌, not, nat_lt, Option, Some, List, refl, ap, ◌∙◌}
+use Rattle.std.proofs.Common.{arith}
 use Rattle.std.specs.Prelude.{IsTrue}
 use Rattle.dm_links.specs.Links.{Side, Link}
-use Rattle.dm_world.specs.declared.link.Next.TheVariants as next
-use Rattle.dm_world.specs.Next.{next_to, left_to}
+use Rattle.dm_world.specs.declared.direction.Next.TheVariants as next
+use Rattle.dm_world.specs.Next.{next_to, octets_to_come_to}
 use Rattle.dm_world.specs.Happening.{is_deaf, is_fed_at}
 
 above : (k : ℕ) → 0 < k → nat_lt 0 k ≡ true
@@ -24,6 +25,7 @@ wants_last s k o l there is h hears =
 
 -- others come
 pub wants_part : (s : Side) (k : ℕ) (o : Option (Link (List ℕ))) (l : Link (List ℕ)) → o ≡ Some l →
-    next_to s l ≡ next.Message → 0 < k → k < left_to s l → IsTrue (is_fed_at s k o)
+    next_to s l ≡ next.Message → 0 < k → k < octets_to_come_to s l → IsTrue (is_fed_at s k o)
 wants_part s k o l there is h part =
-    ap (λ x. is_fed_at s k x) there ∙ rw (is, below k (left_to s l) part, or_true (not (is_deaf s l)), above k h) refl
+    ap (λ x. is_fed_at s k x) there
+    ∙ rw (is, below k (octets_to_come_to s l) part, or_true (not (is_deaf s l)), above k h) refl

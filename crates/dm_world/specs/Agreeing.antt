@@ -8,8 +8,8 @@ use Rattle.dm_links.specs.Happens.{own_view}
 use Rattle.dm_links.specs.Agreement.{IsOpenOn}
 
 -- the connection that a node is open on in a role
-abbrev pub open_as : Role → Node → Option Conn
-open_as r n = if is_open n.state then held_as r n.held else None
+abbrev pub open_in_role : Role → Node → Option Conn
+open_in_role r n = if is_open n.state then held_as r n.held else None
 
 -- a disconnect is coming to a side
 abbrev pub is_coming_at : Side → Option (Link (List ℕ)) → Bool
@@ -33,12 +33,12 @@ abbrev pub shared : Option Conn → Option Conn → Option Conn
 shared (Some c) (Some d) = if c.0 == d.0 then Some c else None
 shared _ _ = None
 
-abbrev pub first : Option Conn → Option Conn → Option Conn
-first None d = d
-first (Some c) d = Some c
+abbrev pub first_found : Option Conn → Option Conn → Option Conn
+first_found None d = d
+first_found (Some c) d = Some c
 
 -- both nodes are open on a connection, in some roles
-pub record AreOpenOn (a b : Node) (c : ℕ) : Type 0 where
+pub record AreBothOpenOn (a b : Node) (c : ℕ) : Type 0 where
   pub role_a : Role
   pub role_b : Role
   pub open_a : IsOpenOn a role_a c
@@ -47,11 +47,12 @@ pub record AreOpenOn (a b : Node) (c : ℕ) : Type 0 where
 -- two nodes agree, as it is looked up
 abbrev pub agrees : Node → Node → List (Link (List ℕ)) → Bool
 agrees a b links =
-    are_one (open_as Initiated a) (open_as Accepted a) && are_one (open_as Initiated b) (open_as Accepted b)
-    && are_agreed false links (open_as Initiated a) (open_as Initiated b)
-    && are_agreed true links (open_as Initiated a) (open_as Accepted b)
-    && are_agreed true links (open_as Accepted a) (open_as Initiated b)
-    && are_agreed false links (open_as Accepted a) (open_as Accepted b)
+    are_one (open_in_role Initiated a) (open_in_role Accepted a)
+    && are_one (open_in_role Initiated b) (open_in_role Accepted b)
+    && are_agreed false links (open_in_role Initiated a) (open_in_role Initiated b)
+    && are_agreed true links (open_in_role Initiated a) (open_in_role Accepted b)
+    && are_agreed true links (open_in_role Accepted a) (open_in_role Initiated b)
+    && are_agreed false links (open_in_role Accepted a) (open_in_role Accepted b)
 
 -- whether two peers agree
 abbrev pub is_agreed : World Peer (List ℕ) → Bool
@@ -60,9 +61,10 @@ is_agreed w = agrees w.a.standing.core w.b.standing.core w.links
 -- the connection that two nodes are both open on
 abbrev pub open_on_both : Node → Node → Option Conn
 open_on_both a b =
-    first (first (shared (open_as Initiated a) (open_as Accepted b))
-    (shared (open_as Accepted a) (open_as Initiated b)))
-    (first (shared (open_as Initiated a) (open_as Initiated b)) (shared (open_as Accepted a) (open_as Accepted b)))
+    first_found (first_found (shared (open_in_role Initiated a) (open_in_role Accepted b))
+    (shared (open_in_role Accepted a) (open_in_role Initiated b)))
+    (first_found (shared (open_in_role Initiated a) (open_in_role Initiated b))
+    (shared (open_in_role Accepted a) (open_in_role Accepted b)))
 
 abbrev pub open_link : World Peer (List ℕ) → Option Conn
 open_link w = open_on_both w.a.standing.core w.b.standing.core

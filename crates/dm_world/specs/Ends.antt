@@ -1,5 +1,6 @@
 -- The ends that were made for each side, and those that are fresh.
-use Rattle.std.specs.Prelude.{◌≡◌, ℕ, ◌<◌, Bool, true, ◌==◌, Option, Some, None, List, [], ◌∷◌, ◌++◌, slice_get, vec_len, vec_capacity}
+use Rattle.std.specs.Prelude.{◌≡◌, ℕ, ◌<◌, Bool, true, ◌==◌, Option, Some, None, List, [], ◌∷◌, ◌++◌, slice_get}
+use Rattle.std.specs.Prelude.{vec_len, vec_capacity}
 use Rattle.std.specs.List.{list_any}
 use Rattle.dm_links.specs.Machine.{Conn, Node, Initiated, Accepted, held_as}
 use Rattle.dm_links.specs.Links.{Side, A, B, flip, Link}

@@ -11,8 +11,8 @@ front_in [] = []
 front_in (x ∷ xs) = x
 
 -- how many of its octets are still to come
-abbrev pub left_in : List (List ℕ) → ℕ → ℕ
-left_in messages taken = length (front_in messages) - taken
+abbrev pub octets_to_come : List (List ℕ) → ℕ → ℕ
+octets_to_come messages taken = length (front_in messages) - taken
 
 -- a framer for messages of any size (RFC 6733, 3) that holds these octets, and no fault
 abbrev pub holding : List ℕ → Stream

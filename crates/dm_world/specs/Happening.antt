@@ -4,13 +4,14 @@ use Rattle.dm_peer.specs.declared.peer.Peer.{Peer}
 use Rattle.dm_links.specs.Facts.{is_pending, is_shut}
 use Rattle.dm_links.specs.Links.{Side, Link}
 use Rattle.dm_links.specs.Worlds.{World}
-use Rattle.dm_links.specs.Happens.{own_view, Happening, Starts, Stops, TimesOut, Ticks, Restarts, Acks, Nacks, Delivers, Pieces, Loses, Submits}
+use Rattle.dm_links.specs.Happens.{own_view, Happening, Starts, Stops, TimesOut, Ticks, Restarts, Acks, Nacks}
+use Rattle.dm_links.specs.Happens.{Delivers, Pieces, Loses, Submits}
 use Rattle.dm_world.specs.declared.happening.Happening as declared_happening
 use Rattle.dm_world.specs.declared.happening.Happening.TheVariants as happening
 use Rattle.dm_pair.specs.Octets.{as_cause}
-use Rattle.dm_world.specs.declared.link.Next.{Next}
-use Rattle.dm_world.specs.declared.link.Next.TheVariants as next
-use Rattle.dm_world.specs.Next.{next_to, left_to}
+use Rattle.dm_world.specs.declared.direction.Next.{Next}
+use Rattle.dm_world.specs.declared.direction.Next.TheVariants as next
+use Rattle.dm_world.specs.Next.{next_to, octets_to_come_to}
 use Rattle.dm_world.specs.Seen.{as_side}
 
 abbrev pub as_happening : declared_happening.Happening → Happening (List ℕ)
@@ -50,7 +51,8 @@ is_heard_at s (Some l) = is_something (next_to s l) && not (is_deaf s l)
 -- it is there, and of a message that comes next some octets come: its last ones to an end that isn't shut, or others
 abbrev pub is_fed_at : Side → ℕ → Option (Link (List ℕ)) → Bool
 is_fed_at s k None = false
-is_fed_at s k (Some l) = is_message (next_to s l) && (not (is_deaf s l) || nat_lt k (left_to s l)) && nat_lt 0 k
+is_fed_at s k (Some l) =
+    is_message (next_to s l) && (not (is_deaf s l) || nat_lt k (octets_to_come_to s l)) && nat_lt 0 k
 
 -- memory may be wanted: never where the link isn't there, or nothing of it comes
 abbrev pub may_want : World Peer (List ℕ) → declared_happening.Happening → Bool

@@ -6,9 +6,12 @@ pub mod Seen
 pub mod Rooms
 pub mod Agreeing
 pub mod Asking
+pub mod Telling
 pub mod Views
 pub mod Next
 pub mod Happening
 pub mod New
 pub mod Settling
 pub mod Ends
+pub mod Kept
+pub mod WorldOf

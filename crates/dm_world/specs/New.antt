@@ -8,7 +8,7 @@ use Rattle.dm_world.specs.declared.fault.NewFault.TheVariants.{NotPeers, Nothing
 
 -- a configured peer isn't the other side's host; or no application is common (RFC 6733, 5.3)
 abbrev pub new_fault : Config → Config → Option NewFault
-new_fault left right =
-    if not (is_same_host left.peer right.node.host) then Some NotPeers
-    else (if not (is_same_host right.peer left.node.host) then Some NotPeers
-    else (if not (are_common left.node right.node) then Some NothingCommon else None))
+new_fault a b =
+    if not (is_same_host a.peer b.node.host) then Some NotPeers
+    else (if not (is_same_host b.peer a.node.host) then Some NotPeers
+    else (if not (are_common a.node b.node) then Some NothingCommon else None))

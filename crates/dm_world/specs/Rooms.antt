@@ -1,8 +1,12 @@
 -- Room for what a side sends.
-use Rattle.std.specs.Prelude.{ℕ, ◌≤◌, ◌==◌, Bool, false, ◌||◌, IsTrue, Option, Some, None, List, IfSome, slice_get, map, length}
+use Rattle.std.specs.Prelude.{ℕ, ◌≤◌, ◌==◌, Bool, false, ◌||◌, IsTrue, Option, Some, None, List, IfSome, slice_get}
+use Rattle.std.specs.Prelude.{map, length}
 use Rattle.dm_links.specs.Links.{Side}
 use Rattle.dm_links.specs.Machine.{Conn, Initiated, Accepted, Node, held_as}
 use Rattle.dm_links.specs.Peers.{Event, Start, Ack, Nack, Gone, Arrived, Action, deed_of, sends_at}
+use Rattle.dm_peer.specs.declared.actions.Action as declared_action
+use Rattle.dm_pair.specs.Frames.{SendFrames}
+use Rattle.dm_pair.specs.Octets.{as_actions}
 use Rattle.dm_world.specs.declared.link.Link.{Link}
 use Rattle.dm_world.specs.Seen.{out_room}
 
@@ -15,9 +19,9 @@ abbrev pub HasRoomFor : Side → List Link → List (Action (List ℕ)) → Type
 HasRoomFor s ls actions = (c : ℕ) → IsTrue (sends_at c (map deed_of actions)) → HasRoom s ls (length actions) c
 
 -- the connection, if there is one, is the link of a number
-abbrev pub is_on : Option Conn → ℕ → Bool
-is_on None c = false
-is_on (Some d) c = d.0 == c
+abbrev pub is_conn : Option Conn → ℕ → Bool
+is_conn None c = false
+is_conn (Some d) c = d.0 == c
 
 -- the link that an event names
 abbrev pub named : Event (List ℕ) → Option Conn
@@ -29,13 +33,18 @@ named (Arrived c s) = Some c
 named _ = None
 
 -- the links that a node holds
-abbrev pub holds : Node → ℕ → Bool
-holds n c = is_on (held_as Initiated n.held) c || is_on (held_as Accepted n.held) c
+abbrev pub holds_link : Node → ℕ → Bool
+holds_link n c = is_conn (held_as Initiated n.held) c || is_conn (held_as Accepted n.held) c
 
 -- the links on which a node may send at an event: those that it holds, and the one that is named
 abbrev pub may_send : Node → Option Conn → ℕ → Bool
-may_send n named c = holds n c || is_on named c
+may_send n named c = holds_link n c || is_conn named c
 
 -- each of them has room for what a node sends at most, four messages
 abbrev pub HasRoomToSend : Side → List Link → Node → Option Conn → Type 0
 HasRoomToSend s ls n named = (c : ℕ) → IsTrue (may_send n named c) → HasRoom s ls 4 c
+
+-- what is sent has room and is a frame
+pub record CanSend (s : Side) (ls : List Link) (actions : List declared_action.Action) : Type 0 where
+  pub room : HasRoomFor s ls (as_actions actions)
+  pub frames : SendFrames (as_actions actions)

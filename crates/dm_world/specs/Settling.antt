@@ -1,7 +1,6 @@
--- What clean happenings come to, and what a world can come to.
-use Rattle.std.specs.Prelude.{ℕ, IsTrue, IfSome, List, map}
-use Rattle.dm_peer.specs.declared.peer.Peer.{Peer}
-use Rattle.dm_links.specs.Worlds.{World}
+-- What a run is, what clean happenings come to, and what a world can come to.
+use Rattle.std.specs.Prelude.{◌≡◌, ℕ, IsTrue, IfSome, Some, List, map}
+use Rattle.dm_links.specs.Worlds.{Put}
 use Rattle.dm_links.specs.Happens.{run}
 use Rattle.dm_links.specs.Quiet.{is_clean}
 use Rattle.dm_links.specs.Falling.{CanFallQuiet, FallsQuiet}
@@ -12,6 +11,13 @@ use Rattle.dm_pair.specs.Octets.{octet_peers}
 use Rattle.dm_pair.specs.Talking.{octet_talks}
 use Rattle.dm_world.specs.declared.happening.Happening.{Happening}
 use Rattle.dm_world.specs.Happening.{as_happening}
+use Rattle.dm_world.specs.Views.{OctetWorld}
+
+-- a run from one world to another, which puts some messages and disconnects in
+abbrev pub RanTo : OctetWorld → List Happening → OctetWorld → Type 0
+RanTo w list next =
+    (put : List (Put (List ℕ))) ×
+    (run octet_peers w (map as_happening list) ≡ Some (record { world = next; put = put }))
 
 -- they are Starts, connects that come about, and what is delivered
 abbrev pub AreClean : List Happening → Type 0
@@ -19,24 +25,24 @@ AreClean list = IsTrue (is_clean (map as_happening list))
 
 -- what their run comes to: at most two CERs, one CEA and two disconnects are put in, in their course; and where it
 -- falls quiet after a taken Start both sides are open on the connection that the election keeps (RFC 6733, 5.6.4)
-abbrev pub RunSettles : World Peer (List ℕ) → List Happening → Type 0
+abbrev pub RunSettles : OctetWorld → List Happening → Type 0
 RunSettles w list =
     IfSome (run octet_peers w (map as_happening list))
     (λ r. IsSettledRun octet_peers (octet_talks w.a.config w.b.config) w (map as_happening list) r)
 
 -- it is quiet where no Ack and no delivery is done any more, after nine steps, and after four where one side alone
 -- starts
-abbrev pub RunFallsQuiet : World Peer (List ℕ) → List Happening → Type 0
+abbrev pub RunFallsQuiet : OctetWorld → List Happening → Type 0
 RunFallsQuiet w list =
     IfSome (run octet_peers w (map as_happening list))
     (λ r. FallsQuiet octet_peers (octet_talks w.a.config w.b.config) w (map as_happening list) r)
 
 -- some Acks and deliveries, with its own steps nine at most, make it quiet
-abbrev pub RunCanFallQuiet : World Peer (List ℕ) → List Happening → Type 0
+abbrev pub RunCanFallQuiet : OctetWorld → List Happening → Type 0
 RunCanFallQuiet w list =
     IfSome (run octet_peers w (map as_happening list))
     (λ r. CanFallQuiet octet_peers (octet_talks w.a.config w.b.config) w (map as_happening list))
 
 -- both can restart, and after some deliveries a Start of either side, the Ack and two deliveries open both
-abbrev pub EitherCanOpen : World Peer (List ℕ) → Type 0
+abbrev pub EitherCanOpen : OctetWorld → Type 0
 EitherCanOpen w = (s : Side) → CanOpen octet_peers w s

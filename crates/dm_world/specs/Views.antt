@@ -1,8 +1,6 @@
 -- A world as the laws of two peers see it.
-use Rattle.std.specs.Prelude.{◌≡◌, ℕ, IsTrue, Bool, true, false, Option, Some, None, List, slice_get}
-use Rattle.dm_machine.specs.Node.{is_shaped}
+use Rattle.std.specs.Prelude.{◌≡◌, ℕ, IsTrue, Bool, Option, Some, None, List, slice_get}
 use Rattle.dm_peer.specs.declared.peer.Peer.{Peer}
-use Rattle.dm_peer.specs.Events.{PeerEvent, Start, Arrived}
 use Rattle.dm_links.specs.Links.{Side, Link}
 use Rattle.dm_links.specs.Happens.{own_view, happens}
 use Rattle.dm_links.specs.Worlds.{World, Put, After, Done, Ignored, NoLink}
@@ -16,12 +14,16 @@ use Rattle.dm_world.specs.Happening.{as_happening, may_want}
 use Rattle.dm_pair.specs.Octets.{octet_peers}
 use Rattle.dm_world.specs.Seen.{as_links}
 
-abbrev pub as_world : Net → World Peer (List ℕ)
+-- two peers over octets and the links between them
+abbrev pub OctetWorld : Type 0
+OctetWorld = World Peer (List ℕ)
+
+abbrev pub as_world : Net → OctetWorld
 as_world n = record { a = n.pair.a; b = n.pair.b; links = as_links n.links.items }
 
 -- what is told has this effect: it is done, with some messages and disconnects put in; or it is ignored, and nothing
 -- changes
-abbrev pub Effects : Effect → After Peer (List ℕ) → World Peer (List ℕ) → World Peer (List ℕ) → Type 0
+abbrev pub Effects : Effect → After Peer (List ℕ) → OctetWorld → OctetWorld → Type 0
 Effects effect.Done after old new = (put : List (Put (List ℕ))) × (after ≡ Done new put)
 Effects effect.Ignored after old new = (after ≡ Ignored) × (new ≡ old)
 
@@ -30,22 +32,12 @@ abbrev pub IsFault : WorldFault → Bool → After Peer (List ℕ) → Type 0
 IsFault world_fault.NoLink may_want after = after ≡ NoLink
 IsFault world_fault.NoMemory may_want after = IsTrue may_want
 
--- both nodes are of the right shape
-abbrev pub AreShaped : Net → Type 0
-AreShaped n = IsTrue (is_shaped n.pair.a.standing.core) × IsTrue (is_shaped n.pair.b.standing.core)
-
--- an event that neither makes a link nor brings a message
-abbrev pub is_plain : PeerEvent → Bool
-is_plain (Start c) = false
-is_plain (Arrived c s) = false
-is_plain _ = true
-
 -- the front message that comes to a side
 abbrev pub front_of : Side → Option (Link (List ℕ)) → Option (List ℕ)
 front_of s None = None
 front_of s (Some l) = slice_get (own_view s l).incoming.messages 0
 
 -- a run ended at a happening that is there, for this fault
-abbrev pub IsEnd : WorldFault → Option Happening → World Peer (List ℕ) → Type 0
+abbrev pub IsEnd : WorldFault → Option Happening → OctetWorld → Type 0
 IsEnd f None w = ⊥
 IsEnd f (Some h) w = IsFault f (may_want w h) (happens octet_peers w (as_happening h))

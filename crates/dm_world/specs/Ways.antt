@@ -6,10 +6,10 @@ use Rattle.dm_links.specs.Steps.{added, marked}
 use Rattle.dm_world.specs.declared.direction.Mark.{Mark}
 use Rattle.dm_world.specs.declared.direction.Mark.TheVariants as mark
 
-abbrev pub mark_of : Mark → links.Mark
-mark_of mark.Absent = NoMark
-mark_of mark.Coming = Coming
-mark_of mark.Delivered = Delivered
+abbrev pub as_mark : Mark → links.Mark
+as_mark mark.Absent = NoMark
+as_mark mark.Coming = Coming
+as_mark mark.Delivered = Delivered
 
 -- a message is put in behind the others, unless the disconnect is in
 abbrev pub with_message : List ℕ → Direction (List ℕ) → Direction (List ℕ)

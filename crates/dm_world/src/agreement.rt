@@ -2,7 +2,8 @@
 ghost use Rattle.std.specs.Prelude.{◌≡◌, ℕ, IfSome};
 ghost use Rattle.std.specs.Option.{IfNone};
 ghost use Rattle.dm_links.specs.Machine.{Initiated, Accepted};
-ghost use Rattle.dm_world.specs.Agreeing.{open_as, are_one, are_agreed, shared, first, agrees, open_on_both, AreOpenOn};
+ghost use Rattle.dm_world.specs.Agreeing.{open_in_role, are_one, are_agreed, shared, first_found, agrees};
+ghost use Rattle.dm_world.specs.Agreeing.{open_on_both, AreBothOpenOn};
 ghost use Rattle.dm_world.specs.Seen.{as_links};
 
 use crate::link::Link;
@@ -19,8 +20,8 @@ pub(crate) fn are_one(one: Option<Conn>, other: Option<Conn>) -> bool
     }
 }
 
-/// Whether what A is open on and what B is open on, in opposite roles or in the same, fit: it is one link in opposite roles, or it is
-/// two, with a disconnect coming to each side on its own.
+/// Whether what A is open on and what B is open on, in opposite roles or in the same, fit: it is one link in opposite
+/// roles, or it is two, with a disconnect coming to each side on its own.
 pub(crate) fn are_agreed(
     opposite: bool,
     links: &[Link],
@@ -54,7 +55,7 @@ pub(crate) fn shared(one: Option<Conn>, other: Option<Conn>) -> Option<Conn>
 
 /// What the peer is open on as the one that opened it.
 fn open_initiated(peer: &Peer) -> Option<Conn>
-    ensures { result ≡ open_as Initiated peer.now.standing.core }
+    ensures { result ≡ open_in_role Initiated peer.now.standing.core }
 {
     if peer.is_open() {
         peer.initiated()
@@ -65,7 +66,7 @@ fn open_initiated(peer: &Peer) -> Option<Conn>
 
 /// What the peer is open on as the one that accepted it.
 fn open_accepted(peer: &Peer) -> Option<Conn>
-    ensures { result ≡ open_as Accepted peer.now.standing.core }
+    ensures { result ≡ open_in_role Accepted peer.now.standing.core }
 {
     if peer.is_open() {
         peer.accepted()
@@ -91,18 +92,18 @@ pub(crate) fn agree(a: &Peer, b: &Peer, links: &[Link]) -> bool
 /// The connection that both peers are open on.
 pub(crate) fn open_on_both(a: &Peer, b: &Peer) -> Option<Conn>
     ensures value { result ≡ open_on_both a.now.standing.core b.now.standing.core }
-    ensures found { IfSome result (λ c. AreOpenOn a.now.standing.core b.now.standing.core c.0) }
-    ensures none { IfNone result ((c : ℕ) → AreOpenOn a.now.standing.core b.now.standing.core c → ⊥) }
+    ensures found { IfSome result (λ c. AreBothOpenOn a.now.standing.core b.now.standing.core c.0) }
+    ensures none { IfNone result ((c : ℕ) → AreBothOpenOn a.now.standing.core b.now.standing.core c → ⊥) }
 {
     let (initiated_a, accepted_a) = (open_initiated(a), open_accepted(a));
     let (initiated_b, accepted_b) = (open_initiated(b), open_accepted(b));
-    let opposite = first(
+    let opposite = first_found(
         shared(initiated_a, accepted_b),
         shared(accepted_a, initiated_b),
     );
-    first(
+    first_found(
         opposite,
-        first(
+        first_found(
             shared(initiated_a, initiated_b),
             shared(accepted_a, accepted_b),
         ),
@@ -110,8 +111,8 @@ pub(crate) fn open_on_both(a: &Peer, b: &Peer) -> Option<Conn>
 }
 
 /// The first of the two that is there.
-fn first(one: Option<Conn>, other: Option<Conn>) -> Option<Conn>
-    ensures { result ≡ first one other }
+fn first_found(one: Option<Conn>, other: Option<Conn>) -> Option<Conn>
+    ensures { result ≡ first_found one other }
 {
     match one {
         Some(conn) => Some(conn),

@@ -6,11 +6,11 @@ ghost use Rattle.dm_pair.specs.Octets.{octet_peers};
 ghost use Rattle.dm_world.specs.Ends.{AreNamed, AreSameEnds, AreEndsAfter};
 ghost use Rattle.dm_world.specs.Happening.{as_happening, is_pending_at, may_want};
 ghost use Rattle.dm_world.specs.Seen.{as_links, as_side};
-ghost use Rattle.dm_world.specs.Views.{as_world, Effects, AreShaped, IsFault};
+ghost use Rattle.dm_world.specs.Views.{as_world, Effects, IsFault};
 
 use crate::made::MadeEnds;
 use crate::net::Net;
-use crate::{Effect, Happening, Side, WorldFault, links};
+use crate::{Effect, Happening, Side, WorldFault};
 use dm_dict::NoMemory;
 use dm_peer::{Conn, Event};
 use std::alloc::Global;
@@ -18,23 +18,19 @@ use std::alloc::Global;
 impl Net {
     /// The link's connect can't come about.
     fn nack(&mut self, alloc: Global, conn: Conn) -> Result<Effect, WorldFault>
-        requires { AreShaped self.old }
         ensures step { IfOk result (λ effect. Effects effect (happens octet_peers (as_world self.old) (Nacks conn.0))
             (as_world self.old) (as_world self.new)) }
         ensures fault { IfErr result (λ f. IsFault f (is_pending_at (slice_get (as_links self.old.links.items) conn.0))
             (happens octet_peers (as_world self.old) (Nacks conn.0))) }
         ensures unchanged { OnErr result (as_world self.new ≡ as_world self.old) }
     {
-        let index = conn.0 as usize;
-        if index >= self.links.len() {
-            return Err(WorldFault::NoLink);
-        }
+        let index = self.index_of(conn)?;
         let link = &self.links[index];
         if !link.is_pending() {
             return Ok(Effect::Ignored);
         }
         let opener = link.opener;
-        Ok(self.tell(alloc, opener, Event::Nack(conn))?)
+        Ok(self.tell(alloc, opener, Event::Nack(conn), None)?)
     }
 
     /// The link is lost, but for so many first octets towards A and towards B.
@@ -46,26 +42,22 @@ impl Net {
             (happens octet_peers (as_world self.old) (Loses conn.0 to_a to_b))) }
         ensures unchanged { OnErr result (as_world self.new ≡ as_world self.old) }
     {
-        let index = conn.0 as usize;
-        if index >= self.links.len() {
-            return Err(WorldFault::NoLink);
-        }
+        let index = self.index_of(conn)?;
         if self.links[index].is_past_loss() {
             return Ok(Effect::Ignored);
         }
-        links::lose(&mut self.links, index, to_a, to_b);
+        self.links[index].lose(to_a, to_b);
         Ok(Effect::Done)
     }
 
     /// The user of the side submits octets.
     fn submit(&mut self, alloc: Global, side: Side, octets: &[u8]) -> Result<Effect, NoMemory>
-        requires { AreShaped self.old }
         ensures step { IfOk result (λ effect. Effects effect
             (happens octet_peers (as_world self.old) (Submits (as_side side) octets.now)) (as_world self.old)
             (as_world self.new)) }
         ensures unchanged { OnErr result (as_world self.new ≡ as_world self.old) }
     {
-        self.tell(alloc, side, Event::Submit(octets))
+        self.tell(alloc, side, Event::Submit(octets), None)
     }
 
     /// One happening.
@@ -75,7 +67,6 @@ impl Net {
         made: &mut MadeEnds,
         happening: &Happening,
     ) -> Result<Effect, WorldFault>
-        requires shaped { AreShaped self.old }
         requires sound { IsSoundWorld octet_peers (as_world self.old) }
         requires named { AreNamed made.old (as_links self.old.links.items) }
         ensures step { IfOk result (λ effect. Effects effect
@@ -90,9 +81,9 @@ impl Net {
     {
         match happening {
             Happening::Start(side) => Ok(self.start(alloc, *side)?),
-            Happening::Stop(side, cause) => Ok(self.tell(alloc, *side, Event::Stop(*cause))?),
+            Happening::Stop(side, cause) => Ok(self.tell(alloc, *side, Event::Stop(*cause), None)?),
             Happening::Timeout(side) => Ok(self.time_out(alloc, *side)),
-            Happening::Tick(side) => Ok(self.tell(alloc, *side, Event::Tick)?),
+            Happening::Tick(side) => Ok(self.tell(alloc, *side, Event::Tick, None)?),
             Happening::Restart(side) => {
                 self.restart(made, *side);
                 Ok(Effect::Done)

@@ -8,31 +8,21 @@ ghost use Rattle.dm_links.specs.Peers.{Arrived, Gone};
 ghost use Rattle.dm_pair.specs.Octets.{octet_peers};
 ghost use Rattle.dm_world.specs.Happening.{is_deaf, is_heard_at, is_fed_at};
 ghost use Rattle.dm_world.specs.Seen.{as_side, as_links};
-ghost use Rattle.dm_world.specs.Views.{as_world, Effects, AreShaped, IsFault, front_of};
+ghost use Rattle.dm_world.specs.Views.{as_world, Effects, IsFault, front_of};
 
-use crate::direction::{Handed, empty_framer};
-use crate::link::{End, Next};
+use crate::direction::{Handed, Next, empty_framer};
+use crate::following::enter;
+use crate::link::End;
 use crate::net::Net;
-use crate::pair::holds;
-use crate::performing::perform;
-use crate::rooms::make_room;
-use crate::{Effect, Side, WorldFault, links};
+use crate::{Effect, Side, WorldFault};
 use dm_dict::NoMemory;
-use dm_machine::laws::{each_opening_has_its_message, each_step_keeps_shape};
-use dm_pair::laws::{octets_are_a_machine, octets_are_frames};
 use dm_peer::{Conn, Event};
 use std::alloc::Global;
 
 impl Net {
     /// The side hears the front message of the link: its framer's copy hands it out, and takes the framer's place once
     /// the peer has answered.
-    pub(crate) fn hear(
-        &mut self,
-        alloc: Global,
-        side: Side,
-        index: usize,
-    ) -> Result<Effect, NoMemory>
-        requires shaped { AreShaped self.old }
+    fn hear(&mut self, alloc: Global, side: Side, index: usize) -> Result<Effect, NoMemory>
         requires there { index < length self.old.links.items }
         ensures step { IfOk result (λ effect. (x : List ℕ) →
             front_of (as_side side) (slice_get (as_links self.old.links.items) index) ≡ Some x →
@@ -40,34 +30,17 @@ impl Net {
             (as_world self.old) (as_world self.new)) }
         ensures unchanged { OnErr result (as_world self.new ≡ as_world self.old) }
     {
-        octets_are_a_machine();
-        octets_are_frames();
-        each_opening_has_its_message();
-        each_step_keeps_shape();
-        let conn = Conn(index as u64);
-        make_room(&mut self.links, side, self.pair.of(side), Some(conn))?;
-        let Handed { message, framer } = match self.links[index].hand_out(side)? {
-            Some(handed) => handed,
-            None => return Ok(Effect::Ignored),
-        };
-        let answer = self
-            .pair
-            .ask(alloc, side, Event::Arrived(conn, message.as_slice()))?;
-        match answer {
-            None => Ok(Effect::Ignored),
-            Some(actions) => {
-                links::enter_message(&mut self.links, side, index, framer);
-                perform(&mut self.links, side, actions);
-                let held = holds(self.pair.of(side), conn);
-                links::settle(&mut self.links, side, index, held);
-                Ok(Effect::Done)
+        match self.links[index].incoming(side).hand_out()? {
+            Some(Handed { message, framer }) => {
+                let event = Event::Arrived(Conn(index as u64), message.as_slice());
+                self.tell(alloc, side, event, Some(framer))
             }
+            None => Ok(Effect::Ignored),
         }
     }
 
-    /// The front message comes to the side's end of the link. A shut end drops it.
+    /// The front message comes to the side's end of the link. A shut end drops it unread.
     fn message_comes(&mut self, alloc: Global, side: Side, index: usize) -> Result<Effect, NoMemory>
-        requires shaped { AreShaped self.old }
         requires there { index < length self.old.links.items }
         ensures step { IfOk result (λ effect. (l : Link (List ℕ)) (x : List ℕ) →
             slice_get (as_links self.old.links.items) index ≡ Some l →
@@ -80,7 +53,8 @@ impl Net {
     {
         match self.links[index].own_end(side) {
             End::Shut => {
-                links::enter_message(&mut self.links, side, index, empty_framer(alloc));
+                let event = Event::Arrived(Conn(index as u64), b"");
+                enter(&mut self.links, side, event, Some(empty_framer(alloc)));
                 Ok(Effect::Done)
             }
             End::Fresh | End::Open => self.hear(alloc, side, index),
@@ -94,7 +68,6 @@ impl Net {
         side: Side,
         index: usize,
     ) -> Result<Effect, NoMemory>
-        requires shaped { AreShaped self.old }
         requires there { index < length self.old.links.items }
         ensures step { IfOk result (λ effect. (l : Link (List ℕ)) →
             slice_get (as_links self.old.links.items) index ≡ Some l →
@@ -104,12 +77,13 @@ impl Net {
         ensures heard { OnErr result ((l : Link (List ℕ)) → slice_get (as_links self.old.links.items) index ≡ Some l →
             is_deaf (as_side side) l ≡ false) }
     {
+        let event = Event::Gone(Conn(index as u64));
         match self.links[index].own_end(side) {
             End::Shut => {
-                links::enter_gone(&mut self.links, side, index);
+                enter(&mut self.links, side, event, None);
                 Ok(Effect::Done)
             }
-            End::Fresh | End::Open => self.tell(alloc, side, Event::Gone(Conn(index as u64))),
+            End::Fresh | End::Open => self.tell(alloc, side, event, None),
         }
     }
 
@@ -120,7 +94,6 @@ impl Net {
         conn: Conn,
         side: Side,
     ) -> Result<Effect, WorldFault>
-        requires { AreShaped self.old }
         ensures step { IfOk result (λ effect. Effects effect
             (happens octet_peers (as_world self.old) (Delivers conn.0 (as_side side))) (as_world self.old)
             (as_world self.new)) }
@@ -129,10 +102,7 @@ impl Net {
             (happens octet_peers (as_world self.old) (Delivers conn.0 (as_side side)))) }
         ensures unchanged { OnErr result (as_world self.new ≡ as_world self.old) }
     {
-        let index = conn.0 as usize;
-        if index >= self.links.len() {
-            return Err(WorldFault::NoLink);
-        }
+        let index = self.index_of(conn)?;
         match self.links[index].next(side) {
             Next::Nothing => Ok(Effect::Ignored),
             Next::Message => Ok(self.message_comes(alloc, side, index)?),
@@ -148,7 +118,6 @@ impl Net {
         side: Side,
         count: u32,
     ) -> Result<Effect, WorldFault>
-        requires { AreShaped self.old }
         ensures step { IfOk result (λ effect. Effects effect
             (happens octet_peers (as_world self.old) (Pieces conn.0 (as_side side) count)) (as_world self.old)
             (as_world self.new)) }
@@ -157,10 +126,7 @@ impl Net {
             (happens octet_peers (as_world self.old) (Pieces conn.0 (as_side side) count))) }
         ensures unchanged { OnErr result (as_world self.new ≡ as_world self.old) }
     {
-        let index = conn.0 as usize;
-        if self.links.len() <= index {
-            return Err(WorldFault::NoLink);
-        }
+        let index = self.index_of(conn)?;
         if count == 0 {
             return Ok(Effect::Ignored);
         }
@@ -168,10 +134,10 @@ impl Net {
         match link.next(side) {
             Next::Disconnect | Next::Nothing => Ok(Effect::Ignored),
             Next::Message => {
-                if link.left(side) <= count as usize {
+                if link.to_come(side) <= count as usize {
                     return Ok(self.message_comes(alloc, side, index)?);
                 }
-                links::take(&mut self.links, side, index, count as usize)?;
+                self.links[index].take(side, count as usize)?;
                 Ok(Effect::Done)
             }
         }

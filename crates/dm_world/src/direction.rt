@@ -1,12 +1,15 @@
 //! One direction of a link: what was sent and not delivered, in order, and the disconnect behind it.
-ghost use Rattle.std.specs.Prelude.{◌≡◌, ℕ, ◌+◌, ◌<◌, ◌≤◌, Bool, List, [], length, take, slice_get, IfOk, IfErr, IfSome, OnOk, OnErr, option_map};
+ghost use Rattle.std.specs.Prelude.{◌≡◌, ◌+◌, ◌<◌, ◌≤◌, [], length, take, slice_get};
+ghost use Rattle.std.specs.Prelude.{IfOk, IfErr, IfSome, OnOk, OnErr, option_map};
 ghost use Rattle.dm_framer.specs.declared.fault.FrameFault.{FrameFault};
 ghost use Rattle.dm_framer.specs.Frames.{IsFrame};
-ghost use Rattle.dm_world.specs.Fed.{holding, left_in};
+ghost use Rattle.dm_links.specs.Happens.{whole_in, lost, next_in};
 ghost use Rattle.dm_links.specs.Links.{empty_direction};
-ghost use Rattle.dm_links.specs.Happens.{whole_in, lost};
-ghost use Rattle.dm_world.specs.Ways.{with_message, with_disconnect, with_taken, without_front, with_disconnect_delivered, mark_of};
 ghost use Rattle.dm_links.specs.Quiet.{is_still};
+ghost use Rattle.dm_world.specs.Fed.{holding, octets_to_come};
+ghost use Rattle.dm_world.specs.Next.{next_kind};
+ghost use Rattle.dm_world.specs.Ways.{with_message, with_disconnect, with_taken, without_front, as_mark};
+ghost use Rattle.dm_world.specs.Ways.{with_disconnect_delivered};
 
 use dm_dict::NoMemory;
 use dm_framer::laws::whole_frames;
@@ -17,7 +20,7 @@ use std::collections::VecDeque;
 use std::marker::Model;
 
 /// Whether a disconnect is in a direction.
-#[derive(Clone, Copy, Debug, PartialEq, Eq)]
+#[derive(Clone, Copy, Debug)]
 pub(crate) enum Mark {
     /// None is in.
     Absent,
@@ -25,6 +28,17 @@ pub(crate) enum Mark {
     Coming,
     /// One was in, and was delivered.
     Delivered,
+}
+
+/// What comes next in a direction.
+#[derive(Clone, Copy)]
+pub(crate) enum Next {
+    /// A message.
+    Message,
+    /// The disconnect.
+    Disconnect,
+    /// Nothing.
+    Nothing,
 }
 
 /// The greatest Message Length: a multiple of 4 that three octets hold (RFC 6733, 3).
@@ -41,7 +55,7 @@ pub(crate) struct Direction {
 }
 
 /// A message that a framer handed out, and the framer as it stands then.
-#[derive(Debug, Drop)]
+#[derive(Drop)]
 pub(crate) struct Handed {
     pub(crate) message: Vec<u8>,
     pub(crate) framer: Framer,
@@ -52,11 +66,11 @@ impl Model for Direction {
 
     ghost Value = { Way };
 
-    ghost use Rattle.dm_world.specs.WayOf.{way_of, IsSound};
+    ghost use Rattle.dm_world.specs.WayOf.{way_of, IsFedWay};
 
     ghost view = { way_of };
 
-    ghost invariant = { IsSound };
+    ghost invariant = { IsFedWay };
 }
 
 /// A framer that holds nothing, for messages of any size. It takes no memory.
@@ -85,17 +99,27 @@ fn frame_out(framer: &Framer, message: &[u8], taken: usize) -> Result<Handed, Fr
     }
 }
 
+/// The front message.
+fn front_of(queue: &VecDeque<Octets>) -> Option<&[u8]>
+    ensures { option_map (λ octets. octets.now) result ≡ slice_get queue.now.items 0 }
+{
+    match queue.front() {
+        Some(message) => Some(message.as_slice()),
+        None => None,
+    }
+}
+
 /// How many of the messages lie wholly in so many first octets.
 fn whole_messages(queue: &VecDeque<Octets>, kept: usize) -> usize
     ensures { take result queue.now.items ≡ whole_in length kept queue.now.items }
 {
-    let mut left = kept;
+    let mut rest = kept;
     for index in 0..queue.len() {
         let size = queue[index].as_slice().len();
-        if size > left {
+        if size > rest {
             return index;
         }
-        left -= size;
+        rest -= size;
     }
     queue.len()
 }
@@ -146,16 +170,6 @@ impl Direction {
         }
     }
 
-    /// The front message.
-    pub(crate) fn front(&self) -> Option<&[u8]>
-        ensures { option_map (λ octets. octets.now) result ≡ slice_get self.now.direction.messages 0 }
-    {
-        match self.queue.front() {
-            Some(message) => Some(message.as_slice()),
-            None => None,
-        }
-    }
-
     /// The front message, as a framer hands it out which was fed the octets that were delivered, and then the rest. The
     /// direction stays as it is.
     pub(crate) fn hand_out(&self) -> Result<Option<Handed>, NoMemory>
@@ -163,8 +177,8 @@ impl Direction {
             option_map (λ handed. handed.message.items) found ≡ slice_get self.now.direction.messages 0) }
         ensures framer { IfOk result (λ found. IfSome found (λ handed. handed.framer ≡ holding [])) }
     {
-        let message = match self.queue.front() {
-            Some(message) => message.as_slice(),
+        let message = match front_of(&self.queue) {
+            Some(message) => message,
             None => return Ok(None),
         };
         match frame_out(&self.framer, message, self.taken) {
@@ -187,11 +201,11 @@ impl Direction {
     }
 
     /// How many octets of the front message are still to come; 0 where there is none.
-    pub(crate) fn left(&self) -> usize
-        ensures { result ≡ left_in self.now.direction.messages self.now.direction.taken }
+    pub(crate) fn to_come(&self) -> usize
+        ensures { result ≡ octets_to_come self.now.direction.messages self.now.direction.taken }
     {
-        match self.queue.front() {
-            Some(message) => message.as_slice().len() - self.taken,
+        match front_of(&self.queue) {
+            Some(message) => message.len() - self.taken,
             None => 0,
         }
     }
@@ -199,13 +213,13 @@ impl Direction {
     /// Delivers so many octets of the front message, and not its last: they go to the framer. Where memory is wanted,
     /// nothing changes.
     pub(crate) fn take(&mut self, count: usize) -> Result<(), NoMemory>
-        requires { count < left_in self.old.direction.messages self.old.direction.taken }
+        requires { count < octets_to_come self.old.direction.messages self.old.direction.taken }
         ensures taken { OnOk result (self.new.direction ≡ with_taken count self.old.direction) }
         ensures unchanged { OnErr result (self.new.direction ≡ self.old.direction) }
     {
         let end = self.taken + count;
-        match self.queue.front() {
-            Some(message) => match self.framer.feed(&message.as_slice()[self.taken..end]) {
+        match front_of(&self.queue) {
+            Some(message) => match self.framer.feed(&message[self.taken..end]) {
                 Ok(()) => {
                     self.taken = end;
                     Ok(())
@@ -247,9 +261,20 @@ impl Direction {
 
     /// Whether a disconnect is in.
     pub(crate) fn mark(&self) -> Mark
-        ensures { mark_of result ≡ self.now.direction.mark }
+        ensures { as_mark result ≡ self.now.direction.mark }
     {
         self.mark
+    }
+
+    /// What comes next.
+    pub(crate) fn next(&self) -> Next
+        ensures { result ≡ next_kind (next_in self.now.direction.messages self.now.direction.mark) }
+    {
+        match (self.queue.is_empty(), self.mark) {
+            (false, _) => Next::Message,
+            (true, Mark::Coming) => Next::Disconnect,
+            _ => Next::Nothing,
+        }
     }
 
     /// Whether nothing is under way: no message, and no disconnect.

@@ -1,26 +1,28 @@
 //! A link: what a connection is to both sides.
-ghost use Rattle.std.specs.Prelude.{◌≡◌, ◌+◌, ◌<◌, ◌≤◌, Bool, true, false, [], length, drop, slice_get, IfOk, IfSome, OnOk, OnErr, option_map};
+ghost use Rattle.std.specs.Prelude.{◌≡◌, ◌+◌, ◌<◌, ◌≤◌, [], length, OnOk, OnErr};
 ghost use Rattle.dm_framer.specs.Frames.{IsFrame};
-ghost use Rattle.dm_links.specs.Links.{new_link, opens, by_side, view_of};
-ghost use Rattle.dm_links.specs.Machine.{AcksIt, NacksIt, EndsIt, HeardOnIt};
-ghost use Rattle.dm_links.specs.Steps.{with_sent, with_close, entered, settled};
-ghost use Rattle.dm_links.specs.Happens.{take_part, lost_link, own_view, are_shut};
+ghost use Rattle.dm_peer.specs.Events.{told};
 ghost use Rattle.dm_links.specs.Facts.{is_pending};
+ghost use Rattle.dm_links.specs.Happens.{take_part, lost_link, own_view, are_shut};
+ghost use Rattle.dm_links.specs.Links.{new_link, opens, by_side};
+ghost use Rattle.dm_links.specs.Machine.{AcksIt, EndsIt, HeardOnIt};
 ghost use Rattle.dm_links.specs.Quiet.{is_quiet_link};
-ghost use Rattle.dm_world.specs.Seen.{as_side, as_end, as_link, out_room, restart_link};
+ghost use Rattle.dm_links.specs.Steps.{with_sent, with_close, entered, settled};
 ghost use Rattle.dm_world.specs.Fed.{holding};
-ghost use Rattle.dm_world.specs.Next.{next_to, left_to, is_past_loss};
-ghost use Rattle.dm_world.specs.Ways.{mark_of};
+ghost use Rattle.dm_world.specs.Next.{next_to, octets_to_come_to, is_past_loss};
+ghost use Rattle.dm_world.specs.Seen.{as_side, as_end, as_link, out_room, restart_link};
+ghost use Rattle.dm_world.specs.Telling.{FramerFits, concern_in};
 
 use crate::Side;
-use crate::direction::{Direction, Handed, Mark};
+use crate::direction::{Direction, Next};
 use dm_dict::NoMemory;
 use dm_framer::Framer;
+use dm_peer::Event;
 use dm_wire::Octets;
 use std::alloc::{AllocError, Global};
 
 /// How far a link has come.
-#[derive(Clone, Copy, Debug, PartialEq, Eq)]
+#[derive(Clone, Copy, Debug)]
 pub(crate) enum Phase {
     /// Its connect is pending.
     Pending,
@@ -31,7 +33,7 @@ pub(crate) enum Phase {
 }
 
 /// An end of a link that is up.
-#[derive(Clone, Copy, Debug, PartialEq, Eq)]
+#[derive(Clone, Copy, Debug)]
 pub(crate) enum End {
     /// No message came yet.
     Fresh,
@@ -41,18 +43,7 @@ pub(crate) enum End {
     Shut,
 }
 
-/// What comes next to a side.
-#[derive(Clone, Copy, Debug, PartialEq, Eq)]
-pub(crate) enum Next {
-    /// A message.
-    Message,
-    /// The disconnect.
-    Disconnect,
-    /// Nothing.
-    Nothing,
-}
-
-/// A link, with the end of its opener and the other one.
+/// A link. The near end is the opener's.
 #[derive(Debug, Drop)]
 pub(crate) struct Link {
     pub(crate) opener: Side,
@@ -147,44 +138,27 @@ impl Link {
         }
     }
 
-    /// The front message towards the side.
-    pub(crate) fn front(&self, side: Side) -> Option<&[u8]>
-        ensures { option_map (λ octets. octets.now) result ≡ slice_get (own_view (as_side side) (as_link self.now)).incoming.messages 0 }
+    /// The direction towards the side.
+    pub(crate) fn incoming(&self, side: Side) -> &Direction
+        ensures { result.now.direction ≡ (own_view (as_side side) (as_link self.now)).incoming }
     {
         if self.is_opener(side) {
-            self.to_opener.front()
+            &self.to_opener
         } else {
-            self.to_other.front()
-        }
-    }
-
-    /// The front message towards the side, as its framer hands it out. The link stays as it is.
-    pub(crate) fn hand_out(&self, side: Side) -> Result<Option<Handed>, NoMemory>
-        ensures message { IfOk result (λ found. option_map (λ handed. handed.message.items) found
-            ≡ slice_get (own_view (as_side side) (as_link self.now)).incoming.messages 0) }
-        ensures framer { IfOk result (λ found. IfSome found (λ handed. handed.framer ≡ holding [])) }
-    {
-        if self.is_opener(side) {
-            self.to_opener.hand_out()
-        } else {
-            self.to_other.hand_out()
+            &self.to_other
         }
     }
 
     /// How many octets of the front message are still to come to the side; 0 where there is none.
-    pub(crate) fn left(&self, side: Side) -> usize
-        ensures { result ≡ left_to (as_side side) (as_link self.now) }
+    pub(crate) fn to_come(&self, side: Side) -> usize
+        ensures { result ≡ octets_to_come_to (as_side side) (as_link self.now) }
     {
-        if self.is_opener(side) {
-            self.to_opener.left()
-        } else {
-            self.to_other.left()
-        }
+        self.incoming(side).to_come()
     }
 
     /// So many octets of the front message come to the side, and not its last. Where memory is wanted, nothing changes.
     pub(crate) fn take(&mut self, side: Side, count: usize) -> Result<(), NoMemory>
-        requires { count < left_to (as_side side) (as_link self.old) }
+        requires { count < octets_to_come_to (as_side side) (as_link self.old) }
         ensures taken { OnOk result (as_link self.new ≡ by_side (as_side side) (take_part count) (as_link self.old)) }
         ensures unchanged { OnErr result (as_link self.new ≡ as_link self.old) }
     {
@@ -195,19 +169,29 @@ impl Link {
         }
     }
 
-    /// The mark of the direction towards the side.
-    pub(crate) fn incoming_mark(&self, side: Side) -> Mark
-        ensures { mark_of result ≡ (own_view (as_side side) (as_link self.now)).incoming.mark }
+    /// An event that names the link reaches the side's end of it. Where a message arrived the framer takes the place of
+    /// the one that holds octets of it.
+    #[tactic(auto, using(crate::proofs::Hearing::not_entered, crate::proofs::Hearing::not_started_on))]
+    pub(crate) fn enter(&mut self, side: Side, event: Event<'_>, framer: Option<Framer>)
+        requires { FramerFits (told event) framer }
+        ensures entered { as_link self.new
+            ≡ by_side (as_side side) (entered (concern_in (told event.entry))) (as_link self.old) }
+        ensures room { out_room (as_side side) self.old ≤ out_room (as_side side) self.new }
     {
-        if self.is_opener(side) {
-            self.to_opener.mark()
-        } else {
-            self.to_other.mark()
+        match event {
+            Event::Ack(_) => self.enter_ack(side),
+            Event::Nack(_) => self.phase = Phase::Cancelled,
+            Event::Gone(_) => self.enter_gone(side),
+            Event::Arrived(_, _) => match framer {
+                Some(framer) => self.enter_message(side, framer),
+                None => unreachable!(),
+            },
+            _ => {}
         }
     }
 
     /// The connect came about: both ends are made, and that of the side, the opener, is open.
-    pub(crate) fn enter_ack(&mut self, side: Side)
+    fn enter_ack(&mut self, side: Side)
         ensures entered { as_link self.new ≡ by_side (as_side side) (entered AcksIt) (as_link self.old) }
         ensures room { out_room (as_side side) self.old ≤ out_room (as_side side) self.new }
     {
@@ -221,16 +205,8 @@ impl Link {
         }
     }
 
-    /// The connect can't come about.
-    pub(crate) fn enter_nack(&mut self, side: Side)
-        ensures entered { as_link self.new ≡ by_side (as_side side) (entered NacksIt) (as_link self.old) }
-        ensures room { out_room (as_side side) self.old ≤ out_room (as_side side) self.new }
-    {
-        self.phase = Phase::Cancelled;
-    }
-
     /// The front message comes to the side. The framer takes the place of the one that holds octets of it.
-    pub(crate) fn enter_message(&mut self, side: Side, framer: Framer)
+    fn enter_message(&mut self, side: Side, framer: Framer)
         requires { framer ≡ holding [] }
         ensures entered { as_link self.new ≡ by_side (as_side side) (entered HeardOnIt) (as_link self.old) }
         ensures room { out_room (as_side side) self.old ≤ out_room (as_side side) self.new }
@@ -243,7 +219,7 @@ impl Link {
     }
 
     /// The disconnect comes to the side: its end is shut. Where that was fresh, a disconnect goes back.
-    pub(crate) fn enter_gone(&mut self, side: Side)
+    fn enter_gone(&mut self, side: Side)
         ensures entered { as_link self.new ≡ by_side (as_side side) (entered EndsIt) (as_link self.old) }
         ensures room { out_room (as_side side) self.old ≤ out_room (as_side side) self.new }
     {
@@ -327,13 +303,8 @@ impl Link {
     pub(crate) fn next(&self, side: Side) -> Next
         ensures { result ≡ next_to (as_side side) (as_link self.now) }
     {
-        match (
-            self.phase,
-            self.front(side).is_some(),
-            self.incoming_mark(side),
-        ) {
-            (Phase::Up, true, _) => Next::Message,
-            (Phase::Up, false, Mark::Coming) => Next::Disconnect,
+        match self.phase {
+            Phase::Up => self.incoming(side).next(),
             _ => Next::Nothing,
         }
     }

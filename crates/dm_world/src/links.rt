@@ -1,24 +1,19 @@
 //! The links of a world, by number.
-ghost use Rattle.std.specs.Prelude.{◌≡◌, ℕ, ◌+◌, ◌<◌, ◌≤◌, [], IfSome, OnOk, OnErr, length, slice_get};
+ghost use Rattle.std.specs.Prelude.{◌≡◌, ℕ, ◌+◌, OnOk, slice_get};
+ghost use Rattle.std.specs.List.{list_all};
 ghost use Rattle.dm_framer.specs.Frames.{IsFrame};
 ghost use Rattle.dm_links.specs.Links.{by_side};
-ghost use Rattle.dm_links.specs.Machine.{AcksIt, NacksIt, EndsIt, HeardOnIt};
-ghost use Rattle.dm_links.specs.Steps.{with_sent, with_close, entered, settled};
-ghost use Rattle.dm_links.specs.Worlds.{change_at};
-ghost use Rattle.dm_links.specs.Happens.{take_part, lost_link};
-ghost use Rattle.std.specs.List.{list_all};
+ghost use Rattle.dm_links.specs.Machine.{HeardOnIt};
 ghost use Rattle.dm_links.specs.Quiet.{is_quiet_link};
+ghost use Rattle.dm_links.specs.Steps.{with_sent, with_close, settled};
+ghost use Rattle.dm_links.specs.Worlds.{change_at};
 ghost use Rattle.dm_world.specs.Agreeing.{is_coming_at};
-ghost use Rattle.dm_world.specs.Fed.{holding};
-ghost use Rattle.dm_world.specs.Next.{left_to};
-ghost use Rattle.dm_world.specs.Seen.{as_side, as_links, restart_link};
 ghost use Rattle.dm_world.specs.Rooms.{HasRoom};
+ghost use Rattle.dm_world.specs.Seen.{as_side, as_links, restart_link};
 
 use crate::Side;
 use crate::direction::Mark;
 use crate::link::Link;
-use dm_dict::NoMemory;
-use dm_framer::Framer;
 use dm_wire::Octets;
 use std::alloc::AllocError;
 
@@ -31,7 +26,8 @@ pub(crate) fn reserve(
 ) -> Result<(), AllocError>
     ensures same { as_links links.new.items ≡ as_links links.old.items }
     ensures room { OnOk result (HasRoom (as_side side) links.new.items count index) }
-    ensures kept { (n c : ℕ) → HasRoom (as_side side) links.old.items n c → HasRoom (as_side side) links.new.items n c }
+    ensures kept { (n c : ℕ) → HasRoom (as_side side) links.old.items n c →
+        HasRoom (as_side side) links.new.items n c }
 {
     if index < links.len() {
         links[index].reserve(side, count)
@@ -44,8 +40,10 @@ pub(crate) fn reserve(
 pub(crate) fn say(links: &mut Vec<Link>, side: Side, index: usize, message: Octets)
     requires room { HasRoom (as_side side) links.old.items 1 index }
     requires frame { IsFrame 16777212 message }
-    ensures said { as_links links.new.items ≡ change_at index (by_side (as_side side) (with_sent message)) (as_links links.old.items) }
-    ensures room { (n c : ℕ) → HasRoom (as_side side) links.old.items (n + 1) c → HasRoom (as_side side) links.new.items n c }
+    ensures said { as_links links.new.items
+        ≡ change_at index (by_side (as_side side) (with_sent message)) (as_links links.old.items) }
+    ensures room { (n c : ℕ) → HasRoom (as_side side) links.old.items (n + 1) c →
+        HasRoom (as_side side) links.new.items n c }
 {
     if index < links.len() {
         links[index].say(side, message);
@@ -54,90 +52,23 @@ pub(crate) fn say(links: &mut Vec<Link>, side: Side, index: usize, message: Octe
 
 /// The side closes the link, if there is one.
 pub(crate) fn close(links: &mut Vec<Link>, side: Side, index: usize)
-    ensures closed { as_links links.new.items ≡ change_at index (by_side (as_side side) with_close) (as_links links.old.items) }
-    ensures room { (n c : ℕ) → HasRoom (as_side side) links.old.items n c → HasRoom (as_side side) links.new.items n c }
+    ensures closed { as_links links.new.items
+        ≡ change_at index (by_side (as_side side) with_close) (as_links links.old.items) }
+    ensures room { (n c : ℕ) → HasRoom (as_side side) links.old.items n c →
+        HasRoom (as_side side) links.new.items n c }
 {
     if index < links.len() {
         links[index].close(side);
     }
 }
 
-/// The connect of the link came about, which the side opened.
-pub(crate) fn enter_ack(links: &mut Vec<Link>, side: Side, index: usize)
-    ensures entered { as_links links.new.items ≡ change_at index (by_side (as_side side) (entered AcksIt)) (as_links links.old.items) }
-    ensures room { (n c : ℕ) → HasRoom (as_side side) links.old.items n c → HasRoom (as_side side) links.new.items n c }
-{
-    if index < links.len() {
-        links[index].enter_ack(side);
-    }
-}
-
-/// The connect of the link, which the side opened, can't come about.
-pub(crate) fn enter_nack(links: &mut Vec<Link>, side: Side, index: usize)
-    ensures entered { as_links links.new.items ≡ change_at index (by_side (as_side side) (entered NacksIt)) (as_links links.old.items) }
-    ensures room { (n c : ℕ) → HasRoom (as_side side) links.old.items n c → HasRoom (as_side side) links.new.items n c }
-{
-    if index < links.len() {
-        links[index].enter_nack(side);
-    }
-}
-
-/// So many octets of the front message of the link come to the side, and not its last. Where memory is wanted, nothing
-/// changes.
-pub(crate) fn take(
-    links: &mut Vec<Link>,
-    side: Side,
-    index: usize,
-    count: usize,
-) -> Result<(), NoMemory>
-    requires { IfSome (slice_get (as_links links.old.items) index) (λ link. count < left_to (as_side side) link) }
-    ensures taken { OnOk result (as_links links.new.items
-        ≡ change_at index (by_side (as_side side) (take_part count)) (as_links links.old.items)) }
-    ensures unchanged { OnErr result (as_links links.new.items ≡ as_links links.old.items) }
-{
-    if index < links.len() {
-        links[index].take(side, count)
-    } else {
-        Ok(())
-    }
-}
-
-/// The front message of the link comes to the side. The framer takes the place of the one that holds octets of it.
-pub(crate) fn enter_message(links: &mut Vec<Link>, side: Side, index: usize, framer: Framer)
-    requires { framer ≡ holding [] }
-    ensures entered { as_links links.new.items ≡ change_at index (by_side (as_side side) (entered HeardOnIt)) (as_links links.old.items) }
-    ensures room { (n c : ℕ) → HasRoom (as_side side) links.old.items n c → HasRoom (as_side side) links.new.items n c }
-{
-    if index < links.len() {
-        links[index].enter_message(side, framer);
-    }
-}
-
-/// The disconnect of the link comes to the side.
-pub(crate) fn enter_gone(links: &mut Vec<Link>, side: Side, index: usize)
-    ensures entered { as_links links.new.items ≡ change_at index (by_side (as_side side) (entered EndsIt)) (as_links links.old.items) }
-    ensures room { (n c : ℕ) → HasRoom (as_side side) links.old.items n c → HasRoom (as_side side) links.new.items n c }
-{
-    if index < links.len() {
-        links[index].enter_gone(side);
-    }
-}
-
 /// A fresh end of the side that was heard on is open where its peer holds the link, else shut.
 pub(crate) fn settle(links: &mut Vec<Link>, side: Side, index: usize, holds: bool)
-    ensures { as_links links.new.items ≡ change_at index (by_side (as_side side) (settled HeardOnIt holds)) (as_links links.old.items) }
+    ensures { as_links links.new.items
+        ≡ change_at index (by_side (as_side side) (settled HeardOnIt holds)) (as_links links.old.items) }
 {
     if index < links.len() {
         links[index].settle(side, holds);
-    }
-}
-
-/// The link is lost: so many first octets of those to come towards A and towards B stay.
-pub(crate) fn lose(links: &mut Vec<Link>, index: usize, to_a: u32, to_b: u32)
-    ensures { as_links links.new.items ≡ change_at index (lost_link length to_a to_b) (as_links links.old.items) }
-{
-    if index < links.len() {
-        links[index].lose(to_a, to_b);
     }
 }
 
@@ -167,7 +98,7 @@ pub(crate) fn is_coming(links: &[Link], side: Side, index: usize) -> bool
     ensures { result ≡ is_coming_at (as_side side) (slice_get (as_links links.now) index) }
 {
     match links.get(index) {
-        Some(link) => match link.incoming_mark(side) {
+        Some(link) => match link.incoming(side).mark() {
             Mark::Coming => true,
             _ => false,
         },

@@ -1,28 +1,31 @@
-//! Two peers and the links between them, and what each happening does to them.
-ghost use Rattle.std.specs.Prelude.{◌≡◌, ◌↔◌, ℕ, IsTrue, IfOk, OnErr, true};
+//! Two peers and the links between them, and what each event of a side does to them.
+ghost use Rattle.std.specs.Prelude.{◌≡◌, ◌<◌, ◌↔◌, IsTrue, IfOk, IfErr, IfSome, OnErr, None, false, length, slice_get};
 ghost use Rattle.dm_peer.specs.Events.{told};
 ghost use Rattle.dm_links.specs.Agreement.{Agreed};
 ghost use Rattle.dm_links.specs.Quiet.{is_quiet};
-ghost use Rattle.dm_links.specs.Worlds.{enter};
 ghost use Rattle.dm_links.specs.Worlds as worlds;
-ghost use Rattle.dm_world.specs.Agreeing.{is_agreed};
-ghost use Rattle.dm_pair.specs.Frames.{submitted_in};
 ghost use Rattle.dm_peer.specs.Octets.{AreOctets};
+ghost use Rattle.dm_pair.specs.Frames.{submitted_in};
 ghost use Rattle.dm_pair.specs.Octets.{as_event, octet_peers};
-ghost use Rattle.dm_world.specs.Rooms.{HasRoom, named};
+ghost use Rattle.dm_world.specs.declared.fault.WorldFault.{WorldFault};
+ghost use Rattle.dm_world.specs.Agreeing.{is_agreed};
+ghost use Rattle.dm_world.specs.Asking.{IsAnswerOf};
+ghost use Rattle.dm_world.specs.Rooms.{CanSend};
 ghost use Rattle.dm_world.specs.Seen.{as_side, as_links};
-ghost use Rattle.dm_world.specs.Views.{as_world, Effects, AreShaped, is_plain};
+ghost use Rattle.dm_world.specs.Telling.{is_start, FramerFits};
+ghost use Rattle.dm_world.specs.Views.{as_world, Effects};
 
 use crate::agreement::agree;
+use crate::following::{follow, named};
 use crate::link::Link;
 use crate::pair::Pair;
-use crate::performing::perform;
 use crate::rooms::make_room;
-use crate::{Effect, Side, links};
+use crate::{Effect, Side, WorldFault, links};
 use dm_dict::NoMemory;
+use dm_framer::Framer;
 use dm_machine::laws::{each_opening_has_its_message, each_step_keeps_shape};
 use dm_pair::laws::{octets_are_a_machine, octets_are_frames};
-use dm_peer::{Conn, Event};
+use dm_peer::{Actions, Conn, Event};
 use std::alloc::Global;
 
 /// Two peers and the links between them.
@@ -32,64 +35,69 @@ pub(crate) struct Net {
     pub(crate) links: Vec<Link>,
 }
 
-/// The link that the event names.
-fn named(event: Event<'_>) -> Option<Conn>
-    ensures { result ≡ named (as_event (told event.entry)) }
-{
-    match event {
-        Event::Start(conn)
-        | Event::Ack(conn)
-        | Event::Nack(conn)
-        | Event::Arrived(conn, _)
-        | Event::Gone(conn) => Some(conn),
-        Event::Stop(_) | Event::Timeout | Event::Tick | Event::Submit(_) => None,
-    }
-}
-
-/// The event reaches the side.
-fn enter(links: &mut Vec<Link>, side: Side, event: Event<'_>)
-    requires { is_plain (told event) ≡ true }
-    ensures entered { as_links links.new.items ≡ enter (as_side side) (as_event (told event.entry))
-        (as_links links.old.items) }
-    ensures room { (n c : ℕ) → HasRoom (as_side side) links.old.items n c →
-        HasRoom (as_side side) links.new.items n c }
-{
-    match event {
-        Event::Ack(conn) => links::enter_ack(links, side, conn.0 as usize),
-        Event::Nack(conn) => links::enter_nack(links, side, conn.0 as usize),
-        Event::Gone(conn) => links::enter_gone(links, side, conn.0 as usize),
-        _ => {}
-    }
-}
-
 impl Net {
-    /// The side's peer is told of the event.
-    pub(crate) fn tell(
+    /// The index of the link that a happening names.
+    pub(crate) fn index_of(&self, conn: Conn) -> Result<usize, WorldFault>
+        ensures there { IfOk result (λ index. (index ≡ conn.0) × (index < length self.now.links.items)) }
+        ensures none { IfErr result (λ fault.
+            (fault ≡ WorldFault.NoLink) × (slice_get (as_links self.now.links.items) conn.0 ≡ None)) }
+    {
+        let index = conn.0 as usize;
+        if index < self.links.len() {
+            Ok(index)
+        } else {
+            Err(WorldFault::NoLink)
+        }
+    }
+
+    /// What the side's peer asks for at the event, with room for what it sends. None where it refuses the event.
+    fn ask(
         &mut self,
         alloc: Global,
         side: Side,
         event: Event<'_>,
-    ) -> Result<Effect, NoMemory>
-        requires shaped { AreShaped self.old }
-        requires plain { is_plain (told event) ≡ true }
+    ) -> Result<Option<Actions>, NoMemory>
         requires octets { AreOctets (submitted_in (told event)) }
-        ensures step { IfOk result (λ effect. Effects effect
-            (worlds.tell octet_peers (as_side side) (as_event (told event.entry)) (as_world self.old))
-            (as_world self.old) (as_world self.new)) }
-        ensures unchanged { OnErr result (as_world self.new ≡ as_world self.old) }
+        ensures same { as_links self.new.links.items ≡ as_links self.old.links.items }
+        ensures answer { IfOk result (λ answer.
+            IsAnswerOf (as_side side) (told event.entry) answer self.old.pair self.new.pair) }
+        ensures sends { IfOk result (λ answer. IfSome answer (λ actions.
+            CanSend (as_side side) self.new.links.items actions.items)) }
+        ensures unchanged { OnErr result (self.new.pair ≡ self.old.pair) }
     {
         octets_are_a_machine();
         octets_are_frames();
         each_opening_has_its_message();
         each_step_keeps_shape();
         make_room(&mut self.links, side, self.pair.of(side), named(event))?;
-        match self.pair.ask(alloc, side, event)? {
-            None => Ok(Effect::Ignored),
-            Some(actions) => {
-                enter(&mut self.links, side, event);
-                perform(&mut self.links, side, actions);
+        self.pair.ask(alloc, side, event)
+    }
+
+    /// The side's peer is told of the event. Where a message arrived the framer, which then has handed it out, takes
+    /// the place of the one that holds octets of it.
+    pub(crate) fn tell(
+        &mut self,
+        alloc: Global,
+        side: Side,
+        event: Event<'_>,
+        framer: Option<Framer>,
+    ) -> Result<Effect, NoMemory>
+        requires known { is_start (told event) ≡ false }
+        requires octets { AreOctets (submitted_in (told event)) }
+        requires framer { FramerFits (told event) framer }
+        ensures step { IfOk result (λ effect. Effects effect
+            (worlds.tell octet_peers (as_side side) (as_event (told event.entry)) (as_world self.old))
+            (as_world self.old) (as_world self.new)) }
+        ensures unchanged { OnErr result (as_world self.new ≡ as_world self.old) }
+    {
+        match self.ask(alloc, side, event) {
+            Ok(Some(actions)) => {
+                let peer = self.pair.of(side);
+                follow(&mut self.links, side, peer, event, framer, actions);
                 Ok(Effect::Done)
             }
+            Ok(None) => Ok(Effect::Ignored),
+            Err(no_memory) => Err(no_memory),
         }
     }
 

@@ -1,9 +1,11 @@
 //! The two peers of a world.
-ghost use Rattle.std.specs.Prelude.{◌≡◌, IfOk, OnErr};
+ghost use Rattle.std.specs.Prelude.{◌≡◌, IsTrue, IfOk, OnErr};
+ghost use Rattle.dm_machine.specs.Node.{is_shaped};
+ghost use Rattle.dm_links.specs.Machine.{is_held, tie_of};
 ghost use Rattle.dm_peer.specs.Acts.{acts};
 ghost use Rattle.dm_peer.specs.Events.{told};
 ghost use Rattle.dm_world.specs.Asking.{peer_of, with_peer_of, reset_of, IsAnswer, IsAnswerOf, IsWant};
-ghost use Rattle.dm_world.specs.Rooms.{is_on, holds};
+ghost use Rattle.dm_world.specs.Rooms.{is_conn, holds_link};
 ghost use Rattle.dm_world.specs.Seen.{as_side};
 
 use crate::Side;
@@ -20,10 +22,12 @@ pub(crate) struct Pair {
 
 /// What the peer asks for at the event. None where it refuses the event.
 fn ask_one(peer: &mut Peer, alloc: Global, event: Event<'_>) -> Result<Option<Actions>, NoMemory>
+    ensures shaped { IsTrue (is_shaped peer.old.standing.core) }
     ensures answer { IfOk result (λ answer. IsAnswer (acts peer.old (told event.entry)) answer peer.old peer.new) }
     ensures want { OnErr result (IsWant (acts peer.old (told event.entry))) }
     ensures unchanged { OnErr result (peer.new ≡ peer.old) }
 {
+    let _shaped = peer.state();
     match peer.on(alloc, event) {
         Ok(actions) => Ok(Some(actions)),
         Err(PeerFault::NoMemory) => Err(NoMemory),
@@ -32,8 +36,8 @@ fn ask_one(peer: &mut Peer, alloc: Global, event: Event<'_>) -> Result<Option<Ac
 }
 
 /// Whether the connection is the one held.
-fn is_on(held: Option<Conn>, conn: Conn) -> bool
-    ensures { result ≡ is_on held conn.0 }
+fn is_conn(held: Option<Conn>, conn: Conn) -> bool
+    ensures { result ≡ is_conn held conn.0 }
 {
     match held {
         Some(held) => held.0 == conn.0,
@@ -41,11 +45,19 @@ fn is_on(held: Option<Conn>, conn: Conn) -> bool
     }
 }
 
+/// Whether the connection is one that the peer opened or accepted.
+fn is_of(peer: &Peer, conn: Conn) -> bool
+    ensures { result ≡ holds_link peer.now.standing.core conn.0 }
+{
+    is_conn(peer.initiated(), conn) || is_conn(peer.accepted(), conn)
+}
+
 /// Whether the peer holds the connection.
 pub(crate) fn holds(peer: &Peer, conn: Conn) -> bool
-    ensures { result ≡ holds peer.now.standing.core conn.0 }
+    ensures { result ≡ is_held (tie_of peer.now.standing.core conn.0) }
 {
-    is_on(peer.initiated(), conn) || is_on(peer.accepted(), conn)
+    let _shaped = peer.state();
+    is_of(peer, conn)
 }
 
 impl Pair {
@@ -66,6 +78,7 @@ impl Pair {
         side: Side,
         event: Event<'_>,
     ) -> Result<Option<Actions>, NoMemory>
+        ensures shaped { IsTrue (is_shaped (peer_of (as_side side) self.old).standing.core) }
         ensures answer { IfOk result (λ answer. IsAnswerOf (as_side side) (told event.entry) answer self.old self.new) }
         ensures want { OnErr result (IsWant (acts (peer_of (as_side side) self.old) (told event.entry))) }
         ensures unchanged { OnErr result (self.new ≡ self.old) }

@@ -8,7 +8,7 @@ ghost use Rattle.dm_world.specs.Asking.{reset_of};
 ghost use Rattle.dm_world.specs.Ends.{AreNamed, AreSameEnds, AreCleared, IsMade, restart_each, numbers, held_numbers};
 ghost use Rattle.dm_world.specs.Happening.{is_pending_at};
 ghost use Rattle.dm_world.specs.Seen.{as_side, as_links};
-ghost use Rattle.dm_world.specs.Views.{as_world, Effects, AreShaped, IsFault};
+ghost use Rattle.dm_world.specs.Views.{as_world, Effects, IsFault};
 
 use crate::link::Link;
 use crate::made::MadeEnds;
@@ -53,7 +53,6 @@ impl Net {
         made: &mut MadeEnds,
         conn: Conn,
     ) -> Result<Effect, WorldFault>
-        requires { AreShaped self.old }
         ensures step { IfOk result (λ effect. Effects effect (happens octet_peers (as_world self.old) (Acks conn.0))
             (as_world self.old) (as_world self.new)) }
         ensures fault { IfErr result (λ f. IsFault f (is_pending_at (slice_get (as_links self.old.links.items) conn.0))
@@ -63,17 +62,14 @@ impl Net {
             made.old made.new) }
         ensures same { OnErr result (AreSameEnds made.old made.new) }
     {
-        let index = conn.0 as usize;
-        if index >= self.links.len() {
-            return Err(WorldFault::NoLink);
-        }
+        let index = self.index_of(conn)?;
         let link = &self.links[index];
         if !link.is_pending() {
             return Ok(Effect::Ignored);
         }
         let opener = link.opener;
         made.reserve(opener.other())?;
-        let effect = self.tell(alloc, opener, Event::Ack(conn))?;
+        let effect = self.tell(alloc, opener, Event::Ack(conn), None)?;
         if let Effect::Done = effect {
             made.add(opener.other(), index);
         }

@@ -1,6 +1,6 @@
 //! Room for what a side's peer sends, made before the peer is asked.
 ghost use Rattle.std.specs.Prelude.{◌≡◌, ℕ, IsTrue, OnOk};
-ghost use Rattle.dm_world.specs.Rooms.{HasRoom, is_on, HasRoomToSend};
+ghost use Rattle.dm_world.specs.Rooms.{HasRoom, is_conn, HasRoomToSend};
 ghost use Rattle.dm_world.specs.Seen.{as_side, as_links};
 
 use crate::link::Link;
@@ -14,7 +14,7 @@ const MAX_SENDS: usize = 4;
 /// Room on the link of a connection, if there is one.
 fn room_on(links: &mut Vec<Link>, side: Side, conn: Option<Conn>) -> Result<(), NoMemory>
     ensures same { as_links links.new.items ≡ as_links links.old.items }
-    ensures room { OnOk result ((c : ℕ) → IsTrue (is_on conn c) → HasRoom (as_side side) links.new.items 4 c) }
+    ensures room { OnOk result ((c : ℕ) → IsTrue (is_conn conn c) → HasRoom (as_side side) links.new.items 4 c) }
     ensures kept { (n c : ℕ) → HasRoom (as_side side) links.old.items n c → HasRoom (as_side side) links.new.items n c }
 {
     match conn {

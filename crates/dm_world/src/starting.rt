@@ -3,11 +3,11 @@ ghost use Rattle.std.specs.Prelude.{◌≡◌, IfOk, OnErr};
 ghost use Rattle.dm_links.specs.Happens.{happens, Starts, TimesOut};
 ghost use Rattle.dm_pair.specs.Octets.{octet_peers};
 ghost use Rattle.dm_world.specs.Seen.{as_side};
-ghost use Rattle.dm_world.specs.Views.{as_world, Effects, AreShaped};
+ghost use Rattle.dm_world.specs.Views.{as_world, Effects};
 
+use crate::following::perform;
 use crate::link::Link;
 use crate::net::Net;
-use crate::performing::perform;
 use crate::{Effect, Side};
 use dm_dict::NoMemory;
 use dm_pair::laws::octets_are_frames;
@@ -18,7 +18,6 @@ use std::alloc::Global;
 impl Net {
     /// The side is asked to open a connection: the next link.
     pub(crate) fn start(&mut self, alloc: Global, side: Side) -> Result<Effect, NoMemory>
-        requires { AreShaped self.old }
         ensures step { IfOk result (λ effect. Effects effect
             (happens octet_peers (as_world self.old) (Starts (as_side side))) (as_world self.old) (as_world self.new)) }
         ensures unchanged { OnErr result (as_world self.new ≡ as_world self.old) }
@@ -41,7 +40,6 @@ impl Net {
 
     /// The side's state has had its time.
     pub(crate) fn time_out(&mut self, alloc: Global, side: Side) -> Effect
-        requires { AreShaped self.old }
         ensures { Effects result (happens octet_peers (as_world self.old) (TimesOut (as_side side)))
             (as_world self.old) (as_world self.new) }
     {

@@ -2,7 +2,6 @@ use Rattle.std.proofs.Common.{◌+◌, ◌-◌, length, take, drop, arith, ap, s
 use Rattle.dm_links.specs.Happens.{happens}
 use Rattle.dm_pair.specs.Octets.{octet_peers}
 use Rattle.dm_world.specs.Happening.{as_happening}
-use Rattle.dm_world.specs.Views.{as_world}
 use Rattle.dm_replay.specs.Text.{trace_line}
 use Rattle.dm_replay.specs.Replay.{replay_from}
 use Rattle.dm_replay.proofs.Steps.{effect_line, go_on, cut_first}
@@ -13,8 +12,8 @@ script-preserved c =
     let rest = c.script.rest.now in
     let n = c.script.count + 1 in
     let h = c.happening-item.result in
-    let w = as_world c.script.world.net in
-    let next = as_world c.apply.new.self.net in
+    let w = c.script.world in
+    let next = c.apply.new.self in
     let more = take (length rest - 1) (drop 1 rest) in
     let cut = cut_first rest h c.in-len1-up.len_at_least c.happening-item.is in
     let line = effect_line c.in-Ok.effect n w next (happens octet_peers w (as_happening h))

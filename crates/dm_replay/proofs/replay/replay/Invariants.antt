@@ -1,5 +1,4 @@
 use Rattle.std.proofs.Common.{◌≡◌, ◌++◌, ◌+◌, length}
-use Rattle.dm_world.specs.Views.{as_world}
 use Rattle.dm_replay.specs.Replay.{replay_from}
 use Rattle.dm_replay.proofs.replay.replay.Given as goal
 
@@ -7,9 +6,9 @@ use Rattle.dm_replay.proofs.replay.replay.Given as goal
 abbrev pub invariant-script : goal.invariant-script
 invariant-script l =
     (l.count + length l.rest ≡ length l.list)
-    × (l.text.items ++ (replay_from (l.count + 1) (as_world l.world.net) l.rest).0 ≡ l.fn.text.items ++
-    (replay_from 1 (as_world l.fn.world.net) l.list).0)
-    × ((replay_from (l.count + 1) (as_world l.world.net) l.rest).1 ≡ (replay_from 1 (as_world l.fn.world.net) l.list).1)
+    × (l.text.items ++ (replay_from (l.count + 1) l.world l.rest).0 ≡ l.fn.text.items ++
+    (replay_from 1 l.fn.world l.list).0)
+    × ((replay_from (l.count + 1) l.world l.rest).1 ≡ (replay_from 1 l.fn.world l.list).1)
 
 abbrev pub decreases-script : goal.decreases-script
 decreases-script l = length l.rest

@@ -1,17 +1,16 @@
 use Rattle.std.proofs.Common.{◌++◌, ap, ◌∙◌}
-use Rattle.dm_world.specs.Views.{as_world}
 use Rattle.dm_replay.specs.Replay.{replay_from}
 use Rattle.dm_replay.proofs.Worlds.{replayed, nothing_common, not_peers}
 use Rattle.dm_replay.proofs.replay.script_text.Goals as goal
 
 pub returns-in-Ok : goal.returns-in-Ok
 returns-in-Ok c =
-    replayed c.args.script (as_world c.in-Ok.world.net) c.replay-good.new.text.items c.new-text.result.items
+    replayed c.args.script c.in-Ok.world c.replay-good.new.text.items c.new-text.result.items
     c.in_ok-good-in-Ok.field-0 c.in-Ok.ensures.world c.in-Ok.ensures.fine
     c.new-text.ensures.items
     (c.in_ok-good-in-Ok.ensures.text ∙ ap
-    (λ l. c.new-text.result.items ++ (replay_from 1 (as_world c.in-Ok.world.net) l).0) c.as_slice.ensures)
-    (c.in_ok-good-in-Ok.ensures.good ∙ ap (λ l. (replay_from 1 (as_world c.in-Ok.world.net) l).1) c.as_slice.ensures)
+    (λ l. c.new-text.result.items ++ (replay_from 1 c.in-Ok.world l).0) c.as_slice.ensures)
+    (c.in_ok-good-in-Ok.ensures.good ∙ ap (λ l. (replay_from 1 c.in-Ok.world l).1) c.as_slice.ensures)
 
 pub returns-in-Err-NothingCommon : goal.returns-in-Err-NothingCommon
 returns-in-Err-NothingCommon c =

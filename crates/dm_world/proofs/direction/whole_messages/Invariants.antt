@@ -2,4 +2,4 @@ use Rattle.dm_world.proofs.Whole.{AreWhole}
 use Rattle.dm_world.proofs.direction.whole_messages.Given as goal
 
 abbrev pub invariant-loop-index : goal.invariant-loop-index
-invariant-loop-index l = AreWhole l.index l.left l.kept l.queue.items
+invariant-loop-index l = AreWhole l.index l.rest l.kept l.queue.items

@@ -1,57 +1,76 @@
-use Rattle.std.specs.Prelude.{IsTrue}
-use Rattle.std.proofs.Common.{rules, slice_get, ◌≡◌, ◌<◌, ◌≤◌, ◌⊎◌, length, sym, ap, subst, ◌∙◌, arith}
-use Rattle.dm_world.specs.declared.link.Next.TheVariants as next
-use Rattle.dm_world.specs.Next.{left_to}
+use Rattle.std.specs.Prelude.{IsTrue, Result, Ok, Err, OnErr}
+use Rattle.std.proofs.Common.{rules, slice_get, ◌≡◌, ◌<◌, ◌≤◌, ◌⊎◌, sym, ap, subst, ◌∙◌, arith}
+use Rattle.dm_links.specs.Happens.{happens, Pieces, take_part}
+use Rattle.dm_links.specs.Links.{by_side}
+use Rattle.dm_links.specs.Worlds.{change_at}
+use Rattle.dm_pair.specs.Octets.{octet_peers}
+use Rattle.dm_world.specs.declared.direction.Next.TheVariants as next
+use Rattle.dm_world.specs.Next.{octets_to_come_to}
 use Rattle.dm_world.specs.Happening.{is_fed_at}
 use Rattle.dm_world.specs.Seen.{as_side, as_link, as_links}
-use Rattle.dm_world.specs.Views.{as_world}
-use Rattle.dm_world.proofs.Hearing.{link_at}
+use Rattle.dm_world.specs.Views.{as_world, Effects}
+use Rattle.dm_world.proofs.Changed.{changed, same_links}
+use Rattle.dm_world.proofs.Hearing.{link_at, link_found}
 use Rattle.dm_world.proofs.Deliveries.{no_message, part_step, last_step}
 use Rattle.dm_world.proofs.Wants.{wants_last, wants_part}
 use Rattle.dm_world.proofs.net.Net.piece.Goals as goal
 
-pub returns-then-left-count-clause-step : goal.returns-then-left-count-clause-step
-returns-then-left-count-clause-step c =
-    let lt : c.args.conn.0 < length c.args.self.now.links.items = omega (arith, c.args.self.now.links.ok.0) in
-    let above : left_to (as_side c.args.side) (as_link c.index-link.result.now) ≤ c.args.count =
-    omega (arith, c.left.ensures) in
-    last_step (as_side c.args.side) c.args.conn.0 c.args.count c.in_ok-message_comes-in-Message.field-0
-    (as_world c.args.self.now) (as_world c.message_comes.new.self) (as_link c.index-link.result.now)
-    (link_at c.args.conn.0 c.args.self.now.links.items c.index-link.result.now lt c.index-link.ensures)
-    (sym c.next.ensures ∙ c.in-Message.is) (omega arith) above c.in_ok-message_comes-in-Message.ensures.step
-
-pub take-requires : goal.take-requires
-take-requires c =
-    let lt : c.args.conn.0 < length c.args.self.now.links.items = omega (arith, c.args.self.now.links.ok.0) in
-    let below : c.args.count < left_to (as_side c.args.side) (as_link c.index-link.result.now) =
-    omega (arith, c.left.ensures) in
-    rw (link_at c.args.conn.0 c.args.self.now.links.items c.index-link.result.now lt c.index-link.ensures) below
+pub returns-then-to_come-count-clause-step : goal.returns-then-to_come-count-clause-step
+returns-then-to_come-count-clause-step c =
+    let s = as_side c.args.side in
+    let w = as_world c.args.self.now in
+    let next = as_world c.message_comes.new.self in
+    let outcome = c.in_ok-message_comes-in-Message.field-0 in
+    let there = c.in_ok-index.ensures.there in
+    let above : octets_to_come_to s (as_link c.index-link.result.now) ≤ c.args.count =
+    omega (arith, c.to_come.ensures) in
+    subst (λ k. Effects outcome (happens octet_peers w (Pieces k s c.args.count)) w next) there.0
+    (last_step s c.in_ok-index.index c.args.count outcome w next (as_link c.index-link.result.now)
+    (link_at c.in_ok-index.index c.args.self.now.links.items c.index-link.result.now there.1 c.index-link.ensures)
+    (sym c.next.ensures ∙ c.in-Message.is) (omega arith) above c.in_ok-message_comes-in-Message.ensures.step)
 
 pub returns-in-Disconnect-clause-step : goal.returns-in-Disconnect-clause-step
 returns-in-Disconnect-clause-step c =
-    let lt : c.args.conn.0 < length c.args.self.now.links.items = omega (arith, c.args.self.now.links.ok.0) in
     no_message (as_side c.args.side) c.args.conn.0 c.args.count (as_world c.args.self.now)
     (as_link c.index-link.result.now)
-    (link_at c.args.conn.0 c.args.self.now.links.items c.index-link.result.now lt c.index-link.ensures) (omega arith)
+    (link_found c.args.conn.0 c.in_ok-index.index c.args.self.now.links.items c.index-link.result.now
+    c.in_ok-index.ensures.there c.index-link.ensures) (omega arith)
     (subst (λ n. (n ≡ next.Disconnect) ⊎ (n ≡ next.Nothing)) c.next.ensures c.in-Disconnect.is)
 
 pub returns-in_ok-take-in-Message-clause-step : goal.returns-in_ok-take-in-Message-clause-step
 returns-in_ok-take-in-Message-clause-step c =
-    let lt : c.args.conn.0 < length c.args.self.now.links.items = omega (arith, c.args.self.now.links.ok.0) in
-    let below : c.args.count < left_to (as_side c.args.side) (as_link c.index-link.result.now) =
-    omega (arith, c.left.ensures) in
-    part_step (as_side c.args.side) c.args.conn.0 c.args.count (as_world c.args.self.now) _
-    (as_link c.index-link.result.now)
-    (link_at c.args.conn.0 c.args.self.now.links.items c.index-link.result.now lt c.index-link.ensures)
+    let s = as_side c.args.side in
+    let there = c.in_ok-index.ensures.there in
+    let below : c.args.count < octets_to_come_to s (as_link c.index-link.result.now) =
+    omega (arith, c.to_come.ensures) in
+    part_step s c.args.conn.0 c.args.count (as_world c.args.self.now) _ (as_link c.index-link.result.now)
+    (link_found c.args.conn.0 c.in_ok-index.index c.args.self.now.links.items c.index-link.result.now there
+    c.index-link.ensures)
     (sym c.next.ensures ∙ c.in-Message.is) (omega arith) below
     (ap (λ ls. record { a = c.args.self.now.pair.a; b = c.args.self.now.pair.b; links = ls })
-    c.in_ok-take-in-Message.ensures.taken)
+    (changed (by_side s (take_part c.args.count)) c.in_ok-index.index c.args.self.now.links.items _ c.take.new.self
+    c.index_mut.ensures.value there.1 c.in_ok-take-in-Message.ensures.taken
+    ∙ ap (λ k. change_at k (by_side s (take_part c.args.count)) (as_links c.args.self.now.links.items)) there.0))
+
+at_err : {T E P : Type 0} (r : Result T E) → P → OnErr r P
+at_err (Ok x) is = tt
+at_err (Err e) is = is
+
+pub returns-in_err-take-in-Message-clause-unchanged : goal.returns-in_err-take-in-Message-clause-unchanged
+returns-in_err-take-in-Message-clause-unchanged c =
+    at_err c.from_residual-in_err-take-in-Message.result
+    (ap (λ ls. record { a = c.args.self.now.pair.a; b = c.args.self.now.pair.b; links = ls })
+    (same_links c.in_ok-index.index c.args.self.now.links.items _ c.take.new.self c.index_mut.ensures.value
+    c.in_err-take-in-Message.ensures.unchanged))
 
 pub returns-in_err-message_comes-in-Message-clause-fault : goal.returns-in_err-message_comes-in-Message-clause-fault
 returns-in_err-message_comes-in-Message-clause-fault c =
-    let lt : c.args.conn.0 < length c.args.self.now.links.items = omega (arith, c.args.self.now.links.ok.0) in
-    let there = link_at c.args.conn.0 c.args.self.now.links.items c.index-link.result.now lt c.index-link.ensures in
-    let hears = c.in_err-message_comes-in-Message.ensures.heard (as_link c.index-link.result.now) there in
+    let there =
+    link_found c.args.conn.0 c.in_ok-index.index c.args.self.now.links.items c.index-link.result.now
+    c.in_ok-index.ensures.there c.index-link.ensures in
+    let hears = c.in_err-message_comes-in-Message.ensures.heard (as_link c.index-link.result.now)
+    (link_at c.in_ok-index.index c.args.self.now.links.items c.index-link.result.now c.in_ok-index.ensures.there.1
+    c.index-link.ensures) in
     let want : IsTrue (is_fed_at (as_side c.args.side) c.args.count
     (slice_get (as_links c.args.self.now.links.items) c.args.conn.0)) =
     wants_last (as_side c.args.side) c.args.count (slice_get (as_links c.args.self.now.links.items) c.args.conn.0)
@@ -60,10 +79,11 @@ returns-in_err-message_comes-in-Message-clause-fault c =
 
 pub returns-in_err-take-in-Message-clause-fault : goal.returns-in_err-take-in-Message-clause-fault
 returns-in_err-take-in-Message-clause-fault c =
-    let lt : c.args.conn.0 < length c.args.self.now.links.items = omega (arith, c.args.self.now.links.ok.0) in
-    let there = link_at c.args.conn.0 c.args.self.now.links.items c.index-link.result.now lt c.index-link.ensures in
-    let below : c.args.count < left_to (as_side c.args.side) (as_link c.index-link.result.now) =
-    omega (arith, c.left.ensures) in
+    let there =
+    link_found c.args.conn.0 c.in_ok-index.index c.args.self.now.links.items c.index-link.result.now
+    c.in_ok-index.ensures.there c.index-link.ensures in
+    let below : c.args.count < octets_to_come_to (as_side c.args.side) (as_link c.index-link.result.now) =
+    omega (arith, c.to_come.ensures) in
     let want : IsTrue (is_fed_at (as_side c.args.side) c.args.count
     (slice_get (as_links c.args.self.now.links.items) c.args.conn.0)) =
     wants_part (as_side c.args.side) c.args.count (slice_get (as_links c.args.self.now.links.items) c.args.conn.0)

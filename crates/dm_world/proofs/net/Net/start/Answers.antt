@@ -1,23 +1,25 @@
-use Rattle.std.proofs.Common.{◌≡◌, length, ◌∙◌, sym, ap, refl}
+use Rattle.std.proofs.Common.{◌≡◌, length, ◌∙◌, sym, ap, refl, arith}
 use Rattle.dm_links.specs.Machine.{conn}
 use Rattle.dm_peer.specs.Events.{Start}
+use Rattle.dm_world.specs.Asking.{peer_of}
 use Rattle.dm_world.specs.Seen.{as_side, as_links}
 use Rattle.dm_world.proofs.Changed.{length_links}
 use Rattle.dm_world.proofs.Silent.{silent_room}
-use Rattle.dm_world.proofs.Telling.{started, not_started, start_links, sends_frames, no_octets}
+use Rattle.dm_world.proofs.Telling.{started, not_started, start_links}
 use Rattle.dm_world.proofs.net.Net.start.Goals as goal
 
 pub perform-requires-clause-frames : goal.perform-requires-clause-frames
 perform-requires-clause-frames c =
     let answer = rw c.in-Some.is at c.in_ok-ask.ensures.answer in
-    sends_frames (as_side c.args.side) (Start (conn c.len.result)) c.args.self.now c.ask.new.self c.in-Some.actions
-    c.octets_are_frames.ensures no_octets answer
+    c.octets_are_frames.ensures (peer_of (as_side c.args.side) c.args.self.now.pair)
+    (peer_of (as_side c.args.side) c.ask.new.self) (Start (conn c.len.result)) c.in-Some.actions.items
+    (λ i. omega arith) answer.0
 
 pub perform-requires-clause-room : goal.perform-requires-clause-room
 perform-requires-clause-room c =
     let answer = rw c.in-Some.is at c.in_ok-ask.ensures.answer in
     silent_room (as_side c.args.side) (Start (conn c.len.result)) c.args.self.now c.ask.new.self c.in-Some.actions
-    c.push_reserved.new.self.items c.silent_takes_none.ensures c.requires refl answer
+    c.push_reserved.new.self.items c.silent_takes_none.ensures c.ask.ensures.shaped refl answer
 
 pub returns-in-None-clause-step : goal.returns-in-None-clause-step
 returns-in-None-clause-step c =

@@ -1,24 +1,26 @@
-use Rattle.std.proofs.Common.{refl}
+use Rattle.std.proofs.Common.{refl, arith}
 use Rattle.dm_peer.specs.Events.{Timeout}
+use Rattle.dm_world.specs.Asking.{peer_of}
 use Rattle.dm_world.specs.Seen.{as_side}
 use Rattle.dm_world.proofs.Silent.{silent_room, timeout_wants_none}
-use Rattle.dm_world.proofs.Telling.{done_step, sends_frames, no_octets}
+use Rattle.dm_world.proofs.Telling.{done_step}
 use Rattle.dm_world.proofs.net.Net.time_out.Goals as goal
 
 pub perform-requires-clause-frames : goal.perform-requires-clause-frames
 perform-requires-clause-frames c =
     let answer = rw c.in-Ok-Some.field-0-is at c.in-Ok-Some.ensures.answer in
-    sends_frames (as_side c.args.side) Timeout c.args.self.now c.ask.new.self c.in-Ok-Some.actions
-    c.octets_are_frames.ensures no_octets answer
+    c.octets_are_frames.ensures (peer_of (as_side c.args.side) c.args.self.now.pair)
+    (peer_of (as_side c.args.side) c.ask.new.self) Timeout c.in-Ok-Some.actions.items (λ i. omega arith) answer.0
 
 pub perform-requires-clause-room : goal.perform-requires-clause-room
 perform-requires-clause-room c =
     let answer = rw c.in-Ok-Some.field-0-is at c.in-Ok-Some.ensures.answer in
     silent_room (as_side c.args.side) Timeout c.args.self.now c.ask.new.self c.in-Ok-Some.actions
-    c.args.self.now.links.items c.silent_takes_none.ensures c.requires refl answer
+    c.args.self.now.links.items c.silent_takes_none.ensures c.ask.ensures.shaped refl answer
 
 pub unreachable-requires : goal.unreachable-requires
-unreachable-requires c = timeout_wants_none (as_side c.args.side) c.args.self.now c.silent_takes_none.ensures c.requires
+unreachable-requires c =
+    timeout_wants_none (as_side c.args.side) c.args.self.now c.silent_takes_none.ensures c.ask.ensures.shaped
     c.in-Err.ensures.want
 
 pub returns-in-Ok-Some : goal.returns-in-Ok-Some

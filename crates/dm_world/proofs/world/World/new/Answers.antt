@@ -27,21 +27,22 @@ pub invariant_of-result : goal.invariant_of-result
 invariant_of-result c =
     let a = c.new.result in
     let b = c.new-2.result in
-    let left = is_fresh a c.args.left c.new.ensures.config c.new.ensures.standing in
-    let right = is_fresh b c.args.right c.new-2.ensures.config c.new-2.ensures.standing in
+    let left = is_fresh a c.args.a c.new.ensures.config c.new.ensures.standing in
+    let right = is_fresh b c.args.b c.new-2.ensures.config c.new-2.ensures.standing in
     let closed = c.closed_is_sound.ensures octet_peers a b (ap (λ (s : Standing). s.core) c.new.ensures.standing)
     (ap (λ (s : Standing). s.core) c.new-2.ensures.standing) in
     let made =
     subst (λ p. ArePeers (world_of p b)) left
-    (subst (λ p. ArePeers (world_of (fresh_peer c.args.left) p)) right
-    (c.each_happening_keeps_peers.ensures.fresh c.args.left c.args.right
-    (no_fault_pairs c.args.left c.args.right (sym c.fault_of.ensures ∙ c.in_default.is)) c.new.ensures.number
+    (subst (λ p. ArePeers (world_of (fresh_peer c.args.a) p)) right
+    (c.each_happening_keeps_peers.ensures.fresh c.args.a c.args.b
+    (no_fault_pairs c.args.a c.args.b (sym c.fault_of.ensures ∙ c.in_default.is)) c.new.ensures.number
     c.new-2.ensures.number)) in
+    let is = sym c.new-3.ensures.items in
     record {
-      sound = subst (λ ls. AreSound A a.standing.core b.standing.core (as_links ls)) (sym c.new-3.ensures.items) closed;
-      peers = subst (λ ls. ArePeers (record { a = a; b = b; links = as_links ls })) (sym c.new-3.ensures.items) made;
-      cut = subst (λ ls. AreCut octet_peers (record { a = a; b = b; links = as_links ls })) (sym c.new-3.ensures.items)
-          (λ k l is. cc);
-      named = subst (λ ls. AreNamed c.new-4.result (as_links ls)) (sym c.new-3.ensures.items)
-          (none_named c.new-4.result);
+      kept = record {
+        sound = subst (λ ls. AreSound A a.standing.core b.standing.core (as_links ls)) is closed;
+        peers = subst (λ ls. ArePeers (record { a = a; b = b; links = as_links ls })) is made;
+        cut = subst (λ ls. AreCut octet_peers (record { a = a; b = b; links = as_links ls })) is (λ k l is. cc);
+      };
+      named = subst (λ ls. AreNamed c.new-4.result (as_links ls)) is (none_named c.new-4.result);
     }

@@ -1,0 +1,23 @@
+use Rattle.dm_peer.specs.Events.{told}
+use Rattle.dm_pair.specs.Octets.{as_event}
+use Rattle.dm_world.specs.Asking.{peer_of}
+use Rattle.dm_world.specs.Rooms.{HasRoomToSend, named}
+use Rattle.dm_world.specs.Seen.{as_side}
+use Rattle.dm_world.proofs.Sending.{SendLaws}
+use Rattle.dm_world.proofs.Telling.{can_send, room_seen}
+use Rattle.dm_world.proofs.net.Net.ask.Goals as goal
+
+pub returns-clause-sends : goal.returns-clause-sends
+returns-clause-sends c =
+    let laws : SendLaws =
+    record {
+      machine = c.octets_are_a_machine.ensures;
+      alone = c.each_opening_has_its_message.ensures.alone;
+      keeps = c.each_step_keeps_shape.ensures;
+    } in
+    let room : HasRoomToSend (as_side c.args.side) c.make_room.new.links.items
+    (peer_of (as_side c.args.side) c.args.self.now.pair).standing.core (named (as_event (told c.args.event))) =
+    room_seen _ _ _ _ _ _ c.of.ensures c.named.ensures c.in_ok-make_room.ensures.room in
+    can_send c.ask.result (as_side c.args.side) (told c.args.event) c.args.self.now.pair c.ask.new.self
+    c.make_room.new.links.items laws c.octets_are_frames.ensures c.requires.octets c.ask.ensures.shaped room
+    c.ask.ensures.answer

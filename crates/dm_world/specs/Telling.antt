@@ -1,0 +1,34 @@
+-- What a side's peer is told, and what comes of it on the links.
+use Rattle.std.specs.Prelude.{◌≡◌, ℕ, Bool, true, false, Option, Some, List, []}
+use Rattle.dm_framer.specs.Stream.{Stream}
+use Rattle.dm_peer.specs.declared.actions.Action.{Action}
+use Rattle.dm_peer.specs.declared.peer.Peer.{Peer}
+use Rattle.dm_peer.specs.Events.{PeerEvent, Start, Ack, Nack, Gone, Arrived}
+use Rattle.dm_links.specs.Links.{Side, Link}
+use Rattle.dm_links.specs.Machine.{Concern, Elsewhere, StartsIt, AcksIt, NacksIt, EndsIt, HeardOnIt}
+use Rattle.dm_links.specs.Peers.{Event}
+use Rattle.dm_links.specs.Worlds.{enter, perform, settle}
+use Rattle.dm_pair.specs.Octets.{as_actions}
+use Rattle.dm_world.specs.Fed.{holding}
+
+abbrev pub is_start : PeerEvent → Bool
+is_start (Start c) = true
+is_start _ = false
+
+-- how an event concerns the link that it names
+abbrev pub concern_in : PeerEvent → Concern
+concern_in (Start c) = StartsIt
+concern_in (Ack c) = AcksIt
+concern_in (Nack c) = NacksIt
+concern_in (Gone c) = EndsIt
+concern_in (Arrived c s) = HeardOnIt
+concern_in _ = Elsewhere
+
+-- beside a message that arrived there is the framer that handed it out
+abbrev pub FramerFits : PeerEvent → Option Stream → Type 0
+FramerFits (Arrived c s) framer = framer ≡ Some (holding [])
+FramerFits _ framer = Unit {0}
+
+-- the links after an event of a side, whose peer asks for these actions
+abbrev pub links_after : Side → Event (List ℕ) → List Action → Peer → List (Link (List ℕ)) → List (Link (List ℕ))
+links_after s e actions next ls = settle s e next.standing.core (perform s (as_actions actions) (enter s e ls))

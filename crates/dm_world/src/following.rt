@@ -1,0 +1,106 @@
+//! An event that a side's peer took is followed on the links: it reaches the one that it names, and what the peer asks
+//! for is done.
+ghost use Rattle.std.specs.Prelude.{◌≡◌, ℕ, ◌+◌, IsTrue, false, [], ◌∷◌, length, map};
+ghost use Rattle.dm_peer.specs.Events.{told};
+ghost use Rattle.dm_links.specs.Links.{by_side};
+ghost use Rattle.dm_links.specs.Machine.{HeardOnIt};
+ghost use Rattle.dm_links.specs.Peers.{deed_of, sends_at};
+ghost use Rattle.dm_links.specs.Steps.{settled};
+ghost use Rattle.dm_links.specs.Worlds.{enter, perform, change_at};
+ghost use Rattle.dm_pair.specs.Frames.{SendFrames};
+ghost use Rattle.dm_pair.specs.Octets.{as_action, as_actions, as_event};
+ghost use Rattle.dm_world.specs.Rooms.{HasRoom, HasRoomFor, CanSend, named};
+ghost use Rattle.dm_world.specs.Seen.{as_side, as_links};
+ghost use Rattle.dm_world.specs.Telling.{is_start, FramerFits, links_after};
+
+use crate::link::Link;
+use crate::pair::holds;
+use crate::{Side, links};
+use dm_framer::Framer;
+use dm_peer::{Action, Actions, Conn, Event, Peer};
+
+/// The link that the event names.
+pub(crate) fn named(event: Event<'_>) -> Option<Conn>
+    ensures { result ≡ named (as_event (told event.entry)) }
+{
+    match event {
+        Event::Start(conn)
+        | Event::Ack(conn)
+        | Event::Nack(conn)
+        | Event::Arrived(conn, _)
+        | Event::Gone(conn) => Some(conn),
+        Event::Stop(_) | Event::Timeout | Event::Tick | Event::Submit(_) => None,
+    }
+}
+
+/// The event reaches the side's end of the link that it names, if there is one. Where a message arrived the framer
+/// takes the place of the one that holds octets of it.
+pub(crate) fn enter(links: &mut Vec<Link>, side: Side, event: Event<'_>, framer: Option<Framer>)
+    requires known { is_start (told event) ≡ false }
+    requires framer { FramerFits (told event) framer }
+    ensures entered { as_links links.new.items ≡ enter (as_side side) (as_event (told event.entry))
+        (as_links links.old.items) }
+    ensures room { (n c : ℕ) → HasRoom (as_side side) links.old.items n c →
+        HasRoom (as_side side) links.new.items n c }
+{
+    match named(event) {
+        Some(conn) => {
+            let index = conn.0 as usize;
+            if index < links.len() {
+                links[index].enter(side, event, framer);
+            }
+        }
+        None => {}
+    }
+}
+
+/// One action of the side's peer.
+fn perform_one(links: &mut Vec<Link>, side: Side, action: Action)
+    requires room { (c : ℕ) → IsTrue (sends_at c (deed_of (as_action action) ∷ [])) →
+        HasRoom (as_side side) links.old.items 1 c }
+    requires frames { SendFrames (as_action action ∷ []) }
+    ensures performed { as_links links.new.items
+        ≡ perform (as_side side) (as_action action ∷ []) (as_links links.old.items) }
+    ensures room { (n c : ℕ) → HasRoom (as_side side) links.old.items (n + 1) c →
+        HasRoom (as_side side) links.new.items n c }
+{
+    match action {
+        Action::Send(conn, message) => links::say(links, side, conn.0 as usize, message),
+        Action::Close(conn) => links::close(links, side, conn.0 as usize),
+        Action::Connect(_) | Action::Up(_) => {}
+    }
+}
+
+/// The actions of the side's peer, in order.
+pub(crate) fn perform(links: &mut Vec<Link>, side: Side, mut actions: Actions)
+    requires room { HasRoomFor (as_side side) links.old.items (as_actions actions.items) }
+    requires frames { SendFrames (as_actions actions.items) }
+    ensures { as_links links.new.items
+        ≡ perform (as_side side) (as_actions actions.items) (as_links links.old.items) }
+{
+    while let Some(action) = actions.pop_at(0) {
+        perform_one(links, side, action);
+    }
+}
+
+/// All of it, for the side's peer as it stands behind the event.
+pub(crate) fn follow(
+    links: &mut Vec<Link>,
+    side: Side,
+    peer: &Peer,
+    event: Event<'_>,
+    framer: Option<Framer>,
+    actions: Actions,
+)
+    requires known { is_start (told event) ≡ false }
+    requires framer { FramerFits (told event) framer }
+    requires sends { CanSend (as_side side) links.old.items actions.items }
+    ensures { as_links links.new.items ≡ links_after (as_side side) (as_event (told event.entry)) actions.items peer.now
+        (as_links links.old.items) }
+{
+    enter(links, side, event, framer);
+    perform(links, side, actions);
+    if let Event::Arrived(conn, _) = event {
+        links::settle(links, side, conn.0 as usize, holds(peer, conn));
+    }
+}

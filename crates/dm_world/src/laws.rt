@@ -1,0 +1,12 @@
+//! Laws of worlds. They stand for users, as the premises of the laws of dm_links and dm_pair.
+ghost use Rattle.dm_world.specs.Kept.{IsWorldKept};
+
+use crate::World;
+
+/// What holds of every world, whatever happened to it: it is sound, its peers are configured for each other, and fewer
+/// octets are delivered of a front message than it has.
+pub fn every_world_is_kept(world: &World)
+    ensures { IsWorldKept world.now }
+{
+    let _kept = &world.made;
+}

@@ -1,0 +1,91 @@
+//! Happenings one after the other, and what is promised of every list of them.
+ghost use Rattle.std.specs.Prelude.{◌≡◌, IsTrue, IfSome, None, take, length, slice_get};
+ghost use Rattle.dm_links.specs.Agreement.{Agreed, EndsAreHeld, HeldAreLinks, OpenIsMatched};
+ghost use Rattle.dm_links.specs.Joining.{AreJoined};
+ghost use Rattle.dm_links.specs.Quiet.{is_quiet};
+ghost use Rattle.dm_links.specs.Sharing.{AreShared};
+ghost use Rattle.dm_links.specs.Streams.{AreCut};
+ghost use Rattle.dm_pair.specs.Laws.{AreClosed};
+ghost use Rattle.dm_pair.specs.Octets.{octet_peers};
+ghost use Rattle.dm_world.specs.Settling.{AreClean, EitherCanOpen};
+ghost use Rattle.dm_world.specs.Settling.{RanTo, RunSettles, RunFallsQuiet, RunCanFallQuiet};
+ghost use Rattle.dm_world.specs.Views.{IsEnd};
+
+use crate::laws::every_world_is_kept;
+use crate::{Happening, World, WorldFault};
+use dm_links::laws::{quiet_is_shared, sound_is_promised};
+use dm_pair::laws::{
+    each_octet_run_can_fall_quiet, each_octet_run_falls_quiet, each_octet_run_settles,
+    each_octet_world_can_open, octet_quiet_is_joined,
+};
+use dm_peer::Peer;
+use dm_wire::Octets;
+use std::alloc::Global;
+
+impl World {
+    /// Happenings, one after the other, up to the first that isn't applied. It answers how many were, and why the next
+    /// one wasn't.
+    ///
+    /// Whatever happens, in whatever order: neither side is open on two connections, and if both are open, it is on one
+    /// connection in opposite roles, or a disconnect is coming to each on its own. What a side holds is a link that is
+    /// up, or a pending one that it opened. Fewer octets are delivered of a front message than it has.
+    ///
+    /// Where nothing is under way, each side holds just what the other holds, and one is Closed exactly where the other
+    /// is: both are Closed, or each stands on one connection alone, the same one, in opposite roles. No run is a trap:
+    /// both sides can restart, and after some deliveries a Start of either side, the Ack and two deliveries open both.
+    /// Such a list exists, which isn't to say that peers take it by themselves.
+    ///
+    /// Where both were Closed with nothing under way, and only Starts, connects that come about, deliveries and pieces
+    /// happen, at most two CERs, one CEA and two disconnects are put in, on their links and in their order; and where
+    /// it falls quiet after a Start that was taken, all of these were put in, and both are open on the connection that
+    /// the election keeps (RFC 6733, 5.6.4). It falls quiet, in whatever order they come: it is quiet where no Ack and
+    /// no delivery is done any more, after nine steps, and after four where one side alone starts; and some Acks and
+    /// deliveries, with its own steps nine at most, bring it there. A step is what is done, but for a piece that ends
+    /// no message.
+    pub fn run(&mut self, alloc: Global, list: &[Happening]) -> (usize, Option<WorldFault>)
+        ensures ran { RanTo self.old (take result.0 list.now) self.new }
+        ensures agreed { Agreed octet_peers self.new }
+        ensures ends { EndsAreHeld octet_peers self.new }
+        ensures held { HeldAreLinks octet_peers self.new }
+        ensures matched { OpenIsMatched octet_peers self.new }
+        ensures cut { AreCut octet_peers self.new }
+        ensures shared { IsTrue (is_quiet self.new) → AreShared octet_peers self.new }
+        ensures joined { IsTrue (is_quiet self.new) →
+            AreJoined (octet_peers.node_of self.new.a) (octet_peers.node_of self.new.b) }
+        ensures can_open { EitherCanOpen self.new }
+        ensures settled { AreClosed self.old → AreClean (take result.0 list.now) →
+            RunSettles self.old (take result.0 list.now) }
+        ensures falls_quiet { AreClosed self.old → AreClean (take result.0 list.now) →
+            RunFallsQuiet self.old (take result.0 list.now) }
+        ensures can_fall_quiet { AreClosed self.old → AreClean (take result.0 list.now) →
+            RunCanFallQuiet self.old (take result.0 list.now) }
+        ensures whole { result.1 ≡ None → result.0 ≡ length list.now }
+        ensures ended { IfSome result.1 (λ f. IsEnd f (slice_get list.now result.0) self.new) }
+    {
+        sound_is_promised::<Peer, Octets>();
+        quiet_is_shared::<Peer, Octets>();
+        each_octet_run_settles();
+        each_octet_run_falls_quiet();
+        each_octet_run_can_fall_quiet();
+        octet_quiet_is_joined();
+        each_octet_world_can_open();
+        every_world_is_kept(self);
+        let ended = self.apply_each(alloc, list);
+        every_world_is_kept(self);
+        ended
+    }
+
+    /// Happenings, one after the other, up to the first that isn't applied.
+    fn apply_each(&mut self, alloc: Global, list: &[Happening]) -> (usize, Option<WorldFault>)
+        ensures ran { RanTo self.old (take result.0 list.now) self.new }
+        ensures whole { result.1 ≡ None → result.0 ≡ length list.now }
+        ensures ended { IfSome result.1 (λ f. IsEnd f (slice_get list.now result.0) self.new) }
+    {
+        for (count, happening) in list.iter().enumerate() {
+            if let Err(fault) = self.apply(alloc, happening) {
+                return (count, Some(fault));
+            }
+        }
+        (list.len(), None)
+    }
+}
