@@ -1,4 +1,5 @@
 pub mod Contents
+pub mod Digits
 pub mod Numerals
 pub mod Splits
 pub mod Telling

@@ -1,5 +1,6 @@
 -- The first word of a line.
-use Rattle.std.proofs.Common.{◌≡◌, ◌<◌, ◌+◌, ◌-◌, ℕ, Bool, true, false, cond, not, filter, List, [], ◌∷◌, length, length-take, take, drop, nat_eq, Some, None, arith, ap, ◌∙◌, sym, subst, refl}
+use Rattle.std.proofs.Common.{◌≡◌, ◌<◌, ◌+◌, ◌-◌, ℕ, Bool, true, false, cond, not, filter, List, [], ◌∷◌, length}
+use Rattle.std.proofs.Common.{length-take, take, drop, nat_eq, Some, None, arith, ap, ◌∙◌, sym, subst, refl}
 use Rattle.std.specs.List.{slice_split, onto_first, position, position_or_len}
 use Rattle.std.proofs.lemmas.List.{take_rest}
 use Rattle.std.proofs.lemmas.List.Elements.{All-from_get_or}

@@ -1,11 +1,14 @@
 //! Octets in hexadecimal.
-ghost use Rattle.std.specs.Prelude.{◌≡◌, ◌++◌, OnOk, IfOk};
+ghost use Rattle.std.specs.Prelude.{◌≡◌, ◌≤◌, Some, length, OnOk, IfOk};
+ghost use Rattle.std.specs.Fmt.{WritesOnOk};
 ghost use Rattle.std.specs.Option.{option_map};
 ghost use Rattle.hex.specs.Hex.{encode_lower};
 ghost use Rattle.dm_text.specs.Hexadecimal.{without_spaces, word_octets, line_octets};
+ghost use Rattle.dm_text.specs.declared.hexadecimal.TheConstants.{OCTETS_AT_ONCE as octets_at_once};
 
 use hex::FromHexError;
 use std::alloc::{AllocError, Global};
+use std::{fmt, str};
 
 /// How many octets are turned into digits at once.
 const OCTETS_AT_ONCE: usize = 64;
@@ -51,18 +54,31 @@ fn take_out_spaces(line: &[u8], digits: &mut Vec<u8>) -> Result<(), AllocError>
     Ok(())
 }
 
-/// Appends the octets in lower case hexadecimal.
-pub fn push_hex(text: &mut Vec<u8>, octets: &[u8]) -> Result<(), AllocError>
-    ensures { OnOk result (text.new.items ≡ text.old.items ++ encode_lower octets.now) }
+/// Octets as text: lower case hexadecimal.
+#[derive(Clone, Copy)]
+pub struct Hexadecimal<'a>(pub &'a [u8]);
+
+impl fmt::Display for Hexadecimal<'_> {
+    ghost output = { λ text. Some (encode_lower text.0.now) };
+
+    fn fmt<W: fmt::Write>(&self, f: &mut fmt::Formatter<W>) -> fmt::Result {
+        let mut rest = self.0;
+        while !rest.is_empty() {
+            let (some, more) = rest.split_at(rest.len().min(OCTETS_AT_ONCE));
+            write_digits(f, some)?;
+            rest = more;
+        }
+        Ok(())
+    }
+}
+
+/// Writes so many octets at most.
+fn write_digits<W: fmt::Write>(f: &mut fmt::Formatter<W>, octets: &[u8]) -> fmt::Result
+    requires { length octets.now ≤ octets_at_once }
+    ensures { WritesOnOk W.Write.write_str_gives f.old result (encode_lower octets.now) f.new }
 {
     let mut digits = [0; 2 * OCTETS_AT_ONCE];
-    let mut rest = octets;
-    while !rest.is_empty() {
-        let (some, more) = rest.split_at(rest.len().min(OCTETS_AT_ONCE));
-        let room = &mut digits[..2 * some.len()];
-        hex::encode_to_slice(some, room).unwrap();
-        text.extend_from_slice(room)?;
-        rest = more;
-    }
-    Ok(())
+    let room = &mut digits[..2 * octets.len()];
+    hex::encode_to_slice(octets, room).unwrap();
+    f.write_str(str::from_utf8(room).map_err(|_| fmt::Error)?)
 }

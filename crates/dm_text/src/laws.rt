@@ -1,4 +1,5 @@
-//! Laws of lines, and of numbers and octets as text. Each function is a law: it does nothing, and its contract is the law.
+//! Laws of lines, and of numbers and octets as text. Each function is a law: it does nothing, and its contract is the
+//! law.
 ghost use Rattle.dm_text.specs.Joined.{ContentIsJoined, LinesAreFew};
 ghost use Rattle.dm_text.specs.ReadBack.{OneNumber, NumberOrNone, NumberReadBack, OctetsReadBack};
 
@@ -22,8 +23,8 @@ pub fn octets_read_back()
     ensures { OctetsReadBack }
 {}
 
-/// The lines that stand for something are those of a front and then those of the rest, and there are at most as many lines as
-/// octets, and one.
+/// The lines that stand for something are those of a front and then those of the rest, and there are at most as many
+/// lines as octets, and one.
 pub fn lines_are_joined()
     ensures content { ContentIsJoined }
     ensures few { LinesAreFew }

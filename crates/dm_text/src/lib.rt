@@ -10,7 +10,7 @@ mod refusal;
 mod word;
 
 pub use crate::decimal::push_decimal;
-pub use crate::hexadecimal::{push_hex, read_hex_line, read_hex_word};
+pub use crate::hexadecimal::{Hexadecimal, read_hex_line, read_hex_word};
 pub use crate::line::{Lines, is_skipped, line_feed, trim};
 pub use crate::number::{read_long_number, read_number};
 pub use crate::refusal::push_syntax_fault;

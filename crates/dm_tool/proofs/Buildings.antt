@@ -1,5 +1,6 @@
 -- What stands behind one more line.
-use Rattle.std.proofs.Common.{◌≡◌, ◌⊎◌, inl, inr, ◌&&◌, Bool, true, false, Option, Some, None, is_some, List, [], ◌∷◌, ◌++◌, ℕ, codes, append_assoc, append-nil, ap, sym, ◌∙◌, refl, subst}
+use Rattle.std.proofs.Common.{◌≡◌, ◌⊎◌, inl, inr, ◌&&◌, Bool, true, false, Option, Some, None, is_some, List, [], ◌∷◌}
+use Rattle.std.proofs.Common.{◌++◌, ℕ, codes, append_assoc, append-nil, ap, sym, ◌∙◌, refl, subst}
 use Rattle.hex.specs.Hex.{encode_lower}
 use Rattle.dm_wire.specs.declared.avp.Avp.{Avp}
 use Rattle.dm_wire.specs.declared.message.Header.{Header}
@@ -11,19 +12,18 @@ use Rattle.dm_wire.specs.Canonical.{canonical_message}
 use Rattle.dm_tool.specs.Text.{fault_text}
 use Rattle.dm_tool.specs.Messages.{TellsHeader, TellsAvp, TellsAll}
 use Rattle.dm_tool.specs.Build.{BuildsOctets, BuildsTooLong, BuildsMessages, but_last, IsOutOfPlace}
-use Rattle.dm_tool.specs.Progress.{last_message, Stands, GoesOnNowhere}
+use Rattle.dm_tool.specs.Progress.{last_message, BuiltSoFar, GoesOnNowhere}
 use mathlib.Core.Bool.{and_assoc, and-true}
 use Rattle.dm_tool.proofs.Tellings.{tells-one, tells-append, tells-split, message-push}
 
 -- the text of a message that has a spelling
-pub built_octets : (m : Message) (text mid new octets view : List ℕ) → octets ≡ canonical_message m
-    → SpellsMessage m octets → view ≡ octets → mid ≡ text ++ encode_lower view → new ≡ mid ++ 10 ∷ []
+pub built_octets : (m : Message) (text new octets view : List ℕ) → octets ≡ canonical_message m
+    → SpellsMessage m octets → view ≡ octets → new ≡ text ++ (encode_lower view ++ 10 ∷ [])
     → (more : List ℕ) × (new ≡ text ++ more) × (BuildsOctets m more true ⊎ BuildsTooLong m more true)
-built_octets m text mid new octets view is spelled same h k =
+built_octets m text new octets view is spelled same h =
     let Spells : List ℕ → Type 0 = λ s. SpellsMessage m s in (
       encode_lower (canonical_message m) ++ 10 ∷ [],
-      k ∙ ap (λ v. v ++ 10 ∷ []) (h ∙ ap (λ v. text ++ encode_lower v) (same ∙ is)) ∙ append_assoc text
-          (encode_lower (canonical_message m)) (10 ∷ []),
+      h ∙ ap (λ v. text ++ (encode_lower v ++ 10 ∷ [])) (same ∙ is),
       inl (subst Spells is spelled, refl, refl),
     )
 
@@ -81,7 +81,7 @@ builds-one m text good h =
 -- all messages are printed
 pub stands-end : (lines : List (List ℕ)) (last : Option Header) (avps : List Avp) (text more new : List ℕ)
     (good fine new_good : Bool) → new ≡ text ++ more → new_good ≡ (good && fine)
-    → BuildsMessages (last_message last avps) more fine → Stands lines last avps text good
+    → BuildsMessages (last_message last avps) more fine → BuiltSoFar lines last avps text good
     → (l : List Message) × TellsAll l lines × BuildsMessages l new new_good
 stands-end lines last avps text more new good fine new_good is good_is b s = (
   s.0 ++ last_message last avps,
@@ -93,10 +93,10 @@ stands-end lines last avps text more new good fine new_good is good_is b s = (
 pub stands-header : (lines : List (List ℕ)) (line : List ℕ) (h : Header) (last : Option Header) (avps none : List Avp)
     (text more new : List ℕ) (good fine new_good : Bool) → TellsHeader h line → none ≡ []
     → new ≡ text ++ more → new_good ≡ (good && fine) → BuildsMessages (last_message last avps) more fine
-    → Stands lines last avps text good → Stands (lines ++ line ∷ []) (Some h) none new new_good
+    → BuiltSoFar lines last avps text good → BuiltSoFar (lines ++ line ∷ []) (Some h) none new new_good
 stands-header lines line h last avps none text more new good fine new_good told empty is good_is b s =
     let all = stands-end lines last avps text more new good fine new_good is good_is b s in
-    let Avps : List Avp → Type 0 = λ l. Stands (lines ++ line ∷ []) (Some h) l new new_good in
+    let Avps : List Avp → Type 0 = λ l. BuiltSoFar (lines ++ line ∷ []) (Some h) l new new_good in
     subst Avps (sym empty) (
       all.0,
       tells-append all.0 (record { header = h; avps = [] } ∷ []) lines (line ∷ []) all.1
@@ -108,7 +108,7 @@ stands-header lines line h last avps none text more new good fine new_good told 
 -- the last message goes on
 pub stands-avp : (lines : List (List ℕ)) (line : List ℕ) (last : Option Header) (a : Avp) (avps new : List Avp)
     (text : List ℕ) (good : Bool) → is_some last ≡ true → TellsAvp a line → new ≡ avps ++ a ∷ []
-    → Stands lines last avps text good → Stands (lines ++ line ∷ []) last new text good
+    → BuiltSoFar lines last avps text good → BuiltSoFar (lines ++ line ∷ []) last new text good
 stands-avp lines line None a avps new text good some told is s = absurd (cc)
 stands-avp lines line (Some h) a avps new text good some told is s =
     let parts = tells-split s.0 (record { header = h; avps = avps } ∷ []) lines s.1 in
@@ -120,7 +120,7 @@ stands-avp lines line (Some h) a avps new text good some told is s =
     let lines_is : parts.0 ++ (cut.0 ++ line ∷ []) ≡ lines ++ line ∷ [] = sym (append_assoc parts.0 cut.0 (line ∷ []))
     ∙ ap (λ v. v ++ line ∷ []) (sym (parts.2 ∙ ap (λ v. parts.0 ++ v) cut_is)) in
     let Lines : List (List ℕ) → Type 0 = λ v. TellsAll (s.0 ++ record { header = h; avps = avps ++ a ∷ [] } ∷ []) v in
-    let Avps : List Avp → Type 0 = λ l. Stands (lines ++ line ∷ []) (Some h) l text good in
+    let Avps : List Avp → Type 0 = λ l. BuiltSoFar (lines ++ line ∷ []) (Some h) l text good in
     subst Avps (sym is) (s.0, subst Lines lines_is all, s.2, s.3)
 
 -- the messages before the last one

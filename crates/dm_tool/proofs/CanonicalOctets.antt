@@ -1,5 +1,6 @@
 -- The canonical spelling of a message is octets where the data of its AVPs is.
-use Rattle.std.proofs.Common.{◌≡◌, ◌<◌, ◌≤◌, ℕ, zero, suc, ◌-◌, ◌%◌, ◌/◌, ◌^◌, Bool, true, false, nat_lt, is_some, List, [], ◌∷◌, ◌++◌, Option, Some, None, replicate, arith, refl}
+use Rattle.std.proofs.Common.{◌≡◌, ◌<◌, ◌≤◌, ℕ, zero, suc, ◌-◌, ◌%◌, ◌/◌, ◌^◌, Bool, true, false, nat_lt, is_some}
+use Rattle.std.proofs.Common.{List, [], ◌∷◌, ◌++◌, Option, Some, None, replicate, arith, refl}
 use Rattle.std.specs.List.{list_all}
 use Rattle.std.specs.Int.{byte_at}
 use Rattle.std.proofs.Math.Nat.{mod-lt}
@@ -8,7 +9,8 @@ use Rattle.dm_wire.specs.declared.avp.Avp.{Avp}
 use Rattle.dm_wire.specs.declared.message.Header.{Header}
 use Rattle.dm_wire.specs.declared.message.Message.{Message}
 use Rattle.dm_wire.specs.Spelling.{be, avp_length, vendor_octets}
-use Rattle.dm_wire.specs.Canonical.{worth, avp_flags, zeros, canonical_avp, canonical_list, header_flags, canonical_header, canonical_message, message_size}
+use Rattle.dm_wire.specs.Canonical.{worth, avp_flags, zeros, canonical_avp, canonical_list, header_flags}
+use Rattle.dm_wire.specs.Canonical.{canonical_header, canonical_message, message_size}
 use Rattle.dm_tool.proofs.Decided.{are_octets}
 
 -- the data of each AVP is octets

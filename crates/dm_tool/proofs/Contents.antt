@@ -1,40 +1,15 @@
--- Lines that stand for something, and how many lines there are.
-use Rattle.std.proofs.Common.{◌≡◌, ◌≤◌, ◌+◌, ℕ, Bool, true, false, cond, not, List, [], ◌∷◌, ◌++◌, length, map, filter, nat_eq, arith, ap, ◌∙◌}
-use Rattle.std.specs.List.{slice_split}
-use Rattle.std.specs.Str.Lines.{lines, lines_of_parts}
-use Rattle.std.proofs.lemmas.List.{map-append}
-use Rattle.std.proofs.lemmas.List.Elements.{filter-append}
-use Rattle.std.proofs.lemmas.List.Sums.{count_by-le-length}
-use Rattle.std.proofs.lemmas.List.Splits.{length-slice_split}
+-- Lines that stand for something, where one more line stands behind others.
+use Rattle.std.proofs.Common.{◌≡◌, ℕ, Bool, false, cond, not, List, [], ◌∷◌, ◌++◌, ap, ◌∙◌}
+use Rattle.dm_text.specs.Joined.{ContentIsJoined}
 use Rattle.dm_text.specs.Lines.{trimmed, is_skipped, content}
-
-pub content-append : (s t : List (List ℕ)) → content (s ++ t) ≡ content s ++ content t
-content-append s t =
-    ap (filter (λ l. not (is_skipped l))) (map-append trimmed s t) ∙ filter-append (λ l. not (is_skipped l))
-    (map trimmed s) (map trimmed t)
 
 pub content-one : (line : List ℕ) (b : Bool) → is_skipped (trimmed line) ≡ b
     → content (line ∷ []) ≡ cond (not b) (trimmed line ∷ []) []
 content-one line b is = ap (λ v. cond (not v) (trimmed line ∷ []) []) is
 
-parts-count : (parts : List (List ℕ)) → length (lines_of_parts parts) ≤ length parts
-parts-count [] = omega arith
-parts-count (x ∷ []) = by (nat_eq (length x) 0) where
-  by : (v : Bool) → length (cond v [] (x ∷ [])) ≤ 1
-  by true = omega arith
-  by false = omega arith
-parts-count (x ∷ y ∷ parts) = let later = parts-count (y ∷ parts) in omega (arith, later)
-
--- there are at most as many lines as octets, and one
-pub lines-count : (s : List ℕ) → length (lines s) ≤ length s + 1
-lines-count s =
-    let most = parts-count (slice_split (λ b. nat_eq b 10) s) in
-    let size = length-slice_split (λ b. nat_eq b 10) s in
-    let few = count_by-le-length (λ b. nat_eq b 10) s in
-    omega (arith, most, size, few)
-
-pub content-cut : (before : List (List ℕ)) (line : List ℕ) (after : List (List ℕ)) → is_skipped (trimmed line) ≡ false
+pub content-cut : ContentIsJoined → (before : List (List ℕ)) (line : List ℕ) (after : List (List ℕ))
+    → is_skipped (trimmed line) ≡ false
     → content (before ++ line ∷ after) ≡ content before ++ trimmed line ∷ content after
-content-cut before line after counts =
-    content-append before (line ∷ after) ∙ ap
+content-cut joined before line after counts =
+    joined before (line ∷ after) ∙ ap
     (λ b. content before ++ cond (not b) (trimmed line ∷ content after) (content after)) counts

@@ -1,5 +1,6 @@
 -- Whether a line tells a header or an AVP, and which.
-use Rattle.std.proofs.Common.{◌≡◌, ◌⊎◌, inl, inr, ℕ, Bool, true, false, is_some, Option, List, [], ◌∷◌, codes, slice_index_or, ap, ◌∙◌, sym, refl, subst}
+use Rattle.std.proofs.Common.{◌≡◌, ◌⊎◌, inl, inr, ℕ, Bool, true, false, is_some, Option, List, [], ◌∷◌, codes}
+use Rattle.std.proofs.Common.{slice_index_or, ap, ◌∙◌, sym, refl, subst}
 use Rattle.std.proofs.lemmas.Bool.{cases_eq}
 use Rattle.dm_wire.specs.declared.avp.Avp.{Avp}
 use Rattle.dm_wire.specs.declared.message.Header.{Header}
@@ -9,7 +10,8 @@ use Rattle.dm_tool.specs.Text.{mark, header_marks, avp_marks}
 use Rattle.dm_tool.specs.AvpWords.{TellsCode, TellsData}
 use Rattle.dm_tool.specs.Messages.{TellsHeader, TellsNames, TellsAvp}
 use Rattle.dm_tool.proofs.Slashes.{one_code}
-use Rattle.dm_tool.proofs.Decided.{Decided, are_octets, same_words, number_told, CodeTold, code_told, DataTold, data_told}
+use Rattle.dm_tool.proofs.Decided.{Decided, are_octets, same_words, number_told, CodeTold, code_told, DataTold}
+use Rattle.dm_tool.proofs.Decided.{data_told}
 
 abbrev MarkTold : ℕ → ℕ → Type 0
 MarkTold letter b = ((set : Bool) × (b ≡ mark set letter)) ⊎ ((set : Bool) → b ≡ mark set letter → ⊥)

@@ -1,9 +1,12 @@
 -- The lines of an input, and the line that divides it.
-use Rattle.std.proofs.Common.{◌≡◌, ◌<◌, ◌≤◌, ◌+◌, ℕ, suc, Bool, true, false, not, cond, List, [], ◌∷◌, ◌++◌, length, take, drop, nat_eq, Some, None, append-nil, append_assoc, arith, ap, ◌∙◌, sym, subst, refl}
+use Rattle.std.proofs.Common.{◌≡◌, ◌<◌, ◌≤◌, ◌+◌, ℕ, suc, Bool, true, false, not, cond, List, [], ◌∷◌, ◌++◌, length}
+use Rattle.std.proofs.Common.{take, drop, nat_eq, Some, None, append-nil, append_assoc, arith, ap, ◌∙◌, sym, subst}
+use Rattle.std.proofs.Common.{refl}
 use Rattle.std.specs.List.{concat, onto_first, position, position_or_len}
 use Rattle.std.proofs.Math.Seq.{take-length, drop-length, take-add}
 use Rattle.std.proofs.lemmas.List.{drop-drop}
-use Rattle.dm_tool.specs.Divided.{whole_lines, is_divider, before_divider, behind_divider, dictionary_part, message_part}
+use Rattle.dm_tool.specs.Divided.{whole_lines, is_divider, before_divider, behind_divider, dictionary_part}
+use Rattle.dm_tool.specs.Divided.{message_part}
 use Rattle.dm_tool.proofs.Positions.{place_of, no_place}
 
 abbrev feeds : ℕ → Bool

@@ -9,7 +9,6 @@ pub mod Known
 pub mod OneBuilt
 pub mod OneChecked
 pub mod OneList
-pub mod OnePrinted
 pub mod OneShown
 pub mod OneTold
 pub mod Options

@@ -1,8 +1,10 @@
 -- Under build an input has one text.
-use Rattle.std.proofs.Common.{◌≡◌, ◌⊎◌, inl, inr, Bool, List, [], ◌∷◌, ◌++◌, ◌+◌, ℕ, length, codes, ap, sym, ◌∙◌, refl, subst}
+use Rattle.std.proofs.Common.{◌≡◌, ◌⊎◌, inl, inr, Bool, List, [], ◌∷◌, ◌++◌, ◌+◌, ℕ, length, codes, ap, sym, ◌∙◌}
+use Rattle.std.proofs.Common.{refl, subst}
 use Rattle.std.specs.Fmt.{decimal}
 use Rattle.dm_wire.specs.declared.message.Message.{Message}
 use Rattle.dm_wire.specs.Canonical.{canonical_message}
+use Rattle.dm_text.specs.Joined.{ContentIsJoined}
 use Rattle.dm_text.specs.Lines.{content, content_lines, trimmed}
 use Rattle.dm_tool.specs.Messages.{TellsAll}
 use Rattle.dm_tool.specs.Build.{BuildsMessage, BuildsMessages, BuildsAll, BuildsUpTo, BuildsText, but_last}
@@ -43,44 +45,46 @@ cuts (c ∷ x) [] s t a b e = let same : c ≡ b = cc in inr (inr (x, ap (λ v. 
 cuts (c ∷ x) (d ∷ y) s t a b e =
     let rest : x ++ a ∷ s ≡ y ++ b ∷ t = cc in cuts-cons c d x y a b (cc) (cuts x y s t a b rest)
 
--- where a line is out of place, the lines up to a later one tell no messages
-not_later : (input text other : List ℕ) (h : BuildsUpTo input text) (g : BuildsUpTo input other) (more : List (List ℕ))
-    → g.before ≡ h.before ++ h.line ∷ more → ⊥
-not_later input text other h g more e =
-    let Lines : List (List ℕ) → Type 0 = λ v. TellsAll g.messages v in
-    no_more h.messages g.messages (content h.before) (content more) (trimmed h.line) h.told h.misplaced
-    (subst Lines (ap content e ∙ content-cut h.before h.line more h.stands) g.told)
+module _ (joined : ContentIsJoined) where
+  -- where a line is out of place, the lines up to a later one tell no messages
+  not_later : (input text other : List ℕ) (h : BuildsUpTo input text) (g : BuildsUpTo input other)
+      (more : List (List ℕ)) → g.before ≡ h.before ++ h.line ∷ more → ⊥
+  not_later input text other h g more e =
+      let Lines : List (List ℕ) → Type 0 = λ v. TellsAll g.messages v in
+      no_more h.messages g.messages (content h.before) (content more) (trimmed h.line) h.told h.misplaced
+      (subst Lines (ap content e ∙ content-cut joined h.before h.line more h.stands) g.told)
 
-same_place : (input text other : List ℕ) (h : BuildsUpTo input text) (g : BuildsUpTo input other) → h.before ≡ g.before
-    → text ≡ other
-same_place input text other h g e =
-    let Lines : List (List ℕ) → Type 0 = λ v. TellsAll h.messages (content v) in
-    let messages = one_all h.messages g.messages (content g.before) (subst Lines e h.told) g.told in
-    let Built : List Message → Type 0 = λ l. BuildsMessages (but_last l) h.built h.good in
-    let built = one_messages_built (but_last g.messages) h.built g.built h.good g.good
-    (subst Built messages h.builds) g.builds in
-    h.text_is ∙ ap (λ v. v ++ codes "fault syntax " ++ decimal (length h.before + 1) ++ 10 ∷ []) built.0 ∙
-    ap (λ v. g.built ++ codes "fault syntax " ++ decimal (length v + 1) ++ 10 ∷ []) e ∙ sym g.text_is
+  same_place : (input text other : List ℕ) (h : BuildsUpTo input text) (g : BuildsUpTo input other)
+      → h.before ≡ g.before → text ≡ other
+  same_place input text other h g e =
+      let Lines : List (List ℕ) → Type 0 = λ v. TellsAll h.messages (content v) in
+      let messages = one_all h.messages g.messages (content g.before) (subst Lines e h.told) g.told in
+      let Built : List Message → Type 0 = λ l. BuildsMessages (but_last l) h.built h.good in
+      let built = one_messages_built (but_last g.messages) h.built g.built h.good g.good
+      (subst Built messages h.builds) g.builds in
+      h.text_is ∙ ap (λ v. v ++ codes "fault syntax " ++ decimal (length h.before + 1) ++ 10 ∷ []) built.0 ∙
+      ap (λ v. g.built ++ codes "fault syntax " ++ decimal (length v + 1) ++ 10 ∷ []) e ∙ sym g.text_is
 
-one_up_to : (input text other : List ℕ) → BuildsUpTo input text → BuildsUpTo input other → text ≡ other
-one_up_to input text other h g = by (cuts h.before g.before h.after g.after h.line g.line (sym h.whole ∙ g.whole)) where
-  by : Cuts h.before h.line g.before g.line → text ≡ other
-  by (inl same) = same_place input text other h g same.0
-  by (inr (inl later)) = absurd (not_later input text other h g later.0 later.1)
-  by (inr (inr later)) = absurd (not_later input other text g h later.0 later.1)
+  one_up_to : (input text other : List ℕ) → BuildsUpTo input text → BuildsUpTo input other → text ≡ other
+  one_up_to input text other h g =
+      by (cuts h.before g.before h.after g.after h.line g.line (sym h.whole ∙ g.whole)) where
+        by : Cuts h.before h.line g.before g.line → text ≡ other
+        by (inl same) = same_place input text other h g same.0
+        by (inr (inl later)) = absurd (not_later input text other h g later.0 later.1)
+        by (inr (inr later)) = absurd (not_later input other text g h later.0 later.1)
 
--- where all lines tell messages, none is out of place
-not_both : (input text other : List ℕ) (good : Bool) → BuildsAll input text good → BuildsUpTo input other → ⊥
-not_both input text other good h g =
-    let Lines : List (List ℕ) → Type 0 = λ v. TellsAll h.0 v in
-    no_more g.messages h.0 (content g.before) (content g.after) (trimmed g.line) g.told g.misplaced
-    (subst Lines (ap content g.whole ∙ content-cut g.before g.line g.after g.stands) h.1)
+  -- where all lines tell messages, none is out of place
+  not_both : (input text other : List ℕ) (good : Bool) → BuildsAll input text good → BuildsUpTo input other → ⊥
+  not_both input text other good h g =
+      let Lines : List (List ℕ) → Type 0 = λ v. TellsAll h.0 v in
+      no_more g.messages h.0 (content g.before) (content g.after) (trimmed g.line) g.told g.misplaced
+      (subst Lines (ap content g.whole ∙ content-cut joined g.before g.line g.after g.stands) h.1)
 
-pub one_built : (input text other : List ℕ) (good fine : Bool) → BuildsText input text good
-    → BuildsText input other fine → (text ≡ other) × (good ≡ fine)
-one_built input text other good fine (inl h) (inl g) =
-    let Built : List Message → Type 0 = λ l. BuildsMessages l text good in
-    one_messages_built g.0 text other good fine (subst Built (one_all h.0 g.0 (content_lines input) h.1 g.1) h.2) g.2
-one_built input text other good fine (inl h) (inr g) = absurd (not_both input text other good h g.0)
-one_built input text other good fine (inr h) (inl g) = absurd (not_both input other text fine g h.0)
-one_built input text other good fine (inr h) (inr g) = (one_up_to input text other h.0 g.0, h.1 ∙ sym g.1)
+  pub one_built : (input text other : List ℕ) (good fine : Bool) → BuildsText input text good
+      → BuildsText input other fine → (text ≡ other) × (good ≡ fine)
+  one_built input text other good fine (inl h) (inl g) =
+      let Built : List Message → Type 0 = λ l. BuildsMessages l text good in
+      one_messages_built g.0 text other good fine (subst Built (one_all h.0 g.0 (content_lines input) h.1 g.1) h.2) g.2
+  one_built input text other good fine (inl h) (inr g) = absurd (not_both input text other good h g.0)
+  one_built input text other good fine (inr h) (inl g) = absurd (not_both input other text fine g h.0)
+  one_built input text other good fine (inr h) (inr g) = (one_up_to input text other h.0 g.0, h.1 ∙ sym g.1)

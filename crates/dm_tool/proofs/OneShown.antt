@@ -1,5 +1,6 @@
 -- What is printed for messages in hexadecimal is one text.
-use Rattle.std.proofs.Common.{◌≡◌, ◌++◌, ◌∷◌, [], ◌⊎◌, inl, inr, Option, Some, None, MatchOption, ℕ, List, Bool, ap, sym, ◌∙◌, refl}
+use Rattle.std.proofs.Common.{◌≡◌, ◌++◌, ◌∷◌, [], ◌⊎◌, inl, inr, Option, Some, None, MatchOption, ℕ, List, Bool, ap}
+use Rattle.std.proofs.Common.{sym, ◌∙◌, refl}
 use Rattle.dm_text.specs.Hexadecimal.{line_octets}
 use Rattle.dm_text.specs.Lines.{content_lines}
 use Rattle.dm_wire.specs.declared.message.Message.{Message}

@@ -1,5 +1,6 @@
 -- Lines tell one list of messages.
-use Rattle.std.proofs.Common.{◌≡◌, ◌≢◌, inl, inr, Bool, true, false, Option, Ok, List, [], ◌∷◌, ℕ, codes, arith, ap, sym, ◌∙◌, refl, subst}
+use Rattle.std.proofs.Common.{◌≡◌, ◌≢◌, inl, inr, Bool, true, false, Option, Ok, List, [], ◌∷◌, ℕ, codes, arith, ap}
+use Rattle.std.proofs.Common.{sym, ◌∙◌, refl, subst}
 use Rattle.hex.specs.Hex.{decode_of}
 use Rattle.dm_wire.specs.declared.avp.Avp.{Avp}
 use Rattle.dm_wire.specs.declared.message.Header.{Header}

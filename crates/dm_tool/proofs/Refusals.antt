@@ -1,22 +1,23 @@
 -- The text of an input, from what stands behind its lines.
-use Rattle.std.proofs.Common.{◌≡◌, ◌≤◌, ◌+◌, inr, Bool, false, Option, List, [], ◌∷◌, ◌++◌, ℕ, length, length-append, codes, append_assoc, arith, ap, sym, ◌∙◌, refl, subst}
+use Rattle.std.proofs.Common.{◌≡◌, ◌≤◌, ◌+◌, inr, Bool, false, Option, List, [], ◌∷◌, ◌++◌, ℕ, length, length-append}
+use Rattle.std.proofs.Common.{codes, append_assoc, arith, ap, sym, ◌∙◌, refl, subst}
 use Rattle.std.specs.Fmt.{decimal}
 use Rattle.std.specs.Str.Lines.{lines}
 use Rattle.dm_wire.specs.declared.avp.Avp.{Avp}
 use Rattle.dm_wire.specs.declared.message.Header.{Header}
 use Rattle.dm_wire.specs.declared.message.Message.{Message}
+use Rattle.dm_text.specs.Joined.{LinesAreFew}
 use Rattle.dm_text.specs.Lines.{content, trimmed, is_skipped}
 use Rattle.dm_tool.specs.Build.{BuildsMessages, BuildsText}
-use Rattle.dm_tool.specs.Progress.{last_message, Stands, GoesOnNowhere}
+use Rattle.dm_tool.specs.Progress.{last_message, BuiltSoFar, GoesOnNowhere}
 use Rattle.dm_tool.proofs.Buildings.{before_last, nowhere}
-use Rattle.dm_tool.proofs.Contents.{lines-count}
 
 -- a line that is there has a number that fits
-pub line_counts : (input line rest rest' : List ℕ) (before : List (List ℕ)) → lines input ≡ before ++ lines rest
-    → lines rest ≡ line ∷ lines rest' → length before ≤ length input
-line_counts input line rest rest' before h k =
+pub line_counts : LinesAreFew → (input line rest rest' : List ℕ) (before : List (List ℕ))
+    → lines input ≡ before ++ lines rest → lines rest ≡ line ∷ lines rest' → length before ≤ length input
+line_counts few input line rest rest' before h k =
     let size = ap length (h ∙ ap (λ v. before ++ v) k) ∙ length-append before (line ∷ lines rest') in
-    let most = lines-count input in
+    let most = few input in
     omega (arith, size, most)
 
 -- the line behind those before it
@@ -28,7 +29,7 @@ lines-next input line rest rest' before h k =
 -- a line is out of place
 pub built_up_to : (input line rest rest' text new : List ℕ) (good : Bool) (last : Option Header) (avps : List Avp)
     (before : List (List ℕ)) (number : ℕ) → lines input ≡ before ++ lines rest → lines rest ≡ line ∷ lines rest'
-    → Stands (content before) last avps text good → is_skipped (trimmed line) ≡ false
+    → BuiltSoFar (content before) last avps text good → is_skipped (trimmed line) ≡ false
     → GoesOnNowhere last (trimmed line) → number ≡ length before + 1
     → new ≡ text ++ codes "fault syntax " ++ decimal number ++ 10 ∷ []
     → BuildsText input new false

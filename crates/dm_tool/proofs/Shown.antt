@@ -1,5 +1,6 @@
 -- The text of several lines, from the text of each.
-use Rattle.std.proofs.Common.{◌≡◌, ◌++◌, ◌∷◌, [], ◌&&◌, ℕ, List, Bool, true, false, append_assoc, append-nil, ap, sym, ◌∙◌, refl, cond, not, map, filter, subst}
+use Rattle.std.proofs.Common.{◌≡◌, ◌++◌, ◌∷◌, [], ◌&&◌, ℕ, List, Bool, true, false, append_assoc, append-nil, ap, sym}
+use Rattle.std.proofs.Common.{◌∙◌, refl, cond, not, map, filter, subst}
 use mathlib.Core.Bool.{and_assoc, and-true}
 use Rattle.std.specs.Str.Lines.{lines}
 use Rattle.dm_text.specs.Lines.{trimmed, is_skipped, content_lines}

@@ -1,5 +1,6 @@
 -- Where the vendor of an AVP stands in its first word.
-use Rattle.std.proofs.Common.{◌≡◌, ◌+◌, ◌-◌, ℕ, false, cond, not, List, [], ◌∷◌, ◌++◌, length, length-append, take, drop, get_or, nat_eq, Option, Some, None, arith, ap, ◌∙◌, sym, subst, refl}
+use Rattle.std.proofs.Common.{◌≡◌, ◌+◌, ◌-◌, ℕ, false, cond, not, List, [], ◌∷◌, ◌++◌, length, length-append, take}
+use Rattle.std.proofs.Common.{drop, get_or, nat_eq, Option, Some, None, arith, ap, ◌∙◌, sym, subst, refl}
 use Rattle.std.specs.List.{position, position_or_len}
 use Rattle.std.specs.Str.Parse.{AllDigits}
 use Rattle.std.proofs.lemmas.Bool.{eqb-true, ne_eqb}

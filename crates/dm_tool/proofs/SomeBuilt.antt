@@ -1,5 +1,6 @@
 -- Under build each input has a text.
-use Rattle.std.proofs.Common.{◌≡◌, ◌⊎◌, inl, inr, ℕ, ◌+◌, Bool, true, false, ◌&&◌, List, [], ◌∷◌, ◌++◌, Option, Some, None, length, is_some, codes, append_assoc, append-nil, ap, ◌∙◌, sym, refl, subst}
+use Rattle.std.proofs.Common.{◌≡◌, ◌⊎◌, inl, inr, ℕ, ◌+◌, Bool, true, false, ◌&&◌, List, [], ◌∷◌, ◌++◌, Option, Some}
+use Rattle.std.proofs.Common.{None, length, is_some, codes, append_assoc, append-nil, ap, ◌∙◌, sym, refl, subst}
 use Rattle.std.specs.Fmt.{decimal}
 use Rattle.std.specs.Str.Lines.{lines}
 use Rattle.std.proofs.lemmas.Bool.{iff_false, and_from}
@@ -14,23 +15,25 @@ use Rattle.dm_wire.specs.Canonical.{canonical_message}
 use Rattle.dm_wire.specs.AvpEquality.{message_eq, EqualMessages}
 use Rattle.dm_wire.specs.OneAnswer.{NoMessageRefused, MessageOrFault}
 use Rattle.dm_wire.specs.RoundTrip.{CanonicalSpells, ReadsBack}
+use Rattle.dm_text.specs.Joined.{ContentIsJoined}
 use Rattle.dm_text.specs.Lines.{trimmed, is_skipped, content}
 use Rattle.dm_tool.specs.Messages.{TellsHeader, TellsAvp, TellsAll}
 use Rattle.dm_tool.specs.Build.{BuildsOctets, BuildsTooLong, BuildsMessages, BuildsText}
-use Rattle.dm_tool.specs.Progress.{last_message, Stands, GoesOnNowhere}
+use Rattle.dm_tool.specs.Progress.{last_message, BuiltSoFar, GoesOnNowhere}
 use Rattle.dm_tool.proofs.Buildings.{builds-one, stands-end, stands-header, stands-avp, before_last, nowhere}
-use Rattle.dm_tool.proofs.Contents.{content-append, content-one}
+use Rattle.dm_tool.proofs.Contents.{content-one}
 use Rattle.dm_tool.proofs.Decided.{are_octets, octets_at}
 use Rattle.dm_tool.proofs.DecidedLines.{HeaderTold, header_told, AvpTold, avp_told}
 use Rattle.dm_tool.proofs.CanonicalOctets.{hold_octets, append_both, message_octets}
 
--- what octets say, and what messages are written as
+-- what octets say, what messages are written as, and which lines stand for something
 pub record WrittenLaws : Type 0 where
   pub message_or_fault : MessageOrFault
   pub canonical_spells : CanonicalSpells
   pub reads_back : ReadsBack
   pub equal_messages : EqualMessages
   pub no_message_refused : NoMessageRefused
+  pub joined : ContentIsJoined
 
 abbrev MessageBuilt : Message → Type 0
 MessageBuilt m = (text : List ℕ) × (good : Bool) × (BuildsOctets m text good ⊎ BuildsTooLong m text good)
@@ -75,7 +78,7 @@ module _ (laws : WrittenLaws) where
   -- no lines are left
   at_end : (input : List ℕ) (before : List (List ℕ)) (last : Option Header) (avps : List Avp) (text : List ℕ)
       (good : Bool) → lines input ≡ before ++ []
-      → Stands (content before) last avps text good → hold_octets avps ≡ true → Built input
+      → BuiltSoFar (content before) last avps text good → hold_octets avps ≡ true → Built input
   at_end input before last avps text good whole stands o =
       let b = last_built last avps o in
       let e = stands-end (content before) last avps text b.0 (text ++ b.0) good b.1
@@ -87,13 +90,13 @@ module _ (laws : WrittenLaws) where
   abbrev GoesOn : List ℕ → List (List ℕ) → Type 0
   GoesOn input before =
       (last : Option Header) (avps : List Avp) (text : List ℕ) (good : Bool)
-      → Stands (content before) last avps text good → hold_octets avps ≡ true → Built input
+      → BuiltSoFar (content before) last avps text good → hold_octets avps ≡ true → Built input
 
   module _ (input : List ℕ) (before after : List (List ℕ)) (line : List ℕ)
       (whole : lines input ≡ before ++ line ∷ after)
       (later : GoesOn input (before ++ line ∷ [])) where
     misplaced : (last : Option Header) (avps : List Avp) (text : List ℕ) (good : Bool)
-        → Stands (content before) last avps text good
+        → BuiltSoFar (content before) last avps text good
         → is_skipped (trimmed line) ≡ false → GoesOnNowhere last (trimmed line) → Built input
     misplaced last avps text good stands counts none =
         let Text : List Message → Type 0 = λ l. BuildsMessages l text good in (
@@ -121,23 +124,23 @@ module _ (laws : WrittenLaws) where
     -- the line stands behind those before it
     content_is : is_skipped (trimmed line) ≡ false → content before ++ trimmed line ∷ [] ≡ content (before ++ line ∷ [])
     content_is counts =
-        sym (content-append before (line ∷ []) ∙ ap (λ v. content before ++ v) (content-one line false counts))
+        sym (laws.joined before (line ∷ []) ∙ ap (λ v. content before ++ v) (content-one line false counts))
 
     of_header : (h : Header) → TellsHeader h (trimmed line) → is_skipped (trimmed line) ≡ false → GoesOn input before
     of_header h told counts last avps text good stands o =
         let b = last_built last avps o in
         let next = stands-header (content before) (trimmed line) h last avps [] text b.0 (text ++ b.0) good b.1
         (good && b.1) told refl refl refl b.2 stands in
-        let Lines : List (List ℕ) → Type 0 = λ v. Stands v (Some h) [] (text ++ b.0) (good && b.1) in
+        let Lines : List (List ℕ) → Type 0 = λ v. BuiltSoFar v (Some h) [] (text ++ b.0) (good && b.1) in
         later (Some h) [] (text ++ b.0) (good && b.1) (subst Lines (content_is counts) next) refl
 
     of_avp : (a : Avp) → TellsAvp a (trimmed line) → are_octets a.bytes ≡ true → is_skipped (trimmed line) ≡ false
         → (last : Option Header) (avps : List Avp) (text : List ℕ) (good : Bool) → is_some last ≡ true
-        → Stands (content before) last avps text good → hold_octets avps ≡ true → Built input
+        → BuiltSoFar (content before) last avps text good → hold_octets avps ≡ true → Built input
     of_avp a told octets counts last avps text good some stands o =
         let next = stands-avp (content before) (trimmed line) last a avps
         (avps ++ a ∷ []) text good some told refl stands in
-        let Lines : List (List ℕ) → Type 0 = λ v. Stands v last (avps ++ a ∷ []) text good in
+        let Lines : List (List ℕ) → Type 0 = λ v. BuiltSoFar v last (avps ++ a ∷ []) text good in
         later last (avps ++ a ∷ []) text good (subst Lines (content_is counts) next)
         (append_both (λ v. are_octets v.bytes) avps (a ∷ []) o (and_from (are_octets a.bytes) true octets refl))
 
@@ -156,9 +159,9 @@ module _ (laws : WrittenLaws) where
 
     skipped : is_skipped (trimmed line) ≡ true → GoesOn input before
     skipped is last avps text good stands o =
-        let same = content-append before (line ∷ []) ∙ ap (λ v. content before ++ v) (content-one line true is)
+        let same = laws.joined before (line ∷ []) ∙ ap (λ v. content before ++ v) (content-one line true is)
         ∙ append-nil (content before) in
-        let Lines : List (List ℕ) → Type 0 = λ v. Stands v last avps text good in
+        let Lines : List (List ℕ) → Type 0 = λ v. BuiltSoFar v last avps text good in
         later last avps text good (subst Lines (sym same) stands) o
 
     next_line : GoesOn input before

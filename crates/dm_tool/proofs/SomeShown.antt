@@ -1,5 +1,6 @@
 -- For messages in hexadecimal something is printed.
-use Rattle.std.proofs.Common.{◌≡◌, ◌⊎◌, inl, inr, ℕ, Bool, true, false, ◌&&◌, List, [], ◌∷◌, ◌++◌, Option, Some, None, MatchOption, Result, Ok, Err, codes, ap, refl}
+use Rattle.std.proofs.Common.{◌≡◌, ◌⊎◌, inl, inr, ℕ, Bool, true, false, ◌&&◌, List, [], ◌∷◌, ◌++◌, Option, Some, None}
+use Rattle.std.proofs.Common.{MatchOption, Result, Ok, Err, codes, ap, refl}
 use Rattle.std.specs.Result.{result_ok}
 use Rattle.hex.specs.Hex.{decode_of, IsBytes}
 use Rattle.hex.proofs.HexLemmas.{decode_of-ok}
@@ -16,7 +17,7 @@ use Rattle.dm_text.specs.Hexadecimal.{without_spaces, line_octets}
 use Rattle.dm_text.specs.Lines.{content_lines}
 use Rattle.dm_tool.specs.Text.{fault_text}
 use Rattle.dm_tool.specs.HexLines.{PrintsMessage, PrintsFault, PrintsNoHex, PrintsLine, PrintsLines, PrintsAll}
-use Rattle.dm_tool.specs.Check.{checked, dictionary_fault_text}
+use Rattle.dm_tool.specs.Check.{check_answer, dictionary_fault_text}
 use Rattle.dm_tool.specs.Divided.{dictionary_part, message_part}
 use Rattle.dm_tool.proofs.OneChecked.{Under, Nothing}
 
@@ -76,6 +77,6 @@ module _ (message_or_fault : MessageOrFault) where
         ((f : DictFault) × IsFirstFault (dictionary_part input) base f)
         → (text : List ℕ) × (good : Bool) × (Under base input text good ⊎ Nothing base input text good)
     by (inl h) =
-        let shown = some_shown (checked h.0) (message_part input) in
+        let shown = some_shown (check_answer h.0) (message_part input) in
         (shown.0, shown.1, inl (h.0, h.1, shown.2))
     by (inr h) = (dictionary_fault_text h.0 ++ 10 ∷ [], false, inr (h.0, h.1, refl, refl))

@@ -1,10 +1,10 @@
 -- What check prints for an input, and whether all of it was good.
-use Rattle.std.specs.Prelude.{◌≡◌, ◌⊎◌, ℕ, Bool, true, false, Option, Some, None, List, [], ◌∷◌, ◌++◌, codes}
+use Rattle.std.specs.Prelude.{◌≡◌, ◌⊎◌, ℕ, Bool, true, false, List, [], ◌∷◌, ◌++◌, codes}
 use Rattle.std.specs.Fmt.{decimal}
-use Rattle.dm_wire.specs.declared.avp.Avp.{Avp}
 use Rattle.dm_wire.specs.declared.message.Message.{Message}
 use Rattle.dm_dict_text.specs.declared.fault.DictFault.{DictFault}
-use Rattle.dm_dict_text.specs.declared.fault.DictFault.TheVariants.{Syntax, Range, Duplicate, Order, UnknownName, NoMemory}
+use Rattle.dm_dict_text.specs.declared.fault.DictFault.TheVariants.{Syntax, Range, Duplicate, Order, UnknownName}
+use Rattle.dm_dict_text.specs.declared.fault.DictFault.TheVariants.{NoMemory}
 use Rattle.dm_tables.specs.Definitions.{Definitions}
 use Rattle.dm_tables.specs.Base.{base_definitions}
 use Rattle.dm_dict_text.specs.Outcome.{Defines, IsFirstFault}
@@ -12,34 +12,25 @@ use Rattle.dm_dict.specs.declared.verdict.Verdict.{Verdict}
 use Rattle.dm_dict.specs.declared.verdict.Verdict.TheVariants.{Good, Bad}
 use Rattle.dm_dict.specs.Faults.{faults, first}
 use Rattle.dm_dict.specs.Judgement.{verdict_of}
-use Rattle.dm_tool.specs.Text.{avp_text}
+pub use Rattle.dm_dict.specs.Printed.{verdict_text}
 use Rattle.dm_tool.specs.HexLines.{PrintsAll}
 use Rattle.dm_tool.specs.Divided.{dictionary_part, message_part}
 
--- where there is a failed AVP, a space and the AVP
-abbrev pub failed_text : Option Avp → List ℕ
-failed_text None = []
-failed_text (Some a) = 32 ∷ avp_text a
-
--- `good`, or `bad`, the Result-Code (RFC 6733, 7.1) and the failed AVP (7.5)
-unfoldable pub verdict_text : Verdict → List ℕ
-verdict_text Good = codes "good"
-verdict_text (Bad code failed) = codes "bad " ++ decimal code ++ failed_text failed
-
-abbrev pub is_good : Verdict → Bool
-is_good Good = true
-is_good (Bad code failed) = false
+-- `good`, and all else is bad
+abbrev pub is_good_verdict : Verdict → Bool
+is_good_verdict Good = true
+is_good_verdict (Bad code failed) = false
 
 -- each message is printed as the dictionary's verdict, and is good where that is
 abbrev pub verdict_line : Verdict → List ℕ × Bool
-verdict_line v = (verdict_text v ++ 10 ∷ [], is_good v)
+verdict_line v = (verdict_text v ++ 10 ∷ [], is_good_verdict v)
 
-abbrev pub checked : Definitions → Message → List ℕ × Bool
-checked d m = verdict_line (verdict_of (first (faults d m)))
+abbrev pub check_answer : Definitions → Message → List ℕ × Bool
+check_answer d m = verdict_line (verdict_of (first (faults d m)))
 
 -- what is printed for an input under the base dictionary, and whether all of it is good
 abbrev pub ChecksText : List ℕ → List ℕ → Bool → Type 0
-ChecksText = PrintsAll (checked base_definitions)
+ChecksText = PrintsAll (check_answer base_definitions)
 
 -- the words for a fault of a dictionary: its name and its line (RFC 6733, 3.2)
 unfoldable pub dictionary_fault_text : DictFault → List ℕ
@@ -53,7 +44,7 @@ dictionary_fault_text NoMemory = []
 -- the input's dictionary is good, and the messages are checked under it
 abbrev pub ChecksUnder : List ℕ → List ℕ → Bool → Type 0
 ChecksUnder input text good = (d : Definitions) × Defines (dictionary_part input) base_definitions d ×
-    PrintsAll (checked d) (message_part input) text good
+    PrintsAll (check_answer d) (message_part input) text good
 
 -- it has a fault, which alone is printed
 abbrev pub ChecksNothing : List ℕ → List ℕ → Bool → Type 0

@@ -7,7 +7,7 @@ input_limit = 67108864
 
 -- the most turns of the loop that reads
 abbrev pub read_limit : ℕ
-read_limit = 67108864
+read_limit = input_limit
 
 -- at least the most octets are there, where it is known which are
 abbrev pub HasMost : Option (List ℕ) → Type 0

@@ -3,7 +3,7 @@ use Rattle.std.specs.Prelude.{◌≡◌, ⊤, ℕ, List, [], ◌∷◌, ◌++◌
 use Rattle.dm_wire.specs.declared.avp.Avp.{Avp}
 use Rattle.dm_wire.specs.declared.message.Header.{Header}
 use Rattle.dm_wire.specs.declared.message.Message.{Message}
-use Rattle.dm_tool.specs.Text.{header_flags, avp_flags}
+use Rattle.dm_tool.specs.Text.{header_letters, avp_letters}
 use Rattle.dm_text.specs.Words.{words}
 use Rattle.dm_text.specs.Numbers.{TellsNumber}
 use Rattle.dm_tool.specs.AvpWords.{TellsCode, TellsData}
@@ -15,8 +15,8 @@ pub record TellsHeader (h : Header) (line : List ℕ) : Type 0 where
   pub application : List ℕ
   pub hop_id : List ℕ
   pub end_id : List ℕ
-  pub whole : words line ≡ codes "message" ∷ command ∷ header_flags h ∷ codes "app" ∷ application ∷ codes "hop" ∷ hop_id
-      ∷ codes "end" ∷ end_id ∷ []
+  pub whole : words line ≡ codes "message" ∷ command ∷ header_letters h ∷ codes "app" ∷ application ∷ codes "hop"
+      ∷ hop_id ∷ codes "end" ∷ end_id ∷ []
   pub tells_command : TellsNumber h.command command
   pub tells_application : TellsNumber h.application application
   pub tells_hop_id : TellsNumber h.hop_id hop_id
@@ -36,7 +36,7 @@ pub record TellsNames (application hop_id end_id : ℕ) (behind : List (List ℕ
 pub record TellsAvp (a : Avp) (line : List ℕ) : Type 0 where
   pub code : List ℕ
   pub bytes : List ℕ
-  pub whole : words line ≡ code ∷ avp_flags a ∷ bytes ∷ []
+  pub whole : words line ≡ code ∷ avp_letters a ∷ bytes ∷ []
   pub tells_code : TellsCode a.code a.vendor code
   pub tells_bytes : TellsData a.bytes bytes
 

@@ -1,13 +1,13 @@
 //! The line of an AVP.
-ghost use Rattle.std.specs.Prelude.{◌≡◌, ◌==◌, ◌∷◌, [], ℕ, List, Option, Bool, position, is_some, IfOk, IfSome, IfNone, MatchOption};
+ghost use Rattle.std.specs.Prelude.{◌≡◌, ◌==◌, ◌∷◌, [], ℕ, List, Option, Bool, position, is_some, IfOk, IfSome};
+ghost use Rattle.std.specs.Prelude.{IfNone, MatchOption};
 ghost use Rattle.dm_wire.specs.declared.avp.Avp.{Avp};
 ghost use Rattle.dm_tool.specs.Text.{avp_marks};
 ghost use Rattle.dm_text.specs.Words.{words};
 ghost use Rattle.dm_tool.specs.AvpWords.{TellsCode, TellsData};
 ghost use Rattle.dm_tool.specs.Messages.{TellsAvp};
 
-use crate::header_line::read_two_flags;
-use crate::text::letter;
+use crate::header_line::{read_flag, read_two_flags};
 use dm_text::{Words, read_hex_word, read_number};
 use dm_wire::{Avp, Octets};
 use std::alloc::{AllocError, Global};
@@ -105,7 +105,7 @@ fn read_flags(word: &[u8], has_vendor: bool) -> Option<(bool, bool)>
     let [vendor, mandatory, protected] = word else {
         return None;
     };
-    if *vendor != letter(has_vendor, b'V') {
+    if read_flag(*vendor, b'V')? != has_vendor {
         return None;
     }
     read_two_flags(*mandatory, b'M', *protected, b'P')
@@ -113,7 +113,8 @@ fn read_flags(word: &[u8], has_vendor: bool) -> Option<(bool, bool)>
 
 /// The octets that a word tells: hexadecimal digits in either case, or `-` for none.
 fn read_data(alloc: Global, word: &[u8]) -> Result<Option<Vec<u8>>, AllocError>
-    ensures { IfOk result (λ read. MatchOption read ((bytes : List ℕ) → TellsData bytes word.now → ⊥) (λ bytes. TellsData bytes.items word.now)) }
+    ensures { IfOk result (λ read. MatchOption read ((bytes : List ℕ) → TellsData bytes word.now → ⊥)
+        (λ bytes. TellsData bytes.items word.now)) }
 {
     if word == b"-".as_slice() {
         return Ok(Some(Vec::new(alloc)));

@@ -1,17 +1,19 @@
 //! Messages that are built line by line.
-ghost use Rattle.std.specs.Prelude.{◌≡◌, ◌++◌, ◌∷◌, [], ◌⊎◌, ◌&&◌, ◌≢◌, ℕ, Bool, true, false, None, List, IfOk, IfErr, OnOk};
+ghost use Rattle.std.specs.Prelude.{◌≡◌, ◌++◌, ◌∷◌, [], ◌⊎◌, ◌&&◌, ◌≢◌, ℕ, Bool, true, false, None, List};
+ghost use Rattle.std.specs.Prelude.{IfOk, IfErr, OnOk};
+ghost use Rattle.std.specs.String.{string_bytes};
 ghost use Rattle.dm_wire.specs.declared.avp.Avp.{Avp};
 ghost use Rattle.dm_wire.specs.declared.message.Message.{Message};
 ghost use Rattle.dm_text.specs.Lines.{content, trimmed, is_skipped};
 ghost use Rattle.dm_tool.specs.Messages.{TellsAvp, TellsAll};
 ghost use Rattle.dm_tool.specs.Build.{BuildsOctets, BuildsTooLong, BuildsMessages};
-ghost use Rattle.dm_tool.specs.Progress.{last_message, Stands, GoesOnNowhere};
+ghost use Rattle.dm_tool.specs.Progress.{last_message, HoldsBehind, GoesOnNowhere};
 
 use crate::avp_line::read_avp;
 use crate::fault::ToolFault;
 use crate::header_line::read_header;
 use crate::text::push_fault;
-use dm_text::{is_skipped, push_hex, trim};
+use dm_text::{Hexadecimal, is_skipped, trim};
 use dm_wire::{Avp, AvpList, Header, Message};
 use std::alloc::Global;
 use std::mem;
@@ -20,7 +22,7 @@ use std::mem;
 /// go on with the last.
 #[derive(Drop)]
 pub struct Building {
-    text: Vec<u8>,
+    text: String,
     good: bool,
     last: Option<Header>,
     avps: Vec<Avp>,
@@ -29,10 +31,10 @@ pub struct Building {
 impl Building {
     /// Behind no lines.
     pub fn new(alloc: Global) -> Building
-        ensures { Stands [] result.last result.avps.items result.text.items result.good }
+        ensures { HoldsBehind [] result }
     {
         Building {
-            text: Vec::new(alloc),
+            text: String::new(alloc),
             good: true,
             last: None,
             avps: Vec::new(alloc),
@@ -41,26 +43,27 @@ impl Building {
 
     /// The text for the messages before the last.
     pub fn into_text(self) -> Vec<u8>
-        ensures { result.items ≡ self.text.items }
+        ensures { result.items ≡ string_bytes self.text }
     {
-        self.text
+        self.text.into_bytes()
     }
 
     /// The text for all messages, and whether all are good.
     pub fn end(mut self, alloc: Global) -> Result<(Vec<u8>, bool), ToolFault>
-        ensures built { IfOk result (λ built. (lines : List (List ℕ)) → Stands lines self.last self.avps.items self.text.items self.good
+        ensures built { IfOk result (λ built. (lines : List (List ℕ)) → HoldsBehind lines self
             → (l : List Message) × TellsAll l lines × BuildsMessages l built.0.items built.1) }
         ensures fault { IfErr result (λ e. e ≡ ToolFault.Memory) }
     {
         self.end_message(alloc)?;
-        Ok((self.text, self.good))
+        Ok((self.text.into_bytes(), self.good))
     }
 
     /// Goes on with a line. False, and nothing is changed, where the line is out of place.
     pub fn take_line(&mut self, alloc: Global, line: &[u8]) -> Result<bool, ToolFault>
-        ensures taken { IfOk result (λ taken. taken ≡ true → (lines : List (List ℕ)) → Stands lines self.old.last self.old.avps.items self.old.text.items self.old.good
-            → Stands (lines ++ content (line.now ∷ [])) self.new.last self.new.avps.items self.new.text.items self.new.good) }
-        ensures refused { IfOk result (λ taken. taken ≡ false → (is_skipped (trimmed line.now) ≡ false) × GoesOnNowhere self.old.last (trimmed line.now)) }
+        ensures taken { IfOk result (λ taken. taken ≡ true → (lines : List (List ℕ)) → HoldsBehind lines self.old
+            → HoldsBehind (lines ++ content (line.now ∷ [])) self.new) }
+        ensures refused { IfOk result (λ taken. taken ≡ false
+            → (is_skipped (trimmed line.now) ≡ false) × GoesOnNowhere self.old.last (trimmed line.now)) }
         ensures kept { IfOk result (λ taken. taken ≡ false → self.new ≡ self.old) }
         ensures fault { IfErr result (λ e. e ≡ ToolFault.Memory) }
     {
@@ -80,9 +83,10 @@ impl Building {
 
     /// Goes on with the line of an AVP of the last message. False where it is none.
     fn take_avp(&mut self, alloc: Global, line: &[u8]) -> Result<bool, ToolFault>
-        ensures taken { IfOk result (λ taken. taken ≡ true → (lines : List (List ℕ)) → Stands lines self.old.last self.old.avps.items self.old.text.items self.old.good
-            → Stands (lines ++ line.now ∷ []) self.new.last self.new.avps.items self.new.text.items self.new.good) }
-        ensures refused { IfOk result (λ taken. taken ≡ false → self.old.last ≢ None → (a : Avp) → TellsAvp a line.now → ⊥) }
+        ensures taken { IfOk result (λ taken. taken ≡ true → (lines : List (List ℕ)) → HoldsBehind lines self.old
+            → HoldsBehind (lines ++ line.now ∷ []) self.new) }
+        ensures refused { IfOk result (λ taken. taken ≡ false → self.old.last ≢ None
+            → (a : Avp) → TellsAvp a line.now → ⊥) }
         ensures kept { IfOk result (λ taken. taken ≡ false → self.new ≡ self.old) }
         ensures fault { IfErr result (λ e. e ≡ ToolFault.Memory) }
     {
@@ -100,7 +104,9 @@ impl Building {
 
     /// Puts the last message into the text, where there is one.
     fn end_message(&mut self, alloc: Global) -> Result<(), ToolFault>
-        ensures built { OnOk result ((more : List ℕ) × (fine : Bool) × (self.new.text.items ≡ self.old.text.items ++ more) × (self.new.good ≡ (self.old.good && fine))
+        ensures built { OnOk result ((more : List ℕ) × (fine : Bool)
+            × (string_bytes self.new.text ≡ string_bytes self.old.text ++ more)
+            × (self.new.good ≡ (self.old.good && fine))
             × BuildsMessages (last_message self.old.last self.old.avps.items) more fine) }
         ensures emptied { OnOk result (self.new.avps.items ≡ []) }
         ensures fault { IfErr result (λ e. e ≡ ToolFault.Memory) }
@@ -122,20 +128,19 @@ impl Building {
 
 /// Appends the octets of a message in hexadecimal, or its fault.
 #[tactic(auto, unfolding(crate::specs::Text::fault_text))]
-fn push_octets_line(alloc: Global, text: &mut Vec<u8>, message: &Message) -> Result<bool, ToolFault>
-    ensures built { IfOk result (λ good. (more : List ℕ) × (text.new.items ≡ text.old.items ++ more)
+fn push_octets_line(alloc: Global, text: &mut String, message: &Message) -> Result<bool, ToolFault>
+    ensures built { IfOk result (λ good. (more : List ℕ) × (string_bytes text.new ≡ string_bytes text.old ++ more)
         × (BuildsOctets message.now more good ⊎ BuildsTooLong message.now more good)) }
     ensures fault { IfErr result (λ e. e ≡ ToolFault.Memory) }
 {
     match message.encode(alloc) {
         Ok(octets) => {
-            push_hex(text, octets.as_slice())?;
-            text.push(b'\n')?;
+            writeln!(text, "{}", Hexadecimal(octets.as_slice()))?;
             Ok(true)
         }
         Err(fault) => {
             push_fault(text, fault)?;
-            text.push(b'\n')?;
+            text.push_str("\n")?;
             Ok(false)
         }
     }

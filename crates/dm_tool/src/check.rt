@@ -1,42 +1,16 @@
 //! The command check: messages in hexadecimal, one a line, judged by a dictionary.
 ghost use Rattle.std.specs.Prelude.{◌≡◌, ◌≢◌, ◌++◌, ◌∷◌, [], false, IfOk, IfErr};
 ghost use Rattle.dm_tool.specs.Check.{dictionary_fault_text, ChecksText, ChecksWithDictionary};
-ghost use Rattle.dm_tool.specs.Run.{Checks, Ran};
+ghost use Rattle.dm_tool.specs.Run.{Checks};
 ghost use Rattle.dm_tables.specs.Base.{base_definitions};
 ghost use Rattle.dm_dict_text.specs.declared.fault.DictFault.TheVariants as dict;
 
-use crate::choice::Choice;
 use crate::divide::divide;
 use crate::fault::ToolFault;
 use crate::messages::{Task, messages_text};
-use crate::run::run;
 use crate::verdict::push_dictionary_fault;
 use dm_dict::{DictFault, Dictionary};
 use std::alloc::Global;
-use std::io::{Read, Write};
-
-/// Reads Diameter messages in hexadecimal, one a line, and writes of each whether it is good, or its
-/// first fault: `bad`, the Result-Code (RFC 6733, 7.1) and the failed AVP. True where each line was a
-/// good message.
-///
-/// Messages are judged by the base dictionary. With `with_dict` the input up to a line `%%`, or to its
-/// end, is the text of a dictionary over the base one (3.2), and they are judged by that; where it is
-/// refused, its fault is all that is written.
-///
-/// The whole input is read first. A line that is no message is written as its fault, and the next
-/// line goes on. Where the reader fails, gives more than 67108864 octets or isn't at its end after
-/// as many reads, that is Read, and nothing is written. Where memory runs out nothing is written
-/// either. Where the writer fails a front of the text was written.
-pub fn run_check<R: Read, W: Write>(
-    alloc: Global,
-    reader: &mut R,
-    writer: &mut W,
-    with_dict: bool,
-) -> Result<bool, ToolFault>
-    ensures { Ran (Checks with_dict) (R.remaining reader.old) (R.remaining reader.new) (W.contents writer.old) (W.contents writer.new) result }
-{
-    run(alloc, Choice::Check { with_dict }, reader, writer)
-}
 
 /// The text for an input under the base dictionary, and whether all of it is good.
 pub fn check_text(alloc: Global, input: &[u8]) -> Result<(Vec<u8>, bool), ToolFault>
@@ -84,8 +58,8 @@ fn refused(alloc: Global, fault: DictFault) -> Result<(Vec<u8>, bool), ToolFault
     ensures bad { IfOk result (λ printed. printed.1 ≡ false) }
     ensures fault { IfErr result (λ e. e ≡ ToolFault.Memory) }
 {
-    let mut text = Vec::new(alloc);
+    let mut text = String::new(alloc);
     push_dictionary_fault(&mut text, fault)?;
-    text.push(b'\n')?;
-    Ok((text, false))
+    text.push_str("\n")?;
+    Ok((text.into_bytes(), false))
 }

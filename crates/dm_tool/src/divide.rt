@@ -37,7 +37,8 @@ pub fn divide(input: &[u8]) -> Divided<'_>
 
 /// How many octets the first line has, with the LF that ends it; nothing where there is no line.
 fn line_end(input: &[u8]) -> Option<usize>
-    ensures some { IfSome result (λ end. whole_lines input.now ≡ take end input.now ∷ whole_lines (drop end input.now)) }
+    ensures some { IfSome result (λ end. whole_lines input.now
+        ≡ take end input.now ∷ whole_lines (drop end input.now)) }
     ensures within { IfSome result (λ end. end ≤ length input.now) }
     ensures moves { IfSome result (λ end. 0 < end) }
     ensures none { IfNone result (input.now ≡ []) }

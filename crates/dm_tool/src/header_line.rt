@@ -58,8 +58,10 @@ fn read_names(left: &mut Words<'_>) -> Option<Names>
 
 /// The number behind this name, where these are the next two words.
 fn named_number(left: &mut Words<'_>, name: &[u8]) -> Option<u32>
-    ensures told { IfSome result (λ n. (digits : List ℕ) × (words left.old ≡ name.now ∷ digits ∷ words left.new) × TellsNumber n digits) }
-    ensures none { IfNone result ((n : ℕ) (digits : List ℕ) (more : List (List ℕ)) → words left.old ≡ name.now ∷ digits ∷ more → TellsNumber n digits → ⊥) }
+    ensures told { IfSome result (λ n. (digits : List ℕ)
+        × (words left.old ≡ name.now ∷ digits ∷ words left.new) × TellsNumber n digits) }
+    ensures none { IfNone result ((n : ℕ) (digits : List ℕ) (more : List (List ℕ))
+        → words left.old ≡ name.now ∷ digits ∷ more → TellsNumber n digits → ⊥) }
 {
     let word = left.next()?;
     if word != name {
@@ -107,7 +109,7 @@ pub fn read_two_flags(first: u8, letter: u8, second: u8, other: u8) -> Option<(b
 }
 
 /// Whether a flag is set: its letter stands there, or `-`.
-fn read_flag(octet: u8, letter: u8) -> Option<bool>
+pub fn read_flag(octet: u8, letter: u8) -> Option<bool>
     ensures told { IfSome result (λ set. octet ≡ mark set letter) }
     ensures none { IfNone result ((set : Bool) → octet ≡ mark set letter → ⊥) }
 {

@@ -1,5 +1,6 @@
 //! The whole input of a run, read before anything is printed.
-ghost use Rattle.std.specs.Prelude.{◌≡◌, ◌<◌, ◌≤◌, ◌+◌, ◌⊎◌, [], ℕ, List, length, true, false, IfSome, IfOk, IfErr, IsErrOf, OnOk, vec_len};
+ghost use Rattle.std.specs.Prelude.{◌≡◌, ◌<◌, ◌≤◌, ◌+◌, ◌⊎◌, [], ℕ, List, length, true, false, IfSome, IfOk, IfErr};
+ghost use Rattle.std.specs.Prelude.{IsErrOf, OnOk, vec_len};
 ghost use Rattle.std.specs.Io.KnownBytes.{Consumes, IsAtEnd};
 ghost use Rattle.dm_tool.specs.Limits.{input_limit, read_limit, HasMost};
 
@@ -11,8 +12,10 @@ use std::io::ErrorKind;
 /// The most octets that a run takes.
 pub const INPUT_LIMIT: usize = 67_108_864;
 
-const READ_LIMIT: usize = 67_108_864;
+/// The most reads.
+const READ_LIMIT: usize = INPUT_LIMIT;
 
+/// The most octets of one read.
 const CHUNK: usize = 65_536;
 
 /// The most turns of the loop that reads, each of which makes one read.

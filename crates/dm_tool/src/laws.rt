@@ -13,6 +13,7 @@ pub fn one_text()
     dm_dict_text::laws::one_definition();
     dm_dict_text::laws::one_fault();
     dm_dict_text::laws::no_definition_refused();
+    dm_text::laws::lines_are_joined();
     dm_replay::laws::one_replay();
 }
 
@@ -26,6 +27,7 @@ pub fn some_text()
     dm_wire::laws::equal_messages();
     dm_wire::laws::no_message_refused();
     dm_dict_text::laws::some_outcome();
+    dm_text::laws::lines_are_joined();
     dm_replay::laws::some_replay();
 }
 

@@ -1,19 +1,20 @@
 //! Messages in hexadecimal, one a line, and what is printed for each.
-ghost use Rattle.std.specs.Prelude.{◌≡◌, ◌≢◌, ◌++◌, ◌∷◌, ◌⊎◌, [], false, ℕ, List, OnOk, IfOk, IfErr};
+ghost use Rattle.std.specs.Prelude.{◌≡◌, ◌≢◌, ◌++◌, ◌∷◌, ◌⊎◌, [], false, ℕ, List, IfOk, IfErr};
+ghost use Rattle.std.specs.String.{string_bytes};
 ghost use Rattle.dm_tool.specs.HexLines.{PrintsMessage, PrintsFault, PrintsLine, PrintsAll};
 ghost use Rattle.dm_wire.specs.declared.fault.WireFault.TheVariants as wire;
-ghost use Rattle.dm_tool.specs.Check.{checked, is_good, verdict_line};
-ghost use Rattle.dm_tool.specs.Show.{shown};
+ghost use Rattle.dm_tool.specs.Check.{check_answer};
+ghost use Rattle.dm_tool.specs.Show.{show_answer};
 ghost use Rattle.dm_tool.specs.Text.{fault_text};
 ghost use Rattle.dm_tool.specs.Tasks.{answer_of};
 
 use crate::fault::ToolFault;
 use crate::text::{push_fault, push_message_text};
-use crate::verdict::push_verdict;
-use dm_dict::{Dictionary, Verdict};
+use crate::verdict::push_judged;
+use dm_dict::Dictionary;
 use dm_text::{Lines, is_skipped, read_hex_line, trim};
 use dm_wire::{MessageRef, WireFault};
-use std::alloc::{AllocError, Global};
+use std::alloc::Global;
 
 /// What is printed for a message.
 #[derive(Clone, Copy)]
@@ -33,7 +34,7 @@ pub fn messages_text(
     ensures printed { IfOk result (λ printed. PrintsAll (answer_of task.entry) input.now printed.0.items printed.1) }
     ensures fault { IfErr result (λ e. e ≡ ToolFault.Memory) }
 {
-    let mut text = Vec::new(alloc);
+    let mut text = String::new(alloc);
     let mut digits = Vec::new(alloc);
     let mut good = true;
     for line in Lines::new(input) {
@@ -43,7 +44,7 @@ pub fn messages_text(
             good = good && fine;
         }
     }
-    Ok((text, good))
+    Ok((text.into_bytes(), good))
 }
 
 /// Appends the text for a line. `digits` is room that is used again from line to line.
@@ -52,16 +53,16 @@ fn print_line(
     task: Task<'_>,
     line: &[u8],
     digits: &mut Vec<u8>,
-    text: &mut Vec<u8>,
+    text: &mut String,
 ) -> Result<bool, ToolFault>
-    ensures printed { IfOk result (λ good. (more : List ℕ) × (text.new.items ≡ text.old.items ++ more)
+    ensures printed { IfOk result (λ good. (more : List ℕ) × (string_bytes text.new ≡ string_bytes text.old ++ more)
         × PrintsLine (answer_of task.entry) line.now more good) }
     ensures fault { IfErr result (λ e. e ≡ ToolFault.Memory) }
 {
     match read_hex_line(alloc, line, digits)? {
         Some(octets) => print_octets(alloc, task, octets.as_slice(), text),
         None => {
-            text.extend_from_slice(b"fault hex\n")?;
+            text.push_str("fault hex\n")?;
             Ok(false)
         }
     }
@@ -72,9 +73,9 @@ fn print_octets(
     alloc: Global,
     task: Task<'_>,
     octets: &[u8],
-    text: &mut Vec<u8>,
+    text: &mut String,
 ) -> Result<bool, ToolFault>
-    ensures printed { IfOk result (λ good. (more : List ℕ) × (text.new.items ≡ text.old.items ++ more)
+    ensures printed { IfOk result (λ good. (more : List ℕ) × (string_bytes text.new ≡ string_bytes text.old ++ more)
         × (PrintsMessage (answer_of task.entry) octets.now more good ⊎ PrintsFault octets.now more good)) }
     ensures fault { IfErr result (λ e. e ≡ ToolFault.Memory) }
 {
@@ -85,9 +86,9 @@ fn print_octets(
 }
 
 /// Appends the text of the message that the octets spell, or of their fault. Of the message nothing is copied.
-fn show_octets(octets: &[u8], text: &mut Vec<u8>) -> Result<bool, ToolFault>
-    ensures printed { IfOk result (λ good. (more : List ℕ) × (text.new.items ≡ text.old.items ++ more)
-        × (PrintsMessage shown octets.now more good ⊎ PrintsFault octets.now more good)) }
+fn show_octets(octets: &[u8], text: &mut String) -> Result<bool, ToolFault>
+    ensures printed { IfOk result (λ good. (more : List ℕ) × (string_bytes text.new ≡ string_bytes text.old ++ more)
+        × (PrintsMessage show_answer octets.now more good ⊎ PrintsFault octets.now more good)) }
     ensures fault { IfErr result (λ e. e ≡ ToolFault.Memory) }
 {
     match MessageRef::read(octets) {
@@ -99,47 +100,34 @@ fn show_octets(octets: &[u8], text: &mut Vec<u8>) -> Result<bool, ToolFault>
     }
 }
 
-/// Appends the verdict on the message that the octets spell, or their fault. Of the message nothing is copied but the
-/// failed AVP, which is printed.
+/// Appends the verdict on the message that the octets spell, or their fault. Of the message nothing is copied.
 fn check_octets(
     alloc: Global,
     dictionary: &Dictionary,
     octets: &[u8],
-    text: &mut Vec<u8>,
+    text: &mut String,
 ) -> Result<bool, ToolFault>
-    ensures printed { IfOk result (λ good. (more : List ℕ) × (text.new.items ≡ text.old.items ++ more)
-        × (PrintsMessage (checked dictionary.now) octets.now more good ⊎ PrintsFault octets.now more good)) }
+    ensures printed { IfOk result (λ good. (more : List ℕ) × (string_bytes text.new ≡ string_bytes text.old ++ more)
+        × (PrintsMessage (check_answer dictionary.now) octets.now more good ⊎ PrintsFault octets.now more good)) }
     ensures fault { IfErr result (λ e. e ≡ ToolFault.Memory) }
 {
     match MessageRef::read(octets) {
         Ok(message) => {
-            let verdict = dictionary.judge(&message).verdict(alloc)?;
-            let good = print_verdict(&verdict, text);
-            drop(verdict);
-            Ok(good?)
+            let judged = dictionary.judge(&message);
+            push_judged(alloc, text, judged)
         }
         Err(fault) => print_fault(text, fault),
     }
 }
 
 /// Appends the line for a fault of octets, which aren't good.
-fn print_fault(text: &mut Vec<u8>, fault: WireFault) -> Result<bool, ToolFault>
-    ensures words { IfOk result (λ good. text.new.items ≡ text.old.items ++ fault_text fault ++ 10 ∷ []) }
+fn print_fault(text: &mut String, fault: WireFault) -> Result<bool, ToolFault>
+    ensures words { IfOk result (λ good. string_bytes text.new ≡ string_bytes text.old ++ fault_text fault ++ 10 ∷ []) }
     ensures known { IfOk result (λ good. fault ≢ wire.NoMemory) }
     ensures bad { IfOk result (λ good. good ≡ false) }
     ensures fault { IfErr result (λ e. e ≡ ToolFault.Memory) }
 {
     push_fault(text, fault)?;
-    text.push(b'\n')?;
+    text.push_str("\n")?;
     Ok(false)
-}
-
-/// Appends the line for a verdict, and tells whether it is good.
-fn print_verdict(verdict: &Verdict, text: &mut Vec<u8>) -> Result<bool, AllocError>
-    ensures printed { OnOk result (text.new.items ≡ text.old.items ++ (verdict_line verdict.now).0) }
-    ensures good { IfOk result (λ good. good ≡ is_good verdict.now) }
-{
-    push_verdict(text, verdict)?;
-    text.push(b'\n')?;
-    Ok(matches!(verdict, Verdict::Good))
 }

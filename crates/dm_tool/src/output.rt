@@ -3,10 +3,11 @@ ghost use Rattle.std.specs.Prelude.{◌≡◌, ◌++◌, ℕ, List, IfErr, OnOk,
 ghost use Rattle.std.specs.Io.KnownBytes.{Appends};
 
 use crate::fault::ToolFault;
+use crate::input::INPUT_LIMIT;
 use std::io::{ErrorKind, Write};
 
 /// The most writes beside those that a writer of one octet a write needs.
-const SPARE_WRITES: usize = 67_108_864;
+const SPARE_WRITES: usize = INPUT_LIMIT;
 
 /// Writes the text, and lets nothing of it wait in the writer. Where that fails, a front of the
 /// text was written.

@@ -18,10 +18,11 @@ use dm_replay::replay_text;
 use std::alloc::Global;
 use std::io::{Read, Write};
 
-/// Runs the command that the words of the command line choose, the program's name left out. None, and nothing is read or
-/// written, where they choose none.
+/// Runs the command that the words of the command line choose, the program's name left out. None, and nothing is read
+/// or written, where they choose none.
 ///
-/// A run tells whether all of its input was good; [`ending`](crate::ending) gives the program's status for what comes of it.
+/// A run tells whether all of its input was good; [`ending`](crate::ending) gives the program's status for what comes
+/// of it.
 pub fn run_words<R: Read, W: Write>(
     alloc: Global,
     words: &[String],
@@ -29,7 +30,8 @@ pub fn run_words<R: Read, W: Write>(
     writer: &mut W,
 ) -> Option<Result<bool, ToolFault>>
     ensures ran { IfSome result (λ outcome. (choice : Choice) × (map string_bytes words.now ≡ words_of choice)
-        × Ran (Prints choice) (R.remaining reader.old) (R.remaining reader.new) (W.contents writer.old) (W.contents writer.new) outcome) }
+        × Ran (Prints choice) (R.remaining reader.old) (R.remaining reader.new)
+        (W.contents writer.old) (W.contents writer.new) outcome) }
     ensures refused { IfNone result ((choice : Choice) → map string_bytes words.now ≡ words_of choice → ⊥) }
     ensures unread { IfNone result (reader.new ≡ reader.old) }
     ensures unwritten { IfNone result (writer.new ≡ writer.old) }

@@ -1,59 +1,62 @@
 //! Verdicts and faults of dictionaries as text.
-ghost use Rattle.std.specs.Prelude.{◌≡◌, ◌≢◌, ◌++◌, OnOk, IfErr};
-ghost use Rattle.std.specs.Option.{option_copied};
+ghost use Rattle.std.specs.Prelude.{◌≡◌, ◌≢◌, ◌++◌, OnOk, IfOk, IfErr};
+ghost use Rattle.std.specs.String.{string_bytes};
 ghost use Rattle.dm_dict_text.specs.declared.fault.DictFault.TheVariants as dict;
-ghost use Rattle.dm_tool.specs.Check.{failed_text, verdict_text, dictionary_fault_text};
+ghost use Rattle.dm_dict.specs.Judgement.{shown, verdict_of};
+ghost use Rattle.dm_tool.specs.Check.{is_good_verdict, verdict_line, dictionary_fault_text};
 
 use crate::fault::ToolFault;
-use crate::text::push_avp;
-use dm_dict::{DictFault, Verdict};
-use dm_text::push_decimal;
-use dm_wire::Avp;
-use std::alloc::AllocError;
+use dm_dict::{DictFault, Failed, Judged, Verdict};
+use std::alloc::{AllocError, Global};
 
-/// Appends the words for a verdict.
-#[tactic(auto, unfolding(crate::specs::Check::verdict_text))]
-pub fn push_verdict(text: &mut Vec<u8>, verdict: &Verdict) -> Result<(), AllocError>
-    ensures { OnOk result (text.new.items ≡ text.old.items ++ verdict_text verdict.now) }
+/// Appends the line for what was found, and tells whether it is good. An AVP of the message isn't copied: only the
+/// example of one that it lacks is made.
+pub fn push_judged(alloc: Global, text: &mut String, judged: Judged<'_>) -> Result<bool, ToolFault>
+    ensures line { OnOk result (string_bytes text.new
+        ≡ string_bytes text.old ++ (verdict_line (verdict_of (shown judged.entry))).0) }
+    ensures good { IfOk result (λ good. good ≡ is_good_verdict (verdict_of (shown judged.entry))) }
+    ensures fault { IfErr result (λ e. e ≡ ToolFault.Memory) }
 {
-    match verdict {
-        Verdict::Good => text.extend_from_slice(b"good")?,
-        Verdict::Bad { code, failed } => {
-            text.extend_from_slice(b"bad ")?;
-            push_decimal(text, u64::from(*code))?;
-            push_failed(text, failed.as_ref())?;
+    match judged {
+        Judged::Bad {
+            code,
+            failed: Failed::Found(avp),
+        } => {
+            writeln!(text, "bad {code} {avp}")?;
+            Ok(false)
+        }
+        _ => {
+            let verdict = judged.verdict(alloc)?;
+            let good = push_verdict(text, &verdict);
+            drop(verdict);
+            Ok(good?)
         }
     }
-    Ok(())
 }
 
-/// Appends a space and the failed AVP, where there is one.
-fn push_failed(text: &mut Vec<u8>, failed: Option<&Avp>) -> Result<(), AllocError>
-    ensures { OnOk result (text.new.items ≡ text.old.items ++ failed_text (option_copied failed.entry)) }
+/// Appends the line for a verdict, and tells whether it is good.
+fn push_verdict(text: &mut String, verdict: &Verdict) -> Result<bool, AllocError>
+    ensures line { OnOk result (string_bytes text.new ≡ string_bytes text.old ++ (verdict_line verdict.now).0) }
+    ensures good { IfOk result (λ good. good ≡ is_good_verdict verdict.now) }
 {
-    if let Some(avp) = failed {
-        text.push(b' ')?;
-        push_avp(text, avp.borrowed())?;
-    }
-    Ok(())
+    writeln!(text, "{verdict}")?;
+    Ok(matches!(verdict, Verdict::Good))
 }
 
 /// Appends the words for a fault of a dictionary. Want of memory has no words, and is answered as such.
 #[tactic(auto, unfolding(crate::specs::Check::dictionary_fault_text))]
-pub fn push_dictionary_fault(text: &mut Vec<u8>, fault: DictFault) -> Result<(), ToolFault>
-    ensures words { OnOk result (text.new.items ≡ text.old.items ++ dictionary_fault_text fault) }
+pub fn push_dictionary_fault(text: &mut String, fault: DictFault) -> Result<(), ToolFault>
+    ensures words { OnOk result (string_bytes text.new ≡ string_bytes text.old ++ dictionary_fault_text fault) }
     ensures known { OnOk result (fault ≢ dict.NoMemory) }
     ensures memory { IfErr result (λ e. e ≡ ToolFault.Memory) }
 {
-    let (name, line): (&[u8], usize) = match fault {
-        DictFault::Syntax(line) => (b"fault dict Syntax ", line),
-        DictFault::Range(line) => (b"fault dict Range ", line),
-        DictFault::Duplicate(line) => (b"fault dict Duplicate ", line),
-        DictFault::Order(line) => (b"fault dict Order ", line),
-        DictFault::UnknownName(line) => (b"fault dict UnknownName ", line),
+    match fault {
+        DictFault::Syntax(line) => write!(text, "fault dict Syntax {line}")?,
+        DictFault::Range(line) => write!(text, "fault dict Range {line}")?,
+        DictFault::Duplicate(line) => write!(text, "fault dict Duplicate {line}")?,
+        DictFault::Order(line) => write!(text, "fault dict Order {line}")?,
+        DictFault::UnknownName(line) => write!(text, "fault dict UnknownName {line}")?,
         DictFault::NoMemory => return Err(ToolFault::Memory),
-    };
-    text.extend_from_slice(name)?;
-    push_decimal(text, line as u64)?;
+    }
     Ok(())
 }

@@ -1,6 +1,5 @@
 pub mod Canonicals
 pub mod Cuts
-pub mod Digits
 pub mod Equalities
 pub mod Existence
 pub mod Fitting

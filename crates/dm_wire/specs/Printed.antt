@@ -6,25 +6,41 @@ use Rattle.hex.specs.Hex.{encode_lower}
 use Rattle.dm_wire.specs.declared.avp.Avp.{Avp}
 use Rattle.dm_wire.specs.declared.message.Header.{Header}
 
--- the flag's letter where it is set, else `-`
-abbrev pub mark : Bool → List ℕ → List ℕ
-mark set letter = if set then letter else codes "-"
+-- `-`, which stands where a flag isn't set
+abbrev pub dash : ℕ
+dash = 45
 
--- the four characters `R` `P` `E` `T` or `-` of a header (RFC 6733, 3)
-abbrev pub header_flags : Header → List ℕ
-header_flags h =
-    mark h.request (codes "R") ++ mark h.proxiable (codes "P")
-    ++ mark h.error (codes "E") ++ mark h.retransmit (codes "T")
+-- the flag's letter where it is set, else `-`
+abbrev pub mark : Bool → ℕ → ℕ
+mark set letter = if set then letter else dash
+
+-- the flags' letters, each in its place or `-`
+abbrev pub marks : List Bool → List ℕ → List ℕ
+marks [] letters = []
+marks (set ∷ more) [] = []
+marks (set ∷ more) (letter ∷ letters) = mark set letter ∷ marks more letters
+
+-- `R` `P` `E` `T`, each in its place or `-`
+abbrev pub header_marks : Bool → Bool → Bool → Bool → List ℕ
+header_marks r p e t = marks (r ∷ p ∷ e ∷ t ∷ []) (codes "RPET")
+
+-- `V` `M` `P`, each in its place or `-`
+abbrev pub avp_marks : Bool → Bool → Bool → List ℕ
+avp_marks v m p = marks (v ∷ m ∷ p ∷ []) (codes "VMP")
+
+-- the four characters for the flags of a header (RFC 6733, 3)
+abbrev pub header_letters : Header → List ℕ
+header_letters h = header_marks h.request h.proxiable h.error h.retransmit
 
 -- a header as a line, without its end
 unfoldable pub header_text : Header → List ℕ
 header_text h =
-    codes "message " ++ decimal h.command ++ codes " " ++ header_flags h ++ codes " app " ++ decimal h.application
+    codes "message " ++ decimal h.command ++ codes " " ++ header_letters h ++ codes " app " ++ decimal h.application
     ++ codes " hop " ++ decimal h.hop_id ++ codes " end " ++ decimal h.end_id
 
--- the three characters `V` `M` `P` or `-` of an AVP (RFC 6733, 4.1)
-abbrev pub avp_flags : Avp → List ℕ
-avp_flags a = mark (is_some a.vendor) (codes "V") ++ mark a.mandatory (codes "M") ++ mark a.protected (codes "P")
+-- the three characters for the flags of an AVP (RFC 6733, 4.1)
+abbrev pub avp_letters : Avp → List ℕ
+avp_letters a = avp_marks (is_some a.vendor) a.mandatory a.protected
 
 -- where there is a vendor, `/` and the vendor
 abbrev pub vendor_text : Option ℕ → List ℕ
@@ -38,7 +54,7 @@ data_text (b ∷ s) = encode_lower (b ∷ s)
 
 -- an AVP: code, vendor, flags and data
 unfoldable pub avp_text : Avp → List ℕ
-avp_text a = decimal a.code ++ vendor_text a.vendor ++ codes " " ++ avp_flags a ++ codes " " ++ data_text a.bytes
+avp_text a = decimal a.code ++ vendor_text a.vendor ++ codes " " ++ avp_letters a ++ codes " " ++ data_text a.bytes
 
 -- an AVP of a list
 abbrev pub member_text : Avp → List ℕ

@@ -1,45 +1,26 @@
 //! Octets, AVPs and headers as text.
-ghost use Rattle.std.specs.Prelude.{◌≡◌, ◌≤◌, Some, codes, length, if◌then◌else◌};
-ghost use Rattle.std.specs.Fmt.{WritesOnOk};
+ghost use Rattle.std.specs.Prelude.{◌≡◌, ◌∷◌, [], Some, length};
 ghost use Rattle.hex.specs.Hex.{encode_lower};
-ghost use Rattle.dm_wire.specs.Printed.{avp_text, list_text, header_text, vendor_text, data_text};
+ghost use Rattle.dm_wire.specs.Borrowed.{avp_of};
+ghost use Rattle.dm_wire.specs.Printed.{marks, avp_text, list_text, header_text, vendor_text, data_text};
 
-use crate::{Avp, AvpList, Header, Octets};
-use std::{fmt, str};
-
-/// How many octets are turned into digits at once.
-const OCTETS_AT_ONCE: usize = 64;
+use crate::{Avp, AvpList, AvpRef, Header, Octets};
+use dm_text::Hexadecimal;
+use std::fmt;
 
 /// In lower case hexadecimal.
 impl fmt::Display for Octets {
     ghost output = { λ octets. Some (encode_lower octets) };
 
     fn fmt<W: fmt::Write>(&self, f: &mut fmt::Formatter<W>) -> fmt::Result {
-        let mut rest = self.as_slice();
-        while !rest.is_empty() {
-            let (some, more) = rest.split_at(rest.len().min(OCTETS_AT_ONCE));
-            write_digits(f, some)?;
-            rest = more;
-        }
-        Ok(())
+        write!(f, "{}", Hexadecimal(self.as_slice()))
     }
-}
-
-/// Writes so many octets at most.
-fn write_digits<W: fmt::Write>(f: &mut fmt::Formatter<W>, octets: &[u8]) -> fmt::Result
-    requires { length octets.now ≤ 64 }
-    ensures { WritesOnOk W.Write.write_str_gives f.old result (encode_lower octets.now) f.new }
-{
-    let mut digits = [0; 2 * OCTETS_AT_ONCE];
-    let room = &mut digits[..2 * octets.len()];
-    hex::encode_to_slice(octets, room).unwrap();
-    f.write_str(str::from_utf8(room).map_err(|_| fmt::Error)?)
 }
 
 /// As `264 -M- 612e6578616d706c65`: the code, behind a `/` the vendor where there is one, the flags `V` `M` `P` (or
 /// `-`), and the data in hexadecimal (or `-` where there is none).
-impl fmt::Display for Avp {
-    ghost output = { λ avp. Some (avp_text avp) };
+impl fmt::Display for AvpRef<'_> {
+    ghost output = { λ avp. Some (avp_text (avp_of avp)) };
 
     #[tactic(auto, unfolding(crate::specs::Printed::avp_text))]
     fn fmt<W: fmt::Write>(&self, f: &mut fmt::Formatter<W>) -> fmt::Result {
@@ -49,8 +30,18 @@ impl fmt::Display for Avp {
             mark(self.mandatory, "M"),
             mark(self.protected, "P"),
         );
-        let data = DataText(&self.bytes);
-        write!(f, "{}{vendor} {v}{m}{p} {data}", self.code)
+        let data = DataText(self.bytes);
+        write!(f, "{}{vendor} {v}{m}{p}", self.code)?;
+        write!(f, " {data}")
+    }
+}
+
+/// As where it lies.
+impl fmt::Display for Avp {
+    ghost output = { λ avp. Some (avp_text avp) };
+
+    fn fmt<W: fmt::Write>(&self, f: &mut fmt::Formatter<W>) -> fmt::Result {
+        write!(f, "{}", self.borrowed())
     }
 }
 
@@ -83,7 +74,8 @@ impl fmt::Display for Header {
 
 /// The flag's letter where it is set, else `-`.
 fn mark(is_set: bool, letter: &'static str) -> &'static str
-    ensures { result.now ≡ (if is_set then letter.now else codes "-") }
+    requires { length letter.now ≡ 1 }
+    ensures { result.now ≡ marks (is_set ∷ []) letter.now }
 {
     if is_set { letter } else { "-" }
 }
@@ -105,7 +97,7 @@ impl fmt::Display for VendorText {
 
 /// The data of an AVP, or `-` where there is none.
 #[derive(Clone, Copy)]
-struct DataText<'a>(&'a Octets);
+struct DataText<'a>(&'a [u8]);
 
 impl fmt::Display for DataText<'_> {
     ghost output = { λ d. Some (data_text d.0.now) };
@@ -114,7 +106,7 @@ impl fmt::Display for DataText<'_> {
         if self.0.is_empty() {
             f.write_str("-")
         } else {
-            write!(f, "{}", self.0)
+            write!(f, "{}", Hexadecimal(self.0))
         }
     }
 }

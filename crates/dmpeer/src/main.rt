@@ -1,7 +1,7 @@
 //! The program `dmpeer`: reads standard input as its words ask, and prints to standard output.
 //!
-//! Its words are `show`, `check`, `check --dict`, `build` or `replay`. What comes of them is dm_tool's; here are only the
-//! command line, the standard streams and the status.
+//! Its words are `show`, `check`, `check --dict`, `build` or `replay`. What comes of them is dm_tool's; here are only
+//! the command line, the standard streams and the status.
 #![tactic(auto)]
 
 ghost use Rattle.std.specs.Prelude.{◌≡◌, ◌≢◌, drop, IfOk, IfErr};

@@ -1,4 +1,5 @@
-use Rattle.std.proofs.Common.{◌+◌, ◌++◌, ◌≤◌, ℕ, vec_len, take, arith, length-append, length-take, ap, ◌∙◌, sym, subst, Vec, Global}
+use Rattle.std.proofs.Common.{◌+◌, ◌++◌, ◌≤◌, ℕ, vec_len, take, arith, length-append, length-take, ap, ◌∙◌, sym}
+use Rattle.std.proofs.Common.{subst, Vec, Global}
 use Rattle.std.proofs.lemmas.Bool.{true≢false}
 use Rattle.std.specs.Io.KnownBytes.{Consumes}
 use Rattle.std.proofs.KnownBytes.{Consumes-trans, Consumes-kept}

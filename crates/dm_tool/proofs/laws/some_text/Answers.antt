@@ -2,8 +2,8 @@ use Rattle.std.proofs.Common.{true, false}
 use Rattle.dm_tables.specs.Base.{base_definitions}
 use Rattle.dm_dict_text.specs.OneOutcome.{SomeOutcome}
 use Rattle.dm_tool.specs.declared.choice.Choice.TheVariants.{Show, Check, Build, Replay}
-use Rattle.dm_tool.specs.Show.{shown}
-use Rattle.dm_tool.specs.Check.{checked}
+use Rattle.dm_tool.specs.Show.{show_answer}
+use Rattle.dm_tool.specs.Check.{check_answer}
 use Rattle.dm_replay.specs.OneReplay.{SomeReplay}
 use Rattle.dm_tool.specs.OneText.{SomeText}
 use Rattle.dm_tool.proofs.SomeShown.{some_shown, some_checked}
@@ -11,8 +11,8 @@ use Rattle.dm_tool.proofs.SomeBuilt.{WrittenLaws, some_built}
 use Rattle.dm_tool.proofs.laws.some_text.Goals as goal
 
 some : WrittenLaws → SomeOutcome → SomeReplay → SomeText
-some written outcome replay Show = some_shown written.message_or_fault shown
-some written outcome replay (Check false) = some_shown written.message_or_fault (checked base_definitions)
+some written outcome replay Show = some_shown written.message_or_fault show_answer
+some written outcome replay (Check false) = some_shown written.message_or_fault (check_answer base_definitions)
 some written outcome replay (Check true) = some_checked written.message_or_fault outcome base_definitions
 some written outcome replay Build = some_built written
 some written outcome replay Replay = replay
@@ -25,4 +25,5 @@ returns c =
       reads_back = c.reads_back.ensures;
       equal_messages = c.equal_messages.ensures;
       no_message_refused = c.no_message_refused.ensures;
+      joined = c.lines_are_joined.ensures.content;
     }) c.some_outcome.ensures c.some_replay.ensures.replay

@@ -1,14 +1,14 @@
-use Rattle.std.proofs.Common.{rules, ◌++◌, [], sym, ap, ◌∙◌}
+use Rattle.std.proofs.Common.{rules, ◌++◌, [], sym, ap, ◌∙◌, refl}
 use Rattle.std.proofs.Output.{writes_in_calls_nil, has_written_append, has_written_of_eq}
 use Rattle.hex.specs.Hex.{encode_lower, lower_digits}
-use Rattle.dm_wire.proofs.Digits.{encode_with-append, encode_with-nil, more_passed, all_passed}
-use Rattle.dm_wire.proofs.printing.OctetsDisplay.fmt.Goals as goal
+use Rattle.dm_text.proofs.Digits.{encode_with-append, encode_with-nil, more_passed, all_passed}
+use Rattle.dm_text.proofs.hexadecimal.HexadecimalDisplay.fmt.Goals as goal
 
 pub loop-rest-init : goal.loop-rest-init
 loop-rest-init g c =
     let none = sym (encode_with-nil lower_digits) in (
       [],
-      sym c.as_slice-rest.ensures,
+      refl,
       λ p. has_written_of_eq _ _ _ _ _ none (record { wrote = writes_in_calls_nil _ _; plain = p }),
     )
 
