@@ -2,7 +2,7 @@
 use Rattle.std.proofs.Common.{◌≡◌, ◌≤◌, ◌-◌, ℕ, Bool, List, [], ◌∷◌, ◌++◌, length, take, drop, get_or, append_assoc, arith, ap, sym, ◌∙◌}
 use Rattle.std.proofs.lemmas.List.{take_rest}
 use Rattle.dm_peer.specs.declared.peer.Peer.{Peer}
-use Rattle.dm_links.specs.Worlds.{World, After}
+use Rattle.dm_two_peers.specs.Worlds.{World, After}
 use Rattle.dm_world.specs.declared.fault.Effect.{Effect}
 use Rattle.dm_world.specs.declared.fault.Effect.TheVariants as effects
 use Rattle.dm_world.specs.declared.happening.Happening.{Happening}

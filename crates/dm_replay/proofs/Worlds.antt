@@ -7,11 +7,11 @@ use Rattle.dm_base.specs.Common.{are_common}
 use Rattle.dm_peer.specs.declared.config.Config.{Config}
 use Rattle.dm_peer.specs.declared.peer.Peer.{Peer}
 use Rattle.dm_peer.specs.Hosts.{is_equal, is_same_host}
-use Rattle.dm_links.specs.Laws.{world_of}
-use Rattle.dm_links.specs.Worlds.{World}
+use Rattle.dm_two_peers.specs.Laws.{world_of}
+use Rattle.dm_two_peers.specs.Worlds.{World}
 use Rattle.dm_world.specs.declared.fault.NewFault.{NewFault}
 use Rattle.dm_world.specs.declared.fault.NewFault.TheVariants.{NotPeers, NothingCommon}
-use Rattle.dm_pair.specs.Laws.{fresh_peer}
+use Rattle.dm_octet_peers.specs.Laws.{fresh_peer}
 use Rattle.dm_world.specs.New.{new_fault}
 use Rattle.dm_script.specs.Hosts.{Host}
 use Rattle.dm_replay.specs.declared.script.Script.{Script}

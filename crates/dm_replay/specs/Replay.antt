@@ -3,14 +3,14 @@ use Rattle.std.specs.Prelude.{◌≡◌, ℕ, ◌+◌, Bool, true, false, if◌t
 use Rattle.std.specs.Fmt.{decimal}
 use Rattle.dm_base.specs.Common.{are_common}
 use Rattle.dm_peer.specs.declared.peer.Peer.{Peer}
-use Rattle.dm_links.specs.Worlds.{World, After, Done, Ignored, NoLink}
-use Rattle.dm_links.specs.Happens.{happens}
-use Rattle.dm_links.specs.Laws.{world_of}
+use Rattle.dm_two_peers.specs.Worlds.{World, After, Done, Ignored, NoLink}
+use Rattle.dm_two_peers.specs.Happens.{happens}
+use Rattle.dm_two_peers.specs.Laws.{world_of}
 use Rattle.dm_world.specs.declared.fault.Effect.TheVariants as effects
 use Rattle.dm_world.specs.declared.happening.Happening.{Happening}
-use Rattle.dm_pair.specs.Octets.{octet_peers}
+use Rattle.dm_octet_peers.specs.Octets.{octet_peers}
 use Rattle.dm_world.specs.Happening.{as_happening}
-use Rattle.dm_pair.specs.Laws.{fresh_peer}
+use Rattle.dm_octet_peers.specs.Laws.{fresh_peer}
 use Rattle.dm_replay.specs.declared.fault.ScriptFault.{ScriptFault}
 use Rattle.dm_replay.specs.declared.fault.ScriptFault.TheVariants.{Syntax, SameHost, NoMemory}
 use Rattle.dm_replay.specs.declared.script.Script.{Script}

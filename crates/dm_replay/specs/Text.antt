@@ -6,8 +6,8 @@ use Rattle.dm_machine.specs.declared.phase.Role.TheVariants.{Initiated, Accepted
 use Rattle.dm_machine.specs.Node.{Node, held_as}
 use Rattle.dm_machine.specs.Printed.{state_text}
 use Rattle.dm_peer.specs.declared.peer.Peer.{Peer}
-use Rattle.dm_links.specs.Quiet.{is_quiet}
-use Rattle.dm_links.specs.Worlds.{World}
+use Rattle.dm_two_peers.specs.Quiet.{is_quiet}
+use Rattle.dm_two_peers.specs.Worlds.{World}
 use Rattle.dm_world.specs.declared.fault.Effect.{Effect}
 use Rattle.dm_world.specs.declared.fault.Effect.TheVariants.{Done, Ignored}
 use Rattle.dm_world.specs.Agreeing.{is_agreed, open_link}

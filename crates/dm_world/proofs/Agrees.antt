@@ -4,12 +4,12 @@ use Rattle.std.proofs.Common.{slice_get, refl, sym, ap, subst, ◌∙◌, inl, i
 use Rattle.std.specs.Prelude.{◌⊎◌, ◌↔◌, IsTrue, IfSome}
 use Rattle.std.specs.Option.{IfNone}
 use Rattle.std.proofs.lemmas.Bool.Decides.{nat_tests}
-use Rattle.dm_links.specs.Machine.{Conn, conn, Role, Initiated, Accepted, Node, held_as, is_same_role, is_open}
-use Rattle.dm_links.specs.Links.{Side, A, B, Coming, NoMark, Delivered, Mark, Link}
-use Rattle.dm_links.specs.Peers.{Peers}
-use Rattle.dm_links.specs.Worlds.{World}
-use Rattle.dm_links.specs.Happens.{own_view}
-use Rattle.dm_links.specs.Agreement.{IsOpenOn, HasComingDisconnect, AreOpposite, AreParting, Agreed}
+use Rattle.dm_two_peers.specs.Machine.{Conn, conn, Role, Initiated, Accepted, Node, held_as, is_same_role, is_open}
+use Rattle.dm_two_peers.specs.Links.{Side, A, B, Coming, NoMark, Delivered, Mark, Link}
+use Rattle.dm_two_peers.specs.Peers.{Peers}
+use Rattle.dm_two_peers.specs.Worlds.{World}
+use Rattle.dm_two_peers.specs.Happens.{own_view}
+use Rattle.dm_two_peers.specs.Agreement.{IsOpenOn, HasComingDisconnect, AreOpposite, AreParting, Agreed}
 use Rattle.dm_world.specs.Agreeing.{open_in_role, is_coming_at, are_one, are_agreed, shared, first_found, agrees}
 use Rattle.dm_world.specs.Agreeing.{AreBothOpenOn, open_on_both}
 

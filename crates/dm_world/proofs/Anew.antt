@@ -3,15 +3,15 @@ use Rattle.std.proofs.Common.{◌≡◌, ℕ, zero, suc, ◌==◌, Bool, true, f
 use Rattle.std.proofs.Common.{Some, None, List, [], ◌∷◌, ◌++◌, slice_get, refl, sym, ap, subst, ◌∙◌, arith}
 use Rattle.std.specs.Prelude.{IsTrue, option_map}
 use Rattle.std.proofs.lemmas.Bool.Decides.{nat_tests}
-use Rattle.dm_links.specs.Machine.{Conn, Node, is_shaped, Tie, Unheld, Connecting, Made, MadeOpen, Taken, tie_of}
-use Rattle.dm_links.specs.Machine.{is_held, held_as, Initiated, Accepted}
-use Rattle.dm_links.specs.Links.{Side, A, B, opens, LinkPhase, Pending, Up, Cancelled, End, Fresh, Open, Shut, Mark}
-use Rattle.dm_links.specs.Links.{NoMark, Coming, Delivered, Direction, Link, View, view_of, link_of}
-use Rattle.dm_links.specs.Facts.{is_none, is_shut, is_up, is_fresh, standing_of, turned_over, is_sound_standing, AreSound, opener_fits}
-use Rattle.dm_links.specs.Facts.{other_fits, end_fits, fresh_fits, is_empty}
-use Rattle.dm_links.specs.Happens.{restarted, restart_links, own_view}
-use Rattle.dm_links.specs.Worlds.{change_at}
-use Rattle.dm_links.specs.Making.{is_fresh_on}
+use Rattle.dm_two_peers.specs.Machine.{Conn, Node, is_shaped, Tie, Unheld, Connecting, Made, MadeOpen, Taken, tie_of}
+use Rattle.dm_two_peers.specs.Machine.{is_held, held_as, Initiated, Accepted}
+use Rattle.dm_two_peers.specs.Links.{Side, A, B, opens, LinkPhase, Pending, Up, Cancelled, End, Fresh, Open, Shut, Mark}
+use Rattle.dm_two_peers.specs.Links.{NoMark, Coming, Delivered, Direction, Link, View, view_of, link_of}
+use Rattle.dm_two_peers.specs.Facts.{is_none, is_shut, is_up, is_fresh, standing_of, turned_over, is_sound_standing, AreSound, opener_fits}
+use Rattle.dm_two_peers.specs.Facts.{other_fits, end_fits, fresh_fits, is_empty}
+use Rattle.dm_two_peers.specs.Happens.{restarted, restart_links, own_view}
+use Rattle.dm_two_peers.specs.Worlds.{change_at}
+use Rattle.dm_two_peers.specs.Making.{is_fresh_on}
 use Rattle.dm_world.specs.Ends.{is_among, NamesFresh, restart_each, numbers, held_numbers}
 use Rattle.dm_world.specs.Rooms.{is_conn}
 use Rattle.dm_world.specs.Seen.{restart_link}

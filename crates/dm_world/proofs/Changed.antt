@@ -3,8 +3,8 @@ use Rattle.std.proofs.Common.{◌≡◌, ℕ, zero, suc, ◌<◌, ◌≤◌, Lis
 use Rattle.std.proofs.Common.{arith}
 use Rattle.std.specs.Prelude.{OnOk, OnErr, IfSome, slice_get, Result, Ok, Err}
 use Rattle.std.proofs.Math.ListN.{set}
-use Rattle.dm_links.specs.Links as links
-use Rattle.dm_links.specs.Worlds.{change_at}
+use Rattle.dm_two_peers.specs.Links as links
+use Rattle.dm_two_peers.specs.Worlds.{change_at}
 use Rattle.dm_world.specs.declared.link.Link.{Link}
 use Rattle.dm_world.specs.Seen.{as_link, as_links, out_room}
 use Rattle.dm_world.specs.Rooms.{HasRoom}

@@ -4,18 +4,18 @@ use Rattle.std.proofs.Common.{length, slice_get, refl, sym, ap, subst, ◌∙◌
 use Rattle.std.specs.Prelude.{if◌then◌else◌}
 use Rattle.std.proofs.lemmas.Bool.Decides.{nat_tests}
 use Rattle.dm_peer.specs.declared.peer.Peer.{Peer}
-use Rattle.dm_links.specs.Machine.{conn}
-use Rattle.dm_links.specs.Links.{Side, Link, by_side, LinkPhase, Pending, Up, Cancelled, End, Mark, NoMark, Coming}
-use Rattle.dm_links.specs.Links.{Delivered}
-use Rattle.dm_links.specs.Peers.{Arrived, Gone}
-use Rattle.dm_links.specs.Worlds.{World, After, Done, Ignored, with_links, change_at}
-use Rattle.dm_links.specs.Happens.{happens, Delivers, Pieces, deliver_next, deliver_part, take_part, comes, own_view, next_in}
-use Rattle.dm_links.specs.Happens.{if_up, at_link, NextMessage, NextDisconnect, NextNothing}
-use Rattle.dm_links.specs.Happens as happens
+use Rattle.dm_two_peers.specs.Machine.{conn}
+use Rattle.dm_two_peers.specs.Links.{Side, Link, by_side, LinkPhase, Pending, Up, Cancelled, End, Mark, NoMark, Coming}
+use Rattle.dm_two_peers.specs.Links.{Delivered}
+use Rattle.dm_two_peers.specs.Peers.{Arrived, Gone}
+use Rattle.dm_two_peers.specs.Worlds.{World, After, Done, Ignored, with_links, change_at}
+use Rattle.dm_two_peers.specs.Happens.{happens, Delivers, Pieces, deliver_next, deliver_part, take_part, comes, own_view, next_in}
+use Rattle.dm_two_peers.specs.Happens.{if_up, at_link, NextMessage, NextDisconnect, NextNothing}
+use Rattle.dm_two_peers.specs.Happens as happens
 use Rattle.dm_world.specs.declared.fault.Effect.{Effect}
 use Rattle.dm_world.specs.declared.fault.Effect.TheVariants as effect
 use Rattle.dm_world.specs.declared.direction.Next.TheVariants as next
-use Rattle.dm_pair.specs.Octets.{octet_peers}
+use Rattle.dm_octet_peers.specs.Octets.{octet_peers}
 use Rattle.dm_world.specs.Fed.{front_in}
 use Rattle.dm_world.specs.Next.{next_kind, next_to, octets_to_come_to}
 use Rattle.dm_world.specs.Views.{Effects}

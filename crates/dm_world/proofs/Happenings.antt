@@ -2,17 +2,17 @@
 use Rattle.std.proofs.Common.{◌≡◌, ℕ, Bool, true, false, Some, List, ◌++◌, length, slice_get, refl, sym, ap, subst, ◌∙◌}
 use Rattle.std.specs.Prelude.{if◌then◌else◌}
 use Rattle.dm_peer.specs.declared.peer.Peer.{Peer}
-use Rattle.dm_links.specs.Machine.{conn}
-use Rattle.dm_links.specs.Links.{A, B, Link, LinkPhase, Pending, Up, Cancelled}
-use Rattle.dm_links.specs.Peers.{Ack, Nack}
-use Rattle.dm_links.specs.Facts.{is_pending}
-use Rattle.dm_links.specs.Worlds.{World, Put, Disconnect, After, Done, Ignored, with_links, with_peer, peer_at}
-use Rattle.dm_links.specs.Worlds.{change_at, put_if, tell}
-use Rattle.dm_links.specs.Happens.{happens, Acks, Nacks, Loses, at_link, if_pending, if_up, are_shut, lost_link}
-use Rattle.dm_links.specs.Happens.{restart_links, restart_puts}
+use Rattle.dm_two_peers.specs.Machine.{conn}
+use Rattle.dm_two_peers.specs.Links.{A, B, Link, LinkPhase, Pending, Up, Cancelled}
+use Rattle.dm_two_peers.specs.Peers.{Ack, Nack}
+use Rattle.dm_two_peers.specs.Facts.{is_pending}
+use Rattle.dm_two_peers.specs.Worlds.{World, Put, Disconnect, After, Done, Ignored, with_links, with_peer, peer_at}
+use Rattle.dm_two_peers.specs.Worlds.{change_at, put_if, tell}
+use Rattle.dm_two_peers.specs.Happens.{happens, Acks, Nacks, Loses, at_link, if_pending, if_up, are_shut, lost_link}
+use Rattle.dm_two_peers.specs.Happens.{restart_links, restart_puts}
 use Rattle.dm_world.specs.declared.fault.Effect.{Effect}
 use Rattle.dm_world.specs.declared.fault.Effect.TheVariants as effect
-use Rattle.dm_pair.specs.Octets.{octet_peers}
+use Rattle.dm_octet_peers.specs.Octets.{octet_peers}
 use Rattle.dm_world.specs.declared.happening.Happening as declared_happening
 use Rattle.dm_world.specs.declared.happening.Happening.TheVariants as happening
 use Rattle.dm_world.specs.declared.side.Side as declared_side

@@ -3,16 +3,16 @@ use Rattle.std.proofs.Common.{◌≡◌, ℕ, ◌<◌, ◌≤◌, Bool, true, fa
 use Rattle.std.proofs.Common.{slice_get, zero, suc, refl, sym, ap, subst, ◌∙◌, arith}
 use Rattle.std.specs.Prelude.{Result, Ok, Err, IfOk}
 use Rattle.dm_peer.specs.Events as told
-use Rattle.dm_links.specs.Machine.{Conn, conn, Elsewhere, StartsIt, AcksIt, NacksIt, EndsIt, HeardOnIt}
-use Rattle.dm_links.specs.Links.{Side, opens, Link, view_of, link_of, by_side}
-use Rattle.dm_links.specs.Peers.{Arrived}
-use Rattle.dm_links.specs.Steps.{entered}
-use Rattle.dm_links.specs.Happens.{own_view}
-use Rattle.dm_links.specs.Worlds.{change_at, enter}
-use Rattle.dm_links.specs.Worlds as worlds
+use Rattle.dm_two_peers.specs.Machine.{Conn, conn, Elsewhere, StartsIt, AcksIt, NacksIt, EndsIt, HeardOnIt}
+use Rattle.dm_two_peers.specs.Links.{Side, opens, Link, view_of, link_of, by_side}
+use Rattle.dm_two_peers.specs.Peers.{Arrived}
+use Rattle.dm_two_peers.specs.Steps.{entered}
+use Rattle.dm_two_peers.specs.Happens.{own_view}
+use Rattle.dm_two_peers.specs.Worlds.{change_at, enter}
+use Rattle.dm_two_peers.specs.Worlds as worlds
 use Rattle.dm_world.specs.declared.fault.Effect.{Effect}
 use Rattle.dm_world.specs.declared.link.Link as declared_link
-use Rattle.dm_pair.specs.Octets.{as_event, octet_peers}
+use Rattle.dm_octet_peers.specs.Octets.{as_event, octet_peers}
 use Rattle.dm_world.specs.Rooms.{named}
 use Rattle.dm_world.specs.Seen.{as_link, as_links}
 use Rattle.dm_world.specs.Telling.{is_start, concern_in}

@@ -8,8 +8,8 @@ use Rattle.dm_machine.specs.Node.{is_held_in, is_count_of}
 use Rattle.dm_machine.specs.Connection.{Hold, NotHeld, Pending, OpenAsI, OpenAsR, ClosingAsI, ClosingAsR, hold_as}
 use Rattle.dm_machine.specs.Connection.{hold_in}
 use Rattle.dm_machine.specs.Connection as machine
-use Rattle.dm_links.specs.Machine.{conn, Conn, Role, Initiated, Accepted, Node, held_as, is_shaped, tie_as, tie_of}
-use Rattle.dm_links.specs.Machine.{is_held}
+use Rattle.dm_two_peers.specs.Machine.{conn, Conn, Role, Initiated, Accepted, Node, held_as, is_shaped, tie_as, tie_of}
+use Rattle.dm_two_peers.specs.Machine.{is_held}
 use Rattle.dm_world.specs.Rooms.{is_conn, holds_link}
 
 abbrev is_tied : Hold → Bool

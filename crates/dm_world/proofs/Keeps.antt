@@ -2,12 +2,12 @@
 use Rattle.std.proofs.Common.{◌≡◌, ℕ, List, sym, subst}
 use Rattle.std.specs.Prelude.{Result, Ok, Err, IfOk, OnErr}
 use Rattle.dm_peer.specs.declared.peer.Peer.{Peer}
-use Rattle.dm_links.specs.Follows.{IsMachine}
-use Rattle.dm_links.specs.Happens.{Happening, happens, world_after}
-use Rattle.dm_links.specs.Laws.{HappeningKeepsSound}
-use Rattle.dm_links.specs.Streams.{IsSized, HappeningKeepsCut}
-use Rattle.dm_pair.specs.Laws.{HappeningKeepsPeers}
-use Rattle.dm_pair.specs.Octets.{octet_peers}
+use Rattle.dm_two_peers.specs.Follows.{IsMachine}
+use Rattle.dm_two_peers.specs.Happens.{Happening, happens, world_after}
+use Rattle.dm_two_peers.specs.Laws.{HappeningKeepsSound}
+use Rattle.dm_two_peers.specs.Streams.{IsSized, HappeningKeepsCut}
+use Rattle.dm_octet_peers.specs.Laws.{HappeningKeepsPeers}
+use Rattle.dm_octet_peers.specs.Octets.{octet_peers}
 use Rattle.dm_world.specs.declared.fault.Effect.{Effect}
 use Rattle.dm_world.specs.declared.fault.WorldFault.{WorldFault}
 use Rattle.dm_world.specs.Kept.{IsWorldKept}

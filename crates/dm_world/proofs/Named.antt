@@ -4,15 +4,15 @@ use Rattle.std.proofs.Common.{◌∷◌, ◌++◌, slice_get, refl, sym, ap, sub
 use Rattle.std.specs.Prelude.{Result, Ok, Err, IfOk, OnErr}
 use Rattle.std.proofs.lemmas.Bool.Decides.{nat_tests}
 use Rattle.dm_peer.specs.declared.peer.Peer.{Peer}
-use Rattle.dm_links.specs.Links.{Side, A, B, flip, opens, LinkPhase, Pending, Up, Cancelled, End, Direction, Link}
-use Rattle.dm_links.specs.Links.{View, view_of, link_of}
-use Rattle.dm_links.specs.Worlds.{peer_at, with_peer, After}
-use Rattle.dm_links.specs.Happens.{Starts, Stops, TimesOut, Ticks, Restarts, Acks, Nacks, Delivers, Pieces, Loses}
-use Rattle.dm_links.specs.Happens.{Submits, happens, world_after, restarted, restart_links}
-use Rattle.dm_links.specs.Facts.{is_up, is_fresh}
-use Rattle.dm_links.specs.Happens as happens
-use Rattle.dm_links.specs.Making.{has_fresh_end, is_fresh_on, MakesEnd, AcksMakeEnds}
-use Rattle.dm_pair.specs.Octets.{as_cause, octet_peers}
+use Rattle.dm_two_peers.specs.Links.{Side, A, B, flip, opens, LinkPhase, Pending, Up, Cancelled, End, Direction, Link}
+use Rattle.dm_two_peers.specs.Links.{View, view_of, link_of}
+use Rattle.dm_two_peers.specs.Worlds.{peer_at, with_peer, After}
+use Rattle.dm_two_peers.specs.Happens.{Starts, Stops, TimesOut, Ticks, Restarts, Acks, Nacks, Delivers, Pieces, Loses}
+use Rattle.dm_two_peers.specs.Happens.{Submits, happens, world_after, restarted, restart_links}
+use Rattle.dm_two_peers.specs.Facts.{is_up, is_fresh}
+use Rattle.dm_two_peers.specs.Happens as happens
+use Rattle.dm_two_peers.specs.Making.{has_fresh_end, is_fresh_on, MakesEnd, AcksMakeEnds}
+use Rattle.dm_octet_peers.specs.Octets.{as_cause, octet_peers}
 use Rattle.dm_world.specs.declared.fault.Effect.{Effect}
 use Rattle.dm_world.specs.declared.fault.Effect.TheVariants as effect
 use Rattle.dm_world.specs.declared.fault.WorldFault.{WorldFault}

@@ -6,7 +6,7 @@ use Rattle.dm_base.specs.Before.{lower, order}
 use Rattle.dm_base.specs.Common.{are_common}
 use Rattle.dm_peer.specs.declared.config.Config.{Config}
 use Rattle.dm_peer.specs.Hosts.{is_equal, is_same_host}
-use Rattle.dm_pair.specs.Talking.{ArePaired}
+use Rattle.dm_octet_peers.specs.Talking.{ArePaired}
 use Rattle.dm_world.specs.declared.fault.NewFault.TheVariants.{NotPeers, NothingCommon}
 use Rattle.dm_world.specs.New.{new_fault}
 

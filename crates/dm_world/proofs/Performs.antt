@@ -2,15 +2,15 @@
 use Rattle.std.proofs.Common.{◌≡◌, ℕ, suc, ◌+◌, Bool, true, false, ◌||◌, ◌==◌, Some, None, List, [], ◌∷◌, length, map, slice_get, refl, sym, ap, subst, ◌∙◌, arith, add-one}
 use Rattle.std.specs.Prelude.{IsTrue}
 use Rattle.std.specs.List.{remove}
-use Rattle.dm_links.specs.Links.{Side}
-use Rattle.dm_links.specs.Links as links
+use Rattle.dm_two_peers.specs.Links.{Side}
+use Rattle.dm_two_peers.specs.Links as links
 use Rattle.dm_machine.specs.Deeds.{Deed, SendsOn, ConnectsOn, ClosesOn, HandsUp}
-use Rattle.dm_links.specs.Peers.{Action, Connect, Send, Close, Up, deed_of, sends_at}
-use Rattle.dm_links.specs.Worlds.{perform}
+use Rattle.dm_two_peers.specs.Peers.{Action, Connect, Send, Close, Up, deed_of, sends_at}
+use Rattle.dm_two_peers.specs.Worlds.{perform}
 use Rattle.dm_world.specs.declared.link.Link.{Link}
 use Rattle.dm_peer.specs.declared.actions.Action as declared_action
-use Rattle.dm_pair.specs.Frames.{SendFrames}
-use Rattle.dm_pair.specs.Octets.{as_action, as_actions}
+use Rattle.dm_octet_peers.specs.Frames.{SendFrames}
+use Rattle.dm_octet_peers.specs.Octets.{as_action, as_actions}
 use Rattle.dm_world.specs.Rooms.{HasRoom, HasRoomFor}
 use Rattle.dm_world.proofs.Changed.{less}
 

@@ -2,7 +2,7 @@
 use Rattle.std.proofs.Common.{◌≡◌, ℕ, zero, suc, ◌+◌, ◌<◌, ◌≤◌, Bool, true, false, ◌&&◌, List, [], ◌∷◌, length}
 use Rattle.std.proofs.Common.{get_or, refl, sym, ap, ◌∙◌, arith, add-one}
 use Rattle.std.specs.List.{list_all}
-use Rattle.dm_links.specs.Quiet.{is_quiet_link}
+use Rattle.dm_two_peers.specs.Quiet.{is_quiet_link}
 use Rattle.dm_world.specs.declared.link.Link.{Link}
 use Rattle.dm_world.specs.Seen.{as_link, as_links}
 

@@ -1,12 +1,12 @@
 -- A restart goes over the links that are named and those that the peer holds, one after the other.
 use Rattle.std.proofs.Common.{◌≡◌, ℕ, ◌+◌, ◌<◌, ◌≤◌, List, length, drop, get_or, sym, ap, ◌∙◌}
 use Rattle.std.proofs.lemmas.List.{drop_more, drop_all}
-use Rattle.dm_links.specs.Machine.{Node}
-use Rattle.dm_links.specs.Links.{Side, A, B, Link}
-use Rattle.dm_links.specs.Facts.{AreSound, IsSoundWorld}
-use Rattle.dm_links.specs.Worlds.{peer_at, with_peer, change_at}
-use Rattle.dm_links.specs.Happens.{restart_links}
-use Rattle.dm_pair.specs.Octets.{octet_peers}
+use Rattle.dm_two_peers.specs.Machine.{Node}
+use Rattle.dm_two_peers.specs.Links.{Side, A, B, Link}
+use Rattle.dm_two_peers.specs.Facts.{AreSound, IsSoundWorld}
+use Rattle.dm_two_peers.specs.Worlds.{peer_at, with_peer, change_at}
+use Rattle.dm_two_peers.specs.Happens.{restart_links}
+use Rattle.dm_octet_peers.specs.Octets.{octet_peers}
 use Rattle.dm_world.specs.declared.made.MadeEnds.{MadeEnds}
 use Rattle.dm_world.specs.declared.net.Net.{Net}
 use Rattle.dm_world.specs.Asking.{peer_of, with_peer_of, reset_of}

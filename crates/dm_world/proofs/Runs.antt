@@ -2,15 +2,15 @@
 use Rattle.std.proofs.Common.{◌≡◌, ℕ, zero, suc, ◌+◌, ◌<◌, Option, Some, None, List, [], ◌∷◌, ◌++◌, length, take, map}
 use Rattle.std.proofs.Common.{get_or, slice_get, refl, sym, ap, subst, ◌∙◌, arith}
 use Rattle.std.proofs.lemmas.List.{take_more}
-use Rattle.dm_links.specs.Peers.{Peers}
-use Rattle.dm_links.specs.Worlds.{World, Put, After, Done, Ignored}
-use Rattle.dm_links.specs.Happens.{Happening, RunEnd, ran_on, run_from, run, happens}
+use Rattle.dm_two_peers.specs.Peers.{Peers}
+use Rattle.dm_two_peers.specs.Worlds.{World, Put, After, Done, Ignored}
+use Rattle.dm_two_peers.specs.Happens.{Happening, RunEnd, ran_on, run_from, run, happens}
 use Rattle.dm_world.specs.declared.fault.Effect.{Effect}
 use Rattle.dm_world.specs.declared.fault.Effect.TheVariants as effect
 use Rattle.dm_world.specs.declared.fault.WorldFault.{WorldFault}
 use Rattle.dm_world.specs.declared.happening.Happening as declared_happening
 use Rattle.dm_world.specs.Happening.{as_happening, may_want}
-use Rattle.dm_pair.specs.Octets.{octet_peers}
+use Rattle.dm_octet_peers.specs.Octets.{octet_peers}
 use Rattle.dm_world.specs.Settling.{RanTo}
 use Rattle.dm_world.specs.Views.{OctetWorld, Effects, IsFault, IsEnd}
 

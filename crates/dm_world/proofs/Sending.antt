@@ -13,13 +13,13 @@ use Rattle.dm_machine.specs.Openings.{LeavesOthersAlone, is_hold, is_named}
 use Rattle.dm_machine.specs.Shape.{KeepsShape}
 use Rattle.dm_peer.specs.declared.actions.Action as declared_action
 use Rattle.dm_peer.specs.declared.peer.Peer.{Peer}
-use Rattle.dm_links.specs.Machine.{Conn, conn, Node, is_shaped, Concern, Elsewhere, StartsIt, AcksIt, NacksIt, EndsIt, HeardOnIt, EachStepKeepsShape, Tie, Unheld, Connecting, Made, MadeOpen, Taken, tie_as, tie_of, is_held, held_as, Initiated, Accepted}
-use Rattle.dm_links.specs.Links.{Side}
+use Rattle.dm_two_peers.specs.Machine.{Conn, conn, Node, is_shaped, Concern, Elsewhere, StartsIt, AcksIt, NacksIt, EndsIt, HeardOnIt, EachStepKeepsShape, Tie, Unheld, Connecting, Made, MadeOpen, Taken, tie_as, tie_of, is_held, held_as, Initiated, Accepted}
+use Rattle.dm_two_peers.specs.Links.{Side}
 use Rattle.dm_machine.specs.Deeds.{Deed, deed_of_command}
-use Rattle.dm_links.specs.Peers.{Event, Start, Stop, Timeout, Tick, Ack, Nack, Gone, Submit, Arrived, concern_by, deed_of, sends_at, Reply, Acts}
-use Rattle.dm_links.specs.Follows.{input_told, StepsAsMachine, FollowsMachine, IsMachine}
+use Rattle.dm_two_peers.specs.Peers.{Event, Start, Stop, Timeout, Tick, Ack, Nack, Gone, Submit, Arrived, concern_by, deed_of, sends_at, Reply, Acts}
+use Rattle.dm_two_peers.specs.Follows.{input_told, StepsAsMachine, FollowsMachine, IsMachine}
 use Rattle.dm_world.specs.declared.link.Link.{Link}
-use Rattle.dm_pair.specs.Octets.{as_actions, octet_peers}
+use Rattle.dm_octet_peers.specs.Octets.{as_actions, octet_peers}
 use Rattle.dm_world.specs.Rooms.{HasRoomFor, is_conn, named, HasRoomToSend}
 use Rattle.dm_world.proofs.Changed.{less}
 use Rattle.dm_world.proofs.Held.{held_by_role}

@@ -16,13 +16,13 @@ use Rattle.dm_peer.specs.Configs.{wins}
 use Rattle.dm_peer.specs.Sent.{takes_memory}
 use Rattle.dm_peer.specs.Silence.{is_silent, SilentTakesNone}
 use Rattle.dm_peer.specs.Events as told
-use Rattle.dm_links.specs.Links.{Side}
-use Rattle.dm_links.specs.Peers.{deed_of, sends_at}
+use Rattle.dm_two_peers.specs.Links.{Side}
+use Rattle.dm_two_peers.specs.Peers.{deed_of, sends_at}
 use Rattle.dm_world.specs.declared.link.Link.{Link}
 use Rattle.dm_world.specs.declared.net.Net.{Net}
 use Rattle.dm_world.specs.declared.pair.Pair.{Pair}
 use Rattle.dm_world.specs.Asking.{peer_of, IsAnswerOf, IsWant}
-use Rattle.dm_pair.specs.Octets.{as_actions}
+use Rattle.dm_octet_peers.specs.Octets.{as_actions}
 use Rattle.dm_world.specs.Rooms.{HasRoomFor}
 
 or_false_left : (a b : Bool) → (a || b) ≡ false → a ≡ false

@@ -8,20 +8,20 @@ use Rattle.dm_peer.specs.declared.actions.Action as declared_action
 use Rattle.dm_peer.specs.declared.peer.Peer.{Peer}
 use Rattle.dm_peer.specs.Acts.{Outcome, Moved, Refused, acts}
 use Rattle.dm_peer.specs.Events as told
-use Rattle.dm_links.specs.Machine.{Conn, conn}
-use Rattle.dm_links.specs.Links.{Side, A, B, flip, Link, new_link}
-use Rattle.dm_links.specs.Peers.{Event, Start, Acts, Declines}
-use Rattle.dm_links.specs.Worlds.{World, peer_at, with_peer, Put, enter, perform, settle, puts_of, puts_at_entry}
-use Rattle.dm_links.specs.Worlds.{After, Done, Ignored, after_reply}
-use Rattle.dm_links.specs.Worlds as worlds
+use Rattle.dm_two_peers.specs.Machine.{Conn, conn}
+use Rattle.dm_two_peers.specs.Links.{Side, A, B, flip, Link, new_link}
+use Rattle.dm_two_peers.specs.Peers.{Event, Start, Acts, Declines}
+use Rattle.dm_two_peers.specs.Worlds.{World, peer_at, with_peer, Put, enter, perform, settle, puts_of, puts_at_entry}
+use Rattle.dm_two_peers.specs.Worlds.{After, Done, Ignored, after_reply}
+use Rattle.dm_two_peers.specs.Worlds as worlds
 use Rattle.dm_world.specs.declared.fault.Effect as effect_of
 use Rattle.dm_world.specs.declared.fault.Effect.TheVariants as effect
 use Rattle.dm_world.specs.declared.net.Net.{Net}
 use Rattle.dm_world.specs.declared.pair.Pair.{Pair}
 use Rattle.dm_world.specs.Asking.{peer_of, IsAnswerOf}
 use Rattle.dm_peer.specs.Octets.{AreOctets}
-use Rattle.dm_pair.specs.Frames.{submitted_in, OctetsAreFrames}
-use Rattle.dm_pair.specs.Octets.{as_cause, of_cause, of_event, as_event, as_actions, as_reply, octet_peers}
+use Rattle.dm_octet_peers.specs.Frames.{submitted_in, OctetsAreFrames}
+use Rattle.dm_octet_peers.specs.Octets.{as_cause, of_cause, of_event, as_event, as_actions, as_reply, octet_peers}
 use Rattle.dm_world.specs.declared.link.Link as declared_link
 use Rattle.dm_world.specs.Rooms.{HasRoomToSend, CanSend, named}
 use Rattle.dm_world.proofs.Sending.{SendLaws, room_for_reply}

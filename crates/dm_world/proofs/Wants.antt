@@ -2,7 +2,7 @@
 use Rattle.std.proofs.Common.{◌≡◌, ◌<◌, ℕ, Bool, true, false, ◌||◌, not, nat_lt, Option, Some, List, refl, ap, ◌∙◌}
 use Rattle.std.proofs.Common.{arith}
 use Rattle.std.specs.Prelude.{IsTrue}
-use Rattle.dm_links.specs.Links.{Side, Link}
+use Rattle.dm_two_peers.specs.Links.{Side, Link}
 use Rattle.dm_world.specs.declared.direction.Next.TheVariants as next
 use Rattle.dm_world.specs.Next.{next_to, octets_to_come_to}
 use Rattle.dm_world.specs.Happening.{is_deaf, is_fed_at}

@@ -4,7 +4,7 @@ use Rattle.std.proofs.Common.{get_or, refl, sym, ap, subst, ◌∙◌, arith, ap
 use Rattle.std.specs.Prelude.{nat_le}
 use Rattle.std.proofs.lemmas.List.{drop_more, take_more, append-nil, drop_all}
 use Rattle.std.proofs.lemmas.Bool.Decides.{nat_tests}
-use Rattle.dm_links.specs.Happens.{whole_in}
+use Rattle.dm_two_peers.specs.Happens.{whole_in}
 
 fits : (a k : ℕ) → a ≤ k → nat_le a k ≡ true
 fits a k h = grind (arith, nat_tests)

@@ -1,11 +1,11 @@
 -- What two sides are open on, as it is looked up.
 use Rattle.std.specs.Prelude.{ℕ, Bool, true, false, ◌&&◌, ◌==◌, if◌then◌else◌, Option, Some, None, List, slice_get}
 use Rattle.dm_peer.specs.declared.peer.Peer.{Peer}
-use Rattle.dm_links.specs.Worlds.{World}
-use Rattle.dm_links.specs.Machine.{Conn, Role, Initiated, Accepted, Node, held_as, is_open}
-use Rattle.dm_links.specs.Links.{Side, A, B, Coming, Link}
-use Rattle.dm_links.specs.Happens.{own_view}
-use Rattle.dm_links.specs.Agreement.{IsOpenOn}
+use Rattle.dm_two_peers.specs.Worlds.{World}
+use Rattle.dm_two_peers.specs.Machine.{Conn, Role, Initiated, Accepted, Node, held_as, is_open}
+use Rattle.dm_two_peers.specs.Links.{Side, A, B, Coming, Link}
+use Rattle.dm_two_peers.specs.Happens.{own_view}
+use Rattle.dm_two_peers.specs.Agreement.{IsOpenOn}
 
 -- the connection that a node is open on in a role
 abbrev pub open_in_role : Role → Node → Option Conn

@@ -7,9 +7,9 @@ use Rattle.dm_peer.specs.declared.peer.Peer.{Peer}
 use Rattle.dm_peer.specs.Acts.{Outcome, Moved, Refused, acts, wants_memory}
 use Rattle.dm_peer.specs.Events.{PeerEvent}
 use Rattle.arrayvec.specs.ArrayVec.{ArrayVec}
-use Rattle.dm_links.specs.Links.{Side, A, B, flip}
+use Rattle.dm_two_peers.specs.Links.{Side, A, B, flip}
 use Rattle.dm_world.specs.declared.pair.Pair.{Pair}
-use Rattle.dm_pair.specs.Octets.{octet_peers}
+use Rattle.dm_octet_peers.specs.Octets.{octet_peers}
 
 abbrev pub peer_of : Side → Pair → Peer
 peer_of A p = p.a

@@ -2,10 +2,10 @@
 use Rattle.std.specs.Prelude.{◌≡◌, ℕ, ◌<◌, Bool, true, ◌==◌, Option, Some, None, List, [], ◌∷◌, ◌++◌, slice_get}
 use Rattle.std.specs.Prelude.{vec_len, vec_capacity}
 use Rattle.std.specs.List.{list_any}
-use Rattle.dm_links.specs.Machine.{Conn, Node, Initiated, Accepted, held_as}
-use Rattle.dm_links.specs.Links.{Side, A, B, flip, Link}
-use Rattle.dm_links.specs.Making.{is_fresh_on}
-use Rattle.dm_links.specs.Worlds.{change_at}
+use Rattle.dm_two_peers.specs.Machine.{Conn, Node, Initiated, Accepted, held_as}
+use Rattle.dm_two_peers.specs.Links.{Side, A, B, flip, Link}
+use Rattle.dm_two_peers.specs.Making.{is_fresh_on}
+use Rattle.dm_two_peers.specs.Worlds.{change_at}
 use Rattle.dm_world.specs.declared.fault.Effect.{Effect}
 use Rattle.dm_world.specs.declared.fault.Effect.TheVariants as effect
 use Rattle.dm_world.specs.declared.happening.Happening as declared_happening

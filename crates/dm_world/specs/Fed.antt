@@ -3,7 +3,7 @@ use Rattle.std.specs.Prelude.{◌≡◌, ℕ, ◌-◌, IsTrue, None, List, [], �
 use Rattle.std.specs.List.{AllByRecursion}
 use Rattle.dm_framer.specs.Frames.{IsFrame}
 use Rattle.dm_framer.specs.Stream.{Stream}
-use Rattle.dm_links.specs.Streams.{is_cut}
+use Rattle.dm_two_peers.specs.Streams.{is_cut}
 
 -- the front message, or no octets
 abbrev pub front_in : List (List ℕ) → List ℕ

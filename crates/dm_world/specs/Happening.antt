@@ -1,14 +1,14 @@
 -- A happening as the laws of two peers see it, and where it may want memory.
 use Rattle.std.specs.Prelude.{ℕ, Bool, true, false, not, ◌&&◌, ◌||◌, nat_lt, Option, Some, None, List, slice_get}
 use Rattle.dm_peer.specs.declared.peer.Peer.{Peer}
-use Rattle.dm_links.specs.Facts.{is_pending, is_shut}
-use Rattle.dm_links.specs.Links.{Side, Link}
-use Rattle.dm_links.specs.Worlds.{World}
-use Rattle.dm_links.specs.Happens.{own_view, Happening, Starts, Stops, TimesOut, Ticks, Restarts, Acks, Nacks}
-use Rattle.dm_links.specs.Happens.{Delivers, Pieces, Loses, Submits}
+use Rattle.dm_two_peers.specs.Facts.{is_pending, is_shut}
+use Rattle.dm_two_peers.specs.Links.{Side, Link}
+use Rattle.dm_two_peers.specs.Worlds.{World}
+use Rattle.dm_two_peers.specs.Happens.{own_view, Happening, Starts, Stops, TimesOut, Ticks, Restarts, Acks, Nacks}
+use Rattle.dm_two_peers.specs.Happens.{Delivers, Pieces, Loses, Submits}
 use Rattle.dm_world.specs.declared.happening.Happening as declared_happening
 use Rattle.dm_world.specs.declared.happening.Happening.TheVariants as happening
-use Rattle.dm_pair.specs.Octets.{as_cause}
+use Rattle.dm_octet_peers.specs.Octets.{as_cause}
 use Rattle.dm_world.specs.declared.direction.Next.{Next}
 use Rattle.dm_world.specs.declared.direction.Next.TheVariants as next
 use Rattle.dm_world.specs.Next.{next_to, octets_to_come_to}

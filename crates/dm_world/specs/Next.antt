@@ -1,8 +1,8 @@
 -- What comes next to a side, and what a loss finds.
 use Rattle.std.specs.Prelude.{ℕ, Bool, true, List}
-use Rattle.dm_links.specs.Links.{Side, Link}
-use Rattle.dm_links.specs.Happens.{NextMessage, NextDisconnect, NextNothing, next_in, if_up, own_view, are_shut}
-use Rattle.dm_links.specs.Happens as happens
+use Rattle.dm_two_peers.specs.Links.{Side, Link}
+use Rattle.dm_two_peers.specs.Happens.{NextMessage, NextDisconnect, NextNothing, next_in, if_up, own_view, are_shut}
+use Rattle.dm_two_peers.specs.Happens as happens
 use Rattle.dm_world.specs.Fed.{octets_to_come}
 use Rattle.dm_world.specs.declared.direction.Next.{Next}
 use Rattle.dm_world.specs.declared.direction.Next.TheVariants as next

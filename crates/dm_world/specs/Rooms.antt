@@ -1,12 +1,12 @@
 -- Room for what a side sends.
 use Rattle.std.specs.Prelude.{ℕ, ◌≤◌, ◌==◌, Bool, false, ◌||◌, IsTrue, Option, Some, None, List, IfSome, slice_get}
 use Rattle.std.specs.Prelude.{map, length}
-use Rattle.dm_links.specs.Links.{Side}
-use Rattle.dm_links.specs.Machine.{Conn, Initiated, Accepted, Node, held_as}
-use Rattle.dm_links.specs.Peers.{Event, Start, Ack, Nack, Gone, Arrived, Action, deed_of, sends_at}
+use Rattle.dm_two_peers.specs.Links.{Side}
+use Rattle.dm_two_peers.specs.Machine.{Conn, Initiated, Accepted, Node, held_as}
+use Rattle.dm_two_peers.specs.Peers.{Event, Start, Ack, Nack, Gone, Arrived, Action, deed_of, sends_at}
 use Rattle.dm_peer.specs.declared.actions.Action as declared_action
-use Rattle.dm_pair.specs.Frames.{SendFrames}
-use Rattle.dm_pair.specs.Octets.{as_actions}
+use Rattle.dm_octet_peers.specs.Frames.{SendFrames}
+use Rattle.dm_octet_peers.specs.Octets.{as_actions}
 use Rattle.dm_world.specs.declared.link.Link.{Link}
 use Rattle.dm_world.specs.Seen.{out_room}
 

@@ -1,8 +1,8 @@
 -- Sides and links as the laws of two peers see them.
 use Rattle.std.specs.Prelude.{ℕ, true, false, List, map}
-use Rattle.dm_links.specs.Links.{Side, A, B, opens, LinkPhase, Pending, Up, Cancelled, End, Fresh, Open, Shut, Link}
-use Rattle.dm_links.specs.Links.{by_side}
-use Rattle.dm_links.specs.Happens.{restarted}
+use Rattle.dm_two_peers.specs.Links.{Side, A, B, opens, LinkPhase, Pending, Up, Cancelled, End, Fresh, Open, Shut, Link}
+use Rattle.dm_two_peers.specs.Links.{by_side}
+use Rattle.dm_two_peers.specs.Happens.{restarted}
 use Rattle.dm_world.specs.declared.side.Side as declared_side
 use Rattle.dm_world.specs.declared.side.Side.TheVariants as side
 use Rattle.dm_world.specs.declared.link.Phase as declared_phase

@@ -1,14 +1,14 @@
 -- What a run is, what clean happenings come to, and what a world can come to.
 use Rattle.std.specs.Prelude.{◌≡◌, ℕ, IsTrue, IfSome, Some, List, map}
-use Rattle.dm_links.specs.Worlds.{Put}
-use Rattle.dm_links.specs.Happens.{run}
-use Rattle.dm_links.specs.Quiet.{is_clean}
-use Rattle.dm_links.specs.Falling.{CanFallQuiet, FallsQuiet}
-use Rattle.dm_links.specs.Links.{Side}
-use Rattle.dm_links.specs.Recovering.{CanOpen}
-use Rattle.dm_links.specs.Settled.{IsSettledRun}
-use Rattle.dm_pair.specs.Octets.{octet_peers}
-use Rattle.dm_pair.specs.Talking.{octet_talks}
+use Rattle.dm_two_peers.specs.Worlds.{Put}
+use Rattle.dm_two_peers.specs.Happens.{run}
+use Rattle.dm_two_peers.specs.Quiet.{is_clean}
+use Rattle.dm_two_peers.specs.Falling.{CanFallQuiet, FallsQuiet}
+use Rattle.dm_two_peers.specs.Links.{Side}
+use Rattle.dm_two_peers.specs.Recovering.{CanOpen}
+use Rattle.dm_two_peers.specs.Settled.{IsSettledRun}
+use Rattle.dm_octet_peers.specs.Octets.{octet_peers}
+use Rattle.dm_octet_peers.specs.Talking.{octet_talks}
 use Rattle.dm_world.specs.declared.happening.Happening.{Happening}
 use Rattle.dm_world.specs.Happening.{as_happening}
 use Rattle.dm_world.specs.Views.{OctetWorld}

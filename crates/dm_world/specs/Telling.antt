@@ -4,11 +4,11 @@ use Rattle.dm_framer.specs.Stream.{Stream}
 use Rattle.dm_peer.specs.declared.actions.Action.{Action}
 use Rattle.dm_peer.specs.declared.peer.Peer.{Peer}
 use Rattle.dm_peer.specs.Events.{PeerEvent, Start, Ack, Nack, Gone, Arrived}
-use Rattle.dm_links.specs.Links.{Side, Link}
-use Rattle.dm_links.specs.Machine.{Concern, Elsewhere, StartsIt, AcksIt, NacksIt, EndsIt, HeardOnIt}
-use Rattle.dm_links.specs.Peers.{Event}
-use Rattle.dm_links.specs.Worlds.{enter, perform, settle}
-use Rattle.dm_pair.specs.Octets.{as_actions}
+use Rattle.dm_two_peers.specs.Links.{Side, Link}
+use Rattle.dm_two_peers.specs.Machine.{Concern, Elsewhere, StartsIt, AcksIt, NacksIt, EndsIt, HeardOnIt}
+use Rattle.dm_two_peers.specs.Peers.{Event}
+use Rattle.dm_two_peers.specs.Worlds.{enter, perform, settle}
+use Rattle.dm_octet_peers.specs.Octets.{as_actions}
 use Rattle.dm_world.specs.Fed.{holding}
 
 abbrev pub is_start : PeerEvent → Bool

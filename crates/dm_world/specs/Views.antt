@@ -1,9 +1,9 @@
 -- A world as the laws of two peers see it.
 use Rattle.std.specs.Prelude.{◌≡◌, ℕ, IsTrue, Bool, Option, Some, None, List, slice_get}
 use Rattle.dm_peer.specs.declared.peer.Peer.{Peer}
-use Rattle.dm_links.specs.Links.{Side, Link}
-use Rattle.dm_links.specs.Happens.{own_view, happens}
-use Rattle.dm_links.specs.Worlds.{World, Put, After, Done, Ignored, NoLink}
+use Rattle.dm_two_peers.specs.Links.{Side, Link}
+use Rattle.dm_two_peers.specs.Happens.{own_view, happens}
+use Rattle.dm_two_peers.specs.Worlds.{World, Put, After, Done, Ignored, NoLink}
 use Rattle.dm_world.specs.declared.fault.Effect.{Effect}
 use Rattle.dm_world.specs.declared.fault.Effect.TheVariants as effect
 use Rattle.dm_world.specs.declared.fault.WorldFault.{WorldFault}
@@ -11,7 +11,7 @@ use Rattle.dm_world.specs.declared.fault.WorldFault.TheVariants as world_fault
 use Rattle.dm_world.specs.declared.net.Net.{Net}
 use Rattle.dm_world.specs.declared.happening.Happening.{Happening}
 use Rattle.dm_world.specs.Happening.{as_happening, may_want}
-use Rattle.dm_pair.specs.Octets.{octet_peers}
+use Rattle.dm_octet_peers.specs.Octets.{octet_peers}
 use Rattle.dm_world.specs.Seen.{as_links}
 
 -- two peers over octets and the links between them

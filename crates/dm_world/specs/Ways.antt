@@ -1,8 +1,8 @@
 -- What goes into a direction, and what leaves it.
 use Rattle.std.specs.Prelude.{ℕ, ◌+◌, List, [], ◌∷◌, drop}
-use Rattle.dm_links.specs.Links.{Direction, LinkPhase, Up, NoMark, Coming, Delivered}
-use Rattle.dm_links.specs.Links as links
-use Rattle.dm_links.specs.Steps.{added, marked}
+use Rattle.dm_two_peers.specs.Links.{Direction, LinkPhase, Up, NoMark, Coming, Delivered}
+use Rattle.dm_two_peers.specs.Links as links
+use Rattle.dm_two_peers.specs.Steps.{added, marked}
 use Rattle.dm_world.specs.declared.direction.Mark.{Mark}
 use Rattle.dm_world.specs.declared.direction.Mark.TheVariants as mark
 

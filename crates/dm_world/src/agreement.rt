@@ -1,7 +1,7 @@
 //! What two sides are open on.
 ghost use Rattle.std.specs.Prelude.{◌≡◌, ℕ, IfSome};
 ghost use Rattle.std.specs.Option.{IfNone};
-ghost use Rattle.dm_links.specs.Machine.{Initiated, Accepted};
+ghost use Rattle.dm_two_peers.specs.Machine.{Initiated, Accepted};
 ghost use Rattle.dm_world.specs.Agreeing.{open_in_role, are_one, are_agreed, shared, first_found, agrees};
 ghost use Rattle.dm_world.specs.Agreeing.{open_on_both, AreBothOpenOn};
 ghost use Rattle.dm_world.specs.Seen.{as_links};

@@ -1,8 +1,8 @@
 //! One happening is one step of the world.
 ghost use Rattle.std.specs.Prelude.{◌≡◌, false, IfOk, IfErr, OnErr, slice_get};
-ghost use Rattle.dm_links.specs.Facts.{IsSoundWorld};
-ghost use Rattle.dm_links.specs.Happens.{happens, Nacks, Loses, Submits};
-ghost use Rattle.dm_pair.specs.Octets.{octet_peers};
+ghost use Rattle.dm_two_peers.specs.Facts.{IsSoundWorld};
+ghost use Rattle.dm_two_peers.specs.Happens.{happens, Nacks, Loses, Submits};
+ghost use Rattle.dm_octet_peers.specs.Octets.{octet_peers};
 ghost use Rattle.dm_world.specs.Ends.{AreNamed, AreSameEnds, AreEndsAfter};
 ghost use Rattle.dm_world.specs.Happening.{as_happening, is_pending_at, may_want};
 ghost use Rattle.dm_world.specs.Seen.{as_links, as_side};

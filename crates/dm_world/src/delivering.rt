@@ -1,11 +1,11 @@
 //! What reaches a side on a link.
 ghost use Rattle.std.specs.Prelude.{◌≡◌, ◌<◌, ℕ, List, Some, false, IfOk, IfErr, OnErr, length, slice_get};
-ghost use Rattle.dm_links.specs.Machine.{conn};
-ghost use Rattle.dm_links.specs.Happens.{happens, Delivers, Pieces, comes, own_view};
-ghost use Rattle.dm_links.specs.Links.{Link};
-ghost use Rattle.dm_links.specs.Worlds as worlds;
-ghost use Rattle.dm_links.specs.Peers.{Arrived, Gone};
-ghost use Rattle.dm_pair.specs.Octets.{octet_peers};
+ghost use Rattle.dm_two_peers.specs.Machine.{conn};
+ghost use Rattle.dm_two_peers.specs.Happens.{happens, Delivers, Pieces, comes, own_view};
+ghost use Rattle.dm_two_peers.specs.Links.{Link};
+ghost use Rattle.dm_two_peers.specs.Worlds as worlds;
+ghost use Rattle.dm_two_peers.specs.Peers.{Arrived, Gone};
+ghost use Rattle.dm_octet_peers.specs.Octets.{octet_peers};
 ghost use Rattle.dm_world.specs.Happening.{is_deaf, is_heard_at, is_fed_at};
 ghost use Rattle.dm_world.specs.Seen.{as_side, as_links};
 ghost use Rattle.dm_world.specs.Views.{as_world, Effects, IsFault, front_of};

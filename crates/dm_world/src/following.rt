@@ -2,13 +2,13 @@
 //! for is done.
 ghost use Rattle.std.specs.Prelude.{◌≡◌, ℕ, ◌+◌, IsTrue, false, [], ◌∷◌, length, map};
 ghost use Rattle.dm_peer.specs.Events.{told};
-ghost use Rattle.dm_links.specs.Links.{by_side};
-ghost use Rattle.dm_links.specs.Machine.{HeardOnIt};
-ghost use Rattle.dm_links.specs.Peers.{deed_of, sends_at};
-ghost use Rattle.dm_links.specs.Steps.{settled};
-ghost use Rattle.dm_links.specs.Worlds.{enter, perform, change_at};
-ghost use Rattle.dm_pair.specs.Frames.{SendFrames};
-ghost use Rattle.dm_pair.specs.Octets.{as_action, as_actions, as_event};
+ghost use Rattle.dm_two_peers.specs.Links.{by_side};
+ghost use Rattle.dm_two_peers.specs.Machine.{HeardOnIt};
+ghost use Rattle.dm_two_peers.specs.Peers.{deed_of, sends_at};
+ghost use Rattle.dm_two_peers.specs.Steps.{settled};
+ghost use Rattle.dm_two_peers.specs.Worlds.{enter, perform, change_at};
+ghost use Rattle.dm_octet_peers.specs.Frames.{SendFrames};
+ghost use Rattle.dm_octet_peers.specs.Octets.{as_action, as_actions, as_event};
 ghost use Rattle.dm_world.specs.Rooms.{HasRoom, HasRoomFor, CanSend, named};
 ghost use Rattle.dm_world.specs.Seen.{as_side, as_links};
 ghost use Rattle.dm_world.specs.Telling.{is_start, FramerFits, links_after};

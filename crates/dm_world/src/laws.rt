@@ -1,4 +1,4 @@
-//! Laws of worlds. They stand for users, as the premises of the laws of dm_links and dm_pair.
+//! Laws of worlds. They stand for users, as the premises of the laws of dm_two_peers and dm_octet_peers.
 ghost use Rattle.dm_world.specs.Kept.{IsWorldKept};
 
 use crate::World;

@@ -2,12 +2,12 @@
 ghost use Rattle.std.specs.Prelude.{◌≡◌, ◌+◌, ◌<◌, ◌≤◌, [], length, OnOk, OnErr};
 ghost use Rattle.dm_framer.specs.Frames.{IsFrame};
 ghost use Rattle.dm_peer.specs.Events.{told};
-ghost use Rattle.dm_links.specs.Facts.{is_pending};
-ghost use Rattle.dm_links.specs.Happens.{take_part, lost_link, own_view, are_shut};
-ghost use Rattle.dm_links.specs.Links.{new_link, opens, by_side};
-ghost use Rattle.dm_links.specs.Machine.{AcksIt, EndsIt, HeardOnIt};
-ghost use Rattle.dm_links.specs.Quiet.{is_quiet_link};
-ghost use Rattle.dm_links.specs.Steps.{with_sent, with_close, entered, settled};
+ghost use Rattle.dm_two_peers.specs.Facts.{is_pending};
+ghost use Rattle.dm_two_peers.specs.Happens.{take_part, lost_link, own_view, are_shut};
+ghost use Rattle.dm_two_peers.specs.Links.{new_link, opens, by_side};
+ghost use Rattle.dm_two_peers.specs.Machine.{AcksIt, EndsIt, HeardOnIt};
+ghost use Rattle.dm_two_peers.specs.Quiet.{is_quiet_link};
+ghost use Rattle.dm_two_peers.specs.Steps.{with_sent, with_close, entered, settled};
 ghost use Rattle.dm_world.specs.Fed.{holding};
 ghost use Rattle.dm_world.specs.Next.{next_to, octets_to_come_to, is_past_loss};
 ghost use Rattle.dm_world.specs.Seen.{as_side, as_end, as_link, out_room, restart_link};

@@ -2,11 +2,11 @@
 ghost use Rattle.std.specs.Prelude.{◌≡◌, ℕ, ◌+◌, OnOk, slice_get};
 ghost use Rattle.std.specs.List.{list_all};
 ghost use Rattle.dm_framer.specs.Frames.{IsFrame};
-ghost use Rattle.dm_links.specs.Links.{by_side};
-ghost use Rattle.dm_links.specs.Machine.{HeardOnIt};
-ghost use Rattle.dm_links.specs.Quiet.{is_quiet_link};
-ghost use Rattle.dm_links.specs.Steps.{with_sent, with_close, settled};
-ghost use Rattle.dm_links.specs.Worlds.{change_at};
+ghost use Rattle.dm_two_peers.specs.Links.{by_side};
+ghost use Rattle.dm_two_peers.specs.Machine.{HeardOnIt};
+ghost use Rattle.dm_two_peers.specs.Quiet.{is_quiet_link};
+ghost use Rattle.dm_two_peers.specs.Steps.{with_sent, with_close, settled};
+ghost use Rattle.dm_two_peers.specs.Worlds.{change_at};
 ghost use Rattle.dm_world.specs.Agreeing.{is_coming_at};
 ghost use Rattle.dm_world.specs.Rooms.{HasRoom};
 ghost use Rattle.dm_world.specs.Seen.{as_side, as_links, restart_link};

@@ -1,6 +1,6 @@
 //! The ends that were made for each side.
 ghost use Rattle.std.specs.Prelude.{◌≡◌, ◌<◌, [], ◌∷◌, ◌++◌, OnOk, vec_len, vec_capacity};
-ghost use Rattle.dm_links.specs.Links.{flip, Side as LinkSide};
+ghost use Rattle.dm_two_peers.specs.Links.{flip, Side as LinkSide};
 ghost use Rattle.dm_world.specs.Ends.{ends_of, AreSameEnds, HasRoomForEnd};
 ghost use Rattle.dm_world.specs.Seen.{as_side};
 

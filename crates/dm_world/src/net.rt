@@ -1,12 +1,12 @@
 //! Two peers and the links between them, and what each event of a side does to them.
 ghost use Rattle.std.specs.Prelude.{◌≡◌, ◌<◌, ◌↔◌, IsTrue, IfOk, IfErr, IfSome, OnErr, None, false, length, slice_get};
 ghost use Rattle.dm_peer.specs.Events.{told};
-ghost use Rattle.dm_links.specs.Agreement.{Agreed};
-ghost use Rattle.dm_links.specs.Quiet.{is_quiet};
-ghost use Rattle.dm_links.specs.Worlds as worlds;
+ghost use Rattle.dm_two_peers.specs.Agreement.{Agreed};
+ghost use Rattle.dm_two_peers.specs.Quiet.{is_quiet};
+ghost use Rattle.dm_two_peers.specs.Worlds as worlds;
 ghost use Rattle.dm_peer.specs.Octets.{AreOctets};
-ghost use Rattle.dm_pair.specs.Frames.{submitted_in};
-ghost use Rattle.dm_pair.specs.Octets.{as_event, octet_peers};
+ghost use Rattle.dm_octet_peers.specs.Frames.{submitted_in};
+ghost use Rattle.dm_octet_peers.specs.Octets.{as_event, octet_peers};
 ghost use Rattle.dm_world.specs.declared.fault.WorldFault.{WorldFault};
 ghost use Rattle.dm_world.specs.Agreeing.{is_agreed};
 ghost use Rattle.dm_world.specs.Asking.{IsAnswerOf};
@@ -24,7 +24,7 @@ use crate::{Effect, Side, WorldFault, links};
 use dm_dict::NoMemory;
 use dm_framer::Framer;
 use dm_machine::laws::{each_opening_has_its_message, each_step_keeps_shape};
-use dm_pair::laws::{octets_are_a_machine, octets_are_frames};
+use dm_octet_peers::laws::{octets_are_a_machine, octets_are_frames};
 use dm_peer::{Actions, Conn, Event};
 use std::alloc::Global;
 

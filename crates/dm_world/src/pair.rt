@@ -1,7 +1,7 @@
 //! The two peers of a world.
 ghost use Rattle.std.specs.Prelude.{◌≡◌, IsTrue, IfOk, OnErr};
 ghost use Rattle.dm_machine.specs.Node.{is_shaped};
-ghost use Rattle.dm_links.specs.Machine.{is_held, tie_of};
+ghost use Rattle.dm_two_peers.specs.Machine.{is_held, tie_of};
 ghost use Rattle.dm_peer.specs.Acts.{acts};
 ghost use Rattle.dm_peer.specs.Events.{told};
 ghost use Rattle.dm_world.specs.Asking.{peer_of, with_peer_of, reset_of, IsAnswer, IsAnswerOf, IsWant};

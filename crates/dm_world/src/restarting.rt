@@ -1,9 +1,9 @@
 //! The connect of a link that comes about, which makes an end, and a Restart, which goes over the ends that were made.
 ghost use Rattle.std.specs.Prelude.{◌≡◌, ◌++◌, IfOk, IfErr, OnErr, slice_get};
-ghost use Rattle.dm_links.specs.Facts.{IsSoundWorld};
-ghost use Rattle.dm_links.specs.Happens.{happens, Acks, restart_links};
-ghost use Rattle.dm_links.specs.Worlds.{with_peer, peer_at};
-ghost use Rattle.dm_pair.specs.Octets.{octet_peers};
+ghost use Rattle.dm_two_peers.specs.Facts.{IsSoundWorld};
+ghost use Rattle.dm_two_peers.specs.Happens.{happens, Acks, restart_links};
+ghost use Rattle.dm_two_peers.specs.Worlds.{with_peer, peer_at};
+ghost use Rattle.dm_octet_peers.specs.Octets.{octet_peers};
 ghost use Rattle.dm_world.specs.Asking.{reset_of};
 ghost use Rattle.dm_world.specs.Ends.{AreNamed, AreSameEnds, AreCleared, IsMade, restart_each, numbers, held_numbers};
 ghost use Rattle.dm_world.specs.Happening.{is_pending_at};

@@ -1,24 +1,24 @@
 //! Happenings one after the other, and what is promised of every list of them.
 ghost use Rattle.std.specs.Prelude.{◌≡◌, IsTrue, IfSome, None, take, length, slice_get};
-ghost use Rattle.dm_links.specs.Agreement.{Agreed, EndsAreHeld, HeldAreLinks, OpenIsMatched};
-ghost use Rattle.dm_links.specs.Joining.{AreJoined};
-ghost use Rattle.dm_links.specs.Quiet.{is_quiet};
-ghost use Rattle.dm_links.specs.Sharing.{AreShared};
-ghost use Rattle.dm_links.specs.Streams.{AreCut};
-ghost use Rattle.dm_pair.specs.Laws.{AreClosed};
-ghost use Rattle.dm_pair.specs.Octets.{octet_peers};
+ghost use Rattle.dm_two_peers.specs.Agreement.{Agreed, EndsAreHeld, HeldAreLinks, OpenIsMatched};
+ghost use Rattle.dm_two_peers.specs.Joining.{AreJoined};
+ghost use Rattle.dm_two_peers.specs.Quiet.{is_quiet};
+ghost use Rattle.dm_two_peers.specs.Sharing.{AreShared};
+ghost use Rattle.dm_two_peers.specs.Streams.{AreCut};
+ghost use Rattle.dm_octet_peers.specs.Laws.{AreClosed};
+ghost use Rattle.dm_octet_peers.specs.Octets.{octet_peers};
 ghost use Rattle.dm_world.specs.Settling.{AreClean, EitherCanOpen};
 ghost use Rattle.dm_world.specs.Settling.{RanTo, RunSettles, RunFallsQuiet, RunCanFallQuiet};
 ghost use Rattle.dm_world.specs.Views.{IsEnd};
 
 use crate::laws::every_world_is_kept;
 use crate::{Happening, World, WorldFault};
-use dm_links::laws::{quiet_is_shared, sound_is_promised};
-use dm_pair::laws::{
+use dm_octet_peers::laws::{
     each_octet_run_can_fall_quiet, each_octet_run_falls_quiet, each_octet_run_settles,
     each_octet_world_can_open, octet_quiet_is_joined,
 };
 use dm_peer::Peer;
+use dm_two_peers::laws::{quiet_is_shared, sound_is_promised};
 use dm_wire::Octets;
 use std::alloc::Global;
 

@@ -1,6 +1,6 @@
 //! The two sides of a world.
 ghost use Rattle.std.specs.Prelude.{◌≡◌};
-ghost use Rattle.dm_links.specs.Links.{flip};
+ghost use Rattle.dm_two_peers.specs.Links.{flip};
 ghost use Rattle.dm_world.specs.Seen.{as_side};
 
 /// One of the two sides.

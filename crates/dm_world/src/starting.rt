@@ -1,7 +1,7 @@
 //! What brings no message: a Start and a Timeout of a side.
 ghost use Rattle.std.specs.Prelude.{◌≡◌, IfOk, OnErr};
-ghost use Rattle.dm_links.specs.Happens.{happens, Starts, TimesOut};
-ghost use Rattle.dm_pair.specs.Octets.{octet_peers};
+ghost use Rattle.dm_two_peers.specs.Happens.{happens, Starts, TimesOut};
+ghost use Rattle.dm_octet_peers.specs.Octets.{octet_peers};
 ghost use Rattle.dm_world.specs.Seen.{as_side};
 ghost use Rattle.dm_world.specs.Views.{as_world, Effects};
 
@@ -10,7 +10,7 @@ use crate::link::Link;
 use crate::net::Net;
 use crate::{Effect, Side};
 use dm_dict::NoMemory;
-use dm_pair::laws::octets_are_frames;
+use dm_octet_peers::laws::octets_are_frames;
 use dm_peer::laws::silent_takes_none;
 use dm_peer::{Conn, Event};
 use std::alloc::Global;

@@ -8,11 +8,11 @@ use crate::net::Net;
 use crate::pair::Pair;
 use crate::{Effect, Happening, NewFault, Side, WorldFault};
 use dm_base::common_nodes;
-use dm_links::laws::{
+use dm_octet_peers::laws::{each_happening_keeps_peers, octets_are_a_machine, octets_are_sized};
+use dm_peer::{Config, Conn, Peer, is_same_host};
+use dm_two_peers::laws::{
     acks_make_ends, closed_is_sound, each_happening_keeps_sound, each_run_is_cut,
 };
-use dm_pair::laws::{each_happening_keeps_peers, octets_are_a_machine, octets_are_sized};
-use dm_peer::{Config, Conn, Peer, is_same_host};
 use dm_wire::Octets;
 use std::alloc::Global;
 use std::marker::Model;
@@ -56,13 +56,13 @@ fn fault_of(a: &Config, b: &Config) -> Option<NewFault>
 impl World {
     ghost use Rattle.std.specs.Prelude.{◌≡◌, ◌↔◌, ℕ, IsTrue, IfOk, IfErr, IfSome, OnErr, Some, None, Err};
     ghost use Rattle.std.specs.Option.{IfNone};
-    ghost use Rattle.dm_links.specs.Agreement.{Agreed};
-    ghost use Rattle.dm_links.specs.Happens.{happens};
-    ghost use Rattle.dm_links.specs.Laws.{world_of};
-    ghost use Rattle.dm_links.specs.Quiet.{is_quiet};
-    ghost use Rattle.dm_links.specs.Worlds.{peer_at};
-    ghost use Rattle.dm_pair.specs.Laws.{fresh_peer};
-    ghost use Rattle.dm_pair.specs.Octets.{octet_peers};
+    ghost use Rattle.dm_two_peers.specs.Agreement.{Agreed};
+    ghost use Rattle.dm_two_peers.specs.Happens.{happens};
+    ghost use Rattle.dm_two_peers.specs.Laws.{world_of};
+    ghost use Rattle.dm_two_peers.specs.Quiet.{is_quiet};
+    ghost use Rattle.dm_two_peers.specs.Worlds.{peer_at};
+    ghost use Rattle.dm_octet_peers.specs.Laws.{fresh_peer};
+    ghost use Rattle.dm_octet_peers.specs.Octets.{octet_peers};
     ghost use Rattle.dm_world.specs.Agreeing.{is_agreed, open_link, AreBothOpenOn};
     ghost use Rattle.dm_world.specs.Happening.{as_happening, may_want};
     ghost use Rattle.dm_world.specs.New.{new_fault};

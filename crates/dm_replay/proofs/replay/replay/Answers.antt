@@ -1,6 +1,6 @@
 use Rattle.std.proofs.Common.{◌+◌, ◌-◌, length, take, drop, arith, ap, sym, ◌∙◌}
-use Rattle.dm_links.specs.Happens.{happens}
-use Rattle.dm_pair.specs.Octets.{octet_peers}
+use Rattle.dm_two_peers.specs.Happens.{happens}
+use Rattle.dm_octet_peers.specs.Octets.{octet_peers}
 use Rattle.dm_world.specs.Happening.{as_happening}
 use Rattle.dm_replay.specs.Text.{trace_line}
 use Rattle.dm_replay.specs.Replay.{replay_from}

@@ -1,7 +1,7 @@
 use Rattle.std.proofs.Common.{◌∙◌}
 use Rattle.dm_world.proofs.Performs.{took, room_one, room_rest, room_now, performed_turn, performed_end, frames_now}
 use Rattle.dm_world.proofs.Performs.{frames_one, frames_rest}
-use Rattle.dm_pair.specs.Octets.{as_action, as_actions}
+use Rattle.dm_octet_peers.specs.Octets.{as_action, as_actions}
 use Rattle.dm_world.proofs.following.perform.Goals as goal
 
 pub perform_one-requires-clause-frames : goal.perform_one-requires-clause-frames

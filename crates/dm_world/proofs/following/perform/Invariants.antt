@@ -1,7 +1,7 @@
 use Rattle.std.proofs.Common.{◌≡◌, length}
-use Rattle.dm_links.specs.Worlds.{perform}
-use Rattle.dm_pair.specs.Frames.{SendFrames}
-use Rattle.dm_pair.specs.Octets.{as_actions}
+use Rattle.dm_two_peers.specs.Worlds.{perform}
+use Rattle.dm_octet_peers.specs.Frames.{SendFrames}
+use Rattle.dm_octet_peers.specs.Octets.{as_actions}
 use Rattle.dm_world.specs.Rooms.{HasRoomFor}
 use Rattle.dm_world.specs.Seen.{as_side, as_links}
 use Rattle.dm_world.proofs.following.perform.Given as goal

@@ -1,6 +1,6 @@
 use Rattle.std.proofs.Common.{◌≡◌}
 use Rattle.std.specs.List.{list_all}
-use Rattle.dm_links.specs.Quiet.{is_quiet_link}
+use Rattle.dm_two_peers.specs.Quiet.{is_quiet_link}
 use Rattle.dm_world.specs.Seen.{as_links}
 use Rattle.dm_world.proofs.Quiets.{quiet_from}
 use Rattle.dm_world.proofs.links.are_quiet.Given as goal

@@ -1,8 +1,8 @@
 use Rattle.std.proofs.Common.{sym, ap, subst, ◌∙◌}
 use Rattle.std.specs.Prelude.{Bool, IsTrue, ◌↔◌}
-use Rattle.dm_links.specs.Agreement.{Agreed}
+use Rattle.dm_two_peers.specs.Agreement.{Agreed}
 use Rattle.dm_world.specs.Agreeing.{agrees}
-use Rattle.dm_pair.specs.Octets.{octet_peers}
+use Rattle.dm_octet_peers.specs.Octets.{octet_peers}
 use Rattle.dm_world.specs.Seen.{as_links}
 use Rattle.dm_world.specs.Views.{as_world}
 use Rattle.dm_world.proofs.Agrees.{agrees_as}

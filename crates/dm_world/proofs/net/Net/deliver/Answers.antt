@@ -1,6 +1,6 @@
 use Rattle.std.proofs.Common.{sym, subst, ◌∙◌}
-use Rattle.dm_links.specs.Happens.{happens, Delivers}
-use Rattle.dm_pair.specs.Octets.{octet_peers}
+use Rattle.dm_two_peers.specs.Happens.{happens, Delivers}
+use Rattle.dm_octet_peers.specs.Octets.{octet_peers}
 use Rattle.dm_world.specs.Seen.{as_side, as_link}
 use Rattle.dm_world.specs.Views.{as_world, Effects}
 use Rattle.dm_world.proofs.Hearing.{link_at}

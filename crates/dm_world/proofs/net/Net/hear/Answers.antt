@@ -1,6 +1,6 @@
 use Rattle.std.proofs.Common.{Some, slice_get, ap, ◌∙◌}
 use Rattle.std.specs.Prelude.{ℕ, List}
-use Rattle.dm_links.specs.Links.{Direction}
+use Rattle.dm_two_peers.specs.Links.{Direction}
 use Rattle.dm_world.specs.Seen.{as_side, as_links}
 use Rattle.dm_world.specs.Views.{as_world}
 use Rattle.dm_world.proofs.Hearing.{front_read, heard_result}

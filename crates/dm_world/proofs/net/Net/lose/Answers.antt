@@ -1,6 +1,6 @@
 use Rattle.std.proofs.Common.{length, sym, ap, ◌∙◌}
-use Rattle.dm_links.specs.Happens.{lost_link}
-use Rattle.dm_links.specs.Worlds.{change_at}
+use Rattle.dm_two_peers.specs.Happens.{lost_link}
+use Rattle.dm_two_peers.specs.Worlds.{change_at}
 use Rattle.dm_world.specs.Seen.{as_link, as_links}
 use Rattle.dm_world.specs.Views.{as_world}
 use Rattle.dm_world.proofs.Changed.{changed}

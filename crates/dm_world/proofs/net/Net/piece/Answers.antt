@@ -1,9 +1,9 @@
 use Rattle.std.specs.Prelude.{IsTrue, Result, Ok, Err, OnErr}
 use Rattle.std.proofs.Common.{rules, slice_get, ◌≡◌, ◌<◌, ◌≤◌, ◌⊎◌, sym, ap, subst, ◌∙◌, arith}
-use Rattle.dm_links.specs.Happens.{happens, Pieces, take_part}
-use Rattle.dm_links.specs.Links.{by_side}
-use Rattle.dm_links.specs.Worlds.{change_at}
-use Rattle.dm_pair.specs.Octets.{octet_peers}
+use Rattle.dm_two_peers.specs.Happens.{happens, Pieces, take_part}
+use Rattle.dm_two_peers.specs.Links.{by_side}
+use Rattle.dm_two_peers.specs.Worlds.{change_at}
+use Rattle.dm_octet_peers.specs.Octets.{octet_peers}
 use Rattle.dm_world.specs.declared.direction.Next.TheVariants as next
 use Rattle.dm_world.specs.Next.{octets_to_come_to}
 use Rattle.dm_world.specs.Happening.{is_fed_at}

@@ -1,5 +1,5 @@
 use Rattle.std.proofs.Common.{◌≡◌, length, ◌∙◌, sym, ap, refl, arith}
-use Rattle.dm_links.specs.Machine.{conn}
+use Rattle.dm_two_peers.specs.Machine.{conn}
 use Rattle.dm_peer.specs.Events.{Start}
 use Rattle.dm_world.specs.Asking.{peer_of}
 use Rattle.dm_world.specs.Seen.{as_side, as_links}

@@ -1,5 +1,5 @@
 use Rattle.dm_peer.specs.Events.{told}
-use Rattle.dm_pair.specs.Octets.{as_event}
+use Rattle.dm_octet_peers.specs.Octets.{as_event}
 use Rattle.dm_world.specs.Seen.{as_side}
 use Rattle.dm_world.proofs.Telling.{done_step, ignored_step, followed}
 use Rattle.dm_world.proofs.net.Net.tell.Goals as goal

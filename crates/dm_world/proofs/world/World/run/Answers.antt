@@ -1,5 +1,5 @@
 use Rattle.std.proofs.Common.{map, take}
-use Rattle.dm_pair.specs.Octets.{octet_peers}
+use Rattle.dm_octet_peers.specs.Octets.{octet_peers}
 use Rattle.dm_world.specs.Happening.{as_happening}
 use Rattle.dm_world.proofs.world.World.run.Goals as goal
 

@@ -1,0 +1,177 @@
+-- What the side across is told keeps what the directions to a side carry: what it submits comes behind all else.
+use Rattle.std.proofs.Common.{◌≡◌, ℕ, ◌==◌, Bool, true, false, ◌&&◌, ◌||◌, if◌then◌else◌, Some, None, List, [], ◌∷◌}
+use Rattle.std.proofs.Common.{◌++◌, map, slice_get, refl, sym, ap, subst, ◌∙◌, append-nil}
+use Rattle.std.specs.Prelude.{option_map}
+use Rattle.std.proofs.lemmas.Bool.{eqb-true}
+use Rattle.dm_machine.specs.Connection.{hold_of}
+use Rattle.dm_two_peers.specs.Machine.{conn, Node, Tie, tie_of}
+use Rattle.dm_two_peers.specs.Links.{Side, A, B, flip, opens, Link, by_side}
+use Rattle.dm_two_peers.specs.Peers.{Event, Start, Stop, Timeout, Tick, Ack, Nack, Gone, Submit, Arrived, Action, Acts}
+use Rattle.dm_two_peers.specs.Peers.{Peers, concern_by, deed_of, sends_at}
+use Rattle.dm_two_peers.specs.Worlds.{World, peer_at}
+use Rattle.dm_two_peers.specs.Happens.{own_view}
+use Rattle.dm_two_peers.specs.Facts.{is_shut}
+use Rattle.dm_two_peers.specs.Delivery.{submitted_by, handed_up_by, ups_of, apps, SendsSubmitted}
+use Rattle.dm_machine.specs.Upward.{is_open_hold}
+use Rattle.dm_two_peers.proofs.Columns.{words_at}
+use Rattle.dm_two_peers.proofs.StandingOthers.{is_open_tie}
+use Rattle.dm_two_peers.proofs.Closing.{CarriesOn}
+use Rattle.dm_two_peers.proofs.Keeps.{Hands}
+use Rattle.dm_two_peers.proofs.Events.{side_sound}
+use Rattle.dm_two_peers.proofs.OpenNodes.{held_there}
+use Rattle.dm_two_peers.proofs.WaysOther.{IsNew, says_none, says_one}
+use Rattle.dm_two_peers.proofs.Carried.{Carried, IsCarrying, WayOnLink, carrier, no_other_raise, no_other_up, open_held}
+use Rattle.dm_two_peers.proofs.Carried.{open_tied, over_of, plain_words, turn_with}
+use Rattle.dm_two_peers.proofs.CarriedViews.{flip_view, on_mapped, other_fits, stepped_by, tie_open}
+
+module _ {P M : Type 0} (m : Peers P M) (is_app : M → Bool) (stands : P → Bool) (carries : CarriesOn m is_app stands)
+    (lost : Bool) where
+  other_raises : (t : Side) (c : ℕ) (e : Event M) (actions : List (Action M)) →
+      handed_up_by t c (turn_with (flip t) e actions) ≡ []
+  other_raises t c (Arrived d x) actions = no_other_raise t (d.0 == c) (ups_of actions)
+  other_raises t c (Submit x) actions = no_other_up t (ups_of actions)
+  other_raises t c (Start d) actions = no_other_up t (ups_of actions)
+  other_raises t c (Stop cause) actions = no_other_up t (ups_of actions)
+  other_raises t c Timeout actions = no_other_up t (ups_of actions)
+  other_raises t c Tick actions = no_other_up t (ups_of actions)
+  other_raises t c (Ack d) actions = no_other_up t (ups_of actions)
+  other_raises t c (Nack d) actions = no_other_up t (ups_of actions)
+  other_raises t c (Gone d) actions = no_other_up t (ups_of actions)
+
+  abbrev After_other : (t : Side) (w : World P M) (c : ℕ) (e : Event M) (p : P) (actions : List (Action M)) →
+      List M → List M → Type 0
+  After_other t w c e p actions said up =
+      WayOnLink is_app lost (over_of (m.node_of (peer_at t w)) c) t
+      (option_map (by_side (flip t) (stepped_by m is_app stands carries lost c e actions p)) (slice_get w.links c))
+      said up
+
+  other_by : (t : Side) (w : World P M) (c : ℕ) (e : Event M) (p : P) (actions : List (Action M))
+      (said up new more : List M) → IsCarrying m stands w →
+      Hands (flip t) (m.node_of (peer_at (flip t) w)) (m.node_of (peer_at (flip (flip t)) w)) e w.links →
+      apps is_app (words_at c actions) ≡ new →
+      ((l : Link M) → slice_get w.links c ≡ Some l → IsNew is_app lost (concern_by e (conn c)) l.phase
+      (own_view t l).other new) →
+      (slice_get w.links c ≡ None → new ≡ []) → more ≡ [] →
+      Carried m is_app lost w t c said up → After_other t w c e p actions (said ++ new) (up ++ more)
+  other_by t w c e p actions said up new more good hands words this nothing none_more h =
+      subst (λ (ys : List M). After_other t w c e p actions (said ++ new) ys)
+      (sym (ap (λ ys. up ++ ys) none_more ∙ append-nil up))
+      (on_mapped m is_app stands carries lost t
+      (by_side (flip t) (stepped_by m is_app stands carries lost c e actions p)) (over_of (m.node_of (peer_at t w)) c)
+      (over_of (m.node_of (peer_at t w)) c) said up (said ++ new) up (slice_get w.links c)
+      (λ l at way. other_fits m is_app stands carries lost t w c e p actions l new said up good at
+      (hands.handed c l at) words (this l at) way)
+      (λ at e g. (ap (λ xs. xs ++ new) e ∙ nothing at, g)) h)
+
+  -- what the other side submits
+  not_open : (t : Tie) (b : Bool) → is_open_tie t ≡ b → is_open_tie t ≡ true → b ≡ true
+  not_open t b e h = sym e ∙ h
+
+  flips : (t : Side) (b : Bool) (xs : List M) →
+      (if opens (flip t) (flip t) && b then xs else []) ≡ (if b then xs else [])
+  flips A b xs = refl
+  flips B b xs = refl
+
+  or_false : (b : Bool) → (b || false) ≡ b
+  or_false true = refl
+  or_false false = refl
+
+  abbrev new_of : Side → ℕ → M → List (Action M) → List M
+  new_of t c x acts = if opens (flip t) (flip t) && sends_at c (map deed_of acts) then x ∷ [] else []
+
+  other_submits : (t : Side) (w : World P M) (c : ℕ) (x : M) (p : P) (actions : List (Action M)) (said up : List M) →
+      IsCarrying m stands w →
+      Hands (flip t) (m.node_of (peer_at (flip t) w)) (m.node_of (peer_at (flip (flip t)) w)) (Submit x) w.links →
+      m.reply (peer_at (flip t) w) (Submit x) ≡ Acts actions p → Carried m is_app lost w t c said up →
+      After_other t w c (Submit x) p actions (said ++ submitted_by t c (turn_with (flip t) (Submit x) actions))
+      (up ++ handed_up_by t c (turn_with (flip t) (Submit x) actions))
+  other_submits t w c x p actions said up good hands replies h =
+      let sides = side_sound m (flip t) w good.sound in
+      let sub = carries.does.submits (peer_at (flip t) w) p x actions (carrier m stands (flip t) w good) replies in
+      by_test sub (sub.link == c) refl
+    where
+      n : Node
+      n = m.node_of (peer_at (flip t) w)
+
+      new_is : (sub : SendsSubmitted is_app n x actions) (b : Bool) → (sub.link == c) ≡ b →
+          new_of t c x actions ≡ (if b then x ∷ [] else [])
+      new_is sub b named = ap (λ acts. new_of t c x acts) sub.sends
+          ∙ (flips t ((sub.link == c) || false) (x ∷ [])
+          ∙ (ap (λ q. if q then x ∷ [] else []) (or_false (sub.link == c))
+          ∙ ap (λ q. if q then x ∷ [] else []) named))
+
+      words_are : (sub : SendsSubmitted is_app n x actions) (b : Bool) → (sub.link == c) ≡ b →
+          apps is_app (words_at c actions) ≡ (if b then x ∷ [] else [])
+      words_are sub true named = ap (λ acts. apps is_app (words_at c acts)) sub.sends
+          ∙ (ap (λ q. apps is_app (if q then x ∷ [] else [])) named ∙ ap (λ q. if q then x ∷ [] else []) sub.app)
+      words_are sub false named = ap (λ acts. apps is_app (words_at c acts)) sub.sends
+          ∙ ap (λ q. apps is_app (if q then x ∷ [] else [])) named
+
+      opened : (sub : SendsSubmitted is_app n x actions) → (sub.link == c) ≡ true →
+          is_open_hold (hold_of n (conn c)) ≡ true
+      opened sub named = subst (λ d. is_open_hold (hold_of n (conn d)) ≡ true) (eqb-true sub.link c named) sub.opened
+
+      by_test : (sub : SendsSubmitted is_app n x actions) (b : Bool) → (sub.link == c) ≡ b →
+          After_other t w c (Submit x) p actions (said ++ submitted_by t c (turn_with (flip t) (Submit x) actions))
+          (up ++ handed_up_by t c (turn_with (flip t) (Submit x) actions))
+      by_test sub true named =
+          other_by t w c (Submit x) p actions said up (new_of t c x actions) _ good hands
+          (words_are sub true named ∙ sym (new_is sub true named))
+          (λ l at. let is = tie_open m is_app stands carries lost (flip t) w c l good at (opened sub named) in
+          says_one refl is.0 (ap (λ e. is_shut e) (sym (flip_view m is_app stands carries lost t l)) ∙ is.1))
+          (λ at. absurd (no_link sub named at)) (other_raises t c (Submit x) actions) h
+        where
+          no_link : (sub : SendsSubmitted is_app n x actions) → (sub.link == c) ≡ true → slice_get w.links c ≡ None → ⊥
+          no_link sub named at =
+              let there = held_there (flip t) n (m.node_of (peer_at (flip (flip t)) w)) w.links c
+              (side_sound m (flip t) w good.sound)
+              (open_held (tie_of n c) (open_tied (hold_of n (conn c)) (opened sub named))) in
+              let is = there.1 in cc
+      by_test sub false named =
+          other_by t w c (Submit x) p actions said up (new_of t c x actions) _ good hands
+          (words_are sub false named ∙ sym (new_is sub false named))
+          (λ l at. says_none (new_is sub false named)) (λ at. new_is sub false named)
+          (other_raises t c (Submit x) actions) h
+
+  other_calm : (t : Side) (w : World P M) (c : ℕ) (e : Event M) (p : P) (actions : List (Action M)) (said up : List M)
+      (new : List M) → IsCarrying m stands w →
+      Hands (flip t) (m.node_of (peer_at (flip t) w)) (m.node_of (peer_at (flip (flip t)) w)) e w.links →
+      m.reply (peer_at (flip t) w) e ≡ Acts actions p → ((x : M) → e ≡ Submit x → ⊥) → new ≡ [] →
+      Carried m is_app lost w t c said up →
+      After_other t w c e p actions (said ++ new) (up ++ handed_up_by t c (turn_with (flip t) e actions))
+  other_calm t w c e p actions said up new good hands replies other is h =
+      let sides = side_sound m (flip t) w good.sound in
+      other_by t w c e p actions said up new (handed_up_by t c (turn_with (flip t) e actions)) good hands
+      (plain_words is_app c actions (carries.does.others (peer_at (flip t) w) p e actions
+      (carrier m stands (flip t) w good) other replies)
+      ∙ sym is)
+      (λ l at. says_none is) (λ at. is) (other_raises t c e actions) h
+
+  abbrev OtherStep : (t : Side) (w : World P M) (c : ℕ) (e : Event M) (p : P) (actions : List (Action M)) → Type 0
+  OtherStep t w c e p actions =
+      (said up : List M) → IsCarrying m stands w →
+      Hands (flip t) (m.node_of (peer_at (flip t) w)) (m.node_of (peer_at (flip (flip t)) w)) e w.links →
+      m.reply (peer_at (flip t) w) e ≡ Acts actions p → Carried m is_app lost w t c said up →
+      After_other t w c e p actions (said ++ submitted_by t c (turn_with (flip t) e actions))
+      (up ++ handed_up_by t c (turn_with (flip t) e actions))
+
+  pub other_step : (t : Side) (w : World P M) (c : ℕ) (e : Event M) (p : P) (actions : List (Action M)) →
+      OtherStep t w c e p actions
+  other_step t w c (Submit x) p actions said up good hands replies h =
+      other_submits t w c x p actions said up good hands replies h
+  other_step t w c (Start d) p actions said up good hands replies h =
+      other_calm t w c (Start d) p actions said up [] good hands replies (λ x q. cc) refl h
+  other_step t w c (Stop cause) p actions said up good hands replies h =
+      other_calm t w c (Stop cause) p actions said up [] good hands replies (λ x q. cc) refl h
+  other_step t w c Timeout p actions said up good hands replies h =
+      other_calm t w c Timeout p actions said up [] good hands replies (λ x q. cc) refl h
+  other_step t w c Tick p actions said up good hands replies h =
+      other_calm t w c Tick p actions said up [] good hands replies (λ x q. cc) refl h
+  other_step t w c (Ack d) p actions said up good hands replies h =
+      other_calm t w c (Ack d) p actions said up [] good hands replies (λ x q. cc) refl h
+  other_step t w c (Nack d) p actions said up good hands replies h =
+      other_calm t w c (Nack d) p actions said up [] good hands replies (λ x q. cc) refl h
+  other_step t w c (Gone d) p actions said up good hands replies h =
+      other_calm t w c (Gone d) p actions said up [] good hands replies (λ x q. cc) refl h
+  other_step t w c (Arrived d x) p actions said up good hands replies h =
+      other_calm t w c (Arrived d x) p actions said up [] good hands replies (λ y q. cc) refl h

@@ -1,0 +1,165 @@
+//! The laws of two peers that move as the state machine: each is the contract of a function that does nothing but call
+//! other laws. They stand for the users of this crate.
+//!
+//! `P` is the state of a peer and `M` a message: a world of peers over octets takes its own types for them.
+ghost use Rattle.dm_two_peers.specs.Bare.{OnlyUpLinksCarry};
+ghost use Rattle.dm_two_peers.specs.Counting.{EachPieceCounts};
+ghost use Rattle.dm_two_peers.specs.Draining.{EachRestartedRunDrains};
+ghost use Rattle.dm_two_peers.specs.Falling.{EachCleanRunCanFallQuiet, EachCleanRunFallsQuiet};
+ghost use Rattle.dm_two_peers.specs.Delivery.{EachRunDelivers};
+ghost use Rattle.dm_two_peers.specs.Joining.{QuietIsJoined, WinnerDoesNotReturn};
+ghost use Rattle.dm_two_peers.specs.Kinds.{KindsAreAMachine, TwoRuns};
+ghost use Rattle.dm_two_peers.specs.Laws.{ClosedIsSound, HappeningKeepsSound, SoundIsPromised, EachRunIsPromised};
+ghost use Rattle.dm_two_peers.specs.Making.{AcksMakeEnds};
+ghost use Rattle.dm_two_peers.specs.Recovering.{EachWorldCanClear, EachWorldCanOpen};
+ghost use Rattle.dm_two_peers.specs.Settled.{EachCleanRunSettles};
+ghost use Rattle.dm_two_peers.specs.Sharing.{QuietIsShared};
+ghost use Rattle.dm_two_peers.specs.Streams.{HappeningKeepsCut, EachRunIsCut, EachPieceAddsUp, EachLossAddsUp};
+ghost use Rattle.dm_two_peers.specs.Talkers.{TalkersAreElecting, TwoTalks};
+
+use dm_machine::laws::{each_connection_changes_as_allowed, each_step_keeps_shape};
+
+/// Two closed peers without links make a sound world.
+pub fn closed_is_sound<P, M>()
+    ensures { ClosedIsSound P M }
+{}
+
+/// Whatever happens keeps a world sound.
+pub fn each_happening_keeps_sound<P, M>()
+    ensures { HappeningKeepsSound P M }
+{
+    each_connection_changes_as_allowed();
+    each_step_keeps_shape();
+}
+
+/// In a sound world two peers agree, and what one holds the other holds, or is told of.
+pub fn sound_is_promised<P, M>()
+    ensures { SoundIsPromised P M }
+{}
+
+/// Two closed peers agree after every list of happenings.
+pub fn each_run_is_promised<P, M>()
+    ensures { EachRunIsPromised P M }
+{
+    closed_is_sound::<P, M>();
+    each_connection_changes_as_allowed();
+    each_step_keeps_shape();
+}
+
+/// After every list of happenings, losses and restarts too, what a side's user was handed up on a link is a front of
+/// what the other side's user submitted on it: each message once, in order, as it was, and nothing else. Where the side
+/// is open on the link and the link had no loss, the rest is what is under way.
+///
+/// It holds of peers that send what is submitted and hand up what comes (`CarriesMessages`).
+pub fn each_run_delivers<P, M>()
+    ensures { EachRunDelivers P M }
+{
+    closed_is_sound::<P, M>();
+    each_connection_changes_as_allowed();
+    each_step_keeps_shape();
+}
+
+/// A run without losses of two closed peers, from where nothing is under way, puts in one course, up to what is
+/// still to come: a CER on each connection that a taken Start made, from its opener; then, where both sides
+/// started, the winner's disconnect of its own; the CEA on the one that the election keeps, with the number of its
+/// CER; and the disconnect that answers the winner's. So it is at most two CERs, one CEA and two disconnects. Where
+/// a Start is taken and it falls quiet, all of the course was put in, and both are open on the connection that the
+/// election keeps.
+///
+/// `C` is what a peer is configured with, `H` the header of a message.
+pub fn each_clean_run_settles<P, M, C, H>()
+    ensures { EachCleanRunSettles P M C H }
+{}
+
+/// Such a run falls quiet, in whatever order things come: it is quiet where no Ack and no delivery is done any more,
+/// after nine steps, and where one side alone starts after four. A piece that ends no message is no step.
+pub fn each_clean_run_falls_quiet<P, M, C, H>()
+    ensures { EachCleanRunFallsQuiet P M C H }
+{}
+
+/// Such a run can fall quiet: after some Acks and deliveries, with its own steps nine at most, nothing is under way,
+/// and both are open on the connection that the election keeps.
+pub fn each_clean_run_can_fall_quiet<P, M, C, H>()
+    ensures { EachCleanRunCanFallQuiet P M C H }
+{}
+
+/// In a sound world neither direction of a link that isn't up has a message or a disconnect.
+pub fn only_up_links_carry<P, M>()
+    ensures { OnlyUpLinksCarry P M }
+{}
+
+/// Where nothing is under way in a sound world, whatever happened before, each side holds just what the other holds,
+/// and one is Closed exactly where the other is.
+pub fn quiet_is_shared<P, M>()
+    ensures { QuietIsShared P M }
+{}
+
+/// In such a world both are Closed, or each stands on one connection alone, the same one, in opposite roles, if one
+/// of them at least didn't lose its election to the other.
+pub fn quiet_is_joined<P, M>()
+    ensures { QuietIsJoined P M }
+{}
+
+/// A side that wins its elections doesn't come to Wait-Returns (RFC 6733, 5.6.4).
+pub fn winner_does_not_return()
+    ensures { WinnerDoesNotReturn }
+{}
+
+/// From each sound world, whatever happened before, both sides can restart, and after some deliveries nothing is
+/// under way.
+pub fn each_world_can_clear<P, M>()
+    ensures { EachWorldCanClear P M }
+{}
+
+/// And then a Start of either side, the Ack and two deliveries open both on the connection that it makes: a list that
+/// does it exists, which isn't to say that peers take it by themselves.
+pub fn each_world_can_open<P, M, C, H>()
+    ensures { EachWorldCanOpen P M C H }
+{}
+
+/// After both have restarted nobody acts any more, whatever Acks, Nacks and deliveries come in whatever order:
+/// nothing is put in, each step takes off one thing that was under way, and it is quiet where nothing is left.
+pub fn each_restarted_run_drains<P, M>()
+    ensures { EachRestartedRunDrains P M }
+{}
+
+/// After every list of happenings fewer octets are delivered of a message than it has.
+pub fn each_run_is_cut<P, M>()
+    ensures step { HappeningKeepsCut P M }
+    ensures run { EachRunIsCut P M }
+{}
+
+/// No happening makes an end fresh but the Ack of its link, which makes that of the side that didn't open it.
+pub fn acks_make_ends<P, M>()
+    ensures { AcksMakeEnds P M }
+{}
+
+/// It makes no difference how messages were cut: a piece that ends no message changes nothing but the octets
+/// delivered, one that ends its message is the delivery, and a loss is the one of whole messages, in its effect and in
+/// what it puts in too. A piece counts as a step just where it ends its message.
+pub fn pieces_add_up<P, M>()
+    ensures pieces { EachPieceAddsUp P M }
+    ensures counts { EachPieceCounts P M }
+    ensures losses { EachLossAddsUp P M }
+{}
+
+/// The state machine itself, with a word for a message, makes peers as these laws ask for them.
+pub fn kinds_are_a_machine()
+    ensures { KindsAreAMachine }
+{}
+
+/// What the definitions say of two runs: one side starts, and it is the initiator; both start, and the connection that
+/// the greater host accepts is kept (RFC 6733, 5.6.4).
+pub fn two_runs()
+    ensures { TwoRuns }
+{}
+
+/// The state machine with numbers makes peers as the law of clean runs asks for them.
+pub fn talkers_are_electing()
+    ensures { TalkersAreElecting }
+{}
+
+/// What the definitions say of two clean runs: what each puts in, and which link is kept.
+pub fn two_talks()
+    ensures { TwoTalks }
+{}
