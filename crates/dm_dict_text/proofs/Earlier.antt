@@ -1,5 +1,5 @@
 -- Which vendors stand before an item.
-use Rattle.std.proofs.Common.{◌≡◌, ◌<◌, ◌≤◌, ℕ, zero, suc, ◌+◌, Bool, true, false, ◌||◌, nat_lt, cond, List, [], ◌∷◌, ◌++◌, map, fold, take, drop, length, get_or, Option, None, Some, is_some, refl, sym, ap, ◌∙◌, arith, add-one, length-append}
+use Rattle.std.proofs.Common.{◌≡◌, ◌<◌, ◌≤◌, ℕ, zero, suc, ◌+◌, true, false, List, [], ◌∷◌, ◌++◌, map, fold, take, drop, length, get_or, Option, None, Some, is_some, refl, sym, ap, ◌∙◌, arith, add-one, length-append}
 use Rattle.std.proofs.Math.Seq.{drop-cons, take-append_seam}
 use Rattle.std.specs.Option.{option_or}
 use Rattle.dm_grammar.specs.Items.{Written, VendorParts}

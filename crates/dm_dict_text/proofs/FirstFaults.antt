@@ -1,5 +1,5 @@
 -- Of a text of version 1 faults and definitions are those of version 1.
-use Rattle.std.proofs.Common.{◌≡◌, ℕ, List, [], ◌∷◌, ◌++◌, map, Option, Some, None, option_map, Ok, Err, refl, true, ◌||◌, not, ap, sym, ◌∙◌, ◌↔◌, inl, inr, append-nil}
+use Rattle.std.proofs.Common.{◌≡◌, ℕ, List, [], ◌∷◌, ◌++◌, map, Option, Some, None, option_map, refl, true, ◌||◌, not, ap, sym, ◌∙◌, ◌↔◌, inl, inr, append-nil}
 use Rattle.std.specs.List.{list_all, flat_map}
 use Rattle.std.proofs.Math.Bool.{or-false}
 use Rattle.std.proofs.lemmas.Bool.{and_parts}

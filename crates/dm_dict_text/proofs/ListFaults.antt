@@ -1,9 +1,6 @@
 -- The faults of a value of a list, and what is known where it has none.
-use Rattle.std.proofs.Common.{◌≡◌, ℤ, pos, ℕ, Bool, true, false, ◌||◌, nat_eq, List, [], ◌∷◌, ◌++◌, map, take, get_or, length, ◌<◌, ◌+◌, if◌then◌else◌, refl, sym, ap, ◌∙◌, inr, add-one}
-use Rattle.std.proofs.Math.Seq.{take-suc}
+use Rattle.std.proofs.Common.{◌≡◌, ℤ, pos, ℕ, Bool, true, false, nat_eq, List, [], ◌∷◌, ◌++◌, map, refl, sym, ap, ◌∙◌, inr}
 use Rattle.std.proofs.lemmas.List.{map-append}
-use Rattle.std.proofs.lemmas.List.Folds.{list_any-append}
-use Rattle.std.proofs.lemmas.Cmp.{int_eq_equiv}
 use Rattle.std.specs.List.{list_any}
 use Rattle.std.specs.Ordering.{int_eq}
 use Rattle.std.specs.Cmp.Lexicographic.{pointwise}

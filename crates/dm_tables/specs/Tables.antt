@@ -1,5 +1,5 @@
 -- The tables of a dictionary: its definitions in order, and an index for each key.
-use Rattle.std.specs.Prelude.{ℕ, ◌≡◌, ◌%◌, Bool, true, List, map, Option, None, Some, slice_get, slice_index, if◌then◌else◌}
+use Rattle.std.specs.Prelude.{ℕ, ◌≡◌, ◌%◌, Bool, true, map, Option, None, Some, slice_get, slice_index, if◌then◌else◌}
 use Rattle.dm_tables.specs.declared.tables.Tables.{Tables}
 use Rattle.dm_tables.specs.declared.def.AvpDef.{AvpDef}
 use Rattle.dm_tables.specs.declared.def.CommandDef.{CommandDef}
