@@ -77,8 +77,7 @@ def functions_of(texts, known):
         for it in functions_in(file, texts[file]):
             fits = [it.name] if it.name in known else by_end[tuple(it.name.split("::")[-2:])]
             if len(fits) == 1:
-                *above, last = fits[0].split("::")
-                found[fits[0]] = it._replace(name=fits[0], proof="::".join([*above, it.proof or last]))
+                found[fits[0]] = with_proof(it, fits[0])
     return found
 
 
@@ -87,7 +86,14 @@ def every_function(texts, but=()):
     do."""
     taken = {(it.file, it.first) for it in but}
     files = [it for it in texts if it.startswith("src/") and it.endswith(".rt")]
-    return [it for file in files for it in functions_in(file, texts[file]) if (file, it.first) not in taken]
+    found = [it for file in files for it in functions_in(file, texts[file]) if (file, it.first) not in taken]
+    return [with_proof(it, it.name) for it in found]
+
+
+def with_proof(function, name):
+    """Returns the function by this name, with the name of its proof beside it."""
+    *above, last = name.split("::")
+    return function._replace(name=name, proof="::".join([*above, function.proof or last]))
 
 
 def asked_as(function):
