@@ -15,6 +15,6 @@ returns-clause-step c =
     (link_found c.args.conn.0 c.in_ok-index.index c.args.self.now.links.items c.index.result.now there c.index.ensures)
     (sym c.is_past_loss.ensures ∙ c.if-is_past_loss.false)
     (ap (λ ls. record { a = c.args.self.now.pair.a; b = c.args.self.now.pair.b; links = ls })
-    (changed (lost_link length c.args.to_a c.args.to_b) c.in_ok-index.index c.args.self.now.links.items _ c.lose.new.self
-    c.index_mut.ensures.value there.1 c.lose.ensures
+    (changed (lost_link length c.args.to_a c.args.to_b) c.in_ok-index.index c.args.self.now.links.items _
+    c.lose.new.self c.index_mut.ensures.value there.1 c.lose.ensures
     ∙ ap (λ k. change_at k (lost_link length c.args.to_a c.args.to_b) (as_links c.args.self.now.links.items)) there.0))

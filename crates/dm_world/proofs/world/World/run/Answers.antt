@@ -5,11 +5,13 @@ use Rattle.dm_world.proofs.world.World.run.Goals as goal
 
 pub returns-clause-ends : goal.returns-clause-ends
 returns-clause-ends c =
-    (c.sound_is_promised.ensures octet_peers c.apply_each-ended.new.self c.every_world_is_kept-2.ensures.sound).ends_are_held
+    (c.sound_is_promised.ensures octet_peers c.apply_each-ended.new.self
+    c.every_world_is_kept-2.ensures.sound).ends_are_held
 
 pub returns-clause-held : goal.returns-clause-held
 returns-clause-held c =
-    (c.sound_is_promised.ensures octet_peers c.apply_each-ended.new.self c.every_world_is_kept-2.ensures.sound).held_are_links
+    (c.sound_is_promised.ensures octet_peers c.apply_each-ended.new.self
+    c.every_world_is_kept-2.ensures.sound).held_are_links
 
 pub returns-clause-matched : goal.returns-clause-matched
 returns-clause-matched c =
@@ -29,14 +31,17 @@ returns-clause-can_open c =
 pub returns-clause-settled : goal.returns-clause-settled
 returns-clause-settled c closed clean =
     c.each_octet_run_settles.ensures c.args.self.now c.every_world_is_kept.ensures.sound
-    c.every_world_is_kept.ensures.peers closed (map as_happening (take c.apply_each-ended.result.0 c.args.list.now)) clean
+    c.every_world_is_kept.ensures.peers closed
+    (map as_happening (take c.apply_each-ended.result.0 c.args.list.now)) clean
 
 pub returns-clause-falls_quiet : goal.returns-clause-falls_quiet
 returns-clause-falls_quiet c closed clean =
     c.each_octet_run_falls_quiet.ensures c.args.self.now c.every_world_is_kept.ensures.sound
-    c.every_world_is_kept.ensures.peers closed (map as_happening (take c.apply_each-ended.result.0 c.args.list.now)) clean
+    c.every_world_is_kept.ensures.peers closed
+    (map as_happening (take c.apply_each-ended.result.0 c.args.list.now)) clean
 
 pub returns-clause-can_fall_quiet : goal.returns-clause-can_fall_quiet
 returns-clause-can_fall_quiet c closed clean =
     c.each_octet_run_can_fall_quiet.ensures c.args.self.now c.every_world_is_kept.ensures.sound
-    c.every_world_is_kept.ensures.peers closed (map as_happening (take c.apply_each-ended.result.0 c.args.list.now)) clean
+    c.every_world_is_kept.ensures.peers closed
+    (map as_happening (take c.apply_each-ended.result.0 c.args.list.now)) clean
