@@ -4,14 +4,14 @@ use Rattle.dm_base.specs.Before.{lower, order}
 use Rattle.dm_peer.specs.declared.config.Config.{Config}
 use Rattle.dm_peer.specs.Hosts.{is_equal, is_same_host}
 use Rattle.dm_world.specs.declared.happening.Happening.{Happening}
-use Rattle.dm_script.specs.Hosts.{Host}
-use Rattle.dm_script.specs.OneScript.{OneScript, OneBadLine, NoScriptIsBad, NothingIsNotBad}
+use Rattle.dm_replay.specs.HostLines.{Host}
+use Rattle.dm_replay.specs.OneScript.{OneScript, OneBadLine, NoScriptIsBad, NothingIsNotBad}
 use Rattle.dm_replay.specs.declared.fault.ScriptFault.TheVariants.{Syntax, SameHost, NoMemory}
 use Rattle.dm_replay.specs.declared.script.Script.{Script}
-use Rattle.dm_replay.specs.Read.{IsConfigOf, Scripted, NamesOneHost}
+use Rattle.dm_replay.specs.ReadScript.{IsConfigOf, Scripted, NamesOneHost}
 use Rattle.dm_replay.specs.Replay.{text_of}
 use Rattle.dm_replay.specs.OneReplay.{OneRead, OneReplay}
-use Rattle.dm_replay.proofs.Same.{one_config}
+use Rattle.dm_replay.proofs.SameConfigs.{one_config}
 use Rattle.dm_replay.proofs.Worlds.{own_equal}
 
 pub record ScriptLaws : Type 0 where

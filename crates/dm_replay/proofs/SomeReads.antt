@@ -11,16 +11,16 @@ use Rattle.dm_base.specs.declared.node.Node.{Node}
 use Rattle.dm_peer.specs.declared.config.Config.{Config}
 use Rattle.dm_peer.specs.Hosts.{is_equal, is_same_host}
 use Rattle.dm_text.specs.Lines.{content_lines}
-use Rattle.dm_script.specs.Hosts.{Host}
-use Rattle.dm_script.specs.Scripts.{IsFirstBad}
-use Rattle.dm_script.specs.OneScript.{IsScript, SomeScript}
+use Rattle.dm_replay.specs.HostLines.{Host}
+use Rattle.dm_replay.specs.Scripts.{IsFirstBad}
+use Rattle.dm_replay.specs.OneScript.{IsScript, SomeScript}
 use Rattle.dm_replay.specs.declared.fault.ScriptFault.{ScriptFault}
 use Rattle.dm_replay.specs.declared.fault.ScriptFault.TheVariants.{Syntax, SameHost}
 use Rattle.dm_replay.specs.declared.script.Script.{Script}
-use Rattle.dm_replay.specs.Read.{IsConfigOf, Reads}
+use Rattle.dm_replay.specs.ReadScript.{IsConfigOf, IsReading}
 use Rattle.dm_replay.specs.Replay.{text_of}
 use Rattle.dm_replay.specs.OneReplay.{SomeRead, SomeReplay}
-use Rattle.dm_replay.proofs.Hosts.{same_host}
+use Rattle.dm_replay.proofs.SameHosts.{same_host}
 use Rattle.dm_replay.proofs.Worlds.{own_equal}
 
 one_id : (n : ℕ) → n ≤ 4294967295 → are_ids (n ∷ []) ≡ true
@@ -93,9 +93,10 @@ differ-back h k differ = by (is_same_host k h) refl where
       let yes : is_same_host h k ≡ true = subst Equal (sym (same_host k h is)) (own_equal (lower h)) in
       absurd (let both = sym yes ∙ differ in cc)
 
-read_script : (text : List ℕ) → IsScript text → (read : Result (Option Script) ScriptFault) × Reads text read
+read_script : (text : List ℕ) → IsScript text → (read : Result (Option Script) ScriptFault) × IsReading text read
 read_script text s = by (is_same_host s.0.host s.1.host) refl where
-  by : (b : Bool) → is_same_host s.0.host s.1.host ≡ b → (read : Result (Option Script) ScriptFault) × Reads text read
+  by : (b : Bool) → is_same_host s.0.host s.1.host ≡ b
+      → (read : Result (Option Script) ScriptFault) × IsReading text read
   by true is =
       (Err SameHost, record { left = s.0; right = s.1; list = s.2; tells = s.3; same = same_host s.0.host s.1.host is })
   by false is =
@@ -111,7 +112,7 @@ read_script text s = by (is_same_host s.0.host s.1.host) refl where
 pub some_read : SomeScript → SomeRead
 some_read some text = by (some text) where
   by : (content_lines text ≡ []) ⊎ IsScript text ⊎ ((n : ℕ) × IsFirstBad text n)
-      → (read : Result (Option Script) ScriptFault) × Reads text read
+      → (read : Result (Option Script) ScriptFault) × IsReading text read
   by (inl none) = (Ok None, none)
   by (inr (inl s)) = read_script text s
   by (inr (inr b)) = (Err (Syntax b.0), b.1)

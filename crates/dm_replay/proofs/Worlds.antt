@@ -13,11 +13,11 @@ use Rattle.dm_world.specs.declared.fault.NewFault.{NewFault}
 use Rattle.dm_world.specs.declared.fault.NewFault.TheVariants.{NotPeers, NothingCommon}
 use Rattle.dm_octet_peers.specs.Laws.{fresh_peer}
 use Rattle.dm_world.specs.New.{new_fault}
-use Rattle.dm_script.specs.Hosts.{Host}
+use Rattle.dm_replay.specs.HostLines.{Host}
 use Rattle.dm_replay.specs.declared.script.Script.{Script}
 use Rattle.dm_replay.specs.declared.fault.ScriptFault.{ScriptFault}
 use Rattle.dm_replay.specs.declared.fault.ScriptFault.TheVariants.{NoMemory}
-use Rattle.dm_replay.specs.Read.{IsConfigOf, Scripted, Reads}
+use Rattle.dm_replay.specs.ReadScript.{IsConfigOf, Scripted, IsReading}
 use Rattle.dm_replay.specs.Replay.{replay_from, script_text}
 
 -- why two configurations make no world, by what was asked
@@ -92,8 +92,9 @@ configured left right c d h g =
     subst Same (h.peer ∙ sym g.node.host) (own_equal (lower c.peer))
 
 -- the script that was read
-pub scripted : (text : List ℕ) (r : Result (Option Script) ScriptFault) (o : Option Script) (s : Script) → r ≡ Ok o
-    → o ≡ Some s → (r ≡ Err NoMemory) ⊎ Reads text r → Scripted text s
-scripted text r o s is some (inl e) = let both = sym is ∙ e in absurd (cc)
-scripted text r o s is some (inr h) = let Read : Result (Option Script) ScriptFault → Type 0 = λ v. Reads text v in
+pub script_was_read : (text : List ℕ) (r : Result (Option Script) ScriptFault) (o : Option Script) (s : Script)
+    → r ≡ Ok o → o ≡ Some s → (r ≡ Err NoMemory) ⊎ IsReading text r → Scripted text s
+script_was_read text r o s is some (inl e) = let both = sym is ∙ e in absurd (cc)
+script_was_read text r o s is some (inr h) =
+    let Read : Result (Option Script) ScriptFault → Type 0 = λ v. IsReading text v in
     subst Read (is ∙ ap Ok some) h

@@ -1,5 +1,9 @@
-pub mod Faults
+pub mod HappeningLines
+pub mod HostLines
+pub mod LinesSoFar
 pub mod OneReplay
-pub mod Read
+pub mod OneScript
+pub mod ReadScript
 pub mod Replay
-pub mod Text
+pub mod ReplayLines
+pub mod Scripts

@@ -14,19 +14,19 @@ use Rattle.dm_octet_peers.specs.Laws.{fresh_peer}
 use Rattle.dm_replay.specs.declared.fault.ScriptFault.{ScriptFault}
 use Rattle.dm_replay.specs.declared.fault.ScriptFault.TheVariants.{Syntax, SameHost, NoMemory}
 use Rattle.dm_replay.specs.declared.script.Script.{Script}
-use Rattle.dm_replay.specs.Read.{Reads}
-use Rattle.dm_replay.specs.Text.{trace_line, nolink_line, end_line}
+use Rattle.dm_replay.specs.ReadScript.{IsReading}
+use Rattle.dm_replay.specs.ReplayLines.{trace_line, nolink_line, end_line}
 
 -- a line before the others
-abbrev pub before : List ℕ → List ℕ × Bool → List ℕ × Bool
-before line rest = (line ++ rest.0, rest.1)
+abbrev pub put_before : List ℕ → List ℕ × Bool → List ℕ × Bool
+put_before line rest = (line ++ rest.0, rest.1)
 
 -- the line of happening n in a world, and then what is printed for the others in the world that it leaves; a link that
 -- isn't there ends the run
 abbrev pub and_then : ℕ → World Peer (List ℕ) → After Peer (List ℕ) → (World Peer (List ℕ) → List ℕ × Bool)
     → List ℕ × Bool
-and_then n w (Done next put) others = before (trace_line n effects.Done next) (others next)
-and_then n w Ignored others = before (trace_line n effects.Ignored w) (others w)
+and_then n w (Done next put) others = put_before (trace_line n effects.Done next) (others next)
+and_then n w Ignored others = put_before (trace_line n effects.Ignored w) (others w)
 and_then n w NoLink others = (nolink_line n, false)
 
 -- what is printed for these happenings in a world, the first with this number, and whether each names a link that is
@@ -52,4 +52,5 @@ text_of (Err NoMemory) = ([], false)
 
 -- what is printed for a text, and whether all of it was good
 abbrev pub ReplaysText : List ℕ → List ℕ → Bool → Type 0
-ReplaysText text out good = (read : Result (Option Script) ScriptFault) × Reads text read × ((out, good) ≡ text_of read)
+ReplaysText text out good =
+    (read : Result (Option Script) ScriptFault) × IsReading text read × ((out, good) ≡ text_of read)

@@ -2,13 +2,13 @@
 ghost use Rattle.std.specs.Prelude.{◌≡◌, true, IfOk};
 ghost use Rattle.dm_base.specs.Before.{lower};
 ghost use Rattle.dm_base.specs.Fit.{is_name};
-ghost use Rattle.dm_script.specs.Progress.{host_of};
-ghost use Rattle.dm_replay.specs.Read.{IsNodeOf, IsConfigOf};
+ghost use Rattle.dm_replay.specs.LinesSoFar.{host_of};
+ghost use Rattle.dm_replay.specs.ReadScript.{IsNodeOf, IsConfigOf};
 
+use crate::host_line::HostLine;
 use dm_base::Node;
 use dm_dict::Ip;
 use dm_peer::{Config, ConfigFault};
-use dm_script::HostLine;
 use std::alloc::{AllocError, Global};
 
 /// The node of a peer.

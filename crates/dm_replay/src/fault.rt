@@ -1,8 +1,7 @@
 //! Why there is no script.
 ghost use Rattle.std.specs.Prelude.{◌≡◌};
 
-use dm_script::LinesFault;
-use std::alloc::AllocError;
+use std::alloc::{AllocError, AllocFailed};
 use thiserror::Error;
 
 /// Why a text is no script.
@@ -29,15 +28,12 @@ impl From<AllocError> for ScriptFault {
     }
 }
 
-impl From<LinesFault> for ScriptFault {
-    ghost use Rattle.dm_replay.specs.Faults.{fault_of};
+impl<T: Drop> From<AllocFailed<T>> for ScriptFault {
+    ghost use Rattle.dm_replay.specs.declared.fault.ScriptFault.TheVariants.{NoMemory};
 
-    ghost from_gives = { λ lines fault. fault ≡ fault_of lines };
+    ghost from_gives = { λ _ fault. fault ≡ NoMemory };
 
-    fn from(fault: LinesFault) -> ScriptFault {
-        match fault {
-            LinesFault::Syntax(line) => ScriptFault::Syntax(line),
-            LinesFault::NoMemory => ScriptFault::NoMemory,
-        }
+    fn from(_e: AllocFailed<T>) -> ScriptFault {
+        ScriptFault::NoMemory
     }
 }

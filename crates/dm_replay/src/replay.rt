@@ -1,24 +1,25 @@
 //! A script, replayed.
-ghost use Rattle.std.specs.Prelude.{◌≡◌, ◌++◌, ◌∷◌, [], true, false, codes, IfOk, OnOk, Ok, Err, Some, None, Option, Result};
+ghost use Rattle.std.specs.Prelude.{◌≡◌, ◌++◌, ◌∷◌, [], true, false, codes, IfOk, OnOk, Ok, Err, Some, None};
+ghost use Rattle.std.specs.Prelude.{Option, Result};
 ghost use Rattle.dm_peer.specs.Hosts.{is_same_host};
 ghost use Rattle.dm_replay.specs.declared.fault.ScriptFault.{ScriptFault};
 ghost use Rattle.dm_replay.specs.declared.script.Script.{Script};
 ghost use Rattle.dm_replay.specs.Replay.{replay_from, script_text, text_of, ReplaysText};
 
 use crate::fault::ScriptFault;
-use crate::lines::{push_end, push_nolink, push_trace};
-use crate::read::read_script;
+use crate::replay_lines::{push_end, push_nolink, push_trace};
 use crate::script::Script;
+use crate::whole_script::read_script;
 use dm_dict::NoMemory;
 use dm_text::push_syntax_fault;
 use dm_world::{Happening, NewFault, World, WorldFault};
 use std::alloc::Global;
 
-/// The text of a replay: of each happening of the script that the text is, what became of it, and what stands at the end. And
-/// whether all of it was good.
+/// The text of a replay: of each happening of the script that the text is, what became of it, and what stands at the
+/// end. And whether all of it was good.
 ///
-/// The script is read whole before its first happening. A text that is no script, or whose peers have no application in common,
-/// has its fault as text alone. A happening that names a link that isn't there ends the run.
+/// The script is read whole before its first happening. A text that is no script, or whose peers have no application in
+/// common, has its fault as text alone. A happening that names a link that isn't there ends the run.
 pub fn replay_text(alloc: Global, text: &[u8]) -> Result<(Vec<u8>, bool), NoMemory>
     ensures { IfOk result (λ r. ReplaysText text.now r.0.items r.1) }
 {

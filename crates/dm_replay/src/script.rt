@@ -1,5 +1,5 @@
 //! Scripts.
-use crate::list::HappeningList;
+use crate::happening_list::HappeningList;
 use dm_peer::Config;
 
 /// A script: the configurations of two peers, and what happens to them.

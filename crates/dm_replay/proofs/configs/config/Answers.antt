@@ -1,4 +1,4 @@
-use Rattle.dm_replay.proofs.Hosts.{no_fault}
+use Rattle.dm_replay.proofs.SameHosts.{no_fault}
 use Rattle.dm_replay.proofs.configs.config.Goals as goal
 
 pub unreachable-requires : goal.unreachable-requires

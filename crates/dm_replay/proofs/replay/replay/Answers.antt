@@ -2,9 +2,9 @@ use Rattle.std.proofs.Common.{◌+◌, ◌-◌, length, take, drop, arith, ap, s
 use Rattle.dm_two_peers.specs.Happens.{happens}
 use Rattle.dm_octet_peers.specs.Octets.{octet_peers}
 use Rattle.dm_world.specs.Happening.{as_happening}
-use Rattle.dm_replay.specs.Text.{trace_line}
+use Rattle.dm_replay.specs.ReplayLines.{trace_line}
 use Rattle.dm_replay.specs.Replay.{replay_from}
-use Rattle.dm_replay.proofs.Steps.{effect_line, go_on, cut_first}
+use Rattle.dm_replay.proofs.NextHappening.{effect_line, go_on, cut_first}
 use Rattle.dm_replay.proofs.replay.replay.Goals as goal
 
 pub script-preserved : goal.script-preserved

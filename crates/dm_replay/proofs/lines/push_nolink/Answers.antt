@@ -1,7 +1,0 @@
-use Rattle.std.proofs.Common.{append_assoc}
-use Rattle.dm_replay.specs.Text.{nolink_line}
-use Rattle.dm_replay.proofs.lines.push_nolink.Goals as goal
-
-pub returns : goal.returns
-unfolding nolink_line
-returns c = rw (c.in_ok-extend_from_slice.ensures.items, c.in_ok-push_decimal.ensures) (simp append_assoc)

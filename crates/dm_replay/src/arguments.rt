@@ -1,0 +1,180 @@
+//! The words behind a happening's verb.
+ghost use Rattle.std.specs.Prelude.{◌≡◌, ◌∷◌, [], ℕ, List, IfSome, IfNone};
+ghost use Rattle.dm_text.specs.Words.{words};
+ghost use Rattle.dm_text.specs.Numbers.{TellsNumber, TellsLongNumber};
+ghost use Rattle.dm_base.specs.declared.kind.Cause.{Cause};
+ghost use Rattle.dm_world.specs.declared.side.Side.{Side};
+ghost use Rattle.dm_base.specs.Built.{cause_number};
+ghost use Rattle.dm_replay.specs.HappeningLines.{side_name};
+
+use dm_base::Cause;
+use dm_text::{Words, read_long_number, read_number};
+use dm_world::Side;
+
+/// The side that a word names.
+pub fn read_side(word: &[u8]) -> Option<Side>
+    ensures told { IfSome result (λ side. word.now ≡ side_name side) }
+    ensures none { IfNone result ((side : Side) → word.now ≡ side_name side → ⊥) }
+{
+    match word {
+        b"A" => Some(Side::A),
+        b"B" => Some(Side::B),
+        _ => None,
+    }
+}
+
+/// The cause whose number a word tells.
+fn read_cause(word: &[u8]) -> Option<Cause>
+    ensures told { IfSome result (λ cause. TellsNumber (cause_number cause) word.now) }
+    ensures none { IfNone result ((cause : Cause) → TellsNumber (cause_number cause) word.now → ⊥) }
+{
+    match read_number(word)? {
+        0 => Some(Cause::Rebooting),
+        1 => Some(Cause::Busy),
+        2 => Some(Cause::DoNotWantToTalkToYou),
+        _ => None,
+    }
+}
+
+/// The side that the next word names.
+pub fn next_side(left: &mut Words<'_>) -> Option<Side>
+    ensures told { IfSome result (λ side. words left.old ≡ side_name side ∷ words left.new) }
+    ensures none { IfNone result ((side : Side) (more : List (List ℕ)) → words left.old ≡ side_name side ∷ more → ⊥) }
+{
+    read_side(left.next()?)
+}
+
+/// The number of a link that the next word tells.
+fn next_link(left: &mut Words<'_>) -> Option<u64>
+    ensures told { IfSome result (λ n. (number : List ℕ) × (words left.old ≡ number ∷ words left.new)
+        × TellsLongNumber n number) }
+    ensures none { IfNone result ((n : ℕ) (number : List ℕ) (more : List (List ℕ)) → words left.old ≡ number ∷ more
+        → TellsLongNumber n number → ⊥) }
+{
+    read_long_number(left.next()?)
+}
+
+/// The number that the next word tells.
+pub fn next_number(left: &mut Words<'_>) -> Option<u32>
+    ensures told { IfSome result (λ n. (number : List ℕ) × (words left.old ≡ number ∷ words left.new)
+        × TellsNumber n number) }
+    ensures none { IfNone result ((n : ℕ) (number : List ℕ) (more : List (List ℕ)) → words left.old ≡ number ∷ more
+        → TellsNumber n number → ⊥) }
+{
+    read_number(left.next()?)
+}
+
+/// A side alone.
+pub fn side_alone(left: &mut Words<'_>) -> Option<Side>
+    ensures told { IfSome result (λ side. words left.old ≡ side_name side ∷ []) }
+    ensures none { IfNone result ((side : Side) → words left.old ≡ side_name side ∷ [] → ⊥) }
+{
+    let side = next_side(left)?;
+    if left.next().is_some() {
+        return None;
+    }
+    Some(side)
+}
+
+/// A side and a cause.
+pub fn side_and_cause(left: &mut Words<'_>) -> Option<(Side, Cause)>
+    ensures told { IfSome result (λ r. (number : List ℕ) × (words left.old ≡ side_name r.0 ∷ number ∷ [])
+        × TellsNumber (cause_number r.1) number) }
+    ensures none { IfNone result ((side : Side) (cause : Cause) (number : List ℕ)
+        → words left.old ≡ side_name side ∷ number ∷ [] → TellsNumber (cause_number cause) number → ⊥) }
+{
+    let (side, word) = side_and_word(left)?;
+    let cause = read_cause(word)?;
+    Some((side, cause))
+}
+
+/// A link alone.
+pub fn link_alone(left: &mut Words<'_>) -> Option<u64>
+    ensures told { IfSome result (λ n. (number : List ℕ) × (words left.old ≡ number ∷ []) × TellsLongNumber n number) }
+    ensures none { IfNone result ((n : ℕ) (number : List ℕ) → words left.old ≡ number ∷ []
+        → TellsLongNumber n number → ⊥) }
+{
+    let link = next_link(left)?;
+    if left.next().is_some() {
+        return None;
+    }
+    Some(link)
+}
+
+/// A link and a side.
+pub fn link_and_side(left: &mut Words<'_>) -> Option<(u64, Side)>
+    ensures told { IfSome result (λ r. (number : List ℕ) × (words left.old ≡ number ∷ side_name r.1 ∷ [])
+        × TellsLongNumber r.0 number) }
+    ensures none { IfNone result ((n : ℕ) (side : Side) (number : List ℕ)
+        → words left.old ≡ number ∷ side_name side ∷ [] → TellsLongNumber n number → ⊥) }
+{
+    let link = next_link(left)?;
+    let side = side_alone(left)?;
+    Some((link, side))
+}
+
+/// A side and a number.
+fn side_and_number(left: &mut Words<'_>) -> Option<(Side, u32)>
+    ensures told { IfSome result (λ r. (a : List ℕ) × (words left.old ≡ side_name r.0 ∷ a ∷ []) × TellsNumber r.1 a) }
+    ensures none { IfNone result ((side : Side) (n : ℕ) (a : List ℕ) → words left.old ≡ side_name side ∷ a ∷ []
+        → TellsNumber n a → ⊥) }
+{
+    let side = next_side(left)?;
+    let number = next_number(left)?;
+    if left.next().is_some() {
+        return None;
+    }
+    Some((side, number))
+}
+
+/// A link, a side and a number.
+pub fn link_side_and_number(left: &mut Words<'_>) -> Option<(u64, Side, u32)>
+    ensures told { IfSome result (λ r. (number a : List ℕ) × (words left.old ≡ number ∷ side_name r.1 ∷ a ∷ [])
+        × TellsLongNumber r.0 number × TellsNumber r.2 a) }
+    ensures none { IfNone result ((m : ℕ) (side : Side) (n : ℕ) (number a : List ℕ)
+        → words left.old ≡ number ∷ side_name side ∷ a ∷ [] → TellsLongNumber m number → TellsNumber n a → ⊥) }
+{
+    let link = next_link(left)?;
+    let (side, number) = side_and_number(left)?;
+    Some((link, side, number))
+}
+
+/// Two numbers.
+fn two_numbers(left: &mut Words<'_>) -> Option<(u32, u32)>
+    ensures told { IfSome result (λ r. (a b : List ℕ) × (words left.old ≡ a ∷ b ∷ []) × TellsNumber r.0 a
+        × TellsNumber r.1 b) }
+    ensures none { IfNone result ((n k : ℕ) (a b : List ℕ) → words left.old ≡ a ∷ b ∷ [] → TellsNumber n a
+        → TellsNumber k b → ⊥) }
+{
+    let first = next_number(left)?;
+    let second = next_number(left)?;
+    if left.next().is_some() {
+        return None;
+    }
+    Some((first, second))
+}
+
+/// A link and two numbers.
+pub fn link_and_numbers(left: &mut Words<'_>) -> Option<(u64, u32, u32)>
+    ensures told { IfSome result (λ r. (number a b : List ℕ) × (words left.old ≡ number ∷ a ∷ b ∷ [])
+        × TellsLongNumber r.0 number × TellsNumber r.1 a × TellsNumber r.2 b) }
+    ensures none { IfNone result ((m n k : ℕ) (number a b : List ℕ) → words left.old ≡ number ∷ a ∷ b ∷ []
+        → TellsLongNumber m number → TellsNumber n a → TellsNumber k b → ⊥) }
+{
+    let link = next_link(left)?;
+    let (first, second) = two_numbers(left)?;
+    Some((link, first, second))
+}
+
+/// A side and one word more.
+pub fn side_and_word<'a>(left: &mut Words<'a>) -> Option<(Side, &'a [u8])>
+    ensures told { IfSome result (λ r. words left.old ≡ side_name r.0 ∷ r.1.now ∷ []) }
+    ensures none { IfNone result ((side : Side) (word : List ℕ) → words left.old ≡ side_name side ∷ word ∷ [] → ⊥) }
+{
+    let side = next_side(left)?;
+    let word = left.next()?;
+    if left.next().is_some() {
+        return None;
+    }
+    Some((side, word))
+}

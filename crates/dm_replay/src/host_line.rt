@@ -1,0 +1,66 @@
+//! The lines of the two peers.
+ghost use Rattle.std.specs.Prelude.{◌≡◌, ◌∷◌, [], ℕ, List, codes, true, IfSome, IfNone};
+ghost use Rattle.dm_text.specs.Words.{words};
+ghost use Rattle.dm_text.specs.Numbers.{TellsNumber};
+ghost use Rattle.dm_base.specs.Fit.{is_name};
+ghost use Rattle.dm_replay.specs.HappeningLines.{side_name};
+ghost use Rattle.dm_replay.specs.HostLines.{Host, TellsHost};
+
+use crate::arguments::{next_number, next_side};
+use dm_base::is_name;
+use dm_text::Words;
+use dm_world::Side;
+
+/// What a script says of a peer: its host and its application.
+#[derive(Clone, Copy, Debug)]
+pub struct HostLine<'a> {
+    /// Its host.
+    pub host: &'a [u8],
+    /// The id of its one application.
+    pub application: u32,
+}
+
+/// What a line says of the peer of this side.
+pub fn read_host_line(side: Side, line: &[u8]) -> Option<HostLine<'_>>
+    ensures told { IfSome result (λ r.
+        TellsHost side (record { host = r.host.now; application = r.application }) line.now) }
+    ensures none { IfNone result ((h : Host) → TellsHost side h line.now → ⊥) }
+{
+    let mut left = Words::new(line);
+    begin(&mut left, side)?;
+    let (host, application) = host_and_number(&mut left)?;
+    if !is_name(host) {
+        return None;
+    }
+    Some(HostLine { host, application })
+}
+
+/// The words `peer` and the side's name.
+fn begin(left: &mut Words<'_>, side: Side) -> Option<()>
+    ensures told { IfSome result (λ _. words left.old ≡ codes "peer" ∷ side_name side ∷ words left.new) }
+    ensures none { IfNone result ((more : List (List ℕ)) → words left.old ≡ codes "peer" ∷ side_name side ∷ more → ⊥) }
+{
+    if left.next()? != b"peer".as_slice() {
+        return None;
+    }
+    let named = next_side(left)?;
+    if named != side {
+        return None;
+    }
+    Some(())
+}
+
+/// A host and a number.
+fn host_and_number<'a>(left: &mut Words<'a>) -> Option<(&'a [u8], u32)>
+    ensures told { IfSome result (λ r. (number : List ℕ) × (words left.old ≡ r.0.now ∷ number ∷ [])
+        × TellsNumber r.1 number) }
+    ensures none { IfNone result ((host number : List ℕ) (n : ℕ) → words left.old ≡ host ∷ number ∷ []
+        → TellsNumber n number → ⊥) }
+{
+    let host = left.next()?;
+    let number = next_number(left)?;
+    if left.next().is_some() {
+        return None;
+    }
+    Some((host, number))
+}
