@@ -72,8 +72,8 @@ unheld_is machine.ClosingAsR e = cc
 -- what an event doesn't concern it doesn't name
 unless_named : (b : Bool) (k : Concern) (told : machine.Concern) → (k ≡ Elsewhere → ⊥) →
     (if b then k else Elsewhere) ≡ Elsewhere → not (is_named (machine.if_named b told)) ≡ true
-unless_named true k told no e = absurd (no e)
-unless_named false k told no e = refl
+unless_named true k told other e = absurd (other e)
+unless_named false k told other e = refl
 
 elsewhere_is : (e : Event (List ℕ)) (w : Word) (c : Conn) → concern_by e c ≡ Elsewhere →
     not (is_named (machine.concern_of (input_told e w) c)) ≡ true
