@@ -3,6 +3,7 @@ pub mod CanonicalOctets
 pub mod Contents
 pub mod Decided
 pub mod DecidedLines
+pub mod DictionaryFaults
 pub mod Dividing
 pub mod Joins
 pub mod Known
