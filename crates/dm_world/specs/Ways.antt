@@ -1,5 +1,5 @@
 -- What goes into a direction, and what leaves it.
-use Rattle.std.specs.Prelude.{ℕ, ◌+◌, List, [], ◌∷◌, drop}
+use Rattle.std.specs.Prelude.{ℕ, ◌+◌, List, [], ◌∷◌}
 use Rattle.dm_two_peers.specs.Links.{Direction, LinkPhase, Up, NoMark, Coming, Delivered}
 use Rattle.dm_two_peers.specs.Links as links
 use Rattle.dm_two_peers.specs.Steps.{added, marked}
@@ -18,10 +18,6 @@ with_message m d = record { messages = added Up d.mark (m ∷ []) d.messages; ta
 -- a disconnect is put in, where none is
 abbrev pub with_disconnect : Direction (List ℕ) → Direction (List ℕ)
 with_disconnect d = record { messages = d.messages; taken = d.taken; mark = marked d.mark }
-
--- the front message has left
-abbrev pub without_front : Direction (List ℕ) → Direction (List ℕ)
-without_front d = record { messages = drop 1 d.messages; taken = 0; mark = d.mark }
 
 -- the disconnect has left
 abbrev pub with_disconnect_delivered : Direction (List ℕ) → Direction (List ℕ)

@@ -6,9 +6,10 @@ ghost use Rattle.dm_framer.specs.Frames.{IsFrame};
 ghost use Rattle.dm_two_peers.specs.Happens.{whole_in, lost, next_in};
 ghost use Rattle.dm_two_peers.specs.Links.{empty_direction};
 ghost use Rattle.dm_two_peers.specs.Quiet.{is_still};
+ghost use Rattle.dm_two_peers.specs.Steps.{without_front};
 ghost use Rattle.dm_world.specs.Fed.{holding, octets_to_come};
 ghost use Rattle.dm_world.specs.Next.{next_kind};
-ghost use Rattle.dm_world.specs.Ways.{with_message, with_disconnect, with_taken, without_front, as_mark};
+ghost use Rattle.dm_world.specs.Ways.{with_message, with_disconnect, with_taken, as_mark};
 ghost use Rattle.dm_world.specs.Ways.{with_disconnect_delivered};
 
 use dm_dict::NoMemory;
