@@ -1,4 +1,4 @@
--- A peer sends on the links that it holds_link, and on the one that the event names.
+-- A peer sends on the links that it holds, and on the one that the event names.
 use Rattle.std.proofs.Common.{◌≡◌, ℕ, suc, ◌≤◌, Bool, true, false, not, ◌&&◌, ◌||◌, ◌==◌, if◌then◌else◌, List, [], ◌∷◌, length, map, refl, sym, ap, subst, ◌∙◌, inl, inr, arith}
 use Rattle.std.specs.Prelude.{◌⊎◌, IsTrue, nat_le}
 use Rattle.std.proofs.lemmas.Bool.Decides.{nat_tests}

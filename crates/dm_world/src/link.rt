@@ -43,7 +43,7 @@ pub(crate) enum End {
     Shut,
 }
 
-/// A link. The near end is the opener's.
+/// A link: its two ends, the end of its opener and the other one, and a direction to each.
 #[derive(Debug, Drop)]
 pub(crate) struct Link {
     pub(crate) opener: Side,
