@@ -1,4 +1,5 @@
--- The numbers of the base messages (RFC 6733, 3.1, 4.5 and 7.1), and own limits: those that the code names.
+-- The numbers of the base messages (RFC 6733, 3.1, 4.5 and 7.1), as the code names them, and own limits, which are
+-- numbers of their own, so that a constant of the code has to be right.
 use Rattle.std.specs.Prelude.{ℕ}
 use Rattle.dm_wire.specs.declared.codes.commands.TheConstants.{CAPABILITIES_EXCHANGE, DEVICE_WATCHDOG, DISCONNECT_PEER}
 use Rattle.dm_wire.specs.declared.codes.avps.TheConstants.{DISCONNECT_CAUSE, RESULT_CODE}
@@ -14,10 +15,6 @@ pub use Rattle.dm_wire.specs.declared.codes.avps.TheConstants.{PRODUCT_NAME as p
 pub use Rattle.dm_wire.specs.declared.codes.avps.TheConstants.{VENDOR_SPECIFIC_APPLICATION_ID as vendor_specific_application_id}
 -- the Application-ID of a relay, and the Inband-Security-Id of a connection without security
 pub use Rattle.dm_base.specs.declared.codes.TheConstants.{RELAY as relay, NO_INBAND_SECURITY as no_inband_security}
--- own limits
-pub use Rattle.dm_base.specs.declared.limits.TheConstants.{MAX_NAME_LEN as max_name_len, MAX_IDS as max_ids}
-pub use Rattle.dm_base.specs.declared.limits.TheConstants.{MAX_ADDRESSES as max_addresses}
-pub use Rattle.dm_base.specs.declared.limits.TheConstants.{LONGEST_FAILED as longest_failed}
 
 -- What crates above cite is defined here, since what a file hands on isn't exported.
 
@@ -41,3 +38,17 @@ result_code = RESULT_CODE
 -- the Result-Code DIAMETER_SUCCESS
 abbrev pub success : ℕ
 success = SUCCESS
+
+-- Own limits: the octets of a host, a realm or a product; the addresses of a node; its ids of one kind of application;
+-- the AVP Length of a failed AVP that is handed back
+abbrev pub max_name_len : ℕ
+max_name_len = 255
+
+abbrev pub max_addresses : ℕ
+max_addresses = 64
+
+abbrev pub max_ids : ℕ
+max_ids = 256
+
+abbrev pub longest_failed : ℕ
+longest_failed = 4096

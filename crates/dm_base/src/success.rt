@@ -3,7 +3,7 @@ ghost use Rattle.std.specs.Prelude.{◌≡◌, ◌⊎◌, ◌↔◌, ◌<◌, �
 ghost use Rattle.dm_wire.specs.declared.fault.WireFault.{WireFault};
 ghost use Rattle.dm_wire.specs.Borrowed.{avp_of};
 ghost use Rattle.dm_wire.specs.Canonical.{canonical_list, canonical_message};
-ghost use Rattle.dm_wire.specs.declared.codes.limits.TheConstants.{MAX_COMMAND as max_command};
+ghost use Rattle.dm_wire.specs.Codes.{max_command};
 ghost use Rattle.dm_base.specs.Spelled.{IsSpelledBy};
 ghost use Rattle.dm_base.specs.Codes.{success};
 ghost use Rattle.dm_base.specs.Built.{avp, origin, result_avp, built_answer};
