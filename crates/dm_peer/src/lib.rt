@@ -24,4 +24,5 @@ pub use dm_base::{Cause, Node};
 pub use dm_machine::{Command, Commands, Conn, Core, Input, Refusal, State, Word, step};
 pub use events::Event;
 pub use fault::{ConfigFault, PeerFault};
+pub use message::{read_message, sent_octets};
 pub use peer::Peer;

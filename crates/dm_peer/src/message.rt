@@ -11,8 +11,8 @@ use dm_wire::laws::{message_in_spells, no_message_refused};
 use dm_wire::{Message, MessageRef, Octets};
 use std::alloc::Global;
 
-/// The message that the octets spell, where they spell one. It takes no memory.
-pub(crate) fn read_message(octets: &[u8]) -> Option<MessageRef<'_>>
+/// The message that the octets spell, where they spell one (RFC 6733, 3). It takes no memory.
+pub fn read_message(octets: &[u8]) -> Option<MessageRef<'_>>
     ensures { MatchOption result
         (message_in octets.now ≡ None)
         (λ read. (l : List Avp) × SpellsList l read.rest.now
@@ -28,7 +28,7 @@ pub(crate) fn read_message(octets: &[u8]) -> Option<MessageRef<'_>>
 
 /// The octets that the message is sent as; or want of memory.
 #[tactic(auto, unfolding(crate::specs::Octets::octets_of))]
-pub(crate) fn sent_octets(alloc: Global, message: &Message) -> Result<Octets, NoMemory>
+pub fn sent_octets(alloc: Global, message: &Message) -> Result<Octets, NoMemory>
     ensures { IfOk result (λ octets. octets ≡ octets_of message.now) }
 {
     match message.encode(alloc) {

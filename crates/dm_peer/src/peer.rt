@@ -83,6 +83,13 @@ impl Peer {
         Ok(actions)
     }
 
+    /// The configuration. It takes no memory.
+    pub fn config(&self) -> &Config
+        ensures { result.now ≡ self.now.config }
+    {
+        &self.config
+    }
+
     /// The state. It takes no memory.
     pub fn state(&self) -> State
         ensures value { result ≡ self.now.standing.core.state }
