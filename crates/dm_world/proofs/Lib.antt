@@ -13,6 +13,7 @@ pub mod Hearing
 pub mod Deliveries
 pub mod Happenings
 pub mod Runs
+pub mod Pasts
 pub mod Paired
 pub mod Anew
 pub mod Restarts

@@ -49,7 +49,7 @@ map_snoc : (list : List declared_happening.Happening) (h : declared_happening.Ha
 map_snoc [] h = refl
 map_snoc (x ∷ list) h = ap (λ z. as_happening x ∷ z) (map_snoc list h)
 
-ran_snoc : (outcome : Effect) (w v v' : OctetWorld) (list : List declared_happening.Happening)
+pub ran_snoc : (outcome : Effect) (w v v' : OctetWorld) (list : List declared_happening.Happening)
     (h : declared_happening.Happening) → RanTo w list v →
     Effects outcome (happens octet_peers v (as_happening h)) v v' → RanTo w (list ++ h ∷ []) v'
 ran_snoc effect.Done w v v' list h ran step = (

@@ -12,6 +12,7 @@ pub mod Next
 pub mod Happening
 pub mod New
 pub mod Settling
+pub mod Delivering
 pub mod Ends
 pub mod Kept
 pub mod WorldOf

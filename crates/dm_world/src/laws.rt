@@ -1,4 +1,5 @@
 //! Laws of worlds. They stand for users, as the premises of the laws of dm_two_peers and dm_octet_peers.
+ghost use Rattle.dm_world.specs.Delivering.{HasPast};
 ghost use Rattle.dm_world.specs.Kept.{IsWorldKept};
 
 use crate::World;
@@ -7,6 +8,13 @@ use crate::World;
 /// octets are delivered of a front message than it has.
 pub fn every_world_is_kept(world: &World)
     ensures { IsWorldKept world.now }
+{
+    let _kept = &world.made;
+}
+
+/// Every world has a past: two new peers, and the happenings that led them to it.
+pub fn every_world_has_a_past(world: &World)
+    ensures { HasPast world.now }
 {
     let _kept = &world.made;
 }

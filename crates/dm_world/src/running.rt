@@ -1,12 +1,16 @@
 //! Happenings one after the other, and what is promised of every list of them.
-ghost use Rattle.std.specs.Prelude.{◌≡◌, IsTrue, IfSome, None, take, length, slice_get};
+ghost use Rattle.std.specs.Prelude.{◌≡◌, ℕ, List, ◌++◌, IsTrue, IfSome, None, take, length, slice_get};
+ghost use Rattle.dm_peer.specs.declared.config.Config as declared_config;
 ghost use Rattle.dm_two_peers.specs.Agreement.{Agreed, EndsAreHeld, HeldAreLinks, OpenIsMatched};
 ghost use Rattle.dm_two_peers.specs.Joining.{AreJoined};
+ghost use Rattle.dm_two_peers.specs.Links.{Side};
 ghost use Rattle.dm_two_peers.specs.Quiet.{is_quiet};
 ghost use Rattle.dm_two_peers.specs.Sharing.{AreShared};
 ghost use Rattle.dm_two_peers.specs.Streams.{AreCut};
 ghost use Rattle.dm_octet_peers.specs.Laws.{AreClosed};
 ghost use Rattle.dm_octet_peers.specs.Octets.{octet_peers};
+ghost use Rattle.dm_world.specs.declared.happening.Happening as declared_happening;
+ghost use Rattle.dm_world.specs.Delivering.{IsPast, Delivers};
 ghost use Rattle.dm_world.specs.Settling.{AreClean, EitherCanOpen};
 ghost use Rattle.dm_world.specs.Settling.{RanTo, RunSettles, RunFallsQuiet, RunCanFallQuiet};
 ghost use Rattle.dm_world.specs.Views.{IsEnd};
@@ -14,8 +18,8 @@ ghost use Rattle.dm_world.specs.Views.{IsEnd};
 use crate::laws::every_world_is_kept;
 use crate::{Happening, World, WorldFault};
 use dm_octet_peers::laws::{
-    each_octet_run_can_fall_quiet, each_octet_run_falls_quiet, each_octet_run_settles,
-    each_octet_world_can_open, octet_quiet_is_joined,
+    each_octet_run_can_fall_quiet, each_octet_run_delivers, each_octet_run_falls_quiet,
+    each_octet_run_settles, each_octet_world_can_open, octet_quiet_is_joined,
 };
 use dm_peer::Peer;
 use dm_two_peers::laws::{quiet_is_shared, sound_is_promised};
@@ -35,6 +39,12 @@ impl World {
     /// both sides can restart, and after some deliveries a Start of either side, the Ack and two deliveries open both.
     /// Such a list exists, which isn't to say that peers take it by themselves.
     ///
+    /// Since the world was new, losses and restarts too, what was handed up to a side on a link is a front of what the
+    /// other side submitted on it: each message once, in order, octet for octet, and nothing else. Where the side is open
+    /// on the link and the link was never lost, the rest is what is under way. It is said of each past of the world
+    /// before, two new peers and the happenings that led them to it (`laws::every_world_has_a_past`), and then of the past
+    /// with what was applied here.
+    ///
     /// Where both were Closed with nothing under way, and only Starts, connects that come about, deliveries and pieces
     /// happen, at most two CERs, one CEA and two disconnects are put in, on their links and in their order; and where
     /// it falls quiet after a Start that was taken, all of these were put in, and both are open on the connection that
@@ -53,6 +63,11 @@ impl World {
         ensures joined { IsTrue (is_quiet self.new) →
             AreJoined (octet_peers.node_of self.new.a) (octet_peers.node_of self.new.b) }
         ensures can_open { EitherCanOpen self.new }
+        ensures past { (a b : declared_config.Config) (past : List declared_happening.Happening) →
+            IsPast self.old a b past → IsPast self.new a b (past ++ take result.0 list.now) }
+        ensures delivers { (a b : declared_config.Config) (past : List declared_happening.Happening) →
+            IsPast self.old a b past →
+            (t : Side) (c : ℕ) → Delivers a b (past ++ take result.0 list.now) self.new t c }
         ensures settled { AreClosed self.old → AreClean (take result.0 list.now) →
             RunSettles self.old (take result.0 list.now) }
         ensures falls_quiet { AreClosed self.old → AreClean (take result.0 list.now) →
@@ -64,6 +79,7 @@ impl World {
     {
         sound_is_promised::<Peer, Octets>();
         quiet_is_shared::<Peer, Octets>();
+        each_octet_run_delivers();
         each_octet_run_settles();
         each_octet_run_falls_quiet();
         each_octet_run_can_fall_quiet();

@@ -10,10 +10,12 @@ use Rattle.dm_two_peers.specs.Links.{A}
 use Rattle.dm_octet_peers.specs.Laws.{fresh_peer}
 use Rattle.dm_octet_peers.specs.Octets.{octet_peers}
 use Rattle.dm_octet_peers.specs.Talking.{ArePeers}
+use Rattle.dm_world.specs.Delivering.{HasPast}
 use Rattle.dm_world.specs.Ends.{AreNamed}
 use Rattle.dm_world.specs.Seen.{as_links}
 use Rattle.dm_world.proofs.Named.{none_named}
 use Rattle.dm_world.proofs.Paired.{no_fault_pairs}
+use Rattle.dm_world.proofs.Pasts.{new_past}
 use Rattle.dm_world.proofs.world.World.new.Goals as goal
 
 abbrev the_peer : Config → Standing → Peer
@@ -44,5 +46,8 @@ invariant_of-result c =
         peers = subst (λ ls. ArePeers (record { a = a; b = b; links = as_links ls })) is made;
         cut = subst (λ ls. AreCut octet_peers (record { a = a; b = b; links = as_links ls })) is (λ k l is. cc);
       };
+      past = subst (λ ls. HasPast (record { a = a; b = b; links = as_links ls })) is
+          (new_past c.args.a c.args.b (world_of a b) (ap (λ p. world_of p b) (sym left)
+          ∙ ap (λ p. world_of (fresh_peer c.args.a) p) (sym right)));
       named = subst (λ ls. AreNamed c.new-4.result (as_links ls)) is (none_named c.new-4.result);
     }

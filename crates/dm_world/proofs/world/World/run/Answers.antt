@@ -1,6 +1,8 @@
-use Rattle.std.proofs.Common.{map, take}
+use Rattle.std.proofs.Common.{◌++◌, map, take}
 use Rattle.dm_octet_peers.specs.Octets.{octet_peers}
 use Rattle.dm_world.specs.Happening.{as_happening}
+use Rattle.dm_world.specs.Delivering.{new_world}
+use Rattle.dm_world.proofs.Pasts.{past_goes_on, past_delivers}
 use Rattle.dm_world.proofs.world.World.run.Goals as goal
 
 pub returns-clause-ends : goal.returns-clause-ends
@@ -27,6 +29,18 @@ pub returns-clause-can_open : goal.returns-clause-can_open
 returns-clause-can_open c =
     c.each_octet_world_can_open.ensures c.apply_each-ended.new.self c.every_world_is_kept-2.ensures.sound
     c.every_world_is_kept-2.ensures.peers
+
+pub returns-clause-past : goal.returns-clause-past
+returns-clause-past c a b past is =
+    past_goes_on (new_world a b) c.args.self.now c.apply_each-ended.new.self past
+    (take c.apply_each-ended.result.0 c.args.list.now) is c.apply_each-ended.ensures.ran
+
+pub returns-clause-delivers : goal.returns-clause-delivers
+returns-clause-delivers c a b past is =
+    let now = take c.apply_each-ended.result.0 c.args.list.now in
+    past_delivers c.each_octet_run_delivers.ensures a b (past ++ now) c.apply_each-ended.new.self
+    (past_goes_on (new_world a b) c.args.self.now c.apply_each-ended.new.self past now is
+    c.apply_each-ended.ensures.ran)
 
 pub returns-clause-settled : goal.returns-clause-settled
 returns-clause-settled c closed clean =
