@@ -1,7 +1,11 @@
 -- The octets that hexadecimal digits stand for.
-use Rattle.std.specs.Prelude.{ℕ, not, nat_eq, filter, Option, List}
+use Rattle.std.specs.Prelude.{ℕ, not, nat_eq, filter, Option, unwrap_or, List}
 use Rattle.std.specs.Result.{result_ok}
-use Rattle.hex.specs.Hex.{decode_of}
+use Rattle.hex.specs.Hex.{decode_of, hex_digit_value}
+
+-- the value of a digit in either case; 255 where the octet is none
+abbrev pub digit_worth : ℕ → ℕ
+digit_worth octet = unwrap_or (hex_digit_value octet) 255
 
 -- the octets that a word stands for, where it is an even number of digits in either case
 abbrev pub word_octets : List ℕ → Option (List ℕ)

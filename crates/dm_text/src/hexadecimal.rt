@@ -1,12 +1,13 @@
 //! Octets in hexadecimal.
-ghost use Rattle.std.specs.Prelude.{◌≡◌, ◌≤◌, Some, length, OnOk, IfOk};
+ghost use Rattle.std.specs.Prelude.{◌≡◌, ◌≤◌, ◌*◌, true, Some, None, length, if◌then◌else◌, OnOk, IfOk};
 ghost use Rattle.std.specs.Fmt.{WritesOnOk};
 ghost use Rattle.std.specs.Option.{option_map};
 ghost use Rattle.hex.specs.Hex.{encode_lower};
 ghost use Rattle.dm_text.specs.Hexadecimal.{without_spaces, word_octets, line_octets};
 ghost use Rattle.dm_text.specs.declared.hexadecimal.TheConstants.{OCTETS_AT_ONCE as octets_at_once};
 
-use hex::FromHexError;
+use crate::digit::digit_worth;
+use memchr::memchr;
 use std::alloc::{AllocError, Global};
 use std::{fmt, str};
 
@@ -19,11 +20,28 @@ const OCTETS_AT_ONCE: usize = 64;
 pub fn read_hex_word(alloc: Global, word: &[u8]) -> Result<Option<Vec<u8>>, AllocError>
     ensures { IfOk result (λ octets. option_map (λ v. v.items) octets ≡ word_octets word.now) }
 {
-    match hex::decode(alloc, word) {
-        Ok(octets) => Ok(Some(octets)),
-        Err(FromHexError::OutOfMemory) => Err(AllocError),
-        Err(_) => Ok(None),
+    if word.len() % 2 != 0 {
+        return Ok(None);
     }
+    let mut octets = vec![in alloc; 0; word.len() / 2]?;
+    let good = read_digits(word, octets.as_mut_slice());
+    if good { Ok(Some(octets)) } else { Ok(None) }
+}
+
+/// Reads two digits for each octet of the room. False where a digit is bad.
+fn read_digits(word: &[u8], octets: &mut [u8]) -> bool
+    requires { length word.now ≡ 2 * length octets.old }
+    ensures { word_octets word.now ≡ (if result then Some octets.new else None) }
+{
+    'octets: for i in 0..octets.len() {
+        let high = digit_worth(word[2 * i]);
+        let low = digit_worth(word[2 * i + 1]);
+        if high > 15 || low > 15 {
+            return false;
+        }
+        octets[i] = 16 * high + low;
+    }
+    true
 }
 
 /// The octets that a line of hexadecimal digits in either case stands for. Spaces don't count.
@@ -37,8 +55,21 @@ pub fn read_hex_line(
 ) -> Result<Option<Vec<u8>>, AllocError>
     ensures { IfOk result (λ octets. option_map (λ v. v.items) octets ≡ line_octets line.now) }
 {
+    if has_no_space(line) {
+        return read_hex_word(alloc, line);
+    }
     take_out_spaces(line, digits)?;
     read_hex_word(alloc, digits.as_slice())
+}
+
+/// Whether no octet of the line is a space.
+fn has_no_space(line: &[u8]) -> bool
+    ensures { result ≡ true → without_spaces line.now ≡ line.now }
+{
+    match memchr(b' ', line) {
+        None => true,
+        Some(_) => false,
+    }
 }
 
 /// Puts the line into `digits` with its spaces taken out.

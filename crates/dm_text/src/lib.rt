@@ -2,6 +2,7 @@
 #![tactic(auto)]
 
 mod decimal;
+mod digit;
 mod hexadecimal;
 pub mod laws;
 mod line;

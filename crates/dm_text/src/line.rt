@@ -4,6 +4,7 @@ ghost use Rattle.std.specs.Str.Lines.{lines, strip_carriage_return};
 ghost use Rattle.std.specs.Iterator.{YieldsFirstRef, item_count};
 ghost use Rattle.dm_text.specs.Lines.{drop_spaces, trimmed, is_skipped};
 
+use memchr::memchr;
 use std::marker::Model;
 
 /// The lines of an input, in order.
@@ -63,7 +64,7 @@ impl<'a> Iterator for Lines<'a> {
 pub fn line_feed(input: &[u8]) -> Option<usize>
     ensures { result ≡ position (λ b. b == 10) input.now }
 {
-    input.iter().position(|b| *b == b'\n')
+    memchr(b'\n', input)
 }
 
 fn without_carriage_return(line: &[u8]) -> &[u8]

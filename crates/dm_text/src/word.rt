@@ -4,6 +4,7 @@ ghost use Rattle.std.specs.Iterator.{YieldsFirstRef, item_count};
 ghost use Rattle.dm_text.specs.Words.{words};
 
 use crate::line::after_spaces;
+use memchr::memchr;
 use std::marker::Model;
 
 /// The words of a line, in order: its parts between spaces. A tab is no space.
@@ -60,5 +61,5 @@ impl<'a> Iterator for Words<'a> {
 fn space(line: &[u8]) -> Option<usize>
     ensures { result ≡ position (λ b. b == 32) line.now }
 {
-    line.iter().position(|b| *b == b' ')
+    memchr(b' ', line)
 }
