@@ -11,6 +11,7 @@ use Rattle.dm_two_peers.specs.Links.{Side}
 use Rattle.dm_two_peers.specs.Happens.{Happening, run}
 use Rattle.dm_two_peers.specs.Laws.{world_of}
 use Rattle.dm_two_peers.specs.Turns.{all_turns}
+use Rattle.dm_two_peers.specs.Arriving.{HandUpWhatCame}
 use Rattle.dm_two_peers.specs.Delivery.{submitted_on, handed_up_on, has_loss_of, CarriesMessages, DeliversInOrder}
 use Rattle.dm_octet_peers.specs.Octets.{octet_peers}
 use Rattle.dm_octet_peers.specs.Laws.{fresh_peer}
@@ -41,3 +42,9 @@ EachOctetRunDelivers =
     IfSome (run octet_peers (world_of (fresh_peer a) (fresh_peer b)) hs)
     (λ r. let us = all_turns octet_peers (world_of (fresh_peer a) (fresh_peer b)) hs in
     DeliversInOrder octet_peers is_app r.world t c (has_loss_of c hs) (submitted_on t c us) (handed_up_on t c us))
+
+-- what is handed up to them at an event are the octets that it brings, once, or nothing
+abbrev pub EachOctetRunHandsUpWhatCame : Type 0
+EachOctetRunHandsUpWhatCame =
+    (a b : Config) (hs : List (Happening (List ℕ))) →
+    HandUpWhatCame (all_turns octet_peers (world_of (fresh_peer a) (fresh_peer b)) hs)

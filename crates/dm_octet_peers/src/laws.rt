@@ -5,7 +5,7 @@ ghost use Rattle.dm_octet_peers.specs.Laws.{OctetsAreElecting, FreshArePeers, Ha
 ghost use Rattle.dm_octet_peers.specs.Laws.{EachOctetRunSettles, EachOctetRunFallsQuiet, EachOctetRunCanFallQuiet};
 ghost use Rattle.dm_octet_peers.specs.Recovering.{EachOctetWorldCanOpen, EachOctetRunCanOpen};
 ghost use Rattle.dm_octet_peers.specs.Recovering.{OctetQuietIsJoined, EachOctetQuietRunIsJoined};
-ghost use Rattle.dm_octet_peers.specs.Carrying.{OctetsCarry, EachOctetRunDelivers};
+ghost use Rattle.dm_octet_peers.specs.Carrying.{OctetsCarry, EachOctetRunDelivers, EachOctetRunHandsUpWhatCame};
 ghost use Rattle.dm_octet_peers.specs.Frames.{OctetsAreFrames};
 ghost use Rattle.dm_octet_peers.specs.Octets.{octet_peers};
 
@@ -18,8 +18,8 @@ use dm_peer::laws::{each_event_is_one_step, sent_is_good};
 use dm_peer::{Config, Peer};
 use dm_two_peers::laws::{
     closed_is_sound, each_clean_run_can_fall_quiet, each_clean_run_falls_quiet,
-    each_clean_run_settles, each_happening_keeps_sound, each_run_delivers, each_world_can_open,
-    quiet_is_joined, winner_does_not_return,
+    each_clean_run_settles, each_happening_keeps_sound, each_run_delivers,
+    each_run_hands_up_what_came, each_world_can_open, quiet_is_joined, winner_does_not_return,
 };
 use dm_wire::laws::{message_in_spells, spelled_is_framed};
 use dm_wire::{Header, Octets};
@@ -158,6 +158,16 @@ pub fn each_octet_run_delivers()
     ensures { EachOctetRunDelivers }
 {
     each_run_delivers::<Peer, Octets>();
+    octets_are_a_machine();
+    octets_carry();
+}
+
+/// What such peers hand up at an event are the octets that it brings, once, or nothing: nothing is handed up but where
+/// a message arrives.
+pub fn each_octet_run_hands_up_what_came()
+    ensures { EachOctetRunHandsUpWhatCame }
+{
+    each_run_hands_up_what_came::<Peer, Octets>();
     octets_are_a_machine();
     octets_carry();
 }

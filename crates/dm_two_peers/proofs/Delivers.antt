@@ -69,7 +69,7 @@ module _ {P M : Type 0} (m : Peers P M) (laws : MachineLaws) (is : IsMachine m) 
     pub carrying : IsCarrying m stands w
     pub carried : Carried m is_app lost w t c said up
 
-  happening_carries : (w : World P M) (h : Happening M) → IsCarrying m stands w →
+  pub happening_carries : (w : World P M) (h : Happening M) → IsCarrying m stands w →
       IsCarrying m stands (world_after w (happens m w h))
   happening_carries w h good =
       record {

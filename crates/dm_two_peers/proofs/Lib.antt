@@ -69,6 +69,7 @@ mod CarriedRestarts
 mod CarriedStarts
 mod CarriedHappenings
 mod Delivers
+mod Arrivals
 mod Closing
 mod BothPeers
 mod Holding

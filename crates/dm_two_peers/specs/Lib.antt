@@ -21,6 +21,7 @@ pub mod Falling
 pub mod Sharing
 pub mod Turns
 pub mod Delivery
+pub mod Arriving
 pub mod Recovering
 pub mod Draining
 pub mod Joining

@@ -2,6 +2,7 @@
 //! other laws. They stand for the users of this crate.
 //!
 //! `P` is the state of a peer and `M` a message: a world of peers over octets takes its own types for them.
+ghost use Rattle.dm_two_peers.specs.Arriving.{EachRunHandsUpWhatCame};
 ghost use Rattle.dm_two_peers.specs.Bare.{OnlyUpLinksCarry};
 ghost use Rattle.dm_two_peers.specs.Counting.{EachPieceCounts};
 ghost use Rattle.dm_two_peers.specs.Draining.{EachRestartedRunDrains};
@@ -53,6 +54,16 @@ pub fn each_run_is_promised<P, M>()
 /// It holds of peers that send what is submitted and hand up what comes (`CarriesMessages`).
 pub fn each_run_delivers<P, M>()
     ensures { EachRunDelivers P M }
+{
+    closed_is_sound::<P, M>();
+    each_connection_changes_as_allowed();
+    each_step_keeps_shape();
+}
+
+/// What such peers hand up at an event is the message that it brings, once, or nothing: nothing is handed up but where
+/// a message arrives.
+pub fn each_run_hands_up_what_came<P, M>()
+    ensures { EachRunHandsUpWhatCame P M }
 {
     closed_is_sound::<P, M>();
     each_connection_changes_as_allowed();

@@ -2,6 +2,7 @@
 ghost use Rattle.std.specs.Prelude.{◌≡◌, ℕ, List, ◌++◌, IsTrue, IfSome, None, take, length, slice_get};
 ghost use Rattle.dm_peer.specs.declared.config.Config as declared_config;
 ghost use Rattle.dm_two_peers.specs.Agreement.{Agreed, EndsAreHeld, HeldAreLinks, OpenIsMatched};
+ghost use Rattle.dm_two_peers.specs.Arriving.{HandUpWhatCame};
 ghost use Rattle.dm_two_peers.specs.Joining.{AreJoined};
 ghost use Rattle.dm_two_peers.specs.Links.{Side};
 ghost use Rattle.dm_two_peers.specs.Quiet.{is_quiet};
@@ -10,7 +11,7 @@ ghost use Rattle.dm_two_peers.specs.Streams.{AreCut};
 ghost use Rattle.dm_octet_peers.specs.Laws.{AreClosed};
 ghost use Rattle.dm_octet_peers.specs.Octets.{octet_peers};
 ghost use Rattle.dm_world.specs.declared.happening.Happening as declared_happening;
-ghost use Rattle.dm_world.specs.Delivering.{IsPast, Delivers};
+ghost use Rattle.dm_world.specs.Delivering.{IsPast, Delivers, turns_in};
 ghost use Rattle.dm_world.specs.Settling.{AreClean, EitherCanOpen};
 ghost use Rattle.dm_world.specs.Settling.{RanTo, RunSettles, RunFallsQuiet, RunCanFallQuiet};
 ghost use Rattle.dm_world.specs.Views.{IsEnd};
@@ -19,7 +20,8 @@ use crate::laws::every_world_is_kept;
 use crate::{Happening, World, WorldFault};
 use dm_octet_peers::laws::{
     each_octet_run_can_fall_quiet, each_octet_run_delivers, each_octet_run_falls_quiet,
-    each_octet_run_settles, each_octet_world_can_open, octet_quiet_is_joined,
+    each_octet_run_hands_up_what_came, each_octet_run_settles, each_octet_world_can_open,
+    octet_quiet_is_joined,
 };
 use dm_peer::Peer;
 use dm_two_peers::laws::{quiet_is_shared, sound_is_promised};
@@ -41,9 +43,9 @@ impl World {
     ///
     /// Since the world was new, losses and restarts too, what was handed up to a side on a link is a front of what the
     /// other side submitted on it: each message once, in order, octet for octet, and nothing else. Where the side is open
-    /// on the link and the link was never lost, the rest is what is under way. It is said of each past of the world
-    /// before, two new peers and the happenings that led them to it (`laws::every_world_has_a_past`), and then of the past
-    /// with what was applied here.
+    /// on the link and the link was never lost, the rest is what is under way. Nothing is handed up but where a message
+    /// arrives, and then that message, once. It is said of each past of the world before, two new peers and the
+    /// happenings that led them to it (`laws::every_world_has_a_past`), and of what was applied here behind it.
     ///
     /// Where both were Closed with nothing under way, and only Starts, connects that come about, deliveries and pieces
     /// happen, at most two CERs, one CEA and two disconnects are put in, on their links and in their order; and where
@@ -68,6 +70,8 @@ impl World {
         ensures delivers { (a b : declared_config.Config) (past : List declared_happening.Happening) →
             IsPast self.old a b past →
             (t : Side) (c : ℕ) → Delivers a b (past ++ take result.0 list.now) self.new t c }
+        ensures upward { (a b : declared_config.Config) (past : List declared_happening.Happening) →
+            IsPast self.old a b past → HandUpWhatCame (turns_in a b (past ++ take result.0 list.now)) }
         ensures settled { AreClosed self.old → AreClean (take result.0 list.now) →
             RunSettles self.old (take result.0 list.now) }
         ensures falls_quiet { AreClosed self.old → AreClean (take result.0 list.now) →
@@ -80,6 +84,7 @@ impl World {
         sound_is_promised::<Peer, Octets>();
         quiet_is_shared::<Peer, Octets>();
         each_octet_run_delivers();
+        each_octet_run_hands_up_what_came();
         each_octet_run_settles();
         each_octet_run_falls_quiet();
         each_octet_run_can_fall_quiet();

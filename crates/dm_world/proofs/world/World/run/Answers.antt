@@ -42,6 +42,11 @@ returns-clause-delivers c a b past is =
     (past_goes_on (new_world a b) c.args.self.now c.apply_each-ended.new.self past now is
     c.apply_each-ended.ensures.ran)
 
+pub returns-clause-upward : goal.returns-clause-upward
+returns-clause-upward c a b past is =
+    c.each_octet_run_hands_up_what_came.ensures a b
+    (map as_happening (past ++ take c.apply_each-ended.result.0 c.args.list.now))
+
 pub returns-clause-settled : goal.returns-clause-settled
 returns-clause-settled c closed clean =
     c.each_octet_run_settles.ensures c.args.self.now c.every_world_is_kept.ensures.sound
