@@ -143,37 +143,37 @@ pub good : (h : Header) (c : CommandDef) (ps : List Part) (l : List Avp) → com
     → faults base_definitions (record { header = h; avps = l }) ≡ []
 good h c ps l found bits s k = rw (found, bits) (shaped_right (group_faults 8 base_avps) base_avps c.rule ps l s k)
 
-cer_rule : keeps base_avps base.cer.rule caps_shape ≡ true
+cer_rule : keeps base_avps base.cer_def.rule caps_shape ≡ true
 cer_rule = refl
 
 pub good_cer : (n : Node) (id : ℕ) → faults base_definitions (built_cer n id) ≡ []
 good_cer n id =
-    good (request_header capabilities_exchange id) base.cer caps_shape (capabilities n []) refl refl
+    good (request_header capabilities_exchange id) base.cer_def caps_shape (capabilities n []) refl refl
     (capabilities_shaped n [] tt) cer_rule
 
-dwr_rule : keeps base_avps base.dwr.rule (two_shape []) ≡ true
+dwr_rule : keeps base_avps base.dwr_def.rule (two_shape []) ≡ true
 dwr_rule = refl
 
 pub good_dwr : (n : Node) (id : ℕ) → faults base_definitions (built_dwr n id) ≡ []
 good_dwr n id =
-    good (request_header device_watchdog id) base.dwr (two_shape []) _ refl refl (origin_shaped n [] [] refl) dwr_rule
+    good (request_header device_watchdog id) base.dwr_def (two_shape []) _ refl refl (origin_shaped n [] [] refl) dwr_rule
 
-dpr_rule : keeps base_avps base.dpr.rule (two_shape (One disconnect_cause ∷ [])) ≡ true
+dpr_rule : keeps base_avps base.dpr_def.rule (two_shape (One disconnect_cause ∷ [])) ≡ true
 dpr_rule = refl
 
 pub good_dpr : (n : Node) (id : ℕ) (cause : Cause) → faults base_definitions (built_dpr n id cause) ≡ []
 good_dpr n id cause =
-    good (request_header disconnect_peer id) base.dpr (two_shape (One disconnect_cause ∷ [])) _ refl refl
+    good (request_header disconnect_peer id) base.dpr_def (two_shape (One disconnect_cause ∷ [])) _ refl refl
     (origin_shaped n (One disconnect_cause ∷ []) _
     (number_avp disconnect_cause (cause_number cause), [], refl, cause_right (cause_number cause), refl)) dpr_rule
 
-cea_rule : keeps base_avps base.cea.rule (One result_code ∷ caps_shape) ≡ true
+cea_rule : keeps base_avps base.cea_def.rule (One result_code ∷ caps_shape) ≡ true
 cea_rule = refl
 
 pub good_cea : (n : Node) (to : Header) (code : ℕ) (failed : Option Avp) → to.command ≡ capabilities_exchange
     → faults base_definitions (built_cea n to code failed) ≡ []
 good_cea n to code failed h =
-    good (answer_header false to) base.cea (One result_code ∷ caps_shape) (built_cea n to code failed).avps
+    good (answer_header false to) base.cea_def (One result_code ∷ caps_shape) (built_cea n to code failed).avps
     (rw h refl) refl
     (result_avp code, _, refl, result_right code, capabilities_shaped n (failed_avps failed) (failed_shaped failed))
     cea_rule
@@ -192,26 +192,26 @@ answer_shaped n to code failed = (
       (failed_avps failed, [], sym (append-nil (failed_avps failed)), failed_shaped failed, refl),
 )
 
-dwa_rule : keeps base_avps base.dwa.rule answer_shape ≡ true
+dwa_rule : keeps base_avps base.dwa_def.rule answer_shape ≡ true
 dwa_rule = refl
 
-dpa_rule : keeps base_avps base.dpa.rule answer_shape ≡ true
+dpa_rule : keeps base_avps base.dpa_def.rule answer_shape ≡ true
 dpa_rule = refl
 
 pub good_dwa : (n : Node) (to : Header) (code : ℕ) (failed : Option Avp) → to.command ≡ device_watchdog
     → faults base_definitions (built_answer n to code failed) ≡ []
 good_dwa n to code failed h =
-    good (answer_header false to) base.dwa answer_shape _ (rw h refl) refl (answer_shaped n to code failed) dwa_rule
+    good (answer_header false to) base.dwa_def answer_shape _ (rw h refl) refl (answer_shaped n to code failed) dwa_rule
 
 pub good_dpa : (n : Node) (to : Header) (code : ℕ) (failed : Option Avp) → to.command ≡ disconnect_peer
     → faults base_definitions (built_answer n to code failed) ≡ []
 good_dpa n to code failed h =
-    good (answer_header false to) base.dpa answer_shape _ (rw h refl) refl (answer_shaped n to code failed) dpa_rule
+    good (answer_header false to) base.dpa_def answer_shape _ (rw h refl) refl (answer_shaped n to code failed) dpa_rule
 
-error_rule : keeps base_avps base.answer_message.rule (two_shape (One result_code ∷ [])) ≡ true
+error_rule : keeps base_avps base.answer_message_def.rule (two_shape (One result_code ∷ [])) ≡ true
 error_rule = refl
 
 pub good_error : (n : Node) (to : Header) (code : ℕ) → faults base_definitions (built_error n to code) ≡ []
 good_error n to code =
-    good (answer_header true to) base.answer_message (two_shape (One result_code ∷ [])) _ refl refl
+    good (answer_header true to) base.answer_message_def (two_shape (One result_code ∷ [])) _ refl refl
     (origin_shaped n (One result_code ∷ []) _ (result_avp code, [], refl, result_right code, refl)) error_rule

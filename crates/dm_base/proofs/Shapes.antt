@@ -8,7 +8,7 @@ use Rattle.dm_wire.specs.declared.avp.Avp.{Avp}
 use Rattle.dm_tables.specs.declared.rule.Entry.{Entry}
 use Rattle.dm_tables.specs.declared.def.AvpDef.{AvpDef}
 use Rattle.dm_tables.specs.Definitions.{is_coded}
-use Rattle.dm_dict.specs.Rules.{definition, counts, counted, count, entry_for, allows}
+use Rattle.dm_dict.specs.Rules.{definition, counts, counted_avps, count, entry_for, allows}
 use Rattle.dm_dict.specs.Faults.{Fault, avp_faults, excess_faults, entry_faults, list_faults_by}
 
 pub data Part : Type 0 where
@@ -174,7 +174,7 @@ entry_right avps rule ps l e s h =
     rw enough (bounded e.max (most p ps) refl high)
   where
     bounded : (max : Option ℕ) (n : Option ℕ) → most (is_counted avps rule e) ps ≡ n → within max n ≡ true
-        → excess_faults max (counted avps rule l e) ≡ []
+        → excess_faults max (counted_avps avps rule l e) ≡ []
     bounded None n is w = refl
     bounded (Some max) None is w = absurd (cc)
     bounded (Some max) (Some n) is w =

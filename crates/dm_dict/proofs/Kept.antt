@@ -9,10 +9,10 @@ use Rattle.dm_tables.specs.declared.def.AvpDef.{AvpDef}
 use Rattle.dm_tables.specs.declared.def.CommandDef.{CommandDef}
 use Rattle.dm_tables.specs.Definitions.{Definitions}
 use Rattle.dm_dict.specs.Codes.{avp_unsupported, avp_not_allowed, invalid_hdr_bits, missing_avp, avp_occurs_too_many_times}
-use Rattle.dm_dict.specs.Faults.{Fault, first, faults, message_faults, command_for, wrong_bits, fault_of, fault_without_avp, is_failed_avp, data_faults, avp_faults, excess_faults, entry_faults, example, group_faults, member_faults, list_faults}
-use Rattle.dm_dict.specs.Keeping.{MayStand, KeepsAs, IsWithinBounds, KeepsTo, IsGood}
+use Rattle.dm_dict.specs.Faults.{Fault, first, faults, message_faults, command_for, wrong_bits, fault_with_avp, fault_without_avp, is_failed_avp, data_faults, avp_faults, excess_faults, entry_faults, example, group_faults, member_faults, list_faults}
+use Rattle.dm_dict.specs.Keeping.{MayStand, KeepsAs, IsWithinBounds, KeepsTo, KeepsRules}
 use Rattle.dm_wire.specs.Members.{members}
-use Rattle.dm_dict.specs.Rules.{definition, entry_for, allows, count, counted}
+use Rattle.dm_dict.specs.Rules.{definition, entry_for, allows, count, counted_avps}
 use Rattle.dm_dict.specs.Typed.{IsTypedData, Each}
 use Rattle.dm_dict.proofs.Valued.{typed_data}
 
@@ -25,7 +25,7 @@ is_clear : (b : Bool) (f : Fault) → first (if b then f ∷ [] else []) ≡ Non
 is_clear true f h = absurd (cc)
 is_clear false f h = refl
 
-is_allowed : (b : Bool) (a : Avp) → first (if b then [] else fault_of avp_not_allowed a) ≡ None → b ≡ true
+is_allowed : (b : Bool) (a : Avp) → first (if b then [] else fault_with_avp avp_not_allowed a) ≡ None → b ≡ true
 is_allowed true a h = refl
 is_allowed false a h = absurd (cc)
 
@@ -53,9 +53,9 @@ within_bounds : (avps : List AvpDef) (rule : List Entry) (l : List Avp) (e : Ent
 within_bounds avps rule l e h =
     let lacking : Fault = record { code = missing_avp; failed = example avps e } in
     let (enough, few) = none_both (if nat_lt (count avps rule l e) e.min then lacking ∷ [] else [])
-    (excess_faults e.max (counted avps rule l e)) h in
+    (excess_faults e.max (counted_avps avps rule l e)) h in
     let not_below = is_clear (nat_lt (count avps rule l e) e.min) lacking enough in
-    (grind arith, in_excess e.max (counted avps rule l e) few)
+    (grind arith, in_excess e.max (counted_avps avps rule l e) few)
 
 within_each : (avps : List AvpDef) (rule : List Entry) (l : List Avp) (es : List Entry)
     → first (flat_map (entry_faults avps rule l) es) ≡ None → Each (λ e. IsWithinBounds e (count avps rule l e)) es
@@ -70,7 +70,7 @@ HoldsGroups n avps =
     (rule : List Entry) (a : Avp) → first (group_faults n avps rule a) ≡ None → IsTypedData
     (KeepsTo n avps rule) Grouped a.bytes
 
-unmarked : (b : Bool) (a : Avp) → first (if b then fault_of avp_unsupported a else []) ≡ None → b ≡ false
+unmarked : (b : Bool) (a : Avp) → first (if b then fault_with_avp avp_unsupported a else []) ≡ None → b ≡ false
 unmarked true a h = absurd (cc)
 unmarked false a h = refl
 
@@ -81,7 +81,7 @@ kept_avp : FlawDecides → (n : ℕ) (avps : List AvpDef) → HoldsGroups n avps
 kept_avp law n avps group rule a None h = unmarked a.mandatory a h
 kept_avp law n avps group rule a (Some f) h =
     let allowed = allows (entry_for rule (Some f)) in
-    let (allow, flawless) = none_both (if allowed then [] else fault_of avp_not_allowed a)
+    let (allow, flawless) = none_both (if allowed then [] else fault_with_avp avp_not_allowed a)
     (if is_failed_avp a then [] else data_faults f.kind f.values (group_faults n avps f.rule a) a) h in (
       may_stand rule f (is_allowed allowed a allow),
       λ other. typed_data law (KeepsTo n avps f.rule) f.kind f.values (group_faults n avps f.rule a) a (group f.rule a)
@@ -125,9 +125,9 @@ kept_list law zero avps rule l h = kept_parts law zero avps (no_group avps) rule
 kept_list law (suc n) avps rule l h =
     kept_parts law (suc n) avps (kept_group n avps (λ r k. kept_list law n avps r k)) rule l h
 
-pub good_kept : FlawDecides → (d : Definitions) (m : Message) → first (faults d m) ≡ None → IsGood d m
+pub good_kept : FlawDecides → (d : Definitions) (m : Message) → first (faults d m) ≡ None → KeepsRules d m
 good_kept law d m h = by (command_for d m.header) refl h where
-  by : (c : Option CommandDef) → command_for d m.header ≡ c → first (message_faults d.avps m c) ≡ None → IsGood d m
+  by : (c : Option CommandDef) → command_for d m.header ≡ c → first (message_faults d.avps m c) ≡ None → KeepsRules d m
   by None e g = absurd (cc)
   by (Some c) e g =
       let (bits, list) = none_both (if wrong_bits m.header then fault_without_avp invalid_hdr_bits else [])

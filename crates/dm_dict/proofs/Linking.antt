@@ -10,7 +10,7 @@ use Rattle.dm_tables.specs.Definitions.{is_named, is_coded}
 use Rattle.dm_tables.specs.Sound.{is_any, is_known, knows_rule}
 use Rattle.dm_dict.specs.Rules.{is_called, names, stands_for_any}
 use Rattle.dm_dict.specs.Apart.{IsFit, IsOwnName}
-use Rattle.dm_dict.specs.Links.{link, rule_links}
+use Rattle.dm_dict.specs.Links.{entry_link, rule_links}
 use Rattle.dm_dict.proofs.Standing.{is_found, is_seen, found, none_named, place_of}
 
 -- the first place among what g gives
@@ -54,16 +54,16 @@ passes_at p xs i x h g =
 -- an entry has the link to a definition just where it has its name
 linked_named : (avps : List AvpDef) (i : ℕ) (d : AvpDef) → slice_get avps i ≡ Some d
     → position_from (is_named d.name) 0 avps ≡ Some i → (e : Entry)
-    → option_eq nat_eq (Some i) (link avps e) ≡ is_called d.name e
+    → option_eq nat_eq (Some i) (entry_link avps e) ≡ is_called d.name e
 linked_named avps i d at placed e = by (is_called d.name e) refl where
   same_number : nat_eq i i ≡ true
   same_number = grind arith
 
-  other : (o : Option ℕ) → link avps e ≡ o → is_called d.name e ≡ false
-      → option_eq nat_eq (Some i) (link avps e) ≡ false
+  other : (o : Option ℕ) → entry_link avps e ≡ o → is_called d.name e ≡ false
+      → option_eq nat_eq (Some i) (entry_link avps e) ≡ false
   other None h t = rw h refl
   other (Some k) h t = at_k (nat_eq i k) refl where
-    at_k : (b : Bool) → nat_eq i k ≡ b → option_eq nat_eq (Some i) (link avps e) ≡ false
+    at_k : (b : Bool) → nat_eq i k ≡ b → option_eq nat_eq (Some i) (entry_link avps e) ≡ false
     at_k false n = rw (h, n) refl
     at_k true n =
         let same : k ≡ i = grind arith in
@@ -72,18 +72,18 @@ linked_named avps i d at placed e = by (is_called d.name e) refl where
         let called : is_called d.name e ≡ true = rw (← names) (rw (← names) at named) in
         absurd (cc)
 
-  by : (b : Bool) → is_called d.name e ≡ b → option_eq nat_eq (Some i) (link avps e) ≡ b
+  by : (b : Bool) → is_called d.name e ≡ b → option_eq nat_eq (Some i) (entry_link avps e) ≡ b
   by true t =
       let same : d.name ≡ e.name = same_text d.name e.name (sym t) in
-      let here : link avps e ≡ Some i = rw same at placed in
+      let here : entry_link avps e ≡ Some i = rw same at placed in
       rw here same_number
-  by false t = other (link avps e) refl t
+  by false t = other (entry_link avps e) refl t
 
 -- an entry of the rule has no link just where it is `AVP`
 unlinked_any : (avps : List AvpDef) → list_any (is_named (codes "AVP")) avps ≡ false → (e : Entry)
-    → is_known avps e ≡ true → option_eq nat_eq None (link avps e) ≡ stands_for_any e
+    → is_known avps e ≡ true → option_eq nat_eq None (entry_link avps e) ≡ stands_for_any e
 unlinked_any avps unnamed e known = by (stands_for_any e) refl where
-  some : is_some (link avps e) ≡ list_any (is_named e.name) avps
+  some : is_some (entry_link avps e) ≡ list_any (is_named e.name) avps
   some = is_found (is_named e.name) 0 avps
 
   none_of : (o : Option ℕ) → is_some o ≡ false → option_eq nat_eq None o ≡ true
@@ -98,25 +98,25 @@ unlinked_any avps unnamed e known = by (stands_for_any e) refl where
   left true b h g = absurd (cc)
   left false b h g = h
 
-  by : (b : Bool) → stands_for_any e ≡ b → option_eq nat_eq None (link avps e) ≡ b
+  by : (b : Bool) → stands_for_any e ≡ b → option_eq nat_eq None (entry_link avps e) ≡ b
   by true t =
       let same : codes "AVP" ≡ e.name = same_text (codes "AVP") e.name (sym t) in
-      none_of (link avps e) (some ∙ (rw same at unnamed))
+      none_of (entry_link avps e) (some ∙ (rw same at unnamed))
   by false t = any (is_any e.name) refl where
-    any : (b : Bool) → is_any e.name ≡ b → option_eq nat_eq None (link avps e) ≡ false
+    any : (b : Bool) → is_any e.name ≡ b → option_eq nat_eq None (entry_link avps e) ≡ false
     any true a =
         let same : e.name ≡ codes "AVP" = same_text e.name (codes "AVP") (sym a) in
         let stands : stands_for_any e ≡ true = rw same (rw same at a) in
         absurd (cc)
-    any false a = one_of (link avps e) (some ∙ left (is_any e.name) (list_any (is_named e.name) avps) known a)
+    any false a = one_of (entry_link avps e) (some ∙ left (is_any e.name) (list_any (is_named e.name) avps) known a)
 
 -- the place of the link to a definition is that of its name
 pub name_place : (avps : List AvpDef) (rule : List Entry) (i : ℕ) (d : AvpDef) → slice_get avps i ≡ Some d
     → position_from (is_named d.name) 0 avps ≡ Some i
     → position_from (option_eq nat_eq (Some i)) 0 (rule_links avps rule) ≡ position_from (names (Some d)) 0 rule
 name_place avps rule i d at placed =
-    position_map (option_eq nat_eq (Some i)) (link avps) 0 rule ∙
-    position_same (λ e. true) (λ e. option_eq nat_eq (Some i) (link avps e)) (names (Some d))
+    position_map (option_eq nat_eq (Some i)) (entry_link avps) 0 rule ∙
+    position_same (λ e. true) (λ e. option_eq nat_eq (Some i) (entry_link avps e)) (names (Some d))
     (λ e h. linked_named avps i d at placed e) 0 rule (all_true rule)
   where
     all_true : (es : List Entry) → list_all (λ e. true) es ≡ true
@@ -128,8 +128,8 @@ pub any_place : (avps : List AvpDef) (rule : List Entry) → list_any (is_named 
     → knows_rule avps rule ≡ true
     → position_from (option_eq nat_eq None) 0 (rule_links avps rule) ≡ position_from stands_for_any 0 rule
 any_place avps rule unnamed closed =
-    position_map (option_eq nat_eq None) (link avps) 0 rule ∙
-    position_same (is_known avps) (λ e. option_eq nat_eq None (link avps e)) stands_for_any
+    position_map (option_eq nat_eq None) (entry_link avps) 0 rule ∙
+    position_same (is_known avps) (λ e. option_eq nat_eq None (entry_link avps e)) stands_for_any
     (unlinked_any avps unnamed) 0 rule closed
 
 -- the place of the link of what is found, else of the entry without one, is the place of the AVP

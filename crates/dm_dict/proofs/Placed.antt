@@ -20,10 +20,10 @@ use Rattle.dm_dict.specs.declared.judged.Judged.{Judged}
 use Rattle.dm_dict.specs.declared.judged.Judged.TheVariants as judged
 use Rattle.dm_dict.specs.declared.judged.Failed.TheVariants.{Nothing, Found, Example}
 use Rattle.dm_dict.specs.Codes.{missing_avp, invalid_avp_value, avp_not_allowed, avp_unsupported, invalid_hdr_bits, avp_occurs_too_many_times}
-use Rattle.dm_dict.specs.Faults.{Fault, first, faults, message_faults, command_for, wrong_bits, fault_of, fault_without_avp, value_faults, is_left_out, unlisted_faults, data_faults, is_failed_avp, avp_faults, excess_faults, entry_faults, example, group_faults, member_faults, list_faults}
+use Rattle.dm_dict.specs.Faults.{Fault, first, faults, message_faults, command_for, wrong_bits, fault_with_avp, fault_without_avp, value_faults, is_left_out, unlisted_faults, data_faults, is_failed_avp, avp_faults, excess_faults, entry_faults, example, group_faults, member_faults, list_faults}
 use Rattle.dm_dict.specs.Found.{LiesAmong, IsOneOf, IfFound, finds_missing}
 use Rattle.dm_dict.specs.Judgement.{shown}
-use Rattle.dm_dict.specs.Rules.{definition, entry_for, allows, count, counted, counts}
+use Rattle.dm_dict.specs.Rules.{definition, entry_for, allows, count, counted_avps, counts}
 
 -- a fault of what is missing, or one whose failed AVP is one of these
 abbrev IsPlaced : List Avp → Fault → Type 0
@@ -44,16 +44,16 @@ each l P f h (x ∷ xs) p =
     both l (f x) (flat_map f xs) (h x (All-head P x xs p)) (each l P f h xs (All-tail P x xs p))
 
 -- an AVP of the list
-own : (l : List Avp) (a : Avp) (code : ℕ) → Contains l a → IsFirstPlaced l (fault_of code a)
+own : (l : List Avp) (a : Avp) (code : ℕ) → Contains l a → IsFirstPlaced l (fault_with_avp code a)
 own l a code h = inr (IsOneOf.whole a (LiesAmong.here l h))
 
 own_if : (l : List Avp) (a : Avp) (code : ℕ) (b : Bool) → Contains l a
-    → IsFirstPlaced l (if b then fault_of code a else [])
+    → IsFirstPlaced l (if b then fault_with_avp code a else [])
 own_if l a code true h = own l a code h
 own_if l a code false h = tt
 
 own_unless : (l : List Avp) (a : Avp) (code : ℕ) (b : Bool) → Contains l a
-    → IsFirstPlaced l (if b then [] else fault_of code a)
+    → IsFirstPlaced l (if b then [] else fault_with_avp code a)
 own_unless l a code true h = tt
 own_unless l a code false h = own l a code h
 
@@ -80,7 +80,7 @@ of_avp : (groups : List Entry → Avp → List Fault) (l : List Avp)
     → (allowed : Bool) (a : Avp) (f : Option AvpDef) → Contains l a → IsFirstPlaced l (avp_faults groups allowed a f)
 of_avp groups l inner allowed a None h = own_if l a avp_unsupported a.mandatory h
 of_avp groups l inner allowed a (Some f) h =
-    both l (if allowed then [] else fault_of avp_not_allowed a)
+    both l (if allowed then [] else fault_with_avp avp_not_allowed a)
     (if is_failed_avp a then [] else data_faults f.kind f.values (groups f.rule a) a)
     (own_unless l a avp_not_allowed allowed h)
     (of_rest l (is_failed_avp a) (data_faults f.kind f.values (groups f.rule a) a)
@@ -109,8 +109,8 @@ of_entry : (avps : List AvpDef) (rule : List Entry) (l : List Avp) (e : Entry)
     → IsFirstPlaced l (entry_faults avps rule l e)
 of_entry avps rule l e =
     both l (if nat_lt (count avps rule l e) e.min then record { code = missing_avp; failed = example avps e } ∷ [] else [])
-    (excess_faults e.max (counted avps rule l e)) (of_lack l (nat_lt (count avps rule l e) e.min) (example avps e))
-    (of_excess l (counted avps rule l e) e.max
+    (excess_faults e.max (counted_avps avps rule l e)) (of_lack l (nat_lt (count avps rule l e) e.min) (example avps e))
+    (of_excess l (counted_avps avps rule l e) e.max
     (All-filter (λ a. counts rule e (definition avps a)) (Contains l) l (All-contains_itself l)))
 
 of_list : (n : ℕ) (avps : List AvpDef)

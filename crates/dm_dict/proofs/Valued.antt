@@ -7,19 +7,19 @@ use Rattle.dm_value.specs.declared.avp_type.AvpType.TheVariants.{Grouped}
 use Rattle.dm_value.specs.declared.fault.ValueFault.{ValueFault}
 use Rattle.dm_value.specs.declared.fault.ValueFault.TheVariants.{WrongLength, WrongValue, TooLong, NoMemory}
 use Rattle.dm_value.specs.declared.value.Value.{Value}
-use Rattle.dm_value.specs.Columns.{Refuses}
+use Rattle.dm_value.specs.Columns.{RefusesData}
 use Rattle.dm_value.specs.Decided.{AreOctets, FlawDecides}
 use Rattle.dm_value.specs.Flaws.{flaw}
 use Rattle.dm_value.specs.Meaning.{Means}
 use Rattle.dm_dict.specs.Codes.{invalid_avp_value}
 use Rattle.dm_tables.specs.declared.values.EnumValue.{EnumValue}
-use Rattle.dm_dict.specs.Faults.{first, fault_of, value_faults, is_left_out, unlisted_faults, data_faults, Fault}
+use Rattle.dm_dict.specs.Faults.{first, fault_with_avp, value_faults, is_left_out, unlisted_faults, data_faults, Fault}
 use Rattle.dm_dict.specs.Typed.{IsTypedData}
 
 valued : FlawDecides → (kind : AvpType) (a : Avp) → (kind ≡ Grouped → AreOctets a.bytes)
     → first (value_faults (flaw kind a.bytes) a) ≡ None → (v : Value) × Means kind a.bytes v
 valued law kind a octets h = by (flaw kind a.bytes) (law kind a.bytes octets) h where
-  by : (o : Option ValueFault) → MatchOption o ((v : Value) × Means kind a.bytes v) (λ f. Refuses kind a.bytes f)
+  by : (o : Option ValueFault) → MatchOption o ((v : Value) × Means kind a.bytes v) (λ f. RefusesData kind a.bytes f)
       → first (value_faults o a) ≡ None → (v : Value) × Means kind a.bytes v
   by None m g = m
   by (Some WrongLength) m g = absurd (cc)
@@ -31,7 +31,7 @@ none_apart : (fs gs : List Fault) → first (fs ++ gs) ≡ None → (first fs �
 none_apart [] gs h = (refl, h)
 none_apart (f ∷ fs) gs h = absurd (cc)
 
-not_left_out : (b : Bool) (a : Avp) → first (if b then fault_of invalid_avp_value a else []) ≡ None → b ≡ false
+not_left_out : (b : Bool) (a : Avp) → first (if b then fault_with_avp invalid_avp_value a else []) ≡ None → b ≡ false
 not_left_out true a h = absurd (cc)
 not_left_out false a h = refl
 

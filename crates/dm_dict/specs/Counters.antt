@@ -28,6 +28,6 @@ abbrev pub is_bounded : Entry → Bool
 is_bounded e = is_bound e.min e.max
 
 -- the first of two
-abbrev pub before : Option Fault → Option Fault → Option Fault
-before None f = f
-before (Some f) g = Some f
+abbrev pub first_of_two : Option Fault → Option Fault → Option Fault
+first_of_two None f = f
+first_of_two (Some f) g = Some f

@@ -21,7 +21,7 @@ use Rattle.dm_tables.specs.declared.def.CommandDef.{CommandDef}
 use Rattle.dm_tables.specs.Definitions.{Definitions, is_named, is_headed}
 use Rattle.dm_wire.specs.Members.{members}
 use Rattle.dm_dict.specs.Codes.{command_unsupported, invalid_hdr_bits, avp_unsupported, invalid_avp_value, missing_avp, avp_not_allowed, avp_occurs_too_many_times, invalid_avp_length, failed_avp}
-use Rattle.dm_dict.specs.Rules.{definition, stands_for_any, counted, count, entry_for, allows}
+use Rattle.dm_dict.specs.Rules.{definition, stands_for_any, counted_avps, count, entry_for, allows}
 use Rattle.dm_dict.specs.Limits.{group_limit, any_command}
 
 -- A fault: its Result-Code and the failed AVP, which stands alone, without the groups round it: that Failed-AVP has them too
@@ -30,16 +30,16 @@ pub record Fault : Type 0 where
   pub code : ℕ
   pub failed : Option Avp
 
-abbrev pub fault_of : ℕ → Avp → List Fault
-fault_of code a = record { code = code; failed = Some a } ∷ []
+abbrev pub fault_with_avp : ℕ → Avp → List Fault
+fault_with_avp code a = record { code = code; failed = Some a } ∷ []
 
 abbrev pub fault_without_avp : ℕ → List Fault
 fault_without_avp code = record { code = code; failed = None } ∷ []
 
 -- data of a wrong length 5014, of a wrong value 5004 (7.1.5)
 abbrev pub value_faults : Option ValueFault → Avp → List Fault
-value_faults (Some WrongLength) a = fault_of invalid_avp_length a
-value_faults (Some WrongValue) a = fault_of invalid_avp_value a
+value_faults (Some WrongLength) a = fault_with_avp invalid_avp_length a
+value_faults (Some WrongValue) a = fault_with_avp invalid_avp_value a
 value_faults _ a = []
 
 -- four octets of an Enumerated with a list, whose value isn't in it (own); another size is a wrong length
@@ -48,7 +48,7 @@ is_left_out Enumerated values s = is_unlisted values (cast_signed w32 (big_numbe
 is_left_out _ values s = false
 
 abbrev pub unlisted_faults : AvpType → List EnumValue → Avp → List Fault
-unlisted_faults kind values a = if is_left_out kind values a.bytes then fault_of invalid_avp_value a else []
+unlisted_faults kind values a = if is_left_out kind values a.bytes then fault_with_avp invalid_avp_value a else []
 
 -- data of a type, and of a list of values; of a Grouped AVP what is wrong with the group (4.4)
 abbrev pub data_faults : AvpType → List EnumValue → List Fault → Avp → List Fault
@@ -63,9 +63,9 @@ is_failed_avp a = nat_eq a.code failed_avp && option_eq nat_eq a.vendor None
 -- its data. One that has no definition passes without the M bit in every rule, also where no `AVP` stands: a receiver 'MAY
 -- simply ignore the AVP' (4.1).
 abbrev pub avp_faults : (List Entry → Avp → List Fault) → Bool → Avp → Option AvpDef → List Fault
-avp_faults groups allowed a None = if a.mandatory then fault_of avp_unsupported a else []
+avp_faults groups allowed a None = if a.mandatory then fault_with_avp avp_unsupported a else []
 avp_faults groups allowed a (Some f) =
-    (if allowed then [] else fault_of avp_not_allowed a) ++
+    (if allowed then [] else fault_with_avp avp_not_allowed a) ++
     (if is_failed_avp a then [] else data_faults f.kind f.values (groups f.rule a) a)
 
 -- the example of an AVP that is missing: zeros of its type's least length (7.5); `AVP` has none
@@ -94,7 +94,7 @@ excess_faults (Some max) l = if nat_lt 0 max && nat_lt max (length l) then
 abbrev pub entry_faults : List AvpDef → List Entry → List Avp → Entry → List Fault
 entry_faults avps rule l e =
     (if nat_lt (count avps rule l e) e.min then record { code = missing_avp; failed = example avps e } ∷ [] else [])
-    ++ excess_faults e.max (counted avps rule l e)
+    ++ excess_faults e.max (counted_avps avps rule l e)
 
 -- a list of AVPs under a rule: each AVP in order, and then each entry of the rule in order
 abbrev pub list_faults_by : (List Entry → Avp → List Fault) → List AvpDef → List Entry → List Avp → List Fault
@@ -105,13 +105,13 @@ list_faults_by groups avps rule l =
 -- the members of a group; 5014 where the octets are no AVPs one after the other, with 'an empty payload', which is enough for a
 -- Grouped AVP (7.1.5)
 abbrev pub member_faults : (List Avp → List Fault) → Avp → Option (List Avp) → List Fault
-member_faults inside a None = fault_of invalid_avp_length (record a { bytes = [] })
+member_faults inside a None = fault_with_avp invalid_avp_length (record a { bytes = [] })
 member_faults inside a (Some l) = inside l
 
 -- A Grouped AVP of this rule, where n groups may stand inside each other: with none left 5004. RFC 6733 (4.4) lets groups be
 -- nested and has no limit; here there is one (own), so that no message sets how deep the walk goes.
 abbrev pub group_faults : ℕ → List AvpDef → List Entry → Avp → List Fault
-group_faults zero avps rule a = fault_of invalid_avp_value a
+group_faults zero avps rule a = fault_with_avp invalid_avp_value a
 group_faults (suc n) avps rule a = member_faults (list_faults_by (group_faults n avps) avps rule) a (members a.bytes)
 
 abbrev pub list_faults : ℕ → List AvpDef → List Entry → List Avp → List Fault

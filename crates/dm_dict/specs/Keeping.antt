@@ -38,7 +38,7 @@ KeepsTo (suc n) avps rule l =
 
 -- the command of the message is defined, the bits of its header are right (3), and its AVPs and those of the eight groups inside
 -- each other keep to their rules
-pub record IsGood (d : Definitions) (m : Message) : Type 0 where
+pub record KeepsRules (d : Definitions) (m : Message) : Type 0 where
   pub command : CommandDef
   pub defined : command_for d m.header ≡ Some command
   pub bits : wrong_bits m.header ≡ false
@@ -46,4 +46,4 @@ pub record IsGood (d : Definitions) (m : Message) : Type 0 where
 
 -- a message with which nothing is wrong is good
 abbrev pub GoodKeepsRules : Type 0
-GoodKeepsRules = (d : Definitions) (m : Message) → first (faults d m) ≡ None → IsGood d m
+GoodKeepsRules = (d : Definitions) (m : Message) → first (faults d m) ≡ None → KeepsRules d m

@@ -10,12 +10,12 @@ use Rattle.dm_dict.specs.declared.links.Links.TheInside.{Inside}
 use Rattle.dm_dict.specs.Limits.{short_rule}
 
 -- the link of an entry: the place of the definition that has its name; `AVP` has none
-abbrev pub link : List AvpDef → Entry → Option ℕ
-link avps e = position_from (is_named e.name) 0 avps
+abbrev pub entry_link : List AvpDef → Entry → Option ℕ
+entry_link avps e = position_from (is_named e.name) 0 avps
 
 -- the links of the entries of a rule, in order
 abbrev pub rule_links : List AvpDef → List Entry → List (Option ℕ)
-rule_links avps rule = map (link avps) rule
+rule_links avps rule = map (entry_link avps) rule
 
 -- the place of the first entry without a link, and an index of the first place of each link where the rule is long
 pub record IsPlaced (links : Inside) : Type 0 where

@@ -29,12 +29,12 @@ abbrev pub counts : List Entry → Entry → Option AvpDef → Bool
 counts rule e f = if stands_for_any e then not (list_any (names f) rule) else names f e
 
 -- the AVPs of l that the entry of the rule counts, in order
-abbrev pub counted : List AvpDef → List Entry → List Avp → Entry → List Avp
-counted avps rule l e = filter (λ a. counts rule e (definition avps a)) l
+abbrev pub counted_avps : List AvpDef → List Entry → List Avp → Entry → List Avp
+counted_avps avps rule l e = filter (λ a. counts rule e (definition avps a)) l
 
 -- how many they are
 abbrev pub count : List AvpDef → List Entry → List Avp → Entry → ℕ
-count avps rule l e = length (counted avps rule l e)
+count avps rule l e = length (counted_avps avps rule l e)
 
 abbrev pub or_else : Option Entry → Option Entry → Option Entry
 or_else None e = e

@@ -10,7 +10,7 @@ ghost use Rattle.dm_wire.specs.Borrowed.{Lists};
 ghost use Rattle.dm_dict.specs.Faults.{example, entry_faults, first};
 ghost use Rattle.dm_dict.specs.Found.{is_found, finds_missing};
 ghost use Rattle.dm_dict.specs.Judgement.{failed_of, shown};
-ghost use Rattle.dm_dict.specs.Rules.{count, counted};
+ghost use Rattle.dm_dict.specs.Rules.{count, counted_avps};
 ghost use Rattle.dm_dict.specs.Limits.{counter_limit};
 
 use crate::codes::{AVP_OCCURS_TOO_MANY_TIMES, MISSING_AVP};
@@ -53,7 +53,7 @@ fn first_past_max<'a>(
     requires rule { IsRule tables.now.avps.items rule }
     requires within { at < length rule.entries.now }
     ensures { (l : List Avp) (e : Entry) → Lists list.entry l → e ≡ slice_index_or rule.entry.entries.now at e
-        → failed_of result ≡ slice_get (counted tables.now.avps.items rule.entry.entries.now l e) max }
+        → failed_of result ≡ slice_get (counted_avps tables.now.avps.items rule.entry.entries.now l e) max }
 {
     let mut before = max;
     let mut left = list;

@@ -7,7 +7,7 @@ ghost use Rattle.dm_tables.specs.Tables.{IsTables};
 ghost use Rattle.dm_dict.specs.Apart.{IsFit};
 ghost use Rattle.dm_dict.specs.Linked.{IsRule};
 ghost use Rattle.dm_wire.specs.Borrowed.{Lists};
-ghost use Rattle.dm_dict.specs.Counters.{IsCounted, before, is_bounded};
+ghost use Rattle.dm_dict.specs.Counters.{IsCounted, first_of_two, is_bounded};
 ghost use Rattle.dm_dict.specs.Faults.{entry_faults, first};
 ghost use Rattle.dm_dict.specs.Found.{finds_missing};
 ghost use Rattle.dm_dict.specs.Judgement.{shown};
@@ -71,7 +71,7 @@ fn judge_window<'a>(
     requires within { from ≤ length rule.entries.now }
     ensures fault { (l : List Avp) → Lists list.entry l → IsCounted tables.now.avps.items rule.entry.entries.now l from counts.now
         → first (flat_map (entry_faults tables.now.avps.items rule.entry.entries.now l) (drop from rule.entry.entries.now))
-        ≡ before (shown result) (first (flat_map (entry_faults tables.now.avps.items rule.entry.entries.now l) (drop (from + window) rule.entry.entries.now))) }
+        ≡ first_of_two (shown result) (first (flat_map (entry_faults tables.now.avps.items rule.entry.entries.now l) (drop (from + window) rule.entry.entries.now))) }
     ensures missing { finds_missing result ≡ false }
 {
     for at in from..window_end(rule.entries.as_slice().len(), from) {

@@ -5,21 +5,21 @@ use Rattle.std.proofs.Math.Seq.{drop-cons}
 use Rattle.std.specs.List.{list_all}
 use Rattle.std.proofs.Math.ListN.{drop_of_length-le}
 use Rattle.dm_dict_text.specs.declared.fault.DictFault.{DictFault}
-use Rattle.dm_dict_text.specs.Faults.{first_of, Stops, faults_along}
+use Rattle.dm_dict_text.specs.Faults.{first_dict_fault, StopsAtFirst, faults_along}
 
-pub first_left : (xs ys : List DictFault) (f : DictFault) → first_of xs ≡ Some f → first_of (xs ++ ys) ≡ Some f
+pub first_left : (xs ys : List DictFault) (f : DictFault) → first_dict_fault xs ≡ Some f → first_dict_fault (xs ++ ys) ≡ Some f
 first_left [] ys f e = absurd cc
 first_left (x ∷ xs) ys f e = e
 
-pub first_right : (xs ys : List DictFault) (f : DictFault) → xs ≡ [] → first_of ys ≡ Some f
-    → first_of (xs ++ ys) ≡ Some f
+pub first_right : (xs ys : List DictFault) (f : DictFault) → xs ≡ [] → first_dict_fault ys ≡ Some f
+    → first_dict_fault (xs ++ ys) ≡ Some f
 first_right xs ys f none e = rw none e
 
-pub stops_left : (xs ys : List DictFault) (f : DictFault) → Stops xs f → Stops (xs ++ ys) f
+pub stops_left : (xs ys : List DictFault) (f : DictFault) → StopsAtFirst xs f → StopsAtFirst (xs ++ ys) f
 stops_left xs ys f (inl e) = inl e
 stops_left xs ys f (inr e) = inr (first_left xs ys f e)
 
-pub stops_right : (xs ys : List DictFault) (f : DictFault) → xs ≡ [] → Stops ys f → Stops (xs ++ ys) f
+pub stops_right : (xs ys : List DictFault) (f : DictFault) → xs ≡ [] → StopsAtFirst ys f → StopsAtFirst (xs ++ ys) f
 stops_right xs ys f none h = rw none h
 
 pub none_left : (xs ys : List DictFault) → (xs ++ ys) ≡ [] → xs ≡ []
@@ -57,8 +57,8 @@ module _ {S W I : Type 0} (faults : S → W → List DictFault) (next : S → W 
 
   pub along_stops : (start s : S) (all : List W) (items : List I) (i : ℕ) (d x : I) (f : DictFault) → i < length items
       → x ≡ get_or items i d
-      → Along faults next start all s (map shown (drop i items)) → Stops (faults s (shown x)) f
-      → Stops (faults_along faults next start all) f
+      → Along faults next start all s (map shown (drop i items)) → StopsAtFirst (faults s (shown x)) f
+      → StopsAtFirst (faults_along faults next start all) f
   along_stops start s all items i d x f h at along stops =
       let here : drop i items ≡ x ∷ drop (i + 1) items = rw (at, add-one i) (drop-cons items i d h) in
       let said : Along faults next start all s (map shown (x ∷ drop (i + 1) items)) = subst

@@ -5,8 +5,8 @@ use Rattle.std.proofs.lemmas.List.Folds.{list_any-append}
 use Rattle.std.specs.List.{list_any, list_all}
 use Rattle.std.specs.Cmp.Lexicographic.{pointwise}
 use Rattle.dm_grammar.specs.Items as written
-use Rattle.dm_grammar.specs.Items.{Written, Vend}
-use Rattle.dm_grammar.specs.Items.Vend.{NumberedBy, NamedBy}
+use Rattle.dm_grammar.specs.Items.{Written, VendorReference}
+use Rattle.dm_grammar.specs.Items.VendorReference.{NumberedBy, NamedBy}
 use Rattle.dm_grammar.specs.Items.Written.{VendorIs, AvpIs, GroupIs, CommandIs}
 use Rattle.dm_dict_text.specs.declared.fault.DictFault.{DictFault}
 use Rattle.dm_dict_text.specs.declared.fault.DictFault.TheVariants.{UnknownName}
@@ -15,8 +15,8 @@ use Rattle.dm_tables.specs.declared.def.VendorDef.{VendorDef}
 use Rattle.dm_tables.specs.declared.def.AvpDef.{AvpDef}
 use Rattle.dm_tables.specs.Definitions.{Definitions, is_vendor, is_named}
 use Rattle.dm_tables.specs.Sound.{is_any, is_known, knows_rule, is_closed}
-use Rattle.dm_dict_text.specs.Meaning.{number, entry_of, avp_def_of, group_def_of, command_def_of, vendor_of, Made, made, placed, with_item, with_items}
-use Rattle.dm_dict_text.specs.Faults.{fault_if, is_defined, entry_unknown, rule_unknown, vend_unknown, kind_unknown, unknown, vendors_with, items_unknown}
+use Rattle.dm_dict_text.specs.Meaning.{number, entry_of, avp_def_of, group_def_of, command_def_of, vendor_of, WithStrays, with_no_strays, placed, with_item, with_items}
+use Rattle.dm_dict_text.specs.Faults.{fault_if, is_defined, entry_unknown, rule_unknown, reference_unknown, kind_unknown, unknown, vendors_with, items_unknown}
 use Rattle.dm_dict_text.proofs.Along.{none_left, none_right}
 
 is_some-find : {D : Type 0} (p : D → Bool) (ds : List D) → is_some (find p ds) ≡ list_any p ds
@@ -43,7 +43,7 @@ found_some : {A B : Type 0} (f : A → B) (o : Option A) → is_some o ≡ true 
 found_some f None e = absurd cc
 found_some f (Some x) e = (f x, refl)
 
-vendor_known : (vendors : List VendorDef) (vend : Option Vend) → vend_unknown vendors vend ≡ []
+vendor_known : (vendors : List VendorDef) (vend : Option VendorReference) → reference_unknown vendors vend ≡ []
     → (v : Option ℕ) × (vendor_of vendors vend ≡ Some v)
 vendor_known vendors None e = (None, refl)
 vendor_known vendors (Some (NumberedBy w)) e = (Some (number w), refl)
@@ -53,12 +53,12 @@ vendor_known vendors (Some (NamedBy w)) e =
     let found = found_some (λ (v : VendorDef). v.number) (find (is_vendor w.text) vendors) some in
     (Some found.0, ap (option_map Some) found.1)
 
-no_stray : (m : Made) (name : List ℕ) (def : Option ℕ → AvpDef) (o : Option (Option ℕ)) (v : Option ℕ) → o ≡ Some v
+no_stray : (m : WithStrays) (name : List ℕ) (def : Option ℕ → AvpDef) (o : Option (Option ℕ)) (v : Option ℕ) → o ≡ Some v
     → m.strays ≡ [] → (placed m name def o).strays ≡ []
 no_stray m name def None v e h = absurd cc
 no_stray m name def (Some u) v e h = h
 
-item_no_stray : (all m : Made) (i : Written) → unknown all m.definitions.vendors i ≡ [] → m.strays ≡ []
+item_no_stray : (all m : WithStrays) (i : Written) → unknown all m.definitions.vendors i ≡ [] → m.strays ≡ []
     → (with_item m i).strays ≡ []
 item_no_stray all m (VendorIs p) e h = h
 item_no_stray all m (AvpIs p) e h =
@@ -66,24 +66,24 @@ item_no_stray all m (AvpIs p) e h =
     no_stray m p.name.text (avp_def_of p) _ known.0 known.1 h
 item_no_stray all m (GroupIs p) e h =
     let known = vendor_known m.definitions.vendors p.vendor
-    (none_left (vend_unknown m.definitions.vendors p.vendor) _ e) in
+    (none_left (reference_unknown m.definitions.vendors p.vendor) _ e) in
     no_stray m p.name.text (group_def_of p) _ known.0 known.1 h
 item_no_stray all m (CommandIs p) e h = h
 
-placed_vendors : (m : Made) (name : List ℕ) (def : Option ℕ → AvpDef) (o : Option (Option ℕ))
+placed_vendors : (m : WithStrays) (name : List ℕ) (def : Option ℕ → AvpDef) (o : Option (Option ℕ))
     → (placed m name def o).definitions.vendors ≡ m.definitions.vendors
 placed_vendors m name def None = refl
 placed_vendors m name def (Some v) = refl
 
 -- the vendors behind an item are those of what is made
-pub item_vendors : (m : Made) (i : Written)
+pub item_vendors : (m : WithStrays) (i : Written)
     → (with_item m i).definitions.vendors ≡ vendors_with m.definitions.vendors i
 item_vendors m (VendorIs p) = refl
 item_vendors m (AvpIs p) = placed_vendors m p.name.text (avp_def_of p) (vendor_of m.definitions.vendors p.vendor)
 item_vendors m (GroupIs p) = placed_vendors m p.name.text (group_def_of p) (vendor_of m.definitions.vendors p.vendor)
 item_vendors m (CommandIs p) = refl
 
-no_strays : (all m : Made) (items : List Written) → items_unknown all m.definitions.vendors items ≡ []
+no_strays : (all m : WithStrays) (items : List Written) → items_unknown all m.definitions.vendors items ≡ []
     → m.strays ≡ [] → (with_items m items).strays ≡ []
 no_strays all m [] e h = h
 no_strays all m (i ∷ items) e h =
@@ -99,7 +99,7 @@ without_strays false false name strays none e =
     let bad : (false || (false || false)) ≡ true = subst
     (λ (l : List (List ℕ)). (false || (false || list_any (pointwise nat_eq name) l)) ≡ true) none e in absurd cc
 
-rule_known : (all : Made) (rule : List written.Entry) → all.strays ≡ [] → rule_unknown all rule ≡ []
+rule_known : (all : WithStrays) (rule : List written.EntryParts) → all.strays ≡ [] → rule_unknown all rule ≡ []
     → knows_rule all.definitions.avps (map entry_of rule) ≡ true
 rule_known all [] none e = refl
 rule_known all (x ∷ rule) none e =
@@ -138,7 +138,7 @@ all_push p [] d h e = rw e refl
 all_push p (x ∷ ds) d h e =
     let (here, rest) = and_parts (p x) (list_all p ds) h in both _ _ here (all_push p ds d rest e)
 
-closed_placed : (avps : List AvpDef) (m : Made) (name : List ℕ) (def : Option ℕ → AvpDef) (o : Option (Option ℕ))
+closed_placed : (avps : List AvpDef) (m : WithStrays) (name : List ℕ) (def : Option ℕ → AvpDef) (o : Option (Option ℕ))
     → ((v : Option ℕ) → knows_rule avps (def v).rule ≡ true) → ClosedIn avps m.definitions ≡ true
     → ClosedIn avps (placed m name def o).definitions ≡ true
 closed_placed avps m name def None k h = h
@@ -147,7 +147,7 @@ closed_placed avps m name def (Some v) k h =
     (list_all (λ c. knows_rule avps c.rule) m.definitions.commands) h in
     both _ _ (all_push (λ a. knows_rule avps a.rule) m.definitions.avps (def v) l (k v)) r
 
-closed_item : (all m : Made) (vendors : List VendorDef) (i : Written) → all.strays ≡ []
+closed_item : (all m : WithStrays) (vendors : List VendorDef) (i : Written) → all.strays ≡ []
     → ClosedIn all.definitions.avps m.definitions ≡ true → unknown all vendors i ≡ []
     → ClosedIn all.definitions.avps (with_item m i).definitions ≡ true
 closed_item all m vendors (VendorIs p) none h e = h
@@ -156,7 +156,7 @@ closed_item all m vendors (AvpIs p) none h e =
     (λ v. refl) h
 closed_item all m vendors (GroupIs p) none h e =
     closed_placed all.definitions.avps m p.name.text (group_def_of p) (vendor_of m.definitions.vendors p.vendor)
-    (λ v. rule_known all p.rule none (none_right (vend_unknown vendors p.vendor) _ e)) h
+    (λ v. rule_known all p.rule none (none_right (reference_unknown vendors p.vendor) _ e)) h
 closed_item all m vendors (CommandIs p) none h e =
     let avps = all.definitions.avps in
     let (l, r) = and_parts (list_all (λ a. knows_rule avps a.rule) m.definitions.avps)
@@ -164,7 +164,7 @@ closed_item all m vendors (CommandIs p) none h e =
     both _ _ l
     (all_push (λ c. knows_rule avps c.rule) m.definitions.commands (command_def_of p) r (rule_known all p.rule none e))
 
-closed_items : (all m : Made) (vendors : List VendorDef) (items : List Written) → all.strays ≡ []
+closed_items : (all m : WithStrays) (vendors : List VendorDef) (items : List Written) → all.strays ≡ []
     → ClosedIn all.definitions.avps m.definitions ≡ true → items_unknown all vendors items ≡ []
     → ClosedIn all.definitions.avps (with_items m items).definitions ≡ true
 closed_items all m vendors [] none h e = h
@@ -174,19 +174,19 @@ closed_items all m vendors (i ∷ items) none h e =
     (none_right (unknown all vendors i) _ e)
 
 -- the AVPs of the items stand behind those before
-placed_more : (m : Made) (name : List ℕ) (def : Option ℕ → AvpDef) (o : Option (Option ℕ))
+placed_more : (m : WithStrays) (name : List ℕ) (def : Option ℕ → AvpDef) (o : Option (Option ℕ))
     → (more : List AvpDef) × ((placed m name def o).definitions.avps ≡ m.definitions.avps ++ more)
 placed_more m name def None = ([], sym (append-nil m.definitions.avps))
 placed_more m name def (Some v) = (def v ∷ [], refl)
 
-item_more : (m : Made) (i : Written)
+item_more : (m : WithStrays) (i : Written)
     → (more : List AvpDef) × ((with_item m i).definitions.avps ≡ m.definitions.avps ++ more)
 item_more m (VendorIs p) = ([], sym (append-nil m.definitions.avps))
 item_more m (AvpIs p) = placed_more m p.name.text (avp_def_of p) (vendor_of m.definitions.vendors p.vendor)
 item_more m (GroupIs p) = placed_more m p.name.text (group_def_of p) (vendor_of m.definitions.vendors p.vendor)
 item_more m (CommandIs p) = ([], sym (append-nil m.definitions.avps))
 
-items_more : (m : Made) (items : List Written)
+items_more : (m : WithStrays) (items : List Written)
     → (more : List AvpDef) × ((with_items m items).definitions.avps ≡ m.definitions.avps ++ more)
 items_more m [] = ([], sym (append-nil m.definitions.avps))
 items_more m (i ∷ items) =
@@ -195,15 +195,15 @@ items_more m (i ∷ items) =
     (first ++ rest, g ∙ ap (λ l. l ++ rest) e ∙ append_assoc m.definitions.avps first rest)
 
 pub closed_with : (old : Definitions) (items : List Written) → is_closed old ≡ true
-    → items_unknown (with_items (made old) items) old.vendors items ≡ []
-    → is_closed (with_items (made old) items).definitions ≡ true
+    → items_unknown (with_items (with_no_strays old) items) old.vendors items ≡ []
+    → is_closed (with_items (with_no_strays old) items).definitions ≡ true
 closed_with old items h e =
-    let all = with_items (made old) items in
-    let none = no_strays all (made old) items e refl in
-    let more = items_more (made old) items in
+    let all = with_items (with_no_strays old) items in
+    let none = no_strays all (with_no_strays old) items e refl in
+    let more = items_more (with_no_strays old) items in
     let (l, r) = and_parts (list_all (λ a. knows_rule old.avps a.rule) old.avps)
     (list_all (λ c. knows_rule old.avps c.rule) old.commands) h in
     let still : ClosedIn (old.avps ++ more.0) old ≡ true = both _ _ (all_more (λ a. a.rule) old.avps more.0 old.avps l)
     (all_more (λ c. c.rule) old.avps more.0 old.commands r) in
-    closed_items all (made old) old.vendors items none
+    closed_items all (with_no_strays old) old.vendors items none
     (subst (λ (avps : List AvpDef). ClosedIn avps old ≡ true) (sym more.1) still) e

@@ -6,25 +6,25 @@ use Rattle.dm_grammar.specs.Items.{Written, VendorParts}
 use Rattle.dm_grammar.specs.Items.Written.{VendorIs, AvpIs, GroupIs, CommandIs}
 use Rattle.dm_dict_text.specs.declared.fault.DictFault.{DictFault}
 use Rattle.dm_tables.specs.declared.def.VendorDef.{VendorDef}
-use Rattle.dm_dict_text.specs.Meaning.{vendor_count, vendor_def_of, Made}
-use Rattle.dm_dict_text.specs.Faults.{first_of, unknown, vendors_with, items_unknown}
+use Rattle.dm_dict_text.specs.Meaning.{vendor_count, vendor_def_of, WithStrays}
+use Rattle.dm_dict_text.specs.Faults.{first_dict_fault, unknown, vendors_with, items_unknown}
 use Rattle.dm_dict_text.proofs.Reading.{all_vendors}
 
 pub is_none : (o : Option DictFault) → is_some o ≡ false → o ≡ None
 is_none None h = refl
 is_none (Some f) h = absurd cc
 
-pub first_or : (xs ys : List DictFault) → option_or (first_of xs) (first_of ys) ≡ first_of (xs ++ ys)
+pub first_or : (xs ys : List DictFault) → option_or (first_dict_fault xs) (first_dict_fault ys) ≡ first_dict_fault (xs ++ ys)
 first_or [] ys = refl
 first_or (x ∷ xs) ys = refl
 
-pub first_of-append : (xs ys : List DictFault) → first_of xs ≡ None → first_of (xs ++ ys) ≡ first_of ys
-first_of-append [] ys h = refl
-first_of-append (x ∷ xs) ys h = absurd cc
+pub first_dict_fault-append : (xs ys : List DictFault) → first_dict_fault xs ≡ None → first_dict_fault (xs ++ ys) ≡ first_dict_fault ys
+first_dict_fault-append [] ys h = refl
+first_dict_fault-append (x ∷ xs) ys h = absurd cc
 
-pub first_of-left : (xs ys : List DictFault) (f : DictFault) → Some f ≡ first_of xs → Some f ≡ first_of (xs ++ ys)
-first_of-left [] ys f h = absurd cc
-first_of-left (x ∷ xs) ys f h = h
+pub first_dict_fault-left : (xs ys : List DictFault) (f : DictFault) → Some f ≡ first_dict_fault xs → Some f ≡ first_dict_fault (xs ++ ys)
+first_dict_fault-left [] ys f h = absurd cc
+first_dict_fault-left (x ∷ xs) ys f h = h
 
 take_long : {A : Type 0} (n : ℕ) (xs : List A) → n ≤ length xs → length (take n xs) ≡ n
 take_long zero xs h = refl
@@ -43,7 +43,7 @@ one_more all n p items h e =
     (λ i. take (sym long i) (parts i)) ∙ take-append_seam (take n all ++ vendor_def_of p ∷ []) more.0
 
 -- what is left of the items behind the next of them
-module _ (all : Made) (vendors : List VendorDef) {I : Type 0} (shown : I → Written) where
+module _ (all : WithStrays) (vendors : List VendorDef) {I : Type 0} (shown : I → Written) where
   next : (items : List I) (i : ℕ) (d x : I) → i < length items → x ≡ get_or items i d
       → drop i items ≡ x ∷ drop (i + 1) items
   next items i d x h at = rw (at, add-one i) (drop-cons items i d h)
@@ -51,24 +51,24 @@ module _ (all : Made) (vendors : List VendorDef) {I : Type 0} (shown : I → Wri
   -- a fault of the next item is the first
   pub next_fault : (items : List I) (i n : ℕ) (d x : I) (o : Option DictFault) (whole : List DictFault) →
       i < length items
-      → x ≡ get_or items i d → first_of whole ≡ first_of (items_unknown all (take n vendors) (map shown (drop i items)))
-      → o ≡ first_of (unknown all (take n vendors) (shown x)) → is_some o ≡ true → o ≡ first_of whole
+      → x ≡ get_or items i d → first_dict_fault whole ≡ first_dict_fault (items_unknown all (take n vendors) (map shown (drop i items)))
+      → o ≡ first_dict_fault (unknown all (take n vendors) (shown x)) → is_some o ≡ true → o ≡ first_dict_fault whole
   next_fault items i n d x None whole h at left e some = absurd cc
   next_fault items i n d x (Some f) whole h at left e some =
-      first_of-left (unknown all (take n vendors) (shown x)) _ f e
-      ∙ sym (left ∙ ap (λ (l : List I). first_of (items_unknown all (take n vendors) (map shown l)))
+      first_dict_fault-left (unknown all (take n vendors) (shown x)) _ f e
+      ∙ sym (left ∙ ap (λ (l : List I). first_dict_fault (items_unknown all (take n vendors) (map shown l)))
       (next items i d x h at))
 
   -- the next item has no fault
   pub next_left : (items : List I) (i n m : ℕ) (d x : I) (whole : List DictFault) → i < length items
-      → x ≡ get_or items i d → first_of whole ≡ first_of (items_unknown all (take n vendors) (map shown (drop i items)))
-      → None ≡ first_of (unknown all (take n vendors) (shown x)) →
+      → x ≡ get_or items i d → first_dict_fault whole ≡ first_dict_fault (items_unknown all (take n vendors) (map shown (drop i items)))
+      → None ≡ first_dict_fault (unknown all (take n vendors) (shown x)) →
       take m vendors ≡ vendors_with (take n vendors) (shown x)
-      → first_of whole ≡ first_of (items_unknown all (take m vendors) (map shown (drop (i + 1) items)))
+      → first_dict_fault whole ≡ first_dict_fault (items_unknown all (take m vendors) (map shown (drop (i + 1) items)))
   next_left items i n m d x whole h at left none step =
-      left ∙ ap (λ (l : List I). first_of (items_unknown all (take n vendors) (map shown l))) (next items i d x h at)
-      ∙ first_of-append (unknown all (take n vendors) (shown x)) _ (sym none)
-      ∙ ap (λ vs. first_of (items_unknown all vs (map shown (drop (i + 1) items)))) (sym step)
+      left ∙ ap (λ (l : List I). first_dict_fault (items_unknown all (take n vendors) (map shown l))) (next items i d x h at)
+      ∙ first_dict_fault-append (unknown all (take n vendors) (shown x)) _ (sym none)
+      ∙ ap (λ vs. first_dict_fault (items_unknown all vs (map shown (drop (i + 1) items)))) (sym step)
 
   pub next_theirs : (items : List I) (i n m : ℕ) (d x : I) → i < length items → x ≡ get_or items i d
       → fold vendors_with (take n vendors) (map shown (drop i items)) ≡ vendors

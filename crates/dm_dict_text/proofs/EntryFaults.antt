@@ -7,7 +7,7 @@ use Rattle.dm_tables.specs.declared.rule.Entry.{Entry}
 use Rattle.dm_dict_text.specs.declared.fault.DictFault.TheVariants.{Duplicate, Order}
 use Rattle.dm_tables.specs.EntryEquality.{form_number}
 use Rattle.dm_tables.specs.Sound.{is_repeated, is_late}
-use Rattle.dm_dict_text.specs.Faults.{Stops, bound_faults, place_faults, rule_entry_faults}
+use Rattle.dm_dict_text.specs.Faults.{StopsAtFirst, bound_faults, place_faults, rule_entry_faults}
 use Rattle.dm_dict_text.proofs.Along.{stops_right, none_both}
 
 pub any-map : {A B : Type 0} (p : B → Bool) (f : A → B) (xs : List A) →
@@ -22,18 +22,18 @@ repeated shown ks es name e =
     sym (any-map (pointwise nat_eq name) shown ks) ∙ ap (list_any (pointwise nat_eq name)) e ∙ any-map
     (pointwise nat_eq name) (λ x. x.name) es
 
-pub duplicate_stops : (before : List Entry) (e : written.Entry) → bound_faults e ≡ []
-    → is_repeated before e.name.text ≡ true → Stops (rule_entry_faults before e) (Duplicate e.name.line)
+pub duplicate_stops : (before : List Entry) (e : written.EntryParts) → bound_faults e ≡ []
+    → is_repeated before e.name.text ≡ true → StopsAtFirst (rule_entry_faults before e) (Duplicate e.name.line)
 duplicate_stops before e none h =
     stops_right (bound_faults e) (place_faults before e) (Duplicate e.name.line) none (rw h (inr refl))
 
-pub order_stops : (before : List Entry) (e : written.Entry) → bound_faults e ≡ []
+pub order_stops : (before : List Entry) (e : written.EntryParts) → bound_faults e ≡ []
     → is_repeated before e.name.text ≡ false → is_late before (form_number e.form) ≡ true
-    → Stops (rule_entry_faults before e) (Order e.name.line)
+    → StopsAtFirst (rule_entry_faults before e) (Order e.name.line)
 order_stops before e none h g =
     stops_right (bound_faults e) (place_faults before e) (Order e.name.line) none (rw (h, g) (inr refl))
 
-pub no_entry_fault : (before : List Entry) (e : written.Entry) → bound_faults e ≡ []
+pub no_entry_fault : (before : List Entry) (e : written.EntryParts) → bound_faults e ≡ []
     → is_repeated before e.name.text ≡ false → is_late before (form_number e.form) ≡ false
     → rule_entry_faults before e ≡ []
 no_entry_fault before e none h g = none_both (bound_faults e) (place_faults before e) none (rw (h, g) refl)

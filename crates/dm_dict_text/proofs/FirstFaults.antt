@@ -7,7 +7,7 @@ use Rattle.std.proofs.lemmas.List.Folds.{list_all-append}
 use Rattle.dm_grammar.specs.Tokens.{Word, tokens}
 use Rattle.dm_grammar.specs.Items as written
 use Rattle.dm_grammar.specs.Items.{AvpParts, GroupParts, Written}
-use Rattle.dm_grammar.specs.Items.Vend.{NumberedBy}
+use Rattle.dm_grammar.specs.Items.VendorReference.{NumberedBy}
 use Rattle.dm_grammar.specs.Spelling.{AreItems}
 use Rattle.dm_grammar.specs.Syntax.{IsSyntaxFault}
 use Rattle.dm_grammar.specs.FirstVersion.{FirstItem, Breaks, as_written, AreFirstWritten}
@@ -19,8 +19,8 @@ use Rattle.dm_tables.specs.declared.def.AvpDef.{AvpDef}
 use Rattle.dm_tables.specs.Definitions.{Definitions}
 use Rattle.dm_tables.specs.Sound.{is_any}
 use Rattle.dm_dict_text.specs.Printed.{has_none, is_first_version}
-use Rattle.dm_dict_text.specs.Meaning.{number, vendor_of, avp_def_of, group_def_of, made, placed, with_item, with_items}
-use Rattle.dm_dict_text.specs.Faults.{fault_if, first_of, limit, range_faults, option_faults, rule_faults, vend_faults, is_taken, is_defined, name_faults, code_faults, item_faults, items_faults, entry_unknown, kind_unknown, vend_unknown, unknown, vendors_with, items_unknown}
+use Rattle.dm_dict_text.specs.Meaning.{number, vendor_of, avp_def_of, group_def_of, with_no_strays, placed, with_item, with_items}
+use Rattle.dm_dict_text.specs.Faults.{fault_if, first_dict_fault, limit, range_faults, option_faults, rule_faults, reference_faults, is_taken, is_defined, name_faults, code_faults, item_faults, items_faults, entry_unknown, kind_unknown, reference_unknown, unknown, vendors_with, items_unknown}
 use Rattle.dm_dict_text.specs.FirstFaults.{first_avp_def, first_group_def, first_with_item, first_with_items, has_name, first_name_faults, first_code_faults, first_item_faults, first_items_faults, first_entry_unknown, first_unknown, first_faults}
 use Rattle.dm_dict_text.specs.Outcome.{all_faults, Defines, IsFirstFault}
 use Rattle.dm_dict_text.specs.FirstOutcome.{DefinesByFirst, IsFaultByFirst}
@@ -31,18 +31,18 @@ known : (vendors : List VendorDef) (v : Option Word)
 known vendors None = refl
 known vendors (Some w) = refl
 
-limited : (v : Option Word) → vend_faults (option_map NumberedBy v) ≡ option_faults limit v
+limited : (v : Option Word) → reference_faults (option_map NumberedBy v) ≡ option_faults limit v
 limited None = refl
 limited (Some w) = refl
 
-no_name : (vendors : List VendorDef) (v : Option Word) → vend_unknown vendors (option_map NumberedBy v) ≡ []
+no_name : (vendors : List VendorDef) (v : Option Word) → reference_unknown vendors (option_map NumberedBy v) ≡ []
 no_name vendors None = refl
 no_name vendors (Some w) = refl
 
 -- an item defines what it defines by version 1
-one_made : (d : Definitions) (i : FirstItem) → with_item (made d) (as_written i) ≡ made (first_with_item d i)
+one_made : (d : Definitions) (i : FirstItem) → with_item (with_no_strays d) (as_written i) ≡ with_no_strays (first_with_item d i)
 one_made d (FirstAvpIs p) =
-    λ i. placed (made d) p.name.text
+    λ i. placed (with_no_strays d) p.name.text
     (avp_def_of (record {
       name = p.name;
       code = p.code;
@@ -52,23 +52,23 @@ one_made d (FirstAvpIs p) =
     }))
     (known d.vendors p.vendor i)
 one_made d (FirstGroupIs p) =
-    λ i. placed (made d) p.name.text
+    λ i. placed (with_no_strays d) p.name.text
     (group_def_of
     (record { name = p.name; code = p.code; vendor = option_map NumberedBy p.vendor; rule = p.rule }))
     (known d.vendors p.vendor i)
 one_made d (FirstCommandIs p) = refl
 
 all_made : (d : Definitions) (is : List FirstItem)
-    → with_items (made d) (map as_written is) ≡ made (first_with_items d is)
+    → with_items (with_no_strays d) (map as_written is) ≡ with_no_strays (first_with_items d is)
 all_made d [] = refl
 all_made d (i ∷ is) =
     ap (λ m. with_items m (map as_written is)) (one_made d i) ∙ all_made (first_with_item d i) is
 
 -- without strays the names are those of the definitions
-same_defined : (d : Definitions) (name : List ℕ) → is_defined (made d) name ≡ has_name d.avps name
+same_defined : (d : Definitions) (name : List ℕ) → is_defined (with_no_strays d) name ≡ has_name d.avps name
 same_defined d name = or-false (has_name d.avps name)
 
-same_name : (d : Definitions) (w : Word) → name_faults (made d) w ≡ first_name_faults d.avps w
+same_name : (d : Definitions) (w : Word) → name_faults (with_no_strays d) w ≡ first_name_faults d.avps w
 same_name d w = λ i. fault_if (is_any w.text || same_defined d w.text i) (is.Duplicate w.line)
 
 same_code : (d : Definitions) (code : Word) (v : Option Word)
@@ -77,31 +77,31 @@ same_code d code v =
     λ i. range_faults limit code
     ++ fault_if (is_taken d.avps (number code) (known d.vendors v i)) (is.Duplicate code.line) ++ limited v i
 
-same_item : (d : Definitions) (i : FirstItem) → item_faults (made d) (as_written i) ≡ first_item_faults d i
+same_item : (d : Definitions) (i : FirstItem) → item_faults (with_no_strays d) (as_written i) ≡ first_item_faults d i
 same_item d (FirstAvpIs p) =
-    append-nil (name_faults (made d) p.name ++ code_faults d p.code (option_map NumberedBy p.vendor)) ∙
+    append-nil (name_faults (with_no_strays d) p.name ++ code_faults d p.code (option_map NumberedBy p.vendor)) ∙
     (λ i. same_name d p.name i ++ same_code d p.code p.vendor i)
 same_item d (FirstGroupIs p) = λ i. same_name d p.name i ++ same_code d p.code p.vendor i ++ rule_faults p.rule
 same_item d (FirstCommandIs p) = refl
 
 same_items : (d : Definitions) (is : List FirstItem)
-    → items_faults (made d) (map as_written is) ≡ first_items_faults d is
+    → items_faults (with_no_strays d) (map as_written is) ≡ first_items_faults d is
 same_items d [] = refl
 same_items d (i ∷ is) =
-    ap (λ m. item_faults (made d) (as_written i) ++ items_faults m (map as_written is)) (one_made d i)
+    ap (λ m. item_faults (with_no_strays d) (as_written i) ++ items_faults m (map as_written is)) (one_made d i)
     ∙ (λ k. same_item d i k ++ same_items (first_with_item d i) is k)
 
 -- and its unknown names
-same_entry : (d : Definitions) (e : written.Entry) → entry_unknown (made d) e ≡ first_entry_unknown d.avps e
+same_entry : (d : Definitions) (e : written.EntryParts) → entry_unknown (with_no_strays d) e ≡ first_entry_unknown d.avps e
 same_entry d e =
     λ i. fault_if (not (is_any e.name.text || same_defined d e.name.text i)) (is.UnknownName e.name.line)
 
-same_rule : (d : Definitions) (rule : List written.Entry)
-    → flat_map (entry_unknown (made d)) rule ≡ flat_map (first_entry_unknown d.avps) rule
+same_rule : (d : Definitions) (rule : List written.EntryParts)
+    → flat_map (entry_unknown (with_no_strays d)) rule ≡ flat_map (first_entry_unknown d.avps) rule
 same_rule d rule = λ i. flat_map (λ e. same_entry d e i) rule
 
 same_unknown : (d : Definitions) (vendors : List VendorDef) (i : FirstItem)
-    → unknown (made d) vendors (as_written i) ≡ first_unknown d.avps i
+    → unknown (with_no_strays d) vendors (as_written i) ≡ first_unknown d.avps i
 same_unknown d vendors (FirstAvpIs p) =
     ap (λ l. kind_unknown p.kind ++ l) (no_name vendors p.vendor) ∙ append-nil (kind_unknown p.kind)
 same_unknown d vendors (FirstGroupIs p) = λ i. no_name vendors p.vendor i ++ same_rule d p.rule i
@@ -113,16 +113,16 @@ no_vendor vendors (FirstGroupIs p) = refl
 no_vendor vendors (FirstCommandIs p) = refl
 
 all_unknown : (d : Definitions) (vendors : List VendorDef) (is : List FirstItem)
-    → items_unknown (made d) vendors (map as_written is) ≡ flat_map (first_unknown d.avps) is
+    → items_unknown (with_no_strays d) vendors (map as_written is) ≡ flat_map (first_unknown d.avps) is
 all_unknown d vendors [] = refl
 all_unknown d vendors (i ∷ is) =
-    ap (λ v. unknown (made d) vendors (as_written i) ++ items_unknown (made d) v (map as_written is))
+    ap (λ v. unknown (with_no_strays d) vendors (as_written i) ++ items_unknown (with_no_strays d) v (map as_written is))
     (no_vendor vendors i)
     ∙ (λ k. same_unknown d vendors i k ++ all_unknown d vendors is k)
 
 same_faults : (d : Definitions) (is : List FirstItem) → all_faults d (map as_written is) ≡ first_faults d is
 same_faults d is =
-    ap (λ m. items_faults (made d) (map as_written is) ++ items_unknown m d.vendors (map as_written is)) (all_made d is)
+    ap (λ m. items_faults (with_no_strays d) (map as_written is) ++ items_unknown m d.vendors (map as_written is)) (all_made d is)
     ∙ (λ k. same_items d is k ++ all_unknown (first_with_items d is) d.vendors is k)
 
 -- of a whole text that its grammar reads by version 1
@@ -133,7 +133,7 @@ abbrev pub BreaksFirst : List ℕ → Type 0
 BreaksFirst text = (line : ℕ) → IsSyntaxFault text line ↔ Breaks text line
 
 made_followed : (d new : Definitions) (is : List FirstItem)
-    → new ≡ (with_items (made d) (map as_written is)).definitions → new ≡ first_with_items d is
+    → new ≡ (with_items (with_no_strays d) (map as_written is)).definitions → new ≡ first_with_items d is
 made_followed d new is e = e ∙ ap (λ m. m.definitions) (all_made d is)
 
 to_defines : (text : List ℕ) (old new : Definitions) → ReadsFirst text → Defines text old new
@@ -144,7 +144,7 @@ to_defines text old new reads d =
       items = f.0;
       grammatical = f.1.1;
       faultless = sym (same_faults old f.0) ∙ (ap (all_faults old) (sym f.1.0) ∙ d.faultless);
-      followed = made_followed old new f.0 (d.followed ∙ ap (λ is. (with_items (made old) is).definitions) f.1.0);
+      followed = made_followed old new f.0 (d.followed ∙ ap (λ is. (with_items (with_no_strays old) is).definitions) f.1.0);
     }
 
 from_defines : (text : List ℕ) (old new : Definitions) → ReadsFirst text → DefinesByFirst text old new
@@ -169,7 +169,7 @@ to_fault text old fault reads breaks (inr h) =
     inr (record {
       items = f.0;
       grammatical = f.1.1;
-      first = ap first_of (sym (same_faults old f.0)) ∙ (ap (λ is. first_of (all_faults old is)) (sym f.1.0) ∙ h.first);
+      first = ap first_dict_fault (sym (same_faults old f.0)) ∙ (ap (λ is. first_dict_fault (all_faults old is)) (sym f.1.0) ∙ h.first);
     })
 
 from_fault : (text : List ℕ) (old : Definitions) (fault : DictFault) → ReadsFirst text → BreaksFirst text
@@ -179,7 +179,7 @@ from_fault text old fault reads breaks (inr h) =
     inr (record {
       items = map as_written h.items;
       grammatical = (reads (map as_written h.items)).1 (h.items, (refl, h.grammatical));
-      first = ap first_of (same_faults old h.items) ∙ h.first;
+      first = ap first_dict_fault (same_faults old h.items) ∙ h.first;
     })
 
 pub faults_first : (text : List ℕ) (old : Definitions) (fault : DictFault) → ReadsFirst text → BreaksFirst text →

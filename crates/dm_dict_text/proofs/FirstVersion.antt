@@ -5,7 +5,7 @@ use Rattle.std.specs.List.{list_all, flat_map}
 use Rattle.dm_tables.specs.declared.def.AvpDef.{AvpDef}
 use Rattle.dm_tables.specs.Definitions.{Definitions}
 use Rattle.dm_tables.specs.Sound.{is_grouped}
-use Rattle.dm_dict_text.specs.Printed.{type_name, spaced, spaced_number, spaced_option, list_text, line_end, plain_line, group_line, avp_line, vendor_line, version_line, command_line, has_none, is_first_version, printed}
+use Rattle.dm_dict_text.specs.Printed.{type_name, spaced, spaced_number, spaced_option, value_list_text, line_end, plain_line, group_line, avp_line, vendor_line, version_line, command_line, has_none, is_first_version, printed}
 use Rattle.dm_dict_text.specs.FirstVersion.{first_plain_line, first_avp_line, first_printed}
 
 none_is : {A : Type 0} (xs : List A) → has_none xs ≡ true → xs ≡ []
@@ -18,8 +18,8 @@ no_list a b c d e l n none = rw none (simp (append_assoc, append-nil))
 plain : (a : AvpDef) → has_none a.values ≡ true → plain_line a ≡ first_plain_line a
 plain a h =
     no_list (codes "@ ") a.name (spaced_number a.code) (spaced (type_name a.kind)) (spaced_option a.vendor)
-    (list_text a.values)
-    line_end (ap list_text (none_is a.values h))
+    (value_list_text a.values)
+    line_end (ap value_list_text (none_is a.values h))
 
 line : (a : AvpDef) → has_none a.values ≡ true → avp_line a ≡ first_avp_line a
 line a h = λ i. if is_grouped a.kind then group_line a else plain a h i

@@ -12,7 +12,7 @@ use Rattle.dm_dict_text.specs.declared.fault.DictFault.TheVariants.{Duplicate}
 use Rattle.dm_tables.specs.Listed.{has_number}
 use Rattle.dm_tables.specs.Sound.{is_value}
 use Rattle.dm_dict_text.specs.Meaning.{number}
-use Rattle.dm_dict_text.specs.Faults.{Stops, fault_if, range_faults, value_limit, value_faults}
+use Rattle.dm_dict_text.specs.Faults.{StopsAtFirst, fault_if, range_faults, value_limit, listed_value_faults}
 use Rattle.dm_dict_text.proofs.Along.{stops_left, stops_right, none_both, none_left, none_right}
 use Rattle.dm_dict_text.proofs.EntryFaults.{any-map}
 
@@ -28,33 +28,33 @@ pub number_kept : (ks : List ℤ) (vs : List EnumValue) (n : ℤ) → ks ≡ map
     → list_any (int_eq n) ks ≡ list_any (has_number n) vs
 number_kept ks vs n e = ap (list_any (int_eq n)) e ∙ any-map (int_eq n) (λ v. v.number) vs
 
-module _ (before : List EnumValue) (v : written.Value) where
+module _ (before : List EnumValue) (v : written.ValueParts) where
   abbrev twice : List DictFault
   twice = fault_if (list_any (is_value v.name.text) before) (Duplicate v.name.line)
 
   abbrev taken : List DictFault
   taken = fault_if (list_any (has_number (pos (number v.number))) before) (Duplicate v.number.line)
 
-  pub name_stops : list_any (is_value v.name.text) before ≡ true → Stops (value_faults before v) (Duplicate v.name.line)
+  pub name_stops : list_any (is_value v.name.text) before ≡ true → StopsAtFirst (listed_value_faults before v) (Duplicate v.name.line)
   name_stops h =
       stops_left (twice ++ range_faults value_limit v.number) taken (Duplicate v.name.line)
       (stops_left twice (range_faults value_limit v.number) (Duplicate v.name.line) (rw h (inr refl)))
 
   pub range_stops : (f : DictFault) → list_any (is_value v.name.text) before ≡ false
-      → Stops (range_faults value_limit v.number) f → Stops (value_faults before v) f
+      → StopsAtFirst (range_faults value_limit v.number) f → StopsAtFirst (listed_value_faults before v) f
   range_stops f h s =
       stops_left (twice ++ range_faults value_limit v.number) taken f
       (stops_right twice (range_faults value_limit v.number) f (rw h refl) s)
 
   pub number_stops : list_any (is_value v.name.text) before ≡ false → range_faults value_limit v.number ≡ []
       → list_any (has_number (pos (number v.number))) before ≡ true
-      → Stops (value_faults before v) (Duplicate v.number.line)
+      → StopsAtFirst (listed_value_faults before v) (Duplicate v.number.line)
   number_stops h none g =
       stops_right (twice ++ range_faults value_limit v.number) taken (Duplicate v.number.line)
       (none_both twice (range_faults value_limit v.number) (rw h refl) none) (rw g (inr refl))
 
   pub no_value_fault : list_any (is_value v.name.text) before ≡ false → range_faults value_limit v.number ≡ []
-      → list_any (has_number (pos (number v.number))) before ≡ false → value_faults before v ≡ []
+      → list_any (has_number (pos (number v.number))) before ≡ false → listed_value_faults before v ≡ []
   no_value_fault h none g =
       none_both (twice ++ range_faults value_limit v.number) taken
       (none_both twice (range_faults value_limit v.number) (rw h refl) none) (rw g refl)
@@ -64,7 +64,7 @@ no_fault true f e = absurd cc
 no_fault false f e = refl
 
 -- a value without fault has a name and a number of its own
-pub value_new : (before : List EnumValue) (v : written.Value) → value_faults before v ≡ []
+pub value_new : (before : List EnumValue) (v : written.ValueParts) → listed_value_faults before v ≡ []
     → (list_any (is_value v.name.text) before ≡ false) × (list_any (has_number (pos (number v.number))) before ≡ false)
 value_new before v e =
     let front = none_left (twice before v ++ range_faults value_limit v.number) (taken before v) e in (

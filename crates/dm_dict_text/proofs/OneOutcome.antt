@@ -7,11 +7,11 @@ use Rattle.dm_grammar.specs.Tokens.{Word, tokens}
 use Rattle.dm_dict_text.specs.declared.fault.DictFault.{DictFault}
 use Rattle.dm_dict_text.specs.declared.fault.DictFault.TheVariants.{Syntax}
 use Rattle.dm_tables.specs.Definitions.{Definitions}
-use Rattle.dm_dict_text.specs.Meaning.{made, with_items}
-use Rattle.dm_dict_text.specs.Faults.{first_of}
+use Rattle.dm_dict_text.specs.Meaning.{with_no_strays, with_items}
+use Rattle.dm_dict_text.specs.Faults.{first_dict_fault}
 use Rattle.dm_dict_text.specs.Outcome.{all_faults, Defines, IsFirstFault}
 
-no_fault : {P : Type 0} (f : DictFault) → first_of [] ≡ Some f → P
+no_fault : {P : Type 0} (f : DictFault) → first_dict_fault [] ≡ Some f → P
 no_fault f e = absurd cc
 
 one_first : (o : Option DictFault) (f g : DictFault) → o ≡ Some f → o ≡ Some g → f ≡ g
@@ -32,7 +32,7 @@ pub one_definition : OneList → (text : List ℕ) (old a b : Definitions) → D
     → a ≡ b
 one_definition one text old a b d e =
     d.followed ∙
-    ap (λ is. (with_items (made old) is).definitions)
+    ap (λ is. (with_items (with_no_strays old) is).definitions)
     (one (tokens text) d.items e.items d.grammatical e.grammatical) ∙ sym e.followed
 
 pub no_outcome : OneList → NeverBoth → (text : List ℕ) (old new : Definitions) (f : DictFault) → Defines text old new
@@ -41,8 +41,8 @@ no_outcome one never text old new f d (inl s) = never text d.items s.0 d.grammat
 no_outcome one never text old new f d (inr h) =
     let same = one (tokens text) h.items d.items h.grammatical d.grammatical in
     no_fault f
-    (subst (λ (l : List DictFault). first_of l ≡ Some f) d.faultless
-    (subst (λ (is : List Written). first_of (all_faults old is) ≡ Some f) same h.first))
+    (subst (λ (l : List DictFault). first_dict_fault l ≡ Some f) d.faultless
+    (subst (λ (is : List Written). first_dict_fault (all_faults old is) ≡ Some f) same h.first))
 
 pub one_fault : OneList → OneLine → NeverBoth → (text : List ℕ) (old : Definitions) (f g : DictFault)
     → IsFirstFault text old f → IsFirstFault text old g → f ≡ g
@@ -52,5 +52,5 @@ one_fault one line never text old f g (inl s) (inr t) = absurd (never text t.ite
 one_fault one line never text old f g (inr s) (inl t) = absurd (never text s.items t.0 s.grammatical t.2)
 one_fault one line never text old f g (inr s) (inr t) =
     let same = one (tokens text) s.items t.items s.grammatical t.grammatical in
-    one_first (first_of (all_faults old t.items)) f g
-    (subst (λ (is : List Written). first_of (all_faults old is) ≡ Some f) same s.first) t.first
+    one_first (first_dict_fault (all_faults old t.items)) f g
+    (subst (λ (is : List Written). first_dict_fault (all_faults old is) ≡ Some f) same s.first) t.first

@@ -15,29 +15,29 @@ use Rattle.dm_tables.specs.declared.def.CommandDef.{CommandDef}
 use Rattle.dm_tables.specs.EntryEquality.{form_number}
 use Rattle.dm_tables.specs.Listed.{has_number}
 use Rattle.dm_tables.specs.Definitions.{Definitions, nothing_defined, is_vendor, has_vendor_number, is_named, is_titled, is_headed}
-use Rattle.dm_tables.specs.Sound.{is_any, fits, fits_option, bounds, is_grouped, is_empty_rule, is_repeated, is_late, each_after, is_sound_entry, is_sound_avp, is_sound_command, is_known, knows_rule, is_value, is_listable, is_sound_value, is_enumerated, is_empty_list, is_sound_vendor}
+use Rattle.dm_tables.specs.Sound.{is_any, fits_32_bits, option_fits_32_bits, bounds, is_grouped, is_empty_rule, is_repeated, is_late, each_after, is_sound_entry, is_sound_avp, is_sound_command, is_known, knows_rule, is_value, is_listable, is_sound_value, is_enumerated, is_empty_list, is_sound_vendor}
 use Rattle.dm_dict_text.specs.Printed.{type_name}
-use Rattle.dm_dict_text.specs.Meaning.{number, kind_of, entry_of, avp_def_of, group_def_of, value_of, vendor_of, made, placed, with_item, with_items}
-use Rattle.dm_dict_text.specs.Faults.{fault_if, faults_along, range_faults, option_faults, command_limit, limit, low_faults, above_faults, high_faults, bound_faults, place_faults, rule_entry_faults, with_entry, rule_faults, name_faults, code_faults, title_faults, item_faults, items_faults, is_defined, is_taken, vend_faults, value_limit, value_faults, with_value, entry_unknown, rule_unknown, vend_unknown, kind_unknown, unknown, vendors_with, items_unknown}
+use Rattle.dm_dict_text.specs.Meaning.{number, type_named, entry_of, avp_def_of, group_def_of, value_of, vendor_of, with_no_strays, placed, with_item, with_items}
+use Rattle.dm_dict_text.specs.Faults.{fault_if, faults_along, range_faults, option_faults, command_limit, limit, low_faults, above_faults, high_faults, bound_faults, place_faults, rule_entry_faults, with_entry, rule_faults, name_faults, code_faults, title_faults, item_faults, items_faults, is_defined, is_taken, reference_faults, value_limit, listed_value_faults, with_value, entry_unknown, rule_unknown, reference_unknown, kind_unknown, unknown, vendors_with, items_unknown}
 use Rattle.dm_dict_text.proofs.Along.{none_both}
 use Rattle.dm_tables.specs.SoundParts.{SoundAvp, avp_parts, command_parts, value_parts, vendor_parts}
 use Rattle.dm_dict_text.proofs.PrintWords.{word_of, number_word, number_of-decimal}
 use Rattle.dm_dict_text.proofs.PrintItems.{written_option, written_vend, written_value, written_list, written_vendor, written_vendors, written_all, written_entry, written_rule, written_plain, written_group, written_avp, written_command, written_avps, written_commands}
 
-small : (n : ℕ) → fits n ≡ true → n ≤ limit
+small : (n : ℕ) → fits_32_bits n ≡ true → n ≤ limit
 small n h = leb-true n limit h
 
-value : (line n : ℕ) → fits n ≡ true → number (number_word line n) ≡ n
+value : (line n : ℕ) → fits_32_bits n ≡ true → number (number_word line n) ≡ n
 value line n h = number_of-decimal n (small n h)
 
-option_value : (line : ℕ) (o : Option ℕ) → fits_option o ≡ true → option_map number (written_option line o) ≡ o
+option_value : (line : ℕ) (o : Option ℕ) → option_fits_32_bits o ≡ true → option_map number (written_option line o) ≡ o
 option_value line None h = refl
 option_value line (Some n) h = ap Some (value line n h)
 
-no_range : (line n : ℕ) → fits n ≡ true → range_faults limit (number_word line n) ≡ []
+no_range : (line n : ℕ) → fits_32_bits n ≡ true → range_faults limit (number_word line n) ≡ []
 no_range line n h = rw (value line n h, le-ltb limit n (small n h)) refl
 
-no_option_range : (line : ℕ) (o : Option ℕ) → fits_option o ≡ true → option_faults limit (written_option line o) ≡ []
+no_option_range : (line : ℕ) (o : Option ℕ) → option_fits_32_bits o ≡ true → option_faults limit (written_option line o) ≡ []
 no_option_range line None h = refl
 no_option_range line (Some n) h = no_range line n h
 
@@ -47,15 +47,15 @@ no_fault b f h = rw h refl
 no_above : (line min : ℕ) (max : Option ℕ) → bounds min max ≡ true → above_faults min (written_option line max) ≡ []
 no_above line min None h = refl
 no_above line min (Some n) h =
-    let (fit, ordered) = and_parts (fits n) (nat_le min n) h in
+    let (fit, ordered) = and_parts (fits_32_bits n) (nat_le min n) h in
     rw (value line n fit, le-ltb limit n (small n fit), le-ltb n min (leb-true min n ordered)) refl
 
 max_value : (line min : ℕ) (max : Option ℕ) → bounds min max ≡ true → option_map number (written_option line max) ≡ max
 max_value line min None h = refl
-max_value line min (Some n) h = ap Some (value line n (and_parts (fits n) (nat_le min n) h).0)
+max_value line min (Some n) h = ap Some (value line n (and_parts (fits_32_bits n) (nat_le min n) h).0)
 
 pub record EntryFacts (before : List Entry) (e : Entry) : Type 0 where
-  pub min : fits e.min ≡ true
+  pub min : fits_32_bits e.min ≡ true
   pub bound : bounds e.min e.max ≡ true
   pub once : is_repeated before e.name ≡ false
   pub ordered : is_late before (form_number e.form) ≡ false
@@ -113,17 +113,17 @@ or_none : (a b : Bool) → a ≡ false → b ≡ false → (a || (b || false)) �
 or_none a b e g = rw (e, g) refl
 
 no_name_fault : (line : ℕ) (d : Definitions) (a : AvpDef) → SoundAvp d.avps a
-    → name_faults (made d) (word_of line a.name) ≡ []
+    → name_faults (with_no_strays d) (word_of line a.name) ≡ []
 no_name_fault line d a p =
-    no_fault (is_any a.name || is_defined (made d) a.name) _
+    no_fault (is_any a.name || is_defined (with_no_strays d) a.name) _
     (or_none (is_any a.name) (list_any (is_named a.name) d.avps) p.not_any p.new_name)
 
-vend_value : (line : ℕ) (vendors : List VendorDef) (o : Option ℕ) → fits_option o ≡ true
+vend_value : (line : ℕ) (vendors : List VendorDef) (o : Option ℕ) → option_fits_32_bits o ≡ true
     → vendor_of vendors (written_vend line o) ≡ Some o
 vend_value line vendors None h = refl
 vend_value line vendors (Some n) h = ap (λ (x : ℕ). Some (Some x)) (value line n h)
 
-no_vend_range : (line : ℕ) (o : Option ℕ) → fits_option o ≡ true → vend_faults (written_vend line o) ≡ []
+no_vend_range : (line : ℕ) (o : Option ℕ) → option_fits_32_bits o ≡ true → reference_faults (written_vend line o) ≡ []
 no_vend_range line None h = refl
 no_vend_range line (Some n) h = no_range line n h
 
@@ -155,7 +155,7 @@ same_value : (line : ℕ) (v : EnumValue) → is_listable v.number ≡ true → 
 same_value line v h = λ i. record { name = v.name; number = listed_value line v h i }
 
 no_value_fault : (line : ℕ) (before : List EnumValue) (v : EnumValue) → is_sound_value before v ≡ true
-    → value_faults before (written_value line v) ≡ []
+    → listed_value_faults before (written_value line v) ≡ []
 no_value_fault line before v h =
     let p = value_parts before v h in
     let small : unsigned_abs v.number ≤ value_limit = listed_small v.number p.number in
@@ -168,12 +168,12 @@ no_value_fault line before v h =
     (none_both _ _ (no_fault (list_any (is_value v.name) before) _ p.new_name) in_range) (no_fault _ _ same)
 
 no_list_fault : (line : ℕ) (before vs : List EnumValue) → each_after is_sound_value before vs ≡ true
-    → faults_along value_faults with_value before (written_list line vs) ≡ []
+    → faults_along listed_value_faults with_value before (written_list line vs) ≡ []
 no_list_fault line before [] h = refl
 no_list_fault line before (v ∷ vs) h =
     let (first, rest) = and_parts (is_sound_value before v) (each_after is_sound_value (before ++ v ∷ []) vs) h in
-    none_both (value_faults before (written_value line v)) _ (no_value_fault line before v first)
-    (ap (λ x. faults_along value_faults with_value (before ++ x ∷ []) (written_list line vs))
+    none_both (listed_value_faults before (written_value line v)) _ (no_value_fault line before v first)
+    (ap (λ x. faults_along listed_value_faults with_value (before ++ x ∷ []) (written_list line vs))
     (same_value line v (value_parts before v first).number) ∙ no_list_fault line (before ++ v ∷ []) vs rest)
 
 same_list : (line : ℕ) (before vs : List EnumValue) → each_after is_sound_value before vs ≡ true
@@ -184,7 +184,7 @@ same_list line before (v ∷ vs) h =
     λ i. same_value line v (value_parts before v first).number i ∷ same_list line (before ++ v ∷ []) vs rest i
 
 -- a type that isn't Grouped is read from its name
-kind_value : (kind : AvpType) → is_grouped kind ≡ false → kind_of (type_name kind) ≡ Some kind
+kind_value : (kind : AvpType) → is_grouped kind ≡ false → type_named (type_name kind) ≡ Some kind
 kind_value kinds.OctetString h = refl
 kind_value kinds.Integer32 h = refl
 kind_value kinds.Integer64 h = refl
@@ -236,7 +236,7 @@ same_plain : (line : ℕ) (before : List AvpDef) (a : AvpDef) → SoundAvp befor
       values = written_list line a.values;
     }) a.vendor ≡ a
 same_plain line before a p g =
-    let kind : unwrap_or (kind_of (type_name a.kind)) kinds.OctetString ≡ a.kind = ap
+    let kind : unwrap_or (type_named (type_name a.kind)) kinds.OctetString ≡ a.kind = ap
     (λ o. unwrap_or o kinds.OctetString) (kind_value a.kind g) in
     let rule : a.rule ≡ [] = no_rule a.kind a.rule p.kind g in
     λ i. record {
@@ -269,8 +269,8 @@ same_group line before a p g =
 
 -- what an item adds, and that it has no fault
 pub record IsAdded (d : Definitions) (i : Written) (new : Definitions) : Type 0 where
-  pub faultless : item_faults (made d) i ≡ []
-  pub added : with_item (made d) i ≡ made new
+  pub faultless : item_faults (with_no_strays d) i ≡ []
+  pub added : with_item (with_no_strays d) i ≡ with_no_strays new
 
 abbrev pub with_one : Definitions → AvpDef → Definitions
 with_one d a = record d { avps = d.avps ++ a ∷ [] }
@@ -279,23 +279,23 @@ avp_added : (line : ℕ) (d : Definitions) (a : AvpDef) → is_sound_avp d.avps 
     → IsAdded d (written_avp line a) (with_one d a)
 avp_added line d a h =
     let p = avp_parts d.avps a h in
-    let heads = none_both (name_faults (made d) (word_of line a.name))
+    let heads = none_both (name_faults (with_no_strays d) (word_of line a.name))
     (code_faults d (number_word line a.code) (written_vend line a.vendor)) (no_name_fault line d a p)
     (no_code_fault line d a p) in
     by (is_grouped a.kind) refl p heads
   where
     by : (b : Bool) → is_grouped a.kind ≡ b → SoundAvp d.avps a
-        → (name_faults (made d) (word_of line a.name) ++
+        → (name_faults (with_no_strays d) (word_of line a.name) ++
         code_faults d (number_word line a.code) (written_vend line a.vendor)) ≡ []
         → IsAdded d (if b then written_group line a else written_plain line a) (with_one d a)
     by true g p heads = record {
       faultless =
           none_both
-          (name_faults (made d) (word_of line a.name) ++
+          (name_faults (with_no_strays d) (word_of line a.name) ++
           code_faults d (number_word line a.code) (written_vend line a.vendor)) _ heads
           (no_rule_fault line [] a.rule p.rule);
       added = ap
-          (placed (made d) a.name
+          (placed (with_no_strays d) a.name
           (group_def_of
           (record {
             name = word_of line a.name;
@@ -303,16 +303,16 @@ avp_added line d a h =
             vendor = written_vend line a.vendor;
             rule = written_rule line a.rule;
           }))) (vend_value line d.vendors a.vendor p.vendor) ∙
-          ap (λ x. made (with_one d x)) (same_group line d.avps a p g);
+          ap (λ x. with_no_strays (with_one d x)) (same_group line d.avps a p g);
     }
     by false g p heads = record {
       faultless =
           none_both
-          (name_faults (made d) (word_of line a.name) ++
+          (name_faults (with_no_strays d) (word_of line a.name) ++
           code_faults d (number_word line a.code) (written_vend line a.vendor)) _ heads
           (no_list_fault line [] a.values p.list);
       added = ap
-          (placed (made d) a.name
+          (placed (with_no_strays d) a.name
           (avp_def_of
           (record {
             name = word_of line a.name;
@@ -321,7 +321,7 @@ avp_added line d a h =
             vendor = written_vend line a.vendor;
             values = written_list line a.values;
           })))
-          (vend_value line d.vendors a.vendor p.vendor) ∙ ap (λ x. made (with_one d x)) (same_plain line d.avps a p g);
+          (vend_value line d.vendors a.vendor p.vendor) ∙ ap (λ x. with_no_strays (with_one d x)) (same_plain line d.avps a p g);
     }
 
 abbrev pub with_one_vendor : Definitions → VendorDef → Definitions
@@ -338,7 +338,7 @@ vendor_added line d v h =
           none_both _ _
           (none_both _ _ (no_fault (list_any (is_vendor v.name) d.vendors) _ p.new_name)
           (no_range line v.number p.number)) (no_fault _ _ same);
-      added = λ i. made (with_one_vendor d (record { name = v.name; number = value line v.number p.number i }));
+      added = λ i. with_no_strays (with_one_vendor d (record { name = v.name; number = value line v.number p.number i }));
     }
 
 abbrev pub with_one_command : Definitions → CommandDef → Definitions
@@ -362,7 +362,7 @@ command_added line d c h =
           (no_fault (list_any (is_titled c.name) d.commands) _ p.new_name)
           (none_both _ _ (none_both _ _ in_range (no_fault _ _ same)) (no_range line c.application p.application)))
           (no_rule_fault line [] c.rule p.rule);
-      added = λ i. made
+      added = λ i. with_no_strays
           (with_one_command d
           (record {
             name = c.name;
@@ -377,13 +377,13 @@ command_added line d c h =
 
 -- the items define the definitions behind those of d, without fault
 pub record AreAdded (d : Definitions) (items : List Written) (new : Definitions) : Type 0 where
-  pub faultless : items_faults (made d) items ≡ []
-  pub added : with_items (made d) items ≡ made new
+  pub faultless : items_faults (with_no_strays d) items ≡ []
+  pub added : with_items (with_no_strays d) items ≡ with_no_strays new
 
 one_more : (d mid new : Definitions) (i : Written) (items : List Written) → IsAdded d i mid → AreAdded mid items new
     → AreAdded d (i ∷ items) new
 one_more d mid new i items first rest = record {
-  faultless = none_both (item_faults (made d) i) _ (first.faultless)
+  faultless = none_both (item_faults (with_no_strays d) i) _ (first.faultless)
       (ap (λ x. items_faults x items) (first.added) ∙ rest.faultless);
   added = ap (λ x. with_items x items) (first.added) ∙ rest.added;
 }
@@ -392,7 +392,7 @@ commands_added : (line : ℕ) (d : Definitions) (commands : List CommandDef)
     → each_after is_sound_command d.commands commands ≡ true
     → AreAdded d (written_commands commands line) (record d { commands = d.commands ++ commands })
 commands_added line d [] h =
-    record { faultless = refl; added = λ i. made (record d { commands = sym (append-nil d.commands) i }) }
+    record { faultless = refl; added = λ i. with_no_strays (record d { commands = sym (append-nil d.commands) i }) }
 commands_added line d (c ∷ commands) h =
     let (first, rest) = and_parts (is_sound_command d.commands c)
     (each_after is_sound_command (d.commands ++ c ∷ []) commands) h in
@@ -464,25 +464,25 @@ known_still false true h = refl
 known_still false false h = absurd cc
 
 no_unknown_rule : (line : ℕ) (d : Definitions) (rule : List Entry) → knows_rule d.avps rule ≡ true
-    → rule_unknown (made d) (written_rule line rule) ≡ []
+    → rule_unknown (with_no_strays d) (written_rule line rule) ≡ []
 no_unknown_rule line d [] h = refl
 no_unknown_rule line d (e ∷ rule) h =
     let (first, rest) = and_parts (is_known d.avps e) (knows_rule d.avps rule) h in
-    let here : (is_any e.name || is_defined (made d) e.name) ≡
+    let here : (is_any e.name || is_defined (with_no_strays d) e.name) ≡
     true = known_still (is_any e.name) (list_any (is_named e.name) d.avps) first in
-    none_both (entry_unknown (made d) (written_entry line e)) _ (rw here refl) (no_unknown_rule line d rule rest)
+    none_both (entry_unknown (with_no_strays d) (written_entry line e)) _ (rw here refl) (no_unknown_rule line d rule rest)
 
-no_vend_unknown : (line : ℕ) (vendors : List VendorDef) (o : Option ℕ) → vend_unknown vendors (written_vend line o) ≡ []
+no_vend_unknown : (line : ℕ) (vendors : List VendorDef) (o : Option ℕ) → reference_unknown vendors (written_vend line o) ≡ []
 no_vend_unknown line vendors None = refl
 no_vend_unknown line vendors (Some n) = refl
 
 no_unknown_avp : (line : ℕ) (d : Definitions) (vendors : List VendorDef) (a : AvpDef) → knows_rule d.avps a.rule ≡ true
-    → unknown (made d) vendors (written_avp line a) ≡ []
+    → unknown (with_no_strays d) vendors (written_avp line a) ≡ []
 no_unknown_avp line d vendors a h = by (is_grouped a.kind) refl
   where
     by : (b : Bool) → is_grouped a.kind ≡ b
-        → unknown (made d) vendors (if b then written_group line a else written_plain line a) ≡ []
-    by true g = none_both (vend_unknown vendors (written_vend line a.vendor)) _ (no_vend_unknown line vendors a.vendor)
+        → unknown (with_no_strays d) vendors (if b then written_group line a else written_plain line a) ≡ []
+    by true g = none_both (reference_unknown vendors (written_vend line a.vendor)) _ (no_vend_unknown line vendors a.vendor)
         (no_unknown_rule line d a.rule h)
     by false g = none_both (kind_unknown (word_of line (type_name a.kind))) _
         (ap (λ (o : Option AvpType). fault_if (not (is_some o)) (UnknownName line)) (kind_value a.kind g))
@@ -490,21 +490,21 @@ no_unknown_avp line d vendors a h = by (is_grouped a.kind) refl
 
 no_unknown_commands : (line : ℕ) (d : Definitions) (vendors : List VendorDef) (commands : List CommandDef)
     → list_all (λ c. knows_rule d.avps c.rule) commands ≡ true
-    → items_unknown (made d) vendors (written_commands commands line) ≡ []
+    → items_unknown (with_no_strays d) vendors (written_commands commands line) ≡ []
 no_unknown_commands line d vendors [] h = refl
 no_unknown_commands line d vendors (c ∷ commands) h =
     let (first, rest) = and_parts (knows_rule d.avps c.rule) (list_all (λ x. knows_rule d.avps x.rule) commands) h in
-    none_both (unknown (made d) vendors (written_command line c)) _ (no_unknown_rule line d c.rule first)
+    none_both (unknown (with_no_strays d) vendors (written_command line c)) _ (no_unknown_rule line d c.rule first)
     (no_unknown_commands (line + 1) d vendors commands rest)
 
 no_unknown_avps : (line : ℕ) (d : Definitions) (vendors : List VendorDef) (avps : List AvpDef)
     → list_all (λ a. knows_rule d.avps a.rule) avps ≡ true → list_all (λ c. knows_rule d.avps c.rule) d.commands ≡ true
-    → items_unknown (made d) vendors (written_avps line avps (written_commands d.commands)) ≡ []
+    → items_unknown (with_no_strays d) vendors (written_avps line avps (written_commands d.commands)) ≡ []
 no_unknown_avps line d vendors [] h g = no_unknown_commands line d vendors d.commands g
 no_unknown_avps line d vendors (a ∷ avps) h g =
     let (first, rest) = and_parts (knows_rule d.avps a.rule) (list_all (λ x. knows_rule d.avps x.rule) avps) h in
-    none_both (unknown (made d) vendors (written_avp line a)) _ (no_unknown_avp line d vendors a first)
-    (ap (λ vs. items_unknown (made d) vs (written_avps (line + 1) avps (written_commands d.commands)))
+    none_both (unknown (with_no_strays d) vendors (written_avp line a)) _ (no_unknown_avp line d vendors a first)
+    (ap (λ vs. items_unknown (with_no_strays d) vs (written_avps (line + 1) avps (written_commands d.commands)))
     (same_vendors line vendors a) ∙ no_unknown_avps (line + 1) d vendors avps rest g)
   where
     same_vendors : (line : ℕ) (vendors : List VendorDef) (a : AvpDef) →
@@ -518,7 +518,7 @@ no_unknown_avps line d vendors (a ∷ avps) h g =
 no_unknown_vendors : (line : ℕ) (d : Definitions) (before vendors : List VendorDef)
     → list_all (λ a. knows_rule d.avps a.rule) d.avps ≡ true →
     list_all (λ c. knows_rule d.avps c.rule) d.commands ≡ true
-    → items_unknown (made d) before
+    → items_unknown (with_no_strays d) before
     (written_vendors line vendors (λ n. written_avps n d.avps (written_commands d.commands))) ≡ []
 no_unknown_vendors line d before [] h g = no_unknown_avps line d before d.avps h g
 no_unknown_vendors line d before (v ∷ vendors) h g =
@@ -526,5 +526,5 @@ no_unknown_vendors line d before (v ∷ vendors) h g =
 
 pub no_unknown : (line : ℕ) (d : Definitions) → list_all (λ a. knows_rule d.avps a.rule) d.avps ≡ true
     → list_all (λ c. knows_rule d.avps c.rule) d.commands ≡ true
-    → items_unknown (made d) [] (written_all d line) ≡ []
+    → items_unknown (with_no_strays d) [] (written_all d line) ≡ []
 no_unknown line d h g = no_unknown_vendors line d [] d.vendors h g

@@ -9,17 +9,17 @@ use Rattle.dm_grammar.specs.declared.reading.Version.{Version}
 use Rattle.dm_grammar.specs.declared.reading.Version.TheVariants.{First, Second}
 use Rattle.dm_grammar.specs.declared.symbol.Symbol.TheVariants as symbols
 use Rattle.dm_grammar.specs.declared.terminal.Terminal.TheVariants.{One}
-use Rattle.dm_grammar.specs.Symbols.{goes_on, is_number, symbol_of_word}
+use Rattle.dm_grammar.specs.Symbols.{goes_on, is_digits, symbol_of_word}
 use Rattle.dm_grammar.specs.Tokens.{Word}
 use Rattle.dm_grammar.specs.Grammar.{fits}
 use Rattle.dm_grammar.specs.Grammar as grammar
 use Rattle.dm_grammar.specs.Items as written
-use Rattle.dm_grammar.specs.Items.{Written, Vend}
-use Rattle.dm_grammar.specs.Items.Vend.{NumberedBy}
+use Rattle.dm_grammar.specs.Items.{Written, VendorReference}
+use Rattle.dm_grammar.specs.Items.VendorReference.{NumberedBy}
 use Rattle.dm_grammar.specs.Items.Written.{VendorIs, AvpIs, GroupIs, CommandIs}
 use Rattle.dm_grammar.specs.Spelling.{Phrase, Spells, Ends, AreItems}
 use Rattle.dm_grammar.specs.Spelling as spelling
-use Rattle.dm_grammar.specs.Spelling.Phrase.{Mark, ◌then◌}
+use Rattle.dm_grammar.specs.Spelling.Phrase.{Literal, ◌then◌}
 use Rattle.dm_tables.specs.declared.rule.Entry.{Entry}
 use Rattle.dm_tables.specs.declared.values.EnumValue.{EnumValue}
 use Rattle.dm_tables.specs.declared.def.VendorDef.{VendorDef}
@@ -38,11 +38,11 @@ abbrev pub written_option : ℕ → Option ℕ → Option Word
 written_option line None = None
 written_option line (Some n) = Some (number_word line n)
 
-abbrev pub written_vend : ℕ → Option ℕ → Option Vend
+abbrev pub written_vend : ℕ → Option ℕ → Option VendorReference
 written_vend line None = None
 written_vend line (Some n) = Some (NumberedBy (number_word line n))
 
-abbrev pub written_entry : ℕ → Entry → written.Entry
+abbrev pub written_entry : ℕ → Entry → written.EntryParts
 written_entry line e =
     record {
       form = e.form;
@@ -50,13 +50,13 @@ written_entry line e =
       qualifier = Some (record { low = Some (number_word line e.min); high = written_option line e.max });
     }
 
-abbrev pub written_rule : ℕ → List Entry → List written.Entry
+abbrev pub written_rule : ℕ → List Entry → List written.EntryParts
 written_rule line rule = map (written_entry line) rule
 
-abbrev pub written_value : ℕ → EnumValue → written.Value
+abbrev pub written_value : ℕ → EnumValue → written.ValueParts
 written_value line v = record { name = word_of line v.name; number = number_word line (unsigned_abs v.number) }
 
-abbrev pub written_list : ℕ → List EnumValue → List written.Value
+abbrev pub written_list : ℕ → List EnumValue → List written.ValueParts
 written_list line values = map (written_value line) values
 
 abbrev pub written_plain : ℕ → AvpDef → Written
@@ -126,17 +126,17 @@ abbrev may_list : Version → List EnumValue → Bool
 may_list First values = has_none values
 may_list Second values = true
 
-not_number : (name : List ℕ) → is_proper_name name ≡ true → is_number name ≡ false
+not_number : (name : List ℕ) → is_proper_name name ≡ true → is_digits name ≡ false
 not_number [] h = absurd cc
 not_number (c ∷ s) h =
-    is_not (is_number (c ∷ s))
+    is_not (is_digits (c ∷ s))
     (and_parts (is_ascii_alphanumeric c && list_all goes_on s) (not (list_all is_ascii_digit (c ∷ s))) h).1
   where
     is_not : (b : Bool) → not b ≡ true → b ≡ false
     is_not true e = absurd cc
     is_not false e = refl
 
-type_symbol : (kind : AvpType) → grammar.is_name (symbol_of_word (type_name kind)) ≡ true
+type_symbol : (kind : AvpType) → grammar.is_name_symbol (symbol_of_word (type_name kind)) ≡ true
 type_symbol kinds.OctetString = refl
 type_symbol kinds.Integer32 = refl
 type_symbol kinds.Integer64 = refl
@@ -169,8 +169,8 @@ is_listing : (b : Bool) → (b || false) ≡ true → b ≡ true
 is_listing true h = refl
 is_listing false h = absurd cc
 
-module _ (names : (w : List ℕ) → is_number w ≡ false → grammar.is_name (symbol_of_word w) ≡ true) where
-  named : (name : List ℕ) → is_proper_name name ≡ true → grammar.is_name (symbol_of_word name) ≡ true
+module _ (names : (w : List ℕ) → is_digits w ≡ false → grammar.is_name_symbol (symbol_of_word w) ≡ true) where
+  named : (name : List ℕ) → is_proper_name name ≡ true → grammar.is_name_symbol (symbol_of_word name) ≡ true
   named name h = names name (not_number name h)
 
   bracketed : (line : ℕ) (form : Form) (name : List ℕ) (ws : List Word) (Behind : List Word → Type 0)
@@ -218,7 +218,7 @@ module _ (names : (w : List ℕ) → is_number w ≡ false → grammar.is_name (
       )
 
   vend_may : (v : Version) (line : ℕ) (n : Option ℕ) (ws : List Word) (Behind : List Word → Type 0) → Behind ws
-      → Spells (spelling.vend_may v (written_vend line n)) Behind (option_words line n ws)
+      → Spells (spelling.reference_may v (written_vend line n)) Behind (option_words line n ws)
   vend_may v line None ws Behind b = b
   vend_may v line (Some n) ws Behind b = (refl, (refl, b))
 
@@ -232,7 +232,7 @@ module _ (names : (w : List ℕ) → is_number w ≡ false → grammar.is_name (
       (values : List EnumValue) (ws : List Word)
       (Behind : List Word → Type 0) → is_sound_list values ≡ true → (is_enumerated kind || is_empty_list values) ≡ true
       → may_list v values ≡ true → Behind ws
-      → Spells (spelling.type_of v
+      → Spells (spelling.type_is v
       (record {
         name = word_of line name;
         code = number_word line code;
@@ -246,7 +246,7 @@ module _ (names : (w : List ℕ) → is_number w ≡ false → grammar.is_name (
   type_of First line name code kind vendor (x ∷ values) ws Behind sound listing may b = absurd cc
   type_of Second line name code kind vendor (x ∷ values) ws Behind sound listing may b =
       let (first, rest) = and_parts (is_sound_value [] x) (each_after is_sound_value (x ∷ []) values) sound in
-      let more = spelling.more_values (written_list line values) then Mark symbols.CloseBrace in (
+      let more = spelling.more_values (written_list line values) then Literal symbols.CloseBrace in (
         enumerated_symbol kind (is_listing (is_enumerated kind) listing),
         (
           refl,
@@ -261,7 +261,7 @@ module _ (names : (w : List ℕ) → is_number w ≡ false → grammar.is_name (
                       refl,
                       (
                         refl,
-                        value_more line (x ∷ []) values _ (Spells (Mark symbols.CloseBrace) Behind) rest (refl, b),
+                        value_more line (x ∷ []) values _ (Spells (Literal symbols.CloseBrace) Behind) rest (refl, b),
                       ),
                     ),
                   ),
@@ -309,7 +309,7 @@ module _ (names : (w : List ℕ) → is_number w ≡ false → grammar.is_name (
                           (
                             refl,
                             group_vendor v line a.vendor _
-                                (Spells (Mark symbols.Greater then spelling.entries (written_rule line a.rule)) Behind)
+                                (Spells (Literal symbols.Greater then spelling.entries (written_rule line a.rule)) Behind)
                                 (refl, entries line [] a.rule ws Behind sound b),
                           ),
                         ),
@@ -342,7 +342,7 @@ module _ (names : (w : List ℕ) → is_number w ≡ false → grammar.is_name (
       → is_proper_name c.name ≡ true → is_sound_rule c.rule ≡ true → Behind ws
       → Spells (spelling.item v (written_command line c)) Behind (command_words line c ws)
   command v line c ws Behind h sound b =
-      let End = Spells (Mark symbols.Greater then spelling.entries (written_rule line c.rule)) Behind in
+      let End = Spells (Literal symbols.Greater then spelling.entries (written_rule line c.rule)) Behind in
       let Second = Spells (spelling.second (Some (number_word line c.application))) End in
       let Error = Spells (spelling.flag symbols.Err c.err) Second in
       let Proxy = Spells (spelling.flag symbols.Pxy c.proxiable) Error in

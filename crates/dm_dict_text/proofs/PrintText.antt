@@ -11,7 +11,7 @@ use Rattle.dm_tables.specs.declared.def.AvpDef.{AvpDef}
 use Rattle.dm_tables.specs.declared.def.CommandDef.{CommandDef}
 use Rattle.dm_tables.specs.Definitions.{Definitions}
 use Rattle.dm_tables.specs.Sound.{is_grouped}
-use Rattle.dm_dict_text.specs.Printed.{type_name, spaced, spaced_number, spaced_option, decimal_option, opening, closing, entry_text, rule_text, line_end, vendor_line, value_text, next_value, list_text, plain_end, plain_line, rule_end, group_head, group_line, avp_line, flag_text, flags_text, command_head, command_line, is_first_version, version_line, printed}
+use Rattle.dm_dict_text.specs.Printed.{type_name, spaced, spaced_number, spaced_option, decimal_option, opening_bracket, closing_bracket, entry_text, rule_text, line_end, vendor_line, listed_value_text, next_value, value_list_text, plain_end, plain_line, rule_end, group_head_text, group_line, avp_line, flag_text, flags_text, command_head_text, command_line, is_first_version, version_line, printed}
 
 abbrev pub number_then : ℕ → List ℕ → List ℕ
 number_then n s = 32 ∷ (decimal n ++ s)
@@ -104,7 +104,7 @@ bound-then None s = refl
 bound-then (Some n) s = refl
 
 bracket-then : (form : Form) (name s : List ℕ)
-    → opening form ++ (name ++ (closing form ++ s)) ≡ bracket_then form name s
+    → opening_bracket form ++ (name ++ (closing_bracket form ++ s)) ≡ bracket_then form name s
 bracket-then Fixed name s = refl
 bracket-then Required name s = refl
 bracket-then Optional name s = refl
@@ -128,7 +128,7 @@ three a b c s = simp append_assoc
 
 entry-then : (e : Entry) (s : List ℕ) → entry_text e ++ s ≡ entry_then e s
 entry-then e s =
-    six (spaced_number e.min) (codes "*") (decimal_option e.max) (opening e.form) e.name (closing e.form) s
+    six (spaced_number e.min) (codes "*") (decimal_option e.max) (opening_bracket e.form) e.name (closing_bracket e.form) s
     ∙ ap (λ t. spaced_number e.min ++ 42 ∷ (decimal_option e.max ++ t)) (bracket-then e.form e.name s)
     ∙ ap (λ t. spaced_number e.min ++ 42 ∷ t) (bound-then e.max (bracket_then e.form e.name s))
 
@@ -141,7 +141,7 @@ rule-then (e ∷ rule) s =
 end-then : (rule : List Entry) (s : List ℕ) → rule_end rule ++ s ≡ end_then rule s
 end-then rule s = three (codes " >") (rule_text rule) line_end s ∙ ap (λ t. 32 ∷ 62 ∷ t) (rule-then rule (10 ∷ s))
 
-value-then : (v : EnumValue) (s : List ℕ) → value_text v ++ s ≡ value_then v s
+value-then : (v : EnumValue) (s : List ℕ) → listed_value_text v ++ s ≡ value_then v s
 value-then v s = append_assoc (spaced v.name) (spaced_number (unsigned_abs v.number)) s
 
 more-then : (vs : List EnumValue) (s : List ℕ) → flat_map next_value vs ++ s ≡ more_then vs s
@@ -150,17 +150,17 @@ more-then (v ∷ vs) s =
     append_assoc (next_value v) (flat_map next_value vs) s ∙ ap (λ t. next_value v ++ t) (more-then vs s) ∙ ap
     (λ t. 44 ∷ t) (value-then v (more_then vs s))
 
-list-then : (vs : List EnumValue) (s : List ℕ) → list_text vs ++ s ≡ list_then vs s
+list-then : (vs : List EnumValue) (s : List ℕ) → value_list_text vs ++ s ≡ list_then vs s
 list-then [] s = refl
 list-then (v ∷ vs) s =
-    four (codes " {") (value_text v) (flat_map next_value vs) (codes " }") s
-    ∙ ap (λ t. 32 ∷ 123 ∷ (value_text v ++ t)) (more-then vs (32 ∷ 125 ∷ s))
+    four (codes " {") (listed_value_text v) (flat_map next_value vs) (codes " }") s
+    ∙ ap (λ t. 32 ∷ 123 ∷ (listed_value_text v ++ t)) (more-then vs (32 ∷ 125 ∷ s))
     ∙ ap (λ t. 32 ∷ 123 ∷ t) (value-then v (more_then vs (32 ∷ 125 ∷ s)))
 
 plain-end : (a : AvpDef) (s : List ℕ)
     → plain_end a ++ s ≡ 32 ∷ (type_name a.kind ++ option_then a.vendor (list_then a.values (10 ∷ s)))
 plain-end a s =
-    four (spaced (type_name a.kind)) (spaced_option a.vendor) (list_text a.values) line_end s
+    four (spaced (type_name a.kind)) (spaced_option a.vendor) (value_list_text a.values) line_end s
     ∙ ap (λ t. 32 ∷ (type_name a.kind ++ (spaced_option a.vendor ++ t))) (list-then a.values (10 ∷ s))
     ∙ ap (λ t. 32 ∷ (type_name a.kind ++ t)) (option-then a.vendor (list_then a.values (10 ∷ s)))
 
@@ -186,7 +186,7 @@ version-then false s = refl
 
 group-then : (a : AvpDef) (s : List ℕ) → group_line a ++ s ≡ group_then a s
 group-then a s =
-    four (codes "< ") a.name (group_head a) (rule_end a.rule) s
+    four (codes "< ") a.name (group_head_text a) (rule_end a.rule) s
     ∙ ap (λ t. 60 ∷ 32 ∷ (a.name ++ t))
     (three (codes " > ::= < AVP Header:") (spaced_number a.code) (spaced_option a.vendor) (rule_end a.rule ++ s)
     ∙ ap (λ t. codes " > ::= < AVP Header:" ++ number_then a.code t)
@@ -212,7 +212,7 @@ flags-then c s =
 
 command-then : (c : CommandDef) (s : List ℕ) → command_line c ++ s ≡ command_then c s
 command-then c s =
-    four (codes "< ") c.name (command_head c) (rule_end c.rule) s
+    four (codes "< ") c.name (command_head_text c) (rule_end c.rule) s
     ∙ ap (λ t. 60 ∷ 32 ∷ (c.name ++ t))
     (four (codes " > ::= < Diameter Header:") (spaced_number c.code) (flags_text c) (spaced_number c.application)
     (rule_end c.rule ++ s)

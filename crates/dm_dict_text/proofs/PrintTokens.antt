@@ -17,7 +17,7 @@ use Rattle.dm_tables.specs.declared.values.EnumValue.{EnumValue}
 use Rattle.dm_tables.specs.declared.def.VendorDef.{VendorDef}
 use Rattle.dm_tables.specs.declared.def.AvpDef.{AvpDef}
 use Rattle.dm_tables.specs.declared.def.CommandDef.{CommandDef}
-use Rattle.dm_tables.specs.Sound.{is_proper_name, fits, fits_option, bounds, is_grouped, each_after, is_sound_entry, is_sound_rule, is_sound_avp, is_sound_command, is_listable, is_sound_value, is_sound_list, is_sound_vendor}
+use Rattle.dm_tables.specs.Sound.{is_proper_name, fits_32_bits, option_fits_32_bits, bounds, is_grouped, each_after, is_sound_entry, is_sound_rule, is_sound_avp, is_sound_command, is_listable, is_sound_value, is_sound_list, is_sound_vendor}
 use Rattle.dm_dict_text.specs.Printed.{type_name}
 use Rattle.dm_tables.specs.SoundParts.{avp_parts, command_parts, value_parts, vendor_parts}
 use Rattle.dm_dict_text.proofs.PrintText.{number_then, option_then, value_then, more_then, list_then, vendor_then, vendors_then, version_then, bound_then, bracket_then, entry_then, rule_then, end_then, title_then, plain_then, group_then, avp_then, flag_then, flags_then, command_then, avps_then, commands_then}
@@ -109,7 +109,7 @@ abbrev pub commands_words : List CommandDef → ℕ → List Word
 commands_words [] line = []
 commands_words (c ∷ commands) line = command_words line c (commands_words commands (line + 1))
 
-small : (n : ℕ) → fits n ≡ true → n ≤ 4294967295
+small : (n : ℕ) → fits_32_bits n ≡ true → n ≤ 4294967295
 small n h = leb-true n 4294967295 h
 
 -- a name is a word
@@ -136,7 +136,7 @@ option_breaks : (o : Option ℕ) (s : List ℕ) → breaks s ≡ true → breaks
 option_breaks None s h = h
 option_breaks (Some n) s h = refl
 
-option_tokens : (line : ℕ) (o : Option ℕ) (s : List ℕ) → fits_option o ≡ true → breaks s ≡ true
+option_tokens : (line : ℕ) (o : Option ℕ) (s : List ℕ) → option_fits_32_bits o ≡ true → breaks s ≡ true
     → tokens_from 0 line (option_then o s) ≡ option_words line o (tokens_from 0 line s)
 option_tokens line None s h b = refl
 option_tokens line (Some n) s h b = number_tokens line n s (small n h) b
@@ -158,11 +158,11 @@ bracket_tokens line Optional name s h =
 bound_tokens : (line min : ℕ) (max : Option ℕ) (s : List ℕ) → bounds min max ≡ true → breaks s ≡ true
     → tokens_from 0 line (bound_then max s) ≡ option_words line max (tokens_from 0 line s)
 bound_tokens line min None s h b = refl
-bound_tokens line min (Some n) s h b = number_tokens line n s (small n (and_parts (fits n) (nat_le min n) h).0) b
+bound_tokens line min (Some n) s h b = number_tokens line n s (small n (and_parts (fits_32_bits n) (nat_le min n) h).0) b
 
 pub record EntryParts (e : Entry) : Type 0 where
   pub name : is_proper_name e.name ≡ true
-  pub min : fits e.min ≡ true
+  pub min : fits_32_bits e.min ≡ true
   pub bound : bounds e.min e.max ≡ true
 
 pub entry_parts : (before : List Entry) (e : Entry) → is_sound_entry before e ≡ true → EntryParts e
@@ -238,7 +238,7 @@ list_tokens line (v ∷ vs) s h =
     (value_tokens line v (more_then vs (32 ∷ 125 ∷ s)) p.name p.number (more_breaks vs (32 ∷ 125 ∷ s) refl) ∙
     ap (value_words line v) (more_tokens line (v ∷ []) vs (32 ∷ 125 ∷ s) rest refl))
 
-vendor_tokens : (line : ℕ) (v : VendorDef) (s : List ℕ) → is_wordish v.name ≡ true → fits v.number ≡ true
+vendor_tokens : (line : ℕ) (v : VendorDef) (s : List ℕ) → is_wordish v.name ≡ true → fits_32_bits v.number ≡ true
     → tokens_from 0 line (vendor_then v s) ≡ vendor_words line v (tokens_from 0 (line + 1) s)
 vendor_tokens line v s named number =
     ap (λ ws. word At (64 ∷ []) line ∷ ws)
@@ -247,8 +247,8 @@ vendor_tokens line v s named number =
     (word_tokens line v.name (number_then v.number (10 ∷ s)) named refl
     ∙ ap (λ ws. word_of line v.name ∷ ws) (number_tokens line v.number (10 ∷ s) (small v.number number) refl)))
 
-plain_tokens : (line : ℕ) (a : AvpDef) (s : List ℕ) → is_wordish a.name ≡ true → fits a.code ≡ true
-    → fits_option a.vendor ≡ true → is_sound_list a.values ≡ true
+plain_tokens : (line : ℕ) (a : AvpDef) (s : List ℕ) → is_wordish a.name ≡ true → fits_32_bits a.code ≡ true
+    → option_fits_32_bits a.vendor ≡ true → is_sound_list a.values ≡ true
     → tokens_from 0 line (plain_then a s) ≡ plain_words line a (tokens_from 0 (line + 1) s)
 plain_tokens line a s named code vendor listed =
     let list : List ℕ = list_then a.values (10 ∷ s) in
@@ -275,8 +275,8 @@ diameter_header_tokens : (line : ℕ) (s : List ℕ)
     tokens_from 0 line s
 diameter_header_tokens line s = refl
 
-group_tokens : (line : ℕ) (a : AvpDef) (s : List ℕ) → is_wordish a.name ≡ true → fits a.code ≡ true
-    → fits_option a.vendor ≡ true → is_sound_rule a.rule ≡ true
+group_tokens : (line : ℕ) (a : AvpDef) (s : List ℕ) → is_wordish a.name ≡ true → fits_32_bits a.code ≡ true
+    → option_fits_32_bits a.vendor ≡ true → is_sound_rule a.rule ≡ true
     → tokens_from 0 line (group_then a s) ≡ group_words line a (tokens_from 0 (line + 1) s)
 group_tokens line a s named code vendor rule =
     title_tokens line a.name (codes "AVP Header:" ++ number_then a.code (option_then a.vendor (end_then a.rule s)))

@@ -10,9 +10,9 @@ use Rattle.std.specs.Fmt.{decimal}
 use Rattle.std.specs.List.{list_all, prefix_len}
 use Rattle.dm_grammar.specs.declared.symbol.Symbol.{Symbol}
 use Rattle.dm_grammar.specs.declared.symbol.Symbol.TheVariants.{Number}
-use Rattle.dm_grammar.specs.Symbols.{begins_word, goes_on, is_space, is_number, symbol_of_word}
+use Rattle.dm_grammar.specs.Symbols.{begins_word, goes_on, is_space, is_digits, symbol_of_word}
 use Rattle.dm_grammar.specs.Tokens.{Word, lexeme_of, tokens_from}
-use Rattle.dm_dict_text.specs.Meaning.{number_after, number_of}
+use Rattle.dm_dict_text.specs.Meaning.{number_behind, number_of}
 
 abbrev pub word : Symbol → List ℕ → ℕ → Word
 word symbol text line = record { symbol = symbol; text = text; line = line }
@@ -107,7 +107,7 @@ word_tokens line (a ∷ w) s h b =
 
 -- decimal digits
 own : IsNumeralModel (λ ds. all_ascii_digits ds ≡ true) number_of
-own = numerals_by_fold _ tells_all_ascii_digits number_after (search rules)
+own = numerals_by_fold _ tells_all_ascii_digits number_behind (search rules)
 
 pub number_of-decimal : (n : ℕ) → n ≤ 4294967295 → number_of (decimal n) ≡ n
 number_of-decimal n h = digits_value-decimal own n (omega arith)
@@ -115,7 +115,7 @@ number_of-decimal n h = digits_value-decimal own n (omega arith)
 digits_of_decimal : (n : ℕ) → n ≤ 4294967295 → all_ascii_digits (decimal n) ≡ true
 digits_of_decimal n h = digits_decimal own n (omega arith)
 
-all_digits : (ds : List ℕ) → all_ascii_digits ds ≡ true → is_number ds ≡ true
+all_digits : (ds : List ℕ) → all_ascii_digits ds ≡ true → is_digits ds ≡ true
 all_digits [] h = refl
 all_digits (c ∷ ds) h =
     let (first, rest) = and_parts (is_ascii_digit c) (all_ascii_digits ds) h in both _ _ first (all_digits ds rest)
@@ -136,8 +136,8 @@ digits_wordish (c ∷ ds) h some =
     let (first, rest) = and_parts (is_ascii_digit c) (all_ascii_digits ds) h in
     both _ _ (digit_goes_on c first) (digits_go_on ds rest)
 
-number_symbol : (ds : List ℕ) → is_number ds ≡ true → symbol_of_word ds ≡ Number
-number_symbol ds h = first (is_number ds) _ h
+number_symbol : (ds : List ℕ) → is_digits ds ≡ true → symbol_of_word ds ≡ Number
+number_symbol ds h = first (is_digits ds) _ h
   where
     first : (b : Bool) (x : Symbol) → b ≡ true → (if b then Number else x) ≡ Number
     first b x e = rw e refl

@@ -3,14 +3,14 @@ use Rattle.std.proofs.Common.{◌≡◌, ℕ, true, false, List, [], sym, ap, su
 use Rattle.std.proofs.lemmas.Bool.{and_parts}
 use Rattle.std.specs.List.{list_all}
 use Rattle.dm_grammar.specs.Grammar as grammar
-use Rattle.dm_grammar.specs.Symbols.{is_number, symbol_of_word}
+use Rattle.dm_grammar.specs.Symbols.{is_digits, symbol_of_word}
 use Rattle.dm_grammar.specs.Tokens.{Word, tokens}
 use Rattle.dm_grammar.specs.Items.{Written}
 use Rattle.dm_grammar.specs.Spelling.{AreItems}
 use Rattle.dm_tables.specs.Definitions.{Definitions, nothing_defined}
 use Rattle.dm_tables.specs.Sound.{is_sound, is_closed, knows_rule}
 use Rattle.dm_dict_text.specs.Printed.{printed, is_first_version}
-use Rattle.dm_dict_text.specs.Meaning.{made, with_items}
+use Rattle.dm_dict_text.specs.Meaning.{with_no_strays, with_items}
 use Rattle.dm_dict_text.specs.Faults.{items_faults, items_unknown}
 use Rattle.dm_dict_text.specs.Outcome.{Defines}
 use Rattle.dm_dict_text.proofs.Along.{none_both}
@@ -20,7 +20,7 @@ use Rattle.dm_dict_text.proofs.PrintTokens.{version_words, version_tokens, vendo
 use Rattle.dm_dict_text.proofs.PrintItems.{written_all, all_words, first_line, are_items}
 use Rattle.dm_dict_text.proofs.PrintDefined.{AreAdded, all_added, no_unknown}
 
-pub printed_again : ((w : List ℕ) → is_number w ≡ false → grammar.is_name (symbol_of_word w) ≡ true)
+pub printed_again : ((w : List ℕ) → is_digits w ≡ false → grammar.is_name_symbol (symbol_of_word w) ≡ true)
     → (d : Definitions) → is_sound d ≡ true → is_closed d ≡ true → Defines (printed d) nothing_defined d
 printed_again names d sound closed =
     let parts = sound_parts d sound in
@@ -39,11 +39,11 @@ printed_again names d sound closed =
     (are_items names d parts.vendors parts.avps parts.commands) in
     let added : AreAdded nothing_defined items d = all_added (first_line first) d parts.vendors parts.avps
     parts.commands in
-    let nothing_unknown : items_unknown (with_items (made nothing_defined) items) [] items ≡ [] = ap
+    let nothing_unknown : items_unknown (with_items (with_no_strays nothing_defined) items) [] items ≡ [] = ap
     (λ m. items_unknown m [] items) added.added ∙ no_unknown (first_line first) d known known_too in
     record {
       items = items;
       grammatical = spelled;
-      faultless = none_both (items_faults (made nothing_defined) items) _ added.faultless nothing_unknown;
+      faultless = none_both (items_faults (with_no_strays nothing_defined) items) _ added.faultless nothing_unknown;
       followed = ap (λ m. m.definitions) (sym added.added);
     }

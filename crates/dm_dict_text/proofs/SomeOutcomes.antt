@@ -7,8 +7,8 @@ use Rattle.dm_grammar.specs.Tokens.{tokens}
 use Rattle.dm_dict_text.specs.declared.fault.DictFault.{DictFault}
 use Rattle.dm_dict_text.specs.declared.fault.DictFault.TheVariants.{Syntax}
 use Rattle.dm_tables.specs.Definitions.{Definitions}
-use Rattle.dm_dict_text.specs.Meaning.{made, with_items}
-use Rattle.dm_dict_text.specs.Faults.{first_of}
+use Rattle.dm_dict_text.specs.Meaning.{with_no_strays, with_items}
+use Rattle.dm_dict_text.specs.Faults.{first_dict_fault}
 use Rattle.dm_dict_text.specs.Outcome.{all_faults, Defines, IsFirstFault}
 
 abbrev Outcome : List ℕ → Definitions → Type 0
@@ -19,11 +19,11 @@ by_faults : (text : List ℕ) (old : Definitions) (items : List Written) → Are
     → (faults : List DictFault) → all_faults old items ≡ faults → Outcome text old
 by_faults text old items grammatical [] none =
     inl (
-      (with_items (made old) items).definitions,
+      (with_items (with_no_strays old) items).definitions,
       record { items = items; grammatical = grammatical; faultless = none; followed = refl },
     )
 by_faults text old items grammatical (f ∷ faults) some =
-    inr (f, inr (record { items = items; grammatical = grammatical; first = ap first_of some }))
+    inr (f, inr (record { items = items; grammatical = grammatical; first = ap first_dict_fault some }))
 
 -- by what the grammar says of the text
 pub some_outcome : (text : List ℕ) (old : Definitions)

@@ -7,8 +7,8 @@ use Rattle.dm_grammar.specs.declared.item.Form.{Form}
 use Rattle.dm_grammar.specs.declared.item.Form.TheVariants.{Fixed, Required, Optional}
 use Rattle.dm_grammar.specs.Tokens.{Word}
 use Rattle.dm_grammar.specs.Items as written
-use Rattle.dm_grammar.specs.Items.{VendorParts, CommandParts, Vend, Range}
-use Rattle.dm_grammar.specs.Items.Vend.{NumberedBy, NamedBy}
+use Rattle.dm_grammar.specs.Items.{VendorParts, CommandParts, VendorReference, Range}
+use Rattle.dm_grammar.specs.Items.VendorReference.{NumberedBy, NamedBy}
 use Rattle.dm_dict_text.specs.declared.fault.DictFault.{DictFault}
 use Rattle.dm_dict_text.specs.declared.fault.DictFault.TheVariants.{Duplicate}
 use Rattle.dm_value.specs.declared.avp_type.AvpType.{AvpType}
@@ -19,12 +19,12 @@ use Rattle.dm_tables.specs.declared.def.VendorDef.{VendorDef}
 use Rattle.dm_tables.specs.declared.def.AvpDef.{AvpDef}
 use Rattle.dm_tables.specs.declared.def.CommandDef.{CommandDef}
 use Rattle.dm_tables.specs.EntryEquality.{form_number}
-use Rattle.dm_tables.specs.Sound.{each_after, is_sound_entry, is_sound_rule, is_sound_avp, is_sound_command, is_proper_name, is_any, fits, fits_option, bounds, is_repeated, is_late, is_grouped, is_empty_rule, is_value, is_listable, is_sound_value, is_sound_list, is_enumerated, is_empty_list, is_sound_vendor}
+use Rattle.dm_tables.specs.Sound.{each_after, is_sound_entry, is_sound_rule, is_sound_avp, is_sound_command, is_proper_name, is_any, fits_32_bits, option_fits_32_bits, bounds, is_repeated, is_late, is_grouped, is_empty_rule, is_value, is_listable, is_sound_value, is_sound_list, is_enumerated, is_empty_list, is_sound_vendor}
 use Rattle.dm_tables.specs.Listed.{has_number}
 use Rattle.dm_tables.specs.Definitions.{is_vendor, has_vendor_number, is_named, is_coded, is_titled, is_headed, vendor_number}
-use Rattle.dm_dict_text.specs.Meaning.{number, plain_min, starred_min, low_or, min_of, max_of, kind_of, entry_of, value_of, vendor_def_of, vendor_of, Made}
-use Rattle.dm_dict_text.specs.Faults.{fault_if, range_faults, option_faults, low_faults, above_faults, high_faults, bound_faults, place_faults, rule_entry_faults, with_entry, rule_faults, faults_along, limit, command_limit, vendor_item_faults, is_defined, is_taken, vend_faults, value_limit, value_faults, with_value, list_faults, name_faults, code_faults, title_faults, head_faults}
-use Rattle.dm_dict_text.specs.Worded.{are_named, are_worded_values, may_list}
+use Rattle.dm_dict_text.specs.Meaning.{number, plain_min, starred_min, low_or, min_of, max_of, type_named, entry_of, value_of, vendor_def_of, vendor_of, WithStrays}
+use Rattle.dm_dict_text.specs.Faults.{fault_if, range_faults, option_faults, low_faults, above_faults, high_faults, bound_faults, place_faults, rule_entry_faults, with_entry, rule_faults, faults_along, limit, command_limit, vendor_item_faults, is_defined, is_taken, reference_faults, value_limit, listed_value_faults, with_value, value_list_faults, name_faults, code_faults, title_faults, head_faults}
+use Rattle.dm_dict_text.specs.Worded.{are_named, are_worded_values, may_have_values}
 use Rattle.dm_dict_text.proofs.Along.{none_left, none_right}
 use Rattle.dm_tables.specs.SoundParts.{vendor_parts}
 
@@ -42,31 +42,31 @@ both a b e g = rw (e, g) refl
 not_so : (b : Bool) → b ≡ false → not b ≡ true
 not_so b e = rw e refl
 
-within_limit : (n : ℕ) → nat_lt limit n ≡ false → fits n ≡ true
+within_limit : (n : ℕ) → nat_lt limit n ≡ false → fits_32_bits n ≡ true
 within_limit n e = le-leb n limit (ltb-false limit n e)
 
-number_fits : (w : Word) → range_faults limit w ≡ [] → fits (number w) ≡ true
+number_fits : (w : Word) → range_faults limit w ≡ [] → fits_32_bits (number w) ≡ true
 number_fits w e = within_limit (number w) (no_fault _ _ e)
 
-option_fits : (o : Option Word) → option_faults limit o ≡ [] → fits_option (option_map number o) ≡ true
+option_fits : (o : Option Word) → option_faults limit o ≡ [] → option_fits_32_bits (option_map number o) ≡ true
 option_fits None e = refl
 option_fits (Some w) e = number_fits w e
 
-plain_fits : (form : Form) → fits (plain_min form) ≡ true
+plain_fits : (form : Form) → fits_32_bits (plain_min form) ≡ true
 plain_fits Fixed = refl
 plain_fits Required = refl
 plain_fits Optional = refl
 
-starred_fits : (form : Form) → fits (starred_min form) ≡ true
+starred_fits : (form : Form) → fits_32_bits (starred_min form) ≡ true
 starred_fits Fixed = refl
 starred_fits Required = refl
 starred_fits Optional = refl
 
-low_fits : (form : Form) (low : Option Word) → option_faults limit low ≡ [] → fits (low_or form low) ≡ true
+low_fits : (form : Form) (low : Option Word) → option_faults limit low ≡ [] → fits_32_bits (low_or form low) ≡ true
 low_fits form None e = starred_fits form
 low_fits form (Some w) e = number_fits w e
 
-min_fits : (form : Form) (q : Option Range) → low_faults q ≡ [] → fits (min_of form q) ≡ true
+min_fits : (form : Form) (q : Option Range) → low_faults q ≡ [] → fits_32_bits (min_of form q) ≡ true
 min_fits form None e = plain_fits form
 min_fits form (Some q) e = low_fits form q.low e
 
@@ -86,12 +86,12 @@ high_bounds : (form : Form) (q : Option Range) → high_faults (min_of form q) q
 high_bounds form None e = plain_bounds form
 high_bounds form (Some q) e = above_bounds (low_or form q.low) q.high e
 
-sound_entry : (before : List Entry) (e : written.Entry) → is_proper_name e.name.text ≡ true
+sound_entry : (before : List Entry) (e : written.EntryParts) → is_proper_name e.name.text ≡ true
     → rule_entry_faults before e ≡ [] → is_sound_entry before (entry_of e) ≡ true
 sound_entry before e named none =
     let bounded = none_left (bound_faults e) (place_faults before e) none in
     let placed = none_right (bound_faults e) (place_faults before e) none in
-    let low : fits (min_of e.form e.qualifier) ≡ true = min_fits e.form e.qualifier (none_left _ _ bounded) in
+    let low : fits_32_bits (min_of e.form e.qualifier) ≡ true = min_fits e.form e.qualifier (none_left _ _ bounded) in
     let high : bounds (min_of e.form e.qualifier) (max_of e.qualifier) ≡ true = high_bounds e.form e.qualifier
     (none_right (low_faults e.qualifier) _ bounded) in
     let once = no_fault (is_repeated before e.name.text) _ (none_left _ _ placed) in
@@ -99,7 +99,7 @@ sound_entry before e named none =
     (none_right (fault_if (is_repeated before e.name.text) _) _ placed) in
     both _ _ (both _ _ (both _ _ (both _ _ named low) high) (not_so _ once)) (not_so _ ordered)
 
-entries_sound : (before : List Entry) (es : List written.Entry) → list_all (λ e. is_proper_name e.name.text) es ≡ true
+entries_sound : (before : List Entry) (es : List written.EntryParts) → list_all (λ e. is_proper_name e.name.text) es ≡ true
     → faults_along rule_entry_faults with_entry before es ≡ []
     → each_after is_sound_entry before (map entry_of es) ≡ true
 entries_sound before [] named none = refl
@@ -108,24 +108,24 @@ entries_sound before (e ∷ es) named none =
     both _ _ (sound_entry before e first (none_left (rule_entry_faults before e) _ none))
     (entries_sound (with_entry before e) es rest (none_right (rule_entry_faults before e) _ none))
 
-fold-with_entry : (before : List Entry) (es : List written.Entry)
+fold-with_entry : (before : List Entry) (es : List written.EntryParts)
     → fold with_entry before es ≡ before ++ map entry_of es
 fold-with_entry before [] = sym (append-nil before)
 fold-with_entry before (e ∷ es) =
     fold-with_entry (with_entry before e) es ∙ append_assoc before (entry_of e ∷ []) (map entry_of es)
 
-pub sound_rule : (es : List written.Entry) (rule : List Entry) → rule ≡ fold with_entry [] es → are_named es ≡ true
+pub sound_rule : (es : List written.EntryParts) (rule : List Entry) → rule ≡ fold with_entry [] es → are_named es ≡ true
     → rule_faults es ≡ [] → is_sound_rule rule ≡ true
 sound_rule es rule e named none =
     subst (λ (r : List Entry). is_sound_rule r ≡ true) (sym (e ∙ fold-with_entry [] es))
     (entries_sound [] es named none)
 
-pub rule_is : (es : List written.Entry) (rule : List Entry) → rule ≡ fold with_entry [] es → rule ≡ map entry_of es
+pub rule_is : (es : List written.EntryParts) (rule : List Entry) → rule ≡ fold with_entry [] es → rule ≡ map entry_of es
 rule_is es rule e = e ∙ fold-with_entry [] es
 
 sound_record : (before : List AvpDef) (name code : Word) (vendor : Option ℕ) (a : AvpDef)
     → is_proper_name name.text ≡ true → is_any name.text ≡ false → list_any (is_named name.text) before ≡ false
-    → fits (number code) ≡ true → fits_option vendor ≡ true → list_any (is_coded (number code) vendor) before ≡ false
+    → fits_32_bits (number code) ≡ true → option_fits_32_bits vendor ≡ true → list_any (is_coded (number code) vendor) before ≡ false
     → is_sound_rule a.rule ≡ true → (is_grouped a.kind || is_empty_rule a.rule) ≡ true
     → is_sound_list a.values ≡ true → (is_enumerated a.kind || is_empty_list a.values) ≡ true
     → is_sound_avp before (record a { name = name.text; code = number code; vendor = vendor }) ≡ true
@@ -139,38 +139,38 @@ sound_record before name code vendor a named not_any new code_fits vendor_fits n
 
 -- the vendor of a name has a number of 32 bits
 found_fits : (name : List ℕ) (before vendors : List VendorDef) (n : ℕ)
-    → each_after is_sound_vendor before vendors ≡ true → vendor_number vendors name ≡ Some n → fits n ≡ true
+    → each_after is_sound_vendor before vendors ≡ true → vendor_number vendors name ≡ Some n → fits_32_bits n ≡ true
 found_fits name before [] n h e = absurd cc
 found_fits name before (v ∷ vs) n h e =
     let (first, rest) = and_parts (is_sound_vendor before v) (each_after is_sound_vendor (before ++ v ∷ []) vs) h in
     by (is_vendor name v) e (vendor_parts before v first).number (λ g. found_fits name (before ++ v ∷ []) vs n rest g)
   where
     by : (b : Bool) → option_map (λ x. x.number) (cond b (Some v) (find (is_vendor name) vs)) ≡ Some n
-        → fits v.number ≡ true → (vendor_number vs name ≡ Some n → fits n ≡ true) → fits n ≡ true
-    by true g f later = let same : v.number ≡ n = cc in subst (λ (x : ℕ). fits x ≡ true) same f
+        → fits_32_bits v.number ≡ true → (vendor_number vs name ≡ Some n → fits_32_bits n ≡ true) → fits_32_bits n ≡ true
+    by true g f later = let same : v.number ≡ n = cc in subst (λ (x : ℕ). fits_32_bits x ≡ true) same f
     by false g f later = later g
 
 some_is : {A : Type 0} (o : Option A) (v : Option A) → option_map Some o ≡ Some v → o ≡ v
 some_is None v e = absurd cc
 some_is (Some x) v e = cc
 
-vendor_fits : (vendors : List VendorDef) (vend : Option Vend) (vendor : Option ℕ)
-    → each_after is_sound_vendor [] vendors ≡ true → vend_faults vend ≡ [] → vendor_of vendors vend ≡ Some vendor
-    → fits_option vendor ≡ true
+vendor_fits : (vendors : List VendorDef) (vend : Option VendorReference) (vendor : Option ℕ)
+    → each_after is_sound_vendor [] vendors ≡ true → reference_faults vend ≡ [] → vendor_of vendors vend ≡ Some vendor
+    → option_fits_32_bits vendor ≡ true
 vendor_fits vendors None vendor h none e =
-    let same : None ≡ vendor = cc in subst (λ (o : Option ℕ). fits_option o ≡ true) same refl
+    let same : None ≡ vendor = cc in subst (λ (o : Option ℕ). option_fits_32_bits o ≡ true) same refl
 vendor_fits vendors (Some (NumberedBy w)) vendor h none e =
     let same : Some (number w) ≡ vendor = cc in
-    subst (λ (o : Option ℕ). fits_option o ≡ true) same (number_fits w none)
+    subst (λ (o : Option ℕ). option_fits_32_bits o ≡ true) same (number_fits w none)
 vendor_fits vendors (Some (NamedBy w)) vendor h none e =
     by vendor (some_is (vendor_number vendors w.text) vendor e)
   where
-    by : (o : Option ℕ) → vendor_number vendors w.text ≡ o → fits_option o ≡ true
+    by : (o : Option ℕ) → vendor_number vendors w.text ≡ o → option_fits_32_bits o ≡ true
     by None g = refl
     by (Some n) g = found_fits w.text [] vendors n h g
 
 -- an AVP of these words, whose vendor is known
-pub sound_avp : (m : Made) (a : AvpDef) (name code : Word) (vend : Option Vend) (vendor : Option ℕ)
+pub sound_avp : (m : WithStrays) (a : AvpDef) (name code : Word) (vend : Option VendorReference) (vendor : Option ℕ)
     → each_after is_sound_vendor [] m.definitions.vendors ≡ true → a.name ≡ name.text
     → a.code ≡ number code → a.vendor ≡ vendor → vendor_of m.definitions.vendors vend ≡ Some vendor
     → is_proper_name name.text ≡ true → name_faults m name ≡ [] → code_faults m.definitions code vend ≡ []
@@ -182,14 +182,14 @@ sound_avp m a name code vend vendor sound en ec ev known named names numbers rul
     let (not_any, new) = either (is_any name.text) (is_defined m name.text) (no_fault _ _ names) in
     let (new_name, no_stray) = either (list_any (is_named name.text) avps) _ new in
     let taken = fault_if (is_taken avps (number code) (vendor_of m.definitions.vendors vend)) (Duplicate code.line) in
-    let front = none_left (range_faults limit code ++ taken) (vend_faults vend) numbers in
+    let front = none_left (range_faults limit code ++ taken) (reference_faults vend) numbers in
     let code_fits = number_fits code (none_left (range_faults limit code) taken front) in
     let free = no_fault (is_taken avps (number code) (vendor_of m.definitions.vendors vend)) _
     (none_right (range_faults limit code) taken front) in
     let new_code : list_any (is_coded (number code) vendor) avps ≡ false = subst
     (λ (o : Option (Option ℕ)). is_taken avps (number code) o ≡ false) known free in
     let fit = vendor_fits m.definitions.vendors vend vendor sound
-    (none_right (range_faults limit code ++ taken) (vend_faults vend) numbers) known in
+    (none_right (range_faults limit code ++ taken) (reference_faults vend) numbers) known in
     let same : a ≡ record a { name = name.text; code = number code; vendor = vendor } =
     λ i. record a { name = en i; code = ec i; vendor = ev i } in
     subst (λ (x : AvpDef). is_sound_avp avps x ≡ true) (sym same)
@@ -212,8 +212,8 @@ sound_vendor before v p en eu named none =
     subst (λ (x : VendorDef). is_sound_vendor before x ≡ true) (sym same)
     (both _ _ (both _ _ (both _ _ named (not_so _ new)) small) (not_so _ free))
 
-sound_value : (before : List EnumValue) (v : written.Value) → is_proper_name v.name.text ≡ true
-    → value_faults before v ≡ [] → is_sound_value before (value_of v) ≡ true
+sound_value : (before : List EnumValue) (v : written.ValueParts) → is_proper_name v.name.text ≡ true
+    → listed_value_faults before v ≡ [] → is_sound_value before (value_of v) ≡ true
 sound_value before v named none =
     let twice = fault_if (list_any (is_value v.name.text) before) (Duplicate v.name.line) in
     let taken = fault_if (list_any (has_number (pos (number v.number))) before) (Duplicate v.number.line) in
@@ -227,26 +227,26 @@ sound_value before v named none =
     (none_right (twice ++ range_faults value_limit v.number) taken none) in
     both _ _ (both _ _ (both _ _ named (not_so _ new)) small) (not_so _ free)
 
-values_sound : (before : List EnumValue) (vs : List written.Value) → are_worded_values vs ≡ true
-    → faults_along value_faults with_value before vs ≡ [] → each_after is_sound_value before (map value_of vs) ≡ true
+values_sound : (before : List EnumValue) (vs : List written.ValueParts) → are_worded_values vs ≡ true
+    → faults_along listed_value_faults with_value before vs ≡ [] → each_after is_sound_value before (map value_of vs) ≡ true
 values_sound before [] named none = refl
 values_sound before (v ∷ vs) named none =
     let (first, rest) = and_parts (is_proper_name v.name.text) (are_worded_values vs) named in
-    both _ _ (sound_value before v first (none_left (value_faults before v) _ none))
-    (values_sound (with_value before v) vs rest (none_right (value_faults before v) _ none))
+    both _ _ (sound_value before v first (none_left (listed_value_faults before v) _ none))
+    (values_sound (with_value before v) vs rest (none_right (listed_value_faults before v) _ none))
 
-fold-with_value : (before : List EnumValue) (vs : List written.Value)
+fold-with_value : (before : List EnumValue) (vs : List written.ValueParts)
     → fold with_value before vs ≡ before ++ map value_of vs
 fold-with_value before [] = sym (append-nil before)
 fold-with_value before (v ∷ vs) =
     fold-with_value (with_value before v) vs ∙ append_assoc before (value_of v ∷ []) (map value_of vs)
 
-pub list_is : (vs : List written.Value) (values : List EnumValue) → values ≡ fold with_value [] vs
+pub list_is : (vs : List written.ValueParts) (values : List EnumValue) → values ≡ fold with_value [] vs
     → values ≡ map value_of vs
 list_is vs values e = e ∙ fold-with_value [] vs
 
-pub sound_list : (vs : List written.Value) (values : List EnumValue) → values ≡ fold with_value [] vs
-    → are_worded_values vs ≡ true → list_faults vs ≡ [] → is_sound_list values ≡ true
+pub sound_list : (vs : List written.ValueParts) (values : List EnumValue) → values ≡ fold with_value [] vs
+    → are_worded_values vs ≡ true → value_list_faults vs ≡ [] → is_sound_list values ≡ true
 sound_list vs values e named none =
     subst (λ (l : List EnumValue). is_sound_list l ≡ true) (sym (list_is vs values e)) (values_sound [] vs named none)
 
@@ -255,13 +255,13 @@ or_true true = refl
 or_true false = refl
 
 -- a list of values stands where the type is Enumerated
-pub listing_kind : (name : List ℕ) (vs : List written.Value) (kind : AvpType) (values : List EnumValue)
-    → may_list name vs ≡ true → kind ≡ unwrap_or (kind_of name) OctetString → values ≡ fold with_value [] vs
+pub listing_kind : (name : List ℕ) (vs : List written.ValueParts) (kind : AvpType) (values : List EnumValue)
+    → may_have_values name vs ≡ true → kind ≡ unwrap_or (type_named name) OctetString → values ≡ fold with_value [] vs
     → (is_enumerated kind || is_empty_list values) ≡ true
 listing_kind name [] kind values h e g = rw g (or_true (is_enumerated kind))
 listing_kind name (v ∷ vs) kind values h e g =
     let called : name ≡ codes "Enumerated" = same_text name (codes "Enumerated") (sym h) in
-    let enumerated : kind ≡ Enumerated = e ∙ ap (λ n. unwrap_or (kind_of n) OctetString) called in
+    let enumerated : kind ≡ Enumerated = e ∙ ap (λ n. unwrap_or (type_named n) OctetString) called in
     rw enumerated refl
 
 pub empty_listing : (kind : AvpType) (values : List EnumValue) → values ≡ []
@@ -278,7 +278,7 @@ empty_kind kind rule e = rw e (or_true (is_grouped kind))
 pub empty_rule : (rule : List Entry) → rule ≡ [] → is_sound_rule rule ≡ true
 empty_rule rule e = rw e refl
 
-default_fits : (o : Option Word) → option_faults limit o ≡ [] → fits (unwrap_or (option_map number o) 0) ≡ true
+default_fits : (o : Option Word) → option_faults limit o ≡ [] → fits_32_bits (unwrap_or (option_map number o) 0) ≡ true
 default_fits None e = refl
 default_fits (Some w) e = number_fits w e
 

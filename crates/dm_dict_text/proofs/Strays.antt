@@ -9,7 +9,7 @@ use Rattle.dm_dict_text.specs.declared.fault.DictFault.{DictFault}
 use Rattle.dm_tables.specs.Definitions.{is_named}
 use Rattle.dm_tables.specs.Sound.{is_any}
 use Rattle.dm_tables.specs.declared.def.AvpDef.{AvpDef}
-use Rattle.dm_dict_text.specs.Meaning.{Made, placed}
+use Rattle.dm_dict_text.specs.Meaning.{WithStrays, placed}
 use Rattle.dm_dict_text.specs.Faults.{fault_if, is_defined, name_faults}
 use Rattle.dm_dict_text.proofs.EntryFaults.{any-map}
 
@@ -22,7 +22,7 @@ second true b e = absurd cc
 second false b e = e
 
 -- a name without fault is no stray's
-pub no_stray : (m : Made) (w : Word) → name_faults m w ≡ [] → list_any (pointwise nat_eq w.text) m.strays ≡ false
+pub no_stray : (m : WithStrays) (w : Word) → name_faults m w ≡ [] → list_any (pointwise nat_eq w.text) m.strays ≡ false
 no_stray m w e =
     second (list_any (is_named w.text) m.definitions.avps) (list_any (pointwise nat_eq w.text) m.strays)
     (second (is_any w.text) (is_defined m w.text) (no_fault _ _ e))
@@ -39,7 +39,7 @@ stray_noted old new k put fresh =
     ap (map (λ x. x.now)) behind ∙ map-append (λ x. x.now) old (k ∷ [])
 
 -- an AVP that is what is defined wherever its vendor is known
-pub placed_same : (m : Made) (name : List ℕ) (def : Option ℕ → AvpDef) (a : AvpDef) (o : Option (Option ℕ))
+pub placed_same : (m : WithStrays) (name : List ℕ) (def : Option ℕ → AvpDef) (a : AvpDef) (o : Option (Option ℕ))
     → ((v : Option ℕ) → o ≡ Some v → a ≡ def v) → placed m name (λ _. a) o ≡ placed m name def o
 placed_same m name def a None same = refl
 placed_same m name def a (Some v) same = ap (λ x. placed m name (λ _. x) (Some v)) (same v refl)

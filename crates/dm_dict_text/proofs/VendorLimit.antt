@@ -3,22 +3,22 @@ use Rattle.std.proofs.Common.{◌≡◌, ◌<◌, ◌≤◌, ℕ, Bool, true, fa
 use Rattle.std.proofs.lemmas.Bool.{and_parts, ltb-true, leb-true, ne_eqb}
 use Rattle.std.specs.List.{list_any}
 use Rattle.std.specs.Option.{option_eq}
-use Rattle.dm_grammar.specs.Items.{Vend}
-use Rattle.dm_grammar.specs.Items.Vend.{NumberedBy, NamedBy}
+use Rattle.dm_grammar.specs.Items.{VendorReference}
+use Rattle.dm_grammar.specs.Items.VendorReference.{NumberedBy, NamedBy}
 use Rattle.dm_dict_text.specs.declared.fault.DictFault.{DictFault}
 use Rattle.dm_tables.specs.declared.def.VendorDef.{VendorDef}
 use Rattle.dm_tables.specs.declared.def.AvpDef.{AvpDef}
 use Rattle.dm_tables.specs.Definitions.{is_coded}
-use Rattle.dm_tables.specs.Sound.{each_after, is_sound_avp, fits_option}
+use Rattle.dm_tables.specs.Sound.{each_after, is_sound_avp, option_fits_32_bits}
 use Rattle.dm_dict_text.specs.Meaning.{number, vendor_of}
-use Rattle.dm_dict_text.specs.Faults.{first_of, fault_if, is_taken, vend_faults, limit}
+use Rattle.dm_dict_text.specs.Faults.{first_dict_fault, fault_if, is_taken, reference_faults, limit}
 use Rattle.dm_tables.specs.SoundParts.{avp_parts}
 
 and_false : (b : Bool) → (b && false) ≡ false
 and_false true = refl
 and_false false = refl
 
-other : (v : ℕ) (vendor : Option ℕ) → limit < v → fits_option vendor ≡ true → option_eq nat_eq (Some v) vendor ≡ false
+other : (v : ℕ) (vendor : Option ℕ) → limit < v → option_fits_32_bits vendor ≡ true → option_eq nat_eq (Some v) vendor ≡ false
 other v None above e = refl
 other v (Some u) above e =
     let small : u ≤ limit = leb-true u limit e in let apart : v ≡ u → ⊥ = λ same. omega arith in ne_eqb v u apart
@@ -32,12 +32,12 @@ no_such_vendor code v before (d ∷ ds) above sound =
     (other v d.vendor above (avp_parts before d first).vendor) ∙ and_false _ in
     rw here (no_such_vendor code v (before ++ d ∷ []) ds above rest)
 
-above_limit : (b : Bool) (f g : DictFault) → first_of (fault_if b f) ≡ Some g → b ≡ true
+above_limit : (b : Bool) (f g : DictFault) → first_dict_fault (fault_if b f) ≡ Some g → b ≡ true
 above_limit true f g e = refl
 above_limit false f g e = absurd cc
 
-pub vendor_above : (code : ℕ) (vendors : List VendorDef) (vend : Option Vend) (avps : List AvpDef) (f : DictFault)
-    → each_after is_sound_avp [] avps ≡ true → first_of (vend_faults vend) ≡ Some f
+pub vendor_above : (code : ℕ) (vendors : List VendorDef) (vend : Option VendorReference) (avps : List AvpDef) (f : DictFault)
+    → each_after is_sound_avp [] avps ≡ true → first_dict_fault (reference_faults vend) ≡ Some f
     → is_taken avps code (vendor_of vendors vend) ≡ false
 vendor_above code vendors None avps f sound e = absurd cc
 vendor_above code vendors (Some (NumberedBy w)) avps f sound e =

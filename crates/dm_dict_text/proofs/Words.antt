@@ -11,16 +11,16 @@ use Rattle.dm_grammar.specs.declared.item.Form.TheVariants.{Fixed, Required, Opt
 use Rattle.dm_grammar.specs.declared.reading.Version.{Version}
 use Rattle.dm_grammar.specs.declared.reading.Version.TheVariants.{First, Second}
 use Rattle.dm_grammar.specs.declared.terminal.Terminal.TheVariants.{One}
-use Rattle.dm_grammar.specs.Symbols.{begins_word, goes_on, is_space, not_line_end, mark_of, is_number, symbol_of_word}
+use Rattle.dm_grammar.specs.Symbols.{begins_word, goes_on, is_space, not_line_end, mark_of, is_digits, symbol_of_word}
 use Rattle.dm_grammar.specs.Tokens.{Word, lexeme_of, token_of, tokens_from, tokens}
 use Rattle.dm_grammar.specs.Grammar.{fits}
 use Rattle.dm_grammar.specs.Grammar as grammar
-use Rattle.dm_grammar.specs.Items.{Entry, Value, Written, AvpParts}
+use Rattle.dm_grammar.specs.Items.{EntryParts, ValueParts, Written, AvpParts}
 use Rattle.dm_grammar.specs.Items.Written.{VendorIs, AvpIs, CommandIs, GroupIs}
-use Rattle.dm_grammar.specs.Spelling.Phrase.{Never, Empty, Two, Mark, This, ◌then◌, ◌or◌}
-use Rattle.dm_grammar.specs.Spelling.{Phrase, Spells, name_is, number_is, title, qualifier, bracketed, entry, entries, value, more_values, vend_may, list, type_of, item, items, Ends, AreItems, command_head, group_head}
+use Rattle.dm_grammar.specs.Spelling.Phrase.{Never, Empty, Two, Literal, This, ◌then◌, ◌or◌}
+use Rattle.dm_grammar.specs.Spelling.{Phrase, Spells, name_is, number_is, title, qualifier, bracketed, entry_is, entries, value_is, more_values, reference_may, list, type_is, item, items, Ends, AreItems, command_head, group_head}
 use Rattle.dm_tables.specs.Sound.{is_proper_name}
-use Rattle.dm_dict_text.specs.Worded.{are_named, are_worded_values, may_list, is_worded}
+use Rattle.dm_dict_text.specs.Worded.{are_named, are_worded_values, may_have_values, is_worded}
 
 both : (a b : Bool) → a ≡ true → b ≡ true → (a && b) ≡ true
 both a b e g = rw (e, g) refl
@@ -28,7 +28,7 @@ both a b e g = rw (e, g) refl
 -- a token that is a name has the octets of one, and one that is Enumerated those
 abbrev is_right : Symbol → List ℕ → Bool
 is_right s text =
-    (not (grammar.is_name s) || is_proper_name text) &&
+    (not (grammar.is_name_symbol s) || is_proper_name text) &&
     (not (fits (One Enumerated) s) || pointwise nat_eq text (codes "Enumerated"))
 
 abbrev is_good : Word → Bool
@@ -42,13 +42,13 @@ named_by : (b c : Bool) → (not b || c) ≡ true → b ≡ true → c ≡ true
 named_by true c h e = h
 named_by false c h e = absurd cc
 
-mark_no_name : (c : ℕ) → grammar.is_name (mark_of c) ≡ false
+mark_no_name : (c : ℕ) → grammar.is_name_symbol (mark_of c) ≡ false
 mark_no_name c =
     by (nat_eq c 60) (nat_eq c 62) (nat_eq c 123) (nat_eq c 125) (nat_eq c 91) (nat_eq c 93) (nat_eq c 42)
     (nat_eq c 44) (nat_eq c 58) (nat_eq c 64)
   where
     by : (b0 b1 b2 b3 b4 b5 b6 b7 b8 b9 : Bool)
-        → grammar.is_name (if b0 then Less else if b1 then Greater else if b2 then OpenBrace else if b3 then
+        → grammar.is_name_symbol (if b0 then Less else if b1 then Greater else if b2 then OpenBrace else if b3 then
         CloseBrace else if b4 then OpenSquare else if b5 then CloseSquare else if b6 then Star else if b7 then
         Comma else if b8 then Colon else if b9 then At else Stray) ≡ false
     by true b1 b2 b3 b4 b5 b6 b7 b8 b9 = refl
@@ -63,10 +63,10 @@ mark_no_name c =
     by false false false false false false false false false true = refl
     by false false false false false false false false false false = refl
 
-word_no_number : (w : List ℕ) → grammar.is_name (symbol_of_word w) ≡ true → not (is_number w) ≡ true
-word_no_number w h = by (is_number w) _ h
+word_no_number : (w : List ℕ) → grammar.is_name_symbol (symbol_of_word w) ≡ true → not (is_digits w) ≡ true
+word_no_number w h = by (is_digits w) _ h
   where
-    by : (b : Bool) (x : Symbol) → grammar.is_name (if b then Number else x) ≡ true → not b ≡ true
+    by : (b : Bool) (x : Symbol) → grammar.is_name_symbol (if b then Number else x) ≡ true → not b ≡ true
     by true x e = absurd cc
     by false x e = refl
 
@@ -83,7 +83,7 @@ prefix_goes_on (c ∷ s) = by (goes_on c) refl (prefix_goes_on s)
 word_enumerated : (w : List ℕ) → fits (One Enumerated) (symbol_of_word w) ≡ true
     → pointwise nat_eq w (codes "Enumerated") ≡ true
 word_enumerated w h =
-    by (is_number w) (pointwise nat_eq w (codes "Diameter")) (pointwise nat_eq w (codes "Header"))
+    by (is_digits w) (pointwise nat_eq w (codes "Diameter")) (pointwise nat_eq w (codes "Header"))
     (pointwise nat_eq w (codes "Diameter-Header")) (pointwise nat_eq w (codes "AVP"))
     (pointwise nat_eq w (codes "AVP-Header")) (pointwise nat_eq w (codes "REQ")) (pointwise nat_eq w (codes "PXY"))
     (pointwise nat_eq w (codes "ERR")) (pointwise nat_eq w (codes "vendor"))
@@ -132,7 +132,7 @@ abbrev good_lexeme : Symbol × ℕ → List ℕ → Bool
 good_lexeme l text = is_right l.0 (take l.1 text)
 
 word_named : (c n : ℕ) (s : List ℕ) → is_ascii_alphanumeric c ≡ true → list_all goes_on (take n s) ≡ true
-    → not (is_number (c ∷ take n s)) ≡ true → is_proper_name (c ∷ take n s) ≡ true
+    → not (is_digits (c ∷ take n s)) ≡ true → is_proper_name (c ∷ take n s) ≡ true
 word_named c n s e g h = both _ _ (both _ _ e g) h
 
 word_good : (c : ℕ) (s : List ℕ) → is_ascii_alphanumeric c ≡ true
@@ -199,8 +199,8 @@ left_of Never Behind ws g s = absurd s
 left_of Empty Behind ws g s = (ws, (g, s))
 left_of Two Behind [] g s = absurd s
 left_of Two Behind (w ∷ ws) g s = (ws, ((and_parts (is_good w) (list_all is_good ws) g).1, s.1.1))
-left_of (Mark m) Behind [] g s = absurd s
-left_of (Mark m) Behind (w ∷ ws) g s = (ws, ((and_parts (is_good w) (list_all is_good ws) g).1, s.1))
+left_of (Literal m) Behind [] g s = absurd s
+left_of (Literal m) Behind (w ∷ ws) g s = (ws, ((and_parts (is_good w) (list_all is_good ws) g).1, s.1))
 left_of (This t v) Behind [] g s = absurd s
 left_of (This t v) Behind (w ∷ ws) g s = (ws, ((and_parts (is_good w) (list_all is_good ws) g).1, s.1.1))
 left_of (a then b) Behind ws g s =
@@ -208,10 +208,10 @@ left_of (a then b) Behind ws g s =
 left_of (a or b) Behind ws g (inl s) = left_of a Behind ws g s
 left_of (a or b) Behind ws g (inr s) = left_of b Behind ws g s
 
-right_name : (w : Word) → is_good w ≡ true → grammar.is_name w.symbol ≡ true → is_proper_name w.text ≡ true
+right_name : (w : Word) → is_good w ≡ true → grammar.is_name_symbol w.symbol ≡ true → is_proper_name w.text ≡ true
 right_name w g h =
-    named_by (grammar.is_name w.symbol) (is_proper_name w.text)
-    (and_parts (not (grammar.is_name w.symbol) || is_proper_name w.text) _ g).0 h
+    named_by (grammar.is_name_symbol w.symbol) (is_proper_name w.text)
+    (and_parts (not (grammar.is_name_symbol w.symbol) || is_proper_name w.text) _ g).0 h
 
 -- a phrase that begins with a name
 named : (v : Word) (Behind : List Word → Type 0) (ws : List Word) → AreGood ws → Spells (name_is v) Behind ws
@@ -227,65 +227,65 @@ enumerated k Behind [] g s = absurd s
 enumerated k Behind (w ∷ ws) g s =
     subst (λ (u : Word). pointwise nat_eq u.text (codes "Enumerated") ≡ true) s.1.0
     (named_by (fits (One Enumerated) w.symbol) (pointwise nat_eq w.text (codes "Enumerated"))
-    (and_parts (not (grammar.is_name w.symbol) || is_proper_name w.text) _
+    (and_parts (not (grammar.is_name_symbol w.symbol) || is_proper_name w.text) _
     (and_parts (is_good w) (list_all is_good ws) g).0).1 s.0)
 
 titled : (v : Word) (Behind : List Word → Type 0) (ws : List Word) → AreGood ws → Spells (title v) Behind ws
     → is_proper_name v.text ≡ true
 titled v Behind ws g (inl s) =
-    let l = left_of (Mark Less) (Spells (name_is v then Mark Greater) Behind) ws g s in
-    named v (Spells (Mark Greater) Behind) l.0 l.1.0 l.1.1
+    let l = left_of (Literal Less) (Spells (name_is v then Literal Greater) Behind) ws g s in
+    named v (Spells (Literal Greater) Behind) l.0 l.1.0 l.1.1
 titled v Behind ws g (inr s) = named v Behind ws g s
 
 bracket_named : (form : Form) (v : Word) (Behind : List Word → Type 0) (ws : List Word) → AreGood ws
     → Spells (bracketed form v) Behind ws → is_proper_name v.text ≡ true
 bracket_named Fixed v Behind ws g s =
-    let l = left_of (Mark Less) (Spells (name_is v then Mark Greater) Behind) ws g s in
-    named v (Spells (Mark Greater) Behind) l.0 l.1.0 l.1.1
+    let l = left_of (Literal Less) (Spells (name_is v then Literal Greater) Behind) ws g s in
+    named v (Spells (Literal Greater) Behind) l.0 l.1.0 l.1.1
 bracket_named Required v Behind ws g s =
-    let l = left_of (Mark OpenBrace) (Spells (name_is v then Mark CloseBrace) Behind) ws g s in
-    named v (Spells (Mark CloseBrace) Behind) l.0 l.1.0 l.1.1
+    let l = left_of (Literal OpenBrace) (Spells (name_is v then Literal CloseBrace) Behind) ws g s in
+    named v (Spells (Literal CloseBrace) Behind) l.0 l.1.0 l.1.1
 bracket_named Optional v Behind ws g s =
-    let l = left_of (Mark OpenSquare) (Spells (name_is v then Mark CloseSquare) Behind) ws g s in
-    named v (Spells (Mark CloseSquare) Behind) l.0 l.1.0 l.1.1
+    let l = left_of (Literal OpenSquare) (Spells (name_is v then Literal CloseSquare) Behind) ws g s in
+    named v (Spells (Literal CloseSquare) Behind) l.0 l.1.0 l.1.1
 
-entries_named : (es : List Entry) (Behind : List Word → Type 0) (ws : List Word) → AreGood ws
+entries_named : (es : List EntryParts) (Behind : List Word → Type 0) (ws : List Word) → AreGood ws
     → Spells (entries es) Behind ws → are_named es ≡ true
 entries_named [] Behind ws g s = refl
 entries_named (e ∷ es) Behind ws g s =
     let q = left_of (qualifier e.qualifier) (Spells (bracketed e.form e.name) (Spells (entries es) Behind)) ws g s in
-    let l = left_of (entry e) (Spells (entries es) Behind) ws g s in
+    let l = left_of (entry_is e) (Spells (entries es) Behind) ws g s in
     both _ _ (bracket_named e.form e.name (Spells (entries es) Behind) q.0 q.1.0 q.1.1)
     (entries_named es Behind l.0 l.1.0 l.1.1)
 
-values_named : (xs : List Value) (Behind : List Word → Type 0) (ws : List Word) → AreGood ws
+values_named : (xs : List ValueParts) (Behind : List Word → Type 0) (ws : List Word) → AreGood ws
     → Spells (more_values xs) Behind ws → are_worded_values xs ≡ true
 values_named [] Behind ws g s = refl
 values_named (x ∷ xs) Behind ws g s =
-    let c = left_of (Mark Comma) (Spells (value x then more_values xs) Behind) ws g s in
-    let l = left_of (value x) (Spells (more_values xs) Behind) c.0 c.1.0 c.1.1 in
+    let c = left_of (Literal Comma) (Spells (value_is x then more_values xs) Behind) ws g s in
+    let l = left_of (value_is x) (Spells (more_values xs) Behind) c.0 c.1.0 c.1.1 in
     both _ _ (named x.name (Spells (number_is x.number) (Spells (more_values xs) Behind)) c.0 c.1.0 c.1.1)
     (values_named xs Behind l.0 l.1.0 l.1.1)
 
 -- the values behind the type, and the type where there are some
 typed : (v : Version) (a : AvpParts) (Behind : List Word → Type 0) (ws : List Word) → AreGood ws
-    → Spells (type_of v a) Behind ws → (are_worded_values a.values ≡ true) × (may_list a.kind.text a.values ≡ true)
+    → Spells (type_is v a) Behind ws → (are_worded_values a.values ≡ true) × (may_have_values a.kind.text a.values ≡ true)
 typed v a Behind ws g s = by v a.values s
   where
-    by : (v : Version) (xs : List Value) → Spells (type_of v (record a { values = xs })) Behind ws
-        → (are_worded_values xs ≡ true) × (may_list a.kind.text xs ≡ true)
+    by : (v : Version) (xs : List ValueParts) → Spells (type_is v (record a { values = xs })) Behind ws
+        → (are_worded_values xs ≡ true) × (may_have_values a.kind.text xs ≡ true)
     by v [] s = (refl, refl)
     by First (x ∷ xs) s = absurd s
     by Second (x ∷ xs) s =
-        let behind = Spells (vend_may Second a.vendor then list x xs) Behind in
+        let behind = Spells (reference_may Second a.vendor then list x xs) Behind in
         let k = left_of (This (One Enumerated) a.kind) behind ws g s in
-        let d = left_of (vend_may Second a.vendor) (Spells (list x xs) Behind) k.0 k.1.0 k.1.1 in
-        let o = left_of (Mark OpenBrace) (Spells (value x then more_values xs then Mark CloseBrace) Behind) d.0 d.1.0
+        let d = left_of (reference_may Second a.vendor) (Spells (list x xs) Behind) k.0 k.1.0 k.1.1 in
+        let o = left_of (Literal OpenBrace) (Spells (value_is x then more_values xs then Literal CloseBrace) Behind) d.0 d.1.0
         d.1.1 in
-        let l = left_of (value x) (Spells (more_values xs then Mark CloseBrace) Behind) o.0 o.1.0 o.1.1 in (
-          both _ _ (named x.name (Spells (number_is x.number) (Spells (more_values xs then Mark CloseBrace) Behind)) o.0
+        let l = left_of (value_is x) (Spells (more_values xs then Literal CloseBrace) Behind) o.0 o.1.0 o.1.1 in (
+          both _ _ (named x.name (Spells (number_is x.number) (Spells (more_values xs then Literal CloseBrace) Behind)) o.0
               o.1.0 o.1.1)
-              (values_named xs (Spells (Mark CloseBrace) Behind) l.0 l.1.0 l.1.1),
+              (values_named xs (Spells (Literal CloseBrace) Behind) l.0 l.1.0 l.1.1),
           enumerated a.kind behind ws g s,
         )
 
@@ -293,24 +293,24 @@ item_worded : (v : Version) (i : Written) (Behind : List Word → Type 0) (ws : 
     → Spells (item v i) Behind ws → is_worded i ≡ true
 item_worded First (VendorIs d) Behind ws g s = absurd s
 item_worded Second (VendorIs d) Behind ws g s =
-    let m = left_of (Mark At then Mark Vendor) (Spells (name_is d.name then number_is d.number) Behind) ws g s in
+    let m = left_of (Literal At then Literal Vendor) (Spells (name_is d.name then number_is d.number) Behind) ws g s in
     named d.name (Spells (number_is d.number) Behind) m.0 m.1.0 m.1.1
 item_worded v (AvpIs a) Behind ws g s =
-    let m = left_of (Mark At) (Spells (name_is a.name then number_is a.code then type_of v a) Behind) ws g s in
-    let t = left_of (name_is a.name then number_is a.code) (Spells (type_of v a) Behind) m.0 m.1.0 m.1.1 in
+    let m = left_of (Literal At) (Spells (name_is a.name then number_is a.code then type_is v a) Behind) ws g s in
+    let t = left_of (name_is a.name then number_is a.code) (Spells (type_is v a) Behind) m.0 m.1.0 m.1.1 in
     let parts = typed v a Behind t.0 t.1.0 t.1.1 in
-    both _ _ (both _ _ (named a.name (Spells (number_is a.code then type_of v a) Behind) m.0 m.1.0 m.1.1) parts.0)
+    both _ _ (both _ _ (named a.name (Spells (number_is a.code then type_is v a) Behind) m.0 m.1.0 m.1.1) parts.0)
     parts.1
 item_worded v (GroupIs p) Behind ws g s =
-    let behind = Mark Define then Mark Less then group_head v p then Mark Greater then entries p.rule in
+    let behind = Literal Define then Literal Less then group_head v p then Literal Greater then entries p.rule in
     let t = left_of (title p.name) (Spells behind Behind) ws g s in
-    let r = left_of (Mark Define then Mark Less then group_head v p then Mark Greater) (Spells (entries p.rule) Behind)
+    let r = left_of (Literal Define then Literal Less then group_head v p then Literal Greater) (Spells (entries p.rule) Behind)
     t.0 t.1.0 t.1.1 in
     both _ _ (titled p.name (Spells behind Behind) ws g s) (entries_named p.rule Behind r.0 r.1.0 r.1.1)
 item_worded v (CommandIs p) Behind ws g s =
-    let behind = Mark Define then Mark Less then command_head p then Mark Greater then entries p.rule in
+    let behind = Literal Define then Literal Less then command_head p then Literal Greater then entries p.rule in
     let t = left_of (title p.name) (Spells behind Behind) ws g s in
-    let r = left_of (Mark Define then Mark Less then command_head p then Mark Greater) (Spells (entries p.rule) Behind)
+    let r = left_of (Literal Define then Literal Less then command_head p then Literal Greater) (Spells (entries p.rule) Behind)
     t.0 t.1.0 t.1.1 in
     both _ _ (titled p.name (Spells behind Behind) ws g s) (entries_named p.rule Behind r.0 r.1.0 r.1.1)
 
@@ -324,5 +324,5 @@ items_worded v (i ∷ is) Behind ws g s =
 pub words : (text : List ℕ) (is : List Written) → AreItems is (tokens text) → list_all is_worded is ≡ true
 words text is (inl s) = items_worded First is Ends (tokens text) (tokens_good 0 1 text) s
 words text is (inr s) =
-    let l = left_of (Mark At then Two) (Spells (items Second is) Ends) (tokens text) (tokens_good 0 1 text) s in
+    let l = left_of (Literal At then Two) (Spells (items Second is) Ends) (tokens text) (tokens_good 0 1 text) s in
     items_worded Second is Ends l.0 l.1.0 l.1.1

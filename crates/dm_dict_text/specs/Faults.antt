@@ -5,8 +5,8 @@ use Rattle.std.specs.List.{list_any, flat_map}
 use Rattle.std.specs.Cmp.Lexicographic.{pointwise}
 use Rattle.dm_grammar.specs.Tokens.{Word}
 use Rattle.dm_grammar.specs.Items as written
-use Rattle.dm_grammar.specs.Items.{Written, VendorParts, AvpParts, GroupParts, CommandParts, Vend, Range}
-use Rattle.dm_grammar.specs.Items.Vend.{NumberedBy, NamedBy}
+use Rattle.dm_grammar.specs.Items.{Written, VendorParts, AvpParts, GroupParts, CommandParts, VendorReference, Range}
+use Rattle.dm_grammar.specs.Items.VendorReference.{NumberedBy, NamedBy}
 use Rattle.dm_grammar.specs.Items.Written.{VendorIs, AvpIs, GroupIs, CommandIs}
 use Rattle.dm_dict_text.specs.declared.fault.DictFault.{DictFault}
 use Rattle.dm_dict_text.specs.declared.fault.DictFault.TheVariants as is
@@ -19,19 +19,19 @@ use Rattle.dm_tables.specs.EntryEquality.{form_number}
 use Rattle.dm_tables.specs.Listed.{has_number}
 use Rattle.dm_tables.specs.Definitions.{Definitions, is_vendor, has_vendor_number, is_named, is_coded, is_titled, is_headed}
 use Rattle.dm_tables.specs.Sound.{is_any, is_value, is_repeated, is_late}
-use Rattle.dm_dict_text.specs.Meaning.{number, kind_of, min_of, entry_of, value_of, vendor_def_of, vendor_of, Made, with_item}
+use Rattle.dm_dict_text.specs.Meaning.{number, type_named, min_of, entry_of, value_of, vendor_def_of, vendor_of, WithStrays, with_item}
 
 abbrev pub fault_if : Bool → DictFault → List DictFault
 fault_if b f = if b then f ∷ [] else []
 
 -- the first fault
-abbrev pub first_of : List DictFault → Option DictFault
-first_of [] = None
-first_of (f ∷ fs) = Some f
+abbrev pub first_dict_fault : List DictFault → Option DictFault
+first_dict_fault [] = None
+first_dict_fault (f ∷ fs) = Some f
 
 -- what a reader answers that meets the faults: the first of them, or want of memory
-abbrev pub Stops : List DictFault → DictFault → Type 0
-Stops faults f = (f ≡ is.NoMemory) ⊎ (first_of faults ≡ Some f)
+abbrev pub StopsAtFirst : List DictFault → DictFault → Type 0
+StopsAtFirst faults f = (f ≡ is.NoMemory) ⊎ (first_dict_fault faults ≡ Some f)
 
 -- the faults along a list, each member beside what those before it made
 abbrev pub faults_along : {S W : Type 0} → (S → W → List DictFault) → (S → W → S) → S → List W → List DictFault
@@ -69,21 +69,21 @@ high_faults min (Some q) = above_faults min q.high
 
 -- The numbers of an entry. RFC 6733 (3.2) also wants a least number of 1 or more of a required entry, and 0 of an optional one;
 -- a text that breaks that is taken (own): what it says can be counted as well.
-abbrev pub bound_faults : written.Entry → List DictFault
+abbrev pub bound_faults : written.EntryParts → List DictFault
 bound_faults e = low_faults e.qualifier ++ high_faults (min_of e.form e.qualifier) e.qualifier
 
 -- one name twice in a rule, and a form that stands too late
-abbrev pub place_faults : List Entry → written.Entry → List DictFault
+abbrev pub place_faults : List Entry → written.EntryParts → List DictFault
 place_faults before e = fault_if (is_repeated before e.name.text) (is.Duplicate e.name.line) ++
     fault_if (is_late before (form_number e.form)) (is.Order e.name.line)
 
-abbrev pub rule_entry_faults : List Entry → written.Entry → List DictFault
+abbrev pub rule_entry_faults : List Entry → written.EntryParts → List DictFault
 rule_entry_faults before e = bound_faults e ++ place_faults before e
 
-abbrev pub with_entry : List Entry → written.Entry → List Entry
+abbrev pub with_entry : List Entry → written.EntryParts → List Entry
 with_entry before e = before ++ entry_of e ∷ []
 
-abbrev pub rule_faults : List written.Entry → List DictFault
+abbrev pub rule_faults : List written.EntryParts → List DictFault
 rule_faults rule = faults_along rule_entry_faults with_entry [] rule
 
 -- a vendor name or a vendor number that is there already
@@ -93,48 +93,48 @@ vendor_item_faults vendors p =
     ++ fault_if (list_any (has_vendor_number (number p.number)) vendors) (is.Duplicate p.number.line)
 
 -- an AVP has the name, a stray too
-abbrev pub is_defined : Made → List ℕ → Bool
+abbrev pub is_defined : WithStrays → List ℕ → Bool
 is_defined m name = list_any (is_named name) m.definitions.avps || list_any (pointwise nat_eq name) m.strays
 
 -- an AVP called AVP, or by a name that is there already
-abbrev pub name_faults : Made → Word → List DictFault
+abbrev pub name_faults : WithStrays → Word → List DictFault
 name_faults m w = fault_if (is_any w.text || is_defined m w.text) (is.Duplicate w.line)
 
 -- a number of a vendor above its limit
-abbrev pub vend_faults : Option Vend → List DictFault
-vend_faults (Some (NumberedBy w)) = range_faults limit w
-vend_faults _ = []
+abbrev pub reference_faults : Option VendorReference → List DictFault
+reference_faults (Some (NumberedBy w)) = range_faults limit w
+reference_faults _ = []
 
 -- a code and vendor that are there already; a code isn't compared where the vendor isn't known
 abbrev pub is_taken : List AvpDef → ℕ → Option (Option ℕ) → Bool
 is_taken avps code None = false
 is_taken avps code (Some vendor) = list_any (is_coded code vendor) avps
 
-abbrev pub code_faults : Definitions → Word → Option Vend → List DictFault
+abbrev pub code_faults : Definitions → Word → Option VendorReference → List DictFault
 code_faults d code vend =
     range_faults limit code ++ fault_if (is_taken d.avps (number code) (vendor_of d.vendors vend))
-    (is.Duplicate code.line) ++ vend_faults vend
+    (is.Duplicate code.line) ++ reference_faults vend
 
 -- the limit of a value that is listed: an Enumerated is signed (4.3.1), and a negative value can't be written
 abbrev pub value_limit : ℕ
 value_limit = 2147483647
 
 -- a name or a number twice in a list
-abbrev pub value_faults : List EnumValue → written.Value → List DictFault
-value_faults before v =
+abbrev pub listed_value_faults : List EnumValue → written.ValueParts → List DictFault
+listed_value_faults before v =
     fault_if (list_any (is_value v.name.text) before) (is.Duplicate v.name.line) ++ range_faults value_limit v.number
     ++ fault_if (list_any (has_number (pos (number v.number))) before) (is.Duplicate v.number.line)
 
-abbrev pub with_value : List EnumValue → written.Value → List EnumValue
+abbrev pub with_value : List EnumValue → written.ValueParts → List EnumValue
 with_value before v = before ++ value_of v ∷ []
 
-abbrev pub list_faults : List written.Value → List DictFault
-list_faults values = faults_along value_faults with_value [] values
+abbrev pub value_list_faults : List written.ValueParts → List DictFault
+value_list_faults values = faults_along listed_value_faults with_value [] values
 
-abbrev pub avp_item_faults : Made → AvpParts → List DictFault
-avp_item_faults m p = name_faults m p.name ++ code_faults m.definitions p.code p.vendor ++ list_faults p.values
+abbrev pub avp_item_faults : WithStrays → AvpParts → List DictFault
+avp_item_faults m p = name_faults m p.name ++ code_faults m.definitions p.code p.vendor ++ value_list_faults p.values
 
-abbrev pub group_item_faults : Made → GroupParts → List DictFault
+abbrev pub group_item_faults : WithStrays → GroupParts → List DictFault
 group_item_faults m p = name_faults m p.name ++ code_faults m.definitions p.code p.vendor ++ rule_faults p.rule
 
 -- a command whose name, or whose code with REQ and ERR, is there already
@@ -149,36 +149,36 @@ head_faults commands p =
 abbrev pub command_item_faults : List CommandDef → CommandParts → List DictFault
 command_item_faults commands p = title_faults commands p.name ++ head_faults commands p ++ rule_faults p.rule
 
-abbrev pub item_faults : Made → Written → List DictFault
+abbrev pub item_faults : WithStrays → Written → List DictFault
 item_faults m (VendorIs p) = vendor_item_faults m.definitions.vendors p
 item_faults m (AvpIs p) = avp_item_faults m p
 item_faults m (GroupIs p) = group_item_faults m p
 item_faults m (CommandIs p) = command_item_faults m.definitions.commands p
 
 -- each item beside the definitions before it
-abbrev pub items_faults : Made → List Written → List DictFault
+abbrev pub items_faults : WithStrays → List Written → List DictFault
 items_faults m items = faults_along item_faults with_item m items
 
 -- an entry that names no AVP of all that the items make
-abbrev pub entry_unknown : Made → written.Entry → List DictFault
+abbrev pub entry_unknown : WithStrays → written.EntryParts → List DictFault
 entry_unknown all e = fault_if (not (is_any e.name.text || is_defined all e.name.text)) (is.UnknownName e.name.line)
 
-abbrev pub rule_unknown : Made → List written.Entry → List DictFault
+abbrev pub rule_unknown : WithStrays → List written.EntryParts → List DictFault
 rule_unknown all rule = flat_map (entry_unknown all) rule
 
 -- a name that none of the vendors has
-abbrev pub vend_unknown : List VendorDef → Option Vend → List DictFault
-vend_unknown vendors (Some (NamedBy w)) = fault_if (not (list_any (is_vendor w.text) vendors)) (is.UnknownName w.line)
-vend_unknown vendors _ = []
+abbrev pub reference_unknown : List VendorDef → Option VendorReference → List DictFault
+reference_unknown vendors (Some (NamedBy w)) = fault_if (not (list_any (is_vendor w.text) vendors)) (is.UnknownName w.line)
+reference_unknown vendors _ = []
 
 abbrev pub kind_unknown : Word → List DictFault
-kind_unknown w = fault_if (not (is_some (kind_of w.text))) (is.UnknownName w.line)
+kind_unknown w = fault_if (not (is_some (type_named w.text))) (is.UnknownName w.line)
 
 -- the types and entries that nothing defines, and the vendor names that nothing before the item defines
-abbrev pub unknown : Made → List VendorDef → Written → List DictFault
+abbrev pub unknown : WithStrays → List VendorDef → Written → List DictFault
 unknown all vendors (VendorIs p) = []
-unknown all vendors (AvpIs p) = kind_unknown p.kind ++ vend_unknown vendors p.vendor
-unknown all vendors (GroupIs p) = vend_unknown vendors p.vendor ++ rule_unknown all p.rule
+unknown all vendors (AvpIs p) = kind_unknown p.kind ++ reference_unknown vendors p.vendor
+unknown all vendors (GroupIs p) = reference_unknown vendors p.vendor ++ rule_unknown all p.rule
 unknown all vendors (CommandIs p) = rule_unknown all p.rule
 
 -- the vendors behind an item
@@ -187,5 +187,5 @@ vendors_with vendors (VendorIs p) = vendors ++ vendor_def_of p ∷ []
 vendors_with vendors _ = vendors
 
 -- of each item, beside the vendors before it
-abbrev pub items_unknown : Made → List VendorDef → List Written → List DictFault
+abbrev pub items_unknown : WithStrays → List VendorDef → List Written → List DictFault
 items_unknown all vendors items = faults_along (unknown all) vendors_with vendors items

@@ -12,7 +12,7 @@ use Rattle.dm_dict_text.specs.declared.fault.DictFault.TheVariants as is
 use Rattle.dm_tables.specs.declared.def.AvpDef.{AvpDef}
 use Rattle.dm_tables.specs.Definitions.{Definitions, is_named, is_coded, with_avp, with_command}
 use Rattle.dm_tables.specs.Sound.{is_any}
-use Rattle.dm_dict_text.specs.Meaning.{number, kind_of, entry_of, command_def_of}
+use Rattle.dm_dict_text.specs.Meaning.{number, type_named, entry_of, command_def_of}
 use Rattle.dm_dict_text.specs.Faults.{fault_if, faults_along, limit, range_faults, option_faults, rule_faults, command_item_faults, kind_unknown}
 
 -- an AVP without values; an unknown type is a fault elsewhere
@@ -22,7 +22,7 @@ first_avp_def p =
       name = p.name.text;
       code = number p.code;
       vendor = option_map number p.vendor;
-      kind = unwrap_or (kind_of p.kind.text) OctetString;
+      kind = unwrap_or (type_named p.kind.text) OctetString;
       rule = [];
       values = [];
     }
@@ -73,7 +73,7 @@ abbrev pub first_items_faults : Definitions → List FirstItem → List DictFaul
 first_items_faults d items = faults_along first_item_faults first_with_item d items
 
 -- an entry that names no AVP of the list
-abbrev pub first_entry_unknown : List AvpDef → written.Entry → List DictFault
+abbrev pub first_entry_unknown : List AvpDef → written.EntryParts → List DictFault
 first_entry_unknown avps e =
     fault_if (not (is_any e.name.text || has_name avps e.name.text)) (is.UnknownName e.name.line)
 

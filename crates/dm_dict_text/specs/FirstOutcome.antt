@@ -7,7 +7,7 @@ use Rattle.dm_dict_text.specs.declared.fault.DictFault.{DictFault}
 use Rattle.dm_dict_text.specs.declared.fault.DictFault.TheVariants.{Syntax}
 use Rattle.dm_tables.specs.Definitions.{Definitions}
 use Rattle.dm_dict_text.specs.Printed.{is_first_version}
-use Rattle.dm_dict_text.specs.Faults.{first_of}
+use Rattle.dm_dict_text.specs.Faults.{first_dict_fault}
 use Rattle.dm_dict_text.specs.FirstFaults.{first_with_items, first_faults}
 use Rattle.dm_dict_text.specs.Outcome.{Defines, IsFirstFault}
 
@@ -22,7 +22,7 @@ pub record DefinesByFirst (text : List ℕ) (old new : Definitions) : Type 0 whe
 pub record HasFaultByFirst (text : List ℕ) (old : Definitions) (fault : DictFault) : Type 0 where
   pub items : List FirstItem
   pub grammatical : AreFirst items (tokens text)
-  pub first : first_of (first_faults old items) ≡ Some fault
+  pub first : first_dict_fault (first_faults old items) ≡ Some fault
 
 -- a Syntax fault anywhere comes before the others
 abbrev pub IsFaultByFirst : List ℕ → Definitions → DictFault → Type 0

@@ -5,8 +5,8 @@ use Rattle.dm_grammar.specs.declared.item.Form.{Form}
 use Rattle.dm_grammar.specs.declared.item.Form.TheVariants.{Fixed, Required, Optional}
 use Rattle.dm_grammar.specs.Tokens.{Word}
 use Rattle.dm_grammar.specs.Items as written
-use Rattle.dm_grammar.specs.Items.{Written, VendorParts, AvpParts, GroupParts, CommandParts, Vend, Range}
-use Rattle.dm_grammar.specs.Items.Vend.{NumberedBy, NamedBy}
+use Rattle.dm_grammar.specs.Items.{Written, VendorParts, AvpParts, GroupParts, CommandParts, VendorReference, Range}
+use Rattle.dm_grammar.specs.Items.VendorReference.{NumberedBy, NamedBy}
 use Rattle.dm_grammar.specs.Items.Written.{VendorIs, AvpIs, GroupIs, CommandIs}
 use Rattle.dm_value.specs.declared.avp_type.AvpType.{AvpType}
 use Rattle.dm_value.specs.declared.avp_type.AvpType.TheVariants.{OctetString, Integer32, Integer64, Unsigned32, Unsigned64, Address, Time, UTF8String, DiameterIdentity, DiameterURI, Enumerated, Grouped}
@@ -18,19 +18,19 @@ use Rattle.dm_tables.specs.declared.def.CommandDef.{CommandDef}
 use Rattle.dm_tables.specs.Definitions.{Definitions, vendor_number, with_vendor, with_avp, with_command}
 
 -- the number that decimal digits write behind those of n
-abbrev pub number_after : ℕ → List ℕ → ℕ
-number_after n [] = n
-number_after n (c ∷ s) = number_after (n * 10 + (c - 48)) s
+abbrev pub number_behind : ℕ → List ℕ → ℕ
+number_behind n [] = n
+number_behind n (c ∷ s) = number_behind (n * 10 + (c - 48)) s
 
 abbrev pub number_of : List ℕ → ℕ
-number_of digits = number_after 0 digits
+number_of digits = number_behind 0 digits
 
 abbrev pub number : Word → ℕ
 number w = number_of w.text
 
 -- the type of a name; Grouped is no name of a type here
-abbrev pub kind_of : List ℕ → Option AvpType
-kind_of name =
+abbrev pub type_named : List ℕ → Option AvpType
+type_named name =
     if pointwise nat_eq name (codes "OctetString") then Some OctetString else
     if pointwise nat_eq name (codes "Integer32") then Some Integer32 else
     if pointwise nat_eq name (codes "Integer64") then Some Integer64 else
@@ -67,17 +67,17 @@ abbrev pub max_of : Option Range → Option ℕ
 max_of None = Some 1
 max_of (Some q) = option_map number q.high
 
-abbrev pub entry_of : written.Entry → Entry
+abbrev pub entry_of : written.EntryParts → Entry
 entry_of e = record { form = e.form; name = e.name.text; min = min_of e.form e.qualifier; max = max_of e.qualifier }
 
-abbrev pub value_of : written.Value → EnumValue
+abbrev pub value_of : written.ValueParts → EnumValue
 value_of v = record { name = v.name.text; number = pos (number v.number) }
 
 abbrev pub vendor_def_of : VendorParts → VendorDef
 vendor_def_of p = record { name = p.name.text; number = number p.number }
 
 -- the vendor that is written, if any; None where it is a name that no vendor has
-abbrev pub vendor_of : List VendorDef → Option Vend → Option (Option ℕ)
+abbrev pub vendor_of : List VendorDef → Option VendorReference → Option (Option ℕ)
 vendor_of vendors None = Some None
 vendor_of vendors (Some (NumberedBy w)) = Some (Some (number w))
 vendor_of vendors (Some (NamedBy w)) = option_map Some (vendor_number vendors w.text)
@@ -89,7 +89,7 @@ avp_def_of p vendor =
       name = p.name.text;
       code = number p.code;
       vendor = vendor;
-      kind = unwrap_or (kind_of p.kind.text) OctetString;
+      kind = unwrap_or (type_named p.kind.text) OctetString;
       rule = [];
       values = map value_of p.values;
     }
@@ -118,28 +118,28 @@ command_def_of p =
     }
 
 -- what items make: definitions, and strays, the names of AVPs whose vendor has a name that nothing before them defines
-pub record Made : Type 0 where
+pub record WithStrays : Type 0 where
   pub definitions : Definitions
   pub strays : List (List ℕ)
 
 -- definitions, and no strays
-abbrev pub made : Definitions → Made
-made d = record { definitions = d; strays = [] }
+abbrev pub with_no_strays : Definitions → WithStrays
+with_no_strays d = record { definitions = d; strays = [] }
 
 -- an AVP behind the others, or a stray where its vendor isn't known
-abbrev pub placed : Made → List ℕ → (Option ℕ → AvpDef) → Option (Option ℕ) → Made
+abbrev pub placed : WithStrays → List ℕ → (Option ℕ → AvpDef) → Option (Option ℕ) → WithStrays
 placed m name def None = record m { strays = m.strays ++ name ∷ [] }
 placed m name def (Some vendor) = record m { definitions = with_avp m.definitions (def vendor) }
 
 -- the definition of an item, behind the others
-abbrev pub with_item : Made → Written → Made
+abbrev pub with_item : WithStrays → Written → WithStrays
 with_item m (VendorIs p) = record m { definitions = with_vendor m.definitions (vendor_def_of p) }
 with_item m (AvpIs p) = placed m p.name.text (avp_def_of p) (vendor_of m.definitions.vendors p.vendor)
 with_item m (GroupIs p) = placed m p.name.text (group_def_of p) (vendor_of m.definitions.vendors p.vendor)
 with_item m (CommandIs p) = record m { definitions = with_command m.definitions (command_def_of p) }
 
 -- the definitions of the items, in order
-abbrev pub with_items : Made → List Written → Made
+abbrev pub with_items : WithStrays → List Written → WithStrays
 with_items m items = fold with_item m items
 
 -- how many vendors an item defines

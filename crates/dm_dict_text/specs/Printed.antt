@@ -44,19 +44,19 @@ abbrev pub decimal_option : Option ℕ → List ℕ
 decimal_option None = []
 decimal_option (Some n) = decimal n
 
-abbrev pub opening : Form → List ℕ
-opening Fixed = codes " < "
-opening Required = codes " { "
-opening Optional = codes " [ "
+abbrev pub opening_bracket : Form → List ℕ
+opening_bracket Fixed = codes " < "
+opening_bracket Required = codes " { "
+opening_bracket Optional = codes " [ "
 
-abbrev pub closing : Form → List ℕ
-closing Fixed = codes " >"
-closing Required = codes " }"
-closing Optional = codes " ]"
+abbrev pub closing_bracket : Form → List ℕ
+closing_bracket Fixed = codes " >"
+closing_bracket Required = codes " }"
+closing_bracket Optional = codes " ]"
 
 -- MIN*MAX { NAME }, both numbers in full (3.2 lets either be left out)
 abbrev pub entry_text : Entry → List ℕ
-entry_text e = spaced_number e.min ++ codes "*" ++ decimal_option e.max ++ opening e.form ++ e.name ++ closing e.form
+entry_text e = spaced_number e.min ++ codes "*" ++ decimal_option e.max ++ opening_bracket e.form ++ e.name ++ closing_bracket e.form
 
 abbrev pub rule_text : List Entry → List ℕ
 rule_text rule = flat_map entry_text rule
@@ -69,21 +69,21 @@ abbrev pub vendor_line : VendorDef → List ℕ
 vendor_line v = codes "@ vendor " ++ v.name ++ spaced_number v.number ++ line_end
 
 -- NAME NUMBER
-abbrev pub value_text : EnumValue → List ℕ
-value_text v = spaced v.name ++ spaced_number (unsigned_abs v.number)
+abbrev pub listed_value_text : EnumValue → List ℕ
+listed_value_text v = spaced v.name ++ spaced_number (unsigned_abs v.number)
 
 -- , NAME NUMBER
 abbrev pub next_value : EnumValue → List ℕ
-next_value v = codes "," ++ value_text v
+next_value v = codes "," ++ listed_value_text v
 
 -- { NAME NUMBER, NAME NUMBER }, or nothing where there is no list
-abbrev pub list_text : List EnumValue → List ℕ
-list_text [] = []
-list_text (v ∷ vs) = codes " {" ++ value_text v ++ flat_map next_value vs ++ codes " }"
+abbrev pub value_list_text : List EnumValue → List ℕ
+value_list_text [] = []
+value_list_text (v ∷ vs) = codes " {" ++ listed_value_text v ++ flat_map next_value vs ++ codes " }"
 
 -- TYPE VENDOR LIST, and the end of the line
 abbrev pub plain_end : AvpDef → List ℕ
-plain_end d = spaced (type_name d.kind) ++ spaced_option d.vendor ++ list_text d.values ++ line_end
+plain_end d = spaced (type_name d.kind) ++ spaced_option d.vendor ++ value_list_text d.values ++ line_end
 
 -- @ NAME CODE TYPE VENDOR LIST (own: RFC 6733 has no grammar for an AVP that is no group; its definitions are prose, 4.5)
 abbrev pub plain_line : AvpDef → List ℕ
@@ -94,12 +94,12 @@ abbrev pub rule_end : List Entry → List ℕ
 rule_end rule = codes " >" ++ rule_text rule ++ line_end
 
 -- > ::= < AVP Header: CODE VENDOR
-abbrev pub group_head : AvpDef → List ℕ
-group_head d = codes " > ::= < AVP Header:" ++ spaced_number d.code ++ spaced_option d.vendor
+abbrev pub group_head_text : AvpDef → List ℕ
+group_head_text d = codes " > ::= < AVP Header:" ++ spaced_number d.code ++ spaced_option d.vendor
 
 -- < NAME, then the head and the rule
 abbrev pub group_line : AvpDef → List ℕ
-group_line d = codes "< " ++ d.name ++ group_head d ++ rule_end d.rule
+group_line d = codes "< " ++ d.name ++ group_head_text d ++ rule_end d.rule
 
 abbrev pub avp_line : AvpDef → List ℕ
 avp_line d = if is_grouped d.kind then group_line d else plain_line d
@@ -113,13 +113,13 @@ flags_text c = flag_text c.request (codes ", REQ") ++ flag_text c.proxiable (cod
     flag_text c.err (codes ", ERR")
 
 -- > ::= < Diameter Header: CODE, REQ, PXY, ERR APPLICATION
-abbrev pub command_head : CommandDef → List ℕ
-command_head c = codes " > ::= < Diameter Header:" ++ spaced_number c.code ++ flags_text c ++
+abbrev pub command_head_text : CommandDef → List ℕ
+command_head_text c = codes " > ::= < Diameter Header:" ++ spaced_number c.code ++ flags_text c ++
     spaced_number c.application
 
 -- < NAME, then the head and the rule
 abbrev pub command_line : CommandDef → List ℕ
-command_line c = codes "< " ++ c.name ++ command_head c ++ rule_end c.rule
+command_line c = codes "< " ++ c.name ++ command_head_text c ++ rule_end c.rule
 
 abbrev pub has_none : {A : Type 0} → List A → Bool
 has_none [] = true

@@ -2,7 +2,7 @@
 ghost use Rattle.std.specs.Prelude.{◌≡◌, [], Some, option_map, IfOk, IfErr};
 ghost use Rattle.dm_grammar.specs.Views.{view_option, view_qualifier, view_entry};
 ghost use Rattle.dm_dict_text.specs.Meaning.{number, plain_min, starred_min, low_or, min_of, max_of};
-ghost use Rattle.dm_dict_text.specs.Faults.{first_of, option_faults, above_faults, bound_faults};
+ghost use Rattle.dm_dict_text.specs.Faults.{first_dict_fault, option_faults, above_faults, bound_faults};
 
 use crate::DictFault;
 use crate::number::number;
@@ -32,7 +32,7 @@ fn starred_min(form: Form) -> u32
 fn low(form: Form, word: Option<Token<'_>>) -> Result<u32, DictFault>
     ensures value { IfOk result (λ n. n ≡ low_or form (view_option word.entry)) }
     ensures good { IfOk result (λ _. option_faults u32.MAX (view_option word.entry) ≡ []) }
-    ensures fault { IfErr result (λ f. first_of (option_faults u32.MAX (view_option word.entry)) ≡ Some f) }
+    ensures fault { IfErr result (λ f. first_dict_fault (option_faults u32.MAX (view_option word.entry)) ≡ Some f) }
 {
     match word {
         Some(word) => number(word, u32::MAX),
@@ -44,7 +44,7 @@ fn low(form: Form, word: Option<Token<'_>>) -> Result<u32, DictFault>
 fn high(min: u32, word: Option<Token<'_>>) -> Result<Option<u32>, DictFault>
     ensures value { IfOk result (λ n. n ≡ option_map number (view_option word.entry)) }
     ensures good { IfOk result (λ _. above_faults min (view_option word.entry) ≡ []) }
-    ensures fault { IfErr result (λ f. first_of (above_faults min (view_option word.entry)) ≡ Some f) }
+    ensures fault { IfErr result (λ f. first_dict_fault (above_faults min (view_option word.entry)) ≡ Some f) }
 {
     let Some(word) = word else {
         return Ok(None);
@@ -62,7 +62,7 @@ pub fn bounds(item: &EntryItem<'_>) -> Result<(u32, Option<u32>), DictFault>
     ensures min { IfOk result (λ b. b.0 ≡ min_of (view_entry item.now).form (view_entry item.now).qualifier) }
     ensures max { IfOk result (λ b. b.1 ≡ max_of (view_entry item.now).qualifier) }
     ensures good { IfOk result (λ _. bound_faults (view_entry item.now) ≡ []) }
-    ensures fault { IfErr result (λ f. first_of (bound_faults (view_entry item.now)) ≡ Some f) }
+    ensures fault { IfErr result (λ f. first_dict_fault (bound_faults (view_entry item.now)) ≡ Some f) }
 {
     match item.qualifier {
         Some(qualifier) => {

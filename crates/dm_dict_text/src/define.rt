@@ -10,13 +10,13 @@ ghost use Rattle.dm_tables.specs.Tables.{defined, IsTables};
 ghost use Rattle.dm_dict_text.specs.Making.{making};
 ghost use Rattle.dm_dict_text.specs.Worded.{is_worded_vendor, is_worded_avp, is_worded_group, is_worded_command, is_worded};
 ghost use Rattle.dm_dict_text.specs.Meaning.{vendor_def_of, command_def_of, placed, with_item, with_items};
-ghost use Rattle.dm_dict_text.specs.Faults.{Stops, vendor_item_faults, avp_item_faults, group_item_faults, command_item_faults, item_faults, items_faults};
+ghost use Rattle.dm_dict_text.specs.Faults.{StopsAtFirst, vendor_item_faults, avp_item_faults, group_item_faults, command_item_faults, item_faults, items_faults};
 ghost use Rattle.dm_grammar.specs.Items.Written.{AvpIs, GroupIs};
 
 use crate::DictFault;
 use crate::checks::{check_code, check_head, check_name, check_title, check_vendor};
 use crate::entries::rule;
-use crate::kind::kind_of;
+use crate::kind::type_named;
 use crate::list::list;
 use dm_grammar::{AvpItem, CommandItem, GroupItem, Item, VendorItem};
 use dm_tables::{AvpDef, CommandDef, Rule, Tables, Values, VendorDef};
@@ -32,7 +32,7 @@ fn define_vendor(alloc: Global, tables: &mut Tables, item: &VendorItem<'_>) -> R
     ensures good { OnOk result (vendor_item_faults tables.old.vendors.items.items (view_vendor item.now) ≡ []) }
     ensures added { OnOk result (defined tables.new ≡ with_vendor (defined tables.old) (vendor_def_of (view_vendor item.now))) }
     ensures tables { OnOk result (IsTables tables.new) }
-    ensures fault { IfErr result (Stops (vendor_item_faults tables.old.vendors.items.items (view_vendor item.now))) }
+    ensures fault { IfErr result (StopsAtFirst (vendor_item_faults tables.old.vendors.items.items (view_vendor item.now))) }
 {
     let number = check_vendor(tables, item)?;
     let vendor = VendorDef {
@@ -84,7 +84,7 @@ fn define_avp<'a>(
     ensures good { OnOk result (avp_item_faults (making tables.old strays.old) (view_avp item.now) ≡ []) }
     ensures added { OnOk result (making tables.new strays.new ≡ with_item (making tables.old strays.old) (AvpIs (view_avp item.now))) }
     ensures tables { OnOk result (IsTables tables.new) }
-    ensures fault { IfErr result (Stops (avp_item_faults (making tables.old strays.old) (view_avp item.now))) }
+    ensures fault { IfErr result (StopsAtFirst (avp_item_faults (making tables.old strays.old) (view_avp item.now))) }
 {
     check_name(tables, strays, item.name)?;
     let (code, vendor) = check_code(tables, item.code, item.vendor)?;
@@ -94,7 +94,7 @@ fn define_avp<'a>(
         name,
         code,
         vendor: vendor.unwrap_or(None),
-        kind: kind_of(item.kind.text).unwrap_or(AvpType::OctetString),
+        kind: type_named(item.kind.text).unwrap_or(AvpType::OctetString),
         rule: Rule::empty(alloc),
         values,
     };
@@ -113,7 +113,7 @@ fn define_group<'a>(
     ensures good { OnOk result (group_item_faults (making tables.old strays.old) (view_group item.now) ≡ []) }
     ensures added { OnOk result (making tables.new strays.new ≡ with_item (making tables.old strays.old) (GroupIs (view_group item.now))) }
     ensures tables { OnOk result (IsTables tables.new) }
-    ensures fault { IfErr result (Stops (group_item_faults (making tables.old strays.old) (view_group item.now))) }
+    ensures fault { IfErr result (StopsAtFirst (group_item_faults (making tables.old strays.old) (view_group item.now))) }
 {
     check_name(tables, strays, item.name)?;
     let (code, vendor) = check_code(tables, item.code, item.vendor)?;
@@ -141,7 +141,7 @@ fn define_command(
     ensures good { OnOk result (command_item_faults tables.old.commands.items (view_command item.now) ≡ []) }
     ensures added { OnOk result (defined tables.new ≡ with_command (defined tables.old) (command_def_of (view_command item.now))) }
     ensures tables { OnOk result (IsTables tables.new) }
-    ensures fault { IfErr result (Stops (command_item_faults tables.old.commands.items (view_command item.now))) }
+    ensures fault { IfErr result (StopsAtFirst (command_item_faults tables.old.commands.items (view_command item.now))) }
 {
     check_title(tables, item.name)?;
     let (code, application) = check_head(tables, item)?;
@@ -170,7 +170,7 @@ fn define<'a>(
     ensures good { OnOk result (item_faults (making tables.old strays.old) (view_item item.now) ≡ []) }
     ensures added { OnOk result (making tables.new strays.new ≡ with_item (making tables.old strays.old) (view_item item.now)) }
     ensures tables { OnOk result (IsTables tables.new) }
-    ensures fault { IfErr result (Stops (item_faults (making tables.old strays.old) (view_item item.now))) }
+    ensures fault { IfErr result (StopsAtFirst (item_faults (making tables.old strays.old) (view_item item.now))) }
 {
     match item {
         Item::Vendor(item) => define_vendor(alloc, tables, item),
@@ -192,7 +192,7 @@ pub fn define_all<'a>(
     ensures good { OnOk result (items_faults (making tables.old strays.old) (map view_item items.now) ≡ []) }
     ensures added { OnOk result (making tables.new strays.new ≡ with_items (making tables.old strays.old) (map view_item items.now)) }
     ensures tables { OnOk result (IsTables tables.new) }
-    ensures fault { IfErr result (Stops (items_faults (making tables.old strays.old) (map view_item items.now))) }
+    ensures fault { IfErr result (StopsAtFirst (items_faults (making tables.old strays.old) (map view_item items.now))) }
 {
     for item in items {
         define(alloc, tables, strays, item)?;

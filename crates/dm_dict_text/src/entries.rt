@@ -5,7 +5,7 @@ ghost use Rattle.indexmap.specs.IndexSet.{contains_by};
 ghost use Rattle.dm_grammar.specs.Views.{view_entry};
 ghost use Rattle.dm_tables.specs.EntryEquality.{form_number};
 ghost use Rattle.dm_dict_text.specs.Meaning.{min_of, max_of};
-ghost use Rattle.dm_dict_text.specs.Faults.{Stops, rule_entry_faults, with_entry, rule_faults};
+ghost use Rattle.dm_dict_text.specs.Faults.{StopsAtFirst, rule_entry_faults, with_entry, rule_faults};
 
 use crate::DictFault;
 use crate::bounds::bounds;
@@ -57,7 +57,7 @@ impl<'a> Entries<'a> {
         ensures good { IfOk result (λ _. rule_entry_faults self.now.entries.items (view_entry item.now) ≡ []) }
         ensures new { IfOk result (λ _.
             contains_by (λ k. pointwise nat_eq item.now.name.text.now k.now) self.now.names ≡ false) }
-        ensures fault { IfErr result (Stops (rule_entry_faults self.now.entries.items (view_entry item.now))) }
+        ensures fault { IfErr result (StopsAtFirst (rule_entry_faults self.now.entries.items (view_entry item.now))) }
     {
         let range = bounds(item)?;
         let word = item.name;
@@ -76,7 +76,7 @@ impl<'a> Entries<'a> {
         ensures good { OnOk result (rule_entry_faults self.old.entries.items (view_entry item.now) ≡ []) }
         ensures added { OnOk result (self.new.entries.items ≡ with_entry self.old.entries.items (view_entry item.now)) }
         ensures noted { OnOk result (IsNoted self.new) }
-        ensures fault { IfErr result (Stops (rule_entry_faults self.old.entries.items (view_entry item.now))) }
+        ensures fault { IfErr result (StopsAtFirst (rule_entry_faults self.old.entries.items (view_entry item.now))) }
     {
         let (min, max) = self.check(item)?;
         let form = item.form;
@@ -99,7 +99,7 @@ impl<'a> Entries<'a> {
         requires noted { IsNoted self.old }
         ensures added { OnOk result (self.new.entries.items ≡ fold with_entry [] (map view_entry items.now)) }
         ensures good { OnOk result (rule_faults (map view_entry items.now) ≡ []) }
-        ensures fault { IfErr result (Stops (rule_faults (map view_entry items.now))) }
+        ensures fault { IfErr result (StopsAtFirst (rule_faults (map view_entry items.now))) }
     {
         for item in items {
             self.add(alloc, item)?;
@@ -112,7 +112,7 @@ impl<'a> Entries<'a> {
 fn entries_of(alloc: Global, items: &[EntryItem<'_>]) -> Result<Vec<Entry>, DictFault>
     ensures value { IfOk result (λ entries. entries.items ≡ fold with_entry [] (map view_entry items.now)) }
     ensures good { IfOk result (λ _. rule_faults (map view_entry items.now) ≡ []) }
-    ensures fault { IfErr result (Stops (rule_faults (map view_entry items.now))) }
+    ensures fault { IfErr result (StopsAtFirst (rule_faults (map view_entry items.now))) }
 {
     let mut rule = Entries::new(alloc);
     let done = rule.add_all(alloc, items);
@@ -124,7 +124,7 @@ fn entries_of(alloc: Global, items: &[EntryItem<'_>]) -> Result<Vec<Entry>, Dict
 pub fn rule(alloc: Global, items: &[EntryItem<'_>]) -> Result<Rule, DictFault>
     ensures value { IfOk result (λ rule. rule ≡ fold with_entry [] (map view_entry items.now)) }
     ensures good { IfOk result (λ _. rule_faults (map view_entry items.now) ≡ []) }
-    ensures fault { IfErr result (Stops (rule_faults (map view_entry items.now))) }
+    ensures fault { IfErr result (StopsAtFirst (rule_faults (map view_entry items.now))) }
 {
     let entries = entries_of(alloc, items)?;
     Ok(Rule::from_vec(entries))

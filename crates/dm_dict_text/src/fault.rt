@@ -60,9 +60,9 @@ impl From<NoMemory> for DictFault {
 }
 
 impl From<ItemFault> for DictFault {
-    ghost use Rattle.dm_dict_text.specs.ItemFaults.{fault_of};
+    ghost use Rattle.dm_dict_text.specs.ItemFaults.{of_item_fault};
 
-    ghost from_gives = { λ item fault. fault ≡ fault_of item };
+    ghost from_gives = { λ item fault. fault ≡ of_item_fault item };
 
     fn from(fault: ItemFault) -> DictFault {
         match fault {

@@ -1,6 +1,6 @@
 //! The types of AVPs by name (RFC 6733, 4.2 and 4.3).
 ghost use Rattle.std.specs.Prelude.{◌≡◌, map};
-ghost use Rattle.dm_dict_text.specs.Meaning.{kind_of};
+ghost use Rattle.dm_dict_text.specs.Meaning.{type_named};
 ghost use Rattle.dm_dict_text.specs.Kinds.{kind_row, kind_names};
 
 use dm_value::AvpType;
@@ -43,8 +43,8 @@ fn kind_rows() -> &'static [KindRow]
 }
 
 /// The type of a name, but for Grouped.
-pub fn kind_of(name: &[u8]) -> Option<AvpType>
-    ensures { result ≡ kind_of name.now }
+pub fn type_named(name: &[u8]) -> Option<AvpType>
+    ensures { result ≡ type_named name.now }
 {
     for row in kind_rows() {
         if name == row.name {

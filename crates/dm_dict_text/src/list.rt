@@ -1,8 +1,8 @@
 //! The list of values of an item of a dictionary text (own).
 ghost use Rattle.std.specs.Prelude.{◌≡◌, ◌≤◌, pos, unsigned_abs, [], map, fold, OnOk, IfOk, IfErr};
-ghost use Rattle.dm_grammar.specs.Views.{view, view_value};
+ghost use Rattle.dm_grammar.specs.Views.{view_word, view_value};
 ghost use Rattle.dm_dict_text.specs.Meaning.{number};
-ghost use Rattle.dm_dict_text.specs.Faults.{Stops, value_faults, with_value, list_faults};
+ghost use Rattle.dm_dict_text.specs.Faults.{StopsAtFirst, listed_value_faults, with_value, value_list_faults};
 
 use crate::DictFault;
 use crate::number::number;
@@ -49,10 +49,10 @@ impl<'a> Listing<'a> {
     /// The number of a value that may stand behind the others.
     fn check(&self, item: &ValueItem<'a>) -> Result<i32, DictFault>
         requires { IsListing self.now }
-        ensures number { IfOk result (λ n. n ≡ pos (number (view item.now.number))) }
+        ensures number { IfOk result (λ n. n ≡ pos (number (view_word item.now.number))) }
         ensures small { IfOk result (λ n. unsigned_abs n ≤ 2147483647) }
-        ensures good { IfOk result (λ _. value_faults self.now.values.items (view_value item.now) ≡ []) }
-        ensures fault { IfErr result (Stops (value_faults self.now.values.items (view_value item.now))) }
+        ensures good { IfOk result (λ _. listed_value_faults self.now.values.items (view_value item.now) ≡ []) }
+        ensures fault { IfErr result (StopsAtFirst (listed_value_faults self.now.values.items (view_value item.now))) }
     {
         if self.names.contains(item.name.text) {
             return Err(DictFault::Duplicate(item.name.line));
@@ -67,10 +67,10 @@ impl<'a> Listing<'a> {
     /// One value more, behind the others.
     fn add(&mut self, alloc: Global, item: &ValueItem<'a>) -> Result<(), DictFault>
         requires { IsListing self.old }
-        ensures good { OnOk result (value_faults self.old.values.items (view_value item.now) ≡ []) }
+        ensures good { OnOk result (listed_value_faults self.old.values.items (view_value item.now) ≡ []) }
         ensures added { OnOk result (self.new.values.items ≡ with_value self.old.values.items (view_value item.now)) }
         ensures listing { OnOk result (IsListing self.new) }
-        ensures fault { IfErr result (Stops (value_faults self.old.values.items (view_value item.now))) }
+        ensures fault { IfErr result (StopsAtFirst (listed_value_faults self.old.values.items (view_value item.now))) }
     {
         let number = self.check(item)?;
         let word = item.name.text;
@@ -86,8 +86,8 @@ impl<'a> Listing<'a> {
         requires empty { self.old.values.items ≡ [] }
         requires listing { IsListing self.old }
         ensures added { OnOk result (self.new.values.items ≡ fold with_value [] (map view_value items.now)) }
-        ensures good { OnOk result (list_faults (map view_value items.now) ≡ []) }
-        ensures fault { IfErr result (Stops (list_faults (map view_value items.now))) }
+        ensures good { OnOk result (value_list_faults (map view_value items.now) ≡ []) }
+        ensures fault { IfErr result (StopsAtFirst (value_list_faults (map view_value items.now))) }
     {
         for item in items {
             self.add(alloc, item)?;
@@ -99,8 +99,8 @@ impl<'a> Listing<'a> {
 /// The values of the items.
 fn values_of(alloc: Global, items: &[ValueItem<'_>]) -> Result<Vec<EnumValue>, DictFault>
     ensures value { IfOk result (λ values. values.items ≡ fold with_value [] (map view_value items.now)) }
-    ensures good { IfOk result (λ _. list_faults (map view_value items.now) ≡ []) }
-    ensures fault { IfErr result (Stops (list_faults (map view_value items.now))) }
+    ensures good { IfOk result (λ _. value_list_faults (map view_value items.now) ≡ []) }
+    ensures fault { IfErr result (StopsAtFirst (value_list_faults (map view_value items.now))) }
 {
     let mut listing = Listing::new(alloc);
     let done = listing.add_all(alloc, items);
@@ -111,8 +111,8 @@ fn values_of(alloc: Global, items: &[ValueItem<'_>]) -> Result<Vec<EnumValue>, D
 /// The list of the items.
 pub fn list(alloc: Global, items: &[ValueItem<'_>]) -> Result<Values, DictFault>
     ensures value { IfOk result (λ list. list ≡ fold with_value [] (map view_value items.now)) }
-    ensures good { IfOk result (λ _. list_faults (map view_value items.now) ≡ []) }
-    ensures fault { IfErr result (Stops (list_faults (map view_value items.now))) }
+    ensures good { IfOk result (λ _. value_list_faults (map view_value items.now) ≡ []) }
+    ensures fault { IfErr result (StopsAtFirst (value_list_faults (map view_value items.now))) }
 {
     let values = values_of(alloc, items)?;
     Ok(Values::new(alloc, values)?)

@@ -1,8 +1,8 @@
 //! Numbers of a dictionary text.
 ghost use Rattle.std.specs.Prelude.{◌≡◌, ◌≤◌, [], Some, option_map, IfOk, IfErr};
-ghost use Rattle.dm_grammar.specs.Views.{view, view_option};
+ghost use Rattle.dm_grammar.specs.Views.{view_word, view_option};
 ghost use Rattle.dm_dict_text.specs.Meaning.{number_of, number};
-ghost use Rattle.dm_dict_text.specs.Faults.{first_of, range_faults, option_faults};
+ghost use Rattle.dm_dict_text.specs.Faults.{first_dict_fault, range_faults, option_faults};
 ghost use Rattle.dm_dict_text.specs.Numbers.{within};
 
 use crate::DictFault;
@@ -25,10 +25,10 @@ fn number_within(digits: &[u8], limit: u32) -> Option<u32>
 
 /// The number of a word, which is at most `limit`.
 pub fn number(word: Token<'_>, limit: u32) -> Result<u32, DictFault>
-    ensures value { IfOk result (λ n. n ≡ number (view word.entry)) }
+    ensures value { IfOk result (λ n. n ≡ number (view_word word.entry)) }
     ensures small { IfOk result (λ n. n ≤ limit) }
-    ensures good { IfOk result (λ _. range_faults limit (view word.entry) ≡ []) }
-    ensures fault { IfErr result (λ f. first_of (range_faults limit (view word.entry)) ≡ Some f) }
+    ensures good { IfOk result (λ _. range_faults limit (view_word word.entry) ≡ []) }
+    ensures fault { IfErr result (λ f. first_dict_fault (range_faults limit (view_word word.entry)) ≡ Some f) }
 {
     match number_within(word.text, limit) {
         Some(number) => Ok(number),
@@ -40,7 +40,7 @@ pub fn number(word: Token<'_>, limit: u32) -> Result<u32, DictFault>
 pub fn optional_number(word: Option<Token<'_>>, limit: u32) -> Result<Option<u32>, DictFault>
     ensures value { IfOk result (λ n. n ≡ option_map number (view_option word.entry)) }
     ensures good { IfOk result (λ _. option_faults limit (view_option word.entry) ≡ []) }
-    ensures fault { IfErr result (λ f. first_of (option_faults limit (view_option word.entry)) ≡ Some f) }
+    ensures fault { IfErr result (λ f. first_dict_fault (option_faults limit (view_option word.entry)) ≡ Some f) }
 {
     match word {
         Some(word) => Ok(Some(number(word, limit)?)),

@@ -2,7 +2,7 @@
 ghost use Rattle.std.specs.Prelude.{◌≡◌, ◌++◌, ◌∷◌, [], OnOk};
 ghost use Rattle.std.specs.List.{flat_map, list_all};
 ghost use Rattle.std.specs.Fmt.{decimal};
-ghost use Rattle.dm_dict_text.specs.Printed.{type_name, spaced, spaced_number, spaced_option, decimal_option, opening, closing, entry_text, rule_text, vendor_line, value_text, next_value, list_text, plain_end, plain_line, rule_end, group_head, group_line, avp_line, flag_text, flags_text, command_head, command_line, has_none, is_first_version, version_line, printed};
+ghost use Rattle.dm_dict_text.specs.Printed.{type_name, spaced, spaced_number, spaced_option, decimal_option, opening_bracket, closing_bracket, entry_text, rule_text, vendor_line, listed_value_text, next_value, value_list_text, plain_end, plain_line, rule_end, group_head_text, group_line, avp_line, flag_text, flags_text, command_head_text, command_line, has_none, is_first_version, version_line, printed};
 ghost use Rattle.dm_tables.specs.Tables.{defined};
 
 use dm_grammar::Form;
@@ -32,8 +32,8 @@ fn type_word(kind: AvpType) -> &'static [u8]
 
 /// The brackets of a form, with their spaces.
 fn brackets(form: Form) -> (&'static [u8], &'static [u8])
-    ensures open { result.0.now ≡ opening form }
-    ensures close { result.1.now ≡ closing form }
+    ensures open { result.0.now ≡ opening_bracket form }
+    ensures close { result.1.now ≡ closing_bracket form }
 {
     match form {
         Form::Fixed => (b" < ", b" >"),
@@ -125,7 +125,7 @@ fn put_kind(text: &mut Vec<u8>, kind: AvpType) -> Result<(), NoMemory>
 }
 
 fn put_value(alloc: Global, text: &mut Vec<u8>, value: &EnumValue) -> Result<(), NoMemory>
-    ensures { OnOk result (text.new.items ≡ text.old.items ++ value_text value.now) }
+    ensures { OnOk result (text.new.items ≡ text.old.items ++ listed_value_text value.now) }
 {
     put(text, b" ")?;
     put(text, value.name.as_slice())?;
@@ -150,7 +150,7 @@ fn put_more_values(alloc: Global, text: &mut Vec<u8>, values: &[EnumValue]) -> R
 
 /// A list of values, where there is one.
 fn put_list(alloc: Global, text: &mut Vec<u8>, values: &[EnumValue]) -> Result<(), NoMemory>
-    ensures { OnOk result (text.new.items ≡ text.old.items ++ list_text values.now) }
+    ensures { OnOk result (text.new.items ≡ text.old.items ++ value_list_text values.now) }
 {
     match values {
         [] => Ok(()),
@@ -183,7 +183,7 @@ fn put_plain(alloc: Global, text: &mut Vec<u8>, avp: &AvpDef) -> Result<(), NoMe
 }
 
 fn put_group_head(alloc: Global, text: &mut Vec<u8>, avp: &AvpDef) -> Result<(), NoMemory>
-    ensures { OnOk result (text.new.items ≡ text.old.items ++ group_head avp.now) }
+    ensures { OnOk result (text.new.items ≡ text.old.items ++ group_head_text avp.now) }
 {
     put(text, b" > ::= < AVP Header:")?;
     put_number(alloc, text, avp.code)?;
@@ -217,7 +217,7 @@ fn put_flags(text: &mut Vec<u8>, command: &CommandDef) -> Result<(), NoMemory>
 }
 
 fn put_command_head(alloc: Global, text: &mut Vec<u8>, command: &CommandDef) -> Result<(), NoMemory>
-    ensures { OnOk result (text.new.items ≡ text.old.items ++ command_head command.now) }
+    ensures { OnOk result (text.new.items ≡ text.old.items ++ command_head_text command.now) }
 {
     put(text, b" > ::= < Diameter Header:")?;
     put_number(alloc, text, command.code)?;

@@ -6,8 +6,8 @@ ghost use Rattle.dm_dict_text.specs.declared.fault.DictFault.TheVariants as faul
 ghost use Rattle.dm_tables.specs.Definitions.{nothing_defined};
 ghost use Rattle.dm_tables.specs.Tables.{defined, IsTables, IsDictionary};
 ghost use Rattle.dm_dict_text.specs.Worded.{is_worded};
-ghost use Rattle.dm_dict_text.specs.Meaning.{made, with_items};
-ghost use Rattle.dm_dict_text.specs.Faults.{Stops};
+ghost use Rattle.dm_dict_text.specs.Meaning.{with_no_strays, with_items};
+ghost use Rattle.dm_dict_text.specs.Faults.{StopsAtFirst};
 ghost use Rattle.dm_dict_text.specs.Outcome.{Defines, IsFirstFault, all_faults};
 
 use crate::DictFault;
@@ -33,9 +33,9 @@ fn add_items<'a>(
     requires old { IsDictionary old.now }
     requires worded { list_all is_worded (map view_item items.now) ≡ true }
     ensures good { OnOk result (all_faults (defined old.now) (map view_item items.now) ≡ []) }
-    ensures added { OnOk result (defined tables.new ≡ (with_items (made (defined old.now)) (map view_item items.now)).definitions) }
+    ensures added { OnOk result (defined tables.new ≡ (with_items (with_no_strays (defined old.now)) (map view_item items.now)).definitions) }
     ensures dictionary { OnOk result (IsDictionary tables.new) }
-    ensures fault { IfErr result (Stops (all_faults (defined old.now) (map view_item items.now))) }
+    ensures fault { IfErr result (StopsAtFirst (all_faults (defined old.now) (map view_item items.now))) }
 {
     tables.add_all(alloc, old)?;
     define_all(alloc, tables, strays, items)?;
@@ -51,9 +51,9 @@ fn tables_of(alloc: Global, old: &Tables, items: &[Item<'_>]) -> Result<Tables, 
     requires old { IsDictionary old.now }
     requires worded { list_all is_worded (map view_item items.now) ≡ true }
     ensures good { IfOk result (λ _. all_faults (defined old.now) (map view_item items.now) ≡ []) }
-    ensures added { IfOk result (λ new. defined new ≡ (with_items (made (defined old.now)) (map view_item items.now)).definitions) }
+    ensures added { IfOk result (λ new. defined new ≡ (with_items (with_no_strays (defined old.now)) (map view_item items.now)).definitions) }
     ensures dictionary { IfOk result IsDictionary }
-    ensures fault { IfErr result (Stops (all_faults (defined old.now) (map view_item items.now))) }
+    ensures fault { IfErr result (StopsAtFirst (all_faults (defined old.now) (map view_item items.now))) }
 {
     let mut tables = Tables::new(alloc);
     let mut strays = IndexSet::new(alloc);

@@ -1,15 +1,15 @@
 //! The names of a dictionary text that nothing defines (RFC 6733, 3.2).
 ghost use Rattle.std.specs.Prelude.{◌≡◌, ◌≤◌, ◌+◌, length, map, take, fold};
-ghost use Rattle.dm_grammar.specs.Views.{view, view_vend_option, view_entry, view_item};
+ghost use Rattle.dm_grammar.specs.Views.{view_word, view_reference_option, view_entry, view_item};
 ghost use Rattle.dm_tables.specs.Tables.{IsIndexed};
 ghost use Rattle.dm_dict_text.specs.Making.{making};
 ghost use Rattle.dm_tables.specs.Vendored.{IsVendored};
 ghost use Rattle.dm_dict_text.specs.Meaning.{vendor_count};
-ghost use Rattle.dm_dict_text.specs.Faults.{first_of, entry_unknown, rule_unknown, vend_unknown, kind_unknown, unknown, vendors_with, items_unknown};
+ghost use Rattle.dm_dict_text.specs.Faults.{first_dict_fault, entry_unknown, rule_unknown, reference_unknown, kind_unknown, unknown, vendors_with, items_unknown};
 
 use crate::DictFault;
 use crate::checks::is_defined;
-use crate::kind::kind_of;
+use crate::kind::type_named;
 use dm_grammar::{EntryItem, Item, Token, VendorWord};
 use dm_tables::{Tables, VendorDef, Vendors};
 use indexmap::IndexSet;
@@ -21,7 +21,7 @@ fn unknown_entry(
     entry: &EntryItem<'_>,
 ) -> Option<DictFault>
     requires { IsIndexed tables.now }
-    ensures { result ≡ first_of (entry_unknown (making tables.now strays.now) (view_entry entry.now)) }
+    ensures { result ≡ first_dict_fault (entry_unknown (making tables.now strays.now) (view_entry entry.now)) }
 {
     let word = entry.name;
     if word.text == b"AVP".as_slice() || is_defined(tables, strays, word.text) {
@@ -38,7 +38,7 @@ fn unknown_in_rule(
     rule: &[EntryItem<'_>],
 ) -> Option<DictFault>
     requires { IsIndexed tables.now }
-    ensures { result ≡ first_of (rule_unknown (making tables.now strays.now) (map view_entry rule.now)) }
+    ensures { result ≡ first_dict_fault (rule_unknown (making tables.now strays.now) (map view_entry rule.now)) }
 {
     for entry in rule {
         let fault = unknown_entry(tables, strays, entry);
@@ -56,7 +56,7 @@ fn unknown_vendor(
     word: Option<VendorWord<'_>>,
 ) -> Option<DictFault>
     requires { IsVendored vendors.now }
-    ensures { result ≡ first_of (vend_unknown (take first vendors.now.items.items) (view_vend_option word.entry)) }
+    ensures { result ≡ first_dict_fault (reference_unknown (take first vendors.now.items.items) (view_reference_option word.entry)) }
 {
     match word {
         Some(VendorWord::Named(word)) if !vendors.has_name_among(first, word.text) => {
@@ -68,9 +68,9 @@ fn unknown_vendor(
 
 /// The fault of a name that no type has.
 fn unknown_kind(word: Token<'_>) -> Option<DictFault>
-    ensures { result ≡ first_of (kind_unknown (view word.entry)) }
+    ensures { result ≡ first_dict_fault (kind_unknown (view_word word.entry)) }
 {
-    if kind_of(word.text).is_some() {
+    if type_named(word.text).is_some() {
         None
     } else {
         Some(DictFault::UnknownName(word.line))
@@ -86,7 +86,7 @@ fn unknown_in_item(
     item: &Item<'_>,
 ) -> Option<DictFault>
     requires { IsIndexed tables.now }
-    ensures { result ≡ first_of (unknown (making tables.now strays.now) (take first tables.now.vendors.items.items) (view_item item.now)) }
+    ensures { result ≡ first_dict_fault (unknown (making tables.now strays.now) (take first tables.now.vendors.items.items) (view_item item.now)) }
 {
     match item {
         Item::Vendor(_) => None,
@@ -123,7 +123,7 @@ pub fn first_unknown(
     requires within { first ≤ length tables.now.vendors.items.items }
     requires theirs { fold vendors_with (take first tables.now.vendors.items.items) (map view_item items.now)
         ≡ tables.now.vendors.items.items }
-    ensures { result ≡ first_of (items_unknown (making tables.now strays.now) (take first tables.now.vendors.items.items) (map view_item items.now)) }
+    ensures { result ≡ first_dict_fault (items_unknown (making tables.now strays.now) (take first tables.now.vendors.items.items) (map view_item items.now)) }
 {
     let mut seen = first;
     for item in items {

@@ -7,30 +7,30 @@ use Rattle.dm_grammar.specs.declared.symbol.Symbol.{Symbol}
 use Rattle.dm_grammar.specs.declared.symbol.Symbol.TheVariants as symbols
 use Rattle.dm_grammar.specs.declared.terminal.Terminal.TheVariants.{AnyName, One}
 use Rattle.dm_grammar.specs.Tokens.{Word}
-use Rattle.dm_grammar.specs.Grammar.{fits, is_name}
-use Rattle.dm_grammar.specs.Items.{Value, Vend, AvpParts}
-use Rattle.dm_grammar.specs.Items.Vend.{NumberedBy, NamedBy}
+use Rattle.dm_grammar.specs.Grammar.{fits, is_name_symbol}
+use Rattle.dm_grammar.specs.Items.{ValueParts, VendorReference, AvpParts}
+use Rattle.dm_grammar.specs.Items.VendorReference.{NumberedBy, NamedBy}
 use Rattle.dm_grammar.specs.Items.Written.{AvpIs}
-use Rattle.dm_grammar.specs.Places.Place.{Text, AtSign, AtVendor, AvpName, AvpCode, Vendored, ListOpen}
-use Rattle.dm_grammar.specs.Places.Role.{NameOfAvp, CodeIs, KindIs}
-use Rattle.dm_grammar.specs.Readers.{begins, begins_vendor, behind_kind, behind_vendor, behind_brace, may_list, fault_line, with_item, with_kind, with_values}
-use Rattle.dm_grammar.specs.Told.{Told, filled, collect}
+use Rattle.dm_grammar.specs.Places.GrammarPlace.{Text, AtSign, AtVendor, AvpName, AvpCode, Vendored, ListOpen}
+use Rattle.dm_grammar.specs.Places.TokenRole.{NameOfAvp, CodeIs, KindIs}
+use Rattle.dm_grammar.specs.Readers.{begins, begins_vendor, behind_kind, behind_vendor, behind_brace, may_list, fault_line, adding_item, with_kind, with_values}
+use Rattle.dm_grammar.specs.Told.{Gathered, filled, collect}
 use Rattle.dm_grammar.proofs.Heads.{nothing_told}
 use Rattle.dm_grammar.proofs.Syntax.{same_symbol}
 
 -- a word with a place of its own is a name
-pub word_is_name : (s t : Symbol) → is_name s ≡ true → fits (One s) t ≡ true → is_name t ≡ true
-word_is_name s t n f = let e : is_name s ≡ is_name t = ap is_name (same_symbol s t f) in cc
+pub word_is_name : (s t : Symbol) → is_name_symbol s ≡ true → fits (One s) t ≡ true → is_name_symbol t ≡ true
+word_is_name s t n f = let e : is_name_symbol s ≡ is_name_symbol t = ap is_name_symbol (same_symbol s t f) in cc
 
-pub no_name_no_word : (b : Bool) (s t : Symbol) → is_name s ≡ true → is_name t ≡ false → fits (One s) t ≡ b
+pub no_name_no_word : (b : Bool) (s t : Symbol) → is_name_symbol s ≡ true → is_name_symbol t ≡ false → fits (One s) t ≡ b
     → fits (One s) t ≡ false
-no_name_no_word true s t n m f = let e : is_name t ≡ true = word_is_name s t n f in absurd cc
+no_name_no_word true s t n m f = let e : is_name_symbol t ≡ true = word_is_name s t n f in absurd cc
 no_name_no_word false s t n m f = f
 
 -- a name is no other symbol
-pub name_no_symbol : (b : Bool) (s t : Symbol) → is_name s ≡ false → is_name t ≡ true → fits (One s) t ≡ b
+pub name_no_symbol : (b : Bool) (s t : Symbol) → is_name_symbol s ≡ false → is_name_symbol t ≡ true → fits (One s) t ≡ b
     → fits (One s) t ≡ false
-name_no_symbol true s t n m f = let e : is_name s ≡ is_name t = ap is_name (same_symbol s t f) in absurd cc
+name_no_symbol true s t n m f = let e : is_name_symbol s ≡ is_name_symbol t = ap is_name_symbol (same_symbol s t f) in absurd cc
 name_no_symbol false s t n m f = f
 
 at_vendor : (how : Reading) (ws : List Word) → begins AnyName ws ≡ false
@@ -133,15 +133,15 @@ brace_missing how true ws h = no_brace how ws h
 brace_missing how false ws h = refl
 
 -- the whole
-abbrev pub parts : Word → Word → Word → Option Vend → List Value → AvpParts
+abbrev pub parts : Word → Word → Word → Option VendorReference → List ValueParts → AvpParts
 parts n c k v xs = record { name = n; code = c; kind = k; vendor = v; values = xs }
 
-pub avp_told : (n c k : Word) (v : Option Vend) (xs : List Value) (r : Result Told ℕ)
-    → filled NameOfAvp n (filled CodeIs c (with_kind k v (with_values xs r))) ≡ with_item (AvpIs (parts n c k v xs)) r
+pub avp_told : (n c k : Word) (v : Option VendorReference) (xs : List ValueParts) (r : Result Gathered ℕ)
+    → filled NameOfAvp n (filled CodeIs c (with_kind k v (with_values xs r))) ≡ adding_item (AvpIs (parts n c k v xs)) r
 avp_told n c k v xs (Err line) = refl
 avp_told n c k None xs (Ok told) = refl
 avp_told n c k (Some (NumberedBy w)) xs (Ok told) = refl
 avp_told n c k (Some (NamedBy w)) xs (Ok told) = refl
 
-pub kind_fault : (k : Word) (v : Option Vend) (r : Result Told ℕ) (line : ℕ) → r ≡ Err line → with_kind k v r ≡ Err line
+pub kind_fault : (k : Word) (v : Option VendorReference) (r : Result Gathered ℕ) (line : ℕ) → r ≡ Err line → with_kind k v r ≡ Err line
 kind_fault k v r line h = rw h refl

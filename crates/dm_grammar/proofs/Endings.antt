@@ -5,13 +5,13 @@ use Rattle.dm_grammar.specs.declared.symbol.Symbol.TheVariants.{Less, Greater, C
 use Rattle.dm_grammar.specs.declared.reading.Version.{Version}
 use Rattle.dm_grammar.specs.declared.reading.Version.TheVariants.{First}
 use Rattle.dm_grammar.specs.Tokens.{Word}
-use Rattle.dm_grammar.specs.Places.{Place}
-use Rattle.dm_grammar.specs.Places.Place.{Text, AtSign, AvpName, AvpCode, Typed, TypedColon, AtVendor, VendorNamed, Listed, ListedColon, Vendored, ListOpen, ValueName, ValueEnd, TitleLess, TitleName, Titled, Defined, Head, CommandWord, CommandColon, CommandCode, Coded, CodedComma, Requested, RequestedComma, Proxied, ProxiedComma, GroupWord, GroupColon, GroupCode, GroupCoded, GroupNamed, Flagged, FlaggedComma, HeadEnd, Rule, Low, Starred, High, Angle, AngleName, Closed, FixedOpen, FixedName, BraceOpen, BraceName, SquareOpen, SquareName}
-use Rattle.dm_grammar.specs.Grammar.{Step, steps, taking, may_end}
+use Rattle.dm_grammar.specs.Places.{GrammarPlace}
+use Rattle.dm_grammar.specs.Places.GrammarPlace.{Text, AtSign, AvpName, AvpCode, Typed, TypedColon, AtVendor, VendorNamed, Listed, ListedColon, Vendored, ListOpen, ValueName, ValueEnd, TitleLess, TitleName, Titled, Defined, Head, CommandWord, CommandColon, CommandCode, Coded, CodedComma, Requested, RequestedComma, Proxied, ProxiedComma, GroupWord, GroupColon, GroupCode, GroupCoded, GroupNamed, Flagged, FlaggedComma, HeadEnd, InRule, Low, Starred, High, Angle, AngleName, Closed, FixedOpen, FixedName, BraceOpen, BraceName, SquareOpen, SquareName}
+use Rattle.dm_grammar.specs.Grammar.{GrammarStep, steps_from, taking, may_end}
 use Rattle.dm_grammar.proofs.Syntax.{AllTaken, some_taken}
 
 -- symbols that lead to an end
-abbrev ending : Place → List Symbol
+abbrev ending : GrammarPlace → List Symbol
 ending AtSign = Name ∷ Number ∷ Name ∷ []
 ending AvpName = Number ∷ Name ∷ []
 ending AvpCode = Name ∷ []
@@ -58,11 +58,11 @@ ending SquareName = CloseSquare ∷ []
 ending _ = []
 
 -- the symbols lead from the place to an end
-abbrev ends : Version → Place → List Symbol → Bool
+abbrev ends : Version → GrammarPlace → List Symbol → Bool
 ends v p [] = may_end p
-ends v p (s ∷ ss) = elim (taking (steps v p) s) [ None ↦ false | Some r ↦ ends v r.leads ss ]
+ends v p (s ∷ ss) = elim (taking (steps_from v p) s) [ None ↦ false | Some r ↦ ends v r.leads ss ]
 
-first_ends : (p : Place) → ends First p (ending p) ≡ true
+first_ends : (p : GrammarPlace) → ends First p (ending p) ≡ true
 first_ends Text = refl
 first_ends AtSign = refl
 first_ends AvpName = refl
@@ -99,7 +99,7 @@ first_ends GroupNamed = refl
 first_ends Flagged = refl
 first_ends FlaggedComma = refl
 first_ends HeadEnd = refl
-first_ends Rule = refl
+first_ends InRule = refl
 first_ends Low = refl
 first_ends Starred = refl
 first_ends High = refl
@@ -117,20 +117,20 @@ first_ends SquareName = refl
 abbrev some : Symbol → Word
 some s = record { symbol = s; text = []; line = 0 }
 
-by_step : (v : Version) (p : Place) (s : Symbol) (ss : List Symbol) (o : Option Step) → taking (steps v p) s ≡ o
+by_step : (v : Version) (p : GrammarPlace) (s : Symbol) (ss : List Symbol) (o : Option GrammarStep) → taking (steps_from v p) s ≡ o
     → elim o [ None ↦ false | Some r ↦ ends v r.leads ss ] ≡ true
-    → ((q : Place) → ends v q ss ≡ true → AllTaken v q (map some ss)) → AllTaken v p (map some (s ∷ ss))
+    → ((q : GrammarPlace) → ends v q ss ≡ true → AllTaken v q (map some ss)) → AllTaken v p (map some (s ∷ ss))
 by_step v p s ss None e h go = absurd cc
 by_step v p s ss (Some r) e h go =
-    let rest = go r.leads h in (rest.0, ((r.leads, (some_taken (steps v p) s r e, rest.1.0)), rest.1.1))
+    let rest = go r.leads h in (rest.0, ((r.leads, (some_taken (steps_from v p) s r e, rest.1.0)), rest.1.1))
 
-taken : (v : Version) (ss : List Symbol) (p : Place) → ends v p ss ≡ true → AllTaken v p (map some ss)
+taken : (v : Version) (ss : List Symbol) (p : GrammarPlace) → ends v p ss ≡ true → AllTaken v p (map some ss)
 taken v [] p h = (p, (refl, h))
-taken v (s ∷ ss) p h = by_step v p s ss (taking (steps v p) s) refl h (taken v ss)
+taken v (s ∷ ss) p h = by_step v p s ss (taking (steps_from v p) s) refl h (taken v ss)
 
 -- what can stand behind a place
-abbrev pub rest_of : Place → List Word
+abbrev pub rest_of : GrammarPlace → List Word
 rest_of p = map some (ending p)
 
-pub rest_taken : (p : Place) → AllTaken First p (rest_of p)
+pub rest_taken : (p : GrammarPlace) → AllTaken First p (rest_of p)
 rest_taken p = taken First (ending p) p (first_ends p)

@@ -5,15 +5,15 @@ use Rattle.dm_grammar.specs.declared.reading.Reading.{Reading}
 use Rattle.dm_grammar.specs.declared.reading.Version.TheVariants.{First, Second}
 use Rattle.dm_grammar.specs.Tokens.{Word, tokens, last_line}
 use Rattle.dm_grammar.specs.Versions.{is_second}
-use Rattle.dm_grammar.specs.Places.{Place}
-use Rattle.dm_grammar.specs.Places.Place.{Text}
+use Rattle.dm_grammar.specs.Places.{GrammarPlace}
+use Rattle.dm_grammar.specs.Places.GrammarPlace.{Text}
 use Rattle.dm_grammar.specs.Grammar.{may_end}
-use Rattle.dm_grammar.specs.Items.{Vend, Value, AvpParts, GroupParts, Written}
-use Rattle.dm_grammar.specs.Items.Vend.{NumberedBy, NamedBy}
+use Rattle.dm_grammar.specs.Items.{VendorReference, ValueParts, AvpParts, GroupParts, Written}
+use Rattle.dm_grammar.specs.Items.VendorReference.{NumberedBy, NamedBy}
 use Rattle.dm_grammar.specs.Items.Written.{VendorIs, AvpIs, GroupIs, CommandIs}
-use Rattle.dm_grammar.specs.Syntax.{Takes, Leads, StandsAtToken, StandsAtEnd, IsSyntaxFault}
-use Rattle.dm_grammar.specs.Spelling.{Phrase, Spells, Ends, AreItems, name_is, number_is, number_may, vend_may, kind_and_values, type_of, title, second, group_vendor, entries, item, items}
-use Rattle.dm_grammar.specs.Spelling.Phrase.{Never, Empty, Two, Mark, This, ◌then◌, ◌or◌}
+use Rattle.dm_grammar.specs.Syntax.{TakesWord, Leads, StandsAtToken, StandsAtEnd, IsSyntaxFault}
+use Rattle.dm_grammar.specs.Spelling.{Phrase, Spells, Ends, AreItems, name_is, number_is, number_may, reference_may, kind_and_values, type_is, title, second, group_vendor, entries, item, items}
+use Rattle.dm_grammar.specs.Spelling.Phrase.{Never, Empty, Two, Literal, This, ◌then◌, ◌or◌}
 use Rattle.dm_grammar.specs.FirstVersion.{FirstItem, first_item, first_items, AreFirst, CanBegin, BreaksAtToken, BreaksAtEnd, Breaks, as_written, AreFirstWritten}
 use Rattle.dm_grammar.specs.FirstVersion.FirstItem.{FirstAvpIs, FirstGroupIs, FirstCommandIs}
 use Rattle.dm_grammar.proofs.Syntax.{AllTaken, ok_taken, one_place}
@@ -24,7 +24,7 @@ use Rattle.dm_grammar.proofs.Onward.{HasItems}
 use Rattle.dm_grammar.proofs.Endings.{rest_of, rest_taken}
 
 -- one phrase for a vendor that is a number or isn't there
-same_vendor : (d : Option Word) → vend_may First (option_map NumberedBy d) ≡ number_may d
+same_vendor : (d : Option Word) → reference_may First (option_map NumberedBy d) ≡ number_may d
 same_vendor None = refl
 same_vendor (Some w) = refl
 
@@ -34,12 +34,12 @@ same_second (Some w) = refl
 
 same_item : (i : FirstItem) → item First (as_written i) ≡ first_item i
 same_item (FirstAvpIs a) =
-    ap (λ (p : Phrase). Mark symbols.At then name_is a.name then number_is a.code then name_is a.kind then p)
+    ap (λ (p : Phrase). Literal symbols.At then name_is a.name then number_is a.code then name_is a.kind then p)
     (same_vendor a.vendor)
 same_item (FirstGroupIs g) =
-    ap (λ (p : Phrase). title g.name then Mark symbols.Define then Mark symbols.Less then
-    ((Mark symbols.Avp then Mark symbols.Header or Mark symbols.AvpHeader) then Mark symbols.Colon
-    then number_is g.code then p) then Mark symbols.Greater then entries g.rule)
+    ap (λ (p : Phrase). title g.name then Literal symbols.Define then Literal symbols.Less then
+    ((Literal symbols.Avp then Literal symbols.Header or Literal symbols.AvpHeader) then Literal symbols.Colon
+    then number_is g.code then p) then Literal symbols.Greater then entries g.rule)
     (same_second g.vendor)
 same_item (FirstCommandIs c) = refl
 
@@ -53,8 +53,8 @@ behind Never Behind ws h = absurd h
 behind Empty Behind ws h = (ws, h)
 behind Two Behind [] h = absurd h
 behind Two Behind (w ∷ ws) h = (ws, h.1.1)
-behind (Mark s) Behind [] h = absurd h
-behind (Mark s) Behind (w ∷ ws) h = (ws, h.1)
+behind (Literal s) Behind [] h = absurd h
+behind (Literal s) Behind (w ∷ ws) h = (ws, h.1)
 behind (This t v) Behind [] h = absurd h
 behind (This t v) Behind (w ∷ ws) h = (ws, h.1.1)
 behind (a then b) Behind ws h =
@@ -66,7 +66,7 @@ behind (a or b) Behind ws (inr h) = behind b Behind ws h
 abbrev IsFirst : Written → Type 0
 IsFirst i = (f : FirstItem) × (i ≡ as_written f)
 
-first_kind : (k : Word) (d : Option Vend) (xs : List Value) (Behind : List Word → Type 0) (ws : List Word)
+first_kind : (k : Word) (d : Option VendorReference) (xs : List ValueParts) (Behind : List Word → Type 0) (ws : List Word)
     → Spells (kind_and_values First k d xs) Behind ws
     → (n : Option Word) × ((d ≡ option_map NumberedBy n) × (xs ≡ []))
 first_kind k None [] Behind ws h = (None, (refl, refl))
@@ -75,7 +75,7 @@ first_kind k (Some (NamedBy n)) [] Behind ws h =
     absurd (behind (name_is k) (Spells Never Behind) ws h).1
 first_kind k d (x ∷ xs) Behind ws h = absurd h
 
-first_second : (d : Option Vend) (Behind : List Word → Type 0) (ws : List Word)
+first_second : (d : Option VendorReference) (Behind : List Word → Type 0) (ws : List Word)
     → Spells (group_vendor First d) Behind ws → (n : Option Word) × (d ≡ option_map NumberedBy n)
 first_second None Behind ws h = (None, refl)
 first_second (Some (NumberedBy n)) Behind ws h = (Some n, refl)
@@ -84,8 +84,8 @@ first_second (Some (NamedBy n)) Behind ws h = absurd h
 first_avp : (a : AvpParts) (Behind : List Word → Type 0) (ws : List Word) → Spells (item First (AvpIs a)) Behind ws
     → IsFirst (AvpIs a)
 first_avp a Behind ws h =
-    let kind = type_of First a in
-    let x = behind (Mark symbols.At) (Spells (name_is a.name then number_is a.code then kind) Behind) ws h in
+    let kind = type_is First a in
+    let x = behind (Literal symbols.At) (Spells (name_is a.name then number_is a.code then kind) Behind) ws h in
     let y = behind (name_is a.name) (Spells (number_is a.code then kind) Behind) x.0 x.1 in
     let z = behind (number_is a.code) (Spells kind Behind) y.0 y.1 in
     let k = first_kind a.kind a.vendor a.values Behind z.0 z.1 in (
@@ -96,10 +96,10 @@ first_avp a Behind ws h =
 first_group : (g : GroupParts) (Behind : List Word → Type 0) (ws : List Word)
     → Spells (item First (GroupIs g)) Behind ws → IsFirst (GroupIs g)
 first_group g Behind ws h =
-    let end = Mark symbols.Greater then entries g.rule in
+    let end = Literal symbols.Greater then entries g.rule in
     let last = group_vendor First g.vendor then end in
-    let word = Mark symbols.Avp then Mark symbols.Header or Mark symbols.AvpHeader in
-    let front = title g.name then Mark symbols.Define then Mark symbols.Less then word then Mark symbols.Colon
+    let word = Literal symbols.Avp then Literal symbols.Header or Literal symbols.AvpHeader in
+    let front = title g.name then Literal symbols.Define then Literal symbols.Less then word then Literal symbols.Colon
     then number_is g.code in
     let x = behind front (Spells last Behind) ws h in
     let k = first_second g.vendor (Spells end Behind) x.0 x.1 in (
@@ -153,12 +153,12 @@ pub items_of_first : (text : List ℕ) (is : List Written) → is_second (tokens
 items_of_first text is e = (only_first is (tokens text) e, are_items is (tokens text))
 
 -- steps one behind the other
-joined : (a b : List Word) (p m q : Place) → Leads First p a m → Leads First m b q → Leads First p (a ++ b) q
-joined [] b p m q l k = subst (λ (p : Place). Leads First p b q) (sym l) k
+joined : (a b : List Word) (p m q : GrammarPlace) → Leads First p a m → Leads First m b q → Leads First p (a ++ b) q
+joined [] b p m q l k = subst (λ (p : GrammarPlace). Leads First p b q) (sym l) k
 joined (w ∷ a) b p m q l k = (l.0, (l.1.0, joined a b l.0 m q l.1.1 k))
 
-parted : (a b : List Word) (p q : Place) → Leads First p (a ++ b) q
-    → (m : Place) × (Leads First p a m × Leads First m b q)
+parted : (a b : List Word) (p q : GrammarPlace) → Leads First p (a ++ b) q
+    → (m : GrammarPlace) × (Leads First p a m × Leads First m b q)
 parted [] b p q l = (p, (refl, l))
 parted (w ∷ a) b p q l =
     let r = parted a b l.0 q l.1.1 in (r.0, ((l.0, (l.1.0, r.1.0)), r.1.1))
@@ -177,29 +177,29 @@ first_taken fs ws h =
     (items_there how (map as_written fs) ws (from_first fs ws h))
 
 -- a text can begin with the tokens exactly where they lead to a place
-led_begins : (ws : List Word) (p : Place) → Leads First Text ws p → CanBegin ws
+led_begins : (ws : List Word) (p : GrammarPlace) → Leads First Text ws p → CanBegin ws
 led_begins ws p l =
     let r = rest_taken p in
     let f = taken_first (ws ++ rest_of p) (r.0, (joined ws (rest_of p) Text p r.0 l r.1.0, r.1.1)) in
     record { behind = rest_of p; items = f.0; spelled = f.1 }
 
-begun_leads : (ws : List Word) → CanBegin ws → (p : Place) × Leads First Text ws p
+begun_leads : (ws : List Word) → CanBegin ws → (p : GrammarPlace) × Leads First Text ws p
 begun_leads ws b =
     let t = first_taken b.items (ws ++ b.behind) b.spelled in
     let r = parted ws b.behind Text t.0 t.1.0 in
     (r.0, r.1.0)
 
-one_more : (ws : List Word) (w : Word) (p q : Place) → Leads First Text ws p → Takes First p w q
+one_more : (ws : List Word) (w : Word) (p q : GrammarPlace) → Leads First Text ws p → TakesWord First p w q
     → Leads First Text (ws ++ w ∷ []) q
 one_more ws w p q l t = joined ws (w ∷ []) Text p q l (q, (t, refl))
 
-one_less : (ws : List Word) (w : Word) (p q : Place) → Leads First Text ws p → Leads First Text (ws ++ w ∷ []) q
-    → Takes First p w q
+one_less : (ws : List Word) (w : Word) (p q : GrammarPlace) → Leads First Text ws p → Leads First Text (ws ++ w ∷ []) q
+    → TakesWord First p w q
 one_less ws w p q l k =
     let r = parted ws (w ∷ []) Text q k in
-    let here : Takes First p w r.1.1.0 =
-    subst (λ (p : Place). Takes First p w r.1.1.0) (one_place First ws Text r.0 p r.1.0 l) r.1.1.1.0 in
-    subst (λ (q : Place). Takes First p w q) r.1.1.1.1 here
+    let here : TakesWord First p w r.1.1.0 =
+    subst (λ (p : GrammarPlace). TakesWord First p w r.1.1.0) (one_place First ws Text r.0 p r.1.0 l) r.1.1.1.0 in
+    subst (λ (q : GrammarPlace). TakesWord First p w q) r.1.1.1.1 here
 
 -- a fault at a token
 token_breaks : (ws : List Word) (line : ℕ) → StandsAtToken First Text ws line → BreaksAtToken ws line
@@ -239,7 +239,7 @@ end_breaks ws last line s =
       its_line = s.its_line;
     }
 
-no_end : (b : Bool) (ws : List Word) (p : Place) → may_end p ≡ b → Leads First Text ws p
+no_end : (b : Bool) (ws : List Word) (p : GrammarPlace) → may_end p ≡ b → Leads First Text ws p
     → ((fs : List FirstItem) → AreFirst fs ws → ⊥) → may_end p ≡ false
 no_end true ws p e l bars = let f = taken_first ws (p, (l, e)) in absurd (bars f.0 f.1)
 no_end false ws p e l bars = e

@@ -9,30 +9,30 @@ use Rattle.dm_grammar.specs.declared.symbol.Symbol.TheVariants as symbols
 use Rattle.dm_grammar.specs.declared.terminal.Terminal.TheVariants.{One}
 use Rattle.dm_grammar.specs.declared.token.Token.{Token}
 use Rattle.dm_grammar.specs.Tokens.{Word}
-use Rattle.dm_grammar.specs.Views.{view, view_option}
-use Rattle.dm_grammar.specs.Grammar.{Step, fits, symbol_number, steps, on, may_end}
-use Rattle.dm_grammar.specs.Places.{Place, Role}
-use Rattle.dm_grammar.specs.Places.Place.{Rule, Coded, CodedComma, Requested, RequestedComma, Proxied, ProxiedComma, Flagged, FlaggedComma, HeadEnd}
-use Rattle.dm_grammar.specs.Places.Role.{Nothing, SecondIs, CodeIs, CommandHead, Request, Proxiable, Error, Rules}
+use Rattle.dm_grammar.specs.Views.{view_word, view_option}
+use Rattle.dm_grammar.specs.Grammar.{GrammarStep, fits, symbol_number, steps_from, on, may_end}
+use Rattle.dm_grammar.specs.Places.{GrammarPlace, TokenRole}
+use Rattle.dm_grammar.specs.Places.GrammarPlace.{InRule, Coded, CodedComma, Requested, RequestedComma, Proxied, ProxiedComma, Flagged, FlaggedComma, HeadEnd}
+use Rattle.dm_grammar.specs.Places.TokenRole.{NoPart, SecondIs, CodeIs, CommandHead, RequestFlag, ProxiableFlag, ErrorFlag, Rules}
 use Rattle.dm_grammar.specs.Readers.{begins, begins_flag, with_second, with_end, with_head}
-use Rattle.dm_grammar.specs.Told.{Told, filled, collect}
+use Rattle.dm_grammar.specs.Told.{Gathered, filled, collect}
 
 -- what `optional` answers
 abbrev pub Taken : Symbol → Option Token → List Word → List Word → Type 0
 Taken s v ws rest =
     MatchOption v ((rest ≡ ws) × (begins (One s) ws ≡ false))
-    (λ t. (ws ≡ view t ∷ rest) × (fits (One s) (view t).symbol ≡ true))
+    (λ t. (ws ≡ view_word t ∷ rest) × (fits (One s) (view_word t).symbol ≡ true))
 
 -- `>` before a rule
-no_second : (g : Word) (r : Result Told ℕ) → filled Rules g r ≡ with_second None r
+no_second : (g : Word) (r : Result Gathered ℕ) → filled Rules g r ≡ with_second None r
 no_second g (Ok told) = refl
 no_second g (Err line) = refl
 
-pub a_second : (n g : Word) (r : Result Told ℕ) → filled SecondIs n (filled Rules g r) ≡ with_second (Some n) r
+pub a_second : (n g : Word) (r : Result Gathered ℕ) → filled SecondIs n (filled Rules g r) ≡ with_second (Some n) r
 a_second n g (Ok told) = refl
 a_second n g (Err line) = refl
 
-pub nothing_told : (w : Word) (r : Result Told ℕ) → filled Nothing w r ≡ r
+pub nothing_told : (w : Word) (r : Result Gathered ℕ) → filled NoPart w r ≡ r
 nothing_told w (Ok told) = refl
 nothing_told w (Err line) = refl
 
@@ -57,16 +57,16 @@ number_missing how (w ∷ ws) c h = rw (collect, c, h) refl
 
 pub plain_end : (how : Reading) (ws rest end : List Word) (v : Option Token) (g : Word)
     → begins (One symbols.Comma) ws ≡ false → Taken symbols.Number v ws rest
-    → collect how HeadEnd rest ≡ filled Rules g (collect how Rule end)
-    → collect how Flagged ws ≡ with_second (view_option v) (collect how Rule end)
+    → collect how HeadEnd rest ≡ filled Rules g (collect how InRule end)
+    → collect how Flagged ws ≡ with_second (view_option v) (collect how InRule end)
 plain_end how ws rest end None g c n h =
     number_missing how ws c n.1 ∙
-    (subst (λ (s : List Word). collect how HeadEnd s ≡ filled Rules g (collect how Rule end)) n.0 h
-    ∙ no_second g (collect how Rule end))
+    (subst (λ (s : List Word). collect how HeadEnd s ≡ filled Rules g (collect how InRule end)) n.0 h
+    ∙ no_second g (collect how InRule end))
 plain_end how ws rest end (Some v) g c n h =
     ap (collect how Flagged) n.0 ∙
-    (number_there how (view v) rest n.1 ∙ (ap (filled SecondIs (view v)) h ∙ a_second (view v) g
-    (collect how Rule end)))
+    (number_there how (view_word v) rest n.1 ∙ (ap (filled SecondIs (view_word v)) h ∙ a_second (view_word v) g
+    (collect how InRule end)))
 
 pub plain_fault : (how : Reading) (line : ℕ) (ws rest : List Word) (v : Option Token)
     → begins (One symbols.Comma) ws ≡ false
@@ -74,60 +74,60 @@ pub plain_fault : (how : Reading) (line : ℕ) (ws rest : List Word) (v : Option
 plain_fault how line ws rest None c n h =
     number_missing how ws c n.1 ∙ subst (λ (s : List Word). collect how HeadEnd s ≡ Err line) n.0 h
 plain_fault how line ws rest (Some v) c n h =
-    ap (collect how Flagged) n.0 ∙ (number_there how (view v) rest n.1 ∙ ap (filled SecondIs (view v)) h)
+    ap (collect how Flagged) n.0 ∙ (number_there how (view_word v) rest n.1 ∙ ap (filled SecondIs (view_word v)) h)
 
 -- a place where a flag may stand behind a comma, and the place behind the flag
-pub record FlagPlace (v : Version) (p pc q qc : Place) (s : Symbol) (role : Role) (after : List Step) : Type 0 where
-  pub here : steps v p ≡ on symbols.Comma pc Nothing ++ after
-  pub there : steps v q ≡ on symbols.Comma qc Nothing ++ after
-  pub behind : steps v pc ≡ on s q role ++ steps v qc
+pub record FlagPlace (v : Version) (p pc q qc : GrammarPlace) (s : Symbol) (role : TokenRole) (after : List GrammarStep) : Type 0 where
+  pub here : steps_from v p ≡ on symbols.Comma pc NoPart ++ after
+  pub there : steps_from v q ≡ on symbols.Comma qc NoPart ++ after
+  pub behind : steps_from v pc ≡ on s q role ++ steps_from v qc
   pub no_end : may_end p ≡ false
   pub no_end_there : may_end q ≡ false
   pub no_end_behind : may_end pc ≡ false
   pub no_end_comma : may_end qc ≡ false
 
 -- a flag sets its part
-abbrev pub flag_told : Role → Told → Told
-flag_told Request told = record told { request = true }
-flag_told Proxiable told = record told { proxiable = true }
-flag_told Error told = record told { error = true }
+abbrev pub flag_told : TokenRole → Gathered → Gathered
+flag_told RequestFlag told = record told { request = true }
+flag_told ProxiableFlag told = record told { proxiable = true }
+flag_told ErrorFlag told = record told { error = true }
 flag_told _ told = told
 
-abbrev pub flagged : Role → Bool → Result Told ℕ → Result Told ℕ
+abbrev pub flagged : TokenRole → Bool → Result Gathered ℕ → Result Gathered ℕ
 flagged role b (Ok told) = Ok (if b then flag_told role told else told)
 flagged role b (Err line) = Err line
 
 abbrev pub behind_flag : Bool → List Word → List Word
 behind_flag b ws = if b then drop 2 ws else ws
 
-not_flagged : (role : Role) (r : Result Told ℕ) → r ≡ flagged role false r
+not_flagged : (role : TokenRole) (r : Result Gathered ℕ) → r ≡ flagged role false r
 not_flagged role (Ok told) = refl
 not_flagged role (Err line) = refl
 
-flag_behind_comma : (how : Reading) (p pc q qc : Place) (s : Symbol) (role : Role) (after : List Step)
+flag_behind_comma : (how : Reading) (p pc q qc : GrammarPlace) (s : Symbol) (role : TokenRole) (after : List GrammarStep)
     → FlagPlace how.version p pc q qc s role after → (ws : List Word) → begins (One s) ws ≡ false
     → collect how pc ws ≡ collect how qc ws
 flag_behind_comma how p pc q qc s role after f [] h = rw (collect, f.no_end_behind, f.no_end_comma) refl
 flag_behind_comma how p pc q qc s role after f (w ∷ ws) h = rw (collect, f.behind, h) refl
 
-no_flag : (b : Bool) (how : Reading) (p pc q qc : Place) (s : Symbol) (role : Role) (after : List Step)
+no_flag : (b : Bool) (how : Reading) (p pc q qc : GrammarPlace) (s : Symbol) (role : TokenRole) (after : List GrammarStep)
     → FlagPlace how.version p pc q qc s role after → (w : Word) (ws : List Word) → fits (One symbols.Comma) w.symbol ≡ b
     → (b ≡ true → begins (One s) ws ≡ false) → collect how p (w ∷ ws) ≡ collect how q (w ∷ ws)
 no_flag true how p pc q qc s role after f w ws c h =
     rw (collect, f.here, f.there, c)
-    (ap (filled Nothing w) (flag_behind_comma how p pc q qc s role after f ws (h refl)))
+    (ap (filled NoPart w) (flag_behind_comma how p pc q qc s role after f ws (h refl)))
 no_flag false how p pc q qc s role after f w ws c h = rw (collect, f.here, f.there, c) refl
 
-a_flag : (how : Reading) (p pc q qc : Place) (s : Symbol) (role : Role) (after : List Step)
+a_flag : (how : Reading) (p pc q qc : GrammarPlace) (s : Symbol) (role : TokenRole) (after : List GrammarStep)
     → FlagPlace how.version p pc q qc s role after → (c w : Word) (ws : List Word)
     → fits (One symbols.Comma) c.symbol ≡ true
-    → fits (One s) w.symbol ≡ true → collect how p (c ∷ w ∷ ws) ≡ filled Nothing c (filled role w (collect how q ws))
+    → fits (One s) w.symbol ≡ true → collect how p (c ∷ w ∷ ws) ≡ filled NoPart c (filled role w (collect how q ws))
 a_flag how p pc q qc s role after f c w ws h k =
-    rw (collect, f.here, h) (ap (filled Nothing c) (rw (collect, f.behind, k) refl))
+    rw (collect, f.here, h) (ap (filled NoPart c) (rw (collect, f.behind, k) refl))
 
-flag_read : (how : Reading) (p pc q qc : Place) (s : Symbol) (role : Role) (after : List Step)
+flag_read : (how : Reading) (p pc q qc : GrammarPlace) (s : Symbol) (role : TokenRole) (after : List GrammarStep)
     → FlagPlace how.version p pc q qc s role after
-    → ((w : Word) (r : Result Told ℕ) → filled role w r ≡ flagged role true r) →
+    → ((w : Word) (r : Result Gathered ℕ) → filled role w r ≡ flagged role true r) →
     (b : Bool) (ws : List Word) → b ≡ begins_flag s ws
     → collect how p ws ≡ flagged role b (collect how q (behind_flag b ws))
 flag_read how p pc q qc s role after f sets true [] h = absurd cc
@@ -143,23 +143,23 @@ flag_read how p pc q qc s role after f sets true (c ∷ w ∷ ws) h =
     a_flag how p pc q qc s role after f c w ws e.0 e.1 ∙
     (nothing_told c (filled role w (collect how q ws)) ∙ sets w (collect how q ws))
 
-abbrev pub after_flags : List Step
-after_flags = on symbols.Number HeadEnd SecondIs ++ on symbols.Greater Rule Rules
+abbrev pub after_flags : List GrammarStep
+after_flags = on symbols.Number HeadEnd SecondIs ++ on symbols.Greater InRule Rules
 
-sets_request : (w : Word) (r : Result Told ℕ) → filled Request w r ≡ flagged Request true r
+sets_request : (w : Word) (r : Result Gathered ℕ) → filled RequestFlag w r ≡ flagged RequestFlag true r
 sets_request w (Ok told) = refl
 sets_request w (Err line) = refl
 
-sets_proxiable : (w : Word) (r : Result Told ℕ) → filled Proxiable w r ≡ flagged Proxiable true r
+sets_proxiable : (w : Word) (r : Result Gathered ℕ) → filled ProxiableFlag w r ≡ flagged ProxiableFlag true r
 sets_proxiable w (Ok told) = refl
 sets_proxiable w (Err line) = refl
 
-sets_error : (w : Word) (r : Result Told ℕ) → filled Error w r ≡ flagged Error true r
+sets_error : (w : Word) (r : Result Gathered ℕ) → filled ErrorFlag w r ≡ flagged ErrorFlag true r
 sets_error w (Ok told) = refl
 sets_error w (Err line) = refl
 
 pub request_place : (v : Version)
-    → FlagPlace v Coded CodedComma Requested RequestedComma symbols.Req Request after_flags
+    → FlagPlace v Coded CodedComma Requested RequestedComma symbols.Req RequestFlag after_flags
 request_place v =
     record {
       here = refl;
@@ -172,7 +172,7 @@ request_place v =
     }
 
 pub proxiable_place : (v : Version)
-    → FlagPlace v Requested RequestedComma Proxied ProxiedComma symbols.Pxy Proxiable after_flags
+    → FlagPlace v Requested RequestedComma Proxied ProxiedComma symbols.Pxy ProxiableFlag after_flags
 proxiable_place v =
     record {
       here = refl;
@@ -184,7 +184,7 @@ proxiable_place v =
       no_end_comma = refl;
     }
 
-pub error_place : (v : Version) → FlagPlace v Proxied ProxiedComma Flagged FlaggedComma symbols.Err Error after_flags
+pub error_place : (v : Version) → FlagPlace v Proxied ProxiedComma Flagged FlaggedComma symbols.Err ErrorFlag after_flags
 error_place v =
     record {
       here = refl;
@@ -200,24 +200,24 @@ error_place v =
 pub flags_read : (how : Reading) (ws vs us ts : List Word) (request proxiable error : Bool)
     → request ≡ begins_flag symbols.Req ws → vs ≡ behind_flag request ws → proxiable ≡ begins_flag symbols.Pxy vs
     → us ≡ behind_flag proxiable vs → error ≡ begins_flag symbols.Err us → ts ≡ behind_flag error us →
-    collect how Coded ws ≡ flagged Request request
-    (flagged Proxiable proxiable (flagged Error error (collect how Flagged ts)))
+    collect how Coded ws ≡ flagged RequestFlag request
+    (flagged ProxiableFlag proxiable (flagged ErrorFlag error (collect how Flagged ts)))
 flags_read how ws vs us ts request proxiable error a b c d e f =
-    flag_read how Coded CodedComma Requested RequestedComma symbols.Req Request after_flags
+    flag_read how Coded CodedComma Requested RequestedComma symbols.Req RequestFlag after_flags
     (request_place how.version) sets_request request ws a
-    ∙ ap (flagged Request request)
+    ∙ ap (flagged RequestFlag request)
     (ap (collect how Requested) (sym b) ∙
-    (flag_read how Requested RequestedComma Proxied ProxiedComma symbols.Pxy Proxiable after_flags
+    (flag_read how Requested RequestedComma Proxied ProxiedComma symbols.Pxy ProxiableFlag after_flags
     (proxiable_place how.version) sets_proxiable proxiable vs c
-    ∙ ap (flagged Proxiable proxiable)
+    ∙ ap (flagged ProxiableFlag proxiable)
     (ap (collect how Proxied) (sym d) ∙
-    (flag_read how Proxied ProxiedComma Flagged FlaggedComma symbols.Err Error after_flags
+    (flag_read how Proxied ProxiedComma Flagged FlaggedComma symbols.Err ErrorFlag after_flags
     (error_place how.version) sets_error error us e
-    ∙ ap (λ (us : List Word). flagged Error error (collect how Flagged us)) (sym f)))))
+    ∙ ap (λ (us : List Word). flagged ErrorFlag error (collect how Flagged us)) (sym f)))))
 
-pub command_told : (w code : Word) (request proxiable error : Bool) (second : Option Word) (r : Result Told ℕ) →
+pub command_told : (w code : Word) (request proxiable error : Bool) (second : Option Word) (r : Result Gathered ℕ) →
     filled CommandHead w
-    (filled CodeIs code (flagged Request request (flagged Proxiable proxiable (flagged Error error
+    (filled CodeIs code (flagged RequestFlag request (flagged ProxiableFlag proxiable (flagged ErrorFlag error
     (with_second second r))))) ≡ with_head (record {
       command = true;
       code = code;
@@ -237,7 +237,7 @@ command_told w code false true false second (Ok told) = refl
 command_told w code false false true second (Ok told) = refl
 command_told w code false false false second (Ok told) = refl
 
-pub group_told : (code : Word) (named second : Option Word) (r : Result Told ℕ)
+pub group_told : (code : Word) (named second : Option Word) (r : Result Gathered ℕ)
     → filled CodeIs code (with_end named second r) ≡ with_head
     (record {
       command = false;

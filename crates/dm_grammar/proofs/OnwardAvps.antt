@@ -7,23 +7,23 @@ use Rattle.dm_grammar.specs.declared.symbol.Symbol.{Symbol}
 use Rattle.dm_grammar.specs.declared.symbol.Symbol.TheVariants as symbols
 use Rattle.dm_grammar.specs.declared.terminal.Terminal.TheVariants.{NameBut}
 use Rattle.dm_grammar.specs.Tokens.{Word}
-use Rattle.dm_grammar.specs.Places.Place.{AtSign, AvpName, AvpCode, Typed, TypedColon, AtVendor, VendorNamed, Listed, ListedColon, Vendored, ListOpen, ValueName, ValueEnd}
-use Rattle.dm_grammar.specs.Grammar.{fits, is_name, steps, symbol_number, list_steps}
-use Rattle.dm_grammar.specs.Items.{Vend, Value, AvpParts, Written}
-use Rattle.dm_grammar.specs.Items.Vend.{NumberedBy, NamedBy}
+use Rattle.dm_grammar.specs.Places.GrammarPlace.{AtSign, AvpName, AvpCode, Typed, TypedColon, AtVendor, VendorNamed, Listed, ListedColon, Vendored, ListOpen, ValueName, ValueEnd}
+use Rattle.dm_grammar.specs.Grammar.{fits, is_name_symbol, steps_from, symbol_number, list_steps}
+use Rattle.dm_grammar.specs.Items.{VendorReference, ValueParts, AvpParts, Written}
+use Rattle.dm_grammar.specs.Items.VendorReference.{NumberedBy, NamedBy}
 use Rattle.dm_grammar.specs.Items.Written.{VendorIs, AvpIs}
-use Rattle.dm_grammar.specs.Spelling.{Spells, vend_may}
+use Rattle.dm_grammar.specs.Spelling.{Spells, reference_may}
 use Rattle.dm_grammar.specs.Spelling.Phrase.{◌then◌}
 use Rattle.dm_grammar.proofs.Avps.{word_is_name}
 use Rattle.dm_grammar.proofs.Onward.{AreAll, IsSymbol, IsName, HasItems, lists, Onward, TakenOnward, only}
 use Rattle.dm_grammar.proofs.OnwardRules.{by_item}
 
 -- parts whose name and code aren't read yet
-abbrev avp_of : Word → Option Vend → List Value → AvpParts
+abbrev avp_of : Word → Option VendorReference → List ValueParts → AvpParts
 avp_of w d xs = record { name = w; code = w; kind = w; vendor = d; values = xs }
 
-name_but : (s t : Symbol) → fits (NameBut s) t ≡ true → is_name t ≡ true
-name_but s t h = (and_parts (is_name t) (not (nat_eq (symbol_number s) (symbol_number t))) h).0
+name_but : (s t : Symbol) → fits (NameBut s) t ≡ true → is_name_symbol t ≡ true
+name_but s t h = (and_parts (is_name_symbol t) (not (nat_eq (symbol_number s) (symbol_number t))) h).0
 
 -- "@" name number type ..
 an_avp : (v : Version) (o w : Word) (ws : List Word) → IsSymbol symbols.At o → IsName w → Onward v AvpName ws
@@ -31,7 +31,7 @@ an_avp : (v : Version) (o w : Word) (ws : List Word) → IsSymbol symbols.At o �
 an_avp v o w ws a f x =
     record { items = AvpIs (record x.parts { name = w }) ∷ x.items; spelled = (a, (f, (refl, x.spelled))) }
 
-pub by_at_sign : (v : Version) (w : Word) (ws : List Word) → TakenOnward v (steps v AtSign) w ws
+pub by_at_sign : (v : Version) (w : Word) (ws : List Word) → TakenOnward v (steps_from v AtSign) w ws
     → Onward v AtSign (w ∷ ws)
 by_at_sign First w ws x = let y = only x in λ o a. an_avp First o w ws a y.0 y.1
 by_at_sign Second w ws (inl x) = λ o a. x.1 o w a x.0
@@ -44,7 +44,7 @@ by_avp_name v w ws f x =
     record { parts = record x.parts { code = w }; items = x.items; spelled = (f, (refl, x.spelled)) }
 
 -- "@" "vendor" name number, and an AVP called vendor
-pub by_at_vendor : (v : Version) (w : Word) (ws : List Word) → TakenOnward v (steps v AtVendor) w ws
+pub by_at_vendor : (v : Version) (w : Word) (ws : List Word) → TakenOnward v (steps_from v AtVendor) w ws
     → Onward v AtVendor (w ∷ ws)
 by_at_vendor First w ws x = tt
 by_at_vendor Second w ws (inl x) =
@@ -66,14 +66,14 @@ by_vendor_named v w ws f x =
 a_kind : (v : Version) (w : Word) (ws : List Word) → IsName w → Onward v Typed ws → Onward v AvpCode (w ∷ ws)
 a_kind v w ws f x = record { parts = avp_of w x.parts []; items = x.items; spelled = (f, (refl, x.spelled)) }
 
-a_list : (w : Word) (ws : List Word) → IsSymbol symbols.Enumerated w → (d : Option Vend) (xs : List Value)
-    (is : List Written) → Spells (vend_may Second d then lists xs) (AreAll Second is) ws
+a_list : (w : Word) (ws : List Word) → IsSymbol symbols.Enumerated w → (d : Option VendorReference) (xs : List ValueParts)
+    (is : List Written) → Spells (reference_may Second d then lists xs) (AreAll Second is) ws
     → Onward Second AvpCode (w ∷ ws)
 a_list w ws f d [] is h =
     record { parts = avp_of w d []; items = is; spelled = (word_is_name symbols.Enumerated w.symbol refl f, (refl, h)) }
 a_list w ws f d (x ∷ xs) is h = record { parts = avp_of w d (x ∷ xs); items = is; spelled = (f, (refl, h)) }
 
-pub by_avp_code : (v : Version) (w : Word) (ws : List Word) → TakenOnward v (steps v AvpCode) w ws
+pub by_avp_code : (v : Version) (w : Word) (ws : List Word) → TakenOnward v (steps_from v AvpCode) w ws
     → Onward v AvpCode (w ∷ ws)
 by_avp_code First w ws x = let y = only x in a_kind First w ws y.0 y.1
 by_avp_code Second w ws (inl x) = a_list w ws x.0 x.1.parts.vendor x.1.parts.values x.1.items x.1.spelled
@@ -89,13 +89,13 @@ a_number : (v : Version) (w : Word) (ws : List Word) → IsSymbol symbols.Number
 a_number v w ws f x =
     record { parts = Some (NumberedBy w); items = x.items; spelled = (f, (refl, x.spelled)) }
 
-pub by_typed : (v : Version) (w : Word) (ws : List Word) → TakenOnward v (steps v Typed) w ws → Onward v Typed (w ∷ ws)
+pub by_typed : (v : Version) (w : Word) (ws : List Word) → TakenOnward v (steps_from v Typed) w ws → Onward v Typed (w ∷ ws)
 by_typed v w ws (inl x) = a_number v w ws x.0 x.1
 by_typed First w ws (inr x) = no_vendor First (w ∷ ws) (by_item First w ws x)
 by_typed Second w ws (inr (inl x)) = x.1 w x.0
 by_typed Second w ws (inr (inr x)) = no_vendor Second (w ∷ ws) (by_item Second w ws x)
 
-pub by_typed_colon : (v : Version) (w : Word) (ws : List Word) → TakenOnward v (steps v TypedColon) w ws
+pub by_typed_colon : (v : Version) (w : Word) (ws : List Word) → TakenOnward v (steps_from v TypedColon) w ws
     → Onward v TypedColon (w ∷ ws)
 by_typed_colon First w ws x = tt
 by_typed_colon Second w ws x =
@@ -115,7 +115,7 @@ no_vendor_listed ws x = record {
   spelled = x.spelled;
 }
 
-pub by_listed : (v : Version) (w : Word) (ws : List Word) → TakenOnward v (steps v Listed) w ws
+pub by_listed : (v : Version) (w : Word) (ws : List Word) → TakenOnward v (steps_from v Listed) w ws
     → Onward v Listed (w ∷ ws)
 by_listed First w ws x = tt
 by_listed Second w ws (inl x) =
@@ -127,7 +127,7 @@ by_listed Second w ws (inl x) =
 by_listed Second w ws (inr (inl x)) = x.1 w x.0
 by_listed Second w ws (inr (inr x)) = no_vendor_listed (w ∷ ws) (by_vendored Second w ws x)
 
-pub by_listed_colon : (v : Version) (w : Word) (ws : List Word) → TakenOnward v (steps v ListedColon) w ws
+pub by_listed_colon : (v : Version) (w : Word) (ws : List Word) → TakenOnward v (steps_from v ListedColon) w ws
     → Onward v ListedColon (w ∷ ws)
 by_listed_colon First w ws x = tt
 by_listed_colon Second w ws x =
@@ -160,7 +160,7 @@ by_value_name v w ws f x =
       spelled = (f, (refl, x.spelled));
     }
 
-pub by_value_end : (v : Version) (w : Word) (ws : List Word) → TakenOnward v (steps v ValueEnd) w ws
+pub by_value_end : (v : Version) (w : Word) (ws : List Word) → TakenOnward v (steps_from v ValueEnd) w ws
     → Onward v ValueEnd (w ∷ ws)
 by_value_end v w ws (inl x) =
     record { parts = x.1.parts.first ∷ x.1.parts.rest; items = x.1.items; spelled = (x.0, x.1.spelled) }

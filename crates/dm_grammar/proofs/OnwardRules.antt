@@ -4,9 +4,9 @@ use Rattle.dm_grammar.specs.declared.symbol.Symbol.TheVariants as symbols
 use Rattle.dm_grammar.specs.declared.item.Form.TheVariants.{Fixed, Required, Optional}
 use Rattle.dm_grammar.specs.declared.reading.Version.{Version}
 use Rattle.dm_grammar.specs.Tokens.{Word}
-use Rattle.dm_grammar.specs.Places.Place.{AtSign, Defined, Starred, High, Closed}
-use Rattle.dm_grammar.specs.Grammar.{steps, item_steps, bracket_steps, rule_steps}
-use Rattle.dm_grammar.specs.Items.{Entry}
+use Rattle.dm_grammar.specs.Places.GrammarPlace.{AtSign, Defined, Starred, High, Closed}
+use Rattle.dm_grammar.specs.Grammar.{steps_from, item_steps, bracket_steps, rule_steps}
+use Rattle.dm_grammar.specs.Items.{EntryParts}
 use Rattle.dm_grammar.specs.Items.Written.{GroupIs, CommandIs}
 use Rattle.dm_grammar.specs.Spelling.{Spells}
 use Rattle.dm_grammar.proofs.Onward.{Definition, AreAll, IsSymbol, IsName, Has, HasItems, HasEntries, after_title, Bracket, bracket, Onward, TakenOnward}
@@ -51,7 +51,7 @@ by_bracket v w ws (inr (inl x)) =
     record { parts = record x.1.parts { form = Optional }; items = x.1.items; spelled = (x.0, x.1.spelled) }
 by_bracket v w ws (inr (inr x)) = absurd x
 
-pub by_high : (v : Version) (w : Word) (ws : List Word) → TakenOnward v (steps v High) w ws
+pub by_high : (v : Version) (w : Word) (ws : List Word) → TakenOnward v (steps_from v High) w ws
     → Has v Bracket bracket (w ∷ ws)
 by_high v w ws (inl x) =
     record { parts = record x.1.parts { form = Fixed }; items = x.1.items; spelled = (x.0, x.1.spelled) }
@@ -60,17 +60,17 @@ by_high v w ws (inr x) = by_bracket v w ws x
 no_high : (v : Version) (ws : List Word) → Has v Bracket bracket ws → Onward v Starred ws
 no_high v ws x = record { parts = record x.parts { high = None }; items = x.items; spelled = x.spelled }
 
-pub by_starred : (v : Version) (w : Word) (ws : List Word) → TakenOnward v (steps v Starred) w ws
+pub by_starred : (v : Version) (w : Word) (ws : List Word) → TakenOnward v (steps_from v Starred) w ws
     → Onward v Starred (w ∷ ws)
 by_starred v w ws (inl x) =
     record { parts = record x.1.parts { high = Some w }; items = x.1.items; spelled = (x.0, (refl, x.1.spelled)) }
 by_starred v w ws (inr x) = no_high v (w ∷ ws) (by_high v w ws x)
 
 -- the rule that begins with the entry
-abbrev without : Bracket → List Entry
+abbrev without : Bracket → List EntryParts
 without b = record { form = b.form; name = b.name; qualifier = None } ∷ b.rule
 
-abbrev with_low : Option Word → Bracket → List Entry
+abbrev with_low : Option Word → Bracket → List EntryParts
 with_low low b =
     record { form = b.form; name = b.name; qualifier = Some (record { low = low; high = b.high }) } ∷ b.rule
 
@@ -106,14 +106,14 @@ pub fixed_entry : (v : Version) (o n g : Word) (ws : List Word) → IsSymbol sym
     → IsSymbol symbols.Greater g
     → HasEntries v ws → HasEntries v (o ∷ n ∷ g ∷ ws)
 fixed_entry v o n g ws a b c x =
-    let e : Entry = record { form = Fixed; name = n; qualifier = None } in
+    let e : EntryParts = record { form = Fixed; name = n; qualifier = None } in
     record { parts = e ∷ x.parts; items = x.items; spelled = (a, (b, (refl, (c, x.spelled)))) }
 
 defined : (v : Version) (w : Word) (ws : List Word) → IsSymbol symbols.Define w → Onward v Defined ws
     → Has v Definition (after_title v) (w ∷ ws)
 defined v w ws f x = record { parts = x.parts; items = x.items; spelled = (f, x.spelled) }
 
-pub by_closed : (v : Version) (w : Word) (ws : List Word) → TakenOnward v (steps v Closed) w ws
+pub by_closed : (v : Version) (w : Word) (ws : List Word) → TakenOnward v (steps_from v Closed) w ws
     → Onward v Closed (w ∷ ws)
 by_closed v w ws (inl x) =
     λ o n g a b c. no_entries v (o ∷ n ∷ g ∷ w ∷ ws) (by_angles v o n g (w ∷ ws) a b c (defined v w ws x.0 x.1))

@@ -5,21 +5,21 @@ use Rattle.dm_grammar.specs.declared.symbol.Symbol.{Symbol}
 use Rattle.dm_grammar.specs.declared.symbol.Symbol.TheVariants.{Less, Greater, OpenBrace, CloseBrace, OpenSquare, CloseSquare, Star, Comma, Colon, At, Define, Number, Name, Diameter, Header, DiameterHeader, Avp, AvpHeader, Req, Pxy, Vendor, Enumerated, Stray}
 use Rattle.dm_grammar.specs.declared.symbol.Symbol.TheVariants as symbols
 use Rattle.dm_grammar.specs.Tokens.{Word}
-use Rattle.dm_grammar.specs.Places.Place.{Text, TitleLess, AtSign, Titled}
-use Rattle.dm_grammar.specs.Places.Role.{Begins, TitleIs}
-use Rattle.dm_grammar.specs.Told.{Told, nothing, filled, collect}
+use Rattle.dm_grammar.specs.Places.GrammarPlace.{Text, TitleLess, AtSign, Titled}
+use Rattle.dm_grammar.specs.Places.TokenRole.{BeginsItem, TitleIs}
+use Rattle.dm_grammar.specs.Told.{Gathered, none_gathered, filled, collect}
 
-abbrev pub IsPlain : Told → Type 0
-IsPlain told = told ≡ record nothing { items = told.items }
+abbrev pub IsPlain : Gathered → Type 0
+IsPlain told = told ≡ record none_gathered { items = told.items }
 
 abbrev pub word : Symbol → List ℕ → ℕ → Word
 word s text line = record { symbol = s; text = text; line = line }
 
-begins : (w : Word) (r : Result Told ℕ) → IfOk (filled Begins w r) IsPlain
+begins : (w : Word) (r : Result Gathered ℕ) → IfOk (filled BeginsItem w r) IsPlain
 begins w (Ok told) = refl
 begins w (Err line) = tt
 
-titles : (w : Word) (r : Result Told ℕ) → IfOk (filled TitleIs w r) IsPlain
+titles : (w : Word) (r : Result Gathered ℕ) → IfOk (filled TitleIs w r) IsPlain
 titles w (Ok told) = refl
 titles w (Err line) = tt
 

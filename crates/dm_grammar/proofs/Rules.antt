@@ -8,45 +8,45 @@ use Rattle.dm_grammar.specs.declared.item.Form.TheVariants.{Fixed}
 use Rattle.dm_grammar.specs.declared.terminal.Terminal.{Terminal}
 use Rattle.dm_grammar.specs.declared.terminal.Terminal.TheVariants.{AnyName, One}
 use Rattle.dm_grammar.specs.Tokens.{Word}
-use Rattle.dm_grammar.specs.Grammar.{fits, is_name, steps, by}
-use Rattle.dm_grammar.specs.Places.{Place, Role}
-use Rattle.dm_grammar.specs.Places.Place.{Text, AtSign, TitleLess, TitleName, Titled, Defined, Rule, Low, Starred, High, Angle, AngleName, Closed, FixedOpen, FixedName, BraceOpen, SquareOpen}
-use Rattle.dm_grammar.specs.Places.Role.{Nothing, Begins, Opens, EntryIs, StarIs, LowIs, TitleIs, TitleOrFixed, DefineIs}
+use Rattle.dm_grammar.specs.Grammar.{fits, is_name_symbol, steps_from, by}
+use Rattle.dm_grammar.specs.Places.{GrammarPlace, TokenRole}
+use Rattle.dm_grammar.specs.Places.GrammarPlace.{Text, AtSign, TitleLess, TitleName, Titled, Defined, InRule, Low, Starred, High, Angle, AngleName, Closed, FixedOpen, FixedName, BraceOpen, SquareOpen}
+use Rattle.dm_grammar.specs.Places.TokenRole.{NoPart, BeginsItem, OpensEntry, EntryIs, StarIs, LowIs, TitleIs, TitleOrFixed, DefineIs}
 use Rattle.dm_grammar.specs.Readers.{begins, begins_entry}
-use Rattle.dm_grammar.specs.Told.{Told, filled, collect}
+use Rattle.dm_grammar.specs.Told.{Gathered, filled, collect}
 use Rattle.dm_grammar.proofs.Plain.{word}
 
 -- from a place with one step
-pub one_step : (how : Reading) (p q : Place) (r : Role) (t : Terminal) (w : Word) (ws : List Word)
-    → steps how.version p ≡ by t q r
+pub one_step : (how : Reading) (p q : GrammarPlace) (r : TokenRole) (t : Terminal) (w : Word) (ws : List Word)
+    → steps_from how.version p ≡ by t q r
     → fits t w.symbol ≡ true → collect how p (w ∷ ws) ≡ filled r w (collect how q ws)
 one_step how p q r t w ws e h = rw (collect, e, h) refl
 
-abbrev Untitled : Told → Type 0
+abbrev Untitled : Gathered → Type 0
 Untitled told = told.titled ≡ false
 
-by_begins : (w : Word) (r : Result Told ℕ) → IfOk (filled Begins w r) Untitled
+by_begins : (w : Word) (r : Result Gathered ℕ) → IfOk (filled BeginsItem w r) Untitled
 by_begins w (Ok told) = refl
 by_begins w (Err line) = tt
 
-by_title : (w : Word) (r : Result Told ℕ) → IfOk (filled TitleIs w r) Untitled
+by_title : (w : Word) (r : Result Gathered ℕ) → IfOk (filled TitleIs w r) Untitled
 by_title w (Ok told) = refl
 by_title w (Err line) = tt
 
-by_opens : (w : Word) (r : Result Told ℕ) → IfOk (filled Opens w r) Untitled
+by_opens : (w : Word) (r : Result Gathered ℕ) → IfOk (filled OpensEntry w r) Untitled
 by_opens w (Ok told) = refl
 by_opens w (Err line) = tt
 
-by_low : (w : Word) (r : Result Told ℕ) → IfOk (filled LowIs w r) Untitled
+by_low : (w : Word) (r : Result Gathered ℕ) → IfOk (filled LowIs w r) Untitled
 by_low w (Ok told) = refl
 by_low w (Err line) = tt
 
-by_star : (w : Word) (r : Result Told ℕ) → IfOk (filled StarIs w r) Untitled
+by_star : (w : Word) (r : Result Gathered ℕ) → IfOk (filled StarIs w r) Untitled
 by_star w (Ok told) = refl
 by_star w (Err line) = tt
 
 untitled_from : (s : Symbol) (text : List ℕ) (line : ℕ) (how : Reading) (ws : List Word)
-    → IfOk (collect how Rule (word s text line ∷ ws)) Untitled
+    → IfOk (collect how InRule (word s text line ∷ ws)) Untitled
 untitled_from symbols.At text line how ws = by_begins (word symbols.At text line) (collect how AtSign ws)
 untitled_from symbols.Name text line how ws = by_title (word symbols.Name text line) (collect how Titled ws)
 untitled_from symbols.Diameter text line how ws = by_title (word symbols.Diameter text line) (collect how Titled ws)
@@ -70,33 +70,33 @@ untitled_from symbols.Star text line how ws = by_star (word symbols.Star text li
 untitled_from _ text line how ws = tt
 
 -- no title is begun where an entry may begin
-pub untitled : (how : Reading) (ws : List Word) → IfOk (collect how Rule ws) Untitled
+pub untitled : (how : Reading) (ws : List Word) → IfOk (collect how InRule ws) Untitled
 untitled how [] = refl
 untitled how (w ∷ ws) = untitled_from w.symbol w.text w.line how ws
 
 -- without `::=` a name in `<` and `>` is an entry
 closed_rule : (how : Reading) (ws : List Word) → begins (One symbols.Define) ws ≡ false
-    → collect how Closed ws ≡ collect how Rule ws
+    → collect how Closed ws ≡ collect how InRule ws
 closed_rule how [] h = refl
 closed_rule how (w ∷ ws) h = rw (collect, h) refl
 
-fixed_told : (o n g : Word) (r : Result Told ℕ) → IfOk r Untitled
-    → filled Opens o (filled TitleOrFixed n (filled Nothing g r)) ≡ filled Opens o
-    (filled (EntryIs Fixed) n (filled Nothing g r))
+fixed_told : (o n g : Word) (r : Result Gathered ℕ) → IfOk r Untitled
+    → filled OpensEntry o (filled TitleOrFixed n (filled NoPart g r)) ≡ filled OpensEntry o
+    (filled (EntryIs Fixed) n (filled NoPart g r))
 fixed_told o n g (Ok told) h = rw h refl
 fixed_told o n g (Err line) h = refl
 
 fixed_closed : (b : Bool) (o n g : Word) (how : Reading) (ws : List Word) → fits (One symbols.Greater) g.symbol ≡ b
     → (b ≡ true → begins (One symbols.Define) ws ≡ false) →
-    filled Opens o (filled TitleOrFixed n (collect how AngleName (g ∷ ws))) ≡ filled Opens o
+    filled OpensEntry o (filled TitleOrFixed n (collect how AngleName (g ∷ ws))) ≡ filled OpensEntry o
     (filled (EntryIs Fixed) n (collect how FixedName (g ∷ ws)))
 fixed_closed true o n g how ws e h =
-    rw (collect, e) (rw (closed_rule how ws (h refl)) (fixed_told o n g (collect how Rule ws) (untitled how ws)))
+    rw (collect, e) (rw (closed_rule how ws (h refl)) (fixed_told o n g (collect how InRule ws) (untitled how ws)))
 fixed_closed false o n g how ws e h = rw (collect, e) refl
 
-fixed_named : (b : Bool) (o n : Word) (how : Reading) (ws : List Word) → is_name n.symbol ≡ b
+fixed_named : (b : Bool) (o n : Word) (how : Reading) (ws : List Word) → is_name_symbol n.symbol ≡ b
     → (b ≡ true → (begins (One symbols.Greater) ws && begins (One symbols.Define) (drop 1 ws)) ≡ false) →
-    filled Opens o (collect how Angle (n ∷ ws)) ≡ filled Opens o (collect how FixedOpen (n ∷ ws))
+    filled OpensEntry o (collect how Angle (n ∷ ws)) ≡ filled OpensEntry o (collect how FixedOpen (n ∷ ws))
 fixed_named true o n how [] e h = rw (collect, e) refl
 fixed_named true o n how (g ∷ ws) e h =
     rw (collect, e) (fixed_closed (fits (One symbols.Greater) g.symbol) o n g how ws refl (λ t. rw t at (h refl)))
@@ -104,11 +104,11 @@ fixed_named false o n how ws e h = rw (collect, e) refl
 
 fixed_entry : (text : List ℕ) (line : ℕ) (how : Reading) (ws : List Word)
     → (begins AnyName ws && begins (One symbols.Greater) (drop 1 ws) && begins (One symbols.Define) (drop 2 ws))
-    ≡ false → collect how Rule (word symbols.Less text line ∷ ws) ≡ collect how High
+    ≡ false → collect how InRule (word symbols.Less text line ∷ ws) ≡ collect how High
     (word symbols.Less text line ∷ ws)
 fixed_entry text line how [] h = refl
 fixed_entry text line how (n ∷ ws) h =
-    fixed_named (is_name n.symbol) (word symbols.Less text line) n how ws refl (λ t. rw t at h)
+    fixed_named (is_name_symbol n.symbol) (word symbols.Less text line) n how ws refl (λ t. rw t at h)
 
 no_title : (b : Bool) → not b ≡ true → b ≡ false
 no_title true h = absurd cc
@@ -121,7 +121,7 @@ is_title false h = absurd cc
 rule_bracket_from : (s : Symbol) (text : List ℕ) (line : ℕ) (how : Reading) (ws : List Word)
     → begins_entry (word s text line ∷ ws) ≡ true → begins (One symbols.Number) (word s text line ∷ ws) ≡ false
     → begins (One symbols.Star) (word s text line ∷ ws) ≡ false
-    → collect how Rule (word s text line ∷ ws) ≡ collect how High (word s text line ∷ ws)
+    → collect how InRule (word s text line ∷ ws) ≡ collect how High (word s text line ∷ ws)
 rule_bracket_from symbols.Number text line how ws e n s = absurd cc
 rule_bracket_from symbols.Star text line how ws e n s = absurd cc
 rule_bracket_from symbols.OpenBrace text line how ws e n s = refl
@@ -131,13 +131,13 @@ rule_bracket_from _ text line how ws e n s = absurd cc
 
 -- an entry that begins with no number and no `*` begins with a bracket
 pub rule_bracket : (how : Reading) (ws : List Word) → begins_entry ws ≡ true → begins (One symbols.Number) ws ≡ false
-    → begins (One symbols.Star) ws ≡ false → collect how Rule ws ≡ collect how High ws
+    → begins (One symbols.Star) ws ≡ false → collect how InRule ws ≡ collect how High ws
 rule_bracket how [] e n s = absurd cc
 rule_bracket how (w ∷ ws) e n s = rule_bracket_from w.symbol w.text w.line how ws e n s
 
-title_told : (o n g d : Word) (r : Result Told ℕ)
-    → filled Opens o (filled TitleOrFixed n (filled Nothing g (filled DefineIs d r))) ≡ filled Begins o
-    (filled TitleIs n (filled Nothing g (filled Nothing d r)))
+title_told : (o n g d : Word) (r : Result Gathered ℕ)
+    → filled OpensEntry o (filled TitleOrFixed n (filled NoPart g (filled DefineIs d r))) ≡ filled BeginsItem o
+    (filled TitleIs n (filled NoPart g (filled NoPart d r)))
 title_told o n g d (Ok told) = refl
 title_told o n g d (Err line) = refl
 
@@ -147,22 +147,22 @@ closed_title how d ws h = rw (collect, h) refl
 
 title_at : (o : Word) (how : Reading) (ws : List Word) → begins AnyName ws ≡ true
     → begins (One symbols.Greater) (drop 1 ws) ≡ true → begins (One symbols.Define) (drop 2 ws) ≡ true
-    → filled Opens o (collect how Angle ws) ≡ filled Begins o (collect how TitleLess ws)
+    → filled OpensEntry o (collect how Angle ws) ≡ filled BeginsItem o (collect how TitleLess ws)
 title_at o how [] a b c = absurd cc
 title_at o how (n ∷ []) a b c = absurd cc
 title_at o how (n ∷ g ∷ []) a b c = absurd cc
 title_at o how (n ∷ g ∷ d ∷ ws) a b c =
-    ap (filled Opens o) (one_step how Angle AngleName TitleOrFixed AnyName n (g ∷ d ∷ ws) refl a
-    ∙ ap (filled TitleOrFixed n) (one_step how AngleName Closed Nothing (One symbols.Greater) g (d ∷ ws) refl b
-    ∙ ap (filled Nothing g) (closed_title how d ws c)))
+    ap (filled OpensEntry o) (one_step how Angle AngleName TitleOrFixed AnyName n (g ∷ d ∷ ws) refl a
+    ∙ ap (filled TitleOrFixed n) (one_step how AngleName Closed NoPart (One symbols.Greater) g (d ∷ ws) refl b
+    ∙ ap (filled NoPart g) (closed_title how d ws c)))
     ∙ (title_told o n g d (collect how Defined ws)
-    ∙ ap (filled Begins o) (sym (one_step how TitleLess TitleName TitleIs AnyName n (g ∷ d ∷ ws) refl a
-    ∙ ap (filled TitleIs n) (one_step how TitleName Titled Nothing (One symbols.Greater) g (d ∷ ws) refl b
-    ∙ ap (filled Nothing g) (one_step how Titled Defined Nothing (One symbols.Define) d ws refl c)))))
+    ∙ ap (filled BeginsItem o) (sym (one_step how TitleLess TitleName TitleIs AnyName n (g ∷ d ∷ ws) refl a
+    ∙ ap (filled TitleIs n) (one_step how TitleName Titled NoPart (One symbols.Greater) g (d ∷ ws) refl b
+    ∙ ap (filled NoPart g) (one_step how Titled Defined NoPart (One symbols.Define) d ws refl c)))))
 
 a_title : (text : List ℕ) (line : ℕ) (how : Reading) (ws : List Word)
     → (begins AnyName ws && begins (One symbols.Greater) (drop 1 ws) && begins (One symbols.Define) (drop 2 ws)) ≡ true
-    → collect how Rule (word symbols.Less text line ∷ ws) ≡ collect how Text (word symbols.Less text line ∷ ws)
+    → collect how InRule (word symbols.Less text line ∷ ws) ≡ collect how Text (word symbols.Less text line ∷ ws)
 a_title text line how ws h =
     let most = and_parts _ _ h in
     let front = and_parts _ _ most.0 in
@@ -170,7 +170,7 @@ a_title text line how ws h =
 
 no_entry_from : (s : Symbol) (text : List ℕ) (line : ℕ) (how : Reading) (ws : List Word)
     → begins_entry (word s text line ∷ ws) ≡ false
-    → collect how Rule (word s text line ∷ ws) ≡ collect how Text (word s text line ∷ ws)
+    → collect how InRule (word s text line ∷ ws) ≡ collect how Text (word s text line ∷ ws)
 no_entry_from symbols.Number text line how ws e = absurd cc
 no_entry_from symbols.Star text line how ws e = absurd cc
 no_entry_from symbols.OpenBrace text line how ws e = absurd cc
@@ -179,6 +179,6 @@ no_entry_from symbols.Less text line how ws e = a_title text line how ws (is_tit
 no_entry_from _ text line how ws e = refl
 
 -- where no entry begins an item may
-pub no_entry : (how : Reading) (ws : List Word) → begins_entry ws ≡ false → collect how Rule ws ≡ collect how Text ws
+pub no_entry : (how : Reading) (ws : List Word) → begins_entry ws ≡ false → collect how InRule ws ≡ collect how Text ws
 no_entry how [] e = refl
 no_entry how (w ∷ ws) e = no_entry_from w.symbol w.text w.line how ws e

@@ -9,10 +9,10 @@ use Rattle.dm_grammar.specs.declared.terminal.Terminal.TheVariants.{AnyName, One
 use Rattle.dm_grammar.specs.Tokens.{Word, tokens, last_line}
 use Rattle.dm_grammar.specs.Versions.{is_two, is_second, version_of, body_of}
 use Rattle.dm_grammar.specs.Grammar.{fits}
-use Rattle.dm_grammar.specs.Places.Place.{Text}
+use Rattle.dm_grammar.specs.Places.GrammarPlace.{Text}
 use Rattle.dm_grammar.specs.Items.{AvpParts, Written}
 use Rattle.dm_grammar.specs.Items.Written.{VendorIs, AvpIs, GroupIs, CommandIs}
-use Rattle.dm_grammar.specs.Told.{Told, collect, items_told, told}
+use Rattle.dm_grammar.specs.Told.{Gathered, collect, items_told, items_or_line}
 use Rattle.dm_grammar.specs.Spelling.{Spells, Ends, AreItems, title, command_head, group_head, entries, item, items, text}
 use Rattle.dm_grammar.proofs.Avps.{name_no_symbol}
 use Rattle.dm_grammar.proofs.AvpWalks.{avp_walk, avp_made, vendor_tells}
@@ -95,7 +95,7 @@ second_text is (o ∷ x ∷ ws) h =
     (rw (h.0, h.1.0, word) refl, h.1.1.1)
 
 -- the tokens behind those that tell the version, read by it
-abbrev pub read_body : ℕ → List Word → Result Told ℕ
+abbrev pub read_body : ℕ → List Word → Result Gathered ℕ
 read_body last ws =
     let how : Reading = record { version = version_of ws; last = last } in collect how Text (body_of ws)
 
@@ -112,5 +112,5 @@ pub are_read : (last : ℕ) (is : List Written) (ws : List Word) → AreItems is
 are_read last is ws (inl h) = first_read last is ws (first_text is ws h) h
 are_read last is ws (inr h) = let s = second_text is ws h in second_read last is ws s.0 s.1
 
-pub spelled_told : (text : List ℕ) (is : List Written) → AreItems is (tokens text) → told text ≡ Ok is
+pub spelled_told : (text : List ℕ) (is : List Written) → AreItems is (tokens text) → items_or_line text ≡ Ok is
 spelled_told text is h = ap items_told (are_read (last_line text) is (tokens text) h)

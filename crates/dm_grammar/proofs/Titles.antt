@@ -5,9 +5,9 @@ use Rattle.dm_grammar.specs.declared.symbol.Symbol.TheVariants as symbols
 use Rattle.dm_grammar.specs.declared.terminal.Terminal.TheVariants.{One}
 use Rattle.dm_grammar.specs.Tokens.{Word}
 use Rattle.dm_grammar.specs.Grammar.{fits}
-use Rattle.dm_grammar.specs.Places.Place.{Text, TitleLess, Head, CommandWord, CommandColon, GroupWord, GroupColon}
-use Rattle.dm_grammar.specs.Places.Role.{Begins, TitleIs, CommandHead, GroupHead}
-use Rattle.dm_grammar.specs.Told.{Told, filled, collect}
+use Rattle.dm_grammar.specs.Places.GrammarPlace.{Text, TitleLess, Head, CommandWord, CommandColon, GroupWord, GroupColon}
+use Rattle.dm_grammar.specs.Places.TokenRole.{BeginsItem, TitleIs, CommandHead, GroupHead}
+use Rattle.dm_grammar.specs.Told.{Gathered, filled, collect}
 use Rattle.dm_grammar.proofs.Heads.{fits_one}
 
 -- the first word of a head
@@ -19,7 +19,7 @@ pub command_words : (how : Reading) (w : Word) (all ws : List Word) → all ≡ 
     → collect how Head all ≡ filled CommandHead w (collect how CommandColon ws)
 command_words how w all ws e s = rw (e, collect, s) refl
 
-group_same : (w : Word) (r : Result Told ℕ) → filled GroupHead w r ≡ r
+group_same : (w : Word) (r : Result Gathered ℕ) → filled GroupHead w r ≡ r
 group_same w (Ok told) = refl
 group_same w (Err line) = refl
 
@@ -32,13 +32,13 @@ pub group_words : (how : Reading) (w : Word) (all ws : List Word) → all ≡ w 
 group_words how w all ws e s = rw (e, collect, s) (group_same w (collect how GroupColon ws))
 
 -- a reader's answer, as that of the place before
-pub from_command : {X : Type 0} (w : Word) (A B : Result Told ℕ) (F : X → Result Told ℕ) (r : Result X ℕ)
+pub from_command : {X : Type 0} (w : Word) (A B : Result Gathered ℕ) (F : X → Result Gathered ℕ) (r : Result X ℕ)
     → B ≡ filled CommandHead w A → MatchResult r (λ x. filled CommandHead w A ≡ F x) (λ line. A ≡ Err line)
     → MatchResult r (λ x. B ≡ F x) (λ line. B ≡ Err line)
 from_command w A B F (Ok x) e h = e ∙ h
 from_command w A B F (Err line) e h = e ∙ ap (filled CommandHead w) h
 
-pub from_place : {X : Type 0} (A B : Result Told ℕ) (F : X → Result Told ℕ) (r : Result X ℕ) → B ≡ A
+pub from_place : {X : Type 0} (A B : Result Gathered ℕ) (F : X → Result Gathered ℕ) (r : Result X ℕ) → B ≡ A
     → MatchResult r (λ x. A ≡ F x) (λ line. A ≡ Err line) → MatchResult r (λ x. B ≡ F x) (λ line. B ≡ Err line)
 from_place A B F (Ok x) e h = e ∙ h
 from_place A B F (Err line) e h = e ∙ h
@@ -46,10 +46,10 @@ from_place A B F (Err line) e h = e ∙ h
 -- "<" before a title
 pub less_title : (how : Reading) (w : Word) (all ws : List Word) → all ≡ w ∷ ws
     → fits (One symbols.Less) w.symbol ≡ true
-    → collect how Text all ≡ filled Begins w (collect how TitleLess ws)
+    → collect how Text all ≡ filled BeginsItem w (collect how TitleLess ws)
 less_title how w all ws e h =
     let no_at = fits_one symbols.Less symbols.At w.symbol refl h in rw (e, collect, no_at, h) refl
 
-pub title_begins : (o n : Word) (r : Result Told ℕ) → filled Begins o (filled TitleIs n r) ≡ filled TitleIs n r
+pub title_begins : (o n : Word) (r : Result Gathered ℕ) → filled BeginsItem o (filled TitleIs n r) ≡ filled TitleIs n r
 title_begins o n (Ok told) = refl
 title_begins o n (Err line) = refl

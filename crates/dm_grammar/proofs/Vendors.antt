@@ -8,15 +8,15 @@ use Rattle.dm_grammar.specs.declared.symbol.Symbol.TheVariants as symbols
 use Rattle.dm_grammar.specs.declared.terminal.Terminal.TheVariants.{AnyName, One}
 use Rattle.dm_grammar.specs.declared.token.Token.{Token}
 use Rattle.dm_grammar.specs.Tokens.{Word}
-use Rattle.dm_grammar.specs.Views.{view, view_option}
+use Rattle.dm_grammar.specs.Views.{view_word, view_option}
 use Rattle.dm_grammar.specs.Grammar.{fits}
-use Rattle.dm_grammar.specs.Items.Vend.{NumberedBy, NamedBy}
+use Rattle.dm_grammar.specs.Items.VendorReference.{NumberedBy, NamedBy}
 use Rattle.dm_grammar.specs.Items.Written.{VendorIs}
-use Rattle.dm_grammar.specs.Places.{Place}
-use Rattle.dm_grammar.specs.Places.Place.{Text, AtSign, VendorNamed, Typed, TypedColon, Listed, ListedColon, Vendored, GroupCoded, GroupNamed, Flagged}
-use Rattle.dm_grammar.specs.Places.Role.{NameOfAvp, NamedIs, SecondIs, CodeIs, Rules}
-use Rattle.dm_grammar.specs.Readers.{VendorPlace, begins, begins_named, begins_vendor, behind_kind, behind_vendor, with_item, with_vendor, with_end, with_second}
-use Rattle.dm_grammar.specs.Told.{Told, filled, collect, vend_told}
+use Rattle.dm_grammar.specs.Places.{GrammarPlace}
+use Rattle.dm_grammar.specs.Places.GrammarPlace.{Text, AtSign, VendorNamed, Typed, TypedColon, Listed, ListedColon, Vendored, GroupCoded, GroupNamed, Flagged}
+use Rattle.dm_grammar.specs.Places.TokenRole.{NameOfAvp, NamedIs, SecondIs, CodeIs, Rules}
+use Rattle.dm_grammar.specs.Readers.{VendorPlace, begins, begins_named, begins_vendor, behind_kind, behind_vendor, adding_item, adding_reference, with_end, with_second}
+use Rattle.dm_grammar.specs.Told.{Gathered, filled, collect, reference_told}
 use Rattle.dm_grammar.proofs.Avps.{name_no_symbol}
 use Rattle.dm_grammar.proofs.Heads.{Taken, fits_one, nothing_told}
 use Rattle.dm_grammar.proofs.Plain.{IsPlain, plain}
@@ -39,15 +39,15 @@ vendor_words how w n all rest ws h e f =
     let whole : all ≡ w ∷ n ∷ ws = e ∙ ap (λ (r : List Word). w ∷ r) f in
     ap (collect how AtSign) whole ∙ vendor_in how.version how.last w n ws (rw whole at h)
 
-vendor_made : (w n c : Word) (r : Result Told ℕ) → IfOk r IsPlain
-    → filled NameOfAvp w (filled NamedIs n (filled CodeIs c r)) ≡ with_item
+vendor_made : (w n c : Word) (r : Result Gathered ℕ) → IfOk r IsPlain
+    → filled NameOfAvp w (filled NamedIs n (filled CodeIs c r)) ≡ adding_item
     (VendorIs (record { name = n; number = c })) r
 vendor_made w n c (Ok told) h = rw h refl
 vendor_made w n c (Err line) h = refl
 
 pub vendor_told : (how : Reading) (w n c : Word) (ws : List Word)
     → filled NameOfAvp w (filled NamedIs n (filled CodeIs c (collect how Text ws)))
-    ≡ with_item (VendorIs (record { name = n; number = c })) (collect how Text ws)
+    ≡ adding_item (VendorIs (record { name = n; number = c })) (collect how Text ws)
 vendor_told how w n c ws = vendor_made w n c (collect how Text ws) (plain how ws)
 
 pub no_word : (v : Version) (ws : List Word) → begins_vendor v ws ≡ true → begins (One symbols.Vendor) ws ≡ true
@@ -59,7 +59,7 @@ no_name First ws h = absurd cc
 no_name Second ws h = (and_parts (begins (One symbols.Vendor) ws) (begins AnyName (drop 1 ws)) h).1
 
 -- [vend]: a colon
-colon_in : (v : Version) (last : ℕ) (p colon q : Place) (ws : List Word)
+colon_in : (v : Version) (last : ℕ) (p colon q : GrammarPlace) (ws : List Word)
     → let how : Reading = record { version = v; last = last } in
     VendorPlace v p colon q → begins_named v ws ≡ true → collect how p ws ≡ collect how colon (drop 1 ws)
 colon_in First last p colon q ws f h = absurd cc
@@ -69,32 +69,32 @@ colon_in Second last p colon q (w ∷ ws) f h =
     let no = fits_one symbols.Colon symbols.Number w.symbol refl h in
     rw (collect, f.here, no, h) (nothing_told w (collect how colon ws))
 
-pub colon_taken : (how : Reading) (p colon q : Place) (ws rest : List Word) → VendorPlace how.version p colon q
+pub colon_taken : (how : Reading) (p colon q : GrammarPlace) (ws rest : List Word) → VendorPlace how.version p colon q
     → begins_named how.version ws ≡ true → rest ≡ drop 1 ws → collect how p ws ≡ collect how colon rest
 colon_taken how p colon q ws rest f h e =
     colon_in how.version how.last p colon q ws f h ∙ ap (collect how colon) (sym e)
 
-pub named_told : (w : Word) (r : Result Told ℕ) → filled NamedIs w r ≡ with_vendor (Some (NamedBy w)) r
+pub named_told : (w : Word) (r : Result Gathered ℕ) → filled NamedIs w r ≡ adding_reference (Some (NamedBy w)) r
 named_told w (Ok told) = refl
 named_told w (Err line) = refl
 
-numbered_told : (w : Word) (r : Result Told ℕ) → filled SecondIs w r ≡ with_vendor (Some (NumberedBy w)) r
+numbered_told : (w : Word) (r : Result Gathered ℕ) → filled SecondIs w r ≡ adding_reference (Some (NumberedBy w)) r
 numbered_told w (Ok told) = refl
 numbered_told w (Err line) = refl
 
-none_told : (r : Result Told ℕ) → r ≡ with_vendor None r
+none_told : (r : Result Gathered ℕ) → r ≡ adding_reference None r
 none_told (Ok told) = refl
 none_told (Err line) = refl
 
 -- a number
-number_in : (v : Version) (last : ℕ) (p colon q : Place) (n : Word) (ws : List Word)
+number_in : (v : Version) (last : ℕ) (p colon q : GrammarPlace) (n : Word) (ws : List Word)
     → let how : Reading = record { version = v; last = last } in
     VendorPlace v p colon q → fits (One symbols.Number) n.symbol ≡ true
     → collect how p (n ∷ ws) ≡ filled SecondIs n (collect how q ws)
 number_in v last p colon q n ws f h = rw (collect, f.here, h) refl
 
 -- neither
-neither_in : (v : Version) (last : ℕ) (p colon q : Place) (ws : List Word)
+neither_in : (v : Version) (last : ℕ) (p colon q : GrammarPlace) (ws : List Word)
     → let how : Reading = record { version = v; last = last } in
     VendorPlace v p colon q → begins_named v ws ≡ false → begins (One symbols.Number) ws ≡ false
     → collect how p ws ≡ collect how q ws
@@ -102,18 +102,18 @@ neither_in v last p colon q [] f c h = rw (collect, f.ends) refl
 neither_in First last p colon q (w ∷ ws) f c h = rw (collect, f.here, h) refl
 neither_in Second last p colon q (w ∷ ws) f c h = rw (collect, f.here, h, c) refl
 
-pub vendor_there : (how : Reading) (p colon q : Place) (ws rest : List Word) (v : Option Token)
+pub vendor_there : (how : Reading) (p colon q : GrammarPlace) (ws rest : List Word) (v : Option Token)
     → VendorPlace how.version p colon q → begins_named how.version ws ≡ false → Taken symbols.Number v ws rest
-    → collect how p ws ≡ with_vendor (vend_told None (view_option v)) (collect how q rest)
+    → collect how p ws ≡ adding_reference (reference_told None (view_option v)) (collect how q rest)
 vendor_there how p colon q ws rest None f c n =
     neither_in how.version how.last p colon q ws f c n.1
     ∙ (ap (collect how q) (sym n.0) ∙ none_told (collect how q rest))
 vendor_there how p colon q ws rest (Some t) f c n =
-    ap (collect how p) n.0 ∙ (number_in how.version how.last p colon q (view t) rest f n.1
-    ∙ numbered_told (view t) (collect how q rest))
+    ap (collect how p) n.0 ∙ (number_in how.version how.last p colon q (view_word t) rest f n.1
+    ∙ numbered_told (view_word t) (collect how q rest))
 
 -- the places of a vendor behind a type
-abbrev pub behind_colon : Bool → Place
+abbrev pub behind_colon : Bool → GrammarPlace
 behind_colon false = TypedColon
 behind_colon true = ListedColon
 
@@ -151,10 +151,10 @@ pub group_end : (how : Reading) (ws : List Word) → begins_named how.version ws
     → collect how GroupCoded ws ≡ collect how Flagged ws
 group_end how ws h = group_end_in how.version how.last ws h
 
-pub named_end : (n g : Word) (r : Result Told ℕ) → filled NamedIs n (filled Rules g r) ≡ with_end (Some n) None r
+pub named_end : (n g : Word) (r : Result Gathered ℕ) → filled NamedIs n (filled Rules g r) ≡ with_end (Some n) None r
 named_end n g (Ok told) = refl
 named_end n g (Err line) = refl
 
-pub numbered_end : (v : Option Word) (r : Result Told ℕ) → with_second v r ≡ with_end None v r
+pub numbered_end : (v : Option Word) (r : Result Gathered ℕ) → with_second v r ≡ with_end None v r
 numbered_end v (Ok told) = refl
 numbered_end v (Err line) = refl

@@ -3,11 +3,11 @@ use Rattle.std.proofs.Common.{◌≡◌, ℕ, List, nat_eq, codes, Bool, true, f
 use Rattle.std.specs.Cmp.Lexicographic.{pointwise}
 use Rattle.dm_grammar.specs.declared.symbol.Symbol.{Symbol}
 use Rattle.dm_grammar.specs.declared.symbol.Symbol.TheVariants as symbols
-use Rattle.dm_grammar.specs.Symbols.{is_number, symbol_of_word}
-use Rattle.dm_grammar.specs.Grammar.{is_name}
+use Rattle.dm_grammar.specs.Symbols.{is_digits, symbol_of_word}
+use Rattle.dm_grammar.specs.Grammar.{is_name_symbol}
 
 -- either of two names
-one_of : (b : Bool) (s t : Symbol) → is_name s ≡ true → is_name t ≡ true → is_name (if b then s else t) ≡ true
+one_of : (b : Bool) (s t : Symbol) → is_name_symbol s ≡ true → is_name_symbol t ≡ true → is_name_symbol (if b then s else t) ≡ true
 one_of true s t e f = e
 one_of false s t e f = f
 
@@ -15,7 +15,7 @@ abbrev is : List ℕ → List ℕ → Bool
 is word spelled = pointwise nat_eq word spelled
 
 by_words : (word : List ℕ) (b : Bool) → b ≡ false →
-    is_name (if b then symbols.Number else
+    is_name_symbol (if b then symbols.Number else
     if is word (codes "Diameter") then symbols.Diameter else
     if is word (codes "Header") then symbols.Header else
     if is word (codes "Diameter-Header") then symbols.DiameterHeader else
@@ -39,5 +39,5 @@ by_words word false e =
     (one_of (is word (codes "vendor")) symbols.Vendor _ refl
     (one_of (is word (codes "Enumerated")) symbols.Enumerated symbols.Name refl refl)))))))))
 
-pub name_symbol : (word : List ℕ) → is_number word ≡ false → is_name (symbol_of_word word) ≡ true
-name_symbol word h = by_words word (is_number word) h
+pub name_symbol : (word : List ℕ) → is_digits word ≡ false → is_name_symbol (symbol_of_word word) ≡ true
+name_symbol word h = by_words word (is_digits word) h

@@ -3,11 +3,11 @@
 use Rattle.std.specs.Prelude.{◌≡◌, ℕ, List, [], ◌∷◌, ◌++◌, map, Option, option_map, ◌⊎◌}
 use Rattle.dm_grammar.specs.declared.symbol.Symbol.TheVariants.{Less, Greater, Colon, At, Define, Header, Avp, AvpHeader}
 use Rattle.dm_grammar.specs.Tokens.{Word, tokens, last_line}
-use Rattle.dm_grammar.specs.Items.{Entry, CommandParts, Written}
-use Rattle.dm_grammar.specs.Items.Vend.{NumberedBy}
+use Rattle.dm_grammar.specs.Items.{EntryParts, CommandParts, Written}
+use Rattle.dm_grammar.specs.Items.VendorReference.{NumberedBy}
 use Rattle.dm_grammar.specs.Items.Written.{AvpIs, GroupIs, CommandIs}
 use Rattle.dm_grammar.specs.Spelling.{Phrase, Spells, Ends, name_is, number_is, number_may, title, second, command_head, entries}
-use Rattle.dm_grammar.specs.Spelling.Phrase.{Empty, Mark, ◌then◌, ◌or◌}
+use Rattle.dm_grammar.specs.Spelling.Phrase.{Empty, Literal, ◌then◌, ◌or◌}
 
 -- "@" name number type [number]
 pub record FirstAvp : Type 0 where
@@ -21,7 +21,7 @@ pub record FirstGroup : Type 0 where
   pub name : Word
   pub code : Word
   pub vendor : Option Word
-  pub rule : List Entry
+  pub rule : List EntryParts
 
 pub data FirstItem : Type 0 where
   FirstAvpIs : FirstAvp → FirstItem
@@ -30,16 +30,16 @@ pub data FirstItem : Type 0 where
 
 -- ahead = ("AVP" "Header" | "AVP-Header") ":" number [[","] number]
 abbrev pub first_head : FirstGroup → Phrase
-first_head g = (Mark Avp then Mark Header or Mark AvpHeader) then Mark Colon then number_is g.code then second g.vendor
+first_head g = (Literal Avp then Literal Header or Literal AvpHeader) then Literal Colon then number_is g.code then second g.vendor
 
 -- item = "@" name number type [number] | title "::=" "<" dhead ">" *entry | title "::=" "<" ahead ">" *entry
 abbrev pub first_item : FirstItem → Phrase
 first_item (FirstAvpIs a) =
-    Mark At then name_is a.name then number_is a.code then name_is a.kind then number_may a.vendor
+    Literal At then name_is a.name then number_is a.code then name_is a.kind then number_may a.vendor
 first_item (FirstCommandIs c) =
-    title c.name then Mark Define then Mark Less then command_head c then Mark Greater then entries c.rule
+    title c.name then Literal Define then Literal Less then command_head c then Literal Greater then entries c.rule
 first_item (FirstGroupIs g) =
-    title g.name then Mark Define then Mark Less then first_head g then Mark Greater then entries g.rule
+    title g.name then Literal Define then Literal Less then first_head g then Literal Greater then entries g.rule
 
 -- text = *item
 abbrev pub first_items : List FirstItem → Phrase

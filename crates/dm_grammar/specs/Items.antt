@@ -9,12 +9,12 @@ pub record VendorParts : Type 0 where
   pub number : Word
 
 -- vend = number | ":" name
-pub data Vend : Type 0 where
-  NumberedBy : Word → Vend
-  NamedBy : Word → Vend
+pub data VendorReference : Type 0 where
+  NumberedBy : Word → VendorReference
+  NamedBy : Word → VendorReference
 
 -- value = name number
-pub record Value : Type 0 where
+pub record ValueParts : Type 0 where
   pub name : Word
   pub number : Word
 
@@ -23,8 +23,8 @@ pub record AvpParts : Type 0 where
   pub name : Word
   pub code : Word
   pub kind : Word
-  pub vendor : Option Vend
-  pub values : List Value
+  pub vendor : Option VendorReference
+  pub values : List ValueParts
 
 -- [number] "*" [number]
 pub record Range : Type 0 where
@@ -32,7 +32,7 @@ pub record Range : Type 0 where
   pub high : Option Word
 
 -- [qual] and a name in brackets
-pub record Entry : Type 0 where
+pub record EntryParts : Type 0 where
   pub form : Form
   pub name : Word
   pub qualifier : Option Range
@@ -41,8 +41,8 @@ pub record Entry : Type 0 where
 pub record GroupParts : Type 0 where
   pub name : Word
   pub code : Word
-  pub vendor : Option Vend
-  pub rule : List Entry
+  pub vendor : Option VendorReference
+  pub rule : List EntryParts
 
 -- title "::=" "<" dhead ">" *entry
 pub record CommandParts : Type 0 where
@@ -52,7 +52,7 @@ pub record CommandParts : Type 0 where
   pub proxiable : Bool
   pub error : Bool
   pub application : Option Word
-  pub rule : List Entry
+  pub rule : List EntryParts
 
 pub data Written : Type 0 where
   VendorIs : VendorParts → Written

@@ -2,18 +2,18 @@
 use Rattle.dm_grammar.specs.declared.item.Form.{Form}
 
 -- a place between two tokens
-pub data Place : Type 0 where
-  Text AtSign AvpName AvpCode Typed TypedColon : Place
-  AtVendor VendorNamed : Place
-  Listed ListedColon Vendored ListOpen ValueName ValueEnd : Place
-  TitleLess TitleName Titled Defined Head : Place
-  CommandWord CommandColon CommandCode Coded CodedComma Requested RequestedComma Proxied ProxiedComma : Place
-  GroupWord GroupColon GroupCode GroupCoded GroupNamed Flagged FlaggedComma HeadEnd : Place
-  Rule Low Starred High Angle AngleName Closed FixedOpen FixedName BraceOpen BraceName SquareOpen SquareName : Place
+pub data GrammarPlace : Type 0 where
+  Text AtSign AvpName AvpCode Typed TypedColon : GrammarPlace
+  AtVendor VendorNamed : GrammarPlace
+  Listed ListedColon Vendored ListOpen ValueName ValueEnd : GrammarPlace
+  TitleLess TitleName Titled Defined Head : GrammarPlace
+  CommandWord CommandColon CommandCode Coded CodedComma Requested RequestedComma Proxied ProxiedComma : GrammarPlace
+  GroupWord GroupColon GroupCode GroupCoded GroupNamed Flagged FlaggedComma HeadEnd : GrammarPlace
+  InRule Low Starred High Angle AngleName Closed FixedOpen FixedName BraceOpen BraceName SquareOpen SquareName : GrammarPlace
 
 -- what a token is to the item that it stands in
-pub data Role : Type 0 where
-  Nothing Begins NameOfAvp CodeIs KindIs SecondIs NamedIs ValueIs : Role
-  TitleIs TitleOrFixed DefineIs CommandHead GroupHead Request Proxiable Error Rules : Role
-  Opens LowIs StarIs HighIs : Role
-  EntryIs : Form → Role
+pub data TokenRole : Type 0 where
+  NoPart BeginsItem NameOfAvp CodeIs KindIs SecondIs NamedIs ValueIs : TokenRole
+  TitleIs TitleOrFixed DefineIs CommandHead GroupHead RequestFlag ProxiableFlag ErrorFlag Rules : TokenRole
+  OpensEntry LowIs StarIs HighIs : TokenRole
+  EntryIs : Form → TokenRole

@@ -11,13 +11,13 @@ use Rattle.dm_grammar.specs.declared.terminal.Terminal.TheVariants.{AnyName, One
 use Rattle.dm_grammar.specs.declared.reading.Version.{Version}
 use Rattle.dm_grammar.specs.declared.reading.Version.TheVariants.{First, Second}
 use Rattle.dm_grammar.specs.Tokens.{Word}
-use Rattle.dm_grammar.specs.Grammar.{on, by, fits, steps, colon_steps, may_end}
-use Rattle.dm_grammar.specs.Items.{Written, Entry, Value, Vend}
-use Rattle.dm_grammar.specs.Items.Vend.{NumberedBy, NamedBy}
-use Rattle.dm_grammar.specs.Places.{Place}
-use Rattle.dm_grammar.specs.Places.Place.{Text, Typed, Listed, Vendored, ListOpen}
-use Rattle.dm_grammar.specs.Places.Role.{LowIs, SecondIs, NamedIs, KindIs}
-use Rattle.dm_grammar.specs.Told.{Told, nothing, item_before, filled}
+use Rattle.dm_grammar.specs.Grammar.{on, by, fits, steps_from, colon_steps, may_end}
+use Rattle.dm_grammar.specs.Items.{Written, EntryParts, ValueParts, VendorReference}
+use Rattle.dm_grammar.specs.Items.VendorReference.{NumberedBy, NamedBy}
+use Rattle.dm_grammar.specs.Places.{GrammarPlace}
+use Rattle.dm_grammar.specs.Places.GrammarPlace.{Text, Typed, Listed, Vendored, ListOpen}
+use Rattle.dm_grammar.specs.Places.TokenRole.{LowIs, SecondIs, NamedIs, KindIs}
+use Rattle.dm_grammar.specs.Told.{Gathered, none_gathered, item_before, filled}
 
 -- the tokens begin with the terminal
 abbrev pub begins : Terminal → List Word → Bool
@@ -36,31 +36,31 @@ begins_entry ws =
     || (begins (One Less) ws && not (begins_title ws))
 
 -- the form of the entry that a bracket opens, and what closes it
-abbrev pub opens : Symbol → Option Form
-opens Less = Some Fixed
-opens OpenBrace = Some Required
-opens OpenSquare = Some Optional
-opens _ = None
+abbrev pub bracket_form : Symbol → Option Form
+bracket_form Less = Some Fixed
+bracket_form OpenBrace = Some Required
+bracket_form OpenSquare = Some Optional
+bracket_form _ = None
 
 abbrev pub close_of : Form → Symbol
 close_of Fixed = Greater
 close_of Required = CloseBrace
 close_of Optional = CloseSquare
 
-abbrev pub with_item : Written → Result Told ℕ → Result Told ℕ
-with_item i (Ok told) = Ok (item_before i told)
-with_item i (Err line) = Err line
+abbrev pub adding_item : Written → Result Gathered ℕ → Result Gathered ℕ
+adding_item i (Ok told) = Ok (item_before i told)
+adding_item i (Err line) = Err line
 
-abbrev pub with_entry : Entry → Result Told ℕ → Result Told ℕ
-with_entry e (Ok told) = Ok (record told { titled = false; rule = e ∷ told.rule })
-with_entry e (Err line) = Err line
+abbrev pub adding_entry : EntryParts → Result Gathered ℕ → Result Gathered ℕ
+adding_entry e (Ok told) = Ok (record told { titled = false; rule = e ∷ told.rule })
+adding_entry e (Err line) = Err line
 
 -- a rule of these entries alone, before the items behind it
-abbrev pub with_rule : List Entry → Result Told ℕ → Result Told ℕ
-with_rule es (Ok told) = Ok (record nothing { items = told.items; rule = es })
+abbrev pub with_rule : List EntryParts → Result Gathered ℕ → Result Gathered ℕ
+with_rule es (Ok told) = Ok (record none_gathered { items = told.items; rule = es })
 with_rule es (Err line) = Err line
 
-abbrev pub low_before : Option Word → Result Told ℕ → Result Told ℕ
+abbrev pub low_before : Option Word → Result Gathered ℕ → Result Gathered ℕ
 low_before None r = r
 low_before (Some w) r = filled LowIs w r
 
@@ -80,61 +80,61 @@ may_list First w = false
 may_list Second w = fits (One Enumerated) w.symbol
 
 -- the place behind a type, behind its vendor, and behind "{" where one is there
-abbrev pub behind_kind : Bool → Place
+abbrev pub behind_kind : Bool → GrammarPlace
 behind_kind false = Typed
 behind_kind true = Listed
 
-abbrev pub behind_vendor : Bool → Place
+abbrev pub behind_vendor : Bool → GrammarPlace
 behind_vendor false = Text
 behind_vendor true = Vendored
 
-abbrev pub behind_brace : Bool → Place
+abbrev pub behind_brace : Bool → GrammarPlace
 behind_brace false = Text
 behind_brace true = ListOpen
 
 -- a place where a vendor may stand before what stands at another
-pub record VendorPlace (v : Version) (p colon q : Place) : Type 0 where
-  pub here : steps v p ≡ on Number q SecondIs ++ (colon_steps v colon ++ steps v q)
-  pub named : steps v colon ≡ by AnyName q NamedIs
+pub record VendorPlace (v : Version) (p colon q : GrammarPlace) : Type 0 where
+  pub here : steps_from v p ≡ on Number q SecondIs ++ (colon_steps v colon ++ steps_from v q)
+  pub named : steps_from v colon ≡ by AnyName q NamedIs
   pub ends : may_end p ≡ may_end q
   pub no_end : may_end colon ≡ false
 
 -- the vendor in what is told
-abbrev pub told_by : Option Vend → Told → Told
+abbrev pub told_by : Option VendorReference → Gathered → Gathered
 told_by None told = told
 told_by (Some (NumberedBy w)) told = record told { second = Some w }
 told_by (Some (NamedBy w)) told = record told { named = Some w }
 
-abbrev pub with_vendor : Option Vend → Result Told ℕ → Result Told ℕ
-with_vendor v (Ok told) = Ok (told_by v told)
-with_vendor v (Err line) = Err line
+abbrev pub adding_reference : Option VendorReference → Result Gathered ℕ → Result Gathered ℕ
+adding_reference v (Ok told) = Ok (told_by v told)
+adding_reference v (Err line) = Err line
 
-abbrev pub with_value : Value → Result Told ℕ → Result Told ℕ
-with_value x (Ok told) = Ok (record told { code = None; values = x ∷ told.values })
-with_value x (Err line) = Err line
+abbrev pub adding_value : ValueParts → Result Gathered ℕ → Result Gathered ℕ
+adding_value x (Ok told) = Ok (record told { code = None; values = x ∷ told.values })
+adding_value x (Err line) = Err line
 
 -- these values alone, before the items behind them
-abbrev pub with_values : List Value → Result Told ℕ → Result Told ℕ
-with_values xs (Ok told) = Ok (record nothing { items = told.items; values = xs })
+abbrev pub with_values : List ValueParts → Result Gathered ℕ → Result Gathered ℕ
+with_values xs (Ok told) = Ok (record none_gathered { items = told.items; values = xs })
 with_values xs (Err line) = Err line
 
 -- behind a code: a type, its vendor, and what is told behind them
-abbrev pub with_kind : Word → Option Vend → Result Told ℕ → Result Told ℕ
-with_kind k v r = filled KindIs k (with_vendor v r)
+abbrev pub with_kind : Word → Option VendorReference → Result Gathered ℕ → Result Gathered ℕ
+with_kind k v r = filled KindIs k (adding_reference v r)
 
 -- a comma and a flag
 abbrev pub begins_flag : Symbol → List Word → Bool
 begins_flag s ws = begins (One Comma) ws && begins (One s) (drop 1 ws)
 
 -- the number at the end of a head, before a rule
-abbrev pub with_second : Option Word → Result Told ℕ → Result Told ℕ
-with_second second (Ok told) = Ok (record nothing { items = told.items; rule = told.rule; second = second })
+abbrev pub with_second : Option Word → Result Gathered ℕ → Result Gathered ℕ
+with_second second (Ok told) = Ok (record none_gathered { items = told.items; rule = told.rule; second = second })
 with_second second (Err line) = Err line
 
 -- the vendor at the end of a group's head, by name or by number, before a rule
-abbrev pub with_end : Option Word → Option Word → Result Told ℕ → Result Told ℕ
+abbrev pub with_end : Option Word → Option Word → Result Gathered ℕ → Result Gathered ℕ
 with_end named second (Ok told) =
-    Ok (record nothing { items = told.items; rule = told.rule; named = named; second = second })
+    Ok (record none_gathered { items = told.items; rule = told.rule; named = named; second = second })
 with_end named second (Err line) = Err line
 
 -- what stands between "<" and ">" in a command or a group
@@ -147,9 +147,9 @@ pub record HeadParts : Type 0 where
   pub second : Option Word
   pub named : Option Word
 
-abbrev pub with_head : HeadParts → Result Told ℕ → Result Told ℕ
+abbrev pub with_head : HeadParts → Result Gathered ℕ → Result Gathered ℕ
 with_head h (Ok told) =
-    Ok (record nothing {
+    Ok (record none_gathered {
       items = told.items;
       rule = told.rule;
       command = h.command;

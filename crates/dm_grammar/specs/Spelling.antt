@@ -11,8 +11,8 @@ use Rattle.dm_grammar.specs.declared.terminal.Terminal.{Terminal}
 use Rattle.dm_grammar.specs.declared.terminal.Terminal.TheVariants.{AnyName, One}
 use Rattle.dm_grammar.specs.Tokens.{Word}
 use Rattle.dm_grammar.specs.Grammar.{fits}
-use Rattle.dm_grammar.specs.Items.{Vend, Value, Range, Entry, VendorParts, AvpParts, GroupParts, CommandParts, Written}
-use Rattle.dm_grammar.specs.Items.Vend.{NumberedBy, NamedBy}
+use Rattle.dm_grammar.specs.Items.{VendorReference, ValueParts, Range, EntryParts, VendorParts, AvpParts, GroupParts, CommandParts, Written}
+use Rattle.dm_grammar.specs.Items.VendorReference.{NumberedBy, NamedBy}
 use Rattle.dm_grammar.specs.Items.Written.{VendorIs, AvpIs, GroupIs, CommandIs}
 
 infixr 30 ◌then◌
@@ -23,7 +23,7 @@ pub data Phrase : Type 0 where
   Never : Phrase
   Empty : Phrase
   Two : Phrase
-  Mark : Symbol → Phrase
+  Literal : Symbol → Phrase
   This : Terminal → Word → Phrase
   ◌then◌ : Phrase → Phrase → Phrase
   ◌or◌ : Phrase → Phrase → Phrase
@@ -34,8 +34,8 @@ Spells Never Behind ws = ⊥
 Spells Empty Behind ws = Behind ws
 Spells Two Behind [] = ⊥
 Spells Two Behind (w ∷ ws) = (fits (One Number) w.symbol ≡ true) × ((w.text ≡ codes "2") × Behind ws)
-Spells (Mark s) Behind [] = ⊥
-Spells (Mark s) Behind (w ∷ ws) = (fits (One s) w.symbol ≡ true) × Behind ws
+Spells (Literal s) Behind [] = ⊥
+Spells (Literal s) Behind (w ∷ ws) = (fits (One s) w.symbol ≡ true) × Behind ws
 Spells (This t v) Behind [] = ⊥
 Spells (This t v) Behind (w ∷ ws) = (fits t w.symbol ≡ true) × ((w ≡ v) × Behind ws)
 Spells (a then b) Behind ws = Spells a (Spells b Behind) ws
@@ -53,94 +53,94 @@ number_may None = Empty
 number_may (Some w) = number_is w
 
 -- vend = number | ":" name; a text of version 1 has the number alone
-abbrev pub vend : Version → Vend → Phrase
-vend v (NumberedBy w) = number_is w
-vend First (NamedBy w) = Never
-vend Second (NamedBy w) = Mark Colon then name_is w
+abbrev pub reference_is : Version → VendorReference → Phrase
+reference_is v (NumberedBy w) = number_is w
+reference_is First (NamedBy w) = Never
+reference_is Second (NamedBy w) = Literal Colon then name_is w
 
 -- [vend]
-abbrev pub vend_may : Version → Option Vend → Phrase
-vend_may v None = Empty
-vend_may v (Some d) = vend v d
+abbrev pub reference_may : Version → Option VendorReference → Phrase
+reference_may v None = Empty
+reference_may v (Some d) = reference_is v d
 
 -- value = name number
-abbrev pub value : Value → Phrase
-value x = name_is x.name then number_is x.number
+abbrev pub value_is : ValueParts → Phrase
+value_is x = name_is x.name then number_is x.number
 
 -- *("," value)
-abbrev pub more_values : List Value → Phrase
+abbrev pub more_values : List ValueParts → Phrase
 more_values [] = Empty
-more_values (x ∷ xs) = Mark Comma then value x then more_values xs
+more_values (x ∷ xs) = Literal Comma then value_is x then more_values xs
 
 -- "{" value *("," value) "}"
-abbrev pub list : Value → List Value → Phrase
-list x xs = Mark OpenBrace then value x then more_values xs then Mark CloseBrace
+abbrev pub list : ValueParts → List ValueParts → Phrase
+list x xs = Literal OpenBrace then value_is x then more_values xs then Literal CloseBrace
 
 -- type [vend] | "Enumerated" [vend] "{" value *("," value) "}"; a text of version 1 has no list
-abbrev pub kind_and_values : Version → Word → Option Vend → List Value → Phrase
-kind_and_values v k d [] = name_is k then vend_may v d
+abbrev pub kind_and_values : Version → Word → Option VendorReference → List ValueParts → Phrase
+kind_and_values v k d [] = name_is k then reference_may v d
 kind_and_values First k d (x ∷ xs) = Never
-kind_and_values Second k d (x ∷ xs) = This (One Enumerated) k then vend_may Second d then list x xs
+kind_and_values Second k d (x ∷ xs) = This (One Enumerated) k then reference_may Second d then list x xs
 
-abbrev pub type_of : Version → AvpParts → Phrase
-type_of v a = kind_and_values v a.kind a.vendor a.values
+abbrev pub type_is : Version → AvpParts → Phrase
+type_is v a = kind_and_values v a.kind a.vendor a.values
 
 -- title = "<" name ">" | name
 abbrev pub title : Word → Phrase
-title w = Mark Less then name_is w then Mark Greater or name_is w
+title w = Literal Less then name_is w then Literal Greater or name_is w
 
 -- ["," flag]
 abbrev pub flag : Symbol → Bool → Phrase
 flag s false = Empty
-flag s true = Mark Comma then Mark s
+flag s true = Literal Comma then Literal s
 
 -- [[","] number]
 abbrev pub second : Option Word → Phrase
 second None = Empty
-second (Some w) = Mark Comma then number_is w or number_is w
+second (Some w) = Literal Comma then number_is w or number_is w
 
 -- dhead = ("Diameter" "Header" | "Diameter-Header") ":" number ["," "REQ"] ["," "PXY"] ["," "ERR"] [[","] number]
 abbrev pub command_head : CommandParts → Phrase
 command_head c =
-    (Mark Diameter then Mark Header or Mark DiameterHeader) then Mark Colon then number_is c.code
+    (Literal Diameter then Literal Header or Literal DiameterHeader) then Literal Colon then number_is c.code
     then flag Req c.request then flag Pxy c.proxiable then flag Err c.error then second c.application
 
 -- [[","] number]; in a text of version 2 [[","] number | ":" name]
-abbrev pub group_vendor : Version → Option Vend → Phrase
+abbrev pub group_vendor : Version → Option VendorReference → Phrase
 group_vendor v None = Empty
 group_vendor v (Some (NumberedBy w)) = second (Some w)
-group_vendor v (Some (NamedBy w)) = vend v (NamedBy w)
+group_vendor v (Some (NamedBy w)) = reference_is v (NamedBy w)
 
 -- ahead = ("AVP" "Header" | "AVP-Header") ":" number [[","] number]
 -- ahead2 = ("AVP" "Header" | "AVP-Header") ":" number [[","] number | ":" name]
 abbrev pub group_head : Version → GroupParts → Phrase
 group_head v g =
-    (Mark Avp then Mark Header or Mark AvpHeader) then Mark Colon then number_is g.code then group_vendor v g.vendor
+    (Literal Avp then Literal Header or Literal AvpHeader) then Literal Colon then number_is g.code then group_vendor v g.vendor
 
 -- qual = [number] "*" [number]
 abbrev pub qualifier : Option Range → Phrase
 qualifier None = Empty
-qualifier (Some q) = number_may q.low then Mark Star then number_may q.high
+qualifier (Some q) = number_may q.low then Literal Star then number_may q.high
 
 -- "<" name ">" | "{" name "}" | "[" name "]"
 abbrev pub bracketed : Form → Word → Phrase
-bracketed Fixed w = Mark Less then name_is w then Mark Greater
-bracketed Required w = Mark OpenBrace then name_is w then Mark CloseBrace
-bracketed Optional w = Mark OpenSquare then name_is w then Mark CloseSquare
+bracketed Fixed w = Literal Less then name_is w then Literal Greater
+bracketed Required w = Literal OpenBrace then name_is w then Literal CloseBrace
+bracketed Optional w = Literal OpenSquare then name_is w then Literal CloseSquare
 
 -- entry = [qual] ("<" name ">" | "{" name "}" | "[" name "]")
-abbrev pub entry : Entry → Phrase
-entry e = qualifier e.qualifier then bracketed e.form e.name
+abbrev pub entry_is : EntryParts → Phrase
+entry_is e = qualifier e.qualifier then bracketed e.form e.name
 
 -- *entry
-abbrev pub entries : List Entry → Phrase
+abbrev pub entries : List EntryParts → Phrase
 entries [] = Empty
-entries (e ∷ es) = entry e then entries es
+entries (e ∷ es) = entry_is e then entries es
 
 -- "@" "vendor" name number; a text of version 1 has none
 abbrev pub vendor : Version → VendorParts → Phrase
 vendor First d = Never
-vendor Second d = Mark At then Mark Vendor then name_is d.name then number_is d.number
+vendor Second d = Literal At then Literal Vendor then name_is d.name then number_is d.number
 
 -- item = "@" name number type [number] | title "::=" "<" dhead ">" *entry | title "::=" "<" ahead ">" *entry
 -- item2 = "@" "vendor" name number | "@" name number type [vend]
@@ -148,11 +148,11 @@ vendor Second d = Mark At then Mark Vendor then name_is d.name then number_is d.
 --       | title "::=" "<" dhead ">" *entry | title "::=" "<" ahead2 ">" *entry
 abbrev pub item : Version → Written → Phrase
 item v (VendorIs d) = vendor v d
-item v (AvpIs a) = Mark At then name_is a.name then number_is a.code then type_of v a
+item v (AvpIs a) = Literal At then name_is a.name then number_is a.code then type_is v a
 item v (CommandIs c) =
-    title c.name then Mark Define then Mark Less then command_head c then Mark Greater then entries c.rule
+    title c.name then Literal Define then Literal Less then command_head c then Literal Greater then entries c.rule
 item v (GroupIs g) =
-    title g.name then Mark Define then Mark Less then group_head v g then Mark Greater then entries g.rule
+    title g.name then Literal Define then Literal Less then group_head v g then Literal Greater then entries g.rule
 
 -- *item
 abbrev pub items : Version → List Written → Phrase
@@ -162,7 +162,7 @@ items v (i ∷ is) = item v i then items v is
 -- text = *item; text2 = "@" "2" *item2
 abbrev pub text : Version → List Written → Phrase
 text First is = items First is
-text Second is = Mark At then Two then items Second is
+text Second is = Literal At then Two then items Second is
 
 abbrev pub Ends : List Word → Type 0
 Ends ws = ws ≡ []

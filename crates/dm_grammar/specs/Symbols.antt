@@ -36,8 +36,8 @@ mark_of c =
     if nat_eq c 64 then At else Stray
 
 -- digits alone
-abbrev pub is_number : List ℕ → Bool
-is_number word = list_all is_ascii_digit word
+abbrev pub is_digits : List ℕ → Bool
+is_digits word = list_all is_ascii_digit word
 
 abbrev is_word : List ℕ → List ℕ → Bool
 is_word word spelled = pointwise nat_eq word spelled
@@ -45,7 +45,7 @@ is_word word spelled = pointwise nat_eq word spelled
 -- what a word is
 abbrev pub symbol_of_word : List ℕ → Symbol
 symbol_of_word word =
-    if is_number word then Number else
+    if is_digits word then Number else
     if is_word word (codes "Diameter") then Diameter else
     if is_word word (codes "Header") then Header else
     if is_word word (codes "Diameter-Header") then DiameterHeader else

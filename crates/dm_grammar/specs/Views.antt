@@ -14,42 +14,42 @@ use Rattle.dm_grammar.specs.declared.head.Head.{Head}
 use Rattle.dm_grammar.specs.declared.item.Item.{Item}
 use Rattle.dm_grammar.specs.declared.item.Item.TheVariants.{Vendor, Avp, Group, Command}
 use Rattle.dm_grammar.specs.Tokens.{Word}
-use Rattle.dm_grammar.specs.Items.{VendorParts, Value, Vend, AvpParts, Range, Entry, GroupParts, CommandParts, Written}
+use Rattle.dm_grammar.specs.Items.{VendorParts, ValueParts, VendorReference, AvpParts, Range, EntryParts, GroupParts, CommandParts, Written}
 use Rattle.dm_grammar.specs.Readers.{HeadParts}
-use Rattle.dm_grammar.specs.Items.Vend.{NumberedBy, NamedBy}
+use Rattle.dm_grammar.specs.Items.VendorReference.{NumberedBy, NamedBy}
 use Rattle.dm_grammar.specs.Items.Written.{VendorIs, AvpIs, GroupIs, CommandIs}
 
-abbrev pub view : Token → Word
-view t = record { symbol = t.symbol; text = t.text.now; line = t.line }
+abbrev pub view_word : Token → Word
+view_word t = record { symbol = t.symbol; text = t.text.now; line = t.line }
 
 abbrev pub view_words : List Token → List Word
-view_words ts = map view ts
+view_words ts = map view_word ts
 
 abbrev pub view_option : Option Token → Option Word
 view_option None = None
-view_option (Some t) = Some (view t)
+view_option (Some t) = Some (view_word t)
 
 abbrev pub view_vendor : VendorItem → VendorParts
-view_vendor i = record { name = view i.name; number = view i.number }
+view_vendor i = record { name = view_word i.name; number = view_word i.number }
 
-abbrev pub view_vend : VendorWord → Vend
-view_vend (Numbered t) = NumberedBy (view t)
-view_vend (Named t) = NamedBy (view t)
+abbrev pub view_reference : VendorWord → VendorReference
+view_reference (Numbered t) = NumberedBy (view_word t)
+view_reference (Named t) = NamedBy (view_word t)
 
-abbrev pub view_vend_option : Option VendorWord → Option Vend
-view_vend_option None = None
-view_vend_option (Some v) = Some (view_vend v)
+abbrev pub view_reference_option : Option VendorWord → Option VendorReference
+view_reference_option None = None
+view_reference_option (Some v) = Some (view_reference v)
 
-abbrev pub view_value : ValueItem → Value
-view_value i = record { name = view i.name; number = view i.number }
+abbrev pub view_value : ValueItem → ValueParts
+view_value i = record { name = view_word i.name; number = view_word i.number }
 
 abbrev pub view_avp : AvpItem → AvpParts
 view_avp i =
     record {
-      name = view i.name;
-      code = view i.code;
-      kind = view i.kind;
-      vendor = view_vend_option i.vendor;
+      name = view_word i.name;
+      code = view_word i.code;
+      kind = view_word i.kind;
+      vendor = view_reference_option i.vendor;
       values = map view_value i.values.items;
     }
 
@@ -57,23 +57,23 @@ abbrev pub view_qualifier : Option Qualifier → Option Range
 view_qualifier None = None
 view_qualifier (Some q) = Some (record { low = view_option q.low; high = view_option q.high })
 
-abbrev pub view_entry : EntryItem → Entry
-view_entry e = record { form = e.form; name = view e.name; qualifier = view_qualifier e.qualifier }
+abbrev pub view_entry : EntryItem → EntryParts
+view_entry e = record { form = e.form; name = view_word e.name; qualifier = view_qualifier e.qualifier }
 
 abbrev pub view_group : GroupItem → GroupParts
 view_group i =
     record {
-      name = view i.name;
-      code = view i.code;
-      vendor = view_vend_option i.vendor;
+      name = view_word i.name;
+      code = view_word i.code;
+      vendor = view_reference_option i.vendor;
       rule = map view_entry i.rule.items;
     }
 
 abbrev pub view_command : CommandItem → CommandParts
 view_command i =
     record {
-      name = view i.name;
-      code = view i.code;
+      name = view_word i.name;
+      code = view_word i.code;
       request = i.request;
       proxiable = i.proxiable;
       error = i.error;
@@ -91,7 +91,7 @@ abbrev pub view_head : Head → HeadParts
 view_head h =
     record {
       command = h.command;
-      code = view h.code;
+      code = view_word h.code;
       request = h.request;
       proxiable = h.proxiable;
       error = h.error;

@@ -2,11 +2,11 @@
 
 ghost use Rattle.std.specs.Prelude.{◌≡◌, ◌<◌, ◌≤◌, false, length, MatchResult, IfOk, Err};
 ghost use Rattle.dm_grammar.specs.Items.Written.{AvpIs};
-ghost use Rattle.dm_grammar.specs.Places.Place.{AtSign, AvpCode, AvpName, Text};
-ghost use Rattle.dm_grammar.specs.Places.Role.{CodeIs, KindIs, NameOfAvp};
-ghost use Rattle.dm_grammar.specs.Readers.{IfSyntax, begins_vendor, behind_brace, behind_kind, behind_vendor, may_list, with_item, with_kind};
+ghost use Rattle.dm_grammar.specs.Places.GrammarPlace.{AtSign, AvpCode, AvpName, Text};
+ghost use Rattle.dm_grammar.specs.Places.TokenRole.{CodeIs, KindIs, NameOfAvp};
+ghost use Rattle.dm_grammar.specs.Readers.{IfSyntax, begins_vendor, behind_brace, behind_kind, behind_vendor, may_list, adding_item, with_kind};
 ghost use Rattle.dm_grammar.specs.Told.{collect, filled};
-ghost use Rattle.dm_grammar.specs.Views.{view, view_avp, view_vend_option, view_words};
+ghost use Rattle.dm_grammar.specs.Views.{view_word, view_avp, view_reference_option, view_words};
 
 use crate::fault::ItemFault;
 use crate::item::{AvpItem, VendorWord};
@@ -21,7 +21,7 @@ use std::alloc::Global;
 
 /// Whether a list may stand behind the type.
 fn may_list(kind: Token<'_>, how: Reading) -> bool
-    ensures { result ≡ may_list how.version (view kind.entry) }
+    ensures { result ≡ may_list how.version (view_word kind.entry) }
 {
     match how.version {
         Version::First => false,
@@ -35,7 +35,7 @@ fn kind<'t, 'a>(
     how: Reading,
 ) -> Result<((Token<'a>, bool), &'t [Token<'a>]), usize>
     ensures tells { MatchResult result
-        (λ x. collect how AvpCode (view_words tokens.now) ≡ filled KindIs (view x.0.0) (collect how (behind_kind x.0.1) (view_words x.1.now)))
+        (λ x. collect how AvpCode (view_words tokens.now) ≡ filled KindIs (view_word x.0.0) (collect how (behind_kind x.0.1) (view_words x.1.now)))
         (λ line. collect how AvpCode (view_words tokens.now) ≡ Err line) }
     ensures shorter { IfOk result (λ x. length x.1.now < length tokens.now) }
 {
@@ -69,7 +69,7 @@ fn typed<'t, 'a>(
     how: Reading,
 ) -> Result<(TypePart<'a>, &'t [Token<'a>]), usize>
     ensures tells { MatchResult result
-        (λ x. collect how AvpCode (view_words tokens.now) ≡ with_kind (view x.0.kind) (view_vend_option x.0.vendor) (collect how (behind_brace x.0.list) (view_words x.1.now)))
+        (λ x. collect how AvpCode (view_words tokens.now) ≡ with_kind (view_word x.0.kind) (view_reference_option x.0.vendor) (collect how (behind_brace x.0.list) (view_words x.1.now)))
         (λ line. collect how AvpCode (view_words tokens.now) ≡ Err line) }
     ensures shorter { IfOk result (λ x. length x.1.now < length tokens.now) }
 {
@@ -85,7 +85,7 @@ fn coded<'t, 'a>(
     how: Reading,
 ) -> Result<((Token<'a>, TypePart<'a>), &'t [Token<'a>]), usize>
     ensures tells { MatchResult result
-        (λ x. collect how AvpName (view_words tokens.now) ≡ filled CodeIs (view x.0.0) (with_kind (view x.0.1.kind) (view_vend_option x.0.1.vendor) (collect how (behind_brace x.0.1.list) (view_words x.1.now))))
+        (λ x. collect how AvpName (view_words tokens.now) ≡ filled CodeIs (view_word x.0.0) (with_kind (view_word x.0.1.kind) (view_reference_option x.0.1.vendor) (collect how (behind_brace x.0.1.list) (view_words x.1.now))))
         (λ line. collect how AvpName (view_words tokens.now) ≡ Err line) }
     ensures shorter { IfOk result (λ x. length x.1.now < length tokens.now) }
 {
@@ -101,7 +101,7 @@ fn avp_words<'t, 'a>(
 ) -> Result<((Token<'a>, Token<'a>, TypePart<'a>), &'t [Token<'a>]), usize>
     requires { begins_vendor how.version (view_words tokens.now) ≡ false }
     ensures tells { MatchResult result
-        (λ x. collect how AtSign (view_words tokens.now) ≡ filled NameOfAvp (view x.0.0) (filled CodeIs (view x.0.1) (with_kind (view x.0.2.kind) (view_vend_option x.0.2.vendor) (collect how (behind_brace x.0.2.list) (view_words x.1.now)))))
+        (λ x. collect how AtSign (view_words tokens.now) ≡ filled NameOfAvp (view_word x.0.0) (filled CodeIs (view_word x.0.1) (with_kind (view_word x.0.2.kind) (view_reference_option x.0.2.vendor) (collect how (behind_brace x.0.2.list) (view_words x.1.now)))))
         (λ line. collect how AtSign (view_words tokens.now) ≡ Err line) }
     ensures shorter { IfOk result (λ x. length x.1.now < length tokens.now) }
 {
@@ -118,7 +118,7 @@ pub(crate) fn avp_item<'t, 'a>(
 ) -> Result<(AvpItem<'a>, &'t [Token<'a>]), ItemFault>
     requires { begins_vendor how.version (view_words tokens.now) ≡ false }
     ensures tells { MatchResult result
-        (λ x. collect how AtSign (view_words tokens.now) ≡ with_item (AvpIs (view_avp x.0)) (collect how Text (view_words x.1.now)))
+        (λ x. collect how AtSign (view_words tokens.now) ≡ adding_item (AvpIs (view_avp x.0)) (collect how Text (view_words x.1.now)))
         (λ fault. IfSyntax fault (λ line. collect how AtSign (view_words tokens.now) ≡ Err line)) }
     ensures shorter { IfOk result (λ x. length x.1.now < length tokens.now) }
 {

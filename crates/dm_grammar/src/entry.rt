@@ -1,8 +1,8 @@
 //! The entries of a rule.
 
 ghost use Rattle.std.specs.Prelude.{◌≡◌, ◌<◌, true, length, MatchResult, IfOk, Err, None};
-ghost use Rattle.dm_grammar.specs.Places.Place.{High, Low, Rule};
-ghost use Rattle.dm_grammar.specs.Readers.{begins_entry, close_of, low_before, opens, with_entry};
+ghost use Rattle.dm_grammar.specs.Places.GrammarPlace.{High, Low, InRule};
+ghost use Rattle.dm_grammar.specs.Readers.{begins_entry, close_of, low_before, bracket_form, adding_entry};
 ghost use Rattle.dm_grammar.specs.Told.{collect};
 ghost use Rattle.dm_grammar.specs.Views.{view_entry, view_option, view_words};
 
@@ -14,8 +14,8 @@ use crate::terminal::Terminal;
 use crate::token::Token;
 
 /// The form of the entry that a bracket opens.
-fn opens(symbol: Symbol) -> Option<Form>
-    ensures { result ≡ opens symbol }
+fn bracket_form(symbol: Symbol) -> Option<Form>
+    ensures { result ≡ bracket_form symbol }
 {
     match symbol {
         Symbol::Less => Some(Form::Fixed),
@@ -42,7 +42,7 @@ fn bracketed<'t, 'a>(
     how: Reading,
 ) -> Result<(EntryItem<'a>, &'t [Token<'a>]), usize>
     ensures tells { MatchResult result
-        (λ x. collect how High (view_words tokens.now) ≡ with_entry (view_entry x.0) (collect how Rule (view_words x.1.now)))
+        (λ x. collect how High (view_words tokens.now) ≡ adding_entry (view_entry x.0) (collect how InRule (view_words x.1.now)))
         (λ line. collect how High (view_words tokens.now) ≡ Err line) }
     ensures plain { IfOk result (λ x. x.0.qualifier ≡ None) }
     ensures shorter { IfOk result (λ x. length x.1.now < length tokens.now) }
@@ -50,7 +50,7 @@ fn bracketed<'t, 'a>(
     let Some((open, rest)) = tokens.split_first() else {
         return Err(how.last);
     };
-    let Some(form) = opens(open.symbol) else {
+    let Some(form) = bracket_form(open.symbol) else {
         return Err(open.line);
     };
     let close = Terminal::One(close_of(form));
@@ -70,7 +70,7 @@ fn starred<'t, 'a>(
     how: Reading,
 ) -> Result<(EntryItem<'a>, &'t [Token<'a>]), usize>
     ensures tells { MatchResult result
-        (λ x. low_before (view_option low.entry) (collect how Low (view_words tokens.now)) ≡ with_entry (view_entry x.0) (collect how Rule (view_words x.1.now)))
+        (λ x. low_before (view_option low.entry) (collect how Low (view_words tokens.now)) ≡ adding_entry (view_entry x.0) (collect how InRule (view_words x.1.now)))
         (λ line. low_before (view_option low.entry) (collect how Low (view_words tokens.now)) ≡ Err line) }
     ensures shorter { IfOk result (λ x. length x.1.now < length tokens.now) }
 {
@@ -99,8 +99,8 @@ pub(crate) fn entry<'t, 'a>(
 ) -> Result<(EntryItem<'a>, &'t [Token<'a>]), usize>
     requires { begins_entry (view_words tokens.now) ≡ true }
     ensures tells { MatchResult result
-        (λ x. collect how Rule (view_words tokens.now) ≡ with_entry (view_entry x.0) (collect how Rule (view_words x.1.now)))
-        (λ line. collect how Rule (view_words tokens.now) ≡ Err line) }
+        (λ x. collect how InRule (view_words tokens.now) ≡ adding_entry (view_entry x.0) (collect how InRule (view_words x.1.now)))
+        (λ line. collect how InRule (view_words tokens.now) ≡ Err line) }
     ensures shorter { IfOk result (λ x. length x.1.now < length tokens.now) }
 {
     let (low, rest) = optional(tokens, Terminal::One(Symbol::Number));

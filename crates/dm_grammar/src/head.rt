@@ -1,8 +1,8 @@
 //! The head of a command or a group.
 
 ghost use Rattle.std.specs.Prelude.{◌≡◌, ◌<◌, ◌≤◌, drop, length, MatchResult, IfOk, Err, if◌then◌else◌};
-ghost use Rattle.dm_grammar.specs.Places.Place.{CommandColon, Flagged, GroupCoded, GroupColon, Rule};
-ghost use Rattle.dm_grammar.specs.Places.Role.{CommandHead};
+ghost use Rattle.dm_grammar.specs.Places.GrammarPlace.{CommandColon, Flagged, GroupCoded, GroupColon, InRule};
+ghost use Rattle.dm_grammar.specs.Places.TokenRole.{CommandHead};
 ghost use Rattle.dm_grammar.specs.Readers.{begins_flag, with_end, with_head, with_second};
 ghost use Rattle.dm_grammar.specs.Told.{collect, filled};
 ghost use Rattle.dm_grammar.specs.Tokens.{Word};
@@ -49,7 +49,7 @@ fn head_end<'t, 'a>(
     how: Reading,
 ) -> Result<(Option<Token<'a>>, &'t [Token<'a>]), usize>
     ensures tells { MatchResult result
-        (λ x. collect how Flagged (view_words tokens.now) ≡ with_second (view_option x.0) (collect how Rule (view_words x.1.now)))
+        (λ x. collect how Flagged (view_words tokens.now) ≡ with_second (view_option x.0) (collect how InRule (view_words x.1.now)))
         (λ line. collect how Flagged (view_words tokens.now) ≡ Err line) }
     ensures shorter { IfOk result (λ x. length x.1.now < length tokens.now) }
 {
@@ -78,7 +78,7 @@ pub(crate) fn command_head<'t, 'a>(
     how: Reading,
 ) -> Result<(Head<'a>, &'t [Token<'a>]), usize>
     ensures tells { (w : Word) → MatchResult result
-        (λ x. filled CommandHead w (collect how CommandColon (view_words tokens.now)) ≡ with_head (view_head x.0) (collect how Rule (view_words x.1.now)))
+        (λ x. filled CommandHead w (collect how CommandColon (view_words tokens.now)) ≡ with_head (view_head x.0) (collect how InRule (view_words x.1.now)))
         (λ line. collect how CommandColon (view_words tokens.now) ≡ Err line) }
     ensures shorter { IfOk result (λ x. length x.1.now < length tokens.now) }
 {
@@ -110,7 +110,7 @@ fn group_end<'t, 'a>(
     how: Reading,
 ) -> Result<((Option<Token<'a>>, Option<Token<'a>>), &'t [Token<'a>]), usize>
     ensures tells { MatchResult result
-        (λ x. collect how GroupCoded (view_words tokens.now) ≡ with_end (view_option x.0.0) (view_option x.0.1) (collect how Rule (view_words x.1.now)))
+        (λ x. collect how GroupCoded (view_words tokens.now) ≡ with_end (view_option x.0.0) (view_option x.0.1) (collect how InRule (view_words x.1.now)))
         (λ line. collect how GroupCoded (view_words tokens.now) ≡ Err line) }
     ensures shorter { IfOk result (λ x. length x.1.now < length tokens.now) }
 {
@@ -135,7 +135,7 @@ pub(crate) fn group_head<'t, 'a>(
     how: Reading,
 ) -> Result<(Head<'a>, &'t [Token<'a>]), usize>
     ensures tells { MatchResult result
-        (λ x. collect how GroupColon (view_words tokens.now) ≡ with_head (view_head x.0) (collect how Rule (view_words x.1.now)))
+        (λ x. collect how GroupColon (view_words tokens.now) ≡ with_head (view_head x.0) (collect how InRule (view_words x.1.now)))
         (λ line. collect how GroupColon (view_words tokens.now) ≡ Err line) }
     ensures shorter { IfOk result (λ x. length x.1.now < length tokens.now) }
 {

@@ -2,12 +2,12 @@
 
 ghost use Rattle.std.specs.Prelude.{◌≡◌, ◌↔◌, ◌⊎◌, ℕ, List, false, true};
 ghost use Rattle.dm_grammar.specs.declared.reading.Version.{Version};
-ghost use Rattle.dm_grammar.specs.Grammar.{is_name};
+ghost use Rattle.dm_grammar.specs.Grammar.{is_name_symbol};
 ghost use Rattle.dm_grammar.specs.Items.{Written};
-ghost use Rattle.dm_grammar.specs.Places.{Place};
-ghost use Rattle.dm_grammar.specs.Places.Place.{Text};
+ghost use Rattle.dm_grammar.specs.Places.{GrammarPlace};
+ghost use Rattle.dm_grammar.specs.Places.GrammarPlace.{Text};
 ghost use Rattle.dm_grammar.specs.Spelling.{AreItems};
-ghost use Rattle.dm_grammar.specs.Symbols.{is_number, symbol_of_word};
+ghost use Rattle.dm_grammar.specs.Symbols.{is_digits, symbol_of_word};
 ghost use Rattle.dm_grammar.specs.FirstVersion.{FirstItem, AreFirst, AreFirstWritten, Breaks};
 ghost use Rattle.dm_grammar.specs.Versions.{is_second};
 ghost use Rattle.dm_grammar.specs.Syntax.{IsGrammatical, IsSyntaxFault, Leads};
@@ -18,7 +18,7 @@ ghost use Rattle.dm_grammar.specs.Tokens.{Word, tokens};
 /// version 2 its tokens are those behind `@` and `2`.
 pub fn syntax_law()
     ensures good { (text : List ℕ) → IsGrammatical text ↔ ((items : List Written) × AreItems items (tokens text)) }
-    ensures one_place { (v : Version) (ws : List Word) (p q : Place) → Leads v Text ws p → Leads v Text ws q → p ≡ q }
+    ensures one_place { (v : Version) (ws : List Word) (p q : GrammarPlace) → Leads v Text ws p → Leads v Text ws q → p ≡ q }
 {}
 
 /// A law of the definitions, with nothing to run. The tokens of a text are items, form by form, as the grammar of
@@ -34,7 +34,7 @@ pub fn items_law()
 /// A law of the definitions, with nothing to run. A word that isn't digits alone is a name, also where it has a
 /// place of its own.
 pub fn words_law()
-    ensures name { (word : List ℕ) → is_number word ≡ false → is_name (symbol_of_word word) ≡ true }
+    ensures name { (word : List ℕ) → is_digits word ≡ false → is_name_symbol (symbol_of_word word) ≡ true }
 {}
 
 /// A law of the definitions, with nothing to run. The tokens of a text whose first two aren't `@` and `2` are items

@@ -4,7 +4,7 @@ ghost use Rattle.std.specs.Prelude.{◌≡◌, ◌≤◌, ◌<◌, ◌+◌, leng
 ghost use Rattle.std.specs.List.{prefix_len};
 ghost use Rattle.dm_grammar.specs.Symbols.{begins_word, goes_on, is_space, not_line_end};
 ghost use Rattle.dm_grammar.specs.Tokens.{lexeme_of, last_line, tokens, Sees};
-ghost use Rattle.dm_grammar.specs.Views.{view};
+ghost use Rattle.dm_grammar.specs.Views.{view_word};
 
 use crate::symbol::{Symbol, mark_of, symbol_of_word};
 use crate::token::Token;
@@ -72,7 +72,7 @@ fn lexeme(text: &[u8]) -> (Symbol, usize)
 fn next_token(text: &[u8], at: usize, line: usize) -> Option<(Token<'_>, usize)>
     requires within { at ≤ length text.now }
     requires lines { line ≤ at + 1 }
-    ensures next { Sees line (drop at text.now) result (λ r. view r.0) (λ r. drop r.1 text.now) }
+    ensures next { Sees line (drop at text.now) result (λ r. view_word r.0) (λ r. drop r.1 text.now) }
     ensures moves { IfSome result (λ r. (at < r.1) × (r.1 ≤ length text.now) × (r.0.line ≤ r.1 + 1)) }
 {
     let mut at = at;
@@ -101,7 +101,7 @@ fn next_token(text: &[u8], at: usize, line: usize) -> Option<(Token<'_>, usize)>
 
 /// All tokens of the text, in order.
 pub(crate) fn tokens(alloc: Global, text: &[u8]) -> Result<Vec<Token<'_>>, AllocError>
-    ensures { IfOk result (λ v. map view v.items ≡ tokens text.now) }
+    ensures { IfOk result (λ v. map view_word v.items ≡ tokens text.now) }
 {
     let mut found = Vec::new(alloc);
     let mut at = 0;

@@ -4,14 +4,14 @@ ghost use Rattle.std.specs.Prelude.{◌≡◌, ◌<◌, ◌++◌, ◌∷◌, ℕ
 ghost use Rattle.dm_grammar.specs.declared.item.Item.{Item};
 ghost use Rattle.dm_grammar.specs.declared.symbol.Symbol.TheVariants.{At};
 ghost use Rattle.dm_grammar.specs.declared.terminal.Terminal.TheVariants.{One};
-ghost use Rattle.dm_grammar.specs.Places.Place.{AtSign, Text};
-ghost use Rattle.dm_grammar.specs.Places.Role.{TitleIs};
-ghost use Rattle.dm_grammar.specs.Readers.{IfSyntax, begins, with_head, with_item, with_rule};
+ghost use Rattle.dm_grammar.specs.Places.GrammarPlace.{AtSign, Text};
+ghost use Rattle.dm_grammar.specs.Places.TokenRole.{TitleIs};
+ghost use Rattle.dm_grammar.specs.Readers.{IfSyntax, begins, with_head, adding_item, with_rule};
 ghost use Rattle.dm_grammar.specs.Spelling.{AreItems};
 ghost use Rattle.dm_grammar.specs.Syntax.{IsSyntaxFault};
-ghost use Rattle.dm_grammar.specs.Told.{Told, collect, filled, items_told, told};
+ghost use Rattle.dm_grammar.specs.Told.{Gathered, collect, filled, items_told, items_or_line};
 ghost use Rattle.dm_grammar.specs.Tokens.{tokens};
-ghost use Rattle.dm_grammar.specs.Views.{view, view_entry, view_head, view_item, view_words};
+ghost use Rattle.dm_grammar.specs.Views.{view_word, view_entry, view_head, view_item, view_words};
 
 use crate::avp::avp_item;
 use crate::fault::ItemFault;
@@ -31,7 +31,7 @@ use std::alloc::Global;
 
 /// The command or the group of a title, a head and a rule.
 fn defined<'a>(name: Token<'a>, head: Head<'a>, rule: Vec<EntryItem<'a>>) -> Item<'a>
-    ensures { (r : Result Told ℕ) → filled TitleIs (view name.entry) (with_head (view_head head.entry) (with_rule (map view_entry rule.entry.items) r)) ≡ with_item (view_item result) r }
+    ensures { (r : Result Gathered ℕ) → filled TitleIs (view_word name.entry) (with_head (view_head head.entry) (with_rule (map view_entry rule.entry.items) r)) ≡ adding_item (view_item result) r }
 {
     if head.command {
         Item::Command(CommandItem {
@@ -62,7 +62,7 @@ fn definition<'t, 'a>(
     requires some { 0 < length tokens.now }
     requires no_avp { begins (One At) (view_words tokens.now) ≡ false }
     ensures tells { MatchResult result
-        (λ x. collect how Text (view_words tokens.now) ≡ with_item (view_item x.0) (collect how Text (view_words x.1.now)))
+        (λ x. collect how Text (view_words tokens.now) ≡ adding_item (view_item x.0) (collect how Text (view_words x.1.now)))
         (λ fault. IfSyntax fault (λ line. collect how Text (view_words tokens.now) ≡ Err line)) }
     ensures shorter { IfOk result (λ x. length x.1.now < length tokens.now) }
 {
@@ -82,7 +82,7 @@ fn at_item<'t, 'a>(
     how: Reading,
 ) -> Result<(Item<'a>, &'t [Token<'a>]), ItemFault>
     ensures tells { MatchResult result
-        (λ x. collect how AtSign (view_words tokens.now) ≡ with_item (view_item x.0) (collect how Text (view_words x.1.now)))
+        (λ x. collect how AtSign (view_words tokens.now) ≡ adding_item (view_item x.0) (collect how Text (view_words x.1.now)))
         (λ fault. IfSyntax fault (λ line. collect how AtSign (view_words tokens.now) ≡ Err line)) }
     ensures shorter { IfOk result (λ x. length x.1.now < length tokens.now) }
 {
@@ -105,7 +105,7 @@ fn item<'t, 'a>(
 ) -> Result<(Item<'a>, &'t [Token<'a>]), ItemFault>
     requires { 0 < length tokens.now }
     ensures tells { MatchResult result
-        (λ x. collect how Text (view_words tokens.now) ≡ with_item (view_item x.0) (collect how Text (view_words x.1.now)))
+        (λ x. collect how Text (view_words tokens.now) ≡ adding_item (view_item x.0) (collect how Text (view_words x.1.now)))
         (λ fault. IfSyntax fault (λ line. collect how Text (view_words tokens.now) ≡ Err line)) }
     ensures shorter { IfOk result (λ x. length x.1.now < length tokens.now) }
 {
@@ -125,7 +125,7 @@ fn next_item<'t, 'a>(
 ) -> Result<&'t [Token<'a>], ItemFault>
     requires { 0 < length tokens.now }
     ensures tells { MatchResult result
-        (λ rest. (i : Item) × ((found.new.items ≡ found.old.items ++ i ∷ []) × (collect how Text (view_words tokens.now) ≡ with_item (view_item i) (collect how Text (view_words rest.now)))))
+        (λ rest. (i : Item) × ((found.new.items ≡ found.old.items ++ i ∷ []) × (collect how Text (view_words tokens.now) ≡ adding_item (view_item i) (collect how Text (view_words rest.now)))))
         (λ fault. IfSyntax fault (λ line. collect how Text (view_words tokens.now) ≡ Err line)) }
     ensures shorter { IfOk result (λ rest. length rest.now < length tokens.now) }
 {
@@ -167,8 +167,8 @@ fn items<'a>(alloc: Global, tokens: &[Token<'a>], how: Reading) -> Result<Vec<It
 
 /// What the text tells, behind its version.
 fn text_items(alloc: Global, text: &[u8]) -> Result<Vec<Item<'_>>, ItemFault>
-    ensures items { IfOk result (λ items. told text.now ≡ Ok (map view_item items.items)) }
-    ensures fault { IfErr result (λ fault. IfSyntax fault (λ line. told text.now ≡ Err line)) }
+    ensures items { IfOk result (λ items. items_or_line text.now ≡ Ok (map view_item items.items)) }
+    ensures fault { IfErr result (λ fault. IfSyntax fault (λ line. items_or_line text.now ≡ Err line)) }
 {
     let last = last_line(text);
     let all = tokens(alloc, text).map_err(|_| ItemFault::NoMemory)?;

@@ -1,7 +1,7 @@
 //! The rule of a command or a group.
 
 ghost use Rattle.std.specs.Prelude.{◌≡◌, ◌≤◌, length, map, MatchResult, IfOk, Err};
-ghost use Rattle.dm_grammar.specs.Places.Place.{Rule, Text};
+ghost use Rattle.dm_grammar.specs.Places.GrammarPlace.{InRule, Text};
 ghost use Rattle.dm_grammar.specs.Readers.{IfSyntax, with_rule};
 ghost use Rattle.dm_grammar.specs.Told.{collect};
 ghost use Rattle.dm_grammar.specs.Views.{view_entry, view_words};
@@ -21,8 +21,8 @@ pub(crate) fn rule<'t, 'a>(
     how: Reading,
 ) -> Result<(Vec<EntryItem<'a>>, &'t [Token<'a>]), ItemFault>
     ensures tells { MatchResult result
-        (λ x. collect how Rule (view_words tokens.now) ≡ with_rule (map view_entry x.0.items) (collect how Text (view_words x.1.now)))
-        (λ fault. IfSyntax fault (λ line. collect how Rule (view_words tokens.now) ≡ Err line)) }
+        (λ x. collect how InRule (view_words tokens.now) ≡ with_rule (map view_entry x.0.items) (collect how Text (view_words x.1.now)))
+        (λ fault. IfSyntax fault (λ line. collect how InRule (view_words tokens.now) ≡ Err line)) }
     ensures shorter { IfOk result (λ x. length x.1.now ≤ length tokens.now) }
 {
     let mut entries = Vec::new(alloc);

@@ -1,7 +1,7 @@
 //! What a token is.
 
 ghost use Rattle.std.specs.Prelude.{◌≡◌};
-ghost use Rattle.dm_grammar.specs.Symbols.{mark_of, symbol_of_word, is_number};
+ghost use Rattle.dm_grammar.specs.Symbols.{mark_of, symbol_of_word, is_digits};
 
 /// What a token is. A word that has a place of its own in the grammar has a symbol of its own; in any
 /// other place it is a name.
@@ -64,8 +64,8 @@ pub(crate) fn mark_of(octet: u8) -> Symbol
 }
 
 /// Whether a word is digits alone.
-fn is_number(word: &[u8]) -> bool
-    ensures { result ≡ is_number word.now }
+fn is_digits(word: &[u8]) -> bool
+    ensures { result ≡ is_digits word.now }
 {
     word.iter().all(|octet| octet.is_ascii_digit())
 }
@@ -74,7 +74,7 @@ fn is_number(word: &[u8]) -> bool
 pub(crate) fn symbol_of_word(word: &[u8]) -> Symbol
     ensures { result ≡ symbol_of_word word.now }
 {
-    if is_number(word) {
+    if is_digits(word) {
         Symbol::Number
     } else if word == b"Diameter".as_slice() {
         Symbol::Diameter

@@ -1,7 +1,7 @@
 //! What a step of the grammar takes.
 
 ghost use Rattle.std.specs.Prelude.{◌≡◌};
-ghost use Rattle.dm_grammar.specs.Grammar.{is_name, fits};
+ghost use Rattle.dm_grammar.specs.Grammar.{is_name_symbol, fits};
 
 use crate::symbol::Symbol;
 
@@ -14,8 +14,8 @@ pub enum Terminal {
 }
 
 /// Whether a token is a name; so is a word that has a place of its own elsewhere.
-fn is_name(symbol: Symbol) -> bool
-    ensures { result ≡ is_name symbol }
+fn is_name_symbol(symbol: Symbol) -> bool
+    ensures { result ≡ is_name_symbol symbol }
 {
     match symbol {
         Symbol::Name
@@ -38,8 +38,8 @@ pub(crate) fn fits(terminal: Terminal, symbol: Symbol) -> bool
     ensures { result ≡ fits terminal symbol }
 {
     match terminal {
-        Terminal::AnyName => is_name(symbol),
-        Terminal::NameBut(one) => is_name(symbol) && one as u8 != symbol as u8,
+        Terminal::AnyName => is_name_symbol(symbol),
+        Terminal::NameBut(one) => is_name_symbol(symbol) && one as u8 != symbol as u8,
         Terminal::One(one) => one as u8 == symbol as u8,
     }
 }

@@ -3,11 +3,11 @@
 ghost use Rattle.std.specs.Prelude.{◌≡◌, ◌<◌, false, length, MatchResult, IfOk, Err};
 ghost use Rattle.dm_grammar.specs.declared.symbol.Symbol.TheVariants.{At, Less};
 ghost use Rattle.dm_grammar.specs.declared.terminal.Terminal.TheVariants.{One};
-ghost use Rattle.dm_grammar.specs.Places.Place.{Head as HeadPlace, Rule, Text, Titled};
-ghost use Rattle.dm_grammar.specs.Places.Role.{TitleIs};
+ghost use Rattle.dm_grammar.specs.Places.GrammarPlace.{Head as HeadPlace, InRule, Text, Titled};
+ghost use Rattle.dm_grammar.specs.Places.TokenRole.{TitleIs};
 ghost use Rattle.dm_grammar.specs.Readers.{begins, fault_line, with_head};
 ghost use Rattle.dm_grammar.specs.Told.{collect, filled};
-ghost use Rattle.dm_grammar.specs.Views.{view, view_head, view_words};
+ghost use Rattle.dm_grammar.specs.Views.{view_word, view_head, view_words};
 
 use crate::head::{Head, command_head, group_head};
 use crate::reading::Reading;
@@ -29,7 +29,7 @@ fn fault_line(tokens: &[Token<'_>], how: Reading) -> usize
 /// A head: ("Diameter" "Header" | "Diameter-Header") or ("AVP" "Header" | "AVP-Header"), and its rest.
 fn head<'t, 'a>(tokens: &'t [Token<'a>], how: Reading) -> Result<(Head<'a>, &'t [Token<'a>]), usize>
     ensures tells { MatchResult result
-        (λ x. collect how HeadPlace (view_words tokens.now) ≡ with_head (view_head x.0) (collect how Rule (view_words x.1.now)))
+        (λ x. collect how HeadPlace (view_words tokens.now) ≡ with_head (view_head x.0) (collect how InRule (view_words x.1.now)))
         (λ line. collect how HeadPlace (view_words tokens.now) ≡ Err line) }
     ensures shorter { IfOk result (λ x. length x.1.now < length tokens.now) }
 {
@@ -60,7 +60,7 @@ fn bare_title<'t, 'a>(
     requires no_avp { begins (One At) (view_words tokens.now) ≡ false }
     requires bare { begins (One Less) (view_words tokens.now) ≡ false }
     ensures tells { MatchResult result
-        (λ x. collect how Text (view_words tokens.now) ≡ filled TitleIs (view x.0) (collect how Titled (view_words x.1.now)))
+        (λ x. collect how Text (view_words tokens.now) ≡ filled TitleIs (view_word x.0) (collect how Titled (view_words x.1.now)))
         (λ line. collect how Text (view_words tokens.now) ≡ Err line) }
     ensures shorter { IfOk result (λ x. length x.1.now < length tokens.now) }
 {
@@ -79,7 +79,7 @@ fn title<'t, 'a>(
     requires some { 0 < length tokens.now }
     requires no_avp { begins (One At) (view_words tokens.now) ≡ false }
     ensures tells { MatchResult result
-        (λ x. collect how Text (view_words tokens.now) ≡ filled TitleIs (view x.0) (collect how Titled (view_words x.1.now)))
+        (λ x. collect how Text (view_words tokens.now) ≡ filled TitleIs (view_word x.0) (collect how Titled (view_words x.1.now)))
         (λ line. collect how Text (view_words tokens.now) ≡ Err line) }
     ensures shorter { IfOk result (λ x. length x.1.now < length tokens.now) }
 {
@@ -106,7 +106,7 @@ fn titled<'t, 'a>(
     requires some { 0 < length tokens.now }
     requires no_avp { begins (One At) (view_words tokens.now) ≡ false }
     ensures tells { MatchResult result
-        (λ x. collect how Text (view_words tokens.now) ≡ filled TitleIs (view x.0) (collect how HeadPlace (view_words x.1.now)))
+        (λ x. collect how Text (view_words tokens.now) ≡ filled TitleIs (view_word x.0) (collect how HeadPlace (view_words x.1.now)))
         (λ line. collect how Text (view_words tokens.now) ≡ Err line) }
     ensures shorter { IfOk result (λ x. length x.1.now < length tokens.now) }
 {
@@ -128,7 +128,7 @@ pub(crate) fn opening<'t, 'a>(
     requires some { 0 < length tokens.now }
     requires no_avp { begins (One At) (view_words tokens.now) ≡ false }
     ensures tells { MatchResult result
-        (λ x. collect how Text (view_words tokens.now) ≡ filled TitleIs (view x.0.0) (with_head (view_head x.0.1) (collect how Rule (view_words x.1.now))))
+        (λ x. collect how Text (view_words tokens.now) ≡ filled TitleIs (view_word x.0.0) (with_head (view_head x.0.1) (collect how InRule (view_words x.1.now))))
         (λ line. collect how Text (view_words tokens.now) ≡ Err line) }
     ensures shorter { IfOk result (λ x. length x.1.now < length tokens.now) }
 {

@@ -1,8 +1,8 @@
 //! The list of values of an AVP.
 
 ghost use Rattle.std.specs.Prelude.{◌≡◌, ◌<◌, ◌≤◌, length, map, MatchResult, IfOk, Err};
-ghost use Rattle.dm_grammar.specs.Places.Place.{ListOpen, Text, ValueEnd};
-ghost use Rattle.dm_grammar.specs.Readers.{IfSyntax, behind_brace, with_value, with_values};
+ghost use Rattle.dm_grammar.specs.Places.GrammarPlace.{ListOpen, Text, ValueEnd};
+ghost use Rattle.dm_grammar.specs.Readers.{IfSyntax, behind_brace, adding_value, with_values};
 ghost use Rattle.dm_grammar.specs.Told.{collect};
 ghost use Rattle.dm_grammar.specs.Views.{view_value, view_words};
 
@@ -43,7 +43,7 @@ fn value<'t, 'a>(
     how: Reading,
 ) -> Result<((ValueItem<'a>, bool), &'t [Token<'a>]), usize>
     ensures tells { MatchResult result
-        (λ x. collect how ListOpen (view_words tokens.now) ≡ with_value (view_value x.0.0) (collect how (behind_brace x.0.1) (view_words x.1.now)))
+        (λ x. collect how ListOpen (view_words tokens.now) ≡ adding_value (view_value x.0.0) (collect how (behind_brace x.0.1) (view_words x.1.now)))
         (λ line. collect how ListOpen (view_words tokens.now) ≡ Err line) }
     ensures shorter { IfOk result (λ x. length x.1.now < length tokens.now) }
 {

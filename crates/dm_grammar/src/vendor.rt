@@ -2,11 +2,11 @@
 
 ghost use Rattle.std.specs.Prelude.{◌≡◌, ◌<◌, ◌≤◌, drop, true, length, MatchResult, IfOk, Err, if◌then◌else◌};
 ghost use Rattle.dm_grammar.specs.Items.Written.{VendorIs};
-ghost use Rattle.dm_grammar.specs.Places.{Place};
-ghost use Rattle.dm_grammar.specs.Places.Place.{AtSign, Text};
-ghost use Rattle.dm_grammar.specs.Readers.{VendorPlace, begins_named, begins_vendor, with_item, with_vendor};
-ghost use Rattle.dm_grammar.specs.Told.{collect, vend_told};
-ghost use Rattle.dm_grammar.specs.Views.{view_option, view_vend_option, view_vendor, view_words};
+ghost use Rattle.dm_grammar.specs.Places.{GrammarPlace};
+ghost use Rattle.dm_grammar.specs.Places.GrammarPlace.{AtSign, Text};
+ghost use Rattle.dm_grammar.specs.Readers.{VendorPlace, begins_named, begins_vendor, adding_item, adding_reference};
+ghost use Rattle.dm_grammar.specs.Told.{collect, reference_told};
+ghost use Rattle.dm_grammar.specs.Views.{view_option, view_reference_option, view_vendor, view_words};
 
 use crate::item::{VendorItem, VendorWord};
 use crate::reading::{Reading, Version};
@@ -35,7 +35,7 @@ pub(crate) fn vendor_item<'t, 'a>(
 ) -> Result<(VendorItem<'a>, &'t [Token<'a>]), usize>
     requires { begins_vendor how.version (view_words tokens.now) ≡ true }
     ensures tells { MatchResult result
-        (λ x. collect how AtSign (view_words tokens.now) ≡ with_item (VendorIs (view_vendor x.0)) (collect how Text (view_words x.1.now)))
+        (λ x. collect how AtSign (view_words tokens.now) ≡ adding_item (VendorIs (view_vendor x.0)) (collect how Text (view_words x.1.now)))
         (λ line. collect how AtSign (view_words tokens.now) ≡ Err line) }
     ensures shorter { IfOk result (λ x. length x.1.now < length tokens.now) }
 {
@@ -50,7 +50,7 @@ pub(crate) fn vendor_told<'a>(
     named: Option<Token<'a>>,
     number: Option<Token<'a>>,
 ) -> Option<VendorWord<'a>>
-    ensures { view_vend_option result ≡ vend_told (view_option named.entry) (view_option number.entry) }
+    ensures { view_reference_option result ≡ reference_told (view_option named.entry) (view_option number.entry) }
 {
     match (named, number) {
         (Some(name), _) => Some(VendorWord::Named(name)),
@@ -82,8 +82,8 @@ pub(crate) fn vendor_word<'t, 'a>(
     tokens: &'t [Token<'a>],
     how: Reading,
 ) -> Result<(Option<VendorWord<'a>>, &'t [Token<'a>]), usize>
-    ensures tells { (p colon q : Place) → VendorPlace how.version p colon q → MatchResult result
-        (λ x. collect how p (view_words tokens.now) ≡ with_vendor (view_vend_option x.0) (collect how q (view_words x.1.now)))
+    ensures tells { (p colon q : GrammarPlace) → VendorPlace how.version p colon q → MatchResult result
+        (λ x. collect how p (view_words tokens.now) ≡ adding_reference (view_reference_option x.0) (collect how q (view_words x.1.now)))
         (λ line. collect how p (view_words tokens.now) ≡ Err line) }
     ensures shorter { IfOk result (λ x. length x.1.now ≤ length tokens.now) }
 {

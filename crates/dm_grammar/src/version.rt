@@ -2,7 +2,7 @@
 
 ghost use Rattle.std.specs.Prelude.{◌≡◌};
 ghost use Rattle.dm_grammar.specs.Versions.{body_of, is_second, is_two, version_of};
-ghost use Rattle.dm_grammar.specs.Views.{view, view_words};
+ghost use Rattle.dm_grammar.specs.Views.{view_word, view_words};
 
 use crate::reading::Version;
 use crate::symbol::Symbol;
@@ -11,7 +11,7 @@ use crate::token::Token;
 
 /// Whether a token is the number 2 in one digit.
 fn is_two(token: Token<'_>) -> bool
-    ensures { result ≡ is_two (view token.entry) }
+    ensures { result ≡ is_two (view_word token.entry) }
 {
     fits(Terminal::One(Symbol::Number), token.symbol) && token.text == b"2".as_slice()
 }

@@ -28,17 +28,17 @@ abbrev pub is_any : List ℕ → Bool
 is_any name = pointwise nat_eq name (codes "AVP")
 
 -- a number of 32 bits
-abbrev pub fits : ℕ → Bool
-fits n = nat_le n 4294967295
+abbrev pub fits_32_bits : ℕ → Bool
+fits_32_bits n = nat_le n 4294967295
 
-abbrev pub fits_option : Option ℕ → Bool
-fits_option None = true
-fits_option (Some n) = fits n
+abbrev pub option_fits_32_bits : Option ℕ → Bool
+option_fits_32_bits None = true
+option_fits_32_bits (Some n) = fits_32_bits n
 
 -- no bound, or one of 32 bits and not below the least number
 abbrev pub bounds : ℕ → Option ℕ → Bool
 bounds min None = true
-bounds min (Some max) = fits max && nat_le min max
+bounds min (Some max) = fits_32_bits max && nat_le min max
 
 -- the name stands among the entries already
 abbrev pub is_repeated : List Entry → List ℕ → Bool
@@ -54,7 +54,7 @@ each_after test before [] = true
 each_after test before (d ∷ ds) = test before d && each_after test (before ++ d ∷ []) ds
 
 abbrev pub is_sound_entry : List Entry → Entry → Bool
-is_sound_entry before e = is_proper_name e.name && fits e.min && bounds e.min e.max &&
+is_sound_entry before e = is_proper_name e.name && fits_32_bits e.min && bounds e.min e.max &&
     not (is_repeated before e.name) && not (is_late before (form_number e.form))
 
 abbrev pub is_sound_rule : List Entry → Bool
@@ -97,14 +97,14 @@ is_empty_list (v ∷ vs) = false
 abbrev pub is_sound_vendor : List VendorDef → VendorDef → Bool
 is_sound_vendor before v =
     is_proper_name v.name && not (list_any (is_vendor v.name) before)
-    && fits v.number && not (list_any (has_vendor_number v.number) before)
+    && fits_32_bits v.number && not (list_any (has_vendor_number v.number) before)
 
 -- a name of its own that isn't AVP, a code and vendor of its own, a rule only where Grouped, and a list of values only where
 -- Enumerated
 abbrev pub is_sound_avp : List AvpDef → AvpDef → Bool
 is_sound_avp before d =
     is_proper_name d.name && not (is_any d.name) && not (list_any (is_named d.name) before)
-    && fits d.code && fits_option d.vendor && not (list_any (is_coded d.code d.vendor) before)
+    && fits_32_bits d.code && option_fits_32_bits d.vendor && not (list_any (is_coded d.code d.vendor) before)
     && is_sound_rule d.rule && (is_grouped d.kind || is_empty_rule d.rule)
     && is_sound_list d.values && (is_enumerated d.kind || is_empty_list d.values)
 
@@ -113,7 +113,7 @@ abbrev pub is_sound_command : List CommandDef → CommandDef → Bool
 is_sound_command before c =
     is_proper_name c.name && not (list_any (is_titled c.name) before)
     && nat_le c.code 16777215 && not (list_any (is_headed c.code c.request c.err) before)
-    && fits c.application && is_sound_rule c.rule
+    && fits_32_bits c.application && is_sound_rule c.rule
 
 -- an entry names an AVP, or is AVP
 abbrev pub is_known : List AvpDef → Entry → Bool

@@ -8,7 +8,7 @@ use Rattle.dm_tables.specs.declared.def.VendorDef.{VendorDef}
 use Rattle.dm_tables.specs.declared.values.EnumValue.{EnumValue}
 use Rattle.dm_tables.specs.Listed.{has_number}
 use Rattle.dm_tables.specs.Definitions.{Definitions, is_vendor, has_vendor_number, is_named, is_coded, is_titled, is_headed}
-use Rattle.dm_tables.specs.Sound.{is_sound_avp, is_sound_command, is_proper_name, is_any, fits, fits_option, is_sound_rule, is_grouped, is_empty_rule, is_sound_list, is_enumerated, is_empty_list, is_sound_value, is_sound_vendor, is_value, is_listable, is_sound, each_after}
+use Rattle.dm_tables.specs.Sound.{is_sound_avp, is_sound_command, is_proper_name, is_any, fits_32_bits, option_fits_32_bits, is_sound_rule, is_grouped, is_empty_rule, is_sound_list, is_enumerated, is_empty_list, is_sound_value, is_sound_vendor, is_value, is_listable, is_sound, each_after}
 
 pub is_not : (b : Bool) → not b ≡ true → b ≡ false
 is_not true e = cc
@@ -18,8 +18,8 @@ pub record SoundAvp (before : List AvpDef) (d : AvpDef) : Type 0 where
   pub name : is_proper_name d.name ≡ true
   pub not_any : is_any d.name ≡ false
   pub new_name : list_any (is_named d.name) before ≡ false
-  pub code : fits d.code ≡ true
-  pub vendor : fits_option d.vendor ≡ true
+  pub code : fits_32_bits d.code ≡ true
+  pub vendor : option_fits_32_bits d.vendor ≡ true
   pub new_code : list_any (is_coded d.code d.vendor) before ≡ false
   pub rule : is_sound_rule d.rule ≡ true
   pub kind : (is_grouped d.kind || is_empty_rule d.rule) ≡ true
@@ -55,7 +55,7 @@ pub record SoundCommand (before : List CommandDef) (d : CommandDef) : Type 0 whe
   pub new_name : list_any (is_titled d.name) before ≡ false
   pub code : nat_le d.code 16777215 ≡ true
   pub new_head : list_any (is_headed d.code d.request d.err) before ≡ false
-  pub application : fits d.application ≡ true
+  pub application : fits_32_bits d.application ≡ true
   pub rule : is_sound_rule d.rule ≡ true
 
 pub command_parts : (before : List CommandDef) (d : CommandDef) → is_sound_command before d ≡ true
@@ -78,7 +78,7 @@ command_parts before d h =
 pub record SoundVendor (before : List VendorDef) (v : VendorDef) : Type 0 where
   pub name : is_proper_name v.name ≡ true
   pub new_name : list_any (is_vendor v.name) before ≡ false
-  pub number : fits v.number ≡ true
+  pub number : fits_32_bits v.number ≡ true
   pub new_number : list_any (has_vendor_number v.number) before ≡ false
 
 pub vendor_parts : (before : List VendorDef) (v : VendorDef) → is_sound_vendor before v ≡ true → SoundVendor before v

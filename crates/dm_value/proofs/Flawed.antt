@@ -9,7 +9,7 @@ use Rattle.dm_value.specs.declared.avp_type.AvpType.{AvpType}
 use Rattle.dm_value.specs.declared.avp_type.AvpType.TheVariants.{OctetString, Integer32, Integer64, Unsigned32, Unsigned64, Address, Time, UTF8String, DiameterIdentity, DiameterURI, Enumerated, Grouped}
 use Rattle.dm_value.specs.declared.fault.ValueFault.{ValueFault}
 use Rattle.dm_value.specs.declared.fault.ValueFault.TheVariants.{WrongLength, WrongValue}
-use Rattle.dm_value.specs.Columns.{IsVisible, IsUri, HasWrongLength, HasWrongValue, Refuses}
+use Rattle.dm_value.specs.Columns.{IsVisible, IsUri, HasWrongLength, HasWrongValue, RefusesData}
 use Rattle.dm_value.specs.Decided.{AreOctets}
 use Rattle.dm_value.specs.Flaws.{flaw, is_visible, is_uri, sized, tested}
 use Rattle.dm_value.proofs.Decided.{Refutes, Refutes-from_Decides, Refutes-size, Decides-utf8, Decides-all_visible, Decides-uri}
@@ -99,16 +99,16 @@ any_tells law kind s o = flaw_tells kind s (λ g. (cc))
 
 -- an answer that tells of both columns is a fault of the octets
 pub told_fault : (r : Option ValueFault) (kind : AvpType) (s : List ℕ) →
-    Tells r (HasWrongLength kind s) (HasWrongValue kind s) → IfSome r (λ f. Refuses kind s f)
+    Tells r (HasWrongLength kind s) (HasWrongValue kind s) → IfSome r (λ f. RefusesData kind s f)
 told_fault None kind s t = tt
 told_fault (Some f) kind s t = elim t.2 [
-  | inl w ↦ subst (Refuses kind s) (sym w) (t.0.0 (ap Some w))
-  | inr w ↦ subst (Refuses kind s) (sym w) (t.1.0 (ap Some w))
+  | inl w ↦ subst (RefusesData kind s) (sym w) (t.0.0 (ap Some w))
+  | inr w ↦ subst (RefusesData kind s) (sym w) (t.1.0 (ap Some w))
 ]
 
 -- an answer that is the flaw is a fault of the octets
 pub fault_by_flaw : (r : Option ValueFault) (kind : AvpType) (s : List ℕ) → kind ≢ Grouped → r ≡ flaw kind s →
-    IfSome r (λ f. Refuses kind s f)
+    IfSome r (λ f. RefusesData kind s f)
 fault_by_flaw r kind s g e =
     told_fault r kind s
     (subst (λ (x : Option ValueFault). Tells x (HasWrongLength kind s) (HasWrongValue kind s)) (sym e)

@@ -11,7 +11,7 @@ use Rattle.dm_value.specs.declared.value.Value.TheVariants as value
 use Rattle.dm_value.specs.declared.address.Address.{Address as AnAddress}
 use Rattle.dm_value.specs.declared.address.Address.TheVariants as address
 use Rattle.dm_value.specs.declared.address.Ip.TheVariants.{V4, V6}
-use Rattle.dm_value.specs.Columns.{family, IsUri, HasWrongLength, HasWrongValue, Refuses}
+use Rattle.dm_value.specs.Columns.{family, IsUri, HasWrongLength, HasWrongValue, RefusesData}
 use Rattle.dm_value.specs.Meaning.{Means, type_of}
 use Rattle.dm_value.specs.OneValue.{OneValue}
 
@@ -138,7 +138,7 @@ no_fault Enumerated s (value.Enumerated n) h = (λ k. k h.0, λ k. k)
 no_fault Grouped s (value.Group l) h = (λ k. k l h, λ k. k)
 no_fault _ s _ h = absurd h
 
-pub not_refused : (f : ValueFault) (kind : AvpType) (s : List ℕ) (v : Value) → Refuses kind s f → Means kind s v → ⊥
+pub not_refused : (f : ValueFault) (kind : AvpType) (s : List ℕ) (v : Value) → RefusesData kind s f → Means kind s v → ⊥
 not_refused fault.WrongLength kind s v r h = (no_fault kind s v h).0 r
 not_refused fault.WrongValue kind s v r h = (no_fault kind s v h).1 r.1
 not_refused fault.TooLong kind s v r h = r

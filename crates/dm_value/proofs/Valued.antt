@@ -16,7 +16,7 @@ use Rattle.dm_value.specs.declared.value.Value.{Value}
 use Rattle.dm_value.specs.declared.value.Value.TheVariants as value
 use Rattle.dm_value.specs.declared.address.Address.TheVariants as address
 use Rattle.dm_value.specs.declared.address.Ip.TheVariants.{V4, V6}
-use Rattle.dm_value.specs.Columns.{family, HasWrongLength, HasWrongValue, Refuses}
+use Rattle.dm_value.specs.Columns.{family, HasWrongLength, HasWrongValue, RefusesData}
 use Rattle.dm_value.specs.Decided.{AreOctets, FlawDecides, ValueOrFault}
 use Rattle.dm_value.specs.Flaws.{flaw, sized, tested, has_its_size, is_visible, is_uri}
 use Rattle.dm_value.specs.Meaning.{Means}
@@ -97,7 +97,7 @@ valued law Enumerated s o h = (value.Enumerated (cast_signed w32 (big_number 4 s
 
 -- a flaw is a fault
 flawed : MembersSpell → (kind : AvpType) (s : List ℕ) (f : ValueFault) → (kind ≡ Grouped → AreOctets s) →
-    Some f ≡ flaw kind s → Refuses kind s f
+    Some f ≡ flaw kind s → RefusesData kind s f
 flawed law Grouped s f o e =
     told_fault (Some f) Grouped s
     (subst (λ (x : Option ValueFault). Tells x (HasWrongLength Grouped s) (HasWrongValue Grouped s)) (sym e)
@@ -106,13 +106,13 @@ flawed law kind s f o e = fault_by_flaw (Some f) kind s (λ g. (cc)) e
 
 pub decides : MembersSpell → FlawDecides
 decides law kind s o = by (flaw kind s) refl where
-  by : (r : Option ValueFault) → flaw kind s ≡ r → MatchOption r ((v : Value) × Means kind s v) (λ f. Refuses kind s f)
+  by : (r : Option ValueFault) → flaw kind s ≡ r → MatchOption r ((v : Value) × Means kind s v) (λ f. RefusesData kind s f)
   by None e = valued law kind s o e
   by (Some f) e = flawed law kind s f o (sym e)
 
 pub one_or_other : FlawDecides → ValueOrFault
 one_or_other law kind s o = by (flaw kind s) (law kind s (λ g. o)) where
-  by : (r : Option ValueFault) → MatchOption r ((v : Value) × Means kind s v) (λ f. Refuses kind s f) →
-      ((v : Value) × Means kind s v) ⊎ ((f : ValueFault) × Refuses kind s f)
+  by : (r : Option ValueFault) → MatchOption r ((v : Value) × Means kind s v) (λ f. RefusesData kind s f) →
+      ((v : Value) × Means kind s v) ⊎ ((f : ValueFault) × RefusesData kind s f)
   by None m = inl m
   by (Some f) m = inr (f, m)

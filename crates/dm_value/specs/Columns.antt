@@ -63,11 +63,11 @@ HasWrongValue DiameterURI s = IsUri s → ⊥
 HasWrongValue _ s = ⊥
 
 -- octets of this type are refused for this fault, memory aside: the length comes first
-abbrev pub Refuses : AvpType → List ℕ → ValueFault → Type 0
-Refuses kind s WrongLength = HasWrongLength kind s
-Refuses kind s WrongValue = (HasWrongLength kind s → ⊥) × HasWrongValue kind s
-Refuses kind s TooLong = ⊥
-Refuses kind s NoMemory = ⊥
+abbrev pub RefusesData : AvpType → List ℕ → ValueFault → Type 0
+RefusesData kind s WrongLength = HasWrongLength kind s
+RefusesData kind s WrongValue = (HasWrongLength kind s → ⊥) × HasWrongValue kind s
+RefusesData kind s TooLong = ⊥
+RefusesData kind s NoMemory = ⊥
 
 -- a value of these octets holds octets of its own: numbers, times and IP addresses hold none
 abbrev pub HoldsOctets : AvpType → List ℕ → Type 0

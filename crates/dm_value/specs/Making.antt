@@ -4,8 +4,8 @@ use Rattle.dm_value.specs.declared.fault.ValueFault.{ValueFault}
 use Rattle.dm_value.specs.declared.fault.ValueFault.TheVariants.{WrongLength, WrongValue, TooLong, NoMemory}
 
 -- what an answer tells of the fault: invalid AVP length or invalid AVP value
-abbrev pub fault_code : ValueFault → Option ℕ
-fault_code WrongLength = Some 5014
-fault_code WrongValue = Some 5004
-fault_code TooLong = None
-fault_code NoMemory = None
+abbrev pub value_fault_code : ValueFault → Option ℕ
+value_fault_code WrongLength = Some 5014
+value_fault_code WrongValue = Some 5004
+value_fault_code TooLong = None
+value_fault_code NoMemory = None

@@ -2,7 +2,7 @@
 ghost use Rattle.std.specs.Prelude.{◌≡◌, ◌≢◌, ◌↔◌, ◌⊎◌, ℕ, length, Some, None, IfSome, IfNone};
 ghost use Rattle.std.specs.List.{list_all};
 ghost use Rattle.std.specs.Str.{is_utf8};
-ghost use Rattle.dm_value.specs.Columns.{HasWrongLength, HasWrongValue, Refuses};
+ghost use Rattle.dm_value.specs.Columns.{HasWrongLength, HasWrongValue, RefusesData};
 ghost use Rattle.dm_value.specs.Meaning.{Means};
 ghost use Rattle.dm_value.specs.declared.value.Value.{Value};
 ghost use Rattle.dm_value.specs.Flaws.{flaw, is_visible, is_uri, is_under, has_its_size, sized, tested};
@@ -24,7 +24,7 @@ pub fn value_fault(kind: AvpType, octets: &[u8]) -> Option<ValueFault>
     ensures value { (result ≡ Some ValueFault.WrongValue)
         ↔ ((HasWrongLength kind octets.now → ⊥) × HasWrongValue kind octets.now) }
     // Every answer is the octets' own, and octets without one have a value.
-    ensures fault { IfSome result (λ fault. Refuses kind octets.now fault) }
+    ensures fault { IfSome result (λ fault. RefusesData kind octets.now fault) }
     ensures good { IfNone result ((value : Value) × Means kind octets.now value) }
 {
     members_spell();

@@ -3,7 +3,7 @@ ghost use Rattle.std.specs.Prelude.{◌≡◌, ◌≢◌, ◌↔◌, false, IfOk
 ghost use Rattle.dm_wire.specs.declared.avp.Avp.{Avp};
 ghost use Rattle.dm_wire.specs.Canonical.{canonical_list};
 ghost use Rattle.dm_value.specs.Meaning.{Means, type_of, HasNoOctets, HasLongMember};
-ghost use Rattle.dm_value.specs.Making.{fault_code};
+ghost use Rattle.dm_value.specs.Making.{value_fault_code};
 ghost use Rattle.dm_value.specs.declared.value.Value.{Value};
 
 use crate::{AvpType, Value, ValueFault, write_value};
@@ -87,7 +87,7 @@ impl ValueFault {
     /// The Result-Code that tells the fault to a peer (RFC 6733, 7.1.5): 5014 or 5004. `TooLong` and `NoMemory` are no
     /// faults of a peer's, and have none.
     pub fn result_code(&self) -> Option<u32>
-        ensures { result ≡ fault_code self.now }
+        ensures { result ≡ value_fault_code self.now }
     {
         match self {
             ValueFault::WrongLength => Some(results::INVALID_AVP_LENGTH),

@@ -1,6 +1,6 @@
 //! Values from octets (RFC 6733, 4.2 to 4.4).
 ghost use Rattle.std.specs.Prelude.{◌≡◌, ◌≢◌, ◌⊎◌, ◌↔◌, IfOk, IfErr, IsErrOf, OnErr, None, length, drop};
-ghost use Rattle.dm_value.specs.Columns.{HasWrongLength, HasWrongValue, HoldsOctets, Refuses};
+ghost use Rattle.dm_value.specs.Columns.{HasWrongLength, HasWrongValue, HoldsOctets, RefusesData};
 ghost use Rattle.dm_value.specs.Flaws.{flaw};
 ghost use Rattle.dm_value.specs.Meaning.{Means};
 ghost use Rattle.dm_value.specs.declared.value.Value.{Value};
@@ -24,7 +24,7 @@ pub fn read_value(alloc: Global, kind: AvpType, octets: &[u8]) -> Result<Value, 
         → (result ≡ Ok value) ⊎ (result ≡ Err ValueFault.NoMemory) }
 
     // What is wrong with the octets is answered, whatever memory there is.
-    ensures refuses { (fault : ValueFault) → Refuses kind octets.now fault → result ≡ Err fault }
+    ensures refuses { (fault : ValueFault) → RefusesData kind octets.now fault → result ≡ Err fault }
 
     ensures length { IsErrOf result ValueFault.WrongLength ↔ HasWrongLength kind octets.now }
     ensures value { IsErrOf result ValueFault.WrongValue
@@ -33,7 +33,7 @@ pub fn read_value(alloc: Global, kind: AvpType, octets: &[u8]) -> Result<Value, 
     ensures memory { IsErrOf result ValueFault.NoMemory → HoldsOctets kind octets.now }
     ensures sound { IsErrOf result ValueFault.NoMemory → (value : Value) × Means kind octets.now value }
     // Every refusal but want of memory is the octets' own.
-    ensures fault { IfErr result (λ fault. (fault ≡ ValueFault.NoMemory) ⊎ Refuses kind octets.now fault) }
+    ensures fault { IfErr result (λ fault. (fault ≡ ValueFault.NoMemory) ⊎ RefusesData kind octets.now fault) }
 {
     one_value();
     match value_fault(kind, octets) {

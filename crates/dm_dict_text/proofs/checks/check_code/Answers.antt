@@ -1,8 +1,8 @@
 use Rattle.std.proofs.Common.{refl}
-use Rattle.dm_grammar.specs.Views.{view, view_vend_option}
+use Rattle.dm_grammar.specs.Views.{view_word, view_reference_option}
 use Rattle.dm_dict_text.specs.Meaning.{number}
 use Rattle.dm_tables.specs.Tables.{defined}
-use Rattle.dm_dict_text.specs.Faults.{vend_faults}
+use Rattle.dm_dict_text.specs.Faults.{reference_faults}
 use Rattle.dm_dict_text.proofs.Along.{first_right, none_both}
 use Rattle.dm_tables.specs.SoundParts.{sound_parts}
 use Rattle.dm_dict_text.proofs.VendorLimit.{vendor_above}
@@ -10,8 +10,8 @@ use Rattle.dm_dict_text.proofs.checks.check_code.Goals as goal
 
 pub returns-in-Err-clause-fault : goal.returns-in-Err-clause-fault
 returns-in-Err-clause-fault c =
-    let free = vendor_above (number (view c.args.code)) c.args.tables.now.vendors.items.items
-    (view_vend_option c.args.vendor) c.args.tables.now.avps.items c.in-Err.fault
+    let free = vendor_above (number (view_word c.args.code)) c.args.tables.now.vendors.items.items
+    (view_reference_option c.args.vendor) c.args.tables.now.avps.items c.in-Err.fault
     (sound_parts (defined c.args.tables.now) c.requires.sound).avps c.in-Err.ensures.fault in
-    first_right _ (vend_faults (view_vend_option c.args.vendor)) c.in-Err.fault
+    first_right _ (reference_faults (view_reference_option c.args.vendor)) c.in-Err.fault
     (none_both _ _ c.in_ok-code.ensures.good (rw free refl)) c.in-Err.ensures.fault

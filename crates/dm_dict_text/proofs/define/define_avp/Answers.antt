@@ -2,13 +2,13 @@ use Rattle.std.proofs.Common.{◌≡◌, ◌∙◌, [], None, Some, Option, ℕ,
 use Rattle.std.proofs.lemmas.Bool.{and_parts}
 use Rattle.std.proofs.lemmas.Result.{err_from_is_err_and}
 use Rattle.dm_grammar.specs.Items as written
-use Rattle.dm_grammar.specs.Views.{view, view_vend_option, view_value, view_avp}
+use Rattle.dm_grammar.specs.Views.{view_word, view_reference_option, view_value, view_avp}
 use Rattle.dm_tables.specs.declared.def.AvpDef.{AvpDef}
 use Rattle.dm_value.specs.declared.avp_type.AvpType.TheVariants.{OctetString}
 use Rattle.dm_tables.specs.Tables.{defined}
 use Rattle.dm_dict_text.specs.Making.{making}
-use Rattle.dm_dict_text.specs.Meaning.{avp_def_of, Made, placed}
-use Rattle.dm_dict_text.specs.Faults.{name_faults, code_faults, with_value, list_faults}
+use Rattle.dm_dict_text.specs.Meaning.{avp_def_of, WithStrays, placed}
+use Rattle.dm_dict_text.specs.Faults.{name_faults, code_faults, with_value, value_list_faults}
 use Rattle.dm_dict_text.proofs.Along.{stops_left, stops_right}
 use Rattle.dm_tables.specs.SoundParts.{sound_parts}
 use Rattle.dm_dict_text.proofs.Strays.{no_stray, placed_same}
@@ -17,7 +17,7 @@ use Rattle.dm_dict_text.proofs.define.define_avp.Goals as goal
 
 pub place-requires-clause-new : goal.place-requires-clause-new
 place-requires-clause-new c =
-    no_stray (making c.args.tables.now c.args.strays.now) (view c.args.item.now.name) c.in_ok-check_name.ensures.good
+    no_stray (making c.args.tables.now c.args.strays.now) (view_word c.args.item.now.name) c.in_ok-check_name.ensures.good
 
 pub place-requires-clause-sound : goal.place-requires-clause-sound
 place-requires-clause-sound c =
@@ -28,8 +28,8 @@ place-requires-clause-sound c =
     let seen : map view_value c.as_slice.result.now ≡ values = ap (map view_value) c.as_slice.ensures.value in
     let list : c.in_ok-values.values ≡ fold with_value [] values = c.in_ok-values.ensures.value ∙ ap
     (fold with_value []) seen in
-    let good : list_faults values ≡ [] = subst
-    (λ (vs : List written.Value). list_faults vs ≡ []) seen c.in_ok-values.ensures.good in
+    let good : value_list_faults values ≡ [] = subst
+    (λ (vs : List written.ValueParts). value_list_faults vs ≡ []) seen c.in_ok-values.ensures.good in
     let none : c.empty.result ≡ [] = c.empty.ensures in
     let avp : AvpDef =
     record {
@@ -40,15 +40,15 @@ place-requires-clause-sound c =
       rule = c.empty.result;
       values = c.in_ok-values.values;
     } in
-    sound_avp (making c.args.tables.now c.args.strays.now) avp (view c.args.item.now.name) (view c.args.item.now.code)
-    (view_vend_option c.args.item.now.vendor) v
+    sound_avp (making c.args.tables.now c.args.strays.now) avp (view_word c.args.item.now.name) (view_word c.args.item.now.code)
+    (view_reference_option c.args.item.now.vendor) v
     (sound_parts (defined c.args.tables.now) c.requires.tables.sound).vendors
     c.in_ok-name.ensures c.in_ok-code.ensures.code (c.unwrap_or.ensures ∙ ap (λ o. unwrap_or o None) is)
     (sym c.in_ok-code.ensures.vendor ∙ is) named c.in_ok-check_name.ensures.good c.in_ok-code.ensures.good
     (empty_rule c.empty.result none) (empty_kind c.unwrap_or-2.result c.empty.result none)
     (sound_list values c.in_ok-values.values list worded good)
     (listing_kind c.args.item.now.kind.text.now values c.unwrap_or-2.result c.in_ok-values.values may
-    (c.unwrap_or-2.ensures ∙ ap (λ o. unwrap_or o OctetString) c.kind_of.ensures) list)
+    (c.unwrap_or-2.ensures ∙ ap (λ o. unwrap_or o OctetString) c.type_named.ensures) list)
 
 pub returns-clause-added : goal.returns-clause-added
 returns-clause-added c =
@@ -58,7 +58,7 @@ returns-clause-added c =
     let values = map view_value c.args.item.now.values.items in
     let seen : map view_value c.as_slice.result.now ≡ values = ap (map view_value) c.as_slice.ensures.value in
     let list = list_is values c.in_ok-values.values (c.in_ok-values.ensures.value ∙ ap (fold with_value []) seen) in
-    let kind = c.unwrap_or-2.ensures ∙ ap (λ o. unwrap_or o OctetString) c.kind_of.ensures in
+    let kind = c.unwrap_or-2.ensures ∙ ap (λ o. unwrap_or o OctetString) c.type_named.ensures in
     let avp : AvpDef =
     record {
       name = c.in_ok-name.name;
@@ -77,7 +77,7 @@ returns-clause-added c =
       rule = c.empty.ensures i;
       values = list i;
     } in
-    subst (λ (x : Made). OnOk c.place.result (making c.place.new.tables c.place.new.strays ≡ x))
+    subst (λ (x : WithStrays). OnOk c.place.result (making c.place.new.tables c.place.new.strays ≡ x))
     (placed_same m name def avp c.in_ok-code.vendor same ∙ ap (placed m name def) c.in_ok-code.ensures.vendor)
     c.place.ensures.added
 
@@ -85,8 +85,8 @@ pub returns-in_err-code-clause-fault : goal.returns-in_err-code-clause-fault
 returns-in_err-code-clause-fault c =
     let m = making c.args.tables.now c.args.strays.now in
     let p = err_from_is_err_and c.from_residual-in_err-code.result c.from_residual-in_err-code.ensures.1 in
-    let names = name_faults m (view c.args.item.now.name) in
-    let codes = code_faults m.definitions (view c.args.item.now.code) (view_vend_option c.args.item.now.vendor) in
+    let names = name_faults m (view_word c.args.item.now.name) in
+    let codes = code_faults m.definitions (view_word c.args.item.now.code) (view_reference_option c.args.item.now.vendor) in
     rw (p.1, p.2)
-    (stops_left (names ++ codes) (list_faults (map view_value c.args.item.now.values.items)) c.in_err-code.field-0.0
+    (stops_left (names ++ codes) (value_list_faults (map view_value c.args.item.now.values.items)) c.in_err-code.field-0.0
     (stops_right names codes c.in_err-code.field-0.0 c.in_ok-check_name.ensures.good (inr c.in_err-code.ensures.fault)))

@@ -17,7 +17,7 @@ add_command-requires-clause-sound c =
     let rule : c.in_ok-rule.field-0 ≡ fold with_entry [] entries = c.in_ok-rule.ensures.value ∙ ap
     (fold with_entry []) seen in
     let good : rule_faults entries ≡ [] = subst
-    (λ (es : List written.Entry). rule_faults es ≡ []) seen c.in_ok-rule.ensures.good in
+    (λ (es : List written.EntryParts). rule_faults es ≡ []) seen c.in_ok-rule.ensures.good in
     let item = c.args.item.now in
     let command : CommandDef =
     record {

@@ -2,12 +2,12 @@ use Rattle.std.proofs.Common.{◌≡◌, ◌∙◌, [], None, Some, Option, ℕ,
 use Rattle.std.proofs.lemmas.Bool.{and_parts}
 use Rattle.std.proofs.lemmas.Result.{err_from_is_err_and}
 use Rattle.dm_grammar.specs.Items as written
-use Rattle.dm_grammar.specs.Views.{view, view_vend_option, view_entry, view_group}
+use Rattle.dm_grammar.specs.Views.{view_word, view_reference_option, view_entry, view_group}
 use Rattle.dm_tables.specs.declared.def.AvpDef.{AvpDef}
 use Rattle.dm_value.specs.declared.avp_type.AvpType.TheVariants.{Grouped}
 use Rattle.dm_tables.specs.Tables.{defined}
 use Rattle.dm_dict_text.specs.Making.{making}
-use Rattle.dm_dict_text.specs.Meaning.{group_def_of, Made, placed}
+use Rattle.dm_dict_text.specs.Meaning.{group_def_of, WithStrays, placed}
 use Rattle.dm_dict_text.specs.Faults.{name_faults, code_faults, with_entry, rule_faults}
 use Rattle.dm_dict_text.proofs.Along.{stops_left, stops_right}
 use Rattle.dm_tables.specs.SoundParts.{sound_parts}
@@ -17,7 +17,7 @@ use Rattle.dm_dict_text.proofs.define.define_group.Goals as goal
 
 pub place-requires-clause-new : goal.place-requires-clause-new
 place-requires-clause-new c =
-    no_stray (making c.args.tables.now c.args.strays.now) (view c.args.item.now.name) c.in_ok-check_name.ensures.good
+    no_stray (making c.args.tables.now c.args.strays.now) (view_word c.args.item.now.name) c.in_ok-check_name.ensures.good
 
 pub place-requires-clause-sound : goal.place-requires-clause-sound
 place-requires-clause-sound c =
@@ -28,7 +28,7 @@ place-requires-clause-sound c =
     let rule : c.in_ok-rule.rule ≡ fold with_entry [] entries = c.in_ok-rule.ensures.value ∙ ap
     (fold with_entry []) seen in
     let good : rule_faults entries ≡ [] = subst
-    (λ (es : List written.Entry). rule_faults es ≡ []) seen c.in_ok-rule.ensures.good in
+    (λ (es : List written.EntryParts). rule_faults es ≡ []) seen c.in_ok-rule.ensures.good in
     let none : c.empty.result ≡ [] = c.empty.ensures in
     let avp : AvpDef =
     record {
@@ -39,8 +39,8 @@ place-requires-clause-sound c =
       rule = c.in_ok-rule.rule;
       values = c.empty.result;
     } in
-    sound_avp (making c.args.tables.now c.args.strays.now) avp (view c.args.item.now.name) (view c.args.item.now.code)
-    (view_vend_option c.args.item.now.vendor) v
+    sound_avp (making c.args.tables.now c.args.strays.now) avp (view_word c.args.item.now.name) (view_word c.args.item.now.code)
+    (view_reference_option c.args.item.now.vendor) v
     (sound_parts (defined c.args.tables.now) c.requires.tables.sound).vendors
     c.in_ok-name.ensures c.in_ok-code.ensures.code (c.unwrap_or.ensures ∙ ap (λ o. unwrap_or o None) is)
     (sym c.in_ok-code.ensures.vendor ∙ is) words.0 c.in_ok-check_name.ensures.good c.in_ok-code.ensures.good
@@ -73,7 +73,7 @@ returns-clause-added c =
       rule = rule i;
       values = c.empty.ensures i;
     } in
-    subst (λ (x : Made). OnOk c.place.result (making c.place.new.tables c.place.new.strays ≡ x))
+    subst (λ (x : WithStrays). OnOk c.place.result (making c.place.new.tables c.place.new.strays ≡ x))
     (placed_same m name def avp c.in_ok-code.vendor same ∙ ap (placed m name def) c.in_ok-code.ensures.vendor)
     c.place.ensures.added
 
@@ -81,8 +81,8 @@ pub returns-in_err-code-clause-fault : goal.returns-in_err-code-clause-fault
 returns-in_err-code-clause-fault c =
     let m = making c.args.tables.now c.args.strays.now in
     let p = err_from_is_err_and c.from_residual-in_err-code.result c.from_residual-in_err-code.ensures.1 in
-    let names = name_faults m (view c.args.item.now.name) in
-    let codes = code_faults m.definitions (view c.args.item.now.code) (view_vend_option c.args.item.now.vendor) in
+    let names = name_faults m (view_word c.args.item.now.name) in
+    let codes = code_faults m.definitions (view_word c.args.item.now.code) (view_reference_option c.args.item.now.vendor) in
     rw (p.1, p.2)
     (stops_left (names ++ codes) (rule_faults (map view_entry c.args.item.now.rule.items)) c.in_err-code.field-0.0
     (stops_right names codes c.in_err-code.field-0.0 c.in_ok-check_name.ensures.good (inr c.in_err-code.ensures.fault)))

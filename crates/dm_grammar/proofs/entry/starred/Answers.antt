@@ -1,7 +1,7 @@
 use Rattle.std.proofs.Common.{refl, ap}
-use Rattle.dm_grammar.specs.Places.Place.{Low, Starred}
-use Rattle.dm_grammar.specs.Places.Role.{StarIs}
-use Rattle.dm_grammar.specs.Views.{view, view_words, view_option, view_entry, view_qualifier}
+use Rattle.dm_grammar.specs.Places.GrammarPlace.{Low, Starred}
+use Rattle.dm_grammar.specs.Places.TokenRole.{StarIs}
+use Rattle.dm_grammar.specs.Views.{view_word, view_words, view_option, view_entry, view_qualifier}
 use Rattle.dm_grammar.proofs.Entries.{low_to_entry, no_star, no_bracket}
 use Rattle.dm_grammar.proofs.Exits.{handed_on}
 use Rattle.dm_grammar.proofs.entry.starred.Goals as goal
@@ -15,7 +15,7 @@ returns-in_err-_star-clause-tells c =
 pub returns-in_err-entry-clause-tells : goal.returns-in_err-entry-clause-tells
 returns-in_err-entry-clause-tells c =
     handed_on _ _ c.from_residual-in_err-entry.result _ c.from_residual-in_err-entry.ensures.1
-    (no_bracket c.args.how (view_option c.args.low) c.in_err-entry.field-0.0 (view c.in_ok-_star._star)
+    (no_bracket c.args.how (view_option c.args.low) c.in_err-entry.field-0.0 (view_word c.in_ok-_star._star)
     (view_words c.args.tokens.now) (view_words c.in_ok-_star.rest.now)
     (view_words c.optional.result.1.now) c.optional.result.0
     (c.in_ok-_star.ensures.tells Low Starred StarIs refl refl) c.optional.ensures.tells
@@ -23,7 +23,7 @@ returns-in_err-entry-clause-tells c =
 
 pub returns-clause-tells : goal.returns-clause-tells
 returns-clause-tells c =
-    low_to_entry c.args.how (view_option c.args.low) (view c.in_ok-_star._star) (view_words c.args.tokens.now)
+    low_to_entry c.args.how (view_option c.args.low) (view_word c.in_ok-_star._star) (view_words c.args.tokens.now)
     (view_words c.in_ok-_star.rest.now) (view_words c.optional.result.1.now)
     (view_words c.in_ok-entry.rest.now) c.optional.result.0 (view_entry c.in_ok-entry.entry)
     (c.in_ok-_star.ensures.tells Low Starred StarIs refl refl) c.optional.ensures.tells

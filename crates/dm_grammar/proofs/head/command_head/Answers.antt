@@ -1,8 +1,8 @@
 use Rattle.std.proofs.Common.{refl, ap, ◌∙◌}
-use Rattle.dm_grammar.specs.Places.Place.{CommandColon, CommandCode, Coded, Rule}
-use Rattle.dm_grammar.specs.Places.Role.{Nothing, CodeIs, CommandHead, Request, Proxiable, Error}
+use Rattle.dm_grammar.specs.Places.GrammarPlace.{CommandColon, CommandCode, Coded, InRule}
+use Rattle.dm_grammar.specs.Places.TokenRole.{NoPart, CodeIs, CommandHead, RequestFlag, ProxiableFlag, ErrorFlag}
 use Rattle.dm_grammar.specs.Told.{filled, collect}
-use Rattle.dm_grammar.specs.Views.{view, view_option, view_words}
+use Rattle.dm_grammar.specs.Views.{view_word, view_option, view_words}
 use Rattle.dm_grammar.proofs.Exits.{handed_on}
 use Rattle.dm_grammar.proofs.Heads.{nothing_told, flagged, flags_read, command_told}
 use Rattle.dm_grammar.proofs.head.command_head.Goals as goal
@@ -10,33 +10,33 @@ use Rattle.dm_grammar.proofs.head.command_head.Goals as goal
 pub returns-in_err-words-clause-tells : goal.returns-in_err-words-clause-tells
 returns-in_err-words-clause-tells c = λ w.
     handed_on _ _ c.from_residual.result _ c.from_residual.ensures.1
-    (c.in_err-words.ensures.tells CommandColon CommandCode Coded Nothing CodeIs refl refl refl refl)
+    (c.in_err-words.ensures.tells CommandColon CommandCode Coded NoPart CodeIs refl refl refl refl)
 
 pub returns-in_err-second-clause-tells : goal.returns-in_err-second-clause-tells
 returns-in_err-second-clause-tells c = λ w.
     let words = c.in_ok-words.words in
     handed_on _ _ c.from_residual-in_err-second.result _ c.from_residual-in_err-second.ensures.1
-    (c.in_ok-words.ensures.tells CommandColon CommandCode Coded Nothing CodeIs refl refl refl refl
-    ∙ ap (λ r. filled Nothing (view words.0) (filled CodeIs (view words.1) r))
+    (c.in_ok-words.ensures.tells CommandColon CommandCode Coded NoPart CodeIs refl refl refl refl
+    ∙ ap (λ r. filled NoPart (view_word words.0) (filled CodeIs (view_word words.1) r))
     (flags_read c.args.how (view_words c.in_ok-words.rest.now) _ _ _ _ _ _ c.flag-request.ensures.flag
     c.flag-request.ensures.rest c.flag-proxiable.ensures.flag c.flag-proxiable.ensures.rest
     c.flag-error.ensures.flag c.flag-error.ensures.rest
-    ∙ ap (λ r. flagged Request c.flag-request.result.0
-    (flagged Proxiable c.flag-proxiable.result.0 (flagged Error c.flag-error.result.0 r)))
+    ∙ ap (λ r. flagged RequestFlag c.flag-request.result.0
+    (flagged ProxiableFlag c.flag-proxiable.result.0 (flagged ErrorFlag c.flag-error.result.0 r)))
     c.in_err-second.ensures.tells))
 
 pub returns-clause-tells : goal.returns-clause-tells
 returns-clause-tells c = λ w.
     let words = c.in_ok-words.words in
     ap (filled CommandHead w)
-    (c.in_ok-words.ensures.tells CommandColon CommandCode Coded Nothing CodeIs refl refl refl refl
-    ∙ (nothing_told (view words.0) _
-    ∙ ap (filled CodeIs (view words.1))
+    (c.in_ok-words.ensures.tells CommandColon CommandCode Coded NoPart CodeIs refl refl refl refl
+    ∙ (nothing_told (view_word words.0) _
+    ∙ ap (filled CodeIs (view_word words.1))
     (flags_read c.args.how (view_words c.in_ok-words.rest.now) _ _ _ _ _ _ c.flag-request.ensures.flag
     c.flag-request.ensures.rest c.flag-proxiable.ensures.flag c.flag-proxiable.ensures.rest
     c.flag-error.ensures.flag c.flag-error.ensures.rest
-    ∙ ap (λ r. flagged Request c.flag-request.result.0
-    (flagged Proxiable c.flag-proxiable.result.0 (flagged Error c.flag-error.result.0 r)))
+    ∙ ap (λ r. flagged RequestFlag c.flag-request.result.0
+    (flagged ProxiableFlag c.flag-proxiable.result.0 (flagged ErrorFlag c.flag-error.result.0 r)))
     c.in_ok-second.ensures.tells)))
-    ∙ command_told w (view words.1) c.flag-request.result.0 c.flag-proxiable.result.0 c.flag-error.result.0
-    (view_option c.in_ok-second.second) (collect c.args.how Rule (view_words c.in_ok-second.rest.now))
+    ∙ command_told w (view_word words.1) c.flag-request.result.0 c.flag-proxiable.result.0 c.flag-error.result.0
+    (view_option c.in_ok-second.second) (collect c.args.how InRule (view_words c.in_ok-second.rest.now))

@@ -1,8 +1,8 @@
 use Rattle.std.proofs.Common.{◌≡◌, drop, refl, sym, ◌∙◌}
-use Rattle.dm_grammar.specs.Places.Place.{GroupNamed, HeadEnd, Rule}
-use Rattle.dm_grammar.specs.Places.Role.{NamedIs, Rules}
+use Rattle.dm_grammar.specs.Places.GrammarPlace.{GroupNamed, HeadEnd, InRule}
+use Rattle.dm_grammar.specs.Places.TokenRole.{NamedIs, Rules}
 use Rattle.dm_grammar.specs.Told.{collect}
-use Rattle.dm_grammar.specs.Views.{view, view_words}
+use Rattle.dm_grammar.specs.Views.{view_word, view_words}
 use Rattle.dm_grammar.proofs.Exits.{handed_on}
 use Rattle.dm_grammar.proofs.Vendors.{group_colon, named_end}
 use Rattle.dm_grammar.proofs.head.group_end.Goals as goal
@@ -13,7 +13,7 @@ returns-in_err-words-clause-tells c =
     let rest : view_words c.colon-named.result.1.now ≡ drop 1 ws = rw c.if-named.true at c.colon-named.ensures.rest in
     handed_on _ _ c.from_residual.result _ c.from_residual.ensures.1
     (group_colon c.args.how ws _ (sym c.colon-named.ensures.named ∙ c.if-named.true) rest
-    ∙ c.in_err-words.ensures.tells GroupNamed HeadEnd Rule NamedIs Rules refl refl refl refl)
+    ∙ c.in_err-words.ensures.tells GroupNamed HeadEnd InRule NamedIs Rules refl refl refl refl)
 
 pub returns-in_ok-words-clause-tells : goal.returns-in_ok-words-clause-tells
 returns-in_ok-words-clause-tells c =
@@ -21,5 +21,5 @@ returns-in_ok-words-clause-tells c =
     let words = c.in_ok-words.words in
     let rest : view_words c.colon-named.result.1.now ≡ drop 1 ws = rw c.if-named.true at c.colon-named.ensures.rest in
     group_colon c.args.how ws _ (sym c.colon-named.ensures.named ∙ c.if-named.true) rest
-    ∙ (c.in_ok-words.ensures.tells GroupNamed HeadEnd Rule NamedIs Rules refl refl refl refl
-    ∙ named_end (view words.0) (view words.1) (collect c.args.how Rule (view_words c.in_ok-words.rest.now)))
+    ∙ (c.in_ok-words.ensures.tells GroupNamed HeadEnd InRule NamedIs Rules refl refl refl refl
+    ∙ named_end (view_word words.0) (view_word words.1) (collect c.args.how InRule (view_words c.in_ok-words.rest.now)))

@@ -1,4 +1,4 @@
-use Rattle.dm_grammar.specs.Places.Place.{Text}
+use Rattle.dm_grammar.specs.Places.GrammarPlace.{Text}
 use Rattle.dm_grammar.proofs.Syntax.{one_place}
 use Rattle.dm_grammar.proofs.Outcomes.{good_items}
 use Rattle.dm_grammar.proofs.law.syntax_law.Goals as goal

@@ -1,6 +1,6 @@
 use Rattle.std.proofs.Common.{◌≡◌, ◌+◌, ◌-◌, ◌≤◌, ◌++◌, length, drop, map}
 use Rattle.dm_grammar.specs.Tokens.{tokens_from, tokens}
-use Rattle.dm_grammar.specs.Views.{view}
+use Rattle.dm_grammar.specs.Views.{view_word}
 use Rattle.dm_grammar.proofs.lex.tokens.Given as goal
 
 -- the tokens found, and those of the rest
@@ -8,7 +8,7 @@ abbrev pub invariant-loop-token : goal.invariant-loop-token
 invariant-loop-token l = record {
   within : l.at ≤ length l.text;
   lines : l.line ≤ l.at + 1;
-  same : map view l.found.items ++ tokens_from 0 l.line (drop l.at l.text) ≡ tokens l.text;
+  same : map view_word l.found.items ++ tokens_from 0 l.line (drop l.at l.text) ≡ tokens l.text;
 }
 
 abbrev pub decreases-loop-token : goal.decreases-loop-token

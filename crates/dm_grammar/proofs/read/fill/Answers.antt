@@ -1,7 +1,7 @@
 use Rattle.std.proofs.Common.{◌≡◌, [], map, ap, sym, ◌∙◌, arith}
 use Rattle.std.proofs.lemmas.Bool.Decides.{nat_tests}
 use Rattle.std.proofs.lemmas.List.{map_push, nil_from_length}
-use Rattle.dm_grammar.specs.Places.Place.{Text}
+use Rattle.dm_grammar.specs.Places.GrammarPlace.{Text}
 use Rattle.dm_grammar.specs.Told.{collect}
 use Rattle.dm_grammar.specs.Views.{view_item, view_words}
 use Rattle.dm_grammar.proofs.Exits.{handed_on}

@@ -1,5 +1,5 @@
 use Rattle.std.proofs.Common.{◌≡◌, length, map}
-use Rattle.dm_grammar.specs.Places.Place.{Text}
+use Rattle.dm_grammar.specs.Places.GrammarPlace.{Text}
 use Rattle.dm_grammar.specs.Told.{collect}
 use Rattle.dm_grammar.specs.Views.{view_item, view_words}
 use Rattle.dm_grammar.proofs.TextItems.{with_items}

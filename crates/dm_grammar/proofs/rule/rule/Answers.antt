@@ -1,7 +1,7 @@
 use Rattle.std.proofs.Common.{◌≡◌, ◌∷◌, ◌++◌, [], true, false, map, ap, sym, ◌∙◌, arith}
 use Rattle.std.specs.Result.{is_ok}
 use Rattle.std.proofs.lemmas.List.{map_push}
-use Rattle.dm_grammar.specs.Places.Place.{Rule, Text}
+use Rattle.dm_grammar.specs.Places.GrammarPlace.{InRule, Text}
 use Rattle.dm_grammar.specs.Readers.{begins_entry}
 use Rattle.dm_grammar.specs.Told.{collect}
 use Rattle.dm_grammar.specs.Views.{view_entry, view_words}
@@ -20,13 +20,13 @@ loop-how-preserved c =
       tells = rw (pushed, c.same-rest.ensures, map_push) (c.loop-how.invariant.tells
           ∙ (ap (with_entries (map view_entry c.loop-how.entries.items)) c.in-Ok.ensures.tells
           ∙ sym (with_entries-push (map view_entry c.loop-how.entries.items) (view_entry c.in-Ok.entry)
-          (collect c.args.how Rule (view_words c.in-Ok.after.now)))));
+          (collect c.args.how InRule (view_words c.in-Ok.after.now)))));
     }
 
 pub returns-in-Err-clause-tells : goal.returns-in-Err-clause-tells
 returns-in-Err-clause-tells c =
     c.loop-how.invariant.tells ∙ with_entries-fault (map view_entry c.loop-how.entries.items)
-    (collect c.args.how Rule (view_words c.loop-how.rest.now)) c.in-Err.line c.in-Err.ensures.tells
+    (collect c.args.how InRule (view_words c.loop-how.rest.now)) c.in-Err.line c.in-Err.ensures.tells
 
 pub returns-clause-tells : goal.returns-clause-tells
 returns-clause-tells c =

@@ -1,9 +1,9 @@
 use Rattle.std.proofs.Common.{refl, ap, ◌∙◌}
-use Rattle.dm_grammar.specs.Places.Place.{ListOpen, ValueName, ValueEnd}
-use Rattle.dm_grammar.specs.Places.Role.{ValueIs, CodeIs}
+use Rattle.dm_grammar.specs.Places.GrammarPlace.{ListOpen, ValueName, ValueEnd}
+use Rattle.dm_grammar.specs.Places.TokenRole.{ValueIs, CodeIs}
 use Rattle.dm_grammar.specs.Readers.{behind_brace}
 use Rattle.dm_grammar.specs.Told.{filled, collect}
-use Rattle.dm_grammar.specs.Views.{view, view_words}
+use Rattle.dm_grammar.specs.Views.{view_word, view_words}
 use Rattle.dm_grammar.proofs.Exits.{handed_on}
 use Rattle.dm_grammar.proofs.Values.{value_told}
 use Rattle.dm_grammar.proofs.value.value.Goals as goal
@@ -18,12 +18,12 @@ returns-in_err-more-clause-tells c =
     let words = c.in_ok-words.words in
     handed_on _ _ c.from_residual-in_err-more.result _ c.from_residual-in_err-more.ensures.1
     (c.in_ok-words.ensures.tells ListOpen ValueName ValueEnd ValueIs CodeIs refl refl refl refl
-    ∙ ap (λ r. filled ValueIs (view words.0) (filled CodeIs (view words.1) r)) c.in_err-more.ensures.tells)
+    ∙ ap (λ r. filled ValueIs (view_word words.0) (filled CodeIs (view_word words.1) r)) c.in_err-more.ensures.tells)
 
 pub returns-clause-tells : goal.returns-clause-tells
 returns-clause-tells c =
     let words = c.in_ok-words.words in
     c.in_ok-words.ensures.tells ListOpen ValueName ValueEnd ValueIs CodeIs refl refl refl refl
-    ∙ (ap (λ r. filled ValueIs (view words.0) (filled CodeIs (view words.1) r)) c.in_ok-more.ensures.tells
-    ∙ value_told (view words.0) (view words.1)
+    ∙ (ap (λ r. filled ValueIs (view_word words.0) (filled CodeIs (view_word words.1) r)) c.in_ok-more.ensures.tells
+    ∙ value_told (view_word words.0) (view_word words.1)
     (collect c.args.how (behind_brace c.in_ok-more.more) (view_words c.in_ok-more.rest.now)))

@@ -1,7 +1,7 @@
 use Rattle.std.proofs.Common.{◌≡◌, drop, sym, ◌∙◌}
-use Rattle.dm_grammar.specs.Places.Role.{NamedIs}
+use Rattle.dm_grammar.specs.Places.TokenRole.{NamedIs}
 use Rattle.dm_grammar.specs.Told.{collect}
-use Rattle.dm_grammar.specs.Views.{view, view_words}
+use Rattle.dm_grammar.specs.Views.{view_word, view_words}
 use Rattle.dm_grammar.proofs.Exits.{handed_on}
 use Rattle.dm_grammar.proofs.Vendors.{colon_taken, named_told, vendor_there}
 use Rattle.dm_grammar.proofs.vendor.vendor_word.Goals as goal
@@ -20,7 +20,7 @@ returns-in_ok-name-clause-tells c = λ p colon q f.
     let rest : view_words c.colon-named.result.1.now ≡ drop 1 ws = rw c.if-named.true at c.colon-named.ensures.rest in
     colon_taken c.args.how p colon q ws _ f (sym c.colon-named.ensures.named ∙ c.if-named.true) rest
     ∙ (c.in_ok-name.ensures.tells colon q NamedIs f.named f.no_end
-    ∙ named_told (view c.in_ok-name.name) (collect c.args.how q (view_words c.in_ok-name.rest.now)))
+    ∙ named_told (view_word c.in_ok-name.name) (collect c.args.how q (view_words c.in_ok-name.rest.now)))
 
 pub returns-else-named-clause-tells : goal.returns-else-named-clause-tells
 returns-else-named-clause-tells c = λ p colon q f.
