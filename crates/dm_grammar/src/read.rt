@@ -190,8 +190,5 @@ pub fn read_items(alloc: Global, text: &[u8]) -> Result<Vec<Item<'_>>, ItemFault
     // No step of the grammar takes the token there, or the text can't end.
     ensures fault { IfErr result (λ fault. IfSyntax fault (IsSyntaxFault text.now)) }
 {
-    match text_items(alloc, text) {
-        Ok(items) => Ok(items),
-        Err(fault) => Err(fault),
-    }
+    text_items(alloc, text)
 }
