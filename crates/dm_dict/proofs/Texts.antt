@@ -12,7 +12,7 @@ use Rattle.dm_tables.specs.declared.def.AvpDef.{AvpDef}
 use Rattle.dm_tables.specs.declared.def.CommandDef.{CommandDef}
 use Rattle.dm_tables.specs.declared.def.VendorDef.{VendorDef}
 use Rattle.dm_tables.specs.declared.values.EnumValue.{EnumValue}
-use Rattle.dm_tables.specs.Sound.{each_after, goes_on, is_proper_name, is_sound_avp, is_sound_command, is_sound_value, is_sound_vendor}
+use Rattle.dm_tables.specs.Sound.{each_after, is_proper_name, is_sound_avp, is_sound_command, is_sound_value, is_sound_vendor}
 use Rattle.dm_dict.specs.Texts.{NamesAreText}
 
 either : (a b : Bool) → (a || b) ≡ true → (a ≡ true) ⊎ (b ≡ true)
@@ -35,14 +35,18 @@ letter_or_digit c e = by (either _ _ e)
     by (inl e) = digit_or_capital (either _ _ e)
     by (inr e) = in_range 97 122 c (omega arith) e
 
-of_a_name : (c : ℕ) → goes_on c ≡ true → c < 128
+-- a letter, a digit or a hyphen
+abbrev is_of_a_name : ℕ → Bool
+is_of_a_name c = is_ascii_alphanumeric c || nat_eq c 45
+
+of_a_name : (c : ℕ) → is_of_a_name c ≡ true → c < 128
 of_a_name c e = by (either _ _ e)
   where
     by : (is_ascii_alphanumeric c ≡ true) ⊎ (nat_eq c 45 ≡ true) → c < 128
     by (inl e) = letter_or_digit c e
     by (inr e) = let hyphen = eqb-true c 45 e in omega arith
 
-each_of_a_name : (s : List ℕ) → list_all goes_on s ≡ true → All (λ c. c < 128) s
+each_of_a_name : (s : List ℕ) → list_all is_of_a_name s ≡ true → All (λ c. c < 128) s
 each_of_a_name [] e = All-nil (λ c. c < 128)
 each_of_a_name (c ∷ s) e =
     let (here, rest) = and_parts _ _ e in

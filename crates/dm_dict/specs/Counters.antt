@@ -3,7 +3,6 @@ use Rattle.std.specs.Prelude.{◌≡◌, ℕ, ◌+◌, ◌<◌, ◌≤◌, Bool,
 use Rattle.dm_wire.specs.declared.avp.Avp.{Avp}
 use Rattle.dm_tables.specs.declared.rule.Entry.{Entry}
 use Rattle.dm_tables.specs.declared.def.AvpDef.{AvpDef}
-use Rattle.dm_dict.specs.Faults.{Fault}
 use Rattle.dm_dict.specs.Rules.{count}
 use Rattle.dm_dict.specs.Limits.{window, counter_limit}
 
@@ -26,8 +25,3 @@ is_bound min (Some max) = nat_lt 0 min || nat_lt 0 max
 
 abbrev pub is_bounded : Entry → Bool
 is_bounded e = is_bound e.min e.max
-
--- the first of two
-abbrev pub first_of_two : Option Fault → Option Fault → Option Fault
-first_of_two None f = f
-first_of_two (Some f) g = Some f

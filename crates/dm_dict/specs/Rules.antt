@@ -1,7 +1,7 @@
 -- The entries of a rule: which AVPs each names, counts and allows (RFC 6733, 3.2).
 use Rattle.std.specs.Prelude.{ℕ, Bool, false, not, nat_eq, Option, None, Some, List, find, filter, length, codes, if◌then◌else◌}
 use Rattle.std.specs.List.{list_any}
-use Rattle.std.specs.Option.{option_eq}
+use Rattle.std.specs.Option.{option_eq, option_or}
 use Rattle.std.specs.Cmp.Lexicographic.{pointwise}
 use Rattle.dm_wire.specs.declared.avp.Avp.{Avp}
 use Rattle.dm_tables.specs.declared.rule.Entry.{Entry}
@@ -36,13 +36,9 @@ counted_avps avps rule l e = filter (λ a. counts rule e (definition avps a)) l
 abbrev pub count : List AvpDef → List Entry → List Avp → Entry → ℕ
 count avps rule l e = length (counted_avps avps rule l e)
 
-abbrev pub or_else : Option Entry → Option Entry → Option Entry
-or_else None e = e
-or_else (Some e) _ = Some e
-
 -- the entry under which an AVP stands: the one that names it, else `AVP`
 abbrev pub entry_for : List Entry → Option AvpDef → Option Entry
-entry_for rule f = or_else (find (names f) rule) (find stands_for_any rule)
+entry_for rule f = option_or (find (names f) rule) (find stands_for_any rule)
 
 -- an AVP may stand there: there is an entry for it, and its max isn't 0
 abbrev pub allows : Option Entry → Bool

@@ -1,5 +1,6 @@
 //! Whether a list has as many AVPs as the entries of a rule want, 256 entries at a time (RFC 6733, 3.2 and 7.1.5).
 ghost use Rattle.std.specs.Prelude.{◌≡◌, ◌+◌, ◌<◌, ◌≤◌, ◌⊎◌, true, false, List, length, drop, slice_index_or, flat_map};
+ghost use Rattle.std.specs.Option.{option_or};
 ghost use Rattle.dm_wire.specs.declared.avp.Avp.{Avp};
 ghost use Rattle.dm_tables.specs.declared.def.AvpDef.{AvpDef};
 ghost use Rattle.dm_tables.specs.declared.rule.Entry.{Entry};
@@ -7,7 +8,7 @@ ghost use Rattle.dm_tables.specs.Tables.{IsTables};
 ghost use Rattle.dm_dict.specs.Apart.{IsFit};
 ghost use Rattle.dm_dict.specs.Linked.{IsRule};
 ghost use Rattle.dm_wire.specs.Borrowed.{Lists};
-ghost use Rattle.dm_dict.specs.Counters.{IsCounted, first_of_two, is_bounded};
+ghost use Rattle.dm_dict.specs.Counters.{IsCounted, is_bounded};
 ghost use Rattle.dm_dict.specs.Faults.{entry_faults, first};
 ghost use Rattle.dm_dict.specs.Found.{finds_missing};
 ghost use Rattle.dm_dict.specs.Judgement.{shown};
@@ -71,7 +72,7 @@ fn judge_window<'a>(
     requires within { from ≤ length rule.entries.now }
     ensures fault { (l : List Avp) → Lists list.entry l → IsCounted tables.now.avps.items rule.entry.entries.now l from counts.now
         → first (flat_map (entry_faults tables.now.avps.items rule.entry.entries.now l) (drop from rule.entry.entries.now))
-        ≡ first_of_two (shown result) (first (flat_map (entry_faults tables.now.avps.items rule.entry.entries.now l) (drop (from + window) rule.entry.entries.now))) }
+        ≡ option_or (shown result) (first (flat_map (entry_faults tables.now.avps.items rule.entry.entries.now l) (drop (from + window) rule.entry.entries.now))) }
     ensures missing { finds_missing result ≡ false }
 {
     for at in from..window_end(rule.entries.as_slice().len(), from) {

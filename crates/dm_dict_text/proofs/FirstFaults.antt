@@ -20,7 +20,8 @@ use Rattle.dm_tables.specs.Definitions.{Definitions}
 use Rattle.dm_tables.specs.Sound.{is_any}
 use Rattle.dm_dict_text.specs.Printed.{has_none, is_first_version}
 use Rattle.dm_dict_text.specs.Meaning.{number, vendor_of, avp_def_of, group_def_of, with_no_strays, placed, with_item, with_items}
-use Rattle.dm_dict_text.specs.Faults.{fault_if, first_dict_fault, limit, range_faults, option_faults, rule_faults, reference_faults, is_taken, is_defined, name_faults, code_faults, item_faults, items_faults, entry_unknown, kind_unknown, reference_unknown, unknown, vendors_with, items_unknown}
+use Rattle.dm_dict_text.specs.Faults.{fault_if, first_dict_fault, range_faults, option_faults, rule_faults, reference_faults, is_taken, is_defined, name_faults, code_faults, item_faults, items_faults, entry_unknown, kind_unknown, reference_unknown, unknown, vendors_with, items_unknown}
+use Rattle.dm_tables.specs.Limits.{number_limit}
 use Rattle.dm_dict_text.specs.FirstFaults.{first_avp_def, first_group_def, first_with_item, first_with_items, has_name, first_name_faults, first_code_faults, first_item_faults, first_items_faults, first_entry_unknown, first_unknown, first_faults}
 use Rattle.dm_dict_text.specs.Outcome.{all_faults, Defines, IsFirstFault}
 use Rattle.dm_dict_text.specs.FirstOutcome.{DefinesByFirst, IsFaultByFirst}
@@ -31,7 +32,7 @@ known : (vendors : List VendorDef) (v : Option Word)
 known vendors None = refl
 known vendors (Some w) = refl
 
-limited : (v : Option Word) → reference_faults (option_map NumberedBy v) ≡ option_faults limit v
+limited : (v : Option Word) → reference_faults (option_map NumberedBy v) ≡ option_faults number_limit v
 limited None = refl
 limited (Some w) = refl
 
@@ -74,7 +75,7 @@ same_name d w = λ i. fault_if (is_any w.text || same_defined d w.text i) (is.Du
 same_code : (d : Definitions) (code : Word) (v : Option Word)
     → code_faults d code (option_map NumberedBy v) ≡ first_code_faults d.avps code v
 same_code d code v =
-    λ i. range_faults limit code
+    λ i. range_faults number_limit code
     ++ fault_if (is_taken d.avps (number code) (known d.vendors v i)) (is.Duplicate code.line) ++ limited v i
 
 same_item : (d : Definitions) (i : FirstItem) → item_faults (with_no_strays d) (as_written i) ≡ first_item_faults d i

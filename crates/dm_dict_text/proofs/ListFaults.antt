@@ -12,7 +12,8 @@ use Rattle.dm_dict_text.specs.declared.fault.DictFault.TheVariants.{Duplicate}
 use Rattle.dm_tables.specs.Listed.{has_number}
 use Rattle.dm_tables.specs.Sound.{is_value}
 use Rattle.dm_dict_text.specs.Meaning.{number}
-use Rattle.dm_dict_text.specs.Faults.{StopsAtFirst, fault_if, range_faults, value_limit, listed_value_faults}
+use Rattle.dm_dict_text.specs.Faults.{StopsAtFirst, fault_if, range_faults, listed_value_faults}
+use Rattle.dm_tables.specs.Limits.{listed_limit}
 use Rattle.dm_dict_text.proofs.Along.{stops_left, stops_right, none_both, none_left, none_right}
 use Rattle.dm_dict_text.proofs.EntryFaults.{any-map}
 
@@ -37,27 +38,27 @@ module _ (before : List EnumValue) (v : written.ValueParts) where
 
   pub name_stops : list_any (is_value v.name.text) before ≡ true → StopsAtFirst (listed_value_faults before v) (Duplicate v.name.line)
   name_stops h =
-      stops_left (twice ++ range_faults value_limit v.number) taken (Duplicate v.name.line)
-      (stops_left twice (range_faults value_limit v.number) (Duplicate v.name.line) (rw h (inr refl)))
+      stops_left (twice ++ range_faults listed_limit v.number) taken (Duplicate v.name.line)
+      (stops_left twice (range_faults listed_limit v.number) (Duplicate v.name.line) (rw h (inr refl)))
 
   pub range_stops : (f : DictFault) → list_any (is_value v.name.text) before ≡ false
-      → StopsAtFirst (range_faults value_limit v.number) f → StopsAtFirst (listed_value_faults before v) f
+      → StopsAtFirst (range_faults listed_limit v.number) f → StopsAtFirst (listed_value_faults before v) f
   range_stops f h s =
-      stops_left (twice ++ range_faults value_limit v.number) taken f
-      (stops_right twice (range_faults value_limit v.number) f (rw h refl) s)
+      stops_left (twice ++ range_faults listed_limit v.number) taken f
+      (stops_right twice (range_faults listed_limit v.number) f (rw h refl) s)
 
-  pub number_stops : list_any (is_value v.name.text) before ≡ false → range_faults value_limit v.number ≡ []
+  pub number_stops : list_any (is_value v.name.text) before ≡ false → range_faults listed_limit v.number ≡ []
       → list_any (has_number (pos (number v.number))) before ≡ true
       → StopsAtFirst (listed_value_faults before v) (Duplicate v.number.line)
   number_stops h none g =
-      stops_right (twice ++ range_faults value_limit v.number) taken (Duplicate v.number.line)
-      (none_both twice (range_faults value_limit v.number) (rw h refl) none) (rw g (inr refl))
+      stops_right (twice ++ range_faults listed_limit v.number) taken (Duplicate v.number.line)
+      (none_both twice (range_faults listed_limit v.number) (rw h refl) none) (rw g (inr refl))
 
-  pub no_value_fault : list_any (is_value v.name.text) before ≡ false → range_faults value_limit v.number ≡ []
+  pub no_value_fault : list_any (is_value v.name.text) before ≡ false → range_faults listed_limit v.number ≡ []
       → list_any (has_number (pos (number v.number))) before ≡ false → listed_value_faults before v ≡ []
   no_value_fault h none g =
-      none_both (twice ++ range_faults value_limit v.number) taken
-      (none_both twice (range_faults value_limit v.number) (rw h refl) none) (rw g refl)
+      none_both (twice ++ range_faults listed_limit v.number) taken
+      (none_both twice (range_faults listed_limit v.number) (rw h refl) none) (rw g refl)
 
 no_fault : (b : Bool) (f : DictFault) → fault_if b f ≡ [] → b ≡ false
 no_fault true f e = absurd cc
@@ -67,9 +68,9 @@ no_fault false f e = refl
 pub value_new : (before : List EnumValue) (v : written.ValueParts) → listed_value_faults before v ≡ []
     → (list_any (is_value v.name.text) before ≡ false) × (list_any (has_number (pos (number v.number))) before ≡ false)
 value_new before v e =
-    let front = none_left (twice before v ++ range_faults value_limit v.number) (taken before v) e in (
-      no_fault _ _ (none_left (twice before v) (range_faults value_limit v.number) front),
-      no_fault _ _ (none_right (twice before v ++ range_faults value_limit v.number) (taken before v) e),
+    let front = none_left (twice before v ++ range_faults listed_limit v.number) (taken before v) e in (
+      no_fault _ _ (none_left (twice before v) (range_faults listed_limit v.number) front),
+      no_fault _ _ (none_right (twice before v ++ range_faults listed_limit v.number) (taken before v) e),
     )
 
 -- a key that is new goes last

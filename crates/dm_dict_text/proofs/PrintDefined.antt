@@ -18,14 +18,16 @@ use Rattle.dm_tables.specs.Definitions.{Definitions, nothing_defined, is_vendor,
 use Rattle.dm_tables.specs.Sound.{is_any, fits_32_bits, option_fits_32_bits, bounds, is_grouped, is_empty_rule, is_repeated, is_late, each_after, is_sound_entry, is_sound_avp, is_sound_command, is_known, knows_rule, is_value, is_listable, is_sound_value, is_enumerated, is_empty_list, is_sound_vendor}
 use Rattle.dm_dict_text.specs.Printed.{type_name}
 use Rattle.dm_dict_text.specs.Meaning.{number, type_named, entry_of, avp_def_of, group_def_of, value_of, vendor_of, with_no_strays, placed, with_item, with_items}
-use Rattle.dm_dict_text.specs.Faults.{fault_if, faults_along, range_faults, option_faults, command_limit, limit, low_faults, above_faults, high_faults, bound_faults, place_faults, rule_entry_faults, with_entry, rule_faults, name_faults, code_faults, title_faults, item_faults, items_faults, is_defined, is_taken, reference_faults, value_limit, listed_value_faults, with_value, entry_unknown, rule_unknown, reference_unknown, kind_unknown, unknown, vendors_with, items_unknown}
+use Rattle.dm_dict_text.specs.Faults.{fault_if, faults_along, range_faults, option_faults, low_faults, above_faults, high_faults, bound_faults, place_faults, rule_entry_faults, with_entry, rule_faults, name_faults, code_faults, title_faults, item_faults, items_faults, is_defined, is_taken, reference_faults, listed_value_faults, with_value, entry_unknown, rule_unknown, reference_unknown, kind_unknown, unknown, vendors_with, items_unknown}
+use Rattle.dm_tables.specs.Limits.{number_limit, listed_limit}
+use Rattle.dm_wire.specs.Codes.{max_command}
 use Rattle.dm_dict_text.proofs.Along.{none_both}
 use Rattle.dm_tables.specs.SoundParts.{SoundAvp, avp_parts, command_parts, value_parts, vendor_parts}
 use Rattle.dm_dict_text.proofs.PrintWords.{word_of, number_word, number_of-decimal}
 use Rattle.dm_dict_text.proofs.PrintItems.{written_option, written_vend, written_value, written_list, written_vendor, written_vendors, written_all, written_entry, written_rule, written_plain, written_group, written_avp, written_command, written_avps, written_commands}
 
-small : (n : ℕ) → fits_32_bits n ≡ true → n ≤ limit
-small n h = leb-true n limit h
+small : (n : ℕ) → fits_32_bits n ≡ true → n ≤ number_limit
+small n h = leb-true n number_limit h
 
 value : (line n : ℕ) → fits_32_bits n ≡ true → number (number_word line n) ≡ n
 value line n h = number_of-decimal n (small n h)
@@ -34,10 +36,10 @@ option_value : (line : ℕ) (o : Option ℕ) → option_fits_32_bits o ≡ true 
 option_value line None h = refl
 option_value line (Some n) h = ap Some (value line n h)
 
-no_range : (line n : ℕ) → fits_32_bits n ≡ true → range_faults limit (number_word line n) ≡ []
-no_range line n h = rw (value line n h, le-ltb limit n (small n h)) refl
+no_range : (line n : ℕ) → fits_32_bits n ≡ true → range_faults number_limit (number_word line n) ≡ []
+no_range line n h = rw (value line n h, le-ltb number_limit n (small n h)) refl
 
-no_option_range : (line : ℕ) (o : Option ℕ) → option_fits_32_bits o ≡ true → option_faults limit (written_option line o) ≡ []
+no_option_range : (line : ℕ) (o : Option ℕ) → option_fits_32_bits o ≡ true → option_faults number_limit (written_option line o) ≡ []
 no_option_range line None h = refl
 no_option_range line (Some n) h = no_range line n h
 
@@ -48,7 +50,7 @@ no_above : (line min : ℕ) (max : Option ℕ) → bounds min max ≡ true → a
 no_above line min None h = refl
 no_above line min (Some n) h =
     let (fit, ordered) = and_parts (fits_32_bits n) (nat_le min n) h in
-    rw (value line n fit, le-ltb limit n (small n fit), le-ltb n min (leb-true min n ordered)) refl
+    rw (value line n fit, le-ltb number_limit n (small n fit), le-ltb n min (leb-true min n ordered)) refl
 
 max_value : (line min : ℕ) (max : Option ℕ) → bounds min max ≡ true → option_map number (written_option line max) ≡ max
 max_value line min None h = refl
@@ -136,8 +138,8 @@ no_code_fault line d a p =
     none_both _ _ (none_both _ _ (no_range line a.code p.code) (no_fault _ _ same))
     (no_vend_range line a.vendor p.vendor)
 
-listed_small : (z : ℤ) → is_listable z ≡ true → unsigned_abs z ≤ value_limit
-listed_small (pos n) h = leb-true n value_limit h
+listed_small : (z : ℤ) → is_listable z ≡ true → unsigned_abs z ≤ listed_limit
+listed_small (pos n) h = leb-true n listed_limit h
 listed_small (negsuc n) h = absurd cc
 
 listed_pos : (z : ℤ) → is_listable z ≡ true → pos (unsigned_abs z) ≡ z
@@ -147,8 +149,8 @@ listed_pos (negsuc n) h = absurd cc
 listed_value : (line : ℕ) (v : EnumValue) → is_listable v.number ≡ true
     → pos (number (number_word line (unsigned_abs v.number))) ≡ v.number
 listed_value line v h =
-    let small : unsigned_abs v.number ≤ value_limit = listed_small v.number h in
-    let wide : unsigned_abs v.number ≤ limit = omega arith in
+    let small : unsigned_abs v.number ≤ listed_limit = listed_small v.number h in
+    let wide : unsigned_abs v.number ≤ number_limit = omega arith in
     ap pos (number_of-decimal (unsigned_abs v.number) wide) ∙ listed_pos v.number h
 
 same_value : (line : ℕ) (v : EnumValue) → is_listable v.number ≡ true → value_of (written_value line v) ≡ v
@@ -158,10 +160,10 @@ no_value_fault : (line : ℕ) (before : List EnumValue) (v : EnumValue) → is_s
     → listed_value_faults before (written_value line v) ≡ []
 no_value_fault line before v h =
     let p = value_parts before v h in
-    let small : unsigned_abs v.number ≤ value_limit = listed_small v.number p.number in
-    let wide : unsigned_abs v.number ≤ limit = omega arith in
-    let in_range : range_faults value_limit (number_word line (unsigned_abs v.number)) ≡ [] = rw
-    (number_of-decimal (unsigned_abs v.number) wide, le-ltb value_limit (unsigned_abs v.number) small) refl in
+    let small : unsigned_abs v.number ≤ listed_limit = listed_small v.number p.number in
+    let wide : unsigned_abs v.number ≤ number_limit = omega arith in
+    let in_range : range_faults listed_limit (number_word line (unsigned_abs v.number)) ≡ [] = rw
+    (number_of-decimal (unsigned_abs v.number) wide, le-ltb listed_limit (unsigned_abs v.number) small) refl in
     let same : list_any (has_number (pos (number (number_word line (unsigned_abs v.number))))) before ≡ false =
     ap (λ z. list_any (has_number z) before) (listed_value line v p.number) ∙ p.new_number in
     none_both _ _
@@ -348,13 +350,13 @@ command_added : (line : ℕ) (d : Definitions) (c : CommandDef) → is_sound_com
     → IsAdded d (written_command line c) (with_one_command d c)
 command_added line d c h =
     let p = command_parts d.commands c h in
-    let code_small : c.code ≤ command_limit = leb-true c.code command_limit p.code in
+    let code_small : c.code ≤ max_command = leb-true c.code max_command p.code in
     let code : number (number_word line c.code) ≡ c.code = number_of-decimal c.code (omega arith) in
     let application = value line c.application p.application in
     let same : list_any (is_headed (number (number_word line c.code)) c.request c.err) d.commands ≡ false = ap
     (λ n. list_any (is_headed n c.request c.err) d.commands) code ∙ p.new_head in
-    let in_range : range_faults command_limit (number_word line c.code) ≡ [] = rw
-    (code, le-ltb command_limit c.code code_small) refl in
+    let in_range : range_faults max_command (number_word line c.code) ≡ [] = rw
+    (code, le-ltb max_command c.code code_small) refl in
     record {
       faultless =
           none_both _ (rule_faults (written_rule line c.rule))

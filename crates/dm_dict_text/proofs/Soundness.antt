@@ -23,7 +23,9 @@ use Rattle.dm_tables.specs.Sound.{each_after, is_sound_entry, is_sound_rule, is_
 use Rattle.dm_tables.specs.Listed.{has_number}
 use Rattle.dm_tables.specs.Definitions.{is_vendor, has_vendor_number, is_named, is_coded, is_titled, is_headed, vendor_number}
 use Rattle.dm_dict_text.specs.Meaning.{number, plain_min, starred_min, low_or, min_of, max_of, type_named, entry_of, value_of, vendor_def_of, vendor_of, WithStrays}
-use Rattle.dm_dict_text.specs.Faults.{fault_if, range_faults, option_faults, low_faults, above_faults, high_faults, bound_faults, place_faults, rule_entry_faults, with_entry, rule_faults, faults_along, limit, command_limit, vendor_item_faults, is_defined, is_taken, reference_faults, value_limit, listed_value_faults, with_value, value_list_faults, name_faults, code_faults, title_faults, head_faults}
+use Rattle.dm_dict_text.specs.Faults.{fault_if, range_faults, option_faults, low_faults, above_faults, high_faults, bound_faults, place_faults, rule_entry_faults, with_entry, rule_faults, faults_along, vendor_item_faults, is_defined, is_taken, reference_faults, listed_value_faults, with_value, value_list_faults, name_faults, code_faults, title_faults, head_faults}
+use Rattle.dm_tables.specs.Limits.{number_limit, listed_limit}
+use Rattle.dm_wire.specs.Codes.{max_command}
 use Rattle.dm_dict_text.specs.Worded.{are_named, are_worded_values, may_have_values}
 use Rattle.dm_dict_text.proofs.Along.{none_left, none_right}
 use Rattle.dm_tables.specs.SoundParts.{vendor_parts}
@@ -42,13 +44,13 @@ both a b e g = rw (e, g) refl
 not_so : (b : Bool) → b ≡ false → not b ≡ true
 not_so b e = rw e refl
 
-within_limit : (n : ℕ) → nat_lt limit n ≡ false → fits_32_bits n ≡ true
-within_limit n e = le-leb n limit (ltb-false limit n e)
+within_limit : (n : ℕ) → nat_lt number_limit n ≡ false → fits_32_bits n ≡ true
+within_limit n e = le-leb n number_limit (ltb-false number_limit n e)
 
-number_fits : (w : Word) → range_faults limit w ≡ [] → fits_32_bits (number w) ≡ true
+number_fits : (w : Word) → range_faults number_limit w ≡ [] → fits_32_bits (number w) ≡ true
 number_fits w e = within_limit (number w) (no_fault _ _ e)
 
-option_fits : (o : Option Word) → option_faults limit o ≡ [] → option_fits_32_bits (option_map number o) ≡ true
+option_fits : (o : Option Word) → option_faults number_limit o ≡ [] → option_fits_32_bits (option_map number o) ≡ true
 option_fits None e = refl
 option_fits (Some w) e = number_fits w e
 
@@ -62,7 +64,7 @@ starred_fits Fixed = refl
 starred_fits Required = refl
 starred_fits Optional = refl
 
-low_fits : (form : Form) (low : Option Word) → option_faults limit low ≡ [] → fits_32_bits (low_or form low) ≡ true
+low_fits : (form : Form) (low : Option Word) → option_faults number_limit low ≡ [] → fits_32_bits (low_or form low) ≡ true
 low_fits form None e = starred_fits form
 low_fits form (Some w) e = number_fits w e
 
@@ -73,7 +75,7 @@ min_fits form (Some q) e = low_fits form q.low e
 above_bounds : (min : ℕ) (high : Option Word) → above_faults min high ≡ [] → bounds min (option_map number high) ≡ true
 above_bounds min None e = refl
 above_bounds min (Some w) e =
-    let (small, ordered) = either (nat_lt limit (number w)) (nat_lt (number w) min) (no_fault _ _ e) in
+    let (small, ordered) = either (nat_lt number_limit (number w)) (nat_lt (number w) min) (no_fault _ _ e) in
     both _ _ (within_limit (number w) small) (le-leb min (number w) (ltb-false (number w) min ordered))
 
 plain_bounds : (form : Form) → bounds (plain_min form) (Some 1) ≡ true
@@ -182,14 +184,14 @@ sound_avp m a name code vend vendor sound en ec ev known named names numbers rul
     let (not_any, new) = either (is_any name.text) (is_defined m name.text) (no_fault _ _ names) in
     let (new_name, no_stray) = either (list_any (is_named name.text) avps) _ new in
     let taken = fault_if (is_taken avps (number code) (vendor_of m.definitions.vendors vend)) (Duplicate code.line) in
-    let front = none_left (range_faults limit code ++ taken) (reference_faults vend) numbers in
-    let code_fits = number_fits code (none_left (range_faults limit code) taken front) in
+    let front = none_left (range_faults number_limit code ++ taken) (reference_faults vend) numbers in
+    let code_fits = number_fits code (none_left (range_faults number_limit code) taken front) in
     let free = no_fault (is_taken avps (number code) (vendor_of m.definitions.vendors vend)) _
-    (none_right (range_faults limit code) taken front) in
+    (none_right (range_faults number_limit code) taken front) in
     let new_code : list_any (is_coded (number code) vendor) avps ≡ false = subst
     (λ (o : Option (Option ℕ)). is_taken avps (number code) o ≡ false) known free in
     let fit = vendor_fits m.definitions.vendors vend vendor sound
-    (none_right (range_faults limit code ++ taken) (reference_faults vend) numbers) known in
+    (none_right (range_faults number_limit code ++ taken) (reference_faults vend) numbers) known in
     let same : a ≡ record a { name = name.text; code = number code; vendor = vendor } =
     λ i. record a { name = en i; code = ec i; vendor = ev i } in
     subst (λ (x : AvpDef). is_sound_avp avps x ≡ true) (sym same)
@@ -202,12 +204,12 @@ pub sound_vendor : (before : List VendorDef) (v : VendorDef) (p : VendorParts) �
 sound_vendor before v p en eu named none =
     let twice = fault_if (list_any (is_vendor p.name.text) before) (Duplicate p.name.line) in
     let taken = fault_if (list_any (has_vendor_number (number p.number)) before) (Duplicate p.number.line) in
-    let front = none_left (twice ++ range_faults limit p.number) taken none in
+    let front = none_left (twice ++ range_faults number_limit p.number) taken none in
     let new = no_fault (list_any (is_vendor p.name.text) before) _
-    (none_left twice (range_faults limit p.number) front) in
-    let small = number_fits p.number (none_right twice (range_faults limit p.number) front) in
+    (none_left twice (range_faults number_limit p.number) front) in
+    let small = number_fits p.number (none_right twice (range_faults number_limit p.number) front) in
     let free = no_fault (list_any (has_vendor_number (number p.number)) before) _
-    (none_right (twice ++ range_faults limit p.number) taken none) in
+    (none_right (twice ++ range_faults number_limit p.number) taken none) in
     let same : v ≡ vendor_def_of p = λ i. record { name = en i; number = eu i } in
     subst (λ (x : VendorDef). is_sound_vendor before x ≡ true) (sym same)
     (both _ _ (both _ _ (both _ _ named (not_so _ new)) small) (not_so _ free))
@@ -217,14 +219,14 @@ sound_value : (before : List EnumValue) (v : written.ValueParts) → is_proper_n
 sound_value before v named none =
     let twice = fault_if (list_any (is_value v.name.text) before) (Duplicate v.name.line) in
     let taken = fault_if (list_any (has_number (pos (number v.number))) before) (Duplicate v.number.line) in
-    let front = none_left (twice ++ range_faults value_limit v.number) taken none in
+    let front = none_left (twice ++ range_faults listed_limit v.number) taken none in
     let new = no_fault (list_any (is_value v.name.text) before) _
-    (none_left twice (range_faults value_limit v.number) front) in
-    let below = no_fault _ _ (none_right twice (range_faults value_limit v.number) front) in
-    let small : is_listable (pos (number v.number)) ≡ true = le-leb (number v.number) value_limit
-    (ltb-false value_limit (number v.number) below) in
+    (none_left twice (range_faults listed_limit v.number) front) in
+    let below = no_fault _ _ (none_right twice (range_faults listed_limit v.number) front) in
+    let small : is_listable (pos (number v.number)) ≡ true = le-leb (number v.number) listed_limit
+    (ltb-false listed_limit (number v.number) below) in
     let free = no_fault (list_any (has_number (pos (number v.number))) before) _
-    (none_right (twice ++ range_faults value_limit v.number) taken none) in
+    (none_right (twice ++ range_faults listed_limit v.number) taken none) in
     both _ _ (both _ _ (both _ _ named (not_so _ new)) small) (not_so _ free)
 
 values_sound : (before : List EnumValue) (vs : List written.ValueParts) → are_worded_values vs ≡ true
@@ -278,7 +280,7 @@ empty_kind kind rule e = rw e (or_true (is_grouped kind))
 pub empty_rule : (rule : List Entry) → rule ≡ [] → is_sound_rule rule ≡ true
 empty_rule rule e = rw e refl
 
-default_fits : (o : Option Word) → option_faults limit o ≡ [] → fits_32_bits (unwrap_or (option_map number o) 0) ≡ true
+default_fits : (o : Option Word) → option_faults number_limit o ≡ [] → fits_32_bits (unwrap_or (option_map number o) 0) ≡ true
 default_fits None e = refl
 default_fits (Some w) e = number_fits w e
 
@@ -292,14 +294,14 @@ pub sound_command : (before : List CommandDef) (c : CommandDef) (p : CommandPart
 sound_command before c p en ec er ee ea named titles heads ruled =
     let new = no_fault (list_any (is_titled p.name.text) before) _ titles in
     let front = none_left
-    (range_faults command_limit p.code ++ fault_if (list_any (is_headed (number p.code) p.request p.error) before)
-    (Duplicate p.code.line)) (option_faults limit p.application) heads in
-    let small = no_fault _ _ (none_left (range_faults command_limit p.code) _ front) in
+    (range_faults max_command p.code ++ fault_if (list_any (is_headed (number p.code) p.request p.error) before)
+    (Duplicate p.code.line)) (option_faults number_limit p.application) heads in
+    let small = no_fault _ _ (none_left (range_faults max_command p.code) _ front) in
     let new_head = no_fault (list_any (is_headed (number p.code) p.request p.error) before) _
-    (none_right (range_faults command_limit p.code) _ front) in
+    (none_right (range_faults max_command p.code) _ front) in
     let application_fits = default_fits p.application
     (none_right
-    (range_faults command_limit p.code ++ fault_if (list_any (is_headed (number p.code) p.request p.error) before)
+    (range_faults max_command p.code ++ fault_if (list_any (is_headed (number p.code) p.request p.error) before)
     (Duplicate p.code.line)) _ heads) in
     let same : c ≡
     record {
@@ -325,5 +327,5 @@ sound_command before c p en ec er ee ea named titles heads ruled =
     (both _ _
     (both _ _
     (both _ _ (both _ _ named (not_so _ new))
-    (le-leb (number p.code) command_limit (ltb-false command_limit (number p.code) small))) (not_so _ new_head))
+    (le-leb (number p.code) max_command (ltb-false max_command (number p.code) small))) (not_so _ new_head))
     application_fits) ruled)

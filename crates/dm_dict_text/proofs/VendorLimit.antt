@@ -11,19 +11,20 @@ use Rattle.dm_tables.specs.declared.def.AvpDef.{AvpDef}
 use Rattle.dm_tables.specs.Definitions.{is_coded}
 use Rattle.dm_tables.specs.Sound.{each_after, is_sound_avp, option_fits_32_bits}
 use Rattle.dm_dict_text.specs.Meaning.{number, vendor_of}
-use Rattle.dm_dict_text.specs.Faults.{first_dict_fault, fault_if, is_taken, reference_faults, limit}
+use Rattle.dm_dict_text.specs.Faults.{first_dict_fault, fault_if, is_taken, reference_faults}
+use Rattle.dm_tables.specs.Limits.{number_limit}
 use Rattle.dm_tables.specs.SoundParts.{avp_parts}
 
 and_false : (b : Bool) → (b && false) ≡ false
 and_false true = refl
 and_false false = refl
 
-other : (v : ℕ) (vendor : Option ℕ) → limit < v → option_fits_32_bits vendor ≡ true → option_eq nat_eq (Some v) vendor ≡ false
+other : (v : ℕ) (vendor : Option ℕ) → number_limit < v → option_fits_32_bits vendor ≡ true → option_eq nat_eq (Some v) vendor ≡ false
 other v None above e = refl
 other v (Some u) above e =
-    let small : u ≤ limit = leb-true u limit e in let apart : v ≡ u → ⊥ = λ same. omega arith in ne_eqb v u apart
+    let small : u ≤ number_limit = leb-true u number_limit e in let apart : v ≡ u → ⊥ = λ same. omega arith in ne_eqb v u apart
 
-no_such_vendor : (code v : ℕ) (before avps : List AvpDef) → limit < v → each_after is_sound_avp before avps ≡ true
+no_such_vendor : (code v : ℕ) (before avps : List AvpDef) → number_limit < v → each_after is_sound_avp before avps ≡ true
     → list_any (is_coded code (Some v)) avps ≡ false
 no_such_vendor code v before [] above sound = refl
 no_such_vendor code v before (d ∷ ds) above sound =
@@ -41,5 +42,5 @@ pub vendor_above : (code : ℕ) (vendors : List VendorDef) (vend : Option Vendor
     → is_taken avps code (vendor_of vendors vend) ≡ false
 vendor_above code vendors None avps f sound e = absurd cc
 vendor_above code vendors (Some (NumberedBy w)) avps f sound e =
-    no_such_vendor code (number w) [] avps (ltb-true limit (number w) (above_limit _ _ f e)) sound
+    no_such_vendor code (number w) [] avps (ltb-true number_limit (number w) (above_limit _ _ f e)) sound
 vendor_above code vendors (Some (NamedBy w)) avps f sound e = absurd cc

@@ -3,6 +3,7 @@
 use Rattle.std.specs.Prelude.{ℕ, pos, false, nat_eq, ◌≡◌, ◌⊎◌, Bool, ◌||◌, not, nat_lt, is_some, List, [], ◌∷◌, ◌++◌, Option, Some, None, if◌then◌else◌}
 use Rattle.std.specs.List.{list_any, flat_map}
 use Rattle.std.specs.Cmp.Lexicographic.{pointwise}
+use Rattle.dm_wire.specs.Codes.{max_command}
 use Rattle.dm_grammar.specs.Tokens.{Word}
 use Rattle.dm_grammar.specs.Items as written
 use Rattle.dm_grammar.specs.Items.{Written, VendorParts, AvpParts, GroupParts, CommandParts, VendorReference, Range}
@@ -16,6 +17,7 @@ use Rattle.dm_tables.specs.declared.def.VendorDef.{VendorDef}
 use Rattle.dm_tables.specs.declared.def.AvpDef.{AvpDef}
 use Rattle.dm_tables.specs.declared.def.CommandDef.{CommandDef}
 use Rattle.dm_tables.specs.EntryEquality.{form_number}
+use Rattle.dm_tables.specs.Limits.{number_limit, listed_limit}
 use Rattle.dm_tables.specs.Listed.{has_number}
 use Rattle.dm_tables.specs.Definitions.{Definitions, is_vendor, has_vendor_number, is_named, is_coded, is_titled, is_headed}
 use Rattle.dm_tables.specs.Sound.{is_any, is_value, is_repeated, is_late}
@@ -46,22 +48,15 @@ abbrev pub option_faults : ℕ → Option Word → List DictFault
 option_faults limit None = []
 option_faults limit (Some w) = range_faults limit w
 
--- the limits of a Command Code, and of the other numbers
-abbrev pub command_limit : ℕ
-command_limit = 16777215
-
-abbrev pub limit : ℕ
-limit = 4294967295
-
 -- a least number above its limit
 abbrev pub low_faults : Option Range → List DictFault
 low_faults None = []
-low_faults (Some q) = option_faults limit q.low
+low_faults (Some q) = option_faults number_limit q.low
 
 -- a greatest number above its limit, or below the least
 abbrev pub above_faults : ℕ → Option Word → List DictFault
 above_faults min None = []
-above_faults min (Some w) = fault_if (nat_lt limit (number w) || nat_lt (number w) min) (is.Range w.line)
+above_faults min (Some w) = fault_if (nat_lt number_limit (number w) || nat_lt (number w) min) (is.Range w.line)
 
 abbrev pub high_faults : ℕ → Option Range → List DictFault
 high_faults min None = []
@@ -89,7 +84,7 @@ rule_faults rule = faults_along rule_entry_faults with_entry [] rule
 -- a vendor name or a vendor number that is there already
 abbrev pub vendor_item_faults : List VendorDef → VendorParts → List DictFault
 vendor_item_faults vendors p =
-    fault_if (list_any (is_vendor p.name.text) vendors) (is.Duplicate p.name.line) ++ range_faults limit p.number
+    fault_if (list_any (is_vendor p.name.text) vendors) (is.Duplicate p.name.line) ++ range_faults number_limit p.number
     ++ fault_if (list_any (has_vendor_number (number p.number)) vendors) (is.Duplicate p.number.line)
 
 -- an AVP has the name, a stray too
@@ -102,7 +97,7 @@ name_faults m w = fault_if (is_any w.text || is_defined m w.text) (is.Duplicate 
 
 -- a number of a vendor above its limit
 abbrev pub reference_faults : Option VendorReference → List DictFault
-reference_faults (Some (NumberedBy w)) = range_faults limit w
+reference_faults (Some (NumberedBy w)) = range_faults number_limit w
 reference_faults _ = []
 
 -- a code and vendor that are there already; a code isn't compared where the vendor isn't known
@@ -112,17 +107,13 @@ is_taken avps code (Some vendor) = list_any (is_coded code vendor) avps
 
 abbrev pub code_faults : Definitions → Word → Option VendorReference → List DictFault
 code_faults d code vend =
-    range_faults limit code ++ fault_if (is_taken d.avps (number code) (vendor_of d.vendors vend))
+    range_faults number_limit code ++ fault_if (is_taken d.avps (number code) (vendor_of d.vendors vend))
     (is.Duplicate code.line) ++ reference_faults vend
-
--- the limit of a value that is listed: an Enumerated is signed (4.3.1), and a negative value can't be written
-abbrev pub value_limit : ℕ
-value_limit = 2147483647
 
 -- a name or a number twice in a list
 abbrev pub listed_value_faults : List EnumValue → written.ValueParts → List DictFault
 listed_value_faults before v =
-    fault_if (list_any (is_value v.name.text) before) (is.Duplicate v.name.line) ++ range_faults value_limit v.number
+    fault_if (list_any (is_value v.name.text) before) (is.Duplicate v.name.line) ++ range_faults listed_limit v.number
     ++ fault_if (list_any (has_number (pos (number v.number))) before) (is.Duplicate v.number.line)
 
 abbrev pub with_value : List EnumValue → written.ValueParts → List EnumValue
@@ -143,8 +134,8 @@ title_faults commands w = fault_if (list_any (is_titled w.text) commands) (is.Du
 
 abbrev pub head_faults : List CommandDef → CommandParts → List DictFault
 head_faults commands p =
-    range_faults command_limit p.code ++ fault_if (list_any (is_headed (number p.code) p.request p.error) commands)
-    (is.Duplicate p.code.line) ++ option_faults limit p.application
+    range_faults max_command p.code ++ fault_if (list_any (is_headed (number p.code) p.request p.error) commands)
+    (is.Duplicate p.code.line) ++ option_faults number_limit p.application
 
 abbrev pub command_item_faults : List CommandDef → CommandParts → List DictFault
 command_item_faults commands p = title_faults commands p.name ++ head_faults commands p ++ rule_faults p.rule

@@ -13,7 +13,8 @@ use Rattle.dm_tables.specs.declared.def.AvpDef.{AvpDef}
 use Rattle.dm_tables.specs.Definitions.{Definitions, is_named, is_coded, with_avp, with_command}
 use Rattle.dm_tables.specs.Sound.{is_any}
 use Rattle.dm_dict_text.specs.Meaning.{number, type_named, entry_of, command_def_of}
-use Rattle.dm_dict_text.specs.Faults.{fault_if, faults_along, limit, range_faults, option_faults, rule_faults, command_item_faults, kind_unknown}
+use Rattle.dm_dict_text.specs.Faults.{fault_if, faults_along, range_faults, option_faults, rule_faults, command_item_faults, kind_unknown}
+use Rattle.dm_tables.specs.Limits.{number_limit}
 
 -- an AVP without values; an unknown type is a fault elsewhere
 abbrev pub first_avp_def : FirstAvp → AvpDef
@@ -58,9 +59,9 @@ first_name_faults avps w = fault_if (is_any w.text || has_name avps w.text) (is.
 -- a code above its limit, or there already with the vendor; then a vendor above its limit
 abbrev pub first_code_faults : List AvpDef → Word → Option Word → List DictFault
 first_code_faults avps code vendor =
-    range_faults limit code
+    range_faults number_limit code
     ++ fault_if (list_any (is_coded (number code) (option_map number vendor)) avps) (is.Duplicate code.line)
-    ++ option_faults limit vendor
+    ++ option_faults number_limit vendor
 
 abbrev pub first_item_faults : Definitions → FirstItem → List DictFault
 first_item_faults d (FirstAvpIs p) = first_name_faults d.avps p.name ++ first_code_faults d.avps p.code p.vendor

@@ -7,6 +7,13 @@ use Rattle.dm_value.specs.declared.avp_type.AvpType.TheVariants.{OctetString, Un
 use Rattle.dm_tables.specs.declared.rule.Entry.{Entry}
 use Rattle.dm_tables.specs.declared.def.AvpDef.{AvpDef}
 use Rattle.dm_tables.specs.declared.def.CommandDef.{CommandDef}
+use Rattle.dm_tables.specs.Codes.{user_name, class, proxy_state, event_timestamp, host_ip_address, auth_application_id}
+use Rattle.dm_tables.specs.Codes.{acct_application_id, vendor_specific_application_id, session_id, origin_host}
+use Rattle.dm_tables.specs.Codes.{supported_vendor_id, vendor_id, firmware_revision, result_code, product_name}
+use Rattle.dm_tables.specs.Codes.{disconnect_cause, origin_state_id, failed_avp, proxy_host, error_message}
+use Rattle.dm_tables.specs.Codes.{destination_realm, proxy_info, redirect_host, destination_host, error_reporting_host}
+use Rattle.dm_tables.specs.Codes.{origin_realm, experimental_result, experimental_result_code, inband_security_id}
+use Rattle.dm_tables.specs.Codes.{capabilities_exchange, device_watchdog, disconnect_peer}
 use Rattle.dm_tables.specs.Definitions.{Definitions}
 
 -- 0*1 < NAME >
@@ -44,53 +51,53 @@ command_def name code request err rule =
 
 abbrev pub plain_avps : List AvpDef
 plain_avps =
-    (plain_avp (codes "User-Name") 1 UTF8String)
-    ∷ (plain_avp (codes "Class") 25 OctetString)
-    ∷ (plain_avp (codes "Proxy-State") 33 OctetString)
-    ∷ (plain_avp (codes "Event-Timestamp") 55 Time)
-    ∷ (plain_avp (codes "Host-IP-Address") 257 Address)
-    ∷ (plain_avp (codes "Auth-Application-Id") 258 Unsigned32)
-    ∷ (plain_avp (codes "Acct-Application-Id") 259 Unsigned32)
-    ∷ (plain_avp (codes "Session-Id") 263 UTF8String)
-    ∷ (plain_avp (codes "Origin-Host") 264 DiameterIdentity)
-    ∷ (plain_avp (codes "Supported-Vendor-Id") 265 Unsigned32)
-    ∷ (plain_avp (codes "Vendor-Id") 266 Unsigned32)
-    ∷ (plain_avp (codes "Firmware-Revision") 267 Unsigned32)
-    ∷ (plain_avp (codes "Result-Code") 268 Unsigned32)
-    ∷ (plain_avp (codes "Product-Name") 269 UTF8String)
-    ∷ (plain_avp (codes "Disconnect-Cause") 273 Enumerated)
-    ∷ (plain_avp (codes "Origin-State-Id") 278 Unsigned32)
-    ∷ (plain_avp (codes "Proxy-Host") 280 DiameterIdentity)
-    ∷ (plain_avp (codes "Error-Message") 281 UTF8String)
-    ∷ (plain_avp (codes "Destination-Realm") 283 DiameterIdentity)
-    ∷ (plain_avp (codes "Redirect-Host") 292 DiameterURI)
-    ∷ (plain_avp (codes "Destination-Host") 293 DiameterIdentity)
-    ∷ (plain_avp (codes "Error-Reporting-Host") 294 DiameterIdentity)
-    ∷ (plain_avp (codes "Origin-Realm") 296 DiameterIdentity)
-    ∷ (plain_avp (codes "Experimental-Result-Code") 298 Unsigned32)
-    ∷ (plain_avp (codes "Inband-Security-Id") 299 Unsigned32)
+    (plain_avp (codes "User-Name") user_name UTF8String)
+    ∷ (plain_avp (codes "Class") class OctetString)
+    ∷ (plain_avp (codes "Proxy-State") proxy_state OctetString)
+    ∷ (plain_avp (codes "Event-Timestamp") event_timestamp Time)
+    ∷ (plain_avp (codes "Host-IP-Address") host_ip_address Address)
+    ∷ (plain_avp (codes "Auth-Application-Id") auth_application_id Unsigned32)
+    ∷ (plain_avp (codes "Acct-Application-Id") acct_application_id Unsigned32)
+    ∷ (plain_avp (codes "Session-Id") session_id UTF8String)
+    ∷ (plain_avp (codes "Origin-Host") origin_host DiameterIdentity)
+    ∷ (plain_avp (codes "Supported-Vendor-Id") supported_vendor_id Unsigned32)
+    ∷ (plain_avp (codes "Vendor-Id") vendor_id Unsigned32)
+    ∷ (plain_avp (codes "Firmware-Revision") firmware_revision Unsigned32)
+    ∷ (plain_avp (codes "Result-Code") result_code Unsigned32)
+    ∷ (plain_avp (codes "Product-Name") product_name UTF8String)
+    ∷ (plain_avp (codes "Disconnect-Cause") disconnect_cause Enumerated)
+    ∷ (plain_avp (codes "Origin-State-Id") origin_state_id Unsigned32)
+    ∷ (plain_avp (codes "Proxy-Host") proxy_host DiameterIdentity)
+    ∷ (plain_avp (codes "Error-Message") error_message UTF8String)
+    ∷ (plain_avp (codes "Destination-Realm") destination_realm DiameterIdentity)
+    ∷ (plain_avp (codes "Redirect-Host") redirect_host DiameterURI)
+    ∷ (plain_avp (codes "Destination-Host") destination_host DiameterIdentity)
+    ∷ (plain_avp (codes "Error-Reporting-Host") error_reporting_host DiameterIdentity)
+    ∷ (plain_avp (codes "Origin-Realm") origin_realm DiameterIdentity)
+    ∷ (plain_avp (codes "Experimental-Result-Code") experimental_result_code Unsigned32)
+    ∷ (plain_avp (codes "Inband-Security-Id") inband_security_id Unsigned32)
     ∷ []
 
 -- Wider than RFC 6733 (6.11), which has `{ Vendor-Id }`: RFC 3588 had `1*`, and what was made after it is to pass. That just
 -- one of the two ids stands there (6.11) no rule can say, and it isn't looked at.
 abbrev pub vendor_specific_application_id_def : AvpDef
-vendor_specific_application_id_def = grouped_avp (codes "Vendor-Specific-Application-Id") 260
+vendor_specific_application_id_def = grouped_avp (codes "Vendor-Specific-Application-Id") vendor_specific_application_id
     ((required_some (codes "Vendor-Id")) ∷ (optional_one (codes "Auth-Application-Id")) ∷ (optional_one (codes "Acct-Application-Id")) ∷
     [])
 
 abbrev pub failed_avp_def : AvpDef
-failed_avp_def = grouped_avp (codes "Failed-AVP") 279 ((required_some (codes "AVP")) ∷ [])
+failed_avp_def = grouped_avp (codes "Failed-AVP") failed_avp ((required_some (codes "AVP")) ∷ [])
 
 abbrev pub proxy_info_def : AvpDef
 proxy_info_def =
-    grouped_avp (codes "Proxy-Info") 284 ((required_one (codes "Proxy-Host")) ∷ (required_one (codes "Proxy-State")) ∷ (optional_any (codes "AVP")) ∷ [])
+    grouped_avp (codes "Proxy-Info") proxy_info ((required_one (codes "Proxy-Host")) ∷ (required_one (codes "Proxy-State")) ∷ (optional_any (codes "AVP")) ∷ [])
 
 abbrev pub experimental_result_def : AvpDef
 experimental_result_def =
-    grouped_avp (codes "Experimental-Result") 297 ((required_one (codes "Vendor-Id")) ∷ (required_one (codes "Experimental-Result-Code")) ∷ [])
+    grouped_avp (codes "Experimental-Result") experimental_result ((required_one (codes "Vendor-Id")) ∷ (required_one (codes "Experimental-Result-Code")) ∷ [])
 
 abbrev pub cer_def : CommandDef
-cer_def = command_def (codes "CER") 257 true false
+cer_def = command_def (codes "CER") capabilities_exchange true false
     ((required_one (codes "Origin-Host"))
     ∷ (required_one (codes "Origin-Realm"))
     ∷ (required_some (codes "Host-IP-Address"))
@@ -109,7 +116,7 @@ cer_def = command_def (codes "CER") 257 true false
 -- `*[ Failed-AVP ]`, here and in DWA, DPA and answer-message, is wider than RFC 6733 (5.3.2, 5.4.2, 5.5.2, 7.2), which has
 -- `[ Failed-AVP ]`: RFC 3588 had `*`, and what was made after it is to pass.
 abbrev pub cea_def : CommandDef
-cea_def = command_def (codes "CEA") 257 false false
+cea_def = command_def (codes "CEA") capabilities_exchange false false
     ((required_one (codes "Result-Code"))
     ∷ (required_one (codes "Origin-Host"))
     ∷ (required_one (codes "Origin-Realm"))
@@ -129,7 +136,7 @@ cea_def = command_def (codes "CEA") 257 false false
     ∷ [])
 
 abbrev pub dwr_def : CommandDef
-dwr_def = command_def (codes "DWR") 280 true false
+dwr_def = command_def (codes "DWR") device_watchdog true false
     ((required_one (codes "Origin-Host"))
     ∷ (required_one (codes "Origin-Realm"))
     ∷ (optional_one (codes "Origin-State-Id"))
@@ -137,7 +144,7 @@ dwr_def = command_def (codes "DWR") 280 true false
     ∷ [])
 
 abbrev pub dwa_def : CommandDef
-dwa_def = command_def (codes "DWA") 280 false false
+dwa_def = command_def (codes "DWA") device_watchdog false false
     ((required_one (codes "Result-Code"))
     ∷ (required_one (codes "Origin-Host"))
     ∷ (required_one (codes "Origin-Realm"))
@@ -148,7 +155,7 @@ dwa_def = command_def (codes "DWA") 280 false false
     ∷ [])
 
 abbrev pub dpr_def : CommandDef
-dpr_def = command_def (codes "DPR") 282 true false
+dpr_def = command_def (codes "DPR") disconnect_peer true false
     ((required_one (codes "Origin-Host"))
     ∷ (required_one (codes "Origin-Realm"))
     ∷ (required_one (codes "Disconnect-Cause"))
@@ -156,7 +163,7 @@ dpr_def = command_def (codes "DPR") 282 true false
     ∷ [])
 
 abbrev pub dpa_def : CommandDef
-dpa_def = command_def (codes "DPA") 282 false false
+dpa_def = command_def (codes "DPA") disconnect_peer false false
     ((required_one (codes "Result-Code"))
     ∷ (required_one (codes "Origin-Host"))
     ∷ (required_one (codes "Origin-Realm"))

@@ -2,6 +2,8 @@ pub mod EntryEquality
 pub mod ValueEquality
 pub mod Listed
 pub mod Numbered
+pub mod Codes
+pub mod Limits
 pub mod Definitions
 pub mod Sound
 pub mod SoundParts

@@ -3,6 +3,8 @@ use Rattle.std.specs.Prelude.{ℕ, ℤ, pos, negsuc, Bool, true, false, ◌&&◌
 use Rattle.std.specs.Char.{is_ascii_alphanumeric, is_ascii_digit}
 use Rattle.std.specs.List.{list_all, list_any}
 use Rattle.std.specs.Cmp.Lexicographic.{pointwise}
+use Rattle.dm_wire.specs.Codes.{max_command}
+use Rattle.dm_grammar.specs.Symbols.{goes_on}
 use Rattle.dm_tables.specs.declared.rule.Entry.{Entry}
 use Rattle.dm_tables.specs.declared.values.EnumValue.{EnumValue}
 use Rattle.dm_tables.specs.declared.def.VendorDef.{VendorDef}
@@ -11,14 +13,12 @@ use Rattle.dm_tables.specs.declared.def.CommandDef.{CommandDef}
 use Rattle.dm_value.specs.declared.avp_type.AvpType.{AvpType}
 use Rattle.dm_value.specs.declared.avp_type.AvpType.TheVariants.{Enumerated, Grouped}
 use Rattle.dm_tables.specs.EntryEquality.{form_number}
+use Rattle.dm_tables.specs.Limits.{number_limit, listed_limit}
 use Rattle.dm_tables.specs.Listed.{has_number}
 use Rattle.dm_tables.specs.Definitions.{Definitions, is_vendor, has_vendor_number, is_named, is_coded, is_titled, is_headed}
 
 -- Letters, digits and hyphens, no hyphen first, and not digits alone. Wider than RFC 6733 (3.2), where a diameter-name is
 -- `ALPHA *(ALPHA / DIGIT / "-")`: names in use begin with a digit, as 3GPP-IMSI. Digits alone are a number.
-abbrev pub goes_on : ℕ → Bool
-goes_on c = is_ascii_alphanumeric c || nat_eq c 45
-
 abbrev pub is_proper_name : List ℕ → Bool
 is_proper_name [] = false
 is_proper_name (c ∷ s) = is_ascii_alphanumeric c && list_all goes_on s && not (list_all is_ascii_digit (c ∷ s))
@@ -29,7 +29,7 @@ is_any name = pointwise nat_eq name (codes "AVP")
 
 -- a number of 32 bits
 abbrev pub fits_32_bits : ℕ → Bool
-fits_32_bits n = nat_le n 4294967295
+fits_32_bits n = nat_le n number_limit
 
 abbrev pub option_fits_32_bits : Option ℕ → Bool
 option_fits_32_bits None = true
@@ -70,7 +70,7 @@ is_empty_rule (e ∷ es) = false
 
 -- a number that a text can write: not negative, and of 31 bits
 abbrev pub is_listable : ℤ → Bool
-is_listable (pos n) = nat_le n 2147483647
+is_listable (pos n) = nat_le n listed_limit
 is_listable (negsuc n) = false
 
 -- a value has the name
@@ -112,7 +112,7 @@ is_sound_avp before d =
 abbrev pub is_sound_command : List CommandDef → CommandDef → Bool
 is_sound_command before c =
     is_proper_name c.name && not (list_any (is_titled c.name) before)
-    && nat_le c.code 16777215 && not (list_any (is_headed c.code c.request c.err) before)
+    && nat_le c.code max_command && not (list_any (is_headed c.code c.request c.err) before)
     && fits_32_bits c.application && is_sound_rule c.rule
 
 -- an entry names an AVP, or is AVP

@@ -2,6 +2,7 @@
 use Rattle.std.proofs.Common.{◌≡◌, Bool, true, false, ◌||◌, not, nat_le, List, [], refl}
 use Rattle.std.proofs.lemmas.Bool.{and_parts}
 use Rattle.std.specs.List.{list_any}
+use Rattle.dm_wire.specs.Codes.{max_command}
 use Rattle.dm_tables.specs.declared.def.AvpDef.{AvpDef}
 use Rattle.dm_tables.specs.declared.def.CommandDef.{CommandDef}
 use Rattle.dm_tables.specs.declared.def.VendorDef.{VendorDef}
@@ -53,7 +54,7 @@ avp_parts before d h =
 pub record SoundCommand (before : List CommandDef) (d : CommandDef) : Type 0 where
   pub name : is_proper_name d.name ≡ true
   pub new_name : list_any (is_titled d.name) before ≡ false
-  pub code : nat_le d.code 16777215 ≡ true
+  pub code : nat_le d.code max_command ≡ true
   pub new_head : list_any (is_headed d.code d.request d.err) before ≡ false
   pub application : fits_32_bits d.application ≡ true
   pub rule : is_sound_rule d.rule ≡ true

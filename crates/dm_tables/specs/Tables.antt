@@ -4,6 +4,7 @@ use Rattle.dm_tables.specs.declared.tables.Tables.{Tables}
 use Rattle.dm_tables.specs.declared.def.AvpDef.{AvpDef}
 use Rattle.dm_tables.specs.declared.def.CommandDef.{CommandDef}
 use Rattle.dm_tables.specs.Definitions.{Definitions, is_coded}
+use Rattle.dm_tables.specs.Limits.{guess_slots}
 use Rattle.dm_tables.specs.Positions.{places}
 use Rattle.dm_tables.specs.Vendored.{IsVendored}
 use Rattle.dm_tables.specs.Sound.{is_sound, is_closed}
@@ -43,5 +44,5 @@ guess_at code vendor place (Some d) = if is_coded code vendor d then Some place 
 
 abbrev pub guessed : Tables → ℕ → Option ℕ → Option ℕ
 guessed t code vendor =
-    let place = slice_index t.guesses (code % 512) in
+    let place = slice_index t.guesses (code % guess_slots) in
     guess_at code vendor place (slice_get t.avps.items place)
