@@ -16,7 +16,8 @@ use Rattle.dm_base.specs.declared.kind.Cause.TheVariants.{Rebooting, Busy, DoNot
 use Rattle.dm_base.specs.declared.kind.Kind.{Kind}
 use Rattle.dm_base.specs.declared.kind.Kind.TheVariants as kinds
 use Rattle.dm_base.specs.Fit.{is_number}
-use Rattle.dm_base.specs.Kinds.{application_ids, security_ids, caps_of, is_base_command, kind_of, kind_or_fault, IsBase}
+use Rattle.dm_base.specs.Kinds.{application_ids, security_ids, caps_of, kind_of, kind_or_fault, IsBase}
+use Rattle.dm_base.specs.Commands.{is_base_command}
 use Rattle.dm_base.specs.Codes.{capabilities_exchange, device_watchdog, disconnect_peer}
 use Rattle.dm_base.specs.Codes.{auth_application_id, acct_application_id, failed_avp, longest_failed}
 use Rattle.dm_base.specs.Built.{avp, number_avp, address_avp, application_avps, behind_addresses, capabilities, failed_avps, own_caps, cause_number, built_cer, built_dwr, built_dpr, built_cea, built_answer}

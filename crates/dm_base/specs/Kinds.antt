@@ -1,5 +1,5 @@
 -- What kind of message a message is, and what it says of capabilities (RFC 6733, 5.3 to 5.5).
-use Rattle.std.specs.Prelude.{◌≡◌, ℕ, ◌&&◌, ◌||◌, nat_eq, unwrap_or, Option, None, Some, IsSome, Result, Ok, Err, List, [], length, find, if◌then◌else◌, Bool}
+use Rattle.std.specs.Prelude.{◌≡◌, ℕ, ◌&&◌, ◌||◌, nat_eq, unwrap_or, Option, None, Some, IsSome, Result, Ok, Err, List, [], length, find, if◌then◌else◌, Bool, true, false}
 use Rattle.std.specs.List.{flat_map}
 use Rattle.std.specs.Option.{option_eq, option_to_list}
 use Rattle.std.specs.Int.{cast_signed, w32}
@@ -10,9 +10,12 @@ use Rattle.dm_tables.specs.Base.{base_definitions}
 use Rattle.dm_tables.specs.Definitions.{Definitions}
 use Rattle.dm_wire.specs.Members.{members}
 use Rattle.dm_dict.specs.Faults.{Fault, faults, first}
-use Rattle.dm_base.specs.Codes.{capabilities_exchange, device_watchdog, disconnect_peer, origin_host, origin_realm}
+use Rattle.dm_base.specs.Codes.{origin_host, origin_realm}
 use Rattle.dm_base.specs.Codes.{auth_application_id, acct_application_id, vendor_specific_application_id}
 use Rattle.dm_base.specs.Codes.{inband_security_id, result_code, disconnect_cause}
+use Rattle.dm_base.specs.Commands.{base_command, is_base_command}
+use Rattle.dm_base.specs.declared.base_command.BaseCommand.{BaseCommand}
+use Rattle.dm_base.specs.declared.base_command.BaseCommand.TheVariants.{CapabilitiesExchange, DeviceWatchdog, DisconnectPeer}
 use Rattle.dm_base.specs.declared.kind.Caps.{Caps}
 use Rattle.dm_base.specs.declared.kind.Kind.{Kind}
 use Rattle.dm_base.specs.declared.kind.Kind.TheVariants as kinds
@@ -71,20 +74,18 @@ caps_of l =
       security = flat_map security_ids l;
     }
 
--- one of the commands that are read
-abbrev pub is_base_command : ℕ → Bool
-is_base_command code =
-    nat_eq code capabilities_exchange || nat_eq code device_watchdog || nat_eq code disconnect_peer
-
 -- the kind of a message by its command and the R bit (5.3 to 5.5)
+abbrev pub kind_by : Option BaseCommand → Bool → List Avp → Kind
+kind_by (Some CapabilitiesExchange) true l = kinds.Cer (caps_of l)
+kind_by (Some CapabilitiesExchange) false l = kinds.Cea (number_at result_code l)
+kind_by (Some DeviceWatchdog) true l = kinds.Dwr
+kind_by (Some DeviceWatchdog) false l = kinds.Dwa
+kind_by (Some DisconnectPeer) true l = kinds.Dpr (cast_signed w32 (number_at disconnect_cause l))
+kind_by (Some DisconnectPeer) false l = kinds.Dpa
+kind_by None request l = kinds.Other
+
 abbrev pub kind_of : ℕ → Bool → List Avp → Kind
-kind_of code request l =
-    if nat_eq code capabilities_exchange
-    then (if request then kinds.Cer (caps_of l) else kinds.Cea (number_at result_code l))
-    else (if nat_eq code device_watchdog then (if request then kinds.Dwr else kinds.Dwa)
-    else (if nat_eq code disconnect_peer
-    then (if request then kinds.Dpr (cast_signed w32 (number_at disconnect_cause l)) else kinds.Dpa)
-    else kinds.Other))
+kind_of code request l = kind_by (base_command code) request l
 
 -- the fault where there is one, else the kind
 abbrev pub kind_or_fault : Option Fault → Kind → Result Kind Fault

@@ -1,6 +1,7 @@
 pub mod Before
 pub mod Built
 pub mod Codes
+pub mod Commands
 pub mod Common
 pub mod Fit
 pub mod Kinds

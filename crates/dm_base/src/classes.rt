@@ -4,14 +4,13 @@ ghost use Rattle.dm_wire.specs.declared.avp.Avp.{Avp};
 ghost use Rattle.dm_dict.specs.Faults.{Fault};
 ghost use Rattle.dm_dict.specs.Judgement.{verdict_of};
 ghost use Rattle.dm_wire.specs.Borrowed.{Lists};
-ghost use Rattle.dm_base.specs.Kinds.{is_base_command, kind_of, kind, HoldsCopy};
+ghost use Rattle.dm_base.specs.Commands.{is_base_command};
+ghost use Rattle.dm_base.specs.Kinds.{kind_by, kind, HoldsCopy};
 ghost use Rattle.dm_base.specs.declared.base_fault.BaseFault.TheVariants as faults_of;
 
-use crate::codes::{
-    CAPABILITIES_EXCHANGE, DEVICE_WATCHDOG, DISCONNECT_CAUSE, DISCONNECT_PEER, RESULT_CODE,
-};
+use crate::codes::{DISCONNECT_CAUSE, RESULT_CODE};
 use crate::reading::{caps_of, number_at};
-use crate::{BaseFault, Kind};
+use crate::{BaseCommand, BaseFault, Kind};
 use dm_dict::{Dictionary, NoMemory, Verdict};
 use dm_wire::{AvpsRef, Message};
 use std::alloc::Global;
@@ -21,31 +20,29 @@ use std::alloc::Global;
 pub fn is_base_command(command: u32) -> bool
     ensures { result ≡ is_base_command command }
 {
-    command == CAPABILITIES_EXCHANGE || command == DEVICE_WATCHDOG || command == DISCONNECT_PEER
+    BaseCommand::of(command).is_some()
 }
 
 /// The kind by the command and the R bit.
-fn kind_by(alloc: Global, command: u32, request: bool, avps: AvpsRef<'_>) -> Result<Kind, NoMemory>
-    ensures kind { (l : List Avp) → Lists avps.entry l → IfOk result (λ k. k ≡ kind_of command request l) }
-    ensures memory { (l : List Avp) → OnErr result (HoldsCopy (Ok (kind_of command request l))) }
+fn kind_by(
+    alloc: Global,
+    command: BaseCommand,
+    request: bool,
+    avps: AvpsRef<'_>,
+) -> Result<Kind, NoMemory>
+    ensures kind { (l : List Avp) → Lists avps.entry l → IfOk result (λ k. k ≡ kind_by (Some command) request l) }
+    ensures memory { (l : List Avp) → OnErr result (HoldsCopy (Ok (kind_by (Some command) request l))) }
 {
-    if command == CAPABILITIES_EXCHANGE {
-        if request {
-            Ok(Kind::Cer(caps_of(alloc, avps)?))
-        } else {
-            Ok(Kind::Cea(number_at(avps, RESULT_CODE)))
-        }
-    } else if command == DEVICE_WATCHDOG {
-        Ok(if request { Kind::Dwr } else { Kind::Dwa })
-    } else if command == DISCONNECT_PEER {
-        Ok(if request {
+    Ok(match command {
+        BaseCommand::CapabilitiesExchange if request => Kind::Cer(caps_of(alloc, avps)?),
+        BaseCommand::CapabilitiesExchange => Kind::Cea(number_at(avps, RESULT_CODE)),
+        BaseCommand::DeviceWatchdog if request => Kind::Dwr,
+        BaseCommand::DeviceWatchdog => Kind::Dwa,
+        BaseCommand::DisconnectPeer if request => {
             Kind::Dpr(number_at(avps, DISCONNECT_CAUSE).cast_signed())
-        } else {
-            Kind::Dpa
-        })
-    } else {
-        Ok(Kind::Other)
-    }
+        }
+        BaseCommand::DisconnectPeer => Kind::Dpa,
+    })
 }
 
 /// What kind of message the message is (RFC 6733, 5.3 to 5.5). One of the commands 257, 280 and 282 is checked by the
@@ -64,10 +61,9 @@ pub fn classify(
     // Memory is wanted for the capabilities of a CER and for a failed AVP alone.
     ensures memory { IsErrOf result faults_of.NoMemory → HoldsCopy (kind dictionary.now message.now) }
 {
-    let command = message.header.command;
-    if !is_base_command(command) {
+    let Some(command) = BaseCommand::of(message.header.command) else {
         return Ok(Kind::Other);
-    }
+    };
     match dictionary.check(alloc, message)? {
         Verdict::Good => Ok(kind_by(
             alloc,

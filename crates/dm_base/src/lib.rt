@@ -4,6 +4,7 @@
 
 mod answers;
 mod applications;
+mod base_command;
 mod base_fault;
 mod caps_ref;
 mod classes;
@@ -26,6 +27,7 @@ mod views;
 
 pub use answers::{cea, dpa, dwa, error_answer};
 pub use applications::{common, common_nodes, secure};
+pub use base_command::BaseCommand;
 pub use base_fault::BaseFault;
 pub use caps_ref::CapsRef;
 pub use classes::{classify, is_base_command};

@@ -6,15 +6,12 @@ ghost use Rattle.dm_wire.specs.Spelling.{SpellsList};
 ghost use Rattle.dm_dict.specs.Faults.{Fault};
 ghost use Rattle.dm_dict.specs.Judgement.{shown};
 ghost use Rattle.dm_base.specs.declared.kind.Kind.{Kind};
-ghost use Rattle.dm_base.specs.Kinds.{kind, kind_of};
+ghost use Rattle.dm_base.specs.Kinds.{kind, kind_by};
 ghost use Rattle.dm_base.specs.Shown.{ShowsKind, LiesIn, kind_with};
 
+use crate::BaseCommand;
 use crate::caps_ref::CapsRef;
-use crate::classes::is_base_command;
-use crate::codes::{
-    CAPABILITIES_EXCHANGE, DEVICE_WATCHDOG, DISCONNECT_CAUSE, DISCONNECT_PEER, ORIGIN_HOST,
-    ORIGIN_REALM, RESULT_CODE,
-};
+use crate::codes::{DISCONNECT_CAUSE, ORIGIN_HOST, ORIGIN_REALM, RESULT_CODE};
 use crate::kind_ref::KindRef;
 use crate::reading::{data_at, number_at};
 use dm_dict::{Dictionary, Judged};
@@ -29,32 +26,25 @@ fn spells_members(octets: &[u8])
 }
 
 /// The kind by the command and the R bit, with the AVPs in these octets.
-fn kind_in<'a>(command: u32, request: bool, rest: &'a [u8]) -> KindRef<'a>
+fn kind_in<'a>(command: BaseCommand, request: bool, rest: &'a [u8]) -> KindRef<'a>
     requires { is_some (members rest.now) ≡ true }
-    ensures told { (l : List Avp) → members rest.now ≡ Some l → kind_with l result ≡ kind_of command request l }
+    ensures told { (l : List Avp) → members rest.now ≡ Some l → kind_with l result ≡ kind_by (Some command) request l }
     ensures lies { LiesIn result rest.now }
 {
     let avps = AvpsRef::Spelled(rest);
-    if command == CAPABILITIES_EXCHANGE {
-        if request {
-            KindRef::Cer(CapsRef {
-                host: data_at(avps, ORIGIN_HOST),
-                realm: data_at(avps, ORIGIN_REALM),
-                rest,
-            })
-        } else {
-            KindRef::Cea(number_at(avps, RESULT_CODE))
-        }
-    } else if command == DEVICE_WATCHDOG {
-        if request { KindRef::Dwr } else { KindRef::Dwa }
-    } else if command == DISCONNECT_PEER {
-        if request {
+    match command {
+        BaseCommand::CapabilitiesExchange if request => KindRef::Cer(CapsRef {
+            host: data_at(avps, ORIGIN_HOST),
+            realm: data_at(avps, ORIGIN_REALM),
+            rest,
+        }),
+        BaseCommand::CapabilitiesExchange => KindRef::Cea(number_at(avps, RESULT_CODE)),
+        BaseCommand::DeviceWatchdog if request => KindRef::Dwr,
+        BaseCommand::DeviceWatchdog => KindRef::Dwa,
+        BaseCommand::DisconnectPeer if request => {
             KindRef::Dpr(number_at(avps, DISCONNECT_CAUSE).cast_signed())
-        } else {
-            KindRef::Dpa
         }
-    } else {
-        KindRef::Other
+        BaseCommand::DisconnectPeer => KindRef::Dpa,
     }
 }
 
@@ -76,13 +66,13 @@ pub fn view<'a>(
     ensures lies { IfOk result (λ shows. LiesIn shows message.now.rest.now) }
 {
     let header = message.header;
-    if !is_base_command(header.command) {
+    let Some(command) = BaseCommand::of(header.command) else {
         return Ok(KindRef::Other);
-    }
+    };
     match dictionary.judge(message) {
         Judged::Good => {
             spells_members(message.rest);
-            Ok(kind_in(header.command, header.request, message.rest))
+            Ok(kind_in(command, header.request, message.rest))
         }
         bad => Err(bad),
     }

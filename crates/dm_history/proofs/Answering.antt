@@ -4,7 +4,7 @@ use Rattle.std.specs.List.{list_all}
 use Rattle.std.proofs.lemmas.Bool.{and_parts, cases_Bool}
 use Rattle.dm_wire.specs.declared.message.Header.{Header}
 use Rattle.dm_wire.specs.declared.message.Message.{Message}
-use Rattle.dm_base.specs.Kinds.{is_base_command}
+use Rattle.dm_base.specs.Commands.{is_base_command}
 use Rattle.dm_machine.specs.declared.connection.Conn.{Conn}
 use Rattle.dm_machine.specs.declared.inputs.Word.TheVariants.{Cer}
 use Rattle.dm_machine.specs.declared.outputs.Command.{Command}

@@ -1,14 +1,17 @@
 -- What the word of a message says of its command.
-use Rattle.std.proofs.Common.{◌≡◌, inl, inr, ℕ, ℤ, Bool, true, false, ◌&&◌, ◌||◌, nat_eq, nat_le, Option, None, Some, Ok, if◌then◌else◌, refl, sym, ap, ◌∙◌}
+use Rattle.std.proofs.Common.{◌≡◌, inl, inr, Bool, true, false, ◌&&◌, nat_le, Option, None, Some, is_some, List, Ok, if◌then◌else◌, refl, sym, ap, ◌∙◌}
 use Rattle.std.proofs.lemmas.Bool.{cases_Bool}
+use Rattle.dm_wire.specs.declared.avp.Avp.{Avp}
 use Rattle.dm_wire.specs.declared.message.Header.{Header}
 use Rattle.dm_wire.specs.declared.message.Message.{Message}
 use Rattle.dm_dict.specs.Faults.{Fault, faults, first}
-use Rattle.dm_base.specs.declared.kind.Caps.{Caps}
+use Rattle.dm_base.specs.Codes.{result_code}
 use Rattle.dm_base.specs.declared.kind.Kind.{Kind}
 use Rattle.dm_base.specs.declared.kind.Kind.TheVariants as kinds
-use Rattle.dm_base.specs.Codes.{capabilities_exchange, device_watchdog, disconnect_peer}
-use Rattle.dm_base.specs.Kinds.{kind_of, kind_or_fault, is_base_command}
+use Rattle.dm_base.specs.Commands.{base_command, is_base_command}
+use Rattle.dm_base.specs.declared.base_command.BaseCommand.{BaseCommand}
+use Rattle.dm_base.specs.declared.base_command.BaseCommand.TheVariants.{CapabilitiesExchange, DeviceWatchdog, DisconnectPeer}
+use Rattle.dm_base.specs.Kinds.{caps_of, number_at, kind_by, kind_of, kind_or_fault}
 use Rattle.dm_machine.specs.declared.inputs.Word.{Word}
 use Rattle.dm_machine.specs.declared.inputs.Word.TheVariants.{Other}
 use Rattle.dm_peer.specs.declared.config.Config.{Config}
@@ -37,32 +40,25 @@ base_word c m w e differs = elim (cases_Bool (is_base_command m.header.command))
   | inr other ↦ absurd (differs (sym (other_word c m other) ∙ e))
 ]
 
-abbrev kind_by : Bool → Bool → Bool → Bool → Caps → ℕ → ℤ → Kind
-kind_by a b d r caps code cause =
-    if a then (if r then kinds.Cer caps else kinds.Cea code)
-    else (if b then (if r then kinds.Dwr else kinds.Dwa)
-    else (if d then (if r then kinds.Dpr cause else kinds.Dpa) else kinds.Other))
-
-no_other_kind : (c : Config) (h : Header) (a b d r : Bool) (caps : Caps) (code : ℕ) (cause : ℤ) →
-    ((a || b) || d) ≡ true → (said c h (Ok (kind_by a b d r caps code cause))).word ≡ Other → ⊥
-no_other_kind c h true b d true caps code cause base e =
-    caps_word h (refusal_of_caps c caps) Other e (λ x. cc x) (λ x. cc x)
-no_other_kind c h true b d false caps code cause base e =
+no_other_kind : (c : Config) (h : Header) (o : Option BaseCommand) (r : Bool) (l : List Avp) →
+    is_some o ≡ true → (said c h (Ok (kind_by o r l))).word ≡ Other → ⊥
+no_other_kind c h (Some CapabilitiesExchange) true l base e =
+    caps_word h (refusal_of_caps c (caps_of l)) Other e (λ x. cc x) (λ x. cc x)
+no_other_kind c h (Some CapabilitiesExchange) false l base e =
+    let code = number_at result_code l in
     code_word (nat_le 2000 code && nat_le code 2999) Other e (λ x. cc x) (λ x. cc x)
-no_other_kind c h false true d true caps code cause base e = cc e
-no_other_kind c h false true d false caps code cause base e = cc e
-no_other_kind c h false false true true caps code cause base e = cc e
-no_other_kind c h false false true false caps code cause base e = cc e
-no_other_kind c h false false false r caps code cause base e = cc base
+no_other_kind c h (Some DeviceWatchdog) true l base e = cc e
+no_other_kind c h (Some DeviceWatchdog) false l base e = cc e
+no_other_kind c h (Some DisconnectPeer) true l base e = cc e
+no_other_kind c h (Some DisconnectPeer) false l base e = cc e
+no_other_kind c h None r l base e = cc base
 
 base_differs : (c : Config) (m : Message) (f : Option Fault) → is_base_command m.header.command ≡ true →
     (said c m.header (kind_or_fault f (kind_of m.header.command m.header.request m.avps))).word ≡ Other → ⊥
 base_differs c m (Some f) base e =
-    not_bad (nat_eq m.header.command capabilities_exchange) (nat_eq m.header.command device_watchdog)
-    m.header.request Other e refl
+    not_bad (base_command m.header.command) m.header.request Other e refl
 base_differs c m None base e =
-    no_other_kind c m.header (nat_eq m.header.command capabilities_exchange)
-    (nat_eq m.header.command device_watchdog) (nat_eq m.header.command disconnect_peer) m.header.request _ _ _ base e
+    no_other_kind c m.header (base_command m.header.command) m.header.request m.avps base e
 
 pub other_command : (c : Config) (m : Message) → (heard_in c m).word ≡ Other → is_base_command m.header.command ≡ false
 other_command c m e = elim (cases_Bool (is_base_command m.header.command)) [
@@ -77,43 +73,41 @@ is_cer_or_cea true (kinds.Cer caps) = true
 is_cer_or_cea false (kinds.Cea code) = true
 is_cer_or_cea r k = false
 
-exchange_by : (r' a b d r : Bool) (caps : Caps) (code : ℕ) (cause : ℤ) →
-    is_cer_or_cea r' (kind_by a b d r caps code cause) ≡ true → (a ≡ true) × (r ≡ r')
-exchange_by true true b d true caps code cause e = (refl, refl)
-exchange_by false true b d false caps code cause e = (refl, refl)
-exchange_by true true b d false caps code cause e = absurd (cc e)
-exchange_by false true b d true caps code cause e = absurd (cc e)
-exchange_by true false true d true caps code cause e = absurd (cc e)
-exchange_by true false true d false caps code cause e = absurd (cc e)
-exchange_by false false true d true caps code cause e = absurd (cc e)
-exchange_by false false true d false caps code cause e = absurd (cc e)
-exchange_by true false false true true caps code cause e = absurd (cc e)
-exchange_by true false false true false caps code cause e = absurd (cc e)
-exchange_by false false false true true caps code cause e = absurd (cc e)
-exchange_by false false false true false caps code cause e = absurd (cc e)
-exchange_by true false false false r caps code cause e = absurd (cc e)
-exchange_by false false false false r caps code cause e = absurd (cc e)
+exchange_by : (r' : Bool) (o : Option BaseCommand) (r : Bool) (l : List Avp) → is_cer_or_cea r' (kind_by o r l) ≡ true →
+    (o ≡ Some CapabilitiesExchange) × (r ≡ r')
+exchange_by true (Some CapabilitiesExchange) true l e = (refl, refl)
+exchange_by false (Some CapabilitiesExchange) false l e = (refl, refl)
+exchange_by true (Some CapabilitiesExchange) false l e = absurd (cc e)
+exchange_by false (Some CapabilitiesExchange) true l e = absurd (cc e)
+exchange_by true (Some DeviceWatchdog) true l e = absurd (cc e)
+exchange_by true (Some DeviceWatchdog) false l e = absurd (cc e)
+exchange_by false (Some DeviceWatchdog) true l e = absurd (cc e)
+exchange_by false (Some DeviceWatchdog) false l e = absurd (cc e)
+exchange_by true (Some DisconnectPeer) true l e = absurd (cc e)
+exchange_by true (Some DisconnectPeer) false l e = absurd (cc e)
+exchange_by false (Some DisconnectPeer) true l e = absurd (cc e)
+exchange_by false (Some DisconnectPeer) false l e = absurd (cc e)
+exchange_by true None r l e = absurd (cc e)
+exchange_by false None r l e = absurd (cc e)
 
 kind_parts : (r : Bool) (m : Message) (b : Bool) (f : Option Fault) (k : Kind) → is_cer_or_cea r k ≡ true →
     (if b then kind_or_fault f (kind_of m.header.command m.header.request m.avps) else Ok kinds.Other) ≡ Ok k →
-    (nat_eq m.header.command capabilities_exchange ≡ true) × (m.header.request ≡ r)
+    (base_command m.header.command ≡ Some CapabilitiesExchange) × (m.header.request ≡ r)
 kind_parts true m false f k is e = absurd (cc (is, e))
 kind_parts false m false f k is e = absurd (cc (is, e))
 kind_parts r m true (Some f) k is e = absurd (cc e)
 kind_parts r m true None k is e =
     let same : kind_of m.header.command m.header.request m.avps ≡ k = cc e in
-    exchange_by r (nat_eq m.header.command capabilities_exchange) (nat_eq m.header.command device_watchdog)
-    (nat_eq m.header.command disconnect_peer) m.header.request _ _ _
-    (ap (is_cer_or_cea r) same ∙ is)
+    exchange_by r (base_command m.header.command) m.header.request m.avps (ap (is_cer_or_cea r) same ∙ is)
 
 pub cea_answers : (c : Config) (m : Message) → IsAcceptableCea c m →
-    (nat_eq m.header.command capabilities_exchange ≡ true) × (m.header.request ≡ false)
+    (base_command m.header.command ≡ Some CapabilitiesExchange) × (m.header.request ≡ false)
 cea_answers c m good =
     kind_parts false m (is_base_command m.header.command) (first (faults c.dictionary m)) (kinds.Cea good.code) refl
     good.checked
 
 pub cer_asks : (c : Config) (m : Message) → IsAcceptableCer c m →
-    (nat_eq m.header.command capabilities_exchange ≡ true) × (m.header.request ≡ true)
+    (base_command m.header.command ≡ Some CapabilitiesExchange) × (m.header.request ≡ true)
 cer_asks c m good =
     kind_parts true m (is_base_command m.header.command) (first (faults c.dictionary m)) (kinds.Cer good.caps) refl
     good.checked

@@ -1,12 +1,13 @@
 -- What each action comes from: a command, and what was heard for it.
-use Rattle.std.proofs.Common.{◌≡◌, ◌⊎◌, inl, inr, ℕ, nat_eq, Bool, true, false, not, ◌||◌, Option, None, Some, List, [], ◌∷◌, if◌then◌else◌, refl, sym, subst, ap, ◌∙◌}
+use Rattle.std.proofs.Common.{◌≡◌, ◌⊎◌, inl, inr, ℕ, Bool, true, false, not, ◌||◌, Option, None, Some, List, [], ◌∷◌, if◌then◌else◌, refl, sym, subst, ap, ◌∙◌}
 use Rattle.std.specs.List.{list_all}
 use Rattle.std.proofs.lemmas.Bool.{and_parts, or_cases}
 use Rattle.dm_wire.specs.declared.message.Header.{Header}
 use Rattle.dm_base.specs.declared.node.Node as base_node
 use Rattle.dm_base.specs.Built.{built_cer, built_dwr, built_dpr, built_cea, built_answer, built_error}
-use Rattle.dm_base.specs.Codes.{capabilities_exchange}
-use Rattle.dm_base.specs.Kinds.{is_base_command}
+use Rattle.dm_base.specs.declared.base_command.BaseCommand.{BaseCommand}
+use Rattle.dm_base.specs.declared.base_command.BaseCommand.TheVariants.{CapabilitiesExchange, DeviceWatchdog, DisconnectPeer}
+use Rattle.dm_base.specs.Commands.{base_command, is_base_command}
 use Rattle.dm_dict.specs.Faults.{Fault}
 use Rattle.dm_machine.specs.declared.connection.Conn.{Conn}
 use Rattle.dm_machine.specs.declared.inputs.Word.{Word}
@@ -22,7 +23,7 @@ use Rattle.dm_peer.specs.declared.peer.Peer.{Peer}
 use Rattle.dm_peer.specs.Events.{PeerEvent, octets_in, cause_in}
 use Rattle.dm_peer.specs.Octets.{octets_of}
 use Rattle.dm_peer.specs.Said.{Heard}
-use Rattle.dm_peer.specs.Sent.{action_of, refusal, is_protocol_error, header_of, fault_in, cer_answered}
+use Rattle.dm_peer.specs.Sent.{action_of, answer_by, refusal, is_protocol_error, header_of, fault_in, cer_answered}
 use Rattle.dm_history.specs.Carrying.{cer, dwr, dpr, cea, answer, error, AreOwn}
 use Rattle.dm_history.proofs.SameConn.{is_conn}
 
@@ -82,15 +83,20 @@ pub asks_readable : (w : Word) (o : Order) → asks_for w o ≡ true → Unreada
 asks_readable w o asks same = cc (ap (λ v. asks_for v o) same ∙ asks)
 
 -- what a command sends
-refused_own : (n : base_node.Node) (to : Header) (f : Fault) → is_base_command to.command ≡ true → (a b : Bool) →
-    AreOwn n (octets_of (if a then built_error n to f.code
-    else (if b then built_cea n to f.code f.failed else built_answer n to f.code f.failed)))
-refused_own n to f base true b =
-    record { message = built_error n to f.code; own = error to f.code; base = base; spelled = refl }
-refused_own n to f base false true =
-    record { message = built_cea n to f.code f.failed; own = cea to f.code f.failed; base = base; spelled = refl }
-refused_own n to f base false false =
+answer_own : (n : base_node.Node) (to : Header) (f : Fault) → is_base_command to.command ≡ true →
+    AreOwn n (octets_of (built_answer n to f.code f.failed))
+answer_own n to f base =
     record { message = built_answer n to f.code f.failed; own = answer to f.code f.failed; base = base; spelled = refl }
+
+refused_own : (n : base_node.Node) (to : Header) (f : Fault) → is_base_command to.command ≡ true → (protocol : Bool)
+    (o : Option BaseCommand) → AreOwn n (octets_of (if protocol then built_error n to f.code else answer_by o n to f))
+refused_own n to f base true o =
+    record { message = built_error n to f.code; own = error to f.code; base = base; spelled = refl }
+refused_own n to f base false (Some CapabilitiesExchange) =
+    record { message = built_cea n to f.code f.failed; own = cea to f.code f.failed; base = base; spelled = refl }
+refused_own n to f base false (Some DeviceWatchdog) = answer_own n to f base
+refused_own n to f base false (Some DisconnectPeer) = answer_own n to f base
+refused_own n to f base false None = answer_own n to f base
 
 own_as : (n : base_node.Node) (s t : List ℕ) → AreOwn n t → t ≡ s → AreOwn n s
 own_as n s t own is = subst (AreOwn n) is own
@@ -119,7 +125,7 @@ own_sent p e h c s (command.SendRefusal d) is base =
     let to = header_of h in
     let b = base.1 SendsRefusal (ap (λ t. if_ordered t SendsRefusal) (is_conn d c (cc is))) refl in
     inl (own_as p.config.node s (octets_of (refusal p.config.node to f))
-    (refused_own p.config.node to f b (is_protocol_error f.code) (nat_eq to.command capabilities_exchange)) (cc is))
+    (refused_own p.config.node to f b (is_protocol_error f.code) (base_command to.command)) (cc is))
 own_sent p e h c s (command.SendDwr d) is base =
     let m = built_dwr p.config.node p.standing.next in
     inl (own_as p.config.node s (octets_of m)

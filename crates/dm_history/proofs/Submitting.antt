@@ -2,7 +2,7 @@
 use Rattle.std.proofs.Common.{◌≡◌, ℕ, ◌==◌, Bool, true, false, not, Option, None, Some, List, if◌then◌else◌, refl, subst, ap}
 use Rattle.dm_wire.specs.declared.message.Message.{Message}
 use Rattle.dm_wire.specs.Whole.{message_in}
-use Rattle.dm_base.specs.Kinds.{is_base_command}
+use Rattle.dm_base.specs.Commands.{is_base_command}
 use Rattle.dm_machine.specs.declared.connection.Conn.{Conn}
 use Rattle.dm_machine.specs.Connection.{Concern, StartsIt, AcksIt, NacksIt, EndsIt, HeardOnIt, if_named, concern_of}
 use Rattle.dm_machine.specs.Moves.{is_open}

@@ -1,16 +1,16 @@
 -- What a peer keeps of a connection that waits: the number of the CER that was sent, the header of the one that came.
-use Rattle.std.proofs.Common.{◌≡◌, ℕ, Bool, true, false, not, ◌&&◌, ◌||◌, nat_eq, Option, None, Some, is_some, List, [], ◌∷◌, if◌then◌else◌, refl, sym, ap, ◌∙◌}
+use Rattle.std.proofs.Common.{◌≡◌, ℕ, Bool, true, false, not, ◌&&◌, nat_eq, Option, None, Some, is_some, List, [], ◌∷◌, if◌then◌else◌, refl, sym, ap, ◌∙◌}
 use Rattle.std.specs.Option.{option_eq}
 use Rattle.std.proofs.lemmas.Bool.{eqb-true}
 use Rattle.dm_wire.specs.declared.message.Header.{Header}
-use Rattle.dm_base.specs.Codes.{capabilities_exchange, device_watchdog, disconnect_peer}
-use Rattle.dm_base.specs.Kinds.{is_base_command}
+use Rattle.dm_base.specs.Commands.{base_command, is_base_command}
+use Rattle.dm_base.specs.declared.base_command.BaseCommand.TheVariants.{CapabilitiesExchange}
 use Rattle.dm_machine.specs.declared.connection.Conn.{Conn}
 use Rattle.dm_machine.specs.declared.outputs.Command.{Command}
 use Rattle.dm_machine.specs.declared.outputs.Command.TheVariants as command
 use Rattle.dm_peer.specs.declared.standing.Awaited.{Awaited}
 use Rattle.dm_machine.specs.Awaiting.{number_after}
-use Rattle.dm_peer.specs.After.{request_in, awaited_of, is_cer}
+use Rattle.dm_peer.specs.After.{request_in, awaited_by, awaited_of, is_cer}
 use Rattle.dm_peer.specs.Acts.{is_unawaited}
 use Rattle.dm_history.specs.History.{StandsAmong}
 use Rattle.dm_history.proofs.Among.{further}
@@ -25,24 +25,19 @@ not_unawaited true true b e = refl
 not_unawaited true false b e = cc
 not_unawaited false fits b e = cc
 
-or_first : (a b : Bool) → a ≡ true → (a || b) ≡ true
-or_first true b e = refl
-or_first false b e = cc
+pub exchange_is_base : (command : ℕ) → base_command command ≡ Some CapabilitiesExchange →
+    is_base_command command ≡ true
+exchange_is_base command is = ap is_some is
 
-pub exchange_is_base : (command : ℕ) → nat_eq command capabilities_exchange ≡ true → is_base_command command ≡ true
-exchange_is_base command is =
-    or_first (nat_eq command capabilities_exchange || nat_eq command device_watchdog) (nat_eq command disconnect_peer)
-    (or_first (nat_eq command capabilities_exchange) (nat_eq command device_watchdog) is)
-
-pub awaited_number : (a : Awaited) (h : Header) → nat_eq h.command capabilities_exchange ≡ true → h.request ≡ false →
+pub awaited_number : (a : Awaited) (h : Header) → base_command h.command ≡ Some CapabilitiesExchange →
+    h.request ≡ false →
     is_unawaited a h ≡ false → a.cea ≡ Some h.hop_id
 awaited_number a h is answer e =
     let fits = option_eq nat_eq (awaited_of a h.command) (Some h.hop_id) in
     let e' = sym (ap (λ b. not b && (is_base_command h.command && not fits)) answer) ∙ e in
     let found = number_fits (awaited_of a h.command) h.hop_id
     (not_unawaited (is_base_command h.command) fits (exchange_is_base h.command is) e') in
-    sym (ap (λ b. if b then a.cea else (if nat_eq h.command device_watchdog then a.dwa
-    else (if nat_eq h.command disconnect_peer then a.dpa else None))) is) ∙ found
+    sym (ap (awaited_by a) is) ∙ found
 
 -- nothing that there is
 pub none_there : {A : Type 0} (b : Bool) (o : Option A) → is_some o ≡ b → b ≡ false → o ≡ None

@@ -1,5 +1,5 @@
 -- What makes the word of a message that of a good CER or CEA.
-use Rattle.std.proofs.Common.{◌≡◌, ℕ, Bool, true, false, not, ◌&&◌, nat_eq, nat_le, Option, None, Some, Result, Ok, Err, if◌then◌else◌, refl, sym, ap, ◌∙◌}
+use Rattle.std.proofs.Common.{◌≡◌, ℕ, Bool, true, false, not, ◌&&◌, nat_le, Option, None, Some, Result, Ok, Err, if◌then◌else◌, refl, sym, ap, ◌∙◌}
 use Rattle.std.proofs.lemmas.Bool.{and_parts}
 use Rattle.dm_wire.specs.declared.message.Header.{Header}
 use Rattle.dm_wire.specs.declared.message.Message.{Message}
@@ -7,14 +7,16 @@ use Rattle.dm_dict.specs.Faults.{Fault}
 use Rattle.dm_base.specs.declared.kind.Caps.{Caps}
 use Rattle.dm_base.specs.declared.kind.Kind.{Kind}
 use Rattle.dm_base.specs.declared.kind.Kind.TheVariants as kinds
-use Rattle.dm_base.specs.Codes.{capabilities_exchange, device_watchdog}
+use Rattle.dm_base.specs.Commands.{base_command}
+use Rattle.dm_base.specs.declared.base_command.BaseCommand.{BaseCommand}
+use Rattle.dm_base.specs.declared.base_command.BaseCommand.TheVariants.{CapabilitiesExchange, DeviceWatchdog, DisconnectPeer}
 use Rattle.dm_base.specs.Common.{is_common, is_secure}
 use Rattle.dm_base.specs.Kinds.{kind}
 use Rattle.dm_machine.specs.declared.inputs.Word.{Word}
 use Rattle.dm_machine.specs.declared.inputs.Word.TheVariants.{Cer, CerRefused, Cea, CeaFailed, DwrBad, DwaBad, DprBad, DpaBad}
 use Rattle.dm_peer.specs.declared.config.Config.{Config}
 use Rattle.dm_peer.specs.Hosts.{is_same_host}
-use Rattle.dm_peer.specs.Said.{heard_in, heard_caps, refusal_of_caps, said, kind_under}
+use Rattle.dm_peer.specs.Said.{heard_in, heard_caps, bad_word, refusal_of_caps, said, kind_under}
 use Rattle.dm_history.specs.Meant.{IsAcceptableCer, IsAcceptableCea}
 
 -- a message that fails its check has a word of its own
@@ -27,21 +29,18 @@ is_bad DprBad = true
 is_bad DpaBad = true
 is_bad _ = false
 
-abbrev bad_word : Bool → Bool → Bool → Word
-bad_word a b r =
-    if a then (if r then CerRefused else CeaFailed)
-    else (if b then (if r then DwrBad else DwaBad) else (if r then DprBad else DpaBad))
+bad_is_bad : (o : Option BaseCommand) (r : Bool) → is_bad (bad_word o r) ≡ true
+bad_is_bad (Some CapabilitiesExchange) true = refl
+bad_is_bad (Some CapabilitiesExchange) false = refl
+bad_is_bad (Some DeviceWatchdog) true = refl
+bad_is_bad (Some DeviceWatchdog) false = refl
+bad_is_bad (Some DisconnectPeer) true = refl
+bad_is_bad (Some DisconnectPeer) false = refl
+bad_is_bad None true = refl
+bad_is_bad None false = refl
 
-bad_is_bad : (a b r : Bool) → is_bad (bad_word a b r) ≡ true
-bad_is_bad true b true = refl
-bad_is_bad true b false = refl
-bad_is_bad false true true = refl
-bad_is_bad false true false = refl
-bad_is_bad false false true = refl
-bad_is_bad false false false = refl
-
-pub not_bad : (a b r : Bool) (w : Word) → bad_word a b r ≡ w → is_bad w ≡ false → ⊥
-not_bad a b r w e good = cc (sym (bad_is_bad a b r) ∙ (ap is_bad e ∙ good))
+pub not_bad : (o : Option BaseCommand) (r : Bool) (w : Word) → bad_word o r ≡ w → is_bad w ≡ false → ⊥
+not_bad o r w e good = cc (sym (bad_is_bad o r) ∙ (ap is_bad e ∙ good))
 
 -- the capabilities of a CER are good or refused, the code of a CEA success or failure
 pub caps_word : (h : Header) (o : Option ℕ) (w : Word) → (heard_caps h o).word ≡ w → (Cer ≡ w → ⊥) →
@@ -68,7 +67,7 @@ cer_of c h (Ok (kinds.Cea code)) e =
     absurd (code_word (nat_le 2000 code && nat_le code 2999) Cer e (λ x. cc x) (λ x. cc x))
 cer_of c h (Ok _) e = absurd (cc e)
 cer_of c h (Err f) e =
-    absurd (not_bad (nat_eq h.command capabilities_exchange) (nat_eq h.command device_watchdog) h.request Cer e refl)
+    absurd (not_bad (base_command h.command) h.request Cer e refl)
 
 cea_of : (c : Config) (h : Header) (r : Result Kind Fault) → (said c h r).word ≡ Cea →
     (code : ℕ) × (r ≡ Ok (kinds.Cea code)) × ((nat_le 2000 code && nat_le code 2999) ≡ true)
@@ -77,7 +76,7 @@ cea_of c h (Ok (kinds.Cer caps)) e =
     absurd (caps_word h (refusal_of_caps c caps) Cea e (λ x. cc x) (λ x. cc x))
 cea_of c h (Ok _) e = absurd (cc e)
 cea_of c h (Err f) e =
-    absurd (not_bad (nat_eq h.command capabilities_exchange) (nat_eq h.command device_watchdog) h.request Cea e refl)
+    absurd (not_bad (base_command h.command) h.request Cea e refl)
 
 none_of_three : (x y z : ℕ) (a b d : Bool) →
     (if not a then Some x else (if not b then Some y else (if not d then Some z else None))) ≡ None →

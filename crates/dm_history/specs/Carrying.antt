@@ -7,7 +7,7 @@ use Rattle.dm_wire.specs.Whole.{message_in}
 use Rattle.dm_base.specs.declared.kind.Cause.{Cause}
 use Rattle.dm_base.specs.declared.node.Node.{Node}
 use Rattle.dm_base.specs.Built.{built_cer, built_dwr, built_dpr, built_cea, built_answer, built_error}
-use Rattle.dm_base.specs.Kinds.{is_base_command}
+use Rattle.dm_base.specs.Commands.{is_base_command}
 use Rattle.dm_machine.specs.declared.connection.Conn.{Conn}
 use Rattle.dm_machine.specs.Connection.{hold_of}
 use Rattle.dm_machine.specs.Upward.{is_open_hold}

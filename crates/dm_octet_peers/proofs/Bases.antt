@@ -1,5 +1,5 @@
 -- Messages of base commands: they are heard as such, and no other message is; what a node builds is no application's.
-use Rattle.std.proofs.Common.{◌≡◌, ℕ, Bool, true, false, not, ◌&&◌, ◌||◌, nat_le, Option, None, Some, List, ◌∷◌, ◌++◌, drop, if◌then◌else◌, refl, sym, ap, subst, nat_eq}
+use Rattle.std.proofs.Common.{◌≡◌, ℕ, Bool, true, false, not, ◌&&◌, nat_le, Option, None, Some, is_some, List, ◌∷◌, ◌++◌, drop, if◌then◌else◌, refl, sym, ap, subst, nat_eq}
 use Rattle.std.specs.Prelude.{option_map, Result, Ok}
 use Rattle.std.proofs.lemmas.Bool.{eqb-true}
 use Rattle.dm_wire.specs.declared.avp.Avp.{Avp}
@@ -8,17 +8,20 @@ use Rattle.dm_wire.specs.declared.message.Message.{Message}
 use Rattle.dm_wire.specs.Members.{members}
 use Rattle.dm_wire.specs.Whole.{has_header, header_in, with_header, message_in}
 use Rattle.dm_dict.specs.Faults.{Fault, faults, first}
-use Rattle.dm_base.specs.Codes.{capabilities_exchange, device_watchdog, disconnect_peer, result_code, disconnect_cause}
+use Rattle.dm_base.specs.Codes.{capabilities_exchange, device_watchdog, disconnect_peer, result_code}
+use Rattle.dm_base.specs.declared.base_command.BaseCommand.{BaseCommand}
+use Rattle.dm_base.specs.declared.base_command.BaseCommand.TheVariants.{CapabilitiesExchange, DeviceWatchdog, DisconnectPeer}
 use Rattle.dm_base.specs.declared.kind.Kind.{Kind}
 use Rattle.dm_base.specs.declared.kind.Kind.TheVariants as kinds
-use Rattle.std.specs.Int.{w32, cast_signed}
 use Rattle.dm_wire.specs.Spelling.{be}
 use Rattle.dm_wire.specs.Canonical.{header_flags, message_size, canonical_list, canonical_message}
-use Rattle.dm_base.specs.Kinds.{caps_of, number_at, is_base_command, kind_of, kind_or_fault}
+use Rattle.dm_base.specs.Commands.{base_command, is_base_command}
+use Rattle.dm_base.specs.Kinds.{caps_of, number_at, kind_by, kind_of, kind_or_fault}
 use Rattle.dm_machine.specs.declared.inputs.Word.{Word}
-use Rattle.dm_machine.specs.declared.inputs.Word.TheVariants.{CerRefused, Cea, CeaFailed, DwrBad, DwaBad, DprBad, DpaBad, Other}
+use Rattle.dm_machine.specs.declared.inputs.Word.TheVariants.{Cea, CeaFailed, Other}
 use Rattle.dm_peer.specs.declared.config.Config.{Config}
 use Rattle.dm_peer.specs.Octets.{octets_of}
+use Rattle.dm_peer.specs.Said as said_words
 use Rattle.dm_peer.specs.Said.{word_of_bad, refusal_of_caps, heard_caps, word_of_code, said_by_kind, said, kind_under, heard_in}
 use Rattle.dm_peer.specs.Acts.{can_submit}
 use Rattle.dm_octet_peers.specs.Carrying.{is_app}
@@ -52,19 +55,17 @@ other_heard c m h = ap (λ k. (said c m.header k).word) (other_kind c m h)
 
 -- and one of a base command isn't
 bad_word : (h : Header) → is_other (word_of_bad h) ≡ false
-bad_word h =
-    by_tests (nat_eq h.command capabilities_exchange) (nat_eq h.command device_watchdog) h.request
+bad_word h = by_command (base_command h.command) h.request
   where
-    by_tests : (exchange watchdog request : Bool) →
-        is_other
-        (if exchange then (if request then CerRefused else CeaFailed)
-        else (if watchdog then (if request then DwrBad else DwaBad) else (if request then DprBad else DpaBad))) ≡ false
-    by_tests true watchdog true = refl
-    by_tests true watchdog false = refl
-    by_tests false true true = refl
-    by_tests false true false = refl
-    by_tests false false true = refl
-    by_tests false false false = refl
+    by_command : (o : Option BaseCommand) (request : Bool) → is_other (said_words.bad_word o request) ≡ false
+    by_command (Some CapabilitiesExchange) true = refl
+    by_command (Some CapabilitiesExchange) false = refl
+    by_command (Some DeviceWatchdog) true = refl
+    by_command (Some DeviceWatchdog) false = refl
+    by_command (Some DisconnectPeer) true = refl
+    by_command (Some DisconnectPeer) false = refl
+    by_command None true = refl
+    by_command None false = refl
 
 caps_word : (h : Header) (o : Option ℕ) → is_other (heard_caps h o).word ≡ false
 caps_word h None = refl
@@ -79,24 +80,17 @@ code_word code = by_test (nat_le 2000 code && nat_le code 2999)
 
 kind_word : (c : Config) (h : Header) (code : ℕ) (request : Bool) (l : List Avp) →
     is_base_command code ≡ true → is_other (said_by_kind c h (kind_of code request l)).word ≡ false
-kind_word c h code request l base =
-    by_tests (nat_eq code capabilities_exchange) (nat_eq code device_watchdog) (nat_eq code disconnect_peer) request
-    base
+kind_word c h code request l base = by_command (base_command code) request base
   where
-    by_tests : (exchange watchdog disconnect request : Bool) → (exchange || watchdog || disconnect) ≡ true →
-        is_other (said_by_kind c h
-        (if exchange then (if request then kinds.Cer (caps_of l) else kinds.Cea (number_at result_code l))
-        else (if watchdog then (if request then kinds.Dwr else kinds.Dwa)
-        else (if disconnect
-        then (if request then kinds.Dpr (cast_signed w32 (number_at disconnect_cause l)) else kinds.Dpa)
-        else kinds.Other)))).word ≡ false
-    by_tests true watchdog disconnect true h' = caps_word h (refusal_of_caps c (caps_of l))
-    by_tests true watchdog disconnect false h' = code_word (number_at result_code l)
-    by_tests false true disconnect true h' = refl
-    by_tests false true disconnect false h' = refl
-    by_tests false false true true h' = refl
-    by_tests false false true false h' = refl
-    by_tests false false false request h' = cc
+    by_command : (o : Option BaseCommand) (request : Bool) → is_some o ≡ true →
+        is_other (said_by_kind c h (kind_by o request l)).word ≡ false
+    by_command (Some CapabilitiesExchange) true e = caps_word h (refusal_of_caps c (caps_of l))
+    by_command (Some CapabilitiesExchange) false e = code_word (number_at result_code l)
+    by_command (Some DeviceWatchdog) true e = refl
+    by_command (Some DeviceWatchdog) false e = refl
+    by_command (Some DisconnectPeer) true e = refl
+    by_command (Some DisconnectPeer) false e = refl
+    by_command None request e = cc
 
 said_word : (c : Config) (h : Header) (code : ℕ) (request : Bool) (l : List Avp) (o : Option Fault) →
     is_base_command code ≡ true → is_other (said c h (kind_or_fault o (kind_of code request l))).word ≡ false
@@ -112,6 +106,11 @@ base_heard c m base =
     (said_word c m.header m.header.command m.header.request m.avps (first (faults c.dictionary m)) base)
 
 -- what a node builds is no message of an application
+abbrev command_by : Bool → Bool → Bool → Option BaseCommand
+command_by exchange watchdog disconnect =
+    if exchange then Some CapabilitiesExchange
+    else (if watchdog then Some DeviceWatchdog else (if disconnect then Some DisconnectPeer else None))
+
 abbrev headed : ℕ → ℕ → List ℕ → ℕ → List ℕ
 headed size flags more code = 1 ∷ be size 3 ++ flags ∷ be code 3 ++ more
 
@@ -124,7 +123,7 @@ command_at size flags more code base =
   where
     by_tests : (exchange watchdog disconnect : Bool) → nat_eq code capabilities_exchange ≡ exchange →
         nat_eq code device_watchdog ≡ watchdog → nat_eq code disconnect_peer ≡ disconnect →
-        (exchange || watchdog || disconnect) ≡ true → is_base_command
+        is_some (command_by exchange watchdog disconnect) ≡ true → is_base_command
         (header_in (headed size flags more code)).command ≡ true
     by_tests true watchdog disconnect e f g h =
         subst (λ n. is_base_command (header_in (headed size flags more n)).command ≡ true)

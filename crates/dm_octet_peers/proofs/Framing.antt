@@ -1,5 +1,5 @@
 -- Every message that a peer over octets sends is a frame.
-use Rattle.std.proofs.Common.{◌≡◌, ◌<◌, ◌^◌, ℕ, Bool, true, false, Option, None, Some, List, [], ◌∷◌, if◌then◌else◌, refl, sym, subst, ◌⊎◌, inl, inr, arith, nat_eq}
+use Rattle.std.proofs.Common.{◌≡◌, ◌<◌, ◌^◌, ℕ, Bool, true, false, Option, None, Some, List, [], ◌∷◌, if◌then◌else◌, refl, sym, subst, ◌⊎◌, inl, inr, arith}
 use Rattle.std.specs.Prelude.{⊤}
 use Rattle.std.proofs.lemmas.Bool.{and_parts}
 use Rattle.dm_framer.specs.Frames.{IsFrame}
@@ -12,7 +12,9 @@ use Rattle.dm_wire.specs.Whole.{message_in, MessageInSpells}
 use Rattle.dm_dict.specs.Faults.{Fault}
 use Rattle.dm_base.specs.declared.node.Node.{Node}
 use Rattle.dm_base.specs.declared.kind.Cause.{Cause}
-use Rattle.dm_base.specs.Codes.{capabilities_exchange}
+use Rattle.dm_base.specs.Commands.{base_command}
+use Rattle.dm_base.specs.declared.base_command.BaseCommand.{BaseCommand}
+use Rattle.dm_base.specs.declared.base_command.BaseCommand.TheVariants.{CapabilitiesExchange, DeviceWatchdog, DisconnectPeer}
 use Rattle.dm_base.specs.Spelled.{HasSpelling}
 use Rattle.dm_base.specs.Laws.{CerIsSpelled, CeaIsSpelled, DwrIsSpelled, DprIsSpelled, AnswerIsSpelled, ErrorIsSpelled}
 use Rattle.dm_base.specs.Built.{built_cer, built_dwr, built_dpr, built_cea, built_answer, built_error}
@@ -28,7 +30,8 @@ use Rattle.dm_peer.specs.Events.{octets_in, cause_in}
 use Rattle.dm_peer.specs.Configs.{wins}
 use Rattle.dm_peer.specs.Octets.{octets_of}
 use Rattle.dm_peer.specs.Said.{Heard}
-use Rattle.dm_peer.specs.Sent.{no_header, header_of, fault_in, cer_answered, is_protocol_error, refusal, action_of, actions_of}
+use Rattle.dm_peer.specs.Sent.{no_header, header_of, fault_in, cer_answered, is_protocol_error, answer_by, refusal}
+use Rattle.dm_peer.specs.Sent.{action_of, actions_of}
 use Rattle.dm_peer.specs.Acts.{Outcome, Moved, Refused, turned, input_of, outcome_of, steps, can_submit, acts}
 use Rattle.dm_peer.specs.Octets.{AreOctets}
 use Rattle.dm_octet_peers.specs.Frames.{submitted_in, SendFrames, OctetsAreFrames}
@@ -91,16 +94,15 @@ error_framed laws n to code =
     (laws.error n no_header code no_header_fits)
 
 refusal_framed : FrameLaws → (n : Node) (to : Header) (f : Fault) → IsSent (octets_of (refusal n to f))
-refusal_framed laws n to f = by (is_protocol_error f.code) (nat_eq to.command capabilities_exchange)
+refusal_framed laws n to f = by (is_protocol_error f.code) (base_command to.command)
   where
-    by : (protocol exchange : Bool) →
-        IsSent
-        (octets_of
-        (if protocol then built_error n to f.code
-        else (if exchange then built_cea n to f.code f.failed else built_answer n to f.code f.failed)))
-    by true exchange = error_framed laws n to f.code
-    by false true = cea_framed laws n to f.code f.failed
-    by false false = answer_framed laws n to f.code f.failed
+    by : (protocol : Bool) (command : Option BaseCommand) →
+        IsSent (octets_of (if protocol then built_error n to f.code else answer_by command n to f))
+    by true command = error_framed laws n to f.code
+    by false (Some CapabilitiesExchange) = cea_framed laws n to f.code f.failed
+    by false (Some DeviceWatchdog) = answer_framed laws n to f.code f.failed
+    by false (Some DisconnectPeer) = answer_framed laws n to f.code f.failed
+    by false None = answer_framed laws n to f.code f.failed
 
 -- the actions of commands: none is a message of the user, or that is a frame
 abbrev Framed : List declared_action.Action → Type 0

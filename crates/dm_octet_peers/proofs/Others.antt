@@ -1,5 +1,5 @@
 -- No event but a Submit sends a message of an application, and a peer keeps waiting well.
-use Rattle.std.proofs.Common.{◌≡◌, ℕ, Bool, true, false, not, ◌||◌, nat_eq, Option, None, Some, List, [], ◌∷◌, if◌then◌else◌, ◌⊎◌, inl, inr, refl, sym, ap, subst}
+use Rattle.std.proofs.Common.{◌≡◌, ℕ, Bool, true, false, not, ◌||◌, Option, None, Some, List, [], ◌∷◌, if◌then◌else◌, ◌⊎◌, inl, inr, refl, sym, ap, subst}
 use Rattle.std.specs.Prelude.{⊤}
 use Rattle.std.specs.List.{list_all}
 use Rattle.std.proofs.lemmas.Bool.{and_parts, and_from}
@@ -7,9 +7,10 @@ use Rattle.dm_wire.specs.declared.message.Header.{Header}
 use Rattle.dm_wire.specs.declared.message.Message.{Message}
 use Rattle.dm_dict.specs.Faults.{Fault}
 use Rattle.dm_base.specs.declared.node.Node as base
-use Rattle.dm_base.specs.Codes.{capabilities_exchange}
+use Rattle.dm_base.specs.declared.base_command.BaseCommand.{BaseCommand}
+use Rattle.dm_base.specs.declared.base_command.BaseCommand.TheVariants.{CapabilitiesExchange, DeviceWatchdog, DisconnectPeer}
 use Rattle.dm_base.specs.Built.{built_cer, built_dwr, built_dpr, built_cea, built_answer, built_error}
-use Rattle.dm_base.specs.Kinds.{is_base_command}
+use Rattle.dm_base.specs.Commands.{base_command, is_base_command}
 use Rattle.dm_machine.specs.declared.outputs.Command.{Command}
 use Rattle.dm_machine.specs.declared.outputs.Command.TheVariants as command
 use Rattle.dm_machine.specs.EachStep.{EachStepHolds}
@@ -22,7 +23,8 @@ use Rattle.dm_peer.specs.Events.{cause_in}
 use Rattle.dm_peer.specs.Configs.{wins}
 use Rattle.dm_peer.specs.Octets.{octets_of}
 use Rattle.dm_peer.specs.Said.{Heard, header_heard}
-use Rattle.dm_peer.specs.Sent.{header_of, fault_in, cer_answered, is_protocol_error, refusal, action_of, actions_of}
+use Rattle.dm_peer.specs.Sent.{header_of, fault_in, cer_answered, is_protocol_error, answer_by, refusal}
+use Rattle.dm_peer.specs.Sent.{action_of, actions_of}
 use Rattle.dm_machine.specs.Awaiting.{holds_cer}
 use Rattle.dm_peer.specs.Acts.{Outcome, Moved, Refused, turned, input_of, outcome_of, steps, acts}
 use Rattle.dm_two_peers.specs.Delivery.{sends_all}
@@ -54,16 +56,15 @@ cea_base false None h e (inr is) = cc
 
 refusal_no_app : (n : base.Node) (to : Header) (f : Fault) → is_base_command to.command ≡ true →
     no_app (octets_of (refusal n to f)) ≡ true
-refusal_no_app n to f e = by (is_protocol_error f.code) (nat_eq to.command capabilities_exchange)
+refusal_no_app n to f e = by (is_protocol_error f.code) (base_command to.command)
   where
-    by : (protocol exchange : Bool) →
-        no_app
-        (octets_of
-        (if protocol then built_error n to f.code
-        else (if exchange then built_cea n to f.code f.failed else built_answer n to f.code f.failed))) ≡ true
-    by true exchange = built_no_app (built_error n to f.code) e
-    by false true = built_no_app (built_cea n to f.code f.failed) e
-    by false false = built_no_app (built_answer n to f.code f.failed) e
+    by : (protocol : Bool) (command : Option BaseCommand) →
+        no_app (octets_of (if protocol then built_error n to f.code else answer_by command n to f)) ≡ true
+    by true command = built_no_app (built_error n to f.code) e
+    by false (Some CapabilitiesExchange) = built_no_app (built_cea n to f.code f.failed) e
+    by false (Some DeviceWatchdog) = built_no_app (built_answer n to f.code f.failed) e
+    by false (Some DisconnectPeer) = built_no_app (built_answer n to f.code f.failed) e
+    by false None = built_no_app (built_answer n to f.code f.failed) e
 
 abbrev NoApps : List declared_action.Action → Type 0
 NoApps l = sends_all no_app (as_actions l) ≡ true

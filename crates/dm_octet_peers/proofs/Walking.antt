@@ -3,7 +3,7 @@ use Rattle.std.proofs.Common.{◌≡◌, ℕ, Bool, true, false, Option, None, S
 use Rattle.dm_wire.specs.declared.message.Header.{Header}
 use Rattle.dm_wire.specs.declared.message.Message.{Message}
 use Rattle.dm_wire.specs.Whole.{message_in}
-use Rattle.dm_base.specs.Kinds.{is_base_command}
+use Rattle.dm_base.specs.Commands.{is_base_command}
 use Rattle.dm_machine.specs.declared.connection.Conn.{Conn}
 use Rattle.dm_machine.specs.declared.inputs.Input.TheVariants as input
 use Rattle.dm_machine.specs.Connection.{hold_of}

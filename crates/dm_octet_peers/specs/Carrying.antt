@@ -2,7 +2,7 @@
 use Rattle.std.specs.Prelude.{ℕ, Bool, true, false, IfSome, Option, Some, None, List}
 use Rattle.dm_wire.specs.declared.message.Header.{Header}
 use Rattle.dm_wire.specs.Whole.{message_in}
-use Rattle.dm_base.specs.Kinds.{is_base_command}
+use Rattle.dm_base.specs.Commands.{is_base_command}
 use Rattle.dm_peer.specs.declared.config.Config.{Config}
 use Rattle.dm_peer.specs.declared.peer.Peer.{Peer}
 use Rattle.dm_peer.specs.Acts.{can_submit}

@@ -1,5 +1,5 @@
 -- What a command sends spells a message, where the numbers fit: what a node builds, and what is submitted.
-use Rattle.std.proofs.Common.{◌≡◌, Bool, true, false, Option, None, Some, IfSome, List, [], ◌∷◌, All, nat_eq, if◌then◌else◌, arith}
+use Rattle.std.proofs.Common.{◌≡◌, Bool, true, false, Option, None, Some, IfSome, List, [], ◌∷◌, All, if◌then◌else◌, arith}
 use Rattle.std.specs.List.{list_all}
 use Rattle.std.proofs.lemmas.Bool.{and_parts}
 use Rattle.std.proofs.lemmas.List.Elements.{All-nil, All-cons}
@@ -10,7 +10,9 @@ use Rattle.dm_wire.specs.RoundTrip.{CanonicalSpells}
 use Rattle.dm_wire.specs.Whole.{MessageInSpells}
 use Rattle.dm_dict.specs.Faults.{Fault}
 use Rattle.dm_base.specs.declared.node.Node.{Node}
-use Rattle.dm_base.specs.Codes.{capabilities_exchange}
+use Rattle.dm_base.specs.Commands.{base_command}
+use Rattle.dm_base.specs.declared.base_command.BaseCommand.{BaseCommand}
+use Rattle.dm_base.specs.declared.base_command.BaseCommand.TheVariants.{CapabilitiesExchange, DeviceWatchdog, DisconnectPeer}
 use Rattle.dm_base.specs.Spelled.{HasSpelling}
 use Rattle.dm_base.specs.Laws.{CerIsSpelled, CeaIsSpelled, DwrIsSpelled, DprIsSpelled, AnswerIsSpelled, ErrorIsSpelled}
 use Rattle.dm_base.specs.Built.{built_cer, built_dwr, built_dpr, built_cea, built_answer, built_error}
@@ -21,7 +23,8 @@ use Rattle.dm_peer.specs.declared.peer.Peer.{Peer}
 use Rattle.dm_peer.specs.Events.{PeerEvent, octets_in, cause_in}
 use Rattle.dm_peer.specs.Octets.{octets_of}
 use Rattle.dm_peer.specs.Said.{Heard}
-use Rattle.dm_peer.specs.Sent.{no_header, header_of, fault_in, cer_answered, is_protocol_error, refusal, action_of, actions_of}
+use Rattle.dm_peer.specs.Sent.{no_header, header_of, fault_in, cer_answered, is_protocol_error, answer_by, refusal}
+use Rattle.dm_peer.specs.Sent.{action_of, actions_of}
 use Rattle.dm_peer.specs.Steps.{is_submit, has_what_it_says}
 use Rattle.dm_peer.specs.Spelled.{IsSpelling, SendsSpelling, IsFitting}
 
@@ -61,14 +64,18 @@ cer_fits (Some to) h kept fit = kept
 
 refusal_spelled : SpellingLaws → (n : Node) (to : Header) (f : Fault) → HeaderFits to →
     IsSpelling (octets_of (refusal n to f))
-refusal_spelled laws n to f fit = by (is_protocol_error f.code) (nat_eq to.command capabilities_exchange)
+refusal_spelled laws n to f fit = by (is_protocol_error f.code) (base_command to.command)
   where
-    by : (protocol exchange : Bool) →
-        IsSpelling (octets_of (if protocol then built_error n to f.code
-        else (if exchange then built_cea n to f.code f.failed else built_answer n to f.code f.failed)))
-    by true exchange = built laws (built_error n to f.code) (laws.error n to f.code fit)
-    by false true = built laws (built_cea n to f.code f.failed) (laws.cea n to f.code f.failed fit)
-    by false false = built laws (built_answer n to f.code f.failed) (laws.answer n to f.code f.failed fit)
+    answer : IsSpelling (octets_of (built_answer n to f.code f.failed))
+    answer = built laws (built_answer n to f.code f.failed) (laws.answer n to f.code f.failed fit)
+
+    by : (protocol : Bool) (command : Option BaseCommand) →
+        IsSpelling (octets_of (if protocol then built_error n to f.code else answer_by command n to f))
+    by true command = built laws (built_error n to f.code) (laws.error n to f.code fit)
+    by false (Some CapabilitiesExchange) = built laws (built_cea n to f.code f.failed) (laws.cea n to f.code f.failed fit)
+    by false (Some DeviceWatchdog) = answer
+    by false (Some DisconnectPeer) = answer
+    by false None = answer
 
 -- one action, and all of them
 one_spelled : SpellingLaws → (p : Peer) (e : PeerEvent) (h : Option Heard) → IsGiven p e h →

@@ -1,6 +1,8 @@
 -- Where a peer stands after a step: its numbers, and what it waits for.
-use Rattle.std.specs.Prelude.{ℕ, ◌+◌, ◌%◌, ◌^◌, Bool, true, false, ◌&&◌, nat_eq, Option, None, Some, List, [], ◌∷◌, if◌then◌else◌}
-use Rattle.dm_base.specs.Codes.{capabilities_exchange, device_watchdog, disconnect_peer}
+use Rattle.std.specs.Prelude.{ℕ, ◌+◌, ◌%◌, ◌^◌, Bool, true, false, ◌&&◌, Option, None, Some, List, [], ◌∷◌, if◌then◌else◌}
+use Rattle.dm_base.specs.Commands.{base_command}
+use Rattle.dm_base.specs.declared.base_command.BaseCommand.{BaseCommand}
+use Rattle.dm_base.specs.declared.base_command.BaseCommand.TheVariants.{CapabilitiesExchange, DeviceWatchdog, DisconnectPeer}
 use Rattle.dm_machine.specs.declared.state_name.State.{State}
 use Rattle.dm_machine.specs.declared.state_name.State.TheVariants.{Closed}
 use Rattle.dm_machine.specs.declared.outputs.Command.{Command}
@@ -19,12 +21,15 @@ use Rattle.dm_peer.specs.Said.{Heard, word_heard, header_heard}
 abbrev pub nothing_awaited : Awaited
 nothing_awaited = record { cea = None; dwa = None; dpa = None }
 
--- the number that awaits an answer of the command
+-- the number that awaits an answer of the command; of another than a base command none does
+abbrev pub awaited_by : Awaited → Option BaseCommand → Option ℕ
+awaited_by a (Some CapabilitiesExchange) = a.cea
+awaited_by a (Some DeviceWatchdog) = a.dwa
+awaited_by a (Some DisconnectPeer) = a.dpa
+awaited_by a None = None
+
 abbrev pub awaited_of : Awaited → ℕ → Option ℕ
-awaited_of a command =
-    if nat_eq command capabilities_exchange then a.cea
-    else (if nat_eq command device_watchdog then a.dwa
-    else (if nat_eq command disconnect_peer then a.dpa else None))
+awaited_of a command = awaited_by a (base_command command)
 
 -- Closed with no connections, awaiting nothing
 abbrev pub fresh : ℕ → Standing

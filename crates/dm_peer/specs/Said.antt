@@ -1,6 +1,5 @@
 -- What a message says to a peer: its word, and why it is refused (RFC 6733, 5.3 and 5.6).
-use Rattle.std.specs.Prelude.{ℕ, not, ◌&&◌, nat_eq, nat_le, Option, None, Some, option_map, List, Result, Ok, Err, if◌then◌else◌}
-use Rattle.dm_base.specs.Codes.{capabilities_exchange, device_watchdog}
+use Rattle.std.specs.Prelude.{ℕ, Bool, true, false, not, ◌&&◌, nat_le, Option, None, Some, option_map, List, Result, Ok, Err, if◌then◌else◌}
 use Rattle.dm_wire.specs.declared.codes.results.TheConstants.{UNKNOWN_PEER as unknown_peer}
 use Rattle.dm_wire.specs.declared.codes.results.TheConstants.{NO_COMMON_APPLICATION as no_common_application}
 use Rattle.dm_wire.specs.declared.codes.results.TheConstants.{NO_COMMON_SECURITY as no_common_security}
@@ -8,9 +7,12 @@ use Rattle.dm_wire.specs.declared.message.Header.{Header}
 use Rattle.dm_wire.specs.declared.message.Message.{Message}
 use Rattle.dm_dict.specs.Faults.{Fault}
 use Rattle.dm_dict.specs.Judgement.{shown}
+use Rattle.dm_base.specs.declared.base_command.BaseCommand.{BaseCommand}
+use Rattle.dm_base.specs.declared.base_command.BaseCommand.TheVariants.{CapabilitiesExchange, DeviceWatchdog}
 use Rattle.dm_base.specs.declared.kind.Caps.{Caps}
 use Rattle.dm_base.specs.declared.kind.Kind.{Kind}
 use Rattle.dm_base.specs.declared.kind.Kind.TheVariants as kinds
+use Rattle.dm_base.specs.Commands.{base_command}
 use Rattle.dm_base.specs.Kinds.{kind}
 use Rattle.dm_base.specs.Common.{is_common, is_secure}
 use Rattle.dm_machine.specs.declared.inputs.Word.{Word}
@@ -36,12 +38,17 @@ good h word = record { header = h; word = word; failure = None }
 abbrev pub refused : Header → Word → Fault → Heard
 refused h word failure = record { header = h; word = word; failure = Some failure }
 
--- a message that fails its check: of a CER or CEA, a DWR or DWA, a DPR or DPA
+-- the word of a message that fails its check, by its command and the R bit: only those of base commands are checked
+abbrev pub bad_word : Option BaseCommand → Bool → Word
+bad_word (Some CapabilitiesExchange) true = CerRefused
+bad_word (Some CapabilitiesExchange) false = CeaFailed
+bad_word (Some DeviceWatchdog) true = DwrBad
+bad_word (Some DeviceWatchdog) false = DwaBad
+bad_word _ true = DprBad
+bad_word _ false = DpaBad
+
 abbrev pub word_of_bad : Header → Word
-word_of_bad h =
-    if nat_eq h.command capabilities_exchange then (if h.request then CerRefused else CeaFailed)
-    else (if nat_eq h.command device_watchdog then (if h.request then DwrBad else DwaBad)
-    else (if h.request then DprBad else DpaBad))
+word_of_bad h = bad_word (base_command h.command) h.request
 
 -- why the capabilities of a peer are refused, in this order: it isn't the configured one, no application is common, it
 -- wants a security mechanism (5.3)

@@ -1,6 +1,9 @@
 -- What a command asks of the caller: the messages that a peer sends (RFC 6733, 5.3 to 5.6).
-use Rattle.std.specs.Prelude.{ℕ, Bool, true, false, ◌&&◌, nat_eq, nat_le, nat_lt, unwrap_or, Option, None, Some, List, map, if◌then◌else◌}
-use Rattle.dm_base.specs.Codes.{capabilities_exchange, success}
+use Rattle.std.specs.Prelude.{ℕ, Bool, true, false, ◌&&◌, nat_le, nat_lt, unwrap_or, Option, None, Some, List, map, if◌then◌else◌}
+use Rattle.dm_base.specs.Codes.{success}
+use Rattle.dm_base.specs.Commands.{base_command}
+use Rattle.dm_base.specs.declared.base_command.BaseCommand.{BaseCommand}
+use Rattle.dm_base.specs.declared.base_command.BaseCommand.TheVariants.{CapabilitiesExchange}
 use Rattle.dm_wire.specs.declared.codes.results.TheConstants.{UNABLE_TO_COMPLY as unable_to_comply}
 use Rattle.dm_wire.specs.declared.message.Header.{Header}
 use Rattle.dm_wire.specs.declared.message.Message.{Message}
@@ -22,12 +25,15 @@ use Rattle.dm_peer.specs.Said.{Heard, header_heard}
 abbrev pub is_protocol_error : ℕ → Bool
 is_protocol_error code = nat_le 3000 code && nat_lt code 4000
 
--- the answer that refuses a message: with the E bit for a protocol error, else a CEA, DWA or DPA
+-- the answer to a request of a base command: a CEA, or a DWA or DPA
+abbrev pub answer_by : Option BaseCommand → Node → Header → Fault → Message
+answer_by (Some CapabilitiesExchange) n to f = built_cea n to f.code f.failed
+answer_by _ n to f = built_answer n to f.code f.failed
+
+-- the answer that refuses a message: with the E bit for a protocol error, else that of its command
 abbrev pub refusal : Node → Header → Fault → Message
 refusal n to f =
-    if is_protocol_error f.code then built_error n to f.code
-    else (if nat_eq to.command capabilities_exchange then built_cea n to f.code f.failed
-    else built_answer n to f.code f.failed)
+    if is_protocol_error f.code then built_error n to f.code else answer_by (base_command to.command) n to f
 
 -- an answer is ordered only where a message was heard, and a refusal only of one that is refused: these stand for the
 -- header and the fault of none, so that the definitions are total

@@ -19,10 +19,8 @@ ghost use Rattle.dm_peer.specs.Said.{
 
 use crate::Config;
 use crate::config::is_same_host;
-use dm_base::codes::{
-    CAPABILITIES_EXCHANGE, DEVICE_WATCHDOG, NO_COMMON_APPLICATION, NO_COMMON_SECURITY, UNKNOWN_PEER,
-};
-use dm_base::{CapsRef, KindRef, view};
+use dm_base::codes::{NO_COMMON_APPLICATION, NO_COMMON_SECURITY, UNKNOWN_PEER};
+use dm_base::{BaseCommand, CapsRef, KindRef, view};
 use dm_dict::{Failed, Judged};
 use dm_machine::Word;
 use dm_wire::{Header, MessageRef};
@@ -40,22 +38,13 @@ pub(crate) struct HeardRef<'a> {
 fn word_of_bad(header: &Header) -> Word
     ensures { result ≡ word_of_bad header.now }
 {
-    if header.command == CAPABILITIES_EXCHANGE {
-        if header.request {
-            Word::CerRefused
-        } else {
-            Word::CeaFailed
-        }
-    } else if header.command == DEVICE_WATCHDOG {
-        if header.request {
-            Word::DwrBad
-        } else {
-            Word::DwaBad
-        }
-    } else if header.request {
-        Word::DprBad
-    } else {
-        Word::DpaBad
+    match BaseCommand::of(header.command) {
+        Some(BaseCommand::CapabilitiesExchange) if header.request => Word::CerRefused,
+        Some(BaseCommand::CapabilitiesExchange) => Word::CeaFailed,
+        Some(BaseCommand::DeviceWatchdog) if header.request => Word::DwrBad,
+        Some(BaseCommand::DeviceWatchdog) => Word::DwaBad,
+        _ if header.request => Word::DprBad,
+        _ => Word::DpaBad,
     }
 }
 

@@ -7,8 +7,10 @@ ghost use Rattle.dm_peer.specs.Sent.{sent, is_protocol_error, refusal};
 
 use crate::Action;
 use crate::message::sent_octets;
-use dm_base::codes::{CAPABILITIES_EXCHANGE, DEVICE_WATCHDOG, SUCCESS};
-use dm_base::{Cause, Node, cea, cer, dpa, dpr, dwa, dwr, error_answer, success_octets};
+use dm_base::codes::SUCCESS;
+use dm_base::{
+    BaseCommand, Cause, Node, cea, cer, dpa, dpr, dwa, dwr, error_answer, success_octets,
+};
 use dm_dict::NoMemory;
 use dm_machine::Conn;
 use dm_wire::{Avp, Header, Message, Octets};
@@ -85,11 +87,9 @@ pub(crate) fn refusal(
     if is_protocol_error(code) {
         return error_answer(alloc, node, to, code);
     }
-    if to.command == CAPABILITIES_EXCHANGE {
-        cea(alloc, node, to, code, failed)
-    } else if to.command == DEVICE_WATCHDOG {
-        dwa(alloc, node, to, code, failed)
-    } else {
-        dpa(alloc, node, to, code, failed)
+    match BaseCommand::of(to.command) {
+        Some(BaseCommand::CapabilitiesExchange) => cea(alloc, node, to, code, failed),
+        Some(BaseCommand::DeviceWatchdog) => dwa(alloc, node, to, code, failed),
+        _ => dpa(alloc, node, to, code, failed),
     }
 }

@@ -2,7 +2,7 @@
 ghost use Rattle.std.specs.Prelude.{◌≡◌, None};
 ghost use Rattle.dm_peer.specs.After.{awaited_of, nothing_awaited, fresh};
 
-use dm_base::codes::{CAPABILITIES_EXCHANGE, DEVICE_WATCHDOG, DISCONNECT_PEER};
+use dm_base::BaseCommand;
 use dm_machine::Core;
 use dm_wire::Header;
 use std::fmt::{self, Debug, Formatter, Write};
@@ -51,14 +51,10 @@ impl Awaited {
     pub(crate) fn of(&self, command: u32) -> Option<u32>
         ensures { result ≡ awaited_of self.now command }
     {
-        if command == CAPABILITIES_EXCHANGE {
-            self.cea
-        } else if command == DEVICE_WATCHDOG {
-            self.dwa
-        } else if command == DISCONNECT_PEER {
-            self.dpa
-        } else {
-            None
+        match BaseCommand::of(command)? {
+            BaseCommand::CapabilitiesExchange => self.cea,
+            BaseCommand::DeviceWatchdog => self.dwa,
+            BaseCommand::DisconnectPeer => self.dpa,
         }
     }
 }

@@ -1,18 +1,18 @@
 -- A message of another command, and a good one.
 use Rattle.std.proofs.Common.{sym, ◌∙◌, ap}
 use Rattle.dm_dict.specs.Judgement.{shown}
-use Rattle.dm_base.proofs.Viewing.{good_kind, other_kind}
+use Rattle.dm_base.proofs.Viewing.{none_of, good_kind, other_kind}
 use Rattle.dm_base.proofs.views.view.Goals as goal
 
-pub returns-then-not-is_base_command-clause-found : goal.returns-then-not-is_base_command-clause-found
-returns-then-not-is_base_command-clause-found c = λ l spelled.
+pub returns-in_default-clause-found : goal.returns-in_default-clause-found
+returns-in_default-clause-found c = λ l spelled.
     other_kind c.args.dictionary.now (record { header = c.args.message.now.header; avps = l })
-    (sym c.is_base_command.ensures ∙ c.if-not-is_base_command.true)
+    (sym c.of.ensures ∙ none_of c.of.result c.in_default.not-Some)
 
 pub returns-in-Good-clause-found : goal.returns-in-Good-clause-found
 returns-in-Good-clause-found c = λ l spelled.
     let listed = c.spells_members.ensures l spelled in
     good_kind c.args.dictionary.now
     (record { header = c.args.message.now.header; avps = l }) c.kind_in.result c.args.message.now.rest.now
-    (sym c.is_base_command.ensures ∙ c.if-not-is_base_command.false) (sym (c.judge.ensures.verdict l spelled) ∙ ap shown c.in-Good.is)
+    c.in-Some.command (sym c.of.ensures ∙ c.in-Some.is) (sym (c.judge.ensures.verdict l spelled) ∙ ap shown c.in-Good.is)
     (c.kind_in.ensures.told l listed) c.kind_in.ensures.lies listed

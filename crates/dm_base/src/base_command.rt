@@ -1,0 +1,33 @@
+//! The commands of the base messages (RFC 6733, 5.3 to 5.5).
+use crate::codes::{CAPABILITIES_EXCHANGE, DEVICE_WATCHDOG, DISCONNECT_PEER};
+
+/// A command of the base messages, which is both a request's and an answer's (RFC 6733, 5.3 to 5.5).
+#[derive(Clone, Copy, Debug, PartialEq, Eq)]
+pub enum BaseCommand {
+    /// Capabilities-Exchange, 257 (5.3).
+    CapabilitiesExchange,
+    /// Device-Watchdog, 280 (5.5).
+    DeviceWatchdog,
+    /// Disconnect-Peer, 282 (5.4).
+    DisconnectPeer,
+}
+
+impl BaseCommand {
+    ghost use Rattle.std.specs.Prelude.{◌≡◌};
+    ghost use Rattle.dm_base.specs.Commands.{base_command};
+
+    /// The base command of this Command Code. None for a code of no base message. It takes no memory.
+    pub fn of(code: u32) -> Option<BaseCommand>
+        ensures { result ≡ base_command code }
+    {
+        if code == CAPABILITIES_EXCHANGE {
+            Some(BaseCommand::CapabilitiesExchange)
+        } else if code == DEVICE_WATCHDOG {
+            Some(BaseCommand::DeviceWatchdog)
+        } else if code == DISCONNECT_PEER {
+            Some(BaseCommand::DisconnectPeer)
+        } else {
+            None
+        }
+    }
+}
