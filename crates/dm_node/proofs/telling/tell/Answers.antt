@@ -1,0 +1,37 @@
+use Rattle.dm_node.proofs.Places.{found, set_here}
+use Rattle.dm_node.proofs.Taking.{leaves, apart_after, unlike_after, is_told, if_ok, if_err, moved_or_same}
+use Rattle.dm_node.proofs.telling.tell.Goals as goal
+
+pub returns-clause-told : goal.returns-clause-told
+returns-clause-told c =
+    if_ok c.on.result
+    (λ actions is. is_told _ _ _ _ _ _ (found c.args.peers.now.items c.args.index _ _ c.index_mut.ensures.value
+    c.in-Some.is c.requires.there)
+    (set_here c.args.peers.now.items c.args.index _ c.requires.there) is) c.on.ensures.acts
+
+pub returns-clause-refused : goal.returns-clause-refused
+returns-clause-refused c =
+    if_err c.on.result
+    (λ f is. record {
+      peer = _;
+      at = found c.args.peers.now.items c.args.index _ _ c.index_mut.ensures.value c.in-Some.is c.requires.there;
+      refused = is;
+    }) c.on.ensures.refused
+
+pub returns-clause-apart : goal.returns-clause-apart
+returns-clause-apart c =
+    apart_after _ _ _ _ _ (found c.args.peers.now.items c.args.index _ _ c.index_mut.ensures.value c.in-Some.is
+    c.requires.there)
+    (set_here c.args.peers.now.items c.args.index _ c.requires.there)
+    (leaves c.each_event_is_one_step.ensures c.each_opening_has_its_message.ensures.alone _ _ _
+    c.state-state.ensures.shaped
+    (moved_or_same (λ a. a.items) _ _ _ c.on.result c.on.ensures.acts c.on.ensures.unchanged)) c.requires.only
+
+pub returns-clause-unlike : goal.returns-clause-unlike
+returns-clause-unlike c =
+    unlike_after _ _ _ _ _ (found c.args.peers.now.items c.args.index _ _ c.index_mut.ensures.value c.in-Some.is
+    c.requires.there)
+    (set_here c.args.peers.now.items c.args.index _ c.requires.there)
+    (leaves c.each_event_is_one_step.ensures c.each_opening_has_its_message.ensures.alone _ _ _
+    c.state-state.ensures.shaped
+    (moved_or_same (λ a. a.items) _ _ _ c.on.result c.on.ensures.acts c.on.ensures.unchanged))

@@ -1,0 +1,5 @@
+pub mod Holding
+pub mod Adding
+pub mod Calling
+pub mod Telling
+pub mod Neighbourhoods

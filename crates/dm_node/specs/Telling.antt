@@ -1,0 +1,117 @@
+-- What an event does to the neighbours: what it does to a peer, at the one that it concerns.
+use Rattle.std.specs.Prelude.{◌≡◌, ◌⊎◌, ℕ, true, false, Option, None, Some, IsSome, List, [], length}
+use Rattle.dm_base.specs.Before.{lower}
+use Rattle.dm_base.specs.declared.node.Node.{Node}
+use Rattle.dm_machine.specs.declared.connection.Conn.{Conn}
+use Rattle.dm_peer.specs.declared.actions.Action.{Action}
+use Rattle.dm_peer.specs.declared.fault.PeerFault.{PeerFault}
+use Rattle.dm_peer.specs.declared.peer.Peer.{Peer}
+use Rattle.dm_peer.specs.Events.{PeerEvent, Start, Stop, Timeout, Tick, Ack, Nack, Arrived, Gone, Submit}
+use Rattle.dm_peer.specs.Acts.{Moved, acts, IsRefused}
+use Rattle.dm_node.specs.declared.events.NodeEvent.{NodeEvent}
+use Rattle.dm_node.specs.declared.events.NodeEvent.TheVariants as event
+use Rattle.dm_node.specs.declared.fault.EventFault.{EventFault}
+use Rattle.dm_node.specs.declared.fault.EventFault.TheVariants as fault
+use Rattle.dm_peer.specs.declared.fault.PeerFault.TheVariants.{NoMemory}
+use Rattle.dm_node.specs.Calling.{Caller, caller, answer_to}
+use Rattle.dm_node.specs.Holding.{peer_at, holds_at, host_at}
+
+-- the connection that an event names
+abbrev pub conn_of : PeerEvent → Option Conn
+conn_of (Start c) = Some c
+conn_of (Ack c) = Some c
+conn_of (Nack c) = Some c
+conn_of (Arrived c s) = Some c
+conn_of (Gone c) = Some c
+conn_of _ = None
+
+-- the neighbour of this number is told the event: what happens to it is what happens to a peer of its own, and to each
+-- other one nothing
+pub record IsTold (ps qs : List (Option Peer)) (i : ℕ) (e : PeerEvent) (actions : List Action) : Type 0 where
+  pub before : Peer
+  pub after : Peer
+  pub was : peer_at ps i ≡ Some before
+  pub acts : acts before e ≡ Moved actions after
+  pub is : peer_at qs i ≡ Some after
+  pub others : (j : ℕ) → (j ≡ i → ⊥) → peer_at qs j ≡ peer_at ps j
+  pub count : length qs ≡ length ps
+
+-- the neighbour refuses the event
+pub record IsRefusedBy (ps : List (Option Peer)) (i : ℕ) (e : PeerEvent) (fault : PeerFault) : Type 0 where
+  pub peer : Peer
+  pub at : peer_at ps i ≡ Some peer
+  pub refused : IsRefused (acts peer e) fault
+
+-- the event as the neighbour is told it
+abbrev pub told_of : NodeEvent → PeerEvent
+told_of (event.Start n c) = Start c
+told_of (event.Stop n cause) = Stop cause
+told_of (event.Timeout n) = Timeout
+told_of (event.Tick n) = Tick
+told_of (event.Submit n octets) = Submit octets.now
+told_of (event.Ack c) = Ack c
+told_of (event.Nack c) = Nack c
+told_of (event.Arrived c octets) = Arrived c octets.now
+told_of (event.Gone c) = Gone c
+
+-- octets on a connection concern the neighbour that holds it; where none does, the one whose host's CER they are
+abbrev pub IsAddressed : List (Option Peer) → Conn → List ℕ → ℕ → Type 0
+IsAddressed ps c s i =
+    (holds_at ps c i ≡ true)
+    ⊎ (((j : ℕ) → holds_at ps c j ≡ false)
+    × (call : Caller) × (caller s ≡ Some call) × (host_at ps i ≡ Some (lower call.1)))
+
+-- the event concerns the neighbour of this number: it names it, or a connection that this one holds, or it is a first
+-- message of its host
+abbrev pub Concerns : List (Option Peer) → NodeEvent → ℕ → Type 0
+Concerns ps (event.Start n c) i = n ≡ i
+Concerns ps (event.Stop n cause) i = n ≡ i
+Concerns ps (event.Timeout n) i = n ≡ i
+Concerns ps (event.Tick n) i = n ≡ i
+Concerns ps (event.Submit n octets) i = n ≡ i
+Concerns ps (event.Ack c) i = holds_at ps c i ≡ true
+Concerns ps (event.Nack c) i = holds_at ps c i ≡ true
+Concerns ps (event.Arrived c octets) i = IsAddressed ps c octets.now i
+Concerns ps (event.Gone c) i = holds_at ps c i ≡ true
+
+-- no other neighbour holds the connection that the event names
+abbrev pub IsAlone : List (Option Peer) → PeerEvent → ℕ → Type 0
+IsAlone ps e i = (j : ℕ) (c : Conn) → conn_of e ≡ Some c → holds_at ps c j ≡ true → j ≡ i
+
+-- no neighbour has the number
+abbrev pub IsNobody : List (Option Peer) → ℕ → EventFault → Type 0
+IsNobody ps n fault.NoNeighbour = peer_at ps n ≡ None
+IsNobody ps n _ = ⊥
+
+-- nobody holds the connection
+abbrev pub IsFree : List (Option Peer) → Conn → Type 0
+IsFree ps c = (j : ℕ) → holds_at ps c j ≡ false
+
+-- why an event is misdirected: a Start names a connection that is held, else no neighbour has its number; so of the
+-- others that name a neighbour
+abbrev pub IsMisdirected : List (Option Peer) → NodeEvent → EventFault → Type 0
+IsMisdirected ps (event.Start n c) fault.Held = (i : ℕ) × (holds_at ps c i ≡ true)
+IsMisdirected ps (event.Start n c) fault.NoNeighbour = (peer_at ps n ≡ None) × IsFree ps c
+IsMisdirected ps (event.Stop n cause) f = IsNobody ps n f
+IsMisdirected ps (event.Timeout n) f = IsNobody ps n f
+IsMisdirected ps (event.Tick n) f = IsNobody ps n f
+IsMisdirected ps (event.Submit n octets) f = IsNobody ps n f
+IsMisdirected ps e f = ⊥
+
+-- the event is the CER of a stranger
+abbrev pub IsStrangeCer : NodeEvent → Type 0
+IsStrangeCer (event.Arrived c octets) = IsSome (caller octets.now)
+IsStrangeCer _ = ⊥
+
+-- why the node refuses: the event is misdirected, the neighbour that it concerns refuses, or memory is wanted for the
+-- answer to a stranger's CER
+abbrev pub IsRefusedHere : List (Option Peer) → NodeEvent → EventFault → Type 0
+IsRefusedHere ps e (fault.Peer f) =
+    ((i : ℕ) × Concerns ps e i × IsRefusedBy ps i (told_of e) f)
+    ⊎ ((f ≡ NoMemory) × ((i : ℕ) → Concerns ps e i → ⊥) × IsStrangeCer e)
+IsRefusedHere ps e f = IsMisdirected ps e f
+
+-- what is done at an event that concerns no neighbour
+abbrev pub strange : Node → NodeEvent → List Action
+strange n (event.Arrived c octets) = answer_to n c (caller octets.now)
+strange n _ = []

@@ -1,0 +1,57 @@
+//! One neighbour more.
+ghost use Rattle.std.specs.Prelude.{◌≡◌, ◌⊎◌, ◌<◌, ◌∷◌, [], ◌++◌, ℕ, Some, Err, length, IfOk, IfErr, OnOk, OnErr, vec_len, vec_capacity};
+ghost use Rattle.dm_base.specs.Before.{lower};
+ghost use Rattle.dm_node.specs.Holding.{host_at, IsKnown, AreApart, AreUnlike};
+ghost use Rattle.dm_node.specs.Adding.{with_new};
+ghost use Rattle.dm_node.specs.declared.fault.AddFault.TheVariants.{Known, NoMemory};
+
+use crate::AddFault;
+use crate::looking::named;
+use dm_peer::{Config, Peer};
+
+/// Puts a closed peer of the configuration behind the others, where no other has its host.
+fn append(peers: &mut Vec<Option<Peer>>, config: Config)
+    requires room { vec_len peers.old < vec_capacity peers.old }
+    requires unknown { (j : ℕ) → host_at peers.old.items j ≡ Some (lower config.peer) → ⊥ }
+    ensures added { peers.new.items ≡ with_new peers.old.items config }
+    ensures apart { AreApart peers.old.items → AreApart peers.new.items }
+    ensures unlike { AreUnlike peers.old.items → AreUnlike peers.new.items }
+{
+    peers.push_reserved(Some(Peer::new(config)));
+}
+
+/// Makes room for a neighbour of this configuration, where none has its host.
+fn make_room(peers: &mut Vec<Option<Peer>>, config: &Config) -> Result<(), AddFault>
+    ensures same { peers.new.items ≡ peers.old.items }
+    ensures room { OnOk result (vec_len peers.new < vec_capacity peers.new) }
+    ensures unknown { OnOk result ((j : ℕ) → host_at peers.old.items j ≡ Some (lower config.now.peer) → ⊥) }
+    ensures known { IfErr result (λ f. f ≡ Known → IsKnown peers.old.items config.now.peer) }
+{
+    match named(peers, config.peer_host()) {
+        Some(_) => Err(AddFault::Known),
+        None => match peers.reserve(1) {
+            Ok(()) => Ok(()),
+            Err(_) => Err(AddFault::NoMemory),
+        },
+    }
+}
+
+/// Puts a closed peer of the configuration behind the others.
+pub(crate) fn put(peers: &mut Vec<Option<Peer>>, config: Config) -> Result<usize, AddFault>
+    ensures number { IfOk result (λ i. i ≡ length peers.old.items) }
+    ensures added { OnOk result (peers.new.items ≡ with_new peers.old.items config) }
+    ensures known { IfErr result (λ f. f ≡ Known → IsKnown peers.old.items config.peer) }
+    ensures refuses { IsKnown peers.old.items config.peer → (result ≡ Err Known) ⊎ (result ≡ Err NoMemory) }
+    ensures unchanged { OnErr result (peers.new.items ≡ peers.old.items) }
+    ensures apart { AreApart peers.old.items → AreApart peers.new.items }
+    ensures unlike { AreUnlike peers.old.items → AreUnlike peers.new.items }
+{
+    let index = peers.as_slice().len();
+    match make_room(peers, &config) {
+        Ok(()) => {
+            append(peers, config);
+            Ok(index)
+        }
+        Err(fault) => Err(fault),
+    }
+}

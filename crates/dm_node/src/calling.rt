@@ -1,0 +1,101 @@
+//! The first message of a connection: who calls, and what a stranger is answered.
+ghost use Rattle.std.specs.Prelude.{◌≡◌, List, IfSome, IfNone, IfOk, OnErr, IsSome, Some, None};
+ghost use Rattle.std.specs.Option.{option_copied};
+ghost use Rattle.dm_base.specs.Codes.{origin_host};
+ghost use Rattle.dm_base.specs.Kinds.{is_plain};
+ghost use Rattle.dm_node.specs.Calling.{calling_host, is_cer, caller_in, caller, answer_to};
+ghost use Rattle.dm_wire.specs.declared.avp.Avp.{Avp};
+ghost use Rattle.dm_wire.specs.Borrowed.{avp_of, Lists};
+ghost use Rattle.dm_wire.specs.Members.{members};
+ghost use Rattle.dm_wire.specs.Spelling.{SpellsList};
+
+use arrayvec::ArrayVec;
+use dm_base::codes::{CAPABILITIES_EXCHANGE, ORIGIN_HOST, UNKNOWN_PEER};
+use dm_base::{Node, error_answer};
+use dm_dict::NoMemory;
+use dm_peer::{Action, Actions, Conn, read_message, sent_octets};
+use dm_wire::laws::members_spell;
+use dm_wire::{AvpRef, AvpsRef, Header, MessageRef};
+use std::alloc::Global;
+
+/// Whether the AVP is an Origin-Host.
+fn is_origin_host(avp: AvpRef<'_>) -> bool
+    ensures { result ≡ is_plain origin_host (avp_of avp.entry) }
+{
+    avp.code == ORIGIN_HOST && avp.vendor.is_none()
+}
+
+/// The data of the first Origin-Host.
+fn calling_host<'a>(avps: AvpsRef<'a>) -> Option<&'a [u8]>
+    ensures { (l : List Avp) → Lists avps.entry l → option_copied result ≡ calling_host l }
+{
+    let mut left = avps;
+    while let Some((avp, rest)) = left.split_first() {
+        if is_origin_host(avp) {
+            return Some(avp.bytes);
+        }
+        left = rest;
+    }
+    None
+}
+
+/// Whether the header is that of a CER.
+fn is_cer(header: &Header) -> bool
+    ensures { result ≡ is_cer header.now }
+{
+    header.command == CAPABILITIES_EXCHANGE && header.request
+}
+
+/// Octets that spell AVPs are those AVPs.
+fn spells_list(octets: &[u8])
+    ensures { (l : List Avp) → SpellsList l octets.now → members octets.now ≡ Some l }
+{
+    members_spell();
+}
+
+/// The header of a message that is a CER, and the host that it says it is from.
+fn caller_in<'a>(message: &MessageRef<'a>) -> Option<(Header, &'a [u8])>
+    ensures found { (l : List Avp) → SpellsList l message.now.rest.now → IfSome result (λ r.
+        caller_in (Some (record { header = message.now.header; avps = l })) ≡ Some (r.0, r.1.now)) }
+    ensures none { (l : List Avp) → SpellsList l message.now.rest.now → IfNone result
+        (caller_in (Some (record { header = message.now.header; avps = l })) ≡ None) }
+{
+    if !is_cer(&message.header) {
+        return None;
+    }
+    spells_list(message.rest);
+    match calling_host(AvpsRef::Spelled(message.rest)) {
+        Some(host) => Some((message.header, host)),
+        None => None,
+    }
+}
+
+/// The header of a CER, and the host that it says it is from. It takes no memory.
+pub(crate) fn caller<'a>(octets: &'a [u8]) -> Option<(Header, &'a [u8])>
+    ensures found { IfSome result (λ r. caller octets.now ≡ Some (r.0, r.1.now)) }
+    ensures none { IfNone result (caller octets.now ≡ None) }
+{
+    match read_message(octets) {
+        Some(message) => caller_in(&message),
+        None => None,
+    }
+}
+
+/// What a stranger is answered on the connection; or want of memory, which only the answer to a CER takes.
+pub(crate) fn answer_to(
+    alloc: Global,
+    node: &Node,
+    conn: Conn,
+    octets: &[u8],
+) -> Result<Actions, NoMemory>
+    ensures answer { IfOk result (λ actions. actions.items ≡ answer_to node.now conn (caller octets.now)) }
+    ensures memory { OnErr result (IsSome (caller octets.now)) }
+{
+    let mut actions = ArrayVec::new();
+    if let Some((header, _)) = caller(octets) {
+        let answer = error_answer(alloc, node, &header, UNKNOWN_PEER)?;
+        actions.push(Action::Send(conn, sent_octets(alloc, &answer)?));
+    }
+    actions.push(Action::Close(conn));
+    Ok(actions)
+}

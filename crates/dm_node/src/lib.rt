@@ -1,0 +1,17 @@
+//! A node with many neighbours (RFC 6733, 5.6): each event goes to the one neighbour that it concerns, and does there
+//! what it does to a peer of its own.
+#![tactic(auto)]
+
+mod adding;
+mod calling;
+mod events;
+mod fault;
+pub mod laws;
+mod looking;
+mod neighbours;
+mod routing;
+mod telling;
+
+pub use events::{NodeActions, NodeEvent};
+pub use fault::{AddFault, EventFault};
+pub use neighbours::Neighbours;

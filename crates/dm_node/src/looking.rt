@@ -1,0 +1,93 @@
+//! Which neighbour holds a connection, which has a host, and which has a number.
+ghost use Rattle.std.specs.Prelude.{◌≡◌, ◌<◌, ◌∷◌, [], ◌++◌, ℕ, true, false, None, Some, List, length, IsSome, IfSome, IfOk, IfErr, OnOk, OnErr, vec_len, vec_capacity};
+ghost use Rattle.std.specs.Option.{IfNone, option_copied};
+ghost use Rattle.dm_base.specs.Before.{lower};
+ghost use Rattle.dm_machine.specs.Connection.{hold_of};
+ghost use Rattle.dm_node.specs.Holding.{peer_at, holds, holds_it, holds_at, host_of, host_at, AreApart, AreUnlike};
+ghost use Rattle.dm_node.specs.declared.fault.AddFault.TheVariants.{Known};
+ghost use Rattle.dm_peer.specs.After.{fresh};
+ghost use Rattle.dm_peer.specs.declared.peer.Peer.{Peer};
+ghost use Rattle.dm_peer.specs.Places.{is_on};
+
+use crate::AddFault;
+use dm_machine::laws::each_node_has_its_form;
+use dm_peer::{Config, Conn, Peer, is_same_host};
+
+/// The neighbour of a number, where there is one.
+pub(crate) fn peer_at(peers: &[Option<Peer>], index: usize) -> Option<&Peer>
+    ensures { option_copied result ≡ peer_at peers.now index }
+{
+    if index < peers.len() {
+        peers[index].as_ref()
+    } else {
+        None
+    }
+}
+
+/// Whether the connection is the one held.
+fn is_on(held: Option<Conn>, conn: Conn) -> bool
+    ensures { result ≡ is_on held conn }
+{
+    match held {
+        Some(held) => held.0 == conn.0,
+        None => false,
+    }
+}
+
+/// Whether the peer holds the connection.
+fn holds(peer: &Peer, conn: Conn) -> bool
+    ensures { result ≡ holds conn peer.now }
+{
+    each_node_has_its_form();
+    let _state = peer.state();
+    is_on(peer.initiated(), conn) || is_on(peer.accepted(), conn)
+}
+
+/// Whether there is a peer, and it holds the connection.
+fn holds_it(peer: &Option<Peer>, conn: Conn) -> bool
+    ensures { result ≡ holds_it conn peer.now }
+{
+    match peer {
+        Some(peer) => holds(peer, conn),
+        None => false,
+    }
+}
+
+/// Whether there is a peer, and its host is this one, upper and lower case taken as one.
+fn has_host(peer: &Option<Peer>, host: &[u8]) -> bool
+    ensures has { result ≡ true → host_of peer.now ≡ Some (lower host.now) }
+    ensures lacks { result ≡ false → host_of peer.now ≡ Some (lower host.now) → ⊥ }
+{
+    match peer {
+        Some(peer) => is_same_host(peer.config().peer_host(), host),
+        None => false,
+    }
+}
+
+/// The neighbour that holds the connection.
+pub(crate) fn holder(peers: &[Option<Peer>], conn: Conn) -> Option<usize>
+    ensures there { IfSome result (λ i. IsSome (peer_at peers.now i)) }
+    ensures found { IfSome result (λ i. holds_at peers.now conn i ≡ true) }
+    ensures none { IfNone result ((j : ℕ) → holds_at peers.now conn j ≡ false) }
+{
+    for (i, peer) in peers.iter().enumerate() {
+        if holds_it(peer, conn) {
+            return Some(i);
+        }
+    }
+    None
+}
+
+/// The neighbour that has the host, upper and lower case taken as one.
+pub(crate) fn named(peers: &[Option<Peer>], host: &[u8]) -> Option<usize>
+    ensures there { IfSome result (λ i. IsSome (peer_at peers.now i)) }
+    ensures found { IfSome result (λ i. host_at peers.now i ≡ Some (lower host.now)) }
+    ensures none { IfNone result ((j : ℕ) → host_at peers.now j ≡ Some (lower host.now) → ⊥) }
+{
+    for (i, peer) in peers.iter().enumerate() {
+        if has_host(peer, host) {
+            return Some(i);
+        }
+    }
+    None
+}

@@ -1,0 +1,148 @@
+//! Neighbours: a peer for each, and what each event does.
+use crate::adding::put;
+use crate::looking::{named, peer_at};
+use crate::routing::whose;
+use crate::telling::{tell_nobody, tell_one};
+use crate::{AddFault, EventFault, NodeActions, NodeEvent};
+use dm_base::Node;
+use dm_peer::{Config, Peer, State};
+use std::alloc::Global;
+use std::marker::Model;
+use std::slice;
+
+/// The neighbours of a node, each a peer of its own (RFC 6733, 5.6). A neighbour has the number of its adding, from 0.
+///
+/// A contract sees them as a list in order of adding, beside the node that answers strangers.
+#[derive(Debug, Drop)]
+pub struct Neighbours {
+    node: Node,
+    pub(crate) peers: Vec<Option<Peer>>,
+}
+
+impl Model for Neighbours {
+    ghost use Rattle.dm_node.specs.Neighbourhoods.{Neighbourhood, IsNeighbourhood};
+
+    ghost Value = { Neighbourhood };
+
+    ghost view = { λ n. record { node = n.node; peers = n.peers.items } };
+
+    ghost invariant = { λ n. IsNeighbourhood n.peers.items };
+}
+
+impl Neighbours {
+    ghost use Rattle.std.specs.Prelude.{
+      ◌≡◌,
+      ◌⊎◌,
+      ℕ,
+      [],
+      Option,
+      Some,
+      Err,
+      length,
+      IfOk,
+      IfErr,
+      OnOk,
+      OnErr,
+      IfSome,
+      IfNone,
+      option_map,
+    };
+    ghost use Rattle.std.specs.Option.{option_copied};
+    ghost use Rattle.std.specs.Slice.Iter.{iter_rest};
+    ghost use Rattle.std.specs.Iterator.Adapters.{IterYieldsInOrder};
+    ghost use Rattle.dm_base.specs.Before.{lower};
+    ghost use Rattle.dm_peer.specs.declared.peer.Peer.{Peer};
+    ghost use Rattle.dm_node.specs.Adding.{with_new};
+    ghost use Rattle.dm_node.specs.Holding.{peer_at, host_at, IsKnown};
+    ghost use Rattle.dm_node.specs.Telling.{Concerns, IsTold, IsMisdirected, IsRefusedHere, strange, told_of};
+    ghost use Rattle.dm_node.specs.declared.fault.AddFault.TheVariants.{Known, NoMemory};
+    ghost use Rattle.dm_node.specs.declared.fault.EventFault.{EventFault};
+
+    /// No neighbours. The node answers strangers. It takes no memory.
+    pub fn new(alloc: Global, node: Node) -> Neighbours
+        ensures node { result.node ≡ node }
+        ensures empty { result.peers ≡ [] }
+    {
+        Neighbours {
+            node,
+            peers: Vec::new(alloc),
+        }
+    }
+
+    /// Adds a closed neighbour of this configuration, and answers its number.
+    ///
+    /// # Errors
+    /// `Known` where a neighbour has its host, upper and lower case taken as one, and `NoMemory`. The neighbours are as
+    /// they were after each, and the configuration is dropped.
+    pub fn add(&mut self, config: Config) -> Result<usize, AddFault>
+        ensures number { IfOk result (λ i. i ≡ length self.old.peers) }
+        ensures added { OnOk result (self.new.peers ≡ with_new self.old.peers config) }
+        ensures known { IfErr result (λ f. f ≡ Known → IsKnown self.old.peers config.peer) }
+        ensures refuses { IsKnown self.old.peers config.peer → (result ≡ Err Known) ⊎ (result ≡ Err NoMemory) }
+        ensures unchanged { OnErr result (self.new.peers ≡ self.old.peers) }
+        ensures node { self.new.node ≡ self.old.node }
+    {
+        put(&mut self.peers, config)
+    }
+
+    /// The number of the neighbour of this host, upper and lower case taken as one. It takes no memory.
+    pub fn find(&self, host: &[u8]) -> Option<usize>
+        ensures found { IfSome result (λ i. host_at self.now.peers i ≡ Some (lower host.now)) }
+        ensures none { IfNone result ((j : ℕ) → host_at self.now.peers j ≡ Some (lower host.now) → ⊥) }
+    {
+        named(&self.peers, host)
+    }
+
+    /// The neighbour of this number. It takes no memory.
+    pub fn peer(&self, index: usize) -> Option<&Peer>
+        ensures { option_copied result ≡ peer_at self.now.peers index }
+    {
+        peer_at(&self.peers, index)
+    }
+
+    /// The state of the neighbour of this number. It takes no memory.
+    pub fn state_of(&self, index: usize) -> Option<State>
+        ensures { result ≡ option_map (λ p. p.standing.core.state) (peer_at self.now.peers index) }
+    {
+        match peer_at(&self.peers, index) {
+            Some(peer) => Some(peer.state()),
+            None => None,
+        }
+    }
+
+    /// The neighbours in order of adding. It takes no memory.
+    pub fn iter(&self) -> slice::Iter<'_, Option<Peer>>
+        ensures rest { iter_rest result ≡ self.now.peers }
+        ensures runs { IterYieldsInOrder (Option Peer) }
+    {
+        self.peers.as_slice().iter()
+    }
+
+    /// What the node does at the event. The one neighbour that it concerns does what a peer of its own does, and
+    /// nothing happens to the others; where it concerns none, nothing happens to any. An event concerns the neighbour
+    /// that it names, or that holds the connection that it names; octets on a connection that nobody holds are a first
+    /// message, and concern the neighbour whose host's CER they are. To any other first message the connection is
+    /// closed, behind an answer 3010 (DIAMETER_UNKNOWN_PEER) to a CER.
+    ///
+    /// # Errors
+    /// `Held` for a Start under a connection that a neighbour holds, `NoNeighbour` for a number that none has, else
+    /// what the neighbour's peer refuses, and `NoMemory`. The neighbours are as they were after each.
+    pub fn on(&mut self, alloc: Global, event: NodeEvent<'_>) -> Result<NodeActions, EventFault>
+        ensures concerned { IfOk result (λ r. IfSome r.neighbour (Concerns self.old.peers event.entry)) }
+        ensures told { IfOk result (λ r. IfSome r.neighbour (λ i.
+            IsTold self.old.peers self.new.peers i (told_of event.entry) r.actions.items)) }
+        ensures nobody { IfOk result (λ r. IfNone r.neighbour ((i : ℕ) → Concerns self.old.peers event.entry i → ⊥)) }
+        ensures strange { IfOk result (λ r. IfNone r.neighbour ((self.new.peers ≡ self.old.peers)
+            × (r.actions.items ≡ strange self.old.node event.entry))) }
+        ensures misdirected { (f : EventFault) → IsMisdirected self.old.peers event.entry f → result ≡ Err f }
+        ensures refused { IfErr result (IsRefusedHere self.old.peers event.entry) }
+        ensures unchanged { OnErr result (self.new.peers ≡ self.old.peers) }
+        ensures node { self.new.node ≡ self.old.node }
+    {
+        match whose(&self.peers, event) {
+            Ok(Some(index)) => tell_one(alloc, &mut self.peers, index, event),
+            Ok(None) => tell_nobody(alloc, &self.node, event),
+            Err(fault) => Err(fault),
+        }
+    }
+}
