@@ -8,10 +8,13 @@ use Rattle.dm_wire.specs.declared.codes.results.TheConstants.{SUCCESS}
 pub use Rattle.dm_wire.specs.declared.codes.avps.TheConstants.{ACCT_APPLICATION_ID as acct_application_id}
 pub use Rattle.dm_wire.specs.declared.codes.avps.TheConstants.{AUTH_APPLICATION_ID as auth_application_id}
 pub use Rattle.dm_wire.specs.declared.codes.avps.TheConstants.{FAILED_AVP as failed_avp, VENDOR_ID as vendor_id}
+pub use Rattle.dm_wire.specs.declared.codes.avps.TheConstants.{FIRMWARE_REVISION as firmware_revision}
 pub use Rattle.dm_wire.specs.declared.codes.avps.TheConstants.{HOST_IP_ADDRESS as host_ip_address}
 pub use Rattle.dm_wire.specs.declared.codes.avps.TheConstants.{INBAND_SECURITY_ID as inband_security_id}
 pub use Rattle.dm_wire.specs.declared.codes.avps.TheConstants.{ORIGIN_HOST as origin_host, ORIGIN_REALM as origin_realm}
+pub use Rattle.dm_wire.specs.declared.codes.avps.TheConstants.{ORIGIN_STATE_ID as origin_state_id}
 pub use Rattle.dm_wire.specs.declared.codes.avps.TheConstants.{PRODUCT_NAME as product_name}
+pub use Rattle.dm_wire.specs.declared.codes.avps.TheConstants.{SUPPORTED_VENDOR_ID as supported_vendor_id}
 pub use Rattle.dm_wire.specs.declared.codes.avps.TheConstants.{VENDOR_SPECIFIC_APPLICATION_ID as vendor_specific_application_id}
 -- the Application-ID of a relay, and the Inband-Security-Id of a connection without security
 pub use Rattle.dm_base.specs.declared.codes.TheConstants.{RELAY as relay, NO_INBAND_SECURITY as no_inband_security}

@@ -7,5 +7,6 @@ pub mod Fit
 pub mod Kinds
 pub mod Laws
 pub mod Refusals
+pub mod Senders
 pub mod Shown
 pub mod Spelled

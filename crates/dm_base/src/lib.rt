@@ -22,6 +22,8 @@ mod order;
 mod parts;
 mod reading;
 mod requests;
+mod sender_ref;
+mod senders;
 mod success;
 mod views;
 
@@ -39,5 +41,7 @@ pub use node::Node;
 pub use node_fault::NodeFault;
 pub use order::host_order;
 pub use requests::{cer, dpr, dwr};
+pub use sender_ref::SenderRef;
+pub use senders::{disconnect_cause, sender};
 pub use success::success_octets;
 pub use views::view;

@@ -40,7 +40,7 @@ pub(crate) fn data_at<'a>(avps: AvpsRef<'a>, code: u32) -> &'a [u8]
 }
 
 /// The number of four octets.
-fn number_in(octets: &[u8]) -> Option<u32>
+pub(crate) fn number_in(octets: &[u8]) -> Option<u32>
     ensures { result ≡ number_in octets.now }
 {
     if octets.len() == 4 {
@@ -87,7 +87,7 @@ pub(crate) fn is_vendor_specific(avp: AvpRef<'_>) -> bool
 }
 
 /// The id, appended, where there is one.
-fn put_id(ids: &mut Vec<u32>, id: Option<u32>) -> Result<(), NoMemory>
+pub(crate) fn put_id(ids: &mut Vec<u32>, id: Option<u32>) -> Result<(), NoMemory>
     ensures { OnOk result (ids.new.items ≡ ids.old.items ++ option_to_list id) }
 {
     if let Some(id) = id {
@@ -149,7 +149,7 @@ fn put_security(ids: &mut Vec<u32>, avps: AvpsRef<'_>) -> Result<(), NoMemory>
     Ok(())
 }
 
-fn applications(alloc: Global, avps: AvpsRef<'_>) -> Result<IdList, NoMemory>
+pub(crate) fn applications(alloc: Global, avps: AvpsRef<'_>) -> Result<IdList, NoMemory>
     ensures { (l : List Avp) → Lists avps.entry l → IfOk result (λ ids. ids ≡ flat_map application_ids l) }
 {
     let mut ids = Vec::new(alloc);

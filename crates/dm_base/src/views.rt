@@ -19,7 +19,7 @@ use dm_wire::laws::members_spell;
 use dm_wire::{AvpsRef, MessageRef};
 
 /// The octets that spell AVPs have them as their members.
-fn spells_members(octets: &[u8])
+pub(crate) fn spells_members(octets: &[u8])
     ensures { (l : List Avp) → SpellsList l octets.now → members octets.now ≡ Some l }
 {
     members_spell();
