@@ -41,6 +41,7 @@ fn avp_header(avp: AvpRef<'_>, length: u32) -> [u8; 8]
 }
 
 /// The Vendor-ID field, appended where there is one.
+#[inline(always)]
 fn put_vendor(out: &mut Vec<u8>, vendor: Option<u32>) -> Result<(), AllocError>
     ensures { OnOk result (out.new.items ≡ out.old.items ++ vendor_octets vendor) }
 {
@@ -53,6 +54,7 @@ fn put_vendor(out: &mut Vec<u8>, vendor: Option<u32>) -> Result<(), AllocError>
 }
 
 /// The zero octets that fill up an AVP of this Length to a multiple of 4, appended.
+#[inline(always)]
 fn put_padding(out: &mut Vec<u8>, length: usize) -> Result<(), AllocError>
     ensures { OnOk result (out.new.items ≡ out.old.items ++ zeros length) }
 {
@@ -67,6 +69,7 @@ fn put_padding(out: &mut Vec<u8>, length: usize) -> Result<(), AllocError>
 
 /// The AVP, appended with zero padding and zero reserved bits (RFC 6733, 4.1), or want of memory. It takes
 /// `AvpRef::padded_len` octets of room.
+#[inline(always)]
 pub fn put_avp(out: &mut Vec<u8>, avp: AvpRef<'_>) -> Result<(), AllocError>
     requires { avp_length (avp_of avp) < 256 ^ 3 }
     ensures { OnOk result (out.new.items ≡ out.old.items ++ canonical_avp (avp_of avp.entry)) }
