@@ -4,6 +4,7 @@ pub mod Fitting
 pub mod Good
 pub mod Kept
 pub mod Linking
+pub mod Listed
 pub mod Noting
 pub mod Placed
 pub mod Standing

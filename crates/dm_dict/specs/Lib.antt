@@ -9,6 +9,7 @@ pub mod Keeping
 pub mod Limits
 pub mod Linked
 pub mod Links
+pub mod Listing
 pub mod Printed
 pub mod Rules
 pub mod Texts

@@ -24,14 +24,14 @@ use dm_value::{AvpType, ValueFault, value_fault};
 use dm_wire::{AvpRef, AvpsRef, spells_avps};
 
 /// Whether the AVP is Failed-AVP, whose data isn't read.
-fn is_failed_avp(avp: AvpRef<'_>) -> bool
+pub(crate) fn is_failed_avp(avp: AvpRef<'_>) -> bool
     ensures { result ≡ is_failed_avp (avp_of avp.entry) }
 {
     avp.code == FAILED_AVP && avp.vendor == None
 }
 
 /// Whether the octets are four, and a value that the list of an Enumerated leaves out.
-fn is_left_out(def: &AvpDef, octets: &[u8]) -> bool
+pub(crate) fn is_left_out(def: &AvpDef, octets: &[u8]) -> bool
     ensures { result ≡ is_left_out def.now.kind def.now.values octets.now }
 {
     match def.kind {

@@ -35,7 +35,7 @@ use std::marker::Model;
 /// A contract sees it as three lists of definitions, in order: vendors, AVPs and commands.
 #[derive(Debug, Drop)]
 pub struct Dictionary {
-    linked: Linked,
+    pub(crate) linked: Linked,
 }
 
 impl Model for Dictionary {

@@ -22,7 +22,7 @@ use dm_value::least_len;
 use dm_wire::AvpsRef;
 
 /// The example of an AVP that the entry names; `AVP` has none.
-fn example(tables: &Tables, entry: &Entry) -> Failed<'static>
+pub(crate) fn example(tables: &Tables, entry: &Entry) -> Failed<'static>
     requires { IsTables tables.now }
     ensures example { failed_of result ≡ example tables.now.avps.items entry.now }
     ensures made { is_found result ≡ false }
@@ -41,7 +41,7 @@ fn example(tables: &Tables, entry: &Entry) -> Failed<'static>
 }
 
 /// The AVP that has `max` before it among those that the entry at the place counts.
-fn first_past_max<'a>(
+pub(crate) fn first_past_max<'a>(
     tables: &Tables,
     rule: LinkedRule<'_>,
     at: usize,
@@ -70,7 +70,7 @@ fn first_past_max<'a>(
 }
 
 /// Whether the entry at the place, which has this counter, counts more AVPs of the list than `number`.
-fn counts_above(
+pub(crate) fn counts_above(
     tables: &Tables,
     rule: LinkedRule<'_>,
     at: usize,

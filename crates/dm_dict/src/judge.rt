@@ -18,11 +18,11 @@ use dm_wire::laws::members_spell;
 use dm_wire::{AvpsRef, Header};
 
 /// Groups that may stand inside each other.
-const GROUPS: u32 = 8;
+pub(crate) const GROUPS: u32 = 8;
 
 /// The command whose rule the message has. All answers that report an error have one rule, that of
 /// command 0 with ERR.
-fn command_for<'d>(dictionary: &'d Linked, header: &Header) -> Option<LinkedCommand<'d>>
+pub(crate) fn command_for<'d>(dictionary: &'d Linked, header: &Header) -> Option<LinkedCommand<'d>>
     requires { IsLinked dictionary.now }
     ensures def { option_map (λ command. command.def.now) result
         ≡ command_for (defined dictionary.now.tables) header.now }
@@ -81,7 +81,7 @@ pub(crate) fn judge_spelled<'a>(
 }
 
 /// Whether the E bit is set in a request, or the T bit in an answer.
-fn has_wrong_bits(header: &Header) -> bool
+pub(crate) fn has_wrong_bits(header: &Header) -> bool
     ensures { result ≡ wrong_bits header.now }
 {
     (header.request && header.error) || (!header.request && header.retransmit)

@@ -7,11 +7,15 @@ pub mod codes;
 mod counts;
 mod dictionary;
 mod entries;
+mod fault;
+mod faults;
 mod judge;
 mod judged;
 pub mod laws;
 mod linked;
 mod links;
+mod listing;
+mod listing_entries;
 mod printing;
 mod rules;
 mod verdict;
@@ -24,5 +28,6 @@ pub use dm_value::{
     Address, AvpType, Ip, NoMemory, Text, Utc, Value, ValueFault, least_len, read_value,
     unix_seconds, utc_date, value_fault, write_value,
 };
+pub use fault::Fault;
 pub use judged::{Failed, Judged};
 pub use verdict::Verdict;

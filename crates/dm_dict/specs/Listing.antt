@@ -1,0 +1,23 @@
+-- The faults of a message that are listed, all of them (RFC 6733, 7.1 and 7.5).
+use Rattle.std.specs.Prelude.{◌≡◌, ℕ, Option, None, Some, List, [], ◌++◌, map}
+use Rattle.dm_wire.specs.declared.avp.Avp.{Avp}
+use Rattle.dm_dict.specs.declared.fault.Fault.{Fault as ListedFault}
+use Rattle.dm_dict.specs.Faults.{Fault, fault_with_avp}
+use Rattle.dm_dict.specs.Judgement.{failed_of}
+
+-- the fault that is listed
+abbrev pub told : ListedFault → Fault
+told f = record { code = f.code; failed = failed_of f.failed }
+
+-- the faults of a list, in order
+abbrev pub all_told : List ListedFault → List Fault
+all_told listed = map told listed
+
+-- behind those that were listed stand just these
+abbrev pub Adds : List ListedFault → List ListedFault → List Fault → Type 0
+Adds old new faults = all_told new ≡ all_told old ++ faults
+
+-- the fault of this Result-Code, where there is one
+abbrev pub coded : Option ℕ → Avp → List Fault
+coded None a = []
+coded (Some code) a = fault_with_avp code a

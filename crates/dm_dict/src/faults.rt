@@ -1,0 +1,108 @@
+//! All faults of a message (RFC 6733, 3 and 7).
+ghost use Rattle.std.specs.Prelude.{◌≡◌, List, IfOk, OnOk};
+ghost use Rattle.dm_wire.specs.declared.avp.Avp.{Avp};
+ghost use Rattle.dm_wire.specs.Borrowed.{Lists};
+ghost use Rattle.dm_wire.specs.Spelling.{SpellsList};
+ghost use Rattle.dm_tables.specs.Tables.{defined};
+ghost use Rattle.dm_dict.specs.Faults.{faults};
+ghost use Rattle.dm_dict.specs.Linked.{IsLinked};
+ghost use Rattle.dm_dict.specs.Listing.{all_told, Adds};
+
+use crate::codes::{COMMAND_UNSUPPORTED, INVALID_HDR_BITS};
+use crate::fault::{Fault, put};
+use crate::judge::{GROUPS, command_for, has_wrong_bits};
+use crate::judged::Failed;
+use crate::linked::{Linked, LinkedCommand, LinkedRule};
+use crate::listing::list_avps;
+use crate::{Dictionary, NoMemory};
+use dm_wire::laws::members_spell;
+use dm_wire::{AvpsRef, Header, Message, MessageRef};
+use std::alloc::Global;
+
+/// Lists the faults of a message of this header and these AVPs.
+fn list_message<'a>(
+    dictionary: &Linked,
+    header: &Header,
+    list: AvpsRef<'a>,
+    listed: &mut Vec<Fault<'a>>,
+) -> Result<(), NoMemory>
+    requires linked { IsLinked dictionary.now }
+    ensures { OnOk result ((l : List Avp) → Lists list.entry l → Adds listed.old.items listed.new.items
+        (faults (defined dictionary.now.tables) (record { header = header.now; avps = l }))) }
+{
+    let Some(LinkedCommand { def, links }) = command_for(dictionary, header) else {
+        return put(listed, COMMAND_UNSUPPORTED, Failed::Nothing);
+    };
+    if has_wrong_bits(header) {
+        put(listed, INVALID_HDR_BITS, Failed::Nothing)?;
+    }
+    let rule = LinkedRule {
+        entries: &def.rule,
+        links,
+    };
+    list_avps(dictionary, rule, list, GROUPS, listed)
+}
+
+/// All faults of a message of this header and these AVPs, in order.
+fn listed<'a>(
+    alloc: Global,
+    dictionary: &Linked,
+    header: &Header,
+    list: AvpsRef<'a>,
+) -> Result<Vec<Fault<'a>>, NoMemory>
+    requires linked { IsLinked dictionary.now }
+    ensures { IfOk result (λ listed. (l : List Avp) → Lists list.entry l
+        → all_told listed.items ≡ faults (defined dictionary.now.tables) (record { header = header.now; avps = l })) }
+{
+    let mut listed = Vec::new(alloc);
+    list_message(dictionary, header, list, &mut listed)?;
+    Ok(listed)
+}
+
+/// All faults of a message of this header, whose AVPs the octets spell, in order.
+fn listed_spelled<'a>(
+    alloc: Global,
+    dictionary: &Linked,
+    header: &Header,
+    octets: &'a [u8],
+) -> Result<Vec<Fault<'a>>, NoMemory>
+    requires linked { IsLinked dictionary.now }
+    ensures { IfOk result (λ listed. (l : List Avp) → SpellsList l octets.now
+        → all_told listed.items ≡ faults (defined dictionary.now.tables) (record { header = header.now; avps = l })) }
+{
+    members_spell();
+    listed(alloc, dictionary, header, AvpsRef::Spelled(octets))
+}
+
+impl Dictionary {
+    /// All that is wrong with the message, in the order in which `check` looks for it; the first is what `check`
+    /// says. Each failed AVP is told where it lies.
+    ///
+    /// It takes time by the message and the rules alone. Each AVP is looked up twice, once more for each further 256
+    /// entries of its list's rule, and a list is walked once more for each entry that has too many. Memory is taken for
+    /// the list of faults alone.
+    pub fn faults<'a>(
+        &self,
+        alloc: Global,
+        message: &'a Message,
+    ) -> Result<Vec<Fault<'a>>, NoMemory>
+        // All faults, in order; none where the message is good.
+        ensures all { IfOk result (λ listed. all_told listed.items ≡ faults self.now message.now) }
+    {
+        let list = AvpsRef::Held(message.avps.as_slice());
+        listed(alloc, &self.linked, &message.header, list)
+    }
+
+    /// All that is wrong with the message where it lies: the same as `faults` of the decoded message.
+    pub fn faults_in<'a>(
+        &self,
+        alloc: Global,
+        message: &MessageRef<'a>,
+    ) -> Result<Vec<Fault<'a>>, NoMemory>
+        // All faults of the message that the reference stands for, in order.
+        ensures all { IfOk result (λ listed. (l : List Avp) → SpellsList l message.now.rest.now
+            → all_told listed.items ≡ faults self.now (record { header = message.now.header; avps = l })) }
+    {
+        listed_spelled(alloc, &self.linked, &message.header, message.rest)
+    }
+}
