@@ -7,6 +7,7 @@ mod failed;
 mod faults;
 mod groups;
 mod judged;
+mod listed;
 mod printed;
 mod rows;
 mod rules;

@@ -3,6 +3,7 @@ mod built;
 mod examples;
 mod kinds;
 mod nodes;
+mod senders;
 
 use dm_base::{Node, NodeFault};
 use dm_dict::Ip;

@@ -3,6 +3,7 @@
 mod broken;
 mod examples;
 mod histories;
+mod neighbours;
 mod octets;
 mod own_rules;
 mod rows;

@@ -1,0 +1,72 @@
+//! All faults of a message, listed (RFC 6733, 7).
+use dm_dict::{Dictionary, Failed, Fault};
+use dm_wire::{Message, MessageRef};
+use std::process::Abort;
+
+/// A Device-Watchdog-Request without AVPs.
+const WITHOUT_AVPS: &str = "0100001480000118000000000000000100000001";
+
+/// A Device-Watchdog-Request of a.example.
+const GOOD: &str =
+    "01000038800001180000000000000001000000010000010840000011612e6578616d706c65000000000001284000000f6578616d706c6500";
+
+/// The Result-Codes, and the AVPs that are lacking.
+const LACKS_BOTH: &[(u32, u32)] = &[(5005, 264), (5005, 296)];
+
+/// Whether the fault has this Result-Code, and an example of this AVP.
+fn is_lacking(fault: &Fault<'_>, code: u32, lacking: u32) -> bool {
+    match fault.failed {
+        Failed::Example { code: avp, .. } => fault.code == code && avp == lacking,
+        _ => false,
+    }
+}
+
+fn are_lacking(faults: &[Fault<'_>], rows: &[(u32, u32)]) -> bool {
+    if faults.len() != rows.len() {
+        return false;
+    }
+    for (fault, (code, lacking)) in faults.iter().zip(rows) {
+        if !is_lacking(fault, *code, *lacking) {
+            return false;
+        }
+    }
+    true
+}
+
+fn assert_in_octets(
+    rt: &(impl Abort + AllocGlobal),
+    base: &Dictionary,
+    digits: &str,
+    rows: &[(u32, u32)],
+) {
+    let octets = hex::decode(rt.alloc(), digits.as_bytes()).expect(rt, "hexadecimal");
+    let message = MessageRef::read(octets.as_slice()).expect(rt, "a message");
+    let faults = base.faults_in(rt.alloc(), &message).expect(rt, "memory");
+    assert!(rt; are_lacking(faults.as_slice(), rows));
+}
+
+fn assert_decoded(
+    rt: &(impl Abort + AllocGlobal),
+    base: &Dictionary,
+    digits: &str,
+    rows: &[(u32, u32)],
+) {
+    let octets = hex::decode(rt.alloc(), digits.as_bytes()).expect(rt, "hexadecimal");
+    let message = Message::decode(rt.alloc(), octets.as_slice()).expect(rt, "a message");
+    let faults = base.faults(rt.alloc(), &message).expect(rt, "memory");
+    assert!(rt; are_lacking(faults.as_slice(), rows));
+}
+
+fn assert_listed(rt: &(impl Abort + AllocGlobal)) {
+    let base = Dictionary::base(rt.alloc()).expect(rt, "a dictionary");
+    assert_in_octets(rt, &base, WITHOUT_AVPS, LACKS_BOTH);
+    assert_decoded(rt, &base, WITHOUT_AVPS, LACKS_BOTH);
+    assert_in_octets(rt, &base, GOOD, &[]);
+    assert_decoded(rt, &base, GOOD, &[]);
+}
+
+/// Each AVP that a message lacks is a fault, in the order of its command's rule; a good message has none.
+#[test]
+fn all_faults_are_listed(rt: HostRuntime) {
+    assert_listed(&rt);
+}
