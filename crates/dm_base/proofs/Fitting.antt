@@ -1,5 +1,5 @@
 -- What the types of a program say of the parts of a node.
-use Rattle.std.proofs.Common.{◌≡◌, ◌<◌, ◌≤◌, ℕ, suc, Bool, true, false, ◌&&◌, ◌||◌, not, nat_eq, nat_lt, nat_le, None, Some, if◌then◌else◌, List, [], ◌∷◌, length, slice_index, Fits, w32, refl, arith}
+use Rattle.std.proofs.Common.{◌≡◌, ◌<◌, ◌≤◌, ℕ, suc, Bool, true, false, ◌&&◌, ◌||◌, not, nat_eq, nat_lt, nat_le, Option, None, Some, if◌then◌else◌, List, [], ◌∷◌, length, slice_index, Fits, w32, refl, arith}
 use Rattle.std.specs.List.{list_all}
 use Rattle.std.proofs.Math.Facts.{Fits-lt-pow}
 use Rattle.std.proofs.lemmas.Bool.{lt-ltb, and_parts, leb-true, ltb-false, le-leb, eqb-false}
@@ -10,7 +10,9 @@ use Rattle.dm_value.specs.Flaws.{is_visible_text}
 use Rattle.dm_base.specs.declared.node_fault.NodeFault.TheVariants.{BadHost, NoAddress, TooLong}
 use Rattle.dm_base.specs.Codes.{max_name_len, max_addresses, max_ids}
 use Rattle.dm_base.specs.Refusals.{is_long, node_fault}
-use Rattle.dm_base.specs.Fit.{is_number, is_name, is_sized, are_addresses, are_ids, is_product}
+use Rattle.dm_base.specs.Fit.{is_number, is_name, is_sized, are_addresses, are_ids, is_product, is_optional_number}
+use Rattle.dm_base.specs.Fit.{is_vendor_application, are_vendor_applications}
+use Rattle.dm_base.specs.declared.vendor_application.VendorApplication.{VendorApplication}
 
 pub all_numbers : (l : List ℕ) → ((i : ℕ) → Fits w32 (slice_index l i)) → list_all is_number l ≡ true
 all_numbers [] h = refl
@@ -89,6 +91,27 @@ no_fault_of host realm addresses product auth acct h r a p t u eh er ea ep et eu
 
 pub one_number : (n : ℕ) → n < 4294967296 → is_number n ≡ true
 one_number n h = lt-ltb n 4294967296 h
+
+pub optional_number : (o : Option ℕ) → ((n : ℕ) → o ≡ Some n → n < 4294967296) → is_optional_number o ≡ true
+optional_number None h = refl
+optional_number (Some n) h = lt-ltb n 4294967296 (h n refl)
+
+pub application_numbers : (a : VendorApplication) → Fits w32 a.vendor → Fits w32 a.application
+    → is_vendor_application a ≡ true
+application_numbers a v i = both _ _ (one_number a.vendor (Fits-lt-pow v)) (one_number a.application (Fits-lt-pow i))
+
+pub few_applications : (l : List VendorApplication) → are_vendor_applications l ≡ true → length l ≤ max_ids
+few_applications l h =
+    let (few, numbers) = and_parts (nat_le (length l) max_ids) (list_all is_vendor_application l) h in
+    leb-true (length l) max_ids few
+
+-- not too many applications of vendors, and not too many vendors
+pub extras_fit : (l : List VendorApplication) (ids : List ℕ) → (nat_lt max_ids (length l) || nat_lt max_ids (length ids)) ≡ false
+    → list_all is_vendor_application l ≡ true → list_all is_number ids ≡ true
+    → (are_vendor_applications l ≡ true) × (are_ids ids ≡ true)
+extras_fit l ids h fit numbers =
+    let (a, b) = neither (nat_lt max_ids (length l)) (nat_lt max_ids (length ids)) h in
+    (both _ _ (at_most max_ids (length l) a) fit, both _ _ (at_most max_ids (length ids) b) numbers)
 
 -- how many addresses and ids a node has
 pub few_addresses : (l : List Ip) → are_addresses l ≡ true → length l ≤ max_addresses

@@ -2,6 +2,7 @@ pub mod BadMessages
 pub mod Fitting
 pub mod Good
 pub mod Ids
+pub mod Inside
 pub mod Orders
 pub mod Own
 pub mod Searching
@@ -9,5 +10,6 @@ pub mod Securing
 pub mod Shapes
 pub mod Sharing
 pub mod Sized
+pub mod Telling
 pub mod Viewing
 pub mod Written

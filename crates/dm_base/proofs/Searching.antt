@@ -5,15 +5,15 @@ use Rattle.std.specs.List.Sorted.{IsBinarySearchResult, IsNonDecreasing, IsPermu
 use Rattle.std.specs.Ordering.{nat_cmp}
 use Rattle.std.proofs.lemmas.Bool.{ne_eqb, ltb-true, ltb-false}
 use Rattle.std.proofs.lemmas.List.Sorted.{searched, list_any-IsPermutation}
-use Rattle.dm_base.specs.Common.{holds, is_own}
+use Rattle.dm_base.specs.Common.{lists_id, is_own}
 
-none_is : (l : List ℕ) (id : ℕ) → ((k : ℕ) → k < length l → get_or l k 0 ≢ id) → holds l id ≡ false
+none_is : (l : List ℕ) (id : ℕ) → ((k : ℕ) → k < length l → get_or l k 0 ≢ id) → lists_id l id ≡ false
 none_is [] id h = refl
 none_is (x ∷ l) id h = rw (ne_eqb x id (h 0 (omega arith))) (none_is l id (λ k b. h (suc k) (omega arith)))
 
 -- an id that is not found is not there
 pub not_found : (l : List ℕ) (id : ℕ) (r : Result ℕ ℕ) (i : ℕ) → IsNonDecreasing l
-    → IsBinarySearchResult (λ y. nat_cmp y id) l r → r ≡ Err i → false ≡ holds l id
+    → IsBinarySearchResult (λ y. nat_cmp y id) l r → r ≡ Err i → false ≡ lists_id l id
 not_found l id r i up found e =
     let h = searched l id r found (λ j k a b. up j k 0 a b) in
     let at : (i ≤ length l) × ((k : ℕ) → k < i → get_or l k 0 < id) ×
@@ -32,13 +32,16 @@ same_any p q [] h = refl
 same_any p q (x ∷ l) h = rw (h x, same_any p q l h) refl
 
 -- in whatever order they are
-pub same_own : (auth acct auth2 acct2 theirs : List ℕ) → IsPermutation auth auth2 → IsPermutation acct acct2
-    → list_any (is_own auth2 acct2) theirs ≡ list_any (is_own auth acct) theirs
-same_own auth acct auth2 acct2 theirs h g =
-    same_any (is_own auth2 acct2) (is_own auth acct) theirs (λ id.
-    let a : holds auth id ≡ holds auth2 id = list_any-IsPermutation (λ other. nat_eq other id) auth auth2 h in
-    let b : holds acct id ≡ holds acct2 id = list_any-IsPermutation (λ other. nat_eq other id) acct acct2 g in
-    rw (a, b) refl)
+pub same_own : (auth acct specific auth2 acct2 specific2 theirs : List ℕ) → IsPermutation auth auth2
+    → IsPermutation acct acct2 → IsPermutation specific specific2
+    → list_any (is_own auth2 acct2 specific2) theirs ≡ list_any (is_own auth acct specific) theirs
+same_own auth acct specific auth2 acct2 specific2 theirs h g k =
+    same_any (is_own auth2 acct2 specific2) (is_own auth acct specific) theirs (λ id.
+    let a : lists_id auth id ≡ lists_id auth2 id = list_any-IsPermutation (λ other. nat_eq other id) auth auth2 h in
+    let b : lists_id acct id ≡ lists_id acct2 id = list_any-IsPermutation (λ other. nat_eq other id) acct acct2 g in
+    let c : lists_id specific id ≡ lists_id specific2 id =
+    list_any-IsPermutation (λ other. nat_eq other id) specific specific2 k in
+    rw (a, b, c) refl)
 
 pub or_behind : (a b : Bool) → a ≡ false → b ≡ (a || b)
 or_behind a b h = rw h refl

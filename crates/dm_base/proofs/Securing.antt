@@ -3,10 +3,10 @@ use Rattle.std.proofs.Common.{◌≡◌, not, ℕ, suc, Bool, true, false, nat_e
 use Rattle.std.specs.List.{flat_map}
 use Rattle.dm_wire.specs.declared.avp.Avp.{Avp}
 use Rattle.std.proofs.lemmas.Bool.{ne_eqb}
-use Rattle.dm_base.specs.Common.{holds, are_secure}
+use Rattle.dm_base.specs.Common.{lists_id, are_secure}
 
 abbrev pub secure_from : Bool → List ℕ → Bool
-secure_from named ids = if named then holds ids 0 else are_secure ids
+secure_from named ids = if named then lists_id ids 0 else are_secure ids
 
 -- an AVP that names none changes nothing
 pub none_named : (named : Bool) (one rest : List ℕ) → [] ≡ one
@@ -15,7 +15,7 @@ none_named named one rest e = rw (← e) refl
 
 -- another id leaves it to those behind it
 pub other_named : (named : Bool) (id : ℕ) (one rest : List ℕ) → id ∷ [] ≡ one → nat_eq id 0 ≡ false
-    → secure_from named (one ++ rest) ≡ holds rest 0
+    → secure_from named (one ++ rest) ≡ lists_id rest 0
 other_named true id one rest e h = rw (← e, h) refl
 other_named false id one rest e h =
     let some : nat_eq (suc (length rest)) 0 ≡ false = ne_eqb (suc (length rest)) 0 (λ k. omega arith) in

@@ -9,7 +9,8 @@ use Rattle.dm_tables.specs.declared.rule.Entry.{Entry}
 use Rattle.dm_tables.specs.declared.def.AvpDef.{AvpDef}
 use Rattle.dm_tables.specs.Definitions.{is_coded}
 use Rattle.dm_dict.specs.Rules.{definition, counts, counted_avps, count, entry_for, allows}
-use Rattle.dm_dict.specs.Faults.{Fault, avp_faults, excess_faults, entry_faults, list_faults_by}
+use Rattle.dm_dict.specs.Faults.{Fault, avp_faults, excess_faults, entry_faults, list_faults_by, group_faults}
+use Rattle.dm_dict.specs.Limits.{group_limit}
 
 pub data Part : Type 0 where
   One Many : ℕ → Part
@@ -22,10 +23,14 @@ code_of (Many code) = code
 abbrev pub defined : List AvpDef → ℕ → Option AvpDef
 defined avps code = find (is_coded code None) avps
 
+-- the faults of a group that stands in a message
+abbrev pub in_message : List AvpDef → List Entry → Avp → List Fault
+in_message avps = group_faults group_limit avps
+
 -- an AVP of this code without vendor, with nothing wrong where its rule allows it
 pub record IsRight (avps : List AvpDef) (code : ℕ) (a : Avp) : Type 0 where
   pub is_defined : definition avps a ≡ defined avps code
-  pub faultless : (groups : List Entry → Avp → List Fault) → avp_faults groups true a (defined avps code) ≡ []
+  pub faultless : avp_faults (in_message avps) true a (defined avps code) ≡ []
 
 abbrev pub Each : (Avp → Type 0) → List Avp → Type 0
 Each P [] = Unit {0}
@@ -72,31 +77,31 @@ abbrev pub keeps : List AvpDef → List Entry → List Part → Bool
 keeps avps rule ps = list_all (part_keeps avps rule) ps && list_all (entry_keeps avps rule ps) rule
 
 -- the faults of one AVP under a rule
-abbrev pub faults_at : (List Entry → Avp → List Fault) → List AvpDef → List Entry → Avp → List Fault
-faults_at groups avps rule a = avp_faults groups (allows (entry_for rule (definition avps a))) a (definition avps a)
+abbrev pub faults_at : List AvpDef → List Entry → Avp → List Fault
+faults_at avps rule a = avp_faults (in_message avps) (allows (entry_for rule (definition avps a))) a (definition avps a)
 
-one_right : (groups : List Entry → Avp → List Fault) (avps : List AvpDef) (rule : List Entry) (code : ℕ) (a : Avp)
-    → IsRight avps code a → allows (entry_for rule (defined avps code)) ≡ true → faults_at groups avps rule a ≡ []
-one_right groups avps rule code a r h = rw (r.is_defined, h) (r.faultless groups)
+one_right : (avps : List AvpDef) (rule : List Entry) (code : ℕ) (a : Avp)
+    → IsRight avps code a → allows (entry_for rule (defined avps code)) ≡ true → faults_at avps rule a ≡ []
+one_right avps rule code a r h = rw (r.is_defined, h) r.faultless
 
-each_right : (groups : List Entry → Avp → List Fault) (avps : List AvpDef) (rule : List Entry) (code : ℕ)
+each_right : (avps : List AvpDef) (rule : List Entry) (code : ℕ)
     (l rest : List Avp)
     → Each (IsRight avps code) l → allows (entry_for rule (defined avps code)) ≡ true
-    → flat_map (faults_at groups avps rule) (l ++ rest) ≡ flat_map (faults_at groups avps rule) rest
-each_right groups avps rule code [] rest r h = refl
-each_right groups avps rule code (a ∷ l) rest r h =
-    rw (one_right groups avps rule code a r.0 h) (each_right groups avps rule code l rest r.1 h)
+    → flat_map (faults_at avps rule) (l ++ rest) ≡ flat_map (faults_at avps rule) rest
+each_right avps rule code [] rest r h = refl
+each_right avps rule code (a ∷ l) rest r h =
+    rw (one_right avps rule code a r.0 h) (each_right avps rule code l rest r.1 h)
 
-avps_right : (groups : List Entry → Avp → List Fault) (avps : List AvpDef) (rule : List Entry) (ps : List Part)
+avps_right : (avps : List AvpDef) (rule : List Entry) (ps : List Part)
     (l : List Avp)
-    → IsShaped avps ps l → list_all (part_keeps avps rule) ps ≡ true → flat_map (faults_at groups avps rule) l ≡ []
-avps_right groups avps rule [] l s h = rw s refl
-avps_right groups avps rule (One code ∷ ps) l s h =
+    → IsShaped avps ps l → list_all (part_keeps avps rule) ps ≡ true → flat_map (faults_at avps rule) l ≡ []
+avps_right avps rule [] l s h = rw s refl
+avps_right avps rule (One code ∷ ps) l s h =
     let (here, behind) = and_parts (part_keeps avps rule (One code)) (list_all (part_keeps avps rule) ps) h in
-    rw (s.2, one_right groups avps rule code s.0 s.3 here) (avps_right groups avps rule ps s.1 s.4 behind)
-avps_right groups avps rule (Many code ∷ ps) l s h =
+    rw (s.2, one_right avps rule code s.0 s.3 here) (avps_right avps rule ps s.1 s.4 behind)
+avps_right avps rule (Many code ∷ ps) l s h =
     let (here, behind) = and_parts (part_keeps avps rule (Many code)) (list_all (part_keeps avps rule) ps) h in
-    rw s.2 (each_right groups avps rule code s.0 s.1 s.3 here ∙ avps_right groups avps rule ps s.1 s.4 behind)
+    rw s.2 (each_right avps rule code s.0 s.1 s.3 here ∙ avps_right avps rule ps s.1 s.4 behind)
 
 -- how many AVPs pass a test
 abbrev number : (Avp → Bool) → List Avp → ℕ
@@ -192,10 +197,10 @@ entries_right avps rule ps l (e ∷ es) s h =
     rw (entry_right avps rule ps l e s here) (entries_right avps rule ps l es s behind)
 
 -- a list of a shape that keeps to the rule has no faults
-pub shaped_right : (groups : List Entry → Avp → List Fault) (avps : List AvpDef) (rule : List Entry) (ps : List Part)
+pub shaped_right : (avps : List AvpDef) (rule : List Entry) (ps : List Part)
     (l : List Avp)
-    → IsShaped avps ps l → keeps avps rule ps ≡ true → list_faults_by groups avps rule l ≡ []
-shaped_right groups avps rule ps l s h =
+    → IsShaped avps ps l → keeps avps rule ps ≡ true → list_faults_by (in_message avps) avps rule l ≡ []
+shaped_right avps rule ps l s h =
     let (parts, entries) =
     and_parts (list_all (part_keeps avps rule) ps) (list_all (entry_keeps avps rule ps) rule) h in
-    rw (avps_right groups avps rule ps l s parts) (entries_right avps rule ps l rule s entries)
+    rw (avps_right avps rule ps l s parts) (entries_right avps rule ps l rule s entries)

@@ -16,7 +16,12 @@ use Rattle.dm_value.specs.declared.address.Ip.TheVariants.{V4, V6}
 use Rattle.dm_value.specs.Flaws.{is_visible_text}
 use Rattle.dm_base.specs.declared.node.Node.{Node}
 use Rattle.dm_base.specs.Spelled.{HasSpelling}
-use Rattle.dm_base.specs.Fit.{is_name, is_sized, is_product, is_number}
+use Rattle.dm_base.specs.declared.extras.Extras.{Extras}
+use Rattle.dm_base.specs.declared.vendor_application.VendorApplication.{VendorApplication}
+use Rattle.dm_base.specs.Extra.{vendor_applications, supported_vendors, own_firmware, own_state, answer_state}
+use Rattle.dm_base.specs.Codes.{origin_state_id, supported_vendor_id}
+use Rattle.dm_base.specs.Built.{id_code, specific_avp, state_avps, firmware_avps, behind_failed}
+use Rattle.dm_base.specs.Fit.{is_name, is_sized, is_product, is_number, is_vendor_application}
 use Rattle.dm_base.specs.Codes.{capabilities_exchange, device_watchdog, disconnect_peer}
 use Rattle.dm_base.specs.Codes.{auth_application_id, acct_application_id, origin_host, origin_realm, vendor_id}
 use Rattle.dm_base.specs.Codes.{result_code, disconnect_cause, failed_avp, longest_failed}
@@ -61,7 +66,7 @@ list_size sized (a ∷ l) s =
     omega (arith, length-append (canonical_avp a) (canonical_list l))
 
 -- a message of few small AVPs has a spelling
-message_spelled : Laws → (m : Message) → HeaderFits m.header → Each IsSmall m.avps → length m.avps ≤ 1000
+message_spelled : Laws → (m : Message) → HeaderFits m.header → Each IsSmall m.avps → length m.avps ≤ 4000
     → HasSpelling m
 message_spelled laws m h s few =
     let size = list_size laws.sized m.avps s in
@@ -119,15 +124,48 @@ origin_small n rest s =
     let realm = name_small origin_realm n.realm (omega arith) n.fit_realm in
     (name_small origin_host n.host (omega arith) n.fit_host, (realm, s))
 
+specific_small : (a : VendorApplication) → IsSmall (specific_avp a)
+unfolding specific_avp
+specific_small a = record { code = omega arith; length = by a.accounting; vendor = refl } where
+  by : (b : Bool)
+      → length (canonical_list (number_avp vendor_id a.vendor ∷ number_avp (id_code b) a.application ∷ [])) ≤ 4100
+  by true = omega arith
+  by false = omega arith
+
+specifics_small : (l : List VendorApplication) → Each IsSmall (map specific_avp l)
+specifics_small [] = tt
+specifics_small (a ∷ l) = (specific_small a, specifics_small l)
+
+state_small : (o : Option ℕ) → Each IsSmall (state_avps o) × (length (state_avps o) ≤ 1)
+state_small None = (tt, omega arith)
+state_small (Some n) = ((number_small origin_state_id n (omega arith), tt), omega arith)
+
+firmware_small : (o : Option ℕ) → Each IsSmall (firmware_avps o) × (length (firmware_avps o) ≤ 1)
+firmware_small None = (tt, omega arith)
+firmware_small (Some n) = ((record { code = omega arith; length = omega arith; vendor = refl }, tt), omega arith)
+
 applications_small : (n : Node) → Each IsSmall (application_avps n)
 applications_small n =
-    each_both IsSmall (map (number_avp auth_application_id) n.auth) (map (number_avp acct_application_id) n.acct)
-    (numbers_small auth_application_id n.auth (omega arith)) (numbers_small acct_application_id n.acct (omega arith))
+    let l = vendor_applications n.extras in
+    let (last, one) = firmware_small (own_firmware n.extras) in
+    let specific = each_both IsSmall (map specific_avp l) (firmware_avps (own_firmware n.extras)) (specifics_small l) last in
+    let acct =
+    each_both IsSmall (map (number_avp acct_application_id) n.acct) _
+    (numbers_small acct_application_id n.acct (omega arith)) specific in
+    each_both IsSmall (map (number_avp auth_application_id) n.auth) _
+    (numbers_small auth_application_id n.auth (omega arith)) acct
+
+behind_small : (n : Node) → Each IsSmall (behind_failed n)
+behind_small n =
+    each_both IsSmall (map (number_avp supported_vendor_id) (supported_vendors n.extras)) (application_avps n)
+    (numbers_small supported_vendor_id (supported_vendors n.extras) (omega arith)) (applications_small n)
 
 capabilities_small : (n : Node) (failed : List Avp) → Each IsSmall failed → Each IsSmall (capabilities n failed)
 capabilities_small n failed f =
-    let behind : Each IsSmall (failed ++ application_avps n) =
-    each_both IsSmall failed (application_avps n) f (applications_small n) in
+    let (state, one) = state_small (own_state n.extras) in
+    let behind : Each IsSmall (state_avps (own_state n.extras) ++ (failed ++ behind_failed n)) =
+    each_both IsSmall (state_avps (own_state n.extras)) (failed ++ behind_failed n) state
+    (each_both IsSmall failed (behind_failed n) f (behind_small n)) in
     let parts : Each IsSmall (behind_addresses n failed) =
     (number_small vendor_id n.vendor (omega arith), (product_small n.product n.fit_product, behind)) in
     let (some, sized) =
@@ -137,7 +175,16 @@ capabilities_small n failed f =
     (each_both IsSmall (map address_avp n.addresses) (behind_addresses n failed)
     (addresses_small n.addresses sized) parts)
 
-capabilities_few : (n : Node) (failed : List Avp) → length failed ≤ 1 → length (capabilities n failed) ≤ 600
+-- extras are few
+extras_few : (o : Option Extras) → (length (vendor_applications o) ≤ 256) × (length (supported_vendors o) ≤ 256)
+extras_few None = (omega arith, omega arith)
+extras_few (Some e) =
+    let (applications, x) = and_parts (nat_le (length e.applications) max_ids) (list_all is_vendor_application e.applications)
+    e.fit_applications in
+    let (vendors, y) = and_parts (nat_le (length e.vendors) max_ids) (list_all is_number e.vendors) e.fit_vendors in
+    (leb-true (length e.applications) max_ids applications, leb-true (length e.vendors) max_ids vendors)
+
+capabilities_few : (n : Node) (failed : List Avp) → length failed ≤ 1 → length (capabilities n failed) ≤ 1200
 capabilities_few n failed f =
     let (both, sized) =
     and_parts (nat_lt 0 (length n.addresses) && nat_le (length n.addresses) max_addresses)
@@ -149,6 +196,9 @@ capabilities_few n failed f =
     let a = leb-true (length n.addresses) max_addresses addresses in
     let b = leb-true (length n.auth) max_ids auth in
     let c = leb-true (length n.acct) max_ids acct in
+    let (d, e) = extras_few n.extras in
+    let (s, state) = state_small (own_state n.extras) in
+    let (t, firmware) = firmware_small (own_firmware n.extras) in
     simp (length-append, length-map) (omega arith)
 
 -- the header of a request
@@ -174,8 +224,9 @@ cea_spelled laws n to code failed h =
 
 pub dwr_spelled : Laws → DwrIsSpelled
 dwr_spelled laws n id i =
+    let (small, one) = state_small (own_state n.extras) in
     message_spelled laws (built_dwr n id) (request_fits device_watchdog id (omega arith) i)
-    (origin_small n [] tt) (omega arith)
+    (origin_small n (state_avps (own_state n.extras)) small) (omega arith)
 
 pub dpr_spelled : Laws → DprIsSpelled
 dpr_spelled laws n id cause i =
@@ -187,8 +238,12 @@ dpr_spelled laws n id cause i =
 pub answer_spelled : Laws → AnswerIsSpelled
 answer_spelled laws n to code failed h =
     let (small, one) = failed_small laws.sized failed in
+    let (last, other) = state_small (answer_state n to.command) in
+    let both = each_both IsSmall (failed_avps failed) (state_avps (answer_state n to.command)) small last in
+    let few : length (failed_avps failed ++ state_avps (answer_state n to.command)) ≤ 2 =
+    simp length-append (omega arith) in
     message_spelled laws (built_answer n to code failed) (answer_fits false to h)
-    (number_small result_code code (omega arith), origin_small n (failed_avps failed) small) (omega arith)
+    (number_small result_code code (omega arith), origin_small n _ both) (omega arith)
 
 pub error_spelled : Laws → ErrorIsSpelled
 error_spelled laws n to code h =

@@ -53,6 +53,29 @@ pub list_sized : AvpSized → (a b c : Avp)
 list_sized sized a b c =
     summed (canonical_avp a) (canonical_avp b) (canonical_avp c) ∙ rw (sized a, sized b, sized c) refl
 
+three : (x y z r : List ℕ) → x ++ (y ++ (z ++ r)) ≡ (x ++ (y ++ (z ++ []))) ++ r
+three x y z r = simp (append_assoc, append-nil)
+
+-- AVPs behind three
+pub behind_three : (a b c : Avp) (rest : List Avp)
+    → canonical_list (a ∷ b ∷ c ∷ rest) ≡ canonical_list (a ∷ b ∷ c ∷ []) ++ canonical_list rest
+behind_three a b c rest = three (canonical_avp a) (canonical_avp b) (canonical_avp c) (canonical_list rest)
+
+-- appended in turn
+pub list_behind : (a b c : Avp) (rest : List Avp) (o0 o1 o2 : List ℕ) → o1 ≡ o0 ++ canonical_list (a ∷ b ∷ c ∷ [])
+    → o2 ≡ o1 ++ canonical_list rest → o2 ≡ o0 ++ canonical_list (a ∷ b ∷ c ∷ rest)
+list_behind a b c rest o0 o1 o2 e1 e2 =
+    e2 ∙ ap (λ v. v ++ canonical_list rest) e1
+    ∙ append_assoc o0 (canonical_list (a ∷ b ∷ c ∷ [])) (canonical_list rest)
+    ∙ ap (λ v. o0 ++ v) (sym (behind_three a b c rest))
+
+-- how many octets they take
+pub sized_behind : (a b c : Avp) (rest : List Avp) (x y : ℕ) → x ≡ length (canonical_list (a ∷ b ∷ c ∷ []))
+    → y ≡ length (canonical_list rest) → x + y ≡ length (canonical_list (a ∷ b ∷ c ∷ rest))
+sized_behind a b c rest x y ex ey =
+    rw (ex, ey) (sym (ap length (behind_three a b c rest)
+    ∙ length-append (canonical_list (a ∷ b ∷ c ∷ [])) (canonical_list rest)))
+
 -- the canonical octets of a message that has a spelling spell it
 canonical_spelled : CanonicalSpells → (m : Message) (s : List ℕ) → HasSpelling m → s ≡ canonical_message m
     → IsSpelledBy m s

@@ -1,7 +1,7 @@
 -- The messages that a node builds (RFC 6733, 5.3 to 5.5 and 7).
 use Rattle.std.specs.Prelude.{ℕ, Bool, true, false, nat_le, Option, None, Some, List, [], ◌∷◌, ◌++◌, map, if◌then◌else◌}
 use Rattle.dm_wire.specs.Spelling.{be, avp_length}
-use Rattle.dm_wire.specs.Canonical.{canonical_avp}
+use Rattle.dm_wire.specs.Canonical.{canonical_avp, canonical_list}
 use Rattle.dm_wire.specs.declared.avp.Avp.{Avp}
 use Rattle.dm_wire.specs.declared.message.Header.{Header}
 use Rattle.dm_wire.specs.declared.message.Message.{Message}
@@ -10,6 +10,9 @@ use Rattle.dm_value.specs.declared.address.Ip.TheVariants.{V4, V6}
 use Rattle.dm_base.specs.Codes.{capabilities_exchange, device_watchdog, disconnect_peer, host_ip_address}
 use Rattle.dm_base.specs.Codes.{auth_application_id, acct_application_id, origin_host, origin_realm, vendor_id}
 use Rattle.dm_base.specs.Codes.{result_code, product_name, disconnect_cause, failed_avp, longest_failed}
+use Rattle.dm_base.specs.Codes.{origin_state_id, firmware_revision, supported_vendor_id, vendor_specific_application_id}
+use Rattle.dm_base.specs.Extra.{vendor_applications, supported_vendors, own_firmware, own_state, answer_state, own_ids}
+use Rattle.dm_base.specs.declared.vendor_application.VendorApplication.{VendorApplication}
 use Rattle.dm_base.specs.declared.kind.Caps.{Caps}
 use Rattle.dm_base.specs.declared.kind.Cause.{Cause}
 use Rattle.dm_base.specs.declared.kind.Cause.TheVariants.{Rebooting, Busy, DoNotWantToTalkToYou}
@@ -40,13 +43,44 @@ product_avp s = record { code = product_name; vendor = None; mandatory = false; 
 abbrev pub origin : Node → List Avp → List Avp
 origin n rest = avp origin_host n.host ∷ avp origin_realm n.realm ∷ rest
 
--- the ids of its applications, each in an AVP (6.8 and 6.9)
-abbrev pub application_avps : Node → List Avp
-application_avps n = map (number_avp auth_application_id) n.auth ++ map (number_avp acct_application_id) n.acct
+-- an AVP of this number, where there is one
+abbrev pub optional_avps : ℕ → Option ℕ → List Avp
+optional_avps code None = []
+optional_avps code (Some n) = number_avp code n ∷ []
 
--- Vendor-Id, Product-Name, the Failed-AVP where there is one, and the applications (5.3.1 and 5.3.2)
+-- Origin-State-Id (8.16)
+abbrev pub state_avps : Option ℕ → List Avp
+state_avps state = optional_avps origin_state_id state
+
+-- Firmware-Revision has no M bit (5.3.4)
+abbrev pub firmware_avps : Option ℕ → List Avp
+firmware_avps None = []
+firmware_avps (Some n) = record (number_avp firmware_revision n) { mandatory = false } ∷ []
+
+-- the AVP that tells the id of an application of a vendor: Acct-Application-Id or Auth-Application-Id (6.11)
+abbrev pub id_code : Bool → ℕ
+id_code accounting = if accounting then acct_application_id else auth_application_id
+
+-- Vendor-Specific-Application-Id: Vendor-Id, and one of the two ids (6.11)
+unfoldable pub specific_avp : VendorApplication → Avp
+specific_avp a =
+    avp vendor_specific_application_id
+    (canonical_list (number_avp vendor_id a.vendor ∷ number_avp (id_code a.accounting) a.application ∷ []))
+
+-- the ids of its applications, each in an AVP (6.8, 6.9 and 6.11), and Firmware-Revision
+abbrev pub application_avps : Node → List Avp
+application_avps n =
+    map (number_avp auth_application_id) n.auth ++ (map (number_avp acct_application_id) n.acct
+    ++ (map specific_avp (vendor_applications n.extras) ++ firmware_avps (own_firmware n.extras)))
+
+-- Supported-Vendor-Ids, and what stands behind them (5.3.6)
+abbrev pub behind_failed : Node → List Avp
+behind_failed n = map (number_avp supported_vendor_id) (supported_vendors n.extras) ++ application_avps n
+
+-- Vendor-Id, Product-Name, Origin-State-Id, the Failed-AVP where there is one, and the rest (5.3.1 and 5.3.2)
 abbrev pub behind_addresses : Node → List Avp → List Avp
-behind_addresses n failed = number_avp vendor_id n.vendor ∷ product_avp n.product ∷ (failed ++ application_avps n)
+behind_addresses n failed =
+    number_avp vendor_id n.vendor ∷ product_avp n.product ∷ (state_avps (own_state n.extras) ++ (failed ++ behind_failed n))
 
 -- what a node says of itself (5.3.1 and 5.3.2)
 abbrev pub capabilities : Node → List Avp → List Avp
@@ -101,7 +135,7 @@ built_cer n id = record { header = request_header capabilities_exchange id; avps
 
 -- Device-Watchdog-Request (5.5.1)
 abbrev pub built_dwr : Node → ℕ → Message
-built_dwr n id = record { header = request_header device_watchdog id; avps = origin n [] }
+built_dwr n id = record { header = request_header device_watchdog id; avps = origin n (state_avps (own_state n.extras)) }
 
 -- Disconnect-Peer-Request (5.4.1)
 abbrev pub built_dpr : Node → ℕ → Cause → Message
@@ -116,10 +150,13 @@ abbrev pub built_cea : Node → Header → ℕ → Option Avp → Message
 built_cea n to code failed =
     record { header = answer_header false to; avps = result_avp code ∷ capabilities n (failed_avps failed) }
 
--- Device-Watchdog-Answer and Disconnect-Peer-Answer (5.5.2 and 5.4.2)
+-- Device-Watchdog-Answer, with Origin-State-Id, and Disconnect-Peer-Answer (5.5.2 and 5.4.2)
 abbrev pub built_answer : Node → Header → ℕ → Option Avp → Message
 built_answer n to code failed =
-    record { header = answer_header false to; avps = result_avp code ∷ origin n (failed_avps failed) }
+    record {
+      header = answer_header false to;
+      avps = result_avp code ∷ origin n (failed_avps failed ++ state_avps (answer_state n to.command));
+    }
 
 -- an answer with the E bit (7.2)
 abbrev pub built_error : Node → Header → ℕ → Message
@@ -127,4 +164,4 @@ built_error n to code = record { header = answer_header true to; avps = origin n
 
 -- what a node says of itself
 abbrev pub own_caps : Node → Caps
-own_caps n = record { host = n.host; realm = n.realm; applications = n.auth ++ n.acct; security = [] }
+own_caps n = record { host = n.host; realm = n.realm; applications = own_ids n; security = [] }

@@ -3,10 +3,13 @@ pub mod Built
 pub mod Codes
 pub mod Commands
 pub mod Common
+pub mod Extra
 pub mod Fit
 pub mod Kinds
 pub mod Laws
 pub mod Refusals
 pub mod Senders
 pub mod Shown
+pub mod Specific
 pub mod Spelled
+pub mod Told

@@ -3,6 +3,7 @@ use Rattle.std.specs.Prelude.{ℕ, Bool, ◌&&◌, ◌||◌, not, nat_eq, nat_lt
 use Rattle.dm_value.specs.declared.address.Ip.{Ip}
 use Rattle.dm_value.specs.Flaws.{is_visible_text}
 use Rattle.dm_base.specs.Codes.{max_name_len, max_addresses, max_ids}
+use Rattle.dm_base.specs.declared.vendor_application.VendorApplication.{VendorApplication}
 use Rattle.dm_base.specs.declared.node_fault.NodeFault.{NodeFault}
 use Rattle.dm_base.specs.declared.node_fault.NodeFault.TheVariants.{BadHost, NoAddress, TooLong}
 
@@ -21,3 +22,7 @@ node_fault host realm addresses product auth acct =
     if not (is_visible_text host && is_visible_text realm) then Some BadHost
     else (if nat_eq (length addresses) 0 then Some NoAddress
     else (if is_long host realm addresses product auth acct then Some TooLong else None))
+
+-- too many applications of vendors, or too many vendors
+abbrev pub are_extras_long : List VendorApplication → List ℕ → Bool
+are_extras_long applications vendors = nat_lt max_ids (length applications) || nat_lt max_ids (length vendors)

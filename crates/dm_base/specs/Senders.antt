@@ -20,11 +20,11 @@ abbrev pub number_told : ℕ → List Avp → Option ℕ
 number_told code l = number_in (data_at code l)
 
 -- the number of an AVP of this code
-abbrev pub number_of : ℕ → Avp → Option ℕ
-number_of code a = if is_plain code a then number_in a.bytes else None
+abbrev pub plain_number : ℕ → Avp → Option ℕ
+plain_number code a = if is_plain code a then number_in a.bytes else None
 
 abbrev pub numbers_of : ℕ → Avp → List ℕ
-numbers_of code a = option_to_list (number_of code a)
+numbers_of code a = option_to_list (plain_number code a)
 
 -- the numbers of all AVPs of a code, in order
 abbrev pub numbers_told : ℕ → List Avp → List ℕ

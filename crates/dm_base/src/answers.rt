@@ -12,7 +12,9 @@ use crate::Node;
 use crate::codes::RESULT_CODE;
 use crate::headers::answer;
 use crate::laws::built_is_spelled;
-use crate::parts::{most_avps, number, put_capabilities, put_failed, put_origin};
+use crate::parts::{
+    answer_state, most_avps, number, put_capabilities, put_failed, put_origin, put_state,
+};
 use dm_dict::NoMemory;
 use dm_wire::{Avp, AvpList, Header, Message};
 use std::alloc::Global;
@@ -56,10 +58,11 @@ fn plain_answer(
     ensures fits { to.now.command < 256 ^ 3 → HeaderFits to.now }
 {
     let header = answer(false, to);
-    let mut avps = Vec::with_capacity(alloc, 4)?;
+    let mut avps = Vec::with_capacity(alloc, 5)?;
     avps.push(number(alloc, RESULT_CODE, code)?)?;
     put_origin(alloc, &mut avps, node)?;
     put_failed(alloc, &mut avps, failed)?;
+    put_state(alloc, &mut avps, answer_state(node, to.command))?;
     Ok(Message {
         header,
         avps: AvpList::from_vec(avps),

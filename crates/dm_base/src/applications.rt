@@ -1,9 +1,10 @@
 //! Applications that two sides have in common, and connections without security (RFC 6733, 2.4, 5.3 and 6.10).
-ghost use Rattle.std.specs.Prelude.{◌≡◌, ◌≤◌, length};
+ghost use Rattle.std.specs.Prelude.{◌≡◌, ◌↔◌, ◌⊎◌, ◌≤◌, true, [], length, Contains};
 ghost use Rattle.std.specs.List.{list_any};
 ghost use Rattle.std.specs.List.Sorted.{IsNonDecreasing, IsPermutation};
-ghost use Rattle.dm_base.specs.Codes.{max_ids};
-ghost use Rattle.dm_base.specs.Common.{holds, is_own, is_relay, meets, is_common, are_common, is_secure};
+ghost use Rattle.dm_base.specs.Codes.{max_ids, no_inband_security};
+ghost use Rattle.dm_base.specs.Extra.{specific_ids};
+ghost use Rattle.dm_base.specs.Common.{lists_id, is_own, is_relay, meets, is_common, are_common, is_secure};
 
 use crate::codes::{NO_INBAND_SECURITY, RELAY};
 use crate::limits::MAX_IDS;
@@ -12,7 +13,7 @@ use crate::{Caps, Node};
 /// Whether the id is among ids that rise.
 fn finds(sorted: &[u32], id: u32) -> bool
     requires { IsNonDecreasing sorted.now }
-    ensures { result ≡ holds sorted.now id }
+    ensures { result ≡ lists_id sorted.now id }
 {
     match sorted.binary_search(&id) {
         Ok(_) => true,
@@ -33,46 +34,62 @@ pub(crate) fn sorted_in<'a>(space: &'a mut [u32; MAX_IDS], ids: &[u32]) -> &'a [
 }
 
 /// Whether the id is among own ids that rise, or a relay's.
-pub(crate) fn is_own(auth: &[u32], acct: &[u32], id: u32) -> bool
+pub(crate) fn is_own(auth: &[u32], acct: &[u32], specific: &[u32], id: u32) -> bool
     requires auth { IsNonDecreasing auth.now }
     requires acct { IsNonDecreasing acct.now }
-    ensures { result ≡ is_own auth.now acct.now id }
+    requires specific { IsNonDecreasing specific.now }
+    ensures { result ≡ is_own auth.now acct.now specific.now id }
 {
-    id == RELAY || finds(auth, id) || finds(acct, id)
+    id == RELAY || finds(auth, id) || finds(acct, id) || finds(specific, id)
 }
 
 /// Whether some id is among own ids that rise, or a relay's.
-fn meets_sorted(auth: &[u32], acct: &[u32], theirs: &[u32]) -> bool
+fn meets_sorted(auth: &[u32], acct: &[u32], specific: &[u32], theirs: &[u32]) -> bool
     requires auth { IsNonDecreasing auth.now }
     requires acct { IsNonDecreasing acct.now }
-    ensures { result ≡ list_any (is_own auth.now acct.now) theirs.now }
+    requires specific { IsNonDecreasing specific.now }
+    ensures { result ≡ list_any (is_own auth.now acct.now specific.now) theirs.now }
 {
     for id in theirs {
-        if is_own(auth, acct, *id) {
+        if is_own(auth, acct, specific, *id) {
             return true;
         }
     }
     false
 }
 
+/// The ids of the node's applications of vendors.
+pub(crate) fn specific_ids(node: &Node) -> &[u32]
+    ensures ids { result.now ≡ specific_ids node.now }
+    ensures few { length result.now ≤ max_ids }
+{
+    match &node.extras {
+        Some(extras) => extras.ids.as_slice(),
+        None => &[],
+    }
+}
+
 /// Whether the node has a relay's Application-ID.
 pub(crate) fn is_relay(node: &Node) -> bool
     ensures { result ≡ is_relay node.now }
 {
-    node.auth.as_slice().contains(&RELAY) || node.acct.as_slice().contains(&RELAY)
+    node.auth.as_slice().contains(&RELAY)
+        || node.acct.as_slice().contains(&RELAY)
+        || specific_ids(node).contains(&RELAY)
 }
 
 /// Whether some of the ids is the node's, or a relay's. The node's ids are sorted once, on the stack.
 fn meets(node: &Node, theirs: &[u32]) -> bool
     ensures { result ≡ meets node.now theirs.now }
 {
-    let (mut auth, mut acct) = ([0; MAX_IDS], [0; MAX_IDS]);
+    let (mut auth, mut acct, mut specific) = ([0; MAX_IDS], [0; MAX_IDS], [0; MAX_IDS]);
     let auth = sorted_in(&mut auth, node.auth.as_slice());
     let acct = sorted_in(&mut acct, node.acct.as_slice());
-    meets_sorted(auth, acct, theirs)
+    let specific = sorted_in(&mut specific, specific_ids(node));
+    meets_sorted(auth, acct, specific, theirs)
 }
 
-/// Whether some Application-ID is on both sides, or one side is a relay (RFC 6733, 5.3). It takes no
+/// Whether some Application-ID is on both sides, or one side is a relay (RFC 6733, 5.3). It never answers want of
 /// memory, and time by the number of ids.
 pub fn common(caps: &Caps, node: &Node) -> bool
     ensures { result ≡ is_common caps.now node.now }
@@ -80,8 +97,8 @@ pub fn common(caps: &Caps, node: &Node) -> bool
     is_relay(node) || meets(node, caps.applications.as_slice())
 }
 
-/// Whether some Application-ID is on both nodes, or one is a relay (RFC 6733, 5.3). It takes no memory, and
-/// time by the number of ids.
+/// Whether some Application-ID is on both nodes, or one is a relay (RFC 6733, 5.3). It never answers want of memory,
+/// and takes time by the number of ids.
 pub fn common_nodes(one: &Node, other: &Node) -> bool
     ensures { result ≡ are_common one.now other.now }
 {
@@ -89,12 +106,15 @@ pub fn common_nodes(one: &Node, other: &Node) -> bool
         || is_relay(other)
         || meets(one, other.auth.as_slice())
         || meets(one, other.acct.as_slice())
+        || meets(one, specific_ids(other))
 }
 
-/// Whether the other side takes a connection without security: it names no Inband-Security-Id, or
-/// NO_INBAND_SECURITY among them (RFC 6733, 6.10). It takes no memory.
+/// Whether the other side takes a connection without security: it names no Inband-Security-Id, or NO_INBAND_SECURITY
+/// among them (RFC 6733, 6.10). It never answers want of memory.
+#[tactic(auto, using(crate::proofs::Sharing::secure_by))]
 pub fn secure(caps: &Caps) -> bool
-    ensures { result ≡ is_secure caps.now }
+    ensures test { result ≡ is_secure caps.now }
+    ensures named { (result ≡ true) ↔ ((caps.now.security ≡ []) ⊎ Contains caps.now.security no_inband_security) }
 {
     let ids = caps.security.as_slice();
     ids.len() == 0 || ids.contains(&NO_INBAND_SECURITY)

@@ -16,7 +16,7 @@ impl BaseCommand {
     ghost use Rattle.std.specs.Prelude.{◌≡◌};
     ghost use Rattle.dm_base.specs.Commands.{base_command};
 
-    /// The base command of this Command Code. None for a code of no base message. It takes no memory.
+    /// The base command of this Command Code. None for a code of no base message. It never answers want of memory.
     pub fn of(code: u32) -> Option<BaseCommand>
         ensures { result ≡ base_command code }
     {

@@ -10,34 +10,36 @@ ghost use Rattle.dm_base.specs.Kinds.{plain_ids, security_ids, application_ids};
 ghost use Rattle.dm_wire.specs.Borrowed.{Lists};
 
 use crate::Node;
-use crate::applications::{is_own, is_relay, sorted_in};
+use crate::applications::{is_own, is_relay, sorted_in, specific_ids};
 use crate::codes::NO_INBAND_SECURITY;
 use crate::limits::MAX_IDS;
 use crate::reading::{is_vendor_specific, plain_id, security_id};
 use dm_wire::{AvpRef, AvpsRef, spells_avps};
 
 /// Whether the id that an Auth-Application-Id or Acct-Application-Id tells is an own one.
-fn plain_meets(auth: &[u32], acct: &[u32], avp: AvpRef<'_>) -> bool
+fn plain_meets(auth: &[u32], acct: &[u32], specific: &[u32], avp: AvpRef<'_>) -> bool
     requires auth { IsNonDecreasing auth.now }
     requires acct { IsNonDecreasing acct.now }
-    ensures { result ≡ list_any (is_own auth.now acct.now) (plain_ids (avp_of avp.entry)) }
+    requires specific { IsNonDecreasing specific.now }
+    ensures { result ≡ list_any (is_own auth.now acct.now specific.now) (plain_ids (avp_of avp.entry)) }
 {
     match plain_id(avp) {
-        Some(id) => is_own(auth, acct, id),
+        Some(id) => is_own(auth, acct, specific, id),
         None => false,
     }
 }
 
 /// Whether an id that the AVPs of a Vendor-Specific-Application-Id tell is an own one.
-fn inside_meets(auth: &[u32], acct: &[u32], avps: AvpsRef<'_>) -> bool
+fn inside_meets(auth: &[u32], acct: &[u32], specific: &[u32], avps: AvpsRef<'_>) -> bool
     requires auth { IsNonDecreasing auth.now }
     requires acct { IsNonDecreasing acct.now }
+    requires specific { IsNonDecreasing specific.now }
     ensures { (l : List Avp) → Lists avps.entry l
-        → result ≡ list_any (is_own auth.now acct.now) (flat_map plain_ids l) }
+        → result ≡ list_any (is_own auth.now acct.now specific.now) (flat_map plain_ids l) }
 {
     let mut left = avps;
     while let Some((avp, rest)) = left.split_first() {
-        if plain_meets(auth, acct, avp) {
+        if plain_meets(auth, acct, specific, avp) {
             return true;
         }
         left = rest;
@@ -47,30 +49,32 @@ fn inside_meets(auth: &[u32], acct: &[u32], avps: AvpsRef<'_>) -> bool
 
 /// Whether an id that an AVP tells is an own one.
 #[tactic(auto, using(crate::proofs::Ids::none_met, crate::proofs::Ids::some_met))]
-fn avp_meets(auth: &[u32], acct: &[u32], avp: AvpRef<'_>) -> bool
+fn avp_meets(auth: &[u32], acct: &[u32], specific: &[u32], avp: AvpRef<'_>) -> bool
     requires auth { IsNonDecreasing auth.now }
     requires acct { IsNonDecreasing acct.now }
-    ensures { result ≡ list_any (is_own auth.now acct.now) (application_ids (avp_of avp.entry)) }
+    requires specific { IsNonDecreasing specific.now }
+    ensures { result ≡ list_any (is_own auth.now acct.now specific.now) (application_ids (avp_of avp.entry)) }
 {
     if !is_vendor_specific(avp) {
-        return plain_meets(auth, acct, avp);
+        return plain_meets(auth, acct, specific, avp);
     }
     if !spells_avps(avp.bytes) {
         return false;
     }
-    inside_meets(auth, acct, AvpsRef::Spelled(avp.bytes))
+    inside_meets(auth, acct, specific, AvpsRef::Spelled(avp.bytes))
 }
 
 /// Whether an id that AVPs tell is an own one.
-fn list_meets(auth: &[u32], acct: &[u32], avps: AvpsRef<'_>) -> bool
+fn list_meets(auth: &[u32], acct: &[u32], specific: &[u32], avps: AvpsRef<'_>) -> bool
     requires auth { IsNonDecreasing auth.now }
     requires acct { IsNonDecreasing acct.now }
+    requires specific { IsNonDecreasing specific.now }
     ensures { (l : List Avp) → Lists avps.entry l
-        → result ≡ list_any (is_own auth.now acct.now) (flat_map application_ids l) }
+        → result ≡ list_any (is_own auth.now acct.now specific.now) (flat_map application_ids l) }
 {
     let mut left = avps;
     while let Some((avp, rest)) = left.split_first() {
-        if avp_meets(auth, acct, avp) {
+        if avp_meets(auth, acct, specific, avp) {
             return true;
         }
         left = rest;
@@ -113,7 +117,7 @@ impl CapsRef<'_> {
     ghost use Rattle.dm_base.specs.declared.kind.Caps.{Caps};
     ghost use Rattle.dm_base.specs.Shown.{ShowsCaps};
 
-    /// Whether some Application-ID is on both sides, or one side is a relay (RFC 6733, 5.3). It takes no
+    /// Whether some Application-ID is on both sides, or one side is a relay (RFC 6733, 5.3). It never answers want of
     /// memory, and time by the number of octets.
     pub fn common(&self, node: &Node) -> bool
         ensures { (caps : Caps) → ShowsCaps self.now caps → result ≡ is_common caps node.now }
@@ -121,13 +125,14 @@ impl CapsRef<'_> {
         if is_relay(node) {
             return true;
         }
-        let (mut auth, mut acct) = ([0; MAX_IDS], [0; MAX_IDS]);
+        let (mut auth, mut acct, mut specific) = ([0; MAX_IDS], [0; MAX_IDS], [0; MAX_IDS]);
         let auth = sorted_in(&mut auth, node.auth.as_slice());
         let acct = sorted_in(&mut acct, node.acct.as_slice());
-        list_meets(auth, acct, AvpsRef::Spelled(self.rest))
+        let specific = sorted_in(&mut specific, specific_ids(node));
+        list_meets(auth, acct, specific, AvpsRef::Spelled(self.rest))
     }
 
-    /// Whether the other side takes a connection without security (RFC 6733, 6.10). It takes no memory.
+    /// Whether the other side takes a connection without security (RFC 6733, 6.10). It never answers want of memory.
     pub fn secure(&self) -> bool
         ensures { (caps : Caps) → ShowsCaps self.now caps → result ≡ is_secure caps }
     {

@@ -16,7 +16,7 @@ use dm_wire::{AvpsRef, Message};
 use std::alloc::Global;
 
 /// Whether the command is that of base messages: 257 (Capabilities-Exchange), 280 (Device-Watchdog) or 282
-/// (Disconnect-Peer) (RFC 6733, 5.3, 5.5 and 5.4). It takes no memory.
+/// (Disconnect-Peer) (RFC 6733, 5.3, 5.5 and 5.4). It never answers want of memory.
 pub fn is_base_command(command: u32) -> bool
     ensures { result ≡ is_base_command command }
 {

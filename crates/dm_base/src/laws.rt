@@ -3,6 +3,7 @@
 ghost use Rattle.dm_base.specs.Before.{OneComesFirst};
 ghost use Rattle.dm_base.specs.Common.{CommonIsShared, NodesShare, OwnInCommon, CommonBothWays, SecureNamesNone};
 ghost use Rattle.dm_base.specs.Laws.{CerIsOwn, CeaIsOwn, DwrIsOwn, DwaIsOwn, DprIsOwn, DpaIsOwn, ErrorIsGood};
+ghost use Rattle.dm_base.specs.Told.{CerTellsNode, CeaTellsNode, DwrTellsState, DwaTellsState};
 ghost use Rattle.dm_base.specs.Laws.{CerIsSpelled, CeaIsSpelled, DwrIsSpelled, DprIsSpelled, AnswerIsSpelled, ErrorIsSpelled};
 
 use dm_wire::laws::{avp_sized, message_spelled};
@@ -40,6 +41,15 @@ pub fn built_is_spelled()
     message_spelled();
     avp_sized();
 }
+
+/// What the capabilities exchanges of a node tell, as `sender` reads them, is what the node says of itself, extras too; and
+/// its watchdogs tell the number of its state (5.3 and 8.16). It stands for users.
+pub fn built_tells()
+    ensures cer { CerTellsNode }
+    ensures cea { CeaTellsNode }
+    ensures dwr { DwrTellsState }
+    ensures dwa { DwaTellsState }
+{}
 
 /// Two sides have an application in common just where some Application-ID is on both, or one side is a relay
 /// (5.3).

@@ -14,7 +14,7 @@ pub(crate) fn is_visible_text(octets: &[u8]) -> bool
 }
 
 /// Whether the octets are a name of a host or realm: at least one and at most 255, each 0x21 to 0x7E (RFC 6733, 4.3.1;
-/// the limit of 255 is own). It takes no memory.
+/// the limit of 255 is own). It never answers want of memory.
 pub fn is_name(octets: &[u8]) -> bool
     ensures { result ≡ is_name octets.now }
 {

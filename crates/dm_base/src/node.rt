@@ -1,5 +1,5 @@
 //! Nodes.
-ghost use Rattle.std.specs.Prelude.{◌≡◌, true, IfOk, string_bytes, length};
+ghost use Rattle.std.specs.Prelude.{◌≡◌, true, None, Some, IfOk, string_bytes, length};
 ghost use Rattle.std.specs.Result.{result_err};
 ghost use Rattle.std.specs.List.{list_all};
 ghost use Rattle.std.specs.Str.{is_utf8};
@@ -8,7 +8,7 @@ ghost use Rattle.dm_base.specs.Fit.{is_sized, is_name, are_addresses, is_number,
 
 use crate::limits::{MAX_ADDRESSES, MAX_IDS, MAX_NAME_LEN};
 use crate::names::is_visible_text;
-use crate::{IdList, IpList, NodeFault};
+use crate::{Extras, IdList, IpList, NodeFault};
 use dm_dict::{Ip, Text};
 use dm_wire::Octets;
 
@@ -22,6 +22,7 @@ pub struct Node {
     pub(crate) product: Text,
     pub(crate) auth: IdList,
     pub(crate) acct: IdList,
+    pub(crate) extras: Option<Extras>,
     pub ghost fit_host: { is_name host ≡ true },
     pub ghost fit_realm: { is_name realm ≡ true },
     pub ghost fit_addresses: { are_addresses addresses ≡ true },
@@ -89,7 +90,7 @@ fn have_their_sizes(addresses: &[Ip])
 
 /// The ids fit 32 bits, as their type says.
 #[tactic(auto, using(crate::proofs::Fitting::all_numbers))]
-fn all_numbers(ids: &[u32])
+pub(crate) fn all_numbers(ids: &[u32])
     ensures { list_all is_number ids.now ≡ true }
 {}
 
@@ -102,8 +103,8 @@ fn is_text(text: &Text)
 }
 
 impl Node {
-    /// A node of these parts, which are moved and not copied (RFC 6733, 4.3.1 and 5.3; the limits are own). It takes no
-    /// memory.
+    /// A node of these parts, which are moved and not copied (RFC 6733, 4.3.1 and 5.3; the limits are own). It never
+    /// answers want of memory.
     ///
     /// Refuses, in this order, with `BadHost` (the host, then the realm, is empty or has an octet outside 0x21 to 0x7E),
     /// `NoAddress`, and `TooLong` (the host, the realm or the product is over 255 octets, or there are over 64 addresses,
@@ -126,6 +127,8 @@ impl Node {
         ensures product { IfOk result (λ node. node.product ≡ string_bytes product) }
         ensures auth { IfOk result (λ node. node.auth ≡ auth.items) }
         ensures acct { IfOk result (λ node. node.acct ≡ acct.items) }
+        // It says nothing beyond.
+        ensures extras { IfOk result (λ node. node.extras ≡ None) }
     {
         let product = Text::from_string(product);
         match fault_of(
@@ -150,12 +153,31 @@ impl Node {
                     product,
                     auth: IdList::from_vec(auth),
                     acct: IdList::from_vec(acct),
+                    extras: None,
                 })
             }
         }
     }
 
-    /// The host. It takes no memory.
+    /// The node, which says this too, in place of what it said beyond before (RFC 6733, 5.3, 6.11 and 8.16): the messages
+    /// that it builds carry it where the commands have it, and its applications of vendors are applications in common. The
+    /// extras are moved and not copied. It never answers want of memory.
+    pub fn with_extras(self, extras: Extras) -> Node
+        ensures host { result.host ≡ self.host }
+        ensures realm { result.realm ≡ self.realm }
+        ensures addresses { result.addresses ≡ self.addresses }
+        ensures vendor { result.vendor ≡ self.vendor }
+        ensures product { result.product ≡ self.product }
+        ensures auth { result.auth ≡ self.auth }
+        ensures acct { result.acct ≡ self.acct }
+        ensures extras { result.extras ≡ Some extras }
+    {
+        let mut node = self;
+        node.extras = Some(extras);
+        node
+    }
+
+    /// The host. It never answers want of memory.
     pub fn host(&self) -> &[u8]
         ensures { result.now ≡ self.now.host }
     {

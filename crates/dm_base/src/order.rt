@@ -41,8 +41,8 @@ fn compare(one: &[u8], other: &[u8]) -> Ordering
     }
 }
 
-/// The order of two hosts: their octets with `A` to `Z` taken as `a` to `z`. The first difference
-/// decides, and a proper front comes first. It takes no memory.
+/// The order of two hosts: their octets with `A` to `Z` taken as `a` to `z`. The first difference decides, and a proper
+/// front comes first. It never answers want of memory.
 pub fn host_order(one: &[u8], other: &[u8]) -> Ordering
     ensures value { result ≡ order (lower one.now) (lower other.now) }
     ensures less { (result ≡ Ordering.Less) ↔ Before one.now other.now }

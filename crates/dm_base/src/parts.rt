@@ -1,19 +1,24 @@
 //! The AVPs of which a node's messages are made (RFC 6733, 4.1, 5.3, 6.3, 6.4 and 7.5).
-ghost use Rattle.std.specs.Prelude.{◌≡◌, ◌++◌, ◌∷◌, [], IfOk, OnOk, map, nat_le};
+ghost use Rattle.std.specs.Prelude.{◌≡◌, ◌≤◌, ◌++◌, ◌∷◌, [], IfOk, OnOk, map, nat_le};
 ghost use Rattle.std.specs.Option.{option_copied};
 ghost use Rattle.dm_wire.specs.Spelling.{avp_length};
 ghost use Rattle.dm_wire.specs.Canonical.{canonical_avp};
-ghost use Rattle.dm_base.specs.Codes.{longest_failed};
+ghost use Rattle.dm_base.specs.Codes.{longest_failed, vendor_id, supported_vendor_id};
 ghost use Rattle.dm_base.specs.Built.{avp, number_avp, address_avp, product_avp, origin, capabilities, failed_avps};
+ghost use Rattle.dm_base.specs.Built.{id_code, specific_avp, state_avps, firmware_avps, application_avps, behind_failed};
+ghost use Rattle.dm_base.specs.Extra.{answer_state, own_state, own_firmware, supported_vendors, vendor_applications};
+ghost use Rattle.dm_wire.specs.Canonical.{canonical_list};
+ghost use Rattle.dm_wire.specs.Borrowed.{avp_of};
 
-use crate::Node;
 use crate::codes::{
-    ACCT_APPLICATION_ID, AUTH_APPLICATION_ID, FAILED_AVP, HOST_IP_ADDRESS, ORIGIN_HOST,
-    ORIGIN_REALM, PRODUCT_NAME, VENDOR_ID,
+    ACCT_APPLICATION_ID, AUTH_APPLICATION_ID, DEVICE_WATCHDOG, FAILED_AVP, FIRMWARE_REVISION,
+    HOST_IP_ADDRESS, ORIGIN_HOST, ORIGIN_REALM, ORIGIN_STATE_ID, PRODUCT_NAME, SUPPORTED_VENDOR_ID,
+    VENDOR_ID, VENDOR_SPECIFIC_APPLICATION_ID,
 };
 use crate::limits::LONGEST_FAILED;
+use crate::{Node, VendorApplication};
 use dm_dict::{Ip, NoMemory};
-use dm_wire::{Avp, Octets, encode_avps};
+use dm_wire::{Avp, AvpRef, Octets, encode_avps, put_avp};
 use std::alloc::Global;
 use std::slice;
 
@@ -32,6 +37,19 @@ fn plain(alloc: Global, code: u32, octets: &[u8]) -> Result<Avp, NoMemory>
     ensures { IfOk result (λ a. a ≡ avp code octets.now) }
 {
     Ok(holding(code, Vec::from_slice(alloc, octets)?))
+}
+
+/// An AVP without vendor, with the M bit, of these octets where they lie.
+pub(crate) fn borrowed(code: u32, bytes: &[u8]) -> AvpRef<'_>
+    ensures { avp_of result ≡ avp code bytes.now }
+{
+    AvpRef {
+        code,
+        vendor: None,
+        mandatory: true,
+        protected: false,
+        bytes,
+    }
 }
 
 /// An AVP of type Unsigned32 or Enumerated.
@@ -137,13 +155,182 @@ fn put_product(alloc: Global, avps: &mut Vec<Avp>, node: &Node) -> Result<(), No
     Ok(())
 }
 
-/// No fewer AVPs than a capabilities exchange has: 7, and one for each address and id.
+/// Origin-State-Id, appended, where there is a number for it (RFC 6733, 8.16).
+pub(crate) fn put_state(
+    alloc: Global,
+    avps: &mut Vec<Avp>,
+    state: Option<u32>,
+) -> Result<(), NoMemory>
+    ensures { OnOk result (avps.new.items ≡ avps.old.items ++ state_avps state) }
+{
+    if let Some(state) = state {
+        avps.push(number(alloc, ORIGIN_STATE_ID, state)?)?;
+    }
+    Ok(())
+}
+
+/// Firmware-Revision, which has no M bit (RFC 6733, 5.3.4), appended, where there is a number for it.
+fn put_firmware(alloc: Global, avps: &mut Vec<Avp>, firmware: Option<u32>) -> Result<(), NoMemory>
+    ensures { OnOk result (avps.new.items ≡ avps.old.items ++ firmware_avps firmware) }
+{
+    if let Some(firmware) = firmware {
+        let mut revision = number(alloc, FIRMWARE_REVISION, firmware)?;
+        revision.mandatory = false;
+        avps.push(revision)?;
+    }
+    Ok(())
+}
+
+/// The code of the AVP that tells the id of an application of a vendor (RFC 6733, 6.11).
+fn id_code(accounting: bool) -> u32
+    ensures { result ≡ id_code accounting }
+{
+    if accounting {
+        ACCT_APPLICATION_ID
+    } else {
+        AUTH_APPLICATION_ID
+    }
+}
+
+/// The AVP, appended; or want of memory, also where its Length doesn't fit its field.
+fn put_short(out: &mut Vec<u8>, avp: AvpRef<'_>) -> Result<(), NoMemory>
+    ensures { OnOk result (out.new.items ≡ out.old.items ++ canonical_avp (avp_of avp.entry)) }
+{
+    match put_avp(out, avp) {
+        Ok(()) => Ok(()),
+        Err(_) => Err(NoMemory),
+    }
+}
+
+/// The octets of a Vendor-Specific-Application-Id: Vendor-Id, and the id (RFC 6733, 6.11).
+fn specific_octets(alloc: Global, application: &VendorApplication) -> Result<Vec<u8>, NoMemory>
+    ensures { IfOk result (λ octets. octets.items ≡ canonical_list
+        (number_avp vendor_id application.now.vendor
+        ∷ number_avp (id_code application.now.accounting) application.now.application ∷ [])) }
+{
+    let vendor = application.vendor.to_be_bytes();
+    let id = application.application.to_be_bytes();
+    let mut octets = Vec::with_capacity(alloc, 24)?;
+    put_short(&mut octets, borrowed(VENDOR_ID, &vendor))?;
+    put_short(&mut octets, borrowed(id_code(application.accounting), &id))?;
+    Ok(octets)
+}
+
+/// A Vendor-Specific-Application-Id (RFC 6733, 6.11).
+#[tactic(auto, unfolding(crate::specs::Built::specific_avp))]
+fn specific(alloc: Global, application: &VendorApplication) -> Result<Avp, NoMemory>
+    ensures { IfOk result (λ a. a ≡ specific_avp application.now) }
+{
+    let octets = specific_octets(alloc, application)?;
+    Ok(holding(VENDOR_SPECIFIC_APPLICATION_ID, octets))
+}
+
+/// A Vendor-Specific-Application-Id for each application of a vendor (RFC 6733, 6.11), appended.
+fn put_specific(
+    alloc: Global,
+    avps: &mut Vec<Avp>,
+    applications: &[VendorApplication],
+) -> Result<(), NoMemory>
+    ensures { OnOk result (avps.new.items ≡ avps.old.items ++ map specific_avp applications.now) }
+{
+    for application in applications {
+        avps.push(specific(alloc, application)?)?;
+    }
+    Ok(())
+}
+
+/// No fewer AVPs than the applications of vendors and the supported vendors take.
+#[tactic(auto, using(crate::proofs::Fitting::few_applications, crate::proofs::Fitting::few_ids))]
+fn extra_avps(node: &Node) -> usize
+    ensures { result ≤ 512 }
+{
+    match &node.extras {
+        Some(extras) => extras.applications.as_slice().len() + extras.vendors.as_slice().len(),
+        None => 0,
+    }
+}
+
+/// No fewer AVPs than a capabilities exchange has: 9, and one for each address, id, application of a vendor and supported
+/// vendor.
 #[tactic(auto, using(crate::proofs::Fitting::few_addresses, crate::proofs::Fitting::few_ids))]
 pub(crate) fn most_avps(node: &Node) -> usize {
     let addresses = node.addresses.as_slice().len();
     let auth = node.auth.as_slice().len();
     let acct = node.acct.as_slice().len();
-    7 + addresses + auth + acct
+    9 + addresses + auth + acct + extra_avps(node)
+}
+
+/// The number of the node's state, where it has one.
+pub(crate) fn own_state(node: &Node) -> Option<u32>
+    ensures { result ≡ own_state node.now.extras }
+{
+    match &node.extras {
+        Some(extras) => extras.state_id,
+        None => None,
+    }
+}
+
+/// The number of the node's state, where it has one and an answer to this command tells it: a Device-Watchdog-Answer alone
+/// (RFC 6733, 5.5.2).
+pub(crate) fn answer_state(node: &Node, command: u32) -> Option<u32>
+    ensures { result ≡ answer_state node.now command }
+{
+    if command == DEVICE_WATCHDOG {
+        own_state(node)
+    } else {
+        None
+    }
+}
+
+/// Supported-Vendor-Ids, appended (RFC 6733, 5.3.6).
+fn put_vendors(alloc: Global, avps: &mut Vec<Avp>, node: &Node) -> Result<(), NoMemory>
+    ensures { OnOk result (avps.new.items
+        ≡ avps.old.items ++ map (number_avp supported_vendor_id) (supported_vendors node.now.extras)) }
+{
+    if let Some(extras) = &node.extras {
+        put_numbers(alloc, avps, SUPPORTED_VENDOR_ID, extras.vendors.as_slice())?;
+    }
+    Ok(())
+}
+
+/// Vendor-Specific-Application-Ids and Firmware-Revision, appended.
+fn put_last(alloc: Global, avps: &mut Vec<Avp>, node: &Node) -> Result<(), NoMemory>
+    ensures { OnOk result (avps.new.items ≡ avps.old.items
+        ++ map specific_avp (vendor_applications node.now.extras) ++ firmware_avps (own_firmware node.now.extras)) }
+{
+    if let Some(extras) = &node.extras {
+        put_specific(alloc, avps, extras.applications.as_slice())?;
+        put_firmware(alloc, avps, extras.firmware)?;
+    }
+    Ok(())
+}
+
+/// The applications and Firmware-Revision, appended.
+fn put_applications(alloc: Global, avps: &mut Vec<Avp>, node: &Node) -> Result<(), NoMemory>
+    ensures { OnOk result (avps.new.items ≡ avps.old.items ++ application_avps node.now) }
+{
+    put_numbers(alloc, avps, AUTH_APPLICATION_ID, node.auth.as_slice())?;
+    put_numbers(alloc, avps, ACCT_APPLICATION_ID, node.acct.as_slice())?;
+    put_last(alloc, avps, node)?;
+    Ok(())
+}
+
+/// What stands behind Product-Name, appended.
+fn put_behind_product(
+    alloc: Global,
+    avps: &mut Vec<Avp>,
+    node: &Node,
+    failed: Option<&Avp>,
+) -> Result<(), NoMemory>
+    ensures { OnOk result (avps.new.items ≡ avps.old.items
+        ++ (state_avps (own_state node.now.extras)
+        ++ (failed_avps (option_copied failed.entry) ++ behind_failed node.now))) }
+{
+    put_state(alloc, avps, own_state(node))?;
+    put_failed(alloc, avps, failed)?;
+    put_vendors(alloc, avps, node)?;
+    put_applications(alloc, avps, node)?;
+    Ok(())
 }
 
 /// What a node says of itself in a capabilities exchange (RFC 6733, 5.3.1 and 5.3.2), appended.
@@ -160,8 +347,6 @@ pub(crate) fn put_capabilities(
     put_addresses(alloc, avps, node.addresses.as_slice())?;
     avps.push(number(alloc, VENDOR_ID, node.vendor)?)?;
     put_product(alloc, avps, node)?;
-    put_failed(alloc, avps, failed)?;
-    put_numbers(alloc, avps, AUTH_APPLICATION_ID, node.auth.as_slice())?;
-    put_numbers(alloc, avps, ACCT_APPLICATION_ID, node.acct.as_slice())?;
+    put_behind_product(alloc, avps, node, failed)?;
     Ok(())
 }

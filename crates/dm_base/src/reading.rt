@@ -1,5 +1,5 @@
 //! What the AVPs of a message say (RFC 6733, 5.3 and 5.4.3).
-ghost use Rattle.std.specs.Prelude.{◌≡◌, ◌++◌, List, OnOk, IfOk};
+ghost use Rattle.std.specs.Prelude.{◌≡◌, ◌≢◌, ◌++◌, List, [], OnOk, IfOk, OnErr};
 ghost use Rattle.std.specs.List.{flat_map};
 ghost use Rattle.std.specs.Option.{option_to_list};
 ghost use Rattle.dm_wire.specs.declared.avp.Avp.{Avp};
@@ -88,7 +88,8 @@ pub(crate) fn is_vendor_specific(avp: AvpRef<'_>) -> bool
 
 /// The id, appended, where there is one.
 pub(crate) fn put_id(ids: &mut Vec<u32>, id: Option<u32>) -> Result<(), NoMemory>
-    ensures { OnOk result (ids.new.items ≡ ids.old.items ++ option_to_list id) }
+    ensures put { OnOk result (ids.new.items ≡ ids.old.items ++ option_to_list id) }
+    ensures memory { OnErr result (option_to_list id ≢ []) }
 {
     if let Some(id) = id {
         ids.push(id)?;
@@ -98,8 +99,9 @@ pub(crate) fn put_id(ids: &mut Vec<u32>, id: Option<u32>) -> Result<(), NoMemory
 
 /// The ids of the AVPs of a Vendor-Specific-Application-Id, appended.
 fn put_inside(ids: &mut Vec<u32>, avps: AvpsRef<'_>) -> Result<(), NoMemory>
-    ensures { (l : List Avp) → Lists avps.entry l
+    ensures put { (l : List Avp) → Lists avps.entry l
         → OnOk result (ids.new.items ≡ ids.old.items ++ flat_map plain_ids l) }
+    ensures memory { (l : List Avp) → Lists avps.entry l → OnErr result (flat_map plain_ids l ≢ []) }
 {
     let mut left = avps;
     while let Some((avp, rest)) = left.split_first() {
@@ -110,9 +112,10 @@ fn put_inside(ids: &mut Vec<u32>, avps: AvpsRef<'_>) -> Result<(), NoMemory>
 }
 
 /// The ids of applications that an AVP tells, appended.
-#[tactic(auto, using(crate::proofs::Ids::none_inside, crate::proofs::Ids::all_inside))]
+#[tactic(auto, using(crate::proofs::Ids::none_inside, crate::proofs::Ids::all_inside, crate::proofs::Ids::some_inside))]
 fn put_told(ids: &mut Vec<u32>, avp: AvpRef<'_>) -> Result<(), NoMemory>
-    ensures { OnOk result (ids.new.items ≡ ids.old.items ++ application_ids (avp_of avp.entry)) }
+    ensures put { OnOk result (ids.new.items ≡ ids.old.items ++ application_ids (avp_of avp.entry)) }
+    ensures memory { OnErr result (application_ids (avp_of avp.entry) ≢ []) }
 {
     if !is_vendor_specific(avp) {
         return put_id(ids, plain_id(avp));
@@ -125,8 +128,9 @@ fn put_told(ids: &mut Vec<u32>, avp: AvpRef<'_>) -> Result<(), NoMemory>
 
 /// The ids of applications that AVPs tell, appended.
 fn put_applications(ids: &mut Vec<u32>, avps: AvpsRef<'_>) -> Result<(), NoMemory>
-    ensures { (l : List Avp) → Lists avps.entry l
+    ensures put { (l : List Avp) → Lists avps.entry l
         → OnOk result (ids.new.items ≡ ids.old.items ++ flat_map application_ids l) }
+    ensures memory { (l : List Avp) → Lists avps.entry l → OnErr result (flat_map application_ids l ≢ []) }
 {
     let mut left = avps;
     while let Some((avp, rest)) = left.split_first() {
@@ -150,7 +154,8 @@ fn put_security(ids: &mut Vec<u32>, avps: AvpsRef<'_>) -> Result<(), NoMemory>
 }
 
 pub(crate) fn applications(alloc: Global, avps: AvpsRef<'_>) -> Result<IdList, NoMemory>
-    ensures { (l : List Avp) → Lists avps.entry l → IfOk result (λ ids. ids ≡ flat_map application_ids l) }
+    ensures ids { (l : List Avp) → Lists avps.entry l → IfOk result (λ ids. ids ≡ flat_map application_ids l) }
+    ensures memory { (l : List Avp) → Lists avps.entry l → OnErr result (flat_map application_ids l ≢ []) }
 {
     let mut ids = Vec::new(alloc);
     put_applications(&mut ids, avps)?;

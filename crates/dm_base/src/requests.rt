@@ -8,7 +8,7 @@ ghost use Rattle.dm_base.specs.Built.{cause_number, own_caps, built_cer, built_d
 use crate::codes::{CAPABILITIES_EXCHANGE, DEVICE_WATCHDOG, DISCONNECT_CAUSE, DISCONNECT_PEER};
 use crate::headers::request;
 use crate::laws::built_is_spelled;
-use crate::parts::{most_avps, number, put_capabilities, put_origin};
+use crate::parts::{most_avps, number, own_state, put_capabilities, put_origin, put_state};
 use crate::{Cause, Node};
 use dm_dict::NoMemory;
 use dm_wire::{AvpList, Message};
@@ -45,6 +45,7 @@ pub fn dwr(alloc: Global, node: &Node, id: u32) -> Result<Message, NoMemory>
     let header = request(DEVICE_WATCHDOG, id);
     let mut avps = Vec::with_capacity(alloc, 3)?;
     put_origin(alloc, &mut avps, node)?;
+    put_state(alloc, &mut avps, own_state(node))?;
     Ok(Message {
         header,
         avps: AvpList::from_vec(avps),

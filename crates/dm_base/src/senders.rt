@@ -1,12 +1,12 @@
 //! What a capabilities exchange says of its sender, and a disconnect of its cause, where it lies in the message
 //! (RFC 6733, 5.3 and 5.4.3).
-ghost use Rattle.std.specs.Prelude.{◌≡◌, ◌++◌, ◌&&◌, List, is_some, nat_eq, OnOk, IfSome};
+ghost use Rattle.std.specs.Prelude.{◌≡◌, ◌≢◌, ◌++◌, ◌&&◌, List, [], is_some, nat_eq, OnOk, OnErr, IfSome};
 ghost use Rattle.std.specs.List.{flat_map};
 ghost use Rattle.dm_wire.specs.declared.avp.Avp.{Avp};
 ghost use Rattle.dm_wire.specs.Borrowed.{Lists, avp_of};
 ghost use Rattle.dm_wire.specs.Spelling.{SpellsList};
 ghost use Rattle.dm_base.specs.Codes.{capabilities_exchange};
-ghost use Rattle.dm_base.specs.Senders.{Tells, number_told, number_of, numbers_told, cause_told};
+ghost use Rattle.dm_base.specs.Senders.{Tells, number_told, plain_number, numbers_told, cause_told};
 
 use crate::codes::{
     CAPABILITIES_EXCHANGE, DISCONNECT_CAUSE, DISCONNECT_PEER, FIRMWARE_REVISION, ORIGIN_HOST,
@@ -21,7 +21,7 @@ use std::alloc::Global;
 
 /// The number of an AVP of this code.
 fn number_of(avp: AvpRef<'_>, code: u32) -> Option<u32>
-    ensures { result ≡ number_of code (avp_of avp.entry) }
+    ensures { result ≡ plain_number code (avp_of avp.entry) }
 {
     if is_plain(avp, code) {
         number_in(avp.bytes)
@@ -39,7 +39,9 @@ fn number_told(avps: AvpsRef<'_>, code: u32) -> Option<u32>
 
 /// The numbers of all AVPs of this code, appended.
 fn put_told(ids: &mut Vec<u32>, avps: AvpsRef<'_>, code: u32) -> Result<(), NoMemory>
-    ensures { (l : List Avp) → Lists avps.entry l → OnOk result (ids.new.items ≡ ids.old.items ++ numbers_told code l) }
+    ensures put { (l : List Avp) → Lists avps.entry l
+        → OnOk result (ids.new.items ≡ ids.old.items ++ numbers_told code l) }
+    ensures memory { (l : List Avp) → Lists avps.entry l → OnErr result (numbers_told code l ≢ []) }
 {
     let mut left = avps;
     while let Some((avp, rest)) = left.split_first() {
@@ -55,43 +57,43 @@ impl<'a> SenderRef<'a> {
     ghost use Rattle.dm_base.specs.Codes.{product_name, supported_vendor_id, vendor_id};
     ghost use Rattle.dm_base.specs.Kinds.{data_at, application_ids};
 
-    /// The first Origin-Host; where there is none, no octets (6.3). It takes no memory.
+    /// The first Origin-Host; where there is none, no octets (6.3). It never answers want of memory.
     pub fn host(&self) -> &'a [u8]
         ensures { (l : List Avp) → Tells self.now l → result.now ≡ data_at origin_host l }
     {
         data_at(AvpsRef::Spelled(self.rest), ORIGIN_HOST)
     }
 
-    /// The first Origin-Realm; where there is none, no octets (6.4). It takes no memory.
+    /// The first Origin-Realm; where there is none, no octets (6.4). It never answers want of memory.
     pub fn realm(&self) -> &'a [u8]
         ensures { (l : List Avp) → Tells self.now l → result.now ≡ data_at origin_realm l }
     {
         data_at(AvpsRef::Spelled(self.rest), ORIGIN_REALM)
     }
 
-    /// The octets of the first Product-Name; where there is none, no octets (5.3.7). It takes no memory.
+    /// The octets of the first Product-Name; where there is none, no octets (5.3.7). It never answers want of memory.
     pub fn product(&self) -> &'a [u8]
         ensures { (l : List Avp) → Tells self.now l → result.now ≡ data_at product_name l }
     {
         data_at(AvpsRef::Spelled(self.rest), PRODUCT_NAME)
     }
 
-    /// The number of the first Vendor-Id, where it has four octets (5.3.3). It takes no memory.
+    /// The number of the first Vendor-Id, where it has four octets (5.3.3). It never answers want of memory.
     pub fn vendor(&self) -> Option<u32>
         ensures { (l : List Avp) → Tells self.now l → result ≡ number_told vendor_id l }
     {
         number_told(AvpsRef::Spelled(self.rest), VENDOR_ID)
     }
 
-    /// The number of the first Firmware-Revision, where it has four octets (5.3.4). It takes no memory.
+    /// The number of the first Firmware-Revision, where it has four octets (5.3.4). It never answers want of memory.
     pub fn firmware(&self) -> Option<u32>
         ensures { (l : List Avp) → Tells self.now l → result ≡ number_told firmware_revision l }
     {
         number_told(AvpsRef::Spelled(self.rest), FIRMWARE_REVISION)
     }
 
-    /// The number of the first Origin-State-Id, where it has four octets; a greater one than before says that the sender
-    /// has lost its state (8.16). It takes no memory.
+    /// The number of the first Origin-State-Id, where it has four octets; a greater one than before says that the
+    /// sender has lost its state (8.16). It never answers want of memory.
     pub fn state_id(&self) -> Option<u32>
         ensures { (l : List Avp) → Tells self.now l → result ≡ number_told origin_state_id l }
     {
@@ -99,16 +101,19 @@ impl<'a> SenderRef<'a> {
     }
 
     /// The ids of its applications, in order of the message, those of Vendor-Specific-Application-Id too (6.8, 6.9 and
-    /// 6.11); or want of memory.
+    /// 6.11); or want of memory, which comes only where there are some.
     pub fn applications(&self, alloc: Global) -> Result<IdList, NoMemory>
-        ensures { (l : List Avp) → Tells self.now l → IfOk result (λ ids. ids ≡ flat_map application_ids l) }
+        ensures ids { (l : List Avp) → Tells self.now l → IfOk result (λ ids. ids ≡ flat_map application_ids l) }
+        ensures memory { (l : List Avp) → Tells self.now l → OnErr result (flat_map application_ids l ≢ []) }
     {
         applications(alloc, AvpsRef::Spelled(self.rest))
     }
 
-    /// The vendors that it names with Supported-Vendor-Id, in order of the message (5.3.6); or want of memory.
+    /// The vendors that it names with Supported-Vendor-Id, in order of the message (5.3.6); or want of memory,
+    /// which comes only where there are some.
     pub fn vendors(&self, alloc: Global) -> Result<IdList, NoMemory>
-        ensures { (l : List Avp) → Tells self.now l → IfOk result (λ ids. ids ≡ numbers_told supported_vendor_id l) }
+        ensures ids { (l : List Avp) → Tells self.now l → IfOk result (λ ids. ids ≡ numbers_told supported_vendor_id l) }
+        ensures memory { (l : List Avp) → Tells self.now l → OnErr result (numbers_told supported_vendor_id l ≢ []) }
     {
         let mut ids = Vec::new(alloc);
         put_told(&mut ids, AvpsRef::Spelled(self.rest), SUPPORTED_VENDOR_ID)?;
@@ -116,8 +121,8 @@ impl<'a> SenderRef<'a> {
     }
 }
 
-/// What the message says of its sender, where its command is 257 (Capabilities-Exchange): a CER or a CEA
-/// (RFC 6733, 5.3). The message isn't checked: whether it is good says `view`. It takes no memory.
+/// What the message says of its sender, where its command is 257 (Capabilities-Exchange): a CER or a CEA (RFC 6733,
+/// 5.3). The message isn't checked: whether it is good says `view`. It never answers want of memory.
 pub fn sender<'a>(message: &MessageRef<'a>) -> Option<SenderRef<'a>>
     ensures some { is_some result ≡ nat_eq message.now.header.command capabilities_exchange }
     ensures tells { (l : List Avp) → SpellsList l message.now.rest.now → IfSome result (λ r. Tells r l) }
@@ -130,8 +135,8 @@ pub fn sender<'a>(message: &MessageRef<'a>) -> Option<SenderRef<'a>>
 }
 
 /// The Disconnect-Cause of a Disconnect-Peer-Request, where it has one of four octets: BUSY (1) and
-/// DO_NOT_WANT_TO_TALK_TO_YOU (2) ask the receiver not to call again (RFC 6733, 5.4.3). None for other messages. It takes
-/// no memory.
+/// DO_NOT_WANT_TO_TALK_TO_YOU (2) ask the receiver not to call again (RFC 6733, 5.4.3). None for other messages. It
+/// never answers want of memory.
 pub fn disconnect_cause(message: &MessageRef<'_>) -> Option<i32>
     ensures { (l : List Avp) → SpellsList l message.now.rest.now → result ≡ cause_told message.now.header l }
 {

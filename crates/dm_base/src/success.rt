@@ -1,34 +1,21 @@
 //! The answer of success to a watchdog or a disconnect, as octets (RFC 6733, 5.4.2 and 5.5.2).
 ghost use Rattle.std.specs.Prelude.{◌≡◌, ◌⊎◌, ◌↔◌, ◌<◌, ◌≤◌, ◌++◌, ◌∷◌, [], None, length, IfOk, OnOk, IfErr, IsErrOf};
 ghost use Rattle.dm_wire.specs.declared.fault.WireFault.{WireFault};
-ghost use Rattle.dm_wire.specs.Borrowed.{avp_of};
 ghost use Rattle.dm_wire.specs.Canonical.{canonical_list, canonical_message};
 ghost use Rattle.dm_wire.specs.Codes.{max_command};
 ghost use Rattle.dm_base.specs.Spelled.{IsSpelledBy};
 ghost use Rattle.dm_base.specs.Codes.{success};
-ghost use Rattle.dm_base.specs.Built.{avp, origin, result_avp, built_answer};
+ghost use Rattle.dm_base.specs.Built.{origin, state_avps, result_avp, built_answer};
 
 use crate::Node;
-use crate::codes::{ORIGIN_HOST, ORIGIN_REALM, RESULT_CODE, SUCCESS};
+use crate::codes::{ORIGIN_HOST, ORIGIN_REALM, ORIGIN_STATE_ID, RESULT_CODE, SUCCESS};
 use crate::headers::answer;
 use crate::laws::built_is_spelled;
+use crate::parts::{answer_state, borrowed};
 use dm_wire::codes::limits::HEADER_LEN;
 use dm_wire::laws::{avp_sized, canonical_spells};
-use dm_wire::{AvpRef, Header, WireFault, header_octets, put_avp};
-use std::alloc::{AllocError, Global};
-
-/// An AVP without vendor, with the M bit, of these octets where they lie.
-fn borrowed(code: u32, bytes: &[u8]) -> AvpRef<'_>
-    ensures { avp_of result ≡ avp code bytes.now }
-{
-    AvpRef {
-        code,
-        vendor: None,
-        mandatory: true,
-        protected: false,
-        bytes,
-    }
-}
+use dm_wire::{Header, WireFault, header_octets, put_avp};
+use std::alloc::Global;
 
 /// The octets that Result-Code, Origin-Host and Origin-Realm take.
 #[tactic(auto, using(crate::proofs::Written::list_sized, crate::proofs::Written::short_host, crate::proofs::Written::short_realm))]
@@ -42,15 +29,58 @@ fn list_size(node: &Node) -> usize
         + borrowed(ORIGIN_REALM, node.realm.as_slice()).padded_len()
 }
 
+/// The octets that Origin-State-Id takes, where there is a number for it.
+fn state_size(state: Option<u32>) -> usize
+    ensures size { result ≡ length (canonical_list (state_avps state)) }
+    ensures small { result ≤ 12 }
+{
+    avp_sized();
+    match state {
+        Some(number) => borrowed(ORIGIN_STATE_ID, &number.to_be_bytes()).padded_len(),
+        None => 0,
+    }
+}
+
+/// Origin-State-Id, appended, where there is a number for it.
+fn put_state(out: &mut Vec<u8>, state: Option<u32>) -> Result<(), WireFault>
+    ensures put { OnOk result (out.new.items ≡ out.old.items ++ canonical_list (state_avps state)) }
+    ensures memory { IfErr result (λ fault. fault ≡ WireFault.NoMemory) }
+{
+    if let Some(number) = state {
+        put_avp(out, borrowed(ORIGIN_STATE_ID, &number.to_be_bytes()))?;
+    }
+    Ok(())
+}
+
 /// Result-Code with DIAMETER_SUCCESS, Origin-Host and Origin-Realm, appended.
 #[tactic(auto, using(crate::proofs::Written::short_host, crate::proofs::Written::short_realm))]
-fn put_list(out: &mut Vec<u8>, node: &Node) -> Result<(), AllocError>
-    ensures { OnOk result (out.new.items ≡ out.old.items
+fn put_list(out: &mut Vec<u8>, node: &Node) -> Result<(), WireFault>
+    ensures put { OnOk result (out.new.items ≡ out.old.items
         ++ canonical_list (result_avp success ∷ origin node.now [])) }
+    ensures memory { IfErr result (λ fault. fault ≡ WireFault.NoMemory) }
 {
     put_avp(out, borrowed(RESULT_CODE, &SUCCESS.to_be_bytes()))?;
     put_avp(out, borrowed(ORIGIN_HOST, node.host.as_slice()))?;
     put_avp(out, borrowed(ORIGIN_REALM, node.realm.as_slice()))?;
+    Ok(())
+}
+
+/// The octets that all AVPs of the answer take.
+fn answer_size(node: &Node, state: Option<u32>) -> usize
+    ensures size { result ≡ length (canonical_list (result_avp success ∷ origin node.now (state_avps state))) }
+    ensures small { result ≤ 552 }
+{
+    list_size(node) + state_size(state)
+}
+
+/// All AVPs of the answer, appended.
+fn put_answer(out: &mut Vec<u8>, node: &Node, state: Option<u32>) -> Result<(), WireFault>
+    ensures put { OnOk result (out.new.items ≡ out.old.items
+        ++ canonical_list (result_avp success ∷ origin node.now (state_avps state))) }
+    ensures memory { IfErr result (λ fault. fault ≡ WireFault.NoMemory) }
+{
+    put_list(out, node)?;
+    put_state(out, state)?;
     Ok(())
 }
 
@@ -68,12 +98,13 @@ pub fn success_octets(alloc: Global, node: &Node, to: &Header) -> Result<Vec<u8>
 {
     built_is_spelled();
     canonical_spells();
-    let size = HEADER_LEN as usize + list_size(node);
+    let state = answer_state(node, to.command);
+    let size = HEADER_LEN as usize + answer_size(node, state);
     let Some(header) = header_octets(answer(false, to), size as u32) else {
         return Err(WireFault::TooLong);
     };
     let mut octets = Vec::with_capacity(alloc, size)?;
     octets.extend_from_slice(&header)?;
-    put_list(&mut octets, node)?;
+    put_answer(&mut octets, node, state)?;
     Ok(octets)
 }

@@ -49,7 +49,7 @@ fn kind_in<'a>(command: BaseCommand, request: bool, rest: &'a [u8]) -> KindRef<'
 }
 
 /// What kind of message the message is (RFC 6733, 5.3 to 5.5), with its parts where they lie: what `classify` tells of
-/// the message that it stands for. It takes no memory.
+/// the message that it stands for. It never answers want of memory.
 ///
 /// Refuses with the first fault where a message of the commands 257, 280 and 282 is bad.
 pub fn view<'a>(

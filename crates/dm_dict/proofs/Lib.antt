@@ -6,8 +6,13 @@ pub mod Kept
 pub mod Linking
 pub mod Listed
 pub mod Noting
+pub mod OpenFaults
+pub mod OpenTables
 pub mod Placed
 pub mod Standing
 pub mod Texts
 pub mod Valued
 pub mod ReadOutcomes
+pub mod Located
+pub mod NoFaults
+pub mod Paths

@@ -1,5 +1,5 @@
 -- Faults that are listed, one after the other.
-use Rattle.std.proofs.Common.{◌≡◌, ◌<◌, ◌≤◌, ◌⊎◌, inl, inr, Result, Ok, Err, IfOk, ℕ, ◌+◌, List, ◌∷◌, ◌++◌, length, get_or, drop, flat_map, Option, Bool, append_assoc, sym, ◌∙◌, refl, arith}
+use Rattle.std.proofs.Common.{◌≡◌, ◌<◌, ◌≤◌, ◌⊎◌, inl, inr, Result, Ok, Err, IfOk, OnErr, ℕ, ◌+◌, List, ◌∷◌, ◌++◌, length, get_or, drop, flat_map, Option, Bool, append_assoc, sym, ◌∙◌, refl, arith}
 use Rattle.std.proofs.lemmas.List.{drop_all}
 use Rattle.dm_wire.specs.declared.avp.Avp.{Avp}
 use Rattle.dm_tables.specs.declared.rule.Entry.{Entry}
@@ -34,6 +34,11 @@ listed_looked_up G b c a f new now eb h = rw (← eb) h
 pub drop_end : {A : Type 0} (xs : List A) (i j : ℕ) → i ≤ j → (i ≡ length xs) ⊎ (i ≡ j) → drop i xs ≡ drop j xs
 drop_end xs i j h (inl e) = rw e (drop_all (length xs) xs (omega arith)) ∙ sym (drop_all j xs (omega arith))
 drop_end xs i j h (inr e) = rw e refl
+
+-- what holds at want of memory holds in other words
+pub under_err : {A E P Q : Type 0} (r : Result A E) → (P → Q) → OnErr r P → OnErr r Q
+under_err (Ok a) f h = tt
+under_err (Err e) f h = f h
 
 -- what holds of an answer holds of it in other words
 pub under_ok : {A E : Type 0} (r : Result A E) (P Q : A → Type 0) → ((a : A) → P a → Q a) → IfOk r P → IfOk r Q

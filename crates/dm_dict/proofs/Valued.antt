@@ -8,7 +8,8 @@ use Rattle.dm_value.specs.declared.fault.ValueFault.{ValueFault}
 use Rattle.dm_value.specs.declared.fault.ValueFault.TheVariants.{WrongLength, WrongValue, TooLong, NoMemory}
 use Rattle.dm_value.specs.declared.value.Value.{Value}
 use Rattle.dm_value.specs.Columns.{RefusesData}
-use Rattle.dm_value.specs.Decided.{AreOctets, FlawDecides}
+use Rattle.dm_value.specs.Decided.{FlawDecides}
+use Rattle.dm_wire.specs.Octets.{AreOctets}
 use Rattle.dm_value.specs.Flaws.{flaw}
 use Rattle.dm_value.specs.Meaning.{Means}
 use Rattle.dm_dict.specs.Codes.{invalid_avp_value}

@@ -139,6 +139,11 @@ message_faults avps m (Some c) = (if wrong_bits m.header then fault_without_avp 
 abbrev pub faults : Definitions → Message → List Fault
 faults d m = message_faults d.avps m (command_for d m.header)
 
+-- nothing is wrong
+abbrev pub has_none : List Fault → Bool
+has_none [] = true
+has_none (f ∷ fs) = false
+
 abbrev pub first : List Fault → Option Fault
 first [] = None
 first (f ∷ fs) = Some f

@@ -10,7 +10,10 @@ pub mod Limits
 pub mod Linked
 pub mod Links
 pub mod Listing
+pub mod Located
+pub mod Locating
 pub mod Printed
 pub mod Rules
 pub mod Texts
 pub mod Typed
+pub mod WithoutLists

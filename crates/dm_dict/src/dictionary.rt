@@ -62,7 +62,7 @@ fn link(alloc: Global, tables: Tables) -> Result<Dictionary, NoMemory>
 }
 
 impl Dictionary {
-    /// No definitions. It takes no memory.
+    /// No definitions. It never answers want of memory.
     pub fn empty(alloc: Global) -> Dictionary
         ensures { result ≡ nothing_defined }
     {
@@ -112,7 +112,7 @@ impl Dictionary {
         print_tables(alloc, &self.linked.tables)
     }
 
-    /// The number of the vendor of the name (own). It takes no memory.
+    /// The number of the vendor of the name (own). It never answers want of memory.
     pub fn vendor_by_name(&self, name: &[u8]) -> Option<u32>
         ensures found { result ≡ vendor_number self.now.vendors name.now }
         // No other vendor has the name.
@@ -122,7 +122,7 @@ impl Dictionary {
         self.linked.tables.vendors.number_of(name)
     }
 
-    /// The AVP of the name (RFC 6733, 3.2). It takes no memory.
+    /// The AVP of the name (RFC 6733, 3.2). It never answers want of memory.
     pub fn avp_by_name(&self, name: &[u8]) -> Option<&AvpDef>
         ensures found { option_copied result ≡ find (is_named name.now) self.now.avps }
         // No other definition has the name.
@@ -132,7 +132,7 @@ impl Dictionary {
         self.linked.tables.avp_by_name(name)
     }
 
-    /// The AVP of the AVP Code and Vendor-ID (4.1). No vendor and vendor 0 are two. It takes no memory.
+    /// The AVP of the AVP Code and Vendor-ID (4.1). No vendor and vendor 0 are two. It never answers want of memory.
     pub fn avp_by_code(&self, code: u32, vendor: Option<u32>) -> Option<&AvpDef>
         ensures found { option_copied result ≡ find (is_coded code vendor) self.now.avps }
         // No other definition has the code with the vendor.
@@ -142,8 +142,8 @@ impl Dictionary {
         self.linked.tables.avp_by_code(code, vendor)
     }
 
-    /// The command of the Command Code, for a request or an answer, with or without the E bit (3.1).
-    /// It takes no memory.
+    /// The command of the Command Code, for a request or an answer, with or without the E bit (3.1). It never answers
+    /// want of memory.
     pub fn command(&self, code: u32, request: bool, err: bool) -> Option<&CommandDef>
         ensures found { option_copied result ≡ find (is_headed code request err) self.now.commands }
         // No other definition has the code with the bits.
@@ -191,8 +191,8 @@ impl Dictionary {
         judge_message(&self.linked, &message.header, list).verdict(alloc)
     }
 
-    /// What the dictionary says of the message where it lies: the verdict of `check`, with the parts of the same
-    /// failed AVP. It takes no memory.
+    /// What the dictionary says of the message where it lies: the verdict of `check`, with the parts of the same failed
+    /// AVP. It never answers want of memory.
     pub fn judge<'a>(&self, message: &MessageRef<'a>) -> Judged<'a>
         // The first of all faults of the message that the reference stands for, or good where there is none.
         ensures verdict { (l : List Avp) → SpellsList l message.now.rest.now

@@ -1,16 +1,16 @@
 //! All faults of a message (RFC 6733, 3 and 7).
-ghost use Rattle.std.specs.Prelude.{◌≡◌, List, IfOk, OnOk};
+ghost use Rattle.std.specs.Prelude.{◌≡◌, false, List, IfOk, OnOk, OnErr};
 ghost use Rattle.dm_wire.specs.declared.avp.Avp.{Avp};
 ghost use Rattle.dm_wire.specs.Borrowed.{Lists};
 ghost use Rattle.dm_wire.specs.Spelling.{SpellsList};
 ghost use Rattle.dm_tables.specs.Tables.{defined};
-ghost use Rattle.dm_dict.specs.Faults.{faults};
+ghost use Rattle.dm_dict.specs.Faults.{faults, has_none};
 ghost use Rattle.dm_dict.specs.Linked.{IsLinked};
 ghost use Rattle.dm_dict.specs.Listing.{all_told, Adds};
 
 use crate::codes::{COMMAND_UNSUPPORTED, INVALID_HDR_BITS};
 use crate::fault::{Fault, put};
-use crate::judge::{GROUPS, command_for, has_wrong_bits};
+use crate::judge::{GROUPS, command_for, has_wrong_bits, is_good};
 use crate::judged::Failed;
 use crate::linked::{Linked, LinkedCommand, LinkedRule};
 use crate::listing::list_avps;
@@ -51,10 +51,15 @@ fn listed<'a>(
     list: AvpsRef<'a>,
 ) -> Result<Vec<Fault<'a>>, NoMemory>
     requires linked { IsLinked dictionary.now }
-    ensures { IfOk result (λ listed. (l : List Avp) → Lists list.entry l
+    ensures all { IfOk result (λ listed. (l : List Avp) → Lists list.entry l
         → all_told listed.items ≡ faults (defined dictionary.now.tables) (record { header = header.now; avps = l })) }
+    ensures memory { OnErr result ((l : List Avp) → Lists list.entry l
+        → has_none (faults (defined dictionary.now.tables) (record { header = header.now; avps = l })) ≡ false) }
 {
     let mut listed = Vec::new(alloc);
+    if is_good(dictionary, header, list) {
+        return Ok(listed);
+    }
     list_message(dictionary, header, list, &mut listed)?;
     Ok(listed)
 }
@@ -67,8 +72,10 @@ fn listed_spelled<'a>(
     octets: &'a [u8],
 ) -> Result<Vec<Fault<'a>>, NoMemory>
     requires linked { IsLinked dictionary.now }
-    ensures { IfOk result (λ listed. (l : List Avp) → SpellsList l octets.now
+    ensures all { IfOk result (λ listed. (l : List Avp) → SpellsList l octets.now
         → all_told listed.items ≡ faults (defined dictionary.now.tables) (record { header = header.now; avps = l })) }
+    ensures memory { OnErr result ((l : List Avp) → SpellsList l octets.now
+        → has_none (faults (defined dictionary.now.tables) (record { header = header.now; avps = l })) ≡ false) }
 {
     members_spell();
     listed(alloc, dictionary, header, AvpsRef::Spelled(octets))
@@ -78,7 +85,7 @@ impl Dictionary {
     /// All that is wrong with the message, in the order in which `check` looks for it; the first is what `check`
     /// says. Each failed AVP is told where it lies.
     ///
-    /// It takes time by the message and the rules alone. Each AVP is looked up twice, once more for each further 256
+    /// It takes time by the message and the rules alone. A good message is judged, and no more; of another each AVP is looked up twice, once more for each further 256
     /// entries of its list's rule, and a list is walked once more for each entry that has too many. Memory is taken for
     /// the list of faults alone.
     pub fn faults<'a>(
@@ -88,6 +95,8 @@ impl Dictionary {
     ) -> Result<Vec<Fault<'a>>, NoMemory>
         // All faults, in order; none where the message is good.
         ensures all { IfOk result (λ listed. all_told listed.items ≡ faults self.now message.now) }
+        // Memory is wanted for the list alone: not where the message is good.
+        ensures memory { OnErr result (has_none (faults self.now message.now) ≡ false) }
     {
         let list = AvpsRef::Held(message.avps.as_slice());
         listed(alloc, &self.linked, &message.header, list)
@@ -102,6 +111,9 @@ impl Dictionary {
         // All faults of the message that the reference stands for, in order.
         ensures all { IfOk result (λ listed. (l : List Avp) → SpellsList l message.now.rest.now
             → all_told listed.items ≡ faults self.now (record { header = message.now.header; avps = l })) }
+        // Memory is wanted for the list alone: not where the message is good.
+        ensures memory { OnErr result ((l : List Avp) → SpellsList l message.now.rest.now
+            → has_none (faults self.now (record { header = message.now.header; avps = l })) ≡ false) }
     {
         listed_spelled(alloc, &self.linked, &message.header, message.rest)
     }

@@ -4,7 +4,7 @@ ghost use Rattle.dm_wire.specs.declared.avp.Avp.{Avp};
 ghost use Rattle.dm_wire.specs.Borrowed.{Lists};
 ghost use Rattle.dm_wire.specs.Spelling.{SpellsList};
 ghost use Rattle.dm_tables.specs.Tables.{defined};
-ghost use Rattle.dm_dict.specs.Faults.{command_for, wrong_bits, faults, first};
+ghost use Rattle.dm_dict.specs.Faults.{command_for, wrong_bits, faults, first, has_none};
 ghost use Rattle.dm_dict.specs.Found.{finds_missing};
 ghost use Rattle.dm_dict.specs.Judgement.{shown};
 ghost use Rattle.dm_dict.specs.Linked.{IsLinked};
@@ -34,7 +34,7 @@ pub(crate) fn command_for<'d>(dictionary: &'d Linked, header: &Header) -> Option
     dictionary.command(code, header.request, error_answer)
 }
 
-/// The first fault of a message of this header and these AVPs. It takes no memory.
+/// The first fault of a message of this header and these AVPs. It never answers want of memory.
 pub(crate) fn judge_message<'a>(
     dictionary: &Linked,
     header: &Header,
@@ -65,7 +65,19 @@ pub(crate) fn judge_message<'a>(
     judge_list(dictionary, rule, list, GROUPS)
 }
 
-/// The first fault of a message of this header, whose AVPs the octets spell. It takes no memory.
+/// Whether nothing is wrong with a message of this header and these AVPs. It never answers want of memory.
+pub(crate) fn is_good(dictionary: &Linked, header: &Header, list: AvpsRef<'_>) -> bool
+    requires linked { IsLinked dictionary.now }
+    ensures { (l : List Avp) → Lists list.entry l
+        → result ≡ has_none (faults (defined dictionary.now.tables) (record { header = header.now; avps = l })) }
+{
+    match judge_message(dictionary, header, list) {
+        Judged::Good => true,
+        Judged::Bad { .. } => false,
+    }
+}
+
+/// The first fault of a message of this header, whose AVPs the octets spell. It never answers want of memory.
 pub(crate) fn judge_spelled<'a>(
     dictionary: &Linked,
     header: &Header,

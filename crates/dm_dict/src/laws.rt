@@ -2,6 +2,8 @@
 //! on, and its contract is the law.
 ghost use Rattle.dm_dict.specs.Examples.{MissingHasExample};
 ghost use Rattle.dm_dict.specs.Keeping.{GoodKeepsRules};
+ghost use Rattle.dm_dict.specs.Located.{LocatedAreFaults};
+ghost use Rattle.dm_dict.specs.WithoutLists.{OpenDiffersInListsAlone};
 ghost use Rattle.dm_dict.specs.Texts.{NamesAreText};
 ghost use Rattle.dm_dict.specs.Typed.{GoodIsTyped};
 
@@ -34,4 +36,15 @@ pub fn missing_has_example()
 /// that `as_str` of a name has its text. It stands for users.
 pub fn names_are_text()
     ensures { NamesAreText }
+{}
+
+/// Without the lists of its Enumerated AVPs a dictionary finds just the faults that no list makes, in the same order:
+/// what a list leaves out passes, and nothing else changes. It stands for users of `Dictionary::open_lists`.
+pub fn open_differs_in_lists_alone()
+    ensures { OpenDiffersInListsAlone }
+{}
+
+/// The faults of a message with their paths are, without these, its faults in their order. It stands for users.
+pub fn located_are_faults()
+    ensures { LocatedAreFaults }
 {}

@@ -16,6 +16,11 @@ mod linked;
 mod links;
 mod listing;
 mod listing_entries;
+mod locating;
+mod message_faults;
+mod opening;
+mod path;
+mod places;
 mod printing;
 mod rules;
 mod verdict;
@@ -30,4 +35,6 @@ pub use dm_value::{
 };
 pub use fault::Fault;
 pub use judged::{Failed, Judged};
+pub use path::{Path, Step};
+pub use places::LocatedFault;
 pub use verdict::Verdict;

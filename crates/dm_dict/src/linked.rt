@@ -64,7 +64,7 @@ fn link_commands(alloc: Global, tables: &Tables, links: &mut Vec<Links>) -> Resu
 }
 
 impl Linked {
-    /// No definitions. It takes no memory.
+    /// No definitions. It never answers want of memory.
     pub(crate) fn empty(alloc: Global) -> Linked
         ensures empty { defined result.tables ≡ nothing_defined }
         ensures linked { IsLinked result }

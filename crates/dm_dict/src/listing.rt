@@ -22,7 +22,7 @@ use dm_value::{AvpType, NoMemory, ValueFault, value_fault};
 use dm_wire::{AvpRef, AvpsRef, spells_avps};
 
 /// The Result-Code for data of this definition that is no group's, where something is wrong with it.
-fn data_fault(def: &AvpDef, octets: &[u8]) -> Option<u32>
+pub(crate) fn data_fault(def: &AvpDef, octets: &[u8]) -> Option<u32>
     requires { def.now.kind ≢ Grouped }
     ensures { (a : Avp) (group : List AFault) → a.bytes ≡ octets.now
         → data_faults def.now.kind def.now.values group a ≡ coded result a }

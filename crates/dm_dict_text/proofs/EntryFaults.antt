@@ -5,7 +5,7 @@ use Rattle.std.specs.Cmp.Lexicographic.{pointwise}
 use Rattle.dm_grammar.specs.Items as written
 use Rattle.dm_tables.specs.declared.rule.Entry.{Entry}
 use Rattle.dm_dict_text.specs.declared.fault.DictFault.TheVariants.{Duplicate, Order}
-use Rattle.dm_tables.specs.EntryEquality.{form_number}
+use Rattle.dm_tables.specs.Forms.{form_number}
 use Rattle.dm_tables.specs.Sound.{is_repeated, is_late}
 use Rattle.dm_dict_text.specs.Faults.{StopsAtFirst, bound_faults, place_faults, rule_entry_faults}
 use Rattle.dm_dict_text.proofs.Along.{stops_right, none_both}

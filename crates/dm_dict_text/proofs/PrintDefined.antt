@@ -12,7 +12,7 @@ use Rattle.dm_tables.specs.declared.values.EnumValue.{EnumValue}
 use Rattle.dm_tables.specs.declared.def.VendorDef.{VendorDef}
 use Rattle.dm_tables.specs.declared.def.AvpDef.{AvpDef}
 use Rattle.dm_tables.specs.declared.def.CommandDef.{CommandDef}
-use Rattle.dm_tables.specs.EntryEquality.{form_number}
+use Rattle.dm_tables.specs.Forms.{form_number}
 use Rattle.dm_tables.specs.Listed.{has_number}
 use Rattle.dm_tables.specs.Definitions.{Definitions, nothing_defined, is_vendor, has_vendor_number, is_named, is_titled, is_headed}
 use Rattle.dm_tables.specs.Sound.{is_any, fits_32_bits, option_fits_32_bits, bounds, is_grouped, is_empty_rule, is_repeated, is_late, each_after, is_sound_entry, is_sound_avp, is_sound_command, is_known, knows_rule, is_value, is_listable, is_sound_value, is_enumerated, is_empty_list, is_sound_vendor}

@@ -1,7 +1,7 @@
 -- What is kept of the entries of a rule while it is read.
 use Rattle.std.specs.Prelude.{ℕ, ◌≡◌, nat_lt, map}
 use Rattle.dm_dict_text.specs.declared.entries.Entries.{Entries}
-use Rattle.dm_tables.specs.EntryEquality.{form_number}
+use Rattle.dm_tables.specs.Forms.{form_number}
 use Rattle.dm_tables.specs.Sound.{is_late}
 
 -- the names in order, and the last form

@@ -16,7 +16,7 @@ use Rattle.dm_tables.specs.declared.values.EnumValue.{EnumValue}
 use Rattle.dm_tables.specs.declared.def.VendorDef.{VendorDef}
 use Rattle.dm_tables.specs.declared.def.AvpDef.{AvpDef}
 use Rattle.dm_tables.specs.declared.def.CommandDef.{CommandDef}
-use Rattle.dm_tables.specs.EntryEquality.{form_number}
+use Rattle.dm_tables.specs.Forms.{form_number}
 use Rattle.dm_tables.specs.Limits.{number_limit, listed_limit}
 use Rattle.dm_tables.specs.Listed.{has_number}
 use Rattle.dm_tables.specs.Definitions.{Definitions, is_vendor, has_vendor_number, is_named, is_coded, is_titled, is_headed}

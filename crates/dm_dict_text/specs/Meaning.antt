@@ -1,6 +1,5 @@
 -- What the items of a dictionary text define (RFC 6733, 3.2).
-use Rattle.std.specs.Prelude.{ℕ, pos, ◌+◌, ◌-◌, ◌*◌, List, [], ◌∷◌, ◌++◌, map, nat_eq, codes, fold, unwrap_or, Option, Some, None, option_map, if◌then◌else◌}
-use Rattle.std.specs.Cmp.Lexicographic.{pointwise}
+use Rattle.std.specs.Prelude.{ℕ, pos, ◌+◌, ◌-◌, ◌*◌, List, [], ◌∷◌, ◌++◌, map, fold, unwrap_or, Option, Some, None, option_map}
 use Rattle.dm_grammar.specs.declared.item.Form.{Form}
 use Rattle.dm_grammar.specs.declared.item.Form.TheVariants.{Fixed, Required, Optional}
 use Rattle.dm_grammar.specs.Tokens.{Word}
@@ -9,13 +8,14 @@ use Rattle.dm_grammar.specs.Items.{Written, VendorParts, AvpParts, GroupParts, C
 use Rattle.dm_grammar.specs.Items.VendorReference.{NumberedBy, NamedBy}
 use Rattle.dm_grammar.specs.Items.Written.{VendorIs, AvpIs, GroupIs, CommandIs}
 use Rattle.dm_value.specs.declared.avp_type.AvpType.{AvpType}
-use Rattle.dm_value.specs.declared.avp_type.AvpType.TheVariants.{OctetString, Integer32, Integer64, Unsigned32, Unsigned64, Address, Time, UTF8String, DiameterIdentity, DiameterURI, Enumerated, Grouped}
+use Rattle.dm_value.specs.declared.avp_type.AvpType.TheVariants.{OctetString, Grouped}
 use Rattle.dm_tables.specs.declared.rule.Entry.{Entry}
 use Rattle.dm_tables.specs.declared.values.EnumValue.{EnumValue}
 use Rattle.dm_tables.specs.declared.def.VendorDef.{VendorDef}
 use Rattle.dm_tables.specs.declared.def.AvpDef.{AvpDef}
 use Rattle.dm_tables.specs.declared.def.CommandDef.{CommandDef}
 use Rattle.dm_tables.specs.Definitions.{Definitions, vendor_number, with_vendor, with_avp, with_command}
+use Rattle.dm_dict_text.specs.Kinds.{kind_names, kind_among}
 
 -- the number that decimal digits write behind those of n
 abbrev pub number_behind : ℕ → List ℕ → ℕ
@@ -30,18 +30,7 @@ number w = number_of w.text
 
 -- the type of a name; Grouped is no name of a type here
 abbrev pub type_named : List ℕ → Option AvpType
-type_named name =
-    if pointwise nat_eq name (codes "OctetString") then Some OctetString else
-    if pointwise nat_eq name (codes "Integer32") then Some Integer32 else
-    if pointwise nat_eq name (codes "Integer64") then Some Integer64 else
-    if pointwise nat_eq name (codes "Unsigned32") then Some Unsigned32 else
-    if pointwise nat_eq name (codes "Unsigned64") then Some Unsigned64 else
-    if pointwise nat_eq name (codes "Address") then Some Address else
-    if pointwise nat_eq name (codes "Time") then Some Time else
-    if pointwise nat_eq name (codes "UTF8String") then Some UTF8String else
-    if pointwise nat_eq name (codes "DiameterIdentity") then Some DiameterIdentity else
-    if pointwise nat_eq name (codes "DiameterURI") then Some DiameterURI else
-    if pointwise nat_eq name (codes "Enumerated") then Some Enumerated else None
+type_named name = kind_among kind_names name
 
 -- the least number of an entry without a qualifier, and of one whose qualifier has none
 abbrev pub plain_min : Form → ℕ

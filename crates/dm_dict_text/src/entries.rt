@@ -3,7 +3,7 @@ ghost use Rattle.std.specs.Prelude.{◌≡◌, [], false, map, fold, nat_eq, OnO
 ghost use Rattle.std.specs.Cmp.Lexicographic.{pointwise};
 ghost use Rattle.indexmap.specs.IndexSet.{contains_by};
 ghost use Rattle.dm_grammar.specs.Views.{view_entry};
-ghost use Rattle.dm_tables.specs.EntryEquality.{form_number};
+ghost use Rattle.dm_tables.specs.Forms.{form_number};
 ghost use Rattle.dm_dict_text.specs.Meaning.{min_of, max_of};
 ghost use Rattle.dm_dict_text.specs.Faults.{StopsAtFirst, rule_entry_faults, with_entry, rule_faults};
 
@@ -37,7 +37,7 @@ struct Entries<'a> {
 impl<'a> Entries<'a> {
     ghost use Rattle.dm_dict_text.specs.Entries.{IsNoted};
 
-    /// No entries. It takes no memory.
+    /// No entries. It never answers want of memory.
     fn new(alloc: Global) -> Entries<'a>
         ensures empty { result.entries.items ≡ [] }
         ensures noted { IsNoted result }

@@ -34,7 +34,7 @@ struct Listing<'a> {
 impl<'a> Listing<'a> {
     ghost use Rattle.dm_dict_text.specs.Listing.{IsListing};
 
-    /// No values. It takes no memory.
+    /// No values. It never answers want of memory.
     fn new(alloc: Global) -> Listing<'a>
         ensures empty { result.values.items ≡ [] }
         ensures listing { IsListing result }

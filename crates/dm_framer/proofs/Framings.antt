@@ -165,7 +165,7 @@ cuts max s t frames more rest left fault h k =
     }
 
 -- a fault stays at the front
-fault_front : (max : ℕ) (s t : List ℕ) (fault : FrameFault) → HasFault max s fault → HasFault max (s ++ t) fault
+pub fault_front : (max : ℕ) (s t : List ℕ) (fault : FrameFault) → HasFault max s fault → HasFault max (s ++ t) fault
 fault_front max s t BadVersion h =
     (omega (arith, length-append s t, h.0), rw (version_front s t h.0) h.1)
 fault_front max s t BadLength h =
@@ -228,3 +228,8 @@ part_has_no_frame max s m frames rest fault is h =
 pub part_has_no_fault : (max : ℕ) (s rest : List ℕ) (fault : Option FrameFault) → IsPartial max s →
     Framed max s [] rest fault → None ≡ fault
 part_has_no_fault max s rest fault is h = same_fault_along max s rest None fault h.whole is.no_fault h.fault_is
+
+-- no fault stands where a frame does
+pub frame_or_fault : (max : ℕ) (f t : List ℕ) (fault : FrameFault) → IsFrame max f → HasFault max (f ++ t) fault → ⊥
+frame_or_fault max f t fault is h =
+    no_fault_at max (length f) (f ++ t) fault (front max (f ++ t) f t is refl) h

@@ -1,10 +1,11 @@
 -- What a framer's buffer says of the stream that it stands for.
 use Rattle.std.proofs.Common.{◌≡◌, ◌++◌, ℕ, ◌+◌, ◌-◌, List, [], ◌∷◌, Option, length, take, drop, sym, ◌∙◌, ap}
 use Rattle.std.specs.List.{concat}
-use Rattle.std.proofs.lemmas.List.{take_rest, drop-drop}
+use Rattle.std.proofs.lemmas.List.{take_rest, drop-drop, take-append-drop}
 use Rattle.dm_framer.specs.declared.fault.FrameFault.{FrameFault}
-use Rattle.dm_framer.specs.Frames.{Framed, IsFrame, IsPartial}
-use Rattle.dm_framer.specs.Stream.{Stream}
+use Rattle.dm_framer.specs.Frames.{Framed, IsFrame, IsPartial, BeginsWithNoFrame}
+use Rattle.dm_framer.specs.Stream.{Stream, IsFrontFrame}
+use Rattle.dm_framer.proofs.Fronts.{one_frame}
 use Rattle.dm_framer.proofs.Framings.{frame_goes_first, frame_is_first, part_has_no_frame}
 
 -- the stream of a buffer whose first octets are taken
@@ -50,3 +51,37 @@ first_taken buffer taken size max fault now view is message frames rest f h =
     let there : IsFrame max (take size (drop taken buffer)) = rw (take_rest buffer taken) at is in
     let first = frame_is_first max size (drop taken buffer) message frames rest f there held in
     (first.0, rw (← view) (ap (with_octets max fault) (sym (drop-drop size taken buffer) ∙ first.1)))
+
+-- the frame that stands there is the front one of the stream
+pub stands_in_front : (buffer : List ℕ) (taken size max : ℕ) (fault : Option FrameFault) (now : Stream) →
+    stream_of buffer taken max fault ≡ now → IsFrame max (take size (untaken buffer taken)) →
+    IsFrontFrame now (take size (drop taken buffer))
+stands_in_front buffer taken size max fault now view is =
+    let there : IsFrame max (take size (drop taken buffer)) = rw (take_rest buffer taken) at is in
+    rw (← view) record {
+      frame = there;
+      first = (drop size (drop taken buffer), sym (take-append-drop size (drop taken buffer)));
+    }
+
+-- and behind it is what is left, whatever frame is known to be in front
+pub rest_is_left : (buffer : List ℕ) (taken size max : ℕ) (fault : Option FrameFault) (now : Stream) →
+    stream_of buffer taken max fault ≡ now → IsFrame max (take size (untaken buffer taken)) →
+    (message more : List ℕ) → IsFrame now.max message → now.octets ≡ message ++ more →
+    stream_of buffer (taken + size) max fault ≡ record { octets = more; max = now.max; fault = now.fault }
+rest_is_left buffer taken size max fault now view is message more also at =
+    let there : IsFrame max (take size (drop taken buffer)) = rw (take_rest buffer taken) at is in
+    let frame : IsFrame max message = rw (← view) at also in
+    let octets : drop taken buffer ≡ message ++ more = rw (← view) at at in
+    let same = one_frame max (take size (drop taken buffer)) message (drop size (drop taken buffer)) more there frame
+    (take-append-drop size (drop taken buffer) ∙ octets) in
+    rw (← view) (ap (with_octets max fault) (sym (drop-drop size taken buffer) ∙ same.1))
+
+-- a stream that begins with no frame has none there
+pub none_in_front : (buffer : List ℕ) (taken size max : ℕ) (fault : Option FrameFault) (now : Stream) →
+    stream_of buffer taken max fault ≡ now → IsFrame max (take size (untaken buffer taken)) →
+    BeginsWithNoFrame now.max now.octets → ⊥
+none_in_front buffer taken size max fault now view is no_frame =
+    let there : IsFrame max (take size (drop taken buffer)) = rw (take_rest buffer taken) at is in
+    let no : BeginsWithNoFrame max (drop taken buffer) = rw (← view) at no_frame in
+    no (take size (drop taken buffer)) (drop size (drop taken buffer)) there
+    (sym (take-append-drop size (drop taken buffer)))

@@ -2,7 +2,7 @@
 use Rattle.std.specs.Prelude.{◌≡◌, ℕ, Option, None, Some, List, [], ◌++◌}
 use Rattle.std.specs.List.{AllByRecursion, concat}
 use Rattle.dm_framer.specs.declared.fault.FrameFault.{FrameFault}
-use Rattle.dm_framer.specs.Frames.{IsFrame, Framed}
+use Rattle.dm_framer.specs.Frames.{IsFrame, HasFault, Framed}
 
 -- each list of octets has frames, a rest, and a fault of the rest or none
 abbrev pub EachStreamIsFramed : Type 0
@@ -34,3 +34,18 @@ FaultStays =
 abbrev pub WholeFrames : Type 0
 WholeFrames =
     (max : ℕ) (frames : List (List ℕ)) → AllByRecursion (IsFrame max) frames → Framed max (concat frames) frames [] None
+
+-- a stream begins with one frame at most
+abbrev pub OneFront : Type 0
+OneFront =
+    (max : ℕ) (frame other rest left : List ℕ) → IsFrame max frame → IsFrame max other → frame ++ rest ≡ other ++ left
+    → (frame ≡ other) × (rest ≡ left)
+
+-- and with a frame or a fault, not both
+abbrev pub FrameOrFault : Type 0
+FrameOrFault =
+    (max : ℕ) (frame rest : List ℕ) (fault : FrameFault) → IsFrame max frame → HasFault max (frame ++ rest) fault → ⊥
+
+-- a fault stands at the front whatever comes behind
+abbrev pub FaultStands : Type 0
+FaultStands = (max : ℕ) (s t : List ℕ) (fault : FrameFault) → HasFault max s fault → HasFault max (s ++ t) fault

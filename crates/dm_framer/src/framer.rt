@@ -2,8 +2,8 @@
 ghost use Rattle.std.specs.Prelude.{◌≡◌, ◌++◌, ℕ, List, [], ◌∷◌, Option, None, Some, IfSome, IfNone, IsSomeAnd, IfOk, IfErr, IsErrOf, OnOk, OnErr, MatchResult};
 ghost use Rattle.std.specs.List.{concat};
 ghost use Rattle.dm_framer.specs.declared.fault.FrameFault.{FrameFault};
-ghost use Rattle.dm_framer.specs.Frames.{HasFault, Framed};
-ghost use Rattle.dm_framer.specs.Stream.{Stream, new_stream};
+ghost use Rattle.dm_framer.specs.Frames.{HasFault, Framed, IsFrame, IsPartial, BeginsWithNoFrame};
+ghost use Rattle.dm_framer.specs.Stream.{Stream, new_stream, IsFrontFrame};
 
 use crate::FrameFault;
 use crate::buffer::drop_taken;
@@ -38,7 +38,7 @@ impl Model for Framer {
 }
 
 impl Framer {
-    /// A framer that holds nothing, for messages of at most `max` octets. It takes no memory.
+    /// A framer that holds nothing, for messages of at most `max` octets. It never answers want of memory.
     pub fn new(alloc: Global, max: u32) -> Framer
         ensures { result ≡ new_stream max }
     {
@@ -115,6 +115,54 @@ impl Framer {
                 Err(fault)
             }
         }
+    }
+
+    /// The next whole message, in place; `None` where it isn't whole yet. It never answers want of memory, and keeps no
+    /// fault.
+    ///
+    /// Answers the faults that `next` answers, and no `NoMemory`.
+    pub fn front(&self) -> Result<Option<&[u8]>, FrameFault>
+        // What is answered stands there: a frame, neither a frame nor a fault, or a fault.
+        ensures frame { IfOk result (λ found. IfSome found (λ message. IsFrontFrame self.now message.now)) }
+        ensures part { IfOk result (λ found. IfNone found (IsPartial self.now.max self.now.octets)) }
+        ensures fault { IfErr result (λ fault. HasFault self.now.max self.now.octets fault) }
+    {
+        match front_len(&self.buffer[self.taken..], self.max) {
+            Ok(Some(size)) => {
+                let end = self.taken + size;
+                Ok(Some(&self.buffer[self.taken..end]))
+            }
+            Ok(None) => Ok(None),
+            Err(fault) => Err(fault),
+        }
+    }
+
+    /// Takes the next whole message away, as `next` does, and hands nothing out. It never answers want of memory.
+    pub fn skip(&mut self)
+        // The first frame goes and the others stay; where there is none nothing changes.
+        ensures frame { (message more : List ℕ) → IsFrame self.old.max message → self.old.octets ≡ message ++ more
+            → self.new ≡ record self.old { octets = more } }
+        ensures none { BeginsWithNoFrame self.old.max self.old.octets → self.new ≡ self.old }
+    {
+        if let Ok(Some(size)) = front_len(&self.buffer[self.taken..], self.max) {
+            self.taken += size;
+        }
+    }
+
+    /// The greatest Message Length. It never answers want of memory.
+    pub fn max(&self) -> u32
+        ensures { result ≡ self.now.max }
+    {
+        self.max
+    }
+
+    /// Sets the greatest Message Length, for the messages that weren't handed out yet. A fault that is kept is
+    /// forgotten, as `next` finds it again where it stands. It never answers want of memory.
+    pub fn set_max(&mut self, max: u32)
+        ensures { self.new ≡ record self.old { max = max; fault = None } }
+    {
+        self.max = max;
+        self.fault = None;
     }
 
     /// A framer of the same octets, maximum and kept fault, or `NoMemory`.

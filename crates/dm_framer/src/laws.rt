@@ -1,5 +1,6 @@
 //! Laws of how a stream is cut into messages. Each function is a law: it does nothing, and its contract is the law.
 ghost use Rattle.dm_framer.specs.Laws.{EachStreamIsFramed, OneFraming, Cuts, FaultStays, WholeFrames};
+ghost use Rattle.dm_framer.specs.Laws.{OneFront, FrameOrFault, FaultStands};
 
 /// Each stream has frames, a rest, and a fault of the rest or none.
 pub fn each_stream_is_framed()
@@ -25,4 +26,11 @@ pub fn fault_stays()
 /// Frames, one after the other, are cut into just these frames, with no rest and no fault. It stands for users.
 pub fn whole_frames()
     ensures { WholeFrames }
+{}
+
+/// One frame or one fault stands at a stream's front, or nothing yet; and a fault stands there for good.
+pub fn one_front()
+    ensures frame { OneFront }
+    ensures either { FrameOrFault }
+    ensures fault { FaultStands }
 {}

@@ -38,6 +38,12 @@ pub from_command : {X : Type 0} (w : Word) (A B : Result Gathered ℕ) (F : X �
 from_command w A B F (Ok x) e h = e ∙ h
 from_command w A B F (Err line) e h = e ∙ ap (filled CommandHead w) h
 
+pub from_words : {X : Type 0} (w : Word) (A B : Result Gathered ℕ) (F : X → Result Gathered ℕ) (r : Result X ℕ)
+    → B ≡ A → MatchResult r (λ x. filled CommandHead w A ≡ F x) (λ line. A ≡ Err line)
+    → MatchResult r (λ x. filled CommandHead w B ≡ F x) (λ line. B ≡ Err line)
+from_words w A B F (Ok x) e h = ap (filled CommandHead w) e ∙ h
+from_words w A B F (Err line) e h = e ∙ h
+
 pub from_place : {X : Type 0} (A B : Result Gathered ℕ) (F : X → Result Gathered ℕ) (r : Result X ℕ) → B ≡ A
     → MatchResult r (λ x. A ≡ F x) (λ line. A ≡ Err line) → MatchResult r (λ x. B ≡ F x) (λ line. B ≡ Err line)
 from_place A B F (Ok x) e h = e ∙ h

@@ -1,7 +1,7 @@
 //! What a token is.
 
-ghost use Rattle.std.specs.Prelude.{◌≡◌};
-ghost use Rattle.dm_grammar.specs.Symbols.{mark_of, symbol_of_word, is_digits};
+ghost use Rattle.std.specs.Prelude.{◌≡◌, map};
+ghost use Rattle.dm_grammar.specs.Symbols.{mark_of, key_word, key_words, symbol_among, symbol_of_word, is_digits};
 
 /// What a token is. A word that has a place of its own in the grammar has a symbol of its own; in any
 /// other place it is a name.
@@ -70,33 +70,59 @@ fn is_digits(word: &[u8]) -> bool
     word.iter().all(|octet| octet.is_ascii_digit())
 }
 
+/// A word that has a place of its own in the grammar.
+struct KeyWord {
+    word: &'static [u8],
+    symbol: Symbol,
+}
+
+macro_rules! key_word {
+    ($word:literal, $symbol:ident) => {
+        KeyWord {
+            word: $word,
+            symbol: Symbol::$symbol,
+        }
+    };
+}
+
+static KEY_WORDS: [KeyWord; 10] = [
+    key_word!(b"Diameter", Diameter),
+    key_word!(b"Header", Header),
+    key_word!(b"Diameter-Header", DiameterHeader),
+    key_word!(b"AVP", Avp),
+    key_word!(b"AVP-Header", AvpHeader),
+    key_word!(b"REQ", Req),
+    key_word!(b"PXY", Pxy),
+    key_word!(b"ERR", Err),
+    key_word!(b"vendor", Vendor),
+    key_word!(b"Enumerated", Enumerated),
+];
+
+fn key_words() -> &'static [KeyWord]
+    ensures { map key_word result.now ≡ key_words }
+{
+    &KEY_WORDS
+}
+
+/// The symbol of a word that isn't digits alone.
+fn symbol_of_key_word(word: &[u8]) -> Symbol
+    ensures { result ≡ symbol_among key_words word.now }
+{
+    for row in key_words() {
+        if word == row.word {
+            return row.symbol;
+        }
+    }
+    Symbol::Name
+}
+
 /// The symbol of a word.
 pub(crate) fn symbol_of_word(word: &[u8]) -> Symbol
     ensures { result ≡ symbol_of_word word.now }
 {
     if is_digits(word) {
         Symbol::Number
-    } else if word == b"Diameter".as_slice() {
-        Symbol::Diameter
-    } else if word == b"Header".as_slice() {
-        Symbol::Header
-    } else if word == b"Diameter-Header".as_slice() {
-        Symbol::DiameterHeader
-    } else if word == b"AVP".as_slice() {
-        Symbol::Avp
-    } else if word == b"AVP-Header".as_slice() {
-        Symbol::AvpHeader
-    } else if word == b"REQ".as_slice() {
-        Symbol::Req
-    } else if word == b"PXY".as_slice() {
-        Symbol::Pxy
-    } else if word == b"ERR".as_slice() {
-        Symbol::Err
-    } else if word == b"vendor".as_slice() {
-        Symbol::Vendor
-    } else if word == b"Enumerated".as_slice() {
-        Symbol::Enumerated
     } else {
-        Symbol::Name
+        symbol_of_key_word(word)
     }
 }

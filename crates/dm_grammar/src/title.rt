@@ -3,10 +3,11 @@
 ghost use Rattle.std.specs.Prelude.{◌≡◌, ◌<◌, false, length, MatchResult, IfOk, Err};
 ghost use Rattle.dm_grammar.specs.declared.symbol.Symbol.TheVariants.{At, Less};
 ghost use Rattle.dm_grammar.specs.declared.terminal.Terminal.TheVariants.{One};
-ghost use Rattle.dm_grammar.specs.Places.GrammarPlace.{Head as HeadPlace, InRule, Text, Titled};
-ghost use Rattle.dm_grammar.specs.Places.TokenRole.{TitleIs};
+ghost use Rattle.dm_grammar.specs.Places.GrammarPlace.{CommandWord, GroupWord, Head as HeadPlace, InRule, Text, Titled};
+ghost use Rattle.dm_grammar.specs.Places.TokenRole.{CommandHead, TitleIs};
 ghost use Rattle.dm_grammar.specs.Readers.{begins, fault_line, with_head};
 ghost use Rattle.dm_grammar.specs.Told.{collect, filled};
+ghost use Rattle.dm_grammar.specs.Tokens.{Word};
 ghost use Rattle.dm_grammar.specs.Views.{view_word, view_head, view_words};
 
 use crate::head::{Head, command_head, group_head};
@@ -26,6 +27,36 @@ fn fault_line(tokens: &[Token<'_>], how: Reading) -> usize
     }
 }
 
+/// Behind `Diameter`: `Header`, and the rest of a command's head.
+fn command_words<'t, 'a>(
+    tokens: &'t [Token<'a>],
+    how: Reading,
+) -> Result<(Head<'a>, &'t [Token<'a>]), usize>
+    ensures tells { (w : Word) → MatchResult result
+        (λ x. filled CommandHead w (collect how CommandWord (view_words tokens.now))
+        ≡ with_head (view_head x.0) (collect how InRule (view_words x.1.now)))
+        (λ line. collect how CommandWord (view_words tokens.now) ≡ Err line) }
+    ensures shorter { IfOk result (λ x. length x.1.now < length tokens.now) }
+{
+    let (_header, rest) = expect(tokens, how, Terminal::One(Symbol::Header))?;
+    command_head(rest, how)
+}
+
+/// Behind `AVP`: `Header`, and the rest of a group's head.
+fn group_words<'t, 'a>(
+    tokens: &'t [Token<'a>],
+    how: Reading,
+) -> Result<(Head<'a>, &'t [Token<'a>]), usize>
+    ensures tells { MatchResult result
+        (λ x. collect how GroupWord (view_words tokens.now)
+        ≡ with_head (view_head x.0) (collect how InRule (view_words x.1.now)))
+        (λ line. collect how GroupWord (view_words tokens.now) ≡ Err line) }
+    ensures shorter { IfOk result (λ x. length x.1.now < length tokens.now) }
+{
+    let (_header, rest) = expect(tokens, how, Terminal::One(Symbol::Header))?;
+    group_head(rest, how)
+}
+
 /// A head: ("Diameter" "Header" | "Diameter-Header") or ("AVP" "Header" | "AVP-Header"), and its rest.
 fn head<'t, 'a>(tokens: &'t [Token<'a>], how: Reading) -> Result<(Head<'a>, &'t [Token<'a>]), usize>
     ensures tells { MatchResult result
@@ -37,15 +68,9 @@ fn head<'t, 'a>(tokens: &'t [Token<'a>], how: Reading) -> Result<(Head<'a>, &'t 
         return Err(how.last);
     };
     match first.symbol {
-        Symbol::Diameter => {
-            let (_header, rest) = expect(rest, how, Terminal::One(Symbol::Header))?;
-            command_head(rest, how)
-        }
+        Symbol::Diameter => command_words(rest, how),
         Symbol::DiameterHeader => command_head(rest, how),
-        Symbol::Avp => {
-            let (_group_header, rest) = expect(rest, how, Terminal::One(Symbol::Header))?;
-            group_head(rest, how)
-        }
+        Symbol::Avp => group_words(rest, how),
         Symbol::AvpHeader => group_head(rest, how),
         _ => Err(first.line),
     }

@@ -7,7 +7,7 @@ use Rattle.dm_machine.specs.declared.outputs.Command.{Command}
 use Rattle.dm_machine.specs.Connection.{NotHeld, hold_of, concern_of, Order, Closes, order_to, with_order, orders_to, AtConnection}
 use Rattle.dm_machine.specs.Ordered.{EachCommandIsAnOrder}
 use Rattle.dm_machine.specs.Changes.{EachConnectionChangesAsAllowed}
-use Rattle.dm_machine.specs.Openings.{is_hold, has_order, is_named, is_left_unclosed, ends_at_close, ClosesWhatItGivesUp, LeavesOthersAlone, EndsAtClose}
+use Rattle.dm_machine.specs.Openings.{is_hold, has_order, names_it, is_left_unclosed, ends_at_close, ClosesWhatItGivesUp, LeavesOthersAlone, EndsAtClose}
 use Rattle.dm_peer.specs.declared.actions.Action.{Action}
 use Rattle.dm_peer.specs.declared.actions.Action.TheVariants.{Send, Close}
 use Rattle.dm_peer.specs.declared.config.Config.{Config}
@@ -47,9 +47,9 @@ alone_at alone p was e actions next t c free other =
     let n = p.standing.core in
     let i = input_of e t.heard in
     subst (AtConnection (λ k before after orders.
-    IsTrue (is_hold NotHeld before && not (is_named k)) → (after ≡ NotHeld) × (orders ≡ [])) n i c) t.moves
+    IsTrue (is_hold NotHeld before && not (names_it k)) → (after ≡ NotHeld) × (orders ≡ [])) n i c) t.moves
     (alone n i (wins p.config) c was.shaped)
-    (and_from (is_hold NotHeld (hold_of n c)) (not (is_named (concern_of i c))) (ap (is_hold NotHeld) free)
+    (and_from (is_hold NotHeld (hold_of n c)) (not (names_it (concern_of i c))) (ap (is_hold NotHeld) free)
     (ap not (names_as e t.heard c ∙ other)))
 
 -- one that is closed isn't held

@@ -20,13 +20,13 @@ use Rattle.dm_history.specs.Meant.{IsAcceptableCer, IsAcceptableCea}
 use Rattle.dm_history.proofs.Words.{not_bad, caps_word, code_word}
 
 -- a message of another command is no base message, and the other way round
-abbrev word_if : Config → Message → Bool → Word
+abbrev pub word_if : Config → Message → Bool → Word
 word_if c m b =
     (said c m.header (if b
     then kind_or_fault (first (faults c.dictionary m)) (kind_of m.header.command m.header.request m.avps)
     else Ok kinds.Other)).word
 
-word_is : (c : Config) (m : Message) → (heard_in c m).word ≡ word_if c m (is_base_command m.header.command)
+pub word_is : (c : Config) (m : Message) → (heard_in c m).word ≡ word_if c m (is_base_command m.header.command)
 unfolding kind_under
 word_is c m = refl
 

@@ -2,7 +2,7 @@
 use Rattle.std.proofs.Common.{◌≡◌, ◌==◌, Bool, true, false, Option, refl}
 use Rattle.dm_machine.specs.declared.connection.Conn.{Conn}
 use Rattle.dm_machine.specs.Connection.{Concern, NamesAnother, StartsIt, AcksIt, NacksIt, EndsIt, HeardOnIt, if_named, concern_of}
-use Rattle.dm_machine.specs.Openings.{is_named}
+use Rattle.dm_machine.specs.Openings.{names_it}
 use Rattle.dm_peer.specs.Events.{PeerEvent, Start, Ack, Nack, Arrived, Gone}
 use Rattle.dm_peer.specs.Said.{Heard, word_heard}
 use Rattle.dm_peer.specs.Acts.{input_of}
@@ -29,12 +29,12 @@ if_not : (is : Concern → Bool) → is NamesAnother ≡ false → (b : Bool) (k
 if_not is other true k e = e
 if_not is other false k e = other
 
-pub names_as : (e : PeerEvent) (h : Option Heard) (c : Conn) → is_named (concern_of (input_of e h) c) ≡ names_conn e c
-names_as (Start d) h c = if_so is_named refl (d.0 == c.0) StartsIt refl
-names_as (Ack d) h c = if_so is_named refl (d.0 == c.0) AcksIt refl
-names_as (Nack d) h c = if_so is_named refl (d.0 == c.0) NacksIt refl
-names_as (Gone d) h c = if_so is_named refl (d.0 == c.0) EndsIt refl
-names_as (Arrived d s) h c = if_so is_named refl (d.0 == c.0) (HeardOnIt (word_heard h)) refl
+pub names_as : (e : PeerEvent) (h : Option Heard) (c : Conn) → names_it (concern_of (input_of e h) c) ≡ names_conn e c
+names_as (Start d) h c = if_so names_it refl (d.0 == c.0) StartsIt refl
+names_as (Ack d) h c = if_so names_it refl (d.0 == c.0) AcksIt refl
+names_as (Nack d) h c = if_so names_it refl (d.0 == c.0) NacksIt refl
+names_as (Gone d) h c = if_so names_it refl (d.0 == c.0) EndsIt refl
+names_as (Arrived d s) h c = if_so names_it refl (d.0 == c.0) (HeardOnIt (word_heard h)) refl
 names_as _ h c = refl
 
 pub ends_as : (e : PeerEvent) (h : Option Heard) (c : Conn) → is_end (concern_of (input_of e h) c) ≡ tells_end e c

@@ -18,3 +18,12 @@ mod OneTurn
 mod Telling
 mod UserMessages
 mod Closings
+mod Replying
+mod Replays
+mod Upwards
+mod Promises
+mod OpenNodes
+mod OpenWords
+mod Submits
+mod Stays
+mod Counts

@@ -46,6 +46,17 @@ other_said s None is can = absurd (cc can)
 other_said s (Some m) is can =
     record { message = m; spelled = is; other = not_base (is_base_command m.header.command) can }
 
+-- a Submit that is done is a step of the state machine, in an open state
+pub submit_steps : (p : Peer) (s : List ℕ) (actions : List Action) (next : Peer) →
+    acts p (Submit s) ≡ Moved actions next →
+    (is_open p.standing.core.state ≡ true) × (steps p (Submit s) None ≡ Moved actions next)
+submit_steps p s actions next is =
+    let opened = taken_if (is_open p.standing.core.state) (submitted p (Submit s) (message_in s)) (Refused NotOpen)
+    actions next is (λ e. cc e) in
+    let can = taken_if (can_submit (message_in s)) (steps p (Submit s) None) (Refused BadSubmit) actions next opened.1
+    (λ e. cc e) in
+    (opened.0, can.1)
+
 taken_other : (p : Peer) (s : List ℕ) (actions : List Action) (next : Peer) →
     acts p (Submit s) ≡ Moved actions next → SpellOther s
 taken_other p s actions next is =

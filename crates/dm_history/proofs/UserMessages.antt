@@ -73,7 +73,7 @@ heard_by _ h c s i is = absurd (cc i)
 spelled_as : (t s : List ℕ) (m : Message) → t ≡ s → message_in t ≡ Some m → message_in s ≡ Some m
 spelled_as t s m same is = subst (λ (x : List ℕ). message_in x ≡ Some m) same is
 
-handed_up : HandsUpWhereOpen → (p : Peer) → IsSettled p → (e : PeerEvent) (actions : List Action) (next : Peer) →
+pub handed_up : HandsUpWhereOpen → (p : Peer) → IsSettled p → (e : PeerEvent) (actions : List Action) (next : Peer) →
     IsTurn p e actions next → (s : List ℕ) → StandsAmong actions (Up s) → CameOnOpen p e s
 handed_up law p was e actions next t s (earlier, later, stands) =
     let n = p.standing.core in
@@ -155,7 +155,7 @@ none_dropped : (p : Peer) (c : Conn) (m : Message) → is_base_command m.header.
 none_dropped p c m other =
     not_dropped (is_made (hold_of p.standing.core c)) (is_base_command m.header.command) _ m.header.request other
 
-each_up : HandsUpEach → (p : Peer) → IsSettled p → (c : Conn) (s : List ℕ) (m : Message) → StandsOpen p c →
+pub each_up : HandsUpEach → (p : Peer) → IsSettled p → (c : Conn) (s : List ℕ) (m : Message) → StandsOpen p c →
     message_in s ≡ Some m → is_base_command m.header.command ≡ false →
     (next : Peer) × (acts p (Arrived c s) ≡ Moved (Up s ∷ []) next)
 each_up law p was c s m opened is other =

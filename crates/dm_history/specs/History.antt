@@ -3,7 +3,8 @@
 -- `Peer::reset` leaves one with the number that comes next. A call of `Peer::on` that answers Ok makes the step that
 -- its clause `acts` tells; one that answers Err leaves the peer as it was, as its clause `unchanged` tells. The
 -- functions of src/calls.rt show it.
-use Rattle.std.specs.Prelude.{◌≡◌, ◌⊎◌, ℕ, Option, None, Some, List, [], ◌∷◌, ◌++◌}
+use Rattle.std.specs.Prelude.{◌≡◌, ◌⊎◌, ℕ, Option, None, Some, List, [], ◌∷◌}
+pub use Rattle.dm_machine.specs.Ordered.{StandsAmong}
 use Rattle.dm_peer.specs.declared.actions.Action.{Action}
 use Rattle.dm_peer.specs.declared.config.Config.{Config}
 use Rattle.dm_peer.specs.declared.peer.Peer.{Peer}
@@ -38,7 +39,3 @@ pub data Became (first : Peer) : List Happened → Peer → Type 0 where
 abbrev pub Once : (Happened → List Happened → Type 0) → List Happened → Type 0
 Once P [] = ⊥
 Once P (x ∷ past) = P x past ⊎ Once P past
-
--- the element stands among them
-abbrev pub StandsAmong : {A : Type 0} → List A → A → Type 0
-StandsAmong {A} xs x = (earlier : List A) × (later : List A) × (xs ≡ earlier ++ x ∷ later)

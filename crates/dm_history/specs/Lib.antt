@@ -4,3 +4,8 @@ pub mod Meant
 pub mod Opened
 pub mod Carrying
 pub mod Over
+pub mod Telling
+pub mod Replaying
+pub mod InOrder
+pub mod Staying
+pub mod Promised

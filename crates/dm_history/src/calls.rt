@@ -8,14 +8,14 @@ ghost use Rattle.dm_history.specs.History.{Happened, Became, new_peer, done_at, 
 use dm_peer::{Actions, Config, Event, Peer, PeerFault};
 use std::alloc::Global;
 
-/// `Peer::new`: a history begins, with the configuration's first number. It takes no memory.
+/// `Peer::new`: a history begins, with the configuration's first number. It never answers want of memory.
 pub fn begin(config: Config) -> Peer
     ensures { result ≡ new_peer config config.first_id }
 {
     Peer::new(config)
 }
 
-/// `Peer::reset`: a history begins anew, with the number that comes next. It takes no memory.
+/// `Peer::reset`: a history begins anew, with the number that comes next. It never answers want of memory.
 pub fn begin_anew(peer: &mut Peer)
     ensures { peer.new ≡ new_peer peer.old.config peer.old.standing.next }
 {

@@ -4,3 +4,4 @@
 
 pub mod calls;
 pub mod laws;
+pub mod running;

@@ -7,7 +7,7 @@ use Rattle.dm_machine.specs.Node.{Node}
 use Rattle.dm_machine.specs.Forms.{Form, closed, wait_conn_ack, wait_i_cea, wait_conn_ack_elect, wait_returns, r_open, i_open, closing}
 use Rattle.dm_machine.specs.Reading.{Place, OnI, OnR, OnX, OnNew, named_by, place_in, event_of}
 use Rattle.dm_machine.specs.Moves.{by_table}
-use Rattle.dm_machine.specs.EachStep.{nodes_of, places_of, everywhere, holds_at, holds_on, EachStepHolds}
+use Rattle.dm_machine.specs.EachStep.{nodes_of, places_of, everywhere, passes_at, passes_on, EachStepHolds}
 use Rattle.dm_machine.proofs.FormLemmas.{form_of}
 use Rattle.dm_machine.proofs.Marks.{another}
 use Rattle.dm_machine.proofs.Every.{at, at_bool, conn_in, at_input}
@@ -66,7 +66,7 @@ each_step_holds test h n i wins shaped =
     let new = named_by i in
     let here = place_in n new in
     let c = conn_in i in
-    let at_n = at_node (λ (k : Node). everywhere (holds_on test k c) (places_of k.state)) (λ a b. h a b c) n form in
-    let at_p = at_place (holds_on test n c) n form new at_n in
-    let at_i = at_input (holds_at test n here) i at_p in
+    let at_n = at_node (λ (k : Node). everywhere (passes_on test k c) (places_of k.state)) (λ a b. h a b c) n form in
+    let at_p = at_place (passes_on test n c) n form new at_n in
+    let at_i = at_input (passes_at test n here) i at_p in
     at_bool (λ w. test n here i (by_table n (event_of n i) new w)) at_i wins

@@ -10,7 +10,7 @@ use Rattle.dm_machine.specs.declared.inputs.Input.TheVariants.{Start, Stop, Time
 use Rattle.dm_machine.specs.declared.inputs.Word.{Word}
 use Rattle.dm_machine.specs.declared.inputs.Word.TheVariants.{Unreadable, Cer, CerRefused, Cea, CeaFailed, Dwr, DwrBad, Dwa, DwaBad, Dpr, DprBad, Dpa, DpaBad, Other}
 use Rattle.dm_machine.specs.Reading.{Place, OnI, OnR, OnX, OnNew, named_by}
-use Rattle.dm_machine.specs.EachStep.{words, inputs_of, everywhere}
+use Rattle.dm_machine.specs.EachStep.{all_words, inputs_of, everywhere}
 use Rattle.dm_machine.proofs.Renamed.{renamed_input}
 use Rattle.dm_machine.proofs.Marks.{this, another, mark_if, mark}
 
@@ -64,21 +64,21 @@ at_place f h OnR = at f places 1 h
 at_place f h OnX = at f places 2 h
 at_place f h OnNew = at f places 3 h
 
-pub at_word : (f : Word → Bool) → everywhere f words ≡ true → (w : Word) → f w ≡ true
-at_word f h Unreadable = at f words 0 h
-at_word f h Cer = at f words 1 h
-at_word f h CerRefused = at f words 2 h
-at_word f h Cea = at f words 3 h
-at_word f h CeaFailed = at f words 4 h
-at_word f h Dwr = at f words 5 h
-at_word f h DwrBad = at f words 6 h
-at_word f h Dwa = at f words 7 h
-at_word f h DwaBad = at f words 8 h
-at_word f h Dpr = at f words 9 h
-at_word f h DprBad = at f words 10 h
-at_word f h Dpa = at f words 11 h
-at_word f h DpaBad = at f words 12 h
-at_word f h Other = at f words 13 h
+pub at_word : (f : Word → Bool) → everywhere f all_words ≡ true → (w : Word) → f w ≡ true
+at_word f h Unreadable = at f all_words 0 h
+at_word f h Cer = at f all_words 1 h
+at_word f h CerRefused = at f all_words 2 h
+at_word f h Cea = at f all_words 3 h
+at_word f h CeaFailed = at f all_words 4 h
+at_word f h Dwr = at f all_words 5 h
+at_word f h DwrBad = at f all_words 6 h
+at_word f h Dwa = at f all_words 7 h
+at_word f h DwaBad = at f all_words 8 h
+at_word f h Dpr = at f all_words 9 h
+at_word f h DprBad = at f all_words 10 h
+at_word f h Dpa = at f all_words 11 h
+at_word f h DpaBad = at f all_words 12 h
+at_word f h Other = at f all_words 13 h
 
 -- the connection that an input names, or the other one
 abbrev pub conn_in : Input → Conn
@@ -86,14 +86,14 @@ conn_in i = unwrap_or (named_by i) another
 
 -- a test at every input of a connection
 abbrev pub every_input : (Input → Bool) → Conn → Bool
-every_input f c = everywhere f (inputs_of c) && everywhere (λ w. f (Heard c w)) words
+every_input f c = everywhere f (inputs_of c) && everywhere (λ w. f (Heard c w)) all_words
 
 pub at_input : (f : Input → Bool) (i : Input) → every_input f (conn_in i) ≡ true → f i ≡ true
 at_input f i h =
-    by i (and_parts (everywhere f (inputs_of (conn_in i))) (everywhere (λ w. f (Heard (conn_in i) w)) words) h)
+    by i (and_parts (everywhere f (inputs_of (conn_in i))) (everywhere (λ w. f (Heard (conn_in i) w)) all_words) h)
   where
     by : (j : Input) →
-        (everywhere f (inputs_of (conn_in j)) ≡ true) × (everywhere (λ w. f (Heard (conn_in j) w)) words ≡ true) →
+        (everywhere f (inputs_of (conn_in j)) ≡ true) × (everywhere (λ w. f (Heard (conn_in j) w)) all_words ≡ true) →
         f j ≡ true
     by (Start c) p = at f (inputs_of c) 0 p.0
     by Stop p = at f (inputs_of another) 1 p.0

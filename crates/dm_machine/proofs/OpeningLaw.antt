@@ -11,8 +11,8 @@ use Rattle.dm_machine.specs.Node.{Node}
 use Rattle.dm_machine.specs.Moves.{Outcome, Moved, Refused, outcome}
 use Rattle.dm_machine.specs.Connection.{Hold, NotHeld, Pending, Made, OpenAsI, ClosingAsI, Taken, OpenAsR, ClosingAsR, Concern, NamesAnother, Stops, TimesOut, Ticks, Submits, StartsIt, AcksIt, NacksIt, EndsIt, HeardOnIt, hold_of, concern_of, Order, SendsCer, SendsCea, Closes, orders_to, AtConnection, AtEachStep}
 use Rattle.dm_machine.specs.Changes.{Change, change, allowed}
-use Rattle.dm_machine.specs.Openings.{is_hold, has_order, is_entered, is_ack, is_good_cea, is_named, is_left_unclosed, OpensAcceptedWithCea, OpensInitiatedAtCea, SendsCerAtAck, ClosesWhatItGivesUp, LeavesOthersAlone, ends_at_close, EndsAtClose}
-use Rattle.dm_machine.specs.EachStep.{words, everywhere}
+use Rattle.dm_machine.specs.Openings.{is_hold, has_order, is_entered, is_ack, is_good_cea, names_it, is_left_unclosed, OpensAcceptedWithCea, OpensInitiatedAtCea, SendsCerAtAck, ClosesWhatItGivesUp, LeavesOthersAlone, ends_at_close, EndsAtClose}
+use Rattle.dm_machine.specs.EachStep.{all_words, everywhere}
 use Rattle.dm_machine.proofs.Every.{at, at_word}
 use Rattle.dm_machine.proofs.Steps.{when, is_when}
 use Rattle.dm_machine.proofs.ChangeLemmas.{same_hold, are_orders, same_orders}
@@ -36,11 +36,12 @@ abbrev concerns : List Concern
 concerns = NamesAnother ∷ Stops ∷ TimesOut ∷ Ticks ∷ Submits ∷ StartsIt ∷ AcksIt ∷ NacksIt ∷ EndsIt ∷ []
 
 abbrev every_concern : (Concern → Bool) → Bool
-every_concern f = everywhere f concerns && everywhere (λ w. f (HeardOnIt w)) words
+every_concern f = everywhere f concerns && everywhere (λ w. f (HeardOnIt w)) all_words
 
 at_concern : (f : Concern → Bool) → every_concern f ≡ true → (k : Concern) → f k ≡ true
-at_concern f e = by (and_parts (everywhere f concerns) (everywhere (λ w. f (HeardOnIt w)) words) e) where
-  by : (everywhere f concerns ≡ true) × (everywhere (λ w. f (HeardOnIt w)) words ≡ true) → (k : Concern) → f k ≡ true
+at_concern f e = by (and_parts (everywhere f concerns) (everywhere (λ w. f (HeardOnIt w)) all_words) e) where
+  by : (everywhere f concerns ≡ true) × (everywhere (λ w. f (HeardOnIt w)) all_words ≡ true)
+      → (k : Concern) → f k ≡ true
   by p NamesAnother = at f concerns 0 p.0
   by p Stops = at f concerns 1 p.0
   by p TimesOut = at f concerns 2 p.0
@@ -148,7 +149,7 @@ unfolding everywhere
 closed = from_agreed has_close is_gone refl
 
 abbrev is_other : Concern → Hold → Bool
-is_other k h = is_hold NotHeld h && not (is_named k)
+is_other k h = is_hold NotHeld h && not (names_it k)
 
 abbrev leaves_alone : ChangeTest
 leaves_alone k h x = when (is_other k h) (is_hold x.next NotHeld && are_orders x.orders [])

@@ -7,7 +7,7 @@ use Rattle.dm_machine.specs.declared.outputs.Command.{Command}
 use Rattle.dm_machine.specs.declared.outputs.Command.TheVariants as command
 use Rattle.dm_machine.specs.Connection.{Order, Connects, SendsCer, SendsCea, SendsRefusal, SendsDwr, SendsDwa, SendsDpr, SendsDpa, SendsSubmit, Closes, if_ordered, order_to, with_order, orders_to}
 use Rattle.dm_machine.specs.Openings.{is_order, has_order}
-use Rattle.dm_machine.specs.Ordered.{StandsAmong, command_for, EachOrderIsACommand, EachCommandIsAnOrder}
+use Rattle.dm_machine.specs.Ordered.{StandsAmong, command_by_order, EachOrderIsACommand, EachCommandIsAnOrder}
 use Rattle.dm_machine.proofs.ChangeLemmas.{same_order}
 
 further : (y x : Command) (xs : List Command) → StandsAmong xs x → StandsAmong (y ∷ xs) x
@@ -19,12 +19,12 @@ same_conn d c e = ap (λ n. record { 0 = n }) (eqb-true d.0 c.0 e)
 same_code : (o : Order) → is_order o o ≡ true
 same_code o = grind (arith, nat_tests)
 
-ordered_by : (d c : Conn) (make : Conn → Command) (own o : Order) → make c ≡ command_for own c →
-    (b : Bool) → (d.0 == c.0) ≡ b → if_ordered b own ≡ Some o → make d ≡ command_for o c
-ordered_by d c make own o is true same e = ap make (same_conn d c same) ∙ (is ∙ ap (λ x. command_for x c) (cc e))
+ordered_by : (d c : Conn) (make : Conn → Command) (own o : Order) → make c ≡ command_by_order own c →
+    (b : Bool) → (d.0 == c.0) ≡ b → if_ordered b own ≡ Some o → make d ≡ command_by_order o c
+ordered_by d c make own o is true same e = ap make (same_conn d c same) ∙ (is ∙ ap (λ x. command_by_order x c) (cc e))
 ordered_by d c make own o is false same e = absurd (cc e)
 
-ordered_as : (c : Conn) (a : Command) (o : Order) → order_to c a ≡ Some o → a ≡ command_for o c
+ordered_as : (c : Conn) (a : Command) (o : Order) → order_to c a ≡ Some o → a ≡ command_by_order o c
 ordered_as c (command.Connect d) o e = ordered_by d c command.Connect Connects o refl (d.0 == c.0) refl e
 ordered_as c (command.SendCer d) o e = ordered_by d c command.SendCer SendsCer o refl (d.0 == c.0) refl e
 ordered_as c (command.SendCea d) o e = ordered_by d c command.SendCea SendsCea o refl (d.0 == c.0) refl e
@@ -38,15 +38,15 @@ ordered_as c (command.Close d) o e = ordered_by d c command.Close Closes o refl 
 ordered_as c command.Up o e = absurd (cc e)
 
 ordered_first : (want : Order) (c : Conn) (a : Command) (l : List Command) →
-    (has_order want (orders_to c l) ≡ true → StandsAmong l (command_for want c)) → (o : Option Order) →
+    (has_order want (orders_to c l) ≡ true → StandsAmong l (command_by_order want c)) → (o : Option Order) →
     order_to c a ≡ o →
-    has_order want (with_order o (orders_to c l)) ≡ true → StandsAmong (a ∷ l) (command_for want c)
-ordered_first want c a l rest None is e = further a (command_for want c) l (rest e)
+    has_order want (with_order o (orders_to c l)) ≡ true → StandsAmong (a ∷ l) (command_by_order want c)
+ordered_first want c a l rest None is e = further a (command_by_order want c) l (rest e)
 ordered_first want c a l rest (Some o) is e =
     elim (or_cases (is_order want o) (has_order want (orders_to c l)) e) [
       | inl same ↦
-          ([], l, ap (λ x. x ∷ l) (ordered_as c a o is ∙ ap (λ x. command_for x c) (sym (same_order want o same))))
-      | inr r ↦ further a (command_for want c) l (rest r)
+          ([], l, ap (λ x. x ∷ l) (ordered_as c a o is ∙ ap (λ x. command_by_order x c) (sym (same_order want o same))))
+      | inr r ↦ further a (command_by_order want c) l (rest r)
     ]
 
 pub each_order : EachOrderIsACommand

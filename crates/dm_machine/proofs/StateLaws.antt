@@ -8,7 +8,7 @@ use Rattle.dm_machine.specs.Node.{Node}
 use Rattle.dm_machine.specs.Forms.{Form, closed, wait_conn_ack, wait_i_cea, wait_conn_ack_elect, wait_returns, r_open, i_open, closing}
 use Rattle.dm_machine.specs.Reading.{named_by, event_of}
 use Rattle.dm_machine.specs.Moves.{by_table, outcome, refusal_of}
-use Rattle.dm_machine.specs.EachStep.{StepTest, everywhere, holds_of}
+use Rattle.dm_machine.specs.EachStep.{StepTest, everywhere, passes_of}
 use Rattle.dm_machine.specs.Refusals.{refused_as, RefusesByState}
 use Rattle.dm_machine.specs.Elections.{holds_elections, WinnerCountsInElections}
 use Rattle.dm_machine.proofs.FormLemmas.{form_of}
@@ -34,7 +34,7 @@ same (Some NotOpen) (Some NotClosed) e = absurd (cc e)
 abbrev is_by_state : StepTest
 is_by_state n at i o = are_same (refused_as o) (refusal_of n.state i)
 
-by_state : (i r c : Conn) → IsTrue (holds_of is_by_state i r c)
+by_state : (i r c : Conn) → IsTrue (passes_of is_by_state i r c)
 unfolding everywhere
 by_state i r c = refl
 

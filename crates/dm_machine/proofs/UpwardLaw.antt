@@ -16,7 +16,7 @@ use Rattle.dm_machine.specs.Connection.{Hold, NotHeld, Pending, Made, OpenAsI, C
 use Rattle.dm_machine.specs.Openings.{has_order}
 use Rattle.dm_machine.specs.Upward.{is_open_hold, is_submitted, SubmitsWhereOpen, has_up, IsHeardOpen, UpIsHeard, HandsUpWhereOpen, HandsUpEach, OpenOnOne}
 use Rattle.dm_machine.proofs.FormLemmas.{form_of}
-use Rattle.dm_machine.specs.EachStep.{StepTest, everywhere, holds_of}
+use Rattle.dm_machine.specs.EachStep.{StepTest, everywhere, passes_of}
 use Rattle.dm_machine.proofs.Ordered.{same_conn}
 use Rattle.dm_machine.proofs.EachStepLaw.{each_step_holds}
 use Rattle.dm_machine.proofs.Steps.{when, is_when}
@@ -87,7 +87,7 @@ is_other _ = false
 abbrev is_up_heard : StepTest
 is_up_heard n at i o = when (goes_up o) (is_open n.state && (is_x at && is_other i))
 
-up_heard : (i r c : Conn) → IsTrue (holds_of is_up_heard i r c)
+up_heard : (i r c : Conn) → IsTrue (passes_of is_up_heard i r c)
 unfolding everywhere
 up_heard i r c = refl
 

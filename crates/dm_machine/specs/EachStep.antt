@@ -45,8 +45,8 @@ places_of WaitConnAckElect = OnI ∷ OnR ∷ OnNew ∷ []
 places_of WaitReturns = OnI ∷ OnR ∷ OnNew ∷ []
 places_of _ = OnX ∷ OnNew ∷ []
 
-abbrev pub words : List Word
-words =
+abbrev pub all_words : List Word
+all_words =
     Unreadable ∷ Cer ∷ CerRefused ∷ Cea ∷ CeaFailed ∷ Dwr ∷ DwrBad ∷ Dwa ∷ DwaBad ∷ Dpr ∷ DprBad ∷ Dpa ∷ DpaBad ∷ Other
     ∷ []
 
@@ -58,20 +58,20 @@ unfoldable pub everywhere : {X : Type 0} → (X → Bool) → List X → Bool
 everywhere f l = list_all f l
 
 -- the test holds of an input on a connection at a place, whoever wins
-abbrev pub holds_at : StepTest → Node → Place → Input → Bool
-holds_at test n at i =
+abbrev pub passes_at : StepTest → Node → Place → Input → Bool
+passes_at test n at i =
     everywhere (λ wins. test n at i (by_table n (event_at n.state n.count at i) (named_by i) wins)) (true ∷ false ∷ [])
 
-abbrev pub holds_on : StepTest → Node → Conn → Place → Bool
-holds_on test n c at =
-    everywhere (holds_at test n at) (inputs_of c) && everywhere (λ w. holds_at test n at (Heard c w)) words
+abbrev pub passes_on : StepTest → Node → Conn → Place → Bool
+passes_on test n c at =
+    everywhere (passes_at test n at) (inputs_of c) && everywhere (λ w. passes_at test n at (Heard c w)) all_words
 
-abbrev pub holds_of : StepTest → Conn → Conn → Conn → Bool
-holds_of test i r c = everywhere (λ n. everywhere (holds_on test n c) (places_of n.state)) (nodes_of i r)
+abbrev pub passes_of : StepTest → Conn → Conn → Conn → Bool
+passes_of test i r c = everywhere (λ n. everywhere (passes_on test n c) (places_of n.state)) (nodes_of i r)
 
 -- a test that holds of the few, whatever their connections, holds of every step
 abbrev pub EachStepHolds : Type 0
 EachStepHolds =
-    (test : StepTest) → ((i r c : Conn) → IsTrue (holds_of test i r c)) →
+    (test : StepTest) → ((i r c : Conn) → IsTrue (passes_of test i r c)) →
     (n : Node) (i : Input) (wins : Bool) → IsTrue (is_shaped n) →
     IsTrue (test n (place_in n (named_by i)) i (outcome n i wins))

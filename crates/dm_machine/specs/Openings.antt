@@ -49,13 +49,13 @@ abbrev pub is_good_cea : Concern → Bool
 is_good_cea (HeardOnIt Cea) = true
 is_good_cea _ = false
 
-abbrev pub is_named : Concern → Bool
-is_named StartsIt = true
-is_named AcksIt = true
-is_named NacksIt = true
-is_named EndsIt = true
-is_named (HeardOnIt w) = true
-is_named _ = false
+abbrev pub names_it : Concern → Bool
+names_it StartsIt = true
+names_it AcksIt = true
+names_it NacksIt = true
+names_it EndsIt = true
+names_it (HeardOnIt w) = true
+names_it _ = false
 
 -- what isn't held afterwards and yet isn't closed: a pending connection at its Nack or its end, and one that wasn't
 -- held and isn't heard from
@@ -89,7 +89,7 @@ ClosesWhatItGivesUp =
 abbrev pub LeavesOthersAlone : Type 0
 LeavesOthersAlone =
     AtEachStep (λ k before after orders.
-    IsTrue (is_hold NotHeld before && not (is_named k)) → (after ≡ NotHeld) × (orders ≡ []))
+    IsTrue (is_hold NotHeld before && not (names_it k)) → (after ≡ NotHeld) × (orders ≡ []))
 
 -- nothing is ordered behind a Close
 abbrev pub ends_at_close : List Order → Bool

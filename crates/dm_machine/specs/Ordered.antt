@@ -11,17 +11,17 @@ abbrev pub StandsAmong : {X : Type 0} → List X → X → Type 0
 StandsAmong {X} xs x = (earlier : List X) × (later : List X) × (xs ≡ earlier ++ x ∷ later)
 
 -- the command of an order
-abbrev pub command_for : Order → Conn → Command
-command_for Connects c = command.Connect c
-command_for SendsCer c = command.SendCer c
-command_for SendsCea c = command.SendCea c
-command_for SendsRefusal c = command.SendRefusal c
-command_for SendsDwr c = command.SendDwr c
-command_for SendsDwa c = command.SendDwa c
-command_for SendsDpr c = command.SendDpr c
-command_for SendsDpa c = command.SendDpa c
-command_for SendsSubmit c = command.SendSubmit c
-command_for Closes c = command.Close c
+abbrev pub command_by_order : Order → Conn → Command
+command_by_order Connects c = command.Connect c
+command_by_order SendsCer c = command.SendCer c
+command_by_order SendsCea c = command.SendCea c
+command_by_order SendsRefusal c = command.SendRefusal c
+command_by_order SendsDwr c = command.SendDwr c
+command_by_order SendsDwa c = command.SendDwa c
+command_by_order SendsDpr c = command.SendDpr c
+command_by_order SendsDpa c = command.SendDpa c
+command_by_order SendsSubmit c = command.SendSubmit c
+command_by_order Closes c = command.Close c
 
 -- orders are told apart by their numbers
 abbrev pub OrdersAreToldApart : Type 0
@@ -31,7 +31,7 @@ OrdersAreToldApart = (o p : Order) → is_order o p ≡ true → o ≡ p
 abbrev pub EachOrderIsACommand : Type 0
 EachOrderIsACommand =
     (o : Order) (c : Conn) (commands : List Command) → has_order o (orders_to c commands) ≡ true →
-    StandsAmong commands (command_for o c)
+    StandsAmong commands (command_by_order o c)
 
 -- a command to a connection is among what it is ordered
 abbrev pub EachCommandIsAnOrder : Type 0

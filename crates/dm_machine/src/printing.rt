@@ -18,7 +18,7 @@ impl fmt::Display for Conn {
 }
 
 impl State {
-    /// The name of RFC 6733 (5.6), as `Wait-I-CEA`. It takes no memory.
+    /// The name of RFC 6733 (5.6), as `Wait-I-CEA`. It never answers want of memory.
     pub fn name(&self) -> &'static str
         ensures { result.now ≡ state_text self.now }
     {

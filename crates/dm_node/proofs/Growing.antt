@@ -18,7 +18,7 @@ two_truths : (b : Bool) → b ≡ true → b ≡ false → ⊥
 two_truths true p q = cc
 two_truths false p q = cc
 
-still : (ps : List (Option Peer)) (y : Peer) (n : ℕ) (c : Conn) (j : ℕ) → y.standing ≡ fresh n →
+pub still : (ps : List (Option Peer)) (y : Peer) (n : ℕ) (c : Conn) (j : ℕ) → y.standing ≡ fresh n →
     holds_at (ps ++ Some y ∷ []) c j ≡ true →
     holds_at ps c j ≡ true
 still ps y n c j is h =

@@ -31,3 +31,17 @@ grown [] y zero = inr (refl, refl)
 grown [] y (suc j) = inl refl
 grown (x ∷ xs) y zero = inl refl
 grown (x ∷ xs) y (suc j) = elim (grown xs y j) [ inl same ↦ inl same | inr last ↦ inr (ap suc last.0, last.1) ]
+
+-- who is there stays there
+pub kept_at : (ps : List (Option Peer)) (y : Option Peer) (j : ℕ) → IsSome (peer_at ps j) →
+    peer_at (ps ++ y ∷ []) j ≡ peer_at ps j
+kept_at [] y j h = cc
+kept_at (x ∷ xs) y zero h = refl
+kept_at (x ∷ xs) y (suc j) h = kept_at xs y j h
+
+-- what is read at a changed place
+pub set_at : (ps : List (Option Peer)) (i : ℕ) (y : Option Peer) →
+    (peer_at (set ps i y) i ≡ y) ⊎ (peer_at (set ps i y) i ≡ peer_at ps i)
+set_at [] i y = inr refl
+set_at (x ∷ xs) zero y = inl refl
+set_at (x ∷ xs) (suc i) y = set_at xs i y

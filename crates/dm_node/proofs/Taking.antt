@@ -7,7 +7,7 @@ use Rattle.dm_peer.specs.declared.config.Config.{Config}
 use Rattle.dm_node.proofs.Places.{set_else}
 use Rattle.dm_machine.specs.declared.connection.Conn.{Conn}
 use Rattle.dm_machine.specs.Connection.{Hold, NotHeld, Pending, Made, OpenAsI, ClosingAsI, Taken, OpenAsR, ClosingAsR, Concern, concern_of, if_named, AtConnection}
-use Rattle.dm_machine.specs.Openings.{is_hold, is_named, LeavesOthersAlone}
+use Rattle.dm_machine.specs.Openings.{is_hold, names_it, LeavesOthersAlone}
 use Rattle.dm_machine.specs.Node.{is_shaped}
 use Rattle.dm_machine.specs.Moves as moves
 use Rattle.dm_machine.specs.Moves.{outcome}
@@ -28,11 +28,11 @@ by_number : (d c : Conn) → (b : Bool) → (d.0 == c.0) ≡ b → (Some d ≡ S
 by_number d c true e un = absurd (un (ap (λ n. Some (record { 0 = n })) (same_number d.0 c.0 e)))
 by_number d c false e un = refl
 
-named_if : (k : Concern) (b : Bool) → b ≡ false → is_named (if_named b k) ≡ false
+named_if : (k : Concern) (b : Bool) → b ≡ false → names_it (if_named b k) ≡ false
 named_if k b e = rw e refl
 
 not_named : (e : PeerEvent) (h : Option Heard) (c : Conn) → (conn_of e ≡ Some c → ⊥) →
-    is_named (concern_of (input_of e h) c) ≡ false
+    names_it (concern_of (input_of e h) c) ≡ false
 not_named (Start d) h c un = named_if _ (d.0 == c.0) (by_number d c _ refl un)
 not_named (Stop cause) h c un = refl
 not_named Timeout h c un = refl
@@ -61,10 +61,10 @@ at_step : LeavesOthersAlone → (p q : Peer) (e : PeerEvent) (actions : List Act
     IsStep p e actions q → (c : Conn) → (conn_of e ≡ Some c → ⊥) → holds c p ≡ false → holds c q ≡ false
 at_step alone p q e actions shaped s c free_of not_held =
     let at : AtConnection (λ k before after orders.
-    IsTrue (is_hold NotHeld before && not (is_named k)) → (after ≡ NotHeld) × (orders ≡ []))
+    IsTrue (is_hold NotHeld before && not (names_it k)) → (after ≡ NotHeld) × (orders ≡ []))
     p.standing.core (input_of e s.heard) c (moves.Moved s.commands q.standing.core) =
     subst (λ o. AtConnection (λ k before after orders.
-    IsTrue (is_hold NotHeld before && not (is_named k)) → (after ≡ NotHeld) × (orders ≡ []))
+    IsTrue (is_hold NotHeld before && not (names_it k)) → (after ≡ NotHeld) × (orders ≡ []))
     p.standing.core (input_of e s.heard) c o) s.moves
     (alone p.standing.core (input_of e s.heard) (wins p.config) c shaped) in
     ap is_held (at (both _ _ (free _ not_held) (not_named e s.heard c free_of))).0
@@ -93,13 +93,13 @@ moved_takes : EachEventIsOneStep → LeavesOthersAlone → (x y : Peer) (e : Pee
 moved_takes step alone x y e shaped (inl m) c un not_held = stays step alone x y e m.0 shaped m.1 c un not_held
 moved_takes step alone x y e shaped (inr same) c un not_held = subst (λ z. holds c z ≡ false) (sym same) not_held
 
-same_or : (a b : ℕ) → (a ≡ b) ⊎ (a ≡ b → ⊥)
+pub same_or : (a b : ℕ) → (a ≡ b) ⊎ (a ≡ b → ⊥)
 same_or zero zero = inl refl
 same_or zero (suc b) = inr (λ h. omega arith)
 same_or (suc a) zero = inr (λ h. omega arith)
 same_or (suc a) (suc b) = elim (same_or a b) [ inl h ↦ inl (ap suc h) | inr n ↦ inr (λ h. n (omega arith)) ]
 
-two_truths : (b : Bool) → b ≡ true → b ≡ false → ⊥
+pub two_truths : (b : Bool) → b ≡ true → b ≡ false → ⊥
 two_truths true p q = cc
 two_truths false p q = cc
 

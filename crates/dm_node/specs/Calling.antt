@@ -19,8 +19,8 @@ abbrev pub calling_host : List Avp → Option (List ℕ)
 calling_host l = option_map (λ a. a.bytes) (find (is_plain origin_host_code) l)
 
 -- a Capabilities-Exchange-Request, by its header alone
-abbrev pub is_cer : Header → Bool
-is_cer h = nat_eq h.command capabilities_exchange && h.request
+abbrev pub is_cer_header : Header → Bool
+is_cer_header h = nat_eq h.command capabilities_exchange && h.request
 
 -- who calls: the header of a CER, and the host that it says it is from. It isn't judged.
 abbrev pub Caller : Type 0
@@ -28,7 +28,8 @@ Caller = Header × List ℕ
 
 abbrev pub caller_in : Option Message → Option Caller
 caller_in None = None
-caller_in (Some m) = if is_cer m.header then option_map (λ host. (m.header, host)) (calling_host m.avps) else None
+caller_in (Some m) =
+    if is_cer_header m.header then option_map (λ host. (m.header, host)) (calling_host m.avps) else None
 
 abbrev pub caller : List ℕ → Option Caller
 caller s = caller_in (message_in s)

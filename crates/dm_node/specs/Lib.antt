@@ -1,5 +1,9 @@
-pub mod Holding
 pub mod Adding
 pub mod Calling
-pub mod Telling
+pub mod Emptying
+pub mod Holding
 pub mod Neighbourhoods
+pub mod OneConcerned
+pub mod Owning
+pub mod Rosters
+pub mod Telling

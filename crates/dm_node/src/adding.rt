@@ -1,5 +1,5 @@
 //! One neighbour more.
-ghost use Rattle.std.specs.Prelude.{◌≡◌, ◌⊎◌, ◌<◌, ◌∷◌, [], ◌++◌, ℕ, Some, Err, length, IfOk, IfErr, OnOk, OnErr, vec_len, vec_capacity};
+ghost use Rattle.std.specs.Prelude.{◌≡◌, ◌⊎◌, ◌↔◌, ◌<◌, ◌∷◌, [], ◌++◌, ℕ, Some, Err, length, IfOk, IfErr, IsErrOf, OnOk, OnErr, vec_len, vec_capacity};
 ghost use Rattle.dm_base.specs.Before.{lower};
 ghost use Rattle.dm_node.specs.Holding.{host_at, IsKnown, AreApart, AreUnlike};
 ghost use Rattle.dm_node.specs.Adding.{with_new};
@@ -25,7 +25,8 @@ fn make_room(peers: &mut Vec<Option<Peer>>, config: &Config) -> Result<(), AddFa
     ensures same { peers.new.items ≡ peers.old.items }
     ensures room { OnOk result (vec_len peers.new < vec_capacity peers.new) }
     ensures unknown { OnOk result ((j : ℕ) → host_at peers.old.items j ≡ Some (lower config.now.peer) → ⊥) }
-    ensures known { IfErr result (λ f. f ≡ Known → IsKnown peers.old.items config.now.peer) }
+    ensures known { IsErrOf result Known ↔ IsKnown peers.old.items config.now.peer }
+    ensures refuses { IfErr result (λ f. (f ≡ Known) ⊎ (f ≡ NoMemory)) }
 {
     match named(peers, config.peer_host()) {
         Some(_) => Err(AddFault::Known),
@@ -40,8 +41,8 @@ fn make_room(peers: &mut Vec<Option<Peer>>, config: &Config) -> Result<(), AddFa
 pub(crate) fn put(peers: &mut Vec<Option<Peer>>, config: Config) -> Result<usize, AddFault>
     ensures number { IfOk result (λ i. i ≡ length peers.old.items) }
     ensures added { OnOk result (peers.new.items ≡ with_new peers.old.items config) }
-    ensures known { IfErr result (λ f. f ≡ Known → IsKnown peers.old.items config.peer) }
-    ensures refuses { IsKnown peers.old.items config.peer → (result ≡ Err Known) ⊎ (result ≡ Err NoMemory) }
+    ensures known { IsErrOf result Known ↔ IsKnown peers.old.items config.peer }
+    ensures refuses { IfErr result (λ f. (f ≡ Known) ⊎ (f ≡ NoMemory)) }
     ensures unchanged { OnErr result (peers.new.items ≡ peers.old.items) }
     ensures apart { AreApart peers.old.items → AreApart peers.new.items }
     ensures unlike { AreUnlike peers.old.items → AreUnlike peers.new.items }

@@ -1,12 +1,13 @@
 //! The first message of a connection: who calls, and what a stranger is answered.
-ghost use Rattle.std.specs.Prelude.{◌≡◌, List, IfSome, IfNone, IfOk, OnErr, IsSome, Some, None};
+ghost use Rattle.std.specs.Prelude.{◌≡◌, List, IfSome, IfNone, IfOk, OnErr, IsSome, Some, None, All};
 ghost use Rattle.std.specs.Option.{option_copied};
 ghost use Rattle.dm_base.specs.Codes.{origin_host};
 ghost use Rattle.dm_base.specs.Kinds.{is_plain};
-ghost use Rattle.dm_node.specs.Calling.{calling_host, is_cer, caller_in, caller, answer_to};
+ghost use Rattle.dm_node.specs.Calling.{calling_host, is_cer_header, caller_in, caller, answer_to};
 ghost use Rattle.dm_wire.specs.declared.avp.Avp.{Avp};
 ghost use Rattle.dm_wire.specs.Borrowed.{avp_of, Lists};
 ghost use Rattle.dm_wire.specs.Members.{members};
+ghost use Rattle.dm_peer.specs.Spelled.{SendsSpelling};
 ghost use Rattle.dm_wire.specs.Spelling.{SpellsList};
 
 use arrayvec::ArrayVec;
@@ -41,7 +42,7 @@ fn calling_host<'a>(avps: AvpsRef<'a>) -> Option<&'a [u8]>
 
 /// Whether the header is that of a CER.
 fn is_cer(header: &Header) -> bool
-    ensures { result ≡ is_cer header.now }
+    ensures { result ≡ is_cer_header header.now }
 {
     header.command == CAPABILITIES_EXCHANGE && header.request
 }
@@ -70,7 +71,7 @@ fn caller_in<'a>(message: &MessageRef<'a>) -> Option<(Header, &'a [u8])>
     }
 }
 
-/// The header of a CER, and the host that it says it is from. It takes no memory.
+/// The header of a CER, and the host that it says it is from. It never answers want of memory.
 pub(crate) fn caller<'a>(octets: &'a [u8]) -> Option<(Header, &'a [u8])>
     ensures found { IfSome result (λ r. caller octets.now ≡ Some (r.0, r.1.now)) }
     ensures none { IfNone result (caller octets.now ≡ None) }
@@ -89,6 +90,7 @@ pub(crate) fn answer_to(
     octets: &[u8],
 ) -> Result<Actions, NoMemory>
     ensures answer { IfOk result (λ actions. actions.items ≡ answer_to node.now conn (caller octets.now)) }
+    ensures spelled { IfOk result (λ actions. All SendsSpelling actions.items) }
     ensures memory { OnErr result (IsSome (caller octets.now)) }
 {
     let mut actions = ArrayVec::new();

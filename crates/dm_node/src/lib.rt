@@ -4,11 +4,14 @@
 
 mod adding;
 mod calling;
+mod emptying;
 mod events;
 mod fault;
 pub mod laws;
 mod looking;
 mod neighbours;
+mod owners;
+mod roster;
 mod routing;
 mod telling;
 

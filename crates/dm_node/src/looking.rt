@@ -64,8 +64,8 @@ fn has_host(peer: &Option<Peer>, host: &[u8]) -> bool
     }
 }
 
-/// The neighbour that holds the connection.
-pub(crate) fn holder(peers: &[Option<Peer>], conn: Conn) -> Option<usize>
+/// The neighbour that holds the connection, looked for one by one.
+pub(crate) fn first_holder(peers: &[Option<Peer>], conn: Conn) -> Option<usize>
     ensures there { IfSome result (λ i. IsSome (peer_at peers.now i)) }
     ensures found { IfSome result (λ i. holds_at peers.now conn i ≡ true) }
     ensures none { IfNone result ((j : ℕ) → holds_at peers.now conn j ≡ false) }

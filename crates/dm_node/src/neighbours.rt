@@ -1,6 +1,6 @@
 //! Neighbours: a peer for each, and what each event does.
-use crate::adding::put;
 use crate::looking::{named, peer_at};
+use crate::roster::Roster;
 use crate::routing::whose;
 use crate::telling::{tell_nobody, tell_one};
 use crate::{AddFault, EventFault, NodeActions, NodeEvent};
@@ -16,31 +16,34 @@ use std::slice;
 #[derive(Debug, Drop)]
 pub struct Neighbours {
     node: Node,
-    pub(crate) peers: Vec<Option<Peer>>,
+    pub(crate) roster: Roster,
 }
 
 impl Model for Neighbours {
-    ghost use Rattle.dm_node.specs.Neighbourhoods.{Neighbourhood, IsNeighbourhood};
+    ghost use Rattle.dm_node.specs.Neighbourhoods.{Neighbourhood};
+    ghost use Rattle.dm_node.specs.Rosters.{IsRoster};
 
     ghost Value = { Neighbourhood };
 
-    ghost view = { λ n. record { node = n.node; peers = n.peers.items } };
+    ghost view = { λ n. record { node = n.node; peers = n.roster.peers.items } };
 
-    ghost invariant = { λ n. IsNeighbourhood n.peers.items };
+    ghost invariant = { λ n. IsRoster n.roster };
 }
 
 impl Neighbours {
     ghost use Rattle.std.specs.Prelude.{
       ◌≡◌,
       ◌⊎◌,
+      ◌↔◌,
       ℕ,
+      All,
       [],
       Option,
       Some,
-      Err,
       length,
       IfOk,
       IfErr,
+      IsErrOf,
       OnOk,
       OnErr,
       IfSome,
@@ -51,71 +54,101 @@ impl Neighbours {
     ghost use Rattle.std.specs.Slice.Iter.{iter_rest};
     ghost use Rattle.std.specs.Iterator.Adapters.{IterYieldsInOrder};
     ghost use Rattle.dm_base.specs.Before.{lower};
+    ghost use Rattle.dm_peer.specs.Spelled.{SendsSpelling};
     ghost use Rattle.dm_peer.specs.declared.peer.Peer.{Peer};
     ghost use Rattle.dm_node.specs.Adding.{with_new};
+    ghost use Rattle.dm_node.specs.Emptying.{without, with_set_back, all_set_back};
     ghost use Rattle.dm_node.specs.Holding.{peer_at, host_at, IsKnown};
     ghost use Rattle.dm_node.specs.Telling.{Concerns, IsTold, IsMisdirected, IsRefusedHere, strange, told_of};
     ghost use Rattle.dm_node.specs.declared.fault.AddFault.TheVariants.{Known, NoMemory};
     ghost use Rattle.dm_node.specs.declared.fault.EventFault.{EventFault};
 
-    /// No neighbours. The node answers strangers. It takes no memory.
+    /// No neighbours. The node answers strangers. It never answers want of memory.
     pub fn new(alloc: Global, node: Node) -> Neighbours
         ensures node { result.node ≡ node }
         ensures empty { result.peers ≡ [] }
     {
         Neighbours {
             node,
-            peers: Vec::new(alloc),
+            roster: Roster::new(alloc),
         }
     }
 
     /// Adds a closed neighbour of this configuration, and answers its number.
     ///
     /// # Errors
-    /// `Known` where a neighbour has its host, upper and lower case taken as one, and `NoMemory`. The neighbours are as
-    /// they were after each, and the configuration is dropped.
+    /// `Known` just where a neighbour has its host, upper and lower case taken as one, whatever memory there is; else
+    /// `NoMemory`. The neighbours are as they were after each, and the configuration is dropped.
     pub fn add(&mut self, config: Config) -> Result<usize, AddFault>
         ensures number { IfOk result (λ i. i ≡ length self.old.peers) }
         ensures added { OnOk result (self.new.peers ≡ with_new self.old.peers config) }
-        ensures known { IfErr result (λ f. f ≡ Known → IsKnown self.old.peers config.peer) }
-        ensures refuses { IsKnown self.old.peers config.peer → (result ≡ Err Known) ⊎ (result ≡ Err NoMemory) }
+        ensures known { IsErrOf result Known ↔ IsKnown self.old.peers config.peer }
+        ensures refuses { IfErr result (λ f. (f ≡ Known) ⊎ (f ≡ NoMemory)) }
         ensures unchanged { OnErr result (self.new.peers ≡ self.old.peers) }
         ensures node { self.new.node ≡ self.old.node }
     {
-        put(&mut self.peers, config)
+        self.roster.put(config)
     }
 
-    /// The number of the neighbour of this host, upper and lower case taken as one. It takes no memory.
+    /// The number of the neighbour of this host, upper and lower case taken as one. It never answers want of memory.
     pub fn find(&self, host: &[u8]) -> Option<usize>
         ensures found { IfSome result (λ i. host_at self.now.peers i ≡ Some (lower host.now)) }
         ensures none { IfNone result ((j : ℕ) → host_at self.now.peers j ≡ Some (lower host.now) → ⊥) }
     {
-        named(&self.peers, host)
+        named(&self.roster.peers, host)
     }
 
-    /// The neighbour of this number. It takes no memory.
+    /// The neighbour of this number. It never answers want of memory.
     pub fn peer(&self, index: usize) -> Option<&Peer>
         ensures { option_copied result ≡ peer_at self.now.peers index }
     {
-        peer_at(&self.peers, index)
+        peer_at(&self.roster.peers, index)
     }
 
-    /// The state of the neighbour of this number. It takes no memory.
+    /// The state of the neighbour of this number. It never answers want of memory.
     pub fn state_of(&self, index: usize) -> Option<State>
         ensures { result ≡ option_map (λ p. p.standing.core.state) (peer_at self.now.peers index) }
     {
-        match peer_at(&self.peers, index) {
+        match peer_at(&self.roster.peers, index) {
             Some(peer) => Some(peer.state()),
             None => None,
         }
     }
 
-    /// The neighbours in order of adding. It takes no memory.
+    /// The neighbours in order of adding. It never answers want of memory.
     pub fn iter(&self) -> slice::Iter<'_, Option<Peer>>
         ensures rest { iter_rest result ≡ self.now.peers }
         ensures runs { IterYieldsInOrder (Option Peer) }
     {
-        self.peers.as_slice().iter()
+        self.roster.peers.as_slice().iter()
+    }
+
+    /// Takes the neighbour of this number out, and forgets its connections: what comes on one is a first message then.
+    /// Its number stays unused, and the others keep theirs. The peer is handed back as it was, so that what it holds
+    /// can be closed. It never answers want of memory.
+    pub fn remove(&mut self, index: usize) -> Option<Peer>
+        ensures gone { result ≡ peer_at self.old.peers index }
+        ensures without { self.new.peers ≡ without self.old.peers index }
+        ensures node { self.new.node ≡ self.old.node }
+    {
+        self.roster.take(index)
+    }
+
+    /// Sets the neighbour of this number back to Closed, where there is one, and forgets its connections. It never
+    /// answers want of memory.
+    pub fn reset(&mut self, index: usize)
+        ensures back { self.new.peers ≡ with_set_back self.old.peers index }
+        ensures node { self.new.node ≡ self.old.node }
+    {
+        self.roster.set_back(index)
+    }
+
+    /// Sets each neighbour back to Closed, and forgets all connections. It never answers want of memory.
+    pub fn reset_all(&mut self)
+        ensures back { self.new.peers ≡ all_set_back self.old.peers }
+        ensures node { self.new.node ≡ self.old.node }
+    {
+        self.roster.set_back_all()
     }
 
     /// What the node does at the event. The one neighbour that it concerns does what a peer of its own does, and
@@ -138,9 +171,11 @@ impl Neighbours {
         ensures refused { IfErr result (IsRefusedHere self.old.peers event.entry) }
         ensures unchanged { OnErr result (self.new.peers ≡ self.old.peers) }
         ensures node { self.new.node ≡ self.old.node }
+        // The octets of each Send spell a message, an answer to a stranger too.
+        ensures spelled { IfOk result (λ r. All SendsSpelling r.actions.items) }
     {
-        match whose(&self.peers, event) {
-            Ok(Some(index)) => tell_one(alloc, &mut self.peers, index, event),
+        match whose(&self.roster, event) {
+            Ok(Some(index)) => tell_one(alloc, &mut self.roster, index, event),
             Ok(None) => tell_nobody(alloc, &self.node, event),
             Err(fault) => Err(fault),
         }

@@ -1,13 +1,15 @@
 //! Whose an event is.
 ghost use Rattle.std.specs.Prelude.{◌≡◌, ℕ, true, None, Some, Err, IsSome, IfOk, IfErr, IfSome, IfNone};
-ghost use Rattle.dm_node.specs.Holding.{peer_at, AreApart};
+ghost use Rattle.dm_node.specs.Holding.{peer_at};
+ghost use Rattle.dm_node.specs.Rosters.{IsRoster};
 ghost use Rattle.dm_node.specs.Telling.{told_of, IsAddressed, Concerns, IsAlone, IsMisdirected};
 ghost use Rattle.dm_peer.specs.Events.{told};
 ghost use Rattle.dm_node.specs.declared.fault.EventFault.{EventFault};
 ghost use Rattle.dm_node.specs.declared.fault.EventFault.TheVariants.{NoNeighbour};
 
 use crate::calling::caller;
-use crate::looking::{holder, named, peer_at};
+use crate::looking::{named, peer_at};
+use crate::roster::Roster;
 use crate::{EventFault, NodeEvent};
 use dm_peer::{Conn, Event, Peer};
 
@@ -29,15 +31,16 @@ pub(crate) fn told_of<'a>(event: NodeEvent<'a>) -> Event<'a>
 }
 
 /// The neighbour that octets on a connection are for.
-fn addressed(peers: &[Option<Peer>], conn: Conn, octets: &[u8]) -> Option<usize>
-    ensures there { IfSome result (λ i. IsSome (peer_at peers.now i)) }
-    ensures found { IfSome result (IsAddressed peers.now conn octets.now) }
-    ensures none { IfNone result ((i : ℕ) → IsAddressed peers.now conn octets.now i → ⊥) }
+fn addressed(roster: &Roster, conn: Conn, octets: &[u8]) -> Option<usize>
+    requires { IsRoster roster.now }
+    ensures there { IfSome result (λ i. IsSome (peer_at roster.now.peers.items i)) }
+    ensures found { IfSome result (IsAddressed roster.now.peers.items conn octets.now) }
+    ensures none { IfNone result ((i : ℕ) → IsAddressed roster.now.peers.items conn octets.now i → ⊥) }
 {
-    match holder(peers, conn) {
+    match roster.holder(conn) {
         Some(index) => Some(index),
         None => match caller(octets) {
-            Some((_, host)) => named(peers, host),
+            Some((_, host)) => named(&roster.peers, host),
             None => None,
         },
     }
@@ -55,30 +58,27 @@ fn numbered(peers: &[Option<Peer>], index: usize) -> Result<Option<usize>, Event
 }
 
 /// Whose the event is: of one neighbour, or of none.
-pub(crate) fn whose(
-    peers: &[Option<Peer>],
-    event: NodeEvent<'_>,
-) -> Result<Option<usize>, EventFault>
-    requires { AreApart peers.now }
-    ensures there { IfOk result (λ o. IfSome o (λ i. IsSome (peer_at peers.now i))) }
-    ensures concerned { IfOk result (λ o. IfSome o (Concerns peers.now event.entry)) }
-    ensures nobody { IfOk result (λ o. IfNone o ((i : ℕ) → Concerns peers.now event.entry i → ⊥)) }
-    ensures alone { IfOk result (λ o. IfSome o (IsAlone peers.now (told_of event.entry))) }
-    ensures fault { IfErr result (IsMisdirected peers.now event.entry) }
-    ensures misdirected { (f : EventFault) → IsMisdirected peers.now event.entry f → result ≡ Err f }
+pub(crate) fn whose(roster: &Roster, event: NodeEvent<'_>) -> Result<Option<usize>, EventFault>
+    requires { IsRoster roster.now }
+    ensures there { IfOk result (λ o. IfSome o (λ i. IsSome (peer_at roster.now.peers.items i))) }
+    ensures concerned { IfOk result (λ o. IfSome o (Concerns roster.now.peers.items event.entry)) }
+    ensures nobody { IfOk result (λ o. IfNone o ((i : ℕ) → Concerns roster.now.peers.items event.entry i → ⊥)) }
+    ensures alone { IfOk result (λ o. IfSome o (IsAlone roster.now.peers.items (told_of event.entry))) }
+    ensures fault { IfErr result (IsMisdirected roster.now.peers.items event.entry) }
+    ensures misdirected { (f : EventFault) → IsMisdirected roster.now.peers.items event.entry f → result ≡ Err f }
 {
     match event {
-        NodeEvent::Start(index, conn) => match holder(peers, conn) {
+        NodeEvent::Start(index, conn) => match roster.holder(conn) {
             Some(_) => Err(EventFault::Held),
-            None => numbered(peers, index),
+            None => numbered(&roster.peers, index),
         },
         NodeEvent::Stop(index, _)
         | NodeEvent::Timeout(index)
         | NodeEvent::Tick(index)
-        | NodeEvent::Submit(index, _) => numbered(peers, index),
+        | NodeEvent::Submit(index, _) => numbered(&roster.peers, index),
         NodeEvent::Ack(conn) | NodeEvent::Nack(conn) | NodeEvent::Gone(conn) => {
-            Ok(holder(peers, conn))
+            Ok(roster.holder(conn))
         }
-        NodeEvent::Arrived(conn, octets) => Ok(addressed(peers, conn, octets)),
+        NodeEvent::Arrived(conn, octets) => Ok(addressed(roster, conn, octets)),
     }
 }

@@ -1,13 +1,17 @@
 //! One neighbour of many is told an event.
-ghost use Rattle.std.specs.Prelude.{◌≡◌, ℕ, true, None, Some, IsSome, IfOk, IfErr, OnErr};
+ghost use Rattle.std.specs.Prelude.{◌≡◌, ℕ, true, None, Some, IsSome, IfOk, IfErr, OnErr, All};
 ghost use Rattle.dm_machine.specs.declared.connection.Conn.{Conn};
 ghost use Rattle.dm_node.specs.Holding.{peer_at, holds_at, AreApart, AreUnlike};
+ghost use Rattle.dm_node.specs.Rosters.{IsRoster};
 ghost use Rattle.dm_node.specs.Telling.{conn_of, told_of, Concerns, IsAlone, IsTold, IsRefusedBy, IsRefusedHere, IsStrangeCer, strange};
 ghost use Rattle.dm_node.specs.declared.fault.EventFault.TheVariants as faults;
 ghost use Rattle.dm_peer.specs.Events.{told};
+ghost use Rattle.dm_peer.specs.Spelled.{SendsSpelling};
 ghost use Rattle.dm_peer.specs.declared.fault.PeerFault.TheVariants as peer_faults;
 
 use crate::calling::answer_to;
+use crate::owners::holding_at;
+use crate::roster::Roster;
 use crate::routing::told_of;
 use crate::{EventFault, NodeActions, NodeEvent};
 use arrayvec::ArrayVec;
@@ -30,6 +34,7 @@ fn tell(
         → j ≡ index }
     ensures told { IfOk result (λ actions.
         IsTold peers.old.items peers.new.items index (told event.entry) actions.items) }
+    ensures spelled { IfOk result (λ actions. All SendsSpelling actions.items) }
     ensures refused { IfErr result (IsRefusedBy peers.old.items index (told event.entry)) }
     ensures unchanged { OnErr result (peers.new.items ≡ peers.old.items) }
     ensures apart { AreApart peers.old.items → AreApart peers.new.items }
@@ -49,26 +54,31 @@ fn tell(
 /// Tells the neighbour of this number the event, which concerns it and nobody else.
 pub(crate) fn tell_one(
     alloc: Global,
-    peers: &mut Vec<Option<Peer>>,
+    roster: &mut Roster,
     index: usize,
     event: NodeEvent<'_>,
 ) -> Result<NodeActions, EventFault>
-    requires there { IsSome (peer_at peers.old.items index) }
-    requires concerned { Concerns peers.old.items event index }
-    requires alone { IsAlone peers.old.items (told_of event) index }
+    requires roster { IsRoster roster.old }
+    requires there { IsSome (peer_at roster.old.peers.items index) }
+    requires concerned { Concerns roster.old.peers.items event index }
+    requires alone { IsAlone roster.old.peers.items (told_of event) index }
     ensures neighbour { IfOk result (λ r. r.neighbour ≡ Some index) }
     ensures told { IfOk result (λ r.
-        IsTold peers.old.items peers.new.items index (told_of event.entry) r.actions.items) }
-    ensures refused { IfErr result (IsRefusedHere peers.old.items event.entry) }
-    ensures unchanged { OnErr result (peers.new.items ≡ peers.old.items) }
-    ensures apart { AreApart peers.old.items → AreApart peers.new.items }
-    ensures unlike { AreUnlike peers.old.items → AreUnlike peers.new.items }
+        IsTold roster.old.peers.items roster.new.peers.items index (told_of event.entry) r.actions.items) }
+    ensures spelled { IfOk result (λ r. All SendsSpelling r.actions.items) }
+    ensures refused { IfErr result (IsRefusedHere roster.old.peers.items event.entry) }
+    ensures unchanged { OnErr result (roster.new.peers.items ≡ roster.old.peers.items) }
+    ensures roster { IsRoster roster.new }
 {
-    match tell(alloc, peers, index, told_of(event)) {
-        Ok(actions) => Ok(NodeActions {
-            neighbour: Some(index),
-            actions,
-        }),
+    let before = holding_at(&roster.peers, index);
+    match tell(alloc, &mut roster.peers, index, told_of(event)) {
+        Ok(actions) => {
+            roster.owners.settle(&roster.peers, before, index);
+            Ok(NodeActions {
+                neighbour: Some(index),
+                actions,
+            })
+        }
         Err(fault) => Err(EventFault::Peer(fault)),
     }
 }
@@ -76,6 +86,7 @@ pub(crate) fn tell_one(
 /// What is done at an event that concerns no neighbour; or want of memory, which only a CER takes.
 fn strange(alloc: Global, node: &Node, event: NodeEvent<'_>) -> Result<Actions, NoMemory>
     ensures done { IfOk result (λ actions. actions.items ≡ strange node.now event.entry) }
+    ensures spelled { IfOk result (λ actions. All SendsSpelling actions.items) }
     ensures memory { OnErr result (IsStrangeCer event.entry) }
 {
     match event {
@@ -92,6 +103,7 @@ pub(crate) fn tell_nobody(
 ) -> Result<NodeActions, EventFault>
     ensures nobody { IfOk result (λ r. r.neighbour ≡ None) }
     ensures done { IfOk result (λ r. r.actions.items ≡ strange node.now event.entry) }
+    ensures spelled { IfOk result (λ r. All SendsSpelling r.actions.items) }
     ensures memory { IfErr result (λ f. (f ≡ faults.Peer peer_faults.NoMemory) × IsStrangeCer event.entry) }
 {
     match strange(alloc, node, event) {

@@ -37,7 +37,7 @@ pub record RunLaws : Type 0 where
   pub keeps : HappeningKeepsPeers
 
 -- a sound world of such peers
-abbrev IsPeerWorld : World Peer (List ℕ) → Type 0
+abbrev pub IsPeerWorld : World Peer (List ℕ) → Type 0
 IsPeerWorld w = IsSoundWorld octet_peers w × ArePeers w
 
 ran_good : (r : RunEnd Peer (List ℕ)) (o : After Peer (List ℕ)) → IsPeerWorld (world_after r.world o) →
@@ -56,7 +56,7 @@ run_good laws (Some r) (h ∷ hs) good =
     (laws.sounds octet_peers laws.machine r.world h good.0, laws.keeps r.world h good.1))
 
 -- after each run of two new peers
-each_run_good : RunLaws → (a b : Config) → ArePaired a b → a.first_id < 2 ^ 32 → b.first_id < 2 ^ 32 →
+pub each_run_good : RunLaws → (a b : Config) → ArePaired a b → a.first_id < 2 ^ 32 → b.first_id < 2 ^ 32 →
     (hs : List (Happening (List ℕ))) →
     IfSome (run octet_peers (world_of (fresh_peer a) (fresh_peer b)) hs) (λ r. IsPeerWorld r.world)
 each_run_good laws a b paired low_a low_b hs =

@@ -1,5 +1,5 @@
 -- Every message that a peer over octets sends is a frame.
-use Rattle.std.proofs.Common.{◌≡◌, ◌<◌, ◌^◌, ℕ, Bool, true, false, Option, None, Some, List, [], ◌∷◌, if◌then◌else◌, refl, sym, subst, ◌⊎◌, inl, inr, arith}
+use Rattle.std.proofs.Common.{◌≡◌, ◌<◌, ◌^◌, ℕ, nat_eq, Bool, true, false, Option, None, Some, List, [], ◌∷◌, if◌then◌else◌, refl, sym, subst, ◌⊎◌, inl, inr, arith}
 use Rattle.std.specs.Prelude.{⊤}
 use Rattle.std.proofs.lemmas.Bool.{and_parts}
 use Rattle.dm_framer.specs.Frames.{IsFrame}
@@ -17,6 +17,7 @@ use Rattle.dm_base.specs.declared.base_command.BaseCommand.{BaseCommand}
 use Rattle.dm_base.specs.declared.base_command.BaseCommand.TheVariants.{CapabilitiesExchange, DeviceWatchdog, DisconnectPeer}
 use Rattle.dm_base.specs.Spelled.{HasSpelling}
 use Rattle.dm_base.specs.Laws.{CerIsSpelled, CeaIsSpelled, DwrIsSpelled, DprIsSpelled, AnswerIsSpelled, ErrorIsSpelled}
+use Rattle.dm_base.specs.Codes.{device_watchdog}
 use Rattle.dm_base.specs.Built.{built_cer, built_dwr, built_dpr, built_cea, built_answer, built_error}
 use Rattle.dm_machine.specs.declared.outputs.Command.{Command}
 use Rattle.dm_machine.specs.declared.outputs.Command.TheVariants as command
@@ -33,7 +34,7 @@ use Rattle.dm_peer.specs.Said.{Heard}
 use Rattle.dm_peer.specs.Sent.{no_header, header_of, fault_in, cer_answered, is_protocol_error, answer_by, refusal}
 use Rattle.dm_peer.specs.Sent.{action_of, actions_of}
 use Rattle.dm_peer.specs.Acts.{Outcome, Moved, Refused, turned, input_of, outcome_of, steps, can_submit, acts}
-use Rattle.dm_peer.specs.Octets.{AreOctets}
+use Rattle.dm_wire.specs.Octets.{AreOctets}
 use Rattle.dm_octet_peers.specs.Frames.{submitted_in, SendFrames, OctetsAreFrames}
 use Rattle.dm_octet_peers.specs.Octets.{as_actions}
 use Rattle.dm_octet_peers.proofs.Plain.{is_plain, are_plain, is_submit_input, PlainOutcome, outcome_plain}
@@ -58,6 +59,13 @@ IsSent s = IsFrame 16777212 s
 -- a built message is one whatever its header: its AVPs stand in one that is spelled
 no_header_fits : HeaderFits no_header
 no_header_fits = record { command = omega arith; application = omega arith; hop = omega arith; end = omega arith }
+
+-- an answer to a watchdog has an AVP more
+abbrev watchdog_header : Header
+watchdog_header = record no_header { command = device_watchdog }
+
+watchdog_fits : HeaderFits watchdog_header
+watchdog_fits = record { command = omega arith; application = omega arith; hop = omega arith; end = omega arith }
 
 built_framed : FrameLaws → (m k : Message) → m.avps ≡ k.avps → HasSpelling k → IsSent (octets_of m)
 unfolding octets_of
@@ -84,9 +92,14 @@ cea_framed laws n to code failed =
 
 answer_framed : FrameLaws → (n : Node) (to : Header) (code : ℕ) (failed : Option Avp) →
     IsSent (octets_of (built_answer n to code failed))
-answer_framed laws n to code failed =
-    built_framed laws (built_answer n to code failed) (built_answer n no_header code failed) refl
-    (laws.answer n no_header code failed no_header_fits)
+answer_framed laws n to code failed = by (nat_eq to.command device_watchdog) refl where
+  by : (b : Bool) → nat_eq to.command device_watchdog ≡ b → IsSent (octets_of (built_answer n to code failed))
+  by true e =
+      built_framed laws (built_answer n to code failed) (built_answer n watchdog_header code failed) (rw e refl)
+      (laws.answer n watchdog_header code failed watchdog_fits)
+  by false e =
+      built_framed laws (built_answer n to code failed) (built_answer n no_header code failed) (rw e refl)
+      (laws.answer n no_header code failed no_header_fits)
 
 error_framed : FrameLaws → (n : Node) (to : Header) (code : ℕ) → IsSent (octets_of (built_error n to code))
 error_framed laws n to code =

@@ -10,7 +10,7 @@ use Rattle.dm_octet_peers.specs.Laws.{OctetsAreElecting}
 use Rattle.dm_octet_peers.specs.Recovering.{OctetQuietIsJoined}
 use Rattle.dm_octet_peers.proofs.Returning.{not_lost}
 
-other_wins : (a b : Bool) → a ≡ not b → a ≡ false → b ≡ true
+pub other_wins : (a b : Bool) → a ≡ not b → a ≡ false → b ≡ true
 other_wins a true e h = refl
 other_wins a false e h = cc
 

@@ -129,7 +129,7 @@ reset_kept : (s : Side) (w : World Peer (List ℕ)) → ArePeers w →
 reset_kept s w are = peer_kept s _ _ w are refl
     (fresh_stands (peer_at s w).config (peer_at s w).standing.next (next_of (peer_at s w) (kept_at s w are).0), refl)
 
-is_below : {n : ℕ} → n < 2 ^ 32 → is_number n ≡ true
+pub is_below : {n : ℕ} → n < 2 ^ 32 → is_number n ≡ true
 is_below h = grind (arith, nat_tests)
 
 pub fresh_are_peers : FreshArePeers

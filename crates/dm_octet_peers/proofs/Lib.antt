@@ -1,5 +1,13 @@
 mod Machine
 mod Winning
+mod MatchingTable
+mod MatchingOrders
+mod MatchingStates
+mod MatchingMessages
+mod Matching
+mod MatchingSteps
+mod MatchingPeers
+mod ClosedOrOpen
 mod Stepping
 mod Replying
 mod Electing

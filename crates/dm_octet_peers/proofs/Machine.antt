@@ -60,7 +60,7 @@ dropped_at p d c true e made =
 dropped_at p d c false e made = refl
 
 -- the event that brings octets
-arrives : (e : Event (List ℕ)) (d : Conn) (s : List ℕ) → of_event e ≡ told.Arrived d s → e ≡ Arrived d s
+pub arrives : (e : Event (List ℕ)) (d : Conn) (s : List ℕ) → of_event e ≡ told.Arrived d s → e ≡ Arrived d s
 arrives (Arrived d' s') d s is = cc
 arrives _ d s is = cc
 

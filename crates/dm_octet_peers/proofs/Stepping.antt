@@ -14,7 +14,7 @@ use Rattle.dm_machine.specs.declared.outputs.Command.TheVariants as command
 use Rattle.dm_machine.specs.Awaiting.{holds_cer}
 use Rattle.dm_machine.specs.Node.{Node, is_shaped}
 use Rattle.dm_machine.specs.Moves.{Outcome, Moved, Refused, outcome}
-use Rattle.dm_machine.specs.EachStep.{StepTest, everywhere, holds_of, EachStepHolds}
+use Rattle.dm_machine.specs.EachStep.{StepTest, everywhere, passes_of, EachStepHolds}
 use Rattle.dm_peer.specs.After.{request_in, is_cer}
 use Rattle.dm_two_peers.specs.Electing.{has_send_cer}
 
@@ -60,7 +60,7 @@ asks_none n (Refused r) = true
 abbrev sends_well : StepTest
 sends_well n at i o = is_alike o && (is_request i || asks_none n o)
 
-checked : (i r c : Conn) → IsTrue (holds_of sends_well i r c)
+checked : (i r c : Conn) → IsTrue (passes_of sends_well i r c)
 unfolding everywhere
 checked i r c = refl
 

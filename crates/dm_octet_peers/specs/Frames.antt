@@ -5,7 +5,7 @@ use Rattle.dm_peer.specs.declared.actions.Action as declared_action
 use Rattle.dm_peer.specs.declared.peer.Peer.{Peer}
 use Rattle.dm_peer.specs.Acts.{Moved, acts}
 use Rattle.dm_peer.specs.Events.{PeerEvent, Submit}
-use Rattle.dm_peer.specs.Octets.{AreOctets}
+use Rattle.dm_wire.specs.Octets.{AreOctets}
 use Rattle.dm_two_peers.specs.Peers.{Action, Send}
 use Rattle.dm_octet_peers.specs.Octets.{as_actions}
 

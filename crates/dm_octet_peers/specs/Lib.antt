@@ -4,3 +4,4 @@ pub mod Laws
 pub mod Frames
 pub mod Recovering
 pub mod Carrying
+pub mod Matching

@@ -6,22 +6,24 @@ ghost use Rattle.dm_octet_peers.specs.Laws.{EachOctetRunSettles, EachOctetRunFal
 ghost use Rattle.dm_octet_peers.specs.Recovering.{EachOctetWorldCanOpen, EachOctetRunCanOpen};
 ghost use Rattle.dm_octet_peers.specs.Recovering.{OctetQuietIsJoined, EachOctetQuietRunIsJoined};
 ghost use Rattle.dm_octet_peers.specs.Carrying.{OctetsCarry, EachOctetRunDelivers, EachOctetRunHandsUpWhatCame};
+ghost use Rattle.dm_octet_peers.specs.Matching.{OctetAnswersMatch, EachOctetQuietRunIsClosedOrOpen};
 ghost use Rattle.dm_octet_peers.specs.Frames.{OctetsAreFrames};
 ghost use Rattle.dm_octet_peers.specs.Octets.{octet_peers};
 
-use dm_base::laws::{built_is_spelled, common_is_shared};
+use dm_base::laws::{built_is_own, built_is_spelled, common_is_shared};
 use dm_machine::laws::{
-    each_connection_changes_as_allowed, each_node_has_its_form, each_step_is_one_of_few,
-    each_step_keeps_shape, open_connections_carry,
+    each_connection_changes_as_allowed, each_node_has_its_form, each_order_is_a_command,
+    each_step_is_one_of_few, each_step_keeps_shape, open_connections_carry, unread_words_are_alike,
 };
-use dm_peer::laws::{each_event_is_one_step, sent_is_good};
+use dm_peer::laws::{each_event_is_a_case, each_event_is_one_step, sent_is_good};
 use dm_peer::{Config, Peer};
 use dm_two_peers::laws::{
     closed_is_sound, each_clean_run_can_fall_quiet, each_clean_run_falls_quiet,
-    each_clean_run_settles, each_happening_keeps_sound, each_run_delivers,
-    each_run_hands_up_what_came, each_world_can_open, quiet_is_joined, winner_does_not_return,
+    each_clean_run_settles, each_happening_keeps_sound, each_quiet_run_is_closed_or_open,
+    each_run_delivers, each_run_hands_up_what_came, each_world_can_open, quiet_is_joined,
+    winner_does_not_return,
 };
-use dm_wire::laws::{message_in_spells, spelled_is_framed};
+use dm_wire::laws::{canonical_spells, message_in_spells, spelled_is_framed, spelled_is_in};
 use dm_wire::{Header, Octets};
 
 /// Peers over octets move as the state machine.
@@ -137,6 +139,39 @@ pub fn each_octet_quiet_run_is_joined()
     each_happening_keeps_peers();
     octet_quiet_is_joined();
     octets_are_a_machine();
+}
+
+/// Peers over octets match an answer with its request by the Hop-by-Hop Identifier, at the exchanges that open and end a
+/// connection: a CER is answered by the CEA of its number, and a DPR by the DPA of its number, whatever came in between,
+/// and neither is dropped by the peer that awaits it (3, 5.3, 5.4 and 6.2.1).
+pub fn octet_answers_match()
+    ensures { OctetAnswersMatch }
+{
+    built_is_own();
+    built_is_spelled();
+    canonical_spells();
+    each_connection_changes_as_allowed();
+    each_event_is_a_case();
+    each_node_has_its_form();
+    each_order_is_a_command();
+    each_step_is_one_of_few();
+    each_step_keeps_shape();
+    spelled_is_in();
+    unread_words_are_alike();
+}
+
+/// Wherever a run of two new peers that are configured for each other falls quiet, whatever was lost and restarted, both
+/// are Closed, or both are open on one connection in opposite roles, I-Open against R-Open (5.6).
+pub fn each_octet_quiet_run_is_closed_or_open()
+    ensures { EachOctetQuietRunIsClosedOrOpen }
+{
+    closed_is_sound::<Peer, Octets>();
+    each_happening_keeps_sound::<Peer, Octets>();
+    each_happening_keeps_peers();
+    each_quiet_run_is_closed_or_open::<Peer, Octets>();
+    octet_answers_match();
+    octets_are_a_machine();
+    octets_are_electing();
 }
 
 /// Peers over octets carry messages of applications: what is submitted in an open state is sent as it is, no other

@@ -14,7 +14,7 @@ use Rattle.dm_machine.specs.Node.{Node, is_shaped}
 use Rattle.dm_machine.specs.Moves.{Outcome, Moved, Refused, outcome}
 use Rattle.dm_machine.specs.Strangers.{is_good_cer}
 use Rattle.dm_machine.specs.Awaiting.{awaits_cea, holds_cer}
-use Rattle.dm_machine.specs.EachStep.{StepTest, everywhere, holds_of, EachStepHolds}
+use Rattle.dm_machine.specs.EachStep.{StepTest, everywhere, passes_of, EachStepHolds}
 use Rattle.dm_peer.specs.After.{request_in, is_cer}
 
 -- the word of the message that is heard
@@ -83,7 +83,7 @@ abbrev is_right : StepTest
 is_right n at i o =
     is_entered n.state (word_of i) o && (are_asked n.state i o && (not (is_quiet i) || are_light o))
 
-checked : (i r c : Conn) → IsTrue (holds_of is_right i r c)
+checked : (i r c : Conn) → IsTrue (passes_of is_right i r c)
 unfolding everywhere
 checked i r c = refl
 

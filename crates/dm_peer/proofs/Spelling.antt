@@ -11,7 +11,7 @@ use Rattle.dm_peer.specs.declared.commands.Request.{Request}
 use Rattle.dm_peer.specs.declared.peer.Peer.{Peer}
 use Rattle.dm_peer.specs.Events.{PeerEvent, Start, Arrived, Submit, octets_in}
 use Rattle.dm_peer.specs.Configs.{wins}
-use Rattle.dm_peer.specs.Octets.{AreOctets}
+use Rattle.dm_wire.specs.Octets.{AreOctets}
 use Rattle.dm_peer.specs.Said.{Heard, header_heard}
 use Rattle.dm_machine.specs.Awaiting.{holds_cer}
 use Rattle.dm_peer.specs.After.{request_in, next_after}

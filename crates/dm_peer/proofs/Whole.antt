@@ -8,7 +8,7 @@ use Rattle.dm_wire.specs.OneAnswer.{NoMessageRefused}
 use Rattle.dm_wire.specs.Refusal.{Refuses}
 use Rattle.dm_wire.specs.Spelling.{SpellsList, SpellsMessage}
 use Rattle.dm_wire.specs.Whole.{message_in, MessageInSpells}
-use Rattle.dm_peer.specs.Octets.{AreOctets}
+use Rattle.dm_wire.specs.Octets.{AreOctets}
 
 abbrev pub message_with : Header → List Avp → Message
 message_with h l = record { header = h; avps = l }

@@ -26,8 +26,8 @@ pub struct Config {
     pub ghost based: { dictionary ≡ base_definitions },
 }
 
-/// Whether the octets are two names of one host, upper and lower case taken as one (RFC 6733, 5.6.4). It takes no
-/// memory.
+/// Whether the octets are two names of one host, upper and lower case taken as one (RFC 6733, 5.6.4). It never answers
+/// want of memory.
 pub fn is_same_host(one: &[u8], other: &[u8]) -> bool
     ensures value { result ≡ is_same_host one.now other.now }
     ensures same { (result ≡ true) ↔ (lower one.now ≡ lower other.now) }
@@ -87,14 +87,14 @@ impl Config {
         }
     }
 
-    /// The node. It takes no memory.
+    /// The node. It never answers want of memory.
     pub fn node(&self) -> &Node
         ensures { result.now ≡ self.now.node }
     {
         &self.node
     }
 
-    /// The host of the configured peer. It takes no memory.
+    /// The host of the configured peer. It never answers want of memory.
     pub fn peer_host(&self) -> &[u8]
         ensures { result.now ≡ self.now.peer }
     {

@@ -1,6 +1,6 @@
 //! What a peer is told: commands of its user, the passing of time, and what happens on connections.
 ghost use Rattle.dm_peer.specs.Events.{told, octets_in};
-ghost use Rattle.dm_peer.specs.Octets.{AreOctets};
+ghost use Rattle.dm_wire.specs.Octets.{AreOctets};
 
 use dm_base::Cause;
 use dm_machine::Conn;

@@ -31,7 +31,7 @@ pub struct Peer {
 }
 
 impl Peer {
-    /// A closed peer of the configuration. It takes no memory.
+    /// A closed peer of the configuration. It never answers want of memory.
     pub fn new(config: Config) -> Peer
         ensures config { result.config ≡ config }
         ensures standing { result.standing ≡ fresh config.first_id }
@@ -42,7 +42,7 @@ impl Peer {
         Peer { config, standing }
     }
 
-    /// Back to Closed, with no connections and awaiting nothing. The numbers go on. It takes no memory.
+    /// Back to Closed, with no connections and awaiting nothing. The numbers go on. It never answers want of memory.
     pub fn reset(&mut self)
         ensures { self.new ≡ standing_at self.old (fresh self.old.standing.next) }
     {
@@ -83,14 +83,14 @@ impl Peer {
         Ok(actions)
     }
 
-    /// The configuration. It takes no memory.
+    /// The configuration. It never answers want of memory.
     pub fn config(&self) -> &Config
         ensures { result.now ≡ self.now.config }
     {
         &self.config
     }
 
-    /// The state. It takes no memory.
+    /// The state. It never answers want of memory.
     pub fn state(&self) -> State
         ensures value { result ≡ self.now.standing.core.state }
         ensures shaped { IsTrue (is_shaped self.now.standing.core) }
@@ -98,21 +98,21 @@ impl Peer {
         self.standing.get().core.state()
     }
 
-    /// The connection that this peer opened. It takes no memory.
+    /// The connection that this peer opened. It never answers want of memory.
     pub fn initiated(&self) -> Option<Conn>
         ensures { result ≡ held_as Initiated self.now.standing.core.held }
     {
         self.standing.get().core.initiated()
     }
 
-    /// The connection that the other side opened. It takes no memory.
+    /// The connection that the other side opened. It never answers want of memory.
     pub fn accepted(&self) -> Option<Conn>
         ensures { result ≡ held_as Accepted self.now.standing.core.held }
     {
         self.standing.get().core.accepted()
     }
 
-    /// Whether the state is R-Open or I-Open. It takes no memory.
+    /// Whether the state is R-Open or I-Open. It never answers want of memory.
     pub fn is_open(&self) -> bool
         ensures { result ≡ moves.is_open self.now.standing.core.state }
     {
@@ -120,7 +120,7 @@ impl Peer {
     }
 
     /// The Hop-by-Hop Identifier of the last request of the command, 257, 280 or 282, that awaits its answer. None for
-    /// other commands. It takes no memory.
+    /// other commands. It never answers want of memory.
     pub fn awaited(&self, command: u32) -> Option<u32>
         ensures { result ≡ awaited_of self.now.standing.awaited command }
     {

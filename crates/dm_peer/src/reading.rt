@@ -119,7 +119,7 @@ fn said_by_kind<'a>(config: &Config, header: Header, kind: &KindRef<'_>) -> Hear
     }
 }
 
-/// What the message says to a peer of this configuration. It takes no memory.
+/// What the message says to a peer of this configuration. It never answers want of memory.
 #[tactic(auto, unfolding(crate::specs::Said::kind_under))]
 pub(crate) fn hear<'a>(config: &Config, message: &MessageRef<'a>) -> HeardRef<'a>
     ensures { (l : List Avp) → SpellsList l message.now.rest.now

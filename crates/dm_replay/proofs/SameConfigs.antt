@@ -1,11 +1,12 @@
 -- Two configurations of one host for another are one.
-use Rattle.std.proofs.Common.{◌≡◌, ℕ, Bool, true, false, List, [], ◌∷◌, codes, ap, sym, ◌∙◌, refl, subst}
+use Rattle.std.proofs.Common.{◌≡◌, ℕ, Bool, true, false, Option, None, List, [], ◌∷◌, codes, ap, sym, ◌∙◌, refl, subst}
 use Rattle.std.proofs.Math.Bool.{Bool-set}
 use Rattle.std.proofs.Math.Path.{path_j'}
 use Rattle.dm_value.specs.declared.address.Ip.{Ip}
 use Rattle.dm_value.specs.declared.address.Ip.TheVariants.{V4}
 use Rattle.dm_tables.specs.Base.{base_definitions}
 use Rattle.dm_base.specs.Fit.{is_name, are_addresses, is_number, is_product, are_ids}
+use Rattle.dm_base.specs.declared.extras.Extras.{Extras}
 use Rattle.dm_base.specs.declared.node.Node.{Node}
 use Rattle.dm_peer.specs.declared.config.Config.{Config}
 use Rattle.dm_peer.specs.Hosts.{is_same_host}
@@ -18,7 +19,7 @@ one_proof b v p q = Bool-set b v p q
 
 -- the parts of a node, and what holds of them
 abbrev NodeParts : Type 0
-NodeParts = List ℕ × List ℕ × List Ip × ℕ × List ℕ × List ℕ × List ℕ
+NodeParts = List ℕ × List ℕ × List Ip × ℕ × List ℕ × List ℕ × List ℕ × Option Extras
 
 abbrev AllFit : NodeParts → Type 0
 AllFit x =
@@ -36,6 +37,7 @@ node_of x f =
       product = x.4;
       auth = x.5;
       acct = x.6;
+      extras = x.7;
       fit_host = f.0;
       fit_realm = f.1;
       fit_addresses = f.2;
@@ -46,7 +48,7 @@ node_of x f =
     }
 
 abbrev parts : Node → NodeParts
-parts n = (n.host, n.realm, n.addresses, n.vendor, n.product, n.auth, n.acct)
+parts n = (n.host, n.realm, n.addresses, n.vendor, n.product, n.auth, n.acct, n.extras)
 
 abbrev fits : (n : Node) → AllFit (parts n)
 fits n = (n.fit_host, n.fit_realm, n.fit_addresses, n.fit_vendor, n.fit_product, n.fit_auth, n.fit_acct)
@@ -71,8 +73,8 @@ same_node n m e =
 one_node : (h : Host) (n m : Node) → IsNodeOf h n → IsNodeOf h m → n ≡ m
 one_node h n m a b =
     let of : (k : Node) → IsNodeOf h k → parts k ≡
-    (h.host, codes "example", V4 (127 ∷ 0 ∷ 0 ∷ 1 ∷ []) ∷ [], 0, codes "dmpeer", h.application ∷ [], []) =
-    λ k c. λ i. (c.host i, c.realm i, c.addresses i, c.vendor i, c.product i, c.auth i, c.acct i)
+    (h.host, codes "example", V4 (127 ∷ 0 ∷ 0 ∷ 1 ∷ []) ∷ [], 0, codes "dmpeer", h.application ∷ [], [], None) =
+    λ k c. λ i. (c.host i, c.realm i, c.addresses i, c.vendor i, c.product i, c.auth i, c.acct i, c.extras i)
     in same_node n m (of n a ∙ sym (of m b))
 
 -- a configuration with the base dictionary itself

@@ -50,6 +50,7 @@ node_of h name most =
       product = codes "dmpeer";
       auth = h.application ∷ [];
       acct = [];
+      extras = None;
       fit_host = name;
       fit_realm = refl;
       fit_addresses = refl;
@@ -76,7 +77,7 @@ config_of own other name most other_name differ = (
   },
   record {
     node = record
-        { host = refl; realm = refl; addresses = refl; vendor = refl; product = refl; auth = refl; acct = refl };
+        { host = refl; realm = refl; addresses = refl; vendor = refl; product = refl; auth = refl; acct = refl; extras = refl };
     peer = refl;
     first_id = refl;
     dictionary = refl;

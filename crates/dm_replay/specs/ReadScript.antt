@@ -22,6 +22,7 @@ pub record IsNodeOf (h : Host) (n : Node) : Type 0 where
   pub product : n.product ≡ codes "dmpeer"
   pub auth : n.auth ≡ h.application ∷ []
   pub acct : n.acct ≡ []
+  pub extras : n.extras ≡ None
 
 -- the configuration of a peer that a script names: for the other's host, and with 1 as the number of the first request
 pub record IsConfigOf (own other : Host) (c : Config) : Type 0 where

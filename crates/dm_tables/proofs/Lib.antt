@@ -5,3 +5,4 @@ pub mod Keys
 pub mod Only
 pub mod BaseSound
 pub mod Found
+pub mod Numbers

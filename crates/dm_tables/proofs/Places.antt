@@ -106,7 +106,7 @@ insert_shown {A} {K} {X} same shown (e ∷ es) a v = by (same (shown a) (shown e
 
 module _ {D K : Type 0} (same : K → K → Bool) (key : D → K) where
   -- a new key goes last
-  goes_last : (es : List (K × ℕ)) (k : K) (v : ℕ) → lookup (same k) es ≡ None
+  pub goes_last : (es : List (K × ℕ)) (k : K) (v : ℕ) → lookup (same k) es ≡ None
       → insert_entry same es k v ≡ es ++ (k, v) ∷ []
   goes_last [] k v none = refl
   goes_last (e ∷ es) k v none = by (same k e.0) none (goes_last es k v)

@@ -1,4 +1,4 @@
-pub mod EntryEquality
+pub mod Forms
 pub mod ValueEquality
 pub mod Listed
 pub mod Numbered

@@ -1,11 +1,17 @@
--- Which numbers stand in a list of values.
-use Rattle.std.specs.Prelude.{◌≡◌, ℤ}
-use Rattle.std.specs.List.{list_any}
+-- Where the values of each number stand in a list of values.
+use Rattle.std.specs.Prelude.{◌≡◌, ℕ, ℤ, if◌then◌else◌, is_some, List}
+use Rattle.std.specs.List.{position_from}
+use Rattle.std.specs.Map.{lookup}
 use Rattle.std.specs.Ordering.{int_eq}
-use Rattle.indexmap.specs.IndexSet.{contains_by}
+use Rattle.indexmap.specs.IndexMap.{insert_entry}
 use Rattle.dm_tables.specs.declared.values.Values.TheInside.{Inside}
 use Rattle.dm_tables.specs.Listed.{has_number}
 
--- the index has the numbers of the values
+-- under each number is the place of the first value that has it
 abbrev pub IsNumbered : Inside → Type 0
-IsNumbered values = (n : ℤ) → contains_by (int_eq n) values.numbers ≡ list_any (has_number n) values.items.items
+IsNumbered values = (n : ℤ) → lookup (int_eq n) values.places.entries ≡ position_from (has_number n) 0 values.items.items
+
+-- a place under its number, if there is none yet
+abbrev pub with_place : List (ℤ × ℕ) → ℤ → ℕ → List (ℤ × ℕ)
+with_place places n place =
+    if is_some (lookup (int_eq n) places) then places else insert_entry int_eq places n place

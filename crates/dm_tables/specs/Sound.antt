@@ -12,7 +12,7 @@ use Rattle.dm_tables.specs.declared.def.AvpDef.{AvpDef}
 use Rattle.dm_tables.specs.declared.def.CommandDef.{CommandDef}
 use Rattle.dm_value.specs.declared.avp_type.AvpType.{AvpType}
 use Rattle.dm_value.specs.declared.avp_type.AvpType.TheVariants.{Enumerated, Grouped}
-use Rattle.dm_tables.specs.EntryEquality.{form_number}
+use Rattle.dm_tables.specs.Forms.{form_number}
 use Rattle.dm_tables.specs.Limits.{number_limit, listed_limit}
 use Rattle.dm_tables.specs.Listed.{has_number}
 use Rattle.dm_tables.specs.Definitions.{Definitions, is_vendor, has_vendor_number, is_named, is_coded, is_titled, is_headed}

@@ -55,7 +55,7 @@ impl Tables {
     ghost use Rattle.dm_tables.specs.Tables.{defined, guessed, IsIndexed, IsTables};
     ghost use Rattle.dm_tables.specs.Definitions.{nothing_defined};
 
-    /// No definitions. It takes no memory.
+    /// No definitions. It never answers want of memory.
     pub fn new(alloc: Global) -> Tables
         ensures empty { defined result ≡ nothing_defined }
         ensures indexed { IsTables result }

@@ -1,13 +1,17 @@
 //! The values that an Enumerated AVP lists (RFC 6733, 4.3.1).
-ghost use Rattle.std.specs.Prelude.{◌≡◌, [], ℤ, IfOk, OnOk};
-ghost use Rattle.std.specs.List.{list_any};
+ghost use Rattle.std.specs.Prelude.{◌≡◌, [], ℤ, IfOk, OnOk, find};
+ghost use Rattle.std.specs.List.{list_any, position_from};
+ghost use Rattle.std.specs.Map.{lookup};
+ghost use Rattle.std.specs.Option.{option_copied, option_map};
 ghost use Rattle.std.specs.Ordering.{int_eq};
-ghost use Rattle.indexmap.specs.IndexSet.{contains_by, insert_key};
+ghost use Rattle.indexmap.specs.IndexSet.{insert_key};
 ghost use Rattle.dm_tables.specs.Listed.{has_number, is_unlisted};
+ghost use Rattle.dm_tables.specs.Numbered.{with_place};
 
 use crate::NoMemory;
+use crate::tables::member_at;
 use dm_wire::Octets;
-use indexmap::IndexSet;
+use indexmap::{IndexMap, IndexSet};
 use std::alloc::{AllocError, Global};
 use std::marker::Model;
 
@@ -31,13 +35,13 @@ impl Clone for EnumValue {
     }
 }
 
-/// The values that an Enumerated AVP lists, in order, with an index of their numbers.
+/// The values that an Enumerated AVP lists, in order, and where the first of each number stands among them.
 ///
 /// A contract sees it as the list of the values.
 #[derive(Debug, Drop)]
 pub struct Values {
     items: Vec<EnumValue>,
-    numbers: IndexSet<i32>,
+    places: IndexMap<i32, usize>,
 }
 
 impl Model for Values {
@@ -68,25 +72,43 @@ pub fn is_noted(numbers: &IndexSet<i32>, number: &i32) -> bool
     numbers.contains(number)
 }
 
-/// The numbers of the values.
-fn numbers_of(alloc: Global, values: &[EnumValue]) -> Result<IndexSet<i32>, AllocError>
-    ensures { IfOk result (λ numbers. (n : ℤ) → contains_by (int_eq n) numbers ≡ list_any (has_number n) values.now) }
+/// Puts the place of a value under its number, if no earlier value has the number.
+fn note_place(
+    places: &mut IndexMap<i32, usize>,
+    number: &i32,
+    place: usize,
+) -> Result<(), AllocError>
+    ensures { OnOk result (places.new.entries ≡ with_place places.old.entries number.now place) }
 {
-    let mut numbers = IndexSet::new(alloc);
-    for value in values {
-        note_number(&mut numbers, &value.number)?;
+    if places.contains_key(number) {
+        return Ok(());
     }
-    Ok(numbers)
+    places.insert(*number, place)?;
+    Ok(())
+}
+
+/// Where the first value of each number stands.
+fn places_of(alloc: Global, values: &[EnumValue]) -> Result<IndexMap<i32, usize>, AllocError>
+    ensures { IfOk result (λ places. (n : ℤ)
+        → lookup (int_eq n) places.entries ≡ position_from (has_number n) 0 values.now) }
+{
+    let mut places = IndexMap::new(alloc);
+    let mut place: usize = 0;
+    for value in values {
+        note_place(&mut places, &value.number, place)?;
+        place += 1;
+    }
+    Ok(places)
 }
 
 impl Values {
-    /// No values. It takes no memory.
+    /// No values. It never answers want of memory.
     pub fn empty(alloc: Global) -> Values
         ensures { result ≡ [] }
     {
         Values {
             items: Vec::new(alloc),
-            numbers: IndexSet::new(alloc),
+            places: IndexMap::new(alloc),
         }
     }
 
@@ -95,26 +117,53 @@ impl Values {
     pub fn new(alloc: Global, values: Vec<EnumValue>) -> Result<Values, NoMemory>
         ensures { IfOk result (λ list. list ≡ values.items) }
     {
-        let numbers = numbers_of(alloc, values.as_slice())?;
+        let places = places_of(alloc, values.as_slice())?;
         Ok(Values {
             items: values,
-            numbers,
+            places,
         })
     }
 
-    /// The values, in order. It takes no memory.
+    /// The values, in order. It never answers want of memory.
     pub fn as_slice(&self) -> &[EnumValue]
         ensures { result.now ≡ self.now }
     {
         self.items.as_slice()
     }
 
-    /// Whether there is a list and the number isn't in it. It takes no memory, and no longer for a longer
-    /// list.
+    /// Whether a value has the number.
+    fn lists(&self, number: &i32) -> bool
+        ensures { result ≡ list_any (has_number number.now) self.now }
+    {
+        self.places.contains_key(number)
+    }
+
+    /// Whether there is a list and the number isn't in it. It never answers want of memory, and takes no
+    /// longer for a longer list.
     pub fn leaves_out(&self, number: i32) -> bool
         ensures { result ≡ is_unlisted self.now number }
     {
-        !self.items.is_empty() && !self.numbers.contains(&number)
+        !self.items.is_empty() && !self.lists(&number)
+    }
+
+    /// The first value of the number. It never answers want of memory, and takes no longer for a
+    /// longer list.
+    fn first_of(&self, number: &i32) -> Option<&EnumValue>
+        ensures { option_copied result ≡ find (has_number number.now) self.now }
+    {
+        let place = self.places.get(number).copied();
+        member_at(self.items.as_slice(), place)
+    }
+
+    /// The name of the first value of the number. It never answers want of memory, and takes no longer for a
+    /// longer list.
+    pub fn name(&self, number: i32) -> Option<&Octets>
+        ensures { option_copied result ≡ option_map (λ v. v.name) (find (has_number number) self.now) }
+    {
+        match self.first_of(&number) {
+            Some(value) => Some(&value.name),
+            None => None,
+        }
     }
 }
 
@@ -123,8 +172,8 @@ impl Clone for Values {
 
     fn clone(&self) -> Result<Values, AllocError> {
         let items = self.items.clone()?;
-        let numbers = numbers_of(*self.items.allocator(), items.as_slice())?;
-        Ok(Values { items, numbers })
+        let places = places_of(*self.items.allocator(), items.as_slice())?;
+        Ok(Values { items, places })
     }
 }
 

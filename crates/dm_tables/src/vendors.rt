@@ -19,7 +19,7 @@ pub struct Vendors {
 }
 
 impl Vendors {
-    /// No vendors. It takes no memory.
+    /// No vendors. It never answers want of memory.
     pub fn new(alloc: Global) -> Vendors
         ensures empty { result.items.items ≡ [] }
         ensures indexed { IsVendored result }

@@ -81,3 +81,9 @@ mod Clearing
 mod Draining
 mod Opening
 mod Bare
+mod Requested
+mod RequestedViews
+mod RequestedTold
+mod RequestedChanges
+mod RequestedHappenings
+mod RequestedQuiet

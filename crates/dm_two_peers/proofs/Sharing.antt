@@ -27,17 +27,17 @@ empty_still [] n Delivered h = (refl, refl)
 empty_still [] n Coming h = cc
 empty_still (x ∷ xs) n k h = cc
 
-still_at : {M : Type 0} (d : Direction M) → is_still d ≡ true →
+pub still_at : {M : Type 0} (d : Direction M) → is_still d ≡ true →
     (is_empty d.messages ≡ true) × (not (is_coming d.mark) ≡ true)
 still_at d h = empty_still d.messages d.taken d.mark h
 
-not_pending : (p : LinkPhase) (b mine : Bool) → elim p [ Pending ↦ false | _ ↦ b ] ≡ true →
+pub not_pending : (p : LinkPhase) (b mine : Bool) → elim p [ Pending ↦ false | _ ↦ b ] ≡ true →
     (is_up p || (is_pending p && mine)) ≡ true → (is_up p ≡ true) × (b ≡ true)
 not_pending Up b mine q h = (refl, q)
 not_pending Pending b mine q h = cc
 not_pending Cancelled b mine q h = cc
 
-seen_both : {M : Type 0} (mine : Bool) (l : Link M) → is_still l.to_opener ≡ true → is_still l.to_other ≡ true →
+pub seen_both : {M : Type 0} (mine : Bool) (l : Link M) → is_still l.to_opener ≡ true → is_still l.to_other ≡ true →
     (is_still (view_of mine l).incoming ≡ true) × (is_still (view_of mine l).outgoing ≡ true)
 seen_both true l a b = (a, b)
 seen_both false l a b = (b, a)

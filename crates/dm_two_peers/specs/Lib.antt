@@ -26,3 +26,5 @@ pub mod Recovering
 pub mod Draining
 pub mod Joining
 pub mod Bare
+pub mod Requests
+pub mod ClosedOrOpen

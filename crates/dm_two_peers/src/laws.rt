@@ -4,6 +4,7 @@
 //! `P` is the state of a peer and `M` a message: a world of peers over octets takes its own types for them.
 ghost use Rattle.dm_two_peers.specs.Arriving.{EachRunHandsUpWhatCame};
 ghost use Rattle.dm_two_peers.specs.Bare.{OnlyUpLinksCarry};
+ghost use Rattle.dm_two_peers.specs.ClosedOrOpen.{EachQuietRunIsClosedOrOpen};
 ghost use Rattle.dm_two_peers.specs.Counting.{EachPieceCounts};
 ghost use Rattle.dm_two_peers.specs.Draining.{EachRestartedRunDrains};
 ghost use Rattle.dm_two_peers.specs.Falling.{EachCleanRunCanFallQuiet, EachCleanRunFallsQuiet};
@@ -110,6 +111,19 @@ pub fn quiet_is_shared<P, M>()
 pub fn quiet_is_joined<P, M>()
     ensures { QuietIsJoined P M }
 {}
+
+/// Wherever a run of two closed peers falls quiet, whatever was lost and restarted, both are Closed, or both are open on
+/// one connection in opposite roles, I-Open against R-Open, if one of them at least didn't lose its election to the
+/// other: none is left in Wait-I-CEA or Closing.
+///
+/// It holds of peers that match an answer with its request by its number (`AnswersMatch`, RFC 6733, 3).
+pub fn each_quiet_run_is_closed_or_open<P, M>()
+    ensures { EachQuietRunIsClosedOrOpen P M }
+{
+    closed_is_sound::<P, M>();
+    each_connection_changes_as_allowed();
+    each_step_keeps_shape();
+}
 
 /// A side that wins its elections doesn't come to Wait-Returns (RFC 6733, 5.6.4).
 pub fn winner_does_not_return()

@@ -10,7 +10,7 @@ use Rattle.dm_value.specs.declared.avp_type.AvpType.TheVariants.{OctetString, In
 use Rattle.dm_value.specs.declared.fault.ValueFault.{ValueFault}
 use Rattle.dm_value.specs.declared.fault.ValueFault.TheVariants.{WrongLength, WrongValue}
 use Rattle.dm_value.specs.Columns.{IsVisible, IsUri, HasWrongLength, HasWrongValue, RefusesData}
-use Rattle.dm_value.specs.Decided.{AreOctets}
+use Rattle.dm_wire.specs.Octets.{AreOctets}
 use Rattle.dm_value.specs.Flaws.{flaw, is_visible, is_uri, sized, tested}
 use Rattle.dm_value.proofs.Decided.{Refutes, Refutes-from_Decides, Refutes-size, Decides-utf8, Decides-all_visible, Decides-uri}
 

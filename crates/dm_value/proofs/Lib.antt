@@ -3,6 +3,7 @@ pub mod Flawed
 pub mod Instants
 pub mod Lengths
 pub mod Meanings
+pub mod Meant
 pub mod Names
 pub mod Spans
 pub mod Valued

@@ -17,7 +17,8 @@ use Rattle.dm_value.specs.declared.value.Value.TheVariants as value
 use Rattle.dm_value.specs.declared.address.Address.TheVariants as address
 use Rattle.dm_value.specs.declared.address.Ip.TheVariants.{V4, V6}
 use Rattle.dm_value.specs.Columns.{family, HasWrongLength, HasWrongValue, RefusesData}
-use Rattle.dm_value.specs.Decided.{AreOctets, FlawDecides, ValueOrFault}
+use Rattle.dm_value.specs.Decided.{FlawDecides, ValueOrFault}
+use Rattle.dm_wire.specs.Octets.{AreOctets}
 use Rattle.dm_value.specs.Flaws.{flaw, sized, tested, has_its_size, is_visible, is_uri}
 use Rattle.dm_value.specs.Meaning.{Means}
 use Rattle.dm_value.proofs.Decided.{Decides-utf8, Decides-all_visible, Decides-uri}

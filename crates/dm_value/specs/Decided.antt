@@ -1,5 +1,5 @@
 -- Octets of a type say something: they have a value or a fault.
-use Rattle.std.specs.Prelude.{◌≡◌, ℕ, ◌<◌, ◌⊎◌, MatchOption, List, slice_index}
+use Rattle.std.specs.Prelude.{◌≡◌, ℕ, ◌⊎◌, MatchOption, List}
 use Rattle.dm_value.specs.declared.avp_type.AvpType.{AvpType}
 use Rattle.dm_value.specs.declared.avp_type.AvpType.TheVariants.{Grouped}
 use Rattle.dm_value.specs.declared.fault.ValueFault.{ValueFault}
@@ -7,10 +7,7 @@ use Rattle.dm_value.specs.declared.value.Value.{Value}
 use Rattle.dm_value.specs.Columns.{RefusesData}
 use Rattle.dm_value.specs.Flaws.{flaw}
 use Rattle.dm_value.specs.Meaning.{Means}
-
--- each number of the list is below 256
-abbrev pub AreOctets : List ℕ → Type 0
-AreOctets s = (i : ℕ) → slice_index s i < 256
+use Rattle.dm_wire.specs.Octets.{AreOctets}
 
 -- `flaw` answers for octets of a type: None where they have a value, else their fault. Only for a group does it matter
 -- that the numbers are below 256

@@ -7,3 +7,4 @@ pub mod Meaning
 pub mod OneValue
 pub mod Printed
 pub mod Times
+pub mod ValueIn

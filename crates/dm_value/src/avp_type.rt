@@ -31,7 +31,7 @@ pub enum AvpType {
     Grouped,
 }
 
-/// The least number of octets of data of the type. It takes no memory.
+/// The least number of octets of data of the type. It never answers want of memory.
 pub fn least_len(kind: AvpType) -> u32
     ensures { result ≡ least_length kind }
 {

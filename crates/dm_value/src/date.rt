@@ -22,7 +22,7 @@ pub struct Utc {
 }
 
 /// The date and time of day of a value of type Time, whose 32 bits count seconds (RFC 6733, 4.3.1): with the top bit
-/// set from 1900-01-01 00:00 UTC, without it from 2036-02-07 06:28:16 UTC. It takes no memory.
+/// set from 1900-01-01 00:00 UTC, without it from 2036-02-07 06:28:16 UTC. It never answers want of memory.
 pub fn utc_date(seconds: u32) -> Utc
     ensures value { result ≡ utc_at (from_1900 seconds) }
     ensures instant { IsInstant (from_1900 seconds) result }

@@ -12,7 +12,7 @@ use byteorder::{BigEndian, ByteOrder};
 use dm_wire::laws::members_spell;
 use dm_wire::spells_avps;
 
-/// What is wrong with octets of the type, or `None` where they have a value. It takes no memory.
+/// What is wrong with octets of the type, or `None` where they have a value. It never answers want of memory.
 ///
 /// It answers `WrongLength` or `WrongValue`, the length first. A group has a wrong length where its
 /// octets aren't AVPs one after the other.

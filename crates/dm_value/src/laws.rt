@@ -2,8 +2,9 @@
 //! stands on, and its contract is the law.
 ghost use Rattle.dm_value.specs.Decided.{FlawDecides, ValueOrFault};
 ghost use Rattle.dm_value.specs.OneValue.{OneValue, OneType, NoValueRefused, LeastLength};
+ghost use Rattle.dm_value.specs.ValueIn.{ValueMeant};
 
-use dm_wire::laws::{members_spell, one_list};
+use dm_wire::laws::{members_spell, one_list, spelled_are_members};
 
 /// Octets of a type have at most one value (RFC 6733, 4.2 to 4.4).
 pub fn one_value()
@@ -39,4 +40,11 @@ pub fn value_or_fault()
     ensures { ValueOrFault }
 {
     flaw_decides();
+}
+
+/// The value that octets of a type mean is `value_in` of them: what reads it answers that, and what shows it shows that.
+pub fn value_meant()
+    ensures { ValueMeant }
+{
+    spelled_are_members();
 }

@@ -21,6 +21,7 @@ pub use avp_type::{AvpType, least_len};
 pub use date::{Utc, utc_date};
 pub use fault::{NoMemory, ValueFault};
 pub use judge::value_fault;
+pub use printing::Name;
 pub use read::read_value;
 pub use text::Text;
 pub use time::unix_seconds;

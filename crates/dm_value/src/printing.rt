@@ -83,17 +83,18 @@ impl fmt::Display for Value {
                 write!(f, "{} {}", unix_seconds(*seconds), utc_date(*seconds))
             }
             Value::Text(text) => write!(f, "{text}"),
-            Value::Identity(name) | Value::Uri(name) => write!(f, "{}", NameText(name)),
+            Value::Identity(name) | Value::Uri(name) => write!(f, "{}", Name(name)),
             Value::Group(avps) => write!(f, "{avps}"),
         }
     }
 }
 
-/// The octets of an identity or a URI.
-#[derive(Clone, Copy)]
-struct NameText<'a>(&'a Octets);
+/// Octets that are mostly text, as text: an identity, a URI, or a name of a dictionary.
+#[derive(Clone, Copy, Debug)]
+pub struct Name<'a>(pub &'a Octets);
 
-impl fmt::Display for NameText<'_> {
+/// As they are where they are UTF-8, else in hexadecimal.
+impl fmt::Display for Name<'_> {
     ghost output = { λ name. Some (name_text name.0.now) };
 
     fn fmt<W: fmt::Write>(&self, f: &mut fmt::Formatter<W>) -> fmt::Result {

@@ -3,9 +3,10 @@ ghost use Rattle.std.specs.Prelude.{◌≡◌, ◌≢◌, ◌⊎◌, ◌↔◌, 
 ghost use Rattle.dm_value.specs.Columns.{HasWrongLength, HasWrongValue, HoldsOctets, RefusesData};
 ghost use Rattle.dm_value.specs.Flaws.{flaw};
 ghost use Rattle.dm_value.specs.Meaning.{Means};
+ghost use Rattle.dm_value.specs.ValueIn.{value_in};
 ghost use Rattle.dm_value.specs.declared.value.Value.{Value};
 
-use crate::laws::one_value;
+use crate::laws::{one_value, value_meant};
 use crate::{Address, AvpType, Ip, Text, Value, ValueFault, value_fault};
 use byteorder::{BigEndian, ByteOrder};
 use dm_wire::{AvpList, Octets, decode_avps};
@@ -19,6 +20,8 @@ use std::alloc::{AllocError, Global};
 pub fn read_value(alloc: Global, kind: AvpType, octets: &[u8]) -> Result<Value, ValueFault>
     // What is read is what the octets mean.
     ensures found { IfOk result (λ value. Means kind octets.now value) }
+    // It is the one that the type finds in them.
+    ensures answer { IfOk result (λ value. value ≡ value_in kind octets.now) }
     // What the octets mean is read, unless memory runs out.
     ensures only { (value : Value) → Means kind octets.now value
         → (result ≡ Ok value) ⊎ (result ≡ Err ValueFault.NoMemory) }
@@ -36,6 +39,7 @@ pub fn read_value(alloc: Global, kind: AvpType, octets: &[u8]) -> Result<Value, 
     ensures fault { IfErr result (λ fault. (fault ≡ ValueFault.NoMemory) ⊎ RefusesData kind octets.now fault) }
 {
     one_value();
+    value_meant();
     match value_fault(kind, octets) {
         Some(fault) => Err(fault),
         None => read_sound(alloc, kind, octets),

@@ -31,7 +31,7 @@ impl Text {
         Self { text }
     }
 
-    /// The text, which is UTF-8. It takes no memory.
+    /// The text, which is UTF-8. It never answers want of memory.
     pub fn as_str(&self) -> &str
         ensures value { result.now ≡ self.now }
         ensures utf8 { IsUtf8 self.now }

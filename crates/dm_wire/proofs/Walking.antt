@@ -6,7 +6,7 @@ use Rattle.dm_wire.specs.declared.avp.Avp.{Avp}
 use Rattle.dm_wire.specs.Spelling.{SpellsList}
 use Rattle.dm_wire.specs.Refusal.{IsBadAt}
 use Rattle.dm_wire.specs.WalkStates.{Walk}
-use Rattle.dm_wire.specs.Walks.{walk_over, Passes, Stops, IsDone, Gives, Tells}
+use Rattle.dm_wire.specs.Walks.{walk_over, Passes, Stops, IsDone, WalkGives, ReadsAs}
 use Rattle.dm_wire.proofs.Cuts.{take-add}
 use Rattle.dm_wire.proofs.Lists.{list_push, avp_not_empty}
 
@@ -65,7 +65,7 @@ passed_all s l w p (inl e) =
 passed_all s l w p (inr e) = absurd (let going = p.going in cc)
 
 -- the answers that are left tell the rest
-pub passed_tells : (s : List ℕ) (l : List Avp) (w : Walk) (k : List (Result Avp ℕ)) → Passed s l w → Gives w k
+pub passed_tells : (s : List ℕ) (l : List Avp) (w : Walk) (k : List (Result Avp ℕ)) → Passed s l w → WalkGives w k
     → ((m : List Avp) × (k ≡ map Ok m) × SpellsList (l ++ m) s) ⊎
     ((m : List Avp) × (o : ℕ) × (k ≡ map Ok m ++ Err o ∷ []) × SpellsList (l ++ m) (take o s) × IsBadAt 0 s o)
 passed_tells s l w [] p g = inl ([], refl, rw append-nil (passed_all s l w p g))
@@ -87,5 +87,5 @@ passed_tells s l w (Ok a ∷ k) p g = joined (passed_tells s (l ++ a ∷ []) g.0
     joined (inr h) = inr (a ∷ h.0, h.1, ap (λ r. Ok a ∷ r) h.2, rw append_assoc at h.3, h.4)
 
 -- a whole walk tells what a list of AVPs is read as
-pub walk_tells : (s : List ℕ) (l : List (Result Avp ℕ)) → Gives (walk_over s) l → Tells s l
+pub walk_tells : (s : List ℕ) (l : List (Result Avp ℕ)) → WalkGives (walk_over s) l → ReadsAs s l
 walk_tells s l g = passed_tells s [] (walk_over s) l (passed_none s) g

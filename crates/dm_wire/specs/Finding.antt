@@ -8,6 +8,6 @@ abbrev pub is_of : ℕ → Option ℕ → Avp → Bool
 is_of code vendor a = nat_eq a.code code && option_eq nat_eq a.vendor vendor
 
 -- of the AVPs l that are left the first is given and k are left; none where none is left
-abbrev pub Gives : List Avp → Option Avp → List Avp → Type 0
-Gives l None k = (l ≡ []) × (k ≡ [])
-Gives l (Some a) k = l ≡ a ∷ k
+abbrev pub GivesNext : List Avp → Option Avp → List Avp → Type 0
+GivesNext l None k = (l ≡ []) × (k ≡ [])
+GivesNext l (Some a) k = l ≡ a ∷ k

@@ -1,14 +1,16 @@
 pub mod AvpEquality
+pub mod BaseNumbers
 pub mod Borrowed
 pub mod Canonical
 pub mod Codes
 pub mod Extents
-pub mod Fitting
 pub mod Finding
+pub mod Fitting
 pub mod Framing
 pub mod Limits
 pub mod Making
 pub mod Members
+pub mod Octets
 pub mod OneAnswer
 pub mod Printed
 pub mod Refusal

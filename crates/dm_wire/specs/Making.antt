@@ -5,8 +5,8 @@ use Rattle.dm_wire.specs.declared.fault.WireFault.{WireFault}
 use Rattle.dm_wire.specs.declared.fault.WireFault.TheVariants.{TooShort, Version, Length, AvpLength, TooLong, NoMemory}
 
 -- the request's header without its R, E and T bits (6.2)
-abbrev pub answer_header : Header → Header
-answer_header h = record h { request = false; error = false; retransmit = false }
+abbrev pub header_answering : Header → Header
+header_answering h = record h { request = false; error = false; retransmit = false }
 
 -- what an answer tells of the fault: unsupported version, invalid AVP length or invalid message length (7.1.5)
 abbrev pub fault_code : WireFault → Option ℕ

@@ -1,8 +1,9 @@
 -- The AVPs that octets spell, as an answer (RFC 6733, 4.1 and 4.4).
-use Rattle.std.specs.Prelude.{◌≡◌, ◌↔◌, ℕ, zero, suc, ◌+◌, ◌-◌, ◌*◌, ◌/◌, ◌<◌, Bool, ◌&&◌, nat_le, Option, None, Some, option_map, List, [], ◌∷◌, length, take, drop, slice_index, if◌then◌else◌}
+use Rattle.std.specs.Prelude.{◌≡◌, ◌↔◌, ℕ, zero, suc, ◌+◌, ◌-◌, ◌*◌, ◌/◌, Bool, ◌&&◌, nat_le, Option, None, Some, option_map, List, [], ◌∷◌, length, take, drop, slice_index, if◌then◌else◌}
 use Rattle.byteorder.specs.Endian.{big_number}
 use Rattle.dm_wire.specs.declared.avp.Avp.{Avp}
 use Rattle.dm_wire.specs.Spelling.{is_set, avp_header_len, SpellsList}
+use Rattle.dm_wire.specs.Octets.{AreOctets}
 
 -- the Vendor-ID field, where the V bit is set
 abbrev pub vendor_at : List ℕ → Option ℕ
@@ -46,7 +47,7 @@ members s = members_by (length s) s
 
 -- octets have just the members that they spell
 abbrev pub MembersSpell : Type 0
-MembersSpell = (s : List ℕ) (l : List Avp) → ((i : ℕ) → slice_index s i < 256) → (members s ≡ Some l) ↔ SpellsList l s
+MembersSpell = (s : List ℕ) (l : List Avp) → AreOctets s → (members s ≡ Some l) ↔ SpellsList l s
 
 -- and those that are spelled are the members, even where a number of the list is no octet
 abbrev pub SpelledAreMembers : Type 0

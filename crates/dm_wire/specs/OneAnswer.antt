@@ -1,10 +1,11 @@
 -- Octets say one thing: at most one message at a front, a message or a fault, and at most one fault.
-use Rattle.std.specs.Prelude.{◌≡◌, ◌<◌, ◌⊎◌, ℕ, List, ◌++◌, slice_index}
+use Rattle.std.specs.Prelude.{◌≡◌, ◌⊎◌, ℕ, List, ◌++◌}
 use Rattle.dm_wire.specs.declared.avp.Avp.{Avp}
 use Rattle.dm_wire.specs.declared.message.Message.{Message}
 use Rattle.dm_wire.specs.declared.fault.WireFault.{WireFault}
 use Rattle.dm_wire.specs.Spelling.{SpellsAvp, SpellsList, SpellsMessage}
 use Rattle.dm_wire.specs.Refusal.{IsBadAt, Refuses}
+use Rattle.dm_wire.specs.Octets.{AreOctets}
 
 -- two spellings of messages that begin one text are equal, and spell one message
 abbrev pub OneMessage : Type 0
@@ -33,10 +34,10 @@ NoMessageRefused = (m : Message) (s : List ℕ) (f : WireFault) → SpellsMessag
 
 -- octets spell a list of AVPs, or there is a first bad one
 abbrev pub ListOrBadOctet : Type 0
-ListOrBadOctet = (s : List ℕ) → ((i : ℕ) → slice_index s i < 256) →
+ListOrBadOctet = (s : List ℕ) → AreOctets s →
     ((l : List Avp) × SpellsList l s) ⊎ ((o : ℕ) × IsBadAt 0 s o)
 
 -- octets spell a message, or have a fault
 abbrev pub MessageOrFault : Type 0
-MessageOrFault = (s : List ℕ) → ((i : ℕ) → slice_index s i < 256) →
+MessageOrFault = (s : List ℕ) → AreOctets s →
     ((m : Message) × SpellsMessage m s) ⊎ ((f : WireFault) × Refuses s f)

@@ -52,6 +52,10 @@ abbrev pub data_text : List ℕ → List ℕ
 data_text [] = codes "-"
 data_text (b ∷ s) = encode_lower (b ∷ s)
 
+-- an AVP without its data: code, vendor and flags
+unfoldable pub avp_front_text : Avp → List ℕ
+avp_front_text a = decimal a.code ++ vendor_text a.vendor ++ codes " " ++ avp_letters a
+
 -- an AVP: code, vendor, flags and data
 unfoldable pub avp_text : Avp → List ℕ
 avp_text a = decimal a.code ++ vendor_text a.vendor ++ codes " " ++ avp_letters a ++ codes " " ++ data_text a.bytes

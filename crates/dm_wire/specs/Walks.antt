@@ -39,17 +39,17 @@ WalkStep w (Some (Ok a)) v = Passes w (avp_of a) v
 WalkStep w (Some (Err o)) v = Stops w o v
 
 -- the answers of the calls from w on, up to None
-abbrev pub Gives : Walk → List (Result Avp ℕ) → Type 0
-Gives w [] = IsDone w
-Gives w (Ok a ∷ l) = (v : Walk) × Passes w a v × Gives v l
-Gives w (Err o ∷ l) = (v : Walk) × Stops w o v × Gives v l
+abbrev pub WalkGives : Walk → List (Result Avp ℕ) → Type 0
+WalkGives w [] = IsDone w
+WalkGives w (Ok a ∷ l) = (v : Walk) × Passes w a v × WalkGives v l
+WalkGives w (Err o ∷ l) = (v : Walk) × Stops w o v × WalkGives v l
 
 -- the AVPs of octets that spell a list; else those up to the first bad octet, and then that octet
-abbrev pub Tells : List ℕ → List (Result Avp ℕ) → Type 0
-Tells s l =
+abbrev pub ReadsAs : List ℕ → List (Result Avp ℕ) → Type 0
+ReadsAs s l =
     ((avps : List Avp) × (l ≡ map Ok avps) × SpellsList avps s)
     ⊎ ((avps : List Avp) × (o : ℕ) × (l ≡ map Ok avps ++ Err o ∷ []) × SpellsList avps (take o s) × IsBadAt 0 s o)
 
 -- a whole walk tells what a list of AVPs is read as
 abbrev pub WalkTells : Type 0
-WalkTells = (s : List ℕ) (l : List (Result Avp ℕ)) → Gives (walk_over s) l → Tells s l
+WalkTells = (s : List ℕ) (l : List (Result Avp ℕ)) → WalkGives (walk_over s) l → ReadsAs s l

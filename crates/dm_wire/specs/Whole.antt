@@ -1,11 +1,12 @@
 -- The message that octets spell, as an answer (RFC 6733, 3).
-use Rattle.std.specs.Prelude.{◌≡◌, ◌↔◌, ◌<◌, ℕ, ◌%◌, Bool, ◌&&◌, nat_eq, nat_le, Option, None, Some, option_map, List, length, drop, slice_index, if◌then◌else◌}
+use Rattle.std.specs.Prelude.{◌≡◌, ◌↔◌, ℕ, ◌%◌, Bool, ◌&&◌, nat_eq, nat_le, Option, None, Some, option_map, List, length, drop, slice_index, if◌then◌else◌}
 use Rattle.byteorder.specs.Endian.{big_number}
 use Rattle.dm_wire.specs.declared.avp.Avp.{Avp}
 use Rattle.dm_wire.specs.declared.message.Header.{Header}
 use Rattle.dm_wire.specs.declared.message.Message.{Message}
 use Rattle.dm_wire.specs.Members.{members}
 use Rattle.dm_wire.specs.Spelling.{is_set, SpellsMessage}
+use Rattle.dm_wire.specs.Octets.{AreOctets}
 
 -- a whole header of version 1, whose Message Length is the size, a multiple of 4
 abbrev pub has_header : List ℕ → Bool
@@ -37,7 +38,7 @@ message_in s = if has_header s then option_map (with_header s) (members (drop 20
 -- octets have just the message that they spell
 abbrev pub MessageInSpells : Type 0
 MessageInSpells =
-    (s : List ℕ) (m : Message) → ((i : ℕ) → slice_index s i < 256) → (message_in s ≡ Some m) ↔ SpellsMessage m s
+    (s : List ℕ) (m : Message) → AreOctets s → (message_in s ≡ Some m) ↔ SpellsMessage m s
 
 -- and what is spelled is in them, even where a number of the list is no octet
 abbrev pub SpelledIsIn : Type 0

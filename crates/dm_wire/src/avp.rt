@@ -1,9 +1,5 @@
 //! Attribute-Value Pairs (RFC 6733, 4.1).
-ghost use Rattle.std.specs.Prelude.{◌≡◌, ◌∷◌, []};
-
-use crate::Octets;
-use std::alloc::AllocError;
-use std::marker::Model;
+use crate::{Listed, Octets};
 
 /// An Attribute-Value Pair (RFC 6733, 4.1).
 #[derive(Clone, Debug, Drop, PartialEq, Eq)]
@@ -22,74 +18,4 @@ pub struct Avp {
 }
 
 /// AVPs in order.
-///
-/// A contract sees it as their list.
-#[derive(Debug, Drop)]
-pub struct AvpList {
-    items: Vec<Avp>,
-}
-
-impl Model for AvpList {
-    ghost use Rattle.std.specs.Prelude.{List};
-    ghost use Rattle.dm_wire.specs.declared.avp.Avp.{Avp};
-
-    ghost Value = { List Avp };
-
-    ghost view = { λ avps. avps.items.items };
-}
-
-impl AvpList {
-    /// The AVPs of the `Vec`, which is moved and not copied.
-    pub fn from_vec(avps: Vec<Avp>) -> AvpList
-        ensures { result ≡ avps.items }
-    {
-        AvpList { items: avps }
-    }
-
-    /// The AVPs, in order. It takes no memory.
-    pub fn as_slice(&self) -> &[Avp]
-        ensures { result.now ≡ self.now }
-    {
-        self.items.as_slice()
-    }
-
-    /// The `Vec` that holds the AVPs, which is moved and not copied.
-    pub fn into_vec(self) -> Vec<Avp>
-        ensures { result.items ≡ self }
-    {
-        let AvpList { items } = self;
-        items
-    }
-}
-
-impl Clone for AvpList {
-    ghost is_clone = { λ avps copy. copy ≡ avps };
-
-    fn clone(&self) -> Result<AvpList, AllocError> {
-        Ok(AvpList {
-            items: self.items.clone()?,
-        })
-    }
-}
-
-impl PartialEq for AvpList {
-    ghost use Rattle.std.specs.Cmp.Lexicographic.{pointwise};
-    ghost use Rattle.std.specs.Cmp.Rules.{comparing};
-    ghost use Rattle.std.proofs.Common.{rules};
-    ghost use Rattle.dm_wire.specs.AvpEquality.{avp_eq};
-
-    ghost eq = { pointwise avp_eq };
-
-    ghost laws = { Prim.search (comparing, rules) depth 14 };
-
-    fn eq(&self, other: &AvpList) -> bool {
-        self.as_slice() == other.as_slice()
-    }
-}
-
-impl Eq for AvpList {
-    ghost use Rattle.std.specs.Cmp.Rules.{comparing};
-    ghost use Rattle.std.proofs.Common.{rules};
-
-    ghost laws = { Prim.search (comparing, rules) depth 14 };
-}
+pub type AvpList = Listed<Avp>;

@@ -36,7 +36,7 @@ impl AvpRef<'_> {
 }
 
 impl Avp {
-    /// The AVP with its data where it lies. It takes no memory.
+    /// The AVP with its data where it lies. It never answers want of memory.
     pub fn borrowed(&self) -> AvpRef<'_>
         ensures { avp_of result ≡ self.now }
     {

@@ -6,7 +6,7 @@ ghost use Rattle.dm_wire.specs.Finding.{is_of};
 use crate::{Avp, AvpList, Message};
 use std::marker::Model;
 
-/// The AVPs of a code and vendor, in order. It takes no memory.
+/// The AVPs of a code and vendor, in order. It never answers want of memory.
 ///
 /// A contract sees it as the AVPs that it has yet to give.
 #[derive(Debug, Drop)]
@@ -32,9 +32,9 @@ impl<'a> Iterator for AvpsOf<'a> {
 
     ghost use Rattle.std.specs.Prelude.{length};
     ghost use Rattle.std.specs.Iterator.{at_most};
-    ghost use Rattle.dm_wire.specs.Finding.{Gives};
+    ghost use Rattle.dm_wire.specs.Finding.{GivesNext};
 
-    ghost next_gives = { λ w given v. Gives w (option_copied given) v };
+    ghost next_gives = { λ w given v. GivesNext w (option_copied given) v };
 
     ghost remaining = { λ w. at_most (length w) };
 
@@ -50,14 +50,14 @@ impl<'a> Iterator for AvpsOf<'a> {
 }
 
 impl Message {
-    /// The first AVP of this code and vendor. It takes no memory.
+    /// The first AVP of this code and vendor. It never answers want of memory.
     pub fn avp(&self, code: u32, vendor: Option<u32>) -> Option<&Avp>
         ensures { option_copied result ≡ find (is_of code vendor) self.now.avps }
     {
         self.avps(code, vendor).next()
     }
 
-    /// The AVPs of this code and vendor, in order. It takes no memory.
+    /// The AVPs of this code and vendor, in order. It never answers want of memory.
     pub fn avps(&self, code: u32, vendor: Option<u32>) -> AvpsOf<'_>
         ensures all { result ≡ filter (is_of code vendor) self.now.avps }
         ensures few { length result < 2 ^ 64 }

@@ -31,7 +31,7 @@ fn flags_and_length(octets: &[u8]) -> (u32, usize)
     (word / 0x100_0000, (word % 0x100_0000) as usize)
 }
 
-/// How far the AVP at the front goes; `None` where no AVP begins there. It takes no memory.
+/// How far the AVP at the front goes; `None` where no AVP begins there. It never answers want of memory.
 pub(crate) fn first_extent(octets: &[u8]) -> Option<Extent>
     ensures found { IfSome result (λ extent. IsExtent extent octets.now) }
     ensures members { IfSome result (λ extent.

@@ -7,6 +7,7 @@ ghost use Rattle.dm_wire.specs.Walks.{WalkTells};
 ghost use Rattle.dm_wire.specs.Fitting.{AvpSpelled, AvpSized, ListSpelled, MessageSpelled};
 ghost use Rattle.dm_wire.specs.Framing.{SpelledIsFramed, CanonicalIsFramed};
 ghost use Rattle.dm_wire.specs.Whole.{MessageInSpells, SpelledIsIn};
+ghost use Rattle.dm_wire.specs.BaseNumbers.{AvpCodes, CommandCodes, ResultCodes, Limits};
 
 /// Of two spellings of messages that begin one text neither is longer, and both spell one message.
 /// So where a stream of messages is cut doesn't depend on who cuts it (RFC 6733, 3).
@@ -147,4 +148,24 @@ pub fn message_spelled()
 pub fn spelled_is_framed()
     ensures spelled { SpelledIsFramed }
     ensures canonical { CanonicalIsFramed }
+{}
+
+/// The AVP Codes are those of RFC 6733, 4.5.
+pub fn avp_codes()
+    ensures { AvpCodes }
+{}
+
+/// The Command Codes are those of RFC 6733, 3.1.
+pub fn command_codes()
+    ensures { CommandCodes }
+{}
+
+/// The Result-Codes are those of RFC 6733, 7.1.
+pub fn result_codes()
+    ensures { ResultCodes }
+{}
+
+/// The octets of a header and the greatest numbers of fields are those of RFC 6733, 3 and 4.1.
+pub fn limits()
+    ensures { Limits }
 {}

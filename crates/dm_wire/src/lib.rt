@@ -4,7 +4,6 @@
 mod avp;
 mod borrowed;
 pub mod codes;
-mod contents;
 mod decode;
 mod encode;
 mod fault;
@@ -35,6 +34,7 @@ pub use listed::Listed;
 pub use message::{Header, Message};
 pub use message_ref::MessageRef;
 pub use octets::Octets;
+pub use printing::{AvpFront, Data};
 pub use put::{header_octets, put_avp};
 pub use read::first_avp;
 pub use walk::AvpWalk;

@@ -28,7 +28,7 @@ pub(crate) fn first_member(octets: &[u8]) -> Option<(AvpRef<'_>, usize)>
     first_avp(octets)
 }
 
-/// Whether the octets are AVPs, one after the other. It takes no memory.
+/// Whether the octets are AVPs, one after the other. It never answers want of memory.
 pub fn spells_avps(octets: &[u8]) -> bool
     ensures { result ≡ is_some (members octets.now) }
 {
@@ -36,7 +36,7 @@ pub fn spells_avps(octets: &[u8]) -> bool
 }
 
 impl<'a> AvpsRef<'a> {
-    /// The first AVP, and those behind it. It takes no memory.
+    /// The first AVP, and those behind it. It never answers want of memory.
     pub fn split_first(self) -> Option<(AvpRef<'a>, AvpsRef<'a>)>
         ensures parts { (l : List Avp) → Lists self.entry l
             → MatchOption result (l ≡ []) (λ read. (k : List Avp) × (l ≡ avp_of read.0 ∷ k) × Lists read.1 k) }

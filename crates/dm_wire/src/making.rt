@@ -1,7 +1,7 @@
 //! AVPs, headers and messages made from their parts, and copies of them.
 ghost use Rattle.std.specs.Prelude.{◌≡◌, true, false, Some, None};
 ghost use Rattle.dm_wire.specs.declared.fault.WireFault.TheVariants as fault;
-ghost use Rattle.dm_wire.specs.Making.{answer_header, fault_code};
+ghost use Rattle.dm_wire.specs.Making.{header_answering, fault_code};
 
 use crate::codes::results;
 use crate::{Avp, AvpList, Header, Message, Octets, WireFault};
@@ -30,7 +30,7 @@ impl Header {
     /// The header of the answer to a request with this header: its command, application and identifiers and its P bit,
     /// and no other bit (RFC 6733, 6.2). An answer that reports a protocol error sets `error` in it.
     pub fn answer(&self) -> Header
-        ensures { result ≡ answer_header self.now }
+        ensures { result ≡ header_answering self.now }
     {
         Header {
             request: false,

@@ -42,7 +42,7 @@ fn read_spelled(octets: &[u8]) -> Result<MessageRef<'_>, WireFault>
 }
 
 impl<'a> MessageRef<'a> {
-    /// The message that the octets spell, where it lies. It takes no memory.
+    /// The message that the octets spell, where it lies. It never answers want of memory.
     ///
     /// Refuses as `Message::decode` does, in this order: `TooShort`, `Version`, `Length`, `AvpLength` with the offset
     /// of the first bad AVP from the first octet of the message. It never answers `TooLong` or `NoMemory`.

@@ -2,14 +2,14 @@
 ghost use Rattle.std.specs.Prelude.{◌≡◌, ◌∷◌, [], Some, length};
 ghost use Rattle.hex.specs.Hex.{encode_lower};
 ghost use Rattle.dm_wire.specs.Borrowed.{avp_of};
-ghost use Rattle.dm_wire.specs.Printed.{marks, avp_text, list_text, header_text, vendor_text, data_text};
+ghost use Rattle.dm_wire.specs.Printed.{marks, avp_front_text, avp_text, list_text, header_text, vendor_text, data_text};
 
-use crate::{Avp, AvpList, AvpRef, Header, Octets};
+use crate::{Avp, AvpRef, Header, Listed};
 use dm_text::Hexadecimal;
 use std::fmt;
 
 /// In lower case hexadecimal.
-impl fmt::Display for Octets {
+impl fmt::Display for Listed<u8> {
     ghost output = { λ octets. Some (encode_lower octets) };
 
     fn fmt<W: fmt::Write>(&self, f: &mut fmt::Formatter<W>) -> fmt::Result {
@@ -22,17 +22,29 @@ impl fmt::Display for Octets {
 impl fmt::Display for AvpRef<'_> {
     ghost output = { λ avp. Some (avp_text (avp_of avp)) };
 
-    #[tactic(auto, unfolding(crate::specs::Printed::avp_text))]
+    #[tactic(auto, unfolding(crate::specs::Printed::avp_text, crate::specs::Printed::avp_front_text))]
     fn fmt<W: fmt::Write>(&self, f: &mut fmt::Formatter<W>) -> fmt::Result {
-        let vendor = VendorText(self.vendor);
+        write!(f, "{} {}", AvpFront(*self), Data(self.bytes))
+    }
+}
+
+/// An AVP without its data, as text: `264 -M-`, with a vendor `1/10415 VM-`.
+#[derive(Clone, Copy, Debug)]
+pub struct AvpFront<'a>(pub AvpRef<'a>);
+
+/// The code, behind a `/` the vendor where there is one, and the flags `V` `M` `P` (or `-`).
+impl fmt::Display for AvpFront<'_> {
+    ghost output = { λ front. Some (avp_front_text (avp_of front.0)) };
+
+    #[tactic(auto, unfolding(crate::specs::Printed::avp_front_text))]
+    fn fmt<W: fmt::Write>(&self, f: &mut fmt::Formatter<W>) -> fmt::Result {
+        let vendor = VendorText(self.0.vendor);
         let (v, m, p) = (
-            mark(self.vendor.is_some(), "V"),
-            mark(self.mandatory, "M"),
-            mark(self.protected, "P"),
+            mark(self.0.vendor.is_some(), "V"),
+            mark(self.0.mandatory, "M"),
+            mark(self.0.protected, "P"),
         );
-        let data = DataText(self.bytes);
-        write!(f, "{}{vendor} {v}{m}{p}", self.code)?;
-        write!(f, " {data}")
+        write!(f, "{}{vendor} {v}{m}{p}", self.0.code)
     }
 }
 
@@ -46,7 +58,7 @@ impl fmt::Display for Avp {
 }
 
 /// As `{ 264 -M- 612e6578616d706c65; 296 -M- 6578616d706c65; }`.
-impl fmt::Display for AvpList {
+impl fmt::Display for Listed<Avp> {
     ghost output = { λ avps. Some (list_text avps) };
 
     fn fmt<W: fmt::Write>(&self, f: &mut fmt::Formatter<W>) -> fmt::Result {
@@ -95,11 +107,12 @@ impl fmt::Display for VendorText {
     }
 }
 
-/// The data of an AVP, or `-` where there is none.
-#[derive(Clone, Copy)]
-struct DataText<'a>(&'a [u8]);
+/// Octets as text: the data of an AVP.
+#[derive(Clone, Copy, Debug)]
+pub struct Data<'a>(pub &'a [u8]);
 
-impl fmt::Display for DataText<'_> {
+/// In lower case hexadecimal, or `-` where there is none.
+impl fmt::Display for Data<'_> {
     ghost output = { λ d. Some (data_text d.0.now) };
 
     fn fmt<W: fmt::Write>(&self, f: &mut fmt::Formatter<W>) -> fmt::Result {

@@ -1,14 +1,15 @@
 //! AVPs and headers to octets (RFC 6733, 3 and 4.1).
-ghost use Rattle.std.specs.Prelude.{◌≡◌, ◌^◌, ◌<◌, ◌≤◌, ◌++◌, ◌∷◌, OnOk, IfSome, IfNone};
+ghost use Rattle.std.specs.Prelude.{◌≡◌, ◌⊎◌, ◌↔◌, ◌^◌, ◌<◌, ◌++◌, ◌∷◌, OnOk, IfErr, IsErrOf, IfSome, IfNone};
 ghost use Rattle.dm_wire.specs.Spelling.{be, avp_length, vendor_octets, SpellsList, SpellsHeader};
 ghost use Rattle.dm_wire.specs.Borrowed.{avp_of};
 ghost use Rattle.dm_wire.specs.Canonical.{worth, avp_flags, zeros, canonical_avp, canonical_list};
 ghost use Rattle.dm_wire.specs.Canonical.{header_flags, canonical_header};
-ghost use Rattle.dm_wire.specs.Codes.{max_command, max_message_len};
+ghost use Rattle.dm_wire.specs.Codes.{max_command, max_avp_len, max_message_len};
+ghost use Rattle.dm_wire.specs.declared.fault.WireFault.{WireFault};
 
-use crate::codes::limits::MAX_COMMAND;
+use crate::codes::limits::{MAX_AVP_LEN, MAX_COMMAND, MAX_MESSAGE_LEN};
 use crate::size::header_len;
-use crate::{Avp, AvpRef, Header};
+use crate::{Avp, AvpRef, Header, WireFault};
 use byteorder::{BigEndian, ByteOrder};
 use std::alloc::AllocError;
 
@@ -67,19 +68,38 @@ fn put_padding(out: &mut Vec<u8>, length: usize) -> Result<(), AllocError>
     Ok(())
 }
 
-/// The AVP, appended with zero padding and zero reserved bits (RFC 6733, 4.1), or want of memory. It takes
-/// `AvpRef::padded_len` octets of room.
+/// The AVP, whose Length this is and fits its field, appended.
 #[inline(always)]
-pub fn put_avp(out: &mut Vec<u8>, avp: AvpRef<'_>) -> Result<(), AllocError>
-    requires { avp_length (avp_of avp) < 256 ^ 3 }
+fn put_fitting(out: &mut Vec<u8>, avp: AvpRef<'_>, length: usize) -> Result<(), AllocError>
+    requires length { length ≡ avp_length (avp_of avp) }
+    requires fits { avp_length (avp_of avp) < 256 ^ 3 }
     ensures { OnOk result (out.new.items ≡ out.old.items ++ canonical_avp (avp_of avp.entry)) }
 {
-    let length = header_len(avp.vendor) + avp.bytes.len();
     let header = avp_header(avp, length as u32);
     out.extend_from_slice(&header)?;
     put_vendor(out, avp.vendor)?;
     out.extend_from_slice(avp.bytes)?;
     put_padding(out, length)?;
+    Ok(())
+}
+
+/// The AVP, appended with zero padding and zero reserved bits (RFC 6733, 4.1). It takes `AvpRef::padded_len` octets of
+/// room.
+///
+/// Refuses with `TooLong` where the AVP Length would pass 16777215, whatever memory there is, and appends nothing then;
+/// else with `NoMemory`.
+#[inline(always)]
+pub fn put_avp(out: &mut Vec<u8>, avp: AvpRef<'_>) -> Result<(), WireFault>
+    ensures put { OnOk result (out.new.items ≡ out.old.items ++ canonical_avp (avp_of avp.entry)) }
+    ensures long { IsErrOf result WireFault.TooLong ↔ (max_avp_len < avp_length (avp_of avp.entry)) }
+    ensures unchanged { IsErrOf result WireFault.TooLong → out.new.items ≡ out.old.items }
+    ensures fault { IfErr result (λ fault. (fault ≡ WireFault.TooLong) ⊎ (fault ≡ WireFault.NoMemory)) }
+{
+    let length = header_len(avp.vendor) + avp.bytes.len();
+    if length > MAX_AVP_LEN as usize {
+        return Err(WireFault::TooLong);
+    }
+    put_fitting(out, avp, length)?;
     Ok(())
 }
 
@@ -90,7 +110,8 @@ pub(crate) fn put_list(out: &mut Vec<u8>, avps: &[Avp]) -> Result<(), AllocError
 {
     let mut left = avps;
     while let [avp, rest @ ..] = left {
-        put_avp(out, avp.borrowed())?;
+        let avp = avp.borrowed();
+        put_fitting(out, avp, header_len(avp.vendor) + avp.bytes.len())?;
         left = rest;
     }
     Ok(())
@@ -107,14 +128,13 @@ fn header_flag_octet(header: Header) -> u8
 }
 
 /// The header of a message of this many octets, with zero reserved bits (RFC 6733, 3). `None` where the Command Code
-/// doesn't fit. It takes no memory.
+/// is above 16777215 or the Message Length above 16777212.
 pub fn header_octets(header: Header, size: u32) -> Option<[u8; 20]>
-    requires { size ≤ max_message_len }
     ensures octets { IfSome result (λ octets. octets ≡ canonical_header header size) }
     ensures spelled { IfSome result (λ octets. SpellsHeader header size octets) }
-    ensures none { IfNone result (max_command < header.command) }
+    ensures none { IfNone result ((max_command < header.command) ⊎ (max_message_len < size)) }
 {
-    if header.command > MAX_COMMAND {
+    if header.command > MAX_COMMAND || size > MAX_MESSAGE_LEN {
         return None;
     }
     let mut octets = [0; 20];

@@ -9,8 +9,8 @@ use crate::front::{avp_of_extent, first_extent};
 use crate::{AvpRef, Header, WireFault};
 use byteorder::{BigEndian, ByteOrder};
 
-/// The AVP at the front, and how many octets it takes, padding included; `None` where no AVP begins
-/// there. It takes no memory.
+/// The AVP at the front, and how many octets it takes, padding included; `None` where no AVP begins there. It never
+/// answers want of memory.
 ///
 /// ```text
 ///  0                   1                   2                   3

@@ -10,8 +10,8 @@ use crate::codes::limits::MAX_AVP_LEN;
 use crate::{Avp, AvpRef};
 
 impl Avp {
-    /// The AVP Length: the octets of header and data, without padding (RFC 6733, 4.1). `None` where
-    /// it would pass 16777215, the greatest that its field holds. It takes no memory.
+    /// The AVP Length: the octets of header and data, without padding (RFC 6733, 4.1). `None` where it would pass
+    /// 16777215, the greatest that its field holds. It never answers want of memory.
     pub fn wire_len(&self) -> Option<u32>
         ensures some { IfSome result (λ n. (n ≡ avp_length self.now) × (n ≤ max_avp_len)) }
         ensures none { IfNone result (IsLongAvp self.now) }
@@ -25,7 +25,7 @@ impl Avp {
 }
 
 impl AvpRef<'_> {
-    /// The octets that the AVP takes: header, data and padding (RFC 6733, 4.1). It takes no memory.
+    /// The octets that the AVP takes: header, data and padding (RFC 6733, 4.1). It never answers want of memory.
     #[tactic(auto, using(crate::proofs::Canonicals::canonical_size))]
     pub fn padded_len(&self) -> usize
         ensures { result ≡ length (canonical_avp (avp_of self.now)) }

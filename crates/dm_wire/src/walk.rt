@@ -10,7 +10,7 @@ use crate::AvpRef;
 use crate::read::first_avp;
 use std::marker::Model;
 
-/// A walk over octets, one AVP at a time (RFC 6733, 4.1). It takes no memory.
+/// A walk over octets, one AVP at a time (RFC 6733, 4.1). It never answers want of memory.
 ///
 /// A contract sees it as the octets that it has not passed, their offset and whether it has met a bad AVP.
 #[derive(Debug, Drop)]
@@ -72,7 +72,7 @@ impl<'a> Iterator for AvpWalk<'a> {
     }
 }
 
-/// Whether the octets are AVPs, one after the other; else the first bad octet. It takes no memory.
+/// Whether the octets are AVPs, one after the other; else the first bad octet. It never answers want of memory.
 pub(crate) fn walk_avps(octets: &[u8]) -> Result<(), usize>
     ensures list { OnOk result ((l : List Avp) × SpellsList l octets.now) }
     ensures some { OnOk result (is_some (members octets.now) ≡ true) }

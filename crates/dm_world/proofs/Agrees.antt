@@ -2,7 +2,7 @@
 use Rattle.std.proofs.Common.{◌≡◌, ℕ, ◌==◌, Bool, true, false, ◌&&◌, if◌then◌else◌, Option, Some, None, List}
 use Rattle.std.proofs.Common.{slice_get, refl, sym, ap, subst, ◌∙◌, inl, inr, arith}
 use Rattle.std.specs.Prelude.{◌⊎◌, ◌↔◌, IsTrue, IfSome}
-use Rattle.std.specs.Option.{IfNone}
+use Rattle.std.specs.Option.{IfNone, option_or}
 use Rattle.std.proofs.lemmas.Bool.Decides.{nat_tests}
 use Rattle.dm_two_peers.specs.Machine.{Conn, conn, Role, Initiated, Accepted, Node, held_as, is_same_role, is_open}
 use Rattle.dm_two_peers.specs.Links.{Side, A, B, Coming, NoMark, Delivered, Mark, Link}
@@ -10,7 +10,7 @@ use Rattle.dm_two_peers.specs.Peers.{Peers}
 use Rattle.dm_two_peers.specs.Worlds.{World}
 use Rattle.dm_two_peers.specs.Happens.{own_view}
 use Rattle.dm_two_peers.specs.Agreement.{IsOpenOn, HasComingDisconnect, AreOpposite, AreParting, Agreed}
-use Rattle.dm_world.specs.Agreeing.{open_in_role, is_coming_at, are_one, are_agreed, shared, first_found, agrees}
+use Rattle.dm_world.specs.Agreeing.{open_in_role, is_coming_at, are_one, are_agreed, shared, agrees}
 use Rattle.dm_world.specs.Agreeing.{AreBothOpenOn, open_on_both}
 
 same_number : (a b : ℕ) → (a == b) ≡ true → a ≡ b
@@ -258,11 +258,11 @@ shared_none (Some x) (Some y) c h hx hy = none_if (x.0 == y.0) x y c refl h hx h
 shared_none None y c h hx hy = cc
 shared_none (Some x) None c h hx hy = cc
 
-first_none : (x y : Option Conn) → first_found x y ≡ None → (x ≡ None) × (y ≡ None)
+first_none : (x y : Option Conn) → option_or x y ≡ None → (x ≡ None) × (y ≡ None)
 first_none None y h = (refl, h)
 first_none (Some x) y h = cc
 
-first_some : (x y : Option Conn) (c : Conn) → first_found x y ≡ Some c → (x ≡ Some c) ⊎ (y ≡ Some c)
+first_some : (x y : Option Conn) (c : Conn) → option_or x y ≡ Some c → (x ≡ Some c) ⊎ (y ≡ Some c)
 first_some None y c h = inr h
 first_some (Some x) y c h = inl h
 
@@ -275,9 +275,9 @@ opens_on a b r r' c h =
 pub found_open : (a b : Node) (c : Conn) → open_on_both a b ≡ Some c → AreBothOpenOn a b c.0
 found_open a b c h =
     elim (first_some
-    (first_found (shared (open_in_role Initiated a) (open_in_role Accepted b))
+    (option_or (shared (open_in_role Initiated a) (open_in_role Accepted b))
     (shared (open_in_role Accepted a) (open_in_role Initiated b)))
-    (first_found (shared (open_in_role Initiated a) (open_in_role Initiated b))
+    (option_or (shared (open_in_role Initiated a) (open_in_role Initiated b))
     (shared (open_in_role Accepted a) (open_in_role Accepted b)))
     c h) [
       | inl g ↦

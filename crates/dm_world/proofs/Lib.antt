@@ -19,3 +19,4 @@ pub mod Anew
 pub mod Restarts
 pub mod Named
 pub mod Wants
+pub mod OffPlace

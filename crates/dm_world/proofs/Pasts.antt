@@ -1,14 +1,18 @@
 -- A world's past, and what happened in it since.
 use Rattle.std.proofs.Common.{◌≡◌, ℕ, Option, Some, None, IfSome, List, [], ◌∷◌, ◌++◌, map, refl, sym, ap, subst, ◌∙◌}
 use Rattle.std.proofs.lemmas.List.{map-append}
-use Rattle.std.specs.Prelude.{Result, Ok, Err, IfOk, OnErr}
+use Rattle.std.specs.Prelude.{◌<◌, ◌^◌, Result, Ok, Err, IfOk, OnErr, IsTrue}
 use Rattle.dm_peer.specs.declared.config.Config.{Config}
 use Rattle.dm_two_peers.specs.Links.{Side}
 use Rattle.dm_two_peers.specs.Peers.{Peers}
 use Rattle.dm_two_peers.specs.Worlds.{World, Put, After, Done, Ignored, NoLink}
 use Rattle.dm_two_peers.specs.Happens.{Happening, RunEnd, ran_on, run_from, run, happens}
+use Rattle.dm_two_peers.specs.ClosedOrOpen.{AreClosedOrOpen}
+use Rattle.dm_two_peers.specs.Quiet.{is_quiet}
 use Rattle.dm_octet_peers.specs.Carrying.{EachOctetRunDelivers}
+use Rattle.dm_octet_peers.specs.Matching.{EachOctetQuietRunIsClosedOrOpen}
 use Rattle.dm_octet_peers.specs.Octets.{octet_peers}
+use Rattle.dm_octet_peers.specs.Talking.{ArePaired}
 use Rattle.dm_world.specs.declared.fault.Effect.{Effect}
 use Rattle.dm_world.specs.declared.fault.WorldFault.{WorldFault}
 use Rattle.dm_world.specs.declared.happening.Happening as declared_happening
@@ -71,6 +75,16 @@ pub past_delivers : EachOctetRunDelivers → (a b : Config) (past : List declare
 past_delivers law a b past w is t c =
     at_end (run octet_peers (new_world a b) (map as_happening past)) (record { world = w; put = is.0 })
     (λ r. Delivers a b past r.world t c) is.1 (law a b (map as_happening past) t c)
+
+-- and where nothing is under way in it both are Closed, or both open on one link
+pub past_closed_or_open : EachOctetQuietRunIsClosedOrOpen → (a b : Config)
+    (past : List declared_happening.Happening) (w : OctetWorld) → IsPast w a b past → ArePaired a b →
+    a.first_id < 2 ^ 32 → b.first_id < 2 ^ 32 → IsTrue (is_quiet w) →
+    AreClosedOrOpen w.a.standing.core w.b.standing.core
+past_closed_or_open law a b past w is paired low_a low_b =
+    at_end (run octet_peers (new_world a b) (map as_happening past)) (record { world = w; put = is.0 })
+    (λ r. IsTrue (is_quiet r.world) → AreClosedOrOpen r.world.a.standing.core r.world.b.standing.core) is.1
+    (law a b paired low_a low_b (map as_happening past))
 
 -- a new world has no past yet
 pub new_past : (a b : Config) (w : OctetWorld) → w ≡ new_world a b → HasPast w

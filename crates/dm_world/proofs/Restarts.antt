@@ -1,7 +1,7 @@
 -- A restart goes over the links that are named and those that the peer holds, one after the other.
-use Rattle.std.proofs.Common.{◌≡◌, ℕ, ◌+◌, ◌<◌, ◌≤◌, List, length, drop, get_or, sym, ap, ◌∙◌}
+use Rattle.std.proofs.Common.{◌≡◌, ℕ, ◌+◌, ◌<◌, ◌≤◌, Option, List, ◌++◌, length, drop, get_or, sym, ap, ◌∙◌}
 use Rattle.std.proofs.lemmas.List.{drop_more, drop_all}
-use Rattle.dm_two_peers.specs.Machine.{Node}
+use Rattle.dm_two_peers.specs.Machine.{Conn, Node, Initiated, Accepted, held_as}
 use Rattle.dm_two_peers.specs.Links.{Side, A, B, Link}
 use Rattle.dm_two_peers.specs.Facts.{AreSound, IsSoundWorld}
 use Rattle.dm_two_peers.specs.Worlds.{peer_at, with_peer, change_at}
@@ -10,7 +10,7 @@ use Rattle.dm_octet_peers.specs.Octets.{octet_peers}
 use Rattle.dm_world.specs.declared.made.MadeEnds.{MadeEnds}
 use Rattle.dm_world.specs.declared.net.Net.{Net}
 use Rattle.dm_world.specs.Asking.{peer_of, with_peer_of, reset_of}
-use Rattle.dm_world.specs.Ends.{ends_of, NamesFresh, AreNamed, restart_each, held_numbers}
+use Rattle.dm_world.specs.Ends.{ends_of, NamesFresh, AreNamed, restart_each, numbers, held_numbers}
 use Rattle.dm_world.specs.Seen.{as_links, restart_link}
 use Rattle.dm_world.specs.Views.{as_world}
 use Rattle.dm_world.proofs.Anew.{each_append, restarts_all, from_other_side}
@@ -35,6 +35,15 @@ all_restarted s n m cs ls first done sound named named_done held_done =
     ∙ ap (λ ls. restart_each s (held_numbers n) ls) named_done
     ∙ sym (each_append s cs (held_numbers n) ls)
     ∙ restarts_all s n m cs ls sound named
+
+-- the two links that a peer holds
+pub held_restarted : (s : Side) (n : Node) (i r : Option Conn) (first then done : List (Link (List ℕ))) →
+    i ≡ held_as Initiated n.held → r ≡ held_as Accepted n.held → then ≡ restart_each s (numbers i) first →
+    done ≡ restart_each s (numbers r) then → done ≡ restart_each s (held_numbers n) first
+held_restarted s n i r first then done is_i is_r to_i to_r =
+    to_r ∙ ap (λ ls. restart_each s (numbers r) ls) to_i ∙ sym (each_append s (numbers i) (numbers r) first)
+    ∙ ap (λ o. restart_each s (numbers o ++ numbers r) first) is_i
+    ∙ ap (λ o. restart_each s (numbers (held_as Initiated n.held) ++ numbers o) first) is_r
 
 world_of : (s : Side) (old new : Net) (links : List (Link (List ℕ))) →
     new.pair ≡ with_peer_of s (reset_of (peer_of s old.pair)) old.pair → as_links new.links.items ≡ links →

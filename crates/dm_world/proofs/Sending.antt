@@ -9,7 +9,7 @@ use Rattle.dm_machine.specs.Moves.{outcome}
 use Rattle.dm_machine.specs.Moves as moves
 use Rattle.dm_machine.specs.Connection as machine
 use Rattle.dm_machine.specs.Connection.{Hold, AtConnection, if_ordered, order_to, with_order, orders_to, hold_of}
-use Rattle.dm_machine.specs.Openings.{LeavesOthersAlone, is_hold, is_named}
+use Rattle.dm_machine.specs.Openings.{LeavesOthersAlone, is_hold, names_it}
 use Rattle.dm_machine.specs.Shape.{KeepsShape}
 use Rattle.dm_peer.specs.declared.actions.Action as declared_action
 use Rattle.dm_peer.specs.declared.peer.Peer.{Peer}
@@ -71,12 +71,12 @@ unheld_is machine.ClosingAsR e = cc
 
 -- what an event doesn't concern it doesn't name
 unless_named : (b : Bool) (k : Concern) (told : machine.Concern) → (k ≡ Elsewhere → ⊥) →
-    (if b then k else Elsewhere) ≡ Elsewhere → not (is_named (machine.if_named b told)) ≡ true
+    (if b then k else Elsewhere) ≡ Elsewhere → not (names_it (machine.if_named b told)) ≡ true
 unless_named true k told other e = absurd (other e)
 unless_named false k told other e = refl
 
 elsewhere_is : (e : Event (List ℕ)) (w : Word) (c : Conn) → concern_by e c ≡ Elsewhere →
-    not (is_named (machine.concern_of (input_told e w) c)) ≡ true
+    not (names_it (machine.concern_of (input_told e w) c)) ≡ true
 elsewhere_is (Start d) w c e = unless_named (d.0 == c.0) StartsIt machine.StartsIt (λ k. cc) e
 elsewhere_is (Stop cause) w c e = refl
 elsewhere_is Timeout w c e = refl
@@ -92,7 +92,7 @@ both_true true b h g = g
 both_true false b h g = cc
 
 abbrev Alone : machine.Concern → Hold → Hold → List machine.Order → Type 0
-Alone k before after orders = IsTrue (is_hold machine.NotHeld before && not (is_named k)) →
+Alone k before after orders = IsTrue (is_hold machine.NotHeld before && not (names_it k)) →
     (after ≡ machine.NotHeld) × (orders ≡ [])
 
 step_unsent : (p next : Peer) (e : Event (List ℕ)) (actions : List declared_action.Action) (c : ℕ) → LeavesOthersAlone →
@@ -105,9 +105,9 @@ step_unsent p next e actions c law shaped step unheld elsewhere =
     (law p.standing.core step.input step.wins (conn c) shaped) in
     let orders =
     (at (both_true (is_hold machine.NotHeld (hold_of p.standing.core (conn c)))
-    (not (is_named (machine.concern_of step.input (conn c))))
+    (not (names_it (machine.concern_of step.input (conn c))))
     (unheld_is (hold_of p.standing.core (conn c)) unheld)
-    (ap (λ i. not (is_named (machine.concern_of i (conn c)))) step.told
+    (ap (λ i. not (names_it (machine.concern_of i (conn c)))) step.told
     ∙ elsewhere_is e step.word (conn c) elsewhere))).1 in
     ap (λ (os : List Deed). sends_at c os) step.deeds ∙ unordered c step.commands orders
 

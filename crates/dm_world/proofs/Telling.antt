@@ -19,7 +19,7 @@ use Rattle.dm_world.specs.declared.fault.Effect.TheVariants as effect
 use Rattle.dm_world.specs.declared.net.Net.{Net}
 use Rattle.dm_world.specs.declared.pair.Pair.{Pair}
 use Rattle.dm_world.specs.Asking.{peer_of, IsAnswerOf}
-use Rattle.dm_peer.specs.Octets.{AreOctets}
+use Rattle.dm_wire.specs.Octets.{AreOctets}
 use Rattle.dm_octet_peers.specs.Frames.{submitted_in, OctetsAreFrames}
 use Rattle.dm_octet_peers.specs.Octets.{as_cause, of_cause, of_event, as_event, as_actions, as_reply, octet_peers}
 use Rattle.dm_world.specs.declared.link.Link as declared_link

@@ -1,5 +1,6 @@
 -- What two sides are open on, as it is looked up.
 use Rattle.std.specs.Prelude.{ℕ, Bool, true, false, ◌&&◌, ◌==◌, if◌then◌else◌, Option, Some, None, List, slice_get}
+use Rattle.std.specs.Option.{option_or}
 use Rattle.dm_peer.specs.declared.peer.Peer.{Peer}
 use Rattle.dm_two_peers.specs.Worlds.{World}
 use Rattle.dm_two_peers.specs.Machine.{Conn, Role, Initiated, Accepted, Node, held_as, is_open}
@@ -33,10 +34,6 @@ abbrev pub shared : Option Conn → Option Conn → Option Conn
 shared (Some c) (Some d) = if c.0 == d.0 then Some c else None
 shared _ _ = None
 
-abbrev pub first_found : Option Conn → Option Conn → Option Conn
-first_found None d = d
-first_found (Some c) d = Some c
-
 -- both nodes are open on a connection, in some roles
 pub record AreBothOpenOn (a b : Node) (c : ℕ) : Type 0 where
   pub role_a : Role
@@ -61,9 +58,9 @@ is_agreed w = agrees w.a.standing.core w.b.standing.core w.links
 -- the connection that two nodes are both open on
 abbrev pub open_on_both : Node → Node → Option Conn
 open_on_both a b =
-    first_found (first_found (shared (open_in_role Initiated a) (open_in_role Accepted b))
+    option_or (option_or (shared (open_in_role Initiated a) (open_in_role Accepted b))
     (shared (open_in_role Accepted a) (open_in_role Initiated b)))
-    (first_found (shared (open_in_role Initiated a) (open_in_role Initiated b))
+    (option_or (shared (open_in_role Initiated a) (open_in_role Initiated b))
     (shared (open_in_role Accepted a) (open_in_role Accepted b)))
 
 abbrev pub open_link : World Peer (List ℕ) → Option Conn

@@ -3,7 +3,10 @@ use Rattle.std.specs.Prelude.{ℕ, Bool, true, false, not, ◌&&◌, ◌||◌, n
 use Rattle.dm_peer.specs.declared.peer.Peer.{Peer}
 use Rattle.dm_two_peers.specs.Facts.{is_pending, is_shut}
 use Rattle.dm_two_peers.specs.Links.{Side, Link}
-use Rattle.dm_two_peers.specs.Worlds.{World}
+use Rattle.dm_two_peers.specs.Worlds.{World, peer_at}
+use Rattle.dm_machine.specs.Moves.{is_open}
+use Rattle.dm_machine.specs.declared.state_name.State.{State}
+use Rattle.dm_world.specs.InPlace.{is_closed_state}
 use Rattle.dm_two_peers.specs.Happens.{own_view, Happening, Starts, Stops, TimesOut, Ticks, Restarts, Acks, Nacks}
 use Rattle.dm_two_peers.specs.Happens.{Delivers, Pieces, Loses, Submits}
 use Rattle.dm_world.specs.declared.happening.Happening as declared_happening
@@ -54,8 +57,16 @@ is_fed_at s k None = false
 is_fed_at s k (Some l) =
     is_message (next_to s l) && (not (is_deaf s l) || nat_lt k (octets_to_come_to s l)) && nat_lt 0 k
 
--- memory may be wanted: never where the link isn't there, or nothing of it comes
+-- the state of a side's peer
+abbrev pub state_at : Side → World Peer (List ℕ) → State
+state_at s w = (peer_at s w).standing.core.state
+
+-- memory may be wanted: never by a Start outside Closed, by a Stop or a Submit where it isn't open, where the link isn't
+-- there, or nothing of it comes
 abbrev pub may_want : World Peer (List ℕ) → declared_happening.Happening → Bool
+may_want w (happening.Start s) = is_closed_state (state_at (as_side s) w)
+may_want w (happening.Stop s cause) = is_open (state_at (as_side s) w)
+may_want w (happening.Submit s octets) = is_open (state_at (as_side s) w)
 may_want w (happening.Timeout s) = false
 may_want w (happening.Restart s) = false
 may_want w (happening.Lose c a b) = false
@@ -63,4 +74,4 @@ may_want w (happening.Ack c) = is_pending_at (slice_get w.links c.0)
 may_want w (happening.Nack c) = is_pending_at (slice_get w.links c.0)
 may_want w (happening.Deliver c s) = is_heard_at (as_side s) (slice_get w.links c.0)
 may_want w (happening.Piece c s k) = is_fed_at (as_side s) k (slice_get w.links c.0)
-may_want w _ = true
+may_want w (happening.Tick s) = true

@@ -2,7 +2,7 @@
 ghost use Rattle.std.specs.Prelude.{◌≡◌, ℕ, IfSome};
 ghost use Rattle.std.specs.Option.{IfNone};
 ghost use Rattle.dm_two_peers.specs.Machine.{Initiated, Accepted};
-ghost use Rattle.dm_world.specs.Agreeing.{open_in_role, are_one, are_agreed, shared, first_found, agrees};
+ghost use Rattle.dm_world.specs.Agreeing.{open_in_role, are_one, are_agreed, shared, agrees};
 ghost use Rattle.dm_world.specs.Agreeing.{open_on_both, AreBothOpenOn};
 ghost use Rattle.dm_world.specs.Seen.{as_links};
 
@@ -53,25 +53,15 @@ pub(crate) fn shared(one: Option<Conn>, other: Option<Conn>) -> Option<Conn>
     }
 }
 
-/// What the peer is open on as the one that opened it.
-fn open_initiated(peer: &Peer) -> Option<Conn>
-    ensures { result ≡ open_in_role Initiated peer.now.standing.core }
+/// What the peer is open on as the one that opened it, and as the one that accepted it.
+fn open_in_roles(peer: &Peer) -> (Option<Conn>, Option<Conn>)
+    ensures initiated { result.0 ≡ open_in_role Initiated peer.now.standing.core }
+    ensures accepted { result.1 ≡ open_in_role Accepted peer.now.standing.core }
 {
     if peer.is_open() {
-        peer.initiated()
+        (peer.initiated(), peer.accepted())
     } else {
-        None
-    }
-}
-
-/// What the peer is open on as the one that accepted it.
-fn open_accepted(peer: &Peer) -> Option<Conn>
-    ensures { result ≡ open_in_role Accepted peer.now.standing.core }
-{
-    if peer.is_open() {
-        peer.accepted()
-    } else {
-        None
+        (None, None)
     }
 }
 
@@ -79,8 +69,8 @@ fn open_accepted(peer: &Peer) -> Option<Conn>
 pub(crate) fn agree(a: &Peer, b: &Peer, links: &[Link]) -> bool
     ensures { result ≡ agrees a.now.standing.core b.now.standing.core (as_links links.now) }
 {
-    let (initiated_a, accepted_a) = (open_initiated(a), open_accepted(a));
-    let (initiated_b, accepted_b) = (open_initiated(b), open_accepted(b));
+    let (initiated_a, accepted_a) = open_in_roles(a);
+    let (initiated_b, accepted_b) = open_in_roles(b);
     are_one(initiated_a, accepted_a)
         && are_one(initiated_b, accepted_b)
         && are_agreed(false, links, initiated_a, initiated_b)
@@ -95,27 +85,9 @@ pub(crate) fn open_on_both(a: &Peer, b: &Peer) -> Option<Conn>
     ensures found { IfSome result (λ c. AreBothOpenOn a.now.standing.core b.now.standing.core c.0) }
     ensures none { IfNone result ((c : ℕ) → AreBothOpenOn a.now.standing.core b.now.standing.core c → ⊥) }
 {
-    let (initiated_a, accepted_a) = (open_initiated(a), open_accepted(a));
-    let (initiated_b, accepted_b) = (open_initiated(b), open_accepted(b));
-    let opposite = first_found(
-        shared(initiated_a, accepted_b),
-        shared(accepted_a, initiated_b),
-    );
-    first_found(
-        opposite,
-        first_found(
-            shared(initiated_a, initiated_b),
-            shared(accepted_a, accepted_b),
-        ),
-    )
-}
-
-/// The first of the two that is there.
-fn first_found(one: Option<Conn>, other: Option<Conn>) -> Option<Conn>
-    ensures { result ≡ first_found one other }
-{
-    match one {
-        Some(conn) => Some(conn),
-        None => other,
-    }
+    let (initiated_a, accepted_a) = open_in_roles(a);
+    let (initiated_b, accepted_b) = open_in_roles(b);
+    shared(initiated_a, accepted_b)
+        .or(shared(accepted_a, initiated_b))
+        .or(shared(initiated_a, initiated_b).or(shared(accepted_a, accepted_b)))
 }

@@ -1,8 +1,10 @@
 //! One happening is one step of the world.
-ghost use Rattle.std.specs.Prelude.{◌≡◌, false, IfOk, IfErr, OnErr, slice_get};
+ghost use Rattle.std.specs.Prelude.{◌≡◌, true, false, IfOk, IfErr, OnErr, slice_get};
 ghost use Rattle.dm_two_peers.specs.Facts.{IsSoundWorld};
 ghost use Rattle.dm_two_peers.specs.Happens.{happens, Nacks, Loses, Submits};
 ghost use Rattle.dm_octet_peers.specs.Octets.{octet_peers};
+ghost use Rattle.dm_machine.specs.Moves.{is_open};
+ghost use Rattle.dm_world.specs.Asking.{peer_of};
 ghost use Rattle.dm_world.specs.Ends.{AreNamed, AreSameEnds, AreEndsAfter};
 ghost use Rattle.dm_world.specs.Happening.{as_happening, is_pending_at, may_want};
 ghost use Rattle.dm_world.specs.Seen.{as_links, as_side};
@@ -55,6 +57,7 @@ impl Net {
         ensures step { IfOk result (λ effect. Effects effect
             (happens octet_peers (as_world self.old) (Submits (as_side side) octets.now)) (as_world self.old)
             (as_world self.new)) }
+        ensures want { OnErr result (is_open (peer_of (as_side side) self.old.pair).standing.core.state ≡ true) }
         ensures unchanged { OnErr result (as_world self.new ≡ as_world self.old) }
     {
         self.tell(alloc, side, Event::Submit(octets), None)

@@ -134,7 +134,7 @@ impl Net {
         match link.next(side) {
             Next::Disconnect | Next::Nothing => Ok(Effect::Ignored),
             Next::Message => {
-                if link.to_come(side) <= count as usize {
+                if link.incoming(side).to_come() <= count as usize {
                     return Ok(self.message_comes(alloc, side, index)?);
                 }
                 self.links[index].take(side, count as usize)?;

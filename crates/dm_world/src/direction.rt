@@ -21,7 +21,7 @@ use std::collections::VecDeque;
 use std::marker::Model;
 
 /// Whether a disconnect is in a direction.
-#[derive(Clone, Copy, Debug)]
+#[derive(Clone, Copy)]
 pub(crate) enum Mark {
     /// None is in.
     Absent,
@@ -47,7 +47,7 @@ const GREATEST: u32 = 16777212;
 
 /// One direction of a link: the messages as they were sent, and a framer with the octets of the front one that were
 /// delivered, so many.
-#[derive(Debug, Drop)]
+#[derive(Drop)]
 pub(crate) struct Direction {
     queue: VecDeque<Octets>,
     framer: Framer,
@@ -74,7 +74,7 @@ impl Model for Direction {
     ghost invariant = { IsFedWay };
 }
 
-/// A framer that holds nothing, for messages of any size. It takes no memory.
+/// A framer that holds nothing, for messages of any size. It never answers want of memory.
 pub(crate) fn empty_framer(alloc: Global) -> Framer
     ensures { result ≡ holding [] }
 {

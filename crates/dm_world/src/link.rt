@@ -3,7 +3,7 @@ ghost use Rattle.std.specs.Prelude.{◌≡◌, ◌+◌, ◌<◌, ◌≤◌, [], 
 ghost use Rattle.dm_framer.specs.Frames.{IsFrame};
 ghost use Rattle.dm_peer.specs.Events.{told};
 ghost use Rattle.dm_two_peers.specs.Facts.{is_pending};
-ghost use Rattle.dm_two_peers.specs.Happens.{take_part, lost_link, own_view, are_shut};
+ghost use Rattle.dm_two_peers.specs.Happens.{take_part, lost_link, own_view};
 ghost use Rattle.dm_two_peers.specs.Links.{new_link, opens, by_side};
 ghost use Rattle.dm_two_peers.specs.Machine.{AcksIt, EndsIt, HeardOnIt};
 ghost use Rattle.dm_two_peers.specs.Quiet.{is_quiet_link};
@@ -22,7 +22,7 @@ use dm_wire::Octets;
 use std::alloc::{AllocError, Global};
 
 /// How far a link has come.
-#[derive(Clone, Copy, Debug)]
+#[derive(Clone, Copy)]
 pub(crate) enum Phase {
     /// Its connect is pending.
     Pending,
@@ -33,7 +33,7 @@ pub(crate) enum Phase {
 }
 
 /// An end of a link that is up.
-#[derive(Clone, Copy, Debug)]
+#[derive(Clone, Copy)]
 pub(crate) enum End {
     /// No message came yet.
     Fresh,
@@ -44,7 +44,7 @@ pub(crate) enum End {
 }
 
 /// A link: its two ends, the end of its opener and the other one, and a direction to each.
-#[derive(Debug, Drop)]
+#[derive(Drop)]
 pub(crate) struct Link {
     pub(crate) opener: Side,
     pub(crate) phase: Phase,
@@ -147,13 +147,6 @@ impl Link {
         } else {
             &self.to_other
         }
-    }
-
-    /// How many octets of the front message are still to come to the side; 0 where there is none.
-    pub(crate) fn to_come(&self, side: Side) -> usize
-        ensures { result ≡ octets_to_come_to (as_side side) (as_link self.now) }
-    {
-        self.incoming(side).to_come()
     }
 
     /// So many octets of the front message come to the side, and not its last. Where memory is wanted, nothing changes.
@@ -279,16 +272,6 @@ impl Link {
         }
     }
 
-    /// Whether both ends are shut.
-    pub(crate) fn is_shut(&self) -> bool
-        ensures { result ≡ are_shut (as_end self.now.opener_end) (as_end self.now.other_end) }
-    {
-        match (self.opener_end, self.other_end) {
-            (End::Shut, End::Shut) => true,
-            _ => false,
-        }
-    }
-
     /// Whether nothing is under way: the link isn't pending, and both directions are still.
     pub(crate) fn is_quiet(&self) -> bool
         ensures { result ≡ is_quiet_link (as_link self.now) }
@@ -313,8 +296,9 @@ impl Link {
     pub(crate) fn is_past_loss(&self) -> bool
         ensures { result ≡ is_past_loss (as_link self.now) }
     {
-        match self.phase {
-            Phase::Up => self.is_shut(),
+        match (self.phase, self.opener_end, self.other_end) {
+            (Phase::Up, End::Fresh | End::Open, _) | (Phase::Up, _, End::Fresh | End::Open) =>
+                false,
             _ => true,
         }
     }

@@ -1,33 +1,21 @@
 //! The ends that were made for each side.
-ghost use Rattle.std.specs.Prelude.{◌≡◌, ◌<◌, [], ◌∷◌, ◌++◌, OnOk, vec_len, vec_capacity};
+ghost use Rattle.std.specs.Prelude.{◌≡◌, [], ◌∷◌, ◌++◌, OnOk};
 ghost use Rattle.dm_two_peers.specs.Links.{flip, Side as LinkSide};
 ghost use Rattle.dm_world.specs.Ends.{ends_of, AreSameEnds, HasRoomForEnd};
 ghost use Rattle.dm_world.specs.Seen.{as_side};
 
 use crate::Side;
-use dm_dict::NoMemory;
-use std::alloc::Global;
+use std::alloc::{AllocError, Global};
 
 /// For each side the links, by number, on which an end was made for it since it last started anew.
-#[derive(Debug, Drop)]
+#[derive(Drop)]
 pub(crate) struct MadeEnds {
     of_a: Vec<usize>,
     of_b: Vec<usize>,
 }
 
-/// Room for one more in the list.
-fn reserve_one(list: &mut Vec<usize>) -> Result<(), NoMemory>
-    ensures same { list.new.items ≡ list.old.items }
-    ensures room { OnOk result (vec_len list.new < vec_capacity list.new) }
-{
-    match list.reserve(1) {
-        Ok(()) => Ok(()),
-        Err(_) => Err(NoMemory),
-    }
-}
-
 impl MadeEnds {
-    /// None for either side. It takes no memory.
+    /// None for either side. It never answers want of memory.
     pub(crate) fn new(alloc: Global) -> MadeEnds
         ensures { (s : LinkSide) → ends_of s result ≡ [] }
     {
@@ -48,13 +36,13 @@ impl MadeEnds {
     }
 
     /// Room for one more of the side.
-    pub(crate) fn reserve(&mut self, side: Side) -> Result<(), NoMemory>
+    pub(crate) fn reserve(&mut self, side: Side) -> Result<(), AllocError>
         ensures same { AreSameEnds self.old self.new }
         ensures room { OnOk result (HasRoomForEnd (as_side side) self.new) }
     {
         match side {
-            Side::A => reserve_one(&mut self.of_a),
-            Side::B => reserve_one(&mut self.of_b),
+            Side::A => self.of_a.reserve(1),
+            Side::B => self.of_b.reserve(1),
         }
     }
 

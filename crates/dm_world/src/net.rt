@@ -1,26 +1,23 @@
 //! Two peers and the links between them, and what each event of a side does to them.
-ghost use Rattle.std.specs.Prelude.{◌≡◌, ◌<◌, ◌↔◌, IsTrue, IfOk, IfErr, IfSome, OnErr, None, false, length, slice_get};
+ghost use Rattle.std.specs.Prelude.{◌≡◌, ◌<◌, IfOk, IfErr, IfSome, OnErr, None, true, false, length, slice_get};
 ghost use Rattle.dm_peer.specs.Events.{told};
-ghost use Rattle.dm_two_peers.specs.Agreement.{Agreed};
-ghost use Rattle.dm_two_peers.specs.Quiet.{is_quiet};
 ghost use Rattle.dm_two_peers.specs.Worlds as worlds;
-ghost use Rattle.dm_peer.specs.Octets.{AreOctets};
+ghost use Rattle.dm_wire.specs.Octets.{AreOctets};
 ghost use Rattle.dm_octet_peers.specs.Frames.{submitted_in};
 ghost use Rattle.dm_octet_peers.specs.Octets.{as_event, octet_peers};
 ghost use Rattle.dm_world.specs.declared.fault.WorldFault.{WorldFault};
-ghost use Rattle.dm_world.specs.Agreeing.{is_agreed};
-ghost use Rattle.dm_world.specs.Asking.{IsAnswerOf};
+ghost use Rattle.dm_world.specs.Asking.{peer_of, IsAnswerOf};
+ghost use Rattle.dm_world.specs.InPlace.{is_in_place};
 ghost use Rattle.dm_world.specs.Rooms.{CanSend};
 ghost use Rattle.dm_world.specs.Seen.{as_side, as_links};
 ghost use Rattle.dm_world.specs.Telling.{is_start, FramerFits};
 ghost use Rattle.dm_world.specs.Views.{as_world, Effects};
 
-use crate::agreement::agree;
 use crate::following::{follow, named};
 use crate::link::Link;
 use crate::pair::Pair;
 use crate::rooms::make_room;
-use crate::{Effect, Side, WorldFault, links};
+use crate::{Effect, Side, WorldFault};
 use dm_dict::NoMemory;
 use dm_framer::Framer;
 use dm_machine::laws::{each_opening_has_its_message, each_step_keeps_shape};
@@ -29,7 +26,7 @@ use dm_peer::{Actions, Conn, Event};
 use std::alloc::Global;
 
 /// Two peers and the links between them.
-#[derive(Debug, Drop)]
+#[derive(Drop)]
 pub(crate) struct Net {
     pub(crate) pair: Pair,
     pub(crate) links: Vec<Link>,
@@ -63,12 +60,17 @@ impl Net {
             IsAnswerOf (as_side side) (told event.entry) answer self.old.pair self.new.pair) }
         ensures sends { IfOk result (λ answer. IfSome answer (λ actions.
             CanSend (as_side side) self.new.links.items actions.items)) }
+        ensures want { OnErr result (is_in_place (peer_of (as_side side) self.old.pair).standing.core.state
+            (told event.entry) ≡ true) }
         ensures unchanged { OnErr result (self.new.pair ≡ self.old.pair) }
     {
         octets_are_a_machine();
         octets_are_frames();
         each_opening_has_its_message();
         each_step_keeps_shape();
+        if !self.pair.takes(side, event) {
+            return Ok(None);
+        }
         make_room(&mut self.links, side, self.pair.of(side), named(event))?;
         self.pair.ask(alloc, side, event)
     }
@@ -88,6 +90,8 @@ impl Net {
         ensures step { IfOk result (λ effect. Effects effect
             (worlds.tell octet_peers (as_side side) (as_event (told event.entry)) (as_world self.old))
             (as_world self.old) (as_world self.new)) }
+        ensures want { OnErr result (is_in_place (peer_of (as_side side) self.old.pair).standing.core.state
+            (told event.entry) ≡ true) }
         ensures unchanged { OnErr result (as_world self.new ≡ as_world self.old) }
     {
         match self.ask(alloc, side, event) {
@@ -99,20 +103,5 @@ impl Net {
             Ok(None) => Ok(Effect::Ignored),
             Err(no_memory) => Err(no_memory),
         }
-    }
-
-    /// Whether the two peers agree.
-    pub(crate) fn agreed(&self) -> bool
-        ensures value { result ≡ is_agreed (as_world self.now) }
-        ensures meaning { IsTrue result ↔ Agreed octet_peers (as_world self.now) }
-    {
-        agree(&self.pair.a, &self.pair.b, self.links.as_slice())
-    }
-
-    /// Whether nothing is under way.
-    pub(crate) fn quiet(&self) -> bool
-        ensures { result ≡ is_quiet (as_world self.now) }
-    {
-        links::are_quiet(self.links.as_slice())
     }
 }

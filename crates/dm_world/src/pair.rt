@@ -1,20 +1,22 @@
 //! The two peers of a world.
-ghost use Rattle.std.specs.Prelude.{◌≡◌, IsTrue, IfOk, OnErr};
+ghost use Rattle.std.specs.Prelude.{◌≡◌, false, None, IsTrue, IfOk, OnErr};
 ghost use Rattle.dm_machine.specs.Node.{is_shaped};
 ghost use Rattle.dm_two_peers.specs.Machine.{is_held, tie_of};
 ghost use Rattle.dm_peer.specs.Acts.{acts};
 ghost use Rattle.dm_peer.specs.Events.{told};
+ghost use Rattle.dm_world.specs.InPlace.{is_in_place};
 ghost use Rattle.dm_world.specs.Asking.{peer_of, with_peer_of, reset_of, IsAnswer, IsAnswerOf, IsWant};
-ghost use Rattle.dm_world.specs.Rooms.{is_conn, holds_link};
+ghost use Rattle.dm_world.specs.Rooms.{is_conn};
 ghost use Rattle.dm_world.specs.Seen.{as_side};
 
 use crate::Side;
 use dm_dict::NoMemory;
-use dm_peer::{Actions, Conn, Event, Peer, PeerFault};
+use dm_peer::laws::refusals_go_by_rule;
+use dm_peer::{Actions, Conn, Event, Peer, PeerFault, State};
 use std::alloc::Global;
 
 /// The two peers of a world.
-#[derive(Debug, Drop)]
+#[derive(Drop)]
 pub(crate) struct Pair {
     pub(crate) a: Peer,
     pub(crate) b: Peer,
@@ -45,19 +47,29 @@ fn is_conn(held: Option<Conn>, conn: Conn) -> bool
     }
 }
 
-/// Whether the connection is one that the peer opened or accepted.
-fn is_of(peer: &Peer, conn: Conn) -> bool
-    ensures { result ≡ holds_link peer.now.standing.core conn.0 }
-{
-    is_conn(peer.initiated(), conn) || is_conn(peer.accepted(), conn)
-}
-
 /// Whether the peer holds the connection.
 pub(crate) fn holds(peer: &Peer, conn: Conn) -> bool
     ensures { result ≡ is_held (tie_of peer.now.standing.core conn.0) }
 {
     let _shaped = peer.state();
-    is_of(peer, conn)
+    is_conn(peer.initiated(), conn) || is_conn(peer.accepted(), conn)
+}
+
+/// Whether a peer takes such an event in its state: a Start in Closed, a Stop or a Submit where it is open, all else in
+/// each.
+fn is_in_place(peer: &Peer, event: Event<'_>) -> bool
+    ensures { result ≡ is_in_place peer.now.standing.core.state (told event.entry) }
+{
+    match event {
+        Event::Start(_) => matches!(peer.state(), State::Closed),
+        Event::Stop(_) | Event::Submit(_) => peer.is_open(),
+        Event::Timeout
+        | Event::Tick
+        | Event::Ack(_)
+        | Event::Nack(_)
+        | Event::Arrived(..)
+        | Event::Gone(_) => true,
+    }
 }
 
 impl Pair {
@@ -69,6 +81,18 @@ impl Pair {
             Side::A => &self.a,
             Side::B => &self.b,
         }
+    }
+
+    /// Whether the side's peer takes such an event in its state. Where it doesn't, it refuses the event.
+    #[tactic(auto, using(crate::proofs::OffPlace::off_place))]
+    pub(crate) fn takes(&self, side: Side, event: Event<'_>) -> bool
+        ensures state { result ≡ is_in_place (peer_of (as_side side) self.now).standing.core.state (told event.entry) }
+        ensures refused { result ≡ false → IsAnswerOf (as_side side) (told event.entry) None self.now self.now }
+    {
+        refusals_go_by_rule();
+        let peer = self.of(side);
+        let _shaped = peer.state();
+        is_in_place(peer, event)
     }
 
     /// What the side's peer asks for at the event. None where it refuses the event.

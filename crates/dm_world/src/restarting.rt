@@ -5,7 +5,7 @@ ghost use Rattle.dm_two_peers.specs.Happens.{happens, Acks, restart_links};
 ghost use Rattle.dm_two_peers.specs.Worlds.{with_peer, peer_at};
 ghost use Rattle.dm_octet_peers.specs.Octets.{octet_peers};
 ghost use Rattle.dm_world.specs.Asking.{reset_of};
-ghost use Rattle.dm_world.specs.Ends.{AreNamed, AreSameEnds, AreCleared, IsMade, restart_each, numbers, held_numbers};
+ghost use Rattle.dm_world.specs.Ends.{AreNamed, AreSameEnds, AreCleared, IsMade, restart_each, numbers};
 ghost use Rattle.dm_world.specs.Happening.{is_pending_at};
 ghost use Rattle.dm_world.specs.Seen.{as_side, as_links};
 ghost use Rattle.dm_world.specs.Views.{as_world, Effects, IsFault};
@@ -14,7 +14,7 @@ use crate::link::Link;
 use crate::made::MadeEnds;
 use crate::net::Net;
 use crate::{Effect, Side, WorldFault, links};
-use dm_peer::{Conn, Event, Peer};
+use dm_peer::{Conn, Event};
 use std::alloc::Global;
 
 /// The side starts anew, as far as these links go.
@@ -34,15 +34,6 @@ fn restart_on(links: &mut Vec<Link>, side: Side, conn: Option<Conn>)
         Some(conn) => links::restart_at(links, side, conn.0 as usize),
         None => {}
     }
-}
-
-/// The side starts anew, as far as the links go that its peer holds.
-fn restart_held(links: &mut Vec<Link>, side: Side, peer: &Peer)
-    ensures { as_links links.new.items ≡ restart_each (as_side side) (held_numbers peer.now.standing.core)
-        (as_links links.old.items) }
-{
-    restart_on(links, side, peer.initiated());
-    restart_on(links, side, peer.accepted());
 }
 
 impl Net {
@@ -68,7 +59,9 @@ impl Net {
             return Ok(Effect::Ignored);
         }
         let opener = link.opener;
-        made.reserve(opener.other())?;
+        if made.reserve(opener.other()).is_err() {
+            return Err(WorldFault::NoMemory);
+        }
         let effect = self.tell(alloc, opener, Event::Ack(conn), None)?;
         if let Effect::Done = effect {
             made.add(opener.other(), index);
@@ -87,7 +80,9 @@ impl Net {
         ensures cleared { AreCleared (as_side side) made.old made.new }
     {
         restart_each(&mut self.links, side, made.of(side));
-        restart_held(&mut self.links, side, self.pair.of(side));
+        let peer = self.pair.of(side);
+        restart_on(&mut self.links, side, peer.initiated());
+        restart_on(&mut self.links, side, peer.accepted());
         made.clear(side);
         self.pair.reset(side);
     }

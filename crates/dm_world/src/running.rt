@@ -1,8 +1,9 @@
 //! Happenings one after the other, and what is promised of every list of them.
-ghost use Rattle.std.specs.Prelude.{◌≡◌, ℕ, List, ◌++◌, IsTrue, IfSome, None, take, length, slice_get};
+ghost use Rattle.std.specs.Prelude.{◌≡◌, ◌<◌, ◌^◌, ℕ, List, ◌++◌, IsTrue, IfSome, None, take, length, slice_get};
 ghost use Rattle.dm_peer.specs.declared.config.Config as declared_config;
 ghost use Rattle.dm_two_peers.specs.Agreement.{Agreed, EndsAreHeld, HeldAreLinks, OpenIsMatched};
 ghost use Rattle.dm_two_peers.specs.Arriving.{HandUpWhatCame};
+ghost use Rattle.dm_two_peers.specs.ClosedOrOpen.{AreClosedOrOpen};
 ghost use Rattle.dm_two_peers.specs.Joining.{AreJoined};
 ghost use Rattle.dm_two_peers.specs.Links.{Side};
 ghost use Rattle.dm_two_peers.specs.Quiet.{is_quiet};
@@ -10,6 +11,7 @@ ghost use Rattle.dm_two_peers.specs.Sharing.{AreShared};
 ghost use Rattle.dm_two_peers.specs.Streams.{AreCut};
 ghost use Rattle.dm_octet_peers.specs.Laws.{AreClosed};
 ghost use Rattle.dm_octet_peers.specs.Octets.{octet_peers};
+ghost use Rattle.dm_octet_peers.specs.Talking.{ArePaired};
 ghost use Rattle.dm_world.specs.declared.happening.Happening as declared_happening;
 ghost use Rattle.dm_world.specs.Delivering.{IsPast, Delivers, turns_in};
 ghost use Rattle.dm_world.specs.Settling.{AreClean, EitherCanOpen};
@@ -19,9 +21,9 @@ ghost use Rattle.dm_world.specs.Views.{IsEnd};
 use crate::laws::every_world_is_kept;
 use crate::{Happening, World, WorldFault};
 use dm_octet_peers::laws::{
-    each_octet_run_can_fall_quiet, each_octet_run_delivers, each_octet_run_falls_quiet,
-    each_octet_run_hands_up_what_came, each_octet_run_settles, each_octet_world_can_open,
-    octet_quiet_is_joined,
+    each_octet_quiet_run_is_closed_or_open, each_octet_run_can_fall_quiet, each_octet_run_delivers,
+    each_octet_run_falls_quiet, each_octet_run_hands_up_what_came, each_octet_run_settles,
+    each_octet_world_can_open, octet_quiet_is_joined,
 };
 use dm_peer::Peer;
 use dm_two_peers::laws::{quiet_is_shared, sound_is_promised};
@@ -29,31 +31,40 @@ use dm_wire::Octets;
 use std::alloc::Global;
 
 impl World {
-    /// Happenings, one after the other, up to the first that isn't applied. It answers how many were, and why the next
-    /// one wasn't.
+    /// Happenings, one after the other, up to the first that isn't applied. It answers how many were (`ran`), and why
+    /// the next one wasn't (`whole`, `ended`).
     ///
     /// Whatever happens, in whatever order: neither side is open on two connections, and if both are open, it is on one
-    /// connection in opposite roles, or a disconnect is coming to each on its own. What a side holds is a link that is
-    /// up, or a pending one that it opened. Fewer octets are delivered of a front message than it has.
+    /// connection in opposite roles, or a disconnect is coming to each on its own (`agreed`). On a link that isn't
+    /// pending a side's end is open just where the side holds the link (`ends`). What a side holds is a link that is up,
+    /// or a pending one that it opened (`held`). Where a side is open on a connection, the other end is open, or a
+    /// disconnect is coming to the side (`matched`). Of a front message fewer octets are delivered than it has, and
+    /// where there is none, no octets (`cut`).
     ///
     /// Where nothing is under way, each side holds just what the other holds, and one is Closed exactly where the other
-    /// is: both are Closed, or each stands on one connection alone, the same one, in opposite roles. No run is a trap:
-    /// both sides can restart, and after some deliveries a Start of either side, the Ack and two deliveries open both.
-    /// Such a list exists, which isn't to say that peers take it by themselves.
+    /// is (`shared`): both are Closed, or each stands on one connection alone, the same one, in opposite roles
+    /// (`joined`). And then both are Closed, or both are open on it, I-Open against R-Open: none is left in Wait-I-CEA
+    /// or Closing; that is said of each past of the world from two new peers that are configured for each other
+    /// (`closed_or_open`).
+    ///
+    /// No run is a trap: there is a list of happenings, both sides' restarts and then deliveries, behind which a Start
+    /// of either side, its Ack and two deliveries open both (`can_open`). Such a list exists, which isn't to say that
+    /// peers take it by themselves.
     ///
     /// Since the world was new, losses and restarts too, what was handed up to a side on a link is a front of what the
-    /// other side submitted on it: each message once, in order, octet for octet, and nothing else. Where the side is open
-    /// on the link and the link was never lost, the rest is what is under way. Nothing is handed up but where a message
-    /// arrives, and then that message, once. It is said of each past of the world before, two new peers and the
-    /// happenings that led them to it (`laws::every_world_has_a_past`), and of what was applied here behind it.
+    /// other side submitted on it: each message once, in order, octet for octet, and nothing else; where the side is
+    /// open on the link and the link was never lost, the rest is what is under way (`delivers`). Nothing is handed up
+    /// but where a message arrives, and then that message, once (`upward`). Both are said of each past of the world
+    /// before, two new peers and the happenings that led them to it (`laws::every_world_has_a_past`), with what was
+    /// applied here behind it, which is a past of the world then (`past`).
     ///
     /// Where both were Closed with nothing under way, and only Starts, connects that come about, deliveries and pieces
-    /// happen, at most two CERs, one CEA and two disconnects are put in, on their links and in their order; and where
+    /// happen: at most two CERs, one CEA and two disconnects are put in, on their links and in their order; and where
     /// it falls quiet after a Start that was taken, all of these were put in, and both are open on the connection that
-    /// the election keeps (RFC 6733, 5.6.4). It falls quiet, in whatever order they come: it is quiet where no Ack and
-    /// no delivery is done any more, after nine steps, and after four where one side alone starts; and some Acks and
-    /// deliveries, with its own steps nine at most, bring it there. A step is what is done, but for a piece that ends
-    /// no message.
+    /// the election keeps (RFC 6733, 5.6.4) (`settled`). In whatever order they come it falls quiet: it is quiet where
+    /// no Ack and no delivery is done any more, after nine steps, and after four where one side alone starts
+    /// (`falls_quiet`). Some Acks and deliveries, with its own steps nine at most, bring it there (`can_fall_quiet`). A
+    /// step is what is done, but for a piece that ends no message.
     pub fn run(&mut self, alloc: Global, list: &[Happening]) -> (usize, Option<WorldFault>)
         ensures ran { RanTo self.old (take result.0 list.now) self.new }
         ensures agreed { Agreed octet_peers self.new }
@@ -64,6 +75,10 @@ impl World {
         ensures shared { IsTrue (is_quiet self.new) → AreShared octet_peers self.new }
         ensures joined { IsTrue (is_quiet self.new) →
             AreJoined (octet_peers.node_of self.new.a) (octet_peers.node_of self.new.b) }
+        ensures closed_or_open { (a b : declared_config.Config) (past : List declared_happening.Happening) →
+            IsPast self.old a b past → ArePaired a b → a.first_id < 2 ^ 32 → b.first_id < 2 ^ 32 →
+            IsTrue (is_quiet self.new) →
+            AreClosedOrOpen (octet_peers.node_of self.new.a) (octet_peers.node_of self.new.b) }
         ensures can_open { EitherCanOpen self.new }
         ensures past { (a b : declared_config.Config) (past : List declared_happening.Happening) →
             IsPast self.old a b past → IsPast self.new a b (past ++ take result.0 list.now) }
@@ -89,6 +104,7 @@ impl World {
         each_octet_run_falls_quiet();
         each_octet_run_can_fall_quiet();
         octet_quiet_is_joined();
+        each_octet_quiet_run_is_closed_or_open();
         each_octet_world_can_open();
         every_world_is_kept(self);
         let ended = self.apply_each(alloc, list);

@@ -1,7 +1,9 @@
 //! What brings no message: a Start and a Timeout of a side.
-ghost use Rattle.std.specs.Prelude.{◌≡◌, IfOk, OnErr};
+ghost use Rattle.std.specs.Prelude.{◌≡◌, true, IfOk, OnErr};
 ghost use Rattle.dm_two_peers.specs.Happens.{happens, Starts, TimesOut};
 ghost use Rattle.dm_octet_peers.specs.Octets.{octet_peers};
+ghost use Rattle.dm_world.specs.Asking.{peer_of};
+ghost use Rattle.dm_world.specs.InPlace.{is_closed_state};
 ghost use Rattle.dm_world.specs.Seen.{as_side};
 ghost use Rattle.dm_world.specs.Views.{as_world, Effects};
 
@@ -20,14 +22,18 @@ impl Net {
     pub(crate) fn start(&mut self, alloc: Global, side: Side) -> Result<Effect, NoMemory>
         ensures step { IfOk result (λ effect. Effects effect
             (happens octet_peers (as_world self.old) (Starts (as_side side))) (as_world self.old) (as_world self.new)) }
+        ensures want { OnErr result (is_closed_state (peer_of (as_side side) self.old.pair).standing.core.state ≡ true) }
         ensures unchanged { OnErr result (as_world self.new ≡ as_world self.old) }
     {
         silent_takes_none();
         octets_are_frames();
+        let conn = Conn(self.links.len() as u64);
+        if !self.pair.takes(side, Event::Start(conn)) {
+            return Ok(Effect::Ignored);
+        }
         if self.links.reserve(1).is_err() {
             return Err(NoMemory);
         }
-        let conn = Conn(self.links.len() as u64);
         match self.pair.ask(alloc, side, Event::Start(conn))? {
             None => Ok(Effect::Ignored),
             Some(actions) => {

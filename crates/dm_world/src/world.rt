@@ -1,12 +1,14 @@
 //! A world: two peers and the links between them.
-ghost use Rattle.std.specs.Prelude.{◌≡◌};
+ghost use Rattle.std.specs.Prelude.{◌≡◌, None};
+ghost use Rattle.dm_two_peers.specs.Laws.{world_of};
+ghost use Rattle.dm_octet_peers.specs.Laws.{fresh_peer};
 ghost use Rattle.dm_world.specs.New.{new_fault};
 
-use crate::agreement::open_on_both;
+use crate::agreement::{agree, open_on_both};
 use crate::made::MadeEnds;
 use crate::net::Net;
 use crate::pair::Pair;
-use crate::{Effect, Happening, NewFault, Side, WorldFault};
+use crate::{Effect, Happening, NewFault, Side, WorldFault, links};
 use dm_base::common_nodes;
 use dm_octet_peers::laws::{each_happening_keeps_peers, octets_are_a_machine, octets_are_sized};
 use dm_peer::{Config, Conn, Peer, is_same_host};
@@ -15,11 +17,12 @@ use dm_two_peers::laws::{
 };
 use dm_wire::Octets;
 use std::alloc::Global;
+use std::fmt::{self, Debug, Formatter, Write};
 use std::marker::Model;
 
 /// Two peers, each configured for the other, and the links between them (RFC 6733, 5.6). What holds of each world is
 /// said by `laws::every_world_is_kept`.
-#[derive(Debug, Drop)]
+#[derive(Drop)]
 pub struct World {
     pub(crate) net: Net,
     pub(crate) made: MadeEnds,
@@ -37,6 +40,16 @@ impl Model for World {
     ghost invariant = { IsWhole };
 }
 
+impl Debug for World {
+    /// The two peers alone.
+    fn fmt<W: Write>(&self, f: &mut Formatter<W>) -> fmt::Result {
+        f.debug_struct("World")
+            .field("a", &self.net.pair.a)
+            .field("b", &self.net.pair.b)
+            .finish_non_exhaustive()
+    }
+}
+
 /// Why there is no world of these configurations.
 fn fault_of(a: &Config, b: &Config) -> Option<NewFault>
     ensures { result ≡ new_fault a.now b.now }
@@ -51,6 +64,28 @@ fn fault_of(a: &Config, b: &Config) -> Option<NewFault>
         return Some(NewFault::NothingCommon);
     }
     None
+}
+
+/// Lets a configuration go.
+fn discard(_config: Config) {}
+
+/// Two closed peers of these configurations, A's the first, without links.
+fn world_of(alloc: Global, a: Config, b: Config) -> World
+    requires { new_fault a b ≡ None }
+    ensures { result ≡ world_of (fresh_peer a) (fresh_peer b) }
+{
+    closed_is_sound::<Peer, Octets>();
+    each_happening_keeps_peers();
+    World {
+        net: Net {
+            pair: Pair {
+                a: Peer::new(a),
+                b: Peer::new(b),
+            },
+            links: Vec::new(alloc),
+        },
+        made: MadeEnds::new(alloc),
+    }
 }
 
 impl World {
@@ -73,9 +108,9 @@ impl World {
     /// One happening: it is done, or ignored with nothing changed.
     ///
     /// Refuses with `NoLink` where it names a link that isn't there, and with `NoMemory` where a growth was refused.
-    /// The world is then what it was. No Timeout, Restart or Lose answers `NoMemory`; nor does an Ack or a Nack of a
-    /// connect that isn't pending, a delivery or a piece where nothing comes, or what comes whole to a shut end, which
-    /// drops it.
+    /// The world is then what it was. No Timeout, Restart or Lose answers `NoMemory`; nor does a Start outside Closed, a
+    /// Stop or a Submit where the side isn't open, an Ack or a Nack of a connect that isn't pending, a delivery or a
+    /// piece where nothing comes, or what comes whole to a shut end, which drops it.
     pub fn apply(&mut self, alloc: Global, happening: &Happening) -> Result<Effect, WorldFault>
         ensures step { IfOk result (λ effect. Effects effect
             (happens octet_peers self.old (as_happening happening.now)) self.old self.new) }
@@ -92,29 +127,34 @@ impl World {
         self.net.apply(alloc, &mut self.made, happening)
     }
 
-    /// The peer of a side. It takes no memory.
+    /// The peer of a side. It never answers want of memory.
     pub fn peer(&self, side: Side) -> &Peer
         ensures { result.now ≡ peer_at (as_side side) self.now }
     {
         self.net.pair.of(side)
     }
 
-    /// Whether the two sides agree. It takes no memory.
+    /// Whether the two sides agree. It never answers want of memory.
     pub fn agreed(&self) -> bool
         ensures value { result ≡ is_agreed self.now }
         ensures meaning { IsTrue result ↔ Agreed octet_peers self.now }
     {
-        self.net.agreed()
+        agree(
+            &self.net.pair.a,
+            &self.net.pair.b,
+            self.net.links.as_slice(),
+        )
     }
 
-    /// Whether nothing is under way: no connect is pending, no message and no disconnect. It takes no memory.
+    /// Whether nothing is under way: no connect is pending, no message and no disconnect. It never answers want of
+    /// memory.
     pub fn quiet(&self) -> bool
         ensures { result ≡ is_quiet self.now }
     {
-        self.net.quiet()
+        links::are_quiet(self.net.links.as_slice())
     }
 
-    /// The connection that both sides are open on. It takes no memory.
+    /// The connection that both sides are open on. It never answers want of memory.
     pub fn open_link(&self) -> Option<Conn>
         ensures value { result ≡ open_link self.now }
         ensures found { IfSome result (λ c.
@@ -128,27 +168,20 @@ impl World {
     /// Two closed peers of these configurations, A's the first, without links.
     ///
     /// Refuses, in this order, with `NotPeers` (a configured peer isn't the other side's host, upper and lower case
-    /// taken as one) and `NothingCommon`, and drops the configurations then. It takes no memory.
+    /// taken as one) and `NothingCommon`, and drops the configurations then. It never answers want of memory.
     pub fn new(alloc: Global, a: Config, b: Config) -> Result<World, NewFault>
         ensures fault { IfErr result (λ f. new_fault a b ≡ Some f) }
         ensures refuses { (f : NewFault) → new_fault a b ≡ Some f → result ≡ Err f }
         ensures fine { IfOk result (λ w. new_fault a b ≡ None) }
         ensures world { IfOk result (λ w. w ≡ world_of (fresh_peer a) (fresh_peer b)) }
     {
-        if let Some(fault) = fault_of(&a, &b) {
-            return Err(fault);
+        match fault_of(&a, &b) {
+            Some(fault) => {
+                discard(a);
+                discard(b);
+                Err(fault)
+            }
+            None => Ok(world_of(alloc, a, b)),
         }
-        closed_is_sound::<Peer, Octets>();
-        each_happening_keeps_peers();
-        Ok(World {
-            net: Net {
-                pair: Pair {
-                    a: Peer::new(a),
-                    b: Peer::new(b),
-                },
-                links: Vec::new(alloc),
-            },
-            made: MadeEnds::new(alloc),
-        })
     }
 }

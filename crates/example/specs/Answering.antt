@@ -4,7 +4,7 @@ use Rattle.std.specs.Str.{IsUtf8}
 use Rattle.dm_wire.specs.declared.avp.Avp.{Avp}
 use Rattle.dm_wire.specs.declared.message.Message.{Message}
 use Rattle.dm_wire.specs.Finding.{is_of}
-use Rattle.dm_wire.specs.Making.{answer_header}
+use Rattle.dm_wire.specs.Making.{header_answering}
 use Rattle.dm_wire.specs.Printed.{avp_text}
 use Rattle.dm_value.specs.declared.value.Value.{Value}
 use Rattle.dm_value.specs.declared.value.Value.TheVariants.{Uint32}
@@ -40,5 +40,5 @@ code_of (Bad code failed) = code
 
 -- the answer has the request's header, with the E bit for a protocol error (3xxx), and the verdict's Result-Code
 pub record Answers (request : Message) (verdict : Verdict) (answer : Message) : Type 0 where
-  pub header : answer.header ≡ record (answer_header request.header) { error = code_of verdict / 1000 == 3 }
+  pub header : answer.header ≡ record (header_answering request.header) { error = code_of verdict / 1000 == 3 }
   pub code : IsSomeAnd (find (is_of 268 None) answer.avps) (λ a. Means Unsigned32 a.bytes (Uint32 (code_of verdict)))

@@ -1,5 +1,6 @@
 //! Tests of dictionaries, by subject.
 mod answers;
+mod applications;
 mod counters;
 mod edges;
 mod examples;

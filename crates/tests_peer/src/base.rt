@@ -1,6 +1,7 @@
 //! Tests of the base messages.
 mod built;
 mod examples;
+mod extras;
 mod kinds;
 mod nodes;
 mod senders;

@@ -179,6 +179,48 @@ fn texts_refused(rt: HostRuntime) {
     drop(base);
 }
 
+/// A message under a dictionary, and how many faults it has.
+#[derive(Clone, Copy)]
+struct CountFaults<'a>(&'a Dictionary, &'a Message, usize);
+
+impl Making for CountFaults<'_> {
+    type Made = usize;
+
+    type Fault = NoMemory;
+
+    fn call(&self, alloc: Global) -> Result<usize, NoMemory> {
+        let faults = self.0.faults(alloc, self.1)?;
+        Ok(faults.len())
+    }
+
+    fn is_memory(&self, _fault: &NoMemory) -> bool {
+        true
+    }
+
+    fn is_row(&self, _alloc: Global, made: &usize) -> bool {
+        *made == self.2
+    }
+}
+
+fn check_counts(rt: &(impl Abort + AllocGlobal), rows: &[(&str, usize)], base: &Dictionary) {
+    for (digits, count) in rows {
+        let octets = octets(rt, digits);
+        let message = Message::decode(rt.alloc(), octets.as_slice()).expect(rt, "a message");
+        each_made(rt, &CountFaults(base, &message, *count), "faults");
+        drop(message);
+    }
+}
+
+/// A good message, and one that lacks its two required AVPs.
+const COUNTS: [(&str, usize); 2] = [(WATCHDOG, 0), (BARE_DWR, 2)];
+
+#[test]
+fn all_faults_listed(rt: HostRuntime) {
+    let base = base(&rt);
+    check_counts(&rt, &COUNTS, &base);
+    drop(base);
+}
+
 /// A message under a dictionary, and what `check` says of it.
 #[derive(Clone, Copy)]
 struct Check<'a>(&'a Dictionary, &'a Message, &'a str);

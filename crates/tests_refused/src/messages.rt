@@ -1,10 +1,13 @@
 //! Base messages, told and built.
 use crate::each::each_made;
 use crate::rows::*;
-use dm_base::{BaseFault, Cause, Kind, Node, cea, cer, classify, dpa, dpr, dwa, dwr, error_answer};
+use dm_base::{
+    BaseFault, Cause, IdList, Kind, Node, SenderRef, cea, cer, classify, dpa, dpr, dwa, dwr,
+    error_answer, sender,
+};
 use dm_dict::{Dictionary, Ip, NoMemory};
 use dm_refusal::Making;
-use dm_wire::{Avp, Header, Message, Octets};
+use dm_wire::{Avp, Header, Message, MessageRef, Octets};
 use std::alloc::Global;
 use std::process::Abort;
 
@@ -45,6 +48,45 @@ fn check_kind(rt: &(impl Abort + AllocGlobal), digits: &str) {
 #[test]
 fn capabilities_told(rt: HostRuntime) {
     check_kind(&rt, CAPABILITIES);
+}
+
+/// The applications of a sender, or the vendors that it supports.
+#[derive(Clone, Copy)]
+struct ListIds<'a>(SenderRef<'a>, bool, &'a [u32]);
+
+impl Making for ListIds<'_> {
+    type Made = IdList;
+
+    type Fault = NoMemory;
+
+    fn call(&self, alloc: Global) -> Result<IdList, NoMemory> {
+        if self.1 {
+            self.0.vendors(alloc)
+        } else {
+            self.0.applications(alloc)
+        }
+    }
+
+    fn is_memory(&self, _fault: &NoMemory) -> bool {
+        true
+    }
+
+    fn is_row(&self, _alloc: Global, made: &IdList) -> bool {
+        made.as_slice() == self.2
+    }
+}
+
+fn check_sender(rt: &(impl Abort + AllocGlobal), digits: &str) {
+    let octets = octets(rt, digits);
+    let message = MessageRef::read(octets.as_slice()).expect(rt, "a message");
+    let sender = sender(&message).expect(rt, "a sender");
+    each_made(rt, &ListIds(sender, false, &[4, 16777251]), "applications");
+    each_made(rt, &ListIds(sender, true, &[]), "vendors");
+}
+
+#[test]
+fn senders_told(rt: HostRuntime) {
+    check_sender(&rt, CAPABILITIES);
 }
 
 /// A call that builds a message.

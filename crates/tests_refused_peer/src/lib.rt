@@ -8,11 +8,15 @@
 #[cfg(test)]
 mod each;
 #[cfg(test)]
+mod neighbours;
+#[cfg(test)]
 mod peers;
 #[cfg(test)]
 mod quiet;
 #[cfg(test)]
 mod rows;
+#[cfg(test)]
+mod runs;
 #[cfg(test)]
 mod scripts;
 #[cfg(test)]

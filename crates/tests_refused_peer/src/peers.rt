@@ -58,7 +58,7 @@ fn is_same_action(one: &Action, other: &Action) -> bool {
     }
 }
 
-fn are_same(actions: &[Action], others: &[Action]) -> bool {
+pub fn are_same(actions: &[Action], others: &[Action]) -> bool {
     if actions.len() != others.len() {
         return false;
     }
@@ -146,7 +146,13 @@ pub fn node(rt: &(impl Abort + AllocGlobal), host: &[u8], application: u32) -> N
     Node::new(host, realm, addresses, 0, product, auth, Vec::new(alloc)).expect(rt, "a node")
 }
 
-fn config(rt: &(impl Abort + AllocGlobal), host: &[u8], other: &[u8], application: u32) -> Config {
+/// The configuration of a peer of this host and application for the other host.
+pub fn config(
+    rt: &(impl Abort + AllocGlobal),
+    host: &[u8],
+    other: &[u8],
+    application: u32,
+) -> Config {
     let other = Vec::from_slice(rt.alloc(), other).expect(rt, "memory");
     let node = node(rt, host, application);
     Config::new(rt.alloc(), node, other, 1).expect(rt, "a configuration")

@@ -1,5 +1,5 @@
 //! All faults of a message, listed (RFC 6733, 7).
-use dm_dict::{Dictionary, Failed, Fault};
+use dm_dict::{Dictionary, Failed, Fault, LocatedFault};
 use dm_wire::{Message, MessageRef};
 use std::process::Abort;
 
@@ -69,4 +69,36 @@ fn assert_listed(rt: &(impl Abort + AllocGlobal)) {
 #[test]
 fn all_faults_are_listed(rt: HostRuntime) {
     assert_listed(&rt);
+}
+
+/// A Device-Watchdog-Request with a Vendor-Specific-Application-Id behind two AVPs, in which a Result-Code may not stand.
+const IN_GROUP: &str =
+    "01000058800001180000000000000001000000010000010840000011612e6578616d706c65000000000001284000000f6578616d706c650000000104400000200000010a4000000c000000000000010c4000000c000007d1";
+
+/// Whether there is one fault, of this Result-Code, inside the group of this place and code alone.
+fn is_inside(located: &[LocatedFault<'_>], code: u32, place: usize, group: u32) -> bool {
+    match located {
+        [one] => match one.path.as_slice() {
+            [step] => one.fault.code == code && step.place == place && step.code == group,
+            _ => false,
+        },
+        _ => false,
+    }
+}
+
+fn assert_located(rt: &(impl Abort + AllocGlobal), base: &Dictionary, octets: &[u8]) {
+    let message = Message::decode(rt.alloc(), octets).expect(rt, "a message");
+    let held = base.located(rt.alloc(), &message).expect(rt, "memory");
+    assert!(rt; is_inside(held.as_slice(), 5008, 2, 260));
+    let lying = MessageRef::read(octets).expect(rt, "a message");
+    let located = base.located_in(rt.alloc(), &lying).expect(rt, "memory");
+    assert!(rt; is_inside(located.as_slice(), 5008, 2, 260));
+}
+
+/// A fault inside a group has the group's place and code.
+#[test]
+fn faults_have_their_groups(rt: HostRuntime) {
+    let base = Dictionary::base(rt.alloc()).expect(&rt, "a dictionary");
+    let octets = hex::decode(rt.alloc(), IN_GROUP.as_bytes()).expect(&rt, "hexadecimal");
+    assert_located(&rt, &base, octets.as_slice());
 }

@@ -29,7 +29,8 @@ fn failed_text(rt: &(impl Abort + AllocGlobal), code: u32, avp: &Avp) -> String 
     format!(in rt.alloc(); "bad {code} {}{vendor}{m}{p} {data}", avp.code).expect(rt, "memory")
 }
 
-fn verdict_text(rt: &(impl Abort + AllocGlobal), verdict: &Verdict) -> String {
+/// The verdict in words.
+pub fn verdict_text(rt: &(impl Abort + AllocGlobal), verdict: &Verdict) -> String {
     match verdict {
         Verdict::Good => String::from_str(rt.alloc(), "good").expect(rt, "memory"),
         Verdict::Bad { code, failed: None } => {

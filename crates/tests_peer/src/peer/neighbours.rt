@@ -1,7 +1,7 @@
 //! The neighbours of a node.
 use super::octets::{CER, CER_OF_B};
 use super::{config, node, octets_of};
-use dm_node::{Neighbours, NodeEvent};
+use dm_node::{AddFault, Neighbours, NodeEvent};
 use dm_peer::{Conn, State};
 use std::process::Abort;
 
@@ -64,6 +64,8 @@ fn assert_neighbours(rt: &(impl Abort + AllocGlobal)) {
     assert!(rt;
         neighbours.find(b"C.Example") == Some(1) && neighbours.find(b"d.example").is_none()
     );
+    let again = config(rt, b"a.example", b"B.EXAMPLE", 4).expect(rt, "a configuration");
+    assert!(rt; neighbours.add(again) == Err(AddFault::Known));
     assert_told(rt, &mut neighbours);
 }
 

@@ -11,8 +11,8 @@ abbrev pub invariant-loop-avp : goal.invariant-loop-avp
 invariant-loop-avp l =
     (all : List Avp) → Lists l.avps all
     → (m : List Avp) × Lists l.left m ×
-    (list_any (is_own l.auth l.acct) (flat_map application_ids all)
-    ≡ list_any (is_own l.auth l.acct) (flat_map application_ids m))
+    (list_any (is_own l.auth l.acct l.specific) (flat_map application_ids all)
+    ≡ list_any (is_own l.auth l.acct l.specific) (flat_map application_ids m))
 
 abbrev pub decreases-loop-avp : goal.decreases-loop-avp
 decreases-loop-avp l = size_of l.left

@@ -5,9 +5,9 @@ use Rattle.dm_world.proofs.agreement.open_on_both.Goals as goal
 
 pub returns : goal.returns
 returns c =
-    let is : c.first_found-2.result ≡ open_on_both c.args.a.now.standing.core c.args.b.now.standing.core = cc in
+    let is : c.or-3.result ≡ open_on_both c.args.a.now.standing.core c.args.b.now.standing.core = cc in
     record {
       value = is;
-      found = found_if _ _ c.first_found-2.result is;
-      none = none_if_none _ _ c.first_found-2.result is;
+      found = found_if _ _ c.or-3.result is;
+      none = none_if_none _ _ c.or-3.result is;
     }

@@ -4,6 +4,7 @@ use Rattle.std.specs.List.{flat_map}
 use Rattle.std.specs.List.Sorted.{IsPermutation}
 use Rattle.dm_base.specs.Common.{is_relay, meets}
 use Rattle.dm_base.specs.Kinds.{application_ids}
+use Rattle.dm_base.specs.Extra.{specific_ids}
 use Rattle.dm_base.proofs.Searching.{same_own, or_behind}
 use Rattle.dm_base.proofs.caps_ref.CapsRef.common.Goals as goal
 
@@ -17,7 +18,10 @@ returns c = λ caps shows.
     let acct : IsPermutation n.acct c.sorted_in-acct.result.now =
     subst (λ (s : List ℕ). IsPermutation s c.sorted_in-acct.result.now) c.as_slice-2.ensures
     c.sorted_in-acct.ensures.same in
+    let specific : IsPermutation (specific_ids n) c.sorted_in-specific.result.now =
+    subst (λ (s : List ℕ). IsPermutation s c.sorted_in-specific.result.now) c.specific_ids.ensures.ids
+    c.sorted_in-specific.ensures.same in
     let relay : is_relay n ≡ false = sym c.is_relay.ensures ∙ c.if-is_relay.false in
-    c.list_meets.ensures shows.avps shows.listed ∙ same_own _ _ _ _ told auth acct
+    c.list_meets.ensures shows.avps shows.listed ∙ same_own _ _ _ _ _ _ told auth acct specific
     ∙ or_behind (is_relay n) (meets n told) relay
     ∙ ap (λ (ids : List ℕ). is_relay n || meets n ids) (sym shows.applications)

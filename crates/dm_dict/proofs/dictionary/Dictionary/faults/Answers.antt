@@ -1,10 +1,10 @@
 -- The faults of the AVPs that are held.
-use Rattle.dm_dict.proofs.Listed.{under_ok}
+use Rattle.dm_dict.proofs.Listed.{under_ok, under_err}
 use Rattle.dm_dict.proofs.dictionary.Dictionary.faults.Goals as goal
 
 pub returns : goal.returns
 returns c =
-    record {
-      all = rw (← c.self.view_is)
-          (under_ok c.listed.result _ _ (λ listed all. all c.args.message.now.avps c.as_slice.ensures) c.listed.ensures);
-    }
+    rw (← c.self.view_is) (record {
+      all = under_ok c.listed.result _ _ (λ listed all. all c.args.message.now.avps c.as_slice.ensures) c.listed.ensures.all;
+      memory = under_err c.listed.result (λ some. some c.args.message.now.avps c.as_slice.ensures) c.listed.ensures.memory;
+    })

@@ -1,7 +1,7 @@
 use Rattle.std.proofs.Common.{◌∙◌, sym, nat_lt}
 use Rattle.std.proofs.lemmas.Bool.{lt-ltb, le-ltb}
 use Rattle.dm_grammar.specs.Views.{view_entry}
-use Rattle.dm_tables.specs.EntryEquality.{form_number}
+use Rattle.dm_tables.specs.Forms.{form_number}
 use Rattle.dm_dict_text.proofs.EntryFaults.{repeated, duplicate_stops, order_stops, no_entry_fault}
 use Rattle.dm_dict_text.proofs.entries.Entries.check.Goals as goal
 

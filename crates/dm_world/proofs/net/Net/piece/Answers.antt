@@ -1,10 +1,11 @@
-use Rattle.std.specs.Prelude.{IsTrue, Result, Ok, Err, OnErr}
+use Rattle.std.specs.Prelude.{ℕ, List, IsTrue, Result, Ok, Err, OnErr}
 use Rattle.std.proofs.Common.{rules, slice_get, ◌≡◌, ◌<◌, ◌≤◌, ◌⊎◌, sym, ap, subst, ◌∙◌, arith}
-use Rattle.dm_two_peers.specs.Happens.{happens, Pieces, take_part}
-use Rattle.dm_two_peers.specs.Links.{by_side}
+use Rattle.dm_two_peers.specs.Happens.{happens, Pieces, take_part, own_view}
+use Rattle.dm_two_peers.specs.Links.{Side, Direction, Link, by_side}
 use Rattle.dm_two_peers.specs.Worlds.{change_at}
 use Rattle.dm_octet_peers.specs.Octets.{octet_peers}
 use Rattle.dm_world.specs.declared.direction.Next.TheVariants as next
+use Rattle.dm_world.specs.Fed.{octets_to_come}
 use Rattle.dm_world.specs.Next.{octets_to_come_to}
 use Rattle.dm_world.specs.Happening.{is_fed_at}
 use Rattle.dm_world.specs.Seen.{as_side, as_link, as_links}
@@ -15,6 +16,10 @@ use Rattle.dm_world.proofs.Deliveries.{no_message, part_step, last_step}
 use Rattle.dm_world.proofs.Wants.{wants_last, wants_part}
 use Rattle.dm_world.proofs.net.Net.piece.Goals as goal
 
+to_come_at : (s : Side) (l : Link (List ℕ)) (d : Direction (List ℕ)) (n : ℕ) → d ≡ (own_view s l).incoming →
+    n ≡ octets_to_come d.messages d.taken → n ≡ octets_to_come_to s l
+to_come_at s l d n at is = is ∙ ap (λ (e : Direction (List ℕ)). octets_to_come e.messages e.taken) at
+
 pub returns-then-to_come-count-clause-step : goal.returns-then-to_come-count-clause-step
 returns-then-to_come-count-clause-step c =
     let s = as_side c.args.side in
@@ -22,8 +27,11 @@ returns-then-to_come-count-clause-step c =
     let next = as_world c.message_comes.new.self in
     let outcome = c.in_ok-message_comes-in-Message.field-0 in
     let there = c.in_ok-index.ensures.there in
+    let come : c.to_come.result ≡ octets_to_come_to s (as_link c.index-link.result.now) =
+    to_come_at s (as_link c.index-link.result.now) c.incoming.result.now.direction c.to_come.result c.incoming.ensures
+    c.to_come.ensures in
     let above : octets_to_come_to s (as_link c.index-link.result.now) ≤ c.args.count =
-    omega (arith, c.to_come.ensures) in
+    omega (arith, come) in
     subst (λ k. Effects outcome (happens octet_peers w (Pieces k s c.args.count)) w next) there.0
     (last_step s c.in_ok-index.index c.args.count outcome w next (as_link c.index-link.result.now)
     (link_at c.in_ok-index.index c.args.self.now.links.items c.index-link.result.now there.1 c.index-link.ensures)
@@ -41,8 +49,11 @@ pub returns-in_ok-take-in-Message-clause-step : goal.returns-in_ok-take-in-Messa
 returns-in_ok-take-in-Message-clause-step c =
     let s = as_side c.args.side in
     let there = c.in_ok-index.ensures.there in
+    let come : c.to_come.result ≡ octets_to_come_to s (as_link c.index-link.result.now) =
+    to_come_at s (as_link c.index-link.result.now) c.incoming.result.now.direction c.to_come.result c.incoming.ensures
+    c.to_come.ensures in
     let below : c.args.count < octets_to_come_to s (as_link c.index-link.result.now) =
-    omega (arith, c.to_come.ensures) in
+    omega (arith, come) in
     part_step s c.args.conn.0 c.args.count (as_world c.args.self.now) _ (as_link c.index-link.result.now)
     (link_found c.args.conn.0 c.in_ok-index.index c.args.self.now.links.items c.index-link.result.now there
     c.index-link.ensures)
@@ -82,8 +93,11 @@ returns-in_err-take-in-Message-clause-fault c =
     let there =
     link_found c.args.conn.0 c.in_ok-index.index c.args.self.now.links.items c.index-link.result.now
     c.in_ok-index.ensures.there c.index-link.ensures in
+    let come : c.to_come.result ≡ octets_to_come_to (as_side c.args.side) (as_link c.index-link.result.now) =
+    to_come_at (as_side c.args.side) (as_link c.index-link.result.now) c.incoming.result.now.direction
+    c.to_come.result c.incoming.ensures c.to_come.ensures in
     let below : c.args.count < octets_to_come_to (as_side c.args.side) (as_link c.index-link.result.now) =
-    omega (arith, c.to_come.ensures) in
+    omega (arith, come) in
     let want : IsTrue (is_fed_at (as_side c.args.side) c.args.count
     (slice_get (as_links c.args.self.now.links.items) c.args.conn.0)) =
     wants_part (as_side c.args.side) c.args.count (slice_get (as_links c.args.self.now.links.items) c.args.conn.0)

@@ -25,8 +25,7 @@ pub returns-in-None-clause-step : goal.returns-in-None-clause-step
 returns-in-None-clause-step c =
     let answer = rw c.in-None.is at c.in_ok-ask.ensures.answer in
     let n : c.len.result ≡ length (as_links c.args.self.now.links.items) =
-    c.len.ensures ∙ c.reserve.ensures.len ∙ c.args.self.now.links.ok.0 ∙
-    sym (length_links c.args.self.now.links.items) in
+    c.len.ensures ∙ c.args.self.now.links.ok.0 ∙ sym (length_links c.args.self.now.links.items) in
     not_started (as_side c.args.side) c.len.result c.args.self.now
     (record { pair = c.ask.new.self; links = c.reserve.new.self }) n answer (ap as_links c.reserve.ensures.items)
 
@@ -34,10 +33,16 @@ pub returns-in-Some-clause-step : goal.returns-in-Some-clause-step
 returns-in-Some-clause-step c =
     let answer = rw c.in-Some.is at c.in_ok-ask.ensures.answer in
     let n : c.len.result ≡ length (as_links c.args.self.now.links.items) =
-    c.len.ensures ∙ c.reserve.ensures.len ∙ c.args.self.now.links.ok.0 ∙
-    sym (length_links c.args.self.now.links.items) in
+    c.len.ensures ∙ c.args.self.now.links.ok.0 ∙ sym (length_links c.args.self.now.links.items) in
     started (as_side c.args.side) c.len.result c.args.self.now
     (record { pair = c.ask.new.self; links = c.perform.new.links }) c.in-Some.actions n answer
     (start_links (as_side c.args.side) c.in-Some.actions.items c.args.self.now.links.items c.reserve.new.self.items
     c.push_reserved.new.self.items _ c.new.result c.reserve.ensures.items c.push_reserved.ensures.items
     c.new.ensures c.perform.ensures)
+
+pub returns-then-not-takes-clause-step : goal.returns-then-not-takes-clause-step
+returns-then-not-takes-clause-step c =
+    let n : c.len.result ≡ length (as_links c.args.self.now.links.items) =
+    c.len.ensures ∙ c.args.self.now.links.ok.0 ∙ sym (length_links c.args.self.now.links.items) in
+    not_started (as_side c.args.side) c.len.result c.args.self.now c.args.self.now n
+    (c.takes.ensures.refused c.if-not-takes.true) refl

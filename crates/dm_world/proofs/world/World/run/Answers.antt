@@ -2,7 +2,7 @@ use Rattle.std.proofs.Common.{◌++◌, map, take}
 use Rattle.dm_octet_peers.specs.Octets.{octet_peers}
 use Rattle.dm_world.specs.Happening.{as_happening}
 use Rattle.dm_world.specs.Delivering.{new_world}
-use Rattle.dm_world.proofs.Pasts.{past_goes_on, past_delivers}
+use Rattle.dm_world.proofs.Pasts.{past_goes_on, past_delivers, past_closed_or_open}
 use Rattle.dm_world.proofs.world.World.run.Goals as goal
 
 pub returns-clause-ends : goal.returns-clause-ends
@@ -39,6 +39,14 @@ pub returns-clause-delivers : goal.returns-clause-delivers
 returns-clause-delivers c a b past is =
     let now = take c.apply_each-ended.result.0 c.args.list.now in
     past_delivers c.each_octet_run_delivers.ensures a b (past ++ now) c.apply_each-ended.new.self
+    (past_goes_on (new_world a b) c.args.self.now c.apply_each-ended.new.self past now is
+    c.apply_each-ended.ensures.ran)
+
+pub returns-clause-closed_or_open : goal.returns-clause-closed_or_open
+returns-clause-closed_or_open c a b past is =
+    let now = take c.apply_each-ended.result.0 c.args.list.now in
+    past_closed_or_open c.each_octet_quiet_run_is_closed_or_open.ensures a b (past ++ now)
+    c.apply_each-ended.new.self
     (past_goes_on (new_world a b) c.args.self.now c.apply_each-ended.new.self past now is
     c.apply_each-ended.ensures.ran)
 

@@ -1,0 +1,103 @@
+//! What a node says of itself beyond what it must.
+ghost use Rattle.std.specs.Prelude.{◌≡◌, ◌⊎◌, ◌↔◌, ◌++◌, true, nat_lt, length, take, IfOk, IfErr, IsErrOf};
+ghost use Rattle.std.specs.List.{list_all};
+ghost use Rattle.dm_base.specs.Codes.{max_ids};
+ghost use Rattle.dm_base.specs.Fit.{are_ids, is_vendor_application, are_vendor_applications, is_optional_number};
+ghost use Rattle.dm_base.specs.Specific.{ids_of};
+ghost use Rattle.dm_base.specs.Refusals.{are_extras_long};
+ghost use Rattle.dm_base.specs.declared.extras_fault.ExtrasFault.{ExtrasFault};
+
+use crate::limits::MAX_IDS;
+use crate::node::all_numbers;
+use crate::{ExtrasFault, IdList, VendorApplication, VendorApplicationList};
+use dm_dict::NoMemory;
+use std::alloc::Global;
+
+/// What a node says of itself beyond what it must (RFC 6733, 5.3, 6.11 and 8.16).
+#[derive(Debug, Drop)]
+pub struct Extras {
+    pub(crate) applications: VendorApplicationList,
+    pub(crate) ids: IdList,
+    pub(crate) vendors: IdList,
+    pub(crate) firmware: Option<u32>,
+    pub(crate) state_id: Option<u32>,
+    pub ghost fit_applications: { are_vendor_applications applications ≡ true },
+    pub ghost told_ids: { ids ≡ ids_of applications },
+    pub ghost fit_vendors: { are_ids vendors ≡ true },
+    pub ghost fit_firmware: { is_optional_number firmware ≡ true },
+    pub ghost fit_state_id: { is_optional_number state_id ≡ true },
+}
+
+/// The numbers of an application fit 32 bits, as their types say.
+#[tactic(auto, using(crate::proofs::Fitting::application_numbers))]
+fn has_numbers(application: &VendorApplication)
+    ensures { is_vendor_application application.now ≡ true }
+{
+    let _vendor = application.vendor;
+    let _application = application.application;
+}
+
+/// So do those of all applications.
+fn have_numbers(applications: &[VendorApplication])
+    ensures { list_all is_vendor_application applications.now ≡ true }
+{
+    for application in applications {
+        has_numbers(application);
+    }
+}
+
+/// A number fits 32 bits, as its type says.
+#[tactic(auto, using(crate::proofs::Fitting::optional_number))]
+fn is_number(number: Option<u32>)
+    ensures { is_optional_number number ≡ true }
+{}
+
+/// The ids of applications of vendors, in order.
+fn ids_of(alloc: Global, applications: &[VendorApplication]) -> Result<Vec<u32>, NoMemory>
+    ensures { IfOk result (λ ids. ids.items ≡ ids_of applications.now) }
+{
+    let mut ids = Vec::with_capacity(alloc, applications.len())?;
+    for application in applications {
+        ids.push(application.application)?;
+    }
+    Ok(ids)
+}
+
+impl Extras {
+    /// What a node says beyond what it must (RFC 6733, 5.3, 6.11 and 8.16): the applications of vendors, each in a
+    /// Vendor-Specific-Application-Id, the Supported-Vendor-Ids, and Firmware-Revision and Origin-State-Id where there are
+    /// numbers for them. The lists are moved and not copied.
+    ///
+    /// Refuses with `TooLong` where there are over 256 applications or over 256 vendors, else with `NoMemory`.
+    pub fn new(
+        alloc: Global,
+        applications: Vec<VendorApplication>,
+        vendors: Vec<u32>,
+        firmware: Option<u32>,
+        state_id: Option<u32>,
+    ) -> Result<Extras, ExtrasFault>
+        ensures long { IsErrOf result ExtrasFault.TooLong
+            ↔ (are_extras_long applications.items vendors.items ≡ true) }
+        ensures fault { IfErr result (λ fault. (fault ≡ ExtrasFault.TooLong) ⊎ (fault ≡ ExtrasFault.NoMemory)) }
+        ensures applications { IfOk result (λ extras. extras.applications ≡ applications.items) }
+        ensures vendors { IfOk result (λ extras. extras.vendors ≡ vendors.items) }
+        ensures firmware { IfOk result (λ extras. extras.firmware ≡ firmware) }
+        ensures state_id { IfOk result (λ extras. extras.state_id ≡ state_id) }
+    {
+        if applications.len() > MAX_IDS || vendors.len() > MAX_IDS {
+            return Err(ExtrasFault::TooLong);
+        }
+        let ids = ids_of(alloc, applications.as_slice())?;
+        have_numbers(applications.as_slice());
+        all_numbers(vendors.as_slice());
+        is_number(firmware);
+        is_number(state_id);
+        Ok(Extras {
+            applications: VendorApplicationList::from_vec(applications),
+            ids: IdList::from_vec(ids),
+            vendors: IdList::from_vec(vendors),
+            firmware,
+            state_id,
+        })
+    }
+}

@@ -1,0 +1,47 @@
+-- Paths grow by a group at a time.
+use Rattle.std.proofs.Common.{◌≡◌, ℕ, zero, suc, ◌-◌, true, true≢false, Option, None, Some, is_some, List, [], ◌∷◌, ◌++◌, map, refl, sym, ap, ◌∙◌, arith, append_assoc}
+use Rattle.dm_wire.specs.declared.avp.Avp.{Avp}
+use Rattle.dm_wire.specs.Members.{members}
+use Rattle.dm_tables.specs.declared.rule.Entry.{Entry}
+use Rattle.dm_tables.specs.declared.def.AvpDef.{AvpDef}
+use Rattle.dm_dict.specs.declared.path.Step.{Step}
+use Rattle.dm_dict.specs.Located.{Located, step_at, under, group_located, list_located}
+use Rattle.dm_dict.specs.Locating.{behind}
+
+behind_under : (p : List Step) (i : Step) (l : List Located) → map (behind (p ++ i ∷ [])) l ≡ map (behind p) (map (under i) l)
+behind_under p i [] = refl
+behind_under p i (f ∷ l) =
+    ap (λ q. record f { path = q } ∷ map (behind (p ++ i ∷ [])) l) (append_assoc p (i ∷ []) f.path)
+    ∙ ap (λ t. behind p (under i f) ∷ t) (behind_under p i l)
+
+group_members : (depth : ℕ) → (depth ≡ 0 → ⊥) → (avps : List AvpDef) (i : ℕ) (rule : List Entry) (a : Avp) (l : List Avp)
+    → members a.bytes ≡ Some l
+    → group_located depth avps i rule a ≡ map (under (step_at i a)) (list_located (depth - 1) avps rule l)
+group_members zero some_left avps i rule a l is = absurd (some_left refl)
+group_members (suc n) some_left avps i rule a l is =
+    let e : suc n - 1 ≡ n = omega arith in
+    rw (e, is) refl
+
+-- what is listed for the members is what the group adds
+by_members : (depth : ℕ) → (depth ≡ 0 → ⊥) → (avps : List AvpDef) (i : ℕ) (rule : List Entry) (a : Avp)
+    (p q : List Step) (old new : List Located) → q ≡ p ++ step_at i a ∷ [] → (o : Option (List Avp)) → members a.bytes ≡ o → is_some o ≡ true
+    → ((l : List Avp) → members a.bytes ≡ Some l → new ≡ old ++ map (behind q) (list_located (depth - 1) avps rule l))
+    → new ≡ old ++ map (behind p) (group_located depth avps i rule a)
+by_members depth some_left avps i rule a p q old new inside None is some listed = absurd (true≢false (sym some))
+by_members depth some_left avps i rule a p q old new inside (Some l) is some listed =
+    listed l is
+    ∙ ap (λ r. old ++ map (behind r) (list_located (depth - 1) avps rule l)) inside
+    ∙ ap (λ t. old ++ t) (behind_under p (step_at i a) (list_located (depth - 1) avps rule l))
+    ∙ ap (λ g. old ++ map (behind p) g) (sym (group_members depth some_left avps i rule a l is))
+
+pub group_listed : (depth : ℕ) → (depth ≡ 0 → ⊥) → (avps : List AvpDef) (i : ℕ) (rule : List Entry) (a : Avp)
+    (p q : List Step) (old new : List Located) → q ≡ p ++ step_at i a ∷ [] → is_some (members a.bytes) ≡ true
+    → ((l : List Avp) → members a.bytes ≡ Some l → new ≡ old ++ map (behind q) (list_located (depth - 1) avps rule l))
+    → new ≡ old ++ map (behind p) (group_located depth avps i rule a)
+group_listed depth some_left avps i rule a p q old new inside some listed =
+    by_members depth some_left avps i rule a p q old new inside (members a.bytes) refl some listed
+
+-- in no groups a fault is where it is
+pub at_top : (l : List Located) → map (behind []) l ≡ l
+at_top [] = refl
+at_top (f ∷ l) = ap (λ t. f ∷ t) (at_top l)

@@ -1,0 +1,196 @@
+//! All faults of AVPs under a rule, each with the groups round it (RFC 6733, 4.1, 4.4 and 7.1.5).
+ghost use Rattle.std.specs.Prelude.{◌≡◌, ◌≤◌, ◌+◌, List, slice_get, map, flat_map, OnOk};
+ghost use Rattle.std.specs.Option.{option_and_then, option_copied};
+ghost use Rattle.dm_wire.specs.declared.avp.Avp.{Avp};
+ghost use Rattle.dm_tables.specs.Tables.{IsTables};
+ghost use Rattle.dm_dict.specs.Apart.{IsFit};
+ghost use Rattle.dm_dict.specs.Linked.{IsLinked, IsRule};
+ghost use Rattle.dm_wire.specs.Borrowed.{avp_of, Lists};
+ghost use Rattle.dm_dict.specs.Faults.{avp_faults, entry_faults};
+ghost use Rattle.dm_dict.specs.Located.{here, no_groups, avp_located, group_located, list_located};
+ghost use Rattle.dm_dict.specs.Locating.{path_of, AddsAt};
+ghost use Rattle.dm_dict.specs.Rules.{definition};
+
+use crate::avps::is_failed_avp;
+use crate::codes::{AVP_NOT_ALLOWED, AVP_UNSUPPORTED, INVALID_AVP_LENGTH, INVALID_AVP_VALUE};
+use crate::fault::Fault;
+use crate::judged::Failed;
+use crate::linked::{Linked, LinkedAvp, LinkedRule};
+use crate::listing::data_fault;
+use crate::listing_entries::list_entries;
+use crate::path::{Path, Step};
+use crate::places::{LocatedFault, put_all_at, put_at};
+use crate::rules::{allows, look_up};
+use dm_tables::{AvpDef, Tables};
+use dm_value::{AvpType, NoMemory};
+use dm_wire::{AvpRef, AvpsRef, spells_avps};
+use std::alloc::Global;
+
+/// Lists what is wrong with an AVP of this definition, but for its members.
+fn put_own<'a>(
+    located: &mut Vec<LocatedFault<'a>>,
+    path: Path,
+    def: Option<&AvpDef>,
+    allowed: bool,
+    avp: AvpRef<'a>,
+) -> Result<(), NoMemory>
+    ensures { OnOk result (AddsAt located.old.items located.new.items (path_of path)
+        (map here (avp_faults no_groups allowed (avp_of avp.entry) (option_copied def.entry)))) }
+{
+    let failed = Failed::Found(avp);
+    let Some(def) = def else {
+        if avp.mandatory {
+            let code = AVP_UNSUPPORTED;
+            return put_at(located, path, Fault { code, failed });
+        }
+        return Ok(());
+    };
+    if !allowed {
+        let code = AVP_NOT_ALLOWED;
+        put_at(located, path, Fault { code, failed })?;
+    }
+    if is_failed_avp(avp) {
+        return Ok(());
+    }
+    if let AvpType::Grouped = def.kind {
+        return Ok(());
+    }
+    match data_fault(def, avp.bytes) {
+        Some(code) => put_at(located, path, Fault { code, failed }),
+        None => Ok(()),
+    }
+}
+
+/// Lists the faults of the entries of the rule.
+fn locate_entries<'a>(
+    alloc: Global,
+    located: &mut Vec<LocatedFault<'a>>,
+    path: Path,
+    tables: &Tables,
+    rule: LinkedRule<'_>,
+    list: AvpsRef<'a>,
+) -> Result<(), NoMemory>
+    requires tables { IsTables tables.now }
+    requires fit { IsFit tables.now.avps.items }
+    requires rule { IsRule tables.now.avps.items rule }
+    ensures { OnOk result ((l : List Avp) → Lists list.entry l
+        → AddsAt located.old.items located.new.items (path_of path)
+        (map here (flat_map (entry_faults tables.now.avps.items rule.entry.entries.now l) rule.entry.entries.now))) }
+{
+    let mut faults = Vec::new(alloc);
+    list_entries(tables, rule, list, &mut faults)?;
+    put_all_at(located, path, faults.as_slice())?;
+    Ok(())
+}
+
+/// Lists the faults of the AVP at this place of its list, whose definition has this place, inside which so many groups
+/// may stand.
+#[cycle(locating)]
+fn locate_avp<'a>(
+    alloc: Global,
+    located: &mut Vec<LocatedFault<'a>>,
+    path: Path,
+    at: usize,
+    dictionary: &Linked,
+    place: Option<usize>,
+    allowed: bool,
+    avp: AvpRef<'a>,
+    depth: u32,
+) -> Result<(), NoMemory>
+    requires linked { IsLinked dictionary.now }
+    requires fit { IsFit dictionary.now.tables.avps.items }
+    requires def { option_and_then (slice_get dictionary.now.tables.avps.items) place
+        ≡ definition dictionary.now.tables.avps.items (avp_of avp) }
+    requires room { path.size + depth ≤ 8 }
+    ensures { OnOk result (AddsAt located.old.items located.new.items (path_of path)
+        (avp_located (group_located depth dictionary.now.tables.avps.items at) allowed
+        (avp_of avp.entry) (definition dictionary.now.tables.avps.items (avp_of avp.entry)))) }
+{
+    let Some(LinkedAvp { def, links }) = dictionary.avp_at(place) else {
+        return put_own(located, path, None, allowed, avp);
+    };
+    put_own(located, path, Some(def), allowed, avp)?;
+    if is_failed_avp(avp) {
+        return Ok(());
+    }
+    if let AvpType::Grouped = def.kind {
+        let rule = LinkedRule {
+            entries: &def.rule,
+            links,
+        };
+        return locate_group(alloc, located, path, at, dictionary, rule, avp, depth);
+    }
+    Ok(())
+}
+
+/// Lists the faults of the Grouped AVP of this rule at this place of its list, where so many groups may stand inside each
+/// other.
+#[cycle(locating)]
+fn locate_group<'a>(
+    alloc: Global,
+    located: &mut Vec<LocatedFault<'a>>,
+    path: Path,
+    at: usize,
+    dictionary: &Linked,
+    rule: LinkedRule<'_>,
+    avp: AvpRef<'a>,
+    depth: u32,
+) -> Result<(), NoMemory>
+    requires linked { IsLinked dictionary.now }
+    requires fit { IsFit dictionary.now.tables.avps.items }
+    requires rule { IsRule dictionary.now.tables.avps.items rule }
+    requires room { path.size + depth ≤ 8 }
+    ensures { OnOk result (AddsAt located.old.items located.new.items (path_of path)
+        (group_located depth dictionary.now.tables.avps.items at rule.entry.entries.now (avp_of avp.entry))) }
+{
+    if depth == 0 {
+        let (code, failed) = (INVALID_AVP_VALUE, Failed::Found(avp));
+        return put_at(located, path, Fault { code, failed });
+    }
+    if !spells_avps(avp.bytes) {
+        let emptied = AvpRef { bytes: &[], ..avp };
+        let (code, failed) = (INVALID_AVP_LENGTH, Failed::Found(emptied));
+        return put_at(located, path, Fault { code, failed });
+    }
+    let list = AvpsRef::Spelled(avp.bytes);
+    let inside = path.inside(Step {
+        place: at,
+        code: avp.code,
+        vendor: avp.vendor,
+    });
+    locate_list(alloc, located, inside, dictionary, rule, list, depth - 1)?;
+    Ok(())
+}
+
+/// Lists the faults of AVPs under the rule, where so many groups may stand inside each other.
+#[cycle(locating)]
+pub(crate) fn locate_list<'a>(
+    alloc: Global,
+    located: &mut Vec<LocatedFault<'a>>,
+    path: Path,
+    dictionary: &Linked,
+    rule: LinkedRule<'_>,
+    list: AvpsRef<'a>,
+    depth: u32,
+) -> Result<(), NoMemory>
+    requires linked { IsLinked dictionary.now }
+    requires fit { IsFit dictionary.now.tables.avps.items }
+    requires rule { IsRule dictionary.now.tables.avps.items rule }
+    requires room { path.size + depth ≤ 8 }
+    ensures { OnOk result ((l : List Avp) → Lists list.entry l → AddsAt located.old.items located.new.items (path_of path)
+        (list_located depth dictionary.now.tables.avps.items rule.entry.entries.now l)) }
+{
+    let mut left = list;
+    let mut at: usize = 0;
+    while let Some((avp, rest)) = left.split_first() {
+        let (place, entry) = look_up(&dictionary.tables, rule, avp);
+        let allowed = allows(rule.entries, entry);
+        locate_avp(
+            alloc, located, path, at, dictionary, place, allowed, avp, depth,
+        )?;
+        left = rest;
+        at += 1;
+    }
+    locate_entries(alloc, located, path, &dictionary.tables, rule, list)?;
+    Ok(())
+}

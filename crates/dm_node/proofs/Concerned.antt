@@ -1,0 +1,44 @@
+-- An event concerns one neighbour at most.
+use Rattle.std.proofs.Common.{◌≡◌, ◌⊎◌, inl, inr, ℕ, true, false, Option, None, Some, List, refl, sym, ap, ◌∙◌}
+use Rattle.dm_base.specs.Before.{lower}
+use Rattle.dm_machine.specs.declared.connection.Conn.{Conn}
+use Rattle.dm_peer.specs.declared.peer.Peer.{Peer}
+use Rattle.dm_node.specs.Calling.{Caller, caller}
+use Rattle.dm_node.specs.Holding.{holds_at, host_at}
+use Rattle.dm_node.specs.Neighbourhoods.{IsNeighbourhood}
+use Rattle.dm_node.specs.OneConcerned.{OneIsConcerned}
+use Rattle.dm_node.specs.Telling.{IsAddressed, Concerns}
+use Rattle.dm_node.specs.declared.events.NodeEvent.TheVariants as event
+
+-- a connection that is held by one is held
+not_free : (ps : List (Option Peer)) (c : Conn) (i : ℕ) → holds_at ps c i ≡ true →
+    ((j : ℕ) → holds_at ps c j ≡ false) → ⊥
+not_free ps c i held free = let clash : true ≡ false = sym held ∙ free i in absurd (cc)
+
+same_host : (a b : Caller) → a ≡ b → lower a.1 ≡ lower b.1
+same_host a b e = ap (λ (x : Caller). lower x.1) e
+
+some_is : (o : Option Caller) (a b : Caller) → o ≡ Some a → o ≡ Some b → a ≡ b
+some_is None a b x y = absurd (cc)
+some_is (Some z) a b x y = cc
+
+-- octets on a connection concern one
+one_addressed : (ps : List (Option Peer)) (c : Conn) (s : List ℕ) (i j : ℕ) → IsNeighbourhood ps →
+    IsAddressed ps c s i → IsAddressed ps c s j → i ≡ j
+one_addressed ps c s i j n (inl a) (inl b) = n.apart.one i j c a b
+one_addressed ps c s i j n (inl a) (inr b) = absurd (not_free ps c i a b.0)
+one_addressed ps c s i j n (inr a) (inl b) = absurd (not_free ps c j b a.0)
+one_addressed ps c s i j n (inr a) (inr b) =
+    let same = same_host b.1 a.1 (some_is (caller s) b.1 a.1 b.2 a.2) in
+    n.unlike.one i j (lower a.1.1) a.3 (b.3 ∙ ap Some same)
+
+pub one_is_concerned : OneIsConcerned
+one_is_concerned ps (event.Start m c) i j n a b = sym a ∙ b
+one_is_concerned ps (event.Stop m cause) i j n a b = sym a ∙ b
+one_is_concerned ps (event.Timeout m) i j n a b = sym a ∙ b
+one_is_concerned ps (event.Tick m) i j n a b = sym a ∙ b
+one_is_concerned ps (event.Submit m octets) i j n a b = sym a ∙ b
+one_is_concerned ps (event.Ack c) i j n a b = n.apart.one i j c a b
+one_is_concerned ps (event.Nack c) i j n a b = n.apart.one i j c a b
+one_is_concerned ps (event.Arrived c octets) i j n a b = one_addressed ps c octets.now i j n a b
+one_is_concerned ps (event.Gone c) i j n a b = n.apart.one i j c a b

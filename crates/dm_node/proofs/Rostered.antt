@@ -1,0 +1,125 @@
+-- What keeps a roster.
+use Rattle.std.proofs.Common.{◌≡◌, ℕ, zero, suc, Bool, true, false, List, [], ◌∷◌, map, option_map, Option, None, Some, refl, sym, ap, subst, ◌∙◌, inl, inr, ◌++◌, Result, Ok, Err, OnOk, OnErr}
+use Rattle.std.proofs.Math.ListN.{set}
+use Rattle.dm_machine.specs.declared.connection.Conn.{Conn}
+use Rattle.dm_peer.specs.After.{fresh}
+use Rattle.dm_peer.specs.declared.config.Config.{Config}
+use Rattle.dm_peer.specs.declared.peer.Peer.{Peer}
+use Rattle.dm_node.specs.Adding.{with_new}
+use Rattle.dm_node.specs.Emptying.{set_back, all_set_back}
+use Rattle.dm_node.specs.Holding.{peer_at, holds_it, holds_at, host_of, host_at, AreApart, AreUnlike}
+use Rattle.dm_node.specs.Owning.{has, noted_for, AreOwned, IsResettled}
+use Rattle.dm_node.specs.declared.owners.Holding.{Holding}
+use Rattle.dm_node.specs.declared.owners.Owners.{Owners}
+use Rattle.dm_node.specs.declared.fault.AddFault.{AddFault}
+use Rattle.dm_node.proofs.Growing.{still}
+use Rattle.dm_node.proofs.Owned.{holder_there}
+use Rattle.dm_node.proofs.Places.{kept_at, set_at, set_else}
+use Rattle.dm_node.proofs.Taking.{same_or, two_truths}
+
+-- fewer are held
+pub apart_less : (ps qs : List (Option Peer)) →
+    ((j : ℕ) (c : Conn) → holds_at qs c j ≡ true → holds_at ps c j ≡ true) → AreApart ps → AreApart qs
+apart_less ps qs less apart = record { one = λ i j c h g. apart.one i j c (less i c h) (less j c g) }
+
+-- fewer are named
+pub unlike_less : (ps qs : List (Option Peer)) →
+    ((j : ℕ) (h : List ℕ) → host_at qs j ≡ Some h → host_at ps j ≡ Some h) → AreUnlike ps → AreUnlike qs
+unlike_less ps qs less unlike = record { one = λ i j h p q. unlike.one i j h (less i h p) (less j h q) }
+
+-- who was set back holds nothing, and has the host that it had
+pub back_holds : (c : Conn) (o : Option Peer) → holds_it c (option_map set_back o) ≡ false
+back_holds c None = refl
+back_holds c (Some p) = refl
+
+pub back_host : (o : Option Peer) → host_of (option_map set_back o) ≡ host_of o
+back_host None = refl
+back_host (Some p) = refl
+
+-- a place where nobody holds anything is put in
+pub less_set : (ps : List (Option Peer)) (i : ℕ) (y : Option Peer) → ((c : Conn) → holds_it c y ≡ false) →
+    (j : ℕ) (c : Conn) → holds_at (set ps i y) c j ≡ true → holds_at ps c j ≡ true
+less_set ps i y free j c h =
+    elim (same_or j i) [
+      | inl s ↦ elim (set_at ps i y) [
+        | inl a ↦ absurd (two_truths (holds_it c y) (subst (λ o. holds_it c o ≡ true) a
+            (subst (λ n. holds_at (set ps i y) c n ≡ true) s h)) (free c))
+        | inr b ↦ subst (λ n. holds_at ps c n ≡ true) (sym s) (subst (λ o. holds_it c o ≡ true) b
+            (subst (λ n. holds_at (set ps i y) c n ≡ true) s h))
+      ]
+      | inr un ↦ subst (λ o. holds_it c o ≡ true) (set_else ps i j y un) h
+    ]
+
+-- a place whose host is the same, or none, is put in
+pub host_set : (ps : List (Option Peer)) (i : ℕ) (y : Option Peer) →
+    ((h : List ℕ) → host_of y ≡ Some h → host_at ps i ≡ Some h) →
+    (j : ℕ) (h : List ℕ) → host_at (set ps i y) j ≡ Some h → host_at ps j ≡ Some h
+host_set ps i y fewer j h e =
+    elim (same_or j i) [
+      | inl s ↦ elim (set_at ps i y) [
+        | inl a ↦ subst (λ n. host_at ps n ≡ Some h) (sym s) (fewer h (subst (λ o. host_of o ≡ Some h) a
+            (subst (λ n. host_at (set ps i y) n ≡ Some h) s e)))
+        | inr b ↦ subst (λ n. host_at ps n ≡ Some h) (sym s) (subst (λ o. host_of o ≡ Some h) b
+            (subst (λ n. host_at (set ps i y) n ≡ Some h) s e))
+      ]
+      | inr un ↦ subst (λ o. host_of o ≡ Some h) (set_else ps i j y un) e
+    ]
+
+pub none_free : (c : Conn) → holds_it c None ≡ false
+none_free c = refl
+
+pub none_named : (ps : List (Option Peer)) (i : ℕ) (h : List ℕ) → host_of None ≡ Some h → host_at ps i ≡ Some h
+none_named ps i h e = cc
+
+pub back_named : (ps : List (Option Peer)) (i : ℕ) (h : List ℕ) →
+    host_of (option_map set_back (peer_at ps i)) ≡ Some h → host_at ps i ≡ Some h
+back_named ps i h e = sym (back_host (peer_at ps i)) ∙ e
+
+pub apart_set : (ps qs : List (Option Peer)) (i : ℕ) (y : Option Peer) → qs ≡ set ps i y →
+    ((c : Conn) → holds_it c y ≡ false) → AreApart ps → AreApart qs
+apart_set ps qs i y is free apart = subst AreApart (sym is) (apart_less ps (set ps i y) (less_set ps i y free) apart)
+
+pub unlike_set : (ps qs : List (Option Peer)) (i : ℕ) (y : Option Peer) → qs ≡ set ps i y →
+    ((h : List ℕ) → host_of y ≡ Some h → host_at ps i ≡ Some h) → AreUnlike ps → AreUnlike qs
+unlike_set ps qs i y is fewer unlike =
+    subst AreUnlike (sym is) (unlike_less ps (set ps i y) (host_set ps i y fewer) unlike)
+
+pub resettled : (ps qs : List (Option Peer)) (i : ℕ) (y : Option Peer) (before : Holding) → qs ≡ set ps i y →
+    ((c : Conn) → has before c ≡ holds_at ps c i) → IsResettled ps qs i before
+resettled ps qs i y before is held =
+    record { held = held; others = λ j un. ap (λ l. peer_at l j) is ∙ set_else ps i j y un }
+
+-- one more, that holds nothing
+owned_grown : (ps : List (Option Peer)) (y : Peer) (n : ℕ) (o : Owners) → y.standing ≡ fresh n → AreOwned o ps →
+    AreOwned o (ps ++ Some y ∷ [])
+owned_grown ps y n o is owned = record {
+  holds = λ w c i e.
+      subst (λ x. holds_it c x ≡ true)
+      (sym (kept_at ps (Some y) i (holder_there ps c i (owned.holds w c i e)))) (owned.holds w c i e);
+  noted = λ w c i h. owned.noted w c i (still ps y n c i is h);
+}
+
+pub owned_put : (r : Result ℕ AddFault) (ps qs : List (Option Peer)) (k : Config) (o : Owners) →
+    OnOk r (qs ≡ with_new ps k) → OnErr r (qs ≡ ps) → AreOwned o ps → AreOwned o qs
+owned_put (Ok i) ps qs k o ok err owned = subst (AreOwned o) (sym ok) (owned_grown ps _ k.first_id o refl owned)
+owned_put (Err f) ps qs k o ok err owned = subst (AreOwned o) (sym err) owned
+
+-- each one was set back
+each_back : (ps : List (Option Peer)) (j : ℕ) → peer_at (all_set_back ps) j ≡ option_map set_back (peer_at ps j)
+each_back [] j = refl
+each_back (x ∷ xs) zero = refl
+each_back (x ∷ xs) (suc j) = each_back xs j
+
+pub all_free : (ps qs : List (Option Peer)) → qs ≡ all_set_back ps → (c : Conn) (i : ℕ) → holds_at qs c i ≡ false
+all_free ps qs is c i =
+    subst (λ l. holds_at l c i ≡ false) (sym is)
+    (subst (λ o. holds_it c o ≡ false) (sym (each_back ps i)) (back_holds c (peer_at ps i)))
+
+pub apart_all : (ps qs : List (Option Peer)) → qs ≡ all_set_back ps → AreApart qs
+apart_all ps qs is =
+    record { one = λ i j c h g. absurd (two_truths (holds_at qs c i) h (all_free ps qs is c i)) }
+
+pub unlike_all : (ps qs : List (Option Peer)) → qs ≡ all_set_back ps → AreUnlike ps → AreUnlike qs
+unlike_all ps qs is unlike =
+    subst AreUnlike (sym is) (unlike_less ps (all_set_back ps)
+    (λ j h e. sym (back_host (peer_at ps j)) ∙ sym (ap host_of (each_back ps j)) ∙ e) unlike)

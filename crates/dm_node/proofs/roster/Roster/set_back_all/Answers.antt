@@ -1,0 +1,9 @@
+use Rattle.dm_node.proofs.Rostered.{all_free, apart_all, unlike_all}
+use Rattle.dm_node.proofs.roster.Roster.set_back_all.Goals as goal
+
+pub returns-clause-roster : goal.returns-clause-roster
+returns-clause-roster c = record {
+  apart = apart_all c.args.self.now.peers.items _ c.set_back_each.ensures;
+  unlike = unlike_all c.args.self.now.peers.items _ c.set_back_each.ensures c.requires.unlike;
+  owned = c.clear.ensures _ (all_free c.args.self.now.peers.items _ c.set_back_each.ensures);
+}

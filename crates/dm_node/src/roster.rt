@@ -1,0 +1,93 @@
+//! The neighbours of a node, with what finds one by a connection.
+ghost use Rattle.std.specs.Prelude.{◌≡◌, ◌⊎◌, ◌↔◌, ℕ, ◌<◌, None, Some, Err, IsSome, IfSome, IfNone, IfOk, IfErr, IsErrOf, OnOk, OnErr, true, false, [], length};
+ghost use Rattle.std.specs.Option.{option_copied};
+ghost use Rattle.dm_base.specs.Before.{lower};
+ghost use Rattle.dm_node.specs.Adding.{with_new};
+ghost use Rattle.dm_node.specs.Emptying.{without, with_set_back, all_set_back};
+ghost use Rattle.dm_node.specs.Holding.{peer_at, holds_at, host_at, IsKnown};
+ghost use Rattle.dm_node.specs.Rosters.{IsRoster};
+ghost use Rattle.dm_node.specs.declared.fault.AddFault.TheVariants.{Known, NoMemory};
+
+use crate::AddFault;
+use crate::adding::put;
+use crate::emptying::{set_back_at, set_back_each, take_at};
+use crate::owners::{Owners, holding_at};
+use dm_peer::{Config, Conn, Peer};
+use std::alloc::Global;
+
+/// A peer for each neighbour, in order of adding, and the number of the neighbour that holds a connection.
+#[derive(Debug, Drop)]
+pub(crate) struct Roster {
+    pub(crate) peers: Vec<Option<Peer>>,
+    pub(crate) owners: Owners,
+}
+
+impl Roster {
+    /// No neighbours. It never answers want of memory.
+    pub(crate) fn new(alloc: Global) -> Roster
+        ensures empty { result.peers.items ≡ [] }
+        ensures roster { IsRoster result }
+    {
+        Roster {
+            peers: Vec::new(alloc),
+            owners: Owners::new(alloc),
+        }
+    }
+
+    /// The neighbour that holds the connection.
+    pub(crate) fn holder(&self, conn: Conn) -> Option<usize>
+        requires { IsRoster self.now }
+        ensures there { IfSome result (λ i. IsSome (peer_at self.now.peers.items i)) }
+        ensures found { IfSome result (λ i. holds_at self.now.peers.items conn i ≡ true) }
+        ensures none { IfNone result ((j : ℕ) → holds_at self.now.peers.items conn j ≡ false) }
+    {
+        self.owners.holder(&self.peers, conn)
+    }
+
+    /// Puts a closed peer of the configuration behind the others.
+    pub(crate) fn put(&mut self, config: Config) -> Result<usize, AddFault>
+        requires { IsRoster self.old }
+        ensures number { IfOk result (λ i. i ≡ length self.old.peers.items) }
+        ensures added { OnOk result (self.new.peers.items ≡ with_new self.old.peers.items config) }
+        ensures known { IsErrOf result Known ↔ IsKnown self.old.peers.items config.peer }
+        ensures refuses { IfErr result (λ f. (f ≡ Known) ⊎ (f ≡ NoMemory)) }
+        ensures unchanged { OnErr result (self.new.peers.items ≡ self.old.peers.items) }
+        ensures roster { IsRoster self.new }
+    {
+        put(&mut self.peers, config)
+    }
+
+    /// Takes the neighbour of the number out, and forgets its connections.
+    pub(crate) fn take(&mut self, index: usize) -> Option<Peer>
+        requires { IsRoster self.old }
+        ensures gone { result ≡ peer_at self.old.peers.items index }
+        ensures without { self.new.peers.items ≡ without self.old.peers.items index }
+        ensures roster { IsRoster self.new }
+    {
+        let before = holding_at(&self.peers, index);
+        let gone = take_at(&mut self.peers, index);
+        self.owners.settle(&self.peers, before, index);
+        gone
+    }
+
+    /// Sets the neighbour of the number back, where there is one, and forgets its connections.
+    pub(crate) fn set_back(&mut self, index: usize)
+        requires { IsRoster self.old }
+        ensures back { self.new.peers.items ≡ with_set_back self.old.peers.items index }
+        ensures roster { IsRoster self.new }
+    {
+        let before = holding_at(&self.peers, index);
+        set_back_at(&mut self.peers, index);
+        self.owners.settle(&self.peers, before, index);
+    }
+
+    /// Sets each neighbour back, and forgets all connections.
+    pub(crate) fn set_back_all(&mut self)
+        requires { IsRoster self.old }
+        ensures back { self.new.peers.items ≡ all_set_back self.old.peers.items }
+        ensures roster { IsRoster self.new }
+    {
+        set_back_each(&mut self.peers);
+        self.owners.clear();
+    }
+}

@@ -1,0 +1,12 @@
+use Rattle.std.proofs.Common.{◌∙◌, ap, is_some}
+use Rattle.std.specs.List.{list_any}
+use Rattle.dm_tables.specs.Listed.{has_number}
+use Rattle.dm_tables.proofs.Found.{has_place}
+use Rattle.dm_tables.proofs.values.Values.lists.Goals as goal
+
+pub returns : goal.returns
+returns c =
+    c.contains_key.ensures
+    ∙ ap is_some (c.self.invariant c.args.number.now)
+    ∙ has_place (has_number c.args.number.now) 0 c.self.inside.items.items
+    ∙ ap (list_any (has_number c.args.number.now)) c.self.view_is

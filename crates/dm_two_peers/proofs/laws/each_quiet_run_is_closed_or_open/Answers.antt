@@ -1,0 +1,9 @@
+use Rattle.dm_two_peers.proofs.RequestedQuiet.{run_settles}
+use Rattle.dm_two_peers.proofs.laws.each_quiet_run_is_closed_or_open.Goals as goal
+
+pub returns : goal.returns
+returns g c =
+    λ m r stands is match a b closed_a closed_b left right hs.
+    run_settles m (record
+    { changes = c.each_connection_changes_as_allowed.ensures; keeps = c.each_step_keeps_shape.ensures }) is r stands
+    match a b (c.closed_is_sound.ensures m a b closed_a closed_b) left right hs
