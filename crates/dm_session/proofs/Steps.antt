@@ -1,0 +1,80 @@
+-- One step of the code on the connections that are there.
+use Rattle.std.proofs.Common.{◌≡◌, ◌≤◌, ◌-◌, ℕ, Bool, true, false, cond, ◌||◌, nat_eq, Option, None, Some, IfSome, is_some, true≢false, List, [], ◌∷◌, length, take, drop, get_or, refl, sym, ap, ◌∙◌, subst, arith}
+use Rattle.std.proofs.lemmas.List.{take_rest}
+use Rattle.std.proofs.lemmas.Bool.{eqb-true}
+use Rattle.std.proofs.Math.Path.{fun_ext}
+use Rattle.dm_machine.specs.declared.connection.Conn.{Conn}
+use Rattle.dm_peer.specs.declared.actions.Action.{Action}
+use Rattle.dm_peer.specs.declared.actions.Action.TheVariants as action
+use Rattle.dm_session.specs.declared.intake.Front.{Front}
+use Rattle.dm_session.specs.declared.intake.Front.TheVariants.{Nothing, Message, Fault}
+use Rattle.dm_session.specs.Fronts.{IsFront, IsFrontAt}
+use Rattle.dm_session.specs.Intakes.{Intake, Intakes, IsToldOut, closes, is_close_of, left_by, shut, is_there, with_intake, new_intake}
+use Rattle.dm_session.specs.Sessions.{Session, with_intakes}
+use Rattle.dm_peer.specs.Events as event
+use Rattle.dm_session.specs.Orders.{with_opened, with_shut, TellsOnce, TellsNothing, TellsStart}
+
+both : (a b : Bool) (i : Option Intake) → cond b None (cond a None i) ≡ cond (a || b) None i
+both true true i = refl
+both true false i = refl
+both false true i = refl
+both false false i = refl
+
+-- what a Close and then others close
+pub left_close : (d : Conn) (rest : List Action) (f : Intakes) →
+    left_by rest (shut d.0 f) ≡ left_by (action.Close d ∷ rest) f
+left_close d rest f = fun_ext (λ c. both (nat_eq d.0 c) (closes rest c) (f c))
+
+-- what stands at the front of a connection that is there
+pub front_there : (o : Option Intake) (i : Intake) (f : Front) → Some i ≡ o → IsFront i f → IsFrontAt o f
+front_there o i f e is = subst (λ v. IsFrontAt v f) e (at f is)
+  where
+    at : (g : Front) → IsFront i g → IsFrontAt (Some i) g
+    at Nothing out = out
+    at (Message m) first = (i, first.0, refl, first.1)
+    at Fault faulty = (i, refl, faulty)
+
+pub front_none : (o : Option Intake) → None ≡ o → IfSome o IsToldOut
+front_none o e = subst (λ v. IfSome v IsToldOut) e tt
+
+-- what one action closes, and then others
+pub left_on : (a : Action) (rest : List Action) (f : Intakes) →
+    left_by rest (left_by (a ∷ []) f) ≡ left_by (a ∷ rest) f
+left_on a rest f = fun_ext (λ c. one (is_close_of c a) (closes rest c) (f c))
+  where
+    one : (a b : Bool) (i : Option Intake) → cond b None (cond (a || false) None i) ≡ cond (a || b) None i
+    one true true i = refl
+    one true false i = refl
+    one false true i = refl
+    one false false i = refl
+
+-- the first action, and the others
+pub cut_first : (list : List Action) (a : Action) → 1 ≤ length list → a ≡ get_or list 0 a
+    → list ≡ a ∷ take (length list - 1) (drop 1 list)
+cut_first [] a some is = absurd (omega (arith, some))
+cut_first (b ∷ list) a some is = ap (λ v. v ∷ list) (sym is) ∙ ap (λ v. a ∷ v) (sym (take_rest (b ∷ list) 1))
+
+none_of : (o : Option Intake) → is_some o ≡ false → o ≡ None
+none_of None e = refl
+none_of (Some i) e = absurd (true≢false e)
+
+-- a connection that wasn't there, opened and shut again
+shut_again : (max c : ℕ) (f : Intakes) → f c ≡ None → shut c (with_intake c (Some (new_intake max)) f) ≡ f
+shut_again max c f none = fun_ext (λ d. at d (nat_eq c d) refl)
+  where
+    at : (d : ℕ) (b : Bool) → nat_eq c d ≡ b → cond b None (cond b (Some (new_intake max)) (f d)) ≡ f d
+    at d true e = sym none ∙ ap f (eqb-true c d e)
+    at d false e = refl
+
+pub shut_opened : (c : Conn) (s : Session) → is_there c.0 s.intakes ≡ false → with_shut c (with_opened c s) ≡ s
+shut_opened c s e =
+    let new = with_intake c.0 (Some (new_intake s.first_max)) s.intakes in
+    ap (λ b. with_intakes (shut c.0 (cond b s.intakes new)) s) e
+    ∙ ap (λ f. with_intakes f s) (shut_again s.first_max c.0 s.intakes (none_of (s.intakes c.0) e))
+
+-- a Start of a connection that wasn't there
+pub started : (c : Conn) (s o t : Session) (asks : Option (List Action)) → is_there c.0 s.intakes ≡ false
+    → o ≡ with_opened c s → TellsOnce (event.Start c) o asks t → TellsStart c s asks t
+started c s o t asks e is told =
+    subst (λ b. cond b (TellsNothing s asks t) (TellsOnce (event.Start c) (with_opened c s) asks t)) (sym e)
+    (subst (λ v. TellsOnce (event.Start c) v asks t) is told)

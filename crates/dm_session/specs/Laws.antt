@@ -1,0 +1,38 @@
+-- What holds of a session whatever comes (RFC 6733, 5.6).
+use Rattle.std.specs.Prelude.{◌≡◌, ℕ, true, Option, None, List, ◌++◌}
+use Rattle.dm_machine.specs.declared.connection.Conn.{Conn}
+use Rattle.dm_peer.specs.declared.actions.Action.{Action}
+use Rattle.dm_session.specs.Intakes.{closes}
+use Rattle.dm_session.specs.Orders.{Order, Ack, Nack, Octets, Gone, Takes}
+use Rattle.dm_session.specs.Sessions.{Session, Turn, TellsNext, TellsAlong, fed}
+
+-- Whatever cuts a stream: where the first octets are told turn by turn, and then those that come behind them, the turns
+-- are a telling of the whole at once, and leave the session alike.
+abbrev pub CutsAlike : Type 0
+CutsAlike =
+    (c : Conn) (piece more : List ℕ) (s m t : Session) (first others : List Turn)
+    → TellsAlong c (fed c piece s) first m → TellsAlong c (fed c more m) others t
+    → TellsAlong c (fed c (piece ++ more) s) (first ++ others) t
+
+-- behind a Close of a connection it isn't there
+abbrev pub CloseIsLast : Type 0
+CloseIsLast =
+    (c d : Conn) (s t : Session) (turn : Turn) → TellsNext c s turn t → closes turn.actions d.0 ≡ true
+    → t.intakes d.0 ≡ None
+
+-- the order tells what happened on connection c
+abbrev pub IsOn : Conn → Order → Type 0
+IsOn c (Ack d) = d ≡ c
+IsOn c (Nack d) = d ≡ c
+IsOn c (Octets d piece) = d ≡ c
+IsOn c (Gone d) = d ≡ c
+IsOn c _ = ⊥
+
+-- of a connection that isn't there nothing is told, and it stays so
+abbrev pub GoneIsSilent : Type 0
+GoneIsSilent =
+    (c : Conn) (order : Order) (s t : Session) (asks : Option (List Action)) → s.intakes c.0 ≡ None → IsOn c order
+    → Takes order s asks t → (asks ≡ None) × (t.intakes c.0 ≡ None)
+
+abbrev pub GoneTellsNothing : Type 0
+GoneTellsNothing = (c : Conn) (s t : Session) (turn : Turn) → s.intakes c.0 ≡ None → TellsNext c s turn t → ⊥

@@ -1,0 +1,6 @@
+pub mod Intakes
+pub mod Fronts
+pub mod Sessions
+pub mod Orders
+pub mod Seen
+pub mod Laws

@@ -1,0 +1,122 @@
+-- The orders of who drives a session, and what each comes to.
+use Rattle.std.specs.Prelude.{◌≡◌, ℕ, cond, true, false, Option, None, Some, List}
+use Rattle.dm_base.specs.declared.kind.Cause.{Cause}
+use Rattle.dm_machine.specs.declared.connection.Conn.{Conn}
+use Rattle.dm_peer.specs.declared.actions.Action.{Action}
+use Rattle.dm_peer.specs.declared.fault.PeerFault.{PeerFault}
+use Rattle.dm_peer.specs.Acts.{acts, Refused, standing_at}
+use Rattle.dm_peer.specs.After.{fresh}
+use Rattle.dm_peer.specs.Events.{PeerEvent}
+use Rattle.dm_peer.specs.Events as event
+use Rattle.dm_session.specs.declared.order.Order as declared
+use Rattle.dm_session.specs.declared.order.Order.TheVariants as order
+use Rattle.dm_session.specs.declared.turn.Turn as declared_turn
+use Rattle.dm_session.specs.Intakes.{none_there, is_there, opened, shut}
+use Rattle.dm_session.specs.Sessions.{Session, Turn, Tells, fed, with_intakes}
+
+pub data Order : Type 0 where
+  Start : Conn → Order
+  Ack : Conn → Order
+  Nack : Conn → Order
+  Accept : Conn → Order
+  Octets : Conn → List ℕ → Order
+  Gone : Conn → Order
+  Timeout : Order
+  Tick : Order
+  Stop : Cause → Order
+  Submit : List ℕ → Order
+  Reset : Order
+
+-- an order, with octets as lists
+abbrev pub asked : declared.Order → Order
+asked (order.Start c) = Start c
+asked (order.Ack c) = Ack c
+asked (order.Nack c) = Nack c
+asked (order.Accept c) = Accept c
+asked (order.Octets c piece) = Octets c piece.now
+asked (order.Gone c) = Gone c
+asked order.Timeout = Timeout
+asked order.Tick = Tick
+asked (order.Stop cause) = Stop cause
+asked (order.Submit octets) = Submit octets.now
+asked order.Reset = Reset
+
+-- what one event asked for, as definitions see it
+abbrev pub as_turn : declared_turn.Turn → Turn
+as_turn turn = record { arrived = turn.arrived; actions = turn.actions.items }
+
+-- an event is told, and this is what it asks for
+abbrev pub TellsOnce : PeerEvent → Session → Option (List Action) → Session → Type 0
+TellsOnce e s asks t = (actions : List Action) × (asks ≡ Some actions) × Tells e s actions t
+
+-- nothing is told
+abbrev pub TellsNothing : Session → Option (List Action) → Session → Type 0
+TellsNothing s asks t = (asks ≡ None) × (t ≡ s)
+
+-- an event of connection c is told where that is there
+abbrev pub TellsIfThere : Conn → PeerEvent → Session → Option (List Action) → Session → Type 0
+TellsIfThere c e s asks t = cond (is_there c.0 s.intakes) (TellsOnce e s asks t) (TellsNothing s asks t)
+
+-- connection c is there, as it was or as a new one
+abbrev pub with_opened : Conn → Session → Session
+with_opened c s = with_intakes (opened s.first_max c.0 s.intakes) s
+
+-- connection c is no more there
+abbrev pub with_shut : Conn → Session → Session
+with_shut c s = with_intakes (shut c.0 s.intakes) s
+
+-- the peer is closed, and has no connection
+abbrev pub closed : Session → Session
+closed s =
+    record {
+      peer = standing_at s.peer (fresh s.peer.standing.next);
+      intakes = none_there;
+      first_max = s.first_max;
+      most = s.most;
+    }
+
+-- an event of connection c is told, and then that is no more there
+abbrev pub TellsEnd : Conn → PeerEvent → Session → Option (List Action) → Session → Type 0
+TellsEnd c e s asks t = (m : Session) × TellsIfThere c e s asks m × (t ≡ with_shut c m)
+
+-- a number that is in use isn't started again
+abbrev pub TellsStart : Conn → Session → Option (List Action) → Session → Type 0
+TellsStart c s asks t =
+    cond (is_there c.0 s.intakes) (TellsNothing s asks t) (TellsOnce (event.Start c) (with_opened c s) asks t)
+
+-- What an order asks for, None where no event is told, and where it leaves the session. Of a connection that isn't
+-- there nothing is told. What came is told message by message, by `TellsNext`.
+abbrev pub Takes : Order → Session → Option (List Action) → Session → Type 0
+Takes (Start c) s asks t = TellsStart c s asks t
+Takes (Ack c) s asks t = TellsIfThere c (event.Ack c) s asks t
+Takes (Nack c) s asks t = TellsEnd c (event.Nack c) s asks t
+Takes (Accept c) s asks t = TellsNothing (with_opened c s) asks t
+Takes (Octets c piece) s asks t = TellsNothing (fed c piece s) asks t
+Takes (Gone c) s asks t = TellsEnd c (event.Gone c) s asks t
+Takes Timeout s asks t = TellsOnce event.Timeout s asks t
+Takes Tick s asks t = TellsOnce event.Tick s asks t
+Takes (Stop cause) s asks t = TellsOnce (event.Stop cause) s asks t
+Takes (Submit octets) s asks t = TellsOnce (event.Submit octets) s asks t
+Takes Reset s asks t = TellsNothing (closed s) asks t
+
+-- the peer refuses the event with this fault
+abbrev pub RefusesOnce : PeerEvent → Session → PeerFault → Type 0
+RefusesOnce e s f = acts s.peer e ≡ Refused f
+
+-- the peer refuses an event of connection c, which is there
+abbrev pub RefusesIfThere : Conn → PeerEvent → Session → PeerFault → Type 0
+RefusesIfThere c e s f = (is_there c.0 s.intakes ≡ true) × RefusesOnce e s f
+
+-- Why an order is refused: the peer refuses its event. Where none is told there is nothing to refuse.
+abbrev pub Refuses : Order → Session → PeerFault → Type 0
+Refuses (Start c) s f = (is_there c.0 s.intakes ≡ false) × RefusesOnce (event.Start c) s f
+Refuses (Ack c) s f = RefusesIfThere c (event.Ack c) s f
+Refuses (Nack c) s f = RefusesIfThere c (event.Nack c) s f
+Refuses (Accept c) s f = ⊥
+Refuses (Octets c piece) s f = ⊥
+Refuses (Gone c) s f = RefusesIfThere c (event.Gone c) s f
+Refuses Timeout s f = RefusesOnce event.Timeout s f
+Refuses Tick s f = RefusesOnce event.Tick s f
+Refuses (Stop cause) s f = RefusesOnce (event.Stop cause) s f
+Refuses (Submit octets) s f = RefusesOnce (event.Submit octets) s f
+Refuses Reset s f = ⊥

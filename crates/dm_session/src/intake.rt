@@ -1,0 +1,102 @@
+//! What came on a connection and wasn't told yet.
+ghost use Rattle.std.specs.Prelude.{◌≡◌, ℕ, List, OnOk, OnErr};
+ghost use Rattle.dm_session.specs.Intakes.{new_intake, fed_intake, broken_intake, with_max, IsFirst, IsFaulty};
+ghost use Rattle.dm_session.specs.Intakes.{IsToldOut};
+ghost use Rattle.dm_session.specs.Fronts.{IsFront};
+
+use dm_framer::{FrameFault, Framer};
+use std::alloc::{AllocError, Global};
+use std::marker::Model;
+
+/// What stands at the front of what came.
+#[derive(Clone, Copy)]
+pub(crate) enum Front<'a> {
+    /// No whole message yet.
+    Nothing,
+    /// A message.
+    Message(&'a [u8]),
+    /// What no message begins with.
+    Fault,
+}
+
+/// What came on a connection and wasn't told yet.
+#[derive(Debug, Drop)]
+pub(crate) struct Intake {
+    framer: Framer,
+    is_broken: bool,
+}
+
+impl Model for Intake {
+    ghost use Rattle.std.specs.Prelude.{◌≡◌, None};
+    ghost use Rattle.dm_session.specs.Intakes.{Intake};
+
+    ghost Value = { Intake };
+
+    ghost view = { λ i. record { octets = i.framer.octets; max = i.framer.max; is_broken = i.is_broken } };
+
+    ghost invariant = { λ i. i.framer.fault ≡ None };
+}
+
+impl Intake {
+    /// Nothing came; messages of at most `max` octets may. It never answers want of memory.
+    pub(crate) fn new(alloc: Global, max: u32) -> Intake
+        ensures { result ≡ new_intake max }
+    {
+        Intake {
+            framer: Framer::new(alloc, max),
+            is_broken: false,
+        }
+    }
+
+    /// Keeps a piece. Behind a fault it is thrown away.
+    pub(crate) fn feed(&mut self, piece: &[u8]) -> Result<(), AllocError>
+        ensures fed { OnOk result (self.new ≡ fed_intake piece.now self.old) }
+        ensures unchanged { OnErr result (self.new ≡ self.old) }
+    {
+        if self.is_broken {
+            return Ok(());
+        }
+        match self.framer.feed(piece) {
+            Ok(()) => Ok(()),
+            Err(_) => Err(AllocError),
+        }
+    }
+
+    /// What stands at the front. It never answers want of memory.
+    pub(crate) fn front(&self) -> Front<'_>
+        ensures { IsFront self.now result }
+    {
+        if self.is_broken {
+            return Front::Nothing;
+        }
+        match self.framer.front() {
+            Ok(Some(message)) => Front::Message(message),
+            Ok(None) => Front::Nothing,
+            Err(_) => Front::Fault,
+        }
+    }
+
+    /// Lets the front message go. It never answers want of memory.
+    pub(crate) fn skip(&mut self)
+        ensures { (message rest : List ℕ) → IsFirst self.old message rest
+            → self.new ≡ record self.old { octets = rest } }
+    {
+        self.framer.skip();
+    }
+
+    /// A fault was told: what came, and what comes, is thrown away. It never answers want of memory.
+    pub(crate) fn break_off(&mut self, alloc: Global)
+        ensures { self.new ≡ broken_intake self.old }
+    {
+        let max = self.framer.max();
+        self.framer = Framer::new(alloc, max);
+        self.is_broken = true;
+    }
+
+    /// Sets the greatest Message Length. It never answers want of memory.
+    pub(crate) fn set_max(&mut self, max: u32)
+        ensures { self.new ≡ with_max max self.old }
+    {
+        self.framer.set_max(max);
+    }
+}

@@ -1,0 +1,155 @@
+//! The connections that are there, by number.
+ghost use Rattle.std.specs.Prelude.{◌≡◌, ◌∷◌, [], ℕ, List, Some, cond, OnOk, OnErr};
+ghost use Rattle.dm_session.specs.Intakes.{none_there, is_there, opened, shut, changed, raised_at, left_by};
+ghost use Rattle.dm_session.specs.Intakes.{fed_intake, broken_intake, with_intake, Intake as OneIntake, IsFirst};
+ghost use Rattle.dm_session.specs.Fronts.{IsFrontAt};
+ghost use Rattle.dm_session.specs.Seen.{intakes_of};
+
+use crate::intake::{Front, Intake};
+use dm_machine::Conn;
+use dm_peer::Action;
+use indexmap::IndexMap;
+use std::alloc::{AllocError, Global};
+
+/// The connections that are there, by number, each with what came on it and wasn't told yet.
+#[derive(Drop)]
+pub(crate) struct Intakes {
+    map: IndexMap<u64, Intake>,
+}
+
+impl Intakes {
+    /// No connections. It never answers want of memory.
+    pub(crate) fn new(alloc: Global) -> Intakes
+        ensures { intakes_of result ≡ none_there }
+    {
+        Intakes {
+            map: IndexMap::new(alloc),
+        }
+    }
+
+    /// Whether the connection is there.
+    pub(crate) fn has(&self, conn: Conn) -> bool
+        ensures { result ≡ is_there conn.0 (intakes_of self.now) }
+    {
+        self.map.get(&conn.0).is_some()
+    }
+
+    #[tactic(auto, using(crate::proofs::Steps::front_there, crate::proofs::Steps::front_none))]
+    /// What stands at the front of what came on the connection; Nothing where it isn't there.
+    pub(crate) fn front(&self, conn: Conn) -> Front<'_>
+        ensures { IsFrontAt (intakes_of self.now conn.0) result }
+    {
+        match self.map.get(&conn.0) {
+            Some(intake) => intake.front(),
+            None => Front::Nothing,
+        }
+    }
+
+    /// The connection is there: as it was, or, if it wasn't, as a new one for messages of at most `max` octets.
+    pub(crate) fn open(&mut self, alloc: Global, conn: Conn, max: u32) -> Result<(), AllocError>
+        ensures opened { OnOk result (intakes_of self.new ≡ opened max conn.0 (intakes_of self.old)) }
+        ensures unchanged { OnErr result (intakes_of self.new ≡ intakes_of self.old) }
+    {
+        if self.has(conn) {
+            return Ok(());
+        }
+        match self.map.insert(conn.0, Intake::new(alloc, max)) {
+            Ok(_) => Ok(()),
+            Err(_) => Err(AllocError),
+        }
+    }
+
+    /// The connection is no more there. It never answers want of memory.
+    pub(crate) fn shut(&mut self, conn: Conn)
+        ensures { intakes_of self.new ≡ shut conn.0 (intakes_of self.old) }
+    {
+        let _gone = self.map.swap_remove(&conn.0);
+    }
+
+    /// No connection is there. It never answers want of memory.
+    pub(crate) fn clear(&mut self)
+        ensures { intakes_of self.new ≡ none_there }
+    {
+        self.map.clear();
+    }
+
+    /// Keeps a piece that came on the connection, where it is there.
+    pub(crate) fn feed(&mut self, conn: Conn, piece: &[u8]) -> Result<(), AllocError>
+        ensures fed { OnOk result (intakes_of self.new ≡ changed conn.0 (fed_intake piece.now) (intakes_of self.old)) }
+        ensures unchanged { OnErr result (intakes_of self.new ≡ intakes_of self.old) }
+    {
+        match self.map.get_mut(&conn.0) {
+            Some(intake) => intake.feed(piece),
+            None => Ok(()),
+        }
+    }
+
+    /// Lets the front message of the connection go. It never answers want of memory.
+    pub(crate) fn skip(&mut self, conn: Conn)
+        ensures { (intake : OneIntake) (message rest : List ℕ) → intakes_of self.old conn.0 ≡ Some intake
+            → IsFirst intake message rest
+            → intakes_of self.new ≡ with_intake conn.0 (Some (record intake { octets = rest })) (intakes_of self.old) }
+    {
+        if let Some(intake) = self.map.get_mut(&conn.0) {
+            intake.skip();
+        }
+    }
+
+    /// A fault of the connection was told. It never answers want of memory.
+    pub(crate) fn break_off(&mut self, alloc: Global, conn: Conn)
+        ensures { (intake : OneIntake) → intakes_of self.old conn.0 ≡ Some intake
+            → intakes_of self.new ≡ with_intake conn.0 (Some (broken_intake intake)) (intakes_of self.old) }
+    {
+        if let Some(intake) = self.map.get_mut(&conn.0) {
+            intake.break_off(alloc);
+        }
+    }
+
+    /// The connection, if it is one and there, takes messages of at most `max` octets. It never answers want of memory.
+    pub(crate) fn raise(&mut self, conn: Option<Conn>, max: u32)
+        ensures { intakes_of self.new ≡ raised_at max conn (intakes_of self.old) }
+    {
+        if let Some(conn) = conn {
+            if let Some(intake) = self.map.get_mut(&conn.0) {
+                intake.set_max(max);
+            }
+        }
+    }
+
+    /// Where the peer is open, both connections that it may hold take messages of at most `max` octets.
+    pub(crate) fn raise_open(
+        &mut self,
+        is_open: bool,
+        own: Option<Conn>,
+        other: Option<Conn>,
+        max: u32,
+    )
+        ensures { intakes_of self.new
+            ≡ cond is_open (raised_at max other (raised_at max own (intakes_of self.old))) (intakes_of self.old) }
+    {
+        if is_open {
+            self.raise(own, max);
+            self.raise(other, max);
+        }
+    }
+
+    #[tactic(auto, using(crate::proofs::Steps::left_close))]
+    /// What the action closes is no more there. It never answers want of memory.
+    fn leave_one(&mut self, action: &Action)
+        ensures { intakes_of self.new ≡ left_by (action.now ∷ []) (intakes_of self.old) }
+    {
+        if let Action::Close(conn) = action {
+            self.shut(*conn);
+        }
+    }
+
+    /// What the actions close is no more there. It never answers want of memory.
+    pub(crate) fn leave(&mut self, actions: &[Action])
+        ensures { intakes_of self.new ≡ left_by actions.now (intakes_of self.old) }
+    {
+        if let [action, rest @ ..] = actions {
+            self.leave_one(action);
+            self.leave(rest);
+        }
+    }
+}

@@ -1,0 +1,15 @@
+//! A peer with its connections: an order of who drives it becomes events, and these become actions (RFC 6733, 5.6).
+#![tactic(auto)]
+
+mod intake;
+mod intakes;
+pub mod laws;
+mod order;
+mod session;
+mod taking;
+mod turn;
+
+pub use dm_peer::{Action, Actions, Cause, Config, Conn, Peer, PeerFault};
+pub use order::Order;
+pub use session::Session;
+pub use turn::Turn;

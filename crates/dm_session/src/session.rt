@@ -1,0 +1,152 @@
+//! A peer with its connections.
+ghost use Rattle.std.specs.Prelude.{◌≡◌, IfOk, IfErr, IfSome, IfNone, OnOk, OnErr};
+ghost use Rattle.dm_peer.specs.Acts.{acts, IsRefused};
+ghost use Rattle.dm_peer.specs.Events.{told};
+ghost use Rattle.dm_peer.specs.After.{fresh};
+ghost use Rattle.dm_session.specs.Intakes.{none_there, is_there};
+ghost use Rattle.dm_session.specs.Sessions.{Tells, TellsNext, IsOut};
+ghost use Rattle.dm_session.specs.Sessions.{fed, settled};
+ghost use Rattle.dm_session.specs.Seen.{session_of};
+ghost use Rattle.dm_session.specs.Orders.{as_turn, closed, with_opened, with_shut};
+
+use crate::intake::Front;
+use crate::intakes::Intakes;
+use crate::turn::Turn;
+use dm_machine::Conn;
+use dm_peer::{Action, Actions, Config, Event, Peer, PeerFault};
+use std::alloc::{AllocError, Global};
+
+/// A peer with its connections: what came on each and wasn't told yet.
+#[derive(Drop)]
+pub struct Session {
+    peer: Peer,
+    intakes: Intakes,
+    first_max: u32,
+    most: u32,
+}
+
+impl Session {
+    /// A closed peer without connections. A message takes at most `first_max` octets before the capabilities exchange,
+    /// and `most` behind it. It never answers want of memory.
+    pub fn new(alloc: Global, config: Config, first_max: u32, most: u32) -> Session
+        ensures config { (session_of result).peer.config ≡ config }
+        ensures standing { (session_of result).peer.standing ≡ fresh config.first_id }
+        ensures none { (session_of result).intakes ≡ none_there }
+        ensures first_max { (session_of result).first_max ≡ first_max }
+        ensures most { (session_of result).most ≡ most }
+    {
+        Session {
+            peer: Peer::new(config),
+            intakes: Intakes::new(alloc),
+            first_max,
+            most,
+        }
+    }
+
+    /// The peer. It never answers want of memory.
+    pub fn peer(&self) -> &Peer
+        ensures { result.now ≡ (session_of self.now).peer }
+    {
+        &self.peer
+    }
+
+    /// Whether the connection is there. It never answers want of memory.
+    pub(crate) fn has(&self, conn: Conn) -> bool
+        ensures { result ≡ is_there conn.0 (session_of self.now).intakes }
+    {
+        self.intakes.has(conn)
+    }
+
+    /// The connection is there from now on.
+    pub(crate) fn open(&mut self, alloc: Global, conn: Conn) -> Result<(), AllocError>
+        ensures opened { OnOk result (session_of self.new ≡ with_opened conn (session_of self.old)) }
+        ensures unchanged { OnErr result (session_of self.new ≡ session_of self.old) }
+    {
+        match self.intakes.open(alloc, conn, self.first_max) {
+            Ok(()) => Ok(()),
+            Err(error) => Err(error),
+        }
+    }
+
+    /// The connection is no more there. It never answers want of memory.
+    pub(crate) fn shut(&mut self, conn: Conn)
+        ensures { session_of self.new ≡ with_shut conn (session_of self.old) }
+    {
+        self.intakes.shut(conn);
+    }
+
+    /// The peer is closed, and has no connection. It never answers want of memory.
+    pub(crate) fn reset(&mut self)
+        ensures { session_of self.new ≡ closed (session_of self.old) }
+    {
+        self.peer.reset();
+        self.intakes.clear();
+    }
+
+    /// Keeps a piece that came on the connection.
+    pub(crate) fn feed(&mut self, conn: Conn, piece: &[u8]) -> Result<(), AllocError>
+        ensures fed { OnOk result (session_of self.new ≡ fed conn piece.now (session_of self.old)) }
+        ensures unchanged { OnErr result (session_of self.new ≡ session_of self.old) }
+    {
+        self.intakes.feed(conn, piece)
+    }
+
+    /// Tells the peer an event.
+    pub(crate) fn tell(&mut self, alloc: Global, event: Event<'_>) -> Result<Actions, PeerFault>
+        ensures told { IfOk result (λ actions.
+            Tells (told event.entry) (session_of self.old) actions.items (session_of self.new)) }
+        ensures refused { IfErr result (IsRefused (acts (session_of self.old).peer (told event.entry))) }
+        ensures unchanged { OnErr result (session_of self.new ≡ session_of self.old) }
+    {
+        let actions = self.peer.on(alloc, event)?;
+        self.settle(actions.as_slice());
+        Ok(actions)
+    }
+
+    /// What the actions close is no more there, and what an open peer holds takes longer messages.
+    fn settle(&mut self, actions: &[Action])
+        ensures { session_of self.new ≡ settled (session_of self.old).peer actions.now (session_of self.old) }
+    {
+        self.intakes.leave(actions);
+        let own = self.peer.initiated();
+        let other = self.peer.accepted();
+        self.intakes
+            .raise_open(self.peer.is_open(), own, other, self.most);
+    }
+
+    /// Tells the next whole message that came on the connection, or the fault of its stream. None where there is
+    /// nothing to tell. Where memory is wanted nothing changes, and it can be told again.
+    pub fn next(&mut self, alloc: Global, conn: Conn) -> Result<Option<Turn>, AllocError>
+        ensures turn { IfOk result (λ found. IfSome found (λ turn.
+            TellsNext conn (session_of self.old) (as_turn turn) (session_of self.new))) }
+        ensures none { IfOk result (λ found. IfNone found (
+            IsOut conn (session_of self.old) × (session_of self.new ≡ session_of self.old))) }
+        ensures unchanged { OnErr result (session_of self.new ≡ session_of self.old) }
+    {
+        match self.intakes.front(conn) {
+            Front::Nothing => Ok(None),
+            Front::Message(message) => match self.peer.on(alloc, Event::Arrived(conn, message)) {
+                Ok(actions) => {
+                    self.intakes.skip(conn);
+                    self.settle(actions.as_slice());
+                    Ok(Some(Turn {
+                        arrived: Some(conn),
+                        actions,
+                    }))
+                }
+                Err(_) => Err(AllocError),
+            },
+            Front::Fault => match self.peer.on(alloc, Event::Arrived(conn, &[])) {
+                Ok(actions) => {
+                    self.intakes.break_off(alloc, conn);
+                    self.settle(actions.as_slice());
+                    Ok(Some(Turn {
+                        arrived: None,
+                        actions,
+                    }))
+                }
+                Err(_) => Err(AllocError),
+            },
+        }
+    }
+}
