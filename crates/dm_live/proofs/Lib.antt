@@ -1,0 +1,4 @@
+pub mod FirstLine
+pub mod Options
+pub mod Rests
+pub mod Turns

@@ -1,0 +1,5 @@
+pub mod AnswerLines
+pub mod Answers
+pub mod Input
+pub mod OrderLines
+pub mod ReadOrders

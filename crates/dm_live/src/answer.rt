@@ -1,0 +1,125 @@
+//! An order, told and answered.
+ghost use Rattle.std.specs.Prelude.{◌≡◌, ◌++◌, ℕ, List, true, false, IfOk, OnOk};
+ghost use Rattle.std.specs.String.{string_bytes};
+ghost use Rattle.dm_session.specs.Orders.{asked};
+ghost use Rattle.dm_session.specs.Seen.{session_of};
+ghost use Rattle.dm_session.specs.Sessions.{Turn as OneTurn, TellsNext, IsOut};
+ghost use Rattle.dm_live.specs.AnswerLines.{turn_lines};
+ghost use Rattle.dm_live.specs.Answers.{ignored_line, TakesAs, TellsOut, HearsOut, Answers};
+ghost use Rattle.dm_live.specs.ReadOrders.{told_order};
+
+use crate::answer_lines::{push_actions, push_refusal, push_state, push_turn};
+use crate::order_line::OrderLine;
+use dm_machine::Conn;
+use dm_session::{Order, Session};
+use std::alloc::{AllocError, Global};
+
+/// Tells the session the order, and appends the order's answer.
+///
+/// Behind octets all that came on the connection is told, message by message. Where memory is wanted some of it may be
+/// told, and a front of the answer may stand in the text.
+pub fn answer_order(
+    alloc: Global,
+    session: &mut Session,
+    order: &OrderLine,
+    text: &mut String,
+) -> Result<(), AllocError>
+    ensures { OnOk result ((more : List ℕ)
+        × Answers (told_order order.now) (session_of session.old) (session_of session.new) more
+        × (string_bytes text.new ≡ string_bytes text.old ++ more)) }
+{
+    take_order(alloc, session, order.order(), text)?;
+    hear_behind(alloc, session, order, text)?;
+    push_state(text, session.peer())?;
+    Ok(())
+}
+
+/// Appends what an order comes to by itself.
+fn take_order(
+    alloc: Global,
+    session: &mut Session,
+    order: Order<'_>,
+    text: &mut String,
+) -> Result<(), AllocError>
+    ensures { OnOk result ((own : List ℕ)
+        × TakesAs (asked order.entry) (session_of session.old) (session_of session.new) own
+        × (string_bytes text.new ≡ string_bytes text.old ++ own)) }
+{
+    match session.take(alloc, order) {
+        Ok(Some(actions)) => push_actions(text, actions.as_slice()),
+        Ok(None) => push_ignored(text, order),
+        Err(fault) => push_refusal(text, fault),
+    }
+}
+
+/// Appends that an order told no event, where it is one of those that tell one.
+#[tactic(auto, unfolding(crate::specs::Answers::ignored_line))]
+fn push_ignored(text: &mut String, order: Order<'_>) -> Result<(), AllocError>
+    ensures { OnOk result (string_bytes text.new ≡ string_bytes text.old ++ ignored_line (asked order.entry)) }
+{
+    match order {
+        Order::Accept(_) | Order::Octets(_, _) | Order::Reset => Ok(()),
+        _ => text.push_str("ignored\n"),
+    }
+}
+
+/// Tells what came on the connection of octets, and appends what that comes to; behind another order nothing.
+fn hear_behind(
+    alloc: Global,
+    session: &mut Session,
+    order: &OrderLine,
+    text: &mut String,
+) -> Result<(), AllocError>
+    ensures { OnOk result ((others : List ℕ)
+        × HearsOut (told_order order.now) (session_of session.old) (session_of session.new) others
+        × (string_bytes text.new ≡ string_bytes text.old ++ others)) }
+{
+    match order {
+        OrderLine::Octets(conn, _) => hear_out(alloc, session, *conn, text),
+        _ => Ok(()),
+    }
+}
+
+/// Tells all that came on the connection, and appends what that comes to.
+fn hear_out(
+    alloc: Global,
+    session: &mut Session,
+    conn: Conn,
+    text: &mut String,
+) -> Result<(), AllocError>
+    ensures { OnOk result ((others : List ℕ)
+        × TellsOut conn (session_of session.old) (session_of session.new) others
+        × (string_bytes text.new ≡ string_bytes text.old ++ others)) }
+{
+    'turn: for _ in 0..u64::MAX {
+        if !hear_next(alloc, session, conn, text)? {
+            return Ok(());
+        }
+    }
+    // More octets than any memory holds.
+    Err(AllocError)
+}
+
+/// Tells the next message that came on the connection, or a fault, and appends what that comes to. False where there
+/// is none.
+fn hear_next(
+    alloc: Global,
+    session: &mut Session,
+    conn: Conn,
+    text: &mut String,
+) -> Result<bool, AllocError>
+    ensures told { IfOk result (λ more. more ≡ true → (turn : OneTurn)
+        × TellsNext conn (session_of session.old) turn (session_of session.new)
+        × (string_bytes text.new ≡ string_bytes text.old ++ turn_lines turn)) }
+    ensures out { IfOk result (λ more. more ≡ false → IsOut conn (session_of session.new)
+        × (session_of session.new ≡ session_of session.old) × (string_bytes text.new ≡ string_bytes text.old)) }
+{
+    match session.next(alloc, conn) {
+        Ok(Some(turn)) => {
+            push_turn(text, &turn)?;
+            Ok(true)
+        }
+        Ok(None) => Ok(false),
+        Err(_) => Err(AllocError),
+    }
+}

@@ -1,0 +1,19 @@
+//! The library of the program `dmlive`: one peer with its connections, told by lines.
+#![tactic(auto)]
+
+mod answer;
+mod answer_lines;
+mod draft;
+mod fault;
+mod input;
+mod order_line;
+mod order_name;
+mod order_words;
+mod serve;
+
+pub use crate::answer::answer_order;
+pub use crate::fault::LiveFault;
+pub use crate::input::next_line;
+pub use crate::order_line::{OrderLine, read_order};
+pub use crate::order_name::OrderName;
+pub use crate::serve::serve_lines;

@@ -1,0 +1,90 @@
+//! The words behind an order's name.
+ghost use Rattle.std.specs.Prelude.{◌≡◌, ◌∷◌, [], ℕ, List, true, false, IfSome, IfNone};
+ghost use Rattle.dm_text.specs.Words.{words};
+ghost use Rattle.dm_text.specs.Numbers.{TellsNumber, TellsLongNumber};
+ghost use Rattle.dm_base.specs.declared.kind.Cause.{Cause};
+ghost use Rattle.dm_base.specs.Built.{cause_number};
+ghost use Rattle.dm_live.specs.OrderLines.{TellsConn};
+
+use dm_base::Cause;
+use dm_machine::Conn;
+use dm_text::{Words, read_long_number, read_number};
+
+/// The number of a connection that the next word tells.
+fn next_conn(left: &mut Words<'_>) -> Option<Conn>
+    ensures told { IfSome result (λ c. (number : List ℕ) × (words left.old ≡ number ∷ words left.new)
+        × TellsLongNumber c.0 number) }
+    ensures none { IfNone result ((n : ℕ) (number : List ℕ) (more : List (List ℕ)) → words left.old ≡ number ∷ more
+        → TellsLongNumber n number → ⊥) }
+{
+    let number = read_long_number(left.next()?)?;
+    Some(Conn(number))
+}
+
+/// A connection alone.
+pub(crate) fn conn_alone(left: &mut Words<'_>) -> Option<Conn>
+    ensures told { IfSome result (λ c. TellsConn c (words left.old)) }
+    ensures none { IfNone result ((n : ℕ) (number : List ℕ) → words left.old ≡ number ∷ []
+        → TellsLongNumber n number → ⊥) }
+{
+    let conn = next_conn(left)?;
+    if left.next().is_some() {
+        return None;
+    }
+    Some(conn)
+}
+
+/// A connection and one word more.
+pub(crate) fn conn_and_word<'a>(left: &mut Words<'a>) -> Option<(Conn, &'a [u8])>
+    ensures told { IfSome result (λ r. (number : List ℕ) × (words left.old ≡ number ∷ r.1.now ∷ [])
+        × TellsLongNumber r.0.0 number) }
+    ensures none { IfNone result ((n : ℕ) (number word : List ℕ) → words left.old ≡ number ∷ word ∷ []
+        → TellsLongNumber n number → ⊥) }
+{
+    let conn = next_conn(left)?;
+    let word = word_alone(left)?;
+    Some((conn, word))
+}
+
+/// One word alone.
+pub(crate) fn word_alone<'a>(left: &mut Words<'a>) -> Option<&'a [u8]>
+    ensures told { IfSome result (λ word. words left.old ≡ word.now ∷ []) }
+    ensures none { IfNone result ((word : List ℕ) → words left.old ≡ word ∷ [] → ⊥) }
+{
+    let word = left.next()?;
+    if left.next().is_some() {
+        return None;
+    }
+    Some(word)
+}
+
+/// The cause whose number a word tells.
+fn read_cause(word: &[u8]) -> Option<Cause>
+    ensures told { IfSome result (λ cause. TellsNumber (cause_number cause) word.now) }
+    ensures none { IfNone result ((cause : Cause) → TellsNumber (cause_number cause) word.now → ⊥) }
+{
+    match read_number(word)? {
+        0 => Some(Cause::Rebooting),
+        1 => Some(Cause::Busy),
+        2 => Some(Cause::DoNotWantToTalkToYou),
+        _ => None,
+    }
+}
+
+/// The number of a cause alone.
+pub(crate) fn cause_alone(left: &mut Words<'_>) -> Option<Cause>
+    ensures told { IfSome result (λ cause. (number : List ℕ) × (words left.old ≡ number ∷ [])
+        × TellsNumber (cause_number cause) number) }
+    ensures none { IfNone result ((cause : Cause) (number : List ℕ) → words left.old ≡ number ∷ []
+        → TellsNumber (cause_number cause) number → ⊥) }
+{
+    read_cause(word_alone(left)?)
+}
+
+/// Whether no word is left.
+pub(crate) fn is_nothing(left: &mut Words<'_>) -> bool
+    ensures told { result ≡ true → words left.old ≡ [] }
+    ensures none { result ≡ false → words left.old ≡ [] → ⊥ }
+{
+    left.next().is_none()
+}

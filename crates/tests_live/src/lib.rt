@@ -1,0 +1,5 @@
+//! Tests of sessions: orders in turn, and how many actions each turn asks for.
+#![tactic(auto)]
+
+#[cfg(test)]
+mod session;

@@ -1,0 +1,103 @@
+//! A session on its happy path, and on one that breaks.
+
+use dm_dict::Ip;
+use dm_peer::{Config, Conn, Node, State};
+use dm_session::{Order, Session};
+use std::process::Abort;
+
+/// The CER of b.example, of application 4, with number 9.
+const CER_OF_B: &str =
+    "01000070800001010000000000000009000000090000010840000011622e6578616d706c65000000000001284000000f6578616d706c6500000001014000000e00017f00000100000000010a4000000c000000000000010d0000000e646d706565720000000001024000000c00000004";
+
+/// The connection that b.example made.
+const R: Conn = Conn(9);
+
+/// A session of a.example for b.example; a message takes 1,000 octets at most before the capabilities exchange.
+fn session(rt: &(impl Abort + AllocGlobal)) -> Session {
+    let alloc = rt.alloc();
+    let mut addresses = Vec::new(alloc);
+    addresses.push(Ip::V4([127, 0, 0, 1])).expect(rt, "memory");
+    let host = Vec::from_slice(alloc, b"a.example").expect(rt, "memory");
+    let realm = Vec::from_slice(alloc, b"example").expect(rt, "memory");
+    let product = String::from_str(alloc, "dmlive").expect(rt, "memory");
+    let auth = Vec::from_slice(alloc, &[4]).expect(rt, "memory");
+    let node = Node::new(host, realm, addresses, 0, product, auth, Vec::new(alloc)).expect(
+        rt, "a node",
+    );
+    let peer = Vec::from_slice(alloc, b"b.example").expect(rt, "memory");
+    let config = Config::new(alloc, node, peer, 1).expect(rt, "a configuration");
+    Session::new(alloc, config, 1000, 16_777_212)
+}
+
+/// How many actions the order asks for; None where no event is told.
+fn asked(
+    rt: &(impl Abort + AllocGlobal),
+    session: &mut Session,
+    order: Order<'_>,
+) -> Option<usize> {
+    match session.take(rt.alloc(), order) {
+        Ok(Some(actions)) => Some(actions.len()),
+        Ok(None) => None,
+        Err(_) => Some(100),
+    }
+}
+
+/// Of the next turn of the connection, whether it is a whole message, and how many actions it asks for.
+fn turn(rt: &(impl Abort + AllocGlobal), session: &mut Session) -> Option<(bool, usize)> {
+    match session.next(rt.alloc(), R) {
+        Ok(Some(turn)) => Some((turn.arrived.is_some(), turn.actions.len())),
+        Ok(None) => None,
+        Err(_) => Some((false, 100)),
+    }
+}
+
+/// The turns behind each half of a CER, and the state then.
+fn cer_in_halves(
+    rt: &(impl Abort + AllocGlobal),
+    session: &mut Session,
+) -> (Option<(bool, usize)>, Option<(bool, usize)>, State) {
+    let octets = hex::decode(rt.alloc(), CER_OF_B.as_bytes()).expect(rt, "digits");
+    let (front, back) = octets.as_slice().split_at(octets.len() / 2);
+    let _first = asked(rt, session, Order::Octets(R, front));
+    let before = turn(rt, session);
+    let _second = asked(rt, session, Order::Octets(R, back));
+    let behind = turn(rt, session);
+    drop(octets);
+    (before, behind, session.peer().state())
+}
+
+/// What an accepted connection comes to whose CER comes in halves.
+fn accepted(
+    rt: &(impl Abort + AllocGlobal),
+) -> (Option<(bool, usize)>, Option<(bool, usize)>, State) {
+    let mut session = session(rt);
+    let _none = asked(rt, &mut session, Order::Accept(R));
+    let came = cer_in_halves(rt, &mut session);
+    drop(session);
+    came
+}
+
+/// What another version on an accepted connection comes to, and then what more octets and its end do.
+fn broken(
+    rt: &(impl Abort + AllocGlobal),
+) -> (Option<(bool, usize)>, Option<(bool, usize)>, Option<usize>) {
+    let mut session = session(rt);
+    let _none = asked(rt, &mut session, Order::Accept(R));
+    let _piece = asked(rt, &mut session, Order::Octets(R, &[2]));
+    let fault = turn(rt, &mut session);
+    let _more = asked(rt, &mut session, Order::Octets(R, &[2]));
+    let again = turn(rt, &mut session);
+    let gone = asked(rt, &mut session, Order::Gone(R));
+    drop(session);
+    (fault, again, gone)
+}
+
+#[test]
+fn cer_in_halves_opens(rt: HostRuntime) {
+    assert_eq!(rt; accepted(&rt), (None, Some((true, 1)), State::ROpen));
+}
+
+#[test]
+fn fault_closes_once(rt: HostRuntime) {
+    assert_eq!(rt; broken(&rt), (Some((false, 1)), None, None));
+}
