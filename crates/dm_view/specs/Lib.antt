@@ -1,0 +1,5 @@
+pub mod Check
+pub mod Reasons
+pub mod Results
+pub mod View
+pub mod Words

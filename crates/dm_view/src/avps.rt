@@ -1,0 +1,118 @@
+//! AVPs, a line for each, groups and all (RFC 6733, 4.1 and 4.4).
+ghost use Rattle.std.specs.Prelude.{◌≡◌, ◌++◌, ◌+◌, ◌<◌, ◌^◌, List, OnOk};
+ghost use Rattle.std.specs.Option.{option_copied};
+ghost use Rattle.std.specs.String.{string_bytes};
+ghost use Rattle.dm_wire.specs.declared.avp.Avp.{Avp};
+ghost use Rattle.dm_wire.specs.Borrowed.{avp_of, Lists};
+ghost use Rattle.dm_dict.specs.Rules.{definition};
+ghost use Rattle.dm_view.specs.Words.{indented};
+ghost use Rattle.dm_view.specs.View.{avp_name, front_view, avp_view, avps_view, group_view};
+
+use crate::data::put_data;
+use crate::words::put_indent;
+use dm_dict::{AvpDef, AvpType, Dictionary};
+use dm_value::Name;
+use dm_wire::{AvpFront, AvpRef, AvpsRef, Data, spells_avps};
+use std::alloc::{AllocError, Global};
+
+/// How many groups inside each other are shown by their members.
+pub(crate) const GROUPS_SHOWN: u32 = 8;
+
+/// Appends the name of an AVP, `?` where it has no definition.
+pub(crate) fn put_name(text: &mut String, def: Option<&AvpDef>) -> Result<(), AllocError>
+    ensures { OnOk result (string_bytes text.new ≡ string_bytes text.old ++ avp_name (option_copied def.entry)) }
+{
+    match def {
+        Some(def) => write!(text, "{}", Name(&def.name)),
+        None => text.push_str("?"),
+    }
+}
+
+/// Appends the front of an AVP's line: name, code, vendor and flags.
+#[tactic(auto, unfolding(crate::specs::View::front_view))]
+pub(crate) fn put_front(
+    text: &mut String,
+    def: Option<&AvpDef>,
+    avp: AvpRef<'_>,
+) -> Result<(), AllocError>
+    ensures { OnOk result (string_bytes text.new
+        ≡ string_bytes text.old ++ front_view (option_copied def.entry) (avp_of avp.entry)) }
+{
+    put_name(text, def)?;
+    write!(text, " {}", AvpFront(avp))
+}
+
+/// Appends an AVP at this level, inside which so many groups may stand.
+#[cycle(viewing)]
+fn put_avp(
+    alloc: Global,
+    text: &mut String,
+    dictionary: &Dictionary,
+    avp: AvpRef<'_>,
+    depth: u32,
+    level: u32,
+) -> Result<(), AllocError>
+    requires room { level + depth < 2 ^ 31 }
+    ensures { OnOk result (string_bytes text.new ≡ string_bytes text.old
+        ++ avp_view (group_view depth (level + 1) dictionary.now.avps) level
+        (definition dictionary.now.avps (avp_of avp.entry)) (avp_of avp.entry)) }
+{
+    let def = dictionary.avp_by_code(avp.code, avp.vendor);
+    put_indent(text, level)?;
+    put_front(text, def, avp)?;
+    let Some(def) = def else {
+        return writeln!(text, " {}", Data(avp.bytes));
+    };
+    if let AvpType::Grouped = def.kind {
+        return put_group(alloc, text, dictionary, avp.bytes, depth, level + 1);
+    }
+    put_data(alloc, text, def, avp.bytes)?;
+    text.push_str("\n")
+}
+
+/// Appends the members of a group at this level, where so many groups may stand inside each other.
+#[cycle(viewing)]
+fn put_group(
+    alloc: Global,
+    text: &mut String,
+    dictionary: &Dictionary,
+    octets: &[u8],
+    depth: u32,
+    level: u32,
+) -> Result<(), AllocError>
+    requires room { level + depth < 2 ^ 31 + 1 }
+    ensures { OnOk result (string_bytes text.new ≡ string_bytes text.old
+        ++ group_view depth level dictionary.now.avps octets.now) }
+{
+    if depth == 0 {
+        return writeln!(text, " too deep {}", Data(octets));
+    }
+    if !spells_avps(octets) {
+        return writeln!(text, " wrong length {}", Data(octets));
+    }
+    text.push_str("\n")?;
+    let members = AvpsRef::Spelled(octets);
+    put_avps(alloc, text, dictionary, members, depth - 1, level)
+}
+
+/// Appends AVPs at this level, where so many groups may stand inside each other.
+#[cycle(viewing)]
+pub(crate) fn put_avps(
+    alloc: Global,
+    text: &mut String,
+    dictionary: &Dictionary,
+    list: AvpsRef<'_>,
+    depth: u32,
+    level: u32,
+) -> Result<(), AllocError>
+    requires room { level + depth < 2 ^ 31 }
+    ensures { (l : List Avp) → Lists list.entry l → OnOk result (string_bytes text.new ≡ string_bytes text.old
+        ++ avps_view depth level dictionary.now.avps l) }
+{
+    let mut left = list;
+    while let Some((avp, rest)) = left.split_first() {
+        put_avp(alloc, text, dictionary, avp, depth, level)?;
+        left = rest;
+    }
+    Ok(())
+}

@@ -1,0 +1,201 @@
+//! All that is wrong with a message, a line for each fault (RFC 6733, 7).
+ghost use Rattle.std.specs.Prelude.{◌≡◌, ◌++◌, List, map, option_map, flat_map, OnOk, IfOk};
+ghost use Rattle.std.specs.Option.{option_copied};
+ghost use Rattle.std.specs.String.{string_bytes};
+ghost use Rattle.dm_wire.specs.declared.avp.Avp.{Avp};
+ghost use Rattle.dm_wire.specs.Borrowed.{avp_of};
+ghost use Rattle.dm_wire.specs.Spelling.{SpellsList};
+ghost use Rattle.dm_dict.specs.Judgement.{failed_of};
+ghost use Rattle.dm_dict.specs.Located.{located};
+ghost use Rattle.dm_dict.specs.Locating.{told_at};
+ghost use Rattle.dm_view.specs.Check.{step_text, front_of, failed_length, front_words, failed_view, fault_line, verdict_words, are_none, check_view};
+
+use crate::avps::{put_front, put_name};
+use crate::header::put_header;
+use crate::reasons::Reason;
+use crate::results::ResultName;
+use dm_dict::codes::MISSING_AVP;
+use dm_dict::{AvpDef, Dictionary, Failed, LocatedFault, NoMemory, Step};
+use dm_wire::{AvpRef, MessageRef};
+use std::alloc::{AllocError, Global};
+
+/// Appends a group round an AVP: its name and its place.
+#[tactic(auto, unfolding(crate::specs::Check::step_text))]
+fn put_step(text: &mut String, dictionary: &Dictionary, step: &Step) -> Result<(), AllocError>
+    ensures { OnOk result (string_bytes text.new ≡ string_bytes text.old ++ step_text dictionary.now.avps step.now) }
+{
+    text.push_str(" ")?;
+    put_name(text, dictionary.avp_by_code(step.code, step.vendor))?;
+    write!(text, "[{}] /", step.place)?;
+    Ok(())
+}
+
+/// Appends the groups round an AVP, the outermost first.
+fn put_path(text: &mut String, dictionary: &Dictionary, path: &[Step]) -> Result<(), AllocError>
+    ensures { OnOk result (string_bytes text.new
+        ≡ string_bytes text.old ++ flat_map (step_text dictionary.now.avps) path.now) }
+{
+    let mut left = path;
+    while let [step, rest @ ..] = left {
+        put_step(text, dictionary, step)?;
+        left = rest;
+    }
+    Ok(())
+}
+
+/// The failed AVP without its data.
+fn front_of(failed: Failed<'_>) -> Option<AvpRef<'_>>
+    ensures { option_map avp_of result ≡ option_map front_of (failed_of failed.entry) }
+{
+    match failed {
+        Failed::Nothing => None,
+        Failed::Found(avp) => Some(AvpRef { bytes: &[], ..avp }),
+        Failed::Example { code, vendor, .. } => Some(AvpRef {
+            code,
+            vendor,
+            mandatory: true,
+            protected: false,
+            bytes: &[],
+        }),
+    }
+}
+
+/// How long the data of the failed AVP is.
+fn failed_length(failed: Failed<'_>) -> usize
+    ensures { result ≡ failed_length (failed_of failed.entry) }
+{
+    match failed {
+        Failed::Nothing => 0,
+        Failed::Found(avp) => avp.bytes.len(),
+        Failed::Example { zeros, .. } => zeros as usize,
+    }
+}
+
+/// Appends a failed AVP, whose data has this length: that it is lacking, or its front and why it is a fault.
+fn put_words(
+    text: &mut String,
+    def: Option<&AvpDef>,
+    code: u32,
+    length: usize,
+    avp: AvpRef<'_>,
+) -> Result<(), AllocError>
+    ensures { OnOk result (string_bytes text.new
+        ≡ string_bytes text.old ++ front_words code (option_copied def.entry) length (avp_of avp.entry)) }
+{
+    if code == MISSING_AVP {
+        text.push_str(" lacks ")?;
+        return put_front(text, def, avp);
+    }
+    text.push_str(" ")?;
+    put_front(text, def, avp)?;
+    let kind = def.map(|def| def.kind);
+    write!(text, "{}", Reason { code, kind, length })
+}
+
+/// Appends a failed AVP, where there is one.
+fn put_failed(
+    text: &mut String,
+    dictionary: &Dictionary,
+    code: u32,
+    length: usize,
+    failed: Option<AvpRef<'_>>,
+) -> Result<(), AllocError>
+    ensures { OnOk result (string_bytes text.new
+        ≡ string_bytes text.old ++ failed_view dictionary.now.avps code length (option_map avp_of failed.entry)) }
+{
+    let Some(avp) = failed else {
+        return Ok(());
+    };
+    let def = dictionary.avp_by_code(avp.code, avp.vendor);
+    put_words(text, def, code, length, avp)
+}
+
+/// Appends the line of a fault.
+fn put_fault(
+    text: &mut String,
+    dictionary: &Dictionary,
+    fault: &LocatedFault<'_>,
+) -> Result<(), AllocError>
+    ensures { OnOk result (string_bytes text.new
+        ≡ string_bytes text.old ++ fault_line dictionary.now.avps (told_at fault.now)) }
+{
+    let (code, failed) = (fault.fault.code, fault.fault.failed);
+    write!(text, "  {}", ResultName(code))?;
+    put_path(text, dictionary, fault.path.as_slice())?;
+    let length = failed_length(failed);
+    put_failed(text, dictionary, code, length, front_of(failed))?;
+    text.push_str("\n")?;
+    Ok(())
+}
+
+/// Appends the lines of faults, one after the other.
+fn put_faults(
+    text: &mut String,
+    dictionary: &Dictionary,
+    faults: &[LocatedFault<'_>],
+) -> Result<(), AllocError>
+    ensures { OnOk result (string_bytes text.new
+        ≡ string_bytes text.old ++ flat_map (fault_line dictionary.now.avps) (map told_at faults.now)) }
+{
+    let mut left = faults;
+    while let [fault, rest @ ..] = left {
+        put_fault(text, dictionary, fault)?;
+        left = rest;
+    }
+    Ok(())
+}
+
+/// Appends whether there are no faults, and tells it.
+fn put_verdict(text: &mut String, faults: &[LocatedFault<'_>]) -> Result<bool, AllocError>
+    ensures shown { OnOk result (string_bytes text.new ≡ string_bytes text.old ++ verdict_words (map told_at faults.now)) }
+    ensures good { IfOk result (λ good. good ≡ are_none (map told_at faults.now)) }
+{
+    match faults {
+        [] => {
+            text.push_str("good ")?;
+            Ok(true)
+        }
+        [_, ..] => {
+            text.push_str("bad ")?;
+            Ok(false)
+        }
+    }
+}
+
+/// Appends the text for a message of these faults, and tells whether there are none.
+fn put_checked(
+    text: &mut String,
+    dictionary: &Dictionary,
+    message: &MessageRef<'_>,
+    faults: &[LocatedFault<'_>],
+) -> Result<bool, AllocError>
+    ensures shown { (l : List Avp) → map told_at faults.now
+        ≡ located dictionary.now (record { header = message.now.header; avps = l })
+        → OnOk result (string_bytes text.new ≡ string_bytes text.old
+        ++ check_view dictionary.now (record { header = message.now.header; avps = l })) }
+    ensures good { IfOk result (λ good. good ≡ are_none (map told_at faults.now)) }
+{
+    let good = put_verdict(text, faults)?;
+    put_header(text, dictionary, &message.header)?;
+    put_faults(text, dictionary, faults)?;
+    Ok(good)
+}
+
+/// Appends all that is wrong with the message by the dictionary: `good` or `bad`, its header, and a line for each fault
+/// in order. True where it is good.
+pub fn put_check(
+    alloc: Global,
+    text: &mut String,
+    dictionary: &Dictionary,
+    message: &MessageRef<'_>,
+) -> Result<bool, NoMemory>
+    ensures shown { (l : List Avp) → SpellsList l message.now.rest.now → OnOk result (string_bytes text.new
+        ≡ string_bytes text.old ++ check_view dictionary.now (record { header = message.now.header; avps = l })) }
+    // It is good where it has no faults.
+    ensures good { (l : List Avp) → SpellsList l message.now.rest.now → IfOk result (λ good.
+        good ≡ are_none (located dictionary.now (record { header = message.now.header; avps = l }))) }
+{
+    let faults = dictionary.located_in(alloc, message)?;
+    let good = put_checked(text, dictionary, message, faults.as_slice())?;
+    Ok(good)
+}

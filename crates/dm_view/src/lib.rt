@@ -1,0 +1,16 @@
+//! What a Diameter message says, in names and values, and all that is wrong with it, by a dictionary (RFC 6733, 3, 4 and 7).
+#![tactic(auto)]
+
+mod avps;
+mod data;
+mod faults;
+mod header;
+mod message;
+mod reasons;
+mod results;
+mod words;
+
+pub use faults::put_check;
+pub use header::put_header;
+pub use message::put_message;
+pub use results::ResultName;
