@@ -14,6 +14,8 @@ class Report:
         self.passed, self.failed, self.by_answer, self.by_names, self.by_search = [], [], [], [], []
         # (by the edit that was tried alone, the function that refused it)
         self.laws = {}
+        # (by the crate that isn't tried, how many of its edits were refused at the very same texts)
+        self.standing = {}
 
     def say(self, text):
         with self.lock:
@@ -26,6 +28,16 @@ class Report:
     def fails(self, what, why):
         self.failed.append(what)
         self.say(f"{what}: {why}")
+
+    def stands(self, crate, edits):
+        self.standing[crate] = edits
+        self.say(f"{crate}: {edits} edits, refused at this very text")
+
+    def refused_of(self, crate):
+        return sum(it.edit.startswith(f"{crate}/") for it in self.passed)
+
+    def failed_of(self, crate):
+        return [it for it in self.failed if re.match(rf"{crate}\b", it)]
 
     def print_list(self, tests):
         """Prints each edit that was refused, what it changes and the line that refused it, and counts edits and tests."""
@@ -51,6 +63,7 @@ class Report:
         for head, names in lists.items():
             if names:
                 print(f"planted: {head}: {' '.join(sorted(names))}")
+        print(f"planted: {sum(self.standing.values())} edits stand as recorded, in {len(self.standing)} crates")
         print(f"{len(self.passed)} passed, {len(self.failed)} failed", flush=True)
         return 1 if self.failed else 0
 

@@ -1,0 +1,127 @@
+"""The record tools/planted_tried: at which texts all planted edits of a crate were refused.
+
+A line has a crate, a digest (SHA-256) and how many edits were refused at it. The digest is of all that the verdict on
+the crate's edits depends on, and of nothing else:
+
+  - the crate's src, specs and proofs, its edits, its lines of tools/planted_laws, and what crates.txt says of it
+  - of each library of the repository below it what it states: see stated_in
+  - tools/planted and what it imports, and the toolchain's identity
+
+It doesn't depend on the folder: a library that is built twice is the same, octet for octet, in what is read here.
+"""
+import functools
+import hashlib
+import os
+import re
+
+TOOLS = os.path.dirname(os.path.realpath(__file__))
+FILE = os.path.join(TOOLS, "planted_tried")
+HEAD = "# The texts at which all planted edits of a crate were refused, and how many: by tools/planted --record.\n"
+LINE = re.compile(r"(\w+) ([0-9a-f]{64}) ([0-9]+)")
+
+
+def sum_of(given):
+    return hashlib.sha256(repr(given).encode()).hexdigest()
+
+
+def read(file):
+    with open(file, "rb") as it:
+        return it.read()
+
+
+def files_below(folder, *parts):
+    """Returns the octets of the files in these parts of a folder, by their paths in it."""
+    found = [f"{folder}/{it}" for it in parts if os.path.isfile(f"{folder}/{it}")]
+    for part in parts:
+        found += [f"{at}/{name}" for at, _, names in os.walk(f"{folder}/{part}") for name in names]
+    return {os.path.relpath(it, folder): read(it) for it in sorted(found)}
+
+
+def modules_in(file):
+    """Returns the modules that the prover made of a library, by their names: each name stands on a line of its own."""
+    found, name = {}, ""
+    with open(file, encoding="utf-8") as it:
+        for line in it:
+            if line.startswith('"'):
+                name = line.strip().strip('"')
+                found[name] = ""
+            else:
+                found[name] += line
+    return found
+
+
+def shown_by(name, modules):
+    """Returns those of a library's modules that crates above it can import: the contracts of its public functions, what
+    is stated of its types, and no proof. They are those that its facade stands for; all, where it has none."""
+    facade = "".join(text for it, text in modules.items() if it.partition("/")[0] == "facade")
+    own = {it.replace(".", "/") for it in re.findall(rf'"source":"Rattle-{name}-([^"]*)"', facade)}
+    # (a parent lists its children, the written proofs and what isn't public among them)
+    shown = {it: text for it, text in modules.items() if it in own and not text.startswith('{"Parent"')}
+    return shown or modules
+
+
+@functools.lru_cache(maxsize=None)
+def stated_in(library, is_linked, is_cited):
+    """Returns the sum of what a built library states to those above it, which is all that their proofs rest on: its
+    public items without their bodies, its definitions, the contracts, and which types may cross threads.
+
+    A program reads all items, also without bodies: it links them. Where a text above names the library's proofs, which
+    none should, they count too."""
+    parts = ["interface", "lang/antt/specs.antt", "lang/antt/specs"]
+    parts += ["lang/src"] * is_linked + ["lang/antt/proofs.antt", "lang/antt/proofs"] * is_cited
+    shown = shown_by(library.name, modules_in(f"{library.rlib}/lang/antt/made.json"))
+    told = [it for it in read(f"{library.rlib}/format").split(b"\n") if it.startswith(b"crosses ")]
+    return sum_of([files_below(library.rlib, *parts), sorted(shown.items()), sorted(told)])
+
+
+def own_tools(start="planted"):
+    """Returns the texts of a tool and of what it imports of this folder, by their names."""
+    found, left = {}, [start]
+    while left:
+        name = left.pop()
+        if name not in found:
+            found[name] = read(os.path.join(TOOLS, name))
+            imported = re.findall(rb"(?m)^(?:from|import) (\w+)", found[name])
+            left += [f"{it.decode()}.py" for it in imported if os.path.isfile(os.path.join(TOOLS, f"{it.decode()}.py"))]
+    return found
+
+
+def digest_of(crate, laws, toolchain):
+    """Returns the digest for a crate, over libraries below it that are built."""
+    texts, below = files_below(crate.folder, "src", "specs", "proofs"), sorted(crate.below(), key=lambda it: it.name)
+    edits = files_below(crate.folder, "planted")
+    cited = [*texts.values(), *(text for it in below for text in files_below(it.folder, "specs").values())]
+    stated = []
+    for it in below:
+        is_cited = any(f"Rattle.{it.name}.proofs".encode() in text for text in cited)
+        stated.append((it.name, stated_in(it, crate.is_program, is_cited)))
+    lines = sorted((edit, law) for edit, law in laws.items() if edit.startswith(f"{crate.name}/"))
+    said = sorted((word, repr(it)) for word, it in crate.said.items())
+    return sum_of([toolchain, sorted(own_tools().items()), said, texts, edits, lines, stated])
+
+
+class Record:
+    """What is recorded: by the crate, the digest and how many edits were refused at it."""
+
+    def __init__(self, names, file=FILE):
+        self.file, self.rows, self.told = file, {}, []
+        lines = read(file).decode("utf-8", "replace").split("\n") if os.path.isfile(file) else []
+        found = {at + 1: LINE.fullmatch(it) for at, it in enumerate(lines) if it and not it.startswith("#")}
+        crates = [it[1] for it in found.values() if it]
+        for at, it in found.items():
+            if it and it[1] in names and crates.count(it[1]) == 1:
+                self.rows[it[1]] = it[2], int(it[3])
+            else:
+                why = "is damaged" if not it else "is doubled" if it[1] in names else "is of no crate"
+                self.told.append(f"line {at} of tools/{os.path.basename(file)} {why}, and counts as none")
+
+    def has(self, name, digest, edits):
+        return edits > 0 and self.rows.get(name) == (digest, edits)
+
+    def write(self, tried):
+        """Writes the record anew, with these crates as they were tried: a digest and a number, or None."""
+        rows = {name: row for name, row in {**self.rows, **tried}.items() if row}
+        text = HEAD + "".join(f"{name} {digest} {edits}\n" for name, (digest, edits) in sorted(rows.items()))
+        with open(f"{self.file}.new", "w", encoding="utf-8") as it:
+            it.write(text)
+        os.replace(f"{self.file}.new", self.file)
