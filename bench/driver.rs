@@ -1,7 +1,12 @@
-//! Does one operation a number of times, by the proved crates or by plain Rust, and prints a sum of what came.
+//! Does one operation a number of times, by the proved crates (ours), by plain Rust (plain) or by the fastest plain
+//! program (fast), and prints a sum of what came; or compares what they say of changed messages.
 //!
 //! driver WHO OPERATION INPUT TIMES [SIZE]
+//! driver agree INPUT TIMES
 
+mod base;
+mod changes;
+mod fast;
 mod plain;
 
 extern "C" {
@@ -134,13 +139,41 @@ fn ours(operation: &str, octets: &[u8], times: u32, size: usize) -> usize {
     }
 }
 
+/// Compares the three programs on so many changed messages, and prints how many were good, bad and none.
+fn agree(octets: &[u8], times: u64) {
+    let mut kinds = [0; 3];
+    for seed in 1..=times {
+        let changed = changes::changed(octets, seed);
+        if changed.len() < 20 {
+            continue;
+        }
+        for operation in ["walk", "decode", "judge", "check", "encode"] {
+            let plain = plain::run(operation, &changed, 1, 0);
+            let fast = if operation == "check" { plain } else { fast::run(operation, &changed, 1) };
+            let ours = ours(operation, &changed, 1, 0);
+            if (ours, fast) != (plain, plain) {
+                eprintln!("{operation}: {ours} of ours, {plain} of plain, {fast} of fast: {changed:02x?}");
+                std::process::exit(1);
+            }
+            if operation == "judge" {
+                kinds[plain.min(2)] += 1;
+            }
+        }
+    }
+    println!("{} {} {}", kinds[1], kinds[2], kinds[0]);
+}
+
 fn main() {
     let words: Vec<String> = std::env::args().skip(1).collect();
+    if words[0] == "agree" {
+        return agree(&input(&words[1]), words[2].parse().unwrap());
+    }
     let octets = input(&words[2]);
     let times = words[3].parse().unwrap();
     let size = words.get(4).map_or(1460, |word| word.parse().unwrap());
     let sum = match words[0].as_str() {
         "ours" => ours(&words[1], &octets, times, size),
+        "fast" => fast::run(&words[1], &octets, times),
         _ => plain::run(&words[1], &octets, times, size),
     };
     println!("{sum}");
