@@ -4,8 +4,9 @@ import re
 import threading
 
 # An edit that was refused: its crate and file, what it changes (or the function that refused it, where it changes no
-# body), and the line that refused it.
-Row = collections.namedtuple("Row", "edit subject line")
+# body), the line that refused it, and whether it turns a definition: then all that is seen is that a written proof no
+# longer fits, which a definition that is turned and true would show too.
+Row = collections.namedtuple("Row", "edit subject line is_of_definition", defaults=[False])
 
 
 class Report:
@@ -21,8 +22,8 @@ class Report:
         with self.lock:
             print("planted:", text.replace("\n", " | ")[:500], flush=True)
 
-    def passes(self, what, subject, why):
-        self.passed.append(Row(what, subject, why))
+    def passes(self, what, subject, why, is_of_definition=False):
+        self.passed.append(Row(what, subject, why, is_of_definition))
         self.say(f"{what}: refused: {why}")
 
     def fails(self, what, why):
@@ -42,7 +43,7 @@ class Report:
     def print_list(self, tests):
         """Prints each edit that was refused, what it changes and the line that refused it, and counts edits and tests."""
         for it in sorted(self.passed):
-            print(f"{it.edit} | {it.subject} | {it.line}")
+            print(f"{it.edit} | {it.subject} | {it.line}{' | a definition: by its proof' * it.is_of_definition}")
         crates = {it.edit.partition("/")[0] for it in self.passed}
         print(f"planted: {len(self.passed)} edits refused, in {len(crates)} crates; the crates have {tests} tests")
 
