@@ -34,6 +34,7 @@ pub(crate) fn count_one(counts: &mut [u16; 256], from: usize, at: Option<usize>)
 }
 
 /// How many AVPs of the list each of the 256 entries from `from` on counts, up to 65535.
+#[inline(never)]
 pub(crate) fn counts_from(
     tables: &Tables,
     rule: LinkedRule<'_>,

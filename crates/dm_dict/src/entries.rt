@@ -96,6 +96,7 @@ pub(crate) fn counts_above(
 }
 
 /// The first fault of the entry at the place, which has this counter, by its bounds.
+#[inline(never)]
 fn judge_bounds<'a>(
     tables: &Tables,
     rule: LinkedRule<'_>,

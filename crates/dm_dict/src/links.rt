@@ -85,6 +85,7 @@ fn index(alloc: Global, links: &[Option<usize>]) -> Result<IndexMap<usize, usize
 }
 
 /// The place of the first of the links that is this one, one after the other.
+#[inline(always)]
 fn place_among(links: &[Option<usize>], link: Option<usize>) -> Option<usize>
     ensures { result ≡ position_from (option_eq nat_eq link) 0 links.now }
 {
@@ -129,6 +130,7 @@ impl Links {
     }
 
     /// The place of the first entry that has the link, or has none.
+    #[inline(always)]
     pub(crate) fn place(&self, link: Option<usize>) -> Option<usize>
         ensures { result ≡ position_from (option_eq nat_eq link) 0 self.now }
     {

@@ -24,6 +24,7 @@ pub(crate) fn allows(rule: &Rule, at: Option<usize>) -> bool
 
 /// Where the definition of the AVP stands among the AVPs, and where under the rule the AVP stands: at the entry that is
 /// linked to its definition, else at `AVP`. An AVP without definition stands at `AVP`.
+#[inline(always)]
 pub(crate) fn look_up(
     tables: &Tables,
     rule: LinkedRule<'_>,
