@@ -1,6 +1,7 @@
 pub mod Chains
 pub mod Exemplified
 pub mod Fitting
+pub mod FoundAt
 pub mod Good
 pub mod Kept
 pub mod Linking

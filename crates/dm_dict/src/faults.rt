@@ -6,14 +6,15 @@ ghost use Rattle.dm_wire.specs.Spelling.{SpellsList};
 ghost use Rattle.dm_tables.specs.Tables.{defined};
 ghost use Rattle.dm_dict.specs.Faults.{faults, has_none};
 ghost use Rattle.dm_dict.specs.Linked.{IsLinked};
-ghost use Rattle.dm_dict.specs.Listing.{all_told, Adds};
+ghost use Rattle.dm_dict.specs.Listing.{all_told, Adds, AreFoundIn};
 
 use crate::codes::{COMMAND_UNSUPPORTED, INVALID_HDR_BITS};
-use crate::fault::{Fault, put};
+use crate::fault::Fault;
 use crate::judge::{GROUPS, command_for, has_wrong_bits, is_good};
 use crate::judged::Failed;
 use crate::linked::{Linked, LinkedCommand, LinkedRule};
 use crate::listing::list_avps;
+use crate::put::put;
 use crate::{Dictionary, NoMemory};
 use dm_wire::laws::members_spell;
 use dm_wire::{AvpsRef, Header, Message, MessageRef};
@@ -95,6 +96,8 @@ impl Dictionary {
     ) -> Result<Vec<Fault<'a>>, NoMemory>
         // All faults, in order; none where the message is good.
         ensures all { IfOk result (λ listed. all_told listed.items ≡ faults self.now message.now) }
+        // What is found for each is one of the message's AVPs, or lies in a group of them; or it is such a group without data.
+        ensures found { IfOk result (λ listed. AreFoundIn message.now.avps listed.items) }
         // Memory is wanted for the list alone: not where the message is good.
         ensures memory { OnErr result (has_none (faults self.now message.now) ≡ false) }
     {
@@ -111,6 +114,8 @@ impl Dictionary {
         // All faults of the message that the reference stands for, in order.
         ensures all { IfOk result (λ listed. (l : List Avp) → SpellsList l message.now.rest.now
             → all_told listed.items ≡ faults self.now (record { header = message.now.header; avps = l })) }
+        // What is found for each is one of the message's AVPs, or lies in a group of them; or it is such a group without data.
+        ensures found { IfOk result (λ listed. (l : List Avp) → SpellsList l message.now.rest.now → AreFoundIn l listed.items) }
         // Memory is wanted for the list alone: not where the message is good.
         ensures memory { OnErr result ((l : List Avp) → SpellsList l message.now.rest.now
             → has_none (faults self.now (record { header = message.now.header; avps = l })) ≡ false) }

@@ -1,6 +1,7 @@
 //! Laws of what a message has wrong. Each function is a law: it does nothing but call the laws that it stands
 //! on, and its contract is the law.
 ghost use Rattle.dm_dict.specs.Examples.{MissingHasExample};
+ghost use Rattle.dm_dict.specs.Found.{EachFailedIsThere};
 ghost use Rattle.dm_dict.specs.Keeping.{GoodKeepsRules};
 ghost use Rattle.dm_dict.specs.Located.{LocatedAreFaults};
 ghost use Rattle.dm_dict.specs.WithoutLists.{OpenDiffersInListsAlone};
@@ -30,6 +31,13 @@ pub fn good_keeps_rules()
 /// `AVP` has an example, so that 5005 for it has a failed AVP (RFC 6733, 7.5). It stands for users.
 pub fn missing_has_example()
     ensures { MissingHasExample }
+{}
+
+/// The failed AVP of each fault of a message, but of one for an AVP that is missing, is one of the message's AVPs, or lies
+/// in a group of them; or it is such a group without data, where its data isn't AVPs (RFC 6733, 7.1.5 and 7.5). It stands
+/// for users.
+pub fn each_failed_is_there()
+    ensures { EachFailedIsThere }
 {}
 
 /// Where each definition is sound, as in every `Dictionary`, the names of vendors, AVPs, listed values and commands are UTF-8, so

@@ -22,6 +22,7 @@ mod opening;
 mod path;
 mod places;
 mod printing;
+mod put;
 mod rules;
 mod verdict;
 mod windows;

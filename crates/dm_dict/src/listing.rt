@@ -1,9 +1,10 @@
 //! All faults of AVPs under a rule, groups and all (RFC 6733, 4.1, 4.4 and 7.1.5).
-ghost use Rattle.std.specs.Prelude.{◌≡◌, ◌≢◌, List, slice_get, OnOk};
+ghost use Rattle.std.specs.Prelude.{◌≡◌, ◌≢◌, false, nat_eq, List, slice_get, IfSome, OnOk};
 ghost use Rattle.std.specs.Option.{option_and_then};
 ghost use Rattle.dm_wire.specs.declared.avp.Avp.{Avp};
 ghost use Rattle.dm_value.specs.declared.avp_type.AvpType.TheVariants.{Grouped};
 ghost use Rattle.dm_dict.specs.Apart.{IsFit};
+ghost use Rattle.dm_dict.specs.Codes.{missing_avp};
 ghost use Rattle.dm_dict.specs.Linked.{IsLinked, IsRule};
 ghost use Rattle.dm_wire.specs.Borrowed.{avp_of, Lists};
 ghost use Rattle.dm_dict.specs.Faults.{Fault as AFault, data_faults, avp_faults, group_faults, list_faults};
@@ -12,10 +13,11 @@ ghost use Rattle.dm_dict.specs.Rules.{definition};
 
 use crate::avps::{is_failed_avp, is_left_out};
 use crate::codes::{AVP_NOT_ALLOWED, AVP_UNSUPPORTED, INVALID_AVP_LENGTH, INVALID_AVP_VALUE};
-use crate::fault::{Fault, put};
+use crate::fault::Fault;
 use crate::judged::Failed;
 use crate::linked::{Linked, LinkedAvp, LinkedRule};
 use crate::listing_entries::list_entries;
+use crate::put::put;
 use crate::rules::{allows, look_up};
 use dm_tables::AvpDef;
 use dm_value::{AvpType, NoMemory, ValueFault, value_fault};
@@ -24,8 +26,9 @@ use dm_wire::{AvpRef, AvpsRef, spells_avps};
 /// The Result-Code for data of this definition that is no group's, where something is wrong with it.
 pub(crate) fn data_fault(def: &AvpDef, octets: &[u8]) -> Option<u32>
     requires { def.now.kind ≢ Grouped }
-    ensures { (a : Avp) (group : List AFault) → a.bytes ≡ octets.now
+    ensures fault { (a : Avp) (group : List AFault) → a.bytes ≡ octets.now
         → data_faults def.now.kind def.now.values group a ≡ coded result a }
+    ensures code { IfSome result (λ code. nat_eq code missing_avp ≡ false) }
 {
     match value_fault(def.kind, octets) {
         Some(ValueFault::WrongLength) => Some(INVALID_AVP_LENGTH),

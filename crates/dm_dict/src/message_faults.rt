@@ -6,6 +6,7 @@ ghost use Rattle.dm_wire.specs.Spelling.{SpellsList};
 ghost use Rattle.dm_tables.specs.Tables.{defined};
 ghost use Rattle.dm_dict.specs.Faults.{faults, has_none};
 ghost use Rattle.dm_dict.specs.Linked.{IsLinked};
+ghost use Rattle.dm_dict.specs.Listing.{AreFoundIn};
 ghost use Rattle.dm_dict.specs.Located.{located};
 ghost use Rattle.dm_dict.specs.Locating.{path_of, told_at, AddsAt};
 
@@ -101,6 +102,8 @@ impl Dictionary {
     ) -> Result<Vec<LocatedFault<'a>>, NoMemory>
         // All faults with their paths, in order.
         ensures all { IfOk result (λ listed. map told_at listed.items ≡ located self.now message.now) }
+        // What is found for each is one of the message's AVPs, or lies in a group of them; or it is such a group without data.
+        ensures found { IfOk result (λ listed. AreFoundIn message.now.avps (map (λ located. located.fault) listed.items)) }
         // Memory is wanted for the list alone: not where the message is good.
         ensures memory { OnErr result (has_none (faults self.now message.now) ≡ false) }
     {
@@ -117,6 +120,9 @@ impl Dictionary {
         // All faults of the message that the reference stands for with their paths, in order.
         ensures all { IfOk result (λ listed. (l : List Avp) → SpellsList l message.now.rest.now
             → map told_at listed.items ≡ located self.now (record { header = message.now.header; avps = l })) }
+        // What is found for each is one of the message's AVPs, or lies in a group of them; or it is such a group without data.
+        ensures found { IfOk result (λ listed. (l : List Avp) → SpellsList l message.now.rest.now
+            → AreFoundIn l (map (λ located. located.fault) listed.items)) }
         // Memory is wanted for the list alone: not where the message is good.
         ensures memory { OnErr result ((l : List Avp) → SpellsList l message.now.rest.now
             → has_none (faults self.now (record { header = message.now.header; avps = l })) ≡ false) }

@@ -1,4 +1,5 @@
 //! All faults of a message, listed (RFC 6733, 7).
+use super::types::TYPES;
 use dm_dict::{Dictionary, Failed, Fault, LocatedFault};
 use dm_wire::{Message, MessageRef};
 use std::process::Abort;
@@ -101,4 +102,49 @@ fn faults_have_their_groups(rt: HostRuntime) {
     let base = Dictionary::base(rt.alloc()).expect(&rt, "a dictionary");
     let octets = hex::decode(rt.alloc(), IN_GROUP.as_bytes()).expect(&rt, "hexadecimal");
     assert_located(&rt, &base, octets.as_slice());
+}
+
+/// A request that wants 6001, an AVP that may be empty, without it.
+const WITHOUT_OCTETS: &str = "010000148000012d000000000000000100000001";
+
+/// The same with an empty 6001, and behind it an empty 6008, which its rule doesn't allow.
+const OCTETS_AND_WORDS: &str =
+    "010000248000012d00000000000000010000000100001771400000080000177840000008";
+
+fn dictionary_of_types(rt: &(impl Abort + AllocGlobal)) -> Dictionary {
+    let empty = Dictionary::empty(rt.alloc());
+    let read = Dictionary::read(rt.alloc(), TYPES.as_bytes(), &empty);
+    drop(empty);
+    read.expect(rt, "a dictionary")
+}
+
+/// Whether there is one fault, of this Result-Code, and this empty AVP of the message is found.
+fn is_found_empty(faults: &[Fault<'_>], code: u32, found: u32) -> bool {
+    match faults {
+        [
+            Fault {
+                code: told,
+                failed: Failed::Found(avp),
+                ..
+            },
+        ] => *told == code && avp.code == found && avp.bytes.is_empty(),
+        _ => false,
+    }
+}
+
+fn assert_found_empty(rt: &(impl Abort + AllocGlobal), types: &Dictionary) {
+    let octets = hex::decode(rt.alloc(), OCTETS_AND_WORDS.as_bytes()).expect(rt, "hexadecimal");
+    let message = MessageRef::read(octets.as_slice()).expect(rt, "a message");
+    let faults = types.faults_in(rt.alloc(), &message).expect(rt, "memory");
+    assert!(rt; is_found_empty(faults.as_slice(), 5008, 6008));
+}
+
+/// An AVP that is missing is told as an example, also where it has no octets and looks like one that came.
+#[test]
+fn empty_avps_that_lack_or_stand(rt: HostRuntime) {
+    let types = dictionary_of_types(&rt);
+    assert_in_octets(&rt, &types, WITHOUT_OCTETS, &[(5005, 6001)]);
+    assert_decoded(&rt, &types, WITHOUT_OCTETS, &[(5005, 6001)]);
+    assert_found_empty(&rt, &types);
+    drop(types);
 }

@@ -1,10 +1,16 @@
 -- The faults of the AVPs that are held.
+use Rattle.dm_tables.specs.Tables.{defined}
 use Rattle.dm_dict.proofs.Listed.{under_ok, under_err}
+use Rattle.dm_dict.proofs.Placed.{listed_found}
 use Rattle.dm_dict.proofs.dictionary.Dictionary.faults.Goals as goal
 
 pub returns : goal.returns
 returns c =
+    let d = defined c.self.inside.linked.tables in
+    let avps = c.args.message.now.avps in
     rw (← c.self.view_is) (record {
-      all = under_ok c.listed.result _ _ (λ listed all. all c.args.message.now.avps c.as_slice.ensures) c.listed.ensures.all;
-      memory = under_err c.listed.result (λ some. some c.args.message.now.avps c.as_slice.ensures) c.listed.ensures.memory;
+      all = under_ok c.listed.result _ _ (λ listed all. all avps c.as_slice.ensures) c.listed.ensures.all;
+      found = under_ok c.listed.result _ _
+          (λ listed all. listed_found d c.args.message.now listed.items (all avps c.as_slice.ensures)) c.listed.ensures.all;
+      memory = under_err c.listed.result (λ some. some avps c.as_slice.ensures) c.listed.ensures.memory;
     })

@@ -1,5 +1,16 @@
 -- The faults of the AVPs that the octets spell.
+use Rattle.dm_tables.specs.Tables.{defined}
+use Rattle.dm_dict.proofs.Listed.{under_ok}
+use Rattle.dm_dict.proofs.Placed.{listed_found}
 use Rattle.dm_dict.proofs.dictionary.Dictionary.faults_in.Goals as goal
 
 pub returns : goal.returns
-returns c = rw (← c.self.view_is) (record { all = c.listed_spelled.ensures.all; memory = c.listed_spelled.ensures.memory })
+returns c =
+    let d = defined c.self.inside.linked.tables in
+    rw (← c.self.view_is) (record {
+      all = c.listed_spelled.ensures.all;
+      found = under_ok c.listed_spelled.result _ _
+          (λ listed all l spelled. listed_found d (record { header = c.args.message.now.header; avps = l }) listed.items
+          (all l spelled)) c.listed_spelled.ensures.all;
+      memory = c.listed_spelled.ensures.memory;
+    })
