@@ -86,9 +86,9 @@ impl Dictionary {
     /// All that is wrong with the message, in the order in which `check` looks for it; the first is what `check`
     /// says. Each failed AVP is told where it lies.
     ///
-    /// It takes time by the message and the rules alone. A good message is judged, and no more; of another each AVP is looked up twice, once more for each further 256
-    /// entries of its list's rule, and a list is walked once more for each entry that has too many. Memory is taken for
-    /// the list of faults alone.
+    /// It takes time by the message and the rules alone. A good message is judged, and no more; of another each AVP is
+    /// looked up twice, once more for each further 256 entries of its list's rule, and a list is walked once more for
+    /// each entry that has too many. Memory is taken for the list of faults alone.
     pub fn faults<'a>(
         &self,
         alloc: Global,
@@ -96,7 +96,7 @@ impl Dictionary {
     ) -> Result<Vec<Fault<'a>>, NoMemory>
         // All faults, in order; none where the message is good.
         ensures all { IfOk result (λ listed. all_told listed.items ≡ faults self.now message.now) }
-        // What is found for each is one of the message's AVPs, or lies in a group of them; or it is such a group without data.
+        // What is found for each is one of the message's AVPs, or lies in a group of them; or is such a group emptied.
         ensures found { IfOk result (λ listed. AreFoundIn message.now.avps listed.items) }
         // Memory is wanted for the list alone: not where the message is good.
         ensures memory { OnErr result (has_none (faults self.now message.now) ≡ false) }
@@ -114,8 +114,9 @@ impl Dictionary {
         // All faults of the message that the reference stands for, in order.
         ensures all { IfOk result (λ listed. (l : List Avp) → SpellsList l message.now.rest.now
             → all_told listed.items ≡ faults self.now (record { header = message.now.header; avps = l })) }
-        // What is found for each is one of the message's AVPs, or lies in a group of them; or it is such a group without data.
-        ensures found { IfOk result (λ listed. (l : List Avp) → SpellsList l message.now.rest.now → AreFoundIn l listed.items) }
+        // What is found for each is one of the message's AVPs, or lies in a group of them; or is such a group emptied.
+        ensures found { IfOk result (λ listed. (l : List Avp) → SpellsList l message.now.rest.now
+            → AreFoundIn l listed.items) }
         // Memory is wanted for the list alone: not where the message is good.
         ensures memory { OnErr result ((l : List Avp) → SpellsList l message.now.rest.now
             → has_none (faults self.now (record { header = message.now.header; avps = l })) ≡ false) }

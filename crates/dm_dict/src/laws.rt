@@ -33,15 +33,15 @@ pub fn missing_has_example()
     ensures { MissingHasExample }
 {}
 
-/// The failed AVP of each fault of a message, but of one for an AVP that is missing, is one of the message's AVPs, or lies
-/// in a group of them; or it is such a group without data, where its data isn't AVPs (RFC 6733, 7.1.5 and 7.5). It stands
-/// for users.
+/// The failed AVP of each fault of a message, but of one for an AVP that is missing, is one of the message's AVPs, or
+/// lies in a group of them; or it is such a group without data, where its data isn't AVPs (RFC 6733, 7.1.5 and 7.5). It
+/// stands for users.
 pub fn each_failed_is_there()
     ensures { EachFailedIsThere }
 {}
 
-/// Where each definition is sound, as in every `Dictionary`, the names of vendors, AVPs, listed values and commands are UTF-8, so
-/// that `as_str` of a name has its text. It stands for users.
+/// Where each definition is sound, as in every `Dictionary`, the names of vendors, AVPs, listed values and commands are
+/// UTF-8, so that `as_str` of a name has its text. It stands for users.
 pub fn names_are_text()
     ensures { NamesAreText }
 {}

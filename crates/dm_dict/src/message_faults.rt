@@ -62,7 +62,8 @@ fn located<'a>(
 ) -> Result<Vec<LocatedFault<'a>>, NoMemory>
     requires linked { IsLinked dictionary.now }
     ensures all { IfOk result (λ listed. (l : List Avp) → Lists list.entry l
-        → map told_at listed.items ≡ located (defined dictionary.now.tables) (record { header = header.now; avps = l })) }
+        → map told_at listed.items
+        ≡ located (defined dictionary.now.tables) (record { header = header.now; avps = l })) }
     ensures memory { OnErr result ((l : List Avp) → Lists list.entry l
         → has_none (faults (defined dictionary.now.tables) (record { header = header.now; avps = l })) ≡ false) }
 {
@@ -84,7 +85,8 @@ fn located_spelled<'a>(
 ) -> Result<Vec<LocatedFault<'a>>, NoMemory>
     requires linked { IsLinked dictionary.now }
     ensures all { IfOk result (λ listed. (l : List Avp) → SpellsList l octets.now
-        → map told_at listed.items ≡ located (defined dictionary.now.tables) (record { header = header.now; avps = l })) }
+        → map told_at listed.items
+        ≡ located (defined dictionary.now.tables) (record { header = header.now; avps = l })) }
     ensures memory { OnErr result ((l : List Avp) → SpellsList l octets.now
         → has_none (faults (defined dictionary.now.tables) (record { header = header.now; avps = l })) ≡ false) }
 {
@@ -93,8 +95,8 @@ fn located_spelled<'a>(
 }
 
 impl Dictionary {
-    /// All that is wrong with the message, each fault with the groups round its failed AVP; they are those of `faults`, in
-    /// the same order.
+    /// All that is wrong with the message, each fault with the groups round its failed AVP; they are those of `faults`,
+    /// in the same order.
     pub fn located<'a>(
         &self,
         alloc: Global,
@@ -102,8 +104,9 @@ impl Dictionary {
     ) -> Result<Vec<LocatedFault<'a>>, NoMemory>
         // All faults with their paths, in order.
         ensures all { IfOk result (λ listed. map told_at listed.items ≡ located self.now message.now) }
-        // What is found for each is one of the message's AVPs, or lies in a group of them; or it is such a group without data.
-        ensures found { IfOk result (λ listed. AreFoundIn message.now.avps (map (λ located. located.fault) listed.items)) }
+        // What is found for each is one of the message's AVPs, or lies in a group of them; or is such a group emptied.
+        ensures found { IfOk result (λ listed.
+            AreFoundIn message.now.avps (map (λ located. located.fault) listed.items)) }
         // Memory is wanted for the list alone: not where the message is good.
         ensures memory { OnErr result (has_none (faults self.now message.now) ≡ false) }
     {
@@ -120,7 +123,7 @@ impl Dictionary {
         // All faults of the message that the reference stands for with their paths, in order.
         ensures all { IfOk result (λ listed. (l : List Avp) → SpellsList l message.now.rest.now
             → map told_at listed.items ≡ located self.now (record { header = message.now.header; avps = l })) }
-        // What is found for each is one of the message's AVPs, or lies in a group of them; or it is such a group without data.
+        // What is found for each is one of the message's AVPs, or lies in a group of them; or is such a group emptied.
         ensures found { IfOk result (λ listed. (l : List Avp) → SpellsList l message.now.rest.now
             → AreFoundIn l (map (λ located. located.fault) listed.items)) }
         // Memory is wanted for the list alone: not where the message is good.

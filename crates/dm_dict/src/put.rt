@@ -15,7 +15,8 @@ pub(crate) fn put<'a>(
     failed: Failed<'a>,
 ) -> Result<(), NoMemory>
     requires { is_missing_found code failed ≡ false }
-    ensures { OnOk result (Adds faults.old.items faults.new.items (record { code = code; failed = failed_of failed.entry } ∷ [])) }
+    ensures { OnOk result (Adds faults.old.items faults.new.items
+        (record { code = code; failed = failed_of failed.entry } ∷ [])) }
 {
     faults.push(Fault { code, failed })?;
     Ok(())
