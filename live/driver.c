@@ -1,0 +1,702 @@
+/* driver: sockets and clocks for a Diameter peer, the program dmlive, which runs as a child over two pipes (README.md). */
+#define _GNU_SOURCE
+#include <errno.h>
+#include <fcntl.h>
+#include <getopt.h>
+#include <netdb.h>
+#include <netinet/in.h>
+#include <netinet/tcp.h>
+#include <poll.h>
+#include <signal.h>
+#include <stdarg.h>
+#include <stdbool.h>
+#include <stdint.h>
+#include <stdio.h>
+#include <stdlib.h>
+#include <string.h>
+#include <sys/resource.h>
+#include <sys/socket.h>
+#include <sys/wait.h>
+#include <time.h>
+#include <unistd.h>
+
+enum { MOST_LINKS = 1000, MOST_LISTENERS = 8, MOST_LINES = 1000 };
+/* octets: read at once, kept of an empty buffer, and queued at most where standard input goes on */
+enum { PIECE = 65536, MOST_KEPT = 1 << 20, MOST_WAITING = 1 << 20 };
+/* milliseconds: for a connect, the first message of an accepted connection, what follows a close, and the end */
+enum { CONNECT_TIME = 10000, FIRST_TIME = 10000, CLOSE_TIME = 2000, END_TIME = 5000, LOOK_AGAIN = 1000 };
+static const int64_t NEVER = INT64_MAX;
+
+/* octets from..to of what lies at `at`; none of the first `seen` of them is a LF */
+struct buffer { char *at; size_t from, to, room, seen; };
+
+/* A connection. Its number is never used again, as its descriptor may be. At `until` its clock is over. */
+struct link {
+    uint64_t number;
+    int fd;
+    bool connecting, heard, closing, finished, ended, dead;
+    int64_t until;
+    struct buffer out;
+    struct addrinfo *addresses, *next_address;
+};
+
+static struct link **links;
+static struct pollfd *polls;
+static size_t link_count, link_room, poll_room;
+static int listeners[MOST_LISTENERS], listener_count;
+static char connect_host[256], connect_port[32];
+static int64_t watchdog = 30000, reconnect = 30000, timeout = 30000, due, end_at = INT64_MAX;
+static uint64_t queue_most = 32 << 20;
+static size_t batch_most;
+static int to_peer, from_peer, verbose;
+static pid_t peer_process;
+static struct buffer input, answers, orders;
+static char state[160] = "Closed";
+static bool is_closed = true, is_open, input_ended, line_waits, output_waits;
+static uint64_t last_number, open_number, handed_up, handed_up_most = UINT64_MAX;
+static volatile sig_atomic_t signalled;
+
+static void fail(const char *what) {
+    perror(what);
+    exit(3);
+}
+
+static int64_t now(void) {
+    struct timespec t;
+    clock_gettime(CLOCK_MONOTONIC, &t);
+    return t.tv_sec * 1000 + t.tv_nsec / 1000000;
+}
+
+static int64_t about(int64_t time, int64_t either_way) {
+    return time - either_way + (either_way > 0 ? random() % (2 * either_way + 1) : 0);
+}
+
+static void say(const char *sign, const char *text, size_t length) {
+    static int64_t begun;
+    if (!verbose) return;
+    if (!begun) begun = now();
+    int shown = verbose > 1 || length < 100 ? (int)length : 100;
+    fprintf(stderr, "%9.3f %s %.*s%s\n", (now() - begun) / 1e3, sign, shown, text, shown < (int)length ? ".." : "");
+}
+
+/* Buffers */
+
+static char *room_for(struct buffer *b, size_t more) {
+    size_t held = b->to - b->from;
+    if (b->room - b->to < more && b->from >= held && b->from) {
+        memmove(b->at, b->at + b->from, held);
+        b->from = 0, b->to = held;
+    }
+    if (b->room - b->to < more) {
+        b->room = 2 * b->room + more;
+        if (!(b->at = realloc(b->at, b->room))) fail("driver: memory");
+    }
+    return b->at + b->to;
+}
+
+static void put(struct buffer *b, const void *octets, size_t length) {
+    memcpy(room_for(b, length), octets, length);
+    b->to += length;
+}
+
+static void take(struct buffer *b, size_t length) {
+    b->from += length;
+    b->seen = 0;
+    if (b->from < b->to) return;
+    b->from = b->to = 0;
+    if (b->room > MOST_KEPT) {
+        free(b->at);
+        *b = (struct buffer){ 0 };
+    }
+}
+
+/* the first whole line, which stays in the buffer; NULL where there is none */
+static char *whole_line(struct buffer *b, size_t *length) {
+    size_t held = b->to - b->from;
+    char *start = b->at + b->from, *end = held ? memchr(start + b->seen, '\n', held - b->seen) : NULL;
+    b->seen = end ? (size_t)(end - start) : held;
+    if (end) *length = end - start;
+    return end ? start : NULL;
+}
+
+/* Connections */
+
+static struct link *find(uint64_t number) {
+    for (size_t i = 0; i < link_count; i++)
+        if (links[i]->number == number && !links[i]->dead) return links[i];
+    return NULL;
+}
+
+static struct link *add_link(uint64_t number, int fd) {
+    if (link_count == link_room) {
+        link_room = 2 * link_room + 16;
+        links = realloc(links, link_room * sizeof *links);
+    }
+    struct link *link = calloc(1, sizeof *link);
+    if (!links || !link) fail("driver: memory");
+    link->number = number, link->fd = fd, link->until = NEVER;
+    return links[link_count++] = link;
+}
+
+static void shut(struct link *link) {
+    if (link->fd >= 0) close(link->fd);
+    link->fd = -1;
+}
+
+static void drop(struct link *link) {
+    shut(link);
+    link->dead = true;
+}
+
+static void free_dead(void) {
+    size_t kept = 0;
+    for (size_t i = 0; i < link_count; i++) {
+        struct link *link = links[i];
+        if (!link->dead) {
+            links[kept++] = link;
+            continue;
+        }
+        if (link->addresses) freeaddrinfo(link->addresses);
+        free(link->out.at);
+        free(link);
+    }
+    link_count = kept;
+}
+
+static void set_options(int fd) {
+    int one = 1;
+    setsockopt(fd, IPPROTO_TCP, TCP_NODELAY, &one, sizeof one);
+}
+
+/* Sends what can be sent now. Behind the last octet of a closing connection goes its FIN. A failure to write is left to
+   the next read, since what came before it can still be read. */
+static void flush(struct link *link) {
+    while (link->out.from < link->out.to) {
+        ssize_t sent = send(link->fd, link->out.at + link->out.from, link->out.to - link->out.from, MSG_NOSIGNAL);
+        if (sent < 0 && errno == EINTR) continue;
+        if (sent < 0 && errno == EAGAIN) return;
+        take(&link->out, sent < 0 ? link->out.to - link->out.from : (size_t)sent);
+    }
+    if (!link->closing) return;
+    if (link->ended) drop(link);
+    else if (!link->finished) shutdown(link->fd, SHUT_WR);
+    link->finished = true;
+}
+
+/* Sends what is queued, then FIN, and reads on for a while: a plain close with something unread makes the system send a
+   reset, which may destroy what was just sent before the other side reads it. */
+static void close_link(struct link *link) {
+    if (!link || link->dead || link->closing) return;
+    if (link->connecting) {
+        drop(link);
+        return;
+    }
+    link->closing = true;
+    link->until = now() + CLOSE_TIME;
+    flush(link);
+}
+
+/* begins to connect to the next address; where there is none the connection's clock is over at once */
+static void connect_next(struct link *link) {
+    for (shut(link); link->fd < 0 && link->next_address; link->next_address = link->next_address->ai_next) {
+        struct addrinfo *to = link->next_address;
+        link->fd = socket(to->ai_family, SOCK_STREAM | SOCK_NONBLOCK | SOCK_CLOEXEC, 0);
+        if (link->fd >= 0 && connect(link->fd, to->ai_addr, to->ai_addrlen) < 0 && errno != EINPROGRESS) shut(link);
+    }
+    link->until = link->fd < 0 ? 0 : now() + CONNECT_TIME;
+}
+
+static void begin_connect(uint64_t number) {
+    struct addrinfo hints = { .ai_socktype = SOCK_STREAM };
+    struct link *link = add_link(number, -1);
+    link->connecting = link->heard = true;
+    int fault = getaddrinfo(connect_host, connect_port, &hints, &link->addresses);
+    if (fault) {
+        link->addresses = NULL;
+        fprintf(stderr, "driver: connect %s %s: %s\n", connect_host, connect_port, gai_strerror(fault));
+    }
+    link->next_address = link->addresses;
+    connect_next(link);
+}
+
+/* appends octets in hexadecimal to what is to be sent; past the bound the connection is lost */
+static void queue(struct link *link, const char *hexadecimal, size_t length) {
+    static const uint8_t value[256] = { ['1'] = 1, ['2'] = 2, ['3'] = 3, ['4'] = 4, ['5'] = 5, ['6'] = 6, ['7'] = 7,
+        ['8'] = 8, ['9'] = 9, ['a'] = 10, ['b'] = 11, ['c'] = 12, ['d'] = 13, ['e'] = 14, ['f'] = 15 };
+    size_t octets = length / 2;
+    if (link->dead || link->closing || link->until == 0) return;
+    if (link->out.to - link->out.from + octets > queue_most) {
+        fprintf(stderr, "driver: connection %llu reads too slowly\n", (unsigned long long)link->number);
+        link->until = 0;
+        return;
+    }
+    char *to = room_for(&link->out, octets);
+    for (size_t i = 0; i < octets; i++)
+        to[i] = (char)(value[(uint8_t)hexadecimal[2 * i]] << 4 | value[(uint8_t)hexadecimal[2 * i + 1]]);
+    link->out.to += octets;
+}
+
+/* The peer: orders and answers */
+
+static bool begins(const char *line, const char *with) { return !strncmp(line, with, strlen(with)); }
+
+static char *next_answer(size_t *length) {
+    char *line;
+    while (!(line = whole_line(&answers, length))) {
+        ssize_t came = read(from_peer, room_for(&answers, 4 * PIECE), 4 * PIECE);
+        if (came < 0 && errno == EINTR) continue;
+        if (came <= 0) {
+            fprintf(stderr, "driver: dmlive ended\n");
+            exit(3);
+        }
+        answers.to += came;
+    }
+    line[*length] = 0;
+    return line;
+}
+
+/* sets the clock of the state anew */
+static void set_due(void) {
+    if (is_open) due = now() + about(watchdog, watchdog < 6000 ? watchdog / 3 : 2000);
+    else if (!is_closed) due = now() + timeout;
+    else due = reconnect && *connect_host ? now() + about(reconnect, reconnect / 6) : NEVER;
+}
+
+static void set_state(const char *line) {
+    if (!strcmp(line, state)) return;
+    snprintf(state, sizeof state, "%s", line);
+    is_closed = !strcmp(state, "Closed");
+    is_open = begins(state, "I-Open") || begins(state, "R-Open");
+    char *held = is_open ? strstr(state, *state == 'I' ? " i" : " r") : NULL;
+    open_number = held ? strtoull(held + 2, NULL, 10) : 0;
+    set_due();
+}
+
+static void hear(uint64_t number) {
+    struct link *link = find(number);
+    if (is_open && number == open_number) set_due();
+    if (!link || link->heard) return;
+    link->heard = true;
+    link->until = NEVER;
+}
+
+static void hand_up(const char *hexadecimal, size_t length) {
+    fwrite(hexadecimal, 1, length, stdout);
+    putchar('\n');
+    handed_up++;
+    output_waits = true;
+}
+
+/* What is queued for the same connection by messages one behind the other is sent at once. */
+static void obey_send(uint64_t number, const char *hexadecimal, size_t length) {
+    static struct link *last;
+    struct link *link = number ? find(number) : NULL;
+    if (last && last != link && !last->dead && last->until) flush(last);
+    last = link;
+    if (link) queue(link, hexadecimal, length);
+}
+
+static void obey_other(const char *line, uint64_t number) {
+    obey_send(0, "", 0);
+    if (begins(line, "close ")) close_link(find(number));
+    else if (begins(line, "connect ")) begin_connect(number);
+    else if (begins(line, "state ")) set_state(line + 6);
+    else if (strcmp(line, "ignored")) fprintf(stderr, "driver: dmlive: %s\n", line);
+}
+
+static void obey_line(const char *line, size_t length) {
+    const char *word = strchr(line, ' ');
+    char *behind = NULL;
+    uint64_t number = word && *line != 'u' ? strtoull(word + 1, &behind, 10) : 0;
+    if (begins(line, "send ")) obey_send(number, behind + 1, length - (behind + 1 - line));
+    else if (begins(line, "arrived ")) hear(number);
+    else if (begins(line, "up ")) hand_up(line + 3, length - 3);
+    else obey_other(line, number);
+}
+
+/* writes the orders that are ready, and obeys the answer of each */
+static void exchange(int count) {
+    while (orders.from < orders.to) {
+        ssize_t sent = write(to_peer, orders.at + orders.from, orders.to - orders.from);
+        if (sent < 0 && errno != EINTR) fail("driver: dmlive");
+        if (sent > 0) take(&orders, sent);
+    }
+    while (count > 0) {
+        size_t length;
+        char *line = next_answer(&length);
+        if (!strcmp(line, ".")) count--;
+        else say(" ", line, length), obey_line(line, length);
+        take(&answers, length + 1);
+    }
+    if (output_waits && fflush(stdout)) signalled++;
+    output_waits = false;
+}
+
+/* one order more, of its words and of what is behind them */
+static void put_order(const char *words, const char *rest, size_t length) {
+    size_t start = orders.to - orders.from;
+    put(&orders, words, strlen(words));
+    put(&orders, rest, length);
+    say(">", orders.at + orders.from + start, strlen(words) + length);
+    put(&orders, "\n", 1);
+}
+
+static void tell(const char *order) {
+    put_order(order, "", 0);
+    exchange(1);
+}
+
+static void tell_of(const char *order, uint64_t number) {
+    char words[64];
+    snprintf(words, sizeof words, "%s %llu", order, (unsigned long long)number);
+    tell(words);
+}
+
+static void tell_octets(uint64_t number, const uint8_t *octets, size_t length) {
+    static const char digits[] = "0123456789abcdef";
+    static char hexadecimal[2 * PIECE];
+    char words[64];
+    for (size_t i = 0; i < length; i++) {
+        hexadecimal[2 * i] = digits[octets[i] >> 4];
+        hexadecimal[2 * i + 1] = digits[octets[i] & 15];
+    }
+    snprintf(words, sizeof words, "octets %llu ", (unsigned long long)number);
+    put_order(words, hexadecimal, 2 * length);
+    exchange(1);
+}
+
+/* What happens at sockets */
+
+/* the connection is over, and dmlive is told so, where that didn't close it itself */
+static void lose(struct link *link) {
+    bool connecting = link->connecting;
+    drop(link);
+    if (!link->closing) tell_of(connecting ? "nack" : "gone", link->number);
+}
+
+static void end_connect(struct link *link) {
+    int fault = 0;
+    socklen_t size = sizeof fault;
+    getsockopt(link->fd, SOL_SOCKET, SO_ERROR, &fault, &size);
+    if (fault) {
+        connect_next(link);
+        return;
+    }
+    link->connecting = false;
+    link->until = NEVER;
+    set_options(link->fd);
+    tell_of("ack", link->number);
+}
+
+static void read_link(struct link *link) {
+    static uint8_t piece[PIECE];
+    ssize_t came = read(link->fd, piece, PIECE);
+    if (came < 0 && (errno == EAGAIN || errno == EINTR)) return;
+    if (came > 0 && link->closing) return;
+    if (came > 0) tell_octets(link->number, piece, came);
+    else if (came < 0) lose(link);
+    else {
+        link->ended = true;
+        if (!link->closing) tell_of("gone", link->number);
+        if (link->closing && !link->dead) flush(link);
+        close_link(link);
+    }
+}
+
+static void accept_link(int listener) {
+    int fd = accept4(listener, NULL, NULL, SOCK_NONBLOCK | SOCK_CLOEXEC);
+    if (fd < 0) return;
+    struct link *link = add_link(++last_number, fd);
+    link->until = now() + FIRST_TIME;
+    set_options(fd);
+    tell_of("accept", link->number);
+}
+
+static void serve_link(struct link *link, short events) {
+    if (!events || link->dead || link->fd < 0) return;
+    if (link->connecting) {
+        end_connect(link);
+        return;
+    }
+    if (events & POLLOUT) flush(link);
+    if (!link->dead && !link->ended && events & (POLLIN | POLLHUP | POLLERR)) read_link(link);
+}
+
+/* Standard input */
+
+static bool can_submit(void) {
+    struct link *link = is_open ? find(open_number) : NULL;
+    return link && link->out.to - link->out.from < MOST_WAITING;
+}
+
+static void read_input(void) {
+    ssize_t came = read(0, room_for(&input, PIECE), PIECE);
+    if (came < 0 && (errno == EAGAIN || errno == EINTR)) return;
+    if (came > 0) input.to += came;
+    else input_ended = true;
+    if (input_ended && input.to > input.from && input.at[input.to - 1] != '\n') put(&input, "\n", 1);
+}
+
+/* takes the first line that waits; false where none waits, or it is to wait on */
+static bool take_line(int *count) {
+    size_t length;
+    char *line = whole_line(&input, &length);
+    if (!(line_waits = line)) return false;
+    bool order = begins(line, "start") || begins(line, "stop ");
+    if (*count && (order || orders.to - orders.from + length > batch_most)) return false;
+    if (!order && length && !can_submit()) return false;
+    line[length] = 0;
+    if (begins(line, "start")) tell_of("start", ++last_number);
+    else if (order) tell(line);
+    else if (length) put_order("submit ", line, length), ++*count;
+    take(&input, length + 1);
+    return true;
+}
+
+static void take_input(void) {
+    int count;
+    do {
+        for (count = 0; take_line(&count);) {}
+        exchange(count);
+    } while (count);
+}
+
+/* Clocks */
+
+static void expire(struct link *link) {
+    if (link->closing) drop(link);
+    else if (link->connecting && link->next_address) connect_next(link);
+    else lose(link);
+}
+
+/* an accepted connection has sent no message yet */
+static bool someone_waits(void) {
+    for (size_t i = 0; i < link_count; i++)
+        if (!links[i]->heard && !links[i]->closing && !links[i]->dead) return true;
+    return false;
+}
+
+/* A Start waits for accepted connections: against a stack without election, two that cross are both lost. */
+static void expire_state(void) {
+    set_due();
+    if (is_open) tell("tick");
+    else if (!is_closed) tell("timeout");
+    else if (someone_waits()) due = now() + LOOK_AGAIN;
+    else tell_of("start", ++last_number);
+}
+
+static void run_clocks(void) {
+    int64_t at = now();
+    for (size_t i = 0; i < link_count; i++)
+        if (!links[i]->dead && links[i]->until <= at) expire(links[i]);
+    if (due <= at) expire_state();
+}
+
+/* how long nothing is to be done if nothing happens */
+static struct timespec patience(void) {
+    int64_t first = due < end_at ? due : end_at, at = now();
+    for (size_t i = 0; i < link_count; i++)
+        if (links[i]->until < first) first = links[i]->until;
+    int64_t left = first <= at ? 0 : first - at < 60000 ? first - at : 60000;
+    return (struct timespec){ left / 1000, left % 1000 * 1000000 };
+}
+
+/* Configuration */
+
+static bool add_listener(const char *address, const char *port) {
+    struct addrinfo hints = { .ai_socktype = SOCK_STREAM, .ai_flags = AI_PASSIVE | AI_NUMERICHOST }, *found;
+    if (listener_count == MOST_LISTENERS) return false;
+    int one = 1, fault = getaddrinfo(address, port, &hints, &found);
+    int fd = fault ? -1 : socket(found->ai_family, SOCK_STREAM | SOCK_NONBLOCK | SOCK_CLOEXEC, 0);
+    setsockopt(fd, SOL_SOCKET, SO_REUSEADDR, &one, sizeof one);
+    if (!fault && found->ai_family == AF_INET6) setsockopt(fd, IPPROTO_IPV6, IPV6_V6ONLY, &one, sizeof one);
+    if (fault || fd < 0 || bind(fd, found->ai_addr, found->ai_addrlen) || listen(fd, 512)) {
+        fprintf(stderr, "driver: listen %s %s: %s\n", address, port, fault ? gai_strerror(fault) : strerror(errno));
+        exit(3);
+    }
+    freeaddrinfo(found);
+    listeners[listener_count++] = fd;
+    return true;
+}
+
+static bool set_time(int64_t *time, const char *word, double least) {
+    char *end;
+    double seconds = strtod(word, &end);
+    if (*end || !(seconds >= least && seconds <= 1e6)) return false;
+    *time = (int64_t)(seconds * 1000);
+    return true;
+}
+
+static bool set_number(uint64_t *number, const char *word) {
+    char *end;
+    *number = strtoull(word, &end, 10);
+    return !*end && *word >= '0' && *word <= '9';
+}
+
+/* a line of the driver's own: 1, a bad one -1, one of dmlive's 0 */
+static int own_line(const char *line) {
+    char name[16], first[256], second[32], more;
+    int words = sscanf(line, " %15s %255s %31s %c", name, first, second, &more);
+    if (words < 1) return 0;
+    if (!strcmp(name, "watchdog")) return words == 2 && set_time(&watchdog, first, 0.1) ? 1 : -1;
+    if (!strcmp(name, "timeout")) return words == 2 && set_time(&timeout, first, 0.1) ? 1 : -1;
+    if (!strcmp(name, "reconnect")) return words == 2 && set_time(&reconnect, first, 0) ? 1 : -1;
+    if (!strcmp(name, "queue")) return words == 2 && set_number(&queue_most, first) ? 1 : -1;
+    if (!strcmp(name, "listen")) return words == 3 && add_listener(first, second) ? 1 : -1;
+    if (strcmp(name, "connect")) return 0;
+    strcpy(connect_host, first), strcpy(connect_port, second);
+    return words == 3 ? 1 : -1;
+}
+
+static void bad_configuration(const char *path, int line, const char *name) {
+    fprintf(stderr, "driver: %s:%d: %s\n", path, line, name);
+    exit(2);
+}
+
+/* Hands dmlive its lines, behind two for what the file may say otherwise: a first identifier that a restart doesn't
+   repeat soon (RFC 6733, 3), and ample room for a CER. */
+static void configure(const char *path) {
+    static int line_of[MOST_LINES];
+    int line_number = 0, count = 2, number;
+    char line[1024], own[100], name[64];
+    FILE *file = fopen(path, "r");
+    if (!file) fail(path);
+    snprintf(own, sizeof own, "first %llu\nearly 65536\n", (unsigned long long)(time(NULL) & 0xfff) << 20 | 1);
+    put(&orders, own, strlen(own));
+    while (fgets(line, sizeof line, file)) {
+        int kind = (++line_number, own_line(line));
+        if (kind < 0 || !strchr(line, '\n') || count == MOST_LINES) bad_configuration(path, line_number, "Syntax");
+        if (kind || line[strspn(line, " \t\r\n")] == 0 || *line == '#') continue;
+        line_of[count++] = line_number;
+        put(&orders, line, strlen(line));
+    }
+    fclose(file);
+    put(&orders, "go\n", 3);
+    exchange(0);
+    size_t length;
+    char *answer = next_answer(&length);
+    if (sscanf(answer, "fault %d %63s", &number, name) == 2)
+        bad_configuration(path, number > 2 && number <= count ? line_of[number - 1] : line_number, name);
+    take(&answers, length + 1);
+    take(&answers, (next_answer(&length), length + 1));
+}
+
+static void start_peer(const char *program) {
+    int down[2], up[2];
+    if (pipe2(down, O_CLOEXEC) || pipe2(up, O_CLOEXEC)) fail("driver: pipe");
+    fcntl(down[1], F_SETPIPE_SZ, 1 << 20);
+    fcntl(up[1], F_SETPIPE_SZ, 1 << 20);
+    peer_process = fork();
+    if (peer_process < 0) fail("driver: fork");
+    if (!peer_process) {
+        dup2(down[0], 0), dup2(up[1], 1);
+        execl(program, program, (char *)NULL);
+        perror(program);
+        _exit(127);
+    }
+    close(down[0]), close(up[1]);
+    to_peer = down[1], from_peer = up[0];
+    batch_most = fcntl(to_peer, F_GETPIPE_SZ) / 2;
+}
+
+/* The whole */
+
+/* With a connection open a DPR goes out, and its DPA is waited for; else all is closed at once. */
+static void begin_end(void) {
+    for (int i = 0; i < listener_count; i++) close(listeners[i]);
+    listener_count = 0;
+    *connect_host = 0;
+    input_ended = true;
+    end_at = now() + END_TIME;
+    if (is_closed) due = NEVER;
+    if (is_open) tell("stop 0");
+    for (size_t i = 0; i < link_count; i++)
+        if (is_closed || !links[i]->heard) close_link(links[i]);
+}
+
+static void on_signal(int signal) {
+    (void)signal;
+    signalled++;
+}
+
+static nfds_t set_polls(void) {
+    nfds_t count = 1 + listener_count + link_count;
+    if (count > poll_room) polls = realloc(polls, (poll_room = 2 * count) * sizeof *polls);
+    if (!polls) fail("driver: memory");
+    polls[0] = (struct pollfd){ input_ended || line_waits ? -1 : 0, POLLIN, 0 };
+    for (int i = 0; i < listener_count; i++)
+        polls[1 + i] = (struct pollfd){ link_count < MOST_LINKS ? listeners[i] : -1, POLLIN, 0 };
+    for (size_t i = 0; i < link_count; i++) {
+        struct link *link = links[i];
+        int events = link->connecting || link->out.from < link->out.to ? POLLOUT : 0;
+        if (!link->connecting && !link->ended) events |= POLLIN;
+        polls[1 + listener_count + i] = (struct pollfd){ link->fd, (short)events, 0 };
+    }
+    return count;
+}
+
+static void serve(const sigset_t *unblocked) {
+    free_dead();
+    nfds_t count = set_polls();
+    struct timespec wait = patience();
+    int ready = ppoll(polls, count, &wait, unblocked), own = listener_count;
+    if (ready < 0 && errno != EINTR) fail("driver: poll");
+    for (nfds_t i = 1 + own; ready > 0 && i < count; i++) serve_link(links[i - 1 - own], polls[i].revents);
+    for (int i = 0; ready > 0 && i < own; i++)
+        if (polls[1 + i].revents) accept_link(listeners[i]);
+    if (ready > 0 && polls[0].revents) read_input();
+    take_input();
+    run_clocks();
+    if (input_ended && !line_waits && handed_up >= handed_up_most) signalled++;
+}
+
+static const char HELP[] =
+    "usage: driver [-v] [-n COUNT] [-p PROGRAM] CONFIGURATION\n"
+    "  Runs the Diameter peer dmlive over TCP. What is handed up goes to standard output, a message a line, in\n"
+    "  hexadecimal; such lines of standard input are submitted. SIGTERM disconnects and ends it.\n"
+    "  -v, --verbose          a line on standard error for each event; twice: long ones whole\n"
+    "  -n, --count COUNT      ends when standard input has ended and so many messages were handed up\n"
+    "  -p, --program PROGRAM  dmlive (else crates/dmlive/out/dmlive in the repository)\n"
+    "  -h, --help             this\n";
+
+static const char *take_options(int count, char **words) {
+    static const struct option names[] = { { "verbose", 0, 0, 'v' }, { "count", 1, 0, 'n' }, { "program", 1, 0, 'p' },
+        { "help", 0, 0, 'h' }, { 0 } };
+    static char beside[4200] = "";
+    ssize_t length = readlink("/proc/self/exe", beside, 4096);
+    char *last = length > 0 ? strrchr(beside, '/') : NULL;
+    strcpy(last ? last : beside, "/../crates/dmlive/out/dmlive");
+    const char *program = beside;
+    for (int option; (option = getopt_long(count, words, "vn:p:h", names, NULL)) != -1;) {
+        if (option == 'h') exit(fputs(HELP, stdout) < 0 ? 3 : 0);
+        else if (option == 'v') verbose++;
+        else if (option == 'p') program = optarg;
+        else if (option != 'n' || !set_number(&handed_up_most, optarg)) optind = count;
+    }
+    if (optind == count - 1) return program;
+    fputs(HELP, stderr);
+    exit(2);
+}
+
+int main(int count, char **words) {
+    struct sigaction action = { .sa_handler = on_signal };
+    struct rlimit files;
+    sigset_t blocked, unblocked;
+    const char *program = take_options(count, words);
+    sigemptyset(&blocked), sigaddset(&blocked, SIGTERM), sigaddset(&blocked, SIGINT);
+    sigprocmask(SIG_BLOCK, &blocked, &unblocked);
+    sigaction(SIGTERM, &action, NULL), sigaction(SIGINT, &action, NULL), signal(SIGPIPE, SIG_IGN);
+    if (!getrlimit(RLIMIT_NOFILE, &files)) files.rlim_cur = files.rlim_max, setrlimit(RLIMIT_NOFILE, &files);
+    srandom((unsigned)(time(NULL) ^ (getpid() << 12)));
+    start_peer(program);
+    configure(words[optind]);
+    due = reconnect && *connect_host ? 0 : NEVER;
+    bool ending = false;
+    while (!ending || (link_count && now() < end_at && signalled < 2)) {
+        serve(&unblocked);
+        if (signalled && !ending) ending = true, signalled = 1, begin_end();
+    }
+    close(to_peer);
+    waitpid(peer_process, NULL, 0);
+    return 0;
+}
