@@ -1,4 +1,4 @@
-/* driver: sockets and clocks for a Diameter peer, the program dmlive, which runs as a child over two pipes (README.md). */
+/* driver: sockets and clocks for a Diameter peer, the program dmlive, which runs as its child over two pipes. */
 #define _GNU_SOURCE
 #include <errno.h>
 #include <fcntl.h>
@@ -544,8 +544,9 @@ static int own_line(const char *line) {
     if (!strcmp(name, "queue")) return words == 2 && set_number(&queue_most, first) ? 1 : -1;
     if (!strcmp(name, "listen")) return words == 3 && add_listener(first, second) ? 1 : -1;
     if (strcmp(name, "connect")) return 0;
+    if (words != 3) return -1;
     strcpy(connect_host, first), strcpy(connect_port, second);
-    return words == 3 ? 1 : -1;
+    return 1;
 }
 
 static void bad_configuration(const char *path, int line, const char *name) {
@@ -636,7 +637,6 @@ static nfds_t set_polls(void) {
 }
 
 static void serve(const sigset_t *unblocked) {
-    free_dead();
     nfds_t count = set_polls();
     struct timespec wait = patience();
     int ready = ppoll(polls, count, &wait, unblocked), own = listener_count;
@@ -647,6 +647,7 @@ static void serve(const sigset_t *unblocked) {
     if (ready > 0 && polls[0].revents) read_input();
     take_input();
     run_clocks();
+    free_dead();
     if (input_ended && !line_waits && handed_up >= handed_up_most) signalled++;
 }
 
