@@ -16,13 +16,14 @@
 #include <string.h>
 #include <sys/resource.h>
 #include <sys/socket.h>
+#include <sys/stat.h>
 #include <sys/wait.h>
 #include <time.h>
 #include <unistd.h>
 
 enum { MOST_LINKS = 1000, MOST_LISTENERS = 8, MOST_LINES = 1000 };
 /* octets: read at once, kept of an empty buffer, and queued at most where standard input goes on */
-enum { PIECE = 65536, MOST_KEPT = 1 << 20, MOST_WAITING = 1 << 20 };
+enum { PIECE = 1 << 18, MOST_KEPT = 1 << 20, MOST_WAITING = 1 << 20 };
 /* milliseconds: for a connect, the first message of an accepted connection, what follows a close, and the end */
 enum { CONNECT_TIME = 10000, FIRST_TIME = 10000, CLOSE_TIME = 2000, END_TIME = 5000, LOOK_AGAIN = 1000 };
 static const int64_t NEVER = INT64_MAX;
@@ -48,17 +49,22 @@ static char connect_host[256], connect_port[32];
 static int64_t watchdog = 30000, reconnect = 30000, timeout = 30000, due, end_at = INT64_MAX;
 static uint64_t queue_most = 32 << 20;
 static size_t batch_most;
-static int to_peer, from_peer, verbose;
+static int to_peer, from_peer, output_to = 1, orders_out, verbose;
 static pid_t peer_process;
-static struct buffer input, answers, orders;
+static struct buffer input, output, answers, orders;
 static char state[160] = "Closed";
-static bool is_closed = true, is_open, input_ended, line_waits, output_waits;
+static bool is_closed = true, is_open, input_ended, line_waits;
 static uint64_t last_number, open_number, handed_up, handed_up_most = UINT64_MAX;
 static volatile sig_atomic_t signalled;
 
 static void fail(const char *what) {
     perror(what);
     exit(3);
+}
+
+/* the end begins as by a first signal; a second one of the user's ends at once */
+static void ask_end(void) {
+    if (!signalled) signalled = 1;
 }
 
 static int64_t now(void) {
@@ -82,10 +88,9 @@ static void say(const char *sign, const char *text, size_t length) {
 /* Buffers */
 
 static char *room_for(struct buffer *b, size_t more) {
-    size_t held = b->to - b->from;
-    if (b->room - b->to < more && b->from >= held && b->from) {
-        memmove(b->at, b->at + b->from, held);
-        b->from = 0, b->to = held;
+    if (b->room - b->to < more && b->from && b->from >= b->to - b->from) {
+        memmove(b->at, b->at + b->from, b->to - b->from);
+        b->to -= b->from, b->from = 0;
     }
     if (b->room - b->to < more) {
         b->room = 2 * b->room + more;
@@ -98,6 +103,8 @@ static void put(struct buffer *b, const void *octets, size_t length) {
     memcpy(room_for(b, length), octets, length);
     b->to += length;
 }
+
+static size_t held(const struct buffer *b) { return b->to - b->from; }
 
 static void take(struct buffer *b, size_t length) {
     b->from += length;
@@ -112,9 +119,8 @@ static void take(struct buffer *b, size_t length) {
 
 /* the first whole line, which stays in the buffer; NULL where there is none */
 static char *whole_line(struct buffer *b, size_t *length) {
-    size_t held = b->to - b->from;
-    char *start = b->at + b->from, *end = held ? memchr(start + b->seen, '\n', held - b->seen) : NULL;
-    b->seen = end ? (size_t)(end - start) : held;
+    char *start = b->at + b->from, *end = held(b) ? memchr(start + b->seen, '\n', held(b) - b->seen) : NULL;
+    b->seen = end ? (size_t)(end - start) : held(b);
     if (end) *length = end - start;
     return end ? start : NULL;
 }
@@ -171,11 +177,11 @@ static void set_options(int fd) {
 /* Sends what can be sent now. Behind the last octet of a closing connection goes its FIN. A failure to write is left to
    the next read, since what came before it can still be read. */
 static void flush(struct link *link) {
-    while (link->out.from < link->out.to) {
-        ssize_t sent = send(link->fd, link->out.at + link->out.from, link->out.to - link->out.from, MSG_NOSIGNAL);
+    while (held(&link->out)) {
+        ssize_t sent = send(link->fd, link->out.at + link->out.from, held(&link->out), MSG_NOSIGNAL);
         if (sent < 0 && errno == EINTR) continue;
         if (sent < 0 && errno == EAGAIN) return;
-        take(&link->out, sent < 0 ? link->out.to - link->out.from : (size_t)sent);
+        take(&link->out, sent < 0 ? held(&link->out) : (size_t)sent);
     }
     if (!link->closing) return;
     if (link->ended) drop(link);
@@ -225,7 +231,7 @@ static void queue(struct link *link, const char *hexadecimal, size_t length) {
         ['8'] = 8, ['9'] = 9, ['a'] = 10, ['b'] = 11, ['c'] = 12, ['d'] = 13, ['e'] = 14, ['f'] = 15 };
     size_t octets = length / 2;
     if (link->dead || link->closing || link->until == 0) return;
-    if (link->out.to - link->out.from + octets > queue_most) {
+    if (held(&link->out) + octets > queue_most) {
         fprintf(stderr, "driver: connection %llu reads too slowly\n", (unsigned long long)link->number);
         link->until = 0;
         return;
@@ -243,7 +249,7 @@ static bool begins(const char *line, const char *with) { return !strncmp(line, w
 static char *next_answer(size_t *length) {
     char *line;
     while (!(line = whole_line(&answers, length))) {
-        ssize_t came = read(from_peer, room_for(&answers, 4 * PIECE), 4 * PIECE);
+        ssize_t came = read(from_peer, room_for(&answers, PIECE), PIECE);
         if (came < 0 && errno == EINTR) continue;
         if (came <= 0) {
             fprintf(stderr, "driver: dmlive ended\n");
@@ -281,10 +287,20 @@ static void hear(uint64_t number) {
 }
 
 static void hand_up(const char *hexadecimal, size_t length) {
-    fwrite(hexadecimal, 1, length, stdout);
-    putchar('\n');
+    put(&output, hexadecimal, length);
+    put(&output, "\n", 1);
     handed_up++;
-    output_waits = true;
+}
+
+/* writes what standard output takes now; where nobody reads it any more all ends */
+static void write_output(void) {
+    while (held(&output)) {
+        ssize_t sent = write(output_to, output.at + output.from, held(&output));
+        if (sent < 0 && errno == EINTR) continue;
+        if (sent < 0 && errno == EAGAIN) return;
+        if (sent < 0) ask_end();
+        take(&output, sent < 0 ? held(&output) : (size_t)sent);
+    }
 }
 
 /* What is queued for the same connection by messages one behind the other is sent at once. */
@@ -314,55 +330,62 @@ static void obey_line(const char *line, size_t length) {
     else obey_other(line, number);
 }
 
-/* writes the orders that are ready, and obeys the answer of each */
-static void exchange(int count) {
-    while (orders.from < orders.to) {
-        ssize_t sent = write(to_peer, orders.at + orders.from, orders.to - orders.from);
+/* writes the orders that wait, and obeys the answer of each */
+static void exchange(void) {
+    while (held(&orders)) {
+        ssize_t sent = write(to_peer, orders.at + orders.from, held(&orders));
         if (sent < 0 && errno != EINTR) fail("driver: dmlive");
         if (sent > 0) take(&orders, sent);
     }
-    while (count > 0) {
+    while (orders_out > 0) {
         size_t length;
         char *line = next_answer(&length);
-        if (!strcmp(line, ".")) count--;
+        if (!strcmp(line, ".")) orders_out--;
         else say(" ", line, length), obey_line(line, length);
         take(&answers, length + 1);
     }
-    if (output_waits && fflush(stdout)) signalled++;
-    output_waits = false;
+    write_output();
 }
 
-/* one order more, of its words and of what is behind them */
+/* one order more waits, of its words and of what is behind them */
 static void put_order(const char *words, const char *rest, size_t length) {
-    size_t start = orders.to - orders.from;
+    size_t start = held(&orders);
     put(&orders, words, strlen(words));
     put(&orders, rest, length);
     say(">", orders.at + orders.from + start, strlen(words) + length);
     put(&orders, "\n", 1);
+    orders_out++;
 }
 
 static void tell(const char *order) {
     put_order(order, "", 0);
-    exchange(1);
+    exchange();
+}
+
+static void put_order_of(const char *order, uint64_t number) {
+    char words[64];
+    snprintf(words, sizeof words, "%s %llu", order, (unsigned long long)number);
+    put_order(words, "", 0);
 }
 
 static void tell_of(const char *order, uint64_t number) {
-    char words[64];
-    snprintf(words, sizeof words, "%s %llu", order, (unsigned long long)number);
-    tell(words);
+    put_order_of(order, number);
+    exchange();
+}
+
+static char digits_of[256][2];
+
+static void set_digits(void) {
+    for (int i = 0; i < 512; i++) digits_of[i / 2][i % 2] = "0123456789abcdef"[i % 2 ? i / 2 & 15 : i / 32];
 }
 
 static void tell_octets(uint64_t number, const uint8_t *octets, size_t length) {
-    static const char digits[] = "0123456789abcdef";
-    static char hexadecimal[2 * PIECE];
+    static char hexadecimal[PIECE][2];
     char words[64];
-    for (size_t i = 0; i < length; i++) {
-        hexadecimal[2 * i] = digits[octets[i] >> 4];
-        hexadecimal[2 * i + 1] = digits[octets[i] & 15];
-    }
+    for (size_t i = 0; i < length; i++) memcpy(hexadecimal[i], digits_of[octets[i]], 2);
     snprintf(words, sizeof words, "octets %llu ", (unsigned long long)number);
-    put_order(words, hexadecimal, 2 * length);
-    exchange(1);
+    put_order(words, hexadecimal[0], 2 * length);
+    exchange();
 }
 
 /* What happens at sockets */
@@ -403,13 +426,14 @@ static void read_link(struct link *link) {
     }
 }
 
+/* Its order waits for the next one: nothing comes of it alone. */
 static void accept_link(int listener) {
     int fd = accept4(listener, NULL, NULL, SOCK_NONBLOCK | SOCK_CLOEXEC);
     if (fd < 0) return;
     struct link *link = add_link(++last_number, fd);
     link->until = now() + FIRST_TIME;
     set_options(fd);
-    tell_of("accept", link->number);
+    put_order_of("accept", link->number);
 }
 
 static void serve_link(struct link *link, short events) {
@@ -426,7 +450,7 @@ static void serve_link(struct link *link, short events) {
 
 static bool can_submit(void) {
     struct link *link = is_open ? find(open_number) : NULL;
-    return link && link->out.to - link->out.from < MOST_WAITING;
+    return link && held(&link->out) < MOST_WAITING;
 }
 
 static void read_input(void) {
@@ -434,31 +458,29 @@ static void read_input(void) {
     if (came < 0 && (errno == EAGAIN || errno == EINTR)) return;
     if (came > 0) input.to += came;
     else input_ended = true;
-    if (input_ended && input.to > input.from && input.at[input.to - 1] != '\n') put(&input, "\n", 1);
+    if (input_ended && held(&input) && input.at[input.to - 1] != '\n') put(&input, "\n", 1);
 }
 
-/* takes the first line that waits; false where none waits, or it is to wait on */
-static bool take_line(int *count) {
+/* Takes the first line that waits; false where none waits, or it is to wait on. Submits go to dmlive many at once. */
+static bool take_line(void) {
     size_t length;
     char *line = whole_line(&input, &length);
     if (!(line_waits = line)) return false;
     bool order = begins(line, "start") || begins(line, "stop ");
-    if (*count && (order || orders.to - orders.from + length > batch_most)) return false;
+    if (order || held(&orders) + length > batch_most) exchange();
     if (!order && length && !can_submit()) return false;
     line[length] = 0;
     if (begins(line, "start")) tell_of("start", ++last_number);
     else if (order) tell(line);
-    else if (length) put_order("submit ", line, length), ++*count;
+    else if (length) put_order("submit ", line, length);
     take(&input, length + 1);
     return true;
 }
 
 static void take_input(void) {
-    int count;
-    do {
-        for (count = 0; take_line(&count);) {}
-        exchange(count);
-    } while (count);
+    if (!take_line()) return;
+    while (take_line()) {}
+    exchange();
 }
 
 /* Clocks */
@@ -573,7 +595,7 @@ static void configure(const char *path) {
     }
     fclose(file);
     put(&orders, "go\n", 3);
-    exchange(0);
+    exchange();
     size_t length;
     char *answer = next_answer(&length);
     if (sscanf(answer, "fault %d %63s", &number, name) == 2)
@@ -600,6 +622,15 @@ static void start_peer(const char *program) {
     batch_most = fcntl(to_peer, F_GETPIPE_SZ) / 2;
 }
 
+/* A pipe is opened anew, so that a write to it doesn't wait, and nobody else's does otherwise than it did. */
+static void open_output(void) {
+    struct stat what;
+    if (fstat(1, &what) || !S_ISFIFO(what.st_mode)) return;
+    int fd = open("/proc/self/fd/1", O_WRONLY | O_NONBLOCK | O_CLOEXEC);
+    if (fd < 0) return;
+    fcntl(output_to = fd, F_SETPIPE_SZ, MOST_WAITING);
+}
+
 /* The whole */
 
 /* With a connection open a DPR goes out, and its DPA is waited for; else all is closed at once. */
@@ -620,35 +651,44 @@ static void on_signal(int signal) {
     signalled++;
 }
 
+/* Standard input, standard output, the listeners, the connections. While much that was handed up waits to be written,
+   nothing more is read of connections. */
 static nfds_t set_polls(void) {
-    nfds_t count = 1 + listener_count + link_count;
+    nfds_t count = 2 + listener_count + link_count;
     if (count > poll_room) polls = realloc(polls, (poll_room = 2 * count) * sizeof *polls);
     if (!polls) fail("driver: memory");
     polls[0] = (struct pollfd){ input_ended || line_waits ? -1 : 0, POLLIN, 0 };
+    polls[1] = (struct pollfd){ held(&output) ? output_to : -1, POLLOUT, 0 };
     for (int i = 0; i < listener_count; i++)
-        polls[1 + i] = (struct pollfd){ link_count < MOST_LINKS ? listeners[i] : -1, POLLIN, 0 };
+        polls[2 + i] = (struct pollfd){ link_count < MOST_LINKS ? listeners[i] : -1, POLLIN, 0 };
     for (size_t i = 0; i < link_count; i++) {
         struct link *link = links[i];
-        int events = link->connecting || link->out.from < link->out.to ? POLLOUT : 0;
-        if (!link->connecting && !link->ended) events |= POLLIN;
-        polls[1 + listener_count + i] = (struct pollfd){ link->fd, (short)events, 0 };
+        int events = link->connecting || held(&link->out) ? POLLOUT : 0;
+        if (!link->connecting && !link->ended && held(&output) < MOST_WAITING) events |= POLLIN;
+        polls[2 + listener_count + i] = (struct pollfd){ link->fd, (short)events, 0 };
     }
     return count;
+}
+
+static void serve_polls(nfds_t count) {
+    nfds_t first = 2 + listener_count;
+    for (nfds_t i = first; i < count; i++) serve_link(links[i - first], polls[i].revents);
+    for (int i = 0; i < listener_count; i++)
+        if (polls[2 + i].revents) accept_link(listeners[i]);
+    if (polls[0].revents) read_input();
+    if (polls[1].revents) write_output();
 }
 
 static void serve(const sigset_t *unblocked) {
     nfds_t count = set_polls();
     struct timespec wait = patience();
-    int ready = ppoll(polls, count, &wait, unblocked), own = listener_count;
+    int ready = ppoll(polls, count, &wait, unblocked);
     if (ready < 0 && errno != EINTR) fail("driver: poll");
-    for (nfds_t i = 1 + own; ready > 0 && i < count; i++) serve_link(links[i - 1 - own], polls[i].revents);
-    for (int i = 0; ready > 0 && i < own; i++)
-        if (polls[1 + i].revents) accept_link(listeners[i]);
-    if (ready > 0 && polls[0].revents) read_input();
+    if (ready > 0) serve_polls(count);
     take_input();
     run_clocks();
     free_dead();
-    if (input_ended && !line_waits && handed_up >= handed_up_most) signalled++;
+    if (input_ended && !line_waits && handed_up >= handed_up_most) ask_end();
 }
 
 static const char HELP[] =
@@ -689,13 +729,15 @@ int main(int count, char **words) {
     sigaction(SIGTERM, &action, NULL), sigaction(SIGINT, &action, NULL), signal(SIGPIPE, SIG_IGN);
     if (!getrlimit(RLIMIT_NOFILE, &files)) files.rlim_cur = files.rlim_max, setrlimit(RLIMIT_NOFILE, &files);
     srandom((unsigned)(time(NULL) ^ (getpid() << 12)));
+    set_digits();
+    open_output();
     start_peer(program);
     configure(words[optind]);
     due = reconnect && *connect_host ? 0 : NEVER;
     bool ending = false;
-    while (!ending || (link_count && now() < end_at && signalled < 2)) {
+    while (!ending || ((link_count || held(&output)) && now() < end_at && signalled < 2)) {
         serve(&unblocked);
-        if (signalled && !ending) ending = true, signalled = 1, begin_end();
+        if (signalled && !ending) ending = true, begin_end();
     }
     close(to_peer);
     waitpid(peer_process, NULL, 0);

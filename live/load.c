@@ -1,6 +1,6 @@
 /* load: sends a Diameter peer what live/speed measures, and says how long that took.
-     load ping|stream|connections|large ADDRESS PORT HOST COUNT     as HOST, with base accounting (application 3)
-     load answer     answers each request of standard input, a line of hexadecimal, on standard output */
+     load WHAT ADDRESS PORT HOST COUNT   ping, stream, answered, connections or large, as HOST, of application 3
+     load answer                         answers each request of standard input, a line of hexadecimal */
 #define _GNU_SOURCE
 #include <arpa/inet.h>
 #include <netinet/tcp.h>
@@ -73,7 +73,9 @@ static void end_message(struct octets *o, size_t start) {
     memcpy(o->at + start, &head, 4);
 }
 
-static void put_watchdog(struct octets *o, uint32_t number) { end_message(o, begin_message(o, REQUEST, DWR, 0, number)); }
+static void put_watchdog(struct octets *o, uint32_t number) {
+    end_message(o, begin_message(o, REQUEST, DWR, 0, number));
+}
 
 static void put_request(struct octets *o, uint32_t number, size_t extra) {
     size_t start = begin_message(o, REQUEST | PROXIABLE, ACR, 3, number);
@@ -93,7 +95,10 @@ static void send_all(struct stream *s, struct octets *o) {
 
 /* reads so many octets, and answers where they lie; the stream holds no more than its room */
 static uint8_t *take(struct stream *s, size_t length) {
-    if (s->from + length > sizeof s->at) memmove(s->at, s->at + s->from, s->to - s->from), s->to -= s->from, s->from = 0;
+    if (s->from + length > sizeof s->at) {
+        memmove(s->at, s->at + s->from, s->to - s->from);
+        s->to -= s->from, s->from = 0;
+    }
     while (s->to - s->from < length) {
         ssize_t came = read(s->fd, s->at + s->to, sizeof s->at - s->to);
         if (came <= 0) fail("the connection is lost");
@@ -120,7 +125,8 @@ static void open_stream(struct stream *s, struct octets *o, char **words) {
     if (connect(s->fd, (struct sockaddr *)&to, sizeof to)) fail("connect");
     setsockopt(s->fd, IPPROTO_TCP, TCP_NODELAY, &one, sizeof one);
     size_t start = begin_message(o, REQUEST, CER, 0, 1);
-    put_avp(o, 257, 0x40, "\0\1\x7f\0\0\1", 6), put_number(o, 266, 0), put_avp(o, 269, 0, "load", 4), put_number(o, 259, 3);
+    put_avp(o, 257, 0x40, "\0\1\x7f\0\0\1", 6), put_number(o, 266, 0);
+    put_avp(o, 269, 0, "load", 4), put_number(o, 259, 3);
     end_message(o, start);
     send_all(s, o);
     if (receive(s) != CER) fail("no CEA");
@@ -152,23 +158,28 @@ static void ping(struct stream *s, struct octets *o, uint32_t count) {
     }
     if (!times) fail("memory");
     qsort(times, count, sizeof *times, by_value);
-    printf("%.0f a second, half within %.0f us, 99 of 100 within %.0f us\n", count / (last - began), times[count / 2] * 1e6,
-        times[count * 99ul / 100] * 1e6);
+    printf("%.0f a second, half within %.0f us, 99 of 100 within %.0f us\n", count / (last - began),
+        times[count / 2] * 1e6, times[count * 99ul / 100] * 1e6);
     free(times);
 }
 
-/* requests one behind the other, without a look at answers; the watchdog behind them is answered when all are taken */
-static void stream_of(struct stream *s, struct octets *o, uint32_t count) {
+/* Requests one behind the other. A watchdog behind them is answered when all are taken; where the requests are answered
+   too, by someone beside, their answers are read meanwhile. */
+static void stream_of(struct stream *s, uint32_t count, bool answered) {
     struct octets whole = { 0 };
     for (uint32_t i = 0; i < count; i++) put_request(&whole, i, 0);
-    size_t length = whole.length;
+    size_t length = whole.length / count;
+    put_watchdog(&whole, count);
     double began = now();
-    send_all(s, &whole);
-    put_watchdog(o, count);
-    send_all(s, o);
-    while (receive(s) != DWR) {}
-    double took = now() - began;
-    printf("%.0f a second, of %zu octets each, %.1f MB a second\n", count / took, length / count, (double)length / took / 1e6);
+    if (!answered || !fork()) {
+        send_all(s, &whole);
+        if (answered) _exit(0);
+    }
+    for (uint32_t left = answered ? count + 1 : 1; left > 0;) {
+        uint32_t command = receive(s);
+        left -= command == DWR || (answered && command == ACR);
+    }
+    printf("%.0f a second, of %zu octets each\n", count / (now() - began), length);
     free(whole.at);
 }
 
@@ -221,7 +232,8 @@ int main(int count, char **words) {
     }
     open_stream(&s, &o, words);
     if (!strcmp(words[1], "ping")) ping(&s, &o, times);
-    else if (!strcmp(words[1], "stream")) stream_of(&s, &o, times);
+    else if (!strcmp(words[1], "stream")) stream_of(&s, times, false);
+    else if (!strcmp(words[1], "answered")) stream_of(&s, times, true);
     else if (!strcmp(words[1], "large")) large(&s, &o, times);
     close_stream(&s, &o);
     return 0;

@@ -1,6 +1,6 @@
 %% A node of Erlang/OTP's diameter with base accounting, application 3.
 %%   erl -noshell -pa DIR -run otp_peer main HOST LISTEN CONNECT KNOWN
-%% LISTEN and CONNECT are ADDRESS:PORT, or none; KNOWN is the one host that it talks to, or any. Orders on standard input:
+%% LISTEN and CONNECT are ADDRESS:PORT, or none; KNOWN is the one host that it talks to, or any. On standard input
 %% `call HOST` sends a request to a host, `stop` disconnects and ends. What happens is printed, a line each.
 -module(otp_peer).
 -export([main/1, greet/3]).

@@ -2,8 +2,10 @@
 import os
 import re
 import signal
+import socket
 import struct
 import subprocess
+import sys
 import threading
 import time
 
@@ -26,6 +28,17 @@ TLS_Cred = "cert.pem", "key.pem";
 TLS_CA = "cert.pem";
 {lines}
 """
+
+
+NET = """set -e
+mkdir -p /run/netns; mount -t tmpfs tmpfs /run/netns
+ip link set lo up; ip netns add other; ip link add v0 type veth peer name v1; ip link set v1 netns other
+ip addr add 10.9.9.1/24 dev v0; ip -6 addr add fd09::1/64 dev v0 nodad; ip link set v0 up
+ip -n other addr add 10.9.9.2/24 dev v1; ip -n other -6 addr add fd09::2/64 dev v1 nodad
+ip -n other link set v1 up; ip -n other link set lo up
+exec "$@"
+"""
+NEAR, FAR = "10.9.9.1", "10.9.9.2"
 
 
 def avp(code, value, flags=0x40):
@@ -205,8 +218,82 @@ class Ours(Side):
         return None
 
 
+class FreeDiameter(Side):
+    """freeDiameter's daemon, b.example, in the other network; a relay, unless told otherwise."""
+    name = "freeDiameter"
+
+    def __init__(self, folder, call=None, known=("a.example", "c.example"), relay=True):
+        lines = ['LoadExtension = "%s/acl_wl.fdx" : "acl.conf";' % extensions()]
+        if not relay:
+            lines.append("NoRelay;")
+        if call:
+            lines.append('ConnectPeer = "%s" { No_TLS; No_SCTP; No_IPv6; ConnectTo = "%s"; Port = %d; };' % (
+                known[0], NEAR, call))
+        with open(os.path.join(folder, "acl.conf"), "w") as file:
+            file.writelines("ALLOW_IPSEC %s\n" % host for host in known)
+        with open(os.path.join(folder, "fd.conf"), "w") as file:
+            file.write(FREEDIAMETER.format(
+                host="b.example", port=3868, address=FAR, family="No_IPv6", lines="\n".join(lines)))
+        super().__init__(["ip", "netns", "exec", "other", "freeDiameterd", "-c", "fd.conf"], folder)
+        listening(FAR, 3868)
+
+    def stop(self):
+        self.signal(signal.SIGTERM)
+
+
+class Otp(Side):
+    """A node of Erlang/OTP's diameter, b.example, in the other network."""
+    name = "OTP"
+
+    def __init__(self, folder, call=None, known=("any",), relay=True):
+        words = ["main", "b.example", FAR + ":3868", "%s:%d" % (NEAR, call) if call else "none", known[0]]
+        erl = ["erl", "-noshell", "-pa", folder, "-run", "otp_peer"]
+        super().__init__(["ip", "netns", "exec", "other", *erl, *words], folder)
+        listening(FAR, 3868)
+
+    def stop(self):
+        self.order("stop")
+
+
+def extensions():
+    for folder in ("/usr/lib/freeDiameter", "/usr/local/lib/freeDiameter"):
+        if os.path.isdir(folder):
+            return folder
+    return "."
+
+
+def listening(address, port, seconds=15):
+    """Waits until someone listens there."""
+    end = time.monotonic() + seconds
+    while time.monotonic() < end:
+        try:
+            socket.create_connection((address, port), 1).close()
+            return True
+        except OSError:
+            time.sleep(0.1)
+    return False
+
+
+def prepare(folder, parts):
+    subprocess.run([os.path.join(HERE, "build")], check=True)
+    if "otp" in parts:
+        subprocess.run(["erlc", "-o", folder, os.path.join(HERE, "otp_peer.erl")], check=True)
+    subprocess.run(["openssl", "req", "-x509", "-newkey", "rsa:2048", "-nodes", "-days", "2", "-subj", "/CN=b.example",
+                    "-keyout", "key.pem", "-out", "cert.pem"], cwd=folder, check=True, stderr=subprocess.DEVNULL)
+
+
+def enter_network(script, words):
+    """Runs the script again in a network of its own, with another behind a pair of interfaces; both end with it."""
+    if os.environ.get("LIVE_NET"):
+        return
+    os.environ["LIVE_NET"] = "1"
+    sys.stdout.flush()
+    os.execvp("unshare", ["unshare", "--net", "--mount", "sh", "-c", NET, "sh", script, *words])
+
+
 def configuration(host, peer, *lines, applications=("acct 3",)):
-    return ["host " + host, "realm example", "address 10.9.9.1", "product dmlive", *applications, "peer " + peer, *lines]
+    own = ["host " + host, "realm example", "address " + NEAR, "product dmlive", "peer " + peer]
+    return [*own, *applications, *lines]
 
 
 def processes_memory(process):
