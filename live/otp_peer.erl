@@ -44,7 +44,7 @@ greet(_, Capabilities, Known) ->
 read(To) ->
     case io:get_line("") of
         Line when is_list(Line) -> To ! {line, string:lexemes(Line, " \n")}, read(To);
-        _ -> To ! {line, ["stop"]}
+        _ -> ok
     end.
 
 loop(Host) ->
