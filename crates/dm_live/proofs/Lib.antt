@@ -1,4 +1,7 @@
 pub mod FirstLine
+pub mod Known
 pub mod Options
 pub mod Rests
+pub mod Serving
+pub mod Stages
 pub mod Turns

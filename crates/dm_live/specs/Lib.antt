@@ -1,5 +1,10 @@
 pub mod AnswerLines
 pub mod Answers
+pub mod Beginnings
+pub mod Drafts
 pub mod Input
 pub mod OrderLines
 pub mod ReadOrders
+pub mod Served
+pub mod Settings
+pub mod Stages

@@ -1,5 +1,5 @@
 //! The input, line by line.
-ghost use Rattle.std.specs.Prelude.{◌≡◌, ◌⊎◌, IfOk, IfErr, IfSome};
+ghost use Rattle.std.specs.Prelude.{◌≡◌, ◌≢◌, ◌⊎◌, IfOk, IfErr, IfSome};
 ghost use Rattle.dm_live.specs.Input.{without_end, GivesLine};
 
 use crate::fault::LiveFault;
@@ -39,7 +39,9 @@ fn take_end_off(line: &mut Vec<u8>)
 
 /// Why a read failed: the line wanted memory, or else the reader failed.
 fn fault_of(kind: ErrorKind) -> LiveFault
-    ensures { (result ≡ LiveFault.Read) ⊎ (result ≡ LiveFault.Memory) }
+    ensures memory { kind ≡ ErrorKind.OutOfMemory → result ≡ LiveFault.Memory }
+    ensures read { kind ≢ ErrorKind.OutOfMemory → result ≡ LiveFault.Read }
+    ensures either { (result ≡ LiveFault.Read) ⊎ (result ≡ LiveFault.Memory) }
 {
     if kind == ErrorKind::OutOfMemory {
         LiveFault::Memory

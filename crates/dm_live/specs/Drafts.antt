@@ -1,0 +1,20 @@
+-- What a draft says.
+use Rattle.std.specs.String.{string_bytes}
+use Rattle.dm_live.specs.declared.draft.Draft.{Draft}
+use Rattle.dm_live.specs.Settings.{Settings}
+
+abbrev pub settings_of : Draft → Settings
+settings_of d =
+    record {
+      host = d.host.items;
+      realm = d.realm.items;
+      addresses = d.addresses.items;
+      vendor = d.vendor;
+      product = string_bytes d.product;
+      auth = d.auth.items;
+      acct = d.acct.items;
+      peer = d.peer.items;
+      first_id = d.first_id;
+      first_max = d.first_max;
+      most = d.most;
+    }

@@ -1,0 +1,98 @@
+//! The words behind the names of configuration lines. Each helper answers false, and changes nothing, where its word
+//! tells nothing.
+ghost use Rattle.std.specs.Prelude.{◌≡◌, ◌∷◌, ◌++◌, [], ℕ, true, false, IfOk, IfSome, IfNone, OnOk};
+ghost use Rattle.std.specs.Str.{IsUtf8};
+ghost use Rattle.std.specs.String.{string_bytes};
+ghost use Rattle.dm_text.specs.Numbers.{TellsNumber};
+ghost use Rattle.dm_value.specs.declared.address.Ip.{Ip as AnIp};
+ghost use Rattle.dm_live.specs.Settings.{TellsAddress};
+
+use dm_text::read_number;
+use dm_value::Ip;
+use std::alloc::AllocError;
+use std::net::IpAddr;
+use std::str;
+
+/// Any word is a name.
+pub(crate) fn put_name(name: &mut Vec<u8>, word: &[u8]) -> Result<bool, AllocError>
+    ensures put { OnOk result (name.new.items ≡ word.now) }
+    ensures good { IfOk result (λ good. good ≡ true) }
+{
+    name.clear();
+    name.extend_from_slice(word)?;
+    Ok(true)
+}
+
+/// A word of UTF-8 is a text.
+pub(crate) fn put_text(text: &mut String, word: &[u8]) -> Result<bool, AllocError>
+    ensures put { IfOk result (λ good. good ≡ true → IsUtf8 word.now × (string_bytes text.new ≡ word.now)) }
+    ensures bad { IfOk result (λ good. good ≡ false → IsUtf8 word.now → ⊥) }
+    ensures kept { IfOk result (λ good. good ≡ false → string_bytes text.new ≡ string_bytes text.old) }
+{
+    match str::from_utf8(word) {
+        Ok(words) => {
+            text.clear();
+            text.push_str(words)?;
+            Ok(true)
+        }
+        Err(_) => Ok(false),
+    }
+}
+
+/// The address that a word tells.
+fn read_address(word: &[u8]) -> Option<Ip>
+    ensures told { IfSome result (λ ip. TellsAddress ip word.now) }
+    ensures none { IfNone result ((ip : AnIp) → TellsAddress ip word.now → ⊥) }
+{
+    match IpAddr::parse_ascii(word) {
+        Ok(address) => Some(Ip::from(address)),
+        Err(_) => None,
+    }
+}
+
+/// An address stands behind those said before.
+pub(crate) fn push_address(list: &mut Vec<Ip>, word: &[u8]) -> Result<bool, AllocError>
+    ensures put { IfOk result (λ good. good ≡ true → (ip : AnIp) × TellsAddress ip word.now
+        × (list.new.items ≡ list.old.items ++ ip ∷ [])) }
+    ensures bad { IfOk result (λ good. good ≡ false → (ip : AnIp) → TellsAddress ip word.now → ⊥) }
+    ensures kept { IfOk result (λ good. good ≡ false → list.new.items ≡ list.old.items) }
+{
+    match read_address(word) {
+        Some(ip) => {
+            list.push(ip)?;
+            Ok(true)
+        }
+        None => Ok(false),
+    }
+}
+
+/// A number takes the place of the one said before.
+pub(crate) fn put_number(number: &mut u32, word: &[u8]) -> bool
+    ensures put { result ≡ true → TellsNumber number.new word.now }
+    ensures bad { result ≡ false → (n : ℕ) → TellsNumber n word.now → ⊥ }
+    ensures kept { result ≡ false → number.new ≡ number.old }
+{
+    match read_number(word) {
+        Some(told) => {
+            *number = told;
+            true
+        }
+        None => false,
+    }
+}
+
+/// A number stands behind those said before.
+pub(crate) fn push_number(list: &mut Vec<u32>, word: &[u8]) -> Result<bool, AllocError>
+    ensures put { IfOk result (λ good. good ≡ true → (n : ℕ) × TellsNumber n word.now
+        × (list.new.items ≡ list.old.items ++ n ∷ [])) }
+    ensures bad { IfOk result (λ good. good ≡ false → (n : ℕ) → TellsNumber n word.now → ⊥) }
+    ensures kept { IfOk result (λ good. good ≡ false → list.new.items ≡ list.old.items) }
+{
+    match read_number(word) {
+        Some(told) => {
+            list.push(told)?;
+            Ok(true)
+        }
+        None => Ok(false),
+    }
+}
