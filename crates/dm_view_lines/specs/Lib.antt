@@ -1,0 +1,6 @@
+pub mod Counts
+pub mod Digits
+pub mod Lines
+pub mod Reasons
+pub mod Run
+pub mod Said

@@ -1,0 +1,51 @@
+-- What is said of the lines of an input.
+use Rattle.std.specs.Prelude.{◌≡◌, ℕ, ◌+◌, Bool, false, nat_eq, Option, Some, None, List, [], ◌∷◌, ◌++◌, codes}
+use Rattle.std.specs.Fmt.{decimal}
+use Rattle.std.specs.Str.Lines.{lines}
+use Rattle.dm_tables.specs.Definitions.{Definitions}
+use Rattle.dm_view_lines.specs.declared.said.Task.{Task}
+use Rattle.dm_view_lines.specs.declared.said.Task.TheVariants.{Show, Check}
+use Rattle.dm_view_lines.specs.declared.tally.Tally.{Tally}
+use Rattle.dm_view_lines.specs.Counts.{no_lines, tally_of, added, tally_line}
+use Rattle.dm_view_lines.specs.Digits.{octets_of_line}
+use Rattle.dm_view_lines.specs.Said.{SaysOctets}
+
+-- the line's number, before what is said of it
+abbrev pub numbered : ℕ → List ℕ → List ℕ
+numbered n said = decimal n ++ codes ": " ++ said
+
+-- of the line of this number, which stands for these octets: of no octets nothing is said
+abbrev pub SaysLine : Task → Definitions → ℕ → Option (List ℕ) → List ℕ → Option Bool → Type 0
+SaysLine task d n None text verdict = (text ≡ numbered n (codes "no hexadecimal" ++ 10 ∷ [])) × (verdict ≡ Some false)
+SaysLine task d n (Some []) text verdict = (text ≡ []) × (verdict ≡ None)
+SaysLine task d n (Some (b ∷ s)) text verdict =
+    (said : List ℕ) × (good : Bool) × SaysOctets task d (b ∷ s) said good × (text ≡ numbered n said) × (verdict ≡ Some good)
+
+-- a line, and then those behind it
+pub record LineThenRest (Line : List ℕ → Option Bool → Type 0) (Rest : List ℕ → Tally → Type 0) (text : List ℕ)
+    (tally : Tally) : Type 0 where
+  pub first : List ℕ
+  pub rest : List ℕ
+  pub verdict : Option Bool
+  pub others : Tally
+  pub line : Line first verdict
+  pub behind : Rest rest others
+  pub text_is : text ≡ first ++ rest
+  pub tally_is : tally ≡ added (tally_of verdict) others
+
+-- of lines, the first of which has this number; and how many are good and bad
+abbrev pub SaysLines : Task → Definitions → ℕ → List (List ℕ) → List ℕ → Tally → Type 0
+SaysLines task d n [] text tally = (text ≡ []) × (tally ≡ no_lines)
+SaysLines task d n (line ∷ lines) text tally =
+    LineThenRest (SaysLine task d n (octets_of_line line)) (SaysLines task d (n + 1) lines) text tally
+
+-- check ends with how many lines were good and bad
+abbrev pub last_line : Task → Tally → List ℕ
+last_line Show t = []
+last_line Check t = tally_line t
+
+-- what is said of an input, and whether none of its lines is bad
+abbrev pub Says : Task → Definitions → List ℕ → List ℕ → Bool → Type 0
+Says task d input text good =
+    (said : List ℕ) × (tally : Tally) × SaysLines task d 1 (lines input) said tally
+    × (text ≡ said ++ last_line task tally) × (good ≡ nat_eq tally.bad 0)

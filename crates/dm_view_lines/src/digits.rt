@@ -1,0 +1,97 @@
+//! The octets that a line stands for.
+ghost use Rattle.std.specs.Prelude.{◌≡◌, ◌<◌, ◌≤◌, ◌++◌, length, false, IfOk, OnOk};
+ghost use Rattle.std.specs.List.{before_first};
+ghost use Rattle.std.specs.Option.{option_map};
+ghost use Rattle.dm_view_lines.specs.Digits.{without_mark, begins_comment, without_prefix, digits_of_words, line_digits, octets_of_line};
+
+use dm_text::read_hex_word;
+use memchr::{memchr2, memchr3};
+use std::alloc::{AllocError, Global};
+
+/// The octets that a line stands for: hexadecimal digits in either case. `None` where a digit is bad or their number is
+/// odd.
+///
+/// Spaces, tabs and `:` may stand between digits, `0x` before those of a word, a byte order mark at the front, and a
+/// comment behind `;` or `#`. `digits` is room that is used again from line to line; what it holds doesn't matter.
+pub fn read_line(
+    alloc: Global,
+    line: &[u8],
+    digits: &mut Vec<u8>,
+) -> Result<Option<Vec<u8>>, AllocError>
+    ensures { IfOk result (λ octets. option_map (λ v. v.items) octets ≡ octets_of_line line.now) }
+{
+    let words = before_comment(without_mark(line));
+    let (word, rest) = first_word(words);
+    if rest.is_empty() {
+        return read_hex_word(alloc, without_prefix(word));
+    }
+    take_digits(words, digits)?;
+    read_hex_word(alloc, digits.as_slice())
+}
+
+/// The line without a byte order mark at its front.
+fn without_mark(line: &[u8]) -> &[u8]
+    ensures { result.now ≡ without_mark line.now }
+{
+    match line {
+        [a, b, c, rest @ ..] => {
+            if *a == 0xef && (*b == 0xbb && *c == 0xbf) {
+                rest
+            } else {
+                line
+            }
+        }
+        _ => line,
+    }
+}
+
+/// What stands before the first `;` or `#`.
+fn before_comment(line: &[u8]) -> &[u8]
+    ensures { result.now ≡ before_first begins_comment line.now }
+{
+    match memchr2(b';', b'#', line) {
+        Some(at) => &line[..at],
+        None => line,
+    }
+}
+
+/// The first word, and what stands behind it and one space, tab or `:`.
+fn first_word(words: &[u8]) -> (&[u8], &[u8])
+    ensures digits { digits_of_words words.now ≡ without_prefix result.0.now ++ digits_of_words result.1.now }
+    ensures less { 0 < length words.now → length result.1.now < length words.now }
+{
+    match memchr3(b' ', b'\t', b':', words) {
+        Some(at) => (&words[..at], &words[at + 1..]),
+        None => (words, &[]),
+    }
+}
+
+/// A word without `0x` at its front.
+fn without_prefix(word: &[u8]) -> &[u8]
+    ensures { result.now ≡ without_prefix word.now }
+{
+    match word {
+        [a, b, rest @ ..] => {
+            if *a == b'0' && (*b == b'x' || *b == b'X') {
+                rest
+            } else {
+                word
+            }
+        }
+        _ => word,
+    }
+}
+
+/// Puts the digits of words into `digits`.
+fn take_digits(words: &[u8], digits: &mut Vec<u8>) -> Result<(), AllocError>
+    ensures { OnOk result (digits.new.items ≡ digits_of_words words.now) }
+{
+    digits.clear();
+    let mut left = words;
+    'words: while !left.is_empty() {
+        let (word, rest) = first_word(left);
+        digits.extend_from_slice(without_prefix(word))?;
+        left = rest;
+    }
+    Ok(())
+}

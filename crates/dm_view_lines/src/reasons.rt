@@ -1,0 +1,40 @@
+//! Why octets are no message, in words (RFC 6733, 7.1.5 and 7.2).
+ghost use Rattle.std.specs.Prelude.{◌≡◌, ◌++◌, OnOk};
+ghost use Rattle.std.specs.String.{string_bytes};
+ghost use Rattle.dm_view_lines.specs.Reasons.{refusal_words, refusal_line};
+
+use dm_wire::WireFault;
+use std::alloc::AllocError;
+
+/// Appends the Result-Code of octets that are no message, and why.
+#[tactic(auto, unfolding(crate::specs::Reasons::refusal_words))]
+fn put_refusal_words(text: &mut String, fault: WireFault) -> Result<(), AllocError>
+    ensures { OnOk result (string_bytes text.new ≡ string_bytes text.old ++ refusal_words fault) }
+{
+    match fault {
+        WireFault::TooShort => {
+            text.push_str("5015 DIAMETER_INVALID_MESSAGE_LENGTH: fewer octets than a header has")?
+        }
+        WireFault::Version => {
+            text.push_str("5011 DIAMETER_UNSUPPORTED_VERSION: the first octet isn't 1")?
+        }
+        WireFault::Length => text.push_str("5015 DIAMETER_INVALID_MESSAGE_LENGTH: wrong length")?,
+        WireFault::AvpLength(offset) => write!(
+            text,
+            "5014 DIAMETER_INVALID_AVP_LENGTH: no AVP at octet {offset}"
+        )?,
+        WireFault::TooLong => {}
+        WireFault::NoMemory => {}
+    }
+    Ok(())
+}
+
+/// Appends the line that says why octets are no message.
+pub(crate) fn put_refusal(text: &mut String, fault: WireFault) -> Result<(), AllocError>
+    ensures { OnOk result (string_bytes text.new ≡ string_bytes text.old ++ refusal_line fault) }
+{
+    text.push_str("no message: ")?;
+    put_refusal_words(text, fault)?;
+    text.push_str("\n")?;
+    Ok(())
+}

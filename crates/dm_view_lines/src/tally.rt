@@ -1,0 +1,40 @@
+//! How many lines were good and bad.
+ghost use Rattle.std.specs.Prelude.{◌≡◌, ◌+◌, ◌<◌, ◌^◌, ◌++◌, OnOk};
+ghost use Rattle.std.specs.String.{string_bytes};
+ghost use Rattle.dm_view_lines.specs.Counts.{added, tally_of, tally_line};
+
+use std::alloc::AllocError;
+
+/// How many lines were good and bad.
+#[derive(Clone, Copy, Debug, PartialEq, Eq)]
+pub struct Tally {
+    pub good: u64,
+    pub bad: u64,
+}
+
+impl Tally {
+    /// The lines so far, and a good line more, a bad one, or one that says nothing.
+    pub(crate) fn with(self, verdict: Option<bool>) -> Tally
+        requires room { self.good + self.bad + 1 < 2 ^ 64 }
+        ensures { result ≡ added self (tally_of verdict) }
+    {
+        match verdict {
+            None => self,
+            Some(true) => Tally {
+                good: self.good + 1,
+                bad: self.bad,
+            },
+            Some(false) => Tally {
+                good: self.good,
+                bad: self.bad + 1,
+            },
+        }
+    }
+}
+
+/// Appends how many lines were good and bad.
+pub(crate) fn put_tally(text: &mut String, tally: Tally) -> Result<(), AllocError>
+    ensures { OnOk result (string_bytes text.new ≡ string_bytes text.old ++ tally_line tally) }
+{
+    writeln!(text, "{} good, {} bad", tally.good, tally.bad)
+}
