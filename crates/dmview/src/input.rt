@@ -1,36 +1,35 @@
 //! The files of a run.
-use std::io::Read;
-use std::{fs, io};
+use anyhow::{Context, Result};
+use dm_view_lines::read_file;
+use std::fs::File;
 
-/// The octets of the files, each with a line feed behind it, after the octets that are there.
-fn read_files(rt: &HostRuntime, names: &[&str], octets: &mut Vec<u8>) -> io::Result<()> {
+/// Appends the octets of the files, each with a line feed behind it.
+fn read_files(rt: &HostRuntime, names: &[&str], octets: &mut Vec<u8>) -> Result<()> {
     for name in names {
-        octets.extend_from_slice(fs::read(rt, *name)?.as_slice())?;
-        octets.push(b'\n')?;
+        let file = File::open(rt, *name).context(format_args!("dmview: {name}"))?;
+        read_file(file, octets).context(format_args!("dmview: {name}"))?;
     }
     Ok(())
 }
 
-/// The octets of the files, one after the other, or of standard input where no file is named.
-pub fn read_input(rt: &HostRuntime, names: Option<&[&str]>) -> io::Result<Vec<u8>> {
-    let mut octets = Vec::new(rt.alloc());
-    let done = match names {
-        Some(names) => read_files(rt, names, &mut octets),
-        None => match rt.stdin().read_to_end(&mut octets) {
-            Ok(_) => Ok(()),
-            Err(error) => Err(error),
-        },
-    };
-    done.and(Ok(octets))
+/// Appends the octets of the files, one after the other, or of standard input where no file is named.
+pub fn read_input(rt: &HostRuntime, names: Option<&[&str]>, octets: &mut Vec<u8>) -> Result<()> {
+    match names {
+        Some(names) => read_files(rt, names, octets),
+        None => read_file(rt.stdin(), octets).context("dmview: standard input"),
+    }
 }
 
-/// The texts of the dictionaries as one text of version 2. The version stands before the first line of the first file.
-pub fn read_dictionaries(rt: &HostRuntime, names: Option<&[&str]>) -> io::Result<Vec<u8>> {
-    let mut text = Vec::new(rt.alloc());
+/// Appends the texts of the dictionaries as one text of version 2. The version stands before the first line of the first
+/// file.
+pub fn read_dictionaries(
+    rt: &HostRuntime,
+    names: Option<&[&str]>,
+    text: &mut Vec<u8>,
+) -> Result<()> {
     text.extend_from_slice(b"@ 2 ")?;
-    let done = match names {
-        Some(names) => read_files(rt, names, &mut text),
+    match names {
+        Some(names) => read_files(rt, names, text),
         None => Ok(()),
-    };
-    done.and(Ok(text))
+    }
 }

@@ -1,16 +1,17 @@
 //! The program `dmview`: what Diameter messages say, in names and values, and all that is wrong with them.
+//!
+//! What it prints for its input is dm_view_lines'; here are only the command line, the files and the status.
 #![tactic(auto)]
 
 mod command;
 mod input;
-mod lines;
 
 use crate::command::command_line;
 use crate::input::{read_dictionaries, read_input};
-use crate::lines::{Task, lines_text, put_tally};
 use anyhow::{Context, Result};
 use clap::ArgMatches;
 use dm_dict::{DictFault, Dictionary};
+use dm_view_lines::{Task, write_lines};
 use std::alloc::Global;
 use std::env;
 use std::io::Write;
@@ -24,38 +25,40 @@ fn dictionary_over(alloc: Global, text: &[u8]) -> Result<Dictionary, DictFault> 
     read
 }
 
-/// The text of a run, and whether no line was bad.
-fn run_text(
-    alloc: Global,
+/// The dictionary of the files named.
+fn dictionary_of(rt: &HostRuntime, names: Option<&[&str]>) -> Result<Dictionary> {
+    let mut text = Vec::new(rt.alloc());
+    let done = read_dictionaries(rt, names, &mut text);
+    done?;
+    dictionary_over(rt.alloc(), text.as_slice()).context("dmview: dictionary")
+}
+
+/// Reads the input, and writes what is said of its lines. True where none is bad.
+fn say(
+    rt: &HostRuntime,
     dictionary: &Dictionary,
     task: Task,
-    input: &[u8],
-) -> Result<(String, bool)> {
-    let (mut text, tally) = lines_text(alloc, dictionary, task, input)?;
-    let done = match task {
-        Task::Show => Ok(()),
-        Task::Check => put_tally(&mut text, tally),
-    };
+    names: Option<&[&str]>,
+) -> Result<bool> {
+    let mut input = Vec::new(rt.alloc());
+    let done = read_input(rt, names, &mut input);
     done?;
-    Ok((text, tally.bad == 0))
+    write_lines(
+        rt.alloc(),
+        dictionary,
+        task,
+        input.as_slice(),
+        &mut rt.stdout(),
+    )
+    .context("dmview")
 }
 
 /// Reads the dictionaries and the input, and prints what the task says. True where no line was bad.
 fn run(rt: &HostRuntime, task: Task, matches: &ArgMatches<'_>) -> Result<bool> {
-    let definitions = read_dictionaries(rt, matches.get_strs("dict")).context(
-        "dmview: reading a dictionary",
-    )?;
-    let dictionary = dictionary_over(rt.alloc(), definitions.as_slice()).context(
-        "dmview: dictionary",
-    )?;
-    let input = read_input(rt, matches.get_strs("file")).context("dmview: reading the input")?;
-    let made = run_text(rt.alloc(), &dictionary, task, input.as_slice());
+    let dictionary = dictionary_of(rt, matches.get_strs("dict"))?;
+    let good = say(rt, &dictionary, task, matches.get_strs("file"));
     drop(dictionary);
-    let (text, good) = made?;
-    rt.stdout()
-        .write_all(text.as_bytes())
-        .context("dmview: writing")?;
-    Ok(good)
+    good
 }
 
 /// Runs what the words of the command line ask for, and tells the status.
