@@ -19,6 +19,25 @@ from sources import NEAR, Source
 
 ENTRY = re.compile(r"([<{\[])([^>}\]]+)[>}\]](\d+)-(\d*)")
 FLAGS = {"R": "REQ", "P": "PXY", "E": "ERR"}
+# The commands as their RFCs call them, by the first letters of their short names; R or A stands behind these.
+COMMANDS = {
+    "AA": "AA",
+    "AC": "Accounting",
+    "AM": "AA-Mobile-Node",
+    "AS": "Abort-Session",
+    "CC": "Credit-Control",
+    "DE": "Diameter-EAP",
+    "HA": "Home-Agent-MIP",
+    "LI": "Location-Info",
+    "MA": "Multimedia-Auth",
+    "PP": "Push-Profile",
+    "RA": "Re-Auth",
+    "RT": "Registration-Termination",
+    "SA": "Server-Assignment",
+    "ST": "Session-Termination",
+    "UA": "User-Authorization",
+}
+KINDS = {"R": "Request", "A": "Answer"}
 
 
 def entry_of(word):
@@ -34,6 +53,12 @@ def value_of(word):
     return ("IEEE-802" if name == "N-802" else name), int(number)
 
 
+def command_name(name):
+    """Returns the name of a command in the texts; those of the base dictionary are short there too."""
+    is_long = name[:-1] in COMMANDS and name[-1:] in KINDS
+    return f"{COMMANDS[name[:-1]]}-{KINDS[name[-1]]}" if is_long else name
+
+
 class Table:
     """The definitions of each dictionary, and the messages of OTP."""
 
@@ -44,6 +69,7 @@ class Table:
                 if line and not line.startswith(";"):
                     kind, dictionary, name, *words = line.split()
                     found = self.dictionaries.setdefault(dictionary, Definitions())
+                    name = command_name(name)
                     getattr(self, f"add_{kind}")(found, dictionary, name, words)
 
     def add_avp(self, found, _, name, words):
