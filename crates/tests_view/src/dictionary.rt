@@ -1,0 +1,63 @@
+//! The dictionary of the tests, and what is said of lines under it.
+use dm_dict::Dictionary;
+use dm_view_lines::{Task, lines_text};
+use std::alloc::Global;
+use std::process::Abort;
+
+/// An AVP of each type, one of a vendor, and two commands.
+const TEXT: &str = "@ 2
+@ vendor Acme 99
+@ Octets 6001 OctetString
+@ Whole 6002 Integer32
+@ Long 6003 Integer64
+@ Count 6004 Unsigned32
+@ Large 6005 Unsigned64
+< Group > ::= < AVP Header: 6006 > *[ AVP ]
+@ Place 6007 Address
+@ When 6008 Time
+@ Words 6009 UTF8String
+@ Host 6010 DiameterIdentity
+@ Where 6011 DiameterURI
+@ Colour 6012 Enumerated { RED 0, BLUE 2 }
+@ Acme-Count 6004 Unsigned32 : Acme
+< Thing > ::= < Diameter Header: 300, REQ > { Count } *[ AVP ]
+< Strict > ::= < Diameter Header: 301, REQ > { Count }
+";
+
+/// The dictionary of the text over the base one.
+fn dictionary(rt: &(impl Abort + AllocGlobal)) -> Dictionary {
+    let base = Dictionary::base(rt.alloc()).expect(rt, "memory");
+    let read = Dictionary::read(rt.alloc(), TEXT.as_bytes(), &base);
+    drop(base);
+    read.expect(rt, "a dictionary")
+}
+
+/// Whether this is said of the input, and whether none of its lines is bad.
+fn says(
+    alloc: Global,
+    dictionary: &Dictionary,
+    task: Task,
+    input: &str,
+    want: &str,
+) -> Option<bool> {
+    match lines_text(alloc, dictionary, task, input.as_bytes()) {
+        Ok((text, good)) => {
+            let same = text.as_slice() == want.as_bytes();
+            drop(text);
+            if same { Some(good) } else { None }
+        }
+        Err(_) => None,
+    }
+}
+
+/// Of each input this is said, and none of its lines is bad, or some is.
+pub fn assert_said(rt: &(impl Abort + AllocGlobal), task: Task, rows: &[(&str, &str, bool)]) {
+    let dictionary = dictionary(rt);
+    for (input, want, good) in rows {
+        assert!(rt;
+            says(rt.alloc(), &dictionary, task, input, want) == Some(*good),
+            "of {input}"
+        );
+    }
+    drop(dictionary);
+}

@@ -1,0 +1,15 @@
+//! Tests of what is said of lines: every type of value, vendors, groups inside each other, each reason of a fault, and
+//! what may stand in a line.
+//!
+//! What is checked in a test are its steps, and not the values that it compares: so it is one call of a helper, which has
+//! one way out, and owns at most one dictionary.
+#![tactic(auto)]
+
+#[cfg(test)]
+mod dictionary;
+#[cfg(test)]
+mod lines;
+#[cfg(test)]
+mod reasons;
+#[cfg(test)]
+mod values;

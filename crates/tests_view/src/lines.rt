@@ -1,0 +1,81 @@
+//! What may stand in a line, and lines that are no messages.
+use crate::dictionary::assert_said;
+use dm_view_lines::Task;
+
+#[test]
+fn lines_read(rt: HostRuntime) {
+    assert_said(
+        &rt,
+        Task::Show,
+        &[
+            ("", "", true),
+            ("# nothing\n\n ; nothing\n\t: \n", "", true),
+            (
+                "010000148000012c000000040000001100000022",
+                "1: Thing 300 request, application 4, hop-by-hop 17 (0x00000011), end-to-end 34 (0x00000022)\n",
+                true,
+            ),
+            (
+                "010000148000012C000000040000001100000022\r\n010000148000012c000000040000001100000022\r\n",
+                "1: Thing 300 request, application 4, hop-by-hop 17 (0x00000011), end-to-end 34 (0x00000022)\n2: Thing 300 request, application 4, hop-by-hop 17 (0x00000011), end-to-end 34 (0x00000022)\n",
+                true,
+            ),
+            (
+                "\u{feff}010000148000012c000000040000001100000022 ; a comment",
+                "1: Thing 300 request, application 4, hop-by-hop 17 (0x00000011), end-to-end 34 (0x00000022)\n",
+                true,
+            ),
+            (
+                "01:00:00:14:80:00:01:2c:00:00:00:04:00:00:00:11:00:00:00:22",
+                "1: Thing 300 request, application 4, hop-by-hop 17 (0x00000011), end-to-end 34 (0x00000022)\n",
+                true,
+            ),
+            (
+                "0x01000014\t0x8000012c\t0x00000004\t0x00000011\t0x00000022 # behind",
+                "1: Thing 300 request, application 4, hop-by-hop 17 (0x00000011), end-to-end 34 (0x00000022)\n",
+                true,
+            ),
+            (
+                "0X010000148000012c000000040000001100000022",
+                "1: Thing 300 request, application 4, hop-by-hop 17 (0x00000011), end-to-end 34 (0x00000022)\n",
+                true,
+            ),
+            (
+                "\n010000148000012c00000004000000110000002\nxyz\n0x0x010000148000012c000000040000001100000022\n",
+                "2: no hexadecimal\n3: no hexadecimal\n4: no hexadecimal\n",
+                false,
+            ),
+            (
+                "0100",
+                "1: no message: 5015 DIAMETER_INVALID_MESSAGE_LENGTH: fewer octets than a header has\n",
+                false,
+            ),
+            (
+                "020000148000012c000000040000001100000022",
+                "1: no message: 5011 DIAMETER_UNSUPPORTED_VERSION: the first octet isn't 1\n",
+                false,
+            ),
+            (
+                "010000188000012c000000040000001100000022\n010000148000012c000000040000001100000022",
+                "1: no message: 5015 DIAMETER_INVALID_MESSAGE_LENGTH: wrong length\n2: Thing 300 request, application 4, hop-by-hop 17 (0x00000011), end-to-end 34 (0x00000022)\n",
+                false,
+            ),
+        ],
+    );
+}
+
+#[test]
+fn lines_counted(rt: HostRuntime) {
+    assert_said(
+        &rt,
+        Task::Check,
+        &[
+            ("", "0 good, 0 bad\n", true),
+            (
+                "# nothing\n0\n",
+                "2: no hexadecimal\n0 good, 1 bad\n",
+                false,
+            ),
+        ],
+    );
+}
