@@ -21,7 +21,8 @@
 #include <time.h>
 #include <unistd.h>
 
-enum { MOST_LINKS = 1000, MOST_LISTENERS = 8, MOST_LINES = 1000 };
+/* connections, and files of other kinds; listeners; lines of a configuration */
+enum { MOST_LINKS = 1000, MOST_FILES = 24, MOST_LISTENERS = 8, MOST_LINES = 1000 };
 /* octets: read at once, kept of an empty buffer, and queued at most where standard input goes on */
 enum { PIECE = 1 << 18, MOST_KEPT = 1 << 20, MOST_WAITING = 1 << 20 };
 /* milliseconds: for a connect, the first message of an accepted connection, what follows a close, and the end */
@@ -48,7 +49,7 @@ static int listeners[MOST_LISTENERS], listener_count;
 static char connect_host[256], connect_port[32];
 static int64_t watchdog = 30000, reconnect = 30000, timeout = 30000, due, end_at = INT64_MAX;
 static uint64_t queue_most = 32 << 20;
-static size_t batch_most;
+static size_t batch_most, link_most = MOST_LINKS;
 static int to_peer, from_peer, output_to = 1, orders_out, verbose;
 static pid_t peer_process;
 static struct buffer input, output, answers, orders;
@@ -512,6 +513,9 @@ static void run_clocks(void) {
     for (size_t i = 0; i < link_count; i++)
         if (!links[i]->dead && links[i]->until <= at) expire(links[i]);
     if (due <= at) expire_state();
+    if (end_at > at) return;
+    for (size_t i = 0; i < link_count; i++) drop(links[i]);
+    due = end_at = NEVER;
 }
 
 /* how long nothing is to be done if nothing happens */
@@ -660,7 +664,7 @@ static nfds_t set_polls(void) {
     polls[0] = (struct pollfd){ input_ended || line_waits ? -1 : 0, POLLIN, 0 };
     polls[1] = (struct pollfd){ held(&output) ? output_to : -1, POLLOUT, 0 };
     for (int i = 0; i < listener_count; i++)
-        polls[2 + i] = (struct pollfd){ link_count < MOST_LINKS ? listeners[i] : -1, POLLIN, 0 };
+        polls[2 + i] = (struct pollfd){ link_count < link_most ? listeners[i] : -1, POLLIN, 0 };
     for (size_t i = 0; i < link_count; i++) {
         struct link *link = links[i];
         int events = link->connecting || held(&link->out) ? POLLOUT : 0;
@@ -727,7 +731,11 @@ int main(int count, char **words) {
     sigemptyset(&blocked), sigaddset(&blocked, SIGTERM), sigaddset(&blocked, SIGINT);
     sigprocmask(SIG_BLOCK, &blocked, &unblocked);
     sigaction(SIGTERM, &action, NULL), sigaction(SIGINT, &action, NULL), signal(SIGPIPE, SIG_IGN);
-    if (!getrlimit(RLIMIT_NOFILE, &files)) files.rlim_cur = files.rlim_max, setrlimit(RLIMIT_NOFILE, &files);
+    if (!getrlimit(RLIMIT_NOFILE, &files)) {
+        files.rlim_cur = files.rlim_max;
+        setrlimit(RLIMIT_NOFILE, &files);
+        if (files.rlim_max < MOST_LINKS + MOST_FILES) link_most = files.rlim_max - MOST_FILES;
+    }
     srandom((unsigned)(time(NULL) ^ (getpid() << 12)));
     set_digits();
     open_output();
@@ -735,7 +743,7 @@ int main(int count, char **words) {
     configure(words[optind]);
     due = reconnect && *connect_host ? 0 : NEVER;
     bool ending = false;
-    while (!ending || ((link_count || held(&output)) && now() < end_at && signalled < 2)) {
+    while (!ending || ((link_count || held(&output)) && signalled < 2)) {
         serve(&unblocked);
         if (signalled && !ending) ending = true, begin_end();
     }
