@@ -1,6 +1,7 @@
 //! Lines of hexadecimal, and what is said of the message of each by a dictionary: read, said and written.
 #![tactic(auto)]
 
+mod colours;
 mod digits;
 mod fault;
 mod header;
@@ -11,6 +12,7 @@ mod said;
 mod streams;
 mod tally;
 
+pub use colours::coloured_text;
 pub use digits::read_line;
 pub use fault::LinesFault;
 pub use lines::lines_text;

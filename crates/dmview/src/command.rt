@@ -2,6 +2,9 @@
 use clap::{Arg, ArgAction, Command};
 use std::alloc::{AllocError, Global};
 
+/// When colours are wanted.
+const COLOURS: [&str; 3] = ["auto", "always", "never"];
+
 /// A word with its options and files.
 fn word<'a>(alloc: Global, name: &'a str, about: &'a str) -> Result<Command<'a>, AllocError> {
     let dict = Arg::new(alloc, "dict")
@@ -9,12 +12,22 @@ fn word<'a>(alloc: Global, name: &'a str, about: &'a str) -> Result<Command<'a>,
         .value_name("FILE")
         .help("a text that defines AVPs and commands, beside those of the base protocol")
         .action(ArgAction::Append);
+    let colour = Arg::new(alloc, "color")
+        .long("color")
+        .value_name("WHEN")
+        .help("whether with colours; auto: where standard output is a terminal")
+        .value_parser(COLOURS.as_slice())
+        .action(ArgAction::Set);
     let file = Arg::new(alloc, "file")
         .value_name("FILE")
         .help("lines of hexadecimal, a message each; standard input where no file is named")
         .action(ArgAction::Append)
         .num_args(0..);
-    Command::new(alloc, name).about(about).arg(dict)?.arg(file)
+    Command::new(alloc, name)
+        .about(about)
+        .arg(dict)?
+        .arg(colour)?
+        .arg(file)
 }
 
 /// The whole command line.

@@ -3,8 +3,8 @@ use anyhow::{Context, Result};
 use dm_view_lines::read_file;
 use std::fs::File;
 
-/// Appends the octets of the files, each with a line feed behind it.
-fn read_files(rt: &HostRuntime, names: &[&str], octets: &mut Vec<u8>) -> Result<()> {
+/// Appends the octets of the files, one after the other.
+pub fn read_files(rt: &HostRuntime, names: &[&str], octets: &mut Vec<u8>) -> Result<()> {
     for name in names {
         let file = File::open(rt, *name).context(format_args!("dmview: {name}"))?;
         read_file(file, octets).context(format_args!("dmview: {name}"))?;
@@ -12,7 +12,7 @@ fn read_files(rt: &HostRuntime, names: &[&str], octets: &mut Vec<u8>) -> Result<
     Ok(())
 }
 
-/// Appends the octets of the files, one after the other, or of standard input where no file is named.
+/// Appends the octets of the files that are named, or of standard input where none is.
 pub fn read_input(rt: &HostRuntime, names: Option<&[&str]>, octets: &mut Vec<u8>) -> Result<()> {
     match names {
         Some(names) => read_files(rt, names, octets),
@@ -22,14 +22,7 @@ pub fn read_input(rt: &HostRuntime, names: Option<&[&str]>, octets: &mut Vec<u8>
 
 /// Appends the texts of the dictionaries as one text of version 2. The version stands before the first line of the first
 /// file.
-pub fn read_dictionaries(
-    rt: &HostRuntime,
-    names: Option<&[&str]>,
-    text: &mut Vec<u8>,
-) -> Result<()> {
+pub fn read_dictionaries(rt: &HostRuntime, names: &[&str], text: &mut Vec<u8>) -> Result<()> {
     text.extend_from_slice(b"@ 2 ")?;
-    match names {
-        Some(names) => read_files(rt, names, text),
-        None => Ok(()),
-    }
+    read_files(rt, names, text)
 }

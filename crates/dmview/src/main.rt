@@ -4,72 +4,90 @@
 #![tactic(auto)]
 
 mod command;
+mod dictionary;
 mod input;
 
 use crate::command::command_line;
-use crate::input::{read_dictionaries, read_input};
+use crate::dictionary::dictionary_of;
+use crate::input::read_input;
 use anyhow::{Context, Result};
 use clap::ArgMatches;
-use dm_dict::{DictFault, Dictionary};
+use clap::error::ErrorKind;
+use dm_dict::Dictionary;
 use dm_view_lines::{Task, write_lines};
-use std::alloc::Global;
 use std::env;
-use std::io::Write;
+use std::io::{IsTerminal, Write};
 use std::process::ExitCode;
 
-/// The base dictionary and behind it what the text defines.
-fn dictionary_over(alloc: Global, text: &[u8]) -> Result<Dictionary, DictFault> {
-    let base = Dictionary::base(alloc)?;
-    let read = Dictionary::read(alloc, text, &base);
-    drop(base);
-    read
-}
-
-/// The dictionary of the files named.
-fn dictionary_of(rt: &HostRuntime, names: Option<&[&str]>) -> Result<Dictionary> {
-    let mut text = Vec::new(rt.alloc());
-    let done = read_dictionaries(rt, names, &mut text);
-    done?;
-    dictionary_over(rt.alloc(), text.as_slice()).context("dmview: dictionary")
+/// How a run is written: the task, and whether with colours.
+#[derive(Clone, Copy)]
+struct Style {
+    task: Task,
+    coloured: bool,
 }
 
 /// Reads the input, and writes what is said of its lines. True where none is bad.
 fn say(
     rt: &HostRuntime,
     dictionary: &Dictionary,
-    task: Task,
+    style: Style,
     names: Option<&[&str]>,
 ) -> Result<bool> {
+    let Style { task, coloured } = style;
     let mut input = Vec::new(rt.alloc());
     let done = read_input(rt, names, &mut input);
     done?;
+    let mut output = rt.stdout();
     write_lines(
         rt.alloc(),
         dictionary,
         task,
+        coloured,
         input.as_slice(),
-        &mut rt.stdout(),
+        &mut output,
     )
     .context("dmview")
 }
 
+/// Whether colours are wanted.
+fn is_coloured(rt: &HostRuntime, when: Option<&str>) -> bool {
+    match when {
+        Some("always") => true,
+        Some("never") => false,
+        _ => rt.stdout().is_terminal(),
+    }
+}
+
 /// Reads the dictionaries and the input, and prints what the task says. True where no line was bad.
 fn run(rt: &HostRuntime, task: Task, matches: &ArgMatches<'_>) -> Result<bool> {
-    let dictionary = dictionary_of(rt, matches.get_strs("dict"))?;
-    let good = say(rt, &dictionary, task, matches.get_strs("file"));
+    let coloured = is_coloured(rt, matches.get_str("color"));
+    let names = matches.get_strs("dict").unwrap_or(&[]);
+    let dictionary = dictionary_of(rt, names)?;
+    let style = Style { task, coloured };
+    let good = say(rt, &dictionary, style, matches.get_strs("file"));
     drop(dictionary);
     good
 }
 
+/// Says why the words are refused, or what they ask for, and tells the status.
+fn refused(rt: &HostRuntime, error: &clap::Error) -> Result<u8> {
+    error.print(rt).context("dmview")?;
+    if error.kind() == ErrorKind::OutOfMemory {
+        return Ok(3);
+    }
+    Ok(error.exit_code() as u8)
+}
+
 /// Runs what the words of the command line ask for, and tells the status.
 fn run_words(rt: &HostRuntime) -> Result<u8> {
-    let words: Vec<String> = env::args(rt)?.collect(rt.alloc())?;
-    let matches = match command_line(rt.alloc())?.try_get_matches_from(words.as_slice()) {
+    let words: Vec<String> = env::args(rt)
+        .context("dmview")?
+        .collect(rt.alloc())
+        .context("dmview")?;
+    let line = command_line(rt.alloc()).context("dmview")?;
+    let matches = match line.try_get_matches_from(words.as_slice()) {
         Ok(matches) => matches,
-        Err(error) => {
-            error.print(rt)?;
-            return Ok(error.exit_code() as u8);
-        }
+        Err(error) => return refused(rt, &error),
     };
     let good = match matches.subcommand() {
         Some(("check", inner)) => run(rt, Task::Check, inner)?,

@@ -1,0 +1,54 @@
+//! Lines with colours for a terminal.
+ghost use Rattle.std.specs.Prelude.{◌≡◌, ◌++◌, true, IfOk, OnOk};
+ghost use Rattle.dm_view_lines.specs.Colours.{further_in, begun, line_coloured, styled};
+
+use crate::said::Task;
+use dm_text::Lines;
+use std::alloc::{AllocError, Global};
+
+/// The text with the first line of each message bold, and, of a check, the lines of faults red.
+pub fn coloured_text(alloc: Global, task: Task, text: &[u8]) -> Result<Vec<u8>, AllocError>
+    ensures { IfOk result (λ coloured. coloured.items ≡ styled true task text.now) }
+{
+    let mut coloured = Vec::new(alloc);
+    for line in Lines::new(text) {
+        put_coloured(&mut coloured, task, line)?;
+    }
+    Ok(coloured)
+}
+
+/// Appends a line with its colour.
+fn put_coloured(coloured: &mut Vec<u8>, task: Task, line: &[u8]) -> Result<(), AllocError>
+    ensures { OnOk result (coloured.new.items ≡ coloured.old.items ++ line_coloured task line.now) }
+{
+    coloured.extend_from_slice(begun(task, line))?;
+    coloured.extend_from_slice(line)?;
+    coloured.extend_from_slice(b"\x1b[0m\n")?;
+    Ok(())
+}
+
+/// What makes a line bold or red.
+fn begun(task: Task, line: &[u8]) -> &'static [u8]
+    ensures { result.now ≡ begun task line.now }
+{
+    match line {
+        [] => b"",
+        [first, ..] => {
+            if *first == b' ' {
+                further_in(task)
+            } else {
+                b"\x1b[1m"
+            }
+        }
+    }
+}
+
+/// What makes a line that stands further in red, where it is a fault.
+fn further_in(task: Task) -> &'static [u8]
+    ensures { result.now ≡ further_in task }
+{
+    match task {
+        Task::Show => b"",
+        Task::Check => b"\x1b[31m",
+    }
+}

@@ -1,0 +1,150 @@
+//! The dictionary of a run, and what is said where its texts have a fault.
+use crate::input::{read_dictionaries, read_files};
+use anyhow::{Error, Result};
+use dm_dict::{DictFault, Dictionary};
+use dm_text::{Lines, Words};
+use std::alloc::Global;
+use std::{fs, io, str};
+
+/// The base dictionary and behind it what the text defines.
+fn dictionary_over(alloc: Global, text: &[u8]) -> Result<Dictionary, DictFault> {
+    let base = Dictionary::base(alloc)?;
+    let read = Dictionary::read(alloc, text, &base);
+    drop(base);
+    read
+}
+
+/// The dictionary of the files named.
+pub fn dictionary_of(rt: &HostRuntime, names: &[&str]) -> Result<Dictionary> {
+    let mut text = Vec::new(rt.alloc());
+    let done = read_dictionaries(rt, names, &mut text);
+    done?;
+    match dictionary_over(rt.alloc(), text.as_slice()) {
+        Ok(dictionary) => Ok(dictionary),
+        Err(fault) => Err(told(rt, names, text.as_slice(), fault)),
+    }
+}
+
+/// The line of a fault, counted through all files, and what is wrong with it.
+fn words_of(fault: DictFault) -> (usize, &'static str) {
+    match fault {
+        DictFault::Syntax(line) => (line, "this can't stand here"),
+        DictFault::Range(line) => (line, "number out of range"),
+        DictFault::Duplicate(line) => (line, "there already"),
+        DictFault::Order(line) => (line, "entry out of order"),
+        DictFault::UnknownName(line) => (line, "unknown name"),
+        DictFault::NoMemory => (0, "out of memory"),
+    }
+}
+
+/// What is said of a fault: the file and the line there, what is wrong, and the file beside it that has a name of that
+/// line which is nowhere defined.
+fn told(rt: &HostRuntime, names: &[&str], text: &[u8], fault: DictFault) -> Error {
+    let (line, words) = words_of(fault);
+    let Some((name, number)) = place_of(rt, names, line) else {
+        return Error::msg(format_args!("dmview: dictionary: {words}"));
+    };
+    if let DictFault::UnknownName(_) = fault {
+        if let Some(found) = Lines::new(text).nth(line.saturating_sub(1)) {
+            return told_name(rt, name, number, text, found);
+        }
+    }
+    Error::msg(format_args!("dmview: {name}: line {number}: {words}"))
+}
+
+/// The file of a line that is counted through all files, and its number there.
+fn place_of<'a>(rt: &HostRuntime, names: &[&'a str], line: usize) -> Option<(&'a str, usize)> {
+    let mut left = line;
+    for name in names {
+        let count = count_lines(rt, name);
+        if left <= count {
+            return Some((*name, left));
+        }
+        left -= count;
+    }
+    None
+}
+
+/// How many lines a file has, none where it can't be read.
+fn count_lines(rt: &HostRuntime, name: &str) -> usize {
+    let mut text = Vec::new(rt.alloc());
+    if read_files(rt, &[name], &mut text).is_err() {
+        return 0;
+    }
+    let mut count: usize = 0;
+    for _ in Lines::new(text.as_slice()) {
+        count = count.saturating_add(1);
+    }
+    count
+}
+
+/// What is said of a name in this line of a file that the text doesn't define.
+fn told_name(rt: &HostRuntime, name: &str, number: usize, text: &[u8], line: &[u8]) -> Error {
+    let folder = match name.rsplit_once('/') {
+        Some((folder, _)) => folder,
+        None => ".",
+    };
+    for word in Words::new(line) {
+        if is_name(word) && !defines(text, word) {
+            if let Ok(Some(error)) = told_beside(rt, name, number, folder, word) {
+                return error;
+            }
+        }
+    }
+    Error::msg(format_args!("dmview: {name}: line {number}: unknown name"))
+}
+
+/// What is said of a name that a file in this folder defines, where one does.
+fn told_beside(
+    rt: &HostRuntime,
+    name: &str,
+    number: usize,
+    folder: &str,
+    word: &[u8],
+) -> io::Result<Option<Error>> {
+    for entry in fs::read_dir(rt, folder)? {
+        let entry = entry?;
+        let path = entry.path();
+        if is_defined_in(rt, path.as_str(), word) {
+            return Ok(Some(Error::msg(format_args!(
+                "dmview: {name}: line {number}: unknown name {}, which {} defines",
+                name_text(word),
+                path.as_str()
+            ))));
+        }
+    }
+    Ok(None)
+}
+
+/// A name as text.
+fn name_text(word: &[u8]) -> &str {
+    str::from_utf8(word).unwrap_or("?")
+}
+
+/// Whether a file can be read and defines the name.
+fn is_defined_in(rt: &HostRuntime, path: &str, word: &[u8]) -> bool {
+    let mut text = Vec::new(rt.alloc());
+    match read_files(rt, &[path], &mut text) {
+        Ok(()) => defines(text.as_slice(), word),
+        Err(_) => false,
+    }
+}
+
+/// Whether a word has letters, digits and `-` alone, and begins with a capital letter.
+fn is_name(word: &[u8]) -> bool {
+    match word {
+        [first, rest @ ..] => {
+            first.is_ascii_uppercase()
+                && rest.iter().all(|b| b.is_ascii_alphanumeric() || *b == b'-')
+        }
+        [] => false,
+    }
+}
+
+/// Whether a line of the text begins with `@` or `<` and the name.
+fn defines(text: &[u8], word: &[u8]) -> bool {
+    Lines::new(text).any(|line| {
+        let mut words = Words::new(line);
+        matches!(words.next(), Some([b'@'] | [b'<'])) && words.next() == Some(word)
+    })
+}
