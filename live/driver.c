@@ -698,7 +698,8 @@ static void serve(const sigset_t *unblocked) {
 static const char HELP[] =
     "usage: driver [-v] [-n COUNT] [-p PROGRAM] CONFIGURATION\n"
     "  Runs the Diameter peer dmlive over TCP. What is handed up goes to standard output, a message a line, in\n"
-    "  hexadecimal; such lines of standard input are submitted. SIGTERM disconnects and ends it.\n"
+    "  hexadecimal; such lines of standard input are submitted (`start` calls, `stop C` disconnects for cause C).\n"
+    "  SIGTERM disconnects and ends it.\n"
     "  -v, --verbose          a line on standard error for each event; twice: long ones whole\n"
     "  -n, --count COUNT      ends when standard input has ended and so many messages were handed up\n"
     "  -p, --program PROGRAM  dmlive (else crates/dmlive/out/dmlive in the repository)\n"
