@@ -2,6 +2,7 @@ pub mod Colours
 pub mod Counts
 pub mod Digits
 pub mod Lines
+pub mod OneText
 pub mod Reasons
 pub mod Run
 pub mod Said

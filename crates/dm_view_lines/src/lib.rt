@@ -5,6 +5,7 @@ mod colours;
 mod digits;
 mod fault;
 mod header;
+pub mod laws;
 mod lines;
 mod reasons;
 mod run;

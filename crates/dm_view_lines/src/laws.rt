@@ -1,0 +1,11 @@
+//! Laws of what is said. A law calls those that it stands on, and its contract is the law.
+ghost use Rattle.dm_view_lines.specs.OneText.{OneText};
+
+/// Under one dictionary one text at most is said of an input, and it is either good or not. The law stands for users.
+pub fn one_text()
+    ensures { OneText }
+{
+    dm_wire::laws::one_message();
+    dm_wire::laws::one_refusal();
+    dm_wire::laws::no_message_refused();
+}
