@@ -2,6 +2,7 @@ pub mod AnswerLines
 pub mod Answers
 pub mod Beginnings
 pub mod Drafts
+pub mod Ending
 pub mod Input
 pub mod OrderLines
 pub mod ReadOrders
