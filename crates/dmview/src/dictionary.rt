@@ -1,5 +1,5 @@
 //! The dictionary of a run, and what is said where its texts have a fault.
-use crate::input::{read_dictionaries, read_files};
+use crate::input::{VERSION, read_dictionaries, read_files};
 use anyhow::{Error, Result};
 use dm_dict::{DictFault, Dictionary};
 use dm_text::{Lines, Words};
@@ -33,7 +33,7 @@ fn words_of(fault: DictFault) -> (usize, &'static str) {
         DictFault::Duplicate(line) => (line, "there already"),
         DictFault::Order(line) => (line, "entry out of order"),
         DictFault::UnknownName(line) => (line, "unknown name"),
-        DictFault::NoMemory => (0, "out of memory"),
+        DictFault::NoMemory => (usize::MAX, "out of memory"),
     }
 }
 
@@ -143,6 +143,7 @@ fn is_name(word: &[u8]) -> bool {
 
 /// Whether a line of the text begins with `@` or `<` and the name.
 fn defines(text: &[u8], word: &[u8]) -> bool {
+    let text = text.strip_prefix(VERSION).unwrap_or(text);
     Lines::new(text).any(|line| {
         let mut words = Words::new(line);
         matches!(words.next(), Some([b'@'] | [b'<'])) && words.next() == Some(word)
