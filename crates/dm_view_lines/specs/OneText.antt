@@ -10,3 +10,9 @@ OneText =
     (coloured : Bool) (task : Task) (d : Definitions) (input text other : List ℕ) (good fine : Bool)
     → SaysStyled coloured task d input text good → SaysStyled coloured task d input other fine
     → (text ≡ other) × (good ≡ fine)
+
+-- under each dictionary something is said of each input, and it is good or not
+abbrev pub SomeText : Type 0
+SomeText =
+    (coloured : Bool) (task : Task) (d : Definitions) (input : List ℕ)
+    → (text : List ℕ) × (good : Bool) × SaysStyled coloured task d input text good

@@ -1,5 +1,5 @@
 //! Laws of what is said. A law calls those that it stands on, and its contract is the law.
-ghost use Rattle.dm_view_lines.specs.OneText.{OneText};
+ghost use Rattle.dm_view_lines.specs.OneText.{OneText, SomeText};
 
 /// Under one dictionary one text at most is said of an input, and it is either good or not. The law stands for users.
 pub fn one_text()
@@ -8,4 +8,11 @@ pub fn one_text()
     dm_wire::laws::one_message();
     dm_wire::laws::one_refusal();
     dm_wire::laws::no_message_refused();
+}
+
+/// Under each dictionary something is said of each input, and it is good or not. The law stands for users.
+pub fn some_text()
+    ensures { SomeText }
+{
+    dm_wire::laws::message_or_fault();
 }
