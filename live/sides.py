@@ -32,6 +32,7 @@ TLS_CA = "cert.pem";
 
 NET = """set -e
 mkdir -p /run/netns; mount -t tmpfs tmpfs /run/netns
+echo 1 > /proc/sys/net/ipv4/tcp_tw_reuse
 ip link set lo up; ip netns add other; ip link add v0 type veth peer name v1; ip link set v1 netns other
 ip addr add 10.9.9.1/24 dev v0; ip -6 addr add fd09::1/64 dev v0 nodad; ip link set v0 up
 ip -n other addr add 10.9.9.2/24 dev v1; ip -n other -6 addr add fd09::2/64 dev v1 nodad
