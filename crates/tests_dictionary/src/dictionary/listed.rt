@@ -118,16 +118,18 @@ fn dictionary_of_types(rt: &(impl Abort + AllocGlobal)) -> Dictionary {
     read.expect(rt, "a dictionary")
 }
 
-/// Whether there is one fault, of this Result-Code, and this empty AVP of the message is found.
-fn is_found_empty(faults: &[Fault<'_>], code: u32, found: u32) -> bool {
+/// Whether the fault has this Result-Code, and this AVP of the message, which is empty.
+fn is_found_empty(fault: &Fault<'_>, code: u32, found: u32) -> bool {
+    match fault.failed {
+        Failed::Found(avp) => fault.code == code && avp.code == found && avp.bytes.is_empty(),
+        _ => false,
+    }
+}
+
+/// Whether there is one fault, and it is so.
+fn is_one_found_empty(faults: &[Fault<'_>], code: u32, found: u32) -> bool {
     match faults {
-        [
-            Fault {
-                code: told,
-                failed: Failed::Found(avp),
-                ..
-            },
-        ] => *told == code && avp.code == found && avp.bytes.is_empty(),
+        [one] => is_found_empty(one, code, found),
         _ => false,
     }
 }
@@ -136,7 +138,7 @@ fn assert_found_empty(rt: &(impl Abort + AllocGlobal), types: &Dictionary) {
     let octets = hex::decode(rt.alloc(), OCTETS_AND_WORDS.as_bytes()).expect(rt, "hexadecimal");
     let message = MessageRef::read(octets.as_slice()).expect(rt, "a message");
     let faults = types.faults_in(rt.alloc(), &message).expect(rt, "memory");
-    assert!(rt; is_found_empty(faults.as_slice(), 5008, 6008));
+    assert!(rt; is_one_found_empty(faults.as_slice(), 5008, 6008));
 }
 
 /// An AVP that is missing is told as an example, also where it has no octets and looks like one that came.
