@@ -1,4 +1,9 @@
 //! The dictionary of a run, and what is said where its texts have a fault.
+ghost use Rattle.std.specs.Prelude.{◌≡◌, ◌⊎◌, ℕ, IfOk, IfErr};
+ghost use Rattle.dm_dict_text.specs.declared.fault.DictFault.TheVariants as faults_of;
+ghost use Rattle.dm_dict_text.specs.Outcome.{Defines, IsFirstFault};
+ghost use Rattle.dm_tables.specs.Base.{base_definitions};
+
 use crate::input::{VERSION, read_dictionaries, read_files};
 use anyhow::{Error, Result};
 use dm_dict::{DictFault, Dictionary};
@@ -6,8 +11,12 @@ use dm_text::{Lines, Words};
 use std::alloc::Global;
 use std::{fs, io, str};
 
-/// The base dictionary and behind it what the text defines.
-fn dictionary_over(alloc: Global, text: &[u8]) -> Result<Dictionary, DictFault> {
+/// The base dictionary and behind it what the text defines; or the first fault of the text, or want of memory.
+fn dictionary_over(alloc: Global, text: &[u8]) -> Result<Dictionary, DictFault>
+    ensures defines { IfOk result (λ dictionary. Defines text.now base_definitions dictionary) }
+    ensures fault { IfErr result (λ fault. (fault ≡ faults_of.NoMemory)
+        ⊎ IsFirstFault text.now base_definitions fault) }
+{
     let base = Dictionary::base(alloc)?;
     let read = Dictionary::read(alloc, text, &base);
     drop(base);
@@ -26,7 +35,13 @@ pub fn dictionary_of(rt: &HostRuntime, names: &[&str]) -> Result<Dictionary> {
 }
 
 /// The line of a fault, counted through all files, and what is wrong with it.
-fn words_of(fault: DictFault) -> (usize, &'static str) {
+fn words_of(fault: DictFault) -> (usize, &'static str)
+    ensures syntax { (line : ℕ) → fault ≡ faults_of.Syntax line → result.0 ≡ line }
+    ensures range { (line : ℕ) → fault ≡ faults_of.Range line → result.0 ≡ line }
+    ensures duplicate { (line : ℕ) → fault ≡ faults_of.Duplicate line → result.0 ≡ line }
+    ensures order { (line : ℕ) → fault ≡ faults_of.Order line → result.0 ≡ line }
+    ensures unknown { (line : ℕ) → fault ≡ faults_of.UnknownName line → result.0 ≡ line }
+{
     match fault {
         DictFault::Syntax(line) => (line, "this can't stand here"),
         DictFault::Range(line) => (line, "number out of range"),

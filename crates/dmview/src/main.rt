@@ -3,6 +3,8 @@
 //! What it prints for its input is dm_view_lines'; here are only the command line, the files and the status.
 #![tactic(auto)]
 
+ghost use Rattle.std.specs.Prelude.{◌≡◌, true, false};
+
 mod command;
 mod dictionary;
 mod input;
@@ -78,6 +80,14 @@ fn refused(rt: &HostRuntime, error: &clap::Error) -> Result<u8> {
     Ok(error.exit_code() as u8)
 }
 
+/// The status of a run that came to its end: 0 where no line was bad, else 1.
+fn status_of(good: bool) -> u8
+    ensures good { good ≡ true → result ≡ 0 }
+    ensures bad { good ≡ false → result ≡ 1 }
+{
+    if good { 0 } else { 1 }
+}
+
 /// Runs what the words of the command line ask for, and tells the status.
 fn run_words(rt: &HostRuntime) -> Result<u8> {
     let words: Vec<String> = env::args(rt)
@@ -94,7 +104,7 @@ fn run_words(rt: &HostRuntime) -> Result<u8> {
         Some((_, inner)) => run(rt, Task::Show, inner)?,
         None => false,
     };
-    Ok(if good { 0 } else { 1 })
+    Ok(status_of(good))
 }
 
 fn main(rt: HostRuntime) -> ExitCode {
