@@ -1,14 +1,16 @@
 """What tools/gate --kept does: it tries work in hand, over what was kept in the crates' out/.
 
 A crate has changed where its texts aren't those of its out/gate_kept, which a run that ends without a failure leaves
-there; where crates are named, these are taken as changed, and no others. Then come, each with its minutes:
+there; where crates are named, these are taken as changed, and no others. Its edits have a sum of their own there: where
+they alone are others, nothing is proved and no test is run for it. Then come, each with its minutes:
 
   tools/prove --these       proves the libraries that changed, those that stand on them, and those below both
   the crates of tests       and the programs, that changed or stand on what changed: proved, built and run, as
                             `rt all test` does; what rattle says of one stands in its out/gate.log
-  tools/runs/run            runs dmpeer, where it was built anew
-  tools/refused             where dmpeer was built anew, or a crate of the tests that it runs
-  tools/planted NAME ..     tries the planted edits of the crates that changed, but of those that stand as recorded
+  tools/runs/run            runs those of the programs that were built anew
+  tools/refused             where a program was built anew, or a crate of the tests that it runs
+  tools/planted NAME ..     tries the planted edits of the crates that changed, or whose edits did, but of those that
+                            stand as recorded
 
 It trusts what is kept, tries no must-fail edit, and doesn't run the tests of the tools: it is no verdict on the
 repository. Of the toolchain's code it uses rtlib's crates_below, lock, guarded and Crate.test_whole, and rt's need,
@@ -27,8 +29,9 @@ import time
 import tried
 from lanes import Lanes
 
-PROGRAM = "dmpeer"
-REFUSED = [PROGRAM, "tests_refused", "tests_refused_peer"]
+# What tools/runs has cases of, and what tools/refused runs.
+PROGRAMS = ["dmpeer", "dmview", "dmlive"]
+REFUSED = [*PROGRAMS, "tests_refused", "tests_refused_peer"]
 
 
 def load_rt():
@@ -42,23 +45,25 @@ def load_rt():
     return rt
 
 
-def sum_of(crate):
-    """Returns the sum of a crate's own texts, its edits among them."""
+def sums_of(crate):
+    """Returns the sum of a crate's own texts, and that of its edits."""
     said = sorted((word, repr(it)) for word, it in crate.said.items())
     files = [it for it in os.listdir(crate.folder) if os.path.isfile(f"{crate.folder}/{it}")]
-    return tried.sum_of([said, tried.files_below(crate.folder, "src", "specs", "proofs", "planted", "data", *files)])
+    texts = tried.files_below(crate.folder, "src", "specs", "proofs", "data", *files)
+    return [tried.sum_of([said, texts]), tried.sum_of(tried.files_below(crate.folder, "planted"))]
 
 
 def kept_of(crate):
-    """Returns the sum that the last good run left, if there was one."""
+    """Returns the sums that the last good run left, or two that are nothing's."""
     file = f"{crate.folder}/out/gate_kept"
-    return tried.read(file).decode() if os.path.isfile(file) else None
+    kept = tried.read(file).decode().split("\n") if os.path.isfile(file) else []
+    return kept if len(kept) == 2 else ["", ""]
 
 
-def keep(crate, its_sum):
+def keep(crate, its_sums):
     os.makedirs(f"{crate.folder}/out", exist_ok=True)
     with open(f"{crate.folder}/out/gate_kept", "w", encoding="utf-8") as it:
-        it.write(its_sum)
+        it.write("\n".join(its_sums))
 
 
 def is_run(crate):
@@ -75,6 +80,16 @@ def closed(held):
         os.close(it)
 
 
+def timed(call, *given):
+    """Calls, and prints the minutes that it took."""
+    spent = lambda: sum(resource.getrusage(resource.RUSAGE_CHILDREN)[:2])
+    begun, before = time.time(), spent()
+    found = call(*given)
+    minutes = (time.time() - begun) / 60, (spent() - before) / 60
+    print("gate: this took {:.1f} minutes by the clock, {:.1f} of processor time".format(*minutes), flush=True)
+    return found
+
+
 class Kept:
     """The crates of the repository, those that changed, and those that changed or stand on them."""
 
@@ -87,8 +102,10 @@ class Kept:
         unknown = {*names} - {it.name for it in self.crates}
         if unknown:
             sys.exit(f"gate: crates.txt names no crate {' '.join(sorted(unknown))}")
-        self.sums = {it: sum_of(it) for it in self.crates}
-        self.changed = [it for it in self.crates if (it.name in names if names else self.sums[it] != kept_of(it))]
+        self.sums = {it: sums_of(it) for it in self.crates}
+        kept = {it: kept_of(it) for it in self.crates}
+        self.changed = [it for it in self.crates if (it.name in names if names else self.sums[it][0] != kept[it][0])]
+        self.edited = [it for it in self.crates if it in self.changed or not names and self.sums[it] != kept[it]]
         self.touched = [it for it in self.crates if {it, *it.below()} & {*self.changed}]
 
     def all_parts(self):
@@ -100,34 +117,25 @@ class Kept:
         runs += [it for it in self.crates if is_refused and it.name in REFUSED and self.is_lacking(it, runs)]
         if touched:
             proved = sorted(touched | {it.name for it in runs})
-            status, _ = self.timed(self.run, ["tools/prove", "--these", *proved], self.top)
+            status, _ = timed(self.run, ["tools/prove", "--these", *proved], self.top)
             yield (0, 1) if status else (1, 0)
             if status:
                 print("gate: nothing further was tried, since not all is proved", flush=True)
                 return
         if runs:
-            yield self.timed(self.tests, runs)
-        if PROGRAM in touched:
-            yield self.timed(self.counted, ["tools/runs/run", f"crates/{PROGRAM}/out/{PROGRAM}"], self.top)
+            yield timed(self.tests, runs)
+        programs = [f"crates/{it}/out/{it}" for it in PROGRAMS if it in touched]
+        if programs:
+            yield timed(self.counted, ["tools/runs/run", *programs], self.top)
         if is_refused:
-            yield self.timed(self.counted, ["tools/refused"], self.top)
-        edited = [it.name for it in self.changed if os.path.isdir(f"{it.folder}/planted")]
+            yield timed(self.counted, ["tools/refused"], self.top)
+        edited = [it.name for it in self.edited if os.path.isdir(f"{it.folder}/planted")]
         if edited:
-            yield self.timed(self.counted, ["tools/planted", *edited], self.top)
+            yield timed(self.counted, ["tools/planted", *edited], self.top)
 
     @staticmethod
     def is_lacking(crate, runs):
         return crate not in runs and not os.path.isfile(built_of(crate))
-
-    @staticmethod
-    def timed(call, *given):
-        """Calls, and prints the minutes that it took."""
-        spent = lambda: sum(resource.getrusage(resource.RUSAGE_CHILDREN)[:2])
-        begun, before = time.time(), spent()
-        found = call(*given)
-        minutes = (time.time() - begun) / 60, (spent() - before) / 60
-        print("gate: this took {:.1f} minutes by the clock, {:.1f} of processor time".format(*minutes), flush=True)
-        return found
 
     def tests(self, runs):
         """Proves, builds and runs these tests and programs side by side; returns how many passed, and failed."""
@@ -167,10 +175,11 @@ def all_in(top, names, counted, run):
     kept, failures = Kept(top, names, counted, run), 0
     print(f"gate: changed: {' '.join(it.name for it in kept.changed) or 'nothing'}", flush=True)
     print(f"gate: stands on it: {' '.join(it.name for it in kept.touched if it not in kept.changed) or 'nothing'}")
+    print(f"gate: its edits alone: {' '.join(it.name for it in kept.edited if it not in kept.changed) or 'nothing'}")
     for good, bad in kept.all_parts():
         failures += bad
         yield good, bad
     if not failures:
-        for it in kept.changed:
+        for it in kept.edited:
             keep(it, kept.sums[it])
     print("gate: this was over kept work, for work in hand: it is no verdict on the repository", flush=True)
