@@ -129,10 +129,7 @@ impl Session {
                 Ok(actions) => {
                     self.intakes.skip(conn);
                     self.settle(actions.as_slice());
-                    Ok(Some(Turn {
-                        arrived: Some(conn),
-                        actions,
-                    }))
+                    Ok(Some(Turn::of_message(conn, actions)))
                 }
                 Err(_) => Err(AllocError),
             },

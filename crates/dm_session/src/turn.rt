@@ -1,4 +1,7 @@
 //! What one event asked for.
+ghost use Rattle.std.specs.Prelude.{◌≡◌, Some};
+ghost use Rattle.dm_session.specs.Orders.{as_turn};
+
 use dm_machine::Conn;
 use dm_peer::Actions;
 
@@ -9,4 +12,16 @@ pub struct Turn {
     pub arrived: Option<Conn>,
     /// What is to be done, in this order.
     pub actions: Actions,
+}
+
+impl Turn {
+    /// The turn of a whole message that came on the connection.
+    pub(crate) fn of_message(conn: Conn, actions: Actions) -> Turn
+        ensures { as_turn result ≡ record { arrived = Some conn; actions = actions.items } }
+    {
+        Turn {
+            arrived: Some(conn),
+            actions,
+        }
+    }
 }
