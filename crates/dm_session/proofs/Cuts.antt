@@ -2,6 +2,7 @@
 use Rattle.std.proofs.Common.{◌≡◌, ℕ, Bool, true, false, cond, nat_eq, Option, None, Some, List, [], ◌∷◌, ◌++◌, refl, sym, ap, ◌∙◌, subst, append_assoc}
 use Rattle.std.proofs.Math.Path.{fun_ext}
 use Rattle.std.proofs.lemmas.Bool.{eq-eqb}
+use Rattle.std.proofs.lemmas.List.{append-nil}
 use Rattle.std.specs.Option.{option_map}
 use Rattle.dm_framer.specs.Laws.{FaultStands}
 use Rattle.dm_machine.specs.Moves.{is_open}
@@ -11,16 +12,16 @@ use Rattle.dm_peer.specs.declared.peer.Peer.{Peer}
 use Rattle.dm_session.specs.Intakes.{Intake, Intakes, is_numbered, with_intake, changed, fed_intake, broken_intake, with_max, closes, left_by, raised_at}
 use Rattle.dm_session.specs.Sessions.{Session, Turn, own_of, other_of, with_intakes, settled, fed, TellsMessage, TellsFault, TellsAs, TellsAlong}
 
+-- what came and wasn't broken off
+abbrev with_octets : ℕ → List ℕ → Intake
+with_octets max l = record { octets = l; max = max; is_broken = false }
+
 -- two pieces are one
 one_piece : (piece more octets : List ℕ) (max : ℕ) (b : Bool) →
     fed_intake more (fed_intake piece (record { octets = octets; max = max; is_broken = b }))
     ≡ fed_intake (piece ++ more) (record { octets = octets; max = max; is_broken = b })
 one_piece piece more octets max true = refl
-one_piece piece more octets max false =
-    ap (λ l. with_octets l) (append_assoc octets piece more)
-  where
-    with_octets : List ℕ → Intake
-    with_octets l = record { octets = l; max = max; is_broken = false }
+one_piece piece more octets max false = ap (with_octets max) (append_assoc octets piece more)
 
 both_fed : (piece more : List ℕ) (o : Option Intake) →
     option_map (fed_intake more) (option_map (fed_intake piece) o) ≡ option_map (fed_intake (piece ++ more)) o
@@ -37,6 +38,24 @@ fed_twice_at piece more false o = refl
 fed_twice : (c : Conn) (piece more : List ℕ) (s : Session) → fed c more (fed c piece s) ≡ fed c (piece ++ more) s
 fed_twice c piece more s =
     ap (λ f. with_intakes f s) (fun_ext (λ d. fed_twice_at piece more (nat_eq c.0 d) (s.intakes d)))
+
+-- a piece of no octets
+nothing_fed : (o : Option Intake) → option_map (fed_intake []) o ≡ o
+nothing_fed None = refl
+nothing_fed (Some i) = ap (λ v. Some v) (whole i.octets i.max i.is_broken)
+  where
+    whole : (octets : List ℕ) (max : ℕ) (b : Bool) →
+        fed_intake [] (record { octets = octets; max = max; is_broken = b })
+        ≡ record { octets = octets; max = max; is_broken = b }
+    whole octets max true = refl
+    whole octets max false = ap (with_octets max) (append-nil octets)
+
+nothing_fed_at : (e : Bool) (o : Option Intake) → cond e (option_map (fed_intake []) o) o ≡ o
+nothing_fed_at true o = nothing_fed o
+nothing_fed_at false o = refl
+
+pub fed_nothing : (c : Conn) (s : Session) → fed c [] s ≡ s
+fed_nothing c s = ap (λ f. with_intakes f s) (fun_ext (λ d. nothing_fed_at (nat_eq c.0 d) (s.intakes d)))
 
 -- a piece and a greater maximum
 fed_and_max : (more octets : List ℕ) (m max : ℕ) (b : Bool) →

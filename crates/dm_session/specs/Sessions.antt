@@ -9,7 +9,8 @@ use Rattle.dm_peer.specs.declared.peer.Peer.{Peer}
 use Rattle.dm_peer.specs.Acts.{Moved, acts}
 use Rattle.dm_peer.specs.Events.{PeerEvent}
 use Rattle.dm_peer.specs.Events as event
-use Rattle.dm_session.specs.Intakes.{Intake, Intakes, IsFirst, IsFaulty, IsToldOut, with_intake, changed, fed_intake, broken_intake, left_by, raised_at}
+use Rattle.dm_session.specs.Intakes.{Intake, Intakes, IsFirst, IsFaulty, IsToldOut, with_intake, changed, fed_intake}
+use Rattle.dm_session.specs.Intakes.{broken_intake, left_by, raised_at}
 
 -- a peer, its connections, and the greatest Message Lengths before the capabilities exchange and behind it
 pub record Session : Type 0 where

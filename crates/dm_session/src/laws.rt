@@ -1,11 +1,22 @@
 //! Laws of a session. Each function is a law: it does nothing, and its contract is the law.
-ghost use Rattle.dm_session.specs.Laws.{CutsAlike, CloseIsLast, GoneIsSilent, GoneTellsNothing};
+ghost use Rattle.dm_session.specs.Laws.{CutsAlike, OneTelling, CutsToldOut, PiecesToldOut};
+ghost use Rattle.dm_session.specs.Laws.{CloseIsLast, GoneIsSilent, GoneTellsNothing};
 
 use dm_framer::laws::one_front;
 
 /// Whatever cuts a stream, telling the pieces is a telling of the whole.
 pub fn cuts_alike()
     ensures { CutsAlike }
+{
+    one_front();
+}
+
+/// However a stream is cut, what is told until nothing is left is the same: the turns, in order, and the session behind
+/// them.
+pub fn one_telling()
+    ensures once { OneTelling }
+    ensures cut { CutsToldOut }
+    ensures pieces { PiecesToldOut }
 {
     one_front();
 }
