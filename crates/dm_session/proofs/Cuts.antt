@@ -35,7 +35,7 @@ fed_twice_at : (piece more : List ℕ) (e : Bool) (o : Option Intake) →
 fed_twice_at piece more true o = both_fed piece more o
 fed_twice_at piece more false o = refl
 
-fed_twice : (c : Conn) (piece more : List ℕ) (s : Session) → fed c more (fed c piece s) ≡ fed c (piece ++ more) s
+pub fed_twice : (c : Conn) (piece more : List ℕ) (s : Session) → fed c more (fed c piece s) ≡ fed c (piece ++ more) s
 fed_twice c piece more s =
     ap (λ f. with_intakes f s) (fun_ext (λ d. fed_twice_at piece more (nat_eq c.0 d) (s.intakes d)))
 
@@ -116,13 +116,13 @@ fed_settled c more i j q actions s is =
     with_these f = record { peer = q; intakes = f; first_max = s.first_max; most = s.most }
 
 -- the intake with a piece more
-abbrev longer : List ℕ → Intake → Intake
+abbrev pub longer : List ℕ → Intake → Intake
 longer more i = record { octets = i.octets ++ more; max = i.max; is_broken = i.is_broken }
 
 fed_whole : (more : List ℕ) (i : Intake) → i.is_broken ≡ false → fed_intake more i ≡ longer more i
 fed_whole more i e = ap (λ b. cond b i (longer more i)) e
 
-there_fed : (c : Conn) (more : List ℕ) (s : Session) (i : Intake) → s.intakes c.0 ≡ Some i → i.is_broken ≡ false →
+pub there_fed : (c : Conn) (more : List ℕ) (s : Session) (i : Intake) → s.intakes c.0 ≡ Some i → i.is_broken ≡ false →
     (fed c more s).intakes c.0 ≡ Some (longer more i)
 there_fed c more s i there e =
     ap (λ b. cond b (option_map (fed_intake more) (s.intakes c.0)) (s.intakes c.0)) (eq-eqb c.0 c.0 refl)
@@ -171,7 +171,7 @@ fault_fed stands c more s t actions h =
       };
     }
 
-next_fed : FaultStands → (arrived : Option Conn) (c : Conn) (more : List ℕ) (s t : Session) (actions : List Action) →
+pub next_fed : FaultStands → (arrived : Option Conn) (c : Conn) (more : List ℕ) (s t : Session) (actions : List Action) →
     TellsAs arrived c s actions t → TellsAs arrived c (fed c more s) actions (fed c more t)
 next_fed stands None c more s t actions h = fault_fed stands c more s t actions h
 next_fed stands (Some d) c more s t actions h = (h.0, message_fed c more s t actions h.1)

@@ -10,6 +10,7 @@ use Rattle.dm_session.specs.declared.intake.Front.{Front}
 use Rattle.dm_session.specs.declared.intake.Front.TheVariants.{Nothing, Message, Fault}
 use Rattle.dm_session.specs.Fronts.{IsFront, IsFrontAt}
 use Rattle.dm_session.specs.Intakes.{Intake, Intakes, IsToldOut, closes, is_close_of, left_by, shut, is_there, with_intake, new_intake}
+use Rattle.dm_session.specs.Hearing.{IsWhole, IsNotWhole, IsWholeAt}
 use Rattle.dm_session.specs.Sessions.{Session, with_intakes}
 use Rattle.dm_peer.specs.Events as event
 use Rattle.dm_session.specs.Orders.{with_opened, with_shut, TellsOnce, TellsNothing, TellsStart}
@@ -36,6 +37,19 @@ front_there o i f e is = subst (λ v. IsFrontAt v f) e (at f is)
 
 pub front_none : (o : Option Intake) → None ≡ o → IfSome o IsToldOut
 front_none o e = subst (λ v. IfSome v IsToldOut) e tt
+
+-- the whole message with which a piece begins, on a connection that is there
+pub whole_there : (o : Option Intake) (i : Intake) (piece : List ℕ) (size : ℕ) → Some i ≡ o → size ≤ length piece →
+    IsWhole i piece (take size piece) (drop size piece) → IsWholeAt o piece size
+whole_there o i piece size e within front =
+    record { intake = i; there = sym e; within = within; front = front }
+
+pub not_whole_there : (o : Option Intake) (i : Intake) (piece : List ℕ) → Some i ≡ o → IsNotWhole i piece →
+    IfSome o (λ j. IsNotWhole j piece)
+not_whole_there o i piece e none = subst (λ v. IfSome v (λ j. IsNotWhole j piece)) e none
+
+pub whole_none : (o : Option Intake) (piece : List ℕ) → None ≡ o → IfSome o (λ j. IsNotWhole j piece)
+whole_none o piece e = subst (λ v. IfSome v (λ j. IsNotWhole j piece)) e tt
 
 -- what one action closes, and then others
 pub left_on : (a : Action) (rest : List Action) (f : Intakes) →

@@ -1,11 +1,12 @@
 -- What holds of a session whatever comes (RFC 6733, 5.6).
-use Rattle.std.specs.Prelude.{◌≡◌, ℕ, true, Option, None, List, [], ◌∷◌, ◌++◌}
+use Rattle.std.specs.Prelude.{◌≡◌, ℕ, true, Option, None, List, [], ◌∷◌, ◌++◌, drop}
 use Rattle.std.specs.List.{concat}
 use Rattle.dm_machine.specs.declared.connection.Conn.{Conn}
 use Rattle.dm_peer.specs.declared.actions.Action.{Action}
 use Rattle.dm_session.specs.Intakes.{closes}
 use Rattle.dm_session.specs.Orders.{Order, Ack, Nack, Octets, Gone, Takes}
 use Rattle.dm_session.specs.Sessions.{Session, Turn, TellsNext, TellsAlong, IsOut, fed}
+use Rattle.dm_session.specs.Hearing.{Hears}
 
 -- Whatever cuts a stream: where the first octets are told turn by turn, and then those that come behind them, the turns
 -- are a telling of the whole at once, and leave the session alike.
@@ -42,6 +43,12 @@ PiecesToldOut =
     (c : Conn) (pieces : List (List ℕ)) (s t u : Session) (turns whole : List Turn)
     → TellsPieces c s pieces turns t → IsOut c t → TellsAlong c (fed c (concat pieces) s) whole u → IsOut c u
     → (turns ≡ whole) × (t ≡ u)
+
+-- what is told where it lies is told as if the whole piece had come first
+abbrev pub HeardAlike : Type 0
+HeardAlike =
+    (c : Conn) (piece : List ℕ) (s t : Session) (turn : Turn) (size : ℕ)
+    → Hears c piece s turn size t → TellsNext c (fed c piece s) turn (fed c (drop size piece) t)
 
 -- behind a Close of a connection it isn't there
 abbrev pub CloseIsLast : Type 0

@@ -1,9 +1,12 @@
 //! What came on a connection and wasn't told yet.
-ghost use Rattle.std.specs.Prelude.{◌≡◌, ℕ, List, OnOk, OnErr};
+ghost use Rattle.std.specs.Prelude.{◌≡◌, ◌≤◌, ℕ, List, length, take, drop, IfSome, IfNone, OnOk, OnErr};
 ghost use Rattle.dm_session.specs.Intakes.{new_intake, fed_intake, broken_intake, with_max, IsFirst, IsFaulty};
 ghost use Rattle.dm_session.specs.Intakes.{IsToldOut};
 ghost use Rattle.dm_session.specs.Fronts.{IsFront};
+ghost use Rattle.dm_session.specs.Hearing.{IsWhole, IsNotWhole};
 
+use crate::whole::whole_len;
+use dm_framer::laws::one_front;
 use dm_framer::{FrameFault, Framer};
 use std::alloc::{AllocError, Global};
 use std::marker::Model;
@@ -23,18 +26,19 @@ pub(crate) enum Front<'a> {
 #[derive(Debug, Drop)]
 pub(crate) struct Intake {
     framer: Framer,
+    held: usize,
     is_broken: bool,
 }
 
 impl Model for Intake {
-    ghost use Rattle.std.specs.Prelude.{◌≡◌, None};
+    ghost use Rattle.std.specs.Prelude.{◌≡◌, None, length};
     ghost use Rattle.dm_session.specs.Intakes.{Intake};
 
     ghost Value = { Intake };
 
     ghost view = { λ i. record { octets = i.framer.octets; max = i.framer.max; is_broken = i.is_broken } };
 
-    ghost invariant = { λ i. i.framer.fault ≡ None };
+    ghost invariant = { λ i. (i.framer.fault ≡ None) × (i.held ≡ length i.framer.octets) };
 }
 
 impl Intake {
@@ -44,6 +48,7 @@ impl Intake {
     {
         Intake {
             framer: Framer::new(alloc, max),
+            held: 0,
             is_broken: false,
         }
     }
@@ -56,9 +61,15 @@ impl Intake {
         if self.is_broken {
             return Ok(());
         }
-        match self.framer.feed(piece) {
-            Ok(()) => Ok(()),
-            Err(_) => Err(AllocError),
+        match self.held.checked_add(piece.len()) {
+            Some(held) => match self.framer.feed(piece) {
+                Ok(()) => {
+                    self.held = held;
+                    Ok(())
+                }
+                Err(_) => Err(AllocError),
+            },
+            None => Err(AllocError),
         }
     }
 
@@ -76,12 +87,33 @@ impl Intake {
         }
     }
 
+    /// How many octets of the piece the whole message takes with which it begins, where nothing is kept before it. It
+    /// never answers want of memory.
+    pub(crate) fn whole_in(&self, piece: &[u8]) -> Option<usize>
+        ensures within { IfSome result (λ size. size ≤ length piece.now) }
+        ensures whole { IfSome result (λ size. IsWhole self.now piece.now (take size piece.now) (drop size piece.now)) }
+        ensures none { IfNone result (IsNotWhole self.now piece.now) }
+    {
+        if self.is_broken || self.held != 0 {
+            return None;
+        }
+        whole_len(piece, self.framer.max())
+    }
+
     /// Lets the front message go. It never answers want of memory.
     pub(crate) fn skip(&mut self)
         ensures { (message rest : List ℕ) → IsFirst self.old message rest
             → self.new ≡ record self.old { octets = rest } }
     {
-        self.framer.skip();
+        match self.framer.front() {
+            Ok(Some(message)) => {
+                let size = message.len();
+                self.framer.skip();
+                self.held -= size;
+            }
+            Ok(None) => {}
+            Err(_) => one_front(),
+        }
     }
 
     /// A fault was told: what came, and what comes, is thrown away. It never answers want of memory.
@@ -90,6 +122,7 @@ impl Intake {
     {
         let max = self.framer.max();
         self.framer = Framer::new(alloc, max);
+        self.held = 0;
         self.is_broken = true;
     }
 

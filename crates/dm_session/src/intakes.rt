@@ -1,8 +1,9 @@
 //! The connections that are there, by number.
-ghost use Rattle.std.specs.Prelude.{◌≡◌, ◌∷◌, [], ℕ, List, Some, cond, OnOk, OnErr};
+ghost use Rattle.std.specs.Prelude.{◌≡◌, ◌∷◌, [], ℕ, List, Some, IfSome, IfNone, cond, OnOk, OnErr};
 ghost use Rattle.dm_session.specs.Intakes.{none_there, is_there, opened, shut, changed, raised_at, left_by};
 ghost use Rattle.dm_session.specs.Intakes.{fed_intake, broken_intake, with_intake, Intake as OneIntake, IsFirst};
 ghost use Rattle.dm_session.specs.Fronts.{IsFrontAt};
+ghost use Rattle.dm_session.specs.Hearing.{IsWholeAt, IsNotWhole};
 ghost use Rattle.dm_session.specs.Seen.{intakes_of};
 
 use crate::intake::{Front, Intake};
@@ -42,6 +43,19 @@ impl Intakes {
         match self.map.get(&conn.0) {
             Some(intake) => intake.front(),
             None => Front::Nothing,
+        }
+    }
+
+    #[tactic(auto, using(crate::proofs::Steps::whole_there, crate::proofs::Steps::not_whole_there, crate::proofs::Steps::whole_none))]
+    /// How many octets of the piece the whole message takes with which it begins, where the connection is there and
+    /// nothing is kept of it. It never answers want of memory.
+    pub(crate) fn whole_in(&self, conn: Conn, piece: &[u8]) -> Option<usize>
+        ensures whole { IfSome result (λ size. IsWholeAt (intakes_of self.now conn.0) piece.now size) }
+        ensures none { IfNone result (IfSome (intakes_of self.now conn.0) (λ i. IsNotWhole i piece.now)) }
+    {
+        match self.map.get(&conn.0) {
+            Some(intake) => intake.whole_in(piece),
+            None => None,
         }
     }
 

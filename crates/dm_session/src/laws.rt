@@ -1,5 +1,5 @@
 //! Laws of a session. Each function is a law: it does nothing, and its contract is the law.
-ghost use Rattle.dm_session.specs.Laws.{CutsAlike, OneTelling, CutsToldOut, PiecesToldOut};
+ghost use Rattle.dm_session.specs.Laws.{CutsAlike, OneTelling, CutsToldOut, PiecesToldOut, HeardAlike};
 ghost use Rattle.dm_session.specs.Laws.{CloseIsLast, GoneIsSilent, GoneTellsNothing};
 
 use dm_framer::laws::one_front;
@@ -17,6 +17,13 @@ pub fn one_telling()
     ensures once { OneTelling }
     ensures cut { CutsToldOut }
     ensures pieces { PiecesToldOut }
+{
+    one_front();
+}
+
+/// A message that is told where it lies is told as if the whole piece had been kept first.
+pub fn heard_alike()
+    ensures { HeardAlike }
 {
     one_front();
 }

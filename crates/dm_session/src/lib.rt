@@ -8,8 +8,9 @@ mod order;
 mod session;
 mod taking;
 mod turn;
+mod whole;
 
 pub use dm_peer::{Action, Actions, Cause, Config, Conn, Peer, PeerFault};
 pub use order::Order;
 pub use session::Session;
-pub use turn::Turn;
+pub use turn::{HeardTurn, Turn};

@@ -14,6 +14,15 @@ pub struct Turn {
     pub actions: Actions,
 }
 
+/// What a message asked for that was told where it lay.
+#[derive(Debug, Drop)]
+pub struct HeardTurn {
+    /// What it asked for.
+    pub turn: Turn,
+    /// How many octets of the piece it took.
+    pub len: usize,
+}
+
 impl Turn {
     /// The turn of a whole message that came on the connection.
     pub(crate) fn of_message(conn: Conn, actions: Actions) -> Turn

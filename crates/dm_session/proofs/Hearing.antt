@@ -1,0 +1,86 @@
+-- A message that is told where it lies is told as if it had been kept first.
+use Rattle.std.proofs.Common.{◌≡◌, ℕ, Bool, true, false, cond, nat_eq, Option, Some, List, [], ◌++◌, take, drop}
+use Rattle.std.proofs.Common.{refl, sym, ap, ◌∙◌, subst}
+use Rattle.std.proofs.Math.Path.{fun_ext}
+use Rattle.std.proofs.lemmas.Bool.{eqb-true}
+use Rattle.std.proofs.lemmas.List.{append-nil, drop_at, length-take-le}
+use Rattle.std.specs.Option.{option_map}
+use Rattle.dm_framer.specs.Laws.{FaultStands}
+use Rattle.dm_machine.specs.declared.connection.Conn.{Conn}
+use Rattle.dm_peer.specs.declared.actions.Action.{Action}
+use Rattle.dm_peer.specs.declared.peer.Peer.{Peer}
+use Rattle.dm_peer.specs.Acts.{Moved, acts}
+use Rattle.dm_peer.specs.Events as event
+use Rattle.dm_session.specs.Intakes.{Intake, with_intake, fed_intake}
+use Rattle.dm_session.specs.Sessions.{Session, Turn, with_intakes, settled, fed, TellsNext, TellsMessage}
+use Rattle.dm_session.specs.Hearing.{IsWhole, IsWholeAt, Hears}
+use Rattle.dm_session.proofs.Cuts.{longer, there_fed, fed_twice, next_fed}
+
+-- an intake of which all is told
+abbrev emptied : Intake → Intake
+emptied i = record { octets = []; max = i.max; is_broken = i.is_broken }
+
+was_empty : (i : Intake) → i.octets ≡ [] → emptied i ≡ i
+was_empty i none = ap (λ l. with_these l) (sym none)
+  where
+    with_these : List ℕ → Intake
+    with_these l = record { octets = l; max = i.max; is_broken = i.is_broken }
+
+-- where nothing was kept, a message that came and went leaves nothing
+came_and_went : (c : Conn) (message : List ℕ) (s : Session) (i : Intake) → s.intakes c.0 ≡ Some i → i.octets ≡ [] →
+    with_intakes (with_intake c.0 (Some (emptied i)) (fed c message s).intakes) (fed c message s) ≡ s
+came_and_went c message s i there none = ap (λ f. with_intakes f s) (fun_ext (λ d. at d (nat_eq c.0 d) refl))
+  where
+    at : (d : ℕ) (b : Bool) → nat_eq c.0 d ≡ b →
+        cond b (Some (emptied i)) (cond b (option_map (fed_intake message) (s.intakes d)) (s.intakes d)) ≡ s.intakes d
+    at d true e = ap (λ v. Some v) (was_empty i none) ∙ sym there ∙ ap s.intakes (eqb-true c.0 d e)
+    at d false e = refl
+
+told_where_it_lies : (c : Conn) (message rest piece : List ℕ) (s t : Session) (actions : List Action) (q : Peer)
+    (i : Intake) → s.intakes c.0 ≡ Some i → IsWhole i piece message rest →
+    acts s.peer (event.Arrived c message) ≡ Moved actions q → t ≡ settled q actions s →
+    TellsMessage c (fed c message s) actions t
+told_where_it_lies c message rest piece s t actions q i there front acted left = record {
+  intake = longer message i;
+  message = message;
+  rest = [];
+  there = there_fed c message s i there front.whole;
+  first = record {
+    whole = front.whole;
+    frame = front.frame;
+    octets = ap (λ l. l ++ message) front.none_kept ∙ sym (append-nil message);
+  };
+  told = record {
+    next = q;
+    acted = acted;
+    left = left ∙ ap (settled q actions) (sym (came_and_went c message s i there front.none_kept));
+  };
+}
+
+-- what is heard of a piece that begins with a whole message
+pub heard_where_it_lies : (c : Conn) (piece : List ℕ) (s t : Session) (actions : List Action) (q : Peer) (size : ℕ) →
+    IsWholeAt (s.intakes c.0) piece size → acts s.peer (event.Arrived c (take size piece)) ≡ Moved actions q →
+    t ≡ settled q actions s → Hears c piece s (record { arrived = Some c; actions = actions }) size t
+heard_where_it_lies c piece s t actions q size h acted left = record {
+  intake = h.intake;
+  message = take size piece;
+  rest = drop size piece;
+  there = h.there;
+  front = h.front;
+  size_is = sym (length-take-le size piece h.within);
+  arrived = refl;
+  told = (
+    refl,
+    told_where_it_lies c (take size piece) (drop size piece) piece s t actions q h.intake h.there h.front acted left,
+  );
+}
+
+pub heard_alike : FaultStands → (c : Conn) (piece : List ℕ) (s t : Session) (turn : Turn) (size : ℕ) →
+    Hears c piece s turn size t → TellsNext c (fed c piece s) turn (fed c (drop size piece) t)
+heard_alike stands c piece s t turn size h =
+    let rest : drop size piece ≡ h.rest = ap (drop size) h.front.piece_is ∙ drop_at h.message h.rest size (sym h.size_is) in
+    let whole : fed c h.rest (fed c h.message s) ≡ fed c piece s =
+    fed_twice c h.message h.rest s ∙ ap (λ l. fed c l s) (sym h.front.piece_is) in
+    subst (λ v. TellsNext c v turn (fed c (drop size piece) t)) whole
+    (subst (λ l. TellsNext c (fed c h.rest (fed c h.message s)) turn (fed c l t)) (sym rest)
+    (next_fed stands turn.arrived c h.rest (fed c h.message s) t turn.actions h.told))
