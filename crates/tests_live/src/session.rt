@@ -66,6 +66,54 @@ fn cer_in_halves(
     (before, behind, session.peer().state())
 }
 
+/// Of the piece, how many octets are told where they lie, and how many actions that asks for.
+fn heard(
+    rt: &(impl Abort + AllocGlobal),
+    session: &mut Session,
+    piece: &[u8],
+) -> Option<(usize, usize)> {
+    match session.hear(rt.alloc(), R, piece) {
+        Ok(Some(heard)) => Some((heard.len, heard.turn.actions.len())),
+        Ok(None) => None,
+        Err(_) => Some((0, 100)),
+    }
+}
+
+/// What is told where it lies of a CER; of its front, behind it; and of a CER where that front is kept. And the state.
+fn cer_in_place(
+    rt: &(impl Abort + AllocGlobal),
+    session: &mut Session,
+) -> (
+    Option<(usize, usize)>,
+    Option<(usize, usize)>,
+    Option<(usize, usize)>,
+    State,
+) {
+    let octets = hex::decode(rt.alloc(), CER_OF_B.as_bytes()).expect(rt, "digits");
+    let whole = heard(rt, session, octets.as_slice());
+    let front = heard(rt, session, &octets[..octets.len() / 2]);
+    let _kept = asked(rt, session, Order::Octets(R, &octets[..octets.len() / 2]));
+    let behind = heard(rt, session, octets.as_slice());
+    drop(octets);
+    (whole, front, behind, session.peer().state())
+}
+
+/// What an accepted connection comes to whose CER is told where it lies.
+fn in_place(
+    rt: &(impl Abort + AllocGlobal),
+) -> (
+    Option<(usize, usize)>,
+    Option<(usize, usize)>,
+    Option<(usize, usize)>,
+    State,
+) {
+    let mut session = session(rt);
+    let _none = asked(rt, &mut session, Order::Accept(R));
+    let came = cer_in_place(rt, &mut session);
+    drop(session);
+    came
+}
+
 /// What an accepted connection comes to whose CER comes in halves.
 fn accepted(
     rt: &(impl Abort + AllocGlobal),
@@ -100,4 +148,9 @@ fn cer_in_halves_opens(rt: HostRuntime) {
 #[test]
 fn fault_closes_once(rt: HostRuntime) {
     assert_eq!(rt; broken(&rt), (Some((false, 1)), None, None));
+}
+
+#[test]
+fn cer_in_place_opens(rt: HostRuntime) {
+    assert_eq!(rt; in_place(&rt), (Some((112, 1)), None, None, State::ROpen));
 }
