@@ -128,9 +128,12 @@ static char *whole_line(struct buffer *b, size_t *length) {
 
 /* Connections */
 
+/* most often the one that was found last */
 static struct link *find(uint64_t number) {
-    for (size_t i = 0; i < link_count; i++)
-        if (links[i]->number == number && !links[i]->dead) return links[i];
+    static size_t last;
+    if (last < link_count && links[last]->number == number && !links[last]->dead) return links[last];
+    for (last = 0; last < link_count; last++)
+        if (links[last]->number == number && !links[last]->dead) return links[last];
     return NULL;
 }
 
@@ -226,20 +229,34 @@ static void begin_connect(uint64_t number) {
     connect_next(link);
 }
 
+/* Hexadecimal, in loops that the compiler turns into vectors */
+
+static void put_digits(char *restrict to, const uint8_t *restrict octets, size_t count) {
+    for (size_t i = 0; i < count; i++) {
+        unsigned high = octets[i] >> 4, low = octets[i] & 15;
+        to[2 * i] = (char)(high + '0' + (high > 9 ? 'a' - '9' - 1 : 0));
+        to[2 * i + 1] = (char)(low + '0' + (low > 9 ? 'a' - '9' - 1 : 0));
+    }
+}
+
+/* of a digit in lower case; a letter's bit 6 is set */
+static inline unsigned worth(char digit) { return (digit & 15u) + 9 * ((uint8_t)digit >> 6); }
+
+static void put_octets(char *restrict to, const char *restrict digits, size_t count) {
+    for (size_t i = 0; i < count; i++) to[i] = (char)(worth(digits[2 * i]) << 4 | worth(digits[2 * i + 1]));
+}
+
 /* appends octets in hexadecimal to what is to be sent; past the bound the connection is lost */
 static void queue(struct link *link, const char *hexadecimal, size_t length) {
-    static const uint8_t value[256] = { ['1'] = 1, ['2'] = 2, ['3'] = 3, ['4'] = 4, ['5'] = 5, ['6'] = 6, ['7'] = 7,
-        ['8'] = 8, ['9'] = 9, ['a'] = 10, ['b'] = 11, ['c'] = 12, ['d'] = 13, ['e'] = 14, ['f'] = 15 };
     size_t octets = length / 2;
     if (link->dead || link->closing || link->until == 0) return;
+    if (held(&link->out) + octets > queue_most) flush(link);
     if (held(&link->out) + octets > queue_most) {
         fprintf(stderr, "driver: connection %llu reads too slowly\n", (unsigned long long)link->number);
         link->until = 0;
         return;
     }
-    char *to = room_for(&link->out, octets);
-    for (size_t i = 0; i < octets; i++)
-        to[i] = (char)(value[(uint8_t)hexadecimal[2 * i]] << 4 | value[(uint8_t)hexadecimal[2 * i + 1]]);
+    put_octets(room_for(&link->out, octets), hexadecimal, octets);
     link->out.to += octets;
 }
 
@@ -304,17 +321,23 @@ static void write_output(void) {
     }
 }
 
-/* What is queued for the same connection by messages one behind the other is sent at once. */
+/* What is queued for the same connection, by one answer or several, is sent at once: behind the last answer of an
+   exchange, or where another connection's turn comes. */
+static struct link *unsent;
+
+static void send_unsent(struct link *next) {
+    if (unsent && unsent != next && !unsent->dead && unsent->until) flush(unsent);
+    unsent = next;
+}
+
 static void obey_send(uint64_t number, const char *hexadecimal, size_t length) {
-    static struct link *last;
-    struct link *link = number ? find(number) : NULL;
-    if (last && last != link && !last->dead && last->until) flush(last);
-    last = link;
-    if (link) queue(link, hexadecimal, length);
+    struct link *link = find(number);
+    if (!link) return;
+    send_unsent(link);
+    queue(link, hexadecimal, length);
 }
 
 static void obey_other(const char *line, uint64_t number) {
-    obey_send(0, "", 0);
     if (begins(line, "close ")) close_link(find(number));
     else if (begins(line, "connect ")) begin_connect(number);
     else if (begins(line, "state ")) set_state(line + 6);
@@ -345,7 +368,15 @@ static void exchange(void) {
         else say(" ", line, length), obey_line(line, length);
         take(&answers, length + 1);
     }
+    send_unsent(NULL);
     write_output();
+}
+
+/* an order that was put from `start` on is whole */
+static void end_order(size_t start) {
+    say(">", orders.at + orders.from + start, held(&orders) - start);
+    put(&orders, "\n", 1);
+    orders_out++;
 }
 
 /* one order more waits, of its words and of what is behind them */
@@ -353,9 +384,7 @@ static void put_order(const char *words, const char *rest, size_t length) {
     size_t start = held(&orders);
     put(&orders, words, strlen(words));
     put(&orders, rest, length);
-    say(">", orders.at + orders.from + start, strlen(words) + length);
-    put(&orders, "\n", 1);
-    orders_out++;
+    end_order(start);
 }
 
 static void tell(const char *order) {
@@ -374,18 +403,14 @@ static void tell_of(const char *order, uint64_t number) {
     exchange();
 }
 
-static char digits_of[256][2];
-
-static void set_digits(void) {
-    for (int i = 0; i < 512; i++) digits_of[i / 2][i % 2] = "0123456789abcdef"[i % 2 ? i / 2 & 15 : i / 32];
-}
-
 static void tell_octets(uint64_t number, const uint8_t *octets, size_t length) {
-    static char hexadecimal[PIECE][2];
+    size_t start = held(&orders);
     char words[64];
-    for (size_t i = 0; i < length; i++) memcpy(hexadecimal[i], digits_of[octets[i]], 2);
-    snprintf(words, sizeof words, "octets %llu ", (unsigned long long)number);
-    put_order(words, hexadecimal[0], 2 * length);
+    int width = snprintf(words, sizeof words, "octets %llu ", (unsigned long long)number);
+    put(&orders, words, (size_t)width);
+    put_digits(room_for(&orders, 2 * length), octets, length);
+    orders.to += 2 * length;
+    end_order(start);
     exchange();
 }
 
@@ -738,7 +763,6 @@ int main(int count, char **words) {
         if (files.rlim_max < MOST_LINKS + MOST_FILES) link_most = files.rlim_max - MOST_FILES;
     }
     srandom((unsigned)(time(NULL) ^ (getpid() << 12)));
-    set_digits();
     open_output();
     start_peer(program);
     configure(words[optind]);
