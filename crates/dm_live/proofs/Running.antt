@@ -15,7 +15,7 @@ LeftBehind capacity buffer left = if capacity == 0 then None else prepend_known 
 
 -- where the buffer is empty that is the reader's own
 unread : {R : Type 0} (left : R → Option (List ℕ)) (inner reader : R) (buffer : List ℕ) (capacity : ℕ)
-    → inner ≡ reader → buffer ≡ [] → capacity ≡ 8192 → LeftBehind capacity buffer (left inner) ≡ left reader
+    → inner ≡ reader → buffer ≡ [] → capacity ≡ 65536 → LeftBehind capacity buffer (left inner) ≡ left reader
 unread left inner reader buffer capacity same none size =
     ap (λ v. LeftBehind v buffer (left inner)) size ∙ ap (λ v. prepend_known v (left inner)) none
     ∙ prepend_known-nil (left inner) ∙ ap left same
@@ -28,7 +28,7 @@ either_way (Ok v) input old new whole stopped = whole
 either_way (Err fault) input old new whole stopped = stopped
 
 pub ran_behind : {R T : Type 0} (left : R → Option (List ℕ)) (inner reader : R) (buffer : List ℕ) (capacity : ℕ)
-    (r : Result T LiveFault) (old new : Option (List ℕ)) → inner ≡ reader → buffer ≡ [] → capacity ≡ 8192
+    (r : Result T LiveFault) (old new : Option (List ℕ)) → inner ≡ reader → buffer ≡ [] → capacity ≡ 65536
     → OnOk r (IfSome (LeftBehind capacity buffer (left inner)) (λ octets. Serves octets old new))
     → IfErr r (λ fault. IfSome (LeftBehind capacity buffer (left inner)) (λ octets. Stops fault octets old new))
     → IfSome (left reader) (λ octets. Ran r octets old new)

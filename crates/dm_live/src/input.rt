@@ -1,9 +1,11 @@
 //! The input, line by line.
-ghost use Rattle.std.specs.Prelude.{◌≡◌, ◌≢◌, ◌⊎◌, IfOk, IfErr, IfSome};
-ghost use Rattle.dm_live.specs.Input.{without_end, GivesLine};
+ghost use Rattle.std.specs.Prelude.{◌≡◌, ◌≢◌, ◌⊎◌, ◌-◌, ◌<◌, ◌≤◌, All, length, take, true, false, IfOk, IfErr, IfSome};
+ghost use Rattle.std.specs.Io.{StopsAt, IsEmptyOrEndsWith};
+ghost use Rattle.dm_live.specs.Input.{without_end, GivesLine, TakesPiece};
 
 use crate::fault::LiveFault;
-use std::io::{BufRead, ErrorKind};
+use memchr::memchr;
+use std::io::{BufRead, Error, ErrorKind};
 
 /// Reads the next line, without its end; false at the end of the input.
 ///
@@ -15,14 +17,67 @@ pub fn next_line<R: BufRead>(reader: &mut R, line: &mut Vec<u8>) -> Result<bool,
     ensures fault { IfErr result (λ f. (f ≡ LiveFault.Read) ⊎ (f ≡ LiveFault.Memory)) }
 {
     line.clear();
-    match reader.read_until(b'\n', line) {
-        Ok(0) => Ok(false),
-        Ok(_) => {
-            take_end_off(line);
-            Ok(true)
+    'piece: for _ in 0..u64::MAX {
+        if take_piece(reader, line)? {
+            return Ok(end_line(line));
         }
-        Err(error) => Err(fault_of(error.kind())),
     }
+    Err(LiveFault::Read)
+}
+
+/// Appends what the reader has at hand, up to an LF. True behind that, and at the end of the input.
+fn take_piece<R: BufRead>(reader: &mut R, line: &mut Vec<u8>) -> Result<bool, LiveFault>
+    ensures taken { IfOk result (λ done. TakesPiece (R.remaining reader.old) (R.remaining reader.new)
+        line.old.items line.new.items done) }
+    ensures fault { IfErr result (λ f. (f ≡ LiveFault.Read) ⊎ (f ≡ LiveFault.Memory)) }
+{
+    let octets = match reader.fill_buf() {
+        Ok(octets) => octets,
+        Err(error) => return none_taken(error),
+    };
+    let (end, done) = piece_end(octets);
+    line.extend_from_slice(&octets[..end])?;
+    reader.consume(end);
+    Ok(done)
+}
+
+/// An interrupted read is made again.
+fn none_taken(error: Error) -> Result<bool, LiveFault>
+    ensures again { IfOk result (λ done. done ≡ false) }
+    ensures fault { IfErr result (λ f. (f ≡ LiveFault.Read) ⊎ (f ≡ LiveFault.Memory)) }
+{
+    match error.kind() {
+        ErrorKind::Interrupted => Ok(false),
+        ErrorKind::OutOfMemory => Err(LiveFault::Memory),
+        _ => Err(LiveFault::Read),
+    }
+}
+
+/// How many octets there are up to the first LF and with it, or all of them; and whether that was it, or none are there.
+fn piece_end(octets: &[u8]) -> (usize, bool)
+    ensures bound { result.0 ≤ length octets.now }
+    ensures some { 0 < length octets.now → 0 < result.0 }
+    ensures stops { StopsAt (take result.0 octets.now) 10 }
+    ensures more { result.1 ≡ false → All (λ b. b ≢ 10) (take result.0 octets.now) }
+    ensures ends { result.1 ≡ true → IsEmptyOrEndsWith (take result.0 octets.now) 10 }
+{
+    match memchr(b'\n', octets) {
+        Some(end) => (end + 1, true),
+        None => (octets.len(), octets.is_empty()),
+    }
+}
+
+/// Takes the end of a line off. False where there is none, as nothing was left.
+fn end_line(line: &mut Vec<u8>) -> bool
+    ensures none { result ≡ false → length line.old.items ≡ 0 }
+    ensures some { result ≡ true → (0 < length line.old.items) }
+    ensures line { result ≡ true → line.new.items ≡ without_end line.old.items }
+{
+    if line.is_empty() {
+        return false;
+    }
+    take_end_off(line);
+    true
 }
 
 /// Takes the line's LF off, and a CR right before that.
@@ -34,18 +89,5 @@ fn take_end_off(line: &mut Vec<u8>)
         if let Some(b'\r') = line.last() {
             let _ = line.pop();
         }
-    }
-}
-
-/// Why a read failed: the line wanted memory, or else the reader failed.
-fn fault_of(kind: ErrorKind) -> LiveFault
-    ensures memory { kind ≡ ErrorKind.OutOfMemory → result ≡ LiveFault.Memory }
-    ensures read { kind ≢ ErrorKind.OutOfMemory → result ≡ LiveFault.Read }
-    ensures either { (result ≡ LiveFault.Read) ⊎ (result ≡ LiveFault.Memory) }
-{
-    if kind == ErrorKind::OutOfMemory {
-        LiveFault::Memory
-    } else {
-        LiveFault::Read
     }
 }

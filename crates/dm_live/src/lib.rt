@@ -3,6 +3,7 @@
 
 mod answer;
 mod answer_lines;
+mod digits;
 mod draft;
 mod fault;
 mod input;

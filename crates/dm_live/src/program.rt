@@ -9,6 +9,9 @@ use crate::serve::serve_lines;
 use std::alloc::Global;
 use std::io::{BufReader, Read, Write};
 
+/// How many octets are read at once, at most.
+const READ_AT_ONCE: usize = 65536;
+
 /// Why the words of the command line are no reason to run.
 #[derive(Clone, Copy)]
 pub enum WordsFault {
@@ -68,7 +71,7 @@ fn run<R: Read + Drop, W: Write>(alloc: Global, reader: R, writer: &mut W) -> Re
     ensures { IfSome (R.remaining reader) (λ octets.
         Ran result octets (W.contents writer.old) (W.contents writer.new)) }
 {
-    match BufReader::new(alloc, reader) {
+    match BufReader::with_capacity(alloc, READ_AT_ONCE, reader) {
         Ok(mut lines) => serve_lines(alloc, &mut lines, writer),
         Err(_) => Err(LiveFault::Memory),
     }

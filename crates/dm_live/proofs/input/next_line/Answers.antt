@@ -1,9 +1,14 @@
-use Rattle.std.proofs.Common.{arith}
-use Rattle.dm_live.proofs.FirstLine.{next_given}
+use Rattle.dm_live.proofs.Pieces.{reading_none, reading_more, read_through, line_or_end}
 use Rattle.dm_live.proofs.input.next_line.Goals as goal
 
-pub returns-in-Ok-clause-given : goal.returns-in-Ok-clause-given
-returns-in-Ok-clause-given g c =
-    next_given _ _ _ _ _ c.in-Ok.field-0 c.clear.ensures.items c.in-Ok.ensures.bytes c.in-Ok.ensures.rest
-    c.take_end_off.ensures
-    (omega (arith, c.read_until.new.buf.ok.0, c.in-Ok.ensures.ok, c.clear.ensures.len)) c.in-Ok.field-0-test.1
+pub piece-init : goal.piece-init
+piece-init g c = reading_none _ _ c.clear.ensures.items
+
+pub piece-preserved : goal.piece-preserved
+piece-preserved g c = reading_more _ _ _ _ _ _ c.piece.invariant c.in_ok-take_piece.ensures.taken c.if-branch.false
+
+pub returns-then-branch-clause-given : goal.returns-then-branch-clause-given
+returns-then-branch-clause-given g c =
+    line_or_end _ _ _ _ _
+    (read_through _ _ _ _ _ _ c.piece.invariant c.in_ok-take_piece.ensures.taken c.if-branch.true)
+    c.end_line.ensures.none c.end_line.ensures.some c.end_line.ensures.line

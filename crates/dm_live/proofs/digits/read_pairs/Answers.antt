@@ -1,0 +1,16 @@
+use Rattle.std.proofs.Common.{◌∙◌, ap, refl, arith, max}
+use Rattle.dm_live.proofs.Decoded.{decoded_none, decoded_more, decoded_all}
+use Rattle.dm_live.proofs.digits.read_pairs.Goals as goal
+
+pub octets-init : goal.octets-init
+octets-init c = decoded_none c.args.word.now c.args.octets.now
+
+pub octets-preserved : goal.octets-preserved
+octets-preserved c =
+    decoded_more c.args.word.now c.octets.octets c.octets.i c.octets.worst _ c.worth_of-high.result c.worth_of-low.result _
+    c.octets.invariant (omega arith) (omega arith) c.worth_of-high.ensures c.worth_of-low.ensures refl
+    (c.larger-worst.ensures ∙ ap (max c.octets.worst) c.larger.ensures)
+
+pub returns : goal.returns
+returns c =
+    decoded_all c.args.word.now c.octets.octets c.octets.i c.octets.worst c.octets.invariant (omega arith) (omega arith)
