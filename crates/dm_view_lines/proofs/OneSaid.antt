@@ -1,5 +1,5 @@
 -- What is said of lines is one text.
-use Rattle.std.proofs.Common.{◌≡◌, ◌+◌, ◌++◌, ◌∷◌, [], inl, inr, Option, Some, None, ℕ, List, Bool, nat_eq, ap, sym, ◌∙◌, refl}
+use Rattle.std.proofs.Common.{◌≡◌, ◌+◌, ◌++◌, ◌∷◌, [], inl, inr, Option, Some, None, ℕ, List, Bool, nat_eq, ap, sym, ◌∙◌, refl, map}
 use Rattle.std.specs.Str.Lines.{lines}
 use Rattle.dm_wire.specs.OneAnswer.{OneMessage, OneRefusal, NoMessageRefused}
 use Rattle.dm_tables.specs.Definitions.{Definitions}
@@ -8,7 +8,7 @@ use Rattle.dm_view_lines.specs.declared.tally.Tally.{Tally}
 use Rattle.dm_view_lines.specs.Colours.{SaysStyled, styled}
 use Rattle.dm_view_lines.specs.Counts.{added, tally_of}
 use Rattle.dm_view_lines.specs.Digits.{octets_of_line}
-use Rattle.dm_view_lines.specs.Lines.{SaysLine, SaysLines, Says, last_line, numbered}
+use Rattle.dm_view_lines.specs.Lines.{SaysLine, SaysEach, Says, last_line, numbered}
 use Rattle.dm_view_lines.specs.Reasons.{refusal_line}
 use Rattle.dm_view_lines.specs.Said.{answer, before_refusal, SaysOctets}
 
@@ -39,12 +39,12 @@ module _ (laws : OctetLaws) where
       let same = one_octets task d (b ∷ s) h.0 k.0 h.1 k.1 h.2 k.2 in
       (h.3 ∙ ap (numbered n) same.0 ∙ sym k.3, h.4 ∙ ap Some same.1 ∙ sym k.4)
 
-  one_lines : (task : Task) (d : Definitions) (n : ℕ) (l : List (List ℕ)) (text other : List ℕ) (t u : Tally)
-      → SaysLines task d n l text t → SaysLines task d n l other u → (text ≡ other) × (t ≡ u)
-  one_lines task d n [] text other t u h k = (h.0 ∙ sym k.0, h.1 ∙ sym k.1)
-  one_lines task d n (line ∷ l) text other t u h k =
-      let head = one_line task d n (octets_of_line line) h.first k.first h.verdict k.verdict h.line k.line in
-      let tail = one_lines task d (n + 1) l h.rest k.rest h.others k.others h.behind k.behind in (
+  one_each : (task : Task) (d : Definitions) (n : ℕ) (l : List (Option (List ℕ))) (text other : List ℕ) (t u : Tally)
+      → SaysEach task d n l text t → SaysEach task d n l other u → (text ≡ other) × (t ≡ u)
+  one_each task d n [] text other t u h k = (h.0 ∙ sym k.0, h.1 ∙ sym k.1)
+  one_each task d n (line ∷ l) text other t u h k =
+      let head = one_line task d n line h.first k.first h.verdict k.verdict h.line k.line in
+      let tail = one_each task d (n + 1) l h.rest k.rest h.others k.others h.behind k.behind in (
         h.text_is ∙ ap (λ v. v ++ h.rest) head.0 ∙ ap (λ v. k.first ++ v) tail.0 ∙ sym k.text_is,
         h.tally_is ∙ ap (λ v. added (tally_of v) h.others) head.1 ∙ ap (λ v. added (tally_of k.verdict) v) tail.1
             ∙ sym k.tally_is,
@@ -53,7 +53,7 @@ module _ (laws : OctetLaws) where
   one_said : (task : Task) (d : Definitions) (input text other : List ℕ) (good fine : Bool)
       → Says task d input text good → Says task d input other fine → (text ≡ other) × (good ≡ fine)
   one_said task d input text other good fine h k =
-      let same = one_lines task d 1 (lines input) h.0 k.0 h.1 k.1 h.2 k.2 in (
+      let same = one_each task d 1 (map octets_of_line (lines input)) h.0 k.0 h.1 k.1 h.2 k.2 in (
         h.3 ∙ ap (λ v. v ++ last_line task h.1) same.0 ∙ ap (λ v. k.0 ++ last_line task v) same.1 ∙ sym k.3,
         h.4 ∙ ap (λ v. nat_eq v.bad 0) same.1 ∙ sym k.4,
       )

@@ -7,31 +7,37 @@ use Rattle.dm_tables.specs.Definitions.{Definitions}
 use Rattle.dm_view_lines.specs.declared.said.Task.{Task}
 use Rattle.dm_view_lines.specs.declared.tally.Tally.{Tally}
 use Rattle.dm_view_lines.specs.Counts.{no_lines, tally_of, added}
-use Rattle.dm_view_lines.specs.Digits.{octets_of_line}
 use Rattle.dm_view_lines.specs.Said.{SaysOctets}
-use Rattle.dm_view_lines.specs.Lines.{SaysLine, SaysLines, numbered}
+use Rattle.dm_view_lines.specs.Lines.{SaysLine, SaysEach, numbered}
 
-added-assoc : (t u v : Tally) → added t (added u v) ≡ added (added t u) v
+pub added-assoc : (t u v : Tally) → added t (added u v) ≡ added (added t u) v
 added-assoc t u v =
     let good : t.good + (u.good + v.good) ≡ t.good + u.good + v.good = omega arith in
     let bad : t.bad + (u.bad + v.bad) ≡ t.bad + u.bad + v.bad = omega arith in
     λ i. record { good = good i; bad = bad i }
 
-added-none : (t : Tally) → added t no_lines ≡ t
+pub added-none : (t : Tally) → added t no_lines ≡ t
 added-none t =
     let good : t.good + 0 ≡ t.good = omega arith in
     let bad : t.bad + 0 ≡ t.bad = omega arith in
     λ i. record { good = good i; bad = bad i }
 
+pub none-added : (t : Tally) → added no_lines t ≡ t
+none-added t =
+    let good : 0 + t.good ≡ t.good = omega arith in
+    let bad : 0 + t.bad ≡ t.bad = omega arith in
+    λ i. record { good = good i; bad = bad i }
+
 -- what is said of a line goes behind the text so far, and before what is said of the lines to come
-pub says-next : (task : Task) (d : Definitions) (all rest rest' : List (List ℕ)) (n : ℕ) (line so first : List ℕ)
-    (verdict : Option Bool) (tally : Tally) → rest ≡ line ∷ rest' → SaysLine task d n (octets_of_line line) first verdict
-    → ((more : List ℕ) (others : Tally) → SaysLines task d n rest more others
-    → SaysLines task d 1 all (so ++ more) (added tally others))
-    → (more : List ℕ) (others : Tally) → SaysLines task d (n + 1) rest' more others
-    → SaysLines task d 1 all ((so ++ first) ++ more) (added (added tally (tally_of verdict)) others)
+pub says-next : (task : Task) (d : Definitions) (all rest rest' : List (Option (List ℕ))) (n : ℕ)
+    (line : Option (List ℕ)) (so first : List ℕ) (verdict : Option Bool) (tally : Tally) → rest ≡ line ∷ rest'
+    → SaysLine task d n line first verdict
+    → ((more : List ℕ) (others : Tally) → SaysEach task d n rest more others
+    → SaysEach task d 1 all (so ++ more) (added tally others))
+    → (more : List ℕ) (others : Tally) → SaysEach task d (n + 1) rest' more others
+    → SaysEach task d 1 all ((so ++ first) ++ more) (added (added tally (tally_of verdict)) others)
 says-next task d all rest rest' n line so first verdict tally h said whole more others later =
-    let Front : List (List ℕ) → Type 0 = λ l. SaysLines task d n l (first ++ more) (added (tally_of verdict) others) in
+    let Front : List (Option (List ℕ)) → Type 0 = λ l. SaysEach task d n l (first ++ more) (added (tally_of verdict) others) in
     let front : Front rest = subst Front (sym h) (record {
       first = first;
       rest = more;
@@ -42,20 +48,20 @@ says-next task d all rest rest' n line so first verdict tally h said whole more 
       text_is = refl;
       tally_is = refl;
     }) in
-    let Text : List ℕ → Type 0 = λ v. SaysLines task d 1 all v (added (added tally (tally_of verdict)) others) in
-    let Counted : Tally → Type 0 = λ v. SaysLines task d 1 all (so ++ (first ++ more)) v in
+    let Text : List ℕ → Type 0 = λ v. SaysEach task d 1 all v (added (added tally (tally_of verdict)) others) in
+    let Counted : Tally → Type 0 = λ v. SaysEach task d 1 all (so ++ (first ++ more)) v in
     subst Text (sym (append_assoc so first more))
     (subst Counted (added-assoc tally (tally_of verdict) others) (whole (first ++ more) (added (tally_of verdict) others) front))
 
 -- no lines are to come
-pub says-all : (task : Task) (d : Definitions) (all rest : List (List ℕ)) (n : ℕ) (so : List ℕ) (tally : Tally)
-    → rest ≡ [] → ((more : List ℕ) (others : Tally) → SaysLines task d n rest more others
-    → SaysLines task d 1 all (so ++ more) (added tally others))
-    → SaysLines task d 1 all so tally
+pub says-all : (task : Task) (d : Definitions) (all rest : List (Option (List ℕ))) (n : ℕ) (so : List ℕ) (tally : Tally)
+    → rest ≡ [] → ((more : List ℕ) (others : Tally) → SaysEach task d n rest more others
+    → SaysEach task d 1 all (so ++ more) (added tally others))
+    → SaysEach task d 1 all so tally
 says-all task d all rest n so tally h whole =
-    let Rest : List (List ℕ) → Type 0 = λ l. SaysLines task d n l [] no_lines in
-    let Text : List ℕ → Type 0 = λ v. SaysLines task d 1 all v tally in
-    let Counted : Tally → Type 0 = λ v. SaysLines task d 1 all (so ++ []) v in
+    let Rest : List (Option (List ℕ)) → Type 0 = λ l. SaysEach task d n l [] no_lines in
+    let Text : List ℕ → Type 0 = λ v. SaysEach task d 1 all v tally in
+    let Counted : Tally → Type 0 = λ v. SaysEach task d 1 all (so ++ []) v in
     subst Text (append-nil so) (subst Counted (added-none tally) (whole [] no_lines (subst Rest (sym h) (refl, refl))))
 
 -- a line that is there has a number that fits

@@ -4,6 +4,7 @@ use Rattle.std.specs.Str.Lines.{lines}
 use Rattle.dm_tables.specs.Definitions.{Definitions}
 use Rattle.dm_view_lines.specs.declared.said.Task.{Task}
 use Rattle.dm_view_lines.specs.declared.said.Task.TheVariants.{Show, Check}
+use Rattle.dm_view_lines.specs.Frames.{SaysStream}
 use Rattle.dm_view_lines.specs.Lines.{Says}
 
 -- a line further in: an AVP is plain, and a fault red
@@ -23,7 +24,14 @@ abbrev pub styled : Bool → Task → List ℕ → List ℕ
 styled false task text = text
 styled true task text = flat_map (line_coloured task) (lines text)
 
+-- of these texts, with colours or without
+abbrev pub Styled : Bool → Task → (List ℕ → Bool → Type 0) → List ℕ → Bool → Type 0
+Styled coloured task Texts text good = (plain : List ℕ) × Texts plain good × (text ≡ styled coloured task plain)
+
 -- what is said of an input, with colours or without, and whether none of its lines is bad
 abbrev pub SaysStyled : Bool → Task → Definitions → List ℕ → List ℕ → Bool → Type 0
-SaysStyled coloured task d input text good =
-    (plain : List ℕ) × Says task d input plain good × (text ≡ styled coloured task plain)
+SaysStyled coloured task d input text good = Styled coloured task (Says task d input) text good
+
+-- the same of the lines as one stream
+abbrev pub SaysStreamStyled : Bool → Task → Definitions → List ℕ → List ℕ → Bool → Type 0
+SaysStreamStyled coloured task d input text good = Styled coloured task (SaysStream task d input) text good

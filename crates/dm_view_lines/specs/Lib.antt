@@ -1,6 +1,7 @@
 pub mod Colours
 pub mod Counts
 pub mod Digits
+pub mod Frames
 pub mod Lines
 pub mod OneText
 pub mod Reasons

@@ -1,5 +1,5 @@
 -- What is said of the lines of an input.
-use Rattle.std.specs.Prelude.{◌≡◌, ℕ, ◌+◌, Bool, false, nat_eq, Option, Some, None, List, [], ◌∷◌, ◌++◌, codes}
+use Rattle.std.specs.Prelude.{◌≡◌, ℕ, ◌+◌, Bool, false, nat_eq, Option, Some, None, List, [], ◌∷◌, ◌++◌, codes, map}
 use Rattle.std.specs.Fmt.{decimal}
 use Rattle.std.specs.Str.Lines.{lines}
 use Rattle.dm_tables.specs.Definitions.{Definitions}
@@ -33,11 +33,14 @@ pub record LineThenRest (Line : List ℕ → Option Bool → Type 0) (Rest : Lis
   pub text_is : text ≡ first ++ rest
   pub tally_is : tally ≡ added (tally_of verdict) others
 
--- of lines, the first of which has this number; and how many are good and bad
+-- of lines that stand for these octets, the first of which has this number; and how many are good and bad
+abbrev pub SaysEach : Task → Definitions → ℕ → List (Option (List ℕ)) → List ℕ → Tally → Type 0
+SaysEach task d n [] text tally = (text ≡ []) × (tally ≡ no_lines)
+SaysEach task d n (octets ∷ l) text tally =
+    LineThenRest (SaysLine task d n octets) (SaysEach task d (n + 1) l) text tally
+
 abbrev pub SaysLines : Task → Definitions → ℕ → List (List ℕ) → List ℕ → Tally → Type 0
-SaysLines task d n [] text tally = (text ≡ []) × (tally ≡ no_lines)
-SaysLines task d n (line ∷ lines) text tally =
-    LineThenRest (SaysLine task d n (octets_of_line line)) (SaysLines task d (n + 1) lines) text tally
+SaysLines task d n lines text tally = SaysEach task d n (map octets_of_line lines) text tally
 
 -- check ends with how many lines were good and bad
 abbrev pub last_line : Task → Tally → List ℕ

@@ -2,6 +2,7 @@
 ghost use Rattle.std.specs.Prelude.{◌≡◌};
 
 use dm_dict::NoMemory;
+use std::alloc::AllocError;
 use std::io;
 use thiserror::Error;
 
@@ -22,6 +23,16 @@ impl From<NoMemory> for LinesFault {
     ghost from_gives = { λ _ fault. fault ≡ Memory };
 
     fn from(_: NoMemory) -> LinesFault {
+        LinesFault::Memory
+    }
+}
+
+impl From<AllocError> for LinesFault {
+    ghost use Rattle.dm_view_lines.specs.declared.fault.LinesFault.TheVariants.{Memory};
+
+    ghost from_gives = { λ _ fault. fault ≡ Memory };
+
+    fn from(_: AllocError) -> LinesFault {
         LinesFault::Memory
     }
 }

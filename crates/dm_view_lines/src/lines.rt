@@ -7,7 +7,7 @@ ghost use Rattle.dm_view_lines.specs.Lines.{SaysLine, SaysLines, Says};
 
 use crate::digits::read_line;
 use crate::said::{Task, put_octets};
-use crate::tally::{Tally, put_tally};
+use crate::tally::{Tally, put_last};
 use dm_dict::{Dictionary, NoMemory};
 use dm_text::Lines;
 use dm_text::laws::lines_are_joined;
@@ -91,8 +91,6 @@ pub fn lines_text(
 {
     let mut text = String::new(alloc);
     let tally = put_lines(alloc, &mut text, dictionary, task, input)?;
-    if let Task::Check = task {
-        put_tally(&mut text, tally)?;
-    }
+    put_last(&mut text, task, tally)?;
     Ok((text.into_bytes(), tally.bad == 0))
 }

@@ -1,8 +1,10 @@
 //! How many lines were good and bad.
-ghost use Rattle.std.specs.Prelude.{◌≡◌, ◌+◌, ◌<◌, ◌^◌, ◌++◌, OnOk};
+ghost use Rattle.std.specs.Prelude.{◌≡◌, ◌+◌, ◌<◌, ◌^◌, ◌++◌, IfSome, OnOk};
 ghost use Rattle.std.specs.String.{string_bytes};
 ghost use Rattle.dm_view_lines.specs.Counts.{added, tally_of, tally_line};
+ghost use Rattle.dm_view_lines.specs.Lines.{last_line};
 
+use crate::said::Task;
 use std::alloc::AllocError;
 
 /// How many lines were good and bad.
@@ -13,6 +15,13 @@ pub struct Tally {
 }
 
 impl Tally {
+    /// The number behind those of the lines so far; `None` where it fits no number.
+    pub(crate) fn next(self) -> Option<u64>
+        ensures { IfSome result (λ number. number ≡ self.good + self.bad + 1) }
+    {
+        self.good.checked_add(self.bad)?.checked_add(1)
+    }
+
     /// The lines so far, and a good line more, a bad one, or one that says nothing.
     pub(crate) fn with(self, verdict: Option<bool>) -> Tally
         requires room { self.good + self.bad + 1 < 2 ^ 64 }
@@ -33,8 +42,18 @@ impl Tally {
 }
 
 /// Appends how many lines were good and bad.
-pub(crate) fn put_tally(text: &mut String, tally: Tally) -> Result<(), AllocError>
+fn put_tally(text: &mut String, tally: Tally) -> Result<(), AllocError>
     ensures { OnOk result (string_bytes text.new ≡ string_bytes text.old ++ tally_line tally) }
 {
     writeln!(text, "{} good, {} bad", tally.good, tally.bad)
+}
+
+/// Appends what ends the text of a task: of a check how many lines were good and bad.
+pub(crate) fn put_last(text: &mut String, task: Task, tally: Tally) -> Result<(), AllocError>
+    ensures { OnOk result (string_bytes text.new ≡ string_bytes text.old ++ last_line task tally) }
+{
+    match task {
+        Task::Show => Ok(()),
+        Task::Check => put_tally(text, tally),
+    }
 }

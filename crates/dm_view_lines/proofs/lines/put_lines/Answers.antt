@@ -1,7 +1,8 @@
-use Rattle.std.proofs.Common.{◌≡◌, ◌≤◌, ◌+◌, ◌++◌, ◌∷◌, [], length-append, append_assoc, arith, ap, sym, ◌∙◌, subst}
+use Rattle.std.proofs.Common.{◌≡◌, ◌≤◌, ◌+◌, ◌++◌, ◌∷◌, [], length-append, append_assoc, arith, ap, sym, ◌∙◌, subst, map}
 use Rattle.std.specs.Str.Lines.{lines}
 use Rattle.dm_view_lines.specs.declared.tally.Tally.{Tally}
 use Rattle.dm_view_lines.specs.Counts.{added, tally_of}
+use Rattle.dm_view_lines.specs.Digits.{octets_of_line}
 use Rattle.dm_view_lines.specs.Lines.{SaysLines}
 use Rattle.dm_view_lines.proofs.Steps.{says-next, says-all, line_counts, lines-next, counted}
 use Rattle.dm_view_lines.proofs.lines.put_lines.Goals as goal
@@ -32,9 +33,10 @@ loop-line-preserved c =
           let All : Tally → Type 0 = λ t. SaysLines c.args.task c.args.dictionary.now 1 (lines c.args.input.now)
           ((inv.4 ++ said.0) ++ more) (added t others) in
           subst All (sym with_is)
-          (says-next c.args.task c.args.dictionary.now (lines c.args.input.now) (lines c.loop-line.line-iterator)
-          (lines c.next.new.self) (c.loop-line.number + 1) line inv.4 said.0 verdict tally c.in-Some.ensures.steps said.2
-          inv.6 more others later),
+          (says-next c.args.task c.args.dictionary.now (map octets_of_line (lines c.args.input.now))
+          (map octets_of_line (lines c.loop-line.line-iterator)) (map octets_of_line (lines c.next.new.self))
+          (c.loop-line.number + 1) (octets_of_line line) inv.4 said.0 verdict tally
+          (ap (map octets_of_line) c.in-Some.ensures.steps) said.2 inv.6 more others later),
     )
 
 pub returns : goal.returns
@@ -42,6 +44,7 @@ returns c =
     let inv = c.loop-line.invariant in (
       inv.4,
       inv.5,
-      says-all c.args.task c.args.dictionary.now (lines c.args.input.now) (lines c.loop-line.line-iterator)
-          (c.loop-line.number + 1) inv.4 c.loop-line.tally c.in-None.ensures.steps.0 inv.6,
+      says-all c.args.task c.args.dictionary.now (map octets_of_line (lines c.args.input.now))
+          (map octets_of_line (lines c.loop-line.line-iterator)) (c.loop-line.number + 1) inv.4 c.loop-line.tally
+          (ap (map octets_of_line) c.in-None.ensures.steps.0) inv.6,
     )

@@ -1,0 +1,93 @@
+//! The messages of a stream, and what is said of each (RFC 6733, 3).
+ghost use Rattle.std.specs.Prelude.{◌≡◌, ◌++◌, ◌+◌, ℕ, Bool, List, Some, length, IfOk};
+ghost use Rattle.std.specs.String.{string_bytes};
+ghost use Rattle.dm_wire.specs.Codes.{max_message_len};
+ghost use Rattle.dm_view_lines.specs.declared.tally.Tally.{Tally};
+ghost use Rattle.dm_view_lines.specs.Counts.{added, tally_of};
+ghost use Rattle.dm_view_lines.specs.Frames.{SaysFrames};
+ghost use Rattle.dm_view_lines.specs.Lines.{numbered};
+ghost use Rattle.dm_view_lines.specs.Said.{SaysOctets};
+
+use crate::said::{Task, put_octets};
+use crate::tally::Tally;
+use dm_dict::{Dictionary, NoMemory};
+use dm_framer::laws::one_front;
+use dm_framer::{FrameFault, Framer};
+use std::alloc::Global;
+
+/// How far a stream was read: how many of its messages were good and bad, how many octets are held behind them, and the
+/// fault with which these begin, if they do.
+#[derive(Clone, Copy)]
+pub(crate) struct Reading {
+    pub tally: Tally,
+    pub held: usize,
+    pub fault: Option<FrameFault>,
+}
+
+/// Appends what is said of the octets of a message, which is numbered behind those that were counted.
+fn put_frame(
+    alloc: Global,
+    text: &mut String,
+    dictionary: &Dictionary,
+    task: Task,
+    tally: Tally,
+    message: &[u8],
+) -> Result<Tally, NoMemory>
+    ensures { IfOk result (λ counted. (said : List ℕ) × (good : Bool)
+        × SaysOctets task dictionary.now message.now said good
+        × (string_bytes text.new ≡ string_bytes text.old ++ numbered (tally.good + tally.bad + 1) said)
+        × (counted ≡ added tally (tally_of (Some good)))) }
+{
+    let Some(number) = tally.next() else {
+        return Err(NoMemory);
+    };
+    write!(text, "{number}: ")?;
+    let good = put_octets(alloc, text, dictionary, task, message)?;
+    Ok(tally.with(Some(good)))
+}
+
+/// Appends what is said of the whole messages that the framer holds, of so many octets, and takes them out of it.
+pub(crate) fn put_frames(
+    alloc: Global,
+    text: &mut String,
+    dictionary: &Dictionary,
+    task: Task,
+    framer: &mut Framer,
+    reading: Reading,
+) -> Result<Reading, NoMemory>
+    requires held { reading.held ≡ length framer.old.octets }
+    requires most { framer.old.max ≡ max_message_len }
+    ensures said { IfOk result (λ read. (more : List ℕ) × (told : Tally)
+        × (string_bytes text.new ≡ string_bytes text.old ++ more)
+        × SaysFrames task dictionary.now (reading.tally.good + reading.tally.bad + 1) framer.old.octets framer.new.octets
+        read.fault more told × (read.tally ≡ added reading.tally told)) }
+    ensures held { IfOk result (λ read. read.held ≡ length framer.new.octets) }
+    ensures kept { framer.new ≡ record framer.old { octets = framer.new.octets } }
+{
+    one_front();
+    let mut tally = reading.tally;
+    let mut held = reading.held;
+    loop {
+        match framer.front() {
+            Ok(Some(message)) => {
+                tally = put_frame(alloc, text, dictionary, task, tally, message)?;
+                held -= message.len();
+                framer.skip();
+            }
+            Ok(None) => {
+                return Ok(Reading {
+                    tally,
+                    held,
+                    fault: None,
+                });
+            }
+            Err(fault) => {
+                return Ok(Reading {
+                    tally,
+                    held,
+                    fault: Some(fault),
+                });
+            }
+        }
+    }
+}
