@@ -53,7 +53,8 @@ fn none_taken(error: Error) -> Result<bool, LiveFault>
     }
 }
 
-/// How many octets there are up to the first LF and with it, or all of them; and whether that was it, or none are there.
+/// How many octets there are up to the first LF and with it, or all of them; and whether that was it, or none are
+/// there.
 fn piece_end(octets: &[u8]) -> (usize, bool)
     ensures bound { result.0 ≤ length octets.now }
     ensures some { 0 < length octets.now → 0 < result.0 }

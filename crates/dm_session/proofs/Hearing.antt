@@ -13,7 +13,7 @@ use Rattle.dm_peer.specs.Acts.{Moved, acts}
 use Rattle.dm_peer.specs.Events as event
 use Rattle.dm_session.specs.Intakes.{Intake, with_intake, fed_intake}
 use Rattle.dm_session.specs.Sessions.{Session, Turn, with_intakes, settled, fed, TellsNext, TellsMessage}
-use Rattle.dm_session.specs.Hearing.{IsWhole, IsWholeAt, Hears}
+use Rattle.dm_session.specs.Hearing.{IsWholeIn, IsWholeAt, HearsWhole}
 use Rattle.dm_session.proofs.Cuts.{longer, there_fed, fed_twice, next_fed}
 
 -- an intake of which all is told
@@ -37,7 +37,7 @@ came_and_went c message s i there none = ap (λ f. with_intakes f s) (fun_ext (�
     at d false e = refl
 
 told_where_it_lies : (c : Conn) (message rest piece : List ℕ) (s t : Session) (actions : List Action) (q : Peer)
-    (i : Intake) → s.intakes c.0 ≡ Some i → IsWhole i piece message rest →
+    (i : Intake) → s.intakes c.0 ≡ Some i → IsWholeIn i piece message rest →
     acts s.peer (event.Arrived c message) ≡ Moved actions q → t ≡ settled q actions s →
     TellsMessage c (fed c message s) actions t
 told_where_it_lies c message rest piece s t actions q i there front acted left = record {
@@ -60,7 +60,7 @@ told_where_it_lies c message rest piece s t actions q i there front acted left =
 -- what is heard of a piece that begins with a whole message
 pub heard_where_it_lies : (c : Conn) (piece : List ℕ) (s t : Session) (actions : List Action) (q : Peer) (size : ℕ) →
     IsWholeAt (s.intakes c.0) piece size → acts s.peer (event.Arrived c (take size piece)) ≡ Moved actions q →
-    t ≡ settled q actions s → Hears c piece s (record { arrived = Some c; actions = actions }) size t
+    t ≡ settled q actions s → HearsWhole c piece s (record { arrived = Some c; actions = actions }) size t
 heard_where_it_lies c piece s t actions q size h acted left = record {
   intake = h.intake;
   message = take size piece;
@@ -76,7 +76,7 @@ heard_where_it_lies c piece s t actions q size h acted left = record {
 }
 
 pub heard_alike : FaultStands → (c : Conn) (piece : List ℕ) (s t : Session) (turn : Turn) (size : ℕ) →
-    Hears c piece s turn size t → TellsNext c (fed c piece s) turn (fed c (drop size piece) t)
+    HearsWhole c piece s turn size t → TellsNext c (fed c piece s) turn (fed c (drop size piece) t)
 heard_alike stands c piece s t turn size h =
     let rest : drop size piece ≡ h.rest = ap (drop size) h.front.piece_is ∙ drop_at h.message h.rest size (sym h.size_is) in
     let whole : fed c h.rest (fed c h.message s) ≡ fed c piece s =

@@ -10,7 +10,7 @@ use Rattle.dm_session.specs.declared.intake.Front.{Front}
 use Rattle.dm_session.specs.declared.intake.Front.TheVariants.{Nothing, Message, Fault}
 use Rattle.dm_session.specs.Fronts.{IsFront, IsFrontAt}
 use Rattle.dm_session.specs.Intakes.{Intake, Intakes, IsToldOut, closes, is_close_of, left_by, shut, is_there, with_intake, new_intake}
-use Rattle.dm_session.specs.Hearing.{IsWhole, IsNotWhole, IsWholeAt}
+use Rattle.dm_session.specs.Hearing.{IsWholeIn, IsNotWhole, IsWholeAt}
 use Rattle.dm_session.specs.Sessions.{Session, with_intakes}
 use Rattle.dm_peer.specs.Events as event
 use Rattle.dm_session.specs.Orders.{with_opened, with_shut, TellsOnce, TellsNothing, TellsStart}
@@ -40,7 +40,7 @@ front_none o e = subst (λ v. IfSome v IsToldOut) e tt
 
 -- the whole message with which a piece begins, on a connection that is there
 pub whole_there : (o : Option Intake) (i : Intake) (piece : List ℕ) (size : ℕ) → Some i ≡ o → size ≤ length piece →
-    IsWhole i piece (take size piece) (drop size piece) → IsWholeAt o piece size
+    IsWholeIn i piece (take size piece) (drop size piece) → IsWholeAt o piece size
 whole_there o i piece size e within front =
     record { intake = i; there = sym e; within = within; front = front }
 

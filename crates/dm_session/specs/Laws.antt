@@ -6,7 +6,7 @@ use Rattle.dm_peer.specs.declared.actions.Action.{Action}
 use Rattle.dm_session.specs.Intakes.{closes}
 use Rattle.dm_session.specs.Orders.{Order, Ack, Nack, Octets, Gone, Takes}
 use Rattle.dm_session.specs.Sessions.{Session, Turn, TellsNext, TellsAlong, IsOut, fed}
-use Rattle.dm_session.specs.Hearing.{Hears}
+use Rattle.dm_session.specs.Hearing.{HearsWhole}
 
 -- Whatever cuts a stream: where the first octets are told turn by turn, and then those that come behind them, the turns
 -- are a telling of the whole at once, and leave the session alike.
@@ -48,7 +48,7 @@ PiecesToldOut =
 abbrev pub HeardAlike : Type 0
 HeardAlike =
     (c : Conn) (piece : List ℕ) (s t : Session) (turn : Turn) (size : ℕ)
-    → Hears c piece s turn size t → TellsNext c (fed c piece s) turn (fed c (drop size piece) t)
+    → HearsWhole c piece s turn size t → TellsNext c (fed c piece s) turn (fed c (drop size piece) t)
 
 -- behind a Close of a connection it isn't there
 abbrev pub CloseIsLast : Type 0

@@ -3,7 +3,7 @@ ghost use Rattle.std.specs.Prelude.{◌≡◌, ◌≤◌, ℕ, List, length, tak
 ghost use Rattle.dm_session.specs.Intakes.{new_intake, fed_intake, broken_intake, with_max, IsFirst, IsFaulty};
 ghost use Rattle.dm_session.specs.Intakes.{IsToldOut};
 ghost use Rattle.dm_session.specs.Fronts.{IsFront};
-ghost use Rattle.dm_session.specs.Hearing.{IsWhole, IsNotWhole};
+ghost use Rattle.dm_session.specs.Hearing.{IsWholeIn, IsNotWhole};
 
 use crate::whole::whole_len;
 use dm_framer::laws::one_front;
@@ -91,7 +91,7 @@ impl Intake {
     /// never answers want of memory.
     pub(crate) fn whole_in(&self, piece: &[u8]) -> Option<usize>
         ensures within { IfSome result (λ size. size ≤ length piece.now) }
-        ensures whole { IfSome result (λ size. IsWhole self.now piece.now (take size piece.now) (drop size piece.now)) }
+        ensures whole { IfSome result (λ size. IsWholeIn self.now piece.now (take size piece.now) (drop size piece.now)) }
         ensures none { IfNone result (IsNotWhole self.now piece.now) }
     {
         if self.is_broken || self.held != 0 {

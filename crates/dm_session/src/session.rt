@@ -6,7 +6,7 @@ ghost use Rattle.dm_peer.specs.After.{fresh};
 ghost use Rattle.dm_session.specs.Intakes.{none_there, is_there};
 ghost use Rattle.dm_session.specs.Sessions.{Tells, TellsNext, IsOut};
 ghost use Rattle.dm_session.specs.Sessions.{fed, settled};
-ghost use Rattle.dm_session.specs.Hearing.{Hears, HearsNothing};
+ghost use Rattle.dm_session.specs.Hearing.{HearsWhole, HearsNothing};
 ghost use Rattle.dm_session.specs.Seen.{session_of};
 ghost use Rattle.dm_session.specs.Orders.{as_turn, closed, with_opened, with_shut};
 
@@ -115,17 +115,17 @@ impl Session {
             .raise_open(self.peer.is_open(), own, other, self.most);
     }
 
-    /// Tells the whole message of the connection with which the piece begins, where it lies. None where there is nothing
-    /// to tell so: the connection isn't there, something of it is kept or what comes is thrown away, or the piece begins
-    /// with no whole message. The piece is then an order (`Order::Octets`), as is what is left of it behind the octets
-    /// that were told. Where memory is wanted nothing changes, and it can be told again.
+    /// Tells the whole message of the connection with which the piece begins, where it lies. None where there is
+    /// nothing to tell so: the connection isn't there, something of it is kept or what comes is thrown away, or the
+    /// piece begins with no whole message. The piece is then an order (`Order::Octets`), as is what is left of it
+    /// behind the octets that were told. Where memory is wanted nothing changes, and it can be told again.
     pub fn hear(
         &mut self,
         alloc: Global,
         conn: Conn,
         piece: &[u8],
     ) -> Result<Option<HeardTurn>, AllocError>
-        ensures heard { IfOk result (λ found. IfSome found (λ heard. Hears conn piece.now (session_of self.old)
+        ensures heard { IfOk result (λ found. IfSome found (λ heard. HearsWhole conn piece.now (session_of self.old)
             (as_turn heard.turn) heard.len (session_of self.new))) }
         ensures none { IfOk result (λ found. IfNone found (
             HearsNothing conn piece.now (session_of self.old) × (session_of self.new ≡ session_of self.old))) }
