@@ -25,13 +25,13 @@ styled false task text = text
 styled true task text = flat_map (line_coloured task) (lines text)
 
 -- of these texts, with colours or without
-abbrev pub Styled : Bool → Task → (List ℕ → Bool → Type 0) → List ℕ → Bool → Type 0
-Styled coloured task Texts text good = (plain : List ℕ) × Texts plain good × (text ≡ styled coloured task plain)
+abbrev pub SaysInStyle : Bool → Task → (List ℕ → Bool → Type 0) → List ℕ → Bool → Type 0
+SaysInStyle coloured task Texts text good = (plain : List ℕ) × Texts plain good × (text ≡ styled coloured task plain)
 
 -- what is said of an input, with colours or without, and whether none of its lines is bad
 abbrev pub SaysStyled : Bool → Task → Definitions → List ℕ → List ℕ → Bool → Type 0
-SaysStyled coloured task d input text good = Styled coloured task (Says task d input) text good
+SaysStyled coloured task d input text good = SaysInStyle coloured task (Says task d input) text good
 
 -- the same of the lines as one stream
 abbrev pub SaysStreamStyled : Bool → Task → Definitions → List ℕ → List ℕ → Bool → Type 0
-SaysStreamStyled coloured task d input text good = Styled coloured task (SaysStream task d input) text good
+SaysStreamStyled coloured task d input text good = SaysInStyle coloured task (SaysStream task d input) text good

@@ -1,5 +1,6 @@
 -- A stream: all octets of the lines of an input, in order, cut into messages (RFC 6733, 3).
-use Rattle.std.specs.Prelude.{◌≡◌, ℕ, ◌+◌, Bool, false, nat_eq, Option, Some, None, List, [], ◌∷◌, ◌++◌, length, map, codes}
+use Rattle.std.specs.Prelude.{◌≡◌, ℕ, ◌+◌, Bool, false, nat_eq, Option, Some, None}
+use Rattle.std.specs.Prelude.{List, [], ◌∷◌, ◌++◌, length, map, codes}
 use Rattle.std.specs.Fmt.{decimal}
 use Rattle.std.specs.Str.Lines.{lines}
 use Rattle.dm_framer.specs.declared.fault.FrameFault.{FrameFault}
@@ -52,15 +53,15 @@ stop_of [] None None = None
 stop_of (b ∷ s) None None = Some (Part (length (b ∷ s)))
 
 -- octets that are no message's are refused as those of a line (7.1.3 and 7.1.5)
-abbrev pub refusal_of : FrameFault → WireFault
-refusal_of framing.BadVersion = Version
-refusal_of framing.BadLength = Length
-refusal_of framing.TooLong = TooLong
-refusal_of framing.NoMemory = NoMemory
+abbrev pub stream_refusal : FrameFault → WireFault
+stream_refusal framing.BadVersion = Version
+stream_refusal framing.BadLength = Length
+stream_refusal framing.TooLong = TooLong
+stream_refusal framing.NoMemory = NoMemory
 
 -- the line that says why; n is the number behind those of the messages
 abbrev pub stop_line : ℕ → Stop → List ℕ
-stop_line n (Fault fault) = numbered n (refusal_line (refusal_of fault))
+stop_line n (Fault fault) = numbered n (refusal_line (stream_refusal fault))
 stop_line n (Line number) = codes "line " ++ decimal number ++ codes ": no hexadecimal" ++ 10 ∷ []
 stop_line n (Part size) =
     numbered n (codes "no message: the stream ends inside it, at octet " ++ decimal size ++ 10 ∷ [])

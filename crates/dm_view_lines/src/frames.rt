@@ -59,8 +59,8 @@ pub(crate) fn put_frames(
     requires most { framer.old.max ≡ max_message_len }
     ensures said { IfOk result (λ read. (more : List ℕ) × (told : Tally)
         × (string_bytes text.new ≡ string_bytes text.old ++ more)
-        × SaysFrames task dictionary.now (reading.tally.good + reading.tally.bad + 1) framer.old.octets framer.new.octets
-        read.fault more told × (read.tally ≡ added reading.tally told)) }
+        × SaysFrames task dictionary.now (reading.tally.good + reading.tally.bad + 1) framer.old.octets
+        framer.new.octets read.fault more told × (read.tally ≡ added reading.tally told)) }
     ensures held { IfOk result (λ read. read.held ≡ length framer.new.octets) }
     ensures kept { framer.new ≡ record framer.old { octets = framer.new.octets } }
 {

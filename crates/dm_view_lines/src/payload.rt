@@ -59,8 +59,8 @@ fn put_piece(
     )
 }
 
-/// Adds the octets of the line of this number, as `put_piece` does, and tells where the stream stops at it: where it is no
-/// hexadecimal nothing is added.
+/// Adds the octets of the line of this number, as `put_piece` does, and tells where the stream stops at it: where it is
+/// no hexadecimal nothing is added.
 fn put_line(
     alloc: Global,
     text: &mut String,
@@ -75,8 +75,8 @@ fn put_line(
     requires held { reading.held ≡ length framer.old.octets }
     requires most { framer.old.max ≡ max_message_len }
     requires whole { framer.old.fault ≡ None }
-    ensures bad { IfOk result (λ read. octets_of_line line.now ≡ None → (read.0 ≡ reading) × (read.1 ≡ Some (Line number))
-        × (string_bytes text.new ≡ string_bytes text.old) × (framer.new ≡ framer.old)) }
+    ensures bad { IfOk result (λ read. octets_of_line line.now ≡ None → (read.0 ≡ reading)
+        × (read.1 ≡ Some (Line number)) × (string_bytes text.new ≡ string_bytes text.old) × (framer.new ≡ framer.old)) }
     ensures said { IfOk result (λ read. (piece : List ℕ) → octets_of_line line.now ≡ Some piece
         → (more : List ℕ) × (told : Tally) × (string_bytes text.new ≡ string_bytes text.old ++ more)
         × SaysFrames task dictionary.now (reading.tally.good + reading.tally.bad + 1) (framer.old.octets ++ piece)

@@ -46,7 +46,8 @@ fn write_styled<W: Write>(
     write_plain(made.as_slice(), writer)
 }
 
-/// Writes what is said of the lines of an input, with colours for a terminal or without. True where none of them is bad.
+/// Writes what is said of the lines of an input, with colours for a terminal or without. True where none of them is
+/// bad.
 ///
 /// Where memory is wanted nothing is written. Where the writer fails a front of the text was written.
 pub fn write_lines<W: Write>(
@@ -69,8 +70,8 @@ pub fn write_lines<W: Write>(
     }
 }
 
-/// Writes what is said of the lines of an input as one stream, with colours for a terminal or without. True where all of
-/// it is good.
+/// Writes what is said of the lines of an input as one stream, with colours for a terminal or without. True where all
+/// of it is good.
 ///
 /// Where memory is wanted nothing is written. Where the writer fails a front of the text was written.
 pub fn write_stream<W: Write>(
@@ -87,9 +88,9 @@ pub fn write_stream<W: Write>(
     ensures stopped { IfErr result (EndsBy (SaysStreamStyled coloured task dictionary.now input.now)
         (W.contents writer.old) (W.contents writer.new)) }
 {
-    let (text, good) = stream_text(alloc, dictionary, task, input)?;
+    let (text, is_good) = stream_text(alloc, dictionary, task, input)?;
     match write_styled(alloc, task, coloured, text.as_slice(), writer) {
-        Ok(()) => Ok(good),
+        Ok(()) => Ok(is_good),
         Err(fault) => Err(fault),
     }
 }

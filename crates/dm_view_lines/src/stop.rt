@@ -2,7 +2,7 @@
 ghost use Rattle.std.specs.Prelude.{◌≡◌, ◌++◌, ◌+◌, IfOk, OnOk};
 ghost use Rattle.std.specs.String.{string_bytes};
 ghost use Rattle.dm_view_lines.specs.Counts.{added, tally_of};
-ghost use Rattle.dm_view_lines.specs.Frames.{refusal_of, stop_line, stop_text, stop_verdict};
+ghost use Rattle.dm_view_lines.specs.Frames.{stream_refusal, stop_line, stop_text, stop_verdict};
 
 use crate::reasons::put_refusal;
 use crate::tally::Tally;
@@ -23,8 +23,8 @@ pub(crate) enum Stop {
 }
 
 /// The refusal of octets that no message begins with.
-fn refusal_of(fault: FrameFault) -> WireFault
-    ensures { result ≡ refusal_of fault }
+fn wire_fault(fault: FrameFault) -> WireFault
+    ensures { result ≡ stream_refusal fault }
 {
     match fault {
         FrameFault::BadVersion => WireFault::Version,
@@ -41,7 +41,7 @@ fn put_line(text: &mut String, number: u64, stop: Stop) -> Result<(), AllocError
     match stop {
         Stop::Fault(fault) => {
             write!(text, "{number}: ")?;
-            put_refusal(text, refusal_of(fault))?;
+            put_refusal(text, wire_fault(fault))?;
             Ok(())
         }
         Stop::Line(line) => writeln!(text, "line {line}: no hexadecimal"),

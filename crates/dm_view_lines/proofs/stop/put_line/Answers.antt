@@ -3,7 +3,7 @@ use Rattle.dm_view_lines.proofs.stop.put_line.Goals as goal
 
 pub returns-in_ok-put_refusal-in-Fault : goal.returns-in_ok-put_refusal-in-Fault
 returns-in_ok-put_refusal-in-Fault c =
-    rw (c.in-Fault.is, c.in_ok-put_refusal-in-Fault.ensures, c.in_ok-write-in-Fault.ensures.bytes, c.refusal_of.ensures)
+    rw (c.in-Fault.is, c.in_ok-put_refusal-in-Fault.ensures, c.in_ok-write-in-Fault.ensures.bytes, c.wire_fault.ensures)
     (simp append_assoc)
 
 pub returns-in_ok-writeln-in-Part : goal.returns-in_ok-writeln-in-Part
