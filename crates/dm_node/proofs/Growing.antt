@@ -5,9 +5,9 @@ use Rattle.dm_machine.specs.declared.connection.Conn.{Conn}
 use Rattle.dm_peer.specs.declared.config.Config.{Config}
 use Rattle.dm_peer.specs.declared.peer.Peer.{Peer}
 use Rattle.dm_peer.specs.declared.standing.Standing.{Standing}
+use Rattle.dm_history.specs.History.{new_peer}
 use Rattle.dm_peer.specs.After.{fresh}
 use Rattle.dm_machine.specs.Connection.{hold_of}
-use Rattle.dm_node.specs.Adding.{new_peer}
 use Rattle.dm_node.specs.Holding.{is_held, holds, holds_it, holds_at, host_of, host_at, AreApart, AreUnlike}
 use Rattle.dm_node.proofs.Places.{grown}
 
@@ -61,6 +61,6 @@ pub unlike_none : AreUnlike []
 unlike_none = record { one = λ i j h p q. absurd (none_named i h p) }
 
 -- what a new peer is
-pub made : (y : Peer) (k : Config) → y.config ≡ k → y.standing ≡ fresh k.first_id → y ≡ new_peer k
+pub made : (y : Peer) (k : Config) → y.config ≡ k → y.standing ≡ fresh k.first_id → y ≡ new_peer k k.first_id
 made y k p q =
     ap (λ c. record { config = c; standing = y.standing }) p ∙ ap (λ s. record { config = k; standing = s }) q

@@ -1,5 +1,5 @@
 -- The neighbours with one place changed, or one more behind them.
-use Rattle.std.proofs.Common.{◌≡◌, ℕ, zero, suc, List, [], ◌∷◌, length, get_or, Option, Some, IsSome, ◌++◌, ◌⊎◌, inl, inr, refl, sym, ap, ◌∙◌}
+use Rattle.std.proofs.Common.{◌≡◌, ℕ, zero, suc, List, [], ◌∷◌, length, get_or, Option, None, Some, IsSome, ◌++◌, ◌⊎◌, inl, inr, refl, sym, ap, ◌∙◌}
 use Rattle.std.proofs.Math.ListN.{set}
 use Rattle.dm_peer.specs.declared.peer.Peer.{Peer}
 use Rattle.dm_node.specs.Holding.{peer_at}
@@ -45,3 +45,13 @@ pub set_at : (ps : List (Option Peer)) (i : ℕ) (y : Option Peer) →
 set_at [] i y = inr refl
 set_at (x ∷ xs) zero y = inl refl
 set_at (x ∷ xs) (suc i) y = set_at xs i y
+
+-- the one behind the others
+pub grown_here : (ps : List (Option Peer)) (y : Option Peer) → peer_at (ps ++ y ∷ []) (length ps) ≡ y
+grown_here [] y = refl
+grown_here (x ∷ xs) y = grown_here xs y
+
+-- nobody is behind the others yet
+pub nobody_behind : (ps : List (Option Peer)) → peer_at ps (length ps) ≡ None
+nobody_behind [] = refl
+nobody_behind (x ∷ xs) = nobody_behind xs

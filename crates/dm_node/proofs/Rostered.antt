@@ -105,7 +105,7 @@ owned_put (Ok i) ps qs k o ok err owned = subst (AreOwned o) (sym ok) (owned_gro
 owned_put (Err f) ps qs k o ok err owned = subst (AreOwned o) (sym err) owned
 
 -- each one was set back
-each_back : (ps : List (Option Peer)) (j : ℕ) → peer_at (all_set_back ps) j ≡ option_map set_back (peer_at ps j)
+pub each_back : (ps : List (Option Peer)) (j : ℕ) → peer_at (all_set_back ps) j ≡ option_map set_back (peer_at ps j)
 each_back [] j = refl
 each_back (x ∷ xs) zero = refl
 each_back (x ∷ xs) (suc j) = each_back xs j

@@ -3,6 +3,7 @@ pub mod Calling
 pub mod Emptying
 pub mod Holding
 pub mod Neighbourhoods
+pub mod NodeHistory
 pub mod OneConcerned
 pub mod Owning
 pub mod Rosters

@@ -1,5 +1,6 @@
 //! One neighbour more.
-ghost use Rattle.std.specs.Prelude.{◌≡◌, ◌⊎◌, ◌↔◌, ◌<◌, ◌∷◌, [], ◌++◌, ℕ, Some, Err, length, IfOk, IfErr, IsErrOf, OnOk, OnErr, vec_len, vec_capacity};
+ghost use Rattle.std.specs.Prelude.{◌≡◌, ◌⊎◌, ◌↔◌, ◌<◌, ◌∷◌, [], ◌++◌, ℕ, Some, Err, length, IfOk, IfErr, IsErrOf};
+ghost use Rattle.std.specs.Prelude.{OnOk, OnErr, vec_len, vec_capacity};
 ghost use Rattle.dm_base.specs.Before.{lower};
 ghost use Rattle.dm_node.specs.Holding.{host_at, IsKnown, AreApart, AreUnlike};
 ghost use Rattle.dm_node.specs.Adding.{with_new};

@@ -1,5 +1,6 @@
 //! Which neighbour holds a connection, which has a host, and which has a number.
-ghost use Rattle.std.specs.Prelude.{◌≡◌, ◌<◌, ◌∷◌, [], ◌++◌, ℕ, true, false, None, Some, List, length, IsSome, IfSome, IfOk, IfErr, OnOk, OnErr, vec_len, vec_capacity};
+ghost use Rattle.std.specs.Prelude.{◌≡◌, ◌<◌, ◌∷◌, [], ◌++◌, ℕ, true, false, None, Some, List, length, IsSome};
+ghost use Rattle.std.specs.Prelude.{IfSome, IfOk, IfErr, OnOk, OnErr, vec_len, vec_capacity};
 ghost use Rattle.std.specs.Option.{IfNone, option_copied};
 ghost use Rattle.dm_base.specs.Before.{lower};
 ghost use Rattle.dm_machine.specs.Connection.{hold_of};

@@ -3,7 +3,8 @@ ghost use Rattle.std.specs.Prelude.{◌≡◌, ℕ, true, None, Some, IsSome, If
 ghost use Rattle.dm_machine.specs.declared.connection.Conn.{Conn};
 ghost use Rattle.dm_node.specs.Holding.{peer_at, holds_at, AreApart, AreUnlike};
 ghost use Rattle.dm_node.specs.Rosters.{IsRoster};
-ghost use Rattle.dm_node.specs.Telling.{conn_of, told_of, Concerns, IsAlone, IsTold, IsRefusedBy, IsRefusedHere, IsStrangeCer, strange};
+ghost use Rattle.dm_node.specs.Telling.{conn_of, told_of, Concerns, IsAlone, IsTold, IsRefusedBy, IsRefusedHere};
+ghost use Rattle.dm_node.specs.Telling.{IsStrangeCer, strange};
 ghost use Rattle.dm_node.specs.declared.fault.EventFault.TheVariants as faults;
 ghost use Rattle.dm_peer.specs.Events.{told};
 ghost use Rattle.dm_peer.specs.Spelled.{SendsSpelling};
