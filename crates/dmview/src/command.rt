@@ -18,6 +18,10 @@ fn word<'a>(alloc: Global, name: &'a str, about: &'a str) -> Result<Command<'a>,
         .help("whether with colours; auto: where standard output is a terminal")
         .value_parser(COLOURS.as_slice())
         .action(ArgAction::Set);
+    let stream = Arg::new(alloc, "stream")
+        .long("stream")
+        .help("the octets of all lines are one stream, cut anywhere")
+        .action(ArgAction::SetTrue);
     let file = Arg::new(alloc, "file")
         .value_name("FILE")
         .help("lines of hexadecimal, a message each; standard input where no file is named")
@@ -27,6 +31,7 @@ fn word<'a>(alloc: Global, name: &'a str, about: &'a str) -> Result<Command<'a>,
         .about(about)
         .arg(dict)?
         .arg(colour)?
+        .arg(stream)?
         .arg(file)
 }
 

@@ -8,47 +8,33 @@ ghost use Rattle.std.specs.Prelude.{◌≡◌, true, false};
 mod command;
 mod dictionary;
 mod input;
+mod style;
 
 use crate::command::command_line;
 use crate::dictionary::dictionary_of;
 use crate::input::read_input;
+use crate::style::{Style, write_said};
 use anyhow::{Context, Result};
 use clap::ArgMatches;
 use clap::error::ErrorKind;
 use dm_dict::Dictionary;
-use dm_view_lines::{Task, write_lines};
+use dm_view_lines::Task;
 use std::env;
 use std::io::{IsTerminal, Write};
 use std::process::ExitCode;
 
-/// How a run is written: the task, and whether with colours.
-#[derive(Clone, Copy)]
-struct Style {
-    task: Task,
-    coloured: bool,
-}
-
-/// Reads the input, and writes what is said of its lines. True where none is bad.
+/// Reads the input, and writes what is said of it. True where nothing is bad.
 fn say(
     rt: &HostRuntime,
     dictionary: &Dictionary,
     style: Style,
     names: Option<&[&str]>,
 ) -> Result<bool> {
-    let Style { task, coloured } = style;
     let mut input = Vec::new(rt.alloc());
     let done = read_input(rt, names, &mut input);
     done?;
     let mut output = rt.stdout();
-    write_lines(
-        rt.alloc(),
-        dictionary,
-        task,
-        coloured,
-        input.as_slice(),
-        &mut output,
-    )
-    .context("dmview")
+    write_said(rt.alloc(), dictionary, style, input.as_slice(), &mut output).context("dmview")
 }
 
 /// Whether colours are wanted.
@@ -60,12 +46,16 @@ fn is_coloured(rt: &HostRuntime, when: Option<&str>) -> bool {
     }
 }
 
-/// Reads the dictionaries and the input, and prints what the task says. True where no line was bad.
+/// Reads the dictionaries and the input, and prints what the task says. True where nothing was bad.
 fn run(rt: &HostRuntime, task: Task, matches: &ArgMatches<'_>) -> Result<bool> {
     let coloured = is_coloured(rt, matches.get_str("color"));
     let names = matches.get_strs("dict").unwrap_or(&[]);
     let dictionary = dictionary_of(rt, names)?;
-    let style = Style { task, coloured };
+    let style = Style {
+        task,
+        is_stream: matches.get_flag("stream"),
+        coloured,
+    };
     let good = say(rt, &dictionary, style, matches.get_strs("file"));
     drop(dictionary);
     good
@@ -80,7 +70,7 @@ fn refused(rt: &HostRuntime, error: &clap::Error) -> Result<u8> {
     Ok(error.exit_code() as u8)
 }
 
-/// The status of a run that came to its end: 0 where no line was bad, else 1.
+/// The status of a run that came to its end: 0 where nothing was bad, else 1.
 fn status_of(good: bool) -> u8
     ensures good { good ≡ true → result ≡ 0 }
     ensures bad { good ≡ false → result ≡ 1 }
