@@ -1,6 +1,6 @@
 //! The dictionary of the tests, and what is said of lines under it.
 use dm_dict::Dictionary;
-use dm_view_lines::{Task, lines_text};
+use dm_view_lines::{Task, lines_text, stream_text};
 use std::alloc::Global;
 use std::process::Abort;
 
@@ -56,6 +56,36 @@ pub fn assert_said(rt: &(impl Abort + AllocGlobal), task: Task, rows: &[(&str, &
     for (input, want, good) in rows {
         assert!(rt;
             says(rt.alloc(), &dictionary, task, input, want) == Some(*good),
+            "of {input}"
+        );
+    }
+    drop(dictionary);
+}
+
+/// Whether this is said of the input as one stream, and whether all of it is good.
+fn says_stream(
+    alloc: Global,
+    dictionary: &Dictionary,
+    task: Task,
+    input: &str,
+    want: &str,
+) -> Option<bool> {
+    match stream_text(alloc, dictionary, task, input.as_bytes()) {
+        Ok((text, good)) => {
+            let same = text.as_slice() == want.as_bytes();
+            drop(text);
+            if same { Some(good) } else { None }
+        }
+        Err(_) => None,
+    }
+}
+
+/// Of each input as one stream this is said, and all of it is good, or not.
+pub fn assert_streamed(rt: &(impl Abort + AllocGlobal), task: Task, rows: &[(&str, &str, bool)]) {
+    let dictionary = dictionary(rt);
+    for (input, want, good) in rows {
+        assert!(rt;
+            says_stream(rt.alloc(), &dictionary, task, input, want) == Some(*good),
             "of {input}"
         );
     }

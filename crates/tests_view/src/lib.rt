@@ -1,5 +1,5 @@
-//! Tests of what is said of lines: every type of value, vendors, groups inside each other, each reason of a fault, and
-//! what may stand in a line.
+//! Tests of what is said of lines: every type of value, vendors, groups inside each other, each reason of a fault, what
+//! may stand in a line, and lines as one stream.
 //!
 //! What is checked in a test are its steps, and not the values that it compares: so it is one call of a helper, which has
 //! one way out, and owns at most one dictionary.
@@ -11,5 +11,7 @@ mod dictionary;
 mod lines;
 #[cfg(test)]
 mod reasons;
+#[cfg(test)]
+mod stream;
 #[cfg(test)]
 mod values;

@@ -8,16 +8,8 @@ fn streams_shown(rt: HostRuntime) {
         &rt,
         Task::Show,
         &[
-            (
-                "",
-                "",
-                true,
-            ),
-            (
-                "# nothing\n\n",
-                "",
-                true,
-            ),
+            ("", "", true),
+            ("# nothing\n\n", "", true),
             (
                 "010000208000012c000000040000001100000022000017744000000c00000001\n010000148000012b000000040000001100000022\n",
                 "1: Thing 300 request, application 4, hop-by-hop 17 (0x00000011), end-to-end 34 (0x00000022)\n  Count 6004 -M- 1\n2: ? 299 request, application 4, hop-by-hop 17 (0x00000011), end-to-end 34 (0x00000022)\n",
@@ -88,11 +80,7 @@ fn streams_checked(rt: HostRuntime) {
         &rt,
         Task::Check,
         &[
-            (
-                "",
-                "0 good, 0 bad\n",
-                true,
-            ),
+            ("", "0 good, 0 bad\n", true),
             (
                 "010000208000012c000000040000001100000022000017744000000c00000001010000148000012b000000040000001100000022\n010000208000012c000000040000001100000022000017744000000c00000001",
                 "1: good Thing 300 request, application 4, hop-by-hop 17 (0x00000011), end-to-end 34 (0x00000022)\n2: bad ? 299 request, application 4, hop-by-hop 17 (0x00000011), end-to-end 34 (0x00000022)\n  3001 DIAMETER_COMMAND_UNSUPPORTED\n3: good Thing 300 request, application 4, hop-by-hop 17 (0x00000011), end-to-end 34 (0x00000022)\n2 good, 1 bad\n",
