@@ -19,6 +19,18 @@ extern "C" {
     fn ours_frame(octets: *const u8, len: usize, size: usize, times: u32) -> usize;
     #[cfg(on)]
     fn ours_on(first: *const u8, len: usize, octets: *const u8, octets_len: usize, times: u32) -> usize;
+    #[cfg(session)]
+    fn ours_hand(first: *const u8, len: usize, octets: *const u8, octets_len: usize, size: usize, times: u32) -> usize;
+    #[cfg(session)]
+    fn ours_session(
+        first: *const u8,
+        len: usize,
+        octets: *const u8,
+        octets_len: usize,
+        size: usize,
+        hears: bool,
+        times: u32,
+    ) -> usize;
 }
 
 fn avp(code: u32, mandatory: bool, data: &[u8]) -> Vec<u8> {
@@ -109,6 +121,7 @@ fn input(name: &str) -> Vec<u8> {
         "credit" => credit(0),
         "credits" => credit(992),
         "stream" => stream(),
+        "watchdogs" => watchdog(0).repeat(1000),
         "ruled" => ruled(),
         _ => panic!("no input {name}"),
     }
@@ -133,6 +146,16 @@ fn ours(operation: &str, octets: &[u8], times: u32, size: usize) -> usize {
             "on" => {
                 let first = capabilities(1);
                 ours_on(first.as_ptr(), first.len(), at, len, times)
+            }
+            #[cfg(session)]
+            "hand" => {
+                let first = capabilities(1);
+                ours_hand(first.as_ptr(), first.len(), at, len, size, times)
+            }
+            #[cfg(session)]
+            "take" | "hear" => {
+                let first = capabilities(1);
+                ours_session(first.as_ptr(), first.len(), at, len, size, operation == "hear", times)
             }
             _ => panic!("no operation {operation}"),
         }
