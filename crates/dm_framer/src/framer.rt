@@ -1,5 +1,6 @@
 //! A stream of octets, cut into messages.
-ghost use Rattle.std.specs.Prelude.{◌≡◌, ◌++◌, ℕ, List, [], ◌∷◌, Option, None, Some, IfSome, IfNone, IsSomeAnd, IfOk, IfErr, IsErrOf, OnOk, OnErr, MatchResult};
+ghost use Rattle.std.specs.Prelude.{◌≡◌, ◌++◌, ℕ, nat_eq, List, [], ◌∷◌, length, Option, None, Some, IfSome, IfNone};
+ghost use Rattle.std.specs.Prelude.{IsSomeAnd, IfOk, IfErr, IsErrOf, OnOk, OnErr, MatchResult};
 ghost use Rattle.std.specs.List.{concat};
 ghost use Rattle.dm_framer.specs.declared.fault.FrameFault.{FrameFault};
 ghost use Rattle.dm_framer.specs.Frames.{HasFault, Framed, IsFrame, IsPartial, BeginsWithNoFrame};
@@ -147,6 +148,20 @@ impl Framer {
         if let Ok(Some(size)) = front_len(&self.buffer[self.taken..], self.max) {
             self.taken += size;
         }
+    }
+
+    /// How many octets are held. It never answers want of memory.
+    pub fn len(&self) -> usize
+        ensures { result ≡ length self.now.octets }
+    {
+        self.buffer.len() - self.taken
+    }
+
+    /// Whether no octets are held. It never answers want of memory.
+    pub fn is_empty(&self) -> bool
+        ensures { result ≡ nat_eq (length self.now.octets) 0 }
+    {
+        self.len() == 0
     }
 
     /// The greatest Message Length. It never answers want of memory.

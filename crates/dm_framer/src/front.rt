@@ -1,6 +1,6 @@
 //! What stands at the front of a stream (RFC 6733, 3).
-ghost use Rattle.std.specs.Prelude.{◌≡◌, ◌≤◌, length, take, IfOk, IfErr, IfSome, IfNone};
-ghost use Rattle.dm_framer.specs.Frames.{IsFrame, HasFault, IsPartial};
+ghost use Rattle.std.specs.Prelude.{◌≡◌, ◌≤◌, length, take, IfOk, IfErr, IfSome, IfNone, OnErr};
+ghost use Rattle.dm_framer.specs.Frames.{IsFrame, HasFault, IsPartial, BeginsWithNoFrame};
 
 use crate::FrameFault;
 use byteorder::{BigEndian, ByteOrder};
@@ -11,18 +11,23 @@ const VERSION: u8 = 1;
 /// The octets of a message's header, and so of the least message.
 const HEADER_LEN: u32 = 20;
 
-/// How many octets the message at the front takes; `None` where it isn't whole yet, or nothing is there.
+/// How many octets the message at the front takes; `None` where it isn't whole yet, or nothing is there. It never
+/// answers want of memory.
+///
+/// Answers the faults that [`Framer::front`](crate::Framer::front) answers.
 ///
 /// ```text
 ///  0                   1                   2                   3
 ///  0 1 2 3 4 5 6 7 8 9 0 1 2 3 4 5 6 7 8 9 0 1 2 3 4 5 6 7 8 9 0 1
 /// |    Version    |                 Message Length                |
 /// ```
-pub(crate) fn front_len(octets: &[u8], max: u32) -> Result<Option<usize>, FrameFault>
+pub fn front_len(octets: &[u8], max: u32) -> Result<Option<usize>, FrameFault>
     ensures within { IfOk result (λ found. IfSome found (λ size. size ≤ length octets.now)) }
     ensures frame { IfOk result (λ found. IfSome found (λ size. IsFrame max (take size octets.now))) }
     ensures partial { IfOk result (λ found. IfNone found (IsPartial max octets.now)) }
     ensures fault { IfErr result (λ fault. HasFault max octets.now fault) }
+    // Where no length is answered none is there.
+    ensures none { OnErr result (BeginsWithNoFrame max octets.now) }
 {
     if octets.is_empty() {
         return Ok(None);

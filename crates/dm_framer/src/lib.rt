@@ -9,3 +9,4 @@ pub mod laws;
 
 pub use fault::FrameFault;
 pub use framer::Framer;
+pub use front::front_len;
