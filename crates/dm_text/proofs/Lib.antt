@@ -1,8 +1,8 @@
 pub mod Contents
+pub mod Decoded
 pub mod Digits
 mod Firsts
 pub mod Numerals
-mod Pairs
 pub mod Splits
 pub mod Telling
 pub mod Texts

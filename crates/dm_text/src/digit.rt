@@ -1,32 +1,36 @@
-//! Hexadecimal digits, by a table.
-ghost use Rattle.std.specs.Prelude.{◌≡◌};
+//! Hexadecimal digits, without a branch, so that a compiler makes vectors of a loop over them.
+ghost use Rattle.std.specs.Prelude.{◌≡◌, ◌<◌, slice_index};
+ghost use Rattle.hex.specs.Hex.{lower_digits};
 ghost use Rattle.dm_text.specs.Hexadecimal.{digit_worth};
-
-// the value of each octet as a digit; 255 where it is none
-#[rattlefmt::skip]
-static WORTHS: [u8; 256] = [
-    255, 255, 255, 255, 255, 255, 255, 255, 255, 255, 255, 255, 255, 255, 255, 255,
-    255, 255, 255, 255, 255, 255, 255, 255, 255, 255, 255, 255, 255, 255, 255, 255,
-    255, 255, 255, 255, 255, 255, 255, 255, 255, 255, 255, 255, 255, 255, 255, 255,
-    0, 1, 2, 3, 4, 5, 6, 7, 8, 9, 255, 255, 255, 255, 255, 255,
-    255, 10, 11, 12, 13, 14, 15, 255, 255, 255, 255, 255, 255, 255, 255, 255,
-    255, 255, 255, 255, 255, 255, 255, 255, 255, 255, 255, 255, 255, 255, 255, 255,
-    255, 10, 11, 12, 13, 14, 15, 255, 255, 255, 255, 255, 255, 255, 255, 255,
-    255, 255, 255, 255, 255, 255, 255, 255, 255, 255, 255, 255, 255, 255, 255, 255,
-    255, 255, 255, 255, 255, 255, 255, 255, 255, 255, 255, 255, 255, 255, 255, 255,
-    255, 255, 255, 255, 255, 255, 255, 255, 255, 255, 255, 255, 255, 255, 255, 255,
-    255, 255, 255, 255, 255, 255, 255, 255, 255, 255, 255, 255, 255, 255, 255, 255,
-    255, 255, 255, 255, 255, 255, 255, 255, 255, 255, 255, 255, 255, 255, 255, 255,
-    255, 255, 255, 255, 255, 255, 255, 255, 255, 255, 255, 255, 255, 255, 255, 255,
-    255, 255, 255, 255, 255, 255, 255, 255, 255, 255, 255, 255, 255, 255, 255, 255,
-    255, 255, 255, 255, 255, 255, 255, 255, 255, 255, 255, 255, 255, 255, 255, 255,
-    255, 255, 255, 255, 255, 255, 255, 255, 255, 255, 255, 255, 255, 255, 255, 255,
-];
 
 /// The value of a hexadecimal digit in either case; 255 where the octet is none.
 #[inline(always)]
 pub fn digit_worth(octet: u8) -> u8
     ensures { result ≡ digit_worth octet }
 {
-    WORTHS[usize::from(octet)]
+    let number = octet.wrapping_sub(b'0');
+    let upper = octet.wrapping_sub(b'A');
+    let lower = octet.wrapping_sub(b'a');
+    if number < 10 {
+        number
+    } else if upper < 6 {
+        upper + 10
+    } else if lower < 6 {
+        lower + 10
+    } else {
+        255
+    }
+}
+
+/// The hexadecimal digit of a number below 16, in lower case.
+#[inline(always)]
+pub(crate) fn digit_of(number: u8) -> u8
+    requires { number < 16 }
+    ensures { result ≡ slice_index lower_digits number }
+{
+    if number < 10 {
+        b'0' + number
+    } else {
+        b'a' - 10 + number
+    }
 }

@@ -1,12 +1,12 @@
 //! Octets in hexadecimal.
-ghost use Rattle.std.specs.Prelude.{◌≡◌, ◌≤◌, ◌*◌, true, Some, None, length, if◌then◌else◌, OnOk, IfOk};
+ghost use Rattle.std.specs.Prelude.{◌≡◌, ◌≤◌, ◌*◌, true, Some, None, length, max, if◌then◌else◌, OnOk, IfOk};
 ghost use Rattle.std.specs.Fmt.{WritesOnOk};
 ghost use Rattle.std.specs.Option.{option_map};
 ghost use Rattle.hex.specs.Hex.{encode_lower};
 ghost use Rattle.dm_text.specs.Hexadecimal.{without_spaces, word_octets, line_octets};
 ghost use Rattle.dm_text.specs.declared.hexadecimal.TheConstants.{OCTETS_AT_ONCE as octets_at_once};
 
-use crate::digit::digit_worth;
+use crate::digit::{digit_of, digit_worth};
 use memchr::memchr;
 use std::alloc::{AllocError, Global};
 use std::{fmt, str};
@@ -28,20 +28,27 @@ pub fn read_hex_word(alloc: Global, word: &[u8]) -> Result<Option<Vec<u8>>, Allo
     if good { Ok(Some(octets)) } else { Ok(None) }
 }
 
-/// Reads two digits for each octet of the room. False where a digit is bad.
+/// Reads two digits for each octet of the room. False where a digit is bad: the loop goes on then, so that it has no
+/// branch.
 fn read_digits(word: &[u8], octets: &mut [u8]) -> bool
     requires { length word.now ≡ 2 * length octets.old }
     ensures { word_octets word.now ≡ (if result then Some octets.new else None) }
 {
+    let mut worst = 0;
     'octets: for i in 0..octets.len() {
         let high = digit_worth(word[2 * i]);
         let low = digit_worth(word[2 * i + 1]);
-        if high > 15 || low > 15 {
-            return false;
-        }
-        octets[i] = 16 * high + low;
+        worst = larger(worst, larger(high, low));
+        octets[i] = high % 16 * 16 + low % 16;
     }
-    true
+    worst < 16
+}
+
+#[inline(always)]
+fn larger(one: u8, other: u8) -> u8
+    ensures { result ≡ max one other }
+{
+    if one < other { other } else { one }
 }
 
 /// The octets that a line of hexadecimal digits in either case stands for. Spaces don't count.
@@ -110,6 +117,20 @@ fn write_digits<W: fmt::Write>(f: &mut fmt::Formatter<W>, octets: &[u8]) -> fmt:
 {
     let mut digits = [0; 2 * OCTETS_AT_ONCE];
     let room = &mut digits[..2 * octets.len()];
-    hex::encode_to_slice(octets, room).unwrap();
+    put_digits(octets, room);
     f.write_str(str::from_utf8(room).map_err(|_| fmt::Error)?)
+}
+
+/// Puts two digits for each octet in the room.
+fn put_digits(octets: &[u8], room: &mut [u8])
+    requires { length room.old ≡ 2 * length octets.now }
+    ensures { room.new ≡ encode_lower octets.now }
+{
+    'octets: for i in 0..octets.len() {
+        let octet = octets[i];
+        let high = digit_of(octet / 16);
+        let low = digit_of(octet % 16);
+        room[2 * i] = high;
+        room[2 * i + 1] = low;
+    }
 }

@@ -1,26 +1,16 @@
--- A pair of digits more, or one that is bad.
-use Rattle.std.proofs.Common.{◌*◌, ◌+◌, slice_index, arith, ap, ◌∙◌}
-use Rattle.std.specs.Result.{result_ok}
-use Rattle.hex.proofs.Pairs.{decode_step, decode_err, decode_done}
-use Rattle.dm_text.proofs.Pairs.{pair_reads, pair_fails, even_word}
+use Rattle.std.proofs.Common.{◌∙◌, ap, refl, arith, max}
+use Rattle.dm_text.proofs.Decoded.{decoded_none, decoded_more, decoded_all}
 use Rattle.dm_text.proofs.hexadecimal.read_digits.Goals as goal
 
-pub returns-then-high-gt15 : goal.returns-then-high-gt15
-returns-then-high-gt15 c =
-    let i = c.octets.i in
-    let word = c.args.word.now in
-    let (e, bad) = pair_fails (slice_index word (2 * i)) (slice_index word (2 * i + 1)) (2 * i) _ _
-    c.digit_worth-high.ensures c.digit_worth-low.ensures c.then-high-gt15.either in
-    even_word word _ c.requires ∙ ap result_ok (decode_err word c.octets.octets i e (omega arith) bad c.octets.invariant)
+pub octets-init : goal.octets-init
+octets-init c = decoded_none c.args.word.now c.args.octets.now
 
 pub octets-preserved : goal.octets-preserved
 octets-preserved c =
-    let i = c.octets.i in
-    let word = c.args.word.now in
-    let pair = pair_reads (slice_index word (2 * i)) (slice_index word (2 * i + 1)) (2 * i) _ _
-    c.digit_worth-high.ensures c.digit_worth-low.ensures (omega arith) (omega arith) in
-    decode_step word c.octets.octets i _ (omega arith) (omega arith) pair c.octets.invariant
+    decoded_more c.args.word.now c.octets.octets c.octets.i c.octets.worst _ c.digit_worth-high.result c.digit_worth-low.result _
+    c.octets.invariant (omega arith) (omega arith) c.digit_worth-high.ensures c.digit_worth-low.ensures refl
+    (c.larger-worst.ensures ∙ ap (max c.octets.worst) c.larger.ensures)
 
 pub returns : goal.returns
 returns c =
-    even_word _ _ c.requires ∙ ap result_ok (decode_done _ c.octets.octets c.octets.i (omega arith) (omega arith) c.octets.invariant)
+    decoded_all c.args.word.now c.octets.octets c.octets.i c.octets.worst c.octets.invariant (omega arith) (omega arith)
