@@ -3,17 +3,9 @@ use Rattle.std.specs.Prelude.{◌≡◌, ◌⊎◌, ⊤, Bool, true, false, ◌=
 use Rattle.dm_machine.specs.declared.connection.Conn.{Conn}
 use Rattle.dm_peer.specs.declared.actions.Action.{Action}
 use Rattle.dm_peer.specs.declared.actions.Action.TheVariants.{Close}
-use Rattle.dm_peer.specs.Events.{PeerEvent, Start, Ack, Nack, Arrived, Gone}
+use Rattle.dm_peer.specs.Events.{PeerEvent, Ack, Nack, Arrived, Gone}
+pub use Rattle.dm_peer.specs.Holding.{names_conn}
 use Rattle.dm_history.specs.History.{Happened, Once, StandsAmong}
-
--- the event names the connection
-abbrev pub names_conn : PeerEvent → Conn → Bool
-names_conn (Start d) c = d.0 == c.0
-names_conn (Ack d) c = d.0 == c.0
-names_conn (Nack d) c = d.0 == c.0
-names_conn (Arrived d s) c = d.0 == c.0
-names_conn (Gone d) c = d.0 == c.0
-names_conn _ c = false
 
 -- it tells that the connection was made, or brings octets on it
 abbrev pub tells_made : PeerEvent → Conn → Bool

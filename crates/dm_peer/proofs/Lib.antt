@@ -1,5 +1,6 @@
 mod Asking
 mod Headers
+mod HeldAfter
 mod Cases
 mod Few
 mod Exchange

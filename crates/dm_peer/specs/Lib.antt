@@ -17,5 +17,6 @@ pub mod Settled
 pub mod Strangers
 pub mod Spelled
 pub mod Kept
+pub mod Holding
 pub mod Steps
 pub mod Laws

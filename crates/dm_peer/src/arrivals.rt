@@ -23,7 +23,7 @@ pub(crate) enum Footing {
 }
 
 /// Whether the connection is the one held.
-fn is_on(held: Option<Conn>, conn: Conn) -> bool
+pub(crate) fn is_on(held: Option<Conn>, conn: Conn) -> bool
     ensures { result ≡ is_on held conn }
 {
     match held {

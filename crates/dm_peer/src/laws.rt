@@ -1,6 +1,7 @@
 //! Laws of peers. Each function is a law: it does nothing but call the laws that it stands on, and its contract is the
 //! law.
 ghost use Rattle.dm_peer.specs.Cases.{EachEventIsACase};
+ghost use Rattle.dm_peer.specs.Holding.{OthersStayUnheld, ClosedIsUnheld, GoneIsUnheld};
 ghost use Rattle.dm_peer.specs.Kept.{IsKept};
 ghost use Rattle.dm_peer.specs.Laws.{
   HeardHasItsHeader,
@@ -22,7 +23,8 @@ ghost use Rattle.dm_peer.specs.Strangers.{StrangersChangeNothing};
 use crate::Peer;
 use dm_base::laws::{built_is_own, built_is_spelled, common_is_shared};
 use dm_machine::laws::{
-    each_state_decides, each_step_is_one_of_few, each_step_keeps_shape, strangers_are_turned_away,
+    each_connection_changes_as_allowed, each_opening_has_its_message, each_state_decides,
+    each_step_is_one_of_few, each_step_keeps_shape, strangers_are_turned_away,
     unread_words_are_alike,
 };
 use dm_wire::laws::{canonical_spells, message_in_spells, spelled_is_in};
@@ -58,6 +60,19 @@ pub fn every_peer_is_kept(peer: &Peer)
     ensures { IsKept peer.now }
 {
     let _kept = peer.standing.get();
+}
+
+/// What an event leaves of the connections that a peer holds: it takes none but the one that it names, it closes none
+/// that it holds on to, and one that has ended it doesn't hold. The law stands for users: whoever has a place for each
+/// connection that is held needs one more at the events that name one, and none for what is closed.
+pub fn each_event_names_what_it_takes()
+    ensures others { OthersStayUnheld }
+    ensures closed { ClosedIsUnheld }
+    ensures gone { GoneIsUnheld }
+{
+    each_event_is_one_step();
+    each_connection_changes_as_allowed();
+    each_opening_has_its_message();
 }
 
 /// At a Start, at a Timeout, where octets aren't looked at, and where an answer is dropped, nothing is sent or handed

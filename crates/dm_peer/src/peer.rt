@@ -7,6 +7,7 @@ ghost use Rattle.dm_machine.specs.declared.phase.Role.TheVariants.{Initiated, Ac
 ghost use Rattle.dm_peer.specs.Acts.{Moved, Refused, acts, standing_at, IsRefused};
 ghost use Rattle.dm_peer.specs.After.{awaited_of, fresh};
 ghost use Rattle.dm_peer.specs.Events.{Arrived, told};
+ghost use Rattle.dm_peer.specs.Holding.{holds};
 ghost use Rattle.dm_peer.specs.Refusing.{refusal_of};
 ghost use Rattle.dm_peer.specs.Silence.{is_silent};
 ghost use Rattle.dm_peer.specs.Spelled.{SendsSpelling};
@@ -14,11 +15,13 @@ ghost use Rattle.dm_peer.specs.Strangers.{AreStrange, TurnsAway};
 ghost use Rattle.dm_peer.specs.declared.fault.PeerFault.{PeerFault};
 ghost use Rattle.dm_peer.specs.declared.fault.PeerFault.TheVariants.{NoMemory};
 
+use crate::arrivals::is_on;
 use crate::commands::is_open;
 use crate::keeping::kept_answer;
 use crate::laws::{refusals_go_by_rule, silent_takes_none};
 use crate::standing::Kept;
 use crate::{Actions, Config, Event, PeerFault};
+use dm_machine::laws::each_node_has_its_form;
 use dm_machine::{Conn, State};
 use std::alloc::Global;
 
@@ -110,6 +113,15 @@ impl Peer {
         ensures { result ≡ held_as Accepted self.now.standing.core.held }
     {
         self.standing.get().core.accepted()
+    }
+
+    /// Whether the peer holds the connection, which it opened or accepted. It never answers want of memory.
+    pub fn holds(&self, conn: Conn) -> bool
+        ensures { result ≡ holds conn self.now }
+    {
+        each_node_has_its_form();
+        let _shaped = self.state();
+        is_on(self.initiated(), conn) || is_on(self.accepted(), conn)
     }
 
     /// Whether the state is R-Open or I-Open. It never answers want of memory.
