@@ -1,13 +1,13 @@
 -- An event concerns one neighbour at most.
-use Rattle.std.proofs.Common.{◌≡◌, ◌⊎◌, inl, inr, ℕ, true, false, Option, None, Some, List, refl, sym, ap, ◌∙◌}
+use Rattle.std.proofs.Common.{◌≡◌, inl, inr, ℕ, true, false, Option, None, Some, List, sym, ap, ◌∙◌}
 use Rattle.dm_base.specs.Before.{lower}
 use Rattle.dm_machine.specs.declared.connection.Conn.{Conn}
 use Rattle.dm_peer.specs.declared.peer.Peer.{Peer}
 use Rattle.dm_node.specs.Calling.{Caller, caller}
-use Rattle.dm_node.specs.Holding.{holds_at, host_at}
+use Rattle.dm_node.specs.Holding.{holds_at}
 use Rattle.dm_node.specs.Neighbourhoods.{IsNeighbourhood}
 use Rattle.dm_node.specs.OneConcerned.{OneIsConcerned}
-use Rattle.dm_node.specs.Telling.{IsAddressed, Concerns}
+use Rattle.dm_node.specs.Telling.{IsAddressed}
 use Rattle.dm_node.specs.declared.events.NodeEvent.TheVariants as event
 
 -- a connection that is held by one is held

@@ -1,5 +1,5 @@
 -- The same fault of two calls.
-use Rattle.std.proofs.Common.{◌≡◌, Err, refl}
+use Rattle.std.proofs.Common.{Err, refl}
 use Rattle.std.specs.Prelude.{◌↔◌, IsErrOf}
 use Rattle.dm_node.specs.declared.fault.AddFault.{AddFault}
 use Rattle.dm_node.specs.declared.fault.AddFault.TheVariants.{Known, NoMemory}

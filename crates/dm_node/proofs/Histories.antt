@@ -1,5 +1,5 @@
 -- What has happened to one neighbour of a node.
-use Rattle.std.proofs.Common.{◌≡◌, ℕ, zero, suc, nat_eq, Bool, true, false, List, [], ◌∷◌, ◌++◌, length, Option, None, Some, IsSome, option_map, if◌then◌else◌, refl, sym, ap, subst, ◌∙◌, inl, inr, arith}
+use Rattle.std.proofs.Common.{◌≡◌, ℕ, nat_eq, Bool, true, false, List, [], ◌∷◌, length, Option, None, Some, IsSome, option_map, if◌then◌else◌, refl, sym, ap, subst, ◌∙◌, inl, inr, arith}
 use Rattle.std.proofs.Math.ListN.{set}
 use Rattle.dm_history.specs.History.{Happened, done_at, declined_at, new_peer, Became, untold, done, declined}
 use Rattle.dm_peer.specs.Acts.{Moved, acts}
@@ -9,7 +9,7 @@ use Rattle.dm_peer.specs.declared.config.Config.{Config}
 use Rattle.dm_peer.specs.declared.peer.Peer.{Peer}
 use Rattle.dm_peer.specs.Events.{PeerEvent}
 use Rattle.dm_node.specs.Adding.{with_new}
-use Rattle.dm_node.specs.Emptying.{set_back, without, with_set_back, all_set_back}
+use Rattle.dm_node.specs.Emptying.{set_back, without, with_set_back}
 use Rattle.dm_node.specs.Holding.{peer_at}
 use Rattle.dm_node.specs.NodeHistory.{NodeStep, NodeBecame, nobody_yet, added, told, refused, unmoved, removed, back, all_back, own_past, HasOwnHistory, EachNeighbourHasItsHistory}
 use Rattle.dm_node.specs.Telling.{IsTold}

@@ -1,5 +1,5 @@
 -- What keeps a roster.
-use Rattle.std.proofs.Common.{◌≡◌, ℕ, zero, suc, Bool, true, false, List, [], ◌∷◌, map, option_map, Option, None, Some, refl, sym, ap, subst, ◌∙◌, inl, inr, ◌++◌, Result, Ok, Err, OnOk, OnErr}
+use Rattle.std.proofs.Common.{◌≡◌, ℕ, zero, suc, true, false, List, [], ◌∷◌, option_map, Option, None, Some, refl, sym, ap, subst, ◌∙◌, inl, inr, ◌++◌, Result, Ok, Err, OnOk, OnErr}
 use Rattle.std.proofs.Math.ListN.{set}
 use Rattle.dm_machine.specs.declared.connection.Conn.{Conn}
 use Rattle.dm_peer.specs.After.{fresh}
@@ -8,7 +8,7 @@ use Rattle.dm_peer.specs.declared.peer.Peer.{Peer}
 use Rattle.dm_node.specs.Adding.{with_new}
 use Rattle.dm_node.specs.Emptying.{set_back, all_set_back}
 use Rattle.dm_node.specs.Holding.{peer_at, holds_it, holds_at, host_of, host_at, AreApart, AreUnlike}
-use Rattle.dm_node.specs.Owning.{has, noted_for, AreOwned, IsResettled}
+use Rattle.dm_node.specs.Owning.{has, AreOwned, IsResettled}
 use Rattle.dm_node.specs.declared.owners.Holding.{Holding}
 use Rattle.dm_node.specs.declared.owners.Owners.{Owners}
 use Rattle.dm_node.specs.declared.fault.AddFault.{AddFault}

@@ -18,7 +18,7 @@ use Rattle.dm_peer.specs.Events.{PeerEvent, Start, Stop, Timeout, Tick, Ack, Nac
 use Rattle.dm_peer.specs.Said.{Heard}
 use Rattle.dm_peer.specs.Acts.{Moved, acts, input_of}
 use Rattle.dm_peer.specs.Steps.{EachEventIsOneStep, Follows, IsStep}
-use Rattle.dm_node.specs.Holding.{peer_at, is_held, holds, holds_it, holds_at, host_of, host_at, AreApart, AreUnlike}
+use Rattle.dm_node.specs.Holding.{peer_at, is_held, holds, holds_it, holds_at, host_of, host_at, AreApart}
 use Rattle.dm_node.specs.Telling.{conn_of, IsTold}
 
 same_number : (a b : ℕ) → (a == b) ≡ true → a ≡ b
@@ -168,12 +168,9 @@ same_host ps i j x y at now is (inl e) =
     (ap host_of now ∙ ap (λ (c : Config). Some (lower c.peer)) is ∙ sym (ap host_of at))
 same_host ps i j x y at now is (inr un) = ap host_of (set_else ps i j (Some y) un)
 
-pub unlike_after : (ps : List (Option Peer)) (i : ℕ) (e : PeerEvent) (x y : Peer) → peer_at ps i ≡ Some x →
-    peer_at (set ps i (Some y)) i ≡ Some y → Leaves e x y → AreUnlike ps → AreUnlike (set ps i (Some y))
-unlike_after ps i e x y there now left unlike =
-    let same : (j : ℕ) → host_at (set ps i (Some y)) j ≡ host_at ps j =
-    λ j. same_host ps i j x y there now left.config (same_or j i) in
-    record { one = λ j k h p q. unlike.one j k h (sym (same j) ∙ p) (sym (same k) ∙ q) }
+pub hosts_after : (ps : List (Option Peer)) (i : ℕ) (e : PeerEvent) (x y : Peer) → peer_at ps i ≡ Some x →
+    peer_at (set ps i (Some y)) i ≡ Some y → Leaves e x y → (j : ℕ) → host_at (set ps i (Some y)) j ≡ host_at ps j
+hosts_after ps i e x y there now left j = same_host ps i j x y there now left.config (same_or j i)
 
 pub is_told : (ps : List (Option Peer)) (i : ℕ) (e : PeerEvent) (x y : Peer) (actions : List Action) →
     peer_at ps i ≡ Some x → peer_at (set ps i (Some y)) i ≡ Some y → acts x e ≡ Moved actions y →

@@ -1,5 +1,5 @@
 -- A neighbour taken out, or set back.
-use Rattle.std.specs.Prelude.{ℕ, Option, None, Some, List, option_map, map}
+use Rattle.std.specs.Prelude.{ℕ, Option, None, List, option_map, map}
 use Rattle.std.specs.Prelude.{slice_set}
 use Rattle.dm_peer.specs.Acts.{standing_at}
 use Rattle.dm_peer.specs.After.{fresh}

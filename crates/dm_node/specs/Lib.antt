@@ -2,6 +2,7 @@ pub mod Adding
 pub mod Calling
 pub mod Emptying
 pub mod Holding
+pub mod Naming
 pub mod Neighbourhoods
 pub mod NodeHistory
 pub mod OneConcerned

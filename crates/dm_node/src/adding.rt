@@ -1,13 +1,14 @@
 //! One neighbour more.
-ghost use Rattle.std.specs.Prelude.{◌≡◌, ◌⊎◌, ◌↔◌, ◌<◌, ◌∷◌, [], ◌++◌, ℕ, Some, Err, length, IfOk, IfErr, IsErrOf};
-ghost use Rattle.std.specs.Prelude.{OnOk, OnErr, vec_len, vec_capacity};
+ghost use Rattle.std.specs.Prelude.{◌≡◌, ◌⊎◌, ◌↔◌, ◌<◌, ◌∷◌, [], ◌++◌, ℕ, List, Some, Err, length, IfOk, IfErr};
+ghost use Rattle.std.specs.Prelude.{IsErrOf, OnOk, OnErr, vec_len, vec_capacity, if◌then◌else◌};
 ghost use Rattle.dm_base.specs.Before.{lower};
 ghost use Rattle.dm_node.specs.Holding.{host_at, IsKnown, AreApart, AreUnlike};
 ghost use Rattle.dm_node.specs.Adding.{with_new};
+ghost use Rattle.dm_node.specs.Naming.{is_host, number_of, AreNamed};
 ghost use Rattle.dm_node.specs.declared.fault.AddFault.TheVariants.{Known, NoMemory};
 
 use crate::AddFault;
-use crate::looking::named;
+use crate::hosts::Hosts;
 use dm_peer::{Config, Peer};
 
 /// Puts a closed peer of the configuration behind the others, where no other has its host.
@@ -21,25 +22,42 @@ fn append(peers: &mut Vec<Option<Peer>>, config: Config)
     peers.push_reserved(Some(Peer::new(config)));
 }
 
-/// Makes room for a neighbour of this configuration, where none has its host.
-fn make_room(peers: &mut Vec<Option<Peer>>, config: &Config) -> Result<(), AddFault>
+/// Makes room for a neighbour of this configuration, where none has its host, and notes its number for that.
+fn make_room(
+    peers: &mut Vec<Option<Peer>>,
+    hosts: &mut Hosts,
+    config: &Config,
+) -> Result<(), AddFault>
+    requires named { AreNamed hosts.old peers.old.items }
     ensures same { peers.new.items ≡ peers.old.items }
     ensures room { OnOk result (vec_len peers.new < vec_capacity peers.new) }
     ensures unknown { OnOk result ((j : ℕ) → host_at peers.old.items j ≡ Some (lower config.now.peer) → ⊥) }
+    ensures noted { OnOk result ((h : List ℕ) → number_of hosts.new h
+        ≡ if is_host (lower config.now.peer) h then Some (length peers.old.items) else number_of hosts.old h) }
+    ensures kept { OnErr result ((h : List ℕ) → number_of hosts.new h ≡ number_of hosts.old h) }
     ensures known { IsErrOf result Known ↔ IsKnown peers.old.items config.now.peer }
     ensures refuses { IfErr result (λ f. (f ≡ Known) ⊎ (f ≡ NoMemory)) }
 {
-    match named(peers, config.peer_host()) {
+    let index = peers.len();
+    match hosts.number(config.peer_host()) {
         Some(_) => Err(AddFault::Known),
         None => match peers.reserve(1) {
-            Ok(()) => Ok(()),
+            Ok(()) => match hosts.note(config.peer_host(), index) {
+                Ok(()) => Ok(()),
+                Err(_) => Err(AddFault::NoMemory),
+            },
             Err(_) => Err(AddFault::NoMemory),
         },
     }
 }
 
 /// Puts a closed peer of the configuration behind the others.
-pub(crate) fn put(peers: &mut Vec<Option<Peer>>, config: Config) -> Result<usize, AddFault>
+pub(crate) fn put(
+    peers: &mut Vec<Option<Peer>>,
+    hosts: &mut Hosts,
+    config: Config,
+) -> Result<usize, AddFault>
+    requires named { AreNamed hosts.old peers.old.items }
     ensures number { IfOk result (λ i. i ≡ length peers.old.items) }
     ensures added { OnOk result (peers.new.items ≡ with_new peers.old.items config) }
     ensures known { IsErrOf result Known ↔ IsKnown peers.old.items config.peer }
@@ -47,9 +65,10 @@ pub(crate) fn put(peers: &mut Vec<Option<Peer>>, config: Config) -> Result<usize
     ensures unchanged { OnErr result (peers.new.items ≡ peers.old.items) }
     ensures apart { AreApart peers.old.items → AreApart peers.new.items }
     ensures unlike { AreUnlike peers.old.items → AreUnlike peers.new.items }
+    ensures named { AreNamed hosts.new peers.new.items }
 {
     let index = peers.as_slice().len();
-    match make_room(peers, &config) {
+    match make_room(peers, hosts, &config) {
         Ok(()) => {
             append(peers, config);
             Ok(index)

@@ -7,6 +7,7 @@ mod calling;
 mod emptying;
 mod events;
 mod fault;
+mod hosts;
 pub mod laws;
 mod looking;
 mod neighbours;

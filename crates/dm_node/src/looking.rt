@@ -10,9 +10,8 @@ ghost use Rattle.dm_peer.specs.After.{fresh};
 ghost use Rattle.dm_peer.specs.declared.peer.Peer.{Peer};
 ghost use Rattle.dm_peer.specs.Places.{is_on};
 
-use crate::AddFault;
 use dm_machine::laws::each_node_has_its_form;
-use dm_peer::{Config, Conn, Peer, is_same_host};
+use dm_peer::{Conn, Peer};
 
 /// The neighbour of a number, where there is one.
 pub(crate) fn peer_at(peers: &[Option<Peer>], index: usize) -> Option<&Peer>
@@ -54,17 +53,6 @@ fn holds_it(peer: &Option<Peer>, conn: Conn) -> bool
     }
 }
 
-/// Whether there is a peer, and its host is this one, upper and lower case taken as one.
-fn has_host(peer: &Option<Peer>, host: &[u8]) -> bool
-    ensures has { result ≡ true → host_of peer.now ≡ Some (lower host.now) }
-    ensures lacks { result ≡ false → host_of peer.now ≡ Some (lower host.now) → ⊥ }
-{
-    match peer {
-        Some(peer) => is_same_host(peer.config().peer_host(), host),
-        None => false,
-    }
-}
-
 /// The neighbour that holds the connection, looked for one by one.
 pub(crate) fn first_holder(peers: &[Option<Peer>], conn: Conn) -> Option<usize>
     ensures there { IfSome result (λ i. IsSome (peer_at peers.now i)) }
@@ -73,20 +61,6 @@ pub(crate) fn first_holder(peers: &[Option<Peer>], conn: Conn) -> Option<usize>
 {
     for (i, peer) in peers.iter().enumerate() {
         if holds_it(peer, conn) {
-            return Some(i);
-        }
-    }
-    None
-}
-
-/// The neighbour that has the host, upper and lower case taken as one.
-pub(crate) fn named(peers: &[Option<Peer>], host: &[u8]) -> Option<usize>
-    ensures there { IfSome result (λ i. IsSome (peer_at peers.now i)) }
-    ensures found { IfSome result (λ i. host_at peers.now i ≡ Some (lower host.now)) }
-    ensures none { IfNone result ((j : ℕ) → host_at peers.now j ≡ Some (lower host.now) → ⊥) }
-{
-    for (i, peer) in peers.iter().enumerate() {
-        if has_host(peer, host) {
             return Some(i);
         }
     }

@@ -1,5 +1,5 @@
 //! Neighbours: a peer for each, and what each event does.
-use crate::looking::{named, peer_at};
+use crate::looking::peer_at;
 use crate::roster::Roster;
 use crate::routing::whose;
 use crate::telling::{tell_nobody, tell_one};
@@ -95,7 +95,7 @@ impl Neighbours {
         ensures found { IfSome result (λ i. host_at self.now.peers i ≡ Some (lower host.now)) }
         ensures none { IfNone result ((j : ℕ) → host_at self.now.peers j ≡ Some (lower host.now) → ⊥) }
     {
-        named(&self.roster.peers, host)
+        self.roster.named(host)
     }
 
     /// The neighbour of this number. It never answers want of memory.

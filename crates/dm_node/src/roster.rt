@@ -1,4 +1,4 @@
-//! The neighbours of a node, with what finds one by a connection.
+//! The neighbours of a node, with what finds one by its host and by a connection.
 ghost use Rattle.std.specs.Prelude.{◌≡◌, ◌⊎◌, ◌↔◌, ℕ, ◌<◌, None, Some, Err, IsSome, IfSome, IfNone, IfOk, IfErr};
 ghost use Rattle.std.specs.Prelude.{IsErrOf, OnOk, OnErr, true, false, [], length};
 ghost use Rattle.std.specs.Option.{option_copied};
@@ -12,15 +12,17 @@ ghost use Rattle.dm_node.specs.declared.fault.AddFault.TheVariants.{Known, NoMem
 use crate::AddFault;
 use crate::adding::put;
 use crate::emptying::{set_back_at, set_back_each, take_at};
+use crate::hosts::Hosts;
 use crate::owners::{Owners, holding_at};
 use dm_peer::{Config, Conn, Peer};
 use std::alloc::Global;
 
-/// A peer for each neighbour, in order of adding, and the number of the neighbour that holds a connection.
+/// A peer for each neighbour, in order of adding, and the numbers of the neighbours by what they are asked for.
 #[derive(Debug, Drop)]
 pub(crate) struct Roster {
     pub(crate) peers: Vec<Option<Peer>>,
     pub(crate) owners: Owners,
+    pub(crate) hosts: Hosts,
 }
 
 impl Roster {
@@ -32,6 +34,7 @@ impl Roster {
         Roster {
             peers: Vec::new(alloc),
             owners: Owners::new(alloc),
+            hosts: Hosts::new(alloc),
         }
     }
 
@@ -45,6 +48,16 @@ impl Roster {
         self.owners.holder(&self.peers, conn)
     }
 
+    /// The neighbour that has the host, upper and lower case taken as one.
+    pub(crate) fn named(&self, host: &[u8]) -> Option<usize>
+        requires { IsRoster self.now }
+        ensures there { IfSome result (λ i. IsSome (peer_at self.now.peers.items i)) }
+        ensures found { IfSome result (λ i. host_at self.now.peers.items i ≡ Some (lower host.now)) }
+        ensures none { IfNone result ((j : ℕ) → host_at self.now.peers.items j ≡ Some (lower host.now) → ⊥) }
+    {
+        self.hosts.number(host)
+    }
+
     /// Puts a closed peer of the configuration behind the others.
     pub(crate) fn put(&mut self, config: Config) -> Result<usize, AddFault>
         requires { IsRoster self.old }
@@ -55,7 +68,7 @@ impl Roster {
         ensures unchanged { OnErr result (self.new.peers.items ≡ self.old.peers.items) }
         ensures roster { IsRoster self.new }
     {
-        put(&mut self.peers, config)
+        put(&mut self.peers, &mut self.hosts, config)
     }
 
     /// Takes the neighbour of the number out, and forgets its connections.
@@ -67,6 +80,7 @@ impl Roster {
     {
         let before = holding_at(&self.peers, index);
         let gone = take_at(&mut self.peers, index);
+        self.hosts.forget_gone(&gone);
         self.owners.settle(&self.peers, before, index);
         gone
     }

@@ -8,7 +8,7 @@ ghost use Rattle.dm_node.specs.declared.fault.EventFault.{EventFault};
 ghost use Rattle.dm_node.specs.declared.fault.EventFault.TheVariants.{NoNeighbour};
 
 use crate::calling::caller;
-use crate::looking::{named, peer_at};
+use crate::looking::peer_at;
 use crate::roster::Roster;
 use crate::{EventFault, NodeEvent};
 use dm_peer::{Conn, Event, Peer};
@@ -40,7 +40,7 @@ fn addressed(roster: &Roster, conn: Conn, octets: &[u8]) -> Option<usize>
     match roster.holder(conn) {
         Some(index) => Some(index),
         None => match caller(octets) {
-            Some((_, host)) => named(&roster.peers, host),
+            Some((_, host)) => roster.named(host),
             None => None,
         },
     }

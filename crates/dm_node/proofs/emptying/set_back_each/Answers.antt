@@ -1,4 +1,4 @@
-use Rattle.std.proofs.Common.{◌≡◌, ◌<◌, ◌∙◌, ap, subst, option_map, length, sym}
+use Rattle.std.proofs.Common.{◌<◌, ◌∙◌, ap, subst, option_map, length, sym}
 use Rattle.std.proofs.Math.ListN.{set}
 use Rattle.std.proofs.lemmas.List.Edits.{map_over_more}
 use Rattle.dm_node.specs.Emptying.{set_back}

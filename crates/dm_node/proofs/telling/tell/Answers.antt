@@ -1,5 +1,6 @@
+use Rattle.dm_node.proofs.Named.{named_same, unlike_same}
 use Rattle.dm_node.proofs.Places.{found, set_here}
-use Rattle.dm_node.proofs.Taking.{leaves, apart_after, unlike_after, is_told, if_ok, if_err, moved_or_same}
+use Rattle.dm_node.proofs.Taking.{leaves, apart_after, hosts_after, is_told, if_ok, if_err, moved_or_same}
 use Rattle.dm_node.proofs.telling.tell.Goals as goal
 
 pub returns-clause-told : goal.returns-clause-told
@@ -29,9 +30,18 @@ returns-clause-apart c =
 
 pub returns-clause-unlike : goal.returns-clause-unlike
 returns-clause-unlike c =
-    unlike_after _ _ _ _ _ (found c.args.peers.now.items c.args.index _ _ c.index_mut.ensures.value c.in-Some.is
-    c.requires.there)
+    unlike_same _ _ (hosts_after _ _ _ _ _
+    (found c.args.peers.now.items c.args.index _ _ c.index_mut.ensures.value c.in-Some.is c.requires.there)
     (set_here c.args.peers.now.items c.args.index _ c.requires.there)
     (leaves c.each_event_is_one_step.ensures c.each_opening_has_its_message.ensures.alone _ _ _
     c.state-state.ensures.shaped
-    (moved_or_same (λ a. a.items) _ _ _ c.on.result c.on.ensures.acts c.on.ensures.unchanged))
+    (moved_or_same (λ a. a.items) _ _ _ c.on.result c.on.ensures.acts c.on.ensures.unchanged)))
+
+pub returns-clause-named : goal.returns-clause-named
+returns-clause-named c = λ hosts.
+    named_same hosts _ _ (hosts_after _ _ _ _ _
+    (found c.args.peers.now.items c.args.index _ _ c.index_mut.ensures.value c.in-Some.is c.requires.there)
+    (set_here c.args.peers.now.items c.args.index _ c.requires.there)
+    (leaves c.each_event_is_one_step.ensures c.each_opening_has_its_message.ensures.alone _ _ _
+    c.state-state.ensures.shaped
+    (moved_or_same (λ a. a.items) _ _ _ c.on.result c.on.ensures.acts c.on.ensures.unchanged)))

@@ -7,4 +7,5 @@ returns-clause-roster c = record {
   unlike = c.put.ensures.unlike c.requires.unlike;
   owned = owned_put c.put.result c.args.self.now.peers.items _ c.args.config _ c.put.ensures.added
       c.put.ensures.unchanged c.requires.owned;
+  named = c.put.ensures.named;
 }

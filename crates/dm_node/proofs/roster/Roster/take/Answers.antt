@@ -1,7 +1,7 @@
-use Rattle.std.proofs.Common.{◌≡◌, ◌∙◌, sym, ap, subst}
-use Rattle.dm_machine.specs.declared.connection.Conn.{Conn}
-use Rattle.dm_node.specs.Holding.{holds_at, AreApart}
-use Rattle.dm_node.specs.Owning.{IsResettled, AreOwned}
+use Rattle.std.proofs.Common.{◌∙◌, sym, ap, subst}
+use Rattle.dm_node.specs.Holding.{holds_at}
+use Rattle.dm_node.specs.Owning.{AreOwned}
+use Rattle.dm_node.proofs.Renamed.{named_without}
 use Rattle.dm_node.proofs.Rostered.{none_free, none_named, apart_set, unlike_set, resettled}
 use Rattle.dm_node.proofs.roster.Roster.take.Goals as goal
 
@@ -13,11 +13,15 @@ settle-requires c = record {
 
 pub returns-clause-roster : goal.returns-clause-roster
 returns-clause-roster c = record {
-  apart = apart_set c.args.self.now.peers.items _ c.args.index _ c.take_at-gone.ensures.without none_free c.requires.apart;
+  apart = apart_set c.args.self.now.peers.items _ c.args.index _ c.take_at-gone.ensures.without none_free
+      c.requires.apart;
   unlike = unlike_set c.args.self.now.peers.items _ c.args.index _ c.take_at-gone.ensures.without
       (none_named c.args.self.now.peers.items c.args.index) c.requires.unlike;
   owned = subst (AreOwned c.settle.new.self) c.deref-2.ensures.value (c.settle.ensures c.args.self.now.peers.items
       (resettled c.args.self.now.peers.items c.deref-2.result.now c.args.index _ _
       (c.deref-2.ensures.value ∙ c.take_at-gone.ensures.without)
-      (λ d. c.holding_at-before.ensures d ∙ ap (λ l. holds_at l d c.args.index) c.deref.ensures.value)) c.requires.owned);
+      (λ d. c.holding_at-before.ensures d ∙ ap (λ l. holds_at l d c.args.index) c.deref.ensures.value))
+      c.requires.owned);
+  named = named_without c.args.self.now.hosts _ c.args.self.now.peers.items _ c.args.index c.take_at-gone.result
+      c.take_at-gone.ensures.without (sym c.take_at-gone.ensures.gone) c.forget_gone.ensures c.requires.named;
 }

@@ -1,0 +1,114 @@
+//! Which neighbour has a host, by the host in lower case.
+ghost use Rattle.std.specs.Prelude.{◌≡◌, ◌<◌, ◌≤◌, ℕ, nat_le, List, None, Some, IfSome, IfNone, OnOk, OnErr};
+ghost use Rattle.std.specs.Prelude.{length, if◌then◌else◌};
+ghost use Rattle.dm_base.specs.Before.{lower, lower_octet};
+ghost use Rattle.dm_base.specs.Codes.{max_name_len};
+ghost use Rattle.dm_node.specs.Naming.{is_host, number_of, IsForgotten};
+
+use arrayvec::ArrayVec;
+use dm_dict::NoMemory;
+use dm_peer::Peer;
+use indexmap::IndexMap;
+use std::alloc::Global;
+
+/// The most octets of a host's name.
+const MAX_NAME: usize = 255;
+
+/// The number of the neighbour for each host in lower case.
+#[derive(Debug, Drop)]
+pub(crate) struct Hosts {
+    alloc: Global,
+    map: IndexMap<Vec<u8>, usize>,
+}
+
+fn lower_octet(octet: u8) -> u8
+    ensures { result ≡ lower_octet octet }
+{
+    if octet >= 65 && octet <= 90 {
+        octet + 32
+    } else {
+        octet
+    }
+}
+
+/// The host in lower case, where it isn't too long for one. It never answers want of memory.
+fn lowered(host: &[u8]) -> Option<ArrayVec<u8, MAX_NAME>>
+    ensures lower { IfSome result (λ l. l.items ≡ lower host.now) }
+    ensures long { IfNone result (max_name_len < length host.now) }
+{
+    if host.len() > MAX_NAME {
+        return None;
+    }
+    let mut lower = ArrayVec::new();
+    for octet in host {
+        lower.push(lower_octet(*octet));
+    }
+    Some(lower)
+}
+
+impl Hosts {
+    /// No host is noted. It never answers want of memory.
+    pub(crate) fn new(alloc: Global) -> Hosts
+        ensures { (h : List ℕ) → number_of result h ≡ None }
+    {
+        Hosts {
+            alloc,
+            map: IndexMap::new(alloc),
+        }
+    }
+
+    /// The number that is noted for the host, upper and lower case taken as one; none for one that is too long.
+    pub(crate) fn number(&self, host: &[u8]) -> Option<usize>
+        ensures { result
+            ≡ if nat_le (length host.now) max_name_len then number_of self.now (lower host.now) else None }
+    {
+        match lowered(host) {
+            Some(key) => self.map.get(key.as_slice()).copied(),
+            None => None,
+        }
+    }
+
+    /// Notes the number for a host in lower case.
+    fn put(&mut self, key: &[u8], index: usize) -> Result<(), NoMemory>
+        ensures noted { OnOk result ((h : List ℕ)
+            → number_of self.new h ≡ if is_host key.now h then Some index else number_of self.old h) }
+        ensures unchanged { OnErr result ((h : List ℕ) → number_of self.new h ≡ number_of self.old h) }
+    {
+        let key = Vec::from_slice(self.alloc, key)?;
+        self.map.insert(key, index)?;
+        Ok(())
+    }
+
+    /// Notes the number for the host.
+    pub(crate) fn note(&mut self, host: &[u8], index: usize) -> Result<(), NoMemory>
+        requires { length host.now ≤ max_name_len }
+        ensures noted { OnOk result ((h : List ℕ)
+            → number_of self.new h ≡ if is_host (lower host.now) h then Some index else number_of self.old h) }
+        ensures unchanged { OnErr result ((h : List ℕ) → number_of self.new h ≡ number_of self.old h) }
+    {
+        match lowered(host) {
+            Some(key) => self.put(key.as_slice(), index),
+            None => unreachable!(),
+        }
+    }
+
+    /// Forgets the host.
+    fn forget(&mut self, host: &[u8])
+        requires { length host.now ≤ max_name_len }
+        ensures { (h : List ℕ)
+            → number_of self.new h ≡ if is_host (lower host.now) h then None else number_of self.old h }
+    {
+        if let Some(key) = lowered(host) {
+            self.map.swap_remove(key.as_slice());
+        }
+    }
+
+    /// Forgets the host of a neighbour that is gone, where there was one.
+    pub(crate) fn forget_gone(&mut self, gone: &Option<Peer>)
+        ensures { IsForgotten gone.now self.old self.new }
+    {
+        if let Some(peer) = gone {
+            self.forget(peer.config().peer_host());
+        }
+    }
+}
