@@ -11,6 +11,7 @@ pub mod OpenFaults
 pub mod OpenTables
 pub mod Placed
 pub mod Standing
+pub mod Tallied
 pub mod Texts
 pub mod Valued
 pub mod ReadOutcomes

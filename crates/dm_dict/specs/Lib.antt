@@ -14,6 +14,7 @@ pub mod Located
 pub mod Locating
 pub mod Printed
 pub mod Rules
+pub mod Tallies
 pub mod Texts
 pub mod Typed
 pub mod WithoutLists

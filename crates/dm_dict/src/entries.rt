@@ -41,7 +41,7 @@ pub(crate) fn example(tables: &Tables, entry: &Entry) -> Failed<'static>
 }
 
 /// The AVP that has `max` before it among those that the entry at the place counts.
-pub(crate) fn first_past_max<'a>(
+fn first_past_max<'a>(
     tables: &Tables,
     rule: LinkedRule<'_>,
     at: usize,
@@ -70,7 +70,7 @@ pub(crate) fn first_past_max<'a>(
 }
 
 /// Whether the entry at the place, which has this counter, counts more AVPs of the list than `number`.
-pub(crate) fn counts_above(
+fn counts_above(
     tables: &Tables,
     rule: LinkedRule<'_>,
     at: usize,

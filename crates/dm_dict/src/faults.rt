@@ -22,6 +22,7 @@ use std::alloc::Global;
 
 /// Lists the faults of a message of this header and these AVPs.
 fn list_message<'a>(
+    alloc: Global,
     dictionary: &Linked,
     header: &Header,
     list: AvpsRef<'a>,
@@ -41,7 +42,7 @@ fn list_message<'a>(
         entries: &def.rule,
         links,
     };
-    list_avps(dictionary, rule, list, GROUPS, listed)
+    list_avps(alloc, dictionary, rule, list, GROUPS, listed)
 }
 
 /// All faults of a message of this header and these AVPs, in order.
@@ -61,7 +62,7 @@ fn listed<'a>(
     if is_good(dictionary, header, list) {
         return Ok(listed);
     }
-    list_message(dictionary, header, list, &mut listed)?;
+    list_message(alloc, dictionary, header, list, &mut listed)?;
     Ok(listed)
 }
 
@@ -87,8 +88,8 @@ impl Dictionary {
     /// says. Each failed AVP is told where it lies.
     ///
     /// It takes time by the message and the rules alone. A good message is judged, and no more; of another each AVP is
-    /// looked up twice, once more for each further 256 entries of its list's rule, and a list is walked once more for
-    /// each entry that has too many. Memory is taken for the list of faults alone.
+    /// looked up twice more. Memory is taken for the list of faults, and while a list of AVPs is counted for a tally of
+    /// each entry of its rule.
     pub fn faults<'a>(
         &self,
         alloc: Global,
@@ -98,7 +99,7 @@ impl Dictionary {
         ensures all { IfOk result (λ listed. all_told listed.items ≡ faults self.now message.now) }
         // What is found for each is one of the message's AVPs, or lies in a group of them; or is such a group emptied.
         ensures found { IfOk result (λ listed. AreFoundIn message.now.avps listed.items) }
-        // Memory is wanted for the list alone: not where the message is good.
+        // Memory is wanted for faults alone: not where the message is good.
         ensures memory { OnErr result (has_none (faults self.now message.now) ≡ false) }
     {
         let list = AvpsRef::Held(message.avps.as_slice());
@@ -117,7 +118,7 @@ impl Dictionary {
         // What is found for each is one of the message's AVPs, or lies in a group of them; or is such a group emptied.
         ensures found { IfOk result (λ listed. (l : List Avp) → SpellsList l message.now.rest.now
             → AreFoundIn l listed.items) }
-        // Memory is wanted for the list alone: not where the message is good.
+        // Memory is wanted for faults alone: not where the message is good.
         ensures memory { OnErr result ((l : List Avp) → SpellsList l message.now.rest.now
             → has_none (faults self.now (record { header = message.now.header; avps = l })) ≡ false) }
     {

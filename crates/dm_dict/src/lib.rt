@@ -24,6 +24,7 @@ mod places;
 mod printing;
 mod put;
 mod rules;
+mod tallies;
 mod verdict;
 mod windows;
 

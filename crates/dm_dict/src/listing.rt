@@ -22,6 +22,7 @@ use crate::rules::{allows, look_up};
 use dm_tables::AvpDef;
 use dm_value::{AvpType, NoMemory, ValueFault, value_fault};
 use dm_wire::{AvpRef, AvpsRef, spells_avps};
+use std::alloc::Global;
 
 /// The Result-Code for data of this definition that is no group's, where something is wrong with it.
 pub(crate) fn data_fault(def: &AvpDef, octets: &[u8]) -> Option<u32>
@@ -41,6 +42,7 @@ pub(crate) fn data_fault(def: &AvpDef, octets: &[u8]) -> Option<u32>
 /// Lists the faults of an AVP, whose definition has this place, inside which so many groups may stand.
 #[cycle(listing)]
 fn list_avp<'a>(
+    alloc: Global,
     dictionary: &Linked,
     place: Option<usize>,
     allowed: bool,
@@ -74,7 +76,7 @@ fn list_avp<'a>(
             entries: &def.rule,
             links,
         };
-        return list_group(dictionary, rule, avp, depth, faults);
+        return list_group(alloc, dictionary, rule, avp, depth, faults);
     }
     match data_fault(def, avp.bytes) {
         Some(code) => put(faults, code, failed),
@@ -85,6 +87,7 @@ fn list_avp<'a>(
 /// Lists the faults of a Grouped AVP of this rule, where so many groups may stand inside each other.
 #[cycle(listing)]
 fn list_group<'a>(
+    alloc: Global,
     dictionary: &Linked,
     rule: LinkedRule<'_>,
     avp: AvpRef<'a>,
@@ -105,6 +108,7 @@ fn list_group<'a>(
         return put(faults, INVALID_AVP_LENGTH, Failed::Found(emptied));
     }
     list_avps(
+        alloc,
         dictionary,
         rule,
         AvpsRef::Spelled(avp.bytes),
@@ -116,6 +120,7 @@ fn list_group<'a>(
 /// Lists the faults of AVPs under the rule, where so many groups may stand inside each other.
 #[cycle(listing)]
 pub(crate) fn list_avps<'a>(
+    alloc: Global,
     dictionary: &Linked,
     rule: LinkedRule<'_>,
     list: AvpsRef<'a>,
@@ -132,6 +137,7 @@ pub(crate) fn list_avps<'a>(
     while let Some((avp, rest)) = left.split_first() {
         let (place, at) = look_up(&dictionary.tables, rule, avp);
         list_avp(
+            alloc,
             dictionary,
             place,
             allows(rule.entries, at),
@@ -141,5 +147,5 @@ pub(crate) fn list_avps<'a>(
         )?;
         left = rest;
     }
-    list_entries(&dictionary.tables, rule, list, faults)
+    list_entries(alloc, &dictionary.tables, rule, list, faults)
 }

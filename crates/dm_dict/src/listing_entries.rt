@@ -1,133 +1,104 @@
 //! All faults of the numbers of AVPs that the entries of a rule want (RFC 6733, 3.2 and 7.1.5).
-ghost use Rattle.std.specs.Prelude.{◌≡◌, ◌+◌, ◌<◌, ◌≤◌, ◌++◌, List, nat_lt, length, drop, min, slice_index_or, flat_map, OnOk, if◌then◌else◌, [], ◌∷◌};
+ghost use Rattle.std.specs.Prelude.{◌≡◌, List, nat_lt, length, flat_map, OnOk, if◌then◌else◌, [], ◌∷◌};
 ghost use Rattle.dm_wire.specs.declared.avp.Avp.{Avp};
-ghost use Rattle.dm_tables.specs.declared.rule.Entry.{Entry};
 ghost use Rattle.dm_tables.specs.Tables.{IsTables};
 ghost use Rattle.dm_dict.specs.Apart.{IsFit};
 ghost use Rattle.dm_dict.specs.Linked.{IsRule};
 ghost use Rattle.dm_wire.specs.Borrowed.{Lists};
 ghost use Rattle.dm_dict.specs.Codes.{missing_avp};
-ghost use Rattle.dm_dict.specs.Counters.{IsCounted};
 ghost use Rattle.dm_dict.specs.Faults.{example, excess_faults, entry_faults};
-ghost use Rattle.dm_dict.specs.Listing.{all_told, Adds};
-ghost use Rattle.dm_dict.specs.Rules.{count, counted_avps};
-ghost use Rattle.dm_dict.specs.Limits.{window, counter_limit};
+ghost use Rattle.dm_dict.specs.Listing.{Adds};
+ghost use Rattle.dm_dict.specs.Rules.{counted_avps};
+ghost use Rattle.dm_dict.specs.Tallies.{IsTally, AreTallied};
 
 use crate::codes::{AVP_OCCURS_TOO_MANY_TIMES, MISSING_AVP};
-use crate::counts::counts_from;
-use crate::entries::{counts_above, example, first_past_max};
+use crate::entries::example;
 use crate::fault::Fault;
+use crate::judged::Failed;
 use crate::linked::LinkedRule;
 use crate::put::put;
-use crate::windows::window_end;
-use dm_tables::{Entry, Tables};
+use crate::tallies::{Tally, tallies_of};
+use dm_tables::{Entry, Rule, Tables};
 use dm_value::NoMemory;
 use dm_wire::AvpsRef;
+use std::alloc::Global;
 
-/// Lists that the entry at the place, which has this counter, lacks AVPs.
+/// Lists that the entry, which has this tally, lacks AVPs.
 fn list_lack<'a>(
     tables: &Tables,
-    rule: LinkedRule<'_>,
-    at: usize,
-    counter: u16,
-    list: AvpsRef<'a>,
+    entry: &Entry,
+    tally: Tally<'a>,
     faults: &mut Vec<Fault<'a>>,
 ) -> Result<(), NoMemory>
-    requires tables { IsTables tables.now }
-    requires fit { IsFit tables.now.avps.items }
-    requires rule { IsRule tables.now.avps.items rule }
-    requires within { at < length rule.entries.now }
-    ensures { OnOk result ((l : List Avp) (e : Entry) → Lists list.entry l → e ≡ slice_index_or rule.entry.entries.now at e
-        → counter ≡ min (count tables.now.avps.items rule.entry.entries.now l e) counter_limit
-        → Adds faults.old.items faults.new.items
-        (if nat_lt (count tables.now.avps.items rule.entry.entries.now l e) e.min then
-        record { code = missing_avp; failed = example tables.now.avps.items e } ∷ [] else [])) }
+    requires { IsTables tables.now }
+    ensures { OnOk result ((l : List Avp) → IsTally entry.now l [] tally.entry
+        → Adds faults.old.items faults.new.items (if nat_lt (length l) entry.now.min then
+        record { code = missing_avp; failed = example tables.now.avps.items entry.now } ∷ [] else [])) }
 {
-    let entry = &rule.entries.as_slice()[at];
-    if entry.min > 0 && !counts_above(tables, rule, at, entry.min - 1, counter, list) {
+    if tally.lack > 0 {
         return put(faults, MISSING_AVP, example(tables, entry));
     }
     Ok(())
 }
 
-/// Lists the first AVP past the maximum of the entry at the place, which has this counter.
+/// Lists the first AVP past the maximum of the entry, which has this tally.
 fn list_excess<'a>(
-    tables: &Tables,
-    rule: LinkedRule<'_>,
-    at: usize,
-    counter: u16,
-    list: AvpsRef<'a>,
+    entry: &Entry,
+    tally: Tally<'a>,
     faults: &mut Vec<Fault<'a>>,
 ) -> Result<(), NoMemory>
-    requires tables { IsTables tables.now }
-    requires fit { IsFit tables.now.avps.items }
-    requires rule { IsRule tables.now.avps.items rule }
-    requires within { at < length rule.entries.now }
-    ensures { OnOk result ((l : List Avp) (e : Entry) → Lists list.entry l → e ≡ slice_index_or rule.entry.entries.now at e
-        → counter ≡ min (count tables.now.avps.items rule.entry.entries.now l e) counter_limit
-        → Adds faults.old.items faults.new.items
-        (excess_faults e.max (counted_avps tables.now.avps.items rule.entry.entries.now l e))) }
+    ensures { OnOk result ((l : List Avp) → IsTally entry.now l [] tally.entry
+        → Adds faults.old.items faults.new.items (excess_faults entry.now.max l)) }
 {
-    match rule.entries.as_slice()[at].max {
-        Some(max) => {
-            if max > 0 && counts_above(tables, rule, at, max, counter, list) {
-                let failed = first_past_max(tables, rule, at, max, list);
-                return put(faults, AVP_OCCURS_TOO_MANY_TIMES, failed);
+    match tally.excess {
+        Some(avp) => {
+            if entry.max == Some(0) {
+                return Ok(());
             }
-            Ok(())
+            put(faults, AVP_OCCURS_TOO_MANY_TIMES, Failed::Found(avp))
         }
         None => Ok(()),
     }
 }
 
-/// Lists the faults of the entry at the place, which has this counter.
+/// Lists the faults of the entry, which has this tally.
 fn list_entry<'a>(
     tables: &Tables,
-    rule: LinkedRule<'_>,
-    at: usize,
-    counter: u16,
-    list: AvpsRef<'a>,
+    entry: &Entry,
+    tally: Tally<'a>,
     faults: &mut Vec<Fault<'a>>,
 ) -> Result<(), NoMemory>
-    requires tables { IsTables tables.now }
-    requires fit { IsFit tables.now.avps.items }
-    requires rule { IsRule tables.now.avps.items rule }
-    requires within { at < length rule.entries.now }
-    ensures { OnOk result ((l : List Avp) (e : Entry) → Lists list.entry l → e ≡ slice_index_or rule.entry.entries.now at e
-        → counter ≡ min (count tables.now.avps.items rule.entry.entries.now l e) counter_limit
-        → Adds faults.old.items faults.new.items (entry_faults tables.now.avps.items rule.entry.entries.now l e)) }
+    requires { IsTables tables.now }
+    ensures { OnOk result ((rule : List Entry) (l : List Avp)
+        → IsTally entry.now (counted_avps tables.now.avps.items rule l entry.now) [] tally.entry
+        → Adds faults.old.items faults.new.items (entry_faults tables.now.avps.items rule l entry.now)) }
 {
-    list_lack(tables, rule, at, counter, list, faults)?;
-    list_excess(tables, rule, at, counter, list, faults)
+    list_lack(tables, entry, tally, faults)?;
+    list_excess(entry, tally, faults)
 }
 
-/// Lists the faults of the 256 entries from `from` on, which have these counters.
-fn list_window<'a>(
+/// Lists the faults of the entries of the rule, which have these tallies.
+fn list_tallied<'a>(
     tables: &Tables,
-    rule: LinkedRule<'_>,
-    from: usize,
-    counts: &[u16; 256],
-    list: AvpsRef<'a>,
+    rule: &Rule,
+    tallies: &[Tally<'a>],
     faults: &mut Vec<Fault<'a>>,
 ) -> Result<(), NoMemory>
     requires tables { IsTables tables.now }
-    requires fit { IsFit tables.now.avps.items }
-    requires rule { IsRule tables.now.avps.items rule }
-    requires within { from ≤ length rule.entries.now }
-    ensures { OnOk result ((l : List Avp) → Lists list.entry l → IsCounted tables.now.avps.items rule.entry.entries.now l from counts.now
-        → all_told faults.new.items
-        ++ flat_map (entry_faults tables.now.avps.items rule.entry.entries.now l) (drop (from + window) rule.entry.entries.now)
-        ≡ all_told faults.old.items
-        ++ flat_map (entry_faults tables.now.avps.items rule.entry.entries.now l) (drop from rule.entry.entries.now)) }
+    requires size { length tallies.now ≡ length rule.now }
+    ensures { OnOk result ((l : List Avp) → AreTallied tables.now.avps.items rule.now l [] tallies.now
+        → Adds faults.old.items faults.new.items (flat_map (entry_faults tables.now.avps.items rule.now l) rule.now)) }
 {
-    for at in from..window_end(rule.entries.as_slice().len(), from) {
-        list_entry(tables, rule, at, counts[at - from], list, faults)?;
+    let entries = rule.as_slice();
+    for at in 0..entries.len() {
+        list_entry(tables, &entries[at], tallies[at], faults)?;
     }
     Ok(())
 }
 
 /// Lists the faults of the entries of the rule.
 pub(crate) fn list_entries<'a>(
+    alloc: Global,
     tables: &Tables,
     rule: LinkedRule<'_>,
     list: AvpsRef<'a>,
@@ -140,12 +111,8 @@ pub(crate) fn list_entries<'a>(
         → Adds faults.old.items faults.new.items
         (flat_map (entry_faults tables.now.avps.items rule.entry.entries.now l) rule.entry.entries.now)) }
 {
-    let size = rule.entries.as_slice().len();
-    let mut from = 0;
-    while from < size {
-        let counts = counts_from(tables, rule, from, list);
-        list_window(tables, rule, from, &counts, list, faults)?;
-        from = window_end(size, from);
-    }
-    Ok(())
+    let tallies = tallies_of(alloc, tables, rule, list)?;
+    let done = list_tallied(tables, rule.entries, tallies.as_slice(), faults);
+    drop(tallies);
+    done
 }

@@ -78,7 +78,7 @@ fn locate_entries<'a>(
         (map here (flat_map (entry_faults tables.now.avps.items rule.entry.entries.now l) rule.entry.entries.now))) }
 {
     let mut faults = Vec::new(alloc);
-    list_entries(tables, rule, list, &mut faults)?;
+    list_entries(alloc, tables, rule, list, &mut faults)?;
     put_all_at(located, path, faults.as_slice())?;
     Ok(())
 }

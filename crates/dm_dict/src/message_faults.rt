@@ -107,7 +107,7 @@ impl Dictionary {
         // What is found for each is one of the message's AVPs, or lies in a group of them; or is such a group emptied.
         ensures found { IfOk result (λ listed.
             AreFoundIn message.now.avps (map (λ located. located.fault) listed.items)) }
-        // Memory is wanted for the list alone: not where the message is good.
+        // Memory is wanted for faults alone: not where the message is good.
         ensures memory { OnErr result (has_none (faults self.now message.now) ≡ false) }
     {
         let list = AvpsRef::Held(message.avps.as_slice());
@@ -126,7 +126,7 @@ impl Dictionary {
         // What is found for each is one of the message's AVPs, or lies in a group of them; or is such a group emptied.
         ensures found { IfOk result (λ listed. (l : List Avp) → SpellsList l message.now.rest.now
             → AreFoundIn l (map (λ located. located.fault) listed.items)) }
-        // Memory is wanted for the list alone: not where the message is good.
+        // Memory is wanted for faults alone: not where the message is good.
         ensures memory { OnErr result ((l : List Avp) → SpellsList l message.now.rest.now
             → has_none (faults self.now (record { header = message.now.header; avps = l })) ≡ false) }
     {

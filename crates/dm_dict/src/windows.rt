@@ -48,7 +48,7 @@ fn next_bounded(rule: &Rule, from: usize) -> usize
 }
 
 /// The end of the 256 entries from `from` on, or of the entries.
-pub(crate) fn window_end(size: usize, from: usize) -> usize
+fn window_end(size: usize, from: usize) -> usize
     requires { from ≤ size }
     ensures above { from ≤ result }
     ensures within { result ≤ size }
