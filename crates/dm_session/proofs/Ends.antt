@@ -7,9 +7,10 @@ use Rattle.dm_peer.specs.declared.actions.Action.{Action}
 use Rattle.dm_peer.specs.declared.peer.Peer.{Peer}
 use Rattle.dm_peer.specs.Events.{PeerEvent}
 use Rattle.dm_peer.specs.Events as event
+use Rattle.dm_peer.specs.Holding.{holds}
 use Rattle.dm_session.specs.Intakes.{Intake, Intakes, is_there, is_numbered, changed, shut, fed_intake, with_max, closes, left_by, raised_at}
 use Rattle.dm_session.specs.Sessions.{Session, own_of, other_of, raised, Tells, TellsAs}
-use Rattle.dm_session.specs.Orders.{Order, Start, Ack, Nack, Accept, Octets, Gone, Timeout, Tick, Stop, Submit, Reset, TellsOnce, TellsNothing, TellsIfThere, TellsEnd, Takes}
+use Rattle.dm_session.specs.Orders.{Order, Start, Ack, Nack, Accept, Octets, Gone, Timeout, Tick, Stop, Submit, Reset, TellsOnce, TellsNothing, TellsIfThere, TellsNack, TellsEnd, Takes, with_shut, with_unheld}
 use Rattle.dm_session.specs.Laws.{IsOn}
 
 none_raised_at : (m : ℕ) (o : Option Conn) (f : Intakes) (d : ℕ) → f d ≡ None → raised_at m o f d ≡ None
@@ -76,12 +77,27 @@ end_not_there c d e s t asks none same h =
           ∙ none_shut d.0 c.0 h.0.intakes (ap (λ v. v.intakes c.0) nothing.1 ∙ none),
     )
 
+none_unheld : (c d : Conn) (s : Session) → s.intakes c.0 ≡ None → (with_unheld d s).intakes c.0 ≡ None
+none_unheld c d s none = by (holds d s.peer)
+  where
+    by : (b : Bool) → (cond b s (with_shut d s)).intakes c.0 ≡ None
+    by true = none
+    by false = none_shut d.0 c.0 s.intakes none
+
+nack_not_there : (c d : Conn) (s t : Session) (asks : Option (List Action)) → s.intakes c.0 ≡ None → d ≡ c →
+    TellsNack d s asks t → (asks ≡ None) × (t.intakes c.0 ≡ None)
+nack_not_there c d s t asks none same h =
+    let nothing = not_there c d (event.Nack d) s h.0 asks none same h.1 in (
+      nothing.0,
+      ap (λ v. v.intakes c.0) h.2 ∙ none_unheld c d h.0 (ap (λ v. v.intakes c.0) nothing.1 ∙ none),
+    )
+
 pub gone_is_silent : (c : Conn) (order : Order) (s t : Session) (asks : Option (List Action)) →
     s.intakes c.0 ≡ None → IsOn c order → Takes order s asks t → (asks ≡ None) × (t.intakes c.0 ≡ None)
 gone_is_silent c (Ack d) s t asks none same h =
     let nothing = not_there c d (event.Ack d) s t asks none same h in
     (nothing.0, ap (λ v. v.intakes c.0) nothing.1 ∙ none)
-gone_is_silent c (Nack d) s t asks none same h = end_not_there c d (event.Nack d) s t asks none same h
+gone_is_silent c (Nack d) s t asks none same h = nack_not_there c d s t asks none same h
 gone_is_silent c (Gone d) s t asks none same h = end_not_there c d (event.Gone d) s t asks none same h
 gone_is_silent c (Octets d piece) s t asks none same h =
     (h.0, ap (λ v. v.intakes c.0) h.1 ∙ none_fed d.0 c.0 piece s.intakes none)

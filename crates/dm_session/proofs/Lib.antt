@@ -1,5 +1,6 @@
 pub mod Steps
 pub mod Cuts
 pub mod Ends
+pub mod Held
 pub mod Once
 pub mod Hearing

@@ -2,6 +2,8 @@ pub mod Intakes
 pub mod Fronts
 pub mod Sessions
 pub mod Orders
+pub mod Held
+pub mod Naming
 pub mod Seen
 pub mod Hearing
 pub mod Laws

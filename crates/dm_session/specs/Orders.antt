@@ -8,6 +8,7 @@ use Rattle.dm_peer.specs.Acts.{acts, Refused, standing_at}
 use Rattle.dm_peer.specs.After.{fresh}
 use Rattle.dm_peer.specs.Events.{PeerEvent}
 use Rattle.dm_peer.specs.Events as event
+use Rattle.dm_peer.specs.Holding.{holds}
 use Rattle.dm_session.specs.declared.order.Order as declared
 use Rattle.dm_session.specs.declared.order.Order.TheVariants as order
 use Rattle.dm_session.specs.declared.turn.Turn as declared_turn
@@ -75,6 +76,15 @@ closed s =
       most = s.most;
     }
 
+-- connection c is no more there, but where the peer still holds it
+abbrev pub with_unheld : Conn → Session → Session
+with_unheld c s = cond (holds c s.peer) s (with_shut c s)
+
+-- A connection that was asked for can't be made: it is told, and then it is no more there. A Nack of one that was made
+-- changes nothing.
+abbrev pub TellsNack : Conn → Session → Option (List Action) → Session → Type 0
+TellsNack c s asks t = (m : Session) × TellsIfThere c (event.Nack c) s asks m × (t ≡ with_unheld c m)
+
 -- an event of connection c is told, and then that is no more there
 abbrev pub TellsEnd : Conn → PeerEvent → Session → Option (List Action) → Session → Type 0
 TellsEnd c e s asks t = (m : Session) × TellsIfThere c e s asks m × (t ≡ with_shut c m)
@@ -89,7 +99,7 @@ TellsStart c s asks t =
 abbrev pub Takes : Order → Session → Option (List Action) → Session → Type 0
 Takes (Start c) s asks t = TellsStart c s asks t
 Takes (Ack c) s asks t = TellsIfThere c (event.Ack c) s asks t
-Takes (Nack c) s asks t = TellsEnd c (event.Nack c) s asks t
+Takes (Nack c) s asks t = TellsNack c s asks t
 Takes (Accept c) s asks t = TellsNothing (with_opened c s) asks t
 Takes (Octets c piece) s asks t = TellsNothing (fed c piece s) asks t
 Takes (Gone c) s asks t = TellsEnd c (event.Gone c) s asks t

@@ -1,12 +1,12 @@
 -- A peer with its connections, and what an order comes to (RFC 6733, 5.6).
-use Rattle.std.specs.Prelude.{◌≡◌, ℕ, cond, Option, None, Some, IfSome, List, [], ◌∷◌}
+use Rattle.std.specs.Prelude.{◌≡◌, ◌⊎◌, ℕ, cond, Option, None, Some, IfSome, IsTrue, List, [], ◌∷◌}
 use Rattle.dm_machine.specs.declared.connection.Conn.{Conn}
 use Rattle.dm_machine.specs.declared.phase.Role.TheVariants.{Initiated, Accepted}
 use Rattle.dm_machine.specs.Moves.{is_open}
 use Rattle.dm_machine.specs.Node.{held_as}
 use Rattle.dm_peer.specs.declared.actions.Action.{Action}
 use Rattle.dm_peer.specs.declared.peer.Peer.{Peer}
-use Rattle.dm_peer.specs.Acts.{Moved, acts}
+use Rattle.dm_peer.specs.Acts.{Moved, acts, wants_memory}
 use Rattle.dm_peer.specs.Events.{PeerEvent}
 use Rattle.dm_peer.specs.Events as event
 use Rattle.dm_session.specs.Intakes.{Intake, Intakes, IsFirst, IsFaulty, IsToldOut, with_intake, changed, fed_intake}
@@ -76,6 +76,16 @@ pub record TellsFault (c : Conn) (s : Session) (actions : List Action) (t : Sess
   pub faulty : IsFaulty intake
   pub told : Tells (event.Arrived c [])
       (with_intakes (with_intake c.0 (Some (broken_intake intake)) s.intakes) s) actions t
+
+-- what the peer does at these octets of connection c takes memory
+abbrev pub TakesMemory : Conn → List ℕ → Session → Type 0
+TakesMemory c octets s = IsTrue (wants_memory (acts s.peer (event.Arrived c octets)))
+
+-- the next message of connection c takes memory to be told, or the fault of its stream does
+abbrev pub NextTakesMemory : Conn → Session → Type 0
+NextTakesMemory c s =
+    ((i : Intake) × (message rest : List ℕ) × (s.intakes c.0 ≡ Some i) × IsFirst i message rest × TakesMemory c message s)
+    ⊎ ((i : Intake) × (s.intakes c.0 ≡ Some i) × IsFaulty i × TakesMemory c [] s)
 
 -- one turn of what came on connection c: its next message, or a fault
 abbrev pub TellsAs : Option Conn → Conn → Session → List Action → Session → Type 0

@@ -5,9 +5,7 @@ ghost use Rattle.dm_session.specs.Intakes.{IsToldOut};
 ghost use Rattle.dm_session.specs.Fronts.{IsFront};
 ghost use Rattle.dm_session.specs.Hearing.{IsWholeIn, IsNotWhole};
 
-use crate::whole::whole_len;
-use dm_framer::laws::one_front;
-use dm_framer::{FrameFault, Framer};
+use dm_framer::{FrameFault, Framer, front_len};
 use std::alloc::{AllocError, Global};
 use std::marker::Model;
 
@@ -26,19 +24,18 @@ pub(crate) enum Front<'a> {
 #[derive(Debug, Drop)]
 pub(crate) struct Intake {
     framer: Framer,
-    held: usize,
     is_broken: bool,
 }
 
 impl Model for Intake {
-    ghost use Rattle.std.specs.Prelude.{◌≡◌, None, length};
+    ghost use Rattle.std.specs.Prelude.{◌≡◌, None};
     ghost use Rattle.dm_session.specs.Intakes.{Intake};
 
     ghost Value = { Intake };
 
     ghost view = { λ i. record { octets = i.framer.octets; max = i.framer.max; is_broken = i.is_broken } };
 
-    ghost invariant = { λ i. (i.framer.fault ≡ None) × (i.held ≡ length i.framer.octets) };
+    ghost invariant = { λ i. i.framer.fault ≡ None };
 }
 
 impl Intake {
@@ -48,7 +45,6 @@ impl Intake {
     {
         Intake {
             framer: Framer::new(alloc, max),
-            held: 0,
             is_broken: false,
         }
     }
@@ -61,15 +57,9 @@ impl Intake {
         if self.is_broken {
             return Ok(());
         }
-        match self.held.checked_add(piece.len()) {
-            Some(held) => match self.framer.feed(piece) {
-                Ok(()) => {
-                    self.held = held;
-                    Ok(())
-                }
-                Err(_) => Err(AllocError),
-            },
-            None => Err(AllocError),
+        match self.framer.feed(piece) {
+            Ok(()) => Ok(()),
+            Err(_) => Err(AllocError),
         }
     }
 
@@ -94,10 +84,13 @@ impl Intake {
         ensures whole { IfSome result (λ size. IsWholeIn self.now piece.now (take size piece.now) (drop size piece.now)) }
         ensures none { IfNone result (IsNotWhole self.now piece.now) }
     {
-        if self.is_broken || self.held != 0 {
+        if self.is_broken || !self.framer.is_empty() {
             return None;
         }
-        whole_len(piece, self.framer.max())
+        match front_len(piece, self.framer.max()) {
+            Ok(found) => found,
+            Err(_) => None,
+        }
     }
 
     /// Lets the front message go. It never answers want of memory.
@@ -105,15 +98,7 @@ impl Intake {
         ensures { (message rest : List ℕ) → IsFirst self.old message rest
             → self.new ≡ record self.old { octets = rest } }
     {
-        match self.framer.front() {
-            Ok(Some(message)) => {
-                let size = message.len();
-                self.framer.skip();
-                self.held -= size;
-            }
-            Ok(None) => {}
-            Err(_) => one_front(),
-        }
+        self.framer.skip();
     }
 
     /// A fault was told: what came, and what comes, is thrown away. It never answers want of memory.
@@ -122,7 +107,6 @@ impl Intake {
     {
         let max = self.framer.max();
         self.framer = Framer::new(alloc, max);
-        self.held = 0;
         self.is_broken = true;
     }
 

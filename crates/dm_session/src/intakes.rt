@@ -4,7 +4,7 @@ ghost use Rattle.dm_session.specs.Intakes.{none_there, is_there, opened, shut, c
 ghost use Rattle.dm_session.specs.Intakes.{fed_intake, broken_intake, with_intake, Intake as OneIntake, IsFirst};
 ghost use Rattle.dm_session.specs.Fronts.{IsFrontAt};
 ghost use Rattle.dm_session.specs.Hearing.{IsWholeAt, IsNotWhole};
-ghost use Rattle.dm_session.specs.Seen.{intakes_of};
+ghost use Rattle.dm_session.specs.Held.{intakes_of};
 
 use crate::intake::{Front, Intake};
 use dm_machine::Conn;

@@ -1,7 +1,10 @@
 //! Laws of a session. Each function is a law: it does nothing, and its contract is the law.
 ghost use Rattle.dm_session.specs.Laws.{CutsAlike, OneTelling, CutsToldOut, PiecesToldOut, HeardAlike};
 ghost use Rattle.dm_session.specs.Laws.{CloseIsLast, GoneIsSilent, GoneTellsNothing};
+ghost use Rattle.dm_session.specs.Held.{HeldAreThere};
+ghost use Rattle.dm_session.specs.Seen.{session_of};
 
+use crate::Session;
 use dm_framer::laws::one_front;
 
 /// Whatever cuts a stream, telling the pieces is a telling of the whole.
@@ -34,3 +37,10 @@ pub fn closed_is_down()
     ensures order { GoneIsSilent }
     ensures octets { GoneTellsNothing }
 {}
+
+/// Each connection that the peer of a session holds is there: what comes on it is kept and told.
+pub fn held_are_there(session: &Session)
+    ensures { HeldAreThere (session_of session.now).peer (session_of session.now).intakes }
+{
+    let _peer = session.peer();
+}

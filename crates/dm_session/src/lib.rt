@@ -8,7 +8,6 @@ mod order;
 mod session;
 mod taking;
 mod turn;
-mod whole;
 
 pub use dm_peer::{Action, Actions, Cause, Config, Conn, Peer, PeerFault};
 pub use order::Order;

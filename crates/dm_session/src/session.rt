@@ -1,32 +1,41 @@
 //! A peer with its connections.
-ghost use Rattle.std.specs.Prelude.{◌≡◌, IfOk, IfErr, IfSome, IfNone, OnOk, OnErr};
-ghost use Rattle.dm_peer.specs.Acts.{acts, IsRefused};
-ghost use Rattle.dm_peer.specs.Events.{told};
-ghost use Rattle.dm_peer.specs.After.{fresh};
-ghost use Rattle.dm_session.specs.Intakes.{none_there, is_there};
-ghost use Rattle.dm_session.specs.Sessions.{Tells, TellsNext, IsOut};
-ghost use Rattle.dm_session.specs.Sessions.{fed, settled};
-ghost use Rattle.dm_session.specs.Hearing.{HearsWhole, HearsNothing};
-ghost use Rattle.dm_session.specs.Seen.{session_of};
-ghost use Rattle.dm_session.specs.Orders.{as_turn, closed, with_opened, with_shut};
+ghost use Rattle.dm_session.specs.Held.{intakes_of, HeldAreThere};
 
 use crate::intake::Front;
 use crate::intakes::Intakes;
 use crate::turn::{HeardTurn, Turn};
 use dm_machine::Conn;
+use dm_peer::laws::{each_event_names_what_it_takes, every_peer_is_kept, refusals_go_by_rule};
 use dm_peer::{Action, Actions, Config, Event, Peer, PeerFault};
 use std::alloc::{AllocError, Global};
 
-/// A peer with its connections: what came on each and wasn't told yet.
+/// A peer with its connections: what came on each and wasn't told yet. What holds of each is said by
+/// `laws::held_are_there`.
 #[derive(Drop)]
 pub struct Session {
     peer: Peer,
     intakes: Intakes,
     first_max: u32,
     most: u32,
+    ghost held: { HeldAreThere peer (intakes_of intakes) },
 }
 
 impl Session {
+    ghost use Rattle.std.specs.Prelude.{◌≡◌, true, false, IfOk, IfErr, IfSome, IfNone, OnOk, OnErr};
+    ghost use Rattle.std.specs.List.{list_any};
+    ghost use Rattle.dm_machine.specs.declared.connection.Conn.{Conn};
+    ghost use Rattle.dm_peer.specs.Acts.{acts, IsRefused};
+    ghost use Rattle.dm_peer.specs.Events.{told};
+    ghost use Rattle.dm_peer.specs.After.{fresh};
+    ghost use Rattle.dm_peer.specs.Holding.{holds};
+    ghost use Rattle.dm_session.specs.Intakes.{none_there, is_there, closes};
+    ghost use Rattle.dm_session.specs.Sessions.{Tells, TellsNext, NextTakesMemory, IsOut};
+    ghost use Rattle.dm_session.specs.Sessions.{fed, settled};
+    ghost use Rattle.dm_session.specs.Hearing.{HearsWhole, HearTakesMemory, HearsNothing};
+    ghost use Rattle.dm_session.specs.Seen.{session_of};
+    ghost use Rattle.dm_session.specs.Naming.{NamesThere};
+    ghost use Rattle.dm_session.specs.Orders.{as_turn, closed, with_opened, with_shut, with_unheld};
+
     /// A closed peer without connections. A message takes at most `first_max` octets before the capabilities exchange,
     /// and `most` behind it. It never answers want of memory.
     pub fn new(alloc: Global, config: Config, first_max: u32, most: u32) -> Session
@@ -69,11 +78,21 @@ impl Session {
         }
     }
 
-    /// The connection is no more there. It never answers want of memory.
+    /// The connection, which the peer doesn't hold, is no more there. It never answers want of memory.
     pub(crate) fn shut(&mut self, conn: Conn)
+        requires { holds conn (session_of self.old).peer ≡ false }
         ensures { session_of self.new ≡ with_shut conn (session_of self.old) }
     {
         self.intakes.shut(conn);
+    }
+
+    /// The connection is no more there, but where the peer holds it. It never answers want of memory.
+    pub(crate) fn shut_unheld(&mut self, conn: Conn)
+        ensures { session_of self.new ≡ with_unheld conn (session_of self.old) }
+    {
+        if !self.peer.holds(conn) {
+            self.shut(conn);
+        }
     }
 
     /// The peer is closed, and has no connection. It never answers want of memory.
@@ -92,20 +111,25 @@ impl Session {
         self.intakes.feed(conn, piece)
     }
 
-    /// Tells the peer an event.
+    /// Tells the peer an event, which names no connection that isn't there.
     pub(crate) fn tell(&mut self, alloc: Global, event: Event<'_>) -> Result<Actions, PeerFault>
+        requires { NamesThere (told event) (session_of self.old).intakes }
         ensures told { IfOk result (λ actions.
             Tells (told event.entry) (session_of self.old) actions.items (session_of self.new)) }
         ensures refused { IfErr result (IsRefused (acts (session_of self.old).peer (told event.entry))) }
         ensures unchanged { OnErr result (session_of self.new ≡ session_of self.old) }
     {
+        each_event_names_what_it_takes();
+        every_peer_is_kept(&self.peer);
         let actions = self.peer.on(alloc, event)?;
         self.settle(actions.as_slice());
         Ok(actions)
     }
 
-    /// What the actions close is no more there, and what an open peer holds takes longer messages.
+    /// What the actions close, which the peer doesn't hold, is no more there, and what an open peer holds takes longer
+    /// messages.
     fn settle(&mut self, actions: &[Action])
+        requires { (c : Conn) → closes actions.now c.0 ≡ true → holds c (session_of self.old).peer ≡ false }
         ensures { session_of self.new ≡ settled (session_of self.old).peer actions.now (session_of self.old) }
     {
         self.intakes.leave(actions);
@@ -130,7 +154,13 @@ impl Session {
         ensures none { IfOk result (λ found. IfNone found (
             HearsNothing conn piece.now (session_of self.old) × (session_of self.new ≡ session_of self.old))) }
         ensures unchanged { OnErr result (session_of self.new ≡ session_of self.old) }
+        // Memory is wanted only for what the message asks of the peer.
+        ensures memory { OnErr result (HearTakesMemory conn piece.now (session_of self.old)) }
     {
+        refusals_go_by_rule();
+        each_event_names_what_it_takes();
+        every_peer_is_kept(&self.peer);
+        let _state = self.peer.state();
         match self.intakes.whole_in(conn, piece) {
             Some(len) => match self.peer.on(alloc, Event::Arrived(conn, &piece[..len])) {
                 Ok(actions) => {
@@ -154,7 +184,13 @@ impl Session {
         ensures none { IfOk result (λ found. IfNone found (
             IsOut conn (session_of self.old) × (session_of self.new ≡ session_of self.old))) }
         ensures unchanged { OnErr result (session_of self.new ≡ session_of self.old) }
+        // Memory is wanted only for what the message or the fault asks of the peer.
+        ensures memory { OnErr result (NextTakesMemory conn (session_of self.old)) }
     {
+        refusals_go_by_rule();
+        each_event_names_what_it_takes();
+        every_peer_is_kept(&self.peer);
+        let _state = self.peer.state();
         match self.intakes.front(conn) {
             Front::Nothing => Ok(None),
             Front::Message(message) => match self.peer.on(alloc, Event::Arrived(conn, message)) {

@@ -3,11 +3,14 @@ ghost use Rattle.std.specs.Prelude.{◌≡◌, ◌⊎◌, IfOk, IfErr, OnErr};
 ghost use Rattle.std.specs.Option.{option_map};
 ghost use Rattle.dm_peer.specs.Events.{told};
 ghost use Rattle.dm_session.specs.Seen.{session_of};
-ghost use Rattle.dm_session.specs.Orders.{asked, Takes, TellsOnce, TellsIfThere, TellsEnd, TellsStart};
-ghost use Rattle.dm_session.specs.Orders.{Refuses, RefusesOnce, RefusesIfThere, Start as AskedStart};
+ghost use Rattle.dm_session.specs.Naming.{NamesThere, NamesAtMost};
+ghost use Rattle.dm_session.specs.Orders.{asked, Takes, TellsOnce, TellsIfThere, TellsNack, TellsStart};
+ghost use Rattle.dm_session.specs.Orders.{Refuses, RefusesOnce, RefusesIfThere};
+ghost use Rattle.dm_session.specs.Orders.{Start as AskedStart, Nack as AskedNack, Gone as AskedGone};
 
 use crate::{Order, Session};
 use dm_machine::Conn;
+use dm_peer::laws::{each_event_names_what_it_takes, every_peer_is_kept};
 use dm_peer::{Actions, Event, PeerFault};
 use std::alloc::Global;
 
@@ -28,7 +31,7 @@ impl Session {
         match order {
             Order::Start(conn) => self.start(alloc, conn),
             Order::Ack(conn) => self.tell_there(alloc, conn, Event::Ack(conn)),
-            Order::Nack(conn) => self.end(alloc, conn, Event::Nack(conn)),
+            Order::Nack(conn) => self.nack(alloc, conn),
             Order::Accept(conn) => match self.open(alloc, conn) {
                 Ok(()) => Ok(None),
                 Err(_) => Err(PeerFault::NoMemory),
@@ -37,7 +40,7 @@ impl Session {
                 Ok(()) => Ok(None),
                 Err(_) => Err(PeerFault::NoMemory),
             },
-            Order::Gone(conn) => self.end(alloc, conn, Event::Gone(conn)),
+            Order::Gone(conn) => self.gone(alloc, conn),
             Order::Timeout => self.tell_once(alloc, Event::Timeout),
             Order::Tick => self.tell_once(alloc, Event::Tick),
             Order::Stop(cause) => self.tell_once(alloc, Event::Stop(cause)),
@@ -49,8 +52,9 @@ impl Session {
         }
     }
 
-    /// Tells an event.
+    /// Tells an event, which names no connection that isn't there.
     fn tell_once(&mut self, alloc: Global, event: Event<'_>) -> Result<Option<Actions>, PeerFault>
+        requires { NamesThere (told event) (session_of self.old).intakes }
         ensures told { IfOk result (λ asks. TellsOnce (told event.entry) (session_of self.old)
             (option_map (λ actions. actions.items) asks) (session_of self.new)) }
         ensures refused { IfErr result (λ fault. (fault ≡ PeerFault.NoMemory)
@@ -63,13 +67,14 @@ impl Session {
         }
     }
 
-    /// Tells an event of the connection, where that is there.
+    /// Tells an event of the connection, which names no other, where that is there.
     fn tell_there(
         &mut self,
         alloc: Global,
         conn: Conn,
         event: Event<'_>,
     ) -> Result<Option<Actions>, PeerFault>
+        requires { NamesAtMost (told event) conn }
         ensures told { IfOk result (λ asks. TellsIfThere conn (told event.entry) (session_of self.old)
             (option_map (λ actions. actions.items) asks) (session_of self.new)) }
         ensures refused { IfErr result (λ fault. (fault ≡ PeerFault.NoMemory)
@@ -83,20 +88,34 @@ impl Session {
         }
     }
 
-    /// Tells the end of the connection, which is no more there then.
-    fn end(
-        &mut self,
-        alloc: Global,
-        conn: Conn,
-        event: Event<'_>,
-    ) -> Result<Option<Actions>, PeerFault>
-        ensures told { IfOk result (λ asks. TellsEnd conn (told event.entry) (session_of self.old)
+    /// Tells that the connection can't be made. It is no more there then, but where it was made already.
+    fn nack(&mut self, alloc: Global, conn: Conn) -> Result<Option<Actions>, PeerFault>
+        ensures told { IfOk result (λ asks. TellsNack conn (session_of self.old)
             (option_map (λ actions. actions.items) asks) (session_of self.new)) }
         ensures refused { IfErr result (λ fault. (fault ≡ PeerFault.NoMemory)
-            ⊎ RefusesIfThere conn (told event.entry) (session_of self.old) fault) }
+            ⊎ Refuses (AskedNack conn) (session_of self.old) fault) }
         ensures unchanged { OnErr result (session_of self.new ≡ session_of self.old) }
     {
-        match self.tell_there(alloc, conn, event) {
+        match self.tell_there(alloc, conn, Event::Nack(conn)) {
+            Ok(asks) => {
+                self.shut_unheld(conn);
+                Ok(asks)
+            }
+            Err(fault) => Err(fault),
+        }
+    }
+
+    /// Tells the end of the connection, which is no more there then.
+    fn gone(&mut self, alloc: Global, conn: Conn) -> Result<Option<Actions>, PeerFault>
+        ensures told { IfOk result (λ asks. Takes (AskedGone conn) (session_of self.old)
+            (option_map (λ actions. actions.items) asks) (session_of self.new)) }
+        ensures refused { IfErr result (λ fault. (fault ≡ PeerFault.NoMemory)
+            ⊎ Refuses (AskedGone conn) (session_of self.old) fault) }
+        ensures unchanged { OnErr result (session_of self.new ≡ session_of self.old) }
+    {
+        each_event_names_what_it_takes();
+        every_peer_is_kept(self.peer());
+        match self.tell_there(alloc, conn, Event::Gone(conn)) {
             Ok(asks) => {
                 self.shut(conn);
                 Ok(asks)

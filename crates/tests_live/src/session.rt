@@ -9,6 +9,10 @@ use std::process::Abort;
 const CER_OF_B: &str =
     "01000070800001010000000000000009000000090000010840000011622e6578616d706c65000000000001284000000f6578616d706c6500000001014000000e00017f00000100000000010a4000000c000000000000010d0000000e646d706565720000000001024000000c00000004";
 
+/// A watchdog of b.example.
+const DWR_OF_B: &str =
+    "01000038800001180000000000000001000000010000010840000011622e6578616d706c65000000000001284000000f6578616d706c6500";
+
 /// The connection that b.example made.
 const R: Conn = Conn(9);
 
@@ -138,6 +142,25 @@ fn broken(
     let gone = asked(rt, &mut session, Order::Gone(R));
     drop(session);
     (fault, again, gone)
+}
+
+/// How many actions a Nack of an open connection asks for, and then what a watchdog that comes on it is told as.
+fn nacked(rt: &(impl Abort + AllocGlobal)) -> (Option<usize>, Option<(bool, usize)>) {
+    let mut session = session(rt);
+    let _none = asked(rt, &mut session, Order::Accept(R));
+    let _opened = cer_in_halves(rt, &mut session);
+    let nacked = asked(rt, &mut session, Order::Nack(R));
+    let octets = hex::decode(rt.alloc(), DWR_OF_B.as_bytes()).expect(rt, "digits");
+    let _fed = asked(rt, &mut session, Order::Octets(R, octets.as_slice()));
+    let told = turn(rt, &mut session);
+    drop(octets);
+    drop(session);
+    (nacked, told)
+}
+
+#[test]
+fn nack_of_an_open_connection_leaves_it(rt: HostRuntime) {
+    assert_eq!(rt; nacked(&rt), (Some(0), Some((true, 1))));
 }
 
 #[test]

@@ -1,7 +1,7 @@
 -- One action, and then the others.
 use Rattle.std.proofs.Common.{◌-◌, ◌∙◌, sym, ap, length, take, drop}
 use Rattle.dm_session.specs.Intakes.{left_by}
-use Rattle.dm_session.specs.Seen.{intakes_of}
+use Rattle.dm_session.specs.Held.{intakes_of}
 use Rattle.dm_session.proofs.Steps.{left_on, cut_first}
 use Rattle.dm_session.proofs.intakes.Intakes.+leave.Goals as goal
 

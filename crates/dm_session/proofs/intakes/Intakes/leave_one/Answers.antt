@@ -1,6 +1,6 @@
 -- A Close closes its connection.
 use Rattle.std.proofs.Common.{[], ◌∙◌}
-use Rattle.dm_session.specs.Seen.{intakes_of}
+use Rattle.dm_session.specs.Held.{intakes_of}
 use Rattle.dm_session.proofs.Steps.{left_close}
 use Rattle.dm_session.proofs.intakes.Intakes.leave_one.Goals as goal
 

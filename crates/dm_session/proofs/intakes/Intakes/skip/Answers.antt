@@ -2,7 +2,7 @@
 use Rattle.std.proofs.Common.{◌≡◌, ◌∙◌, refl, sym, ap, subst, cond, nat_eq, Some, IsSome, unwrap_or}
 use Rattle.std.proofs.Math.Path.{fun_ext}
 use Rattle.dm_session.specs.Intakes.{Intake, IsFirst}
-use Rattle.dm_session.specs.Seen.{intakes_of}
+use Rattle.dm_session.specs.Held.{intakes_of}
 use Rattle.dm_session.proofs.intakes.Intakes.skip.Goals as goal
 
 pub returns-in-Some : goal.returns-in-Some

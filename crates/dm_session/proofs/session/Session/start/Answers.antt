@@ -2,6 +2,7 @@
 use Rattle.std.proofs.Common.{sym, ◌∙◌, ap}
 use Rattle.dm_session.specs.Orders.{with_shut}
 use Rattle.dm_session.specs.Seen.{session_of}
+use Rattle.dm_session.proofs.Held.{started_there}
 use Rattle.dm_session.proofs.Steps.{started, shut_opened}
 use Rattle.dm_session.proofs.session.Session.start.Goals as goal
 
@@ -14,3 +15,7 @@ pub returns-in-Err-tell_once-clause-unchanged : goal.returns-in-Err-tell_once-cl
 returns-in-Err-tell_once-clause-unchanged c =
     c.shut.ensures ∙ ap (with_shut c.args.conn) (c.in-Err-tell_once.ensures.unchanged ∙ c.in-Ok.ensures.opened)
     ∙ shut_opened c.args.conn (session_of c.args.self.now) (sym c.if-has.ensures)
+
+pub tell_once-requires : goal.tell_once-requires
+tell_once-requires c =
+    started_there c.args.conn (session_of c.args.self.now) (session_of c.open.new.self) c.in-Ok.ensures.opened
