@@ -1,11 +1,10 @@
-pub mod Decoded
 pub mod FirstLine
 pub mod Known
 pub mod Options
 pub mod Pieces
-pub mod Pushed
 pub mod Rests
 pub mod Running
 pub mod Serving
 pub mod Stages
 pub mod Turns
+pub mod Untold

@@ -1,10 +1,11 @@
 -- What a configuration makes.
-use Rattle.std.specs.Prelude.{◌≡◌, ℕ, Option, None, List, codes}
+use Rattle.std.specs.Prelude.{◌≡◌, ℕ, Bool, true, false, ◌||◌, not, nat_eq, is_some, length, if◌then◌else◌, Option, None, Some, List, codes}
 use Rattle.std.specs.Option.{option_map, option_or}
 use Rattle.dm_base.specs.declared.node.Node.{Node}
 use Rattle.dm_base.specs.declared.node_fault.NodeFault.{NodeFault}
 use Rattle.dm_base.specs.declared.node_fault.NodeFault.TheVariants as node_faults
-use Rattle.dm_base.specs.Refusals.{node_fault}
+use Rattle.dm_base.specs.declared.extras.Extras.{Extras}
+use Rattle.dm_base.specs.Refusals.{node_fault, are_extras_long}
 use Rattle.dm_peer.specs.declared.config.Config.{Config}
 use Rattle.dm_peer.specs.declared.fault.ConfigFault.{ConfigFault}
 use Rattle.dm_peer.specs.declared.fault.ConfigFault.TheVariants as config_faults
@@ -29,10 +30,42 @@ config_fault_name config_faults.NoMemory = codes ""
 abbrev pub own_fault : Settings → Option NodeFault
 own_fault s = node_fault s.host s.realm s.addresses s.product s.auth s.acct
 
--- why they make no configuration: there is no node, or else it can't have this peer
+-- the settings say more of the node than it must say
+abbrev pub has_extras : Settings → Bool
+has_extras s =
+    not (nat_eq (length s.applications) 0) || (not (nat_eq (length s.vendors) 0) || (is_some s.firmware || is_some s.state_id))
+
+-- that is too long
+abbrev pub extras_fault : Settings → Option (List ℕ)
+extras_fault s = if are_extras_long s.applications s.vendors then Some (codes "TooLong") else None
+
+-- why a node can't have the peer that they tell
+abbrev pub peer_fault : Settings → Option (List ℕ)
+peer_fault s = option_map config_fault_name (config_fault s.host s.peer)
+
+-- why they make no configuration: there is no node, or what it says beyond is too long, or it can't have this peer
 abbrev pub go_fault : Settings → Option (List ℕ)
 go_fault s =
-    option_or (option_map node_fault_name (own_fault s)) (option_map config_fault_name (config_fault s.host s.peer))
+    option_or (option_map node_fault_name (own_fault s))
+    (option_or (extras_fault s) (peer_fault s))
+
+-- what a node says beyond what it must is what the settings say, and it says none where they say none
+abbrev pub AreExtrasOf : Settings → Option Extras → Type 0
+AreExtrasOf s None = has_extras s ≡ false
+AreExtrasOf s (Some e) =
+    (has_extras s ≡ true) × (e.applications ≡ s.applications) × (e.vendors ≡ s.vendors) × (e.firmware ≡ s.firmware)
+    × (e.state_id ≡ s.state_id)
+
+-- the node that the settings make, with what it must say alone
+pub record IsOwnOf (s : Settings) (n : Node) : Type 0 where
+  pub host : n.host ≡ s.host
+  pub realm : n.realm ≡ s.realm
+  pub addresses : n.addresses ≡ s.addresses
+  pub vendor : n.vendor ≡ s.vendor
+  pub product : n.product ≡ s.product
+  pub auth : n.auth ≡ s.auth
+  pub acct : n.acct ≡ s.acct
+  pub extras : n.extras ≡ None
 
 -- the node that the settings make
 pub record IsNodeOf (s : Settings) (n : Node) : Type 0 where
@@ -43,7 +76,7 @@ pub record IsNodeOf (s : Settings) (n : Node) : Type 0 where
   pub product : n.product ≡ s.product
   pub auth : n.auth ≡ s.auth
   pub acct : n.acct ≡ s.acct
-  pub extras : n.extras ≡ None
+  pub extras : AreExtrasOf s n.extras
 
 -- the configuration that they make; its dictionary is the base one, as of each configuration
 pub record IsMadeOf (s : Settings) (c : Config) : Type 0 where

@@ -1,16 +1,15 @@
 //! The lines of an answer.
-ghost use Rattle.std.specs.Prelude.{◌≡◌, ◌≢◌, ◌∷◌, ◌++◌, [], OnOk};
+ghost use Rattle.std.specs.Prelude.{◌≡◌, ◌≢◌, ◌++◌, OnOk};
 ghost use Rattle.std.specs.String.{string_bytes};
-ghost use Rattle.hex.specs.Hex.{encode_lower};
 ghost use Rattle.dm_machine.specs.Printed.{state_text};
 ghost use Rattle.dm_session.specs.Orders.{as_turn};
 ghost use Rattle.dm_live.specs.AnswerLines.{action_line, action_lines, arrival_line, turn_lines, refusal_line};
 ghost use Rattle.dm_live.specs.AnswerLines.{held_words, state_line};
 
-use crate::digits::push_digits;
 use dm_machine::Conn;
 use dm_peer::{Action, Peer, PeerFault};
 use dm_session::Turn;
+use dm_text::Hexadecimal;
 use std::alloc::AllocError;
 
 /// Appends the line of an action.
@@ -21,24 +20,12 @@ fn push_action(text: &mut String, action: &Action) -> Result<(), AllocError>
     match action {
         Action::Connect(conn) => writeln!(text, "connect {}", conn.0)?,
         Action::Send(conn, octets) => {
-            write!(text, "send {} ", conn.0)?;
-            push_line(text, octets.as_slice())?;
+            writeln!(text, "send {} {}", conn.0, Hexadecimal(octets.as_slice()))?
         }
         Action::Close(conn) => writeln!(text, "close {}", conn.0)?,
-        Action::Up(octets) => {
-            text.push_str("up ")?;
-            push_line(text, octets.as_slice())?;
-        }
+        Action::Up(octets) => writeln!(text, "up {}", Hexadecimal(octets.as_slice()))?,
     }
     Ok(())
-}
-
-/// Appends octets in hexadecimal, and the end of their line.
-fn push_line(text: &mut String, octets: &[u8]) -> Result<(), AllocError>
-    ensures { OnOk result (string_bytes text.new ≡ string_bytes text.old ++ encode_lower octets.now ++ 10 ∷ []) }
-{
-    push_digits(text, octets)?;
-    text.push_str("\n")
 }
 
 /// Appends the lines of actions, in order.

@@ -1,14 +1,19 @@
 //! The configuration, line by line.
-ghost use Rattle.std.specs.Prelude.{◌≡◌, ◌≢◌, true, false, IfOk, IfErr, Some, None, OnOk};
+ghost use Rattle.std.specs.Prelude.{◌≡◌, ◌≢◌, ◌∷◌, List, ℕ, true, false, IfOk, IfErr, IfSome, IfNone, Some, None, OnOk};
 ghost use Rattle.std.specs.Result.{result_err};
-ghost use Rattle.dm_live.specs.Beginnings.{own_fault, go_fault, IsNodeOf, IsMadeOf, node_fault_name, config_fault_name};
+ghost use Rattle.dm_text.specs.Words.{words};
+ghost use Rattle.dm_base.specs.declared.extras_fault.ExtrasFault.TheVariants as extras_faults;
+ghost use Rattle.dm_base.specs.Refusals.{are_extras_long};
+ghost use Rattle.dm_live.specs.Beginnings.{own_fault, peer_fault, go_fault, has_extras, IsOwnOf, IsNodeOf, IsMadeOf};
+ghost use Rattle.dm_live.specs.Beginnings.{node_fault_name, config_fault_name};
 ghost use Rattle.dm_live.specs.Drafts.{settings_of};
-ghost use Rattle.dm_live.specs.Settings.{Settings, no_settings, Sets, TellsSetting};
+ghost use Rattle.dm_live.specs.Settings.{Settings, no_settings, Sets, setting_word, specific_word};
+ghost use Rattle.dm_live.specs.Settings.{TellsOne, TellsSpecific, TellsSetting};
 
-use crate::order_words::word_alone;
-use crate::setting_name::{SettingName, read_setting};
-use crate::setting_words::{push_address, push_number, put_name, put_number, put_text};
-use dm_base::{Node, NodeFault};
+use crate::order_words::{two_numbers, word_alone};
+use crate::setting_name::{SettingName, read_setting, read_specific};
+use crate::setting_words::{push_address, push_number, put_name, put_number, put_text, say_number};
+use dm_base::{Extras, ExtrasFault, Node, NodeFault, VendorApplication};
 use dm_peer::{Config, ConfigFault};
 use dm_text::Words;
 use dm_value::Ip;
@@ -27,6 +32,10 @@ pub(crate) struct Draft {
     product: String,
     auth: Vec<u32>,
     acct: Vec<u32>,
+    applications: Vec<VendorApplication>,
+    vendors: Vec<u32>,
+    firmware: Option<u32>,
+    state_id: Option<u32>,
     peer: Vec<u8>,
     first_id: u32,
     first_max: u32,
@@ -46,6 +55,10 @@ impl Draft {
             product: String::new(alloc),
             auth: Vec::new(alloc),
             acct: Vec::new(alloc),
+            applications: Vec::new(alloc),
+            vendors: Vec::new(alloc),
+            firmware: None,
+            state_id: None,
             peer: Vec::new(alloc),
             first_id: 1,
             first_max: LONGEST,
@@ -79,10 +92,43 @@ impl Draft {
         let Some(word) = left.next() else {
             return Ok(false);
         };
+        match read_specific(word) {
+            Some(accounting) => self.take_specific(accounting, &mut left),
+            None => self.take_one(word, &mut left),
+        }
+    }
+
+    /// Goes on with an application of a vendor, of accounting or not. False where no two numbers tell one.
+    fn take_specific(&mut self, accounting: bool, left: &mut Words<'_>) -> Result<bool, AllocError>
+        ensures told { IfOk result (λ good. good ≡ true
+            → TellsSpecific (specific_word accounting ∷ words left.old) (settings_of self.old) (settings_of self.new)) }
+        ensures bad { IfOk result (λ good. good ≡ false → (t : Settings)
+            → TellsSpecific (specific_word accounting ∷ words left.old) (settings_of self.old) t → ⊥) }
+        ensures kept { IfOk result (λ good. good ≡ false → settings_of self.new ≡ settings_of self.old) }
+    {
+        let Some((vendor, application)) = two_numbers(left) else {
+            return Ok(false);
+        };
+        self.applications.push(VendorApplication {
+            vendor,
+            application,
+            accounting,
+        })?;
+        Ok(true)
+    }
+
+    /// Goes on with a name and one word. False where they tell nothing.
+    fn take_one(&mut self, word: &[u8], left: &mut Words<'_>) -> Result<bool, AllocError>
+        ensures told { IfOk result (λ good. good ≡ true
+            → TellsOne (word.now ∷ words left.old) (settings_of self.old) (settings_of self.new)) }
+        ensures bad { IfOk result (λ good. good ≡ false
+            → (t : Settings) → TellsOne (word.now ∷ words left.old) (settings_of self.old) t → ⊥) }
+        ensures kept { IfOk result (λ good. good ≡ false → settings_of self.new ≡ settings_of self.old) }
+    {
         let Some(name) = read_setting(word) else {
             return Ok(false);
         };
-        let Some(value) = word_alone(&mut left) else {
+        let Some(value) = word_alone(left) else {
             return Ok(false);
         };
         self.take_value(name, value)
@@ -104,6 +150,9 @@ impl Draft {
             SettingName::Product => put_text(&mut self.product, word),
             SettingName::Auth => push_number(&mut self.auth, word),
             SettingName::Acct => push_number(&mut self.acct, word),
+            SettingName::Supports => push_number(&mut self.vendors, word),
+            SettingName::Firmware => Ok(say_number(&mut self.firmware, word)),
+            SettingName::State => Ok(say_number(&mut self.state_id, word)),
             SettingName::Peer => put_name(&mut self.peer, word),
             SettingName::First => Ok(put_number(&mut self.first_id, word)),
             SettingName::Early => Ok(put_number(&mut self.first_max, word)),
@@ -117,19 +166,85 @@ impl Draft {
         ensures good { IfOk result (λ made. OnOk made (go_fault (settings_of self.now) ≡ None)) }
         ensures fault { IfOk result (λ made. IfErr made (λ name. go_fault (settings_of self.now) ≡ Some name.now)) }
     {
-        let peer = Vec::from_slice(alloc, self.peer.as_slice())?;
         match self.node(alloc)? {
-            Ok(node) => match Config::new(alloc, node, peer, self.first_id) {
-                Ok(config) => Ok(Ok(config)),
-                Err(fault) => Ok(Err(config_fault_name(fault)?)),
+            Ok(node) => match self.extended(alloc, node) {
+                Ok(node) => self.config_of(alloc, node),
+                Err(ExtrasFault::TooLong) => Ok(Err("TooLong")),
+                Err(ExtrasFault::NoMemory) => Err(AllocError),
             },
             Err(fault) => Ok(Err(node_fault_name(fault))),
         }
     }
 
-    /// The node that the lines tell, or why there is none.
+    /// The configuration of a node, or the name of why there is none.
+    fn config_of(
+        &self,
+        alloc: Global,
+        node: Node,
+    ) -> Result<Result<Config, &'static str>, AllocError>
+        requires { IsNodeOf (settings_of self.now) node }
+        ensures made { IfOk result (λ made. IfOk made (λ config. IsMadeOf (settings_of self.now) config)) }
+        ensures good { IfOk result (λ made. OnOk made (peer_fault (settings_of self.now) ≡ None)) }
+        ensures fault { IfOk result (λ made. IfErr made (λ name. peer_fault (settings_of self.now) ≡ Some name.now)) }
+    {
+        let peer = Vec::from_slice(alloc, self.peer.as_slice())?;
+        match Config::new(alloc, node, peer, self.first_id) {
+            Ok(config) => Ok(Ok(config)),
+            Err(fault) => Ok(Err(config_fault_name(fault)?)),
+        }
+    }
+
+    /// Whether the lines say more of the node than it must say.
+    fn has_extras(&self) -> bool
+        ensures { result ≡ has_extras (settings_of self.now) }
+    {
+        self.applications.len() != 0
+            || self.vendors.len() != 0
+            || self.firmware.is_some()
+            || self.state_id.is_some()
+    }
+
+    /// The node, which says what the lines say beyond what it must, if they do.
+    fn extended(&self, alloc: Global, node: Node) -> Result<Node, ExtrasFault>
+        requires { IsOwnOf (settings_of self.now) node }
+        ensures made { IfOk result (λ made. IsNodeOf (settings_of self.now) made) }
+        ensures good { OnOk result (are_extras_long (settings_of self.now).applications (settings_of self.now).vendors
+            ≡ false) }
+        ensures fault { IfErr result (λ fault. fault ≡ extras_faults.TooLong
+            → are_extras_long (settings_of self.now).applications (settings_of self.now).vendors ≡ true) }
+    {
+        if !self.has_extras() {
+            return Ok(node);
+        }
+        match self.extras(alloc) {
+            Ok(extras) => Ok(node.with_extras(extras)),
+            Err(fault) => Err(fault),
+        }
+    }
+
+    /// What the lines say of the node beyond what it must say.
+    fn extras(&self, alloc: Global) -> Result<Extras, ExtrasFault>
+        ensures applications { IfOk result (λ extras. extras.applications ≡ (settings_of self.now).applications) }
+        ensures vendors { IfOk result (λ extras. extras.vendors ≡ (settings_of self.now).vendors) }
+        ensures firmware { IfOk result (λ extras. extras.firmware ≡ (settings_of self.now).firmware) }
+        ensures state_id { IfOk result (λ extras. extras.state_id ≡ (settings_of self.now).state_id) }
+        ensures good { OnOk result (are_extras_long (settings_of self.now).applications (settings_of self.now).vendors
+            ≡ false) }
+        ensures fault { IfErr result (λ fault. fault ≡ extras_faults.TooLong
+            → are_extras_long (settings_of self.now).applications (settings_of self.now).vendors ≡ true) }
+    {
+        let applications = Vec::from_slice(alloc, self.applications.as_slice()).map_err(
+            |_| ExtrasFault::NoMemory,
+        )?;
+        let vendors = Vec::from_slice(alloc, self.vendors.as_slice()).map_err(
+            |_| ExtrasFault::NoMemory,
+        )?;
+        Extras::new(alloc, applications, vendors, self.firmware, self.state_id)
+    }
+
+    /// The node that the lines tell, but for what they say of it beyond, or why there is none.
     fn node(&self, alloc: Global) -> Result<Result<Node, NodeFault>, AllocError>
-        ensures made { IfOk result (λ made. IfOk made (λ node. IsNodeOf (settings_of self.now) node)) }
+        ensures made { IfOk result (λ made. IfOk made (λ node. IsOwnOf (settings_of self.now) node)) }
         ensures fault { IfOk result (λ made. result_err made ≡ own_fault (settings_of self.now)) }
     {
         let host = Vec::from_slice(alloc, self.host.as_slice())?;

@@ -3,7 +3,6 @@
 
 mod answer;
 mod answer_lines;
-mod digits;
 mod draft;
 mod fault;
 mod input;

@@ -5,13 +5,12 @@ ghost use Rattle.dm_session.specs.Orders.{Order as AskedOrder, asked};
 ghost use Rattle.dm_live.specs.OrderLines.{order_name, TellsRest, TellsOrder};
 ghost use Rattle.dm_live.specs.ReadOrders.{told_order};
 
-use crate::digits::octets_of;
 use crate::order_name::{OrderName, read_name};
 use crate::order_words::{cause_alone, conn_alone, conn_and_word, is_nothing, word_alone};
 use dm_base::Cause;
 use dm_machine::Conn;
 use dm_session::Order;
-use dm_text::Words;
+use dm_text::{Words, read_hex_word};
 use dm_wire::Octets;
 use std::alloc::{AllocError, Global};
 
@@ -109,7 +108,7 @@ fn read_octets(alloc: Global, left: &mut Words<'_>) -> Result<Option<OrderLine>,
     let Some((conn, word)) = conn_and_word(left) else {
         return Ok(None);
     };
-    match octets_of(alloc, word)? {
+    match read_hex_word(alloc, word)? {
         Some(piece) => Ok(Some(OrderLine::Octets(conn, Octets::from_vec(piece)))),
         None => Ok(None),
     }
@@ -125,7 +124,7 @@ fn read_submit(alloc: Global, left: &mut Words<'_>) -> Result<Option<OrderLine>,
     let Some(word) = word_alone(left) else {
         return Ok(None);
     };
-    match octets_of(alloc, word)? {
+    match read_hex_word(alloc, word)? {
         Some(octets) => Ok(Some(OrderLine::Submit(Octets::from_vec(octets)))),
         None => Ok(None),
     }

@@ -46,6 +46,18 @@ pub(crate) fn conn_and_word<'a>(left: &mut Words<'a>) -> Option<(Conn, &'a [u8])
     Some((conn, word))
 }
 
+/// Two numbers alone.
+pub(crate) fn two_numbers(left: &mut Words<'_>) -> Option<(u32, u32)>
+    ensures told { IfSome result (λ r. (first second : List ℕ) × (words left.old ≡ first ∷ second ∷ [])
+        × TellsNumber r.0 first × TellsNumber r.1 second) }
+    ensures none { IfNone result ((n m : ℕ) (first second : List ℕ) → words left.old ≡ first ∷ second ∷ []
+        → TellsNumber n first → TellsNumber m second → ⊥) }
+{
+    let first = read_number(left.next()?)?;
+    let second = read_number(word_alone(left)?)?;
+    Some((first, second))
+}
+
 /// One word alone.
 pub(crate) fn word_alone<'a>(left: &mut Words<'a>) -> Option<&'a [u8]>
     ensures told { IfSome result (λ word. words left.old ≡ word.now ∷ []) }

@@ -1,7 +1,7 @@
 //! The first words of configuration lines.
-ghost use Rattle.std.specs.Prelude.{◌≡◌, IfSome, IfNone};
+ghost use Rattle.std.specs.Prelude.{◌≡◌, Bool, IfSome, IfNone};
 ghost use Rattle.dm_live.specs.declared.setting_name.SettingName.{SettingName};
-ghost use Rattle.dm_live.specs.Settings.{setting_word};
+ghost use Rattle.dm_live.specs.Settings.{setting_word, specific_word};
 
 /// What a line of the configuration is about.
 #[derive(Clone, Copy, Drop)]
@@ -13,6 +13,9 @@ pub enum SettingName {
     Product,
     Auth,
     Acct,
+    Supports,
+    Firmware,
+    State,
     Peer,
     First,
     Early,
@@ -32,10 +35,27 @@ pub(crate) fn read_setting(word: &[u8]) -> Option<SettingName>
         b"product" => Some(SettingName::Product),
         b"auth" => Some(SettingName::Auth),
         b"acct" => Some(SettingName::Acct),
+        b"supports" => Some(SettingName::Supports),
+        b"firmware" => Some(SettingName::Firmware),
+        b"state" => Some(SettingName::State),
         b"peer" => Some(SettingName::Peer),
         b"first" => Some(SettingName::First),
         b"early" => Some(SettingName::Early),
         b"max" => Some(SettingName::Max),
         _ => None,
+    }
+}
+
+/// Whether the word tells that an application of a vendor follows, and whether that is one of accounting.
+pub(crate) fn read_specific(word: &[u8]) -> Option<bool>
+    ensures told { IfSome result (λ accounting. word.now ≡ specific_word accounting) }
+    ensures none { IfNone result ((accounting : Bool) → word.now ≡ specific_word accounting → ⊥) }
+{
+    if word == b"vendor-auth".as_slice() {
+        Some(false)
+    } else if word == b"vendor-acct".as_slice() {
+        Some(true)
+    } else {
+        None
     }
 }

@@ -1,6 +1,6 @@
 //! The words behind the names of configuration lines. Each helper answers false, and changes nothing, where its word
 //! tells nothing.
-ghost use Rattle.std.specs.Prelude.{◌≡◌, ◌∷◌, ◌++◌, [], ℕ, true, false, IfOk, IfSome, IfNone, OnOk};
+ghost use Rattle.std.specs.Prelude.{◌≡◌, ◌∷◌, ◌++◌, [], ℕ, true, false, Some, IfOk, IfSome, IfNone, OnOk};
 ghost use Rattle.std.specs.Str.{IsUtf8};
 ghost use Rattle.std.specs.String.{string_bytes};
 ghost use Rattle.dm_text.specs.Numbers.{TellsNumber};
@@ -75,6 +75,21 @@ pub(crate) fn put_number(number: &mut u32, word: &[u8]) -> bool
     match read_number(word) {
         Some(told) => {
             *number = told;
+            true
+        }
+        None => false,
+    }
+}
+
+/// A number takes the place of the one said before, if there was one.
+pub(crate) fn say_number(number: &mut Option<u32>, word: &[u8]) -> bool
+    ensures put { result ≡ true → (n : ℕ) × TellsNumber n word.now × (number.new ≡ Some n) }
+    ensures bad { result ≡ false → (n : ℕ) → TellsNumber n word.now → ⊥ }
+    ensures kept { result ≡ false → number.new ≡ number.old }
+{
+    match read_number(word) {
+        Some(told) => {
+            *number = Some(told);
             true
         }
         None => false,
