@@ -1,6 +1,7 @@
 -- Faults that are listed, one after the other.
-use Rattle.std.proofs.Common.{◌≡◌, ◌<◌, ◌≤◌, ◌⊎◌, inl, inr, Result, Ok, Err, IfOk, OnErr, ℕ, ◌+◌, List, ◌∷◌, ◌++◌, length, get_or, drop, flat_map, Option, Bool, append_assoc, sym, ◌∙◌, refl, arith}
+use Rattle.std.proofs.Common.{◌≡◌, ◌<◌, ◌≤◌, ◌⊎◌, inl, inr, Result, Ok, Err, IfOk, OnOk, OnErr, ℕ, ◌+◌, List, ◌∷◌, ◌++◌, length, get_or, drop, flat_map, Option, Bool, append_assoc, sym, ◌∙◌, refl, arith}
 use Rattle.std.proofs.lemmas.List.{drop_all}
+use Rattle.std.specs.Result.{result_and}
 use Rattle.dm_wire.specs.declared.avp.Avp.{Avp}
 use Rattle.dm_tables.specs.declared.rule.Entry.{Entry}
 use Rattle.dm_tables.specs.declared.def.AvpDef.{AvpDef}
@@ -44,3 +45,14 @@ under_err (Err e) f h = f h
 pub under_ok : {A E : Type 0} (r : Result A E) (P Q : A → Type 0) → ((a : A) → P a → Q a) → IfOk r P → IfOk r Q
 under_ok (Ok a) P Q f h = f a h
 under_ok (Err e) P Q f h = tt
+
+-- what holds once a call is done holds in other words
+pub under_done : {A E P Q : Type 0} (r : Result A E) → (P → Q) → OnOk r P → OnOk r Q
+under_done (Ok a) f h = f h
+under_done (Err e) f h = tt
+
+-- what a call fills is handed on once it is done
+pub handed_ok : {T U E : Type 0} (done : Result T E) (u : U) (out : Result U E) (P : U → Type 0)
+    → out ≡ result_and done (Ok u) → OnOk done (P u) → IfOk out P
+handed_ok (Ok x) u out P e h = rw e h
+handed_ok (Err y) u out P e h = rw e tt

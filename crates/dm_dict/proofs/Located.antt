@@ -1,5 +1,5 @@
 -- Faults with their paths are the faults.
-use Rattle.std.proofs.Common.{◌≡◌, ℕ, zero, suc, ◌+◌, Bool, true, false, Option, None, Some, List, [], ◌∷◌, ◌++◌, map, flat_map, if◌then◌else◌, refl, ap, ◌∙◌, append-nil, append_assoc}
+use Rattle.std.proofs.Common.{◌≡◌, ℕ, zero, suc, ◌+◌, Bool, true, false, Option, None, Some, List, [], ◌∷◌, ◌++◌, map, flat_map, if◌then◌else◌, refl, sym, ap, ◌∙◌, append-nil, append_assoc}
 use Rattle.std.proofs.lemmas.List.{map-append}
 use Rattle.dm_wire.specs.declared.avp.Avp.{Avp}
 use Rattle.dm_wire.specs.declared.message.Message.{Message}
@@ -16,6 +16,7 @@ use Rattle.dm_dict.specs.Faults.{Fault, fault_with_avp, fault_without_avp, wrong
 use Rattle.dm_dict.specs.Limits.{group_limit}
 use Rattle.dm_dict.specs.Rules.{definition, entry_for, allows}
 use Rattle.dm_dict.specs.declared.path.Step.{Step}
+use Rattle.dm_dict.specs.Locating.{placed}
 use Rattle.dm_dict.specs.Located.{Located, step_at, here, under, kind_located, group_part, no_groups, avp_located, each_located, list_located_by, members_located, group_located, message_located, located}
 
 fault_of : Located → Fault
@@ -120,3 +121,15 @@ located_are_faults d m = by (command_for d m.header) where
       ∙ ap (λ t. t ++ map fault_of (list_located_by (group_located group_limit d.avps) d.avps c.rule m.avps)) (map_here _)
       ∙ ap (λ t. (if wrong_bits m.header then fault_without_avp invalid_hdr_bits else []) ++ t)
       (list_same (group_located group_limit d.avps) (group_faults group_limit d.avps) (group_same group_limit d.avps) d.avps c.rule m.avps)
+
+without_paths : (l : List Located) → map fault_of (map (placed None) l) ≡ map fault_of l
+unfolding fault_of
+without_paths [] = refl
+without_paths (f ∷ l) = ap (λ t. f.fault ∷ t) (without_paths l)
+
+-- what is listed where no paths are kept are the faults
+pub found_without_paths : (old new : List Fault) (all : List Located) → old ≡ []
+    → map here new ≡ map here old ++ map (placed None) all → new ≡ map (λ f. f.fault) all
+unfolding fault_of
+found_without_paths old new all none is =
+    sym (map_here new) ∙ ap (map fault_of) (rw none at is) ∙ without_paths all

@@ -1,12 +1,14 @@
 -- Paths grow by a group at a time.
-use Rattle.std.proofs.Common.{◌≡◌, ℕ, zero, suc, ◌-◌, true, true≢false, Option, None, Some, is_some, List, [], ◌∷◌, ◌++◌, map, refl, sym, ap, ◌∙◌, arith, append_assoc}
+use Rattle.std.proofs.Common.{◌≡◌, ℕ, zero, suc, ◌-◌, true, true≢false, Option, None, Some, is_some, option_map, List, [], ◌∷◌, ◌++◌, map, refl, sym, ap, ◌∙◌, arith, append_assoc}
 use Rattle.dm_wire.specs.declared.avp.Avp.{Avp}
 use Rattle.dm_wire.specs.Members.{members}
 use Rattle.dm_tables.specs.declared.rule.Entry.{Entry}
 use Rattle.dm_tables.specs.declared.def.AvpDef.{AvpDef}
 use Rattle.dm_dict.specs.declared.path.Step.{Step}
-use Rattle.dm_dict.specs.Located.{Located, step_at, under, group_located, list_located}
-use Rattle.dm_dict.specs.Locating.{behind}
+use Rattle.dm_dict.specs.declared.path.Path.{Path}
+use Rattle.dm_dict.specs.Faults.{Fault}
+use Rattle.dm_dict.specs.Located.{Located, here, step_at, under, group_located, list_located}
+use Rattle.dm_dict.specs.Locating.{path_of, behind, placed}
 
 behind_under : (p : List Step) (i : Step) (l : List Located) → map (behind (p ++ i ∷ [])) l ≡ map (behind p) (map (under i) l)
 behind_under p i [] = refl
@@ -22,22 +24,38 @@ group_members (suc n) some_left avps i rule a l is =
     let e : suc n - 1 ≡ n = omega arith in
     rw (e, is) refl
 
+abbrev path_or : List Step → Option (List Step) → List Step
+path_or d None = d
+path_or d (Some p) = p
+
+-- what is placed one group further in
+inside_placed : (p q : Option Path) (i : Step) → option_map path_of q ≡ option_map (λ path. path_of path ++ i ∷ []) p → (l : List Located)
+    → map (placed q) l ≡ map (placed p) (map (under i) l)
+inside_placed None None i is [] = refl
+inside_placed None None i is (f ∷ l) = ap (λ t. here f.fault ∷ t) (inside_placed None None i is l)
+inside_placed None (Some q) i is l = absurd (cc)
+inside_placed (Some p) None i is l = absurd (cc)
+inside_placed (Some p) (Some q) i is l =
+    ap (λ r. map (behind r) l) (ap (path_or (path_of q)) is) ∙ behind_under (path_of p) i l
+
 -- what is listed for the members is what the group adds
 by_members : (depth : ℕ) → (depth ≡ 0 → ⊥) → (avps : List AvpDef) (i : ℕ) (rule : List Entry) (a : Avp)
-    (p q : List Step) (old new : List Located) → q ≡ p ++ step_at i a ∷ [] → (o : Option (List Avp)) → members a.bytes ≡ o → is_some o ≡ true
-    → ((l : List Avp) → members a.bytes ≡ Some l → new ≡ old ++ map (behind q) (list_located (depth - 1) avps rule l))
-    → new ≡ old ++ map (behind p) (group_located depth avps i rule a)
+    (p q : Option Path) (old new : List Located)
+    → option_map path_of q ≡ option_map (λ path. path_of path ++ step_at i a ∷ []) p
+    → (o : Option (List Avp)) → members a.bytes ≡ o → is_some o ≡ true
+    → ((l : List Avp) → members a.bytes ≡ Some l → new ≡ old ++ map (placed q) (list_located (depth - 1) avps rule l))
+    → new ≡ old ++ map (placed p) (group_located depth avps i rule a)
 by_members depth some_left avps i rule a p q old new inside None is some listed = absurd (true≢false (sym some))
 by_members depth some_left avps i rule a p q old new inside (Some l) is some listed =
     listed l is
-    ∙ ap (λ r. old ++ map (behind r) (list_located (depth - 1) avps rule l)) inside
-    ∙ ap (λ t. old ++ t) (behind_under p (step_at i a) (list_located (depth - 1) avps rule l))
-    ∙ ap (λ g. old ++ map (behind p) g) (sym (group_members depth some_left avps i rule a l is))
+    ∙ ap (λ t. old ++ t) (inside_placed p q (step_at i a) inside (list_located (depth - 1) avps rule l))
+    ∙ ap (λ g. old ++ map (placed p) g) (sym (group_members depth some_left avps i rule a l is))
 
 pub group_listed : (depth : ℕ) → (depth ≡ 0 → ⊥) → (avps : List AvpDef) (i : ℕ) (rule : List Entry) (a : Avp)
-    (p q : List Step) (old new : List Located) → q ≡ p ++ step_at i a ∷ [] → is_some (members a.bytes) ≡ true
-    → ((l : List Avp) → members a.bytes ≡ Some l → new ≡ old ++ map (behind q) (list_located (depth - 1) avps rule l))
-    → new ≡ old ++ map (behind p) (group_located depth avps i rule a)
+    (p q : Option Path) (old new : List Located)
+    → option_map path_of q ≡ option_map (λ path. path_of path ++ step_at i a ∷ []) p → is_some (members a.bytes) ≡ true
+    → ((l : List Avp) → members a.bytes ≡ Some l → new ≡ old ++ map (placed q) (list_located (depth - 1) avps rule l))
+    → new ≡ old ++ map (placed p) (group_located depth avps i rule a)
 group_listed depth some_left avps i rule a p q old new inside some listed =
     by_members depth some_left avps i rule a p q old new inside (members a.bytes) refl some listed
 
@@ -45,3 +63,12 @@ group_listed depth some_left avps i rule a p q old new inside some listed =
 pub at_top : (l : List Located) → map (behind []) l ≡ l
 at_top [] = refl
 at_top (f ∷ l) = ap (λ t. f ∷ t) (at_top l)
+
+-- what is listed there are just these
+pub found_at_top : (p : List Step) (old new all : List Located) → p ≡ [] → old ≡ [] → new ≡ old ++ map (behind p) all → new ≡ all
+found_at_top p old new all top none is = rw (top, none) at is ∙ at_top all
+
+-- faults that are listed without groups
+pub placed_here : (fs : List Fault) → map (placed None) (map here fs) ≡ map here fs
+placed_here [] = refl
+placed_here (f ∷ fs) = ap (λ t. here f ∷ t) (placed_here fs)

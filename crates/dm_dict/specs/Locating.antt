@@ -1,10 +1,11 @@
 -- The located faults of a message that are listed.
-use Rattle.std.specs.Prelude.{◌≡◌, ℕ, List, ◌++◌, map, take}
+use Rattle.std.specs.Prelude.{◌≡◌, ◌+◌, ◌≤◌, ℕ, Option, None, Some, IfSome, List, ◌++◌, map, take}
 use Rattle.dm_dict.specs.declared.path.Path.{Path}
 use Rattle.dm_dict.specs.declared.path.Step.{Step}
 use Rattle.dm_dict.specs.declared.places.LocatedFault.{LocatedFault}
-use Rattle.dm_dict.specs.Listing.{told}
-use Rattle.dm_dict.specs.Located.{Located}
+use Rattle.dm_dict.specs.declared.findings.Findings.{Findings}
+use Rattle.dm_dict.specs.Listing.{told, all_told}
+use Rattle.dm_dict.specs.Located.{Located, here}
 
 -- how many groups a path has room for, as many as may stand inside each other
 abbrev pub path_limit : ℕ
@@ -22,6 +23,20 @@ told_at f = record { path = path_of f.path; fault = told f.fault }
 abbrev pub behind : List Step → Located → Located
 behind p f = record f { path = p ++ f.path }
 
--- behind those that were listed stand just these, in the groups of the path
-abbrev pub AddsAt : List LocatedFault → List LocatedFault → List Step → List Located → Type 0
-AddsAt old new p more = map told_at new ≡ map told_at old ++ map (behind p) more
+-- in the groups of this path; without any, where no paths are kept
+abbrev pub placed : Option Path → Located → Located
+placed None f = here f.fault
+placed (Some p) f = behind (path_of p) f
+
+-- what is listed so far: the faults with their paths, or those without
+abbrev pub found : Option Path → Findings → List Located
+found None s = map here (all_told s.faults.items)
+found (Some p) s = map told_at s.located.items
+
+-- behind what was listed stand just these, in the groups of the path
+abbrev pub AddsAt : Findings → Findings → Option Path → List Located → Type 0
+AddsAt old new p more = found p new ≡ found p old ++ map (placed p) more
+
+-- the path has room for so many groups more
+abbrev pub HasRoom : Option Path → ℕ → Type 0
+HasRoom p depth = IfSome p (λ path. path.size + depth ≤ path_limit)

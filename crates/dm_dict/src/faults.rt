@@ -1,49 +1,21 @@
 //! All faults of a message (RFC 6733, 3 and 7).
-ghost use Rattle.std.specs.Prelude.{◌≡◌, false, List, IfOk, OnOk, OnErr};
+ghost use Rattle.std.specs.Prelude.{◌≡◌, false, List, IfOk, OnErr};
 ghost use Rattle.dm_wire.specs.declared.avp.Avp.{Avp};
 ghost use Rattle.dm_wire.specs.Borrowed.{Lists};
 ghost use Rattle.dm_wire.specs.Spelling.{SpellsList};
 ghost use Rattle.dm_tables.specs.Tables.{defined};
 ghost use Rattle.dm_dict.specs.Faults.{faults, has_none};
 ghost use Rattle.dm_dict.specs.Linked.{IsLinked};
-ghost use Rattle.dm_dict.specs.Listing.{all_told, Adds, AreFoundIn};
+ghost use Rattle.dm_dict.specs.Listing.{all_told, AreFoundIn};
 
-use crate::codes::{COMMAND_UNSUPPORTED, INVALID_HDR_BITS};
 use crate::fault::Fault;
-use crate::judge::{GROUPS, command_for, has_wrong_bits, is_good};
-use crate::judged::Failed;
-use crate::linked::{Linked, LinkedCommand, LinkedRule};
-use crate::listing::list_avps;
-use crate::put::put;
+use crate::findings::Findings;
+use crate::linked::Linked;
+use crate::message_faults::find;
 use crate::{Dictionary, NoMemory};
 use dm_wire::laws::members_spell;
 use dm_wire::{AvpsRef, Header, Message, MessageRef};
 use std::alloc::Global;
-
-/// Lists the faults of a message of this header and these AVPs.
-fn list_message<'a>(
-    alloc: Global,
-    dictionary: &Linked,
-    header: &Header,
-    list: AvpsRef<'a>,
-    listed: &mut Vec<Fault<'a>>,
-) -> Result<(), NoMemory>
-    requires linked { IsLinked dictionary.now }
-    ensures { OnOk result ((l : List Avp) → Lists list.entry l → Adds listed.old.items listed.new.items
-        (faults (defined dictionary.now.tables) (record { header = header.now; avps = l }))) }
-{
-    let Some(LinkedCommand { def, links }) = command_for(dictionary, header) else {
-        return put(listed, COMMAND_UNSUPPORTED, Failed::Nothing);
-    };
-    if has_wrong_bits(header) {
-        put(listed, INVALID_HDR_BITS, Failed::Nothing)?;
-    }
-    let rule = LinkedRule {
-        entries: &def.rule,
-        links,
-    };
-    list_avps(alloc, dictionary, rule, list, GROUPS, listed)
-}
 
 /// All faults of a message of this header and these AVPs, in order.
 fn listed<'a>(
@@ -58,12 +30,11 @@ fn listed<'a>(
     ensures memory { OnErr result ((l : List Avp) → Lists list.entry l
         → has_none (faults (defined dictionary.now.tables) (record { header = header.now; avps = l })) ≡ false) }
 {
-    let mut listed = Vec::new(alloc);
-    if is_good(dictionary, header, list) {
-        return Ok(listed);
-    }
-    list_message(alloc, dictionary, header, list, &mut listed)?;
-    Ok(listed)
+    let mut findings = Findings::new(alloc);
+    let done = find(alloc, &mut findings, None, dictionary, header, list);
+    let Findings { faults, located } = findings;
+    drop(located);
+    done.and(Ok(faults))
 }
 
 /// All faults of a message of this header, whose AVPs the octets spell, in order.

@@ -5,16 +5,17 @@
 mod avps;
 pub mod codes;
 mod counts;
+mod data;
 mod dictionary;
 mod entries;
 mod fault;
 mod faults;
+mod findings;
 mod judge;
 mod judged;
 pub mod laws;
 mod linked;
 mod links;
-mod listing;
 mod listing_entries;
 mod locating;
 mod message_faults;

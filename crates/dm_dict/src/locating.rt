@@ -1,5 +1,5 @@
-//! All faults of AVPs under a rule, each with the groups round it (RFC 6733, 4.1, 4.4 and 7.1.5).
-ghost use Rattle.std.specs.Prelude.{◌≡◌, ◌≤◌, ◌+◌, List, slice_get, map, flat_map, OnOk};
+//! All faults of AVPs under a rule, each with the groups round it or without (RFC 6733, 4.1, 4.4 and 7.1.5).
+ghost use Rattle.std.specs.Prelude.{◌≡◌, List, slice_get, map, flat_map, OnOk};
 ghost use Rattle.std.specs.Option.{option_and_then, option_copied};
 ghost use Rattle.dm_wire.specs.declared.avp.Avp.{Avp};
 ghost use Rattle.dm_tables.specs.Tables.{IsTables};
@@ -8,18 +8,18 @@ ghost use Rattle.dm_dict.specs.Linked.{IsLinked, IsRule};
 ghost use Rattle.dm_wire.specs.Borrowed.{avp_of, Lists};
 ghost use Rattle.dm_dict.specs.Faults.{avp_faults, entry_faults};
 ghost use Rattle.dm_dict.specs.Located.{here, no_groups, avp_located, group_located, list_located};
-ghost use Rattle.dm_dict.specs.Locating.{path_of, AddsAt};
+ghost use Rattle.dm_dict.specs.Locating.{AddsAt, HasRoom};
 ghost use Rattle.dm_dict.specs.Rules.{definition};
 
 use crate::avps::is_failed_avp;
 use crate::codes::{AVP_NOT_ALLOWED, AVP_UNSUPPORTED, INVALID_AVP_LENGTH, INVALID_AVP_VALUE};
+use crate::data::data_fault;
 use crate::fault::Fault;
+use crate::findings::Findings;
 use crate::judged::Failed;
 use crate::linked::{Linked, LinkedAvp, LinkedRule};
-use crate::listing::data_fault;
 use crate::listing_entries::list_entries;
 use crate::path::{Path, Step};
-use crate::places::{LocatedFault, put_all_at, put_at};
 use crate::rules::{allows, look_up};
 use dm_tables::{AvpDef, Tables};
 use dm_value::{AvpType, NoMemory};
@@ -28,26 +28,26 @@ use std::alloc::Global;
 
 /// Lists what is wrong with an AVP of this definition, but for its members.
 fn put_own<'a>(
-    located: &mut Vec<LocatedFault<'a>>,
-    path: Path,
+    findings: &mut Findings<'a>,
+    path: Option<&Path>,
     def: Option<&AvpDef>,
     allowed: bool,
     avp: AvpRef<'a>,
 ) -> Result<(), NoMemory>
-    ensures { OnOk result (AddsAt located.old.items located.new.items (path_of path)
+    ensures { OnOk result (AddsAt findings.old findings.new (option_copied path.entry)
         (map here (avp_faults no_groups allowed (avp_of avp.entry) (option_copied def.entry)))) }
 {
     let failed = Failed::Found(avp);
     let Some(def) = def else {
         if avp.mandatory {
             let code = AVP_UNSUPPORTED;
-            return put_at(located, path, Fault { code, failed });
+            return findings.put(path, Fault { code, failed });
         }
         return Ok(());
     };
     if !allowed {
         let code = AVP_NOT_ALLOWED;
-        put_at(located, path, Fault { code, failed })?;
+        findings.put(path, Fault { code, failed })?;
     }
     if is_failed_avp(avp) {
         return Ok(());
@@ -56,7 +56,7 @@ fn put_own<'a>(
         return Ok(());
     }
     match data_fault(def, avp.bytes) {
-        Some(code) => put_at(located, path, Fault { code, failed }),
+        Some(code) => findings.put(path, Fault { code, failed }),
         None => Ok(()),
     }
 }
@@ -64,8 +64,8 @@ fn put_own<'a>(
 /// Lists the faults of the entries of the rule.
 fn locate_entries<'a>(
     alloc: Global,
-    located: &mut Vec<LocatedFault<'a>>,
-    path: Path,
+    findings: &mut Findings<'a>,
+    path: Option<&Path>,
     tables: &Tables,
     rule: LinkedRule<'_>,
     list: AvpsRef<'a>,
@@ -74,12 +74,15 @@ fn locate_entries<'a>(
     requires fit { IsFit tables.now.avps.items }
     requires rule { IsRule tables.now.avps.items rule }
     ensures { OnOk result ((l : List Avp) → Lists list.entry l
-        → AddsAt located.old.items located.new.items (path_of path)
+        → AddsAt findings.old findings.new (option_copied path.entry)
         (map here (flat_map (entry_faults tables.now.avps.items rule.entry.entries.now l) rule.entry.entries.now))) }
 {
+    let Some(path) = path else {
+        return list_entries(alloc, tables, rule, list, &mut findings.faults);
+    };
     let mut faults = Vec::new(alloc);
     list_entries(alloc, tables, rule, list, &mut faults)?;
-    put_all_at(located, path, faults.as_slice())?;
+    findings.put_all(Some(path), faults.as_slice())?;
     Ok(())
 }
 
@@ -88,8 +91,8 @@ fn locate_entries<'a>(
 #[cycle(locating)]
 fn locate_avp<'a>(
     alloc: Global,
-    located: &mut Vec<LocatedFault<'a>>,
-    path: Path,
+    findings: &mut Findings<'a>,
+    path: Option<&Path>,
     at: usize,
     dictionary: &Linked,
     place: Option<usize>,
@@ -101,15 +104,15 @@ fn locate_avp<'a>(
     requires fit { IsFit dictionary.now.tables.avps.items }
     requires def { option_and_then (slice_get dictionary.now.tables.avps.items) place
         ≡ definition dictionary.now.tables.avps.items (avp_of avp) }
-    requires room { path.size + depth ≤ 8 }
-    ensures { OnOk result (AddsAt located.old.items located.new.items (path_of path)
+    requires room { HasRoom (option_copied path) depth }
+    ensures { OnOk result (AddsAt findings.old findings.new (option_copied path.entry)
         (avp_located (group_located depth dictionary.now.tables.avps.items at) allowed
         (avp_of avp.entry) (definition dictionary.now.tables.avps.items (avp_of avp.entry)))) }
 {
     let Some(LinkedAvp { def, links }) = dictionary.avp_at(place) else {
-        return put_own(located, path, None, allowed, avp);
+        return put_own(findings, path, None, allowed, avp);
     };
-    put_own(located, path, Some(def), allowed, avp)?;
+    put_own(findings, path, Some(def), allowed, avp)?;
     if is_failed_avp(avp) {
         return Ok(());
     }
@@ -118,7 +121,7 @@ fn locate_avp<'a>(
             entries: &def.rule,
             links,
         };
-        return locate_group(alloc, located, path, at, dictionary, rule, avp, depth);
+        return locate_group(alloc, findings, path, at, dictionary, rule, avp, depth);
     }
     Ok(())
 }
@@ -128,8 +131,8 @@ fn locate_avp<'a>(
 #[cycle(locating)]
 fn locate_group<'a>(
     alloc: Global,
-    located: &mut Vec<LocatedFault<'a>>,
-    path: Path,
+    findings: &mut Findings<'a>,
+    path: Option<&Path>,
     at: usize,
     dictionary: &Linked,
     rule: LinkedRule<'_>,
@@ -139,26 +142,37 @@ fn locate_group<'a>(
     requires linked { IsLinked dictionary.now }
     requires fit { IsFit dictionary.now.tables.avps.items }
     requires rule { IsRule dictionary.now.tables.avps.items rule }
-    requires room { path.size + depth ≤ 8 }
-    ensures { OnOk result (AddsAt located.old.items located.new.items (path_of path)
+    requires room { HasRoom (option_copied path) depth }
+    ensures { OnOk result (AddsAt findings.old findings.new (option_copied path.entry)
         (group_located depth dictionary.now.tables.avps.items at rule.entry.entries.now (avp_of avp.entry))) }
 {
     if depth == 0 {
         let (code, failed) = (INVALID_AVP_VALUE, Failed::Found(avp));
-        return put_at(located, path, Fault { code, failed });
+        return findings.put(path, Fault { code, failed });
     }
     if !spells_avps(avp.bytes) {
         let emptied = AvpRef { bytes: &[], ..avp };
         let (code, failed) = (INVALID_AVP_LENGTH, Failed::Found(emptied));
-        return put_at(located, path, Fault { code, failed });
+        return findings.put(path, Fault { code, failed });
     }
     let list = AvpsRef::Spelled(avp.bytes);
+    let Some(path) = path else {
+        return locate_list(alloc, findings, None, dictionary, rule, list, depth - 1);
+    };
     let inside = path.inside(Step {
         place: at,
         code: avp.code,
         vendor: avp.vendor,
     });
-    locate_list(alloc, located, inside, dictionary, rule, list, depth - 1)?;
+    locate_list(
+        alloc,
+        findings,
+        Some(&inside),
+        dictionary,
+        rule,
+        list,
+        depth - 1,
+    )?;
     Ok(())
 }
 
@@ -166,8 +180,8 @@ fn locate_group<'a>(
 #[cycle(locating)]
 pub(crate) fn locate_list<'a>(
     alloc: Global,
-    located: &mut Vec<LocatedFault<'a>>,
-    path: Path,
+    findings: &mut Findings<'a>,
+    path: Option<&Path>,
     dictionary: &Linked,
     rule: LinkedRule<'_>,
     list: AvpsRef<'a>,
@@ -176,8 +190,8 @@ pub(crate) fn locate_list<'a>(
     requires linked { IsLinked dictionary.now }
     requires fit { IsFit dictionary.now.tables.avps.items }
     requires rule { IsRule dictionary.now.tables.avps.items rule }
-    requires room { path.size + depth ≤ 8 }
-    ensures { OnOk result ((l : List Avp) → Lists list.entry l → AddsAt located.old.items located.new.items (path_of path)
+    requires room { HasRoom (option_copied path) depth }
+    ensures { OnOk result ((l : List Avp) → Lists list.entry l → AddsAt findings.old findings.new (option_copied path.entry)
         (list_located depth dictionary.now.tables.avps.items rule.entry.entries.now l)) }
 {
     let mut left = list;
@@ -186,11 +200,10 @@ pub(crate) fn locate_list<'a>(
         let (place, entry) = look_up(&dictionary.tables, rule, avp);
         let allowed = allows(rule.entries, entry);
         locate_avp(
-            alloc, located, path, at, dictionary, place, allowed, avp, depth,
+            alloc, findings, path, at, dictionary, place, allowed, avp, depth,
         )?;
         left = rest;
         at += 1;
     }
-    locate_entries(alloc, located, path, &dictionary.tables, rule, list)?;
-    Ok(())
+    locate_entries(alloc, findings, path, &dictionary.tables, rule, list)
 }

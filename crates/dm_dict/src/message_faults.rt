@@ -1,5 +1,6 @@
 //! All faults of a message, each with the groups round its failed AVP (RFC 6733, 3, 4.4 and 7).
-ghost use Rattle.std.specs.Prelude.{◌≡◌, false, List, map, IfOk, OnOk, OnErr};
+ghost use Rattle.std.specs.Prelude.{◌≡◌, false, List, map, IfOk, IfSome, OnOk, OnErr};
+ghost use Rattle.std.specs.Option.{option_copied};
 ghost use Rattle.dm_wire.specs.declared.avp.Avp.{Avp};
 ghost use Rattle.dm_wire.specs.Borrowed.{Lists};
 ghost use Rattle.dm_wire.specs.Spelling.{SpellsList};
@@ -8,52 +9,75 @@ ghost use Rattle.dm_dict.specs.Faults.{faults, has_none};
 ghost use Rattle.dm_dict.specs.Linked.{IsLinked};
 ghost use Rattle.dm_dict.specs.Listing.{AreFoundIn};
 ghost use Rattle.dm_dict.specs.Located.{located};
-ghost use Rattle.dm_dict.specs.Locating.{path_of, told_at, AddsAt};
+ghost use Rattle.dm_dict.specs.Locating.{told_at, AddsAt};
 
 use crate::codes::{COMMAND_UNSUPPORTED, INVALID_HDR_BITS};
 use crate::fault::Fault;
+use crate::findings::Findings;
 use crate::judge::{GROUPS, command_for, has_wrong_bits, is_good};
 use crate::judged::Failed;
 use crate::linked::{Linked, LinkedCommand, LinkedRule};
 use crate::locating::locate_list;
 use crate::path::Path;
-use crate::places::{LocatedFault, put_at};
+use crate::places::LocatedFault;
 use crate::{Dictionary, NoMemory};
 use dm_wire::laws::members_spell;
 use dm_wire::{AvpsRef, Header, Message, MessageRef};
 use std::alloc::Global;
 
-/// Lists the faults of a message of this header and these AVPs, at a path of no groups.
+/// Lists the faults of a message of this header and these AVPs, in no groups.
 fn locate_message<'a>(
     alloc: Global,
-    faults: &mut Vec<LocatedFault<'a>>,
-    path: Path,
+    findings: &mut Findings<'a>,
+    path: Option<&Path>,
     dictionary: &Linked,
     header: &Header,
     list: AvpsRef<'a>,
 ) -> Result<(), NoMemory>
     requires linked { IsLinked dictionary.now }
-    requires top { path.size ≡ 0 }
-    ensures { OnOk result ((l : List Avp) → Lists list.entry l → AddsAt faults.old.items faults.new.items (path_of path)
+    requires top { IfSome (option_copied path) (λ top. top.size ≡ 0) }
+    ensures { OnOk result ((l : List Avp) → Lists list.entry l → AddsAt findings.old findings.new (option_copied path.entry)
         (located (defined dictionary.now.tables) (record { header = header.now; avps = l }))) }
 {
     let failed = Failed::Nothing;
     let Some(LinkedCommand { def, links }) = command_for(dictionary, header) else {
         let code = COMMAND_UNSUPPORTED;
-        return put_at(faults, path, Fault { code, failed });
+        return findings.put(path, Fault { code, failed });
     };
     if has_wrong_bits(header) {
         let code = INVALID_HDR_BITS;
-        put_at(faults, path, Fault { code, failed })?;
+        findings.put(path, Fault { code, failed })?;
     }
     let rule = LinkedRule {
         entries: &def.rule,
         links,
     };
-    locate_list(alloc, faults, path, dictionary, rule, list, GROUPS)
+    locate_list(alloc, findings, path, dictionary, rule, list, GROUPS)
 }
 
-/// All faults of a message of this header and these AVPs, in order.
+/// Lists what is wrong with a message of this header and these AVPs, in no groups. It wants memory only where something is.
+pub(crate) fn find<'a>(
+    alloc: Global,
+    findings: &mut Findings<'a>,
+    path: Option<&Path>,
+    dictionary: &Linked,
+    header: &Header,
+    list: AvpsRef<'a>,
+) -> Result<(), NoMemory>
+    requires linked { IsLinked dictionary.now }
+    requires top { IfSome (option_copied path) (λ top. top.size ≡ 0) }
+    ensures all { OnOk result ((l : List Avp) → Lists list.entry l → AddsAt findings.old findings.new (option_copied path.entry)
+        (located (defined dictionary.now.tables) (record { header = header.now; avps = l }))) }
+    ensures memory { OnErr result ((l : List Avp) → Lists list.entry l
+        → has_none (faults (defined dictionary.now.tables) (record { header = header.now; avps = l })) ≡ false) }
+{
+    if is_good(dictionary, header, list) {
+        return Ok(());
+    }
+    locate_message(alloc, findings, path, dictionary, header, list)
+}
+
+/// All faults of a message of this header and these AVPs with their paths, in order.
 fn located<'a>(
     alloc: Global,
     dictionary: &Linked,
@@ -67,16 +91,15 @@ fn located<'a>(
     ensures memory { OnErr result ((l : List Avp) → Lists list.entry l
         → has_none (faults (defined dictionary.now.tables) (record { header = header.now; avps = l })) ≡ false) }
 {
-    let mut faults = Vec::new(alloc);
-    if is_good(dictionary, header, list) {
-        return Ok(faults);
-    }
-    let path = Path::top();
-    locate_message(alloc, &mut faults, path, dictionary, header, list)?;
-    Ok(faults)
+    let mut findings = Findings::new(alloc);
+    let top = Path::top();
+    let done = find(alloc, &mut findings, Some(&top), dictionary, header, list);
+    let Findings { faults, located } = findings;
+    drop(faults);
+    done.and(Ok(located))
 }
 
-/// All faults of a message of this header, whose AVPs the octets spell, in order.
+/// All faults of a message of this header, whose AVPs the octets spell, with their paths, in order.
 fn located_spelled<'a>(
     alloc: Global,
     dictionary: &Linked,

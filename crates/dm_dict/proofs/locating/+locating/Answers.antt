@@ -1,7 +1,8 @@
-use Rattle.std.proofs.Common.{◌≡◌, Some, find, sym, ◌∙◌, arith, map}
+use Rattle.std.proofs.Common.{◌≡◌, None, Some, find, refl, sym, ap, ◌∙◌, arith}
 use Rattle.dm_tables.specs.Definitions.{is_coded}
 use Rattle.dm_wire.specs.Borrowed.{avp_of}
-use Rattle.dm_dict.specs.Locating.{path_of, told_at}
+use Rattle.dm_dict.specs.Locating.{found}
+use Rattle.dm_dict.proofs.Listed.{under_done}
 use Rattle.dm_dict.proofs.Paths.{group_listed}
 use Rattle.dm_dict.proofs.locating.+locating.Goals as goal
 
@@ -30,11 +31,23 @@ locate_avp-locate_group-requires t c =
       ),
     )
 
+pub locate_group-returns-in_default : goal.locate_group-returns-in_default
+locate_group-returns-in_default t c =
+    under_done c.locate_list.result
+    (λ listed. rw c.in_default.is
+    (group_listed c.args.depth (λ e. omega (arith, e, c.if-depth-eq0.false)) c.args.dictionary.now.tables.avps.items
+    c.args.at c.args.rule.entries.now (avp_of c.args.avp) None None (found None c.args.findings.now)
+    (found None c.locate_list.new.findings) refl (sym c.spells_avps.ensures ∙ c.if-not-spells_avps.false)
+    (λ l is. listed l is)))
+    c.locate_list.ensures
+
 pub locate_group-returns : goal.locate_group-returns
 locate_group-returns t c =
-    group_listed c.args.depth (λ e. omega (arith, e, c.if-depth-eq0.false)) c.args.dictionary.now.tables.avps.items
-    c.args.at c.args.rule.entries.now
-    (avp_of c.args.avp) (path_of c.args.path) (path_of c.inside-inside.result) (map told_at c.args.located.now.items)
-    (map told_at c.locate_list.new.located.items) c.inside-inside.ensures.inside
+    let outer = c.in-Some.path.now in
+    let inner = c.inside-inside.result in
+    rw c.in-Some.is
+    (group_listed c.args.depth (λ e. omega (arith, e, c.if-depth-eq0.false)) c.args.dictionary.now.tables.avps.items
+    c.args.at c.args.rule.entries.now (avp_of c.args.avp) (Some outer) (Some inner) (found (Some outer) c.args.findings.now)
+    (found (Some inner) c.locate_list-2.new.findings) (ap Some c.inside-inside.ensures.inside)
     (sym c.spells_avps.ensures ∙ c.if-not-spells_avps.false)
-    (λ l is. c.in_ok-locate_list.ensures l is)
+    (λ l is. c.in_ok-locate_list.ensures l is))

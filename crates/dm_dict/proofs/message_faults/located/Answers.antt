@@ -1,22 +1,14 @@
-use Rattle.std.proofs.Common.{◌≡◌, ◌++◌, [], rules, ap, ◌∙◌, map, List, sym}
-use Rattle.dm_tables.specs.Tables.{defined}
-use Rattle.dm_dict.specs.Locating.{behind, told_at, path_of}
-use Rattle.dm_dict.specs.Located.{Located, located}
-use Rattle.dm_dict.proofs.NoFaults.{none_located}
-use Rattle.dm_dict.proofs.Paths.{at_top}
+-- What is listed at the top are the faults of the message.
+use Rattle.std.proofs.Common.{map, ap}
+use Rattle.dm_dict.specs.Locating.{told_at, path_of}
+use Rattle.dm_dict.proofs.Listed.{under_done, handed_ok}
+use Rattle.dm_dict.proofs.Paths.{found_at_top}
 use Rattle.dm_dict.proofs.message_faults.located.Goals as goal
 
-pub returns-then-is_good-clause-all : goal.returns-then-is_good-clause-all
-returns-then-is_good-clause-all c l lists =
-    ap (map told_at) c.new-faults.ensures.items
-    ∙ none_located (defined c.args.dictionary.now.tables) (record { header = c.args.header.now; avps = l })
-    (sym c.if-is_good.true ∙ c.is_good.ensures l lists)
-
 pub returns-clause-all : goal.returns-clause-all
-returns-clause-all c l lists =
-    let all : List Located
-    = located (defined c.args.dictionary.now.tables) (record { header = c.args.header.now; avps = l }) in
-    let none : c.new-faults.result.items ≡ [] = search rules in
-    c.in_ok-locate_message.ensures l lists
-    ∙ ap (λ o. map told_at o ++ map (behind (path_of c.top-path.result)) all) none
-    ∙ ap (λ p. map (behind p) all) c.top-path.ensures.none ∙ at_top all
+returns-clause-all c =
+    handed_ok c.find-done.result c.find-done.new.findings.located _ _ c.and.ensures
+    (under_done c.find-done.result
+    (λ all l lists. found_at_top (path_of c.top-top.result) (map told_at c.new-findings.result.located.items) _ _
+    c.top-top.ensures.none (ap (map told_at) c.new-findings.ensures.located) (all l lists))
+    c.find-done.ensures.all)
