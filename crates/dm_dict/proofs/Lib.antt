@@ -7,6 +7,7 @@ pub mod Kept
 pub mod Linking
 pub mod Listed
 pub mod Noting
+pub mod Numbered
 pub mod OpenFaults
 pub mod OpenTables
 pub mod Placed

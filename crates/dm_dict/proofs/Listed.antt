@@ -56,3 +56,12 @@ pub handed_ok : {T U E : Type 0} (done : Result T E) (u : U) (out : Result U E) 
     → out ≡ result_and done (Ok u) → OnOk done (P u) → IfOk out P
 handed_ok (Ok x) u out P e h = rw e h
 handed_ok (Err y) u out P e h = rw e tt
+
+pub both_ok : {A E : Type 0} (r : Result A E) (P Q : A → Type 0) → IfOk r P → IfOk r Q → IfOk r (λ a. P a × Q a)
+both_ok (Ok a) P Q p q = (p, q)
+both_ok (Err e) P Q p q = tt
+
+-- what holds of an answer holds once the call is done
+pub once_ok : {A E Q : Type 0} (r : Result A E) (P : A → Type 0) → ((a : A) → P a → Q) → IfOk r P → OnOk r Q
+once_ok (Ok a) P f h = f a h
+once_ok (Err e) P f h = tt

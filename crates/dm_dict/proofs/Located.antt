@@ -1,5 +1,5 @@
 -- Faults with their paths are the faults.
-use Rattle.std.proofs.Common.{◌≡◌, ℕ, zero, suc, ◌+◌, Bool, true, false, Option, None, Some, List, [], ◌∷◌, ◌++◌, map, flat_map, if◌then◌else◌, refl, sym, ap, ◌∙◌, append-nil, append_assoc}
+use Rattle.std.proofs.Common.{◌≡◌, ℕ, zero, suc, Bool, true, false, Option, None, Some, List, [], ◌∷◌, ◌++◌, map, flat_map, if◌then◌else◌, refl, sym, ap, ◌∙◌, append-nil, append_assoc}
 use Rattle.std.proofs.lemmas.List.{map-append}
 use Rattle.dm_wire.specs.declared.avp.Avp.{Avp}
 use Rattle.dm_wire.specs.declared.message.Message.{Message}
@@ -16,8 +16,10 @@ use Rattle.dm_dict.specs.Faults.{Fault, fault_with_avp, fault_without_avp, wrong
 use Rattle.dm_dict.specs.Limits.{group_limit}
 use Rattle.dm_dict.specs.Rules.{definition, entry_for, allows}
 use Rattle.dm_dict.specs.declared.path.Step.{Step}
+use Rattle.dm_dict.specs.declared.path.Path.{Path}
 use Rattle.dm_dict.specs.Locating.{placed}
-use Rattle.dm_dict.specs.Located.{Located, step_at, here, under, kind_located, group_part, no_groups, avp_located, each_located, list_located_by, members_located, group_located, message_located, located}
+use Rattle.dm_dict.specs.Numbers.{is_grouped, is_wanted}
+use Rattle.dm_dict.specs.Located.{Located, step_at, here, under, kind_located, group_part, no_groups, avp_located, occurrence, each_located, list_located_by, members_located, group_located, message_located, located}
 
 fault_of : Located → Fault
 fault_of f = f.fault
@@ -72,26 +74,26 @@ avp_same groups plain same allowed a (Some f) =
 
 each_same : (groups : ℕ → List Entry → Avp → List Located) (plain : List Entry → Avp → List Fault)
     → ((i : ℕ) (rule : List Entry) (a : Avp) → map fault_of (groups i rule a) ≡ plain rule a)
-    → (avps : List AvpDef) (rule : List Entry) (i : ℕ) (l : List Avp)
-    → map fault_of (each_located groups avps rule i l)
+    → (avps : List AvpDef) (rule : List Entry) (p l : List Avp)
+    → map fault_of (each_located groups avps rule p l)
     ≡ flat_map (λ a. avp_faults plain (allows (entry_for rule (definition avps a))) a (definition avps a)) l
-each_same groups plain same avps rule i [] = refl
-each_same groups plain same avps rule i (a ∷ l) =
-    map-append fault_of (avp_located (groups i) (allows (entry_for rule (definition avps a))) a (definition avps a))
-    (each_located groups avps rule (i + 1) l)
-    ∙ ap (λ t. t ++ map fault_of (each_located groups avps rule (i + 1) l))
-    (avp_same (groups i) plain (same i) (allows (entry_for rule (definition avps a))) a (definition avps a))
+each_same groups plain same avps rule p [] = refl
+each_same groups plain same avps rule p (a ∷ l) =
+    map-append fault_of (avp_located (groups (occurrence p a)) (allows (entry_for rule (definition avps a))) a (definition avps a))
+    (each_located groups avps rule (p ++ a ∷ []) l)
+    ∙ ap (λ t. t ++ map fault_of (each_located groups avps rule (p ++ a ∷ []) l))
+    (avp_same (groups (occurrence p a)) plain (same (occurrence p a)) (allows (entry_for rule (definition avps a))) a (definition avps a))
     ∙ ap (λ t. avp_faults plain (allows (entry_for rule (definition avps a))) a (definition avps a) ++ t)
-    (each_same groups plain same avps rule (i + 1) l)
+    (each_same groups plain same avps rule (p ++ a ∷ []) l)
 
 list_same : (groups : ℕ → List Entry → Avp → List Located) (plain : List Entry → Avp → List Fault)
     → ((i : ℕ) (rule : List Entry) (a : Avp) → map fault_of (groups i rule a) ≡ plain rule a)
     → (avps : List AvpDef) (rule : List Entry) (l : List Avp)
     → map fault_of (list_located_by groups avps rule l) ≡ list_faults_by plain avps rule l
 list_same groups plain same avps rule l =
-    map-append fault_of (each_located groups avps rule 0 l) (map here (flat_map (entry_faults avps rule l) rule))
+    map-append fault_of (each_located groups avps rule [] l) (map here (flat_map (entry_faults avps rule l) rule))
     ∙ ap (λ t. t ++ map fault_of (map here (flat_map (entry_faults avps rule l) rule)))
-    (each_same groups plain same avps rule 0 l)
+    (each_same groups plain same avps rule [] l)
     ∙ ap (λ t. flat_map (λ a. avp_faults plain (allows (entry_for rule (definition avps a))) a (definition avps a)) l ++ t)
     (map_here (flat_map (entry_faults avps rule l) rule))
 
@@ -133,3 +135,38 @@ pub found_without_paths : (old new : List Fault) (all : List Located) → old �
 unfolding fault_of
 found_without_paths old new all none is =
     sym (map_here new) ∙ ap (map fault_of) (rw none at is) ∙ without_paths all
+
+plain : (l : List Located) → map (placed None) l ≡ map here (map fault_of l)
+unfolding fault_of
+plain [] = refl
+plain (f ∷ l) = ap (λ t. here f.fault ∷ t) (plain l)
+
+kind_same : (kind : AvpType) (g h : List Located) → (is_grouped kind ≡ true → g ≡ h) → kind_located kind g ≡ kind_located kind h
+kind_same Grouped g h is = is refl
+kind_same OctetString g h is = refl
+kind_same Integer32 g h is = refl
+kind_same Integer64 g h is = refl
+kind_same Unsigned32 g h is = refl
+kind_same Unsigned64 g h is = refl
+kind_same Address g h is = refl
+kind_same Time g h is = refl
+kind_same UTF8String g h is = refl
+kind_same DiameterIdentity g h is = refl
+kind_same DiameterURI g h is = refl
+kind_same Enumerated g h is = refl
+
+-- what is placed for an AVP hangs on its number just where that is wanted
+pub number_alone : (path : Option Path) (depth : ℕ) (avps : List AvpDef) (n m : ℕ) (allowed : Bool) (a : Avp) (f : Option AvpDef)
+    → (is_wanted path f ≡ true → n ≡ m)
+    → map (placed path) (avp_located (group_located depth avps n) allowed a f)
+    ≡ map (placed path) (avp_located (group_located depth avps m) allowed a f)
+number_alone None depth avps n m allowed a f same =
+    plain (avp_located (group_located depth avps n) allowed a f)
+    ∙ ap (map here) (avp_same (group_located depth avps n) (group_faults depth avps) (group_same depth avps n) allowed a f
+    ∙ sym (avp_same (group_located depth avps m) (group_faults depth avps) (group_same depth avps m) allowed a f))
+    ∙ sym (plain (avp_located (group_located depth avps m) allowed a f))
+number_alone (Some p) depth avps n m allowed a None same = refl
+number_alone (Some p) depth avps n m allowed a (Some d) same =
+    ap (λ g. map (placed (Some p)) (map here (avp_faults no_groups allowed a (Some d)) ++ (if is_failed_avp a then [] else g)))
+    (kind_same d.kind (group_located depth avps n d.rule a) (group_located depth avps m d.rule a)
+    (λ grouped. ap (λ i. group_located depth avps i d.rule a) (same grouped)))

@@ -1,5 +1,6 @@
 -- Paths grow by a group at a time.
-use Rattle.std.proofs.Common.{◌≡◌, ℕ, zero, suc, ◌-◌, true, true≢false, Option, None, Some, is_some, option_map, List, [], ◌∷◌, ◌++◌, map, refl, sym, ap, ◌∙◌, arith, append_assoc}
+use Rattle.std.proofs.Common.{◌≡◌, ℕ, zero, suc, ◌-◌, Bool, true, true≢false, Option, None, Some, is_some, option_map, List, [], ◌∷◌, ◌++◌, map, refl, sym, ap, ◌∙◌, arith, append_assoc}
+use Rattle.std.proofs.lemmas.List.{map-append}
 use Rattle.dm_wire.specs.declared.avp.Avp.{Avp}
 use Rattle.dm_wire.specs.Members.{members}
 use Rattle.dm_tables.specs.declared.rule.Entry.{Entry}
@@ -7,7 +8,10 @@ use Rattle.dm_tables.specs.declared.def.AvpDef.{AvpDef}
 use Rattle.dm_dict.specs.declared.path.Step.{Step}
 use Rattle.dm_dict.specs.declared.path.Path.{Path}
 use Rattle.dm_dict.specs.Faults.{Fault}
-use Rattle.dm_dict.specs.Located.{Located, here, step_at, under, group_located, list_located}
+use Rattle.dm_dict.specs.Located.{Located, here, step_at, under, occurrence, avp_located, each_located, group_located, list_located}
+use Rattle.dm_dict.specs.Numbers.{is_wanted}
+use Rattle.dm_dict.specs.Rules.{definition, entry_for, allows}
+use Rattle.dm_dict.proofs.Located.{number_alone}
 use Rattle.dm_dict.specs.Locating.{path_of, behind, placed}
 
 behind_under : (p : List Step) (i : Step) (l : List Located) → map (behind (p ++ i ∷ [])) l ≡ map (behind p) (map (under i) l)
@@ -72,3 +76,22 @@ found_at_top p old new all top none is = rw (top, none) at is ∙ at_top all
 pub placed_here : (fs : List Fault) → map (placed None) (map here fs) ≡ map here fs
 placed_here [] = refl
 placed_here (f ∷ fs) = ap (λ t. here f ∷ t) (placed_here fs)
+
+-- what is listed for the next AVP of a list
+pub located_next : (path : Option Path) (depth : ℕ) (avps : List AvpDef) (rule : List Entry) (p m k : List Avp) (a : Avp)
+    (nth : ℕ) (b : Bool) (new now total : List Located)
+    → m ≡ a ∷ k → b ≡ allows (entry_for rule (definition avps a))
+    → (is_wanted path (definition avps a) ≡ true → nth ≡ occurrence p a)
+    → new ≡ now ++ map (placed path) (avp_located (group_located depth avps nth) b a (definition avps a))
+    → now ++ map (placed path) (each_located (group_located depth avps) avps rule p m) ≡ total
+    → new ++ map (placed path) (each_located (group_located depth avps) avps rule (p ++ a ∷ []) k) ≡ total
+located_next path depth avps rule p m k a nth b new now total is allowed number one so_far =
+    let next = avp_located (group_located depth avps (occurrence p a)) (allows (entry_for rule (definition avps a))) a (definition avps a) in
+    let rest = each_located (group_located depth avps) avps rule (p ++ a ∷ []) k in
+    let same : new ≡ now ++ map (placed path) next
+    = rw allowed at one ∙ ap (λ t. now ++ t)
+    (number_alone path depth avps nth (occurrence p a) (allows (entry_for rule (definition avps a))) a (definition avps a) number) in
+    ap (λ t. t ++ map (placed path) rest) same
+    ∙ append_assoc now (map (placed path) next) (map (placed path) rest)
+    ∙ ap (λ t. now ++ t) (sym (map-append (placed path) next rest))
+    ∙ rw is at so_far

@@ -12,6 +12,7 @@ pub mod Links
 pub mod Listing
 pub mod Located
 pub mod Locating
+pub mod Numbers
 pub mod Printed
 pub mod Rules
 pub mod Tallies

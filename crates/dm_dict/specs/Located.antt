@@ -1,5 +1,6 @@
 -- Where the faults of a message lie: the groups round each failed AVP.
-use Rattle.std.specs.Prelude.{◌≡◌, ℕ, zero, suc, ◌+◌, Bool, Option, None, Some, List, [], ◌∷◌, ◌++◌, map, flat_map, if◌then◌else◌}
+use Rattle.std.specs.Prelude.{◌≡◌, ℕ, zero, suc, ◌+◌, Bool, ◌&&◌, nat_eq, length, filter, Option, None, Some, List, [], ◌∷◌, ◌++◌, map, flat_map, if◌then◌else◌}
+use Rattle.std.specs.Option.{option_eq}
 use Rattle.dm_wire.specs.declared.avp.Avp.{Avp}
 use Rattle.dm_wire.specs.declared.message.Message.{Message}
 use Rattle.dm_wire.specs.Members.{members}
@@ -15,8 +16,8 @@ use Rattle.dm_dict.specs.Limits.{group_limit}
 use Rattle.dm_dict.specs.Rules.{definition, entry_for, allows}
 use Rattle.dm_dict.specs.declared.path.Step.{Step}
 
--- A fault with its path: the groups round the failed AVP, the outermost first, each with its place among the AVPs of its
--- list from 0 on. Of an AVP that is missing these are the groups that lack it.
+-- A fault with its path: the groups round the failed AVP, the outermost first, each with its occurrence in its list. Of an
+-- AVP that is missing these are the groups that lack it.
 pub record Located : Type 0 where
   pub path : List Step
   pub fault : Fault
@@ -25,9 +26,17 @@ pub record Located : Type 0 where
 abbrev pub here : Fault → Located
 here f = record { path = []; fault = f }
 
--- the group a at place i
+-- of one code and vendor (4.1)
+abbrev pub is_alike : Avp → Avp → Bool
+is_alike a b = nat_eq a.code b.code && option_eq nat_eq a.vendor b.vendor
+
+-- an AVP's occurrence behind those of l: which of its code and vendor it is in its list, from 1 on
+abbrev pub occurrence : List Avp → Avp → ℕ
+occurrence l a = length (filter (λ b. is_alike b a) l) + 1
+
+-- the group a, which is the nth of its code and vendor
 abbrev pub step_at : ℕ → Avp → Step
-step_at i a = record { place = i; code = a.code; vendor = a.vendor }
+step_at nth a = record { nth = nth; code = a.code; vendor = a.vendor }
 
 -- in this group
 abbrev pub under : Step → Located → Located
@@ -49,24 +58,24 @@ no_groups rule a = []
 abbrev pub avp_located : (List Entry → Avp → List Located) → Bool → Avp → Option AvpDef → List Located
 avp_located groups allowed a f = map here (avp_faults no_groups allowed a f) ++ group_part groups a f
 
--- the AVPs of a list from place i on, under its rule
-abbrev pub each_located : (ℕ → List Entry → Avp → List Located) → List AvpDef → List Entry → ℕ → List Avp → List Located
-each_located groups avps rule i [] = []
-each_located groups avps rule i (a ∷ l) =
-    avp_located (groups i) (allows (entry_for rule (definition avps a))) a (definition avps a)
-    ++ each_located groups avps rule (i + 1) l
+-- the AVPs of a list behind those of p, under its rule
+abbrev pub each_located : (ℕ → List Entry → Avp → List Located) → List AvpDef → List Entry → List Avp → List Avp → List Located
+each_located groups avps rule p [] = []
+each_located groups avps rule p (a ∷ l) =
+    avp_located (groups (occurrence p a)) (allows (entry_for rule (definition avps a))) a (definition avps a)
+    ++ each_located groups avps rule (p ++ a ∷ []) l
 
 -- a list of AVPs under a rule: each AVP in order, and then each entry of the rule in order
 abbrev pub list_located_by : (ℕ → List Entry → Avp → List Located) → List AvpDef → List Entry → List Avp → List Located
 list_located_by groups avps rule l =
-    each_located groups avps rule 0 l ++ map here (flat_map (entry_faults avps rule l) rule)
+    each_located groups avps rule [] l ++ map here (flat_map (entry_faults avps rule l) rule)
 
--- the members of the group at place i
+-- the members of the group that is the nth of its code and vendor
 abbrev pub members_located : (List Avp → List Located) → ℕ → Avp → Option (List Avp) → List Located
-members_located inside i a None = map here (member_faults (λ l. []) a None)
-members_located inside i a (Some l) = map (under (step_at i a)) (inside l)
+members_located inside nth a None = map here (member_faults (λ l. []) a None)
+members_located inside nth a (Some l) = map (under (step_at nth a)) (inside l)
 
--- the group at place i, where n groups may stand inside each other
+-- the group that is the ith of its code and vendor, where n groups may stand inside each other
 abbrev pub group_located : ℕ → List AvpDef → ℕ → List Entry → Avp → List Located
 group_located zero avps i rule a = map here (group_faults zero avps rule a)
 group_located (suc n) avps i rule a =

@@ -19,6 +19,7 @@ mod links;
 mod listing_entries;
 mod locating;
 mod message_faults;
+mod numbers;
 mod opening;
 mod path;
 mod places;

@@ -1,13 +1,13 @@
 //! All faults of AVPs under a rule, each with the groups round it or without (RFC 6733, 4.1, 4.4 and 7.1.5).
-ghost use Rattle.std.specs.Prelude.{◌≡◌, List, slice_get, map, flat_map, OnOk};
+ghost use Rattle.std.specs.Prelude.{◌≡◌, ◌<◌, ◌^◌, [], List, slice_get, map, flat_map, OnOk};
 ghost use Rattle.std.specs.Option.{option_and_then, option_copied};
 ghost use Rattle.dm_wire.specs.declared.avp.Avp.{Avp};
 ghost use Rattle.dm_tables.specs.Tables.{IsTables};
 ghost use Rattle.dm_dict.specs.Apart.{IsFit};
 ghost use Rattle.dm_dict.specs.Linked.{IsLinked, IsRule};
-ghost use Rattle.dm_wire.specs.Borrowed.{avp_of, Lists};
+ghost use Rattle.dm_wire.specs.Borrowed.{avp_of, size_of, Lists};
 ghost use Rattle.dm_dict.specs.Faults.{avp_faults, entry_faults};
-ghost use Rattle.dm_dict.specs.Located.{here, no_groups, avp_located, group_located, list_located};
+ghost use Rattle.dm_dict.specs.Located.{here, no_groups, avp_located, each_located, group_located, list_located};
 ghost use Rattle.dm_dict.specs.Locating.{AddsAt, HasRoom};
 ghost use Rattle.dm_dict.specs.Rules.{definition};
 
@@ -19,14 +19,17 @@ use crate::findings::Findings;
 use crate::judged::Failed;
 use crate::linked::{Linked, LinkedAvp, LinkedRule};
 use crate::listing_entries::list_entries;
+use crate::numbers::number;
 use crate::path::{Path, Step};
 use crate::rules::{allows, look_up};
 use dm_tables::{AvpDef, Tables};
 use dm_value::{AvpType, NoMemory};
 use dm_wire::{AvpRef, AvpsRef, spells_avps};
+use indexmap::IndexMap;
 use std::alloc::Global;
 
 /// Lists what is wrong with an AVP of this definition, but for its members.
+#[inline(always)]
 fn put_own<'a>(
     findings: &mut Findings<'a>,
     path: Option<&Path>,
@@ -86,14 +89,14 @@ fn locate_entries<'a>(
     Ok(())
 }
 
-/// Lists the faults of the AVP at this place of its list, whose definition has this place, inside which so many groups
-/// may stand.
+/// Lists the faults of the AVP that is the nth of its code and vendor, whose definition has this place, inside which so
+/// many groups may stand.
 #[cycle(locating)]
 fn locate_avp<'a>(
     alloc: Global,
     findings: &mut Findings<'a>,
     path: Option<&Path>,
-    at: usize,
+    nth: usize,
     dictionary: &Linked,
     place: Option<usize>,
     allowed: bool,
@@ -106,7 +109,7 @@ fn locate_avp<'a>(
         ≡ definition dictionary.now.tables.avps.items (avp_of avp) }
     requires room { HasRoom (option_copied path) depth }
     ensures { OnOk result (AddsAt findings.old findings.new (option_copied path.entry)
-        (avp_located (group_located depth dictionary.now.tables.avps.items at) allowed
+        (avp_located (group_located depth dictionary.now.tables.avps.items nth) allowed
         (avp_of avp.entry) (definition dictionary.now.tables.avps.items (avp_of avp.entry)))) }
 {
     let Some(LinkedAvp { def, links }) = dictionary.avp_at(place) else {
@@ -121,19 +124,19 @@ fn locate_avp<'a>(
             entries: &def.rule,
             links,
         };
-        return locate_group(alloc, findings, path, at, dictionary, rule, avp, depth);
+        return locate_group(alloc, findings, path, nth, dictionary, rule, avp, depth);
     }
     Ok(())
 }
 
-/// Lists the faults of the Grouped AVP of this rule at this place of its list, where so many groups may stand inside each
-/// other.
+/// Lists the faults of the Grouped AVP of this rule that is the nth of its code and vendor, where so many groups may stand
+/// inside each other.
 #[cycle(locating)]
 fn locate_group<'a>(
     alloc: Global,
     findings: &mut Findings<'a>,
     path: Option<&Path>,
-    at: usize,
+    nth: usize,
     dictionary: &Linked,
     rule: LinkedRule<'_>,
     avp: AvpRef<'a>,
@@ -144,7 +147,7 @@ fn locate_group<'a>(
     requires rule { IsRule dictionary.now.tables.avps.items rule }
     requires room { HasRoom (option_copied path) depth }
     ensures { OnOk result (AddsAt findings.old findings.new (option_copied path.entry)
-        (group_located depth dictionary.now.tables.avps.items at rule.entry.entries.now (avp_of avp.entry))) }
+        (group_located depth dictionary.now.tables.avps.items nth rule.entry.entries.now (avp_of avp.entry))) }
 {
     if depth == 0 {
         let (code, failed) = (INVALID_AVP_VALUE, Failed::Found(avp));
@@ -160,7 +163,7 @@ fn locate_group<'a>(
         return locate_list(alloc, findings, None, dictionary, rule, list, depth - 1);
     };
     let inside = path.inside(Step {
-        place: at,
+        nth,
         code: avp.code,
         vendor: avp.vendor,
     });
@@ -173,6 +176,41 @@ fn locate_group<'a>(
         list,
         depth - 1,
     )?;
+    Ok(())
+}
+
+/// Lists the faults of each AVP under the rule, where so many groups may stand inside each other.
+#[cycle(locating)]
+fn locate_avps<'a>(
+    alloc: Global,
+    findings: &mut Findings<'a>,
+    path: Option<&Path>,
+    numbers: &mut IndexMap<(u32, Option<u32>), usize>,
+    dictionary: &Linked,
+    rule: LinkedRule<'_>,
+    list: AvpsRef<'a>,
+    depth: u32,
+) -> Result<(), NoMemory>
+    requires linked { IsLinked dictionary.now }
+    requires fit { IsFit dictionary.now.tables.avps.items }
+    requires rule { IsRule dictionary.now.tables.avps.items rule }
+    requires room { HasRoom (option_copied path) depth }
+    requires none { numbers.old.entries ≡ [] }
+    requires size { size_of list < 2 ^ 64 }
+    ensures { OnOk result ((l : List Avp) → Lists list.entry l → AddsAt findings.old findings.new (option_copied path.entry)
+        (each_located (group_located depth dictionary.now.tables.avps.items) dictionary.now.tables.avps.items
+        rule.entry.entries.now [] l)) }
+{
+    let mut left = list;
+    while let Some((avp, rest)) = left.split_first() {
+        let (place, entry) = look_up(&dictionary.tables, rule, avp);
+        let allowed = allows(rule.entries, entry);
+        let nth = number(numbers, path, dictionary, place, avp)?;
+        locate_avp(
+            alloc, findings, path, nth, dictionary, place, allowed, avp, depth,
+        )?;
+        left = rest;
+    }
     Ok(())
 }
 
@@ -194,16 +232,18 @@ pub(crate) fn locate_list<'a>(
     ensures { OnOk result ((l : List Avp) → Lists list.entry l → AddsAt findings.old findings.new (option_copied path.entry)
         (list_located depth dictionary.now.tables.avps.items rule.entry.entries.now l)) }
 {
-    let mut left = list;
-    let mut at: usize = 0;
-    while let Some((avp, rest)) = left.split_first() {
-        let (place, entry) = look_up(&dictionary.tables, rule, avp);
-        let allowed = allows(rule.entries, entry);
-        locate_avp(
-            alloc, findings, path, at, dictionary, place, allowed, avp, depth,
-        )?;
-        left = rest;
-        at += 1;
-    }
+    let mut numbers = IndexMap::new(alloc);
+    let done = locate_avps(
+        alloc,
+        findings,
+        path,
+        &mut numbers,
+        dictionary,
+        rule,
+        list,
+        depth,
+    );
+    drop(numbers);
+    done?;
     locate_entries(alloc, findings, path, &dictionary.tables, rule, list)
 }

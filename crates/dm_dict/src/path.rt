@@ -4,8 +4,8 @@ ghost use Rattle.std.specs.Prelude.{◌≤◌};
 /// A group round an AVP.
 #[derive(Clone, Copy, Debug)]
 pub struct Step {
-    /// Its place among the AVPs of its list, from 0 on.
-    pub place: usize,
+    /// Which of its AVP Code and Vendor-ID it is in its list, from 1 on.
+    pub nth: usize,
     /// Its AVP Code.
     pub code: u32,
     /// Its Vendor-ID, where it has one.

@@ -21,7 +21,7 @@ impl Path {
         ensures size { result.size ≡ 0 }
     {
         let none = Step {
-            place: 0,
+            nth: 0,
             code: 0,
             vendor: None,
         };
