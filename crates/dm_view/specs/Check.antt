@@ -13,9 +13,9 @@ use Rattle.dm_view.specs.Reasons.{reason_text}
 use Rattle.dm_view.specs.Results.{result_text}
 use Rattle.dm_view.specs.View.{avp_name, front_view, command_of, header_view}
 
--- a group round the AVP: its name, and its place among the AVPs of its list
+-- a group round the AVP: its name, and which of its code and vendor it is in its list
 unfoldable pub step_text : List AvpDef → Step → List ℕ
-step_text avps s = codes " " ++ (avp_name (find (is_coded s.code s.vendor) avps) ++ (codes "[" ++ (decimal s.place ++ codes "] /")))
+step_text avps s = codes " " ++ (avp_name (find (is_coded s.code s.vendor) avps) ++ (codes "[" ++ (decimal s.nth ++ codes "] /")))
 
 -- what of a failed AVP is printed: all but its data
 abbrev pub front_of : Avp → Avp

@@ -19,14 +19,14 @@ use dm_dict::{AvpDef, Dictionary, Failed, LocatedFault, NoMemory, Step};
 use dm_wire::{AvpRef, MessageRef};
 use std::alloc::{AllocError, Global};
 
-/// Appends a group round an AVP: its name and its place.
+/// Appends a group round an AVP: its name, and which of that name it is in its list.
 #[tactic(auto, unfolding(crate::specs::Check::step_text))]
 fn put_step(text: &mut String, dictionary: &Dictionary, step: &Step) -> Result<(), AllocError>
     ensures { OnOk result (string_bytes text.new ≡ string_bytes text.old ++ step_text dictionary.now.avps step.now) }
 {
     text.push_str(" ")?;
     put_name(text, dictionary.avp_by_code(step.code, step.vendor))?;
-    write!(text, "[{}] /", step.place)?;
+    write!(text, "[{}] /", step.nth)?;
     Ok(())
 }
 

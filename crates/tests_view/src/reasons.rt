@@ -30,7 +30,7 @@ fn messages_with_reasons(rt: HostRuntime) {
             ),
             (
                 "0100004c8000012c000000040000001100000022000017744000000c000000010000177c4000000c000000030000177640000020000017744000000c00000001000017784000000b00000000",
-                "1: bad Thing 300 request, application 4, hop-by-hop 17 (0x00000011), end-to-end 34 (0x00000022)\n  5004 DIAMETER_INVALID_AVP_VALUE Colour 6012 -M-: wrong value\n  5014 DIAMETER_INVALID_AVP_LENGTH Group[2] / When 6008 -M-: length 3, not 4\n0 good, 1 bad\n",
+                "1: bad Thing 300 request, application 4, hop-by-hop 17 (0x00000011), end-to-end 34 (0x00000022)\n  5004 DIAMETER_INVALID_AVP_VALUE Colour 6012 -M-: wrong value\n  5014 DIAMETER_INVALID_AVP_LENGTH Group[1] / When 6008 -M-: length 3, not 4\n0 good, 1 bad\n",
                 false,
             ),
             (
