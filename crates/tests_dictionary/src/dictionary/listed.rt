@@ -72,15 +72,16 @@ fn all_faults_are_listed(rt: HostRuntime) {
     assert_listed(&rt);
 }
 
-/// A Device-Watchdog-Request with a Vendor-Specific-Application-Id behind two AVPs, in which a Result-Code may not stand.
+/// A Device-Watchdog-Request with two Vendor-Specific-Application-Id behind two AVPs; in the second stands a Result-Code,
+/// which may not.
 const IN_GROUP: &str =
-    "01000058800001180000000000000001000000010000010840000011612e6578616d706c65000000000001284000000f6578616d706c650000000104400000200000010a4000000c000000000000010c4000000c000007d1";
+    "01000078800001180000000000000001000000010000010840000011612e6578616d706c65000000000001284000000f6578616d706c650000000104400000200000010a4000000c00000000000001024000000c0000000100000104400000200000010a4000000c000000000000010c4000000c000007d1";
 
-/// Whether there is one fault, of this Result-Code, inside the group of this place and code alone.
-fn is_inside(located: &[LocatedFault<'_>], code: u32, place: usize, group: u32) -> bool {
+/// Whether there is one fault, of this Result-Code, inside the nth group of this code alone.
+fn is_inside(located: &[LocatedFault<'_>], code: u32, nth: usize, group: u32) -> bool {
     match located {
         [one] => match one.path.as_slice() {
-            [step] => one.fault.code == code && step.place == place && step.code == group,
+            [step] => one.fault.code == code && step.nth == nth && step.code == group,
             _ => false,
         },
         _ => false,
@@ -96,7 +97,7 @@ fn assert_located(rt: &(impl Abort + AllocGlobal), base: &Dictionary, octets: &[
     assert!(rt; is_inside(located.as_slice(), 5008, 2, 260));
 }
 
-/// A fault inside a group has the group's place and code.
+/// A fault inside a group has the group's occurrence and code.
 #[test]
 fn faults_have_their_groups(rt: HostRuntime) {
     let base = Dictionary::base(rt.alloc()).expect(&rt, "a dictionary");
