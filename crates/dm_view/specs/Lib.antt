@@ -1,4 +1,6 @@
 pub mod Check
+pub mod JsonView
+pub mod JsonWords
 pub mod Reasons
 pub mod Results
 pub mod View

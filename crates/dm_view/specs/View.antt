@@ -37,14 +37,15 @@ value_view values (Text text) = quoted text
 value_view values (Enumerated n) = listed_text (option_map (λ v. v.name) (find (has_number n) values)) n
 value_view values v = value_text v
 
--- data that has no value, in hexadecimal, behind what is wrong with it
+-- what is wrong with data that has no value
 abbrev pub flaw_words : ValueFault → List ℕ
-flaw_words WrongLength = codes " wrong length "
-flaw_words _ = codes " wrong value "
+flaw_words WrongLength = codes "wrong length"
+flaw_words _ = codes "wrong value"
 
+-- data that has no value, in hexadecimal, behind what is wrong with it
 abbrev pub data_view_by : Option ValueFault → AvpDef → List ℕ → List ℕ
 data_view_by None f s = codes " " ++ value_view f.values (value_in f.kind s)
-data_view_by (Some fault) f s = flaw_words fault ++ data_text s
+data_view_by (Some fault) f s = codes " " ++ flaw_words fault ++ codes " " ++ data_text s
 
 -- the data of an AVP of this definition that is no group
 unfoldable pub data_view : AvpDef → List ℕ → List ℕ

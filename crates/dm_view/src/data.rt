@@ -55,23 +55,24 @@ fn put_meant(
 }
 
 /// What is wrong with data, in words.
-fn flaw_words(fault: ValueFault) -> &'static str
+pub(crate) fn flaw_words(fault: ValueFault) -> &'static str
     ensures { result.now ≡ flaw_words fault }
 {
     match fault {
-        ValueFault::WrongLength => " wrong length ",
-        ValueFault::WrongValue => " wrong value ",
-        ValueFault::TooLong => " wrong value ",
-        ValueFault::NoMemory => " wrong value ",
+        ValueFault::WrongLength => "wrong length",
+        ValueFault::WrongValue => "wrong value",
+        ValueFault::TooLong => "wrong value",
+        ValueFault::NoMemory => "wrong value",
     }
 }
 
 /// Appends what is wrong with data, and the data.
 fn put_flaw(text: &mut String, fault: ValueFault, octets: &[u8]) -> Result<(), AllocError>
-    ensures { OnOk result (string_bytes text.new ≡ string_bytes text.old ++ flaw_words fault ++ data_text octets.now) }
+    ensures { OnOk result (string_bytes text.new
+        ≡ string_bytes text.old ++ codes " " ++ flaw_words fault ++ codes " " ++ data_text octets.now) }
 {
     let words = flaw_words(fault);
-    write!(text, "{words}{}", Data(octets))
+    write!(text, " {words} {}", Data(octets))
 }
 
 /// Appends the data of an AVP of this definition.

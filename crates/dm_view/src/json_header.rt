@@ -1,0 +1,79 @@
+//! A header in JSON (RFC 6733, 3).
+ghost use Rattle.std.specs.Prelude.{◌≡◌, ◌++◌, OnOk};
+ghost use Rattle.std.specs.Option.{option_copied};
+ghost use Rattle.json.specs.Tree.{json_tokens, members_tokens};
+ghost use Rattle.dm_view.specs.JsonView.{command_json, kind_words, header_words, identifiers, header_json};
+ghost use Rattle.dm_view.specs.View.{command_of};
+
+use crate::json_text::JsonText;
+use crate::json_words::{put_name, put_word};
+use dm_dict::{CommandDef, Dictionary};
+use dm_wire::Header;
+use std::alloc::{AllocError, Global};
+
+/// Appends the name of a command, where it has a definition.
+fn put_command(
+    alloc: Global,
+    json: &mut JsonText,
+    def: Option<&CommandDef>,
+) -> Result<(), AllocError>
+    ensures { OnOk result (json.new ≡ json.old ++ json_tokens (command_json (option_copied def.entry))) }
+{
+    match def {
+        Some(def) => put_name(alloc, json, Some(&def.name)),
+        None => put_name(alloc, json, None),
+    }
+}
+
+/// Whether it is a request's, in words.
+fn kind_words(header: &Header) -> &'static str
+    ensures { result.now ≡ kind_words header.now }
+{
+    if header.request { "request" } else { "answer" }
+}
+
+/// Appends the flags of a header in words.
+fn put_flags(json: &mut JsonText, header: &Header) -> Result<(), AllocError>
+    ensures { OnOk result (json.new ≡ json.old ++ json_tokens (header_words header.now)) }
+{
+    json.begin_array()?;
+    json.string(kind_words(header))?;
+    put_word(json, header.proxiable, "proxiable")?;
+    put_word(json, header.error, "error")?;
+    put_word(json, header.retransmit, "retransmitted")?;
+    json.end_array()?;
+    Ok(())
+}
+
+/// Appends the application and the identifiers of a header, and the end of its object.
+fn put_identifiers(json: &mut JsonText, header: &Header) -> Result<(), AllocError>
+    ensures { OnOk result (json.new ≡ json.old ++ members_tokens (identifiers header.now)) }
+{
+    json.number_member("application", header.application)?;
+    json.number_member("hop_by_hop", header.hop_id)?;
+    json.number_member("end_to_end", header.end_id)?;
+    json.end_object()?;
+    Ok(())
+}
+
+/// Appends a header: the command's name, code, flags in words, application and identifiers.
+#[tactic(auto, unfolding(crate::specs::JsonView::header_json))]
+pub fn put_json_header(
+    alloc: Global,
+    json: &mut JsonText,
+    dictionary: &Dictionary,
+    header: &Header,
+) -> Result<(), AllocError>
+    ensures { OnOk result (json.new
+        ≡ json.old ++ json_tokens (header_json (command_of dictionary.now header.now) header.now)) }
+{
+    let def = dictionary.command(header.command, header.request, false);
+    json.begin_object()?;
+    json.key("command")?;
+    put_command(alloc, json, def)?;
+    json.number_member("code", header.command)?;
+    json.key("flags")?;
+    put_flags(json, header)?;
+    put_identifiers(json, header)?;
+    Ok(())
+}

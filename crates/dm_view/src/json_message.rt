@@ -1,0 +1,39 @@
+//! A message in JSON (RFC 6733, 3).
+ghost use Rattle.std.specs.Prelude.{◌≡◌, ◌++◌, List, OnOk};
+ghost use Rattle.json.specs.Json.{Members};
+ghost use Rattle.json.specs.Tree.{members_tokens};
+ghost use Rattle.dm_wire.specs.declared.avp.Avp.{Avp};
+ghost use Rattle.dm_wire.specs.Spelling.{SpellsList};
+ghost use Rattle.dm_view.specs.JsonView.{message_members};
+
+use crate::avps::GROUPS_SHOWN;
+use crate::json_avps::put_avps;
+use crate::json_header::put_json_header;
+use crate::json_text::JsonText;
+use dm_dict::Dictionary;
+use dm_wire::laws::spelled_are_members;
+use dm_wire::{AvpsRef, MessageRef};
+use std::alloc::{AllocError, Global};
+
+/// Appends what a message says by the dictionary, as members of an object that is open: its header and its AVPs.
+///
+/// Where memory is wanted, what is appended is of no use.
+pub fn put_json_message(
+    alloc: Global,
+    json: &mut JsonText,
+    dictionary: &Dictionary,
+    message: &MessageRef<'_>,
+) -> Result<(), AllocError>
+    ensures { (l : List Avp) → SpellsList l message.now.rest.now → (more : Members) → OnOk result (json.new
+        ++ members_tokens more ≡ json.old ++ members_tokens (message_members dictionary.now
+        (record { header = message.now.header; avps = l }) more)) }
+{
+    spelled_are_members();
+    json.key("header")?;
+    put_json_header(alloc, json, dictionary, &message.header)?;
+    json.key("avps")?;
+    json.begin_array()?;
+    let list = AvpsRef::Spelled(message.rest);
+    put_avps(alloc, json, dictionary, list, GROUPS_SHOWN)?;
+    Ok(())
+}

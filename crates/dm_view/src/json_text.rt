@@ -1,0 +1,134 @@
+//! A text in JSON, a token at a time (RFC 8259).
+ghost use Rattle.std.specs.Prelude.{◌≡◌, ◌++◌, ◌∷◌, [], OnOk};
+ghost use Rattle.std.specs.Fmt.{decimal, signed_decimal};
+ghost use Rattle.std.specs.String.{string_bytes};
+ghost use Rattle.json.specs.Print.{print};
+ghost use Rattle.json.specs.Token.{begin_object, end_object, begin_array, end_array, key, string, number, null};
+
+use json::Writer;
+use std::alloc::{AllocError, Global};
+use std::marker::Model;
+use std::str;
+
+/// A text in JSON, as far as it is written: its tokens. The commas and colons between them are the writer's.
+#[derive(Drop)]
+pub struct JsonText {
+    writer: Writer,
+}
+
+impl Model for JsonText {
+    ghost use Rattle.std.specs.Prelude.{◌≡◌, List, []};
+    ghost use Rattle.json.specs.Token.{Token, tokens_code};
+
+    ghost Value = { List Token };
+
+    ghost coded = { tokens_code };
+
+    ghost view = { λ text. text.writer.tokens };
+
+    ghost invariant = { λ text. text.writer.before ≡ [] };
+}
+
+impl JsonText {
+    /// No tokens.
+    pub fn new(alloc: Global) -> JsonText
+        ensures { result ≡ [] }
+    {
+        JsonText {
+            writer: Writer::new(Vec::new(alloc)),
+        }
+    }
+
+    /// Opens an object.
+    pub fn begin_object(&mut self) -> Result<(), AllocError>
+        ensures { OnOk result (self.new ≡ self.old ++ begin_object ∷ []) }
+    {
+        self.writer.begin_object()
+    }
+
+    /// Closes an object.
+    pub fn end_object(&mut self) -> Result<(), AllocError>
+        ensures { OnOk result (self.new ≡ self.old ++ end_object ∷ []) }
+    {
+        self.writer.end_object()
+    }
+
+    /// Opens an array.
+    pub fn begin_array(&mut self) -> Result<(), AllocError>
+        ensures { OnOk result (self.new ≡ self.old ++ begin_array ∷ []) }
+    {
+        self.writer.begin_array()
+    }
+
+    /// Closes an array.
+    pub fn end_array(&mut self) -> Result<(), AllocError>
+        ensures { OnOk result (self.new ≡ self.old ++ end_array ∷ []) }
+    {
+        self.writer.end_array()
+    }
+
+    /// The name of a member, whose value follows.
+    pub fn key(&mut self, name: &str) -> Result<(), AllocError>
+        ensures { OnOk result (self.new ≡ self.old ++ key name.now ∷ []) }
+    {
+        self.writer.key(name)
+    }
+
+    /// A text.
+    pub fn string(&mut self, text: &str) -> Result<(), AllocError>
+        ensures { OnOk result (self.new ≡ self.old ++ string text.now ∷ []) }
+    {
+        self.writer.string(text)
+    }
+
+    /// A number from 0 on.
+    pub fn number(&mut self, value: u64) -> Result<(), AllocError>
+        ensures { OnOk result (self.new ≡ self.old ++ number (decimal value) ∷ []) }
+    {
+        self.writer.u64(value)
+    }
+
+    /// A number.
+    pub fn signed(&mut self, value: i64) -> Result<(), AllocError>
+        ensures { OnOk result (self.new ≡ self.old ++ number (signed_decimal value) ∷ []) }
+    {
+        self.writer.i64(value)
+    }
+
+    /// Nothing.
+    pub fn null(&mut self) -> Result<(), AllocError>
+        ensures { OnOk result (self.new ≡ self.old ++ null ∷ []) }
+    {
+        self.writer.null()
+    }
+
+    /// A member that is a text.
+    pub fn text_member(&mut self, name: &str, text: &str) -> Result<(), AllocError>
+        ensures { OnOk result (self.new ≡ self.old ++ key name.now ∷ string text.now ∷ []) }
+    {
+        self.key(name)?;
+        self.string(text)
+    }
+
+    /// A member that is a number from 0 on.
+    pub fn number_member(&mut self, name: &str, value: u32) -> Result<(), AllocError>
+        ensures { OnOk result (self.new ≡ self.old ++ key name.now ∷ number (decimal value) ∷ []) }
+    {
+        self.key(name)?;
+        self.number(u64::from(value))
+    }
+
+    /// Appends what is written as a line.
+    pub fn put_line(self, text: &mut String) -> Result<(), AllocError>
+        ensures { OnOk result (string_bytes text.new ≡ string_bytes text.old ++ print self ++ 10 ∷ []) }
+    {
+        let octets = self.writer.into_inner();
+        match str::from_utf8(octets.as_slice()) {
+            Ok(line) => {
+                text.push_str(line)?;
+                text.push_str("\n")
+            }
+            Err(_) => unreachable!(),
+        }
+    }
+}
