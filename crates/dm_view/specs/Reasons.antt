@@ -1,5 +1,5 @@
 -- Why an AVP is a fault, in words (own; the codes are those of RFC 6733, 7.1.5).
-use Rattle.std.specs.Prelude.{ℕ, nat_eq, Option, None, Some, List, [], ◌++◌, codes, if◌then◌else◌}
+use Rattle.std.specs.Prelude.{ℕ, Bool, ◌||◌, nat_eq, Option, None, Some, List, [], ◌++◌, codes, if◌then◌else◌}
 use Rattle.std.specs.Fmt.{decimal}
 use Rattle.dm_value.specs.declared.avp_type.AvpType.{AvpType}
 use Rattle.dm_value.specs.declared.avp_type.AvpType.TheVariants.{OctetString, Address, UTF8String, DiameterIdentity, DiameterURI, Grouped}
@@ -18,16 +18,25 @@ bound_words kind = codes ", not "
 
 -- data of this length, which its type doesn't have; of a group its octets are no AVPs one after the other (4.4)
 abbrev pub length_words : Option AvpType → ℕ → List ℕ
-length_words None n = codes ": length " ++ decimal n
-length_words (Some Grouped) n = codes ": no AVPs one after the other"
-length_words (Some kind) n = codes ": length " ++ decimal n ++ bound_words kind ++ decimal (least_length kind)
+length_words None n = codes "length " ++ decimal n
+length_words (Some Grouped) n = codes "no AVPs one after the other"
+length_words (Some kind) n = codes "length " ++ decimal n ++ bound_words kind ++ decimal (least_length kind)
 
 -- why an AVP of this type, whose data has this length, is a fault of the Result-Code
-abbrev pub reason_text : ℕ → Option AvpType → ℕ → List ℕ
-reason_text code kind n =
-    if nat_eq code avp_unsupported then codes ": not known, and mandatory"
-    else (if nat_eq code avp_not_allowed then codes ": not allowed here"
-    else (if nat_eq code avp_occurs_too_many_times then codes ": one too many"
-    else (if nat_eq code invalid_avp_value then codes ": wrong value"
+abbrev pub reason_words : ℕ → Option AvpType → ℕ → List ℕ
+reason_words code kind n =
+    if nat_eq code avp_unsupported then codes "not known, and mandatory"
+    else (if nat_eq code avp_not_allowed then codes "not allowed here"
+    else (if nat_eq code avp_occurs_too_many_times then codes "one too many"
+    else (if nat_eq code invalid_avp_value then codes "wrong value"
     else (if nat_eq code invalid_avp_length then length_words kind n
     else []))))
+
+-- the Result-Codes of which it is told
+abbrev pub has_reason : ℕ → Bool
+has_reason code = nat_eq code avp_unsupported || (nat_eq code avp_not_allowed || (nat_eq code avp_occurs_too_many_times
+    || (nat_eq code invalid_avp_value || nat_eq code invalid_avp_length)))
+
+-- behind the front of the AVP
+abbrev pub reason_text : ℕ → Option AvpType → ℕ → List ℕ
+reason_text code kind n = if has_reason code then codes ": " ++ reason_words code kind n else []

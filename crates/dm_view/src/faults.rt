@@ -12,7 +12,7 @@ ghost use Rattle.dm_view.specs.Check.{step_text, front_of, failed_length, front_
 
 use crate::avps::{put_front, put_name};
 use crate::header::put_header;
-use crate::reasons::Reason;
+use crate::reasons::{Reason, ReasonBehind};
 use crate::results::ResultName;
 use dm_dict::codes::MISSING_AVP;
 use dm_dict::{AvpDef, Dictionary, Failed, LocatedFault, NoMemory, Step};
@@ -44,7 +44,7 @@ fn put_path(text: &mut String, dictionary: &Dictionary, path: &[Step]) -> Result
 }
 
 /// The failed AVP without its data.
-fn front_of(failed: Failed<'_>) -> Option<AvpRef<'_>>
+pub(crate) fn front_of(failed: Failed<'_>) -> Option<AvpRef<'_>>
     ensures { option_map avp_of result ≡ option_map front_of (failed_of failed.entry) }
 {
     match failed {
@@ -61,7 +61,7 @@ fn front_of(failed: Failed<'_>) -> Option<AvpRef<'_>>
 }
 
 /// How long the data of the failed AVP is.
-fn failed_length(failed: Failed<'_>) -> usize
+pub(crate) fn failed_length(failed: Failed<'_>) -> usize
     ensures { result ≡ failed_length (failed_of failed.entry) }
 {
     match failed {
@@ -89,7 +89,8 @@ fn put_words(
     text.push_str(" ")?;
     put_front(text, def, avp)?;
     let kind = def.map(|def| def.kind);
-    write!(text, "{}", Reason { code, kind, length })
+    let reason = Reason { code, kind, length };
+    write!(text, "{}", ReasonBehind(reason))
 }
 
 /// Appends a failed AVP, where there is one.

@@ -7,8 +7,10 @@ mod faults;
 mod header;
 mod json_avps;
 mod json_data;
+mod json_faults;
 mod json_header;
 mod json_message;
+mod json_path;
 mod json_text;
 mod json_words;
 mod message;
@@ -18,6 +20,7 @@ mod words;
 
 pub use faults::put_check;
 pub use header::put_header;
+pub use json_faults::{put_json_check, put_json_verdict};
 pub use json_header::put_json_header;
 pub use json_message::put_json_message;
 pub use json_text::JsonText;

@@ -1,6 +1,6 @@
 //! Why an AVP is a fault (RFC 6733, 7.1.5).
 ghost use Rattle.std.specs.Prelude.{◌≡◌, Some};
-ghost use Rattle.dm_view.specs.Reasons.{bound_words, length_words, reason_text};
+ghost use Rattle.dm_view.specs.Reasons.{bound_words, length_words, reason_words, reason_text};
 
 use dm_dict::codes::{
     AVP_NOT_ALLOWED, AVP_OCCURS_TOO_MANY_TIMES, AVP_UNSUPPORTED, INVALID_AVP_LENGTH,
@@ -41,11 +41,11 @@ impl fmt::Display for LengthWords {
 
     fn fmt<W: fmt::Write>(&self, f: &mut fmt::Formatter<W>) -> fmt::Result {
         match self.kind {
-            None => write!(f, ": length {}", self.length),
-            Some(AvpType::Grouped) => f.write_str(": no AVPs one after the other"),
+            None => write!(f, "length {}", self.length),
+            Some(AvpType::Grouped) => f.write_str("no AVPs one after the other"),
             Some(kind) => write!(
                 f,
-                ": length {}{}{}",
+                "length {}{}{}",
                 self.length,
                 bound_words(kind),
                 least_len(kind)
@@ -63,16 +63,35 @@ pub(crate) struct Reason {
 }
 
 impl fmt::Display for Reason {
-    ghost output = { λ reason. Some (reason_text reason.code reason.kind reason.length) };
+    ghost output = { λ reason. Some (reason_words reason.code reason.kind reason.length) };
 
     fn fmt<W: fmt::Write>(&self, f: &mut fmt::Formatter<W>) -> fmt::Result {
         let (kind, length) = (self.kind, self.length);
         match self.code {
-            AVP_UNSUPPORTED => f.write_str(": not known, and mandatory"),
-            AVP_NOT_ALLOWED => f.write_str(": not allowed here"),
-            AVP_OCCURS_TOO_MANY_TIMES => f.write_str(": one too many"),
-            INVALID_AVP_VALUE => f.write_str(": wrong value"),
+            AVP_UNSUPPORTED => f.write_str("not known, and mandatory"),
+            AVP_NOT_ALLOWED => f.write_str("not allowed here"),
+            AVP_OCCURS_TOO_MANY_TIMES => f.write_str("one too many"),
+            INVALID_AVP_VALUE => f.write_str("wrong value"),
             INVALID_AVP_LENGTH => write!(f, "{}", LengthWords { kind, length }),
+            _ => Ok(()),
+        }
+    }
+}
+
+/// The reason as it stands behind the front of the AVP.
+#[derive(Clone, Copy)]
+pub(crate) struct ReasonBehind(pub Reason);
+
+impl fmt::Display for ReasonBehind {
+    ghost output = { λ reason. Some (reason_text reason.0.code reason.0.kind reason.0.length) };
+
+    fn fmt<W: fmt::Write>(&self, f: &mut fmt::Formatter<W>) -> fmt::Result {
+        match self.0.code {
+            AVP_UNSUPPORTED
+            | AVP_NOT_ALLOWED
+            | AVP_OCCURS_TOO_MANY_TIMES
+            | INVALID_AVP_VALUE
+            | INVALID_AVP_LENGTH => write!(f, ": {}", self.0),
             _ => Ok(()),
         }
     }

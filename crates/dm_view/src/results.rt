@@ -28,7 +28,7 @@ fn avp_result(code: u32) -> &'static str
 }
 
 /// The name of a Result-Code of a fault.
-fn result_name(code: u32) -> &'static str
+pub(crate) fn result_name(code: u32) -> &'static str
     ensures { result.now ≡ result_name code }
 {
     match code {

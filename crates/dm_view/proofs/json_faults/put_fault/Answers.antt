@@ -1,0 +1,36 @@
+use Rattle.std.proofs.Common.{◌≡◌, ◌++◌, ◌∷◌, [], ap, ◌∙◌, codes, append_assoc}
+use Rattle.std.specs.Prelude.{option_map}
+use Rattle.std.specs.Fmt.{decimal}
+use Rattle.json.specs.Token.{begin_object, begin_array, key, number, string}
+use Rattle.json.specs.Tree.{items_tokens, members_tokens}
+use Rattle.dm_dict.specs.Locating.{told_at}
+use Rattle.dm_view.specs.Check.{front_of, failed_length}
+use Rattle.dm_view.specs.JsonCheck.{path_items, failed_members, fault_json}
+use Rattle.dm_view.specs.Results.{result_name}
+use Rattle.dm_view.proofs.json_faults.put_fault.Goals as goal
+
+pub returns : goal.returns
+unfolding fault_json
+returns c =
+    let avps = c.args.dictionary.now.avps in
+    let f = told_at c.args.fault.now in
+    let begun : c.begin_object.new.self ≡ c.args.json.now ++ begin_object ∷ [] = c.in_ok-begin_object.ensures in
+    let code : c.number_member.new.self ≡ c.begin_object.new.self
+    ++ key (codes "code") ∷ number (decimal f.fault.code) ∷ []
+    = c.in_ok-number_member.ensures in
+    let name : c.text_member.new.self ≡ c.number_member.new.self
+    ++ key (codes "name") ∷ string (result_name f.fault.code) ∷ []
+    = c.in_ok-text_member.ensures
+    ∙ ap (λ s. c.number_member.new.self ++ key (codes "name") ∷ string s ∷ []) c.result_name.ensures in
+    let named : c.key.new.self ≡ c.text_member.new.self ++ key (codes "path") ∷ [] = c.in_ok-key.ensures in
+    let opened : c.begin_array.new.self ≡ c.key.new.self ++ begin_array ∷ [] = c.in_ok-begin_array.ensures in
+    let path : c.put_path.new.json ≡ c.begin_array.new.self ++ items_tokens (path_items avps f.path)
+    = c.in_ok-put_path.ensures
+    ∙ ap (λ p. c.begin_array.new.self ++ items_tokens (path_items avps p)) c.as_slice.ensures in
+    let size = failed_length f.fault.failed in
+    let failed : c.put_failed.new.json ≡ c.put_path.new.json
+    ++ members_tokens (failed_members avps f.fault.code size (option_map front_of f.fault.failed))
+    = c.in_ok-put_failed.ensures
+    ∙ (λ i. c.put_path.new.json
+    ++ members_tokens (failed_members avps f.fault.code (c.failed_length-length.ensures i) (c.front_of.ensures i))) in
+    rw (failed, path, opened, named, name, code, begun) (simp append_assoc)

@@ -1,0 +1,174 @@
+//! All that is wrong with a message in JSON (RFC 6733, 7).
+ghost use Rattle.std.specs.Prelude.{◌≡◌, ◌++◌, ◌∷◌, List, codes, map, option_map, OnOk, IfOk};
+ghost use Rattle.std.specs.Option.{option_copied};
+ghost use Rattle.std.specs.String.{string_bytes};
+ghost use Rattle.json.specs.Json.{Members};
+ghost use Rattle.json.specs.Token.{key};
+ghost use Rattle.json.specs.Tree.{json_tokens, items_tokens, members_tokens};
+ghost use Rattle.dm_wire.specs.declared.avp.Avp.{Avp};
+ghost use Rattle.dm_wire.specs.Borrowed.{avp_of};
+ghost use Rattle.dm_wire.specs.Spelling.{SpellsList};
+ghost use Rattle.dm_dict.specs.Located.{located};
+ghost use Rattle.dm_dict.specs.Locating.{told_at};
+ghost use Rattle.dm_view.specs.Check.{are_none};
+ghost use Rattle.dm_view.specs.JsonCheck.{failed_words, failed_members_by, failed_members, fault_json, faults_items, verdict_json, check_members};
+
+use crate::faults::{failed_length, front_of};
+use crate::json_avps::put_front;
+use crate::json_header::put_json_header;
+use crate::json_path::put_path;
+use crate::json_text::JsonText;
+use crate::reasons::Reason;
+use crate::results::result_name;
+use dm_dict::codes::MISSING_AVP;
+use dm_dict::{AvpDef, Dictionary, LocatedFault, NoMemory};
+use dm_wire::{AvpRef, MessageRef};
+use std::alloc::{AllocError, Global};
+
+/// Why an AVP of this definition, whose data has this length, is a fault.
+fn failed_words(
+    alloc: Global,
+    code: u32,
+    def: Option<&AvpDef>,
+    length: usize,
+) -> Result<String, AllocError>
+    ensures { IfOk result (λ words. string_bytes words ≡ failed_words code (option_copied def.entry) length) }
+{
+    if code == MISSING_AVP {
+        return format!(in alloc; "missing");
+    }
+    let kind = def.map(|def| def.kind);
+    format!(in alloc; "{}", Reason { code, kind, length })
+}
+
+/// Appends a failed AVP, whose data has this length, and why it is a fault, and the end of the fault.
+fn put_failed_avp(
+    alloc: Global,
+    json: &mut JsonText,
+    code: u32,
+    def: Option<&AvpDef>,
+    length: usize,
+    avp: AvpRef<'_>,
+) -> Result<(), AllocError>
+    ensures { OnOk result (json.new ≡ json.old
+        ++ members_tokens (failed_members_by code (option_copied def.entry) length (avp_of avp.entry))) }
+{
+    json.key("avp")?;
+    json.begin_object()?;
+    put_front(alloc, json, def, avp)?;
+    json.end_object()?;
+    let words = failed_words(alloc, code, def, length)?;
+    json.text_member("reason", words.as_str())?;
+    json.end_object()
+}
+
+/// Appends a failed AVP, where there is one, and the end of the fault.
+fn put_failed(
+    alloc: Global,
+    json: &mut JsonText,
+    dictionary: &Dictionary,
+    code: u32,
+    length: usize,
+    failed: Option<AvpRef<'_>>,
+) -> Result<(), AllocError>
+    ensures { OnOk result (json.new ≡ json.old
+        ++ members_tokens (failed_members dictionary.now.avps code length (option_map avp_of failed.entry))) }
+{
+    let Some(avp) = failed else {
+        return json.end_object();
+    };
+    let def = dictionary.avp_by_code(avp.code, avp.vendor);
+    put_failed_avp(alloc, json, code, def, length, avp)
+}
+
+/// Appends a fault.
+#[tactic(auto, unfolding(crate::specs::JsonCheck::fault_json))]
+fn put_fault(
+    alloc: Global,
+    json: &mut JsonText,
+    dictionary: &Dictionary,
+    fault: &LocatedFault<'_>,
+) -> Result<(), AllocError>
+    ensures { OnOk result (json.new ≡ json.old ++ json_tokens (fault_json dictionary.now.avps (told_at fault.now))) }
+{
+    let (code, failed) = (fault.fault.code, fault.fault.failed);
+    json.begin_object()?;
+    json.number_member("code", code)?;
+    json.text_member("name", result_name(code))?;
+    json.key("path")?;
+    json.begin_array()?;
+    put_path(alloc, json, dictionary, fault.path.as_slice())?;
+    let length = failed_length(failed);
+    put_failed(alloc, json, dictionary, code, length, front_of(failed))?;
+    Ok(())
+}
+
+/// Appends faults, one after the other, and the end of their array.
+fn put_faults(
+    alloc: Global,
+    json: &mut JsonText,
+    dictionary: &Dictionary,
+    faults: &[LocatedFault<'_>],
+) -> Result<(), AllocError>
+    ensures { OnOk result (json.new
+        ≡ json.old ++ items_tokens (faults_items dictionary.now.avps (map told_at faults.now))) }
+{
+    let mut left = faults;
+    while let [fault, rest @ ..] = left {
+        put_fault(alloc, json, dictionary, fault)?;
+        left = rest;
+    }
+    json.end_array()
+}
+
+/// Appends whether a message is good.
+pub fn put_json_verdict(json: &mut JsonText, good: bool) -> Result<(), AllocError>
+    ensures { OnOk result (json.new ≡ json.old ++ key (codes "verdict") ∷ json_tokens (verdict_json good)) }
+{
+    json.text_member("verdict", if good { "good" } else { "bad" })
+}
+
+/// Appends what is said of a message of these faults.
+fn put_checked(
+    alloc: Global,
+    json: &mut JsonText,
+    dictionary: &Dictionary,
+    message: &MessageRef<'_>,
+    faults: &[LocatedFault<'_>],
+) -> Result<(), AllocError>
+    ensures { (l : List Avp) → map told_at faults.now
+        ≡ located dictionary.now (record { header = message.now.header; avps = l })
+        → (more : Members) → OnOk result (json.new ++ members_tokens more ≡ json.old ++ members_tokens
+        (check_members dictionary.now (record { header = message.now.header; avps = l }) more)) }
+{
+    put_json_verdict(json, faults.is_empty())?;
+    json.key("header")?;
+    put_json_header(alloc, json, dictionary, &message.header)?;
+    json.key("faults")?;
+    json.begin_array()?;
+    put_faults(alloc, json, dictionary, faults)?;
+    Ok(())
+}
+
+/// Appends all that is wrong with the message by the dictionary, as members of an object that is open: whether it is
+/// good, its header, and each fault in order. True where it is good.
+pub fn put_json_check(
+    alloc: Global,
+    json: &mut JsonText,
+    dictionary: &Dictionary,
+    message: &MessageRef<'_>,
+) -> Result<bool, NoMemory>
+    ensures said { (l : List Avp) → SpellsList l message.now.rest.now → (more : Members) → OnOk result (json.new
+        ++ members_tokens more ≡ json.old ++ members_tokens (check_members dictionary.now
+        (record { header = message.now.header; avps = l }) more)) }
+    // It is good where it has no faults.
+    ensures good { (l : List Avp) → SpellsList l message.now.rest.now → IfOk result (λ good.
+        good ≡ are_none (located dictionary.now (record { header = message.now.header; avps = l }))) }
+{
+    let faults = dictionary.located_in(alloc, message)?;
+    let good = faults.is_empty();
+    let done = put_checked(alloc, json, dictionary, message, faults.as_slice());
+    drop(faults);
+    done?;
+    Ok(good)
+}

@@ -1,0 +1,46 @@
+//! The groups round an AVP in JSON (RFC 6733, 4.4).
+ghost use Rattle.std.specs.Prelude.{◌≡◌, ◌++◌, OnOk};
+ghost use Rattle.json.specs.Tree.{json_tokens, items_tokens};
+ghost use Rattle.dm_view.specs.JsonCheck.{step_json, path_items};
+
+use crate::json_text::JsonText;
+use crate::json_words::{put_name, put_vendor};
+use dm_dict::{Dictionary, Step};
+use std::alloc::{AllocError, Global};
+
+/// Appends a group round an AVP: its name, code and vendor, and its place.
+fn put_step(
+    alloc: Global,
+    json: &mut JsonText,
+    dictionary: &Dictionary,
+    step: &Step,
+) -> Result<(), AllocError>
+    ensures { OnOk result (json.new ≡ json.old ++ json_tokens (step_json dictionary.now.avps step.now)) }
+{
+    let def = dictionary.avp_by_code(step.code, step.vendor);
+    json.begin_object()?;
+    json.key("name")?;
+    put_name(alloc, json, def.map(|def| &def.name))?;
+    json.number_member("code", step.code)?;
+    put_vendor(json, step.vendor)?;
+    json.key("place")?;
+    json.number(step.place as u64)?;
+    json.end_object()
+}
+
+/// Appends the groups round an AVP, the outermost first, and the end of their array.
+pub(crate) fn put_path(
+    alloc: Global,
+    json: &mut JsonText,
+    dictionary: &Dictionary,
+    path: &[Step],
+) -> Result<(), AllocError>
+    ensures { OnOk result (json.new ≡ json.old ++ items_tokens (path_items dictionary.now.avps path.now)) }
+{
+    let mut left = path;
+    while let [step, rest @ ..] = left {
+        put_step(alloc, json, dictionary, step)?;
+        left = rest;
+    }
+    json.end_array()
+}
