@@ -8,9 +8,8 @@ use Rattle.dm_view_lines.specs.declared.tally.Tally.{Tally}
 use Rattle.dm_view_lines.specs.Colours.{SaysStyled, styled}
 use Rattle.dm_view_lines.specs.Counts.{added, tally_of}
 use Rattle.dm_view_lines.specs.Digits.{octets_of_line}
-use Rattle.dm_view_lines.specs.Lines.{SaysLine, SaysEach, Says, last_line, numbered}
-use Rattle.dm_view_lines.specs.Reasons.{refusal_line}
-use Rattle.dm_view_lines.specs.Said.{answer, before_refusal, SaysOctets}
+use Rattle.dm_view_lines.specs.Lines.{SaysLine, SaysEach, Says, last_line}
+use Rattle.dm_view_lines.specs.Said.{answer, refused_said, SaysOctets}
 
 -- what octets say is one thing
 pub record OctetLaws : Type 0 where
@@ -19,15 +18,15 @@ pub record OctetLaws : Type 0 where
   pub no_message_refused : NoMessageRefused
 
 module _ (laws : OctetLaws) where
-  one_octets : (task : Task) (d : Definitions) (s text other : List ℕ) (good fine : Bool)
-      → SaysOctets task d s text good → SaysOctets task d s other fine → (text ≡ other) × (good ≡ fine)
-  one_octets task d s text other good fine (inl h) (inl k) =
+  one_octets : (task : Task) (d : Definitions) (n : ℕ) (s text other : List ℕ) (good fine : Bool)
+      → SaysOctets task d n s text good → SaysOctets task d n s other fine → (text ≡ other) × (good ≡ fine)
+  one_octets task d n s text other good fine (inl h) (inl k) =
       let same = (laws.one_message h.0 k.0 s s [] [] h.1 k.1 refl).0 in
-      (h.2 ∙ ap (λ m. (answer task d m).0) same ∙ sym k.2, h.3 ∙ ap (λ m. (answer task d m).1) same ∙ sym k.3)
-  one_octets task d s text other good fine (inl h) (inr k) = absurd (laws.no_message_refused h.0 s k.0 h.1 k.1)
-  one_octets task d s text other good fine (inr h) (inl k) = absurd (laws.no_message_refused k.0 s h.0 k.1 h.1)
-  one_octets task d s text other good fine (inr h) (inr k) = (
-    h.2 ∙ ap (λ f. before_refusal task d s f ++ refusal_line f) (laws.one_refusal s h.0 k.0 h.1 k.1) ∙ sym k.2,
+      (h.2 ∙ ap (λ m. (answer task d n m).0) same ∙ sym k.2, h.3 ∙ ap (λ m. (answer task d n m).1) same ∙ sym k.3)
+  one_octets task d n s text other good fine (inl h) (inr k) = absurd (laws.no_message_refused h.0 s k.0 h.1 k.1)
+  one_octets task d n s text other good fine (inr h) (inl k) = absurd (laws.no_message_refused k.0 s h.0 k.1 h.1)
+  one_octets task d n s text other good fine (inr h) (inr k) = (
+    h.2 ∙ ap (refused_said task d n s) (laws.one_refusal s h.0 k.0 h.1 k.1) ∙ sym k.2,
     h.3 ∙ sym k.3,
   )
 
@@ -36,8 +35,8 @@ module _ (laws : OctetLaws) where
   one_line task d n None text other v w h k = (h.0 ∙ sym k.0, h.1 ∙ sym k.1)
   one_line task d n (Some []) text other v w h k = (h.0 ∙ sym k.0, h.1 ∙ sym k.1)
   one_line task d n (Some (b ∷ s)) text other v w h k =
-      let same = one_octets task d (b ∷ s) h.0 k.0 h.1 k.1 h.2 k.2 in
-      (h.3 ∙ ap (numbered n) same.0 ∙ sym k.3, h.4 ∙ ap Some same.1 ∙ sym k.4)
+      let same = one_octets task d n (b ∷ s) text other h.0 k.0 h.1 k.1 in
+      (same.0, h.2 ∙ ap Some same.1 ∙ sym k.2)
 
   one_each : (task : Task) (d : Definitions) (n : ℕ) (l : List (Option (List ℕ))) (text other : List ℕ) (t u : Tally)
       → SaysEach task d n l text t → SaysEach task d n l other u → (text ≡ other) × (t ≡ u)

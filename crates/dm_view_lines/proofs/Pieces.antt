@@ -11,7 +11,7 @@ use Rattle.dm_view_lines.specs.declared.said.Task.{Task}
 use Rattle.dm_view_lines.specs.declared.tally.Tally.{Tally}
 use Rattle.dm_view_lines.specs.Counts.{no_lines, tally_of, added}
 use Rattle.dm_view_lines.specs.Frames.{SaysFrames}
-use Rattle.dm_view_lines.specs.Lines.{SaysLine, SaysEach, numbered}
+use Rattle.dm_view_lines.specs.Lines.{SaysLine, SaysEach}
 use Rattle.dm_view_lines.specs.Said.{SaysOctets}
 use Rattle.dm_view_lines.proofs.Steps.{added-assoc, added-none, none-added}
 
@@ -44,9 +44,9 @@ continues-end task d all held rest so fault first tally told before h =
 
 -- of a frame its line is said
 said-frame : (task : Task) (d : Definitions) (n : ℕ) (s said : List ℕ) (good : Bool) → IsFrame max_message_len s
-    → SaysOctets task d s said good → SaysLine task d n (Some s) (numbered n said) (Some good)
+    → SaysOctets task d n s said good → SaysLine task d n (Some s) said (Some good)
 said-frame task d n [] said good is h = absurd (let least = is.least in omega (arith, least))
-said-frame task d n (b ∷ s) said good is h = (said, good, h, refl, refl)
+said-frame task d n (b ∷ s) said good is h = (good, h, refl)
 
 behind-next : (t : Tally) (good : Bool) → behind t + 1 ≡ behind (added t (tally_of (Some good)))
 behind-next t true = omega arith
@@ -55,9 +55,9 @@ behind-next t false = omega arith
 -- a frame more
 frame-more : (task : Task) (d : Definitions) (s held message rest : List ℕ) (fault : Option FrameFault) (t : Tally)
     (said more : List ℕ) (good : Bool) (others : Tally) → s ≡ message ++ held → IsFrame max_message_len message
-    → SaysOctets task d message said good
+    → SaysOctets task d (behind t) message said good
     → SaysFrames task d (behind (added t (tally_of (Some good)))) held rest fault more others
-    → SaysFrames task d (behind t) s rest fault (numbered (behind t) said ++ more) (added (tally_of (Some good)) others)
+    → SaysFrames task d (behind t) s rest fault (said ++ more) (added (tally_of (Some good)) others)
 frame-more task d s held message rest fault t said more good others whole is h later =
     let Each : ℕ → Type 0 = λ n. SaysEach task d n (map Some later.frames) more others in
     record {
@@ -69,7 +69,7 @@ frame-more task d s held message rest fault t said more good others whole is h l
         fault_is = later.framed.fault_is;
       };
       each = record {
-        first = numbered (behind t) said;
+        first = said;
         rest = more;
         verdict = Some good;
         others = others;
@@ -82,17 +82,16 @@ frame-more task d s held message rest fault t said more good others whole is h l
 
 pub continues-next : (task : Task) (d : Definitions) (all s held message : List ℕ) (first t : Tally) (so said : List ℕ)
     (good : Bool) (told : Tally) → s ≡ message ++ held → IsFrame max_message_len message
-    → SaysOctets task d message said good → Continues task d all s first t so told
-    → Continues task d all held first (added t (tally_of (Some good))) (so ++ numbered (behind t) said)
+    → SaysOctets task d (behind t) message said good → Continues task d all s first t so told
+    → Continues task d all held first (added t (tally_of (Some good))) (so ++ said)
     (added told (tally_of (Some good)))
 continues-next task d all s held message first t so said good told whole is h before rest fault more others later =
-    let line = numbered (behind t) said in
     let one = tally_of (Some good) in
-    let done = before rest fault (line ++ more) (added one others)
+    let done = before rest fault (said ++ more) (added one others)
     (frame-more task d s held message rest fault t said more good others whole is h later) in
     let Text : List ℕ → Type 0 = λ v. SaysFrames task d (behind first) all rest fault v (added (added told one) others) in
-    let Counted : Tally → Type 0 = λ v. SaysFrames task d (behind first) all rest fault (so ++ (line ++ more)) v in
-    subst Text (sym (append_assoc so line more)) (subst Counted (added-assoc told one others) done)
+    let Counted : Tally → Type 0 = λ v. SaysFrames task d (behind first) all rest fault (so ++ (said ++ more)) v in
+    subst Text (sym (append_assoc so said more)) (subst Counted (added-assoc told one others) done)
 
 -- octets at whose front no message is whole yet have no frames
 pub frames-part : (task : Task) (d : Definitions) (n : ℕ) (s : List ℕ) → IsPartial max_message_len s
@@ -127,8 +126,8 @@ frames-counted task d n [] text tally each h = rw h.1 refl
 frames-counted task d n ([] ∷ l) text tally each h = absurd (let least = each.0.least in omega (arith, least))
 frames-counted task d n ((b ∷ s) ∷ l) text tally each h =
     let later = frames-counted task d (n + 1) l h.rest h.others each.1 h.behind in
-    let verdict = h.line.4 in
-    one h.verdict h.line.1 verdict h.tally_is later where
+    let verdict = h.line.2 in
+    one h.verdict h.line.0 verdict h.tally_is later where
       one : (v : Option Bool) (good : Bool) → v ≡ Some good → tally ≡ added (tally_of v) h.others
           → h.others.good + h.others.bad ≡ length l → tally.good + tally.bad ≡ suc (length l)
       one v true is total later = rw (total, is) (omega (arith, later))

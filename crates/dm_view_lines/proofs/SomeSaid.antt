@@ -15,34 +15,33 @@ use Rattle.dm_view_lines.specs.declared.tally.Tally.{Tally}
 use Rattle.dm_view_lines.specs.Colours.{SaysStyled, styled}
 use Rattle.dm_view_lines.specs.Counts.{no_lines, added, tally_of}
 use Rattle.dm_view_lines.specs.Digits.{line_digits, octets_of_line}
-use Rattle.dm_view_lines.specs.Lines.{SaysLine, SaysLines, last_line, numbered}
-use Rattle.dm_view_lines.specs.Reasons.{refusal_line}
-use Rattle.dm_view_lines.specs.Said.{answer, before_refusal, SaysOctets}
+use Rattle.dm_view_lines.specs.Lines.{SaysLine, SaysLines, last_line}
+use Rattle.dm_view_lines.specs.Said.{answer, bad_said, refused_said, SaysOctets}
 
 bytes_of : {E : Type 0} (r : Result (List ℕ) E) (octets : List ℕ) → result_ok r ≡ Some octets → r ≡ Ok octets
 bytes_of (Ok bytes) octets is = let same : bytes ≡ octets = cc in ap Ok same
 bytes_of (Err e) octets is = absurd (cc)
 
 module _ (message_or_fault : MessageOrFault) where
-  some_octets : (task : Task) (d : Definitions) (s : List ℕ) → IsBytes s
-      → (text : List ℕ) × (good : Bool) × SaysOctets task d s text good
-  some_octets task d s bytes = by (message_or_fault s bytes) where
+  some_octets : (task : Task) (d : Definitions) (n : ℕ) (s : List ℕ) → IsBytes s
+      → (text : List ℕ) × (good : Bool) × SaysOctets task d n s text good
+  some_octets task d n s bytes = by (message_or_fault s bytes) where
     by : ((m : Message) × SpellsMessage m s) ⊎ ((f : WireFault) × Refuses s f)
-        → (text : List ℕ) × (good : Bool) × SaysOctets task d s text good
-    by (inl h) = ((answer task d h.0).0, (answer task d h.0).1, inl (h.0, h.1, refl, refl))
-    by (inr h) = (before_refusal task d s h.0 ++ refusal_line h.0, false, inr (h.0, h.1, refl, refl))
+        → (text : List ℕ) × (good : Bool) × SaysOctets task d n s text good
+    by (inl h) = ((answer task d n h.0).0, (answer task d n h.0).1, inl (h.0, h.1, refl, refl))
+    by (inr h) = (refused_said task d n s h.0, false, inr (h.0, h.1, refl, refl))
 
   some_line : (task : Task) (d : Definitions) (n : ℕ) (line : List ℕ)
       → (text : List ℕ) × (verdict : Option Bool) × SaysLine task d n (octets_of_line line) text verdict
   some_line task d n line = by (octets_of_line line) refl where
     by : (o : Option (List ℕ)) → octets_of_line line ≡ o
         → (text : List ℕ) × (verdict : Option Bool) × SaysLine task d n o text verdict
-    by None is = (numbered n (codes "no hexadecimal" ++ 10 ∷ []), Some false, (refl, refl))
+    by None is = (bad_said task n (codes "no hexadecimal"), Some false, (refl, refl))
     by (Some []) is = ([], None, (refl, refl))
     by (Some (b ∷ s)) is =
-        let said = some_octets task d (b ∷ s)
+        let said = some_octets task d n (b ∷ s)
         (decode_of-ok (line_digits line) (b ∷ s) (bytes_of (decode_of (line_digits line)) (b ∷ s) is)).3 in
-        (numbered n said.0, Some said.1, (said.0, said.1, said.2, refl, refl))
+        (said.0, Some said.1, (said.1, said.2, refl))
 
   some_lines : (task : Task) (d : Definitions) (n : ℕ) (l : List (List ℕ))
       → (text : List ℕ) × (tally : Tally) × SaysLines task d n l text tally

@@ -8,7 +8,7 @@ use Rattle.dm_view_lines.specs.declared.said.Task.{Task}
 use Rattle.dm_view_lines.specs.declared.tally.Tally.{Tally}
 use Rattle.dm_view_lines.specs.Counts.{no_lines, tally_of, added}
 use Rattle.dm_view_lines.specs.Said.{SaysOctets}
-use Rattle.dm_view_lines.specs.Lines.{SaysLine, SaysEach, numbered}
+use Rattle.dm_view_lines.specs.Lines.{SaysLine, SaysEach}
 
 pub added-assoc : (t u v : Tally) → added t (added u v) ≡ added (added t u) v
 added-assoc t u v =
@@ -80,10 +80,10 @@ lines-next input line rest rest' before h k =
 
 -- of octets what is said of them
 pub says-some : (task : Task) (d : Definitions) (n : ℕ) (octets said : List ℕ) (good : Bool)
-    → nat_eq (length octets) 0 ≡ false → SaysOctets task d octets said good
-    → SaysLine task d n (Some octets) (numbered n said) (Some good)
+    → nat_eq (length octets) 0 ≡ false → SaysOctets task d n octets said good
+    → SaysLine task d n (Some octets) said (Some good)
 says-some task d n [] said good some h = absurd (cc)
-says-some task d n (b ∷ s) said good some h = (said, good, h, refl, refl)
+says-some task d n (b ∷ s) said good some h = (good, h, refl)
 
 -- and of none nothing
 pub says-none : (task : Task) (d : Definitions) (n : ℕ) (octets : List ℕ) → nat_eq (length octets) 0 ≡ true

@@ -11,6 +11,7 @@ use Rattle.dm_view_lines.specs.Lines.{Says}
 abbrev pub further_in : Task → List ℕ
 further_in Show = []
 further_in Check = 27 ∷ codes "[31m"
+further_in task = []
 
 -- the first line of a message is bold
 abbrev pub begun : Task → List ℕ → List ℕ
@@ -20,9 +21,15 @@ begun task (b ∷ s) = if b == 32 then further_in task else 27 ∷ codes "[1m"
 abbrev pub line_coloured : Task → List ℕ → List ℕ
 line_coloured task line = begun task line ++ (line ++ 27 ∷ codes "[0m" ++ 10 ∷ [])
 
+abbrev pub in_colours : Task → List ℕ → List ℕ
+in_colours task text = flat_map (line_coloured task) (lines text)
+
+-- JSON has no colours
 abbrev pub styled : Bool → Task → List ℕ → List ℕ
 styled false task text = text
-styled true task text = flat_map (line_coloured task) (lines text)
+styled true Show text = in_colours Show text
+styled true Check text = in_colours Check text
+styled true task text = text
 
 -- of these texts, with colours or without
 abbrev pub SaysInStyle : Bool → Task → (List ℕ → Bool → Type 0) → List ℕ → Bool → Type 0

@@ -3,6 +3,7 @@ use Rattle.std.specs.Prelude.{◌≡◌, ℕ, ◌+◌, Bool, false, nat_eq, Opti
 use Rattle.std.specs.Prelude.{List, [], ◌∷◌, ◌++◌, length, map, codes}
 use Rattle.std.specs.Fmt.{decimal}
 use Rattle.std.specs.Str.Lines.{lines}
+use Rattle.json.specs.Json.{object, Members, member}
 use Rattle.dm_framer.specs.declared.fault.FrameFault.{FrameFault}
 use Rattle.dm_framer.specs.declared.fault.FrameFault.TheVariants as framing
 use Rattle.dm_framer.specs.Frames.{Framed}
@@ -10,14 +11,18 @@ use Rattle.dm_wire.specs.Codes.{max_message_len}
 use Rattle.dm_wire.specs.declared.fault.WireFault.{WireFault}
 use Rattle.dm_wire.specs.declared.fault.WireFault.TheVariants.{Version, Length, TooLong, NoMemory}
 use Rattle.dm_tables.specs.Definitions.{Definitions}
+use Rattle.dm_view.specs.JsonWords.{number_json}
 use Rattle.dm_view_lines.specs.declared.said.Task.{Task}
+use Rattle.dm_view_lines.specs.declared.said.Task.TheVariants.{Show, Check, ShowJson, CheckJson}
 use Rattle.dm_view_lines.specs.declared.stop.Stop.{Stop}
 use Rattle.dm_view_lines.specs.declared.stop.Stop.TheVariants.{Fault, Line, Part}
 use Rattle.dm_view_lines.specs.declared.tally.Tally.{Tally}
 use Rattle.dm_view_lines.specs.Counts.{added, tally_of}
 use Rattle.dm_view_lines.specs.Digits.{octets_of_line}
-use Rattle.dm_view_lines.specs.Lines.{SaysEach, numbered, last_line}
-use Rattle.dm_view_lines.specs.Reasons.{refusal_line}
+use Rattle.dm_view_lines.specs.Json.{json_line, error_member, bad_members}
+use Rattle.dm_view_lines.specs.Lines.{SaysEach, last_line}
+use Rattle.dm_view_lines.specs.Reasons.{refusal_sentence}
+use Rattle.dm_view_lines.specs.Said.{bad_said}
 
 -- the octets of lines, up to the first line that is no hexadecimal
 abbrev pub octets_then : Option (List ℕ) → List ℕ → List ℕ
@@ -59,16 +64,28 @@ stream_refusal framing.BadLength = Length
 stream_refusal framing.TooLong = TooLong
 stream_refusal framing.NoMemory = NoMemory
 
--- the line that says why; n is the number behind those of the messages
-abbrev pub stop_line : ℕ → Stop → List ℕ
-stop_line n (Fault fault) = numbered n (refusal_line (stream_refusal fault))
-stop_line n (Line number) = codes "line " ++ decimal number ++ codes ": no hexadecimal" ++ 10 ∷ []
-stop_line n (Part size) =
-    numbered n (codes "no message: the stream ends inside it, at octet " ++ decimal size ++ 10 ∷ [])
+abbrev pub line_json : ℕ → Members → List ℕ
+line_json number more = json_line (object (member (codes "line") (number_json number) more))
 
-abbrev pub stop_text : ℕ → Option Stop → List ℕ
-stop_text n None = []
-stop_text n (Some stop) = stop_line n stop
+-- of the line of this number, which is no hexadecimal
+abbrev pub line_stopped : Task → ℕ → List ℕ
+line_stopped Show number = codes "line " ++ decimal number ++ codes ": no hexadecimal" ++ 10 ∷ []
+line_stopped Check number = codes "line " ++ decimal number ++ codes ": no hexadecimal" ++ 10 ∷ []
+line_stopped ShowJson number = line_json number (error_member (codes "no hexadecimal"))
+line_stopped CheckJson number = line_json number (bad_members (error_member (codes "no hexadecimal")))
+
+abbrev pub part_words : ℕ → List ℕ
+part_words size = codes "no message: the stream ends inside it, at octet " ++ decimal size
+
+-- the line that says why; n is the number behind those of the messages
+abbrev pub stop_line : Task → ℕ → Stop → List ℕ
+stop_line task n (Fault fault) = bad_said task n (refusal_sentence (stream_refusal fault))
+stop_line task n (Line number) = line_stopped task number
+stop_line task n (Part size) = bad_said task n (part_words size)
+
+abbrev pub stop_text : Task → ℕ → Option Stop → List ℕ
+stop_text task n None = []
+stop_text task n (Some stop) = stop_line task n stop
 
 -- it counts as bad
 abbrev pub stop_verdict : Option Stop → Option Bool
@@ -86,5 +103,5 @@ pub record SaysStream (task : Task) (d : Definitions) (input text : List ℕ) (g
   pub stop_is : stop ≡ stop_of rest fault (bad_line 1 (lines input))
   pub tally : Tally
   pub tally_is : tally ≡ added counted (tally_of (stop_verdict stop))
-  pub text_is : text ≡ said ++ stop_text (length told.frames + 1) stop ++ last_line task tally
+  pub text_is : text ≡ said ++ stop_text task (length told.frames + 1) stop ++ last_line task tally
   pub good_is : good ≡ nat_eq tally.bad 0

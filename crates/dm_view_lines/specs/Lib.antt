@@ -1,7 +1,9 @@
+pub mod Before
 pub mod Colours
 pub mod Counts
 pub mod Digits
 pub mod Frames
+pub mod Json
 pub mod Lines
 pub mod OneText
 pub mod Reasons

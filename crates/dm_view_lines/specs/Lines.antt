@@ -1,25 +1,21 @@
 -- What is said of the lines of an input.
 use Rattle.std.specs.Prelude.{◌≡◌, ℕ, ◌+◌, Bool, false, nat_eq, Option, Some, None, List, [], ◌∷◌, ◌++◌, codes, map}
-use Rattle.std.specs.Fmt.{decimal}
 use Rattle.std.specs.Str.Lines.{lines}
 use Rattle.dm_tables.specs.Definitions.{Definitions}
 use Rattle.dm_view_lines.specs.declared.said.Task.{Task}
-use Rattle.dm_view_lines.specs.declared.said.Task.TheVariants.{Show, Check}
+use Rattle.dm_view_lines.specs.declared.said.Task.TheVariants.{Show, Check, ShowJson, CheckJson}
 use Rattle.dm_view_lines.specs.declared.tally.Tally.{Tally}
 use Rattle.dm_view_lines.specs.Counts.{no_lines, tally_of, added, tally_line}
 use Rattle.dm_view_lines.specs.Digits.{octets_of_line}
-use Rattle.dm_view_lines.specs.Said.{SaysOctets}
-
--- the line's number, before what is said of it
-abbrev pub numbered : ℕ → List ℕ → List ℕ
-numbered n said = decimal n ++ codes ": " ++ said
+use Rattle.dm_view_lines.specs.Json.{json_line, tally_json}
+use Rattle.dm_view_lines.specs.Said.{bad_said, SaysOctets}
 
 -- of the line of this number, which stands for these octets: of no octets nothing is said
 abbrev pub SaysLine : Task → Definitions → ℕ → Option (List ℕ) → List ℕ → Option Bool → Type 0
-SaysLine task d n None text verdict = (text ≡ numbered n (codes "no hexadecimal" ++ 10 ∷ [])) × (verdict ≡ Some false)
+SaysLine task d n None text verdict = (text ≡ bad_said task n (codes "no hexadecimal")) × (verdict ≡ Some false)
 SaysLine task d n (Some []) text verdict = (text ≡ []) × (verdict ≡ None)
 SaysLine task d n (Some (b ∷ s)) text verdict =
-    (said : List ℕ) × (good : Bool) × SaysOctets task d (b ∷ s) said good × (text ≡ numbered n said) × (verdict ≡ Some good)
+    (good : Bool) × SaysOctets task d n (b ∷ s) text good × (verdict ≡ Some good)
 
 -- a line, and then those behind it
 pub record LineThenRest (Line : List ℕ → Option Bool → Type 0) (Rest : List ℕ → Tally → Type 0) (text : List ℕ)
@@ -46,6 +42,8 @@ SaysLines task d n lines text tally = SaysEach task d n (map octets_of_line line
 abbrev pub last_line : Task → Tally → List ℕ
 last_line Show t = []
 last_line Check t = tally_line t
+last_line ShowJson t = []
+last_line CheckJson t = json_line (tally_json t)
 
 -- what is said of an input, and whether none of its lines is bad
 abbrev pub Says : Task → Definitions → List ℕ → List ℕ → Bool → Type 0

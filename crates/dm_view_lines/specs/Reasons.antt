@@ -1,5 +1,5 @@
 -- Why octets are no message: the Result-Code and words (RFC 6733, 7.1.5 and 7.2).
-use Rattle.std.specs.Prelude.{ℕ, List, [], ◌∷◌, ◌++◌, codes}
+use Rattle.std.specs.Prelude.{ℕ, List, [], ◌++◌, codes}
 use Rattle.std.specs.Fmt.{decimal}
 use Rattle.dm_wire.specs.declared.fault.WireFault.{WireFault}
 use Rattle.dm_wire.specs.declared.fault.WireFault.TheVariants.{TooShort, Version, Length, AvpLength, TooLong, NoMemory}
@@ -12,5 +12,5 @@ refusal_words (AvpLength offset) = codes "5014 DIAMETER_INVALID_AVP_LENGTH: no A
 refusal_words TooLong = []
 refusal_words NoMemory = []
 
-abbrev pub refusal_line : WireFault → List ℕ
-refusal_line fault = codes "no message: " ++ refusal_words fault ++ 10 ∷ []
+abbrev pub refusal_sentence : WireFault → List ℕ
+refusal_sentence fault = codes "no message: " ++ refusal_words fault

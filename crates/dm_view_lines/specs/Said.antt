@@ -1,48 +1,69 @@
--- What is said of octets, and whether they are good.
-use Rattle.std.specs.Prelude.{◌≡◌, ◌⊎◌, ℕ, Bool, true, false, unwrap_or, List, [], ◌++◌, take, drop, codes}
-use Rattle.dm_wire.specs.declared.avp.Avp.{Avp}
+-- What is said of octets behind their number, and whether they are good.
+use Rattle.std.specs.Prelude.{◌≡◌, ◌⊎◌, ℕ, Bool, true, false, List, [], ◌∷◌, ◌++◌, codes}
+use Rattle.std.specs.Fmt.{decimal}
+use Rattle.json.specs.Json.{no_members}
 use Rattle.dm_wire.specs.declared.message.Message.{Message}
 use Rattle.dm_wire.specs.declared.fault.WireFault.{WireFault}
 use Rattle.dm_wire.specs.declared.fault.WireFault.TheVariants.{AvpLength}
-use Rattle.dm_wire.specs.Members.{members}
 use Rattle.dm_wire.specs.Refusal.{Refuses}
 use Rattle.dm_wire.specs.Spelling.{SpellsMessage}
 use Rattle.dm_wire.specs.Whole.{with_header}
 use Rattle.dm_tables.specs.Definitions.{Definitions}
 use Rattle.dm_dict.specs.Located.{located}
 use Rattle.dm_view.specs.Check.{are_none, check_view}
+use Rattle.dm_view.specs.JsonCheck.{check_members}
+use Rattle.dm_view.specs.JsonView.{message_members}
 use Rattle.dm_view.specs.View.{command_of, header_view, message_view}
 use Rattle.dm_view_lines.specs.declared.said.Task.{Task}
-use Rattle.dm_view_lines.specs.declared.said.Task.TheVariants.{Show, Check}
-use Rattle.dm_view_lines.specs.Reasons.{refusal_line}
+use Rattle.dm_view_lines.specs.declared.said.Task.TheVariants.{Show, Check, ShowJson, CheckJson}
+use Rattle.dm_view_lines.specs.Before.{avps_before}
+use Rattle.dm_view_lines.specs.Json.{numbered_json, error_member, bad_members, shown_before, checked_before}
+use Rattle.dm_view_lines.specs.Reasons.{refusal_sentence}
+
+-- the number, before what is said
+abbrev pub numbered : ℕ → List ℕ → List ℕ
+numbered n said = decimal n ++ codes ": " ++ said
 
 -- of a message: what it says, which is good, or all that is wrong with it
-abbrev pub answer : Task → Definitions → Message → List ℕ × Bool
-answer Show d m = (message_view d m, true)
-answer Check d m = (check_view d m, are_none (located d m))
+abbrev pub answer : Task → Definitions → ℕ → Message → List ℕ × Bool
+answer Show d n m = (numbered n (message_view d m), true)
+answer Check d n m = (numbered n (check_view d m), are_none (located d m))
+answer ShowJson d n m = (numbered_json n (message_members d m no_members), true)
+answer CheckJson d n m = (numbered_json n (check_members d m no_members), are_none (located d m))
 
-abbrev pub SaysMessage : Task → Definitions → List ℕ → List ℕ → Bool → Type 0
-SaysMessage task d s text good =
-    (m : Message) × SpellsMessage m s × (text ≡ (answer task d m).0) × (good ≡ (answer task d m).1)
+abbrev pub SaysMessage : Task → Definitions → ℕ → List ℕ → List ℕ → Bool → Type 0
+SaysMessage task d n s text good =
+    (m : Message) × SpellsMessage m s × (text ≡ (answer task d n m).0) × (good ≡ (answer task d n m).1)
 
--- the AVPs before octet o
-abbrev pub avps_before : List ℕ → ℕ → List Avp
-avps_before s o = unwrap_or (members (drop 20 (take o s))) []
+-- for this reason alone
+abbrev pub bad_said : Task → ℕ → List ℕ → List ℕ
+bad_said Show n words = numbered n (words ++ 10 ∷ [])
+bad_said Check n words = numbered n (words ++ 10 ∷ [])
+bad_said ShowJson n words = numbered_json n (error_member words)
+bad_said CheckJson n words = numbered_json n (bad_members (error_member words))
 
 -- of octets up to a bad AVP: the header, and the AVPs where they are shown
-abbrev pub front_said : Task → Definitions → Message → List ℕ
-front_said Show d m = message_view d m ++ codes "  "
-front_said Check d m = codes "bad " ++ header_view (command_of d m.header) m.header ++ codes "  "
+abbrev pub front_shown : Definitions → Message → List ℕ
+front_shown d m = message_view d m ++ codes "  "
 
-abbrev pub before_refusal : Task → Definitions → List ℕ → WireFault → List ℕ
-before_refusal task d s (AvpLength o) = front_said task d (with_header s (avps_before s o))
-before_refusal task d s f = []
+abbrev pub front_checked : Definitions → Message → List ℕ
+front_checked d m = codes "bad " ++ header_view (command_of d m.header) m.header ++ codes "  "
 
--- octets that are no message: why, behind what stands before the first bad AVP, where that is why
-abbrev pub SaysRefusal : Task → Definitions → List ℕ → List ℕ → Bool → Type 0
-SaysRefusal task d s text good =
-    (f : WireFault) × Refuses s f × (text ≡ before_refusal task d s f ++ refusal_line f) × (good ≡ false)
+abbrev pub before_refusal : (Message → List ℕ) → List ℕ → WireFault → List ℕ
+before_refusal front s (AvpLength o) = front (with_header s (avps_before s o))
+before_refusal front s f = []
 
--- what is said of octets, and whether they are good
-abbrev pub SaysOctets : Task → Definitions → List ℕ → List ℕ → Bool → Type 0
-SaysOctets task d s text good = SaysMessage task d s text good ⊎ SaysRefusal task d s text good
+-- of octets that are no message: why, behind what stands before the first bad AVP, where that is why
+abbrev pub refused_said : Task → Definitions → ℕ → List ℕ → WireFault → List ℕ
+refused_said Show d n s f = numbered n (before_refusal (front_shown d) s f ++ refusal_sentence f ++ 10 ∷ [])
+refused_said Check d n s f = numbered n (before_refusal (front_checked d) s f ++ refusal_sentence f ++ 10 ∷ [])
+refused_said ShowJson d n s f = numbered_json n (shown_before d s f (error_member (refusal_sentence f)))
+refused_said CheckJson d n s f =
+    numbered_json n (bad_members (checked_before d s f (error_member (refusal_sentence f))))
+
+abbrev pub SaysRefusal : Task → Definitions → ℕ → List ℕ → List ℕ → Bool → Type 0
+SaysRefusal task d n s text good = (f : WireFault) × Refuses s f × (text ≡ refused_said task d n s f) × (good ≡ false)
+
+-- what is said of octets with this number, and whether they are good
+abbrev pub SaysOctets : Task → Definitions → ℕ → List ℕ → List ℕ → Bool → Type 0
+SaysOctets task d n s text good = SaysMessage task d n s text good ⊎ SaysRefusal task d n s text good

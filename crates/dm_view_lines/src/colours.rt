@@ -1,14 +1,24 @@
 //! Lines with colours for a terminal.
 ghost use Rattle.std.specs.Prelude.{◌≡◌, ◌++◌, true, IfOk, OnOk};
-ghost use Rattle.dm_view_lines.specs.Colours.{further_in, begun, line_coloured, styled};
+ghost use Rattle.dm_view_lines.specs.Colours.{further_in, begun, line_coloured, in_colours, styled};
 
 use crate::said::Task;
 use dm_text::Lines;
 use std::alloc::{AllocError, Global};
 
-/// The text with the first line of each message bold, and, of a check, the lines of faults red.
+/// The text with the first line of each message bold, and, of a check, the lines of faults red. JSON is left as it is.
 pub fn coloured_text(alloc: Global, task: Task, text: &[u8]) -> Result<Vec<u8>, AllocError>
     ensures { IfOk result (λ coloured. coloured.items ≡ styled true task text.now) }
+{
+    match task {
+        Task::Show | Task::Check => lines_coloured(alloc, task, text),
+        Task::ShowJson | Task::CheckJson => Vec::from_slice(alloc, text),
+    }
+}
+
+/// The text with a colour at each line.
+fn lines_coloured(alloc: Global, task: Task, text: &[u8]) -> Result<Vec<u8>, AllocError>
+    ensures { IfOk result (λ coloured. coloured.items ≡ in_colours task text.now) }
 {
     let mut coloured = Vec::new(alloc);
     for line in Lines::new(text) {
@@ -48,7 +58,7 @@ fn further_in(task: Task) -> &'static [u8]
     ensures { result.now ≡ further_in task }
 {
     match task {
-        Task::Show => b"",
+        Task::Show | Task::ShowJson | Task::CheckJson => b"",
         Task::Check => b"\x1b[31m",
     }
 }

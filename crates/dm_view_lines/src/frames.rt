@@ -5,7 +5,6 @@ ghost use Rattle.dm_wire.specs.Codes.{max_message_len};
 ghost use Rattle.dm_view_lines.specs.declared.tally.Tally.{Tally};
 ghost use Rattle.dm_view_lines.specs.Counts.{added, tally_of};
 ghost use Rattle.dm_view_lines.specs.Frames.{SaysFrames};
-ghost use Rattle.dm_view_lines.specs.Lines.{numbered};
 ghost use Rattle.dm_view_lines.specs.Said.{SaysOctets};
 
 use crate::said::{Task, put_octets};
@@ -34,15 +33,14 @@ fn put_frame(
     message: &[u8],
 ) -> Result<Tally, NoMemory>
     ensures { IfOk result (λ counted. (said : List ℕ) × (good : Bool)
-        × SaysOctets task dictionary.now message.now said good
-        × (string_bytes text.new ≡ string_bytes text.old ++ numbered (tally.good + tally.bad + 1) said)
+        × SaysOctets task dictionary.now (tally.good + tally.bad + 1) message.now said good
+        × (string_bytes text.new ≡ string_bytes text.old ++ said)
         × (counted ≡ added tally (tally_of (Some good)))) }
 {
     let Some(number) = tally.next() else {
         return Err(NoMemory);
     };
-    write!(text, "{number}: ")?;
-    let good = put_octets(alloc, text, dictionary, task, message)?;
+    let good = put_octets(alloc, text, dictionary, task, number, message)?;
     Ok(tally.with(Some(good)))
 }
 

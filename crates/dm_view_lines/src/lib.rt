@@ -2,11 +2,16 @@
 //! said and written.
 #![tactic(auto)]
 
+mod bad;
 mod colours;
 mod digits;
 mod fault;
 mod frames;
+mod front;
 mod header;
+mod json_front;
+mod json_parts;
+mod json_said;
 pub mod laws;
 mod lines;
 mod payload;

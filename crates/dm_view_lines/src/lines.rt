@@ -5,6 +5,7 @@ ghost use Rattle.std.specs.String.{string_bytes};
 ghost use Rattle.dm_view_lines.specs.Digits.{octets_of_line};
 ghost use Rattle.dm_view_lines.specs.Lines.{SaysLine, SaysLines, Says};
 
+use crate::bad::put_bad_line;
 use crate::digits::read_line;
 use crate::said::{Task, put_octets};
 use crate::tally::{Tally, put_last};
@@ -30,7 +31,7 @@ fn put_line(
     match read_line(alloc, line, digits)? {
         Some(octets) => put_numbered(alloc, text, dictionary, task, number, octets.as_slice()),
         None => {
-            writeln!(text, "{number}: no hexadecimal")?;
+            put_bad_line(alloc, text, task, number, "no hexadecimal")?;
             Ok(Some(false))
         }
     }
@@ -52,8 +53,7 @@ fn put_numbered(
     if octets.is_empty() {
         return Ok(None);
     }
-    write!(text, "{number}: ")?;
-    let good = put_octets(alloc, text, dictionary, task, octets)?;
+    let good = put_octets(alloc, text, dictionary, task, number, octets)?;
     Ok(Some(good))
 }
 
@@ -91,6 +91,6 @@ pub fn lines_text(
 {
     let mut text = String::new(alloc);
     let tally = put_lines(alloc, &mut text, dictionary, task, input)?;
-    put_last(&mut text, task, tally)?;
+    put_last(alloc, &mut text, task, tally)?;
     Ok((text.into_bytes(), tally.bad == 0))
 }

@@ -168,7 +168,7 @@ pub fn stream_text(
 {
     let mut text = String::new(alloc);
     let (counted, stop) = put_stream(alloc, &mut text, dictionary, task, input)?;
-    let tally = put_stop(&mut text, counted, stop)?;
-    put_last(&mut text, task, tally)?;
+    let tally = put_stop(alloc, &mut text, task, counted, stop)?;
+    put_last(alloc, &mut text, task, tally)?;
     Ok((text.into_bytes(), tally.bad == 0))
 }

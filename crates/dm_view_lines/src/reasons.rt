@@ -1,10 +1,10 @@
 //! Why octets are no message, in words (RFC 6733, 7.1.5 and 7.2).
-ghost use Rattle.std.specs.Prelude.{◌≡◌, ◌++◌, OnOk};
+ghost use Rattle.std.specs.Prelude.{◌≡◌, ◌++◌, ◌∷◌, [], IfOk, OnOk};
 ghost use Rattle.std.specs.String.{string_bytes};
-ghost use Rattle.dm_view_lines.specs.Reasons.{refusal_words, refusal_line};
+ghost use Rattle.dm_view_lines.specs.Reasons.{refusal_words, refusal_sentence};
 
 use dm_wire::WireFault;
-use std::alloc::AllocError;
+use std::alloc::{AllocError, Global};
 
 /// Appends the Result-Code of octets that are no message, and why.
 #[tactic(auto, unfolding(crate::specs::Reasons::refusal_words))]
@@ -29,12 +29,29 @@ fn put_refusal_words(text: &mut String, fault: WireFault) -> Result<(), AllocErr
     Ok(())
 }
 
-/// Appends the line that says why octets are no message.
-pub(crate) fn put_refusal(text: &mut String, fault: WireFault) -> Result<(), AllocError>
-    ensures { OnOk result (string_bytes text.new ≡ string_bytes text.old ++ refusal_line fault) }
+/// Appends why octets are no message.
+fn put_sentence(text: &mut String, fault: WireFault) -> Result<(), AllocError>
+    ensures { OnOk result (string_bytes text.new ≡ string_bytes text.old ++ refusal_sentence fault) }
 {
     text.push_str("no message: ")?;
     put_refusal_words(text, fault)?;
+    Ok(())
+}
+
+/// Appends the line that says why octets are no message.
+pub(crate) fn put_refusal(text: &mut String, fault: WireFault) -> Result<(), AllocError>
+    ensures { OnOk result (string_bytes text.new ≡ string_bytes text.old ++ refusal_sentence fault ++ 10 ∷ []) }
+{
+    put_sentence(text, fault)?;
     text.push_str("\n")?;
     Ok(())
+}
+
+/// Why octets are no message.
+pub(crate) fn refusal_sentence(alloc: Global, fault: WireFault) -> Result<String, AllocError>
+    ensures { IfOk result (λ words. string_bytes words ≡ refusal_sentence fault) }
+{
+    let mut words = String::new(alloc);
+    put_sentence(&mut words, fault)?;
+    Ok(words)
 }

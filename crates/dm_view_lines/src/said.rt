@@ -1,124 +1,138 @@
 //! What is said of octets.
-ghost use Rattle.std.specs.Prelude.{◌≡◌, ◌++◌, ◌≤◌, ℕ, List, IfOk, OnOk};
+ghost use Rattle.std.specs.Prelude.{◌≡◌, ◌++◌, ℕ, List, IfOk, OnOk};
 ghost use Rattle.std.specs.String.{string_bytes};
 ghost use Rattle.dm_wire.specs.declared.avp.Avp.{Avp};
-ghost use Rattle.dm_wire.specs.Refusal.{IsBadAt};
 ghost use Rattle.dm_wire.specs.Spelling.{SpellsList};
-ghost use Rattle.dm_wire.specs.Whole.{with_header};
-ghost use Rattle.dm_view_lines.specs.Said.{answer, avps_before, front_said, SaysOctets};
+ghost use Rattle.dm_wire.specs.Refusal.{Refuses};
+ghost use Rattle.dm_view.specs.Check.{are_none, check_view};
+ghost use Rattle.dm_view.specs.View.{message_view};
+ghost use Rattle.dm_dict.specs.Located.{located};
+ghost use Rattle.dm_view_lines.specs.Said.{numbered, answer, refused_said, SaysOctets};
 
-use crate::header::header_of;
-use crate::reasons::put_refusal;
+use crate::front::{put_checked_refusal, put_shown_refusal};
+use crate::json_front::{put_json_checked_refusal, put_json_shown_refusal};
+use crate::json_said::{put_json_checked, put_json_shown};
 use dm_dict::{Dictionary, NoMemory};
-use dm_view::{put_check, put_header, put_message};
-use dm_wire::laws::spelled_are_members;
-use dm_wire::{Header, MessageRef, WireFault};
+use dm_view::{put_check, put_message};
+use dm_wire::{MessageRef, WireFault};
 use std::alloc::{AllocError, Global};
 
-/// What is said of a message.
+/// What is said of a message, and how.
 #[derive(Clone, Copy, Debug, PartialEq, Eq)]
 pub enum Task {
     /// What it says, in names and values.
     Show,
     /// All that is wrong with it.
     Check,
+    /// What it says, in JSON.
+    ShowJson,
+    /// All that is wrong with it, in JSON.
+    CheckJson,
 }
 
-/// Appends what is said of octets. True where they are a good message; a message that is shown is good.
+/// Appends what is said of octets with this number. True where they are a good message; one that is shown is good.
 pub(crate) fn put_octets(
     alloc: Global,
     text: &mut String,
     dictionary: &Dictionary,
     task: Task,
+    number: u64,
     octets: &[u8],
 ) -> Result<bool, NoMemory>
     ensures { IfOk result (λ good. (more : List ℕ) × (string_bytes text.new ≡ string_bytes text.old ++ more)
-        × SaysOctets task dictionary.now octets.now more good) }
+        × SaysOctets task dictionary.now number octets.now more good) }
 {
     match MessageRef::read(octets) {
-        Ok(message) => put_answer(alloc, text, dictionary, task, &message),
-        Err(WireFault::AvpLength(offset)) => {
-            put_front(alloc, text, dictionary, task, octets, offset)?;
-            put_refusal(text, WireFault::AvpLength(offset))?;
-            Ok(false)
-        }
+        Ok(message) => put_answer(alloc, text, dictionary, task, number, &message),
         Err(fault) => {
-            put_refusal(text, fault)?;
+            put_refused(alloc, text, dictionary, task, number, octets, fault)?;
             Ok(false)
         }
     }
 }
 
-/// Appends what is said of a message, and tells whether it is good.
+/// Appends what is said of a message with this number, and tells whether it is good.
 fn put_answer(
     alloc: Global,
     text: &mut String,
     dictionary: &Dictionary,
     task: Task,
+    number: u64,
     message: &MessageRef<'_>,
 ) -> Result<bool, NoMemory>
     ensures said { (l : List Avp) → SpellsList l message.now.rest.now → OnOk result (string_bytes text.new
-        ≡ string_bytes text.old ++ (answer task dictionary.now (record { header = message.now.header; avps = l })).0) }
+        ≡ string_bytes text.old
+        ++ (answer task dictionary.now number (record { header = message.now.header; avps = l })).0) }
     ensures good { (l : List Avp) → SpellsList l message.now.rest.now → IfOk result (λ good.
-        good ≡ (answer task dictionary.now (record { header = message.now.header; avps = l })).1) }
+        good ≡ (answer task dictionary.now number (record { header = message.now.header; avps = l })).1) }
 {
     match task {
         Task::Show => {
-            put_message(alloc, text, dictionary, message)?;
+            put_shown(alloc, text, dictionary, number, message)?;
             Ok(true)
         }
-        Task::Check => put_check(alloc, text, dictionary, message),
+        Task::Check => put_checked(alloc, text, dictionary, number, message),
+        Task::ShowJson => put_json_shown(alloc, text, dictionary, number, message),
+        Task::CheckJson => put_json_checked(alloc, text, dictionary, number, message),
     }
 }
 
-/// Appends what is said of the octets before the first bad AVP, which begins at this octet.
-fn put_front(
-    alloc: Global,
-    text: &mut String,
-    dictionary: &Dictionary,
-    task: Task,
-    octets: &[u8],
-    offset: usize,
-) -> Result<(), AllocError>
-    requires bad { IsBadAt 20 octets.now offset }
-    ensures { OnOk result (string_bytes text.new ≡ string_bytes text.old
-        ++ front_said task dictionary.now (with_header octets.now (avps_before octets.now offset))) }
-{
-    spelled_are_members();
-    let header = header_of(octets);
-    let front = &octets[..offset];
-    let message = MessageRef {
-        header,
-        rest: &front[20..],
-    };
-    match task {
-        Task::Show => put_shown(alloc, text, dictionary, &message),
-        Task::Check => put_bad(text, dictionary, &message.header),
-    }
-}
-
-/// Appends a message, and two spaces.
+/// Appends what a message with this number says.
 fn put_shown(
     alloc: Global,
     text: &mut String,
     dictionary: &Dictionary,
+    number: u64,
     message: &MessageRef<'_>,
 ) -> Result<(), AllocError>
     ensures { (l : List Avp) → SpellsList l message.now.rest.now → OnOk result (string_bytes text.new
-        ≡ string_bytes text.old ++ front_said Task.Show dictionary.now (record { header = message.now.header; avps = l })) }
+        ≡ string_bytes text.old
+        ++ numbered number (message_view dictionary.now (record { header = message.now.header; avps = l }))) }
 {
+    write!(text, "{number}: ")?;
     put_message(alloc, text, dictionary, message)?;
-    text.push_str("  ")?;
     Ok(())
 }
 
-/// Appends the header of a bad message, and two spaces.
-fn put_bad(text: &mut String, dictionary: &Dictionary, header: &Header) -> Result<(), AllocError>
-    ensures { (l : List Avp) → OnOk result (string_bytes text.new
-        ≡ string_bytes text.old ++ front_said Task.Check dictionary.now (record { header = header.now; avps = l })) }
+/// Appends all that is wrong with a message with this number, and tells whether it is good.
+fn put_checked(
+    alloc: Global,
+    text: &mut String,
+    dictionary: &Dictionary,
+    number: u64,
+    message: &MessageRef<'_>,
+) -> Result<bool, NoMemory>
+    ensures said { (l : List Avp) → SpellsList l message.now.rest.now → OnOk result (string_bytes text.new
+        ≡ string_bytes text.old
+        ++ numbered number (check_view dictionary.now (record { header = message.now.header; avps = l }))) }
+    ensures good { (l : List Avp) → SpellsList l message.now.rest.now → IfOk result (λ good.
+        good ≡ are_none (located dictionary.now (record { header = message.now.header; avps = l }))) }
 {
-    text.push_str("bad ")?;
-    put_header(text, dictionary, header)?;
-    text.push_str("  ")?;
-    Ok(())
+    write!(text, "{number}: ")?;
+    let good = put_check(alloc, text, dictionary, message)?;
+    Ok(good)
+}
+
+/// Appends what is said of octets with this number that are no message.
+fn put_refused(
+    alloc: Global,
+    text: &mut String,
+    dictionary: &Dictionary,
+    task: Task,
+    number: u64,
+    octets: &[u8],
+    fault: WireFault,
+) -> Result<(), AllocError>
+    requires refused { Refuses octets.now fault }
+    ensures { OnOk result (string_bytes text.new
+        ≡ string_bytes text.old ++ refused_said task dictionary.now number octets.now fault) }
+{
+    match task {
+        Task::Show => put_shown_refusal(alloc, text, dictionary, number, octets, fault),
+        Task::Check => put_checked_refusal(text, dictionary, number, octets, fault),
+        Task::ShowJson => put_json_shown_refusal(alloc, text, dictionary, number, octets, fault),
+        Task::CheckJson => {
+            put_json_checked_refusal(alloc, text, dictionary, number, octets, fault)
+        }
+    }
 }

@@ -2,14 +2,18 @@
 ghost use Rattle.std.specs.Prelude.{◌≡◌, ◌++◌, ◌+◌, IfOk, OnOk};
 ghost use Rattle.std.specs.String.{string_bytes};
 ghost use Rattle.dm_view_lines.specs.Counts.{added, tally_of};
-ghost use Rattle.dm_view_lines.specs.Frames.{stream_refusal, stop_line, stop_text, stop_verdict};
+ghost use Rattle.dm_view_lines.specs.Frames.{stream_refusal, line_stopped, part_words, stop_line, stop_text};
+ghost use Rattle.dm_view_lines.specs.Frames.{stop_verdict};
 
-use crate::reasons::put_refusal;
+use crate::bad::put_bad_line;
+use crate::json_parts::put_error_line;
+use crate::reasons::refusal_sentence;
+use crate::said::Task;
 use crate::tally::Tally;
 use dm_dict::NoMemory;
 use dm_framer::FrameFault;
 use dm_wire::WireFault;
-use std::alloc::AllocError;
+use std::alloc::{AllocError, Global};
 
 /// Why a stream is read no further, though something is left of it or lost.
 #[derive(Clone, Copy)]
@@ -34,36 +38,62 @@ fn wire_fault(fault: FrameFault) -> WireFault
     }
 }
 
+/// Appends that the line of this number is no hexadecimal.
+fn put_line_stopped(
+    alloc: Global,
+    text: &mut String,
+    task: Task,
+    line: u64,
+) -> Result<(), AllocError>
+    ensures { OnOk result (string_bytes text.new ≡ string_bytes text.old ++ line_stopped task line) }
+{
+    match task {
+        Task::Show | Task::Check => writeln!(text, "line {line}: no hexadecimal"),
+        Task::ShowJson => put_error_line(alloc, text, "line", line, false, "no hexadecimal"),
+        Task::CheckJson => put_error_line(alloc, text, "line", line, true, "no hexadecimal"),
+    }
+}
+
 /// Appends why a stream is read no further, behind messages of which the last has the number before this one.
-fn put_line(text: &mut String, number: u64, stop: Stop) -> Result<(), AllocError>
-    ensures { OnOk result (string_bytes text.new ≡ string_bytes text.old ++ stop_line number stop) }
+fn put_line(
+    alloc: Global,
+    text: &mut String,
+    task: Task,
+    number: u64,
+    stop: Stop,
+) -> Result<(), AllocError>
+    ensures { OnOk result (string_bytes text.new ≡ string_bytes text.old ++ stop_line task number stop) }
 {
     match stop {
         Stop::Fault(fault) => {
-            write!(text, "{number}: ")?;
-            put_refusal(text, wire_fault(fault))?;
-            Ok(())
+            let words = refusal_sentence(alloc, wire_fault(fault))?;
+            put_bad_line(alloc, text, task, number, words.as_str())
         }
-        Stop::Line(line) => writeln!(text, "line {line}: no hexadecimal"),
+        Stop::Line(line) => put_line_stopped(alloc, text, task, line),
         Stop::Part(size) => {
-            write!(text, "{number}: ")?;
-            writeln!(
-                text,
-                "no message: the stream ends inside it, at octet {size}"
-            )?;
-            Ok(())
+            let words = part_words(alloc, size)?;
+            put_bad_line(alloc, text, task, number, words.as_str())
         }
     }
 }
 
+/// That a stream ends inside a message of which so many octets are there.
+fn part_words(alloc: Global, size: usize) -> Result<String, AllocError>
+    ensures { IfOk result (λ words. string_bytes words ≡ part_words size) }
+{
+    format!(in alloc; "no message: the stream ends inside it, at octet {size}")
+}
+
 /// Appends why a stream is read no further, where something is left of it or lost, and counts it as bad.
 pub(crate) fn put_stop(
+    alloc: Global,
     text: &mut String,
+    task: Task,
     tally: Tally,
     stop: Option<Stop>,
 ) -> Result<Tally, NoMemory>
     ensures { IfOk result (λ counted. (counted ≡ added tally (tally_of (stop_verdict stop)))
-        × (string_bytes text.new ≡ string_bytes text.old ++ stop_text (tally.good + tally.bad + 1) stop)) }
+        × (string_bytes text.new ≡ string_bytes text.old ++ stop_text task (tally.good + tally.bad + 1) stop)) }
 {
     let Some(stop) = stop else {
         return Ok(tally);
@@ -71,6 +101,6 @@ pub(crate) fn put_stop(
     let Some(number) = tally.next() else {
         return Err(NoMemory);
     };
-    put_line(text, number, stop)?;
+    put_line(alloc, text, task, number, stop)?;
     Ok(tally.with(Some(false)))
 }

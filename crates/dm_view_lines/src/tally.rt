@@ -4,8 +4,9 @@ ghost use Rattle.std.specs.String.{string_bytes};
 ghost use Rattle.dm_view_lines.specs.Counts.{added, tally_of, tally_line};
 ghost use Rattle.dm_view_lines.specs.Lines.{last_line};
 
+use crate::json_parts::put_json_tally;
 use crate::said::Task;
-use std::alloc::AllocError;
+use std::alloc::{AllocError, Global};
 
 /// How many lines were good and bad.
 #[derive(Clone, Copy, Debug, PartialEq, Eq)]
@@ -49,11 +50,17 @@ fn put_tally(text: &mut String, tally: Tally) -> Result<(), AllocError>
 }
 
 /// Appends what ends the text of a task: of a check how many lines were good and bad.
-pub(crate) fn put_last(text: &mut String, task: Task, tally: Tally) -> Result<(), AllocError>
+pub(crate) fn put_last(
+    alloc: Global,
+    text: &mut String,
+    task: Task,
+    tally: Tally,
+) -> Result<(), AllocError>
     ensures { OnOk result (string_bytes text.new ≡ string_bytes text.old ++ last_line task tally) }
 {
     match task {
-        Task::Show => Ok(()),
+        Task::Show | Task::ShowJson => Ok(()),
         Task::Check => put_tally(text, tally),
+        Task::CheckJson => put_json_tally(alloc, text, tally),
     }
 }

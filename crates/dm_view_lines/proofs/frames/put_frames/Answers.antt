@@ -2,7 +2,6 @@ use Rattle.std.proofs.Common.{◌++◌, [], ℕ, List, Some, None, length, lengt
 use Rattle.dm_framer.specs.Frames.{HasFault, IsFrame, IsPartial}
 use Rattle.dm_view_lines.specs.declared.tally.Tally.{Tally}
 use Rattle.dm_view_lines.specs.Counts.{no_lines, tally_of, added}
-use Rattle.dm_view_lines.specs.Lines.{numbered}
 use Rattle.dm_view_lines.proofs.Pieces.{behind, Continues, continues-none, continues-next, continues-end, frames-part, frames-fault}
 use Rattle.dm_view_lines.proofs.Steps.{added-assoc, added-none}
 use Rattle.dm_view_lines.proofs.frames.put_frames.Goals as goal
@@ -43,7 +42,7 @@ loop-message-preserved c =
     let fault = ap (λ f. f.fault) gone ∙ ap (λ f. f.fault) inv.kept in
     let said = c.in_ok-tally-in-Ok-Some.ensures in
     let one = tally_of (Some said.1) in
-    let line = numbered (behind tally) said.0 in
+    let line = said.0 in
     let octets = c.skip.new.self.octets in
     let Left : List ℕ → Type 0 = λ v. Continues c.args.task c.args.dictionary.now c.args.framer.now.octets v
     c.args.reading.tally (added tally one) (inv.so ++ line) (added inv.told one) in

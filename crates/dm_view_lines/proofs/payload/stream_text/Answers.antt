@@ -11,7 +11,7 @@ returns c =
     let stop = c.in_ok-counted.stop in
     let tally = c.in_ok-tally.tally in
     let count = frames-counted c.args.task c.args.dictionary.now 1 told.frames said counted told.framed.each told.each in
-    let number = ap (λ n. stop_text (n + 1) stop) count in
+    let number = ap (λ n. stop_text c.args.task (n + 1) stop) count in
     let empty : string_bytes c.new-text.result ≡ [] = c.new-text.ensures.bytes in
     record {
       rest = rest;

@@ -1,9 +1,8 @@
-use Rattle.std.proofs.Common.{◌≡◌, ◌++◌, ◌∷◌, [], codes, append_assoc}
+use Rattle.std.proofs.Common.{◌≡◌, ◌++◌, ◌∷◌, [], append_assoc}
 use Rattle.std.specs.String.{string_bytes}
 use Rattle.dm_view_lines.proofs.reasons.put_refusal.Goals as goal
 
 pub returns : goal.returns
 returns c =
-    let begun : string_bytes c.push_str.new.self ≡ string_bytes c.args.text.now ++ codes "no message: " = c.in_ok-push_str.ensures.bytes in
-    let ended : string_bytes c.push_str-2.new.self ≡ string_bytes c.put_refusal_words.new.text ++ 10 ∷ [] = c.in_ok-push_str-2.ensures.bytes in
-    rw (ended, c.in_ok-put_refusal_words.ensures, begun) (simp append_assoc)
+    let ended : string_bytes c.push_str.new.self ≡ string_bytes c.put_sentence.new.text ++ 10 ∷ [] = c.in_ok-push_str.ensures.bytes in
+    rw (ended, c.in_ok-put_sentence.ensures) (simp append_assoc)

@@ -1,7 +1,7 @@
 use Rattle.std.proofs.Common.{◌≡◌, ◌++◌, flat_map}
 use Rattle.std.specs.Str.Lines.{lines}
 use Rattle.dm_view_lines.specs.Colours.{line_coloured}
-use Rattle.dm_view_lines.proofs.colours.coloured_text.Given as goal
+use Rattle.dm_view_lines.proofs.colours.lines_coloured.Given as goal
 
 -- the lines that are left come behind those so far
 abbrev pub invariant-loop-line : goal.invariant-loop-line

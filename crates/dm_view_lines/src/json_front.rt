@@ -1,0 +1,149 @@
+//! Octets that are no message, and what stands before the first bad AVP, in JSON.
+ghost use Rattle.std.specs.Prelude.{◌≡◌, ◌++◌, codes, OnOk};
+ghost use Rattle.std.specs.String.{string_bytes};
+ghost use Rattle.json.specs.Json.{object, member, Members};
+ghost use Rattle.json.specs.Tree.{json_tokens, members_tokens};
+ghost use Rattle.dm_wire.specs.Refusal.{Refuses};
+ghost use Rattle.dm_view.specs.JsonWords.{number_json};
+ghost use Rattle.dm_view_lines.specs.Json.{numbered_json, error_member, bad_members, shown_before, checked_before};
+ghost use Rattle.dm_view_lines.specs.Reasons.{refusal_sentence};
+
+use crate::front::front_of;
+use crate::json_parts::{put_bad, put_error, put_number};
+use crate::reasons::refusal_sentence;
+use dm_dict::Dictionary;
+use dm_view::{JsonText, put_json_header, put_json_message};
+use dm_wire::WireFault;
+use std::alloc::{AllocError, Global};
+
+/// Appends the message up to a bad AVP, as members of an object that is open.
+fn put_shown_before(
+    alloc: Global,
+    json: &mut JsonText,
+    dictionary: &Dictionary,
+    octets: &[u8],
+    fault: WireFault,
+) -> Result<(), AllocError>
+    requires refused { Refuses octets.now fault }
+    ensures { (more : Members) → OnOk result (json.new ++ members_tokens more
+        ≡ json.old ++ members_tokens (shown_before dictionary.now octets.now fault more)) }
+{
+    match fault {
+        WireFault::AvpLength(offset) => {
+            put_json_message(alloc, json, dictionary, &front_of(octets, offset))
+        }
+        WireFault::TooShort
+        | WireFault::Version
+        | WireFault::Length
+        | WireFault::TooLong
+        | WireFault::NoMemory => Ok(()),
+    }
+}
+
+/// Appends the header of a message with a bad AVP, as a member of an object that is open.
+fn put_checked_before(
+    alloc: Global,
+    json: &mut JsonText,
+    dictionary: &Dictionary,
+    octets: &[u8],
+    fault: WireFault,
+) -> Result<(), AllocError>
+    requires refused { Refuses octets.now fault }
+    ensures { (more : Members) → OnOk result (json.new ++ members_tokens more
+        ≡ json.old ++ members_tokens (checked_before dictionary.now octets.now fault more)) }
+{
+    match fault {
+        WireFault::AvpLength(offset) => {
+            json.key("header")?;
+            put_json_header(alloc, json, dictionary, &front_of(octets, offset).header)
+        }
+        WireFault::TooShort
+        | WireFault::Version
+        | WireFault::Length
+        | WireFault::TooLong
+        | WireFault::NoMemory => Ok(()),
+    }
+}
+
+/// Appends why octets are no message, and closes the object.
+fn put_reason(alloc: Global, json: &mut JsonText, fault: WireFault) -> Result<(), AllocError>
+    ensures { OnOk result (json.new ≡ json.old ++ members_tokens (error_member (refusal_sentence fault))) }
+{
+    let words = refusal_sentence(alloc, fault)?;
+    put_error(json, words.as_str())
+}
+
+/// Appends the object that shows octets with this number that are no message.
+fn put_shown_object(
+    alloc: Global,
+    json: &mut JsonText,
+    dictionary: &Dictionary,
+    number: u64,
+    octets: &[u8],
+    fault: WireFault,
+) -> Result<(), AllocError>
+    requires refused { Refuses octets.now fault }
+    ensures { OnOk result (json.new ≡ json.old ++ json_tokens (object (member (codes "number") (number_json number)
+        (shown_before dictionary.now octets.now fault (error_member (refusal_sentence fault)))))) }
+{
+    put_number(json, "number", number)?;
+    put_shown_before(alloc, json, dictionary, octets, fault)?;
+    put_reason(alloc, json, fault)?;
+    Ok(())
+}
+
+/// Appends the line that shows octets with this number that are no message.
+pub(crate) fn put_json_shown_refusal(
+    alloc: Global,
+    text: &mut String,
+    dictionary: &Dictionary,
+    number: u64,
+    octets: &[u8],
+    fault: WireFault,
+) -> Result<(), AllocError>
+    requires refused { Refuses octets.now fault }
+    ensures { OnOk result (string_bytes text.new ≡ string_bytes text.old ++ numbered_json number
+        (shown_before dictionary.now octets.now fault (error_member (refusal_sentence fault)))) }
+{
+    let mut json = JsonText::new(alloc);
+    put_shown_object(alloc, &mut json, dictionary, number, octets, fault)?;
+    json.put_line(text)
+}
+
+/// Appends the object that a check gives of octets with this number that are no message.
+fn put_checked_object(
+    alloc: Global,
+    json: &mut JsonText,
+    dictionary: &Dictionary,
+    number: u64,
+    octets: &[u8],
+    fault: WireFault,
+) -> Result<(), AllocError>
+    requires refused { Refuses octets.now fault }
+    ensures { OnOk result (json.new ≡ json.old ++ json_tokens (object (member (codes "number") (number_json number)
+        (bad_members (checked_before dictionary.now octets.now fault (error_member (refusal_sentence fault))))))) }
+{
+    put_number(json, "number", number)?;
+    put_bad(json, true)?;
+    put_checked_before(alloc, json, dictionary, octets, fault)?;
+    put_reason(alloc, json, fault)?;
+    Ok(())
+}
+
+/// Appends the line that a check gives of octets with this number that are no message.
+pub(crate) fn put_json_checked_refusal(
+    alloc: Global,
+    text: &mut String,
+    dictionary: &Dictionary,
+    number: u64,
+    octets: &[u8],
+    fault: WireFault,
+) -> Result<(), AllocError>
+    requires refused { Refuses octets.now fault }
+    ensures { OnOk result (string_bytes text.new ≡ string_bytes text.old ++ numbered_json number
+        (bad_members (checked_before dictionary.now octets.now fault (error_member (refusal_sentence fault))))) }
+{
+    let mut json = JsonText::new(alloc);
+    put_checked_object(alloc, &mut json, dictionary, number, octets, fault)?;
+    json.put_line(text)
+}

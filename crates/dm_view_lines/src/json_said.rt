@@ -1,0 +1,96 @@
+//! What is said of a message in JSON.
+ghost use Rattle.std.specs.Prelude.{◌≡◌, ◌++◌, List, true, codes, IfOk, OnOk};
+ghost use Rattle.std.specs.String.{string_bytes};
+ghost use Rattle.json.specs.Json.{object, member, no_members};
+ghost use Rattle.json.specs.Tree.{json_tokens};
+ghost use Rattle.dm_wire.specs.declared.avp.Avp.{Avp};
+ghost use Rattle.dm_wire.specs.Spelling.{SpellsList};
+ghost use Rattle.dm_dict.specs.Located.{located};
+ghost use Rattle.dm_view.specs.Check.{are_none};
+ghost use Rattle.dm_view.specs.JsonCheck.{check_members};
+ghost use Rattle.dm_view.specs.JsonView.{message_members};
+ghost use Rattle.dm_view.specs.JsonWords.{number_json};
+ghost use Rattle.dm_view_lines.specs.Json.{numbered_json};
+
+use crate::json_parts::put_number;
+use dm_dict::{Dictionary, NoMemory};
+use dm_view::{JsonText, put_json_check, put_json_message};
+use dm_wire::MessageRef;
+use std::alloc::{AllocError, Global};
+
+/// Appends the object that shows a message with this number.
+fn put_shown_object(
+    alloc: Global,
+    json: &mut JsonText,
+    dictionary: &Dictionary,
+    number: u64,
+    message: &MessageRef<'_>,
+) -> Result<(), AllocError>
+    ensures { (l : List Avp) → SpellsList l message.now.rest.now → OnOk result (json.new ≡ json.old
+        ++ json_tokens (object (member (codes "number") (number_json number)
+        (message_members dictionary.now (record { header = message.now.header; avps = l }) no_members)))) }
+{
+    put_number(json, "number", number)?;
+    put_json_message(alloc, json, dictionary, message)?;
+    json.end_object()?;
+    Ok(())
+}
+
+/// Appends the line that shows a message with this number. It is good.
+pub(crate) fn put_json_shown(
+    alloc: Global,
+    text: &mut String,
+    dictionary: &Dictionary,
+    number: u64,
+    message: &MessageRef<'_>,
+) -> Result<bool, NoMemory>
+    ensures said { (l : List Avp) → SpellsList l message.now.rest.now → OnOk result (string_bytes text.new
+        ≡ string_bytes text.old ++ numbered_json number
+        (message_members dictionary.now (record { header = message.now.header; avps = l }) no_members)) }
+    ensures good { IfOk result (λ good. good ≡ true) }
+{
+    let mut json = JsonText::new(alloc);
+    put_shown_object(alloc, &mut json, dictionary, number, message)?;
+    json.put_line(text)?;
+    Ok(true)
+}
+
+/// Appends the object of all that is wrong with a message with this number, and tells whether it is good.
+fn put_checked_object(
+    alloc: Global,
+    json: &mut JsonText,
+    dictionary: &Dictionary,
+    number: u64,
+    message: &MessageRef<'_>,
+) -> Result<bool, NoMemory>
+    ensures said { (l : List Avp) → SpellsList l message.now.rest.now → OnOk result (json.new ≡ json.old
+        ++ json_tokens (object (member (codes "number") (number_json number)
+        (check_members dictionary.now (record { header = message.now.header; avps = l }) no_members)))) }
+    ensures good { (l : List Avp) → SpellsList l message.now.rest.now → IfOk result (λ good.
+        good ≡ are_none (located dictionary.now (record { header = message.now.header; avps = l }))) }
+{
+    put_number(json, "number", number)?;
+    let good = put_json_check(alloc, json, dictionary, message)?;
+    json.end_object()?;
+    Ok(good)
+}
+
+/// Appends the line of all that is wrong with a message with this number, and tells whether it is good.
+pub(crate) fn put_json_checked(
+    alloc: Global,
+    text: &mut String,
+    dictionary: &Dictionary,
+    number: u64,
+    message: &MessageRef<'_>,
+) -> Result<bool, NoMemory>
+    ensures said { (l : List Avp) → SpellsList l message.now.rest.now → OnOk result (string_bytes text.new
+        ≡ string_bytes text.old ++ numbered_json number
+        (check_members dictionary.now (record { header = message.now.header; avps = l }) no_members)) }
+    ensures good { (l : List Avp) → SpellsList l message.now.rest.now → IfOk result (λ good.
+        good ≡ are_none (located dictionary.now (record { header = message.now.header; avps = l }))) }
+{
+    let mut json = JsonText::new(alloc);
+    let good = put_checked_object(alloc, &mut json, dictionary, number, message)?;
+    json.put_line(text)?;
+    Ok(good)
+}
