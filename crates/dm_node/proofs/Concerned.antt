@@ -1,5 +1,5 @@
 -- An event concerns one neighbour at most.
-use Rattle.std.proofs.Common.{◌≡◌, inl, inr, ℕ, true, false, Option, None, Some, List, sym, ap, ◌∙◌}
+use Rattle.std.proofs.Common.{◌≡◌, inl, inr, ℕ, true, false, Option, None, Some, IfSome, List, sym, ap, ◌∙◌, arith}
 use Rattle.dm_base.specs.Before.{lower}
 use Rattle.dm_machine.specs.declared.connection.Conn.{Conn}
 use Rattle.dm_peer.specs.declared.peer.Peer.{Peer}
@@ -7,7 +7,8 @@ use Rattle.dm_node.specs.Calling.{Caller, caller}
 use Rattle.dm_node.specs.Holding.{holds_at}
 use Rattle.dm_node.specs.Neighbourhoods.{IsNeighbourhood}
 use Rattle.dm_node.specs.OneConcerned.{OneIsConcerned}
-use Rattle.dm_node.specs.Telling.{IsAddressed}
+use Rattle.dm_node.specs.Telling.{IsAddressed, Concerns}
+use Rattle.dm_node.specs.declared.events.NodeEvent.{NodeEvent}
 use Rattle.dm_node.specs.declared.events.NodeEvent.TheVariants as event
 
 -- a connection that is held by one is held
@@ -42,3 +43,12 @@ one_is_concerned ps (event.Ack c) i j n a b = n.apart.one i j c a b
 one_is_concerned ps (event.Nack c) i j n a b = n.apart.one i j c a b
 one_is_concerned ps (event.Arrived c octets) i j n a b = one_addressed ps c octets.now i j n a b
 one_is_concerned ps (event.Gone c) i j n a b = n.apart.one i j c a b
+
+some_number : (j k : ℕ) → Some j ≡ Some k → j ≡ k
+some_number j k e = grind arith
+
+-- whom the event concerns is the one that was found
+pub one_there : (ps : List (Option Peer)) (e : NodeEvent) (o : Option ℕ) (i k : ℕ) → IsNeighbourhood ps → o ≡ Some k →
+    IfSome o (Concerns ps e) → Concerns ps e i → i ≡ k
+one_there ps e None i k n is a b = absurd (cc)
+one_there ps e (Some j) i k n is a b = one_is_concerned ps e i j n b a ∙ some_number j k is

@@ -55,8 +55,8 @@ one_more : EachEventIsOneStep → (p q : Peer) (e : PeerEvent) (actions : List A
     HasOwnHistory own p → acts p e ≡ Moved actions q → HasOwnHistory (done_at e actions ∷ own) q
 one_more step p q e actions own had acted = record {
   next = had.next;
-  became = subst (λ c. Became (new_peer c had.next) (done_at e actions ∷ own) q) (sym (config_kept step p q e actions acted))
-      (done own p e actions q had.became acted);
+  became = subst (λ c. Became (new_peer c had.next) (done_at e actions ∷ own) q)
+      (sym (config_kept step p q e actions acted)) (done own p e actions q had.became acted);
 }
 
 set_back_here : (ps : List (Option Peer)) (i : ℕ) (p : Peer) (o : Option Peer) → peer_at ps i ≡ o →

@@ -91,7 +91,7 @@ pub unchanged : (ps qs : List (Option Peer)) (i : ℕ) (before after : Holding) 
     IsResettled ps qs i before → ((c : Conn) → has after c ≡ holds_at qs c i) → before ≡ after → AreOwned o ps →
     AreOwned o qs
 unchanged ps qs i before after o apart settled holds same owned =
-    changed ps qs i before before o o apart settled (subst (λ h. (c : Conn) → has h c ≡ holds_at qs c i) (sym same) holds)
-    owned (λ w. w)
+    changed ps qs i before before o o apart settled
+    (subst (λ h. (c : Conn) → has h c ≡ holds_at qs c i) (sym same) holds) owned (λ w. w)
     (λ w c. subst (λ b. noted_for o c ≡ (if b then Some i else (if b then None else noted_for o c)))
     (sym (settled.held c)) (was_noted ps i o before c owned w (holds_at ps c i) refl))

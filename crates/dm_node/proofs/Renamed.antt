@@ -15,7 +15,8 @@ use Rattle.dm_node.proofs.Taking.{same_or, two_truths}
 -- one more, whose host nobody has
 module _ (o n : Hosts) (ps : List (Option Peer)) (y : Peer) (named : AreNamed o ps)
     (unknown : (j : ℕ) → host_at ps j ≡ Some (lower y.config.peer) → ⊥)
-    (noted : (h : List ℕ) → number_of n h ≡ if is_host (lower y.config.peer) h then Some (length ps) else number_of o h) where
+    (noted : (h : List ℕ) →
+    number_of n h ≡ if is_host (lower y.config.peer) h then Some (length ps) else number_of o h) where
   has_put : (h : List ℕ) (i : ℕ) (b : Bool) → is_host (lower y.config.peer) h ≡ b →
       (if b then Some (length ps) else number_of o h) ≡ Some i → host_at (ps ++ Some y ∷ []) i ≡ Some h
   has_put h i true q e =

@@ -1,5 +1,6 @@
 pub mod Adding
 pub mod Calling
+pub mod Declining
 pub mod Emptying
 pub mod Holding
 pub mod Naming

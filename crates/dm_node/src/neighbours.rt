@@ -40,6 +40,7 @@ impl Neighbours {
       [],
       Option,
       Some,
+      Err,
       length,
       IfOk,
       IfErr,
@@ -57,11 +58,14 @@ impl Neighbours {
     ghost use Rattle.dm_peer.specs.Spelled.{SendsSpelling};
     ghost use Rattle.dm_peer.specs.declared.peer.Peer.{Peer};
     ghost use Rattle.dm_node.specs.Adding.{with_new};
+    ghost use Rattle.dm_node.specs.Declining.{IsRuledOut, TakesNoMemory, IsDirected, IsByRule, IsDeclinedHere};
     ghost use Rattle.dm_node.specs.Emptying.{without, with_set_back, all_set_back};
     ghost use Rattle.dm_node.specs.Holding.{peer_at, host_at, IsKnown};
     ghost use Rattle.dm_node.specs.Telling.{Concerns, IsTold, IsMisdirected, IsRefusedHere, strange, told_of};
     ghost use Rattle.dm_node.specs.declared.fault.AddFault.TheVariants.{Known, NoMemory};
     ghost use Rattle.dm_node.specs.declared.fault.EventFault.{EventFault};
+    ghost use Rattle.dm_node.specs.declared.fault.EventFault.TheVariants.{Peer as of_peer};
+    ghost use Rattle.dm_peer.specs.declared.fault.PeerFault.{PeerFault};
 
     /// No neighbours. The node answers strangers. It never answers want of memory.
     pub fn new(alloc: Global, node: Node) -> Neighbours
@@ -169,6 +173,15 @@ impl Neighbours {
             × (r.actions.items ≡ strange self.old.node event.entry))) }
         ensures misdirected { (f : EventFault) → IsMisdirected self.old.peers event.entry f → result ≡ Err f }
         ensures refused { IfErr result (IsRefusedHere self.old.peers event.entry) }
+        // But for want of memory the rules alone refuse, and what they refuse is refused so.
+        ensures ruled { IfErr result (IsByRule self.old.peers event.entry) }
+        ensures refuses { (i : ℕ) (f : PeerFault) → IsDirected self.old.peers event.entry
+            → Concerns self.old.peers event.entry i → IsRuledOut self.old.peers i (told_of event.entry) f
+            → result ≡ Err (of_peer f) }
+        // A Start, a Timeout, octets that aren't looked at and an answer that is dropped never want memory.
+        ensures silent { (i : ℕ) → Concerns self.old.peers event.entry i
+            → TakesNoMemory self.old.peers i (told_of event.entry)
+            → IfErr result (IsDeclinedHere self.old.peers event.entry) }
         ensures unchanged { OnErr result (self.new.peers ≡ self.old.peers) }
         ensures node { self.new.node ≡ self.old.node }
         // The octets of each Send spell a message, an answer to a stranger too.

@@ -1,6 +1,7 @@
 //! One neighbour of many is told an event.
-ghost use Rattle.std.specs.Prelude.{◌≡◌, ℕ, true, None, Some, IsSome, IfOk, IfErr, OnErr, All};
+ghost use Rattle.std.specs.Prelude.{◌≡◌, ◌⊎◌, ℕ, true, None, Some, Err, IsSome, IfOk, IfErr, OnErr, All};
 ghost use Rattle.dm_machine.specs.declared.connection.Conn.{Conn};
+ghost use Rattle.dm_node.specs.Declining.{IsRuledOut, TakesNoMemory, IsDeclined, IsByRule, IsDeclinedHere};
 ghost use Rattle.dm_node.specs.Holding.{peer_at, holds_at, AreApart, AreUnlike};
 ghost use Rattle.dm_node.specs.Naming.{AreNamed};
 ghost use Rattle.dm_node.specs.Rosters.{IsRoster};
@@ -10,6 +11,7 @@ ghost use Rattle.dm_node.specs.declared.fault.EventFault.TheVariants as faults;
 ghost use Rattle.dm_node.specs.declared.hosts.Hosts.{Hosts};
 ghost use Rattle.dm_peer.specs.Events.{told};
 ghost use Rattle.dm_peer.specs.Spelled.{SendsSpelling};
+ghost use Rattle.dm_peer.specs.declared.fault.PeerFault.{PeerFault};
 ghost use Rattle.dm_peer.specs.declared.fault.PeerFault.TheVariants as peer_faults;
 
 use crate::calling::answer_to;
@@ -39,6 +41,11 @@ fn tell(
         IsTold peers.old.items peers.new.items index (told event.entry) actions.items) }
     ensures spelled { IfOk result (λ actions. All SendsSpelling actions.items) }
     ensures refused { IfErr result (IsRefusedBy peers.old.items index (told event.entry)) }
+    ensures ruled { IfErr result (λ f. (f ≡ peer_faults.NoMemory)
+        ⊎ IsRuledOut peers.old.items index (told event.entry) f) }
+    ensures refuses { (f : PeerFault) → IsRuledOut peers.old.items index (told event.entry) f → result ≡ Err f }
+    ensures silent { TakesNoMemory peers.old.items index (told event.entry)
+        → IfErr result (IsDeclined peers.old.items index (told event.entry)) }
     ensures unchanged { OnErr result (peers.new.items ≡ peers.old.items) }
     ensures apart { AreApart peers.old.items → AreApart peers.new.items }
     ensures unlike { AreUnlike peers.old.items → AreUnlike peers.new.items }
@@ -71,6 +78,11 @@ pub(crate) fn tell_one(
         IsTold roster.old.peers.items roster.new.peers.items index (told_of event.entry) r.actions.items) }
     ensures spelled { IfOk result (λ r. All SendsSpelling r.actions.items) }
     ensures refused { IfErr result (IsRefusedHere roster.old.peers.items event.entry) }
+    ensures ruled { IfErr result (IsByRule roster.old.peers.items event.entry) }
+    ensures refuses { (f : PeerFault) → IsRuledOut roster.old.peers.items index (told_of event.entry) f
+        → result ≡ Err (faults.Peer f) }
+    ensures silent { TakesNoMemory roster.old.peers.items index (told_of event.entry)
+        → IfErr result (IsDeclinedHere roster.old.peers.items event.entry) }
     ensures unchanged { OnErr result (roster.new.peers.items ≡ roster.old.peers.items) }
     ensures roster { IsRoster roster.new }
 {

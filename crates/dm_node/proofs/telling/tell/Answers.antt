@@ -1,3 +1,4 @@
+use Rattle.dm_node.proofs.Declined.{ruled_here, rule_of, silent_of, declined_here}
 use Rattle.dm_node.proofs.Named.{named_same, unlike_same}
 use Rattle.dm_node.proofs.Places.{found, set_here}
 use Rattle.dm_node.proofs.Taking.{leaves, apart_after, hosts_after, is_told, if_ok, if_err, moved_or_same}
@@ -45,3 +46,23 @@ returns-clause-named c = λ hosts.
     (leaves c.each_event_is_one_step.ensures c.each_opening_has_its_message.ensures.alone _ _ _
     c.state-state.ensures.shaped
     (moved_or_same (λ a. a.items) _ _ _ c.on.result c.on.ensures.acts c.on.ensures.unchanged)))
+
+pub returns-clause-ruled : goal.returns-clause-ruled
+returns-clause-ruled c =
+    if_err c.on.result
+    (ruled_here _ _ _
+    (found c.args.peers.now.items c.args.index _ _ c.index_mut.ensures.value c.in-Some.is c.requires.there) _)
+    c.on.ensures.ruled
+
+pub returns-clause-refuses : goal.returns-clause-refuses
+returns-clause-refuses c = λ f out.
+    c.on.ensures.refuses f (rule_of _ _ _
+    (found c.args.peers.now.items c.args.index _ _ c.index_mut.ensures.value c.in-Some.is c.requires.there) _ f out)
+
+pub returns-clause-silent : goal.returns-clause-silent
+returns-clause-silent c = λ takes.
+    if_err c.on.result
+    (declined_here _ _ _
+    (found c.args.peers.now.items c.args.index _ _ c.index_mut.ensures.value c.in-Some.is c.requires.there) _)
+    (c.on.ensures.silent (silent_of _ _ _
+    (found c.args.peers.now.items c.args.index _ _ c.index_mut.ensures.value c.in-Some.is c.requires.there) _ takes))
