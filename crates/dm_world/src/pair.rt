@@ -6,7 +6,6 @@ ghost use Rattle.dm_peer.specs.Acts.{acts};
 ghost use Rattle.dm_peer.specs.Events.{told};
 ghost use Rattle.dm_world.specs.InPlace.{is_in_place};
 ghost use Rattle.dm_world.specs.Asking.{peer_of, with_peer_of, reset_of, IsAnswer, IsAnswerOf, IsWant};
-ghost use Rattle.dm_world.specs.Rooms.{is_conn};
 ghost use Rattle.dm_world.specs.Seen.{as_side};
 
 use crate::Side;
@@ -37,22 +36,11 @@ fn ask_one(peer: &mut Peer, alloc: Global, event: Event<'_>) -> Result<Option<Ac
     }
 }
 
-/// Whether the connection is the one held.
-fn is_conn(held: Option<Conn>, conn: Conn) -> bool
-    ensures { result ≡ is_conn held conn.0 }
-{
-    match held {
-        Some(held) => held.0 == conn.0,
-        None => false,
-    }
-}
-
 /// Whether the peer holds the connection.
 pub(crate) fn holds(peer: &Peer, conn: Conn) -> bool
     ensures { result ≡ is_held (tie_of peer.now.standing.core conn.0) }
 {
-    let _shaped = peer.state();
-    is_conn(peer.initiated(), conn) || is_conn(peer.accepted(), conn)
+    peer.holds(conn)
 }
 
 /// Whether a peer takes such an event in its state: a Start in Closed, a Stop or a Submit where it is open, all else in

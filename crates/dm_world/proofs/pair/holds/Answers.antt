@@ -1,11 +1,19 @@
-use Rattle.std.proofs.Common.{rules}
-use Rattle.dm_world.proofs.Held.{held_by_role}
+-- What a node holds is tied to it.
+use Rattle.std.proofs.Common.{◌≡◌, refl, ◌∙◌}
+use Rattle.dm_machine.specs.Connection.{Hold, NotHeld, Pending, Made, OpenAsI, ClosingAsI, Taken, OpenAsR, ClosingAsR, hold_of}
+use Rattle.dm_peer.specs.Holding as peers
+use Rattle.dm_two_peers.specs.Machine.{is_held, tie_as}
 use Rattle.dm_world.proofs.pair.holds.Goals as goal
 
-pub returns-then-is_conn : goal.returns-then-is_conn
-returns-then-is_conn c =
-    let held = held_by_role c.args.peer.now.standing.core c.args.conn.0 c.state-shaped.ensures.shaped in search rules
+is_tied : (h : Hold) → peers.is_held h ≡ is_held (tie_as h)
+is_tied NotHeld = refl
+is_tied Pending = refl
+is_tied Made = refl
+is_tied OpenAsI = refl
+is_tied ClosingAsI = refl
+is_tied Taken = refl
+is_tied OpenAsR = refl
+is_tied ClosingAsR = refl
 
-pub returns-else-is_conn : goal.returns-else-is_conn
-returns-else-is_conn c =
-    let held = held_by_role c.args.peer.now.standing.core c.args.conn.0 c.state-shaped.ensures.shaped in search rules
+pub returns : goal.returns
+returns c = c.holds.ensures ∙ is_tied (hold_of c.args.peer.now.standing.core c.args.conn)
