@@ -17,8 +17,8 @@ use Rattle.dm_dict.specs.Limits.{group_limit}
 use Rattle.dm_dict.specs.Rules.{definition, entry_for, allows}
 use Rattle.dm_dict.specs.declared.path.Step.{Step}
 use Rattle.dm_dict.specs.declared.path.Path.{Path}
-use Rattle.dm_dict.specs.Locating.{placed}
-use Rattle.dm_dict.specs.Numbers.{is_grouped, is_wanted}
+use Rattle.dm_dict.specs.Locating.{told_behind}
+use Rattle.dm_dict.specs.Numbers.{is_group_type, is_wanted}
 use Rattle.dm_dict.specs.Located.{Located, step_at, here, under, kind_located, group_part, no_groups, avp_located, occurrence, each_located, list_located_by, members_located, group_located, message_located, located}
 
 fault_of : Located → Fault
@@ -124,24 +124,24 @@ located_are_faults d m = by (command_for d m.header) where
       ∙ ap (λ t. (if wrong_bits m.header then fault_without_avp invalid_hdr_bits else []) ++ t)
       (list_same (group_located group_limit d.avps) (group_faults group_limit d.avps) (group_same group_limit d.avps) d.avps c.rule m.avps)
 
-without_paths : (l : List Located) → map fault_of (map (placed None) l) ≡ map fault_of l
+without_paths : (l : List Located) → map fault_of (map (told_behind None) l) ≡ map fault_of l
 unfolding fault_of
 without_paths [] = refl
 without_paths (f ∷ l) = ap (λ t. f.fault ∷ t) (without_paths l)
 
 -- what is listed where no paths are kept are the faults
 pub found_without_paths : (old new : List Fault) (all : List Located) → old ≡ []
-    → map here new ≡ map here old ++ map (placed None) all → new ≡ map (λ f. f.fault) all
+    → map here new ≡ map here old ++ map (told_behind None) all → new ≡ map (λ f. f.fault) all
 unfolding fault_of
 found_without_paths old new all none is =
     sym (map_here new) ∙ ap (map fault_of) (rw none at is) ∙ without_paths all
 
-plain : (l : List Located) → map (placed None) l ≡ map here (map fault_of l)
+plain : (l : List Located) → map (told_behind None) l ≡ map here (map fault_of l)
 unfolding fault_of
 plain [] = refl
 plain (f ∷ l) = ap (λ t. here f.fault ∷ t) (plain l)
 
-kind_same : (kind : AvpType) (g h : List Located) → (is_grouped kind ≡ true → g ≡ h) → kind_located kind g ≡ kind_located kind h
+kind_same : (kind : AvpType) (g h : List Located) → (is_group_type kind ≡ true → g ≡ h) → kind_located kind g ≡ kind_located kind h
 kind_same Grouped g h is = is refl
 kind_same OctetString g h is = refl
 kind_same Integer32 g h is = refl
@@ -158,8 +158,8 @@ kind_same Enumerated g h is = refl
 -- what is placed for an AVP hangs on its number just where that is wanted
 pub number_alone : (path : Option Path) (depth : ℕ) (avps : List AvpDef) (n m : ℕ) (allowed : Bool) (a : Avp) (f : Option AvpDef)
     → (is_wanted path f ≡ true → n ≡ m)
-    → map (placed path) (avp_located (group_located depth avps n) allowed a f)
-    ≡ map (placed path) (avp_located (group_located depth avps m) allowed a f)
+    → map (told_behind path) (avp_located (group_located depth avps n) allowed a f)
+    ≡ map (told_behind path) (avp_located (group_located depth avps m) allowed a f)
 number_alone None depth avps n m allowed a f same =
     plain (avp_located (group_located depth avps n) allowed a f)
     ∙ ap (map here) (avp_same (group_located depth avps n) (group_faults depth avps) (group_same depth avps n) allowed a f
@@ -167,6 +167,6 @@ number_alone None depth avps n m allowed a f same =
     ∙ sym (plain (avp_located (group_located depth avps m) allowed a f))
 number_alone (Some p) depth avps n m allowed a None same = refl
 number_alone (Some p) depth avps n m allowed a (Some d) same =
-    ap (λ g. map (placed (Some p)) (map here (avp_faults no_groups allowed a (Some d)) ++ (if is_failed_avp a then [] else g)))
+    ap (λ g. map (told_behind (Some p)) (map here (avp_faults no_groups allowed a (Some d)) ++ (if is_failed_avp a then [] else g)))
     (kind_same d.kind (group_located depth avps n d.rule a) (group_located depth avps m d.rule a)
     (λ grouped. ap (λ i. group_located depth avps i d.rule a) (same grouped)))

@@ -7,7 +7,7 @@ use Rattle.dm_wire.specs.declared.avp.Avp.{Avp}
 use Rattle.dm_tables.specs.declared.def.AvpDef.{AvpDef}
 use Rattle.dm_dict.specs.declared.path.Path.{Path}
 use Rattle.dm_dict.specs.Located.{is_alike}
-use Rattle.dm_dict.specs.Numbers.{is_of, number_of, is_wanted, AreNumbered}
+use Rattle.dm_dict.specs.Numbers.{is_key_of, times_counted, is_wanted, AreNumbered}
 use Rattle.dm_dict.specs.Rules.{definition}
 
 same_vendor : (v w : Option ℕ) → option_eq nat_eq v w ≡ true → v ≡ w
@@ -44,7 +44,7 @@ fewer q (x ∷ l) = by (q x) refl (fewer q l) where
 pub unwanted : (p : Option Path) (avps : List AvpDef) (l : List Avp) (a : Avp) (numbers : List ((ℕ × Option ℕ) × ℕ))
     → is_wanted p (definition avps a) ≡ false → AreNumbered p avps l numbers → AreNumbered p avps (l ++ a ∷ []) numbers
 unwanted p avps l a numbers not h b wanted = by (is_alike a b) refl where
-  by : (c : Bool) → is_alike a b ≡ c → number_of numbers b.code b.vendor ≡ length (filter (λ x. is_alike x b) (l ++ a ∷ []))
+  by : (c : Bool) → is_alike a b ≡ c → times_counted numbers b.code b.vendor ≡ length (filter (λ x. is_alike x b) (l ++ a ∷ []))
   by false is = h b wanted ∙ sym (one_passed (λ x. is_alike x b) l a ∙ rw is refl)
   by true is =
       let (codes_are, vendors_are) = and_parts (nat_eq a.code b.code) (option_eq nat_eq a.vendor b.vendor) is in
@@ -54,26 +54,26 @@ unwanted p avps l a numbers not h b wanted = by (is_alike a b) refl where
 
 -- one whose number is
 pub wanted_one : (p : Option Path) (avps : List AvpDef) (l : List Avp) (a : Avp) (old new : List ((ℕ × Option ℕ) × ℕ)) (nth : ℕ)
-    → nth ≡ number_of old a.code a.vendor + 1
-    → ((c : ℕ) (v : Option ℕ) → number_of new c v ≡ (if is_of a.code a.vendor (c, v) then nth else number_of old c v))
+    → nth ≡ times_counted old a.code a.vendor + 1
+    → ((c : ℕ) (v : Option ℕ) → times_counted new c v ≡ (if is_key_of a.code a.vendor (c, v) then nth else times_counted old c v))
     → AreNumbered p avps l old → AreNumbered p avps (l ++ a ∷ []) new
 wanted_one p avps l a old new nth next counted h b wanted = by (is_alike a b) refl where
-  by : (c : Bool) → is_alike a b ≡ c → number_of new b.code b.vendor ≡ length (filter (λ x. is_alike x b) (l ++ a ∷ []))
+  by : (c : Bool) → is_alike a b ≡ c → times_counted new b.code b.vendor ≡ length (filter (λ x. is_alike x b) (l ++ a ∷ []))
   by false is =
-      let now : number_of new b.code b.vendor ≡ number_of old b.code b.vendor = counted b.code b.vendor ∙ rw is refl in
+      let now : times_counted new b.code b.vendor ≡ times_counted old b.code b.vendor = counted b.code b.vendor ∙ rw is refl in
       now ∙ h b wanted ∙ sym (one_passed (λ x. is_alike x b) l a ∙ rw is refl)
   by true is =
       let (codes_are, vendors_are) = and_parts (nat_eq a.code b.code) (option_eq nat_eq a.vendor b.vendor) is in
       let code : a.code ≡ b.code = eqb-true a.code b.code codes_are in
       let vendor : a.vendor ≡ b.vendor = same_vendor a.vendor b.vendor vendors_are in
-      let now : number_of new b.code b.vendor ≡ nth = counted b.code b.vendor ∙ rw is refl in
-      let before : number_of old a.code a.vendor ≡ length (filter (λ x. is_alike x b) l) = rw (code, vendor) (h b wanted) in
+      let now : times_counted new b.code b.vendor ≡ nth = counted b.code b.vendor ∙ rw is refl in
+      let before : times_counted old a.code a.vendor ≡ length (filter (λ x. is_alike x b) l) = rw (code, vendor) (h b wanted) in
       now ∙ next ∙ ap (λ n. n + 1) before ∙ sym (one_passed (λ x. is_alike x b) l a ∙ rw is refl)
 
 -- the numbers are no more than the AVPs
 pub number_fits : (p : Option Path) (avps : List AvpDef) (l : List Avp) (a : Avp) (old : List ((ℕ × Option ℕ) × ℕ)) (most : ℕ)
     → length l + 1 < most → is_wanted p (definition avps a) ≡ true → AreNumbered p avps l old
-    → number_of old a.code a.vendor + 1 < most
+    → times_counted old a.code a.vendor + 1 < most
 number_fits p avps l a old most fits wanted h =
     let is = h a wanted in
     let less = fewer (λ b. is_alike b a) l in

@@ -12,7 +12,7 @@ use Rattle.dm_dict.specs.Located.{Located, here, step_at, under, occurrence, avp
 use Rattle.dm_dict.specs.Numbers.{is_wanted}
 use Rattle.dm_dict.specs.Rules.{definition, entry_for, allows}
 use Rattle.dm_dict.proofs.Located.{number_alone}
-use Rattle.dm_dict.specs.Locating.{path_of, behind, placed}
+use Rattle.dm_dict.specs.Locating.{path_of, behind, told_behind}
 
 behind_under : (p : List Step) (i : Step) (l : List Located) → map (behind (p ++ i ∷ [])) l ≡ map (behind p) (map (under i) l)
 behind_under p i [] = refl
@@ -34,7 +34,7 @@ path_or d (Some p) = p
 
 -- what is placed one group further in
 inside_placed : (p q : Option Path) (i : Step) → option_map path_of q ≡ option_map (λ path. path_of path ++ i ∷ []) p → (l : List Located)
-    → map (placed q) l ≡ map (placed p) (map (under i) l)
+    → map (told_behind q) l ≡ map (told_behind p) (map (under i) l)
 inside_placed None None i is [] = refl
 inside_placed None None i is (f ∷ l) = ap (λ t. here f.fault ∷ t) (inside_placed None None i is l)
 inside_placed None (Some q) i is l = absurd (cc)
@@ -47,19 +47,19 @@ by_members : (depth : ℕ) → (depth ≡ 0 → ⊥) → (avps : List AvpDef) (i
     (p q : Option Path) (old new : List Located)
     → option_map path_of q ≡ option_map (λ path. path_of path ++ step_at i a ∷ []) p
     → (o : Option (List Avp)) → members a.bytes ≡ o → is_some o ≡ true
-    → ((l : List Avp) → members a.bytes ≡ Some l → new ≡ old ++ map (placed q) (list_located (depth - 1) avps rule l))
-    → new ≡ old ++ map (placed p) (group_located depth avps i rule a)
+    → ((l : List Avp) → members a.bytes ≡ Some l → new ≡ old ++ map (told_behind q) (list_located (depth - 1) avps rule l))
+    → new ≡ old ++ map (told_behind p) (group_located depth avps i rule a)
 by_members depth some_left avps i rule a p q old new inside None is some listed = absurd (true≢false (sym some))
 by_members depth some_left avps i rule a p q old new inside (Some l) is some listed =
     listed l is
     ∙ ap (λ t. old ++ t) (inside_placed p q (step_at i a) inside (list_located (depth - 1) avps rule l))
-    ∙ ap (λ g. old ++ map (placed p) g) (sym (group_members depth some_left avps i rule a l is))
+    ∙ ap (λ g. old ++ map (told_behind p) g) (sym (group_members depth some_left avps i rule a l is))
 
 pub group_listed : (depth : ℕ) → (depth ≡ 0 → ⊥) → (avps : List AvpDef) (i : ℕ) (rule : List Entry) (a : Avp)
     (p q : Option Path) (old new : List Located)
     → option_map path_of q ≡ option_map (λ path. path_of path ++ step_at i a ∷ []) p → is_some (members a.bytes) ≡ true
-    → ((l : List Avp) → members a.bytes ≡ Some l → new ≡ old ++ map (placed q) (list_located (depth - 1) avps rule l))
-    → new ≡ old ++ map (placed p) (group_located depth avps i rule a)
+    → ((l : List Avp) → members a.bytes ≡ Some l → new ≡ old ++ map (told_behind q) (list_located (depth - 1) avps rule l))
+    → new ≡ old ++ map (told_behind p) (group_located depth avps i rule a)
 group_listed depth some_left avps i rule a p q old new inside some listed =
     by_members depth some_left avps i rule a p q old new inside (members a.bytes) refl some listed
 
@@ -73,7 +73,7 @@ pub found_at_top : (p : List Step) (old new all : List Located) → p ≡ [] →
 found_at_top p old new all top none is = rw (top, none) at is ∙ at_top all
 
 -- faults that are listed without groups
-pub placed_here : (fs : List Fault) → map (placed None) (map here fs) ≡ map here fs
+pub placed_here : (fs : List Fault) → map (told_behind None) (map here fs) ≡ map here fs
 placed_here [] = refl
 placed_here (f ∷ fs) = ap (λ t. here f ∷ t) (placed_here fs)
 
@@ -82,16 +82,16 @@ pub located_next : (path : Option Path) (depth : ℕ) (avps : List AvpDef) (rule
     (nth : ℕ) (b : Bool) (new now total : List Located)
     → m ≡ a ∷ k → b ≡ allows (entry_for rule (definition avps a))
     → (is_wanted path (definition avps a) ≡ true → nth ≡ occurrence p a)
-    → new ≡ now ++ map (placed path) (avp_located (group_located depth avps nth) b a (definition avps a))
-    → now ++ map (placed path) (each_located (group_located depth avps) avps rule p m) ≡ total
-    → new ++ map (placed path) (each_located (group_located depth avps) avps rule (p ++ a ∷ []) k) ≡ total
+    → new ≡ now ++ map (told_behind path) (avp_located (group_located depth avps nth) b a (definition avps a))
+    → now ++ map (told_behind path) (each_located (group_located depth avps) avps rule p m) ≡ total
+    → new ++ map (told_behind path) (each_located (group_located depth avps) avps rule (p ++ a ∷ []) k) ≡ total
 located_next path depth avps rule p m k a nth b new now total is allowed number one so_far =
     let next = avp_located (group_located depth avps (occurrence p a)) (allows (entry_for rule (definition avps a))) a (definition avps a) in
     let rest = each_located (group_located depth avps) avps rule (p ++ a ∷ []) k in
-    let same : new ≡ now ++ map (placed path) next
+    let same : new ≡ now ++ map (told_behind path) next
     = rw allowed at one ∙ ap (λ t. now ++ t)
     (number_alone path depth avps nth (occurrence p a) (allows (entry_for rule (definition avps a))) a (definition avps a) number) in
-    ap (λ t. t ++ map (placed path) rest) same
-    ∙ append_assoc now (map (placed path) next) (map (placed path) rest)
-    ∙ ap (λ t. now ++ t) (sym (map-append (placed path) next rest))
+    ap (λ t. t ++ map (told_behind path) rest) same
+    ∙ append_assoc now (map (told_behind path) next) (map (told_behind path) rest)
+    ∙ ap (λ t. now ++ t) (sym (map-append (told_behind path) next rest))
     ∙ rw is at so_far

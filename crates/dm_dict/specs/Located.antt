@@ -1,5 +1,6 @@
 -- Where the faults of a message lie: the groups round each failed AVP.
-use Rattle.std.specs.Prelude.{◌≡◌, ℕ, zero, suc, ◌+◌, Bool, ◌&&◌, nat_eq, length, filter, Option, None, Some, List, [], ◌∷◌, ◌++◌, map, flat_map, if◌then◌else◌}
+use Rattle.std.specs.Prelude.{◌≡◌, ℕ, zero, suc, ◌+◌, Bool, ◌&&◌, nat_eq, length, filter, Option, None, Some, List}
+use Rattle.std.specs.Prelude.{[], ◌∷◌, ◌++◌, map, flat_map, if◌then◌else◌}
 use Rattle.std.specs.Option.{option_eq}
 use Rattle.dm_wire.specs.declared.avp.Avp.{Avp}
 use Rattle.dm_wire.specs.declared.message.Message.{Message}
@@ -11,7 +12,8 @@ use Rattle.dm_tables.specs.declared.def.AvpDef.{AvpDef}
 use Rattle.dm_tables.specs.declared.def.CommandDef.{CommandDef}
 use Rattle.dm_tables.specs.Definitions.{Definitions}
 use Rattle.dm_dict.specs.Codes.{command_unsupported, invalid_hdr_bits}
-use Rattle.dm_dict.specs.Faults.{Fault, fault_without_avp, avp_faults, entry_faults, member_faults, group_faults, is_failed_avp, command_for, wrong_bits, faults}
+use Rattle.dm_dict.specs.Faults.{Fault, fault_without_avp, avp_faults, entry_faults, member_faults, group_faults}
+use Rattle.dm_dict.specs.Faults.{is_failed_avp, command_for, wrong_bits, faults}
 use Rattle.dm_dict.specs.Limits.{group_limit}
 use Rattle.dm_dict.specs.Rules.{definition, entry_for, allows}
 use Rattle.dm_dict.specs.declared.path.Step.{Step}

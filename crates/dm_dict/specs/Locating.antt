@@ -24,9 +24,9 @@ abbrev pub behind : List Step → Located → Located
 behind p f = record f { path = p ++ f.path }
 
 -- in the groups of this path; without any, where no paths are kept
-abbrev pub placed : Option Path → Located → Located
-placed None f = here f.fault
-placed (Some p) f = behind (path_of p) f
+abbrev pub told_behind : Option Path → Located → Located
+told_behind None f = here f.fault
+told_behind (Some p) f = behind (path_of p) f
 
 -- what is listed so far: the faults with their paths, or those without
 abbrev pub found : Option Path → Findings → List Located
@@ -35,8 +35,8 @@ found (Some p) s = map told_at s.located.items
 
 -- behind what was listed stand just these, in the groups of the path
 abbrev pub AddsAt : Findings → Findings → Option Path → List Located → Type 0
-AddsAt old new p more = found p new ≡ found p old ++ map (placed p) more
+AddsAt old new p more = found p new ≡ found p old ++ map (told_behind p) more
 
 -- the path has room for so many groups more
-abbrev pub HasRoom : Option Path → ℕ → Type 0
-HasRoom p depth = IfSome p (λ path. path.size + depth ≤ path_limit)
+abbrev pub HasRoomInside : Option Path → ℕ → Type 0
+HasRoomInside p depth = IfSome p (λ path. path.size + depth ≤ path_limit)

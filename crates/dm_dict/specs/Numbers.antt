@@ -11,24 +11,24 @@ use Rattle.dm_dict.specs.Located.{is_alike}
 use Rattle.dm_dict.specs.Rules.{definition}
 
 -- the numbers of a code and vendor
-abbrev pub is_of : ℕ → Option ℕ → (ℕ × Option ℕ) → Bool
-is_of code vendor key = nat_eq code key.0 && option_eq nat_eq vendor key.1
+abbrev pub is_key_of : ℕ → Option ℕ → (ℕ × Option ℕ) → Bool
+is_key_of code vendor key = nat_eq code key.0 && option_eq nat_eq vendor key.1
 
 -- how many of a code and vendor were counted
-abbrev pub number_of : List ((ℕ × Option ℕ) × ℕ) → ℕ → Option ℕ → ℕ
-number_of numbers code vendor = unwrap_or (lookup (is_of code vendor) numbers) 0
+abbrev pub times_counted : List ((ℕ × Option ℕ) × ℕ) → ℕ → Option ℕ → ℕ
+times_counted numbers code vendor = unwrap_or (lookup (is_key_of code vendor) numbers) 0
 
-abbrev pub is_grouped : AvpType → Bool
-is_grouped Grouped = true
-is_grouped kind = false
+abbrev pub is_group_type : AvpType → Bool
+is_group_type Grouped = true
+is_group_type kind = false
 
 -- a path wants the number of an AVP of this definition: that of a group, where paths are kept
 abbrev pub is_wanted : Option Path → Option AvpDef → Bool
 is_wanted None f = false
 is_wanted (Some p) None = false
-is_wanted (Some p) (Some f) = is_grouped f.kind
+is_wanted (Some p) (Some f) = is_group_type f.kind
 
 -- of each code and vendor whose number a path wants those of l were counted
 abbrev pub AreNumbered : Option Path → List AvpDef → List Avp → List ((ℕ × Option ℕ) × ℕ) → Type 0
 AreNumbered p avps l numbers = (a : Avp) → is_wanted p (definition avps a) ≡ true
-    → number_of numbers a.code a.vendor ≡ length (filter (λ b. is_alike b a) l)
+    → times_counted numbers a.code a.vendor ≡ length (filter (λ b. is_alike b a) l)

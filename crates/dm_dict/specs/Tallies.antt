@@ -1,5 +1,6 @@
 -- Tallies of the entries of a rule: what each lacks and has room for, and the first AVP past its maximum.
-use Rattle.std.specs.Prelude.{◌≡◌, ◌<◌, ℕ, nat_lt, Option, None, Some, option_map, List, length, slice_get, slice_index_or}
+use Rattle.std.specs.Prelude.{◌≡◌, ◌<◌, ℕ, nat_lt, Option, None, Some, option_map, List, length, slice_get}
+use Rattle.std.specs.Prelude.{slice_index_or}
 use Rattle.std.specs.Option.{option_or}
 use Rattle.dm_wire.specs.declared.avp.Avp.{Avp}
 use Rattle.dm_wire.specs.Borrowed.{avp_of}
@@ -21,5 +22,5 @@ pub record IsTally (e : Entry) (l m : List Avp) (t : Tally) : Type 0 where
 -- the tallies of the entries of a rule over the AVPs of l, where those of m are still to be counted
 pub record AreTallied (avps : List AvpDef) (rule : List Entry) (l m : List Avp) (tallies : List Tally) : Type 0 where
   pub size : length tallies ≡ length rule
-  pub each : (i : ℕ) (e : Entry) (t : Tally) → i < length rule → e ≡ slice_index_or rule i e → t ≡ slice_index_or tallies i t
-      → IsTally e (counted_avps avps rule l e) (counted_avps avps rule m e) t
+  pub each : (i : ℕ) (e : Entry) (t : Tally) → i < length rule → e ≡ slice_index_or rule i e
+      → t ≡ slice_index_or tallies i t → IsTally e (counted_avps avps rule l e) (counted_avps avps rule m e) t

@@ -8,7 +8,7 @@ ghost use Rattle.dm_dict.specs.Linked.{IsLinked, IsRule};
 ghost use Rattle.dm_wire.specs.Borrowed.{avp_of, size_of, Lists};
 ghost use Rattle.dm_dict.specs.Faults.{avp_faults, entry_faults};
 ghost use Rattle.dm_dict.specs.Located.{here, no_groups, avp_located, each_located, group_located, list_located};
-ghost use Rattle.dm_dict.specs.Locating.{AddsAt, HasRoom};
+ghost use Rattle.dm_dict.specs.Locating.{AddsAt, HasRoomInside};
 ghost use Rattle.dm_dict.specs.Rules.{definition};
 
 use crate::avps::is_failed_avp;
@@ -107,7 +107,7 @@ fn locate_avp<'a>(
     requires fit { IsFit dictionary.now.tables.avps.items }
     requires def { option_and_then (slice_get dictionary.now.tables.avps.items) place
         ≡ definition dictionary.now.tables.avps.items (avp_of avp) }
-    requires room { HasRoom (option_copied path) depth }
+    requires room { HasRoomInside (option_copied path) depth }
     ensures { OnOk result (AddsAt findings.old findings.new (option_copied path.entry)
         (avp_located (group_located depth dictionary.now.tables.avps.items nth) allowed
         (avp_of avp.entry) (definition dictionary.now.tables.avps.items (avp_of avp.entry)))) }
@@ -145,7 +145,7 @@ fn locate_group<'a>(
     requires linked { IsLinked dictionary.now }
     requires fit { IsFit dictionary.now.tables.avps.items }
     requires rule { IsRule dictionary.now.tables.avps.items rule }
-    requires room { HasRoom (option_copied path) depth }
+    requires room { HasRoomInside (option_copied path) depth }
     ensures { OnOk result (AddsAt findings.old findings.new (option_copied path.entry)
         (group_located depth dictionary.now.tables.avps.items nth rule.entry.entries.now (avp_of avp.entry))) }
 {
@@ -194,7 +194,7 @@ fn locate_avps<'a>(
     requires linked { IsLinked dictionary.now }
     requires fit { IsFit dictionary.now.tables.avps.items }
     requires rule { IsRule dictionary.now.tables.avps.items rule }
-    requires room { HasRoom (option_copied path) depth }
+    requires room { HasRoomInside (option_copied path) depth }
     requires none { numbers.old.entries ≡ [] }
     requires size { size_of list < 2 ^ 64 }
     ensures { OnOk result ((l : List Avp) → Lists list.entry l → AddsAt findings.old findings.new (option_copied path.entry)
@@ -228,7 +228,7 @@ pub(crate) fn locate_list<'a>(
     requires linked { IsLinked dictionary.now }
     requires fit { IsFit dictionary.now.tables.avps.items }
     requires rule { IsRule dictionary.now.tables.avps.items rule }
-    requires room { HasRoom (option_copied path) depth }
+    requires room { HasRoomInside (option_copied path) depth }
     ensures { OnOk result ((l : List Avp) → Lists list.entry l → AddsAt findings.old findings.new (option_copied path.entry)
         (list_located depth dictionary.now.tables.avps.items rule.entry.entries.now l)) }
 {

@@ -6,7 +6,7 @@ ghost use Rattle.dm_wire.specs.Borrowed.{avp_of};
 ghost use Rattle.dm_dict.specs.declared.path.Path.{Path};
 ghost use Rattle.dm_dict.specs.Linked.{IsLinked};
 ghost use Rattle.dm_dict.specs.Located.{occurrence};
-ghost use Rattle.dm_dict.specs.Numbers.{is_of, number_of, is_grouped, is_wanted, AreNumbered};
+ghost use Rattle.dm_dict.specs.Numbers.{is_key_of, times_counted, is_group_type, is_wanted, AreNumbered};
 ghost use Rattle.dm_dict.specs.Rules.{definition};
 
 use crate::linked::Linked;
@@ -21,10 +21,10 @@ fn count_one(
     code: u32,
     vendor: Option<u32>,
 ) -> Result<usize, NoMemory>
-    ensures nth { IfOk result (λ nth. number_of numbers.old.entries code vendor + 1 < 2 ^ 64
-        → nth ≡ number_of numbers.old.entries code vendor + 1) }
-    ensures counted { IfOk result (λ nth. (c : ℕ) (v : Option ℕ) → number_of numbers.new.entries c v
-        ≡ (if is_of code vendor (c, v) then nth else number_of numbers.old.entries c v)) }
+    ensures nth { IfOk result (λ nth. times_counted numbers.old.entries code vendor + 1 < 2 ^ 64
+        → nth ≡ times_counted numbers.old.entries code vendor + 1) }
+    ensures counted { IfOk result (λ nth. (c : ℕ) (v : Option ℕ) → times_counted numbers.new.entries c v
+        ≡ (if is_key_of code vendor (c, v) then nth else times_counted numbers.old.entries c v)) }
 {
     let key = (code, vendor);
     let nth = match numbers.get(&key) {
@@ -36,7 +36,7 @@ fn count_one(
 }
 
 /// Whether the definition at the place is that of a group.
-fn is_grouped(dictionary: &Linked, place: Option<usize>) -> bool
+fn is_group_type(dictionary: &Linked, place: Option<usize>) -> bool
     requires { IsLinked dictionary.now }
     ensures { (path : Path) → result
         ≡ is_wanted (Some path) (option_and_then (slice_get dictionary.now.tables.avps.items) place) }
@@ -72,7 +72,7 @@ pub(crate) fn number<'a>(
     let Some(_) = path else {
         return Ok(0);
     };
-    if is_grouped(dictionary, place) {
+    if is_group_type(dictionary, place) {
         return count_one(numbers, avp.code, avp.vendor);
     }
     Ok(0)

@@ -1,5 +1,6 @@
 -- What a configuration makes.
-use Rattle.std.specs.Prelude.{◌≡◌, ℕ, Bool, true, false, ◌||◌, not, nat_eq, is_some, length, if◌then◌else◌, Option, None, Some, List, codes}
+use Rattle.std.specs.Prelude.{◌≡◌, ℕ, Bool, true, false, ◌||◌, not, nat_eq, is_some, length, if◌then◌else◌, Option}
+use Rattle.std.specs.Prelude.{None, Some, List, codes}
 use Rattle.std.specs.Option.{option_map, option_or}
 use Rattle.dm_base.specs.declared.node.Node.{Node}
 use Rattle.dm_base.specs.declared.node_fault.NodeFault.{NodeFault}
@@ -33,7 +34,8 @@ own_fault s = node_fault s.host s.realm s.addresses s.product s.auth s.acct
 -- the settings say more of the node than it must say
 abbrev pub has_extras : Settings → Bool
 has_extras s =
-    not (nat_eq (length s.applications) 0) || (not (nat_eq (length s.vendors) 0) || (is_some s.firmware || is_some s.state_id))
+    not (nat_eq (length s.applications) 0)
+    || (not (nat_eq (length s.vendors) 0) || (is_some s.firmware || is_some s.state_id))
 
 -- that is too long
 abbrev pub extras_fault : Settings → Option (List ℕ)

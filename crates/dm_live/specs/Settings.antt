@@ -11,8 +11,8 @@ use Rattle.dm_value.specs.Printed.{ip_words}
 use Rattle.dm_live.specs.declared.setting_name.SettingName.{SettingName}
 use Rattle.dm_live.specs.declared.setting_name.SettingName.TheVariants as names
 
--- a node, what it says of itself beyond what it must, its peer, the number of the first request, and the greatest Message
--- Lengths before the capabilities exchange and behind it
+-- a node, what it says beyond what it must, its peer, the number of the first request, and the greatest Message Lengths
+-- before the capabilities exchange and behind it
 pub record Settings : Type 0 where
   pub host : List ℕ
   pub realm : List ℕ

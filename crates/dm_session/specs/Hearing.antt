@@ -3,7 +3,7 @@ use Rattle.std.specs.Prelude.{◌≡◌, ◌≤◌, ℕ, false, Option, Some, If
 use Rattle.dm_machine.specs.declared.connection.Conn.{Conn}
 use Rattle.dm_framer.specs.Frames.{IsFrame, BeginsWithNoFrame}
 use Rattle.dm_session.specs.Intakes.{Intake}
-use Rattle.dm_session.specs.Sessions.{Session, Turn, TellsNext, TakesMemory, fed}
+use Rattle.dm_session.specs.Sessions.{Session, Turn, TellsNext, NeedsMemory, fed}
 
 -- nothing is kept of what came, nor thrown away, and the piece begins with this whole message
 pub record IsWholeIn (i : Intake) (piece message rest : List ℕ) : Type 0 where
@@ -36,7 +36,7 @@ pub record HearsWhole (c : Conn) (piece : List ℕ) (s : Session) (turn : Turn) 
 
 -- that message takes memory to be told
 abbrev pub HearTakesMemory : Conn → List ℕ → Session → Type 0
-HearTakesMemory c piece s = (size : ℕ) × IsWholeAt (s.intakes c.0) piece size × TakesMemory c (take size piece) s
+HearTakesMemory c piece s = (size : ℕ) × IsWholeAt (s.intakes c.0) piece size × NeedsMemory c (take size piece) s
 
 -- nothing can be told where it lies: the connection isn't there, something of it is kept or what comes is thrown away,
 -- or the piece begins with no whole message

@@ -78,14 +78,15 @@ pub record TellsFault (c : Conn) (s : Session) (actions : List Action) (t : Sess
       (with_intakes (with_intake c.0 (Some (broken_intake intake)) s.intakes) s) actions t
 
 -- what the peer does at these octets of connection c takes memory
-abbrev pub TakesMemory : Conn → List ℕ → Session → Type 0
-TakesMemory c octets s = IsTrue (wants_memory (acts s.peer (event.Arrived c octets)))
+abbrev pub NeedsMemory : Conn → List ℕ → Session → Type 0
+NeedsMemory c octets s = IsTrue (wants_memory (acts s.peer (event.Arrived c octets)))
 
 -- the next message of connection c takes memory to be told, or the fault of its stream does
 abbrev pub NextTakesMemory : Conn → Session → Type 0
 NextTakesMemory c s =
-    ((i : Intake) × (message rest : List ℕ) × (s.intakes c.0 ≡ Some i) × IsFirst i message rest × TakesMemory c message s)
-    ⊎ ((i : Intake) × (s.intakes c.0 ≡ Some i) × IsFaulty i × TakesMemory c [] s)
+    ((i : Intake) × (message rest : List ℕ) × (s.intakes c.0 ≡ Some i) × IsFirst i message rest
+    × NeedsMemory c message s)
+    ⊎ ((i : Intake) × (s.intakes c.0 ≡ Some i) × IsFaulty i × NeedsMemory c [] s)
 
 -- one turn of what came on connection c: its next message, or a fault
 abbrev pub TellsAs : Option Conn → Conn → Session → List Action → Session → Type 0

@@ -17,12 +17,12 @@ use Rattle.dm_view.specs.Reasons.{reason_words}
 use Rattle.dm_view.specs.Results.{result_name}
 use Rattle.dm_view.specs.View.{command_of}
 
--- a group round the AVP: its name, code and vendor, and its place among the AVPs of its list
+-- a group round the AVP: its name, code and vendor, and which of these it is in its list
 abbrev pub step_json : List AvpDef → Step → Json
 step_json avps s = object
     (member (codes "name") (name_json (option_map (λ d. d.name) (find (is_coded s.code s.vendor) avps)))
     (member (codes "code") (number_json s.code)
-    (vendor_member s.vendor (member (codes "place") (number_json s.place) no_members))))
+    (vendor_member s.vendor (member (codes "occurrence") (number_json s.nth) no_members))))
 
 abbrev pub path_items : List AvpDef → List Step → Items
 path_items avps [] = no_items

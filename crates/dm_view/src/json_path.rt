@@ -8,7 +8,7 @@ use crate::json_words::{put_name, put_vendor};
 use dm_dict::{Dictionary, Step};
 use std::alloc::{AllocError, Global};
 
-/// Appends a group round an AVP: its name, code and vendor, and its place.
+/// Appends a group round an AVP: its name, code and vendor, and which of these it is in its list.
 fn put_step(
     alloc: Global,
     json: &mut JsonText,
@@ -23,8 +23,8 @@ fn put_step(
     put_name(alloc, json, def.map(|def| &def.name))?;
     json.number_member("code", step.code)?;
     put_vendor(json, step.vendor)?;
-    json.key("place")?;
-    json.number(step.place as u64)?;
+    json.key("occurrence")?;
+    json.number(step.nth as u64)?;
     json.end_object()
 }
 

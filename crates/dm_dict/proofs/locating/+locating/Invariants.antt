@@ -3,7 +3,7 @@ use Rattle.std.specs.Option.{option_copied}
 use Rattle.dm_wire.specs.declared.avp.Avp.{Avp}
 use Rattle.dm_wire.specs.Borrowed.{Lists, size_of}
 use Rattle.dm_dict.specs.Located.{each_located, group_located}
-use Rattle.dm_dict.specs.Locating.{found, placed}
+use Rattle.dm_dict.specs.Locating.{found, told_behind}
 use Rattle.dm_dict.specs.Numbers.{AreNumbered}
 use Rattle.dm_dict.proofs.locating.+locating.Given as goal
 
@@ -26,9 +26,9 @@ invariant-locate_avps-loop-avp l =
     × (length p + size_of l.left ≤ size_of l.list)
     × AreNumbered (option_copied l.path) l.dictionary.tables.avps.items p l.numbers.entries
     × (found (option_copied l.path) l.findings
-    ++ map (placed (option_copied l.path)) (each_located (group_located l.depth l.dictionary.tables.avps.items) l.dictionary.tables.avps.items l.rule.entries.now p m)
+    ++ map (told_behind (option_copied l.path)) (each_located (group_located l.depth l.dictionary.tables.avps.items) l.dictionary.tables.avps.items l.rule.entries.now p m)
     ≡ found (option_copied l.path) l.fn.findings
-    ++ map (placed (option_copied l.path)) (each_located (group_located l.depth l.dictionary.tables.avps.items) l.dictionary.tables.avps.items l.rule.entries.now [] all))
+    ++ map (told_behind (option_copied l.path)) (each_located (group_located l.depth l.dictionary.tables.avps.items) l.dictionary.tables.avps.items l.rule.entries.now [] all))
 
 abbrev pub decreases-locate_avps-loop-avp : goal.decreases-locate_avps-loop-avp
 decreases-locate_avps-loop-avp l = size_of l.left

@@ -4,13 +4,13 @@ use Rattle.std.proofs.lemmas.List.{map-append}
 use Rattle.dm_dict.specs.Faults.{Fault}
 use Rattle.dm_dict.specs.Listing.{all_told}
 use Rattle.dm_dict.specs.Located.{here}
-use Rattle.dm_dict.specs.Locating.{placed}
+use Rattle.dm_dict.specs.Locating.{told_behind}
 use Rattle.dm_dict.proofs.Listed.{under_done}
 use Rattle.dm_dict.proofs.Paths.{placed_here}
 use Rattle.dm_dict.proofs.locating.locate_entries.Goals as goal
 
 -- more of those without paths
-more_here : (old new fs : List Fault) → new ≡ old ++ fs → map here new ≡ map here old ++ map (placed None) (map here fs)
+more_here : (old new fs : List Fault) → new ≡ old ++ fs → map here new ≡ map here old ++ map (told_behind None) (map here fs)
 more_here old new fs is = rw (is, placed_here fs) (map-append here old fs)
 
 pub returns-in_default : goal.returns-in_default

@@ -8,8 +8,8 @@ use Rattle.dm_dict.proofs.Listed.{under_ok, both_ok, once_ok}
 use Rattle.dm_dict.proofs.Numbered.{unwanted, wanted_one, number_fits}
 use Rattle.dm_dict.proofs.numbers.number.Goals as goal
 
-pub returns-then-is_grouped-clause-nth : goal.returns-then-is_grouped-clause-nth
-returns-then-is_grouped-clause-nth c =
+pub returns-then-is_group_type-clause-nth : goal.returns-then-is_group_type-clause-nth
+returns-then-is_group_type-clause-nth c =
     let avps = c.args.dictionary.now.tables.avps.items in
     under_ok c.count_one.result _ _
     (λ nth next p fits numbered wanted.
@@ -17,12 +17,12 @@ returns-then-is_grouped-clause-nth c =
     ∙ ap (λ n. n + 1) (numbered (avp_of c.args.avp) wanted))
     c.count_one.ensures.nth
 
-pub returns-then-is_grouped-clause-counted : goal.returns-then-is_grouped-clause-counted
-returns-then-is_grouped-clause-counted c =
+pub returns-then-is_group_type-clause-counted : goal.returns-then-is_group_type-clause-counted
+returns-then-is_group_type-clause-counted c =
     let avps = c.args.dictionary.now.tables.avps.items in
     let path = option_copied c.args.path in
     let wanted : is_wanted path (definition avps (avp_of c.args.avp)) ≡ true
-    = rw (c.in-Some.is, ← c.requires.def) (sym (c.is_grouped.ensures c.in-Some.field-0.now) ∙ c.if-is_grouped.true) in
+    = rw (c.in-Some.is, ← c.requires.def) (sym (c.is_group_type.ensures c.in-Some.field-0.now) ∙ c.if-is_group_type.true) in
     once_ok c.count_one.result _
     (λ nth known p fits numbered.
     wanted_one path avps p (avp_of c.args.avp) c.args.numbers.now.entries c.count_one.new.numbers.entries nth
@@ -32,9 +32,9 @@ returns-then-is_grouped-clause-counted c =
 
 pub returns-clause-nth : goal.returns-clause-nth
 returns-clause-nth c = λ p fits numbered wanted.
-    absurd (true≢false (sym wanted ∙ rw (c.in-Some.is, ← c.requires.def) (sym (c.is_grouped.ensures c.in-Some.field-0.now) ∙ c.if-is_grouped.false)))
+    absurd (true≢false (sym wanted ∙ rw (c.in-Some.is, ← c.requires.def) (sym (c.is_group_type.ensures c.in-Some.field-0.now) ∙ c.if-is_group_type.false)))
 
 pub returns-clause-counted : goal.returns-clause-counted
 returns-clause-counted c = λ p fits numbered.
     unwanted _ c.args.dictionary.now.tables.avps.items p (avp_of c.args.avp) _
-    (rw (c.in-Some.is, ← c.requires.def) (sym (c.is_grouped.ensures c.in-Some.field-0.now) ∙ c.if-is_grouped.false)) numbered
+    (rw (c.in-Some.is, ← c.requires.def) (sym (c.is_group_type.ensures c.in-Some.field-0.now) ∙ c.if-is_group_type.false)) numbered
