@@ -22,6 +22,10 @@ fn word<'a>(alloc: Global, name: &'a str, about: &'a str) -> Result<Command<'a>,
         .long("stream")
         .help("the octets of all lines are one stream, cut anywhere")
         .action(ArgAction::SetTrue);
+    let json = Arg::new(alloc, "json")
+        .long("json")
+        .help("a JSON object on a line of its own for each message; without colours")
+        .action(ArgAction::SetTrue);
     let file = Arg::new(alloc, "file")
         .value_name("FILE")
         .help("lines of hexadecimal, a message each; standard input where no file is named")
@@ -32,6 +36,7 @@ fn word<'a>(alloc: Global, name: &'a str, about: &'a str) -> Result<Command<'a>,
         .arg(dict)?
         .arg(colour)?
         .arg(stream)?
+        .arg(json)?
         .arg(file)
 }
 

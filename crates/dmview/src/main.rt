@@ -3,7 +3,8 @@
 //! What it prints for its input is dm_view_lines'; here are only the command line, the files and the status.
 #![tactic(auto)]
 
-ghost use Rattle.std.specs.Prelude.{◌≡◌, true, false};
+ghost use Rattle.std.specs.Prelude.{◌≡◌, true, false, if◌then◌else◌};
+ghost use Rattle.dm_view_lines.specs.declared.said.Task.TheVariants.{Show, Check, ShowJson, CheckJson};
 
 mod command;
 mod dictionary;
@@ -46,13 +47,26 @@ fn is_coloured(rt: &HostRuntime, when: Option<&str>) -> bool {
     }
 }
 
-/// Reads the dictionaries and the input, and prints what the task says. True where nothing was bad.
-fn run(rt: &HostRuntime, task: Task, matches: &ArgMatches<'_>) -> Result<bool> {
+/// What is said of each message: what it says or all that is wrong with it, as text or in JSON.
+fn task_of(is_check: bool, is_json: bool) -> Task
+    ensures show { is_check ≡ false → result ≡ (if is_json then ShowJson else Show) }
+    ensures check { is_check ≡ true → result ≡ (if is_json then CheckJson else Check) }
+{
+    match (is_check, is_json) {
+        (false, false) => Task::Show,
+        (false, true) => Task::ShowJson,
+        (true, false) => Task::Check,
+        (true, true) => Task::CheckJson,
+    }
+}
+
+/// Reads the dictionaries and the input, and prints what is said of it. True where nothing was bad.
+fn run(rt: &HostRuntime, is_check: bool, matches: &ArgMatches<'_>) -> Result<bool> {
     let coloured = is_coloured(rt, matches.get_str("color"));
     let names = matches.get_strs("dict").unwrap_or(&[]);
     let dictionary = dictionary_of(rt, names)?;
     let style = Style {
-        task,
+        task: task_of(is_check, matches.get_flag("json")),
         is_stream: matches.get_flag("stream"),
         coloured,
     };
@@ -90,8 +104,8 @@ fn run_words(rt: &HostRuntime) -> Result<u8> {
         Err(error) => return refused(rt, &error),
     };
     let good = match matches.subcommand() {
-        Some(("check", inner)) => run(rt, Task::Check, inner)?,
-        Some((_, inner)) => run(rt, Task::Show, inner)?,
+        Some(("check", inner)) => run(rt, true, inner)?,
+        Some((_, inner)) => run(rt, false, inner)?,
         None => false,
     };
     Ok(status_of(good))
