@@ -11,7 +11,7 @@ use Rattle.dm_machine.specs.Connection.{hold_of}
 use Rattle.dm_node.specs.Holding.{is_held, holds, holds_it, holds_at, host_of, host_at, AreApart, AreUnlike}
 use Rattle.dm_node.proofs.Places.{grown}
 
-fresh_holds : (y : Peer) (n : ℕ) (c : Conn) → y.standing ≡ fresh n → holds c y ≡ false
+pub fresh_holds : (y : Peer) (n : ℕ) (c : Conn) → y.standing ≡ fresh n → holds c y ≡ false
 fresh_holds y n c is = ap (λ (s : Standing). is_held (hold_of s.core c)) is
 
 two_truths : (b : Bool) → b ≡ true → b ≡ false → ⊥

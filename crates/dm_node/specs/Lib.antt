@@ -10,3 +10,4 @@ pub mod OneConcerned
 pub mod Owning
 pub mod Rosters
 pub mod Telling
+pub mod Unknown

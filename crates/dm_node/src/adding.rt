@@ -22,8 +22,16 @@ fn append(peers: &mut Vec<Option<Peer>>, config: Config)
     peers.push_reserved(Some(Peer::new(config)));
 }
 
+/// Puts a peer behind the others, where there is room.
+pub(crate) fn push(peers: &mut Vec<Option<Peer>>, peer: Peer)
+    requires { vec_len peers.old < vec_capacity peers.old }
+    ensures { peers.new.items ≡ peers.old.items ++ Some peer ∷ [] }
+{
+    peers.push_reserved(Some(peer));
+}
+
 /// Makes room for a neighbour of this configuration, where none has its host, and notes its number for that.
-fn make_room(
+pub(crate) fn make_room(
     peers: &mut Vec<Option<Peer>>,
     hosts: &mut Hosts,
     config: &Config,

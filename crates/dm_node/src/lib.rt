@@ -11,11 +11,16 @@ mod hosts;
 pub mod laws;
 mod looking;
 mod neighbours;
+mod offering;
 mod owners;
+mod policy;
 mod roster;
 mod routing;
 mod telling;
+mod unknown;
+mod welcoming;
 
 pub use events::{NodeActions, NodeEvent};
 pub use fault::{AddFault, EventFault};
 pub use neighbours::Neighbours;
+pub use policy::UnknownHosts;

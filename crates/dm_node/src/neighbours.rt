@@ -15,7 +15,7 @@ use std::slice;
 /// A contract sees them as a list in order of adding, beside the node that answers strangers.
 #[derive(Debug, Drop)]
 pub struct Neighbours {
-    node: Node,
+    pub(crate) node: Node,
     pub(crate) roster: Roster,
 }
 

@@ -1,19 +1,21 @@
 //! The neighbours of a node, with what finds one by its host and by a connection.
 ghost use Rattle.std.specs.Prelude.{◌≡◌, ◌⊎◌, ◌↔◌, ℕ, ◌<◌, None, Some, Err, IsSome, IfSome, IfNone, IfOk, IfErr};
-ghost use Rattle.std.specs.Prelude.{IsErrOf, OnOk, OnErr, true, false, [], length};
+ghost use Rattle.std.specs.Prelude.{IsErrOf, OnOk, OnErr, true, false, ◌++◌, ◌∷◌, [], length};
 ghost use Rattle.std.specs.Option.{option_copied};
 ghost use Rattle.dm_base.specs.Before.{lower};
+ghost use Rattle.dm_machine.specs.declared.connection.Conn.{Conn};
 ghost use Rattle.dm_node.specs.Adding.{with_new};
 ghost use Rattle.dm_node.specs.Emptying.{without, with_set_back, all_set_back};
-ghost use Rattle.dm_node.specs.Holding.{peer_at, holds_at, host_at, IsKnown};
+ghost use Rattle.dm_node.specs.Holding.{peer_at, holds, holds_at, host_at, IsKnown};
 ghost use Rattle.dm_node.specs.Rosters.{IsRoster};
-ghost use Rattle.dm_node.specs.declared.fault.AddFault.TheVariants.{Known, NoMemory};
+ghost use Rattle.dm_node.specs.declared.fault.AddFault.TheVariants.{Known, NoMemory as no_memory};
 
 use crate::AddFault;
-use crate::adding::put;
+use crate::adding::{make_room, push, put};
 use crate::emptying::{set_back_at, set_back_each, take_at};
 use crate::hosts::Hosts;
 use crate::owners::{Owners, holding_at};
+use dm_dict::NoMemory;
 use dm_peer::{Config, Conn, Peer};
 use std::alloc::Global;
 
@@ -64,11 +66,33 @@ impl Roster {
         ensures number { IfOk result (λ i. i ≡ length self.old.peers.items) }
         ensures added { OnOk result (self.new.peers.items ≡ with_new self.old.peers.items config) }
         ensures known { IsErrOf result Known ↔ IsKnown self.old.peers.items config.peer }
-        ensures refuses { IfErr result (λ f. (f ≡ Known) ⊎ (f ≡ NoMemory)) }
+        ensures refuses { IfErr result (λ f. (f ≡ Known) ⊎ (f ≡ no_memory)) }
         ensures unchanged { OnErr result (self.new.peers.items ≡ self.old.peers.items) }
         ensures roster { IsRoster self.new }
     {
         put(&mut self.peers, &mut self.hosts, config)
+    }
+
+    /// Puts a peer behind the others, of which none has its host or holds a connection of its.
+    pub(crate) fn admit(&mut self, peer: Peer) -> Result<usize, NoMemory>
+        requires roster { IsRoster self.old }
+        requires unknown { (j : ℕ) → host_at self.old.peers.items j ≡ Some (lower peer.config.peer) → ⊥ }
+        requires free { (c : Conn) (j : ℕ) → holds c peer ≡ true → holds_at self.old.peers.items c j ≡ false }
+        ensures number { IfOk result (λ i. i ≡ length self.old.peers.items) }
+        ensures added { OnOk result (self.new.peers.items ≡ self.old.peers.items ++ Some peer ∷ []) }
+        ensures unchanged { OnErr result (self.new.peers.items ≡ self.old.peers.items) }
+        ensures roster { IsRoster self.new }
+    {
+        let index = self.peers.len();
+        let before = holding_at(&self.peers, index);
+        match make_room(&mut self.peers, &mut self.hosts, peer.config()) {
+            Ok(()) => {
+                push(&mut self.peers, peer);
+                self.owners.settle(&self.peers, before, index);
+                Ok(index)
+            }
+            Err(_) => Err(NoMemory),
+        }
     }
 
     /// Takes the neighbour of the number out, and forgets its connections.
