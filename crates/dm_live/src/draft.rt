@@ -195,7 +195,7 @@ impl Draft {
     }
 
     /// Whether the lines say more of the node than it must say.
-    fn has_extras(&self) -> bool
+    fn says_more(&self) -> bool
         ensures { result ≡ has_extras (settings_of self.now) }
     {
         self.applications.len() != 0
@@ -213,7 +213,7 @@ impl Draft {
         ensures fault { IfErr result (λ fault. fault ≡ extras_faults.TooLong
             → are_extras_long (settings_of self.now).applications (settings_of self.now).vendors ≡ true) }
     {
-        if !self.has_extras() {
+        if !self.says_more() {
             return Ok(node);
         }
         match self.extras(alloc) {

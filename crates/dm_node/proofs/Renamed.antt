@@ -5,7 +5,7 @@ use Rattle.dm_peer.specs.declared.peer.Peer.{Peer}
 use Rattle.dm_node.specs.declared.hosts.Hosts.{Hosts}
 use Rattle.dm_node.specs.Emptying.{set_back, with_set_back, without, all_set_back}
 use Rattle.dm_node.specs.Holding.{peer_at, host_of, host_at}
-use Rattle.dm_node.specs.Naming.{is_host, number_of, AreNamed, IsForgotten}
+use Rattle.dm_node.specs.Naming.{is_host, noted_number, AreHostsNoted, IsForgotten}
 use Rattle.dm_node.proofs.Keyed.{itself, is_that}
 use Rattle.dm_node.proofs.Named.{some_host, some_number, no_number, no_host, there_of, named_same, noted_same}
 use Rattle.dm_node.proofs.Places.{grown, grown_here, kept_at, set_here, set_else, set_at}
@@ -13,12 +13,12 @@ use Rattle.dm_node.proofs.Rostered.{back_host, each_back}
 use Rattle.dm_node.proofs.Taking.{same_or, two_truths}
 
 -- one more, whose host nobody has
-module _ (o n : Hosts) (ps : List (Option Peer)) (y : Peer) (named : AreNamed o ps)
+module _ (o n : Hosts) (ps : List (Option Peer)) (y : Peer) (named : AreHostsNoted o ps)
     (unknown : (j : ℕ) → host_at ps j ≡ Some (lower y.config.peer) → ⊥)
     (noted : (h : List ℕ) →
-    number_of n h ≡ if is_host (lower y.config.peer) h then Some (length ps) else number_of o h) where
+    noted_number n h ≡ if is_host (lower y.config.peer) h then Some (length ps) else noted_number o h) where
   has_put : (h : List ℕ) (i : ℕ) (b : Bool) → is_host (lower y.config.peer) h ≡ b →
-      (if b then Some (length ps) else number_of o h) ≡ Some i → host_at (ps ++ Some y ∷ []) i ≡ Some h
+      (if b then Some (length ps) else noted_number o h) ≡ Some i → host_at (ps ++ Some y ∷ []) i ≡ Some h
   has_put h i true q e =
       ap (host_at (ps ++ Some y ∷ [])) (sym (some_number e)) ∙ ap host_of (grown_here ps (Some y))
       ∙ ap Some (is_that (lower y.config.peer) h q)
@@ -27,33 +27,33 @@ module _ (o n : Hosts) (ps : List (Option Peer)) (y : Peer) (named : AreNamed o 
       ap host_of (kept_at ps (Some y) i (there_of h (peer_at ps i) was)) ∙ was
 
   noted_old : (h : List ℕ) (i : ℕ) (b : Bool) → is_host (lower y.config.peer) h ≡ b → host_at ps i ≡ Some h →
-      (if b then Some (length ps) else number_of o h) ≡ Some i
+      (if b then Some (length ps) else noted_number o h) ≡ Some i
   noted_old h i true q e = absurd (unknown i (e ∙ ap Some (sym (is_that (lower y.config.peer) h q))))
   noted_old h i false q e = named.noted h i e
 
   noted_put : (h : List ℕ) (i : ℕ) → host_at (ps ++ Some y ∷ []) i ≡ Some h →
-      (if is_host (lower y.config.peer) h then Some (length ps) else number_of o h) ≡ Some i
+      (if is_host (lower y.config.peer) h then Some (length ps) else noted_number o h) ≡ Some i
   noted_put h i e =
       elim (grown ps (Some y) i) [
         | inl same ↦ noted_old h i (is_host (lower y.config.peer) h) refl (sym (ap host_of same) ∙ e)
         | inr last ↦
             let here : lower y.config.peer ≡ h = some_host (lower y.config.peer) h (sym (ap host_of last.1) ∙ e) in
-            subst (λ g. (if is_host (lower y.config.peer) g then Some (length ps) else number_of o g) ≡ Some i) here
-            (subst (λ b. (if b then Some (length ps) else number_of o (lower y.config.peer)) ≡ Some i)
+            subst (λ g. (if is_host (lower y.config.peer) g then Some (length ps) else noted_number o g) ≡ Some i) here
+            (subst (λ b. (if b then Some (length ps) else noted_number o (lower y.config.peer)) ≡ Some i)
             (sym (itself (lower y.config.peer))) (ap Some (sym last.0)))
       ]
 
-  pub named_put : AreNamed n (ps ++ Some y ∷ [])
+  pub named_put : AreHostsNoted n (ps ++ Some y ∷ [])
   named_put = record {
     has = λ h i e. has_put h i (is_host (lower y.config.peer) h) refl (sym (noted h) ∙ e);
     noted = λ h i e. noted h ∙ noted_put h i e;
   }
 
 -- nobody any more where somebody was
-module _ (o n : Hosts) (ps : List (Option Peer)) (i : ℕ) (p : Peer) (at : peer_at ps i ≡ Some p) (named : AreNamed o ps)
-    (noted : (h : List ℕ) → number_of n h ≡ if is_host (lower p.config.peer) h then None else number_of o h) where
+module _ (o n : Hosts) (ps : List (Option Peer)) (i : ℕ) (p : Peer) (at : peer_at ps i ≡ Some p) (named : AreHostsNoted o ps)
+    (noted : (h : List ℕ) → noted_number n h ≡ if is_host (lower p.config.peer) h then None else noted_number o h) where
   has_less : (h : List ℕ) (j : ℕ) (b : Bool) → is_host (lower p.config.peer) h ≡ b →
-      (if b then None else number_of o h) ≡ Some j → host_at (without ps i) j ≡ Some h
+      (if b then None else noted_number o h) ≡ Some j → host_at (without ps i) j ≡ Some h
   has_less h j true q e = no_number e
   has_less h j false q e =
       let was : host_at ps j ≡ Some h = named.has h j e in
@@ -67,14 +67,14 @@ module _ (o n : Hosts) (ps : List (Option Peer)) (i : ℕ) (p : Peer) (at : peer
       ]
 
   noted_less : (h : List ℕ) (j : ℕ) (b : Bool) → is_host (lower p.config.peer) h ≡ b → (j ≡ i → ⊥) →
-      host_at ps j ≡ Some h → (if b then None else number_of o h) ≡ Some j
+      host_at ps j ≡ Some h → (if b then None else noted_number o h) ≡ Some j
   noted_less h j true q un e =
       absurd (un (some_number (sym (named.noted h j e)
       ∙ named.noted h i (ap host_of at ∙ ap Some (is_that (lower p.config.peer) h q)))))
   noted_less h j false q un e = named.noted h j e
 
   noted_left : (h : List ℕ) (j : ℕ) → host_at (without ps i) j ≡ Some h →
-      (if is_host (lower p.config.peer) h then None else number_of o h) ≡ Some j
+      (if is_host (lower p.config.peer) h then None else noted_number o h) ≡ Some j
   noted_left h j e =
       elim (same_or j i) [
         | inl s ↦ no_host
@@ -84,7 +84,7 @@ module _ (o n : Hosts) (ps : List (Option Peer)) (i : ℕ) (p : Peer) (at : peer
             (sym (ap host_of (set_else ps i j None un)) ∙ e)
       ]
 
-  named_less : AreNamed n (without ps i)
+  named_less : AreHostsNoted n (without ps i)
   named_less = record {
     has = λ h j e. has_less h j (is_host (lower p.config.peer) h) refl (sym (noted h) ∙ e);
     noted = λ h j e. noted h ∙ noted_left h j e;
@@ -101,12 +101,12 @@ nobody_less ps i j none =
     ]
 
 pub named_without : (o n : Hosts) (ps qs : List (Option Peer)) (i : ℕ) (gone : Option Peer) → qs ≡ without ps i →
-    peer_at ps i ≡ gone → IsForgotten gone o n → AreNamed o ps → AreNamed n qs
+    peer_at ps i ≡ gone → IsForgotten gone o n → AreHostsNoted o ps → AreHostsNoted n qs
 named_without o n ps qs i None is at same named =
-    subst (AreNamed n) (sym is)
+    subst (AreHostsNoted n) (sym is)
     (noted_same o n (without ps i) same (named_same o ps (without ps i) (λ j. nobody_less ps i j at) named))
 named_without o n ps qs i (Some p) is at noted named =
-    subst (AreNamed n) (sym is) (named_less o n ps i p at named noted)
+    subst (AreHostsNoted n) (sym is) (named_less o n ps i p at named noted)
 
 -- who was set back has the host that it had
 pub back_hosts : (ps qs : List (Option Peer)) (i : ℕ) → qs ≡ with_set_back ps i →

@@ -11,7 +11,7 @@ use Rattle.dm_peer.specs.declared.peer.Peer.{Peer}
 use Rattle.dm_node.specs.Holding.{peer_at, holds, holds_it, holds_at, host_at, AreApart}
 use Rattle.dm_node.specs.Owning.{has, IsResettled}
 use Rattle.dm_node.specs.Telling.{conn_of, told_of, IsStrangeCer}
-use Rattle.dm_node.specs.Unknown.{IsUnknown, IsOffered, IsTaken}
+use Rattle.dm_node.specs.Unknown.{IsUnknown, IsOffered, IsTakenIn}
 use Rattle.dm_node.specs.declared.events.NodeEvent.{NodeEvent}
 use Rattle.dm_node.specs.declared.events.NodeEvent.TheVariants as event
 use Rattle.dm_node.specs.declared.owners.Holding.{Holding}
@@ -29,7 +29,7 @@ same_count (p ∷ ps) x y = ap suc (same_count ps x y)
 
 pub is_taken : (ps qs : List (Option Peer)) (i : ℕ) (e : NodeEvent) (actions : List Action) (k : Config) (y : Peer) →
     i ≡ length ps → qs ≡ ps ++ Some y ∷ [] → (y.standing.core.state ≡ Closed → ⊥) →
-    acts (new_peer k k.first_id) (told_of e) ≡ Moved actions y → IsTaken ps qs i e actions k
+    acts (new_peer k k.first_id) (told_of e) ≡ Moved actions y → IsTakenIn ps qs i e actions k
 is_taken ps qs i e actions k y here is stays acted =
     let x : Peer = new_peer k k.first_id in record {
       number = here;

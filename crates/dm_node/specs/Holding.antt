@@ -3,20 +3,12 @@ use Rattle.std.specs.Prelude.{◌≡◌, ℕ, Bool, true, false, Option, None, S
 use Rattle.std.specs.Option.{option_flatten}
 use Rattle.dm_base.specs.Before.{lower}
 use Rattle.dm_machine.specs.declared.connection.Conn.{Conn}
-use Rattle.dm_machine.specs.Connection.{Hold, NotHeld, hold_of}
 use Rattle.dm_peer.specs.declared.peer.Peer.{Peer}
+pub use Rattle.dm_peer.specs.Holding.{is_held, holds}
 
 -- the neighbour of a number; none where there never was one, or it was removed
 abbrev pub peer_at : List (Option Peer) → ℕ → Option Peer
 peer_at ps i = option_flatten (slice_get ps i)
-
-abbrev pub is_held : Hold → Bool
-is_held NotHeld = false
-is_held _ = true
-
--- the peer holds the connection
-abbrev pub holds : Conn → Peer → Bool
-holds c p = is_held (hold_of p.standing.core c)
 
 abbrev pub holds_it : Conn → Option Peer → Bool
 holds_it c None = false

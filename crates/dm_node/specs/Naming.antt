@@ -12,16 +12,16 @@ abbrev pub is_host : List ℕ → List ℕ → Bool
 is_host h g = pointwise nat_eq h g
 
 -- the number that is noted for a host in lower case
-abbrev pub number_of : Hosts → List ℕ → Option ℕ
-number_of o h = get_by (λ k. is_host h k.items) o.map
+abbrev pub noted_number : Hosts → List ℕ → Option ℕ
+noted_number o h = get_by (λ k. is_host h k.items) o.map
 
 -- each neighbour's host is noted for it, and no other is
-pub record AreNamed (o : Hosts) (ps : List (Option Peer)) : Type 0 where
-  pub has : (h : List ℕ) (i : ℕ) → number_of o h ≡ Some i → host_at ps i ≡ Some h
-  pub noted : (h : List ℕ) (i : ℕ) → host_at ps i ≡ Some h → number_of o h ≡ Some i
+pub record AreHostsNoted (o : Hosts) (ps : List (Option Peer)) : Type 0 where
+  pub has : (h : List ℕ) (i : ℕ) → noted_number o h ≡ Some i → host_at ps i ≡ Some h
+  pub noted : (h : List ℕ) (i : ℕ) → host_at ps i ≡ Some h → noted_number o h ≡ Some i
 
 -- the host of who is gone is forgotten, and no other
 abbrev pub IsForgotten : Option Peer → Hosts → Hosts → Type 0
-IsForgotten None o n = (h : List ℕ) → number_of n h ≡ number_of o h
+IsForgotten None o n = (h : List ℕ) → noted_number n h ≡ noted_number o h
 IsForgotten (Some p) o n =
-    (h : List ℕ) → number_of n h ≡ if is_host (lower p.config.peer) h then None else number_of o h
+    (h : List ℕ) → noted_number n h ≡ if is_host (lower p.config.peer) h then None else noted_number o h

@@ -41,7 +41,7 @@ abbrev pub IsTurnedAway : (List ℕ → Type 0) → ℕ → List (Option Peer) �
 IsTurnedAway turns_away most ps e = (host : List ℕ) → IsUnknown ps e host → (most ≤ present ps) ⊎ turns_away host
 
 -- the host is a neighbour now, behind the others: it was added and then told the event, and isn't Closed
-pub record IsTaken (ps qs : List (Option Peer)) (i : ℕ) (e : NodeEvent) (actions : List Action) (config : Config)
+pub record IsTakenIn (ps qs : List (Option Peer)) (i : ℕ) (e : NodeEvent) (actions : List Action) (config : Config)
     : Type 0 where
   pub number : i ≡ length ps
   pub told : IsTold (with_new ps config) qs i (told_of e) actions

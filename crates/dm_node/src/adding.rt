@@ -4,7 +4,7 @@ ghost use Rattle.std.specs.Prelude.{IsErrOf, OnOk, OnErr, vec_len, vec_capacity,
 ghost use Rattle.dm_base.specs.Before.{lower};
 ghost use Rattle.dm_node.specs.Holding.{host_at, IsKnown, AreApart, AreUnlike};
 ghost use Rattle.dm_node.specs.Adding.{with_new};
-ghost use Rattle.dm_node.specs.Naming.{is_host, number_of, AreNamed};
+ghost use Rattle.dm_node.specs.Naming.{is_host, noted_number, AreHostsNoted};
 ghost use Rattle.dm_node.specs.declared.fault.AddFault.TheVariants.{Known, NoMemory};
 
 use crate::AddFault;
@@ -36,13 +36,13 @@ pub(crate) fn make_room(
     hosts: &mut Hosts,
     config: &Config,
 ) -> Result<(), AddFault>
-    requires named { AreNamed hosts.old peers.old.items }
+    requires named { AreHostsNoted hosts.old peers.old.items }
     ensures same { peers.new.items ≡ peers.old.items }
     ensures room { OnOk result (vec_len peers.new < vec_capacity peers.new) }
     ensures unknown { OnOk result ((j : ℕ) → host_at peers.old.items j ≡ Some (lower config.now.peer) → ⊥) }
-    ensures noted { OnOk result ((h : List ℕ) → number_of hosts.new h
-        ≡ if is_host (lower config.now.peer) h then Some (length peers.old.items) else number_of hosts.old h) }
-    ensures kept { OnErr result ((h : List ℕ) → number_of hosts.new h ≡ number_of hosts.old h) }
+    ensures noted { OnOk result ((h : List ℕ) → noted_number hosts.new h
+        ≡ if is_host (lower config.now.peer) h then Some (length peers.old.items) else noted_number hosts.old h) }
+    ensures kept { OnErr result ((h : List ℕ) → noted_number hosts.new h ≡ noted_number hosts.old h) }
     ensures known { IsErrOf result Known ↔ IsKnown peers.old.items config.now.peer }
     ensures refuses { IfErr result (λ f. (f ≡ Known) ⊎ (f ≡ NoMemory)) }
 {
@@ -65,7 +65,7 @@ pub(crate) fn put(
     hosts: &mut Hosts,
     config: Config,
 ) -> Result<usize, AddFault>
-    requires named { AreNamed hosts.old peers.old.items }
+    requires named { AreHostsNoted hosts.old peers.old.items }
     ensures number { IfOk result (λ i. i ≡ length peers.old.items) }
     ensures added { OnOk result (peers.new.items ≡ with_new peers.old.items config) }
     ensures known { IsErrOf result Known ↔ IsKnown peers.old.items config.peer }
@@ -73,7 +73,7 @@ pub(crate) fn put(
     ensures unchanged { OnErr result (peers.new.items ≡ peers.old.items) }
     ensures apart { AreApart peers.old.items → AreApart peers.new.items }
     ensures unlike { AreUnlike peers.old.items → AreUnlike peers.new.items }
-    ensures named { AreNamed hosts.new peers.new.items }
+    ensures named { AreHostsNoted hosts.new peers.new.items }
 {
     let index = peers.as_slice().len();
     match make_room(peers, hosts, &config) {

@@ -3,7 +3,7 @@ ghost use Rattle.std.specs.Prelude.{◌≡◌, ◌<◌, ◌≤◌, ℕ, nat_le, 
 ghost use Rattle.std.specs.Prelude.{length, if◌then◌else◌};
 ghost use Rattle.dm_base.specs.Before.{lower, lower_octet};
 ghost use Rattle.dm_base.specs.Codes.{max_name_len};
-ghost use Rattle.dm_node.specs.Naming.{is_host, number_of, IsForgotten};
+ghost use Rattle.dm_node.specs.Naming.{is_host, noted_number, IsForgotten};
 
 use arrayvec::ArrayVec;
 use dm_dict::NoMemory;
@@ -49,7 +49,7 @@ fn lowered(host: &[u8]) -> Option<ArrayVec<u8, MAX_NAME>>
 impl Hosts {
     /// No host is noted. It never answers want of memory.
     pub(crate) fn new(alloc: Global) -> Hosts
-        ensures { (h : List ℕ) → number_of result h ≡ None }
+        ensures { (h : List ℕ) → noted_number result h ≡ None }
     {
         Hosts {
             alloc,
@@ -60,7 +60,7 @@ impl Hosts {
     /// The number that is noted for the host, upper and lower case taken as one; none for one that is too long.
     pub(crate) fn number(&self, host: &[u8]) -> Option<usize>
         ensures { result
-            ≡ if nat_le (length host.now) max_name_len then number_of self.now (lower host.now) else None }
+            ≡ if nat_le (length host.now) max_name_len then noted_number self.now (lower host.now) else None }
     {
         match lowered(host) {
             Some(key) => self.map.get(key.as_slice()).copied(),
@@ -71,8 +71,8 @@ impl Hosts {
     /// Notes the number for a host in lower case.
     fn put(&mut self, key: &[u8], index: usize) -> Result<(), NoMemory>
         ensures noted { OnOk result ((h : List ℕ)
-            → number_of self.new h ≡ if is_host key.now h then Some index else number_of self.old h) }
-        ensures unchanged { OnErr result ((h : List ℕ) → number_of self.new h ≡ number_of self.old h) }
+            → noted_number self.new h ≡ if is_host key.now h then Some index else noted_number self.old h) }
+        ensures unchanged { OnErr result ((h : List ℕ) → noted_number self.new h ≡ noted_number self.old h) }
     {
         let key = Vec::from_slice(self.alloc, key)?;
         self.map.insert(key, index)?;
@@ -83,8 +83,8 @@ impl Hosts {
     pub(crate) fn note(&mut self, host: &[u8], index: usize) -> Result<(), NoMemory>
         requires { length host.now ≤ max_name_len }
         ensures noted { OnOk result ((h : List ℕ)
-            → number_of self.new h ≡ if is_host (lower host.now) h then Some index else number_of self.old h) }
-        ensures unchanged { OnErr result ((h : List ℕ) → number_of self.new h ≡ number_of self.old h) }
+            → noted_number self.new h ≡ if is_host (lower host.now) h then Some index else noted_number self.old h) }
+        ensures unchanged { OnErr result ((h : List ℕ) → noted_number self.new h ≡ noted_number self.old h) }
     {
         match lowered(host) {
             Some(key) => self.put(key.as_slice(), index),
@@ -96,7 +96,7 @@ impl Hosts {
     fn forget(&mut self, host: &[u8])
         requires { length host.now ≤ max_name_len }
         ensures { (h : List ℕ)
-            → number_of self.new h ≡ if is_host (lower host.now) h then None else number_of self.old h }
+            → noted_number self.new h ≡ if is_host (lower host.now) h then None else noted_number self.old h }
     {
         if let Some(key) = lowered(host) {
             self.map.swap_remove(key.as_slice());

@@ -8,9 +8,7 @@ ghost use Rattle.dm_node.specs.Holding.{peer_at, holds, holds_it, holds_at, host
 ghost use Rattle.dm_node.specs.declared.fault.AddFault.TheVariants.{Known};
 ghost use Rattle.dm_peer.specs.After.{fresh};
 ghost use Rattle.dm_peer.specs.declared.peer.Peer.{Peer};
-ghost use Rattle.dm_peer.specs.Places.{is_on};
 
-use dm_machine::laws::each_node_has_its_form;
 use dm_peer::{Conn, Peer};
 
 /// The neighbour of a number, where there is one.
@@ -24,31 +22,12 @@ pub(crate) fn peer_at(peers: &[Option<Peer>], index: usize) -> Option<&Peer>
     }
 }
 
-/// Whether the connection is the one held.
-fn is_on(held: Option<Conn>, conn: Conn) -> bool
-    ensures { result ≡ is_on held conn }
-{
-    match held {
-        Some(held) => held.0 == conn.0,
-        None => false,
-    }
-}
-
-/// Whether the peer holds the connection.
-fn holds(peer: &Peer, conn: Conn) -> bool
-    ensures { result ≡ holds conn peer.now }
-{
-    each_node_has_its_form();
-    let _state = peer.state();
-    is_on(peer.initiated(), conn) || is_on(peer.accepted(), conn)
-}
-
 /// Whether there is a peer, and it holds the connection.
 fn holds_it(peer: &Option<Peer>, conn: Conn) -> bool
     ensures { result ≡ holds_it conn peer.now }
 {
     match peer {
-        Some(peer) => holds(peer, conn),
+        Some(peer) => peer.holds(conn),
         None => false,
     }
 }

@@ -3,7 +3,7 @@ ghost use Rattle.std.specs.Prelude.{◌≡◌, ◌⊎◌, ℕ, true, None, Some,
 ghost use Rattle.dm_machine.specs.declared.connection.Conn.{Conn};
 ghost use Rattle.dm_node.specs.Declining.{IsRuledOut, TakesNoMemory, IsDeclined, IsByRule, IsDeclinedHere};
 ghost use Rattle.dm_node.specs.Holding.{peer_at, holds_at, AreApart, AreUnlike};
-ghost use Rattle.dm_node.specs.Naming.{AreNamed};
+ghost use Rattle.dm_node.specs.Naming.{AreHostsNoted};
 ghost use Rattle.dm_node.specs.Rosters.{IsRoster};
 ghost use Rattle.dm_node.specs.Telling.{conn_of, told_of, Concerns, IsAlone, IsTold, IsRefusedBy, IsRefusedHere};
 ghost use Rattle.dm_node.specs.Telling.{IsStrangeCer, strange};
@@ -49,7 +49,7 @@ fn tell(
     ensures unchanged { OnErr result (peers.new.items ≡ peers.old.items) }
     ensures apart { AreApart peers.old.items → AreApart peers.new.items }
     ensures unlike { AreUnlike peers.old.items → AreUnlike peers.new.items }
-    ensures named { (hosts : Hosts) → AreNamed hosts peers.old.items → AreNamed hosts peers.new.items }
+    ensures named { (hosts : Hosts) → AreHostsNoted hosts peers.old.items → AreHostsNoted hosts peers.new.items }
 {
     each_event_is_one_step();
     each_opening_has_its_message();

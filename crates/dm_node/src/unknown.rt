@@ -2,7 +2,7 @@
 ghost use Rattle.std.specs.Prelude.{◌≡◌, ◌⊎◌, ℕ, None, Some, IfOk, IfErr, IfSome, IfNone, OnErr, All};
 ghost use Rattle.dm_node.specs.Rosters.{IsRoster};
 ghost use Rattle.dm_node.specs.Telling.{Concerns, IsStrangeCer, strange};
-ghost use Rattle.dm_node.specs.Unknown.{IsOffered, IsTurnedAway, IsTaken, IsLeft};
+ghost use Rattle.dm_node.specs.Unknown.{IsOffered, IsTurnedAway, IsTakenIn, IsLeft};
 ghost use Rattle.dm_node.specs.declared.fault.EventFault.TheVariants as faults;
 ghost use Rattle.dm_peer.specs.Spelled.{SendsSpelling};
 ghost use Rattle.dm_peer.specs.declared.config.Config.{Config};
@@ -30,7 +30,7 @@ fn tell_unknown<U: UnknownHosts>(
     requires nobody { (i : ℕ) → Concerns roster.old.peers.items event i → ⊥ }
     ensures taken { IfOk result (λ r. IfSome r.neighbour (λ i. (config : Config)
         × IsOffered (U.makes policy.now) (U.most policy.now) roster.old.peers.items event.entry config
-        × IsTaken roster.old.peers.items roster.new.peers.items i event.entry r.actions.items config)) }
+        × IsTakenIn roster.old.peers.items roster.new.peers.items i event.entry r.actions.items config)) }
     ensures strange { IfOk result (λ r. IfNone r.neighbour (
         ((config : Config)
         × IsOffered (U.makes policy.now) (U.most policy.now) roster.old.peers.items event.entry config
@@ -79,7 +79,7 @@ impl Neighbours {
             × IsTold self.old.peers self.new.peers i (told_of event.entry) r.actions.items)
             ⊎ ((config : Config)
             × IsOffered (U.makes policy.now) (U.most policy.now) self.old.peers event.entry config
-            × IsTaken self.old.peers self.new.peers i event.entry r.actions.items config))) }
+            × IsTakenIn self.old.peers self.new.peers i event.entry r.actions.items config))) }
         ensures nobody { IfOk result (λ r. IfNone r.neighbour ((i : ℕ) → Concerns self.old.peers event.entry i → ⊥)) }
         ensures strange { IfOk result (λ r. IfNone r.neighbour (
             ((config : Config)

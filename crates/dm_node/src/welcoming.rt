@@ -7,7 +7,7 @@ ghost use Rattle.dm_machine.specs.declared.state_name.State.{State};
 ghost use Rattle.dm_node.specs.Holding.{holds, holds_at, host_at};
 ghost use Rattle.dm_node.specs.Rosters.{IsRoster};
 ghost use Rattle.dm_node.specs.Telling.{conn_of, told_of};
-ghost use Rattle.dm_node.specs.Unknown.{IsUnknown, IsTaken, IsLeft};
+ghost use Rattle.dm_node.specs.Unknown.{IsUnknown, IsTakenIn, IsLeft};
 ghost use Rattle.dm_node.specs.declared.events.NodeEvent.{NodeEvent};
 ghost use Rattle.dm_node.specs.declared.fault.EventFault.TheVariants as faults;
 ghost use Rattle.dm_peer.specs.Acts.{Moved, acts};
@@ -60,7 +60,7 @@ fn keep(roster: &mut Roster, met: Met) -> Result<NodeActions, EventFault>
     requires free { (c : Conn) (j : ℕ) → holds c met.peer ≡ true → holds_at roster.old.peers.items c j ≡ false }
     ensures taken { IfOk result (λ r. IfSome r.neighbour (λ i. (config : Config) (e : NodeEvent)
         → acts (new_peer config config.first_id) (told_of e) ≡ Moved met.actions.items met.peer
-        → IsTaken roster.old.peers.items roster.new.peers.items i e r.actions.items config)) }
+        → IsTakenIn roster.old.peers.items roster.new.peers.items i e r.actions.items config)) }
     ensures left { IfOk result (λ r. IfNone r.neighbour ((config : Config) (e : NodeEvent)
         → acts (new_peer config config.first_id) (told_of e) ≡ Moved met.actions.items met.peer
         → IsLeft roster.old.peers.items roster.new.peers.items e r.actions.items config)) }
@@ -96,7 +96,7 @@ pub(crate) fn welcome(
     requires roster { IsRoster roster.old }
     requires unknown { IsUnknown roster.old.peers.items event config.peer }
     ensures taken { IfOk result (λ r. IfSome r.neighbour (λ i.
-        IsTaken roster.old.peers.items roster.new.peers.items i event.entry r.actions.items config)) }
+        IsTakenIn roster.old.peers.items roster.new.peers.items i event.entry r.actions.items config)) }
     ensures left { IfOk result (λ r. IfNone r.neighbour
         (IsLeft roster.old.peers.items roster.new.peers.items event.entry r.actions.items config)) }
     ensures spelled { IfOk result (λ r. All SendsSpelling r.actions.items) }

@@ -3,7 +3,7 @@ use Rattle.dm_peer.specs.declared.config.Config.{Config}
 use Rattle.dm_node.specs.Declining.{IsRuledOut, TakesNoMemory, IsByRule, IsDeclinedHere}
 use Rattle.dm_node.specs.Neighbourhoods.{Neighbourhood}
 use Rattle.dm_node.specs.Telling.{Concerns, IsRefusedHere, told_of, strange}
-use Rattle.dm_node.specs.Unknown.{IsOffered, IsTurnedAway, IsTaken, IsLeft}
+use Rattle.dm_node.specs.Unknown.{IsOffered, IsTurnedAway, IsTakenIn, IsLeft}
 use Rattle.dm_node.proofs.Concerned.{one_there}
 use Rattle.dm_node.proofs.Taking.{if_ok}
 use Rattle.dm_node.proofs.Welcomed.{if_some, if_none}
@@ -48,7 +48,7 @@ returns-in-Ok-None-clause-told g c =
     (λ r h. if_some r.neighbour
     (λ i taken. inr (subst (λ (n : Neighbourhood). (k : Config)
     × IsOffered (g.U.UnknownHosts.makes c.args.policy.now) (g.U.UnknownHosts.most c.args.policy.now) n.peers
-    c.args.event k × IsTaken n.peers c.tell_unknown.new.roster.peers.items i c.args.event r.actions.items k)
+    c.args.event k × IsTakenIn n.peers c.tell_unknown.new.roster.peers.items i c.args.event r.actions.items k)
     c.self.view_is taken)) h)
     c.tell_unknown.ensures.taken
 

@@ -2,7 +2,7 @@ use Rattle.std.proofs.Common.{◌≡◌, ℕ, List, Some, [], ◌∷◌, ◌++�
 use Rattle.dm_base.specs.Before.{lower}
 use Rattle.dm_peer.specs.declared.config.Config.{Config}
 use Rattle.dm_node.specs.Holding.{holds_at, AreApart, AreUnlike}
-use Rattle.dm_node.specs.Naming.{is_host, number_of, AreNamed}
+use Rattle.dm_node.specs.Naming.{is_host, noted_number, AreHostsNoted}
 use Rattle.dm_node.specs.Owning.{AreOwned}
 use Rattle.dm_node.proofs.Growing.{unlike_grown}
 use Rattle.dm_node.proofs.Named.{noted_same}
@@ -34,11 +34,11 @@ returns-in-Ok-clause-roster c =
           (c.len-index.ensures ∙ c.args.self.now.peers.ok.0) (c.deref-in-Ok.ensures.value ∙ grown)
           (λ d. c.holding_at-before.ensures d ∙ ap (λ l. holds_at l d c.len-index.result) c.deref.ensures.value))
           c.requires.roster.owned);
-      named = subst (AreNamed c.make_room.new.hosts) (sym grown)
+      named = subst (AreHostsNoted c.make_room.new.hosts) (sym grown)
           (named_put c.args.self.now.hosts c.make_room.new.hosts ps c.args.peer c.requires.roster.named
           c.requires.unknown
-          (subst (λ (k : Config). (h : List ℕ) → number_of c.make_room.new.hosts h
-          ≡ if is_host (lower k.peer) h then Some (length ps) else number_of c.args.self.now.hosts h)
+          (subst (λ (k : Config). (h : List ℕ) → noted_number c.make_room.new.hosts h
+          ≡ if is_host (lower k.peer) h then Some (length ps) else noted_number c.args.self.now.hosts h)
           c.config.ensures c.in-Ok.ensures.noted));
     }
 
@@ -49,7 +49,7 @@ returns-in-Err-clause-roster c =
       apart = subst AreApart same c.requires.roster.apart;
       unlike = subst AreUnlike same c.requires.roster.unlike;
       owned = subst (AreOwned c.args.self.now.owners) same c.requires.roster.owned;
-      named = subst (AreNamed c.make_room.new.hosts) same
+      named = subst (AreHostsNoted c.make_room.new.hosts) same
           (noted_same c.args.self.now.hosts c.make_room.new.hosts c.args.self.now.peers.items c.in-Err.ensures.kept
           c.requires.roster.named);
     }
