@@ -1,5 +1,5 @@
 //! Tests of what is said of lines: every type of value, vendors, groups inside each other, each reason of a fault, what
-//! may stand in a line, and lines as one stream.
+//! may stand in a line, lines as one stream, and the same in JSON.
 //!
 //! What is checked in a test are its steps, and not the values that it compares: so it is one call of a helper, which has
 //! one way out, and owns at most one dictionary.
@@ -7,6 +7,8 @@
 
 #[cfg(test)]
 mod dictionary;
+#[cfg(test)]
+mod json_said;
 #[cfg(test)]
 mod lines;
 #[cfg(test)]
