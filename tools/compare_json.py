@@ -77,7 +77,7 @@ def avps(its, level, wanted):
 
 def fault(it):
     """Returns the line of a fault."""
-    said = f"  {it['code']} {it['name']}" + "".join(f" {name_of(s['name'])}[{s['place']}] /" for s in it["path"])
+    said = f"  {it['code']} {it['name']}" + "".join(f" {name_of(s['name'])}[{s['nth']}] /" for s in it["path"])
     if "avp" not in it:
         return said + "\n"
     if it["reason"] == "missing":

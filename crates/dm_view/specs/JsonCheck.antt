@@ -22,7 +22,7 @@ abbrev pub step_json : List AvpDef → Step → Json
 step_json avps s = object
     (member (codes "name") (name_json (option_map (λ d. d.name) (find (is_coded s.code s.vendor) avps)))
     (member (codes "code") (number_json s.code)
-    (vendor_member s.vendor (member (codes "occurrence") (number_json s.nth) no_members))))
+    (vendor_member s.vendor (member (codes "nth") (number_json s.nth) no_members))))
 
 abbrev pub path_items : List AvpDef → List Step → Items
 path_items avps [] = no_items

@@ -23,7 +23,7 @@ fn put_step(
     put_name(alloc, json, def.map(|def| &def.name))?;
     json.number_member("code", step.code)?;
     put_vendor(json, step.vendor)?;
-    json.key("occurrence")?;
+    json.key("nth")?;
     json.number(step.nth as u64)?;
     json.end_object()
 }
