@@ -7,6 +7,7 @@ mod neighbours;
 mod octets;
 mod own_rules;
 mod rows;
+mod unknown;
 
 use dm_dict::Ip;
 use dm_peer::{Action, Cause, Config, ConfigFault, Conn, Event, Node, Peer, State};
