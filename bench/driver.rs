@@ -15,6 +15,7 @@ extern "C" {
     fn ours_check(octets: *const u8, len: usize, times: u32) -> usize;
     fn ours_judge(octets: *const u8, len: usize, times: u32) -> usize;
     fn ours_rule(text: *const u8, len: usize, octets: *const u8, octets_len: usize, times: u32) -> usize;
+    fn ours_list(text: *const u8, len: usize, octets: *const u8, octets_len: usize, located: bool, times: u32) -> usize;
     fn ours_encode(octets: *const u8, len: usize, times: u32) -> usize;
     fn ours_frame(octets: *const u8, len: usize, size: usize, times: u32) -> usize;
     #[cfg(on)]
@@ -112,7 +113,44 @@ fn ruled() -> Vec<u8> {
     message(300, &(0..60).map(|k| avp(80000 + k % 10, true, &[0; 4])).collect::<Vec<_>>())
 }
 
-fn input(name: &str) -> Vec<u8> {
+/// A dictionary of a command with so many entries, each of at most one AVP.
+fn single_rule(size: usize) -> String {
+    let avps: String = (0..size).map(|k| format!("@ A{k} {} Unsigned32\n", 80000 + k)).collect();
+    let entries: String = (0..size).map(|k| format!(" [ A{k} ]")).collect();
+    format!("{avps}< Q > ::= < Diameter Header: 300, REQ >{entries}\n")
+}
+
+/// A request of that command with two AVPs of each entry.
+fn exceeded(size: usize) -> Vec<u8> {
+    message(300, &(0..2 * size).map(|k| avp(80000 + (k % size) as u32, true, &[0; 4])).collect::<Vec<_>>())
+}
+
+/// A dictionary of a command with groups of 20 entries.
+fn grouped_rule() -> String {
+    let avps: String = (0..20).map(|k| format!("@ A{k} {} Unsigned32\n", 80000 + k)).collect();
+    let entries: String = (0..20).map(|k| format!(" [ A{k} ]")).collect();
+    let group = format!("< G > ::= < AVP Header: 79999 >{entries}\n");
+    format!("{avps}{group}< Q > ::= < Diameter Header: 300, REQ > *[ G ]\n")
+}
+
+/// A request of that command with so many groups of five AVPs, the last of a wrong length in every tenth group.
+fn grouped(size: usize) -> Vec<u8> {
+    let member = |k: usize, i: usize| avp(80000 + i as u32, true, if i == 4 && k % 10 == 9 { &[0; 3] } else { &[0; 4] });
+    let group = |k: usize| avp(79999, true, &(0..5).map(|i| member(k, i)).collect::<Vec<_>>().concat());
+    message(300, &(0..size).map(group).collect::<Vec<_>>())
+}
+
+/// What an input's dictionary has beside the base dictionary.
+fn text_of(name: &str, size: usize) -> String {
+    match name {
+        "ruled" => bounded_rule(size),
+        "exceeded" => single_rule(size),
+        "grouped" => grouped_rule(),
+        _ => String::new(),
+    }
+}
+
+fn input(name: &str, size: usize) -> Vec<u8> {
     match name {
         "capabilities" => capabilities(1),
         "groups" => capabilities(18),
@@ -123,11 +161,13 @@ fn input(name: &str) -> Vec<u8> {
         "stream" => stream(),
         "watchdogs" => watchdog(0).repeat(1000),
         "ruled" => ruled(),
+        "exceeded" => exceeded(size),
+        "grouped" => grouped(size),
         _ => panic!("no input {name}"),
     }
 }
 
-fn ours(operation: &str, octets: &[u8], times: u32, size: usize) -> usize {
+fn ours(operation: &str, text: &str, octets: &[u8], times: u32, size: usize) -> usize {
     let (at, len) = (octets.as_ptr(), octets.len());
     // Each takes a slice of octets as a pointer and a length, and only reads.
     unsafe {
@@ -136,10 +176,8 @@ fn ours(operation: &str, octets: &[u8], times: u32, size: usize) -> usize {
             "decode" => ours_decode(at, len, times),
             "check" => ours_check(at, len, times),
             "judge" => ours_judge(at, len, times),
-            "rule" => {
-                let text = bounded_rule(size);
-                ours_rule(text.as_ptr(), text.len(), at, len, times)
-            }
+            "rule" => ours_rule(text.as_ptr(), text.len(), at, len, times),
+            "faults" | "located" => ours_list(text.as_ptr(), text.len(), at, len, operation == "located", times),
             "encode" => ours_encode(at, len, times),
             "frame" => ours_frame(at, len, size, times),
             #[cfg(on)]
@@ -173,7 +211,7 @@ fn agree(octets: &[u8], times: u64) {
         for operation in ["walk", "decode", "judge", "check", "encode"] {
             let plain = plain::run(operation, &changed, 1, 0);
             let fast = if operation == "check" { plain } else { fast::run(operation, &changed, 1) };
-            let ours = ours(operation, &changed, 1, 0);
+            let ours = ours(operation, "", &changed, 1, 0);
             if (ours, fast) != (plain, plain) {
                 eprintln!("{operation}: {ours} of ours, {plain} of plain, {fast} of fast: {changed:02x?}");
                 std::process::exit(1);
@@ -189,13 +227,13 @@ fn agree(octets: &[u8], times: u64) {
 fn main() {
     let words: Vec<String> = std::env::args().skip(1).collect();
     if words[0] == "agree" {
-        return agree(&input(&words[1]), words[2].parse().unwrap());
+        return agree(&input(&words[1], 0), words[2].parse().unwrap());
     }
-    let octets = input(&words[2]);
     let times = words[3].parse().unwrap();
     let size = words.get(4).map_or(1460, |word| word.parse().unwrap());
+    let (text, octets) = (text_of(&words[2], size), input(&words[2], size));
     let sum = match words[0].as_str() {
-        "ours" => ours(&words[1], &octets, times, size),
+        "ours" => ours(&words[1], &text, &octets, times, size),
         "fast" => fast::run(&words[1], &octets, times),
         _ => plain::run(&words[1], &octets, times, size),
     };
