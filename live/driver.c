@@ -23,8 +23,9 @@
 
 /* connections, and files of other kinds; listeners; lines of a configuration */
 enum { MOST_LINKS = 1000, MOST_FILES = 24, MOST_LISTENERS = 8, MOST_LINES = 1000 };
-/* octets: read at once, kept of an empty buffer, and queued at most where standard input goes on */
-enum { PIECE = 1 << 18, MOST_KEPT = 1 << 20, MOST_WAITING = 1 << 20 };
+/* octets: read at once, kept of an empty buffer, and queued at most where standard input goes on; of a line of standard
+   input, which is that of the greatest message (RFC 6733, 3) and some room */
+enum { PIECE = 1 << 18, MOST_KEPT = 1 << 20, MOST_WAITING = 1 << 20, MOST_OF_LINE = (1 << 25) + 1024 };
 /* milliseconds: for a connect, the first message of an accepted connection, what follows a close, and the end */
 enum { CONNECT_TIME = 10000, FIRST_TIME = 10000, CLOSE_TIME = 2000, END_TIME = 5000, LOOK_AGAIN = 1000 };
 static const int64_t NEVER = INT64_MAX;
@@ -47,14 +48,14 @@ static struct pollfd *polls;
 static size_t link_count, link_room, poll_room;
 static int listeners[MOST_LISTENERS], listener_count;
 static char connect_host[256], connect_port[32];
-static int64_t watchdog = 30000, reconnect = 30000, timeout = 30000, due, end_at = INT64_MAX;
+static int64_t watchdog = 30000, reconnect = 30000, timeout = 30000, due, end_at = INT64_MAX, written_at;
 static uint64_t queue_most = 32 << 20;
 static size_t batch_most, link_most = MOST_LINKS;
 static int to_peer, from_peer, output_to = 1, orders_out, verbose;
 static pid_t peer_process;
 static struct buffer input, output, answers, orders;
 static char state[160] = "Closed";
-static bool is_closed = true, is_open, input_ended, line_waits;
+static bool is_closed = true, is_open, input_ended, line_waits, line_skipped;
 static uint64_t last_number, open_number, handed_up, handed_up_most = UINT64_MAX;
 static volatile sig_atomic_t signalled;
 
@@ -318,6 +319,7 @@ static void write_output(void) {
         if (sent < 0 && errno == EAGAIN) return;
         if (sent < 0) ask_end();
         take(&output, sent < 0 ? held(&output) : (size_t)sent);
+        written_at = now();
     }
 }
 
@@ -487,16 +489,36 @@ static void read_input(void) {
     if (input_ended && held(&input) && input.at[input.to - 1] != '\n') put(&input, "\n", 1);
 }
 
+/* the first line that waits, ended by a 0; of one that is too long nothing is kept */
+static char *input_line(size_t *length) {
+    char *line = whole_line(&input, length);
+    bool is_long = (line ? *length : held(&input)) > MOST_OF_LINE;
+    if (is_long && !line_skipped) fprintf(stderr, "driver: a line of more than %d octets is skipped\n", MOST_OF_LINE);
+    if (line && (is_long || line_skipped)) {
+        line_skipped = false;
+        take(&input, *length + 1);
+        return input_line(length);
+    }
+    if (is_long) {
+        line_skipped = true;
+        take(&input, held(&input));
+    }
+    if (line) line[*length] = 0;
+    return line;
+}
+
 /* Takes the first line that waits; false where none waits, or it is to wait on. Submits go to dmlive many at once. */
 static bool take_line(void) {
     size_t length;
-    char *line = whole_line(&input, &length);
+    char *line = input_line(&length);
     if (!(line_waits = line)) return false;
-    bool order = begins(line, "start") || begins(line, "stop ");
+    bool is_start = !strcmp(line, "start"), order = is_start || begins(line, "stop ");
     if (order || held(&orders) + length > batch_most) exchange();
-    if (!order && length && !can_submit()) return false;
-    line[length] = 0;
-    if (begins(line, "start")) tell_of("start", ++last_number);
+    if (!order && length && !can_submit()) {
+        line[length] = '\n';
+        return false;
+    }
+    if (is_start) tell_of("start", ++last_number);
     else if (order) tell(line);
     else if (length) put_order("submit ", line, length);
     take(&input, length + 1);
@@ -540,7 +562,9 @@ static void run_clocks(void) {
     if (due <= at) expire_state();
     if (end_at > at) return;
     for (size_t i = 0; i < link_count; i++) drop(links[i]);
-    due = end_at = NEVER;
+    due = NEVER;
+    end_at = held(&output) && at - written_at < END_TIME ? written_at + END_TIME : NEVER;
+    if (end_at == NEVER) take(&output, held(&output));
 }
 
 /* how long nothing is to be done if nothing happens */
@@ -662,17 +686,20 @@ static void open_output(void) {
 
 /* The whole */
 
-/* With a connection open a DPR goes out, and its DPA is waited for; else all is closed at once. */
+/* With a connection open a DPR goes out, and its DPA is waited for, also one that is awaited already; else all is closed
+   at once. What was handed up is written while somebody reads it. */
 static void begin_end(void) {
     for (int i = 0; i < listener_count; i++) close(listeners[i]);
     listener_count = 0;
     *connect_host = 0;
     input_ended = true;
     end_at = now() + END_TIME;
-    if (is_closed) due = NEVER;
+    written_at = now();
+    bool is_parting = is_open || begins(state, "Closing");
+    if (!is_parting) due = NEVER;
     if (is_open) tell("stop 0");
     for (size_t i = 0; i < link_count; i++)
-        if (is_closed || !links[i]->heard) close_link(links[i]);
+        if (!is_parting || !links[i]->heard) close_link(links[i]);
 }
 
 static void on_signal(int signal) {
