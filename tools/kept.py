@@ -5,23 +5,26 @@ there; where crates are named, these are taken as changed, and no others. Its ed
 they alone are others, nothing is proved and no test is run for it. Then come, each with its minutes:
 
   tools/prove --these       proves the libraries that changed, those that stand on them, and those below both
-  the crates of tests       and the programs, that changed or stand on what changed: proved, built and run, as
-                            `rt all test` does; what rattle says of one stands in its out/gate.log
+  the crates of tests       and the programs, that changed or stand on what changed: proved, built and run; a program
+                            with its words, input and files, as `rt ci` runs it; what rattle says of one stands in its
+                            out/gate.log
   tools/runs/run            runs those of the programs that were built anew
   tools/refused             where a program was built anew, or a crate of the tests that it runs
   tools/planted NAME ..     tries the planted edits of the crates that changed, or whose edits did, but of those that
                             stand as recorded
 
 It trusts what is kept, tries no must-fail edit, and doesn't run the tests of the tools: it is no verdict on the
-repository. Of the toolchain's code it uses rtlib's crates_below, lock, guarded and Crate.test_whole, and rt's need,
-processors and free.
+repository. Of the toolchain's code it uses rtlib's crates_below, lock, guarded, fmt, Crate.test_whole and Crate.run, and
+rt's run, need, processors and free.
 """
+import contextlib
 import copy
 import importlib.machinery
 import importlib.util
 import os
 import resource
 import shutil
+import subprocess
 import sys
 import threading
 import time
@@ -32,6 +35,8 @@ from lanes import Lanes
 # What tools/runs has cases of, and what tools/refused runs.
 PROGRAMS = ["dmpeer", "dmview", "dmlive"]
 REFUSED = [*PROGRAMS, "tests_refused", "tests_refused_peer"]
+# How long a program may run.
+SECONDS = 60
 
 
 def load_rt():
@@ -73,6 +78,17 @@ def is_run(crate):
 def built_of(crate):
     """Returns where the program or the tests of a crate are built."""
     return f"{crate.folder}/out/{crate.name}" + "_tests" * (not crate.is_program)
+
+
+def is_good_program(rt, crate, flags):
+    """Proves and builds a program, and runs it as `rt ci` does; returns whether it is formatted and does what it must."""
+    with contextlib.suppress(FileNotFoundError):
+        os.remove(built_of(crate))
+    if rt.rtlib.fmt(crate.folder, "--check", crate.out):
+        return False
+    # (how this run ends is nothing to go by: it has none of the program's words)
+    crate.run(flags, [], input=b"", stdout=subprocess.PIPE, stderr=crate.out, timeout=SECONDS)
+    return os.path.isfile(built_of(crate)) and rt.run(crate, False)
 
 
 def closed(held):
@@ -149,11 +165,11 @@ class Kept:
             begun, log, made = time.time(), f"{crate.folder}/out/gate.log", copy.copy(crate)
             os.makedirs(os.path.dirname(log), exist_ok=True)
             with open(log, "w", encoding="utf-8") as made.out:
-                status = made.test_whole(flags)
-            how = f"FAILED: see {os.path.relpath(log, self.top)}" if status else "passed"
+                is_good = is_good_program(self.rt, made, flags) if crate.is_program else not made.test_whole(flags)
+            how = "passed" if is_good else f"FAILED: see {os.path.relpath(log, self.top)}"
             with lock:
                 print(f"gate: {crate.name}: {how}, {time.time() - begun:.0f} s", flush=True)
-                results.append(not status)
+                results.append(is_good)
 
         held = self.rt.rtlib.lock(list(dict.fromkeys(dep for it in runs for dep in [*it.below(), it])))
         try:

@@ -1,7 +1,8 @@
 """The record tools/planted_tried: at which texts all planted edits of a crate were refused.
 
-A line has a crate, a digest (SHA-256) and how many edits were refused at it. The digest is of all that the verdict on
-the crate's edits depends on, and of nothing else:
+A line has a crate, a toolchain, a digest (SHA-256) and how many edits were refused at it. A crate has a line for each
+toolchain under which its edits were tried, so that machines with different ones keep each other's. The digest is of all
+that the verdict on the crate's edits depends on, and of nothing else:
 
   - the crate's src, specs and proofs, its edits, its lines of tools/planted_laws, and what crates.txt says of it
   - of each library of the repository below it what it states: see stated_in
@@ -16,8 +17,10 @@ import re
 
 TOOLS = os.path.dirname(os.path.realpath(__file__))
 FILE = os.path.join(TOOLS, "planted_tried")
-HEAD = "# The texts at which all planted edits of a crate were refused, and how many: by tools/planted --record.\n"
-LINE = re.compile(r"(\w+) ([0-9a-f]{64}) ([0-9]+)")
+HEAD = """# By crate and toolchain: the texts at which all its planted edits were refused, and how many.
+# Written by tools/planted --record.
+"""
+LINE = re.compile(r"(\w+) (\S+) ([0-9a-f]{64}) ([0-9]+)")
 
 
 def sum_of(given):
@@ -101,27 +104,28 @@ def digest_of(crate, laws, toolchain):
 
 
 class Record:
-    """What is recorded: by the crate, the digest and how many edits were refused at it."""
+    """What is recorded: by the crate and the toolchain, the digest and how many edits were refused at it."""
 
-    def __init__(self, names, file=FILE):
-        self.file, self.rows, self.told = file, {}, []
+    def __init__(self, names, toolchain, file=FILE):
+        self.toolchain, self.file, self.rows, self.told = toolchain, file, {}, []
         lines = read(file).decode("utf-8", "replace").split("\n") if os.path.isfile(file) else []
         found = {at + 1: LINE.fullmatch(it) for at, it in enumerate(lines) if it and not it.startswith("#")}
-        crates = [it[1] for it in found.values() if it]
+        keys = [it.group(1, 2) for it in found.values() if it]
         for at, it in found.items():
-            if it and it[1] in names and crates.count(it[1]) == 1:
-                self.rows[it[1]] = it[2], int(it[3])
+            if it and it[1] in names and keys.count(it.group(1, 2)) == 1:
+                self.rows[it.group(1, 2)] = it[3], int(it[4])
             else:
                 why = "is damaged" if not it else "is doubled" if it[1] in names else "is of no crate"
                 self.told.append(f"line {at} of tools/{os.path.basename(file)} {why}, and counts as none")
 
     def has(self, name, digest, edits):
-        return edits > 0 and self.rows.get(name) == (digest, edits)
+        return edits > 0 and self.rows.get((name, self.toolchain)) == (digest, edits)
 
     def write(self, tried):
         """Writes the record anew, with these crates as they were tried: a digest and a number, or None."""
-        rows = {name: row for name, row in {**self.rows, **tried}.items() if row}
-        text = HEAD + "".join(f"{name} {digest} {edits}\n" for name, (digest, edits) in sorted(rows.items()))
+        now = {(name, self.toolchain): row for name, row in tried.items()}
+        rows = {key: row for key, row in {**self.rows, **now}.items() if row}
+        text = "".join(f"{name} {kit} {digest} {edits}\n" for (name, kit), (digest, edits) in sorted(rows.items()))
         with open(f"{self.file}.new", "w", encoding="utf-8") as it:
-            it.write(text)
+            it.write(HEAD + text)
         os.replace(f"{self.file}.new", self.file)
