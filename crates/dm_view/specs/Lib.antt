@@ -1,4 +1,5 @@
 pub mod Check
+pub mod Described
 pub mod JsonCheck
 pub mod JsonView
 pub mod JsonWords

@@ -3,6 +3,8 @@
 
 mod avps;
 mod data;
+mod described;
+mod described_data;
 mod faults;
 mod header;
 mod json_avps;
@@ -18,6 +20,7 @@ mod reasons;
 mod results;
 mod words;
 
+pub use described::{AvpDescription, describe};
 pub use faults::put_check;
 pub use header::put_header;
 pub use json_faults::{put_json_check, put_json_verdict};
