@@ -25,7 +25,7 @@ const TEXT: &str = "@ 2
 ";
 
 /// The dictionary of the text over the base one.
-fn dictionary(rt: &(impl Abort + AllocGlobal)) -> Dictionary {
+pub fn dictionary(rt: &(impl Abort + AllocGlobal)) -> Dictionary {
     let base = Dictionary::base(rt.alloc()).expect(rt, "memory");
     let read = Dictionary::read(rt.alloc(), TEXT.as_bytes(), &base);
     drop(base);
