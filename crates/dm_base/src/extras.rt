@@ -11,7 +11,7 @@ use crate::limits::MAX_IDS;
 use crate::node::all_numbers;
 use crate::{ExtrasFault, IdList, VendorApplication, VendorApplicationList};
 use dm_dict::NoMemory;
-use std::alloc::Global;
+use std::alloc::{AllocError, Global};
 
 /// What a node says of itself beyond what it must (RFC 6733, 5.3, 6.11 and 8.16).
 #[derive(Debug, Drop)]
@@ -98,6 +98,21 @@ impl Extras {
             vendors: IdList::from_vec(vendors),
             firmware,
             state_id,
+        })
+    }
+}
+
+/// A copy, or want of memory.
+impl Clone for Extras {
+    ghost is_clone = { λ extras copy. copy ≡ extras };
+
+    fn clone(&self) -> Result<Extras, AllocError> {
+        Ok(Extras {
+            applications: self.applications.clone()?,
+            ids: self.ids.clone()?,
+            vendors: self.vendors.clone()?,
+            firmware: self.firmware,
+            state_id: self.state_id,
         })
     }
 }

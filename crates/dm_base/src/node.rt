@@ -11,6 +11,7 @@ use crate::names::is_visible_text;
 use crate::{Extras, IdList, IpList, NodeFault};
 use dm_dict::{Ip, Text};
 use dm_wire::Octets;
+use std::alloc::AllocError;
 
 /// What a node says of itself (RFC 6733, 5.3).
 #[derive(Debug, Drop)]
@@ -182,5 +183,33 @@ impl Node {
         ensures { result.now ≡ self.now.host }
     {
         self.host.as_slice()
+    }
+}
+
+/// A copy of what a node says beyond what it must, where it says it.
+fn copy_extras(extras: &Option<Extras>) -> Result<Option<Extras>, AllocError>
+    ensures { IfOk result (λ copy. copy ≡ extras.now) }
+{
+    match extras {
+        Some(extras) => Ok(Some(extras.clone()?)),
+        None => Ok(None),
+    }
+}
+
+/// A copy, or want of memory.
+impl Clone for Node {
+    ghost is_clone = { λ node copy. copy ≡ node };
+
+    fn clone(&self) -> Result<Node, AllocError> {
+        Ok(Node {
+            host: self.host.clone()?,
+            realm: self.realm.clone()?,
+            addresses: self.addresses.clone()?,
+            vendor: self.vendor,
+            product: self.product.clone()?,
+            auth: self.auth.clone()?,
+            acct: self.acct.clone()?,
+            extras: copy_extras(&self.extras)?,
+        })
     }
 }
