@@ -11,7 +11,7 @@ use crate::ConfigFault;
 use dm_base::{Node, host_order, is_name};
 use dm_dict::Dictionary;
 use dm_wire::Octets;
-use std::alloc::Global;
+use std::alloc::{AllocError, Global};
 use std::cmp::Ordering;
 
 /// A node, the host that it is configured for, and where its numbers begin.
@@ -51,6 +51,18 @@ fn fault_of(host: &[u8], peer: &[u8]) -> Option<ConfigFault>
     None
 }
 
+/// A copy of the node, and the octets of the host.
+fn copied(alloc: Global, node: &Node, host: &[u8]) -> Result<(Node, Vec<u8>), AllocError>
+    ensures node { IfOk result (λ parts. parts.0 ≡ node.now) }
+    ensures host { IfOk result (λ parts. parts.1.items ≡ host.now) }
+{
+    let peer = Vec::from_slice(alloc, host)?;
+    match node.clone() {
+        Ok(node) => Ok((node, peer)),
+        Err(fault) => Err(fault),
+    }
+}
+
 impl Config {
     ghost use Rattle.dm_peer.specs.Configs.{wins};
 
@@ -83,6 +95,27 @@ impl Config {
                 first_id,
                 dictionary,
             }),
+            Err(_) => Err(ConfigFault::NoMemory),
+        }
+    }
+
+    /// The configuration of the same node for another peer, the host, beginning with the same number.
+    ///
+    /// Refuses in the order and with the faults of [`new`](Config::new).
+    pub fn for_host(&self, alloc: Global, host: &[u8]) -> Result<Config, ConfigFault>
+        ensures fault { IfErr result (λ f. (f ≡ config_faults.NoMemory)
+            ⊎ (config_fault self.now.node.host host.now ≡ Some f)) }
+        ensures refuses { (f : ConfigFault) → config_fault self.now.node.host host.now ≡ Some f → result ≡ Err f }
+        ensures node { IfOk result (λ config. config.node ≡ self.now.node) }
+        ensures peer { IfOk result (λ config. config.peer ≡ host.now) }
+        ensures first_id { IfOk result (λ config. config.first_id ≡ self.now.first_id) }
+        ensures dictionary { IfOk result (λ config. config.dictionary ≡ base_definitions) }
+    {
+        if let Some(fault) = fault_of(self.node.host(), host) {
+            return Err(fault);
+        }
+        match copied(alloc, &self.node, host) {
+            Ok((node, peer)) => Config::new(alloc, node, peer, self.first_id),
             Err(_) => Err(ConfigFault::NoMemory),
         }
     }
