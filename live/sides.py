@@ -223,8 +223,10 @@ class FreeDiameter(Side):
     """freeDiameter's daemon, b.example, in the other network; a relay, unless told otherwise."""
     name = "freeDiameter"
 
-    def __init__(self, folder, call=None, known=("a.example", "c.example"), relay=True):
+    def __init__(self, folder, call=None, known=("a.example", "c.example"), relay=True, extension=None):
         lines = ['LoadExtension = "%s/acl_wl.fdx" : "acl.conf";' % extensions()]
+        if extension:
+            lines.append('LoadExtension = "%s";' % extension)
         if not relay:
             lines.append("NoRelay;")
         if call:
@@ -273,6 +275,14 @@ def listening(address, port, seconds=15):
         except OSError:
             time.sleep(0.1)
     return False
+
+
+def vendor_application(folder):
+    """Builds freeDiameter's extension that supports an application of a vendor; returns its file."""
+    made = os.path.join(folder, "vendor_application.fdx")
+    words = [os.environ.get("CC", "cc"), "-Wall", "-Wextra", "-Werror", "-shared", "-fPIC", "-o", made]
+    subprocess.run([*words, os.path.join(HERE, "vendor_application.c")], check=True)
+    return made
 
 
 def prepare(folder, parts):
