@@ -121,12 +121,9 @@ resettled_admitted ps qs y i before here is held = record {
 }
 
 -- the configuration that was offered
-pub offered_now : (makes : List ℕ → Config → Type 0) (most : ℕ) (ps qs : List (Option Peer)) (e : NodeEvent)
-    (o : Option Config) (k : Config) → o ≡ Some k → ps ≡ qs → IfSome o (IsOffered makes most ps e) →
-    IsOffered makes most qs e k
-offered_now makes most ps qs e o k is here h =
-    subst (λ (l : List (Option Peer)). IsOffered makes most l e k) here
-    (subst (λ (x : Option Config). IfSome x (IsOffered makes most ps e)) is h)
+pub offered_now : (makes : List ℕ → Config → Type 0) (most : ℕ) (ps : List (Option Peer)) (e : NodeEvent)
+    (o : Option Config) (k : Config) → o ≡ Some k → IfSome o (IsOffered makes most ps e) → IsOffered makes most ps e k
+offered_now makes most ps e o k is h = subst (λ (x : Option Config). IfSome x (IsOffered makes most ps e)) is h
 
 pub if_some : {A : Type 0} {P Q : A → Type 0} (o : Option A) → ((a : A) → P a → Q a) → IfSome o P → IfSome o Q
 if_some None f h = h

@@ -10,4 +10,5 @@ pub mod OneConcerned
 pub mod Owning
 pub mod Rosters
 pub mod Telling
+pub mod Templates
 pub mod Unknown

@@ -4,6 +4,7 @@
 
 mod adding;
 mod calling;
+mod counting;
 mod emptying;
 mod events;
 mod fault;
@@ -17,6 +18,7 @@ mod policy;
 mod roster;
 mod routing;
 mod telling;
+mod template;
 mod unknown;
 mod welcoming;
 
@@ -24,3 +26,4 @@ pub use events::{NodeActions, NodeEvent};
 pub use fault::{AddFault, EventFault};
 pub use neighbours::Neighbours;
 pub use policy::UnknownHosts;
+pub use template::Template;

@@ -1,27 +1,16 @@
 //! Whether a host that is no neighbour is offered to become one.
 ghost use Rattle.std.specs.Prelude.{◌≡◌, ℕ, None, Some, IfSome, IfNone, IfOk, OnErr};
+ghost use Rattle.dm_node.specs.Rosters.{IsRoster};
 ghost use Rattle.dm_node.specs.Telling.{Concerns, IsStrangeCer};
-ghost use Rattle.dm_node.specs.Unknown.{caller_at, present, IsOffered, IsTurnedAway};
+ghost use Rattle.dm_node.specs.Unknown.{caller_at, IsOffered, IsTurnedAway};
 ghost use Rattle.dm_wire.specs.declared.message.Header.{Header};
 
 use crate::calling::caller;
+use crate::roster::Roster;
 use crate::{NodeEvent, UnknownHosts};
 use dm_dict::NoMemory;
-use dm_peer::{Config, Peer};
+use dm_peer::Config;
 use std::alloc::Global;
-
-/// How many neighbours there are.
-fn count_of(peers: &[Option<Peer>]) -> usize
-    ensures { result ≡ present peers.now }
-{
-    let mut count = 0usize;
-    for peer in peers {
-        if peer.is_some() {
-            count += 1;
-        }
-    }
-    count
-}
 
 /// The host whose CER the event is.
 fn calling_host<'a>(event: NodeEvent<'a>) -> Option<&'a [u8]>
@@ -40,20 +29,21 @@ fn calling_host<'a>(event: NodeEvent<'a>) -> Option<&'a [u8]>
 /// A configuration for the host whose CER the event is, where the policy has one and there may be one neighbour more.
 pub(crate) fn offered<U: UnknownHosts>(
     alloc: Global,
-    peers: &[Option<Peer>],
+    roster: &Roster,
     policy: &U,
     event: NodeEvent<'_>,
 ) -> Result<Option<Config>, NoMemory>
-    requires { (i : ℕ) → Concerns peers.now event i → ⊥ }
+    requires roster { IsRoster roster.now }
+    requires nobody { (i : ℕ) → Concerns roster.now.peers.items event i → ⊥ }
     ensures offered { IfOk result (λ o. IfSome o
-        (IsOffered (U.makes policy.now) (U.most policy.now) peers.now event.entry)) }
+        (IsOffered (U.makes policy.now) (U.most policy.now) roster.now.peers.items event.entry)) }
     ensures none { IfOk result (λ o. IfNone o
-        (IsTurnedAway (U.turns_away policy.now) (U.most policy.now) peers.now event.entry)) }
+        (IsTurnedAway (U.turns_away policy.now) (U.most policy.now) roster.now.peers.items event.entry)) }
     ensures memory { OnErr result (IsStrangeCer event.entry) }
 {
     match calling_host(event) {
         Some(host) => {
-            if count_of(peers) < policy.most() {
+            if roster.count() < policy.most() {
                 policy.config_for(alloc, host)
             } else {
                 Ok(None)

@@ -8,10 +8,12 @@ ghost use Rattle.dm_node.specs.Adding.{with_new};
 ghost use Rattle.dm_node.specs.Emptying.{without, with_set_back, all_set_back};
 ghost use Rattle.dm_node.specs.Holding.{peer_at, holds, holds_at, host_at, IsKnown};
 ghost use Rattle.dm_node.specs.Rosters.{IsRoster};
+ghost use Rattle.dm_node.specs.Unknown.{present};
 ghost use Rattle.dm_node.specs.declared.fault.AddFault.TheVariants.{Known, NoMemory as no_memory};
 
 use crate::AddFault;
 use crate::adding::{make_room, push, put};
+use crate::counting::{one_less, one_more};
 use crate::emptying::{set_back_at, set_back_each, take_at};
 use crate::hosts::Hosts;
 use crate::owners::{Owners, holding_at};
@@ -25,6 +27,8 @@ pub(crate) struct Roster {
     pub(crate) peers: Vec<Option<Peer>>,
     pub(crate) owners: Owners,
     pub(crate) hosts: Hosts,
+    /// How many neighbours there are.
+    pub(crate) present: usize,
 }
 
 impl Roster {
@@ -37,6 +41,7 @@ impl Roster {
             peers: Vec::new(alloc),
             owners: Owners::new(alloc),
             hosts: Hosts::new(alloc),
+            present: 0,
         }
     }
 
@@ -60,6 +65,14 @@ impl Roster {
         self.hosts.number(host)
     }
 
+    /// How many neighbours there are, with no walk over them.
+    pub(crate) fn count(&self) -> usize
+        requires { IsRoster self.now }
+        ensures { result ≡ present self.now.peers.items }
+    {
+        self.present
+    }
+
     /// Puts a closed peer of the configuration behind the others.
     pub(crate) fn put(&mut self, config: Config) -> Result<usize, AddFault>
         requires { IsRoster self.old }
@@ -70,7 +83,13 @@ impl Roster {
         ensures unchanged { OnErr result (self.new.peers.items ≡ self.old.peers.items) }
         ensures roster { IsRoster self.new }
     {
-        put(&mut self.peers, &mut self.hosts, config)
+        match put(&mut self.peers, &mut self.hosts, config) {
+            Ok(index) => {
+                self.present = one_more(&self.peers, self.present);
+                Ok(index)
+            }
+            Err(fault) => Err(fault),
+        }
     }
 
     /// Puts a peer behind the others, of which none has its host or holds a connection of its.
@@ -88,6 +107,7 @@ impl Roster {
         match make_room(&mut self.peers, &mut self.hosts, peer.config()) {
             Ok(()) => {
                 push(&mut self.peers, peer);
+                self.present = one_more(&self.peers, self.present);
                 self.owners.settle(&self.peers, before, index);
                 Ok(index)
             }
@@ -105,6 +125,7 @@ impl Roster {
         let before = holding_at(&self.peers, index);
         let gone = take_at(&mut self.peers, index);
         self.hosts.forget_gone(&gone);
+        self.present = one_less(&gone, self.present);
         self.owners.settle(&self.peers, before, index);
         gone
     }

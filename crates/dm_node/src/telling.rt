@@ -8,6 +8,7 @@ ghost use Rattle.dm_node.specs.Rosters.{IsRoster};
 ghost use Rattle.dm_node.specs.Telling.{conn_of, told_of, Concerns, IsAlone, IsTold, IsRefusedBy, IsRefusedHere};
 ghost use Rattle.dm_node.specs.Telling.{IsStrangeCer, strange};
 ghost use Rattle.dm_node.specs.declared.fault.EventFault.TheVariants as faults;
+ghost use Rattle.dm_node.specs.Unknown.{present};
 ghost use Rattle.dm_node.specs.declared.hosts.Hosts.{Hosts};
 ghost use Rattle.dm_peer.specs.Events.{told};
 ghost use Rattle.dm_peer.specs.Spelled.{SendsSpelling};
@@ -50,6 +51,7 @@ fn tell(
     ensures apart { AreApart peers.old.items → AreApart peers.new.items }
     ensures unlike { AreUnlike peers.old.items → AreUnlike peers.new.items }
     ensures named { (hosts : Hosts) → AreHostsNoted hosts peers.old.items → AreHostsNoted hosts peers.new.items }
+    ensures present { present peers.new.items ≡ present peers.old.items }
 {
     each_event_is_one_step();
     each_opening_has_its_message();

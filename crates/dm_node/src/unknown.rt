@@ -43,7 +43,7 @@ fn tell_unknown<U: UnknownHosts>(
     ensures unchanged { OnErr result (roster.new.peers.items ≡ roster.old.peers.items) }
     ensures roster { IsRoster roster.new }
 {
-    match offered(alloc, &roster.peers, policy, event) {
+    match offered(alloc, roster, policy, event) {
         Ok(Some(config)) => welcome(alloc, roster, config, event),
         Ok(None) => tell_nobody(alloc, node, event),
         Err(_) => Err(EventFault::Peer(PeerFault::NoMemory)),

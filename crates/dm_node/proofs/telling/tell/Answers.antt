@@ -1,3 +1,4 @@
+use Rattle.dm_node.proofs.Counted.{present_told}
 use Rattle.dm_node.proofs.Declined.{ruled_here, rule_of, silent_of, declined_here}
 use Rattle.dm_node.proofs.Named.{named_same, unlike_same}
 use Rattle.dm_node.proofs.Places.{found, set_here}
@@ -66,3 +67,6 @@ returns-clause-silent c = λ takes.
     (found c.args.peers.now.items c.args.index _ _ c.index_mut.ensures.value c.in-Some.is c.requires.there) _)
     (c.on.ensures.silent (silent_of _ _ _
     (found c.args.peers.now.items c.args.index _ _ c.index_mut.ensures.value c.in-Some.is c.requires.there) _ takes))
+
+pub returns-clause-present : goal.returns-clause-present
+returns-clause-present c = present_told c.args.peers.now.items c.args.index _ c.requires.there

@@ -1,6 +1,7 @@
-use Rattle.std.proofs.Common.{◌∙◌, ap, subst}
+use Rattle.std.proofs.Common.{◌∙◌, sym, ap, subst}
 use Rattle.dm_node.specs.Holding.{holds_at}
 use Rattle.dm_node.specs.Owning.{AreOwned}
+use Rattle.dm_node.proofs.Counted.{present_back}
 use Rattle.dm_node.proofs.Named.{named_same}
 use Rattle.dm_node.proofs.Renamed.{back_hosts}
 use Rattle.dm_node.proofs.Rostered.{back_holds, back_named, apart_set, unlike_set, resettled}
@@ -25,4 +26,5 @@ returns-clause-roster c = record {
       c.requires.owned);
   named = named_same c.args.self.now.hosts c.args.self.now.peers.items _
       (back_hosts c.args.self.now.peers.items _ c.args.index c.set_back_at.ensures) c.requires.named;
+  counted = c.requires.counted ∙ sym (present_back c.args.self.now.peers.items _ c.args.index c.set_back_at.ensures);
 }

@@ -1,9 +1,15 @@
 use Rattle.std.proofs.Common.{◌∙◌, sym, ap, subst}
 use Rattle.dm_node.specs.Holding.{holds_at}
 use Rattle.dm_node.specs.Owning.{AreOwned}
+use Rattle.dm_node.proofs.Counted.{some_before, counted_less}
 use Rattle.dm_node.proofs.Renamed.{named_without}
 use Rattle.dm_node.proofs.Rostered.{none_free, none_named, apart_set, unlike_set, resettled}
 use Rattle.dm_node.proofs.roster.Roster.take.Goals as goal
+
+pub one_less-self-requires : goal.one_less-self-requires
+one_less-self-requires c =
+    some_before c.args.self.now.peers.items c.args.index c.args.self.now.present c.take_at-gone.result
+    c.take_at-gone.ensures.gone c.requires.counted
 
 pub settle-requires : goal.settle-requires
 settle-requires c = record {
@@ -24,4 +30,7 @@ returns-clause-roster c = record {
       c.requires.owned);
   named = named_without c.args.self.now.hosts _ c.args.self.now.peers.items _ c.args.index c.take_at-gone.result
       c.take_at-gone.ensures.without (sym c.take_at-gone.ensures.gone) c.forget_gone.ensures c.requires.named;
+  counted = counted_less c.args.self.now.peers.items _ c.args.index c.args.self.now.present _ c.take_at-gone.result
+      c.take_at-gone.ensures.gone c.requires.counted c.take_at-gone.ensures.without c.one_less-self.ensures.gone
+      c.one_less-self.ensures.nobody;
 }
