@@ -1,7 +1,9 @@
 //! Two peers over octets and the links between them: a.example and b.example, each configured for the other.
 mod clean;
+mod delivery;
 mod laws;
 mod opening;
+mod pair;
 mod seen;
 mod tests;
 

@@ -1,5 +1,6 @@
 //! Each law with its search: how many lists are run, and of how many the turned law doesn't hold.
 use super::laws::Law;
+use super::pair::{Deliveries, Letter, run_deliveries};
 use super::{Choice, Search, run_all};
 use crate::search::{Seen, found};
 use dm_world::Side;
@@ -121,6 +122,29 @@ const SETTLED_BEHIND_ELECTIONS: Search = Search {
     longest: 9,
 };
 
+/// Both are open on the link of A.
+const JOINED: &[Letter] = &[
+    Letter::Happens(Choice::Start(Side::A)),
+    Letter::Happens(Choice::Ack(0)),
+    Letter::Happens(Choice::Deliver(0, Side::B)),
+    Letter::Happens(Choice::Deliver(0, Side::A)),
+];
+
+const DELIVERIES: Deliveries = Deliveries {
+    before: JOINED,
+    letters: &[
+        Letter::Submit(Side::A, 1),
+        Letter::Submit(Side::A, 2),
+        Letter::Submit(Side::B, 1),
+        Letter::Happens(Choice::Deliver(0, Side::A)),
+        Letter::Happens(Choice::Deliver(0, Side::B)),
+        Letter::Happens(Choice::Lose(0)),
+        Letter::Happens(Choice::Stop(Side::A)),
+        Letter::Happens(Choice::Restart(Side::B)),
+    ],
+    longest: 6,
+};
+
 mod never_two {
     use super::*;
 
@@ -191,5 +215,14 @@ mod no_state_is_a_trap {
     #[test]
     fn each_world_can_open(rt: HostRuntime) {
         assert_eq!(rt; run_all(&rt, &NO_TRAP), found(2_196, 0));
+    }
+}
+
+mod each_message_once {
+    use super::*;
+
+    #[test]
+    fn loss_is_not_counted_is_false(rt: HostRuntime) {
+        assert_eq!(rt; run_deliveries(&rt, &DELIVERIES), found(57_311, 16_214));
     }
 }
