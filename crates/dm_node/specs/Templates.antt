@@ -4,7 +4,7 @@ use Rattle.dm_peer.specs.Hosts.{config_fault}
 use Rattle.dm_peer.specs.declared.config.Config.{Config}
 
 -- the configuration of the same node for this peer, with the same first number and the same dictionary
-pub record IsFor (template : Config) (host : List ℕ) (config : Config) : Type 0 where
+pub record IsMadeFor (template : Config) (host : List ℕ) (config : Config) : Type 0 where
   pub peer : config.peer ≡ host
   pub node : config.node ≡ template.node
   pub first_id : config.first_id ≡ template.first_id

@@ -26,9 +26,9 @@ impl Template {
 }
 
 impl UnknownHosts for Template {
-    ghost use Rattle.dm_node.specs.Templates.{IsFor, IsUnfit};
+    ghost use Rattle.dm_node.specs.Templates.{IsMadeFor, IsUnfit};
 
-    ghost makes = { λ template host config. IsFor template.config host config };
+    ghost makes = { λ template host config. IsMadeFor template.config host config };
 
     ghost turns_away = { λ template host. IsUnfit template.config host };
 
