@@ -7,6 +7,7 @@ mod neighbours;
 mod octets;
 mod own_rules;
 mod rows;
+mod templates;
 mod unknown;
 
 use dm_dict::Ip;

@@ -1,0 +1,63 @@
+//! Hosts that are no neighbours, taken alike.
+use super::octets::{CER, CER_OF_B, CER_OF_WINNER};
+use super::{config, node, octets_of};
+use dm_node::{Neighbours, NodeEvent, Template};
+use dm_peer::{Conn, State};
+use std::process::Abort;
+
+/// The CER of d.example, of application 4, with number 9.
+const CER_OF_D: &str =
+    "01000070800001010000000000000009000000090000010840000011642e6578616d706c65000000000001284000000f6578616d706c6500000001014000000e00017f00000100000000010a4000000c000000000000010d0000000e646d706565720000000001024000000c00000004";
+
+/// How many neighbours there may be, the connection, the CER on it, whom it concerns, and how many actions are asked
+/// for.
+type Case<'a> = (usize, u64, &'a str, Option<usize>, usize);
+
+/// None may be, the own host, any other, it again by another case, one too many, and one more.
+const TAKEN: &[Case<'static>] = &[
+    (0, 4, CER_OF_B, None, 2),
+    (3, 5, CER, None, 2),
+    (1, 9, CER_OF_B, Some(0), 1),
+    (3, 10, CER_OF_WINNER, Some(0), 1),
+    (1, 11, CER_OF_D, None, 2),
+    (2, 12, CER_OF_D, Some(1), 1),
+];
+
+/// Behind a neighbour that is gone.
+const TAKEN_AGAIN: &[Case<'static>] = &[(1, 13, CER_OF_B, None, 2), (2, 14, CER_OF_B, Some(2), 1)];
+
+/// Each is taken by a template of a.example for c.example.
+fn meets(rt: &(impl Abort + AllocGlobal), neighbours: &mut Neighbours, case: &Case<'_>) -> bool {
+    let (most, conn, digits, concerned, count) = *case;
+    let octets = octets_of(rt, digits);
+    let config = config(rt, b"a.example", b"c.example", 4).expect(rt, "a configuration");
+    let template = Template::new(config, most);
+    let event = NodeEvent::Arrived(Conn(conn), octets.as_slice());
+    let done = neighbours
+        .on_with(rt.alloc(), &template, event)
+        .expect(rt, "actions");
+    done.neighbour == concerned && done.actions.len() == count
+}
+
+fn assert_cases(rt: &(impl Abort + AllocGlobal), neighbours: &mut Neighbours, cases: &[Case<'_>]) {
+    for case in cases {
+        assert!(rt; meets(rt, neighbours, case), "at {case:?}");
+    }
+}
+
+fn assert_taken(rt: &(impl Abort + AllocGlobal)) {
+    let mut neighbours = Neighbours::new(rt.alloc(), node(rt, b"a.example", 4));
+    assert_cases(rt, &mut neighbours, TAKEN);
+    assert!(rt; neighbours.iter().len() == 2 && neighbours.find(b"c.example").is_none());
+    assert!(rt; neighbours.remove(0).is_some() && neighbours.remove(0).is_none());
+    assert_cases(rt, &mut neighbours, TAKEN_AGAIN);
+    assert!(rt;
+        neighbours.state_of(2) == Some(State::ROpen) && neighbours.find(b"B.example") == Some(2)
+    );
+}
+
+/// Any host becomes a neighbour but the own, while there may be one more.
+#[test]
+fn any_host_is_taken(rt: HostRuntime) {
+    assert_taken(&rt);
+}
