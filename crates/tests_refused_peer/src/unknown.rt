@@ -2,10 +2,10 @@
 ghost use Rattle.std.specs.Prelude.{◌≡◌, IfSome, IfOk};
 
 use crate::each::each;
-use crate::peers::node;
+use crate::peers::{config, node};
 use crate::rows::CER_OF_B;
 use dm_dict::{Ip, NoMemory};
-use dm_node::{EventFault, Neighbours, NodeActions, NodeEvent, UnknownHosts};
+use dm_node::{EventFault, Neighbours, NodeActions, NodeEvent, Template, UnknownHosts};
 use dm_peer::{Config, ConfigFault, Conn, Node, PeerFault, State};
 use dm_refusal::{End, Subject, answered, refuse, repeated, was_refused};
 use std::alloc::Global;
@@ -73,13 +73,19 @@ fn is_empty(neighbours: &Neighbours) -> bool {
 }
 
 /// The node is told with the nth request refused, and once more where memory was wanted.
-fn tell(alloc: Global, neighbours: &mut Neighbours, event: NodeEvent<'_>, nth: u32) -> End {
+fn tell<U: UnknownHosts>(
+    alloc: Global,
+    neighbours: &mut Neighbours,
+    policy: &U,
+    event: NodeEvent<'_>,
+    nth: u32,
+) -> End {
     refuse(alloc, nth);
-    let done = neighbours.on_with(alloc, &Permits, event);
+    let done = neighbours.on_with(alloc, policy, event);
     let refused = was_refused(alloc);
     if let Err(EventFault::Peer(PeerFault::NoMemory)) = done {
         let same = is_empty(neighbours);
-        let again = neighbours.on_with(alloc, &Permits, event);
+        let again = neighbours.on_with(alloc, policy, event);
         return repeated(refused, same && is_taken(neighbours, &again));
     }
     let right = is_taken(neighbours, &done);
@@ -101,7 +107,25 @@ impl<R: Abort + AllocGlobal> Subject<R> for Calling<'_> {
     fn end(&self, rt: &R, nth: u32) -> End {
         let mut neighbours = Neighbours::new(rt.alloc(), node(rt, b"a.example", 4));
         let event = NodeEvent::Arrived(Conn(9), self.octets);
-        let end = tell(rt.alloc(), &mut neighbours, event, nth);
+        let end = tell(rt.alloc(), &mut neighbours, &Permits, event, nth);
+        drop(neighbours);
+        end
+    }
+}
+
+/// The same, where a template of a.example for c.example takes one neighbour.
+#[derive(Clone, Copy)]
+struct Alike<'a> {
+    octets: &'a [u8],
+}
+
+impl<R: Abort + AllocGlobal> Subject<R> for Alike<'_> {
+    fn end(&self, rt: &R, nth: u32) -> End {
+        let mut neighbours = Neighbours::new(rt.alloc(), node(rt, b"a.example", 4));
+        let template = Template::new(config(rt, b"a.example", b"c.example", 4), 1);
+        let event = NodeEvent::Arrived(Conn(9), self.octets);
+        let end = tell(rt.alloc(), &mut neighbours, &template, event, nth);
+        drop(template);
         drop(neighbours);
         end
     }
@@ -118,4 +142,17 @@ fn check_calling(rt: &(impl Abort + AllocGlobal)) {
 #[test]
 fn unknown_hosts_taken(rt: HostRuntime) {
     check_calling(&rt);
+}
+
+fn check_alike(rt: &(impl Abort + AllocGlobal)) {
+    let octets = hex::decode(rt.alloc(), CER_OF_B.as_bytes()).expect(rt, "digits");
+    let alike = Alike {
+        octets: octets.as_slice(),
+    };
+    each(rt, &alike, "on_with a template");
+}
+
+#[test]
+fn unknown_hosts_taken_alike(rt: HostRuntime) {
+    check_alike(&rt);
 }
