@@ -4,3 +4,4 @@ pub mod Ends
 pub mod Held
 pub mod Once
 pub mod Hearing
+pub mod Meetings

@@ -26,7 +26,7 @@ told_once e f s r t u a b same from h k =
     (actions, there.left ∙ ap (λ q. settled q a r) next ∙ ap (λ l. settled k.next l r) actions ∙ sym k.left)
 
 -- one intake is there
-one_there : (o : Option Intake) (i j : Intake) → o ≡ Some i → o ≡ Some j → i ≡ j
+pub one_there : (o : Option Intake) (i j : Intake) → o ≡ Some i → o ≡ Some j → i ≡ j
 one_there o i j e d = ap (λ v. unwrap_or v i) (sym e ∙ d)
 
 -- the session with what is left of an intake

@@ -7,3 +7,4 @@ pub mod Naming
 pub mod Seen
 pub mod Hearing
 pub mod Laws
+pub mod Acquaintances

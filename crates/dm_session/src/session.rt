@@ -1,9 +1,11 @@
 //! A peer with its connections.
 ghost use Rattle.dm_session.specs.Held.{intakes_of, HeldAreThere};
 
+use crate::acquaintance::exchange_in;
 use crate::intake::Front;
 use crate::intakes::Intakes;
 use crate::turn::{HeardTurn, Turn};
+use dm_framer::laws::one_front;
 use dm_machine::Conn;
 use dm_peer::laws::{each_event_names_what_it_takes, every_peer_is_kept, refusals_go_by_rule};
 use dm_peer::{Action, Actions, Config, Event, Peer, PeerFault};
@@ -21,7 +23,7 @@ pub struct Session {
 }
 
 impl Session {
-    ghost use Rattle.std.specs.Prelude.{◌≡◌, true, false, IfOk, IfErr, IfSome, IfNone, OnOk, OnErr};
+    ghost use Rattle.std.specs.Prelude.{◌≡◌, true, false, [], IfOk, IfErr, IfSome, IfNone, OnOk, OnErr};
     ghost use Rattle.std.specs.List.{list_any};
     ghost use Rattle.dm_machine.specs.declared.connection.Conn.{Conn};
     ghost use Rattle.dm_peer.specs.Acts.{acts, IsRefused};
@@ -31,6 +33,7 @@ impl Session {
     ghost use Rattle.dm_session.specs.Intakes.{none_there, is_there, closes};
     ghost use Rattle.dm_session.specs.Sessions.{Tells, TellsNext, NextTakesMemory, IsOut};
     ghost use Rattle.dm_session.specs.Sessions.{fed, settled};
+    ghost use Rattle.dm_session.specs.Acquaintances.{IsAwaited, AwaitsExchange};
     ghost use Rattle.dm_session.specs.Hearing.{HearsWhole, HearTakesMemory, HearsNothing};
     ghost use Rattle.dm_session.specs.Seen.{session_of};
     ghost use Rattle.dm_session.specs.Naming.{NamesThere};
@@ -137,6 +140,25 @@ impl Session {
         let other = self.peer.accepted();
         self.intakes
             .raise_open(self.peer.is_open(), own, other, self.most);
+    }
+
+    /// The CER or CEA that stands first on the connection, where the peer isn't open. It never answers want of memory.
+    pub(crate) fn exchange_at(&self, conn: Conn) -> Option<&[u8]>
+        ensures some { IfSome result (λ octets. IsAwaited conn (session_of self.now) octets.now) }
+        ensures first { IfSome result (λ octets. AwaitsExchange conn (session_of self.now)) }
+        ensures none { IfNone result (IsAwaited conn (session_of self.now) []) }
+    {
+        one_front();
+        if self.peer.is_open() {
+            return None;
+        }
+        match self.intakes.front(conn) {
+            Front::Message(message) => match exchange_in(message) {
+                Some(_) => Some(message),
+                None => None,
+            },
+            Front::Nothing | Front::Fault => None,
+        }
     }
 
     /// Tells the whole message of the connection with which the piece begins, where it lies. None where there is
