@@ -7,12 +7,12 @@ use Rattle.dm_machine.specs.declared.connection.Conn.{Conn}
 use Rattle.dm_peer.specs.declared.actions.Action.{Action}
 use Rattle.dm_session.specs.Intakes.{Intake, IsFirst, IsFaulty}
 use Rattle.dm_session.specs.Sessions.{Session, TellsAs}
-use Rattle.dm_session.specs.Acquaintances.{Acquaintance, is_exchange, met_by, met_if_any, is_open_session, MeetsAs, IsAwaited}
+use Rattle.dm_session.specs.Acquaintances.{Acquaintance, spells_exchange, met_by, met_if_any, is_open_session, MeetsAs, IsAwaited}
 use Rattle.dm_session.proofs.Once.{one_there}
 
 -- the message at the front is the one that is told
 pub awaited : OneFront → FrameOrFault → (c : Conn) (s : Session) (i : Intake) (m rest octets : List ℕ)
-    → s.intakes c.0 ≡ Some i → IsFirst i m rest → is_open_session s ≡ false → octets ≡ cond (is_exchange m) m []
+    → s.intakes c.0 ≡ Some i → IsFirst i m rest → is_open_session s ≡ false → octets ≡ cond (spells_exchange m) m []
     → IsAwaited c s octets
 awaited front either c s i m rest octets there first shut is =
     record {
@@ -20,8 +20,8 @@ awaited front either c s i m rest octets there first shut is =
           let moved : IsFirst i n left =
           subst (λ k. IsFirst k n left) (sym (one_there (s.intakes c.0) i j there at)) other in
           let one = front i.max m n rest left first.frame moved.frame (sym first.octets ∙ moved.octets) in
-          is ∙ ap (λ b. cond (not b && is_exchange m) m []) (sym shut)
-          ∙ ap (λ v. cond (not (is_open_session s) && is_exchange v) v []) one.0;
+          is ∙ ap (λ b. cond (not b && spells_exchange m) m []) (sym shut)
+          ∙ ap (λ v. cond (not (is_open_session s) && spells_exchange v) v []) one.0;
       faulty = λ j at other.
           let moved : IsFaulty i =
           subst (λ k. IsFaulty k) (sym (one_there (s.intakes c.0) i j there at)) other in
@@ -65,7 +65,7 @@ meets (Some d) c s t actions octets a b awaited told is =
       known = is ∙
           ap (λ l. cond (is_open_session t) (met_if_any l a) a)
           (awaited.first at.intake at.message at.rest at.there at.first)
-          ∙ known (is_open_session s) (is_open_session t) (is_exchange at.message) at.message a at.first.frame.least;
+          ∙ known (is_open_session s) (is_open_session t) (spells_exchange at.message) at.message a at.first.frame.least;
     }
 
 -- where nothing was told, what is known stays

@@ -41,7 +41,7 @@ impl Model for Acquaintance {
 
 impl Acquaintance {
     ghost use Rattle.std.specs.Prelude.{◌≡◌};
-    ghost use Rattle.dm_session.specs.Acquaintances.{nobody, exchange_in, state_in, is_anew, met_if_any};
+    ghost use Rattle.dm_session.specs.Acquaintances.{nobody, exchange_in, state_in, began_anew, met_if_any};
 
     /// Nobody was met. It never answers want of memory.
     pub fn new(alloc: Global) -> Acquaintance
@@ -81,7 +81,7 @@ impl Acquaintance {
     /// Whether the other side has begun anew, and lost its sessions: it said another Origin-State-Id than the time
     /// before, and neither was 0, by which it says nothing (8.16). It never answers want of memory.
     pub fn is_anew(&self) -> bool
-        ensures { result ≡ is_anew (state_in self.now.octets) self.now.before }
+        ensures { result ≡ began_anew (state_in self.now.octets) self.now.before }
     {
         match (self.state(), self.before) {
             (Some(now), Some(before)) => now != 0 && before != 0 && now != before,

@@ -1,6 +1,6 @@
 //! A session that keeps whom it met.
 ghost use Rattle.std.specs.Prelude.{◌≡◌, ◌⊎◌, cond, IfOk, IfSome, IfNone, OnOk, OnErr};
-ghost use Rattle.dm_session.specs.Acquaintances.{IsAwaited, AwaitsExchange, Meets, is_open_session, met_if_any};
+ghost use Rattle.dm_session.specs.Acquaintances.{IsAwaited, AwaitsExchange, KnownBehind, is_open_session, met_if_any};
 ghost use Rattle.dm_session.specs.Sessions.{TellsNext, NextTakesMemory, IsOut};
 ghost use Rattle.dm_session.specs.Seen.{session_of};
 ghost use Rattle.dm_session.specs.Orders.{as_turn};
@@ -33,7 +33,7 @@ impl Session {
     }
 
     /// Tells the next message or fault, as [`Session::next`] does, and knows whom the peer met by it: where the peer
-    /// wasn't open and is behind it, by this CER or CEA (RFC 6733, 5.3). `exchange` is that message, which is kept then.
+    /// wasn't open and is behind it, by this CER or CEA (RFC 6733, 5.3), `exchange`, which is kept then.
     fn next_with(
         &mut self,
         alloc: Global,
@@ -48,7 +48,7 @@ impl Session {
             IsOut conn (session_of self.old) × (session_of self.new ≡ session_of self.old))) }
         ensures unchanged { OnErr result (session_of self.new ≡ session_of self.old) }
         ensures memory { OnErr result (NextTakesMemory conn (session_of self.old)) }
-        ensures met { IfOk result (λ found. IfSome found (λ turn. Meets conn (session_of self.old) (as_turn turn)
+        ensures met { IfOk result (λ found. IfSome found (λ turn. KnownBehind conn (session_of self.old) (as_turn turn)
             (session_of self.new) acquaintance.old acquaintance.new)) }
         ensures unmet { IfOk result (λ found. IfNone found (acquaintance.new ≡ acquaintance.old)) }
         ensures same { OnErr result (acquaintance.new ≡ acquaintance.old) }
@@ -63,9 +63,9 @@ impl Session {
     }
 
     /// Tells the next whole message that came on the connection, or the fault of its stream, as [`Session::next`] does;
-    /// and where the peer wasn't open and is open behind it, keeps the CER or CEA that was told as the acquaintance, which
-    /// gives what the other side said of itself (RFC 6733, 5.3), and whether it has begun anew since the time before
-    /// (8.16). Else what is known stays, also when the connection ends and at `Order::Reset`.
+    /// and where the peer wasn't open and is open behind it, keeps the CER or CEA that was told as the acquaintance,
+    /// which gives what the other side said of itself (RFC 6733, 5.3), and whether it has begun anew since the time
+    /// before (8.16). Else what is known stays, also when the connection ends and at `Order::Reset`.
     ///
     /// (own) A session that is opened at the end of the other connection of an election (5.6.4, at `Order::Nack` and
     /// `Order::Gone`) is opened by no message, and what is known stays.
@@ -86,7 +86,7 @@ impl Session {
         // a peer that isn't open.
         ensures memory { OnErr result (NextTakesMemory conn (session_of self.old)
             ⊎ AwaitsExchange conn (session_of self.old)) }
-        ensures met { IfOk result (λ found. IfSome found (λ turn. Meets conn (session_of self.old) (as_turn turn)
+        ensures met { IfOk result (λ found. IfSome found (λ turn. KnownBehind conn (session_of self.old) (as_turn turn)
             (session_of self.new) acquaintance.old acquaintance.new)) }
         ensures unmet { IfOk result (λ found. IfNone found (acquaintance.new ≡ acquaintance.old)) }
         ensures same { OnErr result (acquaintance.new ≡ acquaintance.old) }

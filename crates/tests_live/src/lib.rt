@@ -2,4 +2,6 @@
 #![tactic(auto)]
 
 #[cfg(test)]
+mod acquaintance;
+#[cfg(test)]
 mod session;

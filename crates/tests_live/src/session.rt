@@ -10,14 +10,14 @@ const CER_OF_B: &str =
     "01000070800001010000000000000009000000090000010840000011622e6578616d706c65000000000001284000000f6578616d706c6500000001014000000e00017f00000100000000010a4000000c000000000000010d0000000e646d706565720000000001024000000c00000004";
 
 /// A watchdog of b.example.
-const DWR_OF_B: &str =
+pub(crate) const DWR_OF_B: &str =
     "01000038800001180000000000000001000000010000010840000011622e6578616d706c65000000000001284000000f6578616d706c6500";
 
 /// The connection that b.example made.
-const R: Conn = Conn(9);
+pub(crate) const R: Conn = Conn(9);
 
 /// A session of a.example for b.example; a message takes 1,000 octets at most before the capabilities exchange.
-fn session(rt: &(impl Abort + AllocGlobal)) -> Session {
+pub(crate) fn session(rt: &(impl Abort + AllocGlobal)) -> Session {
     let alloc = rt.alloc();
     let mut addresses = Vec::new(alloc);
     addresses.push(Ip::V4([127, 0, 0, 1])).expect(rt, "memory");
@@ -34,7 +34,7 @@ fn session(rt: &(impl Abort + AllocGlobal)) -> Session {
 }
 
 /// How many actions the order asks for; None where no event is told.
-fn asked(
+pub(crate) fn asked(
     rt: &(impl Abort + AllocGlobal),
     session: &mut Session,
     order: Order<'_>,

@@ -1,0 +1,130 @@
+//! What a session knows of the other side, which comes again.
+
+use crate::session::{DWR_OF_B, R, asked, session};
+use dm_peer::Conn;
+use dm_session::{Acquaintance, Order, Session};
+use std::process::Abort;
+
+/// The CER of b.example, of application 4, with Origin-State-Id 7, and with 8.
+const CER_OF_7: &str =
+    "0100007c800001010000000000000009000000090000010840000011622e6578616d706c65000000000001284000000f6578616d706c6500000001014000000e00017f00000100000000010a4000000c000000000000010d0000000e646d706565720000000001024000000c00000004000001164000000c00000007";
+
+const CER_OF_8: &str =
+    "0100007c800001010000000000000009000000090000010840000011622e6578616d706c65000000000001284000000f6578616d706c6500000001014000000e00017f00000100000000010a4000000c000000000000010d0000000e646d706565720000000001024000000c00000004000001164000000c00000008";
+
+/// How many turns are told of the piece that comes on the connection, one at most; whom they meet is known.
+fn told(
+    rt: &(impl Abort + AllocGlobal),
+    session: &mut Session,
+    known: &mut Acquaintance,
+    conn: Conn,
+    piece: &[u8],
+) -> usize {
+    let _kept = asked(rt, session, Order::Octets(conn, piece));
+    match session.next_met(rt.alloc(), conn, known) {
+        Ok(Some(_)) => 1,
+        Ok(None) => 0,
+        Err(_) => 100,
+    }
+}
+
+/// The digits come on the connection in halves: how many turns are told at each.
+fn told_in_halves(
+    rt: &(impl Abort + AllocGlobal),
+    session: &mut Session,
+    known: &mut Acquaintance,
+    conn: Conn,
+    digits: &str,
+) -> (usize, usize) {
+    let octets = hex::decode(rt.alloc(), digits.as_bytes()).expect(rt, "digits");
+    let (front, back) = octets.as_slice().split_at(octets.len() / 2);
+    let first = told(rt, session, known, conn, front);
+    let second = told(rt, session, known, conn, back);
+    drop(octets);
+    (first, second)
+}
+
+/// The Origin-State-Id, the one before, and whether the other side has begun anew.
+fn states(known: &Acquaintance) -> (Option<u32>, Option<u32>, bool) {
+    (known.state(), known.state_before(), known.is_anew())
+}
+
+/// Of whom is known: how many octets the host and the realm have, and the first application.
+fn said(
+    rt: &(impl Abort + AllocGlobal),
+    known: &Acquaintance,
+) -> Option<(usize, usize, Option<u32>)> {
+    match known.sender() {
+        Some(sender) => match sender.applications(rt.alloc()) {
+            Ok(ids) => {
+                let first = match ids.as_slice() {
+                    [id, ..] => Some(*id),
+                    [] => None,
+                };
+                drop(ids);
+                Some((sender.host().len(), sender.realm().len(), first))
+            }
+            Err(_) => None,
+        },
+        None => None,
+    }
+}
+
+/// What is known behind a CER in halves, and behind a watchdog.
+fn met_once(
+    rt: &(impl Abort + AllocGlobal),
+) -> (
+    (usize, usize),
+    Option<(usize, usize, Option<u32>)>,
+    (usize, usize),
+    (Option<u32>, Option<u32>, bool),
+) {
+    let mut session = session(rt);
+    let mut known = Acquaintance::new(rt.alloc());
+    let _none = asked(rt, &mut session, Order::Accept(R));
+    let opened = told_in_halves(rt, &mut session, &mut known, R, CER_OF_7);
+    let watched = told_in_halves(rt, &mut session, &mut known, R, DWR_OF_B);
+    let found = said(rt, &known);
+    let states = states(&known);
+    drop(known);
+    drop(session);
+    (opened, found, watched, states)
+}
+
+/// What is known behind a first connection with Origin-State-Id 7, and one of these digits that follows.
+fn met_again(rt: &(impl Abort + AllocGlobal), digits: &str) -> (Option<u32>, Option<u32>, bool) {
+    let mut session = session(rt);
+    let mut known = Acquaintance::new(rt.alloc());
+    let _none = asked(rt, &mut session, Order::Accept(R));
+    let _opened = told_in_halves(rt, &mut session, &mut known, R, CER_OF_7);
+    let _gone = asked(rt, &mut session, Order::Gone(R));
+    let _again = asked(rt, &mut session, Order::Accept(Conn(10)));
+    let _opened_again = told_in_halves(rt, &mut session, &mut known, Conn(10), digits);
+    let states = states(&known);
+    drop(known);
+    drop(session);
+    states
+}
+
+#[test]
+fn cer_in_halves_is_known_behind_a_watchdog(rt: HostRuntime) {
+    assert_eq!(rt;
+        met_once(&rt),
+        (
+            (0, 1),
+            Some((9, 7, Some(4))),
+            (0, 1),
+            (Some(7), None, false)
+        )
+    );
+}
+
+#[test]
+fn another_state_has_begun_anew(rt: HostRuntime) {
+    assert_eq!(rt; met_again(&rt, CER_OF_8), (Some(8), Some(7), true));
+}
+
+#[test]
+fn same_state_has_not_begun_anew(rt: HostRuntime) {
+    assert_eq!(rt; met_again(&rt, CER_OF_7), (Some(7), Some(7), false));
+}
