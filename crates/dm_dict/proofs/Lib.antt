@@ -6,11 +6,13 @@ pub mod Good
 pub mod Kept
 pub mod Linking
 pub mod Listed
+pub mod Marked
 pub mod Noting
 pub mod Numbered
 pub mod OpenFaults
 pub mod OpenTables
 pub mod Placed
+pub mod Seated
 pub mod Standing
 pub mod Tallied
 pub mod Texts

@@ -140,8 +140,8 @@ pub linked_open : (old new : Linked) → new.tables.avps.items ≡ map without_l
     → new.tables.vendors ≡ old.tables.vendors → new.tables.commands ≡ old.tables.commands
     → new.tables.names ≡ old.tables.names → new.tables.codes ≡ old.tables.codes
     → new.tables.titles ≡ old.tables.titles → new.tables.heads ≡ old.tables.heads
-    → new.avps ≡ old.avps → new.commands ≡ old.commands → IsLinked old → IsLinked new
-linked_open old new avps vendors commands names codes titles heads links rules h =
+    → new.avps ≡ old.avps → new.commands ≡ old.commands → new.marks ≡ old.marks → IsLinked old → IsLinked new
+linked_open old new avps vendors commands names codes titles heads links rules marks h =
     let indexed = h.dictionary.tables.indexed in
     let whole : defined new.tables ≡ without_lists (defined old.tables) = (λ i. record {
       vendors = (vendors i).items.items;
@@ -166,4 +166,7 @@ linked_open old new avps vendors commands names codes titles heads links rules h
           sym (ap avp_links whole ∙ avp_links_same old.tables.avps.items old.tables.avps.items);
       commands = ap (λ v. v.items) rules ∙ h.commands ∙
           sym (ap command_links whole ∙ command_links_same old.tables.avps.items old.tables.commands.items);
+      marks = λ code vendor unmarked.
+          rw (avps, place_same (is_coded code vendor) (λ g. refl) 0 old.tables.avps.items)
+          (h.marks code vendor (rw marks at unmarked));
     }

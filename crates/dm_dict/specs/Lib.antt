@@ -12,9 +12,11 @@ pub mod Links
 pub mod Listing
 pub mod Located
 pub mod Locating
+pub mod Marks
 pub mod Numbers
 pub mod Printed
 pub mod Rules
+pub mod Seats
 pub mod Tallies
 pub mod Texts
 pub mod Typed

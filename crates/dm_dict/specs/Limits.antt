@@ -24,3 +24,15 @@ short_rule = 16
 -- the command of the rule of every answer with the E bit
 abbrev pub any_command : ℕ
 any_command = 0
+
+-- the slots of the seats of a rule
+abbrev pub seat_slots : ℕ
+seat_slots = 128
+
+-- the entries of a rule for which few counters do
+abbrev pub few_entries : ℕ
+few_entries = 32
+
+-- the marks of the codes of a dictionary
+abbrev pub mark_slots : ℕ
+mark_slots = 512

@@ -8,6 +8,7 @@ use Rattle.dm_dict.specs.declared.linked.Linked.{Linked}
 use Rattle.dm_dict.specs.declared.linked.LinkedRule.{LinkedRule}
 use Rattle.dm_dict.specs.Apart.{IsApart}
 use Rattle.dm_dict.specs.Links.{rule_links}
+use Rattle.dm_dict.specs.Marks.{AreMarked}
 
 -- the links of each AVP's rule, and of each command's, in order
 abbrev pub avp_links : Definitions → List (List (Option ℕ))
@@ -16,11 +17,12 @@ avp_links d = map (λ a. rule_links d.avps a.rule) d.avps
 abbrev pub command_links : Definitions → List (List (Option ℕ))
 command_links d = map (λ c. rule_links d.avps c.rule) d.commands
 
--- the tables are a dictionary's, and the links are theirs
+-- the tables are a dictionary's, and the links and the marks are theirs
 pub record IsLinked (t : Linked) : Type 0 where
   pub dictionary : IsDictionary t.tables
   pub avps : t.avps.items ≡ avp_links (defined t.tables)
   pub commands : t.commands.items ≡ command_links (defined t.tables)
+  pub marks : AreMarked t.tables.avps.items t.marks
 
 -- no two entries have one name, each names a definition or is `AVP`, and the links are theirs
 pub record IsRule (avps : List AvpDef) (rule : LinkedRule) : Type 0 where

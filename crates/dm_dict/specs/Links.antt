@@ -8,6 +8,7 @@ use Rattle.dm_tables.specs.declared.def.AvpDef.{AvpDef}
 use Rattle.dm_tables.specs.Definitions.{is_named}
 use Rattle.dm_dict.specs.declared.links.Links.TheInside.{Inside}
 use Rattle.dm_dict.specs.Limits.{short_rule}
+use Rattle.dm_dict.specs.Seats.{IsSeated}
 
 -- the link of an entry: the place of the definition that has its name; `AVP` has none
 abbrev pub entry_link : List AvpDef → Entry → Option ℕ
@@ -17,8 +18,10 @@ entry_link avps e = position_from (is_named e.name) 0 avps
 abbrev pub rule_links : List AvpDef → List Entry → List (Option ℕ)
 rule_links avps rule = map (entry_link avps) rule
 
--- the place of the first entry without a link, and an index of the first place of each link where the rule is long
+-- the place of the first entry without a link, an index of the first place of each link where the rule is long, and the
+-- seats
 pub record IsPlaced (links : Inside) : Type 0 where
   pub any : links.any ≡ position_from (option_eq nat_eq None) 0 links.items.items
   pub places : short_rule < length links.items.items → (k : ℕ)
       → get_by (nat_eq k) links.places ≡ position_from (option_eq nat_eq (Some k)) 0 links.items.items
+  pub seats : IsSeated links.items.items links.seats

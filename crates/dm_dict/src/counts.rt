@@ -1,5 +1,6 @@
 //! How many AVPs the entries of a rule count, 256 entries at a time, each up to 65535 (RFC 6733, 3.2).
-ghost use Rattle.std.specs.Prelude.{◌≡◌, ◌+◌, ◌<◌, ℕ, List, min, slice_index, if◌then◌else◌};
+ghost use Rattle.std.specs.Prelude.{◌≡◌, ◌+◌, ◌<◌, ℕ, List, length, min, slice_index};
+ghost use Rattle.std.specs.Prelude.{if◌then◌else◌};
 ghost use Rattle.dm_wire.specs.declared.avp.Avp.{Avp};
 ghost use Rattle.dm_tables.specs.Tables.{IsTables};
 ghost use Rattle.dm_dict.specs.Apart.{IsFit};
@@ -13,6 +14,12 @@ use crate::linked::LinkedRule;
 use crate::rules::look_up;
 use dm_tables::Tables;
 use dm_wire::AvpsRef;
+
+pub(crate) fn few_counts() -> [u16; 32]
+    ensures { (i : ℕ) → slice_index result i ≡ 0 }
+{
+    [0; 32]
+}
 
 pub(crate) fn no_counts() -> [u16; 256]
     ensures { (i : ℕ) → slice_index result i ≡ 0 }
@@ -29,6 +36,20 @@ pub(crate) fn count_one(counts: &mut [u16; 256], from: usize, at: Option<usize>)
     if let Some(at) = at {
         if at >= from && at - from < 256 {
             counts[at - from] = counts[at - from].saturating_add(1);
+        }
+    }
+}
+
+/// One AVP more for the entry at the place, if it has a counter. A counter stops at 65535.
+#[inline(always)]
+pub(crate) fn count_within(counts: &mut [u16], at: Option<usize>)
+    ensures { (i : ℕ) → i < length counts.new
+        → slice_index counts.new i
+        ≡ (if is_at at i then min (slice_index counts.old i + 1) counter_limit else slice_index counts.old i) }
+{
+    if let Some(at) = at {
+        if at < counts.len() {
+            counts[at] = counts[at].saturating_add(1);
         }
     }
 }

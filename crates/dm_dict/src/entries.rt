@@ -1,5 +1,6 @@
 //! Whether a list has as many AVPs as an entry of a rule wants (RFC 6733, 3.2 and 7.1.5).
-ghost use Rattle.std.specs.Prelude.{◌≡◌, ◌<◌, true, false, nat_lt, None, List, length, min, slice_get, slice_index_or};
+ghost use Rattle.std.specs.Prelude.{◌≡◌, ◌<◌, ◌≤◌, true, false, nat_lt, None, List, length, min};
+ghost use Rattle.std.specs.Prelude.{slice_get, slice_index_or, flat_map};
 ghost use Rattle.dm_wire.specs.declared.avp.Avp.{Avp};
 ghost use Rattle.dm_tables.specs.declared.def.AvpDef.{AvpDef};
 ghost use Rattle.dm_tables.specs.declared.rule.Entry.{Entry};
@@ -11,13 +12,14 @@ ghost use Rattle.dm_dict.specs.Faults.{example, entry_faults, first};
 ghost use Rattle.dm_dict.specs.Found.{is_found, finds_missing};
 ghost use Rattle.dm_dict.specs.Judgement.{failed_of, shown};
 ghost use Rattle.dm_dict.specs.Rules.{count, counted_avps};
-ghost use Rattle.dm_dict.specs.Limits.{counter_limit};
+ghost use Rattle.dm_dict.specs.Counters.{IsCounted};
+ghost use Rattle.dm_dict.specs.Limits.{counter_limit, window};
 
 use crate::codes::{AVP_OCCURS_TOO_MANY_TIMES, MISSING_AVP};
 use crate::judged::{Failed, Judged};
 use crate::linked::LinkedRule;
 use crate::rules::counts_avp;
-use dm_tables::{Entry, Tables};
+use dm_tables::{Entry, Rule, Tables};
 use dm_value::least_len;
 use dm_wire::AvpsRef;
 
@@ -149,6 +151,21 @@ fn is_kept(entry: &Entry, counter: u16) -> bool
         Some(max) => max == 0 || (counter < u16::MAX && counter as u32 <= max),
         None => true,
     }
+}
+
+/// Whether the counters alone show that no entry of the rule has a fault.
+pub(crate) fn are_kept(rule: &Rule, counts: &[u16]) -> bool
+    requires room { length rule.now ≤ length counts.now }
+    requires within { length rule.now ≤ window }
+    ensures { (avps : List AvpDef) (l : List Avp) → IsCounted avps rule.now l 0 counts.now → result ≡ true
+        → None ≡ first (flat_map (entry_faults avps rule.now l) rule.now) }
+{
+    for (at, entry) in rule.as_slice().iter().enumerate() {
+        if !is_kept(entry, counts[at]) {
+            return false;
+        }
+    }
+    true
 }
 
 /// The first fault of the entry at the place, which has this counter.

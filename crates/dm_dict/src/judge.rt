@@ -4,16 +4,19 @@ ghost use Rattle.dm_wire.specs.declared.avp.Avp.{Avp};
 ghost use Rattle.dm_wire.specs.Borrowed.{Lists};
 ghost use Rattle.dm_wire.specs.Spelling.{SpellsList};
 ghost use Rattle.dm_tables.specs.Tables.{defined};
-ghost use Rattle.dm_dict.specs.Faults.{command_for, wrong_bits, faults, first, has_none};
+ghost use Rattle.dm_dict.specs.Apart.{IsFit};
+ghost use Rattle.dm_dict.specs.Faults.{command_for, wrong_bits, list_faults, faults, first, has_none};
 ghost use Rattle.dm_dict.specs.Found.{finds_missing};
 ghost use Rattle.dm_dict.specs.Judgement.{shown};
-ghost use Rattle.dm_dict.specs.Linked.{IsLinked};
+ghost use Rattle.dm_dict.specs.Limits.{group_limit};
+ghost use Rattle.dm_dict.specs.Linked.{IsLinked, IsRule};
 ghost use Rattle.dm_dict.specs.Links.{rule_links};
 
 use crate::avps::judge_list;
 use crate::codes::{COMMAND_UNSUPPORTED, INVALID_HDR_BITS};
 use crate::judged::{Failed, Judged};
 use crate::linked::{Linked, LinkedCommand, LinkedRule};
+use crate::passing::passes_list;
 use dm_wire::laws::members_spell;
 use dm_wire::{AvpsRef, Header};
 
@@ -32,6 +35,22 @@ pub(crate) fn command_for<'d>(dictionary: &'d Linked, header: &Header) -> Option
     let error_answer = !header.request && header.error;
     let code = if error_answer { 0 } else { header.command };
     dictionary.command(code, header.request, error_answer)
+}
+
+/// The first fault of the AVPs of a message under its rule. Most messages have none, as one pass sees; another tells a
+/// fault.
+fn judge_avps<'a>(dictionary: &Linked, rule: LinkedRule<'_>, list: AvpsRef<'a>) -> Judged<'a>
+    requires linked { IsLinked dictionary.now }
+    requires fit { IsFit dictionary.now.tables.avps.items }
+    requires rule { IsRule dictionary.now.tables.avps.items rule }
+    ensures fault { (l : List Avp) → Lists list.entry l
+        → shown result ≡ first (list_faults group_limit dictionary.now.tables.avps.items rule.entry.entries.now l) }
+    ensures missing { finds_missing result ≡ false }
+{
+    if passes_list(dictionary, rule, list, GROUPS) {
+        return Judged::Good;
+    }
+    judge_list(dictionary, rule, list, GROUPS)
 }
 
 /// The first fault of a message of this header and these AVPs. It never answers want of memory.
@@ -62,7 +81,7 @@ pub(crate) fn judge_message<'a>(
         entries: &def.rule,
         links,
     };
-    judge_list(dictionary, rule, list, GROUPS)
+    judge_avps(dictionary, rule, list)
 }
 
 /// Whether nothing is wrong with a message of this header and these AVPs. It never answers want of memory.

@@ -1,23 +1,27 @@
 //! Tables with the links of their rules, so that an AVP's place under a rule is found by its code (RFC 6733, 3.2
 //! and 4.1).
 ghost use Rattle.std.specs.Prelude.{◌≡◌, ◌++◌, [], find, map, option_map, slice_get, IfOk, IfSome, OnOk};
+ghost use Rattle.std.specs.List.{position_from};
 ghost use Rattle.std.specs.Option.{option_and_then};
-ghost use Rattle.dm_tables.specs.Definitions.{nothing_defined, is_headed};
+ghost use Rattle.dm_tables.specs.Definitions.{nothing_defined, is_coded, is_headed};
 ghost use Rattle.dm_tables.specs.Tables.{defined, IsTables, IsDictionary};
 ghost use Rattle.dm_dict.specs.Links.{rule_links};
+ghost use Rattle.dm_dict.specs.Marks.{AreMarked};
 ghost use Rattle.dm_dict.specs.Linked.{IsLinked, avp_links, command_links};
 
 use crate::links::Links;
+use crate::marks::marks_of;
 use dm_tables::{AvpDef, CommandDef, Rule, Tables};
 use dm_value::NoMemory;
 use std::alloc::Global;
 
-/// Tables, and the links of each AVP's rule and of each command's, in the same order.
+/// Tables, the links of each AVP's rule and of each command's, in the same order, and the marks of the AVPs' codes.
 #[derive(Debug, Drop)]
 pub(crate) struct Linked {
     pub(crate) tables: Tables,
     pub(crate) avps: Vec<Links>,
     pub(crate) commands: Vec<Links>,
+    pub(crate) marks: [u8; 512],
 }
 
 /// A rule with its links.
@@ -73,6 +77,7 @@ impl Linked {
             tables: Tables::new(alloc),
             avps: Vec::new(alloc),
             commands: Vec::new(alloc),
+            marks: [0; 512],
         }
     }
 
@@ -82,10 +87,12 @@ impl Linked {
         ensures same { IfOk result (λ linked. linked.tables ≡ tables) }
         ensures linked { IfOk result IsLinked }
     {
+        let marks = marks_of(tables.avps.as_slice());
         let mut linked = Linked {
             tables,
             avps: Vec::new(alloc),
             commands: Vec::new(alloc),
+            marks,
         };
         let done = linked.link(alloc);
         done.and(Ok(linked))
@@ -96,11 +103,24 @@ impl Linked {
         requires dictionary { IsDictionary self.old.tables }
         requires avps { self.old.avps.items ≡ [] }
         requires commands { self.old.commands.items ≡ [] }
+        requires marks { AreMarked self.old.tables.avps.items self.old.marks }
         ensures same { OnOk result (self.new.tables ≡ self.old.tables) }
         ensures linked { OnOk result (IsLinked self.new) }
     {
         link_avps(alloc, &self.tables, &mut self.avps)?;
         link_commands(alloc, &self.tables, &mut self.commands)
+    }
+
+    /// The place of the AVP of a code and vendor. Where no definition's code has its lowest bits, it is known at once.
+    #[inline(always)]
+    pub(crate) fn place_by_code(&self, code: u32, vendor: Option<u32>) -> Option<usize>
+        requires { IsLinked self.now }
+        ensures { result ≡ position_from (is_coded code vendor) 0 self.now.tables.avps.items }
+    {
+        if self.marks[(code % 512) as usize] == 0 {
+            return None;
+        }
+        self.tables.place_by_code(code, vendor)
     }
 
     /// The definition of an AVP at the place, with the links of its rule.

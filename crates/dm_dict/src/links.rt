@@ -7,6 +7,7 @@ ghost use Rattle.dm_tables.specs.Tables.{IsTables};
 ghost use Rattle.dm_dict.specs.Links.{rule_links};
 ghost use Rattle.dm_dict.specs.Limits.{short_rule};
 
+use crate::seats::{CROWDED, seats_of};
 use dm_tables::{Rule, Tables};
 use dm_value::NoMemory;
 use indexmap::IndexMap;
@@ -24,6 +25,8 @@ pub(crate) struct Links {
     any: Option<usize>,
     /// The places of the links of a long rule.
     places: IndexMap<usize, usize>,
+    /// At which entry a link may stand, by its lowest bits.
+    seats: [u8; 128],
 }
 
 impl Model for Links {
@@ -117,7 +120,13 @@ impl Links {
     {
         let places = index(alloc, items.as_slice())?;
         let any = place_among(items.as_slice(), None);
-        Ok(Links { items, any, places })
+        let seats = seats_of(items.as_slice());
+        Ok(Links {
+            items,
+            any,
+            places,
+            seats,
+        })
     }
 
     /// The links of the entries of a rule.
@@ -129,15 +138,42 @@ impl Links {
         Links::new(alloc, items)
     }
 
-    /// The place of the first entry that has the link, or has none.
+    /// The place of the first entry that has the link.
+    fn place_of(&self, definition: usize) -> Option<usize>
+        ensures { result ≡ position_from (option_eq nat_eq (Some definition)) 0 self.now }
+    {
+        if self.items.len() <= SHORT_RULE {
+            place_among(self.items.as_slice(), Some(definition))
+        } else {
+            self.places.get(&definition).copied()
+        }
+    }
+
+    /// The same as `place`, without a seat.
+    #[inline(never)]
+    fn searched(&self, definition: usize) -> Option<usize>
+        ensures { result ≡ option_or (position_from (option_eq nat_eq (Some definition)) 0 self.now)
+            (position_from (option_eq nat_eq None) 0 self.now) }
+    {
+        self.place_of(definition).or(self.any)
+    }
+
+    /// The place of the first entry that has the link, else of the first that has none.
     #[inline(always)]
     pub(crate) fn place(&self, link: Option<usize>) -> Option<usize>
-        ensures { result ≡ position_from (option_eq nat_eq link) 0 self.now }
+        ensures { result ≡ option_or (position_from (option_eq nat_eq link) 0 self.now)
+            (position_from (option_eq nat_eq None) 0 self.now) }
     {
-        match link {
-            None => self.any,
-            Some(_) if self.items.len() <= SHORT_RULE => place_among(self.items.as_slice(), link),
-            Some(definition) => self.places.get(&definition).copied(),
+        let Some(definition) = link else {
+            return self.any;
+        };
+        let seat = self.seats[definition % 128];
+        if seat < CROWDED && self.items[usize::from(seat)] == Some(definition) {
+            return Some(usize::from(seat));
         }
+        if seat == CROWDED {
+            return self.searched(definition);
+        }
+        self.any
     }
 }

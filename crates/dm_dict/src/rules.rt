@@ -1,14 +1,16 @@
 //! Under which entry of a rule an AVP stands (RFC 6733, 3.2).
 ghost use Rattle.std.specs.Prelude.{◌≡◌, ◌<◌, ℕ, length, slice_get, slice_index_or};
+ghost use Rattle.std.specs.List.{position_from};
 ghost use Rattle.std.specs.Option.{option_and_then};
+ghost use Rattle.dm_tables.specs.Definitions.{is_coded};
 ghost use Rattle.dm_tables.specs.declared.rule.Entry.{Entry};
 ghost use Rattle.dm_tables.specs.Tables.{IsTables};
 ghost use Rattle.dm_dict.specs.Rules.{definition, is_at, counts, entry_for, allows};
 ghost use Rattle.dm_dict.specs.Apart.{IsFit};
-ghost use Rattle.dm_dict.specs.Linked.{IsRule};
+ghost use Rattle.dm_dict.specs.Linked.{IsLinked, IsRule};
 ghost use Rattle.dm_wire.specs.Borrowed.{avp_of};
 
-use crate::linked::LinkedRule;
+use crate::linked::{Linked, LinkedRule};
 use dm_tables::{Rule, Tables};
 use dm_wire::AvpRef;
 
@@ -22,8 +24,32 @@ pub(crate) fn allows(rule: &Rule, at: Option<usize>) -> bool
     }
 }
 
-/// Where the definition of the AVP stands among the AVPs, and where under the rule the AVP stands: at the entry that is
-/// linked to its definition, else at `AVP`. An AVP without definition stands at `AVP`.
+/// The place of the AVP's definition, and where under the rule the AVP stands: at the entry that is linked to its
+/// definition, else at `AVP`. An AVP without definition stands at `AVP`.
+#[inline(always)]
+fn stand(
+    tables: &Tables,
+    rule: LinkedRule<'_>,
+    place: Option<usize>,
+    avp: AvpRef<'_>,
+) -> (Option<usize>, Option<usize>)
+    requires tables { IsTables tables.now }
+    requires fit { IsFit tables.now.avps.items }
+    requires rule { IsRule tables.now.avps.items rule }
+    requires def { place ≡ position_from (is_coded avp.code avp.vendor) 0 tables.now.avps.items }
+    ensures def { option_and_then (slice_get tables.now.avps.items) result.0
+        ≡ definition tables.now.avps.items (avp_of avp.entry) }
+    ensures entry { option_and_then (slice_get rule.entry.entries.now) result.1
+        ≡ entry_for rule.entry.entries.now (definition tables.now.avps.items (avp_of avp.entry)) }
+    ensures counts { (i : ℕ) (e : Entry) → i < length rule.entry.entries.now
+        → e ≡ slice_index_or rule.entry.entries.now i e
+        → is_at result.1 i ≡ counts rule.entry.entries.now e (definition tables.now.avps.items (avp_of avp.entry)) }
+{
+    let entry = rule.links.place(place);
+    (place, entry)
+}
+
+/// Where the definition of the AVP stands among the AVPs, and where under the rule the AVP stands.
 #[inline(always)]
 pub(crate) fn look_up(
     tables: &Tables,
@@ -41,9 +67,31 @@ pub(crate) fn look_up(
         → e ≡ slice_index_or rule.entry.entries.now i e
         → is_at result.1 i ≡ counts rule.entry.entries.now e (definition tables.now.avps.items (avp_of avp.entry)) }
 {
-    let definition = tables.place_by_code(avp.code, avp.vendor);
-    let linked = rule.links.place(definition);
-    (definition, linked.or(rule.links.place(None)))
+    let place = tables.place_by_code(avp.code, avp.vendor);
+    stand(tables, rule, place, avp)
+}
+
+/// The same, by the marks of the codes first.
+#[inline(always)]
+pub(crate) fn look_up_marked(
+    dictionary: &Linked,
+    rule: LinkedRule<'_>,
+    avp: AvpRef<'_>,
+) -> (Option<usize>, Option<usize>)
+    requires linked { IsLinked dictionary.now }
+    requires fit { IsFit dictionary.now.tables.avps.items }
+    requires rule { IsRule dictionary.now.tables.avps.items rule }
+    ensures def { option_and_then (slice_get dictionary.now.tables.avps.items) result.0
+        ≡ definition dictionary.now.tables.avps.items (avp_of avp.entry) }
+    ensures entry { option_and_then (slice_get rule.entry.entries.now) result.1
+        ≡ entry_for rule.entry.entries.now (definition dictionary.now.tables.avps.items (avp_of avp.entry)) }
+    ensures counts { (i : ℕ) (e : Entry) → i < length rule.entry.entries.now
+        → e ≡ slice_index_or rule.entry.entries.now i e
+        → is_at result.1 i ≡ counts rule.entry.entries.now e
+        (definition dictionary.now.tables.avps.items (avp_of avp.entry)) }
+{
+    let place = dictionary.place_by_code(avp.code, avp.vendor);
+    stand(&dictionary.tables, rule, place, avp)
 }
 
 /// Whether the entry at the place counts the AVP.

@@ -7,21 +7,21 @@ use Rattle.dm_tables.specs.Definitions.{is_coded}
 use Rattle.dm_dict.specs.Rules.{definition, names, stands_for_any, is_at}
 use Rattle.dm_dict.proofs.Standing.{found, place_of, entry_at_place, counts_at_place}
 use Rattle.dm_dict.proofs.Linking.{linked_place, own_names}
-use Rattle.dm_dict.proofs.rules.look_up.Goals as goal
+use Rattle.dm_dict.proofs.rules.stand.Goals as goal
 
-place_is : (c : goal.After-or) → c.or.result ≡ place_of c.args.rule.entries.now
+place_is : (c : goal.After-place-entry) → c.place-entry.result ≡ place_of c.args.rule.entries.now
     (definition c.args.tables.now.avps.items (avp_of c.args.avp))
 place_is c =
     let rule = c.requires.rule in
-    c.or.ensures ∙ (rw (c.place-linked.ensures, c.place.ensures)
-    (linked_place c.args.tables.now.avps.items c.args.rule.entries.now c.args.rule.links.now
-    (is_coded c.args.avp.code c.args.avp.vendor) c.place_by_code-definition.result c.requires.fit rule.closed
-    rule.linked c.place_by_code-definition.ensures))
+    c.place-entry.ensures ∙
+    linked_place c.args.tables.now.avps.items c.args.rule.entries.now c.args.rule.links.now
+    (is_coded c.args.avp.code c.args.avp.vendor) c.args.place c.requires.fit rule.closed
+    rule.linked c.requires.def
 
 pub returns-clause-def : goal.returns-clause-def
 returns-clause-def c =
     let avps = c.args.tables.now.avps.items in
-    ap (option_and_then (slice_get avps)) c.place_by_code-definition.ensures ∙ found
+    ap (option_and_then (slice_get avps)) c.requires.def ∙ found
     (is_coded c.args.avp.code c.args.avp.vendor) avps
 
 pub returns-clause-entry : goal.returns-clause-entry
