@@ -1,5 +1,5 @@
 -- What a peer holds behind an event.
-use Rattle.std.proofs.Common.{◌≡◌, inl, inr, Bool, true, false, not, ◌&&◌, ◌||◌, ◌==◌, nat_eq, Option, Some, None, List, [], ◌∷◌, map, refl, sym, ap, subst, ◌∙◌}
+use Rattle.std.proofs.Common.{◌≡◌, inl, inr, Bool, true, false, not, ◌&&◌, ◌||◌, ◌==◌, Option, List, [], ◌∷◌, map, refl, sym, ap, subst, ◌∙◌}
 use Rattle.std.specs.Prelude.{IsTrue, Contains}
 use Rattle.std.specs.List.{list_any, list_all}
 use Rattle.std.proofs.lemmas.Bool.{and_parts, and_from, eq-eqb}
@@ -8,20 +8,20 @@ use Rattle.std.proofs.lemmas.List.Sums.{AllPass-from_list_all}
 use Rattle.dm_machine.specs.declared.connection.Conn.{Conn}
 use Rattle.dm_machine.specs.declared.outputs.Command.{Command}
 use Rattle.dm_machine.specs.declared.outputs.Command.TheVariants as command
-use Rattle.dm_machine.specs.Connection.{Hold, NotHeld, Pending, Made, OpenAsI, ClosingAsI, Taken, OpenAsR, ClosingAsR, hold_of, Concern, StartsIt, AcksIt, NacksIt, EndsIt, HeardOnIt, if_named, concern_of, Order, Connects, SendsCer, SendsCea, SendsRefusal, SendsDwr, SendsDwa, SendsDpr, SendsDpa, SendsSubmit, Closes, if_ordered, order_to, with_order, orders_to, AtConnection}
+use Rattle.dm_machine.specs.Connection.{Hold, NotHeld, Pending, Made, OpenAsI, ClosingAsI, Taken, OpenAsR, ClosingAsR, hold_of, Concern, StartsIt, AcksIt, NacksIt, EndsIt, HeardOnIt, if_named, concern_of, Order, Connects, SendsCer, SendsCea, SendsRefusal, SendsDwr, SendsDwa, SendsDpr, SendsDpa, SendsSubmit, Closes, if_ordered, with_order, orders_to, AtConnection}
 use Rattle.dm_machine.specs.Changes.{Change, change, allowed, at_end, EachConnectionChangesAsAllowed}
-use Rattle.dm_machine.specs.Deeds.{Deed, ConnectsOn, SendsOn, ClosesOn, HandsUp, deed_of_command}
+use Rattle.dm_machine.specs.Deeds.{Deed, ClosesOn, deed_of_command}
 use Rattle.dm_machine.specs.Openings.{is_hold, is_order, has_order, names_it, is_left_unclosed, ClosesWhatItGivesUp, LeavesOthersAlone}
 use Rattle.dm_peer.specs.declared.actions.Action.{Action}
 use Rattle.dm_peer.specs.declared.actions.Action.TheVariants as action
 use Rattle.dm_peer.specs.declared.peer.Peer.{Peer}
-use Rattle.dm_peer.specs.Acts.{Moved, acts, input_of}
+use Rattle.dm_peer.specs.Acts.{input_of}
 use Rattle.dm_peer.specs.Configs.{wins}
-use Rattle.dm_peer.specs.Events.{PeerEvent, Start, Stop, Timeout, Tick, Ack, Nack, Arrived, Gone, Submit}
+use Rattle.dm_peer.specs.Events.{PeerEvent, Start, Ack, Nack, Arrived, Gone}
 use Rattle.dm_peer.specs.Holding.{is_held, holds, names_conn, closes_conn, OthersStayUnheld, ClosedIsUnheld, GoneIsUnheld}
 use Rattle.dm_peer.specs.Kept.{IsKept}
 use Rattle.dm_peer.specs.Said.{Heard, word_heard}
-use Rattle.dm_peer.specs.Steps.{EachEventIsOneStep, Follows, IsStep, IsDrop, deed_of}
+use Rattle.dm_peer.specs.Steps.{EachEventIsOneStep, Follows, IsStep, deed_of}
 
 free_of : (h : Hold) → is_held h ≡ false → is_hold NotHeld h ≡ true
 free_of NotHeld e = refl

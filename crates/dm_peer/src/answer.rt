@@ -1,10 +1,10 @@
 //! What commands ask for: the octets of the messages that a peer sends (RFC 6733, 5.3 to 5.6).
-ghost use Rattle.std.specs.Prelude.{◌≡◌, ◌≤◌, ◌+◌, ◌++◌, IfOk, OnOk, OnErr, IsTrue, Some, length, option_map};
+ghost use Rattle.std.specs.Prelude.{◌≡◌, ◌≤◌, ◌+◌, ◌++◌, IfOk, OnOk, OnErr, IsTrue, Some, length};
 ghost use Rattle.std.specs.List.{list_any};
 ghost use Rattle.arrayvec.specs.ArrayVec.{array_vec_len};
 ghost use Rattle.dm_dict.specs.Judgement.{shown};
 ghost use Rattle.dm_peer.specs.Events.{told, octets_in, cause_in};
-ghost use Rattle.dm_peer.specs.Said.{heard_of};
+ghost use Rattle.dm_peer.specs.Lent.{heard_by};
 ghost use Rattle.dm_peer.specs.Sent.{
   sent,
   refusal,
@@ -21,17 +21,16 @@ use crate::sending::{
     Sending, refusal, send_cea, send_cer, send_dpr, send_dwr, send_success, sent,
 };
 use crate::{Action, Actions, Event, Peer};
-use arrayvec::ArrayVec;
 use dm_base::{Cause, Node};
 use dm_dict::{Failed, Judged, NoMemory, Verdict};
-use dm_machine::{Command, Commands, Conn};
+use dm_machine::{Command, Conn};
 use dm_wire::codes::results::UNABLE_TO_COMPLY;
 use dm_wire::{Header, Octets};
 use std::alloc::Global;
 
 /// The header of what was heard.
-fn header_of(heard: Option<HeardRef<'_>>) -> Header
-    ensures { result ≡ header_of (option_map heard_of heard.entry) }
+fn header_of(heard: Option<&HeardRef<'_>>) -> Header
+    ensures { result ≡ header_of (heard_by heard.entry) }
 {
     match heard {
         Some(heard) => heard.header,
@@ -49,8 +48,8 @@ fn header_of(heard: Option<HeardRef<'_>>) -> Header
 }
 
 /// Why what was heard is refused, where it lies. A refusal without a fault, of which there is none, would have 5012.
-fn fault_in(heard: Option<HeardRef<'_>>) -> Judged<'_>
-    ensures { shown result ≡ Some (fault_in (option_map heard_of heard.entry)) }
+fn fault_in<'a>(heard: Option<&HeardRef<'a>>) -> Judged<'a>
+    ensures { shown result ≡ Some (fault_in (heard_by heard.entry)) }
 {
     let none = Judged::Bad {
         code: UNABLE_TO_COMPLY,
@@ -66,10 +65,10 @@ fn fault_in(heard: Option<HeardRef<'_>>) -> Judged<'_>
 }
 
 /// The answer that refuses what was heard is to be sent.
-fn send_refusal(alloc: Global, conn: Conn, node: &Node, heard: Option<HeardRef<'_>>) -> Sending
+fn send_refusal(alloc: Global, conn: Conn, node: &Node, heard: Option<&HeardRef<'_>>) -> Sending
     ensures { IfOk result (λ action. action
-        ≡ sent conn (refusal node.now (header_of (option_map heard_of heard.entry))
-        (fault_in (option_map heard_of heard.entry)))) }
+        ≡ sent conn (refusal node.now (header_of (heard_by heard.entry))
+        (fault_in (heard_by heard.entry)))) }
 {
     let to = header_of(heard);
     match fault_in(heard).verdict(alloc)? {
@@ -83,8 +82,8 @@ fn send_refusal(alloc: Global, conn: Conn, node: &Node, heard: Option<HeardRef<'
 }
 
 /// The CER that a CEA answers: the one that waits, else the one just heard.
-fn cer_answered(waiting: Option<Header>, heard: Option<HeardRef<'_>>) -> Header
-    ensures { result ≡ cer_answered waiting (option_map heard_of heard.entry) }
+fn cer_answered(waiting: Option<Header>, heard: Option<&HeardRef<'_>>) -> Header
+    ensures { result ≡ cer_answered waiting (heard_by heard.entry) }
 {
     match waiting {
         Some(to) => to,
@@ -118,13 +117,13 @@ fn action_of(
     alloc: Global,
     peer: &Peer,
     event: Event<'_>,
-    heard: Option<HeardRef<'_>>,
+    heard: Option<&HeardRef<'_>>,
     command: Command,
 ) -> Sending
     ensures found { IfOk result (λ action. action
-        ≡ action_of peer.now (told event.entry) (option_map heard_of heard.entry) command) }
+        ≡ action_of peer.now (told event.entry) (heard_by heard.entry) command) }
     ensures memory { OnErr result (IsTrue (takes_memory
-        (action_of peer.now (told event.entry) (option_map heard_of heard.entry) command))) }
+        (action_of peer.now (told event.entry) (heard_by heard.entry) command))) }
 {
     let node = &peer.config.node;
     let standing = peer.standing.get();
@@ -147,20 +146,20 @@ fn action_of(
     }
 }
 
-/// Appends what the commands ask for, in order.
-fn put_actions(
+/// Appends what the commands ask for, in order; or want of memory, which only what is sent or handed up takes.
+pub(crate) fn put_actions(
     alloc: Global,
     peer: &Peer,
     event: Event<'_>,
-    heard: Option<HeardRef<'_>>,
+    heard: Option<&HeardRef<'_>>,
     commands: &[Command],
     actions: &mut Actions,
 ) -> Result<(), NoMemory>
     requires { array_vec_len actions.old + length commands.now ≤ 4 }
     ensures found { OnOk result (actions.new.items ≡ actions.old.items
-        ++ actions_of peer.now (told event.entry) (option_map heard_of heard.entry) commands.now) }
+        ++ actions_of peer.now (told event.entry) (heard_by heard.entry) commands.now) }
     ensures memory { OnErr result (IsTrue (list_any takes_memory
-        (actions_of peer.now (told event.entry) (option_map heard_of heard.entry) commands.now))) }
+        (actions_of peer.now (told event.entry) (heard_by heard.entry) commands.now))) }
 {
     let mut left = commands;
     while let [command, rest @ ..] = left {
@@ -168,25 +167,4 @@ fn put_actions(
         left = rest;
     }
     Ok(())
-}
-
-/// What the commands ask for, in order; or want of memory, which only what is sent or handed up takes.
-pub(crate) fn actions_of(
-    alloc: Global,
-    peer: &Peer,
-    event: Event<'_>,
-    heard: Option<HeardRef<'_>>,
-    commands: &Commands,
-) -> Result<Actions, NoMemory>
-    ensures found { IfOk result (λ actions. actions.items
-        ≡ actions_of peer.now (told event.entry) (option_map heard_of heard.entry) commands.now.items) }
-    ensures memory { OnErr result (IsTrue (list_any takes_memory
-        (actions_of peer.now (told event.entry) (option_map heard_of heard.entry) commands.now.items))) }
-{
-    let mut actions = ArrayVec::new();
-    let done = put_actions(alloc, peer, event, heard, commands.as_slice(), &mut actions);
-    match done {
-        Ok(()) => Ok(actions),
-        Err(fault) => Err(fault),
-    }
 }

@@ -1,7 +1,8 @@
 //! What the commands of a step leave a peer with: its numbers, and what it waits for.
-ghost use Rattle.std.specs.Prelude.{◌≡◌, Option, option_map};
+ghost use Rattle.std.specs.Prelude.{◌≡◌, Option};
 ghost use Rattle.dm_machine.specs.Moves.{is_open};
-ghost use Rattle.dm_peer.specs.Said.{Heard, heard_of, word_heard, header_heard};
+ghost use Rattle.dm_peer.specs.Lent.{heard_by};
+ghost use Rattle.dm_peer.specs.Said.{Heard, word_heard, header_heard};
 ghost use Rattle.dm_machine.specs.Awaiting.{awaits_cea, awaits_dwa, awaits_dpa, holds_cer, number_after, waiting_after};
 ghost use Rattle.dm_peer.specs.After.{
   request_of,
@@ -75,8 +76,8 @@ pub(crate) fn is_open(state: State) -> bool
 }
 
 /// The word of what was heard.
-pub(crate) fn word_heard(heard: Option<HeardRef<'_>>) -> Word
-    ensures { result ≡ word_heard (option_map heard_of heard.entry) }
+pub(crate) fn word_heard(heard: Option<&HeardRef<'_>>) -> Word
+    ensures { result ≡ word_heard (heard_by heard.entry) }
 {
     match heard {
         Some(heard) => heard.word,
@@ -85,8 +86,8 @@ pub(crate) fn word_heard(heard: Option<HeardRef<'_>>) -> Word
 }
 
 /// The header of what was heard.
-fn header_heard(heard: Option<HeardRef<'_>>) -> Option<Header>
-    ensures { result ≡ header_heard (option_map heard_of heard.entry) }
+fn header_heard(heard: Option<&HeardRef<'_>>) -> Option<Header>
+    ensures { result ≡ header_heard (heard_by heard.entry) }
 {
     match heard {
         Some(heard) => Some(heard.header),
@@ -184,11 +185,11 @@ fn waiting_after(
 /// Where the peer stands after a step that sends this request or none, and leads to this core.
 pub(crate) fn standing_after(
     standing: &Standing,
-    heard: Option<HeardRef<'_>>,
+    heard: Option<&HeardRef<'_>>,
     sent: Option<Request>,
     core: Core,
 ) -> Standing
-    ensures { result ≡ standing_after standing.now (option_map heard_of heard.entry) sent core }
+    ensures { result ≡ standing_after standing.now (heard_by heard.entry) sent core }
 {
     let (before, after) = (standing.core.state(), core.state());
     let left = dwa_left(before, word_heard(heard), standing.awaited.dwa);

@@ -8,8 +8,8 @@ ghost use Rattle.dm_peer.specs.declared.fault.ConfigFault.TheVariants as config_
 ghost use Rattle.dm_peer.specs.Hosts.{is_same_host, config_fault};
 
 use crate::ConfigFault;
+use crate::shared::Shared;
 use dm_base::{Node, host_order, is_name};
-use dm_dict::Dictionary;
 use dm_wire::Octets;
 use std::alloc::{AllocError, Global};
 use std::cmp::Ordering;
@@ -20,7 +20,7 @@ pub struct Config {
     pub(crate) node: Node,
     pub(crate) peer: Octets,
     pub(crate) first_id: u32,
-    pub(crate) dictionary: Dictionary,
+    pub(crate) dictionary: Shared,
     pub ghost fit_peer: { is_name peer ≡ true },
     pub ghost other_host: { is_same_host node.host peer ≡ false },
     pub ghost based: { dictionary ≡ base_definitions },
@@ -51,18 +51,6 @@ fn fault_of(host: &[u8], peer: &[u8]) -> Option<ConfigFault>
     None
 }
 
-/// A copy of the node, and the octets of the host.
-fn copied(alloc: Global, node: &Node, host: &[u8]) -> Result<(Node, Vec<u8>), AllocError>
-    ensures node { IfOk result (λ parts. parts.0 ≡ node.now) }
-    ensures host { IfOk result (λ parts. parts.1.items ≡ host.now) }
-{
-    let peer = Vec::from_slice(alloc, host)?;
-    match node.clone() {
-        Ok(node) => Ok((node, peer)),
-        Err(fault) => Err(fault),
-    }
-}
-
 impl Config {
     ghost use Rattle.dm_peer.specs.Configs.{wins};
 
@@ -88,7 +76,7 @@ impl Config {
         if let Some(fault) = fault_of(node.host(), peer.as_slice()) {
             return Err(fault);
         }
-        match Dictionary::base(alloc) {
+        match Shared::base(alloc) {
             Ok(dictionary) => Ok(Config {
                 node,
                 peer: Octets::from_vec(peer),
@@ -99,7 +87,8 @@ impl Config {
         }
     }
 
-    /// The configuration of the same node for another peer, the host, beginning with the same number.
+    /// The configuration of the same node for another peer, the host, beginning with the same number. Both have one
+    /// dictionary: but for the names it takes little memory.
     ///
     /// Refuses in the order and with the faults of [`new`](Config::new).
     pub fn for_host(&self, alloc: Global, host: &[u8]) -> Result<Config, ConfigFault>
@@ -114,10 +103,27 @@ impl Config {
         if let Some(fault) = fault_of(self.node.host(), host) {
             return Err(fault);
         }
-        match copied(alloc, &self.node, host) {
-            Ok((node, peer)) => Config::new(alloc, node, peer, self.first_id),
+        match self.copied(alloc, host) {
+            Ok(config) => Ok(config),
             Err(_) => Err(ConfigFault::NoMemory),
         }
+    }
+
+    /// The same for a host that can be its peer, or want of memory.
+    fn copied(&self, alloc: Global, host: &[u8]) -> Result<Config, AllocError>
+        requires name { is_name host.now ≡ true }
+        requires other { is_same_host self.now.node.host host.now ≡ false }
+        ensures node { IfOk result (λ config. config.node ≡ self.now.node) }
+        ensures peer { IfOk result (λ config. config.peer ≡ host.now) }
+        ensures first_id { IfOk result (λ config. config.first_id ≡ self.now.first_id) }
+        ensures dictionary { IfOk result (λ config. config.dictionary ≡ self.now.dictionary) }
+    {
+        Ok(Config {
+            peer: Octets::from_slice(alloc, host)?,
+            dictionary: self.dictionary.clone()?,
+            node: self.node.clone()?,
+            first_id: self.first_id,
+        })
     }
 
     /// The node. It never answers want of memory.

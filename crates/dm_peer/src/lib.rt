@@ -15,6 +15,7 @@ mod message;
 mod peer;
 mod reading;
 mod sending;
+mod shared;
 mod standing;
 mod steps;
 

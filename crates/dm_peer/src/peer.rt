@@ -21,6 +21,7 @@ use crate::keeping::kept_answer;
 use crate::laws::{refusals_go_by_rule, silent_takes_none};
 use crate::standing::Kept;
 use crate::{Actions, Config, Event, PeerFault};
+use arrayvec::ArrayVec;
 use dm_machine::laws::each_node_has_its_form;
 use dm_machine::{Conn, State};
 use std::alloc::Global;
@@ -81,7 +82,9 @@ impl Peer {
         silent_takes_none();
         refusals_go_by_rule();
         let _shaped = self.state();
-        let (standing, actions) = kept_answer(alloc, self, event)?;
+        let mut standing = *self.standing.get();
+        let mut actions = ArrayVec::new();
+        kept_answer(alloc, self, event, &mut standing, &mut actions)?;
         self.standing = Kept::new(standing);
         Ok(actions)
     }

@@ -125,7 +125,7 @@ pub(crate) fn hear<'a>(config: &Config, message: &MessageRef<'a>) -> HeardRef<'a
     ensures { (l : List Avp) → SpellsList l message.now.rest.now
         → heard_of result ≡ heard_in config.now (record { header = message.now.header; avps = l }) }
 {
-    match view(&config.dictionary, message) {
+    match view(config.dictionary.get(), message) {
         Ok(kind) => said_by_kind(config, message.header, &kind),
         Err(judged) => HeardRef {
             header: message.header,

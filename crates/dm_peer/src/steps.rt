@@ -1,5 +1,5 @@
 //! What an event comes to: the octets that it brings are read, and the state machine takes one step.
-ghost use Rattle.std.specs.Prelude.{◌≡◌, ◌&&◌, IfOk, IfErr, List, Some, None, option_map};
+ghost use Rattle.std.specs.Prelude.{◌≡◌, ◌&&◌, IfOk, IfErr, OnOk, List, [], Some, None};
 ghost use Rattle.dm_wire.specs.declared.avp.Avp.{Avp};
 ghost use Rattle.dm_wire.specs.Spelling.{SpellsList};
 ghost use Rattle.dm_wire.specs.Whole.{message_in};
@@ -22,24 +22,20 @@ ghost use Rattle.dm_peer.specs.Configs.{wins};
 ghost use Rattle.dm_peer.specs.Events.{told, Arrived, Submit};
 ghost use Rattle.dm_peer.specs.Faults.{fault_of};
 ghost use Rattle.dm_peer.specs.Places.{footing_of};
-ghost use Rattle.dm_peer.specs.Said.{heard_of};
+ghost use Rattle.dm_peer.specs.Lent.{heard_by};
 
-use crate::answer::actions_of;
+use crate::answer::put_actions;
 use crate::arrivals::{Footing, is_dropped, is_unread, stood_on};
 use crate::commands::{request_in, standing_after, word_heard};
 use crate::message::read_message;
 use crate::reading::{HeardRef, hear};
 use crate::standing::Standing;
 use crate::{Actions, Config, Event, Peer, PeerFault};
-use arrayvec::ArrayVec;
 use dm_base::is_base_command;
 use dm_machine::laws::each_state_decides;
 use dm_machine::{Commands, Conn, Core, Input, State, step};
 use dm_wire::MessageRef;
 use std::alloc::Global;
-
-/// What an event comes to: where the peer stands then, and what is to be done.
-pub(crate) type Answer = Result<(Standing, Actions), PeerFault>;
 
 /// Whether the state can hold an election.
 fn holds_elections(state: State) -> bool
@@ -73,8 +69,8 @@ fn turned(core: &Core, input: Input, config: &Config) -> Result<(Core, Commands)
 }
 
 /// The event as the state machine's input.
-fn input_of(event: Event<'_>, heard: Option<HeardRef<'_>>) -> Input
-    ensures { result ≡ input_of (told event.entry) (option_map heard_of heard.entry) }
+fn input_of(event: Event<'_>, heard: Option<&HeardRef<'_>>) -> Input
+    ensures { result ≡ input_of (told event.entry) (heard_by heard.entry) }
 {
     match event {
         Event::Start(conn) => Input::Start(conn),
@@ -90,18 +86,26 @@ fn input_of(event: Event<'_>, heard: Option<HeardRef<'_>>) -> Input
 }
 
 /// One step at the event, after what was heard.
-fn steps(alloc: Global, peer: &Peer, event: Event<'_>, heard: Option<HeardRef<'_>>) -> Answer
-    ensures moved { IfOk result (λ r. steps peer.now (told event.entry) (option_map heard_of heard.entry)
-        ≡ Moved r.1.items (standing_at peer.now r.0)) }
-    ensures refused { IfErr result (IsRefused (steps peer.now (told event.entry) (option_map heard_of heard.entry))) }
+fn steps(
+    alloc: Global,
+    peer: &Peer,
+    event: Event<'_>,
+    heard: Option<&HeardRef<'_>>,
+    standing: &mut Standing,
+    actions: &mut Actions,
+) -> Result<(), PeerFault>
+    requires stands { standing.old ≡ peer.now.standing }
+    requires none { actions.old.items ≡ [] }
+    ensures moved { OnOk result (steps peer.now (told event.entry) (heard_by heard.entry)
+        ≡ Moved actions.new.items (standing_at peer.now standing.new)) }
+    ensures refused { IfErr result (IsRefused (steps peer.now (told event.entry) (heard_by heard.entry))) }
 {
-    let input = input_of(event, heard);
     let before = peer.standing.get();
-    let (core, commands) = turned(&before.core, input, &peer.config)?;
+    let (core, commands) = turned(&before.core, input_of(event, heard), &peer.config)?;
+    put_actions(alloc, peer, event, heard, commands.as_slice(), actions)?;
     let sent = request_in(commands.as_slice());
-    let standing = standing_after(before, heard, sent, core);
-    let actions = actions_of(alloc, peer, event, heard, &commands)?;
-    Ok((standing, actions))
+    *standing = standing_after(before, heard, sent, core);
+    Ok(())
 }
 
 /// A message that came on the connection.
@@ -112,38 +116,53 @@ fn heard(
     conn: Conn,
     footing: Footing,
     message: &MessageRef<'_>,
-) -> Answer
-    requires { footing ≡ footing_of (hold_of peer.now.standing.core conn) }
+    standing: &mut Standing,
+    actions: &mut Actions,
+) -> Result<(), PeerFault>
+    requires footing { footing ≡ footing_of (hold_of peer.now.standing.core conn) }
+    requires stands { standing.old ≡ peer.now.standing }
+    requires none { actions.old.items ≡ [] }
     ensures moved { (l : List Avp) → SpellsList l message.now.rest.now
-        → IfOk result (λ r.
+        → OnOk result (
         heard peer.now (told event.entry) conn (Some (record { header = message.now.header; avps = l }))
-        ≡ Moved r.1.items (standing_at peer.now r.0)) }
+        ≡ Moved actions.new.items (standing_at peer.now standing.new)) }
     ensures refused { (l : List Avp) → SpellsList l message.now.rest.now
         → IfErr result (IsRefused
         (heard peer.now (told event.entry) conn (Some (record { header = message.now.header; avps = l })))) }
 {
-    let standing = peer.standing.get();
     if is_dropped(&standing.awaited, footing, &message.header) {
-        return Ok((*standing, ArrayVec::new()));
+        return Ok(());
     }
-    steps(alloc, peer, event, Some(hear(&peer.config, message)))
+    let heard = hear(&peer.config, message);
+    steps(alloc, peer, event, Some(&heard), standing, actions)
 }
 
 /// Octets that came on the connection.
-fn arrived(alloc: Global, peer: &Peer, conn: Conn, octets: &[u8]) -> Answer
-    ensures moved { IfOk result (λ r. acts peer.now (Arrived conn octets.now)
-        ≡ Moved r.1.items (standing_at peer.now r.0)) }
+fn arrived(
+    alloc: Global,
+    peer: &Peer,
+    conn: Conn,
+    octets: &[u8],
+    standing: &mut Standing,
+    actions: &mut Actions,
+) -> Result<(), PeerFault>
+    requires stands { standing.old ≡ peer.now.standing }
+    requires none { actions.old.items ≡ [] }
+    ensures moved { OnOk result (acts peer.now (Arrived conn octets.now)
+        ≡ Moved actions.new.items (standing_at peer.now standing.new)) }
     ensures refused { IfErr result (IsRefused (acts peer.now (Arrived conn octets.now))) }
 {
     let event = Event::Arrived(conn, octets);
     let core = &peer.standing.get().core;
     let footing = stood_on(core, conn);
     if is_unread(core.state(), footing) {
-        return steps(alloc, peer, event, None);
+        return steps(alloc, peer, event, None, standing, actions);
     }
     match read_message(octets) {
-        Some(message) => heard(alloc, peer, event, conn, footing, &message),
-        None => steps(alloc, peer, event, None),
+        Some(message) => heard(
+            alloc, peer, event, conn, footing, &message, standing, actions,
+        ),
+        None => steps(alloc, peer, event, None, standing, actions),
     }
 }
 
@@ -158,9 +177,17 @@ fn can_submit(octets: &[u8]) -> bool
 }
 
 /// Octets that the user submits.
-fn submitted(alloc: Global, peer: &Peer, octets: &[u8]) -> Answer
-    ensures moved { IfOk result (λ r. acts peer.now (Submit octets.now)
-        ≡ Moved r.1.items (standing_at peer.now r.0)) }
+fn submitted(
+    alloc: Global,
+    peer: &Peer,
+    octets: &[u8],
+    standing: &mut Standing,
+    actions: &mut Actions,
+) -> Result<(), PeerFault>
+    requires stands { standing.old ≡ peer.now.standing }
+    requires none { actions.old.items ≡ [] }
+    ensures moved { OnOk result (acts peer.now (Submit octets.now)
+        ≡ Moved actions.new.items (standing_at peer.now standing.new)) }
     ensures refused { IfErr result (IsRefused (acts peer.now (Submit octets.now))) }
 {
     if !peer.is_open() {
@@ -169,18 +196,27 @@ fn submitted(alloc: Global, peer: &Peer, octets: &[u8]) -> Answer
     if !can_submit(octets) {
         return Err(PeerFault::BadSubmit);
     }
-    steps(alloc, peer, Event::Submit(octets), None)
+    steps(alloc, peer, Event::Submit(octets), None, standing, actions)
 }
 
-/// What the event comes to.
-pub(crate) fn answer(alloc: Global, peer: &Peer, event: Event<'_>) -> Answer
-    ensures moved { IfOk result (λ r. acts peer.now (told event.entry)
-        ≡ Moved r.1.items (standing_at peer.now r.0)) }
+/// What the event comes to: the standing becomes the next one, and the actions are put in. Behind a refusal neither is
+/// of use.
+pub(crate) fn answer(
+    alloc: Global,
+    peer: &Peer,
+    event: Event<'_>,
+    standing: &mut Standing,
+    actions: &mut Actions,
+) -> Result<(), PeerFault>
+    requires stands { standing.old ≡ peer.now.standing }
+    requires none { actions.old.items ≡ [] }
+    ensures moved { OnOk result (acts peer.now (told event.entry)
+        ≡ Moved actions.new.items (standing_at peer.now standing.new)) }
     ensures refused { IfErr result (IsRefused (acts peer.now (told event.entry))) }
 {
     match event {
-        Event::Arrived(conn, octets) => arrived(alloc, peer, conn, octets),
-        Event::Submit(octets) => submitted(alloc, peer, octets),
-        other => steps(alloc, peer, other, None),
+        Event::Arrived(conn, octets) => arrived(alloc, peer, conn, octets, standing, actions),
+        Event::Submit(octets) => submitted(alloc, peer, octets, standing, actions),
+        other => steps(alloc, peer, other, None, standing, actions),
     }
 }
