@@ -38,7 +38,7 @@ not_held p f c there none = by (holds c p) refl where
   by true held = absurd (two_truths (is_there c.0 f) (there c held) none)
   by false held = refl
 
-there_changed : (d c : ℕ) (change : Intake → Intake) (f : Intakes) → is_there c f ≡ true →
+pub there_changed : (d c : ℕ) (change : Intake → Intake) (f : Intakes) → is_there c f ≡ true →
     is_there c (changed d change f) ≡ true
 there_changed d c change f is = by (nat_eq d c) (f c) is where
   by : (b : Bool) (o : Option Intake) → is_some o ≡ true → is_some (cond b (option_map change o) o) ≡ true
@@ -46,19 +46,19 @@ there_changed d c change f is = by (nat_eq d c) (f c) is where
   by true None e = e
   by false o e = e
 
-there_with : (d c : ℕ) (i : Intake) (f : Intakes) → is_there c f ≡ true → is_there c (with_intake d (Some i) f) ≡ true
+pub there_with : (d c : ℕ) (i : Intake) (f : Intakes) → is_there c f ≡ true → is_there c (with_intake d (Some i) f) ≡ true
 there_with d c i f is = by (nat_eq d c) where
   by : (b : Bool) → is_some (cond b (Some i) (f c)) ≡ true
   by true = refl
   by false = is
 
-there_opened : (max d c : ℕ) (f : Intakes) → is_there c f ≡ true → is_there c (opened max d f) ≡ true
+pub there_opened : (max d c : ℕ) (f : Intakes) → is_there c f ≡ true → is_there c (opened max d f) ≡ true
 there_opened max d c f is = by (is_there d f) where
   by : (b : Bool) → is_there c (cond b f (with_intake d (Some (new_intake max)) f)) ≡ true
   by true = is
   by false = there_with d c (new_intake max) f is
 
-itself_opened : (max c : ℕ) (f : Intakes) → is_there c (opened max c f) ≡ true
+pub itself_opened : (max c : ℕ) (f : Intakes) → is_there c (opened max c f) ≡ true
 itself_opened max c f = by (is_there c f) refl where
   by : (b : Bool) → is_there c f ≡ b → is_there c (cond b f (with_intake c (Some (new_intake max)) f)) ≡ true
   by true is = is
@@ -72,7 +72,7 @@ there_raised_at max c o f is = by (is_numbered c o) (f c) is where
   by true None e = e
   by false i e = e
 
-there_raised : (most c : ℕ) (q : Peer) (f : Intakes) → is_there c f ≡ true → is_there c (raised most q f) ≡ true
+pub there_raised : (most c : ℕ) (q : Peer) (f : Intakes) → is_there c f ≡ true → is_there c (raised most q f) ≡ true
 there_raised most c q f is = by (is_open q.standing.core.state) where
   by : (b : Bool) → is_there c (cond b (raised_at most (other_of q) (raised_at most (own_of q) f)) f) ≡ true
   by true = there_raised_at most c (other_of q) (raised_at most (own_of q) f) (there_raised_at most c (own_of q) f is)

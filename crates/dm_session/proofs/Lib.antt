@@ -3,5 +3,6 @@ pub mod Cuts
 pub mod Ends
 pub mod Held
 pub mod Once
+pub mod Staying
 pub mod Hearing
 pub mod Meetings

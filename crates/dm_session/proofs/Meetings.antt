@@ -7,7 +7,8 @@ use Rattle.dm_machine.specs.declared.connection.Conn.{Conn}
 use Rattle.dm_peer.specs.declared.actions.Action.{Action}
 use Rattle.dm_session.specs.Intakes.{Intake, IsFirst, IsFaulty}
 use Rattle.dm_session.specs.Sessions.{Session, TellsAs}
-use Rattle.dm_session.specs.Acquaintances.{Acquaintance, spells_exchange, met_by, met_if_any, is_open_session, MeetsAs, IsAwaited}
+use Rattle.dm_session.specs.Acquaintances.{Acquaintance, spells_exchange, met_by, with_waiting, known_by, known_if_any}
+use Rattle.dm_session.specs.Acquaintances.{is_open_session, awaits_election, is_exchange_to, MeetsAs, IsAwaited}
 use Rattle.dm_session.proofs.Once.{one_there}
 
 -- the message at the front is the one that is told
@@ -33,15 +34,22 @@ awaited front either c s i m rest octets there first shut is =
 some : (x : ℕ) (m : List ℕ) → (length (x ∷ m) == 0) ≡ false
 some x m = grind (arith)
 
--- what is known, by whether the session was open and is, and whether the message is an exchange
-known : (was is exchange : Bool) (m : List ℕ) (a : Acquaintance) → 20 ≤ length m
-    → cond is (met_if_any (cond (not was && exchange) m []) a) a ≡ cond ((not was && is) && exchange) (met_by m a) a
-known was is exchange [] a least = absurd (omega (arith, least))
-known true true exchange (x ∷ m) a least = refl
-known true false exchange (x ∷ m) a least = refl
-known false true true (x ∷ m) a least = ap (λ b. cond b a (met_by (x ∷ m) a)) (some x m)
-known false true false (x ∷ m) a least = refl
-known false false exchange (x ∷ m) a least = refl
+-- what is known behind octets that are there is what is known behind the message
+behind : (waited : Bool) (x : ℕ) (m : List ℕ) (t : Session) (a : Acquaintance) →
+    known_if_any (x ∷ m) waited t a
+    ≡ cond (is_open_session t) (met_by (x ∷ m) a)
+    (cond (not waited && awaits_election t) (with_waiting (x ∷ m) a) a)
+behind waited x m t a =
+    ap (λ b. cond b a
+    (cond (is_open_session t) (met_by (x ∷ m) a) (cond (not waited && awaits_election t) (with_waiting (x ∷ m) a) a)))
+    (some x m)
+
+-- what is known, by whether the message is an exchange that is told to a session that isn't open
+pub known : (is : Bool) (m : List ℕ) (s t : Session) (a : Acquaintance) → 20 ≤ length m
+    → known_if_any (cond is m []) (awaits_election s) t a ≡ cond is (known_by s t m a) a
+known is [] s t a least = absurd (omega (arith, least))
+known true (x ∷ m) s t a least = behind (awaits_election s) x m t a
+known false (x ∷ m) s t a least = refl
 
 same_both : (b : Bool) (a : Acquaintance) → cond b a a ≡ a
 same_both true a = refl
@@ -49,11 +57,10 @@ same_both false a = refl
 
 -- whom a turn met
 pub meets : (x : Option Conn) (c : Conn) (s t : Session) (actions : List Action) (octets : List ℕ) (a b : Acquaintance)
-    → IsAwaited c s octets → TellsAs x c s actions t → b ≡ cond (is_open_session t) (met_if_any octets a) a
+    → IsAwaited c s octets → TellsAs x c s actions t → b ≡ known_if_any octets (awaits_election s) t a
     → MeetsAs x c s t a b
 meets None c s t actions octets a b awaited told is =
-    is ∙ ap (λ l. cond (is_open_session t) (met_if_any l a) a) (awaited.faulty told.intake told.there told.faulty)
-    ∙ same_both (is_open_session t) a
+    is ∙ ap (λ l. known_if_any l (awaits_election s) t a) (awaited.faulty told.intake told.there told.faulty)
 meets (Some d) c s t actions octets a b awaited told is =
     let at = told.1 in
     record {
@@ -63,20 +70,29 @@ meets (Some d) c s t actions octets a b awaited told is =
       there = at.there;
       first = at.first;
       known = is ∙
-          ap (λ l. cond (is_open_session t) (met_if_any l a) a)
+          ap (λ l. known_if_any l (awaits_election s) t a)
           (awaited.first at.intake at.message at.rest at.there at.first)
-          ∙ known (is_open_session s) (is_open_session t) (spells_exchange at.message) at.message a at.first.frame.least;
+          ∙ known (is_exchange_to s at.message) at.message s t a at.first.frame.least;
     }
 
 -- where nothing was told, what is known stays
 pub stays : (c : Conn) (s t : Session) (octets : List ℕ) (a b : Acquaintance) → IsAwaited c s octets → t ≡ s
-    → b ≡ cond (is_open_session t) (met_if_any octets a) a → b ≡ a
+    → b ≡ known_if_any octets (awaits_election s) t a → b ≡ a
 stays c s t octets a b awaited same is =
-    is ∙ ap (λ v. cond (is_open_session v) (met_if_any octets a) a) same ∙ by (is_open_session s) refl
+    is ∙ ap (λ v. known_if_any octets (awaits_election s) v a) same ∙ by (is_open_session s) refl
   where
-    by : (o : Bool) → is_open_session s ≡ o → cond o (met_if_any octets a) a ≡ a
-    by true e = ap (λ l. met_if_any l a) (awaited.open_one e)
-    by false e = refl
+    none : (w : Bool) (l : List ℕ) (b : Bool) → cond b a (cond false (met_by l a) (cond (not w && w) (with_waiting l a) a)) ≡ a
+    none true l true = refl
+    none true l false = refl
+    none false l true = refl
+    none false l false = refl
+
+    by : (o : Bool) → is_open_session s ≡ o → known_if_any octets (awaits_election s) s a ≡ a
+    by true e = ap (λ l. known_if_any l (awaits_election s) s a) (awaited.open_one e)
+    by false e =
+        ap (λ o. cond (length octets == 0) a
+        (cond o (met_by octets a) (cond (not (awaits_election s) && awaits_election s) (with_waiting octets a) a))) e
+        ∙ none (awaits_election s) octets (length octets == 0)
 
 -- what holds of a value that is there, by what else does
 pub of_some : {A : Type 0} (P Q : A → Type 0) (o : Option A) → ((x : A) → P x → Q x) → IfSome o P → IfSome o Q

@@ -1,24 +1,27 @@
 -- What the other side said of itself when a session was opened (RFC 6733, 5.3 and 8.16).
-use Rattle.std.specs.Prelude.{◌≡◌, ◌==◌, ℕ, Bool, true, false, not, ◌&&◌, cond, nat_eq, length, is_some, if◌then◌else◌}
-use Rattle.std.specs.Prelude.{Option, None, Some, List, []}
+use Rattle.std.specs.Prelude.{◌≡◌, ◌==◌, ℕ, Bool, true, false, not, ◌&&◌, cond, if◌then◌else◌, nat_eq, length, take}
+use Rattle.std.specs.Prelude.{Option, None, Some, is_some, List, []}
 use Rattle.dm_wire.specs.declared.message.Message.{Message}
 use Rattle.dm_wire.specs.Whole.{message_in}
 use Rattle.dm_base.specs.Codes.{capabilities_exchange, origin_state_id}
 use Rattle.dm_base.specs.Senders.{number_told}
 use Rattle.dm_machine.specs.declared.connection.Conn.{Conn}
+use Rattle.dm_machine.specs.Awaiting.{holds_cer}
 use Rattle.dm_machine.specs.Moves.{is_open}
+use Rattle.dm_session.specs.Hearing.{IsWholeAt}
 use Rattle.dm_session.specs.Intakes.{Intake, IsFirst, IsFaulty}
 use Rattle.dm_session.specs.Sessions.{Session, Turn}
 
--- the octets of the CER or CEA by which a session was opened last, or none; and the Origin-State-Id that was said in
--- the one before
+-- the octets of the CER or CEA by which a session was opened last, or none; the CER that waits for its CEA in an
+-- election (5.6.4), where one does; and the Origin-State-Id that was said in the one before
 pub record Acquaintance : Type 0 where
   pub octets : List ℕ
+  pub waiting : Option (List ℕ)
   pub before : Option ℕ
 
 -- nobody was met
 abbrev pub nobody : Acquaintance
-nobody = record { octets = []; before = None }
+nobody = record { octets = []; waiting = None; before = None }
 
 -- the message, where it is a CER or a CEA (5.3)
 abbrev pub exchange_of : Option Message → Option Message
@@ -47,24 +50,47 @@ began_anew _ _ = false
 
 -- the other side was met by this message; what was known gives the number before
 abbrev pub met_by : List ℕ → Acquaintance → Acquaintance
-met_by message a = record { octets = message; before = state_in a.octets }
+met_by message a = record { octets = message; waiting = None; before = state_in a.octets }
+
+-- this message waits
+abbrev pub with_waiting : List ℕ → Acquaintance → Acquaintance
+with_waiting message a = record { octets = a.octets; waiting = Some message; before = a.before }
+
+-- the other side was met by the message that waited, if one did
+abbrev pub met_waiting : Option (List ℕ) → Acquaintance → Acquaintance
+met_waiting None a = a
+met_waiting (Some message) a = met_by message a
 
 abbrev pub is_open_session : Session → Bool
 is_open_session s = is_open s.peer.standing.core.state
 
--- the session wasn't open, and is now
-abbrev pub was_opened : Session → Session → Bool
-was_opened s t = not (is_open_session s) && is_open_session t
+-- a CER waits for its CEA
+abbrev pub awaits_election : Session → Bool
+awaits_election s = holds_cer s.peer.standing.core.state
 
--- the first message of connection c was told: where it is the CER or CEA by which the session was opened, the other
--- side was met by it, and else what is known stays
+-- the message is a CER or CEA, and is told to a session that isn't open
+abbrev pub is_exchange_to : Session → List ℕ → Bool
+is_exchange_to s message = not (is_open_session s) && spells_exchange message
+
+-- What is known behind such a message: where the session is open, the other side was met by it; and where a CER waits
+-- and none did before, it is this one.
+abbrev pub known_by : Session → Session → List ℕ → Acquaintance → Acquaintance
+known_by s t message a =
+    cond (is_open_session t) (met_by message a)
+    (cond (not (awaits_election s) && awaits_election t) (with_waiting message a) a)
+
+-- behind any other message what is known stays
+abbrev pub known_at : Session → Session → List ℕ → Acquaintance → Acquaintance
+known_at s t message a = cond (is_exchange_to s message) (known_by s t message a) a
+
+-- the first message of connection c was told
 pub record MeetsMessage (c : Conn) (s t : Session) (a b : Acquaintance) : Type 0 where
   pub intake : Intake
   pub message : List ℕ
   pub rest : List ℕ
   pub there : s.intakes c.0 ≡ Some intake
   pub first : IsFirst intake message rest
-  pub known : b ≡ cond (was_opened s t && spells_exchange message) (met_by message a) a
+  pub known : b ≡ known_at s t message a
 
 -- what is known behind a turn of connection c: at a fault it stays
 abbrev pub MeetsAs : Option Conn → Conn → Session → Session → Acquaintance → Acquaintance → Type 0
@@ -74,6 +100,11 @@ MeetsAs (Some d) c s t a b = MeetsMessage c s t a b
 abbrev pub KnownBehind : Conn → Session → Turn → Session → Acquaintance → Acquaintance → Type 0
 KnownBehind c s turn t a b = MeetsAs turn.arrived c s t a b
 
+-- what is known behind an order: where it opened the session, as it ends an election, the other side was met by the CER
+-- that waited
+abbrev pub known_after : Session → Session → Acquaintance → Acquaintance
+known_after s t a = cond (not (is_open_session s) && is_open_session t) (met_waiting a.waiting a) a
+
 -- a CER or CEA stands first on connection c of a session that isn't open
 pub record AwaitsExchange (c : Conn) (s : Session) : Type 0 where
   pub intake : Intake
@@ -81,16 +112,23 @@ pub record AwaitsExchange (c : Conn) (s : Session) : Type 0 where
   pub rest : List ℕ
   pub there : s.intakes c.0 ≡ Some intake
   pub first : IsFirst intake message rest
-  pub exchange : spells_exchange message ≡ true
-  pub closed : is_open_session s ≡ false
+  pub exchange : is_exchange_to s message ≡ true
+
+-- a CER or CEA stands first in the piece, and can be told where it lies to such a session
+pub record HearsExchange (c : Conn) (piece : List ℕ) (s : Session) : Type 0 where
+  pub size : ℕ
+  pub whole : IsWholeAt (s.intakes c.0) piece size
+  pub exchange : is_exchange_to s (take size piece) ≡ true
 
 -- it is these octets; where there is none, they are none
 pub record IsAwaited (c : Conn) (s : Session) (octets : List ℕ) : Type 0 where
   pub first : (i : Intake) (message rest : List ℕ) → s.intakes c.0 ≡ Some i → IsFirst i message rest
-      → octets ≡ cond (not (is_open_session s) && spells_exchange message) message []
+      → octets ≡ cond (is_exchange_to s message) message []
   pub faulty : (i : Intake) → s.intakes c.0 ≡ Some i → IsFaulty i → octets ≡ []
   pub open_one : is_open_session s ≡ true → octets ≡ []
 
--- where there are such octets the other side was met by them
-abbrev pub met_if_any : List ℕ → Acquaintance → Acquaintance
-met_if_any octets a = cond (length octets == 0) a (met_by octets a)
+-- what is known behind these octets, which are such a message or none, by whether a CER waited before
+abbrev pub known_if_any : List ℕ → Bool → Session → Acquaintance → Acquaintance
+known_if_any octets waited t a =
+    cond (length octets == 0) a
+    (cond (is_open_session t) (met_by octets a) (cond (not waited && awaits_election t) (with_waiting octets a) a))

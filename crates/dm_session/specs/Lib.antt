@@ -5,6 +5,7 @@ pub mod Orders
 pub mod Held
 pub mod Naming
 pub mod Seen
+pub mod Staying
 pub mod Hearing
 pub mod Laws
 pub mod Acquaintances

@@ -23,11 +23,12 @@ pub(crate) fn exchange_in(octets: &[u8]) -> Option<SenderRef<'_>>
 }
 
 /// What the other side said of itself: the CER or CEA by which a session was opened, of the last time that it was
-/// opened so ([`Session::next_met`](crate::Session::next_met)). It stays when the connection ends, so that the next
-/// one can be told from it.
+/// ([`Session::next_met`](crate::Session::next_met)). It stays when the connection ends, so that the next one can be
+/// told from it.
 #[derive(Debug, Drop)]
 pub struct Acquaintance {
     octets: Octets,
+    waiting: Option<Octets>,
     before: Option<u32>,
 }
 
@@ -36,12 +37,13 @@ impl Model for Acquaintance {
 
     ghost Value = { Acquaintance };
 
-    ghost view = { λ a. record { octets = a.octets; before = a.before } };
+    ghost view = { λ a. record { octets = a.octets; waiting = a.waiting; before = a.before } };
 }
 
 impl Acquaintance {
     ghost use Rattle.std.specs.Prelude.{◌≡◌};
-    ghost use Rattle.dm_session.specs.Acquaintances.{nobody, exchange_in, state_in, began_anew, met_if_any};
+    ghost use Rattle.dm_session.specs.Acquaintances.{nobody, exchange_in, state_in, began_anew};
+    ghost use Rattle.dm_session.specs.Acquaintances.{met_by, with_waiting, met_waiting};
 
     /// Nobody was met. It never answers want of memory.
     pub fn new(alloc: Global) -> Acquaintance
@@ -49,6 +51,7 @@ impl Acquaintance {
     {
         Acquaintance {
             octets: Octets::empty(alloc),
+            waiting: None,
             before: None,
         }
     }
@@ -89,13 +92,28 @@ impl Acquaintance {
         }
     }
 
-    /// The other side was met by this CER or CEA; by none where there are no octets. It never answers want of memory.
+    /// The other side was met by this CER or CEA. It never answers want of memory.
     pub(crate) fn meet(&mut self, exchange: Octets)
-        ensures { self.new ≡ met_if_any exchange self.old }
+        ensures { self.new ≡ met_by exchange self.old }
     {
-        if !exchange.is_empty() {
-            self.before = self.state();
-            self.octets = exchange;
+        self.before = self.state();
+        self.octets = exchange;
+        self.waiting = None;
+    }
+
+    /// This CER waits for its CEA. It never answers want of memory.
+    pub(crate) fn keep_waiting(&mut self, exchange: Octets)
+        ensures { self.new ≡ with_waiting exchange self.old }
+    {
+        self.waiting = Some(exchange);
+    }
+
+    /// The other side was met by the CER that waited, if one did. It never answers want of memory.
+    pub(crate) fn meet_waiting(&mut self)
+        ensures { self.new ≡ met_waiting self.old.waiting self.old }
+    {
+        if let Some(exchange) = self.waiting.take() {
+            self.meet(exchange);
         }
     }
 }

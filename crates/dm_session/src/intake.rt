@@ -11,7 +11,7 @@ use std::marker::Model;
 
 /// What stands at the front of what came.
 #[derive(Clone, Copy)]
-pub(crate) enum Front<'a> {
+pub enum Front<'a> {
     /// No whole message yet.
     Nothing,
     /// A message.
@@ -81,7 +81,8 @@ impl Intake {
     /// never answers want of memory.
     pub(crate) fn whole_in(&self, piece: &[u8]) -> Option<usize>
         ensures within { IfSome result (λ size. size ≤ length piece.now) }
-        ensures whole { IfSome result (λ size. IsWholeIn self.now piece.now (take size piece.now) (drop size piece.now)) }
+        ensures whole { IfSome result (λ size.
+            IsWholeIn self.now piece.now (take size piece.now) (drop size piece.now)) }
         ensures none { IfNone result (IsNotWhole self.now piece.now) }
     {
         if self.is_broken || !self.framer.is_empty() {

@@ -12,15 +12,18 @@ use dm_peer::Action;
 use indexmap::IndexMap;
 use std::alloc::{AllocError, Global};
 
-/// The connections that are there, by number, each with what came on it and wasn't told yet.
+/// The connections that are there, by number, each with what came on it and wasn't told yet. A [`Session`] has them
+/// beside its peer; who drives peers otherwise may have them beside those.
+///
+/// [`Session`]: crate::Session
 #[derive(Drop)]
-pub(crate) struct Intakes {
+pub struct Intakes {
     map: IndexMap<u64, Intake>,
 }
 
 impl Intakes {
     /// No connections. It never answers want of memory.
-    pub(crate) fn new(alloc: Global) -> Intakes
+    pub fn new(alloc: Global) -> Intakes
         ensures { intakes_of result ≡ none_there }
     {
         Intakes {
@@ -28,16 +31,17 @@ impl Intakes {
         }
     }
 
-    /// Whether the connection is there.
-    pub(crate) fn has(&self, conn: Conn) -> bool
+    /// Whether the connection is there. It never answers want of memory.
+    pub fn has(&self, conn: Conn) -> bool
         ensures { result ≡ is_there conn.0 (intakes_of self.now) }
     {
         self.map.get(&conn.0).is_some()
     }
 
     #[tactic(auto, using(crate::proofs::Steps::front_there, crate::proofs::Steps::front_none))]
-    /// What stands at the front of what came on the connection; Nothing where it isn't there.
-    pub(crate) fn front(&self, conn: Conn) -> Front<'_>
+    /// What stands at the front of what came on the connection; Nothing where it isn't there. It never answers want of
+    /// memory.
+    pub fn front(&self, conn: Conn) -> Front<'_>
         ensures { IsFrontAt (intakes_of self.now conn.0) result }
     {
         match self.map.get(&conn.0) {
@@ -49,7 +53,7 @@ impl Intakes {
     #[tactic(auto, using(crate::proofs::Steps::whole_there, crate::proofs::Steps::not_whole_there, crate::proofs::Steps::whole_none))]
     /// How many octets of the piece the whole message takes with which it begins, where the connection is there and
     /// nothing is kept of it. It never answers want of memory.
-    pub(crate) fn whole_in(&self, conn: Conn, piece: &[u8]) -> Option<usize>
+    pub fn whole_in(&self, conn: Conn, piece: &[u8]) -> Option<usize>
         ensures whole { IfSome result (λ size. IsWholeAt (intakes_of self.now conn.0) piece.now size) }
         ensures none { IfNone result (IfSome (intakes_of self.now conn.0) (λ i. IsNotWhole i piece.now)) }
     {
@@ -60,7 +64,7 @@ impl Intakes {
     }
 
     /// The connection is there: as it was, or, if it wasn't, as a new one for messages of at most `max` octets.
-    pub(crate) fn open(&mut self, alloc: Global, conn: Conn, max: u32) -> Result<(), AllocError>
+    pub fn open(&mut self, alloc: Global, conn: Conn, max: u32) -> Result<(), AllocError>
         ensures opened { OnOk result (intakes_of self.new ≡ opened max conn.0 (intakes_of self.old)) }
         ensures unchanged { OnErr result (intakes_of self.new ≡ intakes_of self.old) }
     {
@@ -74,21 +78,21 @@ impl Intakes {
     }
 
     /// The connection is no more there. It never answers want of memory.
-    pub(crate) fn shut(&mut self, conn: Conn)
+    pub fn shut(&mut self, conn: Conn)
         ensures { intakes_of self.new ≡ shut conn.0 (intakes_of self.old) }
     {
         let _gone = self.map.swap_remove(&conn.0);
     }
 
     /// No connection is there. It never answers want of memory.
-    pub(crate) fn clear(&mut self)
+    pub fn clear(&mut self)
         ensures { intakes_of self.new ≡ none_there }
     {
         self.map.clear();
     }
 
     /// Keeps a piece that came on the connection, where it is there.
-    pub(crate) fn feed(&mut self, conn: Conn, piece: &[u8]) -> Result<(), AllocError>
+    pub fn feed(&mut self, conn: Conn, piece: &[u8]) -> Result<(), AllocError>
         ensures fed { OnOk result (intakes_of self.new ≡ changed conn.0 (fed_intake piece.now) (intakes_of self.old)) }
         ensures unchanged { OnErr result (intakes_of self.new ≡ intakes_of self.old) }
     {
@@ -99,7 +103,7 @@ impl Intakes {
     }
 
     /// Lets the front message of the connection go. It never answers want of memory.
-    pub(crate) fn skip(&mut self, conn: Conn)
+    pub fn skip(&mut self, conn: Conn)
         ensures { (intake : OneIntake) (message rest : List ℕ) → intakes_of self.old conn.0 ≡ Some intake
             → IsFirst intake message rest
             → intakes_of self.new ≡ with_intake conn.0 (Some (record intake { octets = rest })) (intakes_of self.old) }
@@ -110,7 +114,7 @@ impl Intakes {
     }
 
     /// A fault of the connection was told. It never answers want of memory.
-    pub(crate) fn break_off(&mut self, alloc: Global, conn: Conn)
+    pub fn break_off(&mut self, alloc: Global, conn: Conn)
         ensures { (intake : OneIntake) → intakes_of self.old conn.0 ≡ Some intake
             → intakes_of self.new ≡ with_intake conn.0 (Some (broken_intake intake)) (intakes_of self.old) }
     {
@@ -120,7 +124,7 @@ impl Intakes {
     }
 
     /// The connection, if it is one and there, takes messages of at most `max` octets. It never answers want of memory.
-    pub(crate) fn raise(&mut self, conn: Option<Conn>, max: u32)
+    pub fn raise(&mut self, conn: Option<Conn>, max: u32)
         ensures { intakes_of self.new ≡ raised_at max conn (intakes_of self.old) }
     {
         if let Some(conn) = conn {
@@ -130,14 +134,9 @@ impl Intakes {
         }
     }
 
-    /// Where the peer is open, both connections that it may hold take messages of at most `max` octets.
-    pub(crate) fn raise_open(
-        &mut self,
-        is_open: bool,
-        own: Option<Conn>,
-        other: Option<Conn>,
-        max: u32,
-    )
+    /// Where the peer is open, both connections that it may hold take messages of at most `max` octets. It never
+    /// answers want of memory.
+    pub fn raise_open(&mut self, is_open: bool, own: Option<Conn>, other: Option<Conn>, max: u32)
         ensures { intakes_of self.new
             ≡ cond is_open (raised_at max other (raised_at max own (intakes_of self.old))) (intakes_of self.old) }
     {
@@ -158,7 +157,7 @@ impl Intakes {
     }
 
     /// What the actions close is no more there. It never answers want of memory.
-    pub(crate) fn leave(&mut self, actions: &[Action])
+    pub fn leave(&mut self, actions: &[Action])
         ensures { intakes_of self.new ≡ left_by actions.now (intakes_of self.old) }
     {
         if let [action, rest @ ..] = actions {

@@ -1,6 +1,8 @@
 //! Laws of a session. Each function is a law: it does nothing, and its contract is the law.
 ghost use Rattle.dm_session.specs.Laws.{CutsAlike, OneTelling, CutsToldOut, PiecesToldOut, HeardAlike};
 ghost use Rattle.dm_session.specs.Laws.{CloseIsLast, GoneIsSilent, GoneTellsNothing};
+ghost use Rattle.dm_session.specs.Staying.{OpeningKeeps, ChangingKeeps, TellingKeeps, RaisingKeeps};
+ghost use Rattle.dm_session.specs.Staying.{ClosingKeeps, ShuttingKeeps};
 ghost use Rattle.dm_session.specs.Held.{HeldAreThere};
 ghost use Rattle.dm_session.specs.Seen.{session_of};
 
@@ -36,6 +38,18 @@ pub fn closed_is_down()
     ensures close { CloseIsLast }
     ensures order { GoneIsSilent }
     ensures octets { GoneTellsNothing }
+{}
+
+/// A connection that is there stays there, whatever is done with what came, but where it is closed or shut. The law
+/// stands for users: who keeps [`Intakes`](crate::Intakes) beside peers of his own knows by it that what these hold is
+/// there.
+pub fn what_is_there_stays()
+    ensures opened { OpeningKeeps }
+    ensures changed { ChangingKeeps }
+    ensures told { TellingKeeps }
+    ensures raised { RaisingKeeps }
+    ensures closed { ClosingKeeps }
+    ensures shut { ShuttingKeeps }
 {}
 
 /// Each connection that the peer of a session holds is there: what comes on it is kept and told.

@@ -13,6 +13,8 @@ mod turn;
 
 pub use acquaintance::Acquaintance;
 pub use dm_peer::{Action, Actions, Cause, Config, Conn, Peer, PeerFault};
+pub use intake::Front;
+pub use intakes::Intakes;
 pub use order::Order;
 pub use session::Session;
 pub use turn::{HeardTurn, Turn};

@@ -1,16 +1,31 @@
 //! A session that keeps whom it met.
-ghost use Rattle.std.specs.Prelude.{◌≡◌, ◌⊎◌, cond, IfOk, IfSome, IfNone, OnOk, OnErr};
-ghost use Rattle.dm_session.specs.Acquaintances.{IsAwaited, AwaitsExchange, KnownBehind, is_open_session, met_if_any};
-ghost use Rattle.dm_session.specs.Sessions.{TellsNext, NextTakesMemory, IsOut};
+ghost use Rattle.std.specs.Prelude.{◌≡◌, ◌⊎◌, true, cond, [], take, IfOk, IfErr, IfSome, IfNone, OnOk, OnErr};
+ghost use Rattle.std.specs.Option.{option_map};
+ghost use Rattle.dm_session.specs.Acquaintances.{IsAwaited, AwaitsExchange, HearsExchange, KnownBehind};
+ghost use Rattle.dm_session.specs.Acquaintances.{awaits_election, is_exchange_to, known_at, known_after, known_if_any};
+ghost use Rattle.dm_session.specs.Hearing.{HearsWhole, HearTakesMemory, HearsNothing, IsWholeAt};
+ghost use Rattle.dm_session.specs.Orders.{as_turn, asked, Takes, Refuses};
 ghost use Rattle.dm_session.specs.Seen.{session_of};
-ghost use Rattle.dm_session.specs.Orders.{as_turn};
+ghost use Rattle.dm_session.specs.Sessions.{TellsNext, NeedsMemory, NextTakesMemory, IsOut};
 
-use crate::{Acquaintance, Session, Turn};
-use dm_machine::Conn;
+use crate::acquaintance::exchange_in;
+use crate::{Acquaintance, HeardTurn, Order, Session, Turn};
+use dm_machine::{Conn, State};
+use dm_peer::{Actions, PeerFault};
 use dm_wire::Octets;
 use std::alloc::{AllocError, Global};
 
 impl Session {
+    /// Whether a CER waits for its CEA, in an election (RFC 6733, 5.6.4). It never answers want of memory.
+    fn is_in_election(&self) -> bool
+        ensures { result ≡ awaits_election (session_of self.now) }
+    {
+        match self.peer().state() {
+            State::WaitConnAckElect | State::WaitReturns => true,
+            _ => false,
+        }
+    }
+
     /// A copy of the CER or CEA that stands first on the connection, where the peer isn't open; else no octets.
     fn awaited(&self, alloc: Global, conn: Conn) -> Result<Octets, AllocError>
         ensures copied { IfOk result (λ octets. IsAwaited conn (session_of self.now) octets) }
@@ -22,18 +37,22 @@ impl Session {
         }
     }
 
-    /// Where the peer is open, the other side was met by this CER or CEA. It never answers want of memory.
-    fn meet_open(&self, exchange: Octets, acquaintance: &mut Acquaintance)
-        ensures { acquaintance.new ≡ cond (is_open_session (session_of self.now)) (met_if_any exchange acquaintance.old)
-            acquaintance.old }
+    /// What is known behind a CER or CEA that was told to a session that wasn't open, by whether a CER waited before;
+    /// behind no octets it stays. It never answers want of memory.
+    fn meet_behind(&self, exchange: Octets, waited: bool, acquaintance: &mut Acquaintance)
+        ensures { acquaintance.new ≡ known_if_any exchange waited (session_of self.now) acquaintance.old }
     {
+        if exchange.is_empty() {
+            return;
+        }
         if self.peer().is_open() {
             acquaintance.meet(exchange);
+        } else if !waited && self.is_in_election() {
+            acquaintance.keep_waiting(exchange);
         }
     }
 
-    /// Tells the next message or fault, as [`Session::next`] does, and knows whom the peer met by it: where the peer
-    /// wasn't open and is behind it, by this CER or CEA (RFC 6733, 5.3), `exchange`, which is kept then.
+    /// Tells the next message or fault, as [`Session::next`] does, and keeps the CER or CEA, `exchange`.
     fn next_with(
         &mut self,
         alloc: Global,
@@ -53,9 +72,10 @@ impl Session {
         ensures unmet { IfOk result (λ found. IfNone found (acquaintance.new ≡ acquaintance.old)) }
         ensures same { OnErr result (acquaintance.new ≡ acquaintance.old) }
     {
+        let waited = self.is_in_election();
         match self.next(alloc, conn) {
             Ok(found) => {
-                self.meet_open(exchange, acquaintance);
+                self.meet_behind(exchange, waited, acquaintance);
                 Ok(found)
             }
             Err(error) => Err(error),
@@ -65,10 +85,8 @@ impl Session {
     /// Tells the next whole message that came on the connection, or the fault of its stream, as [`Session::next`] does;
     /// and where the peer wasn't open and is open behind it, keeps the CER or CEA that was told as the acquaintance,
     /// which gives what the other side said of itself (RFC 6733, 5.3), and whether it has begun anew since the time
-    /// before (8.16). Else what is known stays, also when the connection ends and at `Order::Reset`.
-    ///
-    /// (own) A session that is opened at the end of the other connection of an election (5.6.4, at `Order::Nack` and
-    /// `Order::Gone`) is opened by no message, and what is known stays.
+    /// before (8.16). A CER that waits for its CEA in an election (5.6.4) is kept as such, for
+    /// [`take_met`](Session::take_met). Else what is known stays, also when the connection ends and at `Order::Reset`.
     ///
     /// Where memory is wanted nothing changes, neither the session nor what is known, and it can be told again.
     pub fn next_met(
@@ -94,6 +112,123 @@ impl Session {
         match self.awaited(alloc, conn) {
             Ok(exchange) => self.next_with(alloc, conn, exchange, acquaintance),
             Err(error) => Err(error),
+        }
+    }
+
+    /// A copy of the message, where it is a CER or CEA and the peer isn't open; else no octets.
+    fn exchange_told(&self, alloc: Global, message: &[u8]) -> Result<Octets, AllocError>
+        ensures copied { IfOk result (λ octets.
+            octets ≡ cond (is_exchange_to (session_of self.now) message.now) message.now []) }
+        ensures memory { OnErr result (is_exchange_to (session_of self.now) message.now ≡ true) }
+    {
+        if self.peer().is_open() {
+            return Ok(Octets::empty(alloc));
+        }
+        match exchange_in(message) {
+            Some(_) => Octets::from_slice(alloc, message),
+            None => Ok(Octets::empty(alloc)),
+        }
+    }
+
+    /// Tells the whole message, of so many octets, with which the piece begins, and keeps the CER or CEA, `exchange`.
+    fn hear_with(
+        &mut self,
+        alloc: Global,
+        conn: Conn,
+        piece: &[u8],
+        len: usize,
+        exchange: Octets,
+        acquaintance: &mut Acquaintance,
+    ) -> Result<HeardTurn, AllocError>
+        requires whole { IsWholeAt ((session_of self.old).intakes conn.0) piece.now len }
+        requires exchange { exchange
+            ≡ cond (is_exchange_to (session_of self.old) (take len piece.now)) (take len piece.now) [] }
+        ensures heard { IfOk result (λ heard. HearsWhole conn piece.now (session_of self.old) (as_turn heard.turn)
+            heard.len (session_of self.new)) }
+        ensures unchanged { OnErr result (session_of self.new ≡ session_of self.old) }
+        ensures memory { OnErr result (NeedsMemory conn (take len piece.now) (session_of self.old)) }
+        ensures met { IfOk result (λ heard. acquaintance.new ≡ known_at (session_of self.old) (session_of self.new)
+            (take heard.len piece.now) acquaintance.old) }
+        ensures same { OnErr result (acquaintance.new ≡ acquaintance.old) }
+    {
+        let waited = self.is_in_election();
+        match self.hear_whole(alloc, conn, piece, len) {
+            Ok(heard) => {
+                self.meet_behind(exchange, waited, acquaintance);
+                Ok(heard)
+            }
+            Err(error) => Err(error),
+        }
+    }
+
+    /// Tells the whole message with which the piece begins, where it lies, as [`Session::hear`] does, and keeps whom
+    /// the peer met by it, as [`next_met`](Session::next_met) does.
+    ///
+    /// Where memory is wanted nothing changes, neither the session nor what is known, and it can be told again.
+    pub fn hear_met(
+        &mut self,
+        alloc: Global,
+        conn: Conn,
+        piece: &[u8],
+        acquaintance: &mut Acquaintance,
+    ) -> Result<Option<HeardTurn>, AllocError>
+        ensures heard { IfOk result (λ found. IfSome found (λ heard. HearsWhole conn piece.now (session_of self.old)
+            (as_turn heard.turn) heard.len (session_of self.new))) }
+        ensures none { IfOk result (λ found. IfNone found (
+            HearsNothing conn piece.now (session_of self.old) × (session_of self.new ≡ session_of self.old))) }
+        ensures unchanged { OnErr result (session_of self.new ≡ session_of self.old) }
+        // Memory is wanted only for what the message asks of the peer, or for the copy of a CER or CEA in a peer that
+        // isn't open.
+        ensures memory { OnErr result (HearTakesMemory conn piece.now (session_of self.old)
+            ⊎ HearsExchange conn piece.now (session_of self.old)) }
+        ensures met { IfOk result (λ found. IfSome found (λ heard. acquaintance.new
+            ≡ known_at (session_of self.old) (session_of self.new) (take heard.len piece.now) acquaintance.old)) }
+        ensures unmet { IfOk result (λ found. IfNone found (acquaintance.new ≡ acquaintance.old)) }
+        ensures same { OnErr result (acquaintance.new ≡ acquaintance.old) }
+    {
+        let Some(len) = self.whole_in(conn, piece) else {
+            return Ok(None);
+        };
+        let exchange = match self.exchange_told(alloc, &piece[..len]) {
+            Ok(exchange) => exchange,
+            Err(error) => return Err(error),
+        };
+        match self.hear_with(alloc, conn, piece, len, exchange, acquaintance) {
+            Ok(heard) => Ok(Some(heard)),
+            Err(error) => Err(error),
+        }
+    }
+
+    /// Takes an order, as [`Session::take`] does; and where the peer wasn't open and is open behind it, which ends an
+    /// election (RFC 6733, 5.6.4), the CER that waited is the acquaintance from then on. It waits where
+    /// [`next_met`](Session::next_met) told it. Else what is known stays.
+    ///
+    /// # Errors
+    /// Those of [`Session::take`]. What is known is as it was after each.
+    pub fn take_met(
+        &mut self,
+        alloc: Global,
+        order: Order<'_>,
+        acquaintance: &mut Acquaintance,
+    ) -> Result<Option<Actions>, PeerFault>
+        ensures taken { IfOk result (λ asks. Takes (asked order.entry) (session_of self.old)
+            (option_map (λ actions. actions.items) asks) (session_of self.new)) }
+        ensures refused { IfErr result (λ fault. (fault ≡ PeerFault.NoMemory)
+            ⊎ Refuses (asked order.entry) (session_of self.old) fault) }
+        ensures unchanged { OnErr result (session_of self.new ≡ session_of self.old) }
+        ensures met { OnOk result (acquaintance.new
+            ≡ known_after (session_of self.old) (session_of self.new) acquaintance.old) }
+        ensures same { OnErr result (acquaintance.new ≡ acquaintance.old) }
+    {
+        let was_open = self.peer().is_open();
+        match self.take(alloc, order) {
+            Ok(asks) => {
+                if !was_open && self.peer().is_open() {
+                    acquaintance.meet_waiting();
+                }
+                Ok(asks)
+            }
+            Err(fault) => Err(fault),
         }
     }
 }

@@ -23,7 +23,7 @@ pub struct Session {
 }
 
 impl Session {
-    ghost use Rattle.std.specs.Prelude.{◌≡◌, true, false, [], IfOk, IfErr, IfSome, IfNone, OnOk, OnErr};
+    ghost use Rattle.std.specs.Prelude.{◌≡◌, true, false, [], take, IfOk, IfErr, IfSome, IfNone, OnOk, OnErr};
     ghost use Rattle.std.specs.List.{list_any};
     ghost use Rattle.dm_machine.specs.declared.connection.Conn.{Conn};
     ghost use Rattle.dm_peer.specs.Acts.{acts, IsRefused};
@@ -31,10 +31,10 @@ impl Session {
     ghost use Rattle.dm_peer.specs.After.{fresh};
     ghost use Rattle.dm_peer.specs.Holding.{holds};
     ghost use Rattle.dm_session.specs.Intakes.{none_there, is_there, closes};
-    ghost use Rattle.dm_session.specs.Sessions.{Tells, TellsNext, NextTakesMemory, IsOut};
+    ghost use Rattle.dm_session.specs.Sessions.{Tells, TellsNext, NeedsMemory, NextTakesMemory, IsOut};
     ghost use Rattle.dm_session.specs.Sessions.{fed, settled};
     ghost use Rattle.dm_session.specs.Acquaintances.{IsAwaited, AwaitsExchange};
-    ghost use Rattle.dm_session.specs.Hearing.{HearsWhole, HearTakesMemory, HearsNothing};
+    ghost use Rattle.dm_session.specs.Hearing.{HearsWhole, HearTakesMemory, HearsNothing, IsWholeAt};
     ghost use Rattle.dm_session.specs.Seen.{session_of};
     ghost use Rattle.dm_session.specs.Naming.{NamesThere};
     ghost use Rattle.dm_session.specs.Orders.{as_turn, closed, with_opened, with_shut, with_unheld};
@@ -179,22 +179,52 @@ impl Session {
         // Memory is wanted only for what the message asks of the peer.
         ensures memory { OnErr result (HearTakesMemory conn piece.now (session_of self.old)) }
     {
+        match self.whole_in(conn, piece) {
+            Some(len) => match self.hear_whole(alloc, conn, piece, len) {
+                Ok(heard) => Ok(Some(heard)),
+                Err(error) => Err(error),
+            },
+            None => Ok(None),
+        }
+    }
+
+    /// How many octets of the piece the whole message takes that can be told where it lies. It never answers want of
+    /// memory.
+    pub(crate) fn whole_in(&self, conn: Conn, piece: &[u8]) -> Option<usize>
+        ensures whole { IfSome result (λ size. IsWholeAt ((session_of self.now).intakes conn.0) piece.now size) }
+        ensures none { IfNone result (HearsNothing conn piece.now (session_of self.now)) }
+    {
+        self.intakes.whole_in(conn, piece)
+    }
+
+    /// Tells the whole message, of so many octets, with which the piece begins, where it lies.
+    pub(crate) fn hear_whole(
+        &mut self,
+        alloc: Global,
+        conn: Conn,
+        piece: &[u8],
+        len: usize,
+    ) -> Result<HeardTurn, AllocError>
+        requires { IsWholeAt ((session_of self.old).intakes conn.0) piece.now len }
+        ensures heard { IfOk result (λ heard. HearsWhole conn piece.now (session_of self.old) (as_turn heard.turn)
+            heard.len (session_of self.new)) }
+        ensures len { IfOk result (λ heard. heard.len ≡ len) }
+        ensures unchanged { OnErr result (session_of self.new ≡ session_of self.old) }
+        ensures memory { OnErr result (NeedsMemory conn (take len piece.now) (session_of self.old)) }
+    {
         refusals_go_by_rule();
         each_event_names_what_it_takes();
         every_peer_is_kept(&self.peer);
         let _state = self.peer.state();
-        match self.intakes.whole_in(conn, piece) {
-            Some(len) => match self.peer.on(alloc, Event::Arrived(conn, &piece[..len])) {
-                Ok(actions) => {
-                    self.settle(actions.as_slice());
-                    Ok(Some(HeardTurn {
-                        turn: Turn::of_message(conn, actions),
-                        len,
-                    }))
-                }
-                Err(_) => Err(AllocError),
-            },
-            None => Ok(None),
+        match self.peer.on(alloc, Event::Arrived(conn, &piece[..len])) {
+            Ok(actions) => {
+                self.settle(actions.as_slice());
+                Ok(HeardTurn {
+                    turn: Turn::of_message(conn, actions),
+                    len,
+                })
+            }
+            Err(_) => Err(AllocError),
         }
     }
 
