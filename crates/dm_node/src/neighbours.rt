@@ -5,7 +5,7 @@ use crate::routing::whose;
 use crate::telling::{tell_nobody, tell_one};
 use crate::{AddFault, EventFault, NodeActions, NodeEvent};
 use dm_base::Node;
-use dm_peer::{Config, Peer, State};
+use dm_peer::{Config, Conn, Peer, State};
 use std::alloc::Global;
 use std::marker::Model;
 use std::slice;
@@ -31,26 +31,8 @@ impl Model for Neighbours {
 }
 
 impl Neighbours {
-    ghost use Rattle.std.specs.Prelude.{
-      ◌≡◌,
-      ◌⊎◌,
-      ◌↔◌,
-      ℕ,
-      All,
-      [],
-      Option,
-      Some,
-      Err,
-      length,
-      IfOk,
-      IfErr,
-      IsErrOf,
-      OnOk,
-      OnErr,
-      IfSome,
-      IfNone,
-      option_map,
-    };
+    ghost use Rattle.std.specs.Prelude.{◌≡◌, ◌⊎◌, ◌↔◌, ℕ, true, false, All, [], Option, Some, Err, length};
+    ghost use Rattle.std.specs.Prelude.{IfOk, IfErr, IsErrOf, OnOk, OnErr, IfSome, IfNone, option_map};
     ghost use Rattle.std.specs.Option.{option_copied};
     ghost use Rattle.std.specs.Slice.Iter.{iter_rest};
     ghost use Rattle.std.specs.Iterator.Adapters.{IterYieldsInOrder};
@@ -60,7 +42,7 @@ impl Neighbours {
     ghost use Rattle.dm_node.specs.Adding.{with_new};
     ghost use Rattle.dm_node.specs.Declining.{IsRuledOut, TakesNoMemory, IsDirected, IsByRule, IsDeclinedHere};
     ghost use Rattle.dm_node.specs.Emptying.{without, with_set_back, all_set_back};
-    ghost use Rattle.dm_node.specs.Holding.{peer_at, host_at, IsKnown};
+    ghost use Rattle.dm_node.specs.Holding.{peer_at, host_at, holds_at, IsKnown};
     ghost use Rattle.dm_node.specs.Telling.{Concerns, IsTold, IsMisdirected, IsRefusedHere, strange, told_of};
     ghost use Rattle.dm_node.specs.declared.fault.AddFault.TheVariants.{Known, NoMemory};
     ghost use Rattle.dm_node.specs.declared.fault.EventFault.{EventFault};
@@ -100,6 +82,14 @@ impl Neighbours {
         ensures none { IfNone result ((j : ℕ) → host_at self.now.peers j ≡ Some (lower host.now) → ⊥) }
     {
         self.roster.named(host)
+    }
+
+    /// The number of the neighbour that holds the connection. It never answers want of memory.
+    pub fn holder(&self, conn: Conn) -> Option<usize>
+        ensures found { IfSome result (λ i. holds_at self.now.peers conn i ≡ true) }
+        ensures none { IfNone result ((j : ℕ) → holds_at self.now.peers conn j ≡ false) }
+    {
+        self.roster.holder(conn)
     }
 
     /// The neighbour of this number. It never answers want of memory.

@@ -1,0 +1,19 @@
+-- What is there stays there.
+use Rattle.dm_session.specs.Intakes.{fed_intake, changed}
+use Rattle.dm_session.specs.Held.{intakes_of}
+use Rattle.dm_node_session.specs.NodeHeld.{AllHeldAreThere}
+use Rattle.dm_node_session.proofs.NodeStaying.{held_changed, done_or_not}
+use Rattle.dm_node_session.proofs.node_session.NodeSession.feed.Goals as goal
+
+pub invariant_of-self : goal.invariant_of-self
+invariant_of-self c =
+    let ps = c.args.self.now.neighbours.peers in
+    let old = intakes_of c.args.self.now.intakes in
+    let fed = fed_intake c.args.piece.now in
+    record {
+      held = done_or_not c.feed.result (AllHeldAreThere ps) (changed c.args.conn.0 fed old) old
+          (intakes_of c.feed.new.self) c.feed.ensures.fed c.feed.ensures.unchanged
+          (held_changed c.what_is_there_stays.ensures.changed ps c.args.conn.0 fed old c.args.self.now.held)
+          c.args.self.now.held;
+      kept = c.args.self.now.kept;
+    }

@@ -1,0 +1,12 @@
+-- Nobody holds anything.
+use Rattle.dm_node_session.proofs.NodeMoving.{two_truths}
+use Rattle.dm_node.specs.Holding.{holds_at}
+use Rattle.dm_node_session.proofs.node_session.NodeSession.set_back_all.Goals as goal
+
+pub invariant_of-self : goal.invariant_of-self
+invariant_of-self c =
+    record {
+      held = λ i d held. absurd (two_truths (holds_at c.reset_neighbours.new.neighbours.peers d i) held
+          (c.reset_neighbours.ensures.free d i));
+      kept = c.reset_neighbours.ensures.kept;
+    }

@@ -1,0 +1,28 @@
+-- A whole message on a node's connection that is told where it lies, in the piece that brought it.
+use Rattle.std.specs.Prelude.{◌≡◌, ℕ, Some, IfSome, List, length, take}
+use Rattle.dm_machine.specs.declared.connection.Conn.{Conn}
+use Rattle.dm_session.specs.Hearing.{IsWholeIn, IsWholeAt, IsNotWhole}
+use Rattle.dm_session.specs.Intakes.{Intake}
+use Rattle.dm_node_session.specs.NodeSessions.{NodeSession, NodeTurn, NodeTellsNext, TakesMemoryAt, node_fed}
+
+-- the piece begins with a whole message of connection c, of so many octets, which is told as if just it had come
+pub record NodeHearsWhole (c : Conn) (piece : List ℕ) (s : NodeSession) (turn : NodeTurn) (size : ℕ) (t : NodeSession)
+    : Type 0 where
+  pub intake : Intake
+  pub message : List ℕ
+  pub rest : List ℕ
+  pub there : s.intakes c.0 ≡ Some intake
+  pub front : IsWholeIn intake piece message rest
+  pub size_is : size ≡ length message
+  pub arrived : turn.arrived ≡ Some c
+  pub told : NodeTellsNext c (node_fed c message s) turn t
+
+-- that message takes memory to be told
+abbrev pub NodeHearTakesMemory : Conn → List ℕ → NodeSession → Type 0
+NodeHearTakesMemory c piece s =
+    (size : ℕ) × IsWholeAt (s.intakes c.0) piece size × TakesMemoryAt c (take size piece) s.peers
+
+-- nothing can be told where it lies: the connection isn't there, something of it is kept or what comes is thrown away,
+-- or the piece begins with no whole message
+abbrev pub NodeHearsNothing : Conn → List ℕ → NodeSession → Type 0
+NodeHearsNothing c piece s = IfSome (s.intakes c.0) (λ i. IsNotWhole i piece)

@@ -1,0 +1,147 @@
+-- The orders of who drives a node, and what each comes to.
+use Rattle.std.specs.Prelude.{◌≡◌, ◌⊎◌, ℕ, cond, true, false, Option, None, Some, List, [], ◌∷◌, ◌++◌}
+use Rattle.dm_machine.specs.declared.connection.Conn.{Conn}
+use Rattle.dm_node.specs.declared.fault.EventFault.{EventFault}
+use Rattle.dm_node.specs.Emptying.{without, with_set_back, all_set_back}
+use Rattle.dm_node.specs.Holding.{peer_at, holds_it, holds_at}
+use Rattle.dm_node.specs.Telling.{IsFree}
+use Rattle.dm_peer.specs.declared.actions.Action.{Action}
+use Rattle.dm_peer.specs.declared.actions.Action.TheVariants.{Close}
+use Rattle.dm_peer.specs.declared.peer.Peer.{Peer}
+use Rattle.dm_peer.specs.Events.{PeerEvent}
+use Rattle.dm_peer.specs.Events as event
+use Rattle.dm_session.specs.Intakes.{Intakes, none_there, is_there, opened, shut}
+use Rattle.dm_session.specs.Sessions.{own_of, other_of}
+use Rattle.dm_node_session.specs.declared.node_order.NodeOrder.{NodeOrder}
+use Rattle.dm_node_session.specs.declared.node_order.NodeOrder.TheVariants as order
+use Rattle.dm_node_session.specs.NodeSessions.{NodeSession, NodeAnswer, NodeTells, node_fed, with_node_intakes}
+use Rattle.dm_node_session.specs.NodeTelling.{NodeDeclines}
+
+-- an event is told, and this is what it asks for
+abbrev pub NodeTellsOnce : Option ℕ → PeerEvent → NodeSession → Option NodeAnswer → NodeSession → Type 0
+NodeTellsOnce to e s asks t = (answer : NodeAnswer) × (asks ≡ Some answer) × NodeTells to e s answer t
+
+-- nothing is told
+abbrev pub NodeTellsNothing : NodeSession → Option NodeAnswer → NodeSession → Type 0
+NodeTellsNothing s asks t = (asks ≡ None) × (t ≡ s)
+
+-- an event of connection c is told where that is there
+abbrev pub NodeTellsIfThere : Conn → PeerEvent → NodeSession → Option NodeAnswer → NodeSession → Type 0
+NodeTellsIfThere c e s asks t =
+    cond (is_there c.0 s.intakes) (NodeTellsOnce None e s asks t) (NodeTellsNothing s asks t)
+
+-- connection c is there, as it was or as a new one; it is no more there
+abbrev pub node_opened : Conn → NodeSession → NodeSession
+node_opened c s = with_node_intakes (opened s.first_max c.0 s.intakes) s
+
+abbrev pub node_shut : Conn → NodeSession → NodeSession
+node_shut c s = with_node_intakes (shut c.0 s.intakes) s
+
+-- connection c is no more there, but where a neighbour still holds it
+abbrev pub ShutsUnheld : Conn → NodeSession → NodeSession → Type 0
+ShutsUnheld c s t =
+    ((i : ℕ) × (holds_at s.peers c i ≡ true) × (t ≡ s)) ⊎ (IsFree s.peers c × (t ≡ node_shut c s))
+
+-- A connection that was asked for can't be made: it is told, and then it is no more there. A Nack of one that was made
+-- changes nothing.
+abbrev pub NodeTellsNack : Conn → NodeSession → Option NodeAnswer → NodeSession → Type 0
+NodeTellsNack c s asks t = (m : NodeSession) × NodeTellsIfThere c (event.Nack c) s asks m × ShutsUnheld c m t
+
+-- an event of connection c is told, and then that is no more there
+abbrev pub NodeTellsEnd : Conn → PeerEvent → NodeSession → Option NodeAnswer → NodeSession → Type 0
+NodeTellsEnd c e s asks t = (m : NodeSession) × NodeTellsIfThere c e s asks m × (t ≡ node_shut c m)
+
+-- a number that is in use isn't started again
+abbrev pub NodeTellsStart : ℕ → Conn → NodeSession → Option NodeAnswer → NodeSession → Type 0
+NodeTellsStart n c s asks t =
+    cond (is_there c.0 s.intakes) (NodeTellsNothing s asks t)
+    (NodeTellsOnce (Some n) (event.Start c) (node_opened c s) asks t)
+
+-- what a neighbour holds is no more there
+abbrev pub left_by_peer : Option Peer → Intakes → Intakes
+left_by_peer p f c = cond (holds_it (record { 0 = c }) p) None (f c)
+
+-- the neighbour of the number is Closed, and what it held is no more there
+abbrev pub node_set_back : ℕ → NodeSession → NodeSession
+node_set_back n s =
+    record {
+      node = s.node;
+      peers = with_set_back s.peers n;
+      intakes = left_by_peer (peer_at s.peers n) s.intakes;
+      first_max = s.first_max;
+      most = s.most;
+    }
+
+-- each neighbour is Closed, and no connection is there
+abbrev pub node_closed : NodeSession → NodeSession
+node_closed s =
+    record {
+      node = s.node;
+      peers = all_set_back s.peers;
+      intakes = none_there;
+      first_max = s.first_max;
+      most = s.most;
+    }
+
+-- nobody has the number any more, and what its neighbour held is no more there
+abbrev pub node_without : ℕ → NodeSession → NodeSession
+node_without n s =
+    record {
+      node = s.node;
+      peers = without s.peers n;
+      intakes = left_by_peer (peer_at s.peers n) s.intakes;
+      first_max = s.first_max;
+      most = s.most;
+    }
+
+-- the connections that a peer holds are closed, the one that it opened first
+abbrev pub close_if_any : Option Conn → List Action
+close_if_any None = []
+close_if_any (Some c) = Close c ∷ []
+
+abbrev pub closes_of : Peer → List Action
+closes_of p = close_if_any (own_of p) ++ close_if_any (other_of p)
+
+-- what is closed where the neighbour goes that may be at a place
+abbrev pub closes_of_any : Option Peer → List Action
+closes_of_any None = []
+closes_of_any (Some p) = closes_of p
+
+-- What an order asks for, None where no event is told, and where it leaves the session. Of a connection that isn't
+-- there nothing is told. What came is told message by message, by `NodeTellsNext`.
+abbrev pub NodeTakes : NodeOrder → NodeSession → Option NodeAnswer → NodeSession → Type 0
+NodeTakes (order.Start n c) s asks t = NodeTellsStart n c s asks t
+NodeTakes (order.Ack c) s asks t = NodeTellsIfThere c (event.Ack c) s asks t
+NodeTakes (order.Nack c) s asks t = NodeTellsNack c s asks t
+NodeTakes (order.Accept c) s asks t = NodeTellsNothing (node_opened c s) asks t
+NodeTakes (order.Octets c piece) s asks t = NodeTellsNothing (node_fed c piece.now s) asks t
+NodeTakes (order.Gone c) s asks t = NodeTellsEnd c (event.Gone c) s asks t
+NodeTakes (order.Timeout n) s asks t = NodeTellsOnce (Some n) event.Timeout s asks t
+NodeTakes (order.Tick n) s asks t = NodeTellsOnce (Some n) event.Tick s asks t
+NodeTakes (order.Stop n cause) s asks t = NodeTellsOnce (Some n) (event.Stop cause) s asks t
+NodeTakes (order.Submit n octets) s asks t = NodeTellsOnce (Some n) (event.Submit octets.now) s asks t
+NodeTakes (order.Reset n) s asks t = NodeTellsNothing (node_set_back n s) asks t
+NodeTakes order.ResetAll s asks t = NodeTellsNothing (node_closed s) asks t
+
+-- nobody has the number, or its neighbour refuses the event
+abbrev pub NodeRefusesOnce : Option ℕ → PeerEvent → NodeSession → EventFault → Type 0
+NodeRefusesOnce to e s f = NodeDeclines to e s.peers f
+
+-- the neighbour that holds connection c, which is there, refuses an event of it
+abbrev pub NodeRefusesIfThere : Conn → PeerEvent → NodeSession → EventFault → Type 0
+NodeRefusesIfThere c e s f = (is_there c.0 s.intakes ≡ true) × NodeRefusesOnce None e s f
+
+-- Why an order is refused: where its event is. Where none is told there is nothing to refuse.
+abbrev pub NodeRefuses : NodeOrder → NodeSession → EventFault → Type 0
+NodeRefuses (order.Start n c) s f = (is_there c.0 s.intakes ≡ false) × NodeRefusesOnce (Some n) (event.Start c) s f
+NodeRefuses (order.Ack c) s f = NodeRefusesIfThere c (event.Ack c) s f
+NodeRefuses (order.Nack c) s f = NodeRefusesIfThere c (event.Nack c) s f
+NodeRefuses (order.Accept c) s f = ⊥
+NodeRefuses (order.Octets c piece) s f = ⊥
+NodeRefuses (order.Gone c) s f = NodeRefusesIfThere c (event.Gone c) s f
+NodeRefuses (order.Timeout n) s f = NodeRefusesOnce (Some n) event.Timeout s f
+NodeRefuses (order.Tick n) s f = NodeRefusesOnce (Some n) event.Tick s f
+NodeRefuses (order.Stop n cause) s f = NodeRefusesOnce (Some n) (event.Stop cause) s f
+NodeRefuses (order.Submit n octets) s f = NodeRefusesOnce (Some n) (event.Submit octets.now) s f
+NodeRefuses (order.Reset n) s f = ⊥
+NodeRefuses order.ResetAll s f = ⊥

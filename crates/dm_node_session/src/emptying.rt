@@ -1,0 +1,205 @@
+//! Neighbours that come, go, or begin anew, with the connections that they hold.
+ghost use Rattle.std.specs.Prelude.{◌≡◌, ◌⊎◌, ◌↔◌, ◌++◌, ◌||◌, ℕ, true, false, Option, None, Some, length};
+ghost use Rattle.std.specs.Prelude.{IsErrOf, OnOk, OnErr, IfOk, IfErr, option_map, ◌<◌, if◌then◌else◌};
+ghost use Rattle.dm_machine.specs.declared.connection.Conn.{Conn};
+ghost use Rattle.dm_node.specs.Adding.{with_new};
+ghost use Rattle.dm_node.specs.Emptying.{with_set_back, all_set_back};
+ghost use Rattle.dm_node.specs.Holding.{peer_at, holds, holds_it, holds_at, IsKnown};
+ghost use Rattle.dm_node.specs.declared.fault.AddFault.TheVariants as add_faults;
+ghost use Rattle.dm_peer.specs.Places.{is_on};
+ghost use Rattle.dm_peer.specs.declared.peer.Peer.{Peer};
+ghost use Rattle.dm_session.specs.Held.{intakes_of};
+ghost use Rattle.dm_session.specs.Sessions.{own_of, other_of};
+ghost use Rattle.dm_node_session.specs.NodeOrders.{left_by_peer, close_if_any, closes_of, closes_of_any};
+ghost use Rattle.dm_node_session.specs.NodeOrders.{node_set_back, node_closed, node_without};
+ghost use Rattle.dm_node_session.specs.NodeHeld.{AreKept};
+ghost use Rattle.dm_node_session.specs.NodeSeen.{node_session_of};
+ghost use Rattle.dm_node_session.specs.NodeSessions.{with_node_peers};
+
+use crate::NodeSession;
+use crate::telling::look_at;
+use arrayvec::ArrayVec;
+use dm_machine::Conn;
+use dm_machine::laws::each_node_has_its_form;
+use dm_node::laws::neighbours_are_apart;
+use dm_node::{AddFault, Neighbours};
+use dm_peer::laws::{each_event_keeps_settled, each_send_is_spelled};
+use dm_peer::{Action, Actions, Config, Peer};
+use dm_session::Intakes;
+
+/// The connections that a peer holds, the one that it opened first.
+#[derive(Clone, Copy)]
+struct HeldPair {
+    own: Option<Conn>,
+    other: Option<Conn>,
+}
+
+/// What the peer holds.
+fn held_by(peer: &Peer) -> HeldPair
+    ensures own { result.own ≡ own_of peer.now }
+    ensures other { result.other ≡ other_of peer.now }
+    ensures held { (c : Conn) → holds c peer.now ≡ (is_on result.own c || is_on result.other c) }
+{
+    each_node_has_its_form();
+    let _state = peer.state();
+    HeldPair {
+        own: peer.initiated(),
+        other: peer.accepted(),
+    }
+}
+
+/// What the neighbour of the number holds, where there is one.
+fn held_at(neighbours: &Neighbours, index: usize) -> HeldPair
+    ensures held { (c : Conn) → holds_at neighbours.now.peers c index ≡ (is_on result.own c || is_on result.other c) }
+    ensures closes { close_if_any result.own ++ close_if_any result.other
+        ≡ closes_of_any (peer_at neighbours.now.peers index) }
+{
+    match neighbours.peer(index) {
+        Some(peer) => held_by(peer),
+        None => HeldPair {
+            own: None,
+            other: None,
+        },
+    }
+}
+
+/// The connection, if it is one, is no more there.
+fn shut_if_any(intakes: &mut Intakes, conn: Option<Conn>)
+    ensures { (c : ℕ) → intakes_of intakes.new c
+        ≡ (if is_on conn (record { 0 = c }) then None else intakes_of intakes.old c) }
+{
+    if let Some(conn) = conn {
+        intakes.shut(conn);
+    }
+}
+
+/// What is held is no more there.
+fn shut_held(intakes: &mut Intakes, held: HeldPair)
+    ensures { (p : Option Peer) → ((c : Conn) → holds_it c p ≡ (is_on held.own c || is_on held.other c))
+        → intakes_of intakes.new ≡ left_by_peer p (intakes_of intakes.old) }
+{
+    shut_if_any(intakes, held.own);
+    shut_if_any(intakes, held.other);
+}
+
+/// A Close of the connection, if it is one.
+fn push_close(actions: &mut Actions, conn: Option<Conn>)
+    requires { length actions.old.items < 3 }
+    ensures { actions.new.items ≡ actions.old.items ++ close_if_any conn }
+{
+    if let Some(conn) = conn {
+        actions.push(Action::Close(conn));
+    }
+}
+
+/// What is held is closed.
+fn closes(held: HeldPair) -> Actions
+    ensures { result.items ≡ close_if_any held.own ++ close_if_any held.other }
+{
+    let mut actions = ArrayVec::new();
+    push_close(&mut actions, held.own);
+    push_close(&mut actions, held.other);
+    actions
+}
+
+/// Adds a closed neighbour of this configuration.
+fn add_neighbour(neighbours: &mut Neighbours, config: Config) -> Result<usize, AddFault>
+    requires kept { AreKept neighbours.old.peers }
+    ensures number { IfOk result (λ i. i ≡ length neighbours.old.peers) }
+    ensures added { OnOk result (neighbours.new.peers ≡ with_new neighbours.old.peers config) }
+    ensures known { IsErrOf result add_faults.Known ↔ IsKnown neighbours.old.peers config.peer }
+    ensures refuses { IfErr result (λ f. (f ≡ add_faults.Known) ⊎ (f ≡ add_faults.NoMemory)) }
+    ensures unchanged { OnErr result (neighbours.new.peers ≡ neighbours.old.peers) }
+    ensures node { neighbours.new.node ≡ neighbours.old.node }
+    ensures kept { AreKept neighbours.new.peers }
+    ensures held { (c : Conn) (j : ℕ) → holds_at neighbours.new.peers c j ≡ true
+        → holds_at neighbours.old.peers c j ≡ true }
+{
+    match neighbours.add(config) {
+        Ok(index) => {
+            look_at(neighbours, Some(index));
+            Ok(index)
+        }
+        Err(fault) => Err(fault),
+    }
+}
+
+/// Sets the neighbour of the number back to Closed, where there is one.
+fn reset_neighbour(neighbours: &mut Neighbours, index: usize)
+    requires kept { AreKept neighbours.old.peers }
+    ensures back { neighbours.new.peers ≡ with_set_back neighbours.old.peers index }
+    ensures node { neighbours.new.node ≡ neighbours.old.node }
+    ensures kept { AreKept neighbours.new.peers }
+{
+    neighbours.reset(index);
+    look_at(neighbours, Some(index));
+}
+
+/// Sets each neighbour back to Closed.
+fn reset_neighbours(neighbours: &mut Neighbours)
+    requires kept { AreKept neighbours.old.peers }
+    ensures back { neighbours.new.peers ≡ all_set_back neighbours.old.peers }
+    ensures node { neighbours.new.node ≡ neighbours.old.node }
+    ensures kept { AreKept neighbours.new.peers }
+    ensures free { (c : Conn) (j : ℕ) → holds_at neighbours.new.peers c j ≡ false }
+{
+    each_event_keeps_settled();
+    each_send_is_spelled();
+    neighbours.reset_all();
+}
+
+impl NodeSession {
+    /// Adds a closed neighbour of this configuration, and answers its number.
+    ///
+    /// # Errors
+    /// `Known` just where a neighbour has its host, upper and lower case taken as one, whatever memory there is; else
+    /// `NoMemory`. The session is as it was after each, and the configuration is dropped.
+    pub fn add(&mut self, config: Config) -> Result<usize, AddFault>
+        ensures number { IfOk result (λ i. i ≡ length (node_session_of self.old).peers) }
+        ensures added { OnOk result (node_session_of self.new
+            ≡ with_node_peers (with_new (node_session_of self.old).peers config) (node_session_of self.old)) }
+        ensures known { IsErrOf result add_faults.Known ↔ IsKnown (node_session_of self.old).peers config.peer }
+        ensures refuses { IfErr result (λ f. (f ≡ add_faults.Known) ⊎ (f ≡ add_faults.NoMemory)) }
+        ensures unchanged { OnErr result (node_session_of self.new ≡ node_session_of self.old) }
+    {
+        match add_neighbour(&mut self.neighbours, config) {
+            Ok(index) => Ok(index),
+            Err(fault) => Err(fault),
+        }
+    }
+
+    /// Takes the neighbour of this number out, where there is one, and answers what is to be closed: what it held,
+    /// which is no more there. Its number stays unused, and the others keep theirs. It never answers want of memory.
+    pub fn remove(&mut self, index: usize) -> Option<Actions>
+        ensures closes { option_map (λ actions. actions.items) result
+            ≡ option_map closes_of (peer_at (node_session_of self.old).peers index) }
+        ensures without { node_session_of self.new ≡ node_without index (node_session_of self.old) }
+    {
+        neighbours_are_apart(&self.neighbours);
+        let held = held_at(&self.neighbours, index);
+        let gone = self.neighbours.remove(index);
+        shut_held(&mut self.intakes, held);
+        match gone {
+            Some(_) => Some(closes(held)),
+            None => None,
+        }
+    }
+
+    /// The neighbour of the number is Closed, and what it held is no more there. It never answers want of memory.
+    pub(crate) fn set_back(&mut self, index: usize)
+        ensures { node_session_of self.new ≡ node_set_back index (node_session_of self.old) }
+    {
+        neighbours_are_apart(&self.neighbours);
+        let held = held_at(&self.neighbours, index);
+        reset_neighbour(&mut self.neighbours, index);
+        shut_held(&mut self.intakes, held);
+    }
+
+    /// Each neighbour is Closed, and no connection is there. It never answers want of memory.
+    pub(crate) fn set_back_all(&mut self)
+        ensures { node_session_of self.new ≡ node_closed (node_session_of self.old) }
+    {
+        reset_neighbours(&mut self.neighbours);
+        self.intakes.clear();
+    }
+}

@@ -1,0 +1,47 @@
+//! Laws of a node's session. Each function is a law: it does nothing but call the laws that it stands on, and its
+//! contract is the law.
+ghost use Rattle.dm_node_session.specs.NodeHeld.{AllHeldAreThere};
+ghost use Rattle.dm_node_session.specs.NodeLaws.{AreSoundNeighbours, EventLeavesOthers, NextLeavesOthers};
+ghost use Rattle.dm_node_session.specs.NodeLaws.{OneIsASession, OneTellsAsASession};
+ghost use Rattle.dm_node_session.specs.NodeSeen.{node_session_of};
+
+use crate::NodeSession;
+use dm_machine::laws::each_opening_has_its_message;
+use dm_node::laws::neighbours_are_apart;
+use dm_peer::laws::{each_event_is_one_step, each_event_names_what_it_takes};
+use dm_session::laws::what_is_there_stays;
+
+/// Each connection that a neighbour holds is there: what comes on it is kept and told.
+pub fn held_are_there(session: &NodeSession)
+    ensures { AllHeldAreThere (node_session_of session.now).peers (node_session_of session.now).intakes }
+{
+    let _neighbours = session.neighbours();
+}
+
+/// No connection is held by two neighbours, no two have one host, and each is what events make of a new peer. The law
+/// stands for users, as the premise of the others.
+pub fn neighbours_are_sound(session: &NodeSession)
+    ensures { AreSoundNeighbours (node_session_of session.now).peers }
+{
+    neighbours_are_apart(&session.neighbours);
+}
+
+/// What is told one neighbour leaves the others alone: each is what it was, and so is what came on the connections that
+/// it holds; at an order's event, and at what came on a connection.
+pub fn others_are_left_alone()
+    ensures event { EventLeavesOthers }
+    ensures octets { NextLeavesOthers }
+{
+    each_event_is_one_step();
+    each_event_names_what_it_takes();
+    each_opening_has_its_message();
+    what_is_there_stays();
+}
+
+/// A node of one neighbour is a session of its peer, wherever that is told something: at an order's event, and at what
+/// came on a connection. They differ only where an event concerns nobody: at octets on a connection that the neighbour
+/// doesn't hold, which aren't its host's CER, and at what else is told of such a connection.
+pub fn one_neighbour_is_a_session()
+    ensures event { OneIsASession }
+    ensures octets { OneTellsAsASession }
+{}

@@ -1,0 +1,18 @@
+//! A node of many neighbours with its connections: an order of who drives it becomes an event of the one neighbour that
+//! it concerns, and this becomes actions (RFC 6733, 5.6).
+#![tactic(auto)]
+
+mod driving;
+mod emptying;
+mod hearing;
+pub mod laws;
+mod node_order;
+mod node_session;
+mod node_turn;
+mod telling;
+
+pub use dm_node::{AddFault, EventFault, Neighbours, NodeActions};
+pub use dm_peer::{Action, Actions, Cause, Config, Conn, Peer, PeerFault};
+pub use node_order::NodeOrder;
+pub use node_session::NodeSession;
+pub use node_turn::{HeardNodeTurn, NodeTurn};

@@ -1,0 +1,188 @@
+//! A node of many neighbours with its connections.
+ghost use Rattle.std.proofs.Props.{props};
+ghost use Rattle.dm_session.specs.Held.{intakes_of};
+ghost use Rattle.dm_node_session.specs.NodeHeld.{AllHeldAreThere, AreKept};
+
+use crate::node_turn::NodeTurn;
+use crate::telling::{raise_for, tell_neighbours};
+use dm_base::Node;
+use dm_machine::Conn;
+use dm_node::{EventFault, Neighbours, NodeActions, NodeEvent};
+use dm_session::laws::what_is_there_stays;
+use dm_session::{Front, Intakes};
+use std::alloc::{AllocError, Global};
+
+/// A node of many neighbours with its connections: what came on each and wasn't told yet. What holds of each is said by
+/// `laws::held_are_there`.
+#[derive(Drop)]
+pub struct NodeSession {
+    pub(crate) neighbours: Neighbours,
+    pub(crate) intakes: Intakes,
+    pub(crate) first_max: u32,
+    pub(crate) most: u32,
+    ghost held: { AllHeldAreThere neighbours.peers (intakes_of intakes) },
+    ghost kept: { AreKept neighbours.peers } by { Prim.hlevel props },
+}
+
+impl NodeSession {
+    ghost use Rattle.std.specs.Prelude.{◌≡◌, ◌⊎◌, true, [], IfOk, IfErr, IfSome, IfNone, OnOk, OnErr};
+    ghost use Rattle.dm_machine.specs.declared.connection.Conn.{Conn};
+    ghost use Rattle.dm_node.specs.Telling.{IsFree, told_of};
+    ghost use Rattle.dm_node.specs.declared.fault.EventFault.TheVariants as faults;
+    ghost use Rattle.dm_peer.specs.declared.fault.PeerFault.TheVariants as peer_faults;
+    ghost use Rattle.dm_session.specs.Intakes.{none_there, is_there, closes};
+    ghost use Rattle.dm_session.specs.Naming.{NamesThere};
+    ghost use Rattle.dm_node_session.specs.NodeOrders.{node_opened, node_shut};
+    ghost use Rattle.dm_node_session.specs.NodeSeen.{node_session_of};
+    ghost use Rattle.dm_node_session.specs.NodeSessions.{NodeTells, NodeTellsNext, NodeIsOut, NodeNextTakesMemory};
+    ghost use Rattle.dm_node_session.specs.NodeSessions.{node_fed, node_settled};
+    ghost use Rattle.dm_node_session.specs.NodeTelling.{neighbour_named, NodeDeclines};
+    ghost use Rattle.dm_node_session.specs.NodeTurns.{as_answer, as_node_turn};
+
+    /// No neighbours and no connections. The node answers strangers. A message takes at most `first_max` octets before
+    /// the capabilities exchange, and `most` behind it. It never answers want of memory.
+    pub fn new(alloc: Global, node: Node, first_max: u32, most: u32) -> NodeSession
+        ensures node { (node_session_of result).node ≡ node }
+        ensures empty { (node_session_of result).peers ≡ [] }
+        ensures none { (node_session_of result).intakes ≡ none_there }
+        ensures first_max { (node_session_of result).first_max ≡ first_max }
+        ensures most { (node_session_of result).most ≡ most }
+    {
+        NodeSession {
+            neighbours: Neighbours::new(alloc, node),
+            intakes: Intakes::new(alloc),
+            first_max,
+            most,
+        }
+    }
+
+    /// The neighbours. It never answers want of memory.
+    pub fn neighbours(&self) -> &Neighbours
+        ensures node { result.now.node ≡ (node_session_of self.now).node }
+        ensures peers { result.now.peers ≡ (node_session_of self.now).peers }
+    {
+        &self.neighbours
+    }
+
+    /// Whether the connection is there. It never answers want of memory.
+    pub fn has(&self, conn: Conn) -> bool
+        ensures { result ≡ is_there conn.0 (node_session_of self.now).intakes }
+    {
+        self.intakes.has(conn)
+    }
+
+    /// The connection is there from now on.
+    pub(crate) fn open(&mut self, alloc: Global, conn: Conn) -> Result<(), AllocError>
+        ensures opened { OnOk result (node_session_of self.new ≡ node_opened conn (node_session_of self.old)) }
+        ensures unchanged { OnErr result (node_session_of self.new ≡ node_session_of self.old) }
+    {
+        what_is_there_stays();
+        match self.intakes.open(alloc, conn, self.first_max) {
+            Ok(()) => Ok(()),
+            Err(error) => Err(error),
+        }
+    }
+
+    /// The connection, which nobody holds, is no more there. It never answers want of memory.
+    pub(crate) fn shut(&mut self, conn: Conn)
+        requires { IsFree (node_session_of self.old).peers conn }
+        ensures { node_session_of self.new ≡ node_shut conn (node_session_of self.old) }
+    {
+        what_is_there_stays();
+        self.intakes.shut(conn);
+    }
+
+    /// Keeps a piece that came on the connection.
+    pub(crate) fn feed(&mut self, conn: Conn, piece: &[u8]) -> Result<(), AllocError>
+        ensures fed { OnOk result (node_session_of self.new ≡ node_fed conn piece.now (node_session_of self.old)) }
+        ensures unchanged { OnErr result (node_session_of self.new ≡ node_session_of self.old) }
+    {
+        what_is_there_stays();
+        self.intakes.feed(conn, piece)
+    }
+
+    /// Tells the node an event, which names no connection that isn't there.
+    pub(crate) fn tell(
+        &mut self,
+        alloc: Global,
+        event: NodeEvent<'_>,
+    ) -> Result<NodeActions, EventFault>
+        requires { NamesThere (told_of event) (node_session_of self.old).intakes }
+        ensures told { IfOk result (λ answer. NodeTells (neighbour_named event.entry) (told_of event.entry)
+            (node_session_of self.old) (as_answer answer) (node_session_of self.new)) }
+        ensures refused { IfErr result (λ fault. (fault ≡ faults.Peer peer_faults.NoMemory)
+            ⊎ NodeDeclines (neighbour_named event.entry) (told_of event.entry) (node_session_of self.old).peers
+            fault) }
+        ensures unchanged { OnErr result (node_session_of self.new ≡ node_session_of self.old) }
+    {
+        match tell_neighbours(alloc, &mut self.neighbours, event) {
+            Ok(answer) => {
+                self.settle(&answer);
+                Ok(answer)
+            }
+            Err(fault) => Err(fault),
+        }
+    }
+
+    /// What the answer closes, which nobody holds, is no more there, and what the neighbour that it is of holds takes
+    /// longer messages where that is open.
+    pub(crate) fn settle(&mut self, answer: &NodeActions)
+        requires { (c : Conn) → closes answer.now.actions.items c.0 ≡ true
+            → IsFree (node_session_of self.old).peers c }
+        ensures { node_session_of self.new ≡ node_settled answer.now.neighbour (node_session_of self.old).peers
+            answer.now.actions.items (node_session_of self.old) }
+    {
+        what_is_there_stays();
+        self.intakes.leave(answer.actions.as_slice());
+        raise_for(
+            &self.neighbours,
+            &mut self.intakes,
+            answer.neighbour,
+            self.most,
+        );
+    }
+
+    /// Tells the next whole message that came on the connection, or the fault of its stream, to the neighbour that it
+    /// concerns; a stranger is answered and closed. None where there is nothing to tell. Where memory is wanted nothing
+    /// changes, and it can be told again.
+    pub fn next(&mut self, alloc: Global, conn: Conn) -> Result<Option<NodeTurn>, AllocError>
+        ensures turn { IfOk result (λ found. IfSome found (λ turn.
+            NodeTellsNext conn (node_session_of self.old) (as_node_turn turn) (node_session_of self.new))) }
+        ensures none { IfOk result (λ found. IfNone found (
+            NodeIsOut conn (node_session_of self.old) × (node_session_of self.new ≡ node_session_of self.old))) }
+        ensures unchanged { OnErr result (node_session_of self.new ≡ node_session_of self.old) }
+        // Memory is wanted only for what the message or the fault asks of its neighbour, or for the answer to a
+        // stranger's CER.
+        ensures memory { OnErr result (NodeNextTakesMemory conn (node_session_of self.old)) }
+    {
+        what_is_there_stays();
+        match self.intakes.front(conn) {
+            Front::Nothing => Ok(None),
+            Front::Message(message) => {
+                let event = NodeEvent::Arrived(conn, message);
+                match tell_neighbours(alloc, &mut self.neighbours, event) {
+                    Ok(answer) => {
+                        self.intakes.skip(conn);
+                        self.settle(&answer);
+                        Ok(Some(NodeTurn::of_message(conn, answer)))
+                    }
+                    Err(_) => Err(AllocError),
+                }
+            }
+            Front::Fault => {
+                let event = NodeEvent::Arrived(conn, &[]);
+                match tell_neighbours(alloc, &mut self.neighbours, event) {
+                    Ok(answer) => {
+                        self.intakes.break_off(alloc, conn);
+                        self.settle(&answer);
+                        Ok(Some(NodeTurn {
+                            arrived: None,
+                            answer,
+                        }))
+                    }
+                    Err(_) => Err(AllocError),
+                }
+            }
+        }
+    }
+}

@@ -1,0 +1,98 @@
+//! The neighbours of a node are told an event.
+ghost use Rattle.std.specs.Prelude.{◌≡◌, ◌⊎◌, ℕ, true, List, None, Some, IfOk, IfErr, IfSome, OnErr};
+ghost use Rattle.dm_machine.specs.declared.connection.Conn.{Conn};
+ghost use Rattle.dm_node.specs.Holding.{peer_at};
+ghost use Rattle.dm_node.specs.Telling.{IsFree, told_of};
+ghost use Rattle.dm_node.specs.declared.fault.EventFault.TheVariants as faults;
+ghost use Rattle.dm_peer.specs.declared.fault.PeerFault.TheVariants as peer_faults;
+ghost use Rattle.dm_peer.specs.Events.{Arrived};
+ghost use Rattle.dm_peer.specs.Kept.{IsKept};
+ghost use Rattle.dm_session.specs.Held.{intakes_of};
+ghost use Rattle.dm_session.specs.Intakes.{Intakes as AllIntakes, closes};
+ghost use Rattle.dm_session.specs.Naming.{NamesThere};
+ghost use Rattle.dm_session.specs.Sessions.{raised};
+ghost use Rattle.dm_node_session.specs.NodeHeld.{AllHeldAreThere, AreKept};
+ghost use Rattle.dm_node_session.specs.NodeSessions.{NodeMoves, TakesMemoryAt, concerned_in, raised_for};
+ghost use Rattle.dm_node_session.specs.NodeTelling.{neighbour_named, NodeDeclines};
+
+use dm_machine::laws::each_opening_has_its_message;
+use dm_node::laws::neighbours_are_apart;
+use dm_node::{EventFault, Neighbours, NodeActions, NodeEvent};
+use dm_peer::Peer;
+use dm_peer::laws::{
+    each_event_is_one_step, each_event_names_what_it_takes, every_peer_is_kept, refusals_go_by_rule,
+};
+use dm_session::Intakes;
+use std::alloc::Global;
+
+/// What holds of the neighbour of the number, if there is one.
+pub(crate) fn look_at(neighbours: &Neighbours, index: Option<usize>)
+    ensures { IfSome index (λ i. IfSome (peer_at neighbours.now.peers i) IsKept) }
+{
+    if let Some(index) = index {
+        if let Some(peer) = neighbours.peer(index) {
+            every_peer_is_kept(peer);
+        }
+    }
+}
+
+/// Tells the neighbours the event.
+pub(crate) fn tell_neighbours(
+    alloc: Global,
+    neighbours: &mut Neighbours,
+    event: NodeEvent<'_>,
+) -> Result<NodeActions, EventFault>
+    requires kept { AreKept neighbours.old.peers }
+    ensures moved { IfOk result (λ answer. NodeMoves (neighbour_named event.entry) (told_of event.entry)
+        neighbours.old.node neighbours.old.peers answer.neighbour answer.actions.items neighbours.new.peers) }
+    ensures closed { IfOk result (λ answer. (c : Conn) → closes answer.actions.items c.0 ≡ true
+        → IsFree neighbours.new.peers c) }
+    ensures held { (f : AllIntakes) → AllHeldAreThere neighbours.old.peers f → NamesThere (told_of event.entry) f
+        → AllHeldAreThere neighbours.new.peers f }
+    ensures kept { AreKept neighbours.new.peers }
+    ensures node { neighbours.new.node ≡ neighbours.old.node }
+    ensures refused { IfErr result (λ fault. (fault ≡ faults.Peer peer_faults.NoMemory)
+        ⊎ NodeDeclines (neighbour_named event.entry) (told_of event.entry) neighbours.old.peers fault) }
+    ensures memory { (c : Conn) (octets : List ℕ) → told_of event.entry ≡ Arrived c octets
+        → OnErr result (TakesMemoryAt c octets neighbours.old.peers) }
+    ensures unchanged { OnErr result (neighbours.new.peers ≡ neighbours.old.peers) }
+{
+    each_event_is_one_step();
+    each_event_names_what_it_takes();
+    each_opening_has_its_message();
+    refusals_go_by_rule();
+    neighbours_are_apart(neighbours);
+    match neighbours.on(alloc, event) {
+        Ok(answer) => {
+            look_at(neighbours, answer.neighbour);
+            Ok(answer)
+        }
+        Err(fault) => Err(fault),
+    }
+}
+
+/// What the peer holds, where it is open, takes messages of at most `most` octets.
+fn raise_held(peer: &Peer, intakes: &mut Intakes, most: u32)
+    ensures { intakes_of intakes.new ≡ raised most peer.now (intakes_of intakes.old) }
+{
+    let own = peer.initiated();
+    let other = peer.accepted();
+    intakes.raise_open(peer.is_open(), own, other, most);
+}
+
+/// What the neighbour of the number holds, where there is one and it is open, takes messages of at most `most` octets.
+pub(crate) fn raise_for(
+    neighbours: &Neighbours,
+    intakes: &mut Intakes,
+    index: Option<usize>,
+    most: u32,
+)
+    ensures { intakes_of intakes.new
+        ≡ raised_for most (concerned_in neighbours.now.peers index) (intakes_of intakes.old) }
+{
+    if let Some(index) = index {
+        if let Some(peer) = neighbours.peer(index) {
+            raise_held(peer, intakes, most);
+        }
+    }
+}
