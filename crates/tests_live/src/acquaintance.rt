@@ -106,6 +106,54 @@ fn met_again(rt: &(impl Abort + AllocGlobal), digits: &str) -> (Option<u32>, Opt
     states
 }
 
+/// The Origin-State-Id that is known behind a CER that crosses the own start, behind the Nack of that, and behind
+/// another start: who waited in the election is met at its end.
+fn met_at_nack(
+    rt: &(impl Abort + AllocGlobal),
+) -> ((usize, usize), Option<u32>, Option<u32>, Option<u32>) {
+    let mut session = session(rt);
+    let mut known = Acquaintance::new(rt.alloc());
+    let own = Conn(0);
+    let _asked = asked(rt, &mut session, Order::Start(own));
+    let _none = asked(rt, &mut session, Order::Accept(R));
+    let crossed = told_in_halves(rt, &mut session, &mut known, R, CER_OF_7);
+    let waiting = known.state();
+    let _actions = session.take_met(rt.alloc(), Order::Nack(own), &mut known).is_ok();
+    let met = known.state();
+    let _refused = session.take_met(rt.alloc(), Order::Start(Conn(1)), &mut known).is_ok();
+    let later = known.state();
+    drop(known);
+    drop(session);
+    (crossed, waiting, met, later)
+}
+
+/// How many octets of a CER are told where it lies, and the Origin-State-Id that is known then.
+fn met_in_place(rt: &(impl Abort + AllocGlobal)) -> (Option<usize>, Option<u32>) {
+    let mut session = session(rt);
+    let mut known = Acquaintance::new(rt.alloc());
+    let _none = asked(rt, &mut session, Order::Accept(R));
+    let octets = hex::decode(rt.alloc(), CER_OF_8.as_bytes()).expect(rt, "digits");
+    let told = match session.hear_met(rt.alloc(), R, octets.as_slice(), &mut known) {
+        Ok(Some(heard)) => Some(heard.len),
+        _ => None,
+    };
+    drop(octets);
+    let state = known.state();
+    drop(known);
+    drop(session);
+    (told, state)
+}
+
+#[test]
+fn waiting_cer_is_met_at_the_nack(rt: HostRuntime) {
+    assert_eq!(rt; met_at_nack(&rt), ((0, 1), None, Some(7), Some(7)));
+}
+
+#[test]
+fn cer_in_place_is_known(rt: HostRuntime) {
+    assert_eq!(rt; met_in_place(&rt), (Some(124), Some(8)));
+}
+
 #[test]
 fn cer_in_halves_is_known_behind_a_watchdog(rt: HostRuntime) {
     assert_eq!(rt;

@@ -4,4 +4,6 @@
 #[cfg(test)]
 mod acquaintance;
 #[cfg(test)]
+mod nodes;
+#[cfg(test)]
 mod session;

@@ -6,7 +6,7 @@ use dm_session::{Order, Session};
 use std::process::Abort;
 
 /// The CER of b.example, of application 4, with number 9.
-const CER_OF_B: &str =
+pub(crate) const CER_OF_B: &str =
     "01000070800001010000000000000009000000090000010840000011622e6578616d706c65000000000001284000000f6578616d706c6500000001014000000e00017f00000100000000010a4000000c000000000000010d0000000e646d706565720000000001024000000c00000004";
 
 /// A watchdog of b.example.
@@ -16,8 +16,8 @@ pub(crate) const DWR_OF_B: &str =
 /// The connection that b.example made.
 pub(crate) const R: Conn = Conn(9);
 
-/// A session of a.example for b.example; a message takes 1,000 octets at most before the capabilities exchange.
-pub(crate) fn session(rt: &(impl Abort + AllocGlobal)) -> Session {
+/// The node a.example.
+pub(crate) fn node(rt: &(impl Abort + AllocGlobal)) -> Node {
     let alloc = rt.alloc();
     let mut addresses = Vec::new(alloc);
     addresses.push(Ip::V4([127, 0, 0, 1])).expect(rt, "memory");
@@ -25,12 +25,19 @@ pub(crate) fn session(rt: &(impl Abort + AllocGlobal)) -> Session {
     let realm = Vec::from_slice(alloc, b"example").expect(rt, "memory");
     let product = String::from_str(alloc, "dmlive").expect(rt, "memory");
     let auth = Vec::from_slice(alloc, &[4]).expect(rt, "memory");
-    let node = Node::new(host, realm, addresses, 0, product, auth, Vec::new(alloc)).expect(
-        rt, "a node",
-    );
-    let peer = Vec::from_slice(alloc, b"b.example").expect(rt, "memory");
-    let config = Config::new(alloc, node, peer, 1).expect(rt, "a configuration");
-    Session::new(alloc, config, 1000, 16_777_212)
+    Node::new(host, realm, addresses, 0, product, auth, Vec::new(alloc)).expect(rt, "a node")
+}
+
+/// The node a.example, for a peer of this host.
+pub(crate) fn config(rt: &(impl Abort + AllocGlobal), host: &[u8]) -> Config {
+    let peer = Vec::from_slice(rt.alloc(), host).expect(rt, "memory");
+    Config::new(rt.alloc(), node(rt), peer, 1).expect(rt, "a configuration")
+}
+
+/// A session of a.example for b.example; a message takes 1,000 octets at most before the capabilities exchange.
+pub(crate) fn session(rt: &(impl Abort + AllocGlobal)) -> Session {
+    let config = config(rt, b"b.example");
+    Session::new(rt.alloc(), config, 1000, 16_777_212)
 }
 
 /// How many actions the order asks for; None where no event is told.

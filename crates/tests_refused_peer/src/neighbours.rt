@@ -26,17 +26,17 @@ fn added_end(
 ) -> End {
     match added {
         Err(AddFault::NoMemory) => {
-            let same = neighbours.iter().len() == 1;
-            repeated(refused, neighbours.add(again) == Ok(1) && same)
+            let same = neighbours.iter().len() == 4;
+            repeated(refused, neighbours.add(again) == Ok(4) && same)
         }
         added => {
             let known = neighbours.add(again) == Err(AddFault::Known);
-            answered(refused, added == Ok(1) && known)
+            answered(refused, added == Ok(4) && known)
         }
     }
 }
 
-/// Adding a second neighbour, of this host.
+/// Adding a fifth neighbour, of this host: the list of four has no room for it.
 #[derive(Clone, Copy)]
 struct Adding<'a> {
     host: &'a [u8],
@@ -45,7 +45,9 @@ struct Adding<'a> {
 impl<R: Abort + AllocGlobal> Subject<R> for Adding<'_> {
     fn end(&self, rt: &R, nth: u32) -> End {
         let mut neighbours = Neighbours::new(rt.alloc(), node(rt, b"a.example", 4));
-        let _first = neighbours.add(config(rt, b"a.example", b"B.example", 4));
+        for host in [b"B.example", b"d.example", b"e.example", b"f.example"] {
+            let _added = neighbours.add(config(rt, b"a.example", host, 4));
+        }
         let end = add(rt, &mut neighbours, self.host, nth);
         drop(neighbours);
         end

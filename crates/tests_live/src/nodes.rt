@@ -1,0 +1,247 @@
+//! A node of three neighbours with its connections.
+
+use crate::session::{CER_OF_B, DWR_OF_B, config, node};
+use dm_node_session::{Conn, EventFault, NodeOrder, NodeSession};
+use dm_peer::State;
+use std::process::Abort;
+
+/// Adds a neighbour of this host.
+fn add(rt: &(impl Abort + AllocGlobal), session: &mut NodeSession, host: &[u8]) {
+    let config = config(rt, host);
+    let _number = session.add(config).expect(rt, "a number");
+}
+
+/// The node a.example with the neighbours b.example, c.example and d.example.
+fn three(rt: &(impl Abort + AllocGlobal)) -> NodeSession {
+    let mut session = NodeSession::new(rt.alloc(), node(rt), 1000, 16_777_212);
+    add(rt, &mut session, b"b.example");
+    add(rt, &mut session, b"c.example");
+    add(rt, &mut session, b"d.example");
+    session
+}
+
+/// The neighbour of which the order asks something, and how many actions; None where no event is told.
+fn asked(
+    rt: &(impl Abort + AllocGlobal),
+    session: &mut NodeSession,
+    order: NodeOrder<'_>,
+) -> Option<(Option<usize>, usize)> {
+    match session.take(rt.alloc(), order) {
+        Ok(Some(answer)) => Some((answer.neighbour, answer.actions.len())),
+        Ok(None) => None,
+        Err(EventFault::NoNeighbour) => Some((None, 50)),
+        Err(_) => Some((None, 100)),
+    }
+}
+
+/// Of the next turn of the connection the neighbour, and how many actions it asks for.
+fn turn(
+    rt: &(impl Abort + AllocGlobal),
+    session: &mut NodeSession,
+    conn: Conn,
+) -> Option<(Option<usize>, usize)> {
+    match session.next(rt.alloc(), conn) {
+        Ok(Some(turn)) => Some((turn.answer.neighbour, turn.answer.actions.len())),
+        Ok(None) => None,
+        Err(_) => Some((None, 100)),
+    }
+}
+
+/// The message comes on the connection, where it names b.example from the host with this letter: what is told of it.
+fn told(
+    rt: &(impl Abort + AllocGlobal),
+    session: &mut NodeSession,
+    conn: Conn,
+    digits: &str,
+    letter: u8,
+) -> Option<(Option<usize>, usize)> {
+    let mut octets = hex::decode(rt.alloc(), digits.as_bytes()).expect(rt, "digits");
+    if let Some(octet) = octets.get_mut(28) {
+        *octet = letter;
+    }
+    let _kept = asked(rt, session, NodeOrder::Octets(conn, octets.as_slice()));
+    drop(octets);
+    turn(rt, session, conn)
+}
+
+/// The host with this letter makes a connection and says who it is: what is told of it.
+fn called(
+    rt: &(impl Abort + AllocGlobal),
+    session: &mut NodeSession,
+    conn: Conn,
+    letter: u8,
+) -> Option<(Option<usize>, usize)> {
+    let _none = asked(rt, session, NodeOrder::Accept(conn));
+    told(rt, session, conn, CER_OF_B, letter)
+}
+
+/// The states of the three neighbours.
+fn states(session: &NodeSession) -> (Option<State>, Option<State>, Option<State>) {
+    let neighbours = session.neighbours();
+    (
+        neighbours.state_of(0),
+        neighbours.state_of(1),
+        neighbours.state_of(2),
+    )
+}
+
+/// Two call, a third is called, and the first is lost: what each comes to, the states, and what c.example says then.
+fn apart(
+    rt: &(impl Abort + AllocGlobal),
+) -> (
+    Option<(Option<usize>, usize)>,
+    (Option<State>, Option<State>, Option<State>),
+    Option<(Option<usize>, usize)>,
+) {
+    let mut session = three(rt);
+    let _first = called(rt, &mut session, Conn(1), b'b');
+    let _second = called(rt, &mut session, Conn(2), b'c');
+    let _third = asked(rt, &mut session, NodeOrder::Start(2, Conn(3)));
+    let lost = asked(rt, &mut session, NodeOrder::Gone(Conn(1)));
+    let states = states(&session);
+    let watched = told(rt, &mut session, Conn(2), DWR_OF_B, b'c');
+    drop(session);
+    (lost, states, watched)
+}
+
+/// Calls to and from b.example cross: what its CER comes to, and the states.
+fn crossed(
+    rt: &(impl Abort + AllocGlobal),
+) -> (
+    Option<(Option<usize>, usize)>,
+    Option<(Option<usize>, usize)>,
+    (Option<State>, Option<State>, Option<State>),
+) {
+    let mut session = three(rt);
+    let _asked = asked(rt, &mut session, NodeOrder::Start(0, Conn(1)));
+    let made = asked(rt, &mut session, NodeOrder::Ack(Conn(1)));
+    let came = called(rt, &mut session, Conn(2), b'b');
+    let states = states(&session);
+    drop(session);
+    (made, came, states)
+}
+
+/// Of a CER that is told where it lies, of the host with this letter, how many octets are told, the neighbour, and how
+/// many actions it asks for.
+fn heard(rt: &(impl Abort + AllocGlobal), letter: u8) -> Option<(usize, Option<usize>, usize)> {
+    let mut session = three(rt);
+    let _none = asked(rt, &mut session, NodeOrder::Accept(Conn(1)));
+    let mut octets = hex::decode(rt.alloc(), CER_OF_B.as_bytes()).expect(rt, "digits");
+    if let Some(octet) = octets.get_mut(28) {
+        *octet = letter;
+    }
+    let told = match session.hear(rt.alloc(), Conn(1), octets.as_slice()) {
+        Ok(Some(heard)) => Some((
+            heard.len,
+            heard.turn.answer.neighbour,
+            heard.turn.answer.actions.len(),
+        )),
+        Ok(None) => None,
+        Err(_) => Some((0, None, 100)),
+    };
+    drop(octets);
+    drop(session);
+    told
+}
+
+/// What a stranger comes to, and whether his connection is there then.
+fn strange(rt: &(impl Abort + AllocGlobal)) -> (Option<(Option<usize>, usize)>, bool) {
+    let mut session = three(rt);
+    let came = called(rt, &mut session, Conn(1), b'z');
+    let is_there = session.has(Conn(1));
+    drop(session);
+    (came, is_there)
+}
+
+/// How much is closed where b.example goes that called, whether its connection is there then, and whether that of
+/// c.example is.
+fn removed(rt: &(impl Abort + AllocGlobal)) -> (Option<usize>, bool, bool) {
+    let mut session = three(rt);
+    let _first = called(rt, &mut session, Conn(1), b'b');
+    let _second = called(rt, &mut session, Conn(2), b'c');
+    let closed = match session.remove(0) {
+        Some(actions) => Some(actions.len()),
+        None => None,
+    };
+    let left = (session.has(Conn(1)), session.has(Conn(2)));
+    drop(session);
+    (closed, left.0, left.1)
+}
+
+/// A Start under a number that is in use, a Tick of nobody, and a reset of all, behind which b.example is Closed.
+fn misled(
+    rt: &(impl Abort + AllocGlobal),
+) -> (
+    Option<(Option<usize>, usize)>,
+    Option<(Option<usize>, usize)>,
+    Option<State>,
+    bool,
+) {
+    let mut session = three(rt);
+    let _first = called(rt, &mut session, Conn(1), b'b');
+    let in_use = asked(rt, &mut session, NodeOrder::Start(1, Conn(1)));
+    let nobody = asked(rt, &mut session, NodeOrder::Tick(7));
+    let _none = asked(rt, &mut session, NodeOrder::ResetAll);
+    let state = session.neighbours().state_of(0);
+    let is_there = session.has(Conn(1));
+    drop(session);
+    (in_use, nobody, state, is_there)
+}
+
+#[test]
+fn loss_leaves_the_others(rt: HostRuntime) {
+    assert_eq!(rt;
+        apart(&rt),
+        (
+            Some((Some(0), 1)),
+            (
+                Some(State::Closed),
+                Some(State::ROpen),
+                Some(State::WaitConnAck)
+            ),
+            Some((Some(1), 1))
+        )
+    );
+}
+
+#[test]
+fn crossing_calls_wait_for_the_other_side(rt: HostRuntime) {
+    assert_eq!(rt;
+        crossed(&rt),
+        (
+            Some((Some(0), 1)),
+            Some((Some(0), 0)),
+            (
+                Some(State::WaitReturns),
+                Some(State::Closed),
+                Some(State::Closed)
+            )
+        )
+    );
+}
+
+#[test]
+fn stranger_is_answered_and_closed(rt: HostRuntime) {
+    assert_eq!(rt; strange(&rt), (Some((None, 2)), false));
+}
+
+#[test]
+fn removed_neighbour_is_closed(rt: HostRuntime) {
+    assert_eq!(rt; removed(&rt), (Some(1), false, true));
+}
+
+#[test]
+fn number_in_use_is_not_started(rt: HostRuntime) {
+    assert_eq!(rt;
+        misled(&rt),
+        (None, Some((None, 50)), Some(State::Closed), false)
+    );
+}
+
+#[test]
+fn cer_in_place_goes_to_its_neighbour(rt: HostRuntime) {
+    assert_eq!(rt;
+        (heard(&rt, b'd'), heard(&rt, b'z')),
+        (Some((112, Some(2), 1)), Some((112, None, 2)))
+    );
+}
