@@ -3,6 +3,8 @@
 //!
 //! driver WHO OPERATION INPUT TIMES [SIZE]
 //! driver agree INPUT TIMES
+//! driver node|alone alive|credit|tick TIMES NEIGHBOURS
+//! driver node add|added|opened 1 NEIGHBOURS
 
 mod base;
 mod changes;
@@ -32,6 +34,31 @@ extern "C" {
         hears: bool,
         times: u32,
     ) -> usize;
+    #[cfg(node)]
+    fn ours_add(hosts: *const u8, len: usize) -> usize;
+    #[cfg(node)]
+    fn ours_node(
+        hosts: *const u8,
+        len: usize,
+        calls: *const u8,
+        calls_len: usize,
+        size: usize,
+        octets: *const u8,
+        octets_len: usize,
+        ticks: bool,
+        times: u32,
+    ) -> usize;
+    #[cfg(node)]
+    fn ours_alone(
+        host: *const u8,
+        len: usize,
+        first: *const u8,
+        first_len: usize,
+        octets: *const u8,
+        octets_len: usize,
+        ticks: bool,
+        times: u32,
+    ) -> usize;
 }
 
 fn avp(code: u32, mandatory: bool, data: &[u8]) -> Vec<u8> {
@@ -58,10 +85,14 @@ fn application(vendor: u32, id: u32) -> Vec<u8> {
     avp(260, true, &members.concat())
 }
 
-/// A Capabilities-Exchange-Request with this many groups of two.
+/// A Capabilities-Exchange-Request of a.example with this many groups of two.
 fn capabilities(groups: u32) -> Vec<u8> {
+    capabilities_of(b"a.example", groups)
+}
+
+fn capabilities_of(host: &[u8], groups: u32) -> Vec<u8> {
     let mut avps = vec![
-        avp(264, true, b"a.example"),
+        avp(264, true, host),
         avp(296, true, b"example"),
         avp(257, true, &[0, 1, 127, 0, 0, 1]),
         avp(257, true, &[0, 2, 0, 0, 0, 0, 0, 0, 0, 0, 0, 0, 0, 0, 0, 0, 0, 1]),
@@ -200,6 +231,77 @@ fn ours(operation: &str, text: &str, octets: &[u8], times: u32, size: usize) -> 
     }
 }
 
+/// The host of a neighbour, of 15 octets.
+#[cfg(node)]
+fn host_of(number: usize) -> Vec<u8> {
+    format!("n{number:06}.example").into_bytes()
+}
+
+/// The hosts of so many neighbours, and how each of them opens.
+#[cfg(node)]
+fn neighbourhood(size: usize) -> (Vec<u8>, Vec<u8>) {
+    let calls = (0..size).flat_map(|number| capabilities_of(&host_of(number), 1)).collect();
+    ((0..size).flat_map(host_of).collect(), calls)
+}
+
+/// Adds these neighbours to a node.
+#[cfg(node)]
+fn add(hosts: &[u8]) -> usize {
+    // It takes a slice of octets as a pointer and a length, and only reads.
+    unsafe { ours_add(hosts.as_ptr(), hosts.len()) }
+}
+
+/// A node of these neighbours, which are open, is told the message of one of them, behind a Tick or not, so many times.
+#[cfg(node)]
+fn node(hosts: &[u8], calls: &[u8], octets: &[u8], ticks: bool, times: u32) -> usize {
+    let call = calls.len() / (hosts.len() / 15);
+    // As above.
+    unsafe {
+        let (at, len, calls, calls_len) = (hosts.as_ptr(), hosts.len(), calls.as_ptr(), calls.len());
+        ours_node(at, len, calls, calls_len, call, octets.as_ptr(), octets.len(), ticks, times)
+    }
+}
+
+/// A peer alone is told the same.
+#[cfg(node)]
+fn alone(octets: &[u8], ticks: bool, times: u32, size: usize) -> usize {
+    let host = host_of(size / 2);
+    let first = capabilities_of(&host, 1);
+    let (at, len) = (octets.as_ptr(), octets.len());
+    // As above.
+    unsafe { ours_alone(host.as_ptr(), host.len(), first.as_ptr(), first.len(), at, len, ticks, times) }
+}
+
+/// A number of kilobytes that the system says of this program.
+#[cfg(node)]
+fn kilobytes(name: &str) -> usize {
+    let status = std::fs::read_to_string("/proc/self/status").unwrap();
+    let line = status.lines().find_map(|line| line.strip_prefix(name)).unwrap();
+    line.trim_matches(|letter: char| !letter.is_ascii_digit()).parse().unwrap()
+}
+
+/// How many octets more this program takes at most for what it is told to do.
+#[cfg(node)]
+fn memory(operation: impl FnOnce() -> usize) -> usize {
+    let before = kilobytes("VmRSS:");
+    assert!(operation() > 0);
+    (kilobytes("VmHWM:") - before) * 1024
+}
+
+/// What comes of a node of many neighbours, or of a peer alone.
+#[cfg(node)]
+fn of_node(who: &str, event: &str, times: u32, size: usize) -> usize {
+    let (octets, ticks) = (input(if event == "alive" { "alive" } else { "credit" }, 0), event == "tick");
+    let (hosts, calls) = neighbourhood(size);
+    match (who, event) {
+        (_, "add") => add(&hosts),
+        (_, "added") => memory(|| add(&hosts)),
+        (_, "opened") => memory(|| node(&hosts, &calls, &octets, false, 1)),
+        ("alone", _) => alone(&octets, ticks, times, size),
+        _ => node(&hosts, &calls, &octets, ticks, times),
+    }
+}
+
 /// Compares the three programs on so many changed messages, and prints how many were good, bad and none.
 fn agree(octets: &[u8], times: u64) {
     let mut kinds = [0; 3];
@@ -228,6 +330,11 @@ fn main() {
     let words: Vec<String> = std::env::args().skip(1).collect();
     if words[0] == "agree" {
         return agree(&input(&words[1], 0), words[2].parse().unwrap());
+    }
+    #[cfg(node)]
+    if ["node", "alone"].contains(&words[0].as_str()) {
+        let sum = of_node(&words[0], &words[1], words[2].parse().unwrap(), words[3].parse().unwrap());
+        return println!("{sum}");
     }
     let times = words[3].parse().unwrap();
     let size = words.get(4).map_or(1460, |word| word.parse().unwrap());
