@@ -1,4 +1,5 @@
 pub mod FirstLine
+pub mod Joined
 pub mod Known
 pub mod Options
 pub mod Pieces

@@ -4,16 +4,17 @@ use Rattle.std.proofs.Common.{is_ok, if◌then◌else◌}
 use Rattle.std.proofs.Common.{List, ◌++◌, ◌∷◌, [], codes, ap, ◌∙◌, sym, subst, refl, append_assoc}
 use Rattle.dm_session.specs.declared.session.Session as declared
 use Rattle.dm_session.specs.Orders.{Order}
+use Rattle.dm_session.specs.Acquaintances.{nobody}
 use Rattle.dm_session.specs.Seen.{session_of}
-use Rattle.dm_session.specs.Sessions.{Session}
 use Rattle.dm_value.specs.declared.address.Ip.{Ip}
 use Rattle.dm_live.specs.declared.setting_name.SettingName.{SettingName}
 use Rattle.dm_live.specs.declared.setting_name.SettingName.TheVariants as names
 use Rattle.dm_live.specs.declared.live.Live.{Live}
-use Rattle.dm_live.specs.Answers.{Answers}
 use Rattle.dm_live.specs.Beginnings.{go_fault, Begins}
 use Rattle.dm_live.specs.Drafts.{settings_of}
+use Rattle.dm_live.specs.Meetings.{Meeting, AnswersMet}
 use Rattle.dm_live.specs.OrderLines.{TellsOrder}
+use Rattle.dm_live.specs.SenderLines.{IsSender, sender_lines}
 use Rattle.dm_live.specs.Served.{Stage, Drafting, with_dot, fault_answer, bad_answer, IsGo, AnswersSetting, AnswersOrder, AnswersLine}
 use Rattle.dm_live.specs.Settings.{Settings, TellsAddress, Sets, TellsSetting}
 use Rattle.dm_live.specs.Stages.{stage_at, stage_of}
@@ -28,8 +29,8 @@ no_address (Ok good) name word s is none =
     let so = subst P is sets in none bad so.0 so.1
 
 -- an order's line, with the dot behind its answer
-pub told_line : {T E : Type 0} (r : Result T E) (n : ℕ) (o : Order) (line : List ℕ) (s t : Session)
-    (old mid new more : List ℕ) → TellsOrder o line → Answers o s t more → mid ≡ old ++ more
+pub told_line : {T E : Type 0} (r : Result T E) (n : ℕ) (o : Order) (line : List ℕ) (s t : Meeting)
+    (old mid new more : List ℕ) → TellsOrder o line → AnswersMet o s t more → mid ≡ old ++ more
     → new ≡ (if is_ok r then mid ++ (codes "." ++ 10 ∷ []) else mid)
     → OnOk r ((answer : List ℕ) × AnswersOrder n line s t answer × (new ≡ old ++ answer))
 told_line (Err e) n o line s t old mid new more tells answers is ends = tt
@@ -38,11 +39,24 @@ told_line (Ok v) n o line s t old mid new more tells answers is ends =
     (with_dot more, inl (o, more, tells, answers, refl), ends ∙ ap (λ v. v ++ dot) is ∙ append_assoc old more dot)
 
 -- a line that tells no order
-pub untold_line : {T E : Type 0} (r : Result T E) (n : ℕ) (line : List ℕ) (s : Session) (old new : List ℕ)
-    → ((o : Order) → TellsOrder o line → ⊥) → OnOk r (new ≡ old ++ bad_answer n)
+pub untold_line : {T E : Type 0} (r : Result T E) (n : ℕ) (line : List ℕ) (s : Meeting) (old new : List ℕ)
+    → (IsSender line → ⊥) → ((o : Order) → TellsOrder o line → ⊥) → OnOk r (new ≡ old ++ bad_answer n)
     → OnOk r ((answer : List ℕ) × AnswersOrder n line s s answer × (new ≡ old ++ answer))
-untold_line (Err e) n line s old new none ends = tt
-untold_line (Ok v) n line s old new none ends = (bad_answer n, inr (none, refl, refl), ends)
+untold_line (Err e) n line s old new other none ends = tt
+untold_line (Ok v) n line s old new other none ends = (bad_answer n, inr (inr (other, none, refl, refl)), ends)
+
+-- a line that asks who the other side is
+pub sender_line : {T E : Type 0} (r : Result T E) (n : ℕ) (line : List ℕ) (s : Meeting) (old mid new : List ℕ)
+    → IsSender line → mid ≡ old ++ sender_lines s.known
+    → new ≡ (if is_ok r then mid ++ (codes "." ++ 10 ∷ []) else mid)
+    → OnOk r ((answer : List ℕ) × AnswersOrder n line s s answer × (new ≡ old ++ answer))
+sender_line (Err e) n line s old mid new asks is ends = tt
+sender_line (Ok v) n line s old mid new asks is ends =
+    let dot : List ℕ = codes "." ++ 10 ∷ [] in (
+      with_dot (sender_lines s.known),
+      inr (inl (asks, refl, refl)),
+      ends ∙ ap (λ v. v ++ dot) is ∙ append_assoc old (sender_lines s.known) dot,
+    )
 
 -- a line that says nothing
 pub bad_line : {T E : Type 0} (r : Result T E) (n : ℕ) (line : List ℕ) (s t : Settings) (old new : List ℕ)
@@ -56,30 +70,31 @@ going : (n : ℕ) (line : List ℕ) (s : Settings) (begun : Option declared.Sess
     → OnSome begun (go_fault s ≡ None) → IfSome begun (λ t. Begins s (session_of t))
     → OnSome begun (new ≡ old ++ with_dot (codes "ready" ++ 10 ∷ []))
     → IfNone begun ((name : List ℕ) × (go_fault s ≡ Some name) × (new ≡ old ++ fault_answer n name))
-    → (answer : List ℕ) × AnswersLine n line (Drafting s) (stage_at s begun) answer × (new ≡ old ++ answer)
+    → (answer : List ℕ) × AnswersLine n line (Drafting s) (stage_at s nobody begun) answer × (new ≡ old ++ answer)
 going n line s None old new go good begins ready refused =
     (fault_answer n refused.0, inr (refused.0, go, refused.1, refl, refl), refused.2)
 going n line s (Some t) old new go good begins ready refused = (
   with_dot (codes "ready" ++ 10 ∷ []),
-  record { go = go; good = good; begins = begins; answer = refl },
+  record { go = go; good = good; begins = begins; unmet = refl; answer = refl },
   ready,
 )
 
 pub gone_line : (n : ℕ) (line : List ℕ) (a b : Live) (begun : Option declared.Session) (old new : List ℕ)
-    → a.session ≡ None → b.draft ≡ a.draft → b.session ≡ begun → IsGo line
+    → a.session ≡ None → b.draft ≡ a.draft → b.session ≡ begun → b.known ≡ nobody → IsGo line
     → OnSome begun (go_fault (settings_of a.draft) ≡ None)
     → IfSome begun (λ t. Begins (settings_of a.draft) (session_of t))
     → OnSome begun (new ≡ old ++ with_dot (codes "ready" ++ 10 ∷ []))
     → IfNone begun ((name : List ℕ) × (go_fault (settings_of a.draft) ≡ Some name)
     × (new ≡ old ++ fault_answer n name))
     → (answer : List ℕ) × AnswersLine n line (stage_of a) (stage_of b) answer × (new ≡ old ++ answer)
-gone_line n line a b begun old new none draft session go good begins ready refused =
+gone_line n line a b begun old new none draft session known go good begins ready refused =
     let s = settings_of a.draft in
     let Between : Stage → Stage → Type 0 = λ v w. (answer : List ℕ) × AnswersLine n line v w answer
     × (new ≡ old ++ answer) in
     let From : Stage → Type 0 = λ v. Between v (stage_of b) in
     let To : Stage → Type 0 = λ v. Between (Drafting s) v in
-    let to : stage_at s begun ≡ stage_of b =
-    ap (λ v. stage_at s v) (sym session) ∙ ap (λ v. stage_at (settings_of v) b.session) (sym draft) in
-    let from : Drafting s ≡ stage_of a = ap (λ v. stage_at s v) (sym none) in
+    let to : stage_at s nobody begun ≡ stage_of b =
+    ap (λ v. stage_at s nobody v) (sym session) ∙ ap (λ v. stage_at s v b.session) (sym known)
+    ∙ ap (λ v. stage_at (settings_of v) b.known b.session) (sym draft) in
+    let from : Drafting s ≡ stage_of a = ap (λ v. stage_at s a.known v) (sym none) in
     subst From from (subst To to (going n line s begun old new go good begins ready refused))

@@ -4,8 +4,10 @@ pub mod Beginnings
 pub mod Drafts
 pub mod Ending
 pub mod Input
+pub mod Meetings
 pub mod OrderLines
 pub mod ReadOrders
+pub mod SenderLines
 pub mod Served
 pub mod Settings
 pub mod Stages

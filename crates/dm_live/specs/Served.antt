@@ -5,18 +5,19 @@ use Rattle.std.specs.Io.KnownBytes.{Appends}
 use Rattle.std.specs.Str.Lines.{lines}
 use Rattle.dm_text.specs.Words.{words}
 use Rattle.dm_session.specs.Orders.{Order}
-use Rattle.dm_session.specs.Sessions.{Session}
+use Rattle.dm_session.specs.Acquaintances.{nobody}
 use Rattle.dm_live.specs.declared.fault.LiveFault.{LiveFault}
 use Rattle.dm_live.specs.declared.fault.LiveFault.TheVariants.{Write}
-use Rattle.dm_live.specs.Answers.{Answers}
 use Rattle.dm_live.specs.Beginnings.{go_fault, Begins}
+use Rattle.dm_live.specs.Meetings.{Meeting, AnswersMet}
 use Rattle.dm_live.specs.OrderLines.{TellsOrder}
+use Rattle.dm_live.specs.SenderLines.{IsSender, sender_lines}
 use Rattle.dm_live.specs.Settings.{Settings, no_settings, TellsSetting}
 
--- a run behind some of its lines: what the configuration says so far, or the session
+-- a run behind some of its lines: what the configuration says so far, or the session with whom it met
 pub data Stage : Type 0 where
   Drafting : Settings → Stage
-  Running : Session → Stage
+  Running : Meeting → Stage
 
 -- an answer is closed by a line of a dot
 abbrev pub with_dot : List ℕ → List ℕ
@@ -39,11 +40,12 @@ abbrev pub GoesNot : ℕ → List ℕ → Settings → Settings → List ℕ →
 GoesNot n line s t text =
     (name : List ℕ) × IsGo line × (go_fault s ≡ Some name) × (t ≡ s) × (text ≡ fault_answer n name)
 
--- it begins the session
-pub record Goes (line : List ℕ) (s : Settings) (t : Session) (text : List ℕ) : Type 0 where
+-- it begins the session, which met nobody yet
+pub record Goes (line : List ℕ) (s : Settings) (m : Meeting) (text : List ℕ) : Type 0 where
   pub go : IsGo line
   pub good : go_fault s ≡ None
-  pub begins : Begins s t
+  pub begins : Begins s m.session
+  pub unmet : m.known ≡ nobody
   pub answer : text ≡ with_dot (codes "ready" ++ 10 ∷ [])
 
 -- a line that says something of the configuration isn't answered
@@ -56,21 +58,26 @@ SaysNothing n line s t text =
     (IsGo line → ⊥) × ((u : Settings) → TellsSetting line s u → ⊥) × (t ≡ s) × (text ≡ bad_answer n)
 
 -- an order is told and answered
-abbrev pub IsTold : List ℕ → Session → Session → List ℕ → Type 0
+abbrev pub IsTold : List ℕ → Meeting → Meeting → List ℕ → Type 0
 IsTold line s t text =
-    (o : Order) × (answer : List ℕ) × TellsOrder o line × Answers o s t answer × (text ≡ with_dot answer)
+    (o : Order) × (answer : List ℕ) × TellsOrder o line × AnswersMet o s t answer × (text ≡ with_dot answer)
 
--- a line that tells no order changes nothing
-abbrev pub TellsNone : ℕ → List ℕ → Session → Session → List ℕ → Type 0
-TellsNone n line s t text = ((o : Order) → TellsOrder o line → ⊥) × (t ≡ s) × (text ≡ bad_answer n)
+-- whom the session met is answered, and nothing changes
+abbrev pub AsksSender : List ℕ → Meeting → Meeting → List ℕ → Type 0
+AsksSender line s t text = IsSender line × (t ≡ s) × (text ≡ with_dot (sender_lines s.known))
+
+-- a line that tells neither changes nothing
+abbrev pub TellsNone : ℕ → List ℕ → Meeting → Meeting → List ℕ → Type 0
+TellsNone n line s t text =
+    (IsSender line → ⊥) × ((o : Order) → TellsOrder o line → ⊥) × (t ≡ s) × (text ≡ bad_answer n)
 
 -- the line of this number before the session begins, if it doesn't begin it
 abbrev pub AnswersSetting : ℕ → List ℕ → Settings → Settings → List ℕ → Type 0
 AnswersSetting n line s t text = IsSet line s t text ⊎ SaysNothing n line s t text
 
 -- and behind that
-abbrev pub AnswersOrder : ℕ → List ℕ → Session → Session → List ℕ → Type 0
-AnswersOrder n line s t text = IsTold line s t text ⊎ TellsNone n line s t text
+abbrev pub AnswersOrder : ℕ → List ℕ → Meeting → Meeting → List ℕ → Type 0
+AnswersOrder n line s t text = IsTold line s t text ⊎ (AsksSender line s t text ⊎ TellsNone n line s t text)
 
 -- the line of this number, what it makes of a run, and its answer
 abbrev pub AnswersLine : ℕ → List ℕ → Stage → Stage → List ℕ → Type 0

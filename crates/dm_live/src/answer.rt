@@ -3,15 +3,16 @@ ghost use Rattle.std.specs.Prelude.{◌≡◌, ◌++◌, ℕ, List, true, false,
 ghost use Rattle.std.specs.String.{string_bytes};
 ghost use Rattle.dm_session.specs.Orders.{asked};
 ghost use Rattle.dm_session.specs.Seen.{session_of};
-ghost use Rattle.dm_session.specs.Sessions.{Turn as OneTurn, TellsNext, IsOut};
+ghost use Rattle.dm_session.specs.Sessions.{Turn as OneTurn, IsOut};
 ghost use Rattle.dm_live.specs.AnswerLines.{turn_lines};
-ghost use Rattle.dm_live.specs.Answers.{ignored_line, TakesAs, TellsOut, HearsOut, Answers};
+ghost use Rattle.dm_live.specs.Answers.{ignored_line, Answers};
+ghost use Rattle.dm_live.specs.Meetings.{met_with, TakesMet, MeetsNext, MeetsOut, HearsMet, AnswersMet};
 ghost use Rattle.dm_live.specs.ReadOrders.{told_order};
 
 use crate::answer_lines::{push_actions, push_refusal, push_state, push_turn};
 use crate::order_line::OrderLine;
 use dm_machine::Conn;
-use dm_session::{Order, Session};
+use dm_session::{Acquaintance, Order, Session};
 use std::alloc::{AllocError, Global};
 
 /// Tells the session the order, and appends the order's answer.
@@ -28,8 +29,28 @@ pub fn answer_order(
         × Answers (told_order order.now) (session_of session.old) (session_of session.new) more
         × (string_bytes text.new ≡ string_bytes text.old ++ more)) }
 {
-    take_order(alloc, session, order.order(), text)?;
-    hear_behind(alloc, session, order, text)?;
+    let mut known = Acquaintance::new(alloc);
+    let done = answer_met(alloc, session, &mut known, order, text);
+    drop(known);
+    done
+}
+
+/// Tells the session the order, and appends the order's answer, as [`answer_order`] does, and keeps whom the session
+/// met (RFC 6733, 5.3 and 8.16).
+pub fn answer_met(
+    alloc: Global,
+    session: &mut Session,
+    known: &mut Acquaintance,
+    order: &OrderLine,
+    text: &mut String,
+) -> Result<(), AllocError>
+    ensures { OnOk result ((more : List ℕ)
+        × AnswersMet (told_order order.now) (met_with (session_of session.old) known.old)
+        (met_with (session_of session.new) known.new) more
+        × (string_bytes text.new ≡ string_bytes text.old ++ more)) }
+{
+    take_order(alloc, session, known, order.order(), text)?;
+    hear_behind(alloc, session, known, order, text)?;
     push_state(text, session.peer())?;
     Ok(())
 }
@@ -38,14 +59,16 @@ pub fn answer_order(
 fn take_order(
     alloc: Global,
     session: &mut Session,
+    known: &mut Acquaintance,
     order: Order<'_>,
     text: &mut String,
 ) -> Result<(), AllocError>
     ensures { OnOk result ((own : List ℕ)
-        × TakesAs (asked order.entry) (session_of session.old) (session_of session.new) own
+        × TakesMet (asked order.entry) (met_with (session_of session.old) known.old)
+        (met_with (session_of session.new) known.new) own
         × (string_bytes text.new ≡ string_bytes text.old ++ own)) }
 {
-    match session.take(alloc, order) {
+    match session.take_met(alloc, order, known) {
         Ok(Some(actions)) => push_actions(text, actions.as_slice()),
         Ok(None) => push_ignored(text, order),
         Err(fault) => push_refusal(text, fault),
@@ -67,15 +90,17 @@ fn push_ignored(text: &mut String, order: Order<'_>) -> Result<(), AllocError>
 fn hear_behind(
     alloc: Global,
     session: &mut Session,
+    known: &mut Acquaintance,
     order: &OrderLine,
     text: &mut String,
 ) -> Result<(), AllocError>
     ensures { OnOk result ((others : List ℕ)
-        × HearsOut (told_order order.now) (session_of session.old) (session_of session.new) others
+        × HearsMet (told_order order.now) (met_with (session_of session.old) known.old)
+        (met_with (session_of session.new) known.new) others
         × (string_bytes text.new ≡ string_bytes text.old ++ others)) }
 {
     match order {
-        OrderLine::Octets(conn, _) => hear_out(alloc, session, *conn, text),
+        OrderLine::Octets(conn, _) => hear_out(alloc, session, known, *conn, text),
         _ => Ok(()),
     }
 }
@@ -84,15 +109,17 @@ fn hear_behind(
 fn hear_out(
     alloc: Global,
     session: &mut Session,
+    known: &mut Acquaintance,
     conn: Conn,
     text: &mut String,
 ) -> Result<(), AllocError>
     ensures { OnOk result ((others : List ℕ)
-        × TellsOut conn (session_of session.old) (session_of session.new) others
+        × MeetsOut conn (met_with (session_of session.old) known.old)
+        (met_with (session_of session.new) known.new) others
         × (string_bytes text.new ≡ string_bytes text.old ++ others)) }
 {
     'turn: for _ in 0..u64::MAX {
-        if !hear_next(alloc, session, conn, text)? {
+        if !hear_next(alloc, session, known, conn, text)? {
             return Ok(());
         }
     }
@@ -105,16 +132,19 @@ fn hear_out(
 fn hear_next(
     alloc: Global,
     session: &mut Session,
+    known: &mut Acquaintance,
     conn: Conn,
     text: &mut String,
 ) -> Result<bool, AllocError>
     ensures told { IfOk result (λ more. more ≡ true → (turn : OneTurn)
-        × TellsNext conn (session_of session.old) turn (session_of session.new)
+        × MeetsNext conn (met_with (session_of session.old) known.old) turn
+        (met_with (session_of session.new) known.new)
         × (string_bytes text.new ≡ string_bytes text.old ++ turn_lines turn)) }
     ensures out { IfOk result (λ more. more ≡ false → IsOut conn (session_of session.new)
-        × (session_of session.new ≡ session_of session.old) × (string_bytes text.new ≡ string_bytes text.old)) }
+        × (met_with (session_of session.new) known.new ≡ met_with (session_of session.old) known.old)
+        × (string_bytes text.new ≡ string_bytes text.old)) }
 {
-    match session.next(alloc, conn) {
+    match session.next_met(alloc, conn, known) {
         Ok(Some(turn)) => {
             push_turn(text, &turn)?;
             Ok(true)

@@ -12,11 +12,12 @@ mod order_name;
 mod order_words;
 mod output;
 mod program;
+mod sender_lines;
 mod serve;
 mod setting_name;
 mod setting_words;
 
-pub use crate::answer::answer_order;
+pub use crate::answer::{answer_met, answer_order};
 pub use crate::fault::LiveFault;
 pub use crate::input::next_line;
 pub use crate::order_line::{OrderLine, read_order};

@@ -2,27 +2,31 @@
 ghost use Rattle.std.specs.Prelude.{◌≡◌, ◌++◌, ◌∷◌, [], ℕ, List, true, false, Some, None, IfOk, IfSome, IfNone};
 ghost use Rattle.std.specs.Prelude.{OnOk, OnSome, codes};
 ghost use Rattle.std.specs.String.{string_bytes};
+ghost use Rattle.dm_session.specs.Acquaintances.{nobody};
 ghost use Rattle.dm_session.specs.Seen.{session_of};
 ghost use Rattle.dm_live.specs.Beginnings.{go_fault, IsMadeOf, Begins};
 ghost use Rattle.dm_live.specs.Drafts.{settings_of};
+ghost use Rattle.dm_live.specs.Meetings.{met_with};
 ghost use Rattle.dm_live.specs.Served.{Drafting, with_dot, fault_answer, IsGo};
 ghost use Rattle.dm_live.specs.Served.{AnswersSetting, AnswersOrder, AnswersLine};
 ghost use Rattle.dm_live.specs.Settings.{no_settings};
 ghost use Rattle.dm_live.specs.Stages.{stage_of};
 
-use crate::answer::answer_order;
+use crate::answer::answer_met;
 use crate::draft::Draft;
 use crate::order_line::read_order;
+use crate::sender_lines::{is_sender, push_sender};
 use dm_peer::Config;
-use dm_session::Session;
+use dm_session::{Acquaintance, Session};
 use dm_text::Words;
 use std::alloc::{AllocError, Global};
 
-/// What the configuration says so far, and the session behind its `go`.
+/// What the configuration says so far, and the session behind its `go`, with whom it met.
 #[derive(Drop)]
 pub(crate) struct Live {
     draft: Draft,
     session: Option<Session>,
+    known: Acquaintance,
 }
 
 impl Live {
@@ -33,6 +37,7 @@ impl Live {
         Live {
             draft: Draft::new(alloc),
             session: None,
+            known: Acquaintance::new(alloc),
         }
     }
 
@@ -49,21 +54,24 @@ impl Live {
             × (string_bytes text.new ≡ string_bytes text.old ++ answer)) }
     {
         if let Some(session) = &mut self.session {
-            return answer_told(alloc, session, number, line, text);
+            return answer_told(alloc, session, &mut self.known, number, line, text);
         }
         if is_go(line) {
             let begun = begin(alloc, &self.draft, number, text)?;
-            self.put_session(begun);
+            self.put_session(alloc, begun);
             return Ok(());
         }
         answer_setting(&mut self.draft, number, line, text)
     }
 
-    fn put_session(&mut self, session: Option<Session>)
+    /// Goes on with this session, which met nobody yet. It takes no memory.
+    fn put_session(&mut self, alloc: Global, session: Option<Session>)
         ensures draft { self.new.draft ≡ self.old.draft }
         ensures session { self.new.session ≡ session }
+        ensures known { self.new.known ≡ nobody }
     {
         self.session = session;
+        self.known = Acquaintance::new(alloc);
     }
 }
 
@@ -137,21 +145,27 @@ fn answer_setting(
     }
 }
 
-/// Tells the order of a line and answers it, or answers a bad line.
+/// Answers who the other side is, or tells the order of a line and answers it, or answers a bad line.
 fn answer_told(
     alloc: Global,
     session: &mut Session,
+    known: &mut Acquaintance,
     number: u64,
     line: &[u8],
     text: &mut String,
 ) -> Result<(), AllocError>
     ensures { OnOk result ((answer : List ℕ)
-        × AnswersOrder number line.now (session_of session.old) (session_of session.new) answer
+        × AnswersOrder number line.now (met_with (session_of session.old) known.old)
+        (met_with (session_of session.new) known.new) answer
         × (string_bytes text.new ≡ string_bytes text.old ++ answer)) }
 {
+    if is_sender(line) {
+        push_sender(alloc, text, known)?;
+        return text.push_str(".\n");
+    }
     match read_order(alloc, line)? {
         Some(order) => {
-            answer_order(alloc, session, &order, text)?;
+            answer_met(alloc, session, known, &order, text)?;
             text.push_str(".\n")
         }
         None => push_fault(text, number, "Syntax"),

@@ -1,7 +1,5 @@
-use Rattle.dm_live.proofs.Turns.{answered}
+use Rattle.dm_live.proofs.Turns.{answered_so}
 use Rattle.dm_live.proofs.answer.answer_order.Goals as goal
 
 pub returns : goal.returns
-returns c =
-    answered _ _ _ _ _ _ _ _ _ _ _ _ c.order.ensures c.peer.ensures c.in_ok-take_order.ensures.1
-    c.in_ok-hear_behind.ensures.1 c.in_ok-take_order.ensures.2 c.in_ok-hear_behind.ensures.2 c.in_ok-push_state.ensures
+returns c = answered_so _ _ _ _ _ _ c.answer_met-done.ensures

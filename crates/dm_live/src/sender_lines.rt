@@ -1,0 +1,176 @@
+//! The lines of who the other side is.
+ghost use Rattle.std.specs.Prelude.{◌≡◌, ◌++◌, ℕ, List, true, false, OnOk, codes};
+ghost use Rattle.std.specs.List.{flat_map};
+ghost use Rattle.std.specs.String.{string_bytes};
+ghost use Rattle.dm_wire.specs.declared.avp.Avp.{Avp};
+ghost use Rattle.dm_base.specs.Codes.{supported_vendor_id};
+ghost use Rattle.dm_base.specs.Kinds.{application_ids};
+ghost use Rattle.dm_base.specs.Senders.{Tells, numbers_told};
+ghost use Rattle.dm_session.specs.Acquaintances.{exchange_in};
+ghost use Rattle.dm_live.specs.SenderLines.{IsSender, octets_line, number_line, number_lines, number_line_if_any};
+ghost use Rattle.dm_live.specs.SenderLines.{name_lines, version_lines, ability_lines};
+ghost use Rattle.dm_live.specs.SenderLines.{exchange_lines, anew_line, sender_lines};
+
+use crate::order_words::word_alone;
+use dm_base::SenderRef;
+use dm_session::Acquaintance;
+use dm_text::{Hexadecimal, Words};
+use std::alloc::{AllocError, Global};
+
+/// Whether the line asks who the other side is.
+pub(crate) fn is_sender(line: &[u8]) -> bool
+    ensures told { result ≡ true → IsSender line.now }
+    ensures none { result ≡ false → IsSender line.now → ⊥ }
+{
+    let mut left = Words::new(line);
+    match word_alone(&mut left) {
+        Some(word) => word == b"sender".as_slice(),
+        None => false,
+    }
+}
+
+/// Appends a name and octets.
+#[tactic(auto, unfolding(crate::specs::SenderLines::octets_line))]
+fn push_octets(text: &mut String, name: &str, octets: &[u8]) -> Result<(), AllocError>
+    ensures { OnOk result (string_bytes text.new ≡ string_bytes text.old ++ octets_line name.now octets.now) }
+{
+    writeln!(text, "{name} {}", Hexadecimal(octets))?;
+    Ok(())
+}
+
+/// Appends a name and a number.
+#[tactic(auto, unfolding(crate::specs::SenderLines::number_line))]
+fn push_number(text: &mut String, name: &str, number: u32) -> Result<(), AllocError>
+    ensures { OnOk result (string_bytes text.new ≡ string_bytes text.old ++ number_line name.now number) }
+{
+    writeln!(text, "{name} {number}")?;
+    Ok(())
+}
+
+/// Appends the name and the number, where there is one.
+#[tactic(auto, unfolding(crate::specs::SenderLines::number_line_if_any, crate::specs::SenderLines::number_lines))]
+fn push_if_any(text: &mut String, name: &str, number: Option<u32>) -> Result<(), AllocError>
+    ensures { OnOk result (string_bytes text.new ≡ string_bytes text.old ++ number_line_if_any name.now number) }
+{
+    match number {
+        Some(number) => push_number(text, name, number),
+        None => Ok(()),
+    }
+}
+
+/// Appends the name and each number.
+#[tactic(auto, unfolding(crate::specs::SenderLines::number_lines))]
+fn push_numbers(text: &mut String, name: &str, numbers: &[u32]) -> Result<(), AllocError>
+    ensures { OnOk result (string_bytes text.new ≡ string_bytes text.old ++ number_lines name.now numbers.now) }
+{
+    for number in numbers {
+        push_number(text, name, *number)?;
+    }
+    Ok(())
+}
+
+/// Appends what the sender says in names.
+#[tactic(auto, unfolding(crate::specs::SenderLines::name_lines))]
+fn push_names(text: &mut String, sender: SenderRef<'_>) -> Result<(), AllocError>
+    ensures { (l : List Avp) → Tells sender.entry l
+        → OnOk result (string_bytes text.new ≡ string_bytes text.old ++ name_lines l) }
+{
+    push_octets(text, "host", sender.host())?;
+    push_octets(text, "realm", sender.realm())?;
+    push_octets(text, "product", sender.product())
+}
+
+/// Appends the applications that the sender says.
+fn push_applications(
+    alloc: Global,
+    text: &mut String,
+    sender: SenderRef<'_>,
+) -> Result<(), AllocError>
+    ensures { (l : List Avp) → Tells sender.entry l → OnOk result (string_bytes text.new
+        ≡ string_bytes text.old ++ number_lines (codes "application") (flat_map application_ids l)) }
+{
+    match sender.applications(alloc) {
+        Ok(ids) => {
+            let done = push_numbers(text, "application", ids.as_slice());
+            drop(ids);
+            done
+        }
+        Err(_) => Err(AllocError),
+    }
+}
+
+/// Appends the vendors that the sender supports.
+fn push_vendors(alloc: Global, text: &mut String, sender: SenderRef<'_>) -> Result<(), AllocError>
+    ensures { (l : List Avp) → Tells sender.entry l → OnOk result (string_bytes text.new
+        ≡ string_bytes text.old ++ number_lines (codes "supports") (numbers_told supported_vendor_id l)) }
+{
+    match sender.vendors(alloc) {
+        Ok(ids) => {
+            let done = push_numbers(text, "supports", ids.as_slice());
+            drop(ids);
+            done
+        }
+        Err(_) => Err(AllocError),
+    }
+}
+
+/// Appends what the sender says in numbers.
+#[tactic(auto, unfolding(crate::specs::SenderLines::version_lines))]
+fn push_version(text: &mut String, sender: SenderRef<'_>) -> Result<(), AllocError>
+    ensures { (l : List Avp) → Tells sender.entry l
+        → OnOk result (string_bytes text.new ≡ string_bytes text.old ++ version_lines l) }
+{
+    push_if_any(text, "vendor", sender.vendor())?;
+    push_if_any(text, "firmware", sender.firmware())
+}
+
+/// Appends what the sender can do, and its state.
+#[tactic(auto, unfolding(crate::specs::SenderLines::ability_lines))]
+fn push_ability(alloc: Global, text: &mut String, sender: SenderRef<'_>) -> Result<(), AllocError>
+    ensures { (l : List Avp) → Tells sender.entry l
+        → OnOk result (string_bytes text.new ≡ string_bytes text.old ++ ability_lines l) }
+{
+    push_applications(alloc, text, sender)?;
+    push_vendors(alloc, text, sender)?;
+    push_if_any(text, "origin-state", sender.state_id())
+}
+
+/// Appends what is said of the sender, or that there is nobody.
+#[tactic(auto, unfolding(crate::specs::SenderLines::exchange_lines))]
+fn push_exchange(alloc: Global, text: &mut String, known: &Acquaintance) -> Result<(), AllocError>
+    ensures { OnOk result (string_bytes text.new
+        ≡ string_bytes text.old ++ exchange_lines (exchange_in known.now.octets)) }
+{
+    match known.sender() {
+        Some(sender) => {
+            push_names(text, sender)?;
+            push_version(text, sender)?;
+            push_ability(alloc, text, sender)
+        }
+        None => text.push_str("nobody\n"),
+    }
+}
+
+/// Appends that the other side has begun anew, where it has.
+#[tactic(auto, unfolding(crate::specs::SenderLines::anew_line))]
+fn push_anew(text: &mut String, is_anew: bool) -> Result<(), AllocError>
+    ensures { OnOk result (string_bytes text.new ≡ string_bytes text.old ++ anew_line is_anew) }
+{
+    if is_anew {
+        text.push_str("anew\n")?;
+    }
+    Ok(())
+}
+
+/// Appends who the other side is, or that nobody was met, and its Origin-State-Id of the time before.
+pub(crate) fn push_sender(
+    alloc: Global,
+    text: &mut String,
+    known: &Acquaintance,
+) -> Result<(), AllocError>
+    ensures { OnOk result (string_bytes text.new ≡ string_bytes text.old ++ sender_lines known.now) }
+{
+    push_exchange(alloc, text, known)?;
+    push_if_any(text, "origin-state-before", known.state_before())?;
+    push_anew(text, known.is_anew())
+}
