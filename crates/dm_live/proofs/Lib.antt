@@ -1,3 +1,4 @@
+pub mod Apart
 pub mod FirstLine
 pub mod Joined
 pub mod Known

@@ -69,7 +69,7 @@ out_told (Submit octets) m n text (same, is) = (ap (λ v. v.session) same, is)
 out_told Reset m n text (same, is) = (ap (λ v. v.session) same, is)
 
 -- and an answer is one of the session
-of_session : (o : Order) (m n : Meeting) (text : List ℕ) → AnswersMet o m n text
+pub of_session : (o : Order) (m n : Meeting) (text : List ℕ) → AnswersMet o m n text
     → Answers o m.session n.session text
 of_session o m n text met =
     record {

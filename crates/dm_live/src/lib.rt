@@ -6,6 +6,7 @@ mod answer_lines;
 mod draft;
 mod fault;
 mod input;
+pub mod laws;
 mod live;
 mod order_line;
 mod order_name;

@@ -1,0 +1,34 @@
+-- The line that asks who the other side is beside the lines of orders.
+use Rattle.std.proofs.Common.{◌≡◌, ℕ, true, false, nat_eq, List, [], ◌∷◌, codes, refl, sym, ap, ◌∙◌}
+use Rattle.dm_session.specs.Orders.{Order}
+use Rattle.dm_live.specs.declared.order_name.OrderName.{OrderName}
+use Rattle.dm_live.specs.declared.order_name.OrderName.TheVariants as names
+use Rattle.dm_live.specs.OrderLines.{name_word, order_name, TellsOrder}
+use Rattle.dm_live.specs.SenderLines.{IsSender}
+
+abbrev first : List (List ℕ) → List ℕ
+first [] = []
+first (word ∷ rest) = word
+
+-- no name of an order has the fourth octet of `sender`
+abbrev fourth : List ℕ → ℕ
+fourth (a ∷ b ∷ c ∷ d ∷ rest) = d
+fourth word = 0
+
+other : (name : OrderName) → nat_eq (fourth (name_word name)) 100 ≡ false
+other names.Start = refl
+other names.Ack = refl
+other names.Nack = refl
+other names.Accept = refl
+other names.Octets = refl
+other names.Gone = refl
+other names.Timeout = refl
+other names.Tick = refl
+other names.Stop = refl
+other names.Submit = refl
+other names.Reset = refl
+
+pub no_order : (line : List ℕ) (o : Order) → IsSender line → TellsOrder o line → ⊥
+no_order line o is (rest, tells, more) =
+    let same : codes "sender" ≡ name_word (order_name o) = ap first (sym is ∙ tells) in
+    let never : true ≡ false = ap (λ w. nat_eq (fourth w) 100) same ∙ other (order_name o) in absurd (cc never)
