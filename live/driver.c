@@ -512,7 +512,7 @@ static bool take_line(void) {
     size_t length;
     char *line = input_line(&length);
     if (!(line_waits = line)) return false;
-    bool is_start = !strcmp(line, "start"), order = is_start || begins(line, "stop ");
+    bool is_start = !strcmp(line, "start"), order = is_start || begins(line, "stop ") || !strcmp(line, "sender");
     if (order || held(&orders) + length > batch_most) exchange();
     if (!order && length && !can_submit()) {
         line[length] = '\n';
@@ -750,7 +750,8 @@ static void serve(const sigset_t *unblocked) {
 static const char HELP[] =
     "usage: driver [-v] [-n COUNT] [-p PROGRAM] CONFIGURATION\n"
     "  Runs the Diameter peer dmlive over TCP. What is handed up goes to standard output, a message a line, in\n"
-    "  hexadecimal; such lines of standard input are submitted (`start` calls, `stop C` disconnects for cause C).\n"
+    "  hexadecimal; such lines of standard input are submitted (`start` calls, `stop C` disconnects for cause C,\n"
+    "  `sender` asks who the other side is, which standard error says).\n"
     "  SIGTERM disconnects and ends it.\n"
     "  -v, --verbose          a line on standard error for each event; twice: long ones whole\n"
     "  -n, --count COUNT      ends when standard input has ended and so many messages were handed up\n"
