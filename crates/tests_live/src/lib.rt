@@ -4,6 +4,8 @@
 #[cfg(test)]
 mod acquaintance;
 #[cfg(test)]
+mod lines;
+#[cfg(test)]
 mod nodes;
 #[cfg(test)]
 mod session;
