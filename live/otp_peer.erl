@@ -20,7 +20,8 @@ main([Host, Listen, Connect, Known]) ->
 
 service(Host) ->
     [{'Origin-Host', Host}, {'Origin-Realm', "example"}, {'Vendor-Id', 0}, {'Product-Name', "OTP"},
-     {'Acct-Application-Id', [3]}, {string_decode, false}, {decode_format, map},
+     {'Acct-Application-Id', [3]}, {'Origin-State-Id', diameter:origin_state_id()}, {string_decode, false},
+     {decode_format, map},
      {application, [{alias, acct}, {dictionary, diameter_gen_acct_rfc6733}, {module, ?MODULE},
                     {answer_errors, callback}, {request_errors, callback}]}].
 
