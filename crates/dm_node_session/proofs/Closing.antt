@@ -1,5 +1,5 @@
 -- What a peer closes: a connection that it held, or one on which octets came.
-use Rattle.std.proofs.Common.{◌≡◌, inl, inr, ℕ, Bool, true, false, not, ◌&&◌, ◌||◌, ◌==◌, ◌⊎◌, Option, List, [], ◌∷◌, map, refl, sym, ap, subst, ◌∙◌}
+use Rattle.std.proofs.Common.{◌≡◌, inl, inr, ℕ, Bool, true, false, not, ◌&&◌, ◌||◌, ◌==◌, ◌⊎◌, IsTrue, Option, List, [], ◌∷◌, map, refl, sym, ap, subst, ◌∙◌}
 use Rattle.std.specs.Prelude.{⊤}
 use Rattle.std.specs.List.{list_any}
 use Rattle.std.proofs.lemmas.Bool.{and_parts, eqb-true}
@@ -8,6 +8,7 @@ use Rattle.dm_machine.specs.declared.outputs.Command.{Command}
 use Rattle.dm_machine.specs.declared.outputs.Command.TheVariants as command
 use Rattle.dm_machine.specs.Connection.{Hold, NotHeld, Pending, Made, OpenAsI, ClosingAsI, Taken, OpenAsR, ClosingAsR, hold_of, Concern, StartsIt, AcksIt, NacksIt, EndsIt, HeardOnIt, Stops, TimesOut, Ticks, Submits, NamesAnother, if_named, concern_of, Order, Connects, SendsCer, SendsCea, SendsRefusal, SendsDwr, SendsDwa, SendsDpr, SendsDpa, SendsSubmit, Closes, if_ordered, with_order, orders_to, AtConnection}
 use Rattle.dm_machine.specs.Deeds.{Deed, ClosesOn, deed_of_command}
+use Rattle.dm_machine.specs.Node.{is_shaped}
 use Rattle.dm_machine.specs.Openings.{is_hold, is_order, has_order, is_left_unclosed, ClosesWhatItGivesUp}
 use Rattle.dm_peer.specs.declared.actions.Action.{Action}
 use Rattle.dm_peer.specs.declared.actions.Action.TheVariants as action
@@ -115,9 +116,23 @@ came_on Timeout h c is = absurd is
 came_on Tick h c is = absurd is
 came_on (Submit s) h c is = absurd is
 
-closed_at : ClosesWhatItGivesUp → (p q : Peer) (e : PeerEvent) (actions : List Action) (c : Conn) → IsKept p →
-    IsStep p e actions q → closes actions c.0 ≡ true → (holds c p ≡ true) ⊎ CameOn e c
-closed_at closed p q e actions c kept s closing =
+not_held : (h : Hold) → is_hold NotHeld h ≡ true → is_held h ≡ false
+not_held NotHeld e = refl
+not_held Pending e = cc
+not_held Made e = cc
+not_held OpenAsI e = cc
+not_held ClosingAsI e = cc
+not_held Taken e = cc
+not_held OpenAsR e = cc
+not_held ClosingAsR e = cc
+
+-- what a peer closes it held, or octets came on it, and it doesn't hold it any more
+abbrev pub ClosesOwn : Peer → PeerEvent → Conn → Peer → Type 0
+ClosesOwn p e c q = ((holds c p ≡ true) ⊎ CameOn e c) × (holds c q ≡ false)
+
+closed_at : ClosesWhatItGivesUp → (p q : Peer) (e : PeerEvent) (actions : List Action) (c : Conn) →
+    IsTrue (is_shaped p.standing.core) → IsStep p e actions q → closes actions c.0 ≡ true → ClosesOwn p e c q
+closed_at closed p q e actions c shaped s closing =
     let n = p.standing.core in
     let i = input_of e s.heard in
     let has : has_order Closes (orders_to c s.commands) ≡ true =
@@ -126,16 +141,28 @@ closed_at closed p q e actions c kept s closing =
     ≡ (is_hold NotHeld (hold_of q.standing.core c) && not (is_left_unclosed (concern_of i c) (hold_of n c))) =
     subst (AtConnection (λ k before after orders.
     has_order Closes orders ≡ (is_hold NotHeld after && not (is_left_unclosed k before))) n i c) s.moves
-    (closed n i (wins p.config) c kept.settled.shaped) in
-    let left = (and_parts (is_hold NotHeld (hold_of q.standing.core c))
-    (not (is_left_unclosed (concern_of i c) (hold_of n c))) (sym law ∙ has)).1 in
-    elim (heard_or_held (concern_of i c) (hold_of n c) left) [
-      | inl held ↦ inl held
-      | inr heard ↦ inr (came_on e s.heard c heard)
-    ]
+    (closed n i (wins p.config) c shaped) in
+    let both = and_parts (is_hold NotHeld (hold_of q.standing.core c))
+    (not (is_left_unclosed (concern_of i c) (hold_of n c))) (sym law ∙ has) in (
+      elim (heard_or_held (concern_of i c) (hold_of n c) both.1) [
+        | inl held ↦ inl held
+        | inr heard ↦ inr (came_on e s.heard c heard)
+      ],
+      not_held (hold_of q.standing.core c) both.0,
+    )
 
 none_closes : (c : Conn) (actions : List Action) → actions ≡ [] → closes actions c.0 ≡ true → false ≡ true
 none_closes c actions none closing = sym (ap (λ l. closes l c.0) none) ∙ closing
+
+-- so whatever else is known of a peer than that its state machine's node has its form
+pub closes_shaped : EachEventIsOneStep → ClosesWhatItGivesUp → (p q : Peer) (e : PeerEvent) (actions : List Action)
+    (c : Conn) → IsTrue (is_shaped p.standing.core) → acts p e ≡ Moved actions q → closes actions c.0 ≡ true →
+    ClosesOwn p e c q
+closes_shaped step closed p q e actions c shaped is closing =
+    elim (subst (Follows p e) is (step p e)) [
+      | inl s ↦ closed_at closed p q e actions c shaped s closing
+      | inr d ↦ absurd (cc (none_closes c actions d.silent closing))
+    ]
 
 -- what a peer closes it held, or octets came on it
 abbrev pub ClosesItsOwn : Type 0
@@ -145,7 +172,4 @@ ClosesItsOwn =
 
 pub closes_its_own : EachEventIsOneStep → ClosesWhatItGivesUp → ClosesItsOwn
 closes_its_own step closed p q e actions c kept is closing =
-    elim (subst (Follows p e) is (step p e)) [
-      | inl s ↦ closed_at closed p q e actions c kept s closing
-      | inr d ↦ absurd (cc (none_closes c actions d.silent closing))
-    ]
+    (closes_shaped step closed p q e actions c kept.settled.shaped is closing).0

@@ -6,3 +6,4 @@ pub mod NodeStarting
 pub mod Others
 pub mod Alone
 pub mod NodeHeard
+pub mod Newcomers

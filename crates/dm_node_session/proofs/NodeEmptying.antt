@@ -20,7 +20,7 @@ use Rattle.dm_node_session.specs.NodeOrders.{left_by_peer}
 use Rattle.dm_node_session.proofs.NodeMoving.{two_truths, unlike}
 
 -- one more place, and one changed
-grown : (ps : List (Option Peer)) (y : Option Peer) (j : ℕ) →
+pub grown : (ps : List (Option Peer)) (y : Option Peer) (j : ℕ) →
     (peer_at (ps ++ y ∷ []) j ≡ peer_at ps j) ⊎ ((j ≡ length ps) × (peer_at (ps ++ y ∷ []) j ≡ y))
 grown [] y zero = inr (refl, refl)
 grown [] y (suc j) = inl refl

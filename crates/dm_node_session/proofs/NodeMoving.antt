@@ -80,7 +80,7 @@ moved n ps qs e None actions is told none stays =
     (λ i h. none i (concerned ps e i h), stays.1 ∙ strange_as n e, stays.0)
 
 -- what is held behind it is there
-held_told : OthersStayUnheld → (ps qs : List (Option Peer)) (i : ℕ) (e : PeerEvent) (actions : List Action)
+pub held_told : OthersStayUnheld → (ps qs : List (Option Peer)) (i : ℕ) (e : PeerEvent) (actions : List Action)
     (f : Intakes) → AreKept ps → IsTold ps qs i e actions → AllHeldAreThere ps f → NamesThere e f → AllHeldAreThere qs f
 held_told others ps qs i e actions f kept told there named j c held = by (nat_eq j i) refl where
   at : holds c told.after ≡ true → (b n : Bool) → holds c told.before ≡ b → names_conn e c ≡ n → is_there c.0 f ≡ true
@@ -104,7 +104,7 @@ held_moved others to e n ps qs (Some i) actions kept m f there named =
 held_moved others to e n ps qs None actions kept m f there named = subst (λ l. AllHeldAreThere l f) (sym m.2) there
 
 -- each neighbour is kept behind it
-kept_told : (ps qs : List (Option Peer)) (i : ℕ) (e : PeerEvent) (actions : List Action) → AreKept ps →
+pub kept_told : (ps qs : List (Option Peer)) (i : ℕ) (e : PeerEvent) (actions : List Action) → AreKept ps →
     IsTold ps qs i e actions → IfSome (peer_at qs i) IsKept → AreKept qs
 kept_told ps qs i e actions kept told looked j p at = by (nat_eq j i) refl where
   by : (b : Bool) → nat_eq j i ≡ b → IsKept p
@@ -128,7 +128,7 @@ came_alone to e ps i j c apart is (s, same) held =
     ]
 
 -- what is closed nobody holds behind it
-closed_told : ClosedIsUnheld → ClosesItsOwn → (to : Option ℕ) (e : PeerEvent) (ps qs : List (Option Peer)) (i : ℕ)
+pub closed_told : ClosedIsUnheld → ClosesItsOwn → (to : Option ℕ) (e : PeerEvent) (ps qs : List (Option Peer)) (i : ℕ)
     (actions : List Action) → AreKept ps → AreApart ps → IsConcerned ps to e i → IsTold ps qs i e actions →
     (c : Conn) → closes actions c.0 ≡ true → IsFree qs c
 closed_told closed own to e ps qs i actions kept apart is told c closing j = by (nat_eq j i) refl where
@@ -153,7 +153,7 @@ closed_told closed own to e ps qs i actions kept apart is told c closing j = by 
       ap (holds_it c) (told.others j (unlike j i other))
       ∙ free (unlike j i other) (holds_at ps c j) refl
 
-closed_answer : (n : Node) (d : Conn) (call : Option Caller) (c : Conn) → closes (answer_to n d call) c.0 ≡ true → d ≡ c
+pub closed_answer : (n : Node) (d : Conn) (call : Option Caller) (c : Conn) → closes (answer_to n d call) c.0 ≡ true → d ≡ c
 closed_answer n d None c is = by (nat_eq d.0 c.0) refl is where
   by : (b : Bool) → nat_eq d.0 c.0 ≡ b → (b || false) ≡ true → d ≡ c
   by true e h = ap (λ m. record { 0 = m }) (eqb-true d.0 c.0 e)
@@ -163,7 +163,7 @@ closed_answer n d (Some call) c is = by (nat_eq d.0 c.0) refl is where
   by true e h = ap (λ m. record { 0 = m }) (eqb-true d.0 c.0 e)
   by false e h = absurd (true≢false (sym h))
 
-free_of : (b : Bool) → (b ≡ true → ⊥) → b ≡ false
+pub free_of : (b : Bool) → (b ≡ true → ⊥) → b ≡ false
 free_of true un = absurd (un refl)
 free_of false un = refl
 

@@ -12,6 +12,7 @@ use Rattle.dm_machine.specs.Connection.{hold_as, hold_in}
 use Rattle.dm_machine.specs.Moves.{is_open}
 use Rattle.dm_machine.specs.Node.{is_same_role, held_as}
 use Rattle.dm_node.specs.Holding.{peer_at, holds_it, holds_at, AreApart}
+use Rattle.dm_node.specs.Telling.{IsFree}
 use Rattle.dm_peer.specs.declared.actions.Action.{Action}
 use Rattle.dm_peer.specs.declared.peer.Peer.{Peer}
 use Rattle.dm_peer.specs.Events.{PeerEvent, Arrived}
@@ -20,8 +21,10 @@ use Rattle.dm_session.specs.Intakes.{Intake, Intakes, is_numbered, with_intake, 
 use Rattle.dm_session.specs.Sessions.{own_of, other_of}
 use Rattle.dm_session.specs.Staying.{ClosingKeeps}
 use Rattle.dm_node_session.specs.NodeLaws.{AreSoundNeighbours, IsLeftAlone}
-use Rattle.dm_node_session.specs.NodeSessions.{NodeSession, NodeAnswer, NodeMoves, NodeTells, NodeTellsAs, concerned_in, raised_for, with_node_intakes}
+use Rattle.dm_node_session.specs.NodePolicies.{Policy, NodeMovesWith, NodeTellsWith, NodeTellsAsWith}
+use Rattle.dm_node_session.specs.NodeSessions.{NodeSession, NodeAnswer, NodeMoves, NodeTells, NodeTellsAs, concerned_in, raised_for, node_settled, with_node_intakes}
 use Rattle.dm_node_session.proofs.Closing.{ClosesItsOwn}
+use Rattle.dm_node_session.proofs.Newcomers.{PeerLaws, peers_stay, else_at, closed_with}
 use Rattle.dm_node_session.proofs.NodeMoving.{two_truths, closed_moved}
 
 -- a connection in a role is held
@@ -104,26 +107,31 @@ not_closed actions qs j c free held = by (closes actions c.0) refl
     by true e = absurd (two_truths (holds_at qs c j) held (free e))
     by false e = refl
 
+-- what is settled leaves alone whoever stays
+settled_leaves : ClosingKeeps → (s t : NodeSession) (answer : NodeAnswer) (qs : List (Option Peer)) (j : ℕ) →
+    t ≡ node_settled answer.neighbour qs answer.actions s → AreApart t.peers → peer_at qs j ≡ peer_at s.peers j →
+    ((c : Conn) → closes answer.actions c.0 ≡ true → IsFree qs c) → (answer.neighbour ≡ Some j → ⊥) → IsLeftAlone j s t
+settled_leaves keeps s t answer qs j left apart same closed un = record {
+  peer = ap (λ (v : NodeSession). peer_at v.peers j) left ∙ same;
+  came = λ c held.
+      let now : holds_at qs c j ≡ true = ap (holds_it c) same ∙ held in
+      ap (λ (v : NodeSession). v.intakes c.0) left
+      ∙ raised_elsewhere s.most (concerned_in qs answer.neighbour) (left_by answer.actions s.intakes) c
+      (not_his qs answer.neighbour j c there un now)
+      ∙ keeps answer.actions c.0 s.intakes (not_closed answer.actions qs j c (λ is. closed c is j) now);
+}
+  where
+    there : AreApart qs
+    there = subst (λ (v : NodeSession). AreApart v.peers) left apart
+
 pub event_leaves_others : ClosedIsUnheld → ClosesItsOwn → ClosingKeeps → (to : Option ℕ) (e : PeerEvent)
     (s t : NodeSession) (answer : NodeAnswer) (j : ℕ) → AreSoundNeighbours s.peers → AreApart t.peers →
     NodeTells to e s answer t → (answer.neighbour ≡ Some j → ⊥) → IsLeftAlone j s t
-event_leaves_others closed own keeps to e s t answer j sound apart tells un = record {
-  peer = ap (λ (v : NodeSession). peer_at v.peers j) tells.left ∙ same;
-  came = λ c held.
-      let now : holds_at tells.peers c j ≡ true = ap (holds_it c) same ∙ held in
-      ap (λ (v : NodeSession). v.intakes c.0) tells.left
-      ∙ raised_elsewhere s.most (concerned_in tells.peers answer.neighbour) (left_by answer.actions s.intakes) c
-      (not_his tells.peers answer.neighbour j c there un now)
-      ∙ keeps answer.actions c.0 s.intakes
-      (not_closed answer.actions tells.peers j c (λ is. closed_moved closed own to e s.node s.peers tells.peers
-      answer.neighbour answer.actions sound.kept sound.neighbourhood.apart tells.moved c is j) now);
-}
-  where
-    same : peer_at tells.peers j ≡ peer_at s.peers j
-    same = same_peer to e s.node s.peers tells.peers answer.neighbour answer.actions j tells.moved un
-
-    there : AreApart tells.peers
-    there = subst (λ (v : NodeSession). AreApart v.peers) tells.left apart
+event_leaves_others closed own keeps to e s t answer j sound apart tells un =
+    settled_leaves keeps s t answer tells.peers j tells.left apart
+    (same_peer to e s.node s.peers tells.peers answer.neighbour answer.actions j tells.moved un)
+    (closed_moved closed own to e s.node s.peers tells.peers answer.neighbour answer.actions sound.kept
+    sound.neighbourhood.apart tells.moved) un
 
 -- whoever holds the connection on which octets come is told them
 holder_is_told : (n : Node) (ps qs : List (Option Peer)) (who : Option ℕ) (actions : List Action) (j : ℕ) (c : Conn)
@@ -142,21 +150,26 @@ elsewhere c d i f un = by (nat_eq c.0 d.0) refl
     by true e = absurd (un (sym (ap (λ n. record { 0 = n }) (eqb-true c.0 d.0 e))))
     by false e = refl
 
+-- what was taken of one connection is nothing of another
+taken_elsewhere : (c : Conn) (i : Intake) (s t : NodeSession) (j : ℕ) → (holds_at s.peers c j ≡ true → ⊥) →
+    IsLeftAlone j (with_node_intakes (with_intake c.0 (Some i) s.intakes) s) t → IsLeftAlone j s t
+taken_elsewhere c i s t j un alone = record {
+  peer = alone.peer;
+  came = λ d held.
+      alone.came d held
+      ∙ elsewhere c d i s.intakes (λ same. un (subst (λ x. holds_at s.peers x j ≡ true) same held));
+}
+
 octets_leave_others : ClosedIsUnheld → ClosesItsOwn → ClosingKeeps → (c : Conn) (octets : List ℕ) (i : Intake)
     (s t : NodeSession) (answer : NodeAnswer) (j : ℕ) → AreSoundNeighbours s.peers → AreApart t.peers →
     NodeTells None (Arrived c octets) (with_node_intakes (with_intake c.0 (Some i) s.intakes) s) answer t →
     (answer.neighbour ≡ Some j → ⊥) → IsLeftAlone j s t
 octets_leave_others closed own keeps c octets i s t answer j sound apart tells un =
-    let alone = event_leaves_others closed own keeps None (Arrived c octets)
-    (with_node_intakes (with_intake c.0 (Some i) s.intakes) s) t answer j sound apart tells un in
-    record {
-      peer = alone.peer;
-      came = λ d held.
-          alone.came d held
-          ∙ elsewhere c d i s.intakes (λ same. holder_is_told s.node s.peers tells.peers answer.neighbour
-          answer.actions j c octets sound.neighbourhood.apart tells.moved un
-          (subst (λ x. holds_at s.peers x j ≡ true) same held));
-    }
+    taken_elsewhere c i s t j
+    (holder_is_told s.node s.peers tells.peers answer.neighbour answer.actions j c octets sound.neighbourhood.apart
+    tells.moved un)
+    (event_leaves_others closed own keeps None (Arrived c octets)
+    (with_node_intakes (with_intake c.0 (Some i) s.intakes) s) t answer j sound apart tells un)
 
 pub next_leaves_others : ClosedIsUnheld → ClosesItsOwn → ClosingKeeps → (arrived : Option Conn) (c : Conn)
     (s t : NodeSession) (answer : NodeAnswer) (j : ℕ) → AreSoundNeighbours s.peers → AreApart t.peers →
@@ -165,3 +178,46 @@ next_leaves_others closed own keeps None c s t answer j sound apart h un =
     octets_leave_others closed own keeps c [] _ s t answer j sound apart h.told un
 next_leaves_others closed own keeps (Some d) c s t answer j sound apart h un =
     octets_leave_others closed own keeps c h.1.message _ s t answer j sound apart h.1.told un
+
+-- the same by a policy
+same_peer_with : (policy : Policy) (c : Conn) (octets : List ℕ) (n : Node) (ps qs : List (Option Peer))
+    (who : Option ℕ) (actions : List Action) (j : ℕ) → NodeMovesWith policy c octets n ps who actions qs →
+    (who ≡ Some j → ⊥) → peer_at qs j ≡ peer_at ps j
+same_peer_with policy c octets n ps qs (Some i) actions j (inl m) un = m.1.others j (λ is. un (ap Some (sym is)))
+same_peer_with policy c octets n ps qs (Some i) actions j (inr (k, permitted, joins)) un =
+    else_at ps qs i j c octets actions k joins (λ is. un (ap Some (sym is)))
+same_peer_with policy c octets n ps qs None actions j m un =
+    ap (λ l. peer_at l j) (peers_stay policy c octets n ps qs actions m.1)
+
+holder_is_told_with : (policy : Policy) (c : Conn) (octets : List ℕ) (n : Node) (ps qs : List (Option Peer))
+    (who : Option ℕ) (actions : List Action) (j : ℕ) → AreApart ps →
+    NodeMovesWith policy c octets n ps who actions qs → (who ≡ Some j → ⊥) → holds_at ps c j ≡ true → ⊥
+holder_is_told_with policy c octets n ps qs (Some i) actions j apart (inl m) un held =
+    holder_is_told n ps qs (Some i) actions j c octets apart m un held
+holder_is_told_with policy c octets n ps qs (Some i) actions j apart (inr (k, permitted, joins)) un held =
+    permitted.unknown.nobody j (inl held)
+holder_is_told_with policy c octets n ps qs None actions j apart m un held = m.0 j (inl held)
+
+message_leaves_others : ClosedIsUnheld → ClosesItsOwn → PeerLaws → ClosingKeeps → (policy : Policy) (c : Conn)
+    (octets : List ℕ) (i : Intake) (s t : NodeSession) (answer : NodeAnswer) (j : ℕ) → AreSoundNeighbours s.peers →
+    AreApart t.peers →
+    NodeTellsWith policy c octets (with_node_intakes (with_intake c.0 (Some i) s.intakes) s) answer t →
+    (answer.neighbour ≡ Some j → ⊥) → IsLeftAlone j s t
+message_leaves_others closed own laws keeps policy c octets i s t answer j sound apart tells un =
+    taken_elsewhere c i s t j
+    (holder_is_told_with policy c octets s.node s.peers tells.peers answer.neighbour answer.actions j
+    sound.neighbourhood.apart tells.moved un)
+    (settled_leaves keeps (with_node_intakes (with_intake c.0 (Some i) s.intakes) s) t answer tells.peers j tells.left
+    apart
+    (same_peer_with policy c octets s.node s.peers tells.peers answer.neighbour answer.actions j tells.moved un)
+    (closed_with closed own laws policy c octets s.node s.peers tells.peers answer.neighbour answer.actions sound.kept
+    sound.neighbourhood.apart tells.moved) un)
+
+pub next_with_leaves_others : ClosedIsUnheld → ClosesItsOwn → PeerLaws → ClosingKeeps → (policy : Policy)
+    (arrived : Option Conn) (c : Conn) (s t : NodeSession) (answer : NodeAnswer) (j : ℕ) →
+    AreSoundNeighbours s.peers → AreApart t.peers → NodeTellsAsWith policy arrived c s answer t →
+    (answer.neighbour ≡ Some j → ⊥) → IsLeftAlone j s t
+next_with_leaves_others closed own laws keeps policy None c s t answer j sound apart h un =
+    octets_leave_others closed own keeps c [] _ s t answer j sound apart h.told un
+next_with_leaves_others closed own laws keeps policy (Some d) c s t answer j sound apart h un =
+    message_leaves_others closed own laws keeps policy c h.1.message _ s t answer j sound apart h.1.told un

@@ -6,3 +6,4 @@ pub mod NodeTelling
 pub mod NodeOrders
 pub mod NodeLaws
 pub mod NodeHearing
+pub mod NodePolicies

@@ -7,6 +7,7 @@ use Rattle.dm_peer.specs.declared.peer.Peer.{Peer}
 use Rattle.dm_peer.specs.Events.{PeerEvent}
 use Rattle.dm_session.specs.Sessions.{Session, Tells, TellsNext}
 use Rattle.dm_node_session.specs.NodeHeld.{AreKept}
+use Rattle.dm_node_session.specs.NodePolicies.{Policy, NodeTellsNextWith}
 use Rattle.dm_node_session.specs.NodeSessions.{NodeSession, NodeAnswer, NodeTurn, NodeTells, NodeTellsNext}
 
 -- what holds of the neighbours of each session: no connection is held by two, no two have one host, and each is kept
@@ -30,6 +31,13 @@ abbrev pub NextLeavesOthers : Type 0
 NextLeavesOthers =
     (c : Conn) (s t : NodeSession) (turn : NodeTurn) (j : ℕ) → AreSoundNeighbours s.peers
     → AreSoundNeighbours t.peers → NodeTellsNext c s turn t → (turn.answer.neighbour ≡ Some j → ⊥)
+    → IsLeftAlone j s t
+
+-- by a policy too
+abbrev pub NextWithLeavesOthers : Policy → Type 0
+NextWithLeavesOthers policy =
+    (c : Conn) (s t : NodeSession) (turn : NodeTurn) (j : ℕ) → AreSoundNeighbours s.peers
+    → AreSoundNeighbours t.peers → NodeTellsNextWith policy c s turn t → (turn.answer.neighbour ≡ Some j → ⊥)
     → IsLeftAlone j s t
 
 -- the session of a node, as a session of this peer

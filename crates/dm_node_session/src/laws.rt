@@ -2,13 +2,17 @@
 //! contract is the law.
 ghost use Rattle.dm_node_session.specs.NodeHeld.{AllHeldAreThere};
 ghost use Rattle.dm_node_session.specs.NodeLaws.{AreSoundNeighbours, EventLeavesOthers, NextLeavesOthers};
+ghost use Rattle.dm_node_session.specs.NodeLaws.{NextWithLeavesOthers};
 ghost use Rattle.dm_node_session.specs.NodeLaws.{OneIsASession, OneTellsAsASession};
 ghost use Rattle.dm_node_session.specs.NodeSeen.{node_session_of};
 
 use crate::NodeSession;
 use dm_machine::laws::each_opening_has_its_message;
+use dm_node::UnknownHosts;
 use dm_node::laws::neighbours_are_apart;
-use dm_peer::laws::{each_event_is_one_step, each_event_names_what_it_takes};
+use dm_peer::laws::{
+    each_event_is_one_step, each_event_keeps_settled, each_event_names_what_it_takes,
+};
 use dm_session::laws::what_is_there_stays;
 
 /// Each connection that a neighbour holds is there: what comes on it is kept and told.
@@ -36,6 +40,23 @@ pub fn others_are_left_alone()
     each_event_names_what_it_takes();
     each_opening_has_its_message();
     what_is_there_stays();
+}
+
+/// What is told one neighbour by a policy for unknown hosts leaves the others alone, and so does a host that becomes a
+/// neighbour.
+pub fn others_are_left_alone_by<U: UnknownHosts>(policy: &U)
+    ensures { NextWithLeavesOthers (record {
+      makes = U.makes policy.now;
+      turns_away = U.turns_away policy.now;
+      most = U.most policy.now;
+    }) }
+{
+    each_event_is_one_step();
+    each_event_keeps_settled();
+    each_event_names_what_it_takes();
+    each_opening_has_its_message();
+    what_is_there_stays();
+    let _most = policy.most();
 }
 
 /// A node of one neighbour is a session of its peer, wherever that is told something: at an order's event, and at what

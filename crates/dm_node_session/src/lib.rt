@@ -9,9 +9,10 @@ pub mod laws;
 mod node_order;
 mod node_session;
 mod node_turn;
+mod permitting;
 mod telling;
 
-pub use dm_node::{AddFault, EventFault, Neighbours, NodeActions};
+pub use dm_node::{AddFault, EventFault, Neighbours, NodeActions, Template, UnknownHosts};
 pub use dm_peer::{Action, Actions, Cause, Config, Conn, Peer, PeerFault};
 pub use node_order::NodeOrder;
 pub use node_session::NodeSession;

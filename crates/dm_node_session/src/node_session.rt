@@ -25,17 +25,17 @@ pub struct NodeSession {
 }
 
 impl NodeSession {
-    ghost use Rattle.std.specs.Prelude.{◌≡◌, ◌⊎◌, true, [], IfOk, IfErr, IfSome, IfNone, OnOk, OnErr};
+    ghost use Rattle.std.specs.Prelude.{◌≡◌, ◌⊎◌, true, [], None, Some, IfOk, IfErr, IfSome, IfNone, OnOk, OnErr};
     ghost use Rattle.dm_machine.specs.declared.connection.Conn.{Conn};
     ghost use Rattle.dm_node.specs.Telling.{IsFree, told_of};
     ghost use Rattle.dm_node.specs.declared.fault.EventFault.TheVariants as faults;
     ghost use Rattle.dm_peer.specs.declared.fault.PeerFault.TheVariants as peer_faults;
-    ghost use Rattle.dm_session.specs.Intakes.{none_there, is_there, closes};
+    ghost use Rattle.dm_session.specs.Intakes.{Intake, IsFaulty, none_there, is_there, closes};
     ghost use Rattle.dm_session.specs.Naming.{NamesThere};
     ghost use Rattle.dm_node_session.specs.NodeOrders.{node_opened, node_shut};
     ghost use Rattle.dm_node_session.specs.NodeSeen.{node_session_of};
     ghost use Rattle.dm_node_session.specs.NodeSessions.{NodeTells, NodeTellsNext, NodeIsOut, NodeNextTakesMemory};
-    ghost use Rattle.dm_node_session.specs.NodeSessions.{node_fed, node_settled};
+    ghost use Rattle.dm_node_session.specs.NodeSessions.{NodeTellsFault, TakesMemoryAt, node_fed, node_settled};
     ghost use Rattle.dm_node_session.specs.NodeTelling.{neighbour_named, NodeDeclines};
     ghost use Rattle.dm_node_session.specs.NodeTurns.{as_answer, as_node_turn};
 
@@ -142,6 +142,29 @@ impl NodeSession {
         );
     }
 
+    /// Tells the fault that stands at the front of the connection's stream, and throws away what came.
+    pub(crate) fn tell_fault(&mut self, alloc: Global, conn: Conn) -> Result<NodeTurn, AllocError>
+        requires { (i : Intake) × ((node_session_of self.old).intakes conn.0 ≡ Some i) × IsFaulty i }
+        ensures arrived { IfOk result (λ turn. turn.arrived ≡ None) }
+        ensures told { IfOk result (λ turn. NodeTellsFault conn (node_session_of self.old) (as_answer turn.answer)
+            (node_session_of self.new)) }
+        ensures unchanged { OnErr result (node_session_of self.new ≡ node_session_of self.old) }
+        ensures memory { OnErr result (TakesMemoryAt conn [] (node_session_of self.old).peers) }
+    {
+        what_is_there_stays();
+        match tell_neighbours(alloc, &mut self.neighbours, NodeEvent::Arrived(conn, &[])) {
+            Ok(answer) => {
+                self.intakes.break_off(alloc, conn);
+                self.settle(&answer);
+                Ok(NodeTurn {
+                    arrived: None,
+                    answer,
+                })
+            }
+            Err(_) => Err(AllocError),
+        }
+    }
+
     /// Tells the next whole message that came on the connection, or the fault of its stream, to the neighbour that it
     /// concerns; a stranger is answered and closed. None where there is nothing to tell. Where memory is wanted nothing
     /// changes, and it can be told again.
@@ -169,20 +192,10 @@ impl NodeSession {
                     Err(_) => Err(AllocError),
                 }
             }
-            Front::Fault => {
-                let event = NodeEvent::Arrived(conn, &[]);
-                match tell_neighbours(alloc, &mut self.neighbours, event) {
-                    Ok(answer) => {
-                        self.intakes.break_off(alloc, conn);
-                        self.settle(&answer);
-                        Ok(Some(NodeTurn {
-                            arrived: None,
-                            answer,
-                        }))
-                    }
-                    Err(_) => Err(AllocError),
-                }
-            }
+            Front::Fault => match self.tell_fault(alloc, conn) {
+                Ok(turn) => Ok(Some(turn)),
+                Err(error) => Err(error),
+            },
         }
     }
 }

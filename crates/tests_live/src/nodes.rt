@@ -1,7 +1,7 @@
 //! A node of three neighbours with its connections.
 
 use crate::session::{CER_OF_B, DWR_OF_B, config, node};
-use dm_node_session::{Conn, EventFault, NodeOrder, NodeSession};
+use dm_node_session::{Conn, EventFault, NodeOrder, NodeSession, Template};
 use dm_peer::State;
 use std::process::Abort;
 
@@ -47,7 +47,23 @@ fn turn(
     }
 }
 
-/// The message comes on the connection, where it names b.example from the host with this letter: what is told of it.
+/// The message comes on the connection, where it names b.example from the host with this letter.
+fn came(
+    rt: &(impl Abort + AllocGlobal),
+    session: &mut NodeSession,
+    conn: Conn,
+    digits: &str,
+    letter: u8,
+) {
+    let mut octets = hex::decode(rt.alloc(), digits.as_bytes()).expect(rt, "digits");
+    if let Some(octet) = octets.get_mut(28) {
+        *octet = letter;
+    }
+    let _kept = asked(rt, session, NodeOrder::Octets(conn, octets.as_slice()));
+    drop(octets);
+}
+
+/// The same, and what is told of it.
 fn told(
     rt: &(impl Abort + AllocGlobal),
     session: &mut NodeSession,
@@ -55,12 +71,7 @@ fn told(
     digits: &str,
     letter: u8,
 ) -> Option<(Option<usize>, usize)> {
-    let mut octets = hex::decode(rt.alloc(), digits.as_bytes()).expect(rt, "digits");
-    if let Some(octet) = octets.get_mut(28) {
-        *octet = letter;
-    }
-    let _kept = asked(rt, session, NodeOrder::Octets(conn, octets.as_slice()));
-    drop(octets);
+    came(rt, session, conn, digits, letter);
     turn(rt, session, conn)
 }
 
@@ -151,6 +162,61 @@ fn strange(rt: &(impl Abort + AllocGlobal)) -> (Option<(Option<usize>, usize)>, 
     let is_there = session.has(Conn(1));
     drop(session);
     (came, is_there)
+}
+
+/// Of the next turn of the connection by the policy the neighbour, and how many actions it asks for.
+fn turn_with(
+    rt: &(impl Abort + AllocGlobal),
+    session: &mut NodeSession,
+    policy: &Template,
+    conn: Conn,
+) -> Option<(Option<usize>, usize)> {
+    match session.next_with(rt.alloc(), policy, conn) {
+        Ok(Some(turn)) => Some((turn.answer.neighbour, turn.answer.actions.len())),
+        Ok(None) => None,
+        Err(_) => Some((None, 100)),
+    }
+}
+
+/// The host with this letter calls, where each host is taken while there are fewer neighbours than so many: what it
+/// comes to, the state of the fourth neighbour, and whether the connection is there then.
+fn permitted(
+    rt: &(impl Abort + AllocGlobal),
+    most: usize,
+    letter: u8,
+) -> (Option<(Option<usize>, usize)>, Option<State>, bool) {
+    let mut session = three(rt);
+    let policy = Template::new(config(rt, b"b.example"), most);
+    let _none = asked(rt, &mut session, NodeOrder::Accept(Conn(1)));
+    came(rt, &mut session, Conn(1), CER_OF_B, letter);
+    let turn = turn_with(rt, &mut session, &policy, Conn(1));
+    let state = session.neighbours().state_of(3);
+    let is_there = session.has(Conn(1));
+    drop(policy);
+    drop(session);
+    (turn, state, is_there)
+}
+
+/// A host that was taken in says what is no message: what that comes to, what is told behind it, and the state then.
+fn broken(
+    rt: &(impl Abort + AllocGlobal),
+) -> (
+    Option<(Option<usize>, usize)>,
+    Option<(Option<usize>, usize)>,
+    Option<State>,
+) {
+    let mut session = three(rt);
+    let policy = Template::new(config(rt, b"b.example"), 4);
+    let _none = asked(rt, &mut session, NodeOrder::Accept(Conn(1)));
+    came(rt, &mut session, Conn(1), CER_OF_B, b'z');
+    let _taken = turn_with(rt, &mut session, &policy, Conn(1));
+    came(rt, &mut session, Conn(1), "02000014", 0);
+    let fault = turn_with(rt, &mut session, &policy, Conn(1));
+    let behind = turn_with(rt, &mut session, &policy, Conn(1));
+    let state = session.neighbours().state_of(3);
+    drop(policy);
+    drop(session);
+    (fault, behind, state)
 }
 
 /// How much is closed where b.example goes that called, whether its connection is there then, and whether that of
@@ -244,4 +310,25 @@ fn cer_in_place_goes_to_its_neighbour(rt: HostRuntime) {
         (heard(&rt, b'd'), heard(&rt, b'z')),
         (Some((112, Some(2), 1)), Some((112, None, 2)))
     );
+}
+
+#[test]
+fn unknown_host_is_taken_in(rt: HostRuntime) {
+    assert_eq!(rt;
+        (permitted(&rt, 4, b'z'), permitted(&rt, 4, b'b')),
+        (
+            (Some((Some(3), 1)), Some(State::ROpen), true),
+            (Some((Some(0), 1)), None, true)
+        )
+    );
+}
+
+#[test]
+fn one_too_many_is_answered_and_closed(rt: HostRuntime) {
+    assert_eq!(rt; permitted(&rt, 3, b'z'), (Some((None, 2)), None, false));
+}
+
+#[test]
+fn fault_of_a_host_that_was_taken_in_closes_it(rt: HostRuntime) {
+    assert_eq!(rt; broken(&rt), (Some((Some(3), 1)), None, Some(State::Closed)));
 }

@@ -1,10 +1,9 @@
 -- What stands at the front is told, and goes.
-use Rattle.std.proofs.Common.{refl, sym, ◌∙◌, subst, inl, inr, []}
-use Rattle.dm_session.specs.Intakes.{broken_intake}
+use Rattle.std.proofs.Common.{refl, sym, ◌∙◌, subst, inl, inr}
 use Rattle.dm_session.specs.Held.{intakes_of}
 use Rattle.dm_node_session.specs.NodeHeld.{AllHeldAreThere}
 use Rattle.dm_node_session.specs.NodeSeen.{node_session_of}
-use Rattle.dm_node_session.specs.NodeSessions.{NodeTellsMessage, NodeTellsNext}
+use Rattle.dm_node_session.specs.NodeSessions.{NodeTellsAs, NodeTellsMessage, NodeTellsNext}
 use Rattle.dm_node_session.specs.NodeTurns.{as_answer}
 use Rattle.dm_node_session.proofs.NodeStaying.{held_with, arrived_there, settled_as}
 use Rattle.dm_node_session.proofs.node_session.NodeSession.next.Goals as goal
@@ -33,25 +32,11 @@ returns-in-Ok-clause-turn c =
     subst (λ turn. NodeTellsNext c.args.conn old turn (node_session_of c.settle.new.self))
     (sym c.of_message.ensures) (refl, told)
 
-pub returns-in-Ok-tell_neighbours-clause-turn : goal.returns-in-Ok-tell_neighbours-clause-turn
-returns-in-Ok-tell_neighbours-clause-turn c =
-    let at = c.in-Fault.ensures in
-    let old = node_session_of c.args.self.now in
-    let answer = c.in-Ok-tell_neighbours.answer in
-    let qs = c.tell_neighbours-in-Fault.new.neighbours.peers in
-    let gone = c.break_off.ensures at.0 at.1 in
-    record {
-      intake = at.0;
-      there = at.1;
-      faulty = at.2;
-      told = record {
-        peers = qs;
-        moved = c.in-Ok-tell_neighbours.ensures.moved;
-        left = c.settle-in-Ok-tell_neighbours.ensures ∙
-            settled_as old c.tell_neighbours-in-Fault.new.neighbours.node qs answer.neighbour answer.actions.items _ _
-            c.tell_neighbours-in-Fault.ensures.node gone;
-      };
-    }
+pub returns-in-Ok-tell_fault-clause-turn : goal.returns-in-Ok-tell_fault-clause-turn
+returns-in-Ok-tell_fault-clause-turn c =
+    let turn = c.in-Ok-tell_fault.turn in
+    subst (λ arrived. NodeTellsAs arrived c.args.conn (node_session_of c.args.self.now) (as_answer turn.answer)
+    (node_session_of c.tell_fault.new.self)) (sym c.in-Ok-tell_fault.ensures.arrived) c.in-Ok-tell_fault.ensures.told
 
 pub invariant_of-self-in-Ok : goal.invariant_of-self-in-Ok
 invariant_of-self-in-Ok c =
@@ -68,20 +53,6 @@ invariant_of-self-in-Ok c =
       kept = c.tell_neighbours.ensures.kept;
     }
 
-pub invariant_of-self-in-Ok-tell_neighbours : goal.invariant_of-self-in-Ok-tell_neighbours
-invariant_of-self-in-Ok-tell_neighbours c =
-    let at = c.in-Fault.ensures in
-    let old = intakes_of c.args.self.now.intakes in
-    let qs = c.tell_neighbours-in-Fault.new.neighbours.peers in
-    let gone = c.break_off.ensures at.0 at.1 in
-    let held = c.tell_neighbours-in-Fault.ensures.held old c.args.self.now.held
-    (arrived_there c.args.conn [] at.0 old at.1) in
-    record {
-      held = subst (AllHeldAreThere qs) (sym gone)
-          (held_with c.what_is_there_stays.ensures.told qs c.args.conn.0 (broken_intake at.0) old held);
-      kept = c.tell_neighbours-in-Fault.ensures.kept;
-    }
-
 pub returns-in-Err-clause-memory : goal.returns-in-Err-clause-memory
 returns-in-Err-clause-memory c =
     let at = c.in-Message.ensures in
@@ -94,7 +65,7 @@ returns-in-Err-clause-memory c =
       c.in-Err.ensures.memory c.args.conn c.in-Message.message.now refl,
     )
 
-pub returns-in-Err-tell_neighbours-clause-memory : goal.returns-in-Err-tell_neighbours-clause-memory
-returns-in-Err-tell_neighbours-clause-memory c =
+pub returns-in-Err-tell_fault-clause-memory : goal.returns-in-Err-tell_fault-clause-memory
+returns-in-Err-tell_fault-clause-memory c =
     let at = c.in-Fault.ensures in
-    inr (at.0, at.1, at.2, c.in-Err-tell_neighbours.ensures.memory c.args.conn [] refl)
+    inr (at.0, at.1, at.2, c.in-Err-tell_fault.ensures.memory)
