@@ -5,5 +5,6 @@ pub mod NodeEmptying
 pub mod NodeStarting
 pub mod Others
 pub mod Alone
+pub mod NodeCuts
 pub mod NodeHeard
 pub mod Newcomers

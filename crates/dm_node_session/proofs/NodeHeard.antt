@@ -1,21 +1,20 @@
 -- A message that is told where it lies is told as if it had been kept first.
-use Rattle.std.proofs.Common.{◌≡◌, ℕ, Bool, true, false, cond, nat_eq, Option, None, Some, List, [], ◌++◌, take, drop, refl, sym, ap, ◌∙◌}
+use Rattle.std.proofs.Common.{◌≡◌, ℕ, Bool, true, false, cond, nat_eq, Option, None, Some, List, [], ◌++◌, take, drop, refl, sym, ap, ◌∙◌, subst}
 use Rattle.std.proofs.Math.Path.{fun_ext}
-use Rattle.std.proofs.lemmas.Bool.{eqb-true, eq-eqb}
-use Rattle.std.proofs.lemmas.List.{append-nil, length-take-le}
+use Rattle.std.proofs.lemmas.Bool.{eqb-true}
+use Rattle.std.proofs.lemmas.List.{append-nil, drop_at, length-take-le}
 use Rattle.std.specs.Option.{option_map}
+use Rattle.dm_framer.specs.Laws.{FaultStands}
 use Rattle.dm_machine.specs.declared.connection.Conn.{Conn}
 use Rattle.dm_peer.specs.declared.peer.Peer.{Peer}
 use Rattle.dm_peer.specs.Events.{Arrived}
 use Rattle.dm_session.specs.Hearing.{IsWholeIn, IsWholeAt}
 use Rattle.dm_session.specs.Intakes.{Intake, with_intake, fed_intake}
 use Rattle.dm_node_session.specs.NodeHearing.{NodeHearsWhole}
-use Rattle.dm_node_session.specs.NodeSessions.{NodeSession, NodeAnswer, NodeMoves, NodeTellsMessage, node_fed, node_settled, with_node_intakes}
+use Rattle.dm_node_session.specs.NodeSessions.{NodeSession, NodeAnswer, NodeTurn, NodeMoves, NodeTellsMessage, NodeTellsNext, node_fed, node_settled, with_node_intakes}
+use Rattle.dm_node_session.proofs.NodeCuts.{longer, there_fed, fed_twice, next_fed}
 
--- the intake with a piece more, and one of which all is told
-abbrev longer : List ℕ → Intake → Intake
-longer more i = record { octets = i.octets ++ more; max = i.max; is_broken = i.is_broken }
-
+-- an intake of which all is told
 abbrev emptied : Intake → Intake
 emptied i = record { octets = []; max = i.max; is_broken = i.is_broken }
 
@@ -24,12 +23,6 @@ was_empty i none = ap (λ l. with_these l) (sym none)
   where
     with_these : List ℕ → Intake
     with_these l = record { octets = l; max = i.max; is_broken = i.is_broken }
-
-there_fed : (c : Conn) (more : List ℕ) (s : NodeSession) (i : Intake) → s.intakes c.0 ≡ Some i → i.is_broken ≡ false →
-    (node_fed c more s).intakes c.0 ≡ Some (longer more i)
-there_fed c more s i there e =
-    ap (λ b. cond b (option_map (fed_intake more) (s.intakes c.0)) (s.intakes c.0)) (eq-eqb c.0 c.0 refl)
-    ∙ ap (option_map (fed_intake more)) there ∙ ap (λ v. Some v) (ap (λ b. cond b i (longer more i)) e)
 
 -- where nothing was kept, a message that came and went leaves nothing
 came_and_went : (c : Conn) (message : List ℕ) (s : NodeSession) (i : Intake) → s.intakes c.0 ≡ Some i →
@@ -84,3 +77,13 @@ heard_where_it_lies c piece s t answer qs size h moved left = record {
     told_where_it_lies c (take size piece) (drop size piece) piece s t answer qs h.intake h.there h.front moved left,
   );
 }
+
+pub heard_alike : FaultStands → (c : Conn) (piece : List ℕ) (s t : NodeSession) (turn : NodeTurn) (size : ℕ) →
+    NodeHearsWhole c piece s turn size t → NodeTellsNext c (node_fed c piece s) turn (node_fed c (drop size piece) t)
+heard_alike stands c piece s t turn size h =
+    let rest : drop size piece ≡ h.rest = ap (drop size) h.front.piece_is ∙ drop_at h.message h.rest size (sym h.size_is) in
+    let whole : node_fed c h.rest (node_fed c h.message s) ≡ node_fed c piece s =
+    fed_twice c h.message h.rest s ∙ ap (λ l. node_fed c l s) (sym h.front.piece_is) in
+    subst (λ v. NodeTellsNext c v turn (node_fed c (drop size piece) t)) whole
+    (subst (λ l. NodeTellsNext c (node_fed c h.rest (node_fed c h.message s)) turn (node_fed c l t)) (sym rest)
+    (next_fed stands turn.arrived c h.rest (node_fed c h.message s) t turn.answer h.told))

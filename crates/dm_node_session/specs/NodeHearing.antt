@@ -1,5 +1,5 @@
 -- A whole message on a node's connection that is told where it lies, in the piece that brought it.
-use Rattle.std.specs.Prelude.{◌≡◌, ℕ, Some, IfSome, List, length, take}
+use Rattle.std.specs.Prelude.{◌≡◌, ℕ, Some, IfSome, List, length, take, drop}
 use Rattle.dm_machine.specs.declared.connection.Conn.{Conn}
 use Rattle.dm_session.specs.Hearing.{IsWholeIn, IsWholeAt, IsNotWhole}
 use Rattle.dm_session.specs.Intakes.{Intake}
@@ -26,3 +26,9 @@ NodeHearTakesMemory c piece s =
 -- or the piece begins with no whole message
 abbrev pub NodeHearsNothing : Conn → List ℕ → NodeSession → Type 0
 NodeHearsNothing c piece s = IfSome (s.intakes c.0) (λ i. IsNotWhole i piece)
+
+-- what is told where it lies is told as if the whole piece had come first
+abbrev pub NodeHeardAlike : Type 0
+NodeHeardAlike =
+    (c : Conn) (piece : List ℕ) (s t : NodeSession) (turn : NodeTurn) (size : ℕ)
+    → NodeHearsWhole c piece s turn size t → NodeTellsNext c (node_fed c piece s) turn (node_fed c (drop size piece) t)

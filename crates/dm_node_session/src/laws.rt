@@ -1,5 +1,6 @@
 //! Laws of a node's session. Each function is a law: it does nothing but call the laws that it stands on, and its
 //! contract is the law.
+ghost use Rattle.dm_node_session.specs.NodeHearing.{NodeHeardAlike};
 ghost use Rattle.dm_node_session.specs.NodeHeld.{AllHeldAreThere};
 ghost use Rattle.dm_node_session.specs.NodeLaws.{AreSoundNeighbours, EventLeavesOthers, NextLeavesOthers};
 ghost use Rattle.dm_node_session.specs.NodeLaws.{NextWithLeavesOthers};
@@ -7,6 +8,7 @@ ghost use Rattle.dm_node_session.specs.NodeLaws.{OneIsASession, OneTellsAsASessi
 ghost use Rattle.dm_node_session.specs.NodeSeen.{node_session_of};
 
 use crate::NodeSession;
+use dm_framer::laws::one_front;
 use dm_machine::laws::each_opening_has_its_message;
 use dm_node::UnknownHosts;
 use dm_node::laws::neighbours_are_apart;
@@ -66,3 +68,10 @@ pub fn one_neighbour_is_a_session()
     ensures event { OneIsASession }
     ensures octets { OneTellsAsASession }
 {}
+
+/// A message that is told where it lies is told as if the whole piece had been kept first.
+pub fn heard_alike()
+    ensures { NodeHeardAlike }
+{
+    one_front();
+}

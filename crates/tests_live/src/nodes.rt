@@ -155,6 +155,14 @@ fn heard(rt: &(impl Abort + AllocGlobal), letter: u8) -> Option<(usize, Option<u
     told
 }
 
+/// Of such a CER that is kept first, the neighbour, and how many actions it asks for.
+fn kept(rt: &(impl Abort + AllocGlobal), letter: u8) -> Option<(Option<usize>, usize)> {
+    let mut session = three(rt);
+    let told = called(rt, &mut session, Conn(1), letter);
+    drop(session);
+    told
+}
+
 /// What a stranger comes to, and whether his connection is there then.
 fn strange(rt: &(impl Abort + AllocGlobal)) -> (Option<(Option<usize>, usize)>, bool) {
     let mut session = three(rt);
@@ -309,6 +317,14 @@ fn cer_in_place_goes_to_its_neighbour(rt: HostRuntime) {
     assert_eq!(rt;
         (heard(&rt, b'd'), heard(&rt, b'z')),
         (Some((112, Some(2), 1)), Some((112, None, 2)))
+    );
+}
+
+#[test]
+fn cer_in_place_is_told_as_if_it_were_kept(rt: HostRuntime) {
+    assert_eq!(rt;
+        (kept(&rt, b'd'), kept(&rt, b'z')),
+        (Some((Some(2), 1)), Some((None, 2)))
     );
 }
 
