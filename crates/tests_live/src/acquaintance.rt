@@ -118,9 +118,13 @@ fn met_at_nack(
     let _none = asked(rt, &mut session, Order::Accept(R));
     let crossed = told_in_halves(rt, &mut session, &mut known, R, CER_OF_7);
     let waiting = known.state();
-    let _actions = session.take_met(rt.alloc(), Order::Nack(own), &mut known).is_ok();
+    let _actions = session
+        .take_met(rt.alloc(), Order::Nack(own), &mut known)
+        .is_ok();
     let met = known.state();
-    let _refused = session.take_met(rt.alloc(), Order::Start(Conn(1)), &mut known).is_ok();
+    let _refused = session
+        .take_met(rt.alloc(), Order::Start(Conn(1)), &mut known)
+        .is_ok();
     let later = known.state();
     drop(known);
     drop(session);
