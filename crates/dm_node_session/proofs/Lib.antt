@@ -8,3 +8,4 @@ pub mod Alone
 pub mod NodeCuts
 pub mod NodeHeard
 pub mod Newcomers
+pub mod NodeOnce

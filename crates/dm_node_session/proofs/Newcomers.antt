@@ -71,7 +71,7 @@ step_takes alone p q d octets actions shaped s c other free =
     (alone p.standing.core i (wins p.config) c shaped) in
     ap is_held (at (both _ _ (free_hold _ free) (not_named d octets s.heard c other))).0
 
-takes_named : EachEventIsOneStep → LeavesOthersAlone → (p q : Peer) (d : Conn) (octets : List ℕ)
+pub takes_named : EachEventIsOneStep → LeavesOthersAlone → (p q : Peer) (d : Conn) (octets : List ℕ)
     (actions : List Action) → IsTrue (is_shaped p.standing.core) → acts p (Arrived d octets) ≡ Moved actions q →
     (c : Conn) → (d.0 == c.0) ≡ false → holds c p ≡ false → holds c q ≡ false
 takes_named step alone p q d octets actions shaped is c other free =

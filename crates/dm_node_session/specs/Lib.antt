@@ -7,3 +7,4 @@ pub mod NodeOrders
 pub mod NodeLaws
 pub mod NodeHearing
 pub mod NodePolicies
+pub mod NodeStreams

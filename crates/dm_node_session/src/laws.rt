@@ -6,6 +6,8 @@ ghost use Rattle.dm_node_session.specs.NodeLaws.{AreSoundNeighbours, EventLeaves
 ghost use Rattle.dm_node_session.specs.NodeLaws.{NextWithLeavesOthers};
 ghost use Rattle.dm_node_session.specs.NodeLaws.{OneIsASession, OneTellsAsASession};
 ghost use Rattle.dm_node_session.specs.NodeSeen.{node_session_of};
+ghost use Rattle.dm_node_session.specs.NodeStreams.{NodeCutsAlike, NodeCutsAlikeWith};
+ghost use Rattle.dm_node_session.specs.NodeStreams.{NodeOneTelling, NodeCutsToldOut, NodePiecesToldOut};
 
 use crate::NodeSession;
 use dm_framer::laws::one_front;
@@ -74,4 +76,36 @@ pub fn heard_alike()
     ensures { NodeHeardAlike }
 {
     one_front();
+}
+
+/// Whatever cuts a stream, telling the pieces is a telling of the whole.
+pub fn cuts_alike()
+    ensures { NodeCutsAlike }
+{
+    one_front();
+}
+
+/// The same of what is told by a policy for unknown hosts.
+pub fn cuts_alike_by<U: UnknownHosts>(policy: &U)
+    ensures { NodeCutsAlikeWith (record {
+      makes = U.makes policy.now;
+      turns_away = U.turns_away policy.now;
+      most = U.most policy.now;
+    }) }
+{
+    one_front();
+    let _most = policy.most();
+}
+
+/// However a stream is cut, what is told until nothing is left is the same: the turns, in order, of which neighbour
+/// each is, and the session behind them.
+pub fn one_telling()
+    ensures once { NodeOneTelling }
+    ensures cut { NodeCutsToldOut }
+    ensures pieces { NodePiecesToldOut }
+{
+    one_front();
+    each_event_is_one_step();
+    each_event_keeps_settled();
+    each_opening_has_its_message();
 }

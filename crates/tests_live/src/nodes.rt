@@ -155,6 +155,41 @@ fn heard(rt: &(impl Abort + AllocGlobal), letter: u8) -> Option<(usize, Option<u
     told
 }
 
+/// A CER and a watchdog of c.example, one behind the other.
+fn stream(rt: &(impl Abort + AllocGlobal)) -> Vec<u8> {
+    let mut octets = hex::decode(rt.alloc(), CER_OF_B.as_bytes()).expect(rt, "digits");
+    let watchdog = hex::decode(rt.alloc(), DWR_OF_B.as_bytes()).expect(rt, "digits");
+    octets
+        .extend_from_slice(watchdog.as_slice())
+        .expect(rt, "memory");
+    for at in [28, 140] {
+        if let Some(octet) = octets.get_mut(at) {
+            *octet = b'c';
+        }
+    }
+    octets
+}
+
+/// The stream comes in two pieces, cut behind so many octets: two turns behind each.
+fn cut(rt: &(impl Abort + AllocGlobal), at: usize) -> [Option<(Option<usize>, usize)>; 4] {
+    let mut session = three(rt);
+    let octets = stream(rt);
+    let (piece, more) = octets
+        .as_slice()
+        .split_at_checked(at)
+        .expect(rt, "two pieces");
+    let _none = asked(rt, &mut session, NodeOrder::Accept(Conn(1)));
+    let _kept = asked(rt, &mut session, NodeOrder::Octets(Conn(1), piece));
+    let first = turn(rt, &mut session, Conn(1));
+    let second = turn(rt, &mut session, Conn(1));
+    let _kept = asked(rt, &mut session, NodeOrder::Octets(Conn(1), more));
+    let third = turn(rt, &mut session, Conn(1));
+    let fourth = turn(rt, &mut session, Conn(1));
+    drop(octets);
+    drop(session);
+    [first, second, third, fourth]
+}
+
 /// Of such a CER that is kept first, the neighbour, and how many actions it asks for.
 fn kept(rt: &(impl Abort + AllocGlobal), letter: u8) -> Option<(Option<usize>, usize)> {
     let mut session = three(rt);
@@ -346,5 +381,18 @@ fn one_too_many_is_answered_and_closed(rt: HostRuntime) {
 
 #[test]
 fn fault_of_a_host_that_was_taken_in_closes_it(rt: HostRuntime) {
-    assert_eq!(rt; broken(&rt), (Some((Some(3), 1)), None, Some(State::Closed)));
+    assert_eq!(rt;
+        broken(&rt),
+        (Some((Some(3), 1)), None, Some(State::Closed))
+    );
+}
+
+#[test]
+fn stream_is_told_alike_however_it_is_cut(rt: HostRuntime) {
+    let told = Some((Some(1), 1));
+    assert_eq!(rt; cut(&rt, 0), [None, None, told, told]);
+    assert_eq!(rt; cut(&rt, 60), [None, None, told, told]);
+    assert_eq!(rt; cut(&rt, 112), [told, None, told, None]);
+    assert_eq!(rt; cut(&rt, 140), [told, None, told, None]);
+    assert_eq!(rt; cut(&rt, 168), [told, told, None, None]);
 }
