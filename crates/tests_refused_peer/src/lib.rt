@@ -20,6 +20,8 @@ mod runs;
 #[cfg(test)]
 mod scripts;
 #[cfg(test)]
+mod sessions;
+#[cfg(test)]
 mod unknown;
 #[cfg(test)]
 mod words;
