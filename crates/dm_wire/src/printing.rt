@@ -1,8 +1,8 @@
 //! Octets, AVPs and headers as text.
-ghost use Rattle.std.specs.Prelude.{◌≡◌, ◌∷◌, [], Some, length};
+ghost use Rattle.std.specs.Prelude.{◌≡◌, ◌∷◌, [], Some, codes};
 ghost use Rattle.hex.specs.Hex.{encode_lower};
 ghost use Rattle.dm_wire.specs.Borrowed.{avp_of};
-ghost use Rattle.dm_wire.specs.Printed.{marks, avp_front_text, avp_text, list_text, header_text, vendor_text, data_text};
+ghost use Rattle.dm_wire.specs.Printed.{marks, avp_marks, avp_front_text, avp_text, list_text, header_text, vendor_text, data_text};
 
 use crate::{Avp, AvpRef, Header, Listed};
 use dm_text::Hexadecimal;
@@ -39,12 +39,8 @@ impl fmt::Display for AvpFront<'_> {
     #[tactic(auto, unfolding(crate::specs::Printed::avp_front_text))]
     fn fmt<W: fmt::Write>(&self, f: &mut fmt::Formatter<W>) -> fmt::Result {
         let vendor = VendorText(self.0.vendor);
-        let (v, m, p) = (
-            mark(self.0.vendor.is_some(), "V"),
-            mark(self.0.mandatory, "M"),
-            mark(self.0.protected, "P"),
-        );
-        write!(f, "{}{vendor} {v}{m}{p}", self.0.code)
+        let letters = avp_letters_of(self.0.vendor.is_some(), self.0.mandatory, self.0.protected);
+        write!(f, "{}{vendor} {letters}", self.0.code)
     }
 }
 
@@ -76,20 +72,52 @@ impl fmt::Display for Header {
 
     #[tactic(auto, unfolding(crate::specs::Printed::header_text))]
     fn fmt<W: fmt::Write>(&self, f: &mut fmt::Formatter<W>) -> fmt::Result {
-        let (r, p) = (mark(self.request, "R"), mark(self.proxiable, "P"));
-        let (e, t) = (mark(self.error, "E"), mark(self.retransmit, "T"));
-        write!(f, "message {} {r}{p}{e}{t}", self.command)?;
+        let kind = kind_letters(self.request, self.proxiable);
+        let state = state_letters(self.error, self.retransmit);
+        write!(f, "message {} {kind}{state}", self.command)?;
         write!(f, " app {}", self.application)?;
         write!(f, " hop {} end {}", self.hop_id, self.end_id)
     }
 }
 
-/// The flag's letter where it is set, else `-`.
-fn mark(is_set: bool, letter: &'static str) -> &'static str
-    requires { length letter.now ≡ 1 }
-    ensures { result.now ≡ marks (is_set ∷ []) letter.now }
+/// The letters of an AVP's flags, each where its flag is set, else `-`: as one text, so that it is written at once.
+fn avp_letters_of(vendor: bool, mandatory: bool, protected: bool) -> &'static str
+    ensures { result.now ≡ avp_marks vendor mandatory protected }
 {
-    if is_set { letter } else { "-" }
+    match (vendor, mandatory, protected) {
+        (false, false, false) => "---",
+        (false, false, true) => "--P",
+        (false, true, false) => "-M-",
+        (false, true, true) => "-MP",
+        (true, false, false) => "V--",
+        (true, false, true) => "V-P",
+        (true, true, false) => "VM-",
+        (true, true, true) => "VMP",
+    }
+}
+
+/// The letters of a header's first two flags.
+fn kind_letters(request: bool, proxiable: bool) -> &'static str
+    ensures { result.now ≡ marks (request ∷ proxiable ∷ []) (codes "RP") }
+{
+    match (request, proxiable) {
+        (false, false) => "--",
+        (false, true) => "-P",
+        (true, false) => "R-",
+        (true, true) => "RP",
+    }
+}
+
+/// The letters of its other two.
+fn state_letters(error: bool, retransmit: bool) -> &'static str
+    ensures { result.now ≡ marks (error ∷ retransmit ∷ []) (codes "ET") }
+{
+    match (error, retransmit) {
+        (false, false) => "--",
+        (false, true) => "-T",
+        (true, false) => "E-",
+        (true, true) => "ET",
+    }
 }
 
 /// The vendor of an AVP behind a `/`, where there is one.
