@@ -7,11 +7,13 @@ pub mod Findings
 pub mod Framing
 pub mod Fronts
 pub mod Headers
+pub mod Holding
 pub mod Limit
 pub mod Lists
 pub mod Members
 pub mod Messages
 pub mod Numbers
+pub mod Placing
 pub mod Reading
 pub mod RoundTrips
 pub mod Spellings

@@ -7,6 +7,7 @@ pub mod Extents
 pub mod Finding
 pub mod Fitting
 pub mod Framing
+pub mod Held
 pub mod Limits
 pub mod Making
 pub mod Members

@@ -2,7 +2,8 @@
 ghost use Rattle.std.specs.Prelude.{◌≡◌, ◌∷◌, [], Some, codes};
 ghost use Rattle.hex.specs.Hex.{encode_lower};
 ghost use Rattle.dm_wire.specs.Borrowed.{avp_of};
-ghost use Rattle.dm_wire.specs.Printed.{marks, avp_marks, avp_front_text, avp_text, list_text, header_text, vendor_text, data_text};
+ghost use Rattle.dm_wire.specs.Printed.{marks, avp_marks, avp_front_text, avp_text, list_text};
+ghost use Rattle.dm_wire.specs.Printed.{header_text, vendor_text, data_text};
 
 use crate::{Avp, AvpRef, Header, Listed};
 use dm_text::Hexadecimal;

@@ -1,5 +1,5 @@
 -- Header, Vendor-ID, data and padding are the canonical spelling.
-use Rattle.std.proofs.Common.{◌≡◌, ◌+◌, length, refl}
+use Rattle.std.proofs.Common.{◌≡◌, refl}
 use Rattle.dm_wire.specs.Spelling.{avp_length}
 use Rattle.dm_wire.specs.Borrowed.{avp_of}
 use Rattle.dm_wire.proofs.Canonicals.{avp_put}
