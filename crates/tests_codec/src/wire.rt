@@ -2,6 +2,7 @@
 
 mod decode;
 mod encode;
+mod held;
 mod parts;
 mod walk;
 
