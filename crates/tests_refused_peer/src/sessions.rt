@@ -146,8 +146,8 @@ fn call_once(
     }
 }
 
-/// The messages of a run: a stranger's CER, that of the neighbour, that of a host that is permitted, and a message of an
-/// application. The call of this place has a refusal.
+/// The messages of a run: a stranger's CER, that of the neighbour, that of a host that is permitted, and a message of
+/// an application. The call of this place has a refusal.
 #[derive(Clone, Copy)]
 struct Run<'a> {
     strange: &'a [u8],
