@@ -9,3 +9,4 @@ pub mod NodeCuts
 pub mod NodeHeard
 pub mod Newcomers
 pub mod NodeOnce
+pub mod NodeEnds

@@ -214,7 +214,7 @@ message_fed_with policy c more s t answer h =
       };
     }
 
-next_fed_with : FaultStands → (policy : Policy) (arrived : Option Conn) (c : Conn) (more : List ℕ) (s t : NodeSession)
+pub next_fed_with : FaultStands → (policy : Policy) (arrived : Option Conn) (c : Conn) (more : List ℕ) (s t : NodeSession)
     (answer : NodeAnswer) → NodeTellsAsWith policy arrived c s answer t →
     NodeTellsAsWith policy arrived c (node_fed c more s) answer (node_fed c more t)
 next_fed_with stands policy None c more s t answer h = fault_fed stands c more s t answer h

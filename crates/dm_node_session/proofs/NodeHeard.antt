@@ -10,9 +10,10 @@ use Rattle.dm_peer.specs.declared.peer.Peer.{Peer}
 use Rattle.dm_peer.specs.Events.{Arrived}
 use Rattle.dm_session.specs.Hearing.{IsWholeIn, IsWholeAt}
 use Rattle.dm_session.specs.Intakes.{Intake, with_intake, fed_intake}
-use Rattle.dm_node_session.specs.NodeHearing.{NodeHearsWhole}
+use Rattle.dm_node_session.specs.NodeHearing.{NodeHearsWhole, NodeHearsWholeWith}
+use Rattle.dm_node_session.specs.NodePolicies.{Policy, NodeMovesWith, NodeTellsMessageWith, NodeTellsNextWith}
 use Rattle.dm_node_session.specs.NodeSessions.{NodeSession, NodeAnswer, NodeTurn, NodeMoves, NodeTellsMessage, NodeTellsNext, node_fed, node_settled, with_node_intakes}
-use Rattle.dm_node_session.proofs.NodeCuts.{longer, there_fed, fed_twice, next_fed}
+use Rattle.dm_node_session.proofs.NodeCuts.{longer, there_fed, fed_twice, next_fed, next_fed_with}
 
 -- an intake of which all is told
 abbrev emptied : Intake → Intake
@@ -87,3 +88,59 @@ heard_alike stands c piece s t turn size h =
     subst (λ v. NodeTellsNext c v turn (node_fed c (drop size piece) t)) whole
     (subst (λ l. NodeTellsNext c (node_fed c h.rest (node_fed c h.message s)) turn (node_fed c l t)) (sym rest)
     (next_fed stands turn.arrived c h.rest (node_fed c h.message s) t turn.answer h.told))
+
+-- the same by a policy
+told_with_where_it_lies : (policy : Policy) (c : Conn) (message rest piece : List ℕ) (s t : NodeSession)
+    (answer : NodeAnswer) (qs : List (Option Peer)) (i : Intake) → s.intakes c.0 ≡ Some i →
+    IsWholeIn i piece message rest →
+    NodeMovesWith policy c message s.node s.peers answer.neighbour answer.actions qs →
+    t ≡ node_settled answer.neighbour qs answer.actions s →
+    NodeTellsMessageWith policy c (node_fed c message s) answer t
+told_with_where_it_lies policy c message rest piece s t answer qs i there front moved left = record {
+  intake = longer message i;
+  message = message;
+  rest = [];
+  there = there_fed c message s i there front.whole;
+  first = record {
+    whole = front.whole;
+    frame = front.frame;
+    octets = ap (λ l. l ++ message) front.none_kept ∙ sym (append-nil message);
+  };
+  told = record {
+    peers = qs;
+    moved = moved;
+    left = left ∙ ap (node_settled answer.neighbour qs answer.actions)
+        (sym (came_and_went c message s i there front.none_kept));
+  };
+}
+
+pub heard_with_where_it_lies : (policy : Policy) (c : Conn) (piece : List ℕ) (s t : NodeSession) (answer : NodeAnswer)
+    (qs : List (Option Peer)) (size : ℕ) → IsWholeAt (s.intakes c.0) piece size →
+    NodeMovesWith policy c (take size piece) s.node s.peers answer.neighbour answer.actions qs →
+    t ≡ node_settled answer.neighbour qs answer.actions s →
+    NodeHearsWholeWith policy c piece s (record { arrived = Some c; answer = answer }) size t
+heard_with_where_it_lies policy c piece s t answer qs size h moved left = record {
+  intake = h.intake;
+  message = take size piece;
+  rest = drop size piece;
+  there = h.there;
+  front = h.front;
+  size_is = sym (length-take-le size piece h.within);
+  arrived = refl;
+  told = (
+    refl,
+    told_with_where_it_lies policy c (take size piece) (drop size piece) piece s t answer qs h.intake h.there h.front
+        moved left,
+  );
+}
+
+pub heard_alike_with : FaultStands → (policy : Policy) (c : Conn) (piece : List ℕ) (s t : NodeSession)
+    (turn : NodeTurn) (size : ℕ) → NodeHearsWholeWith policy c piece s turn size t →
+    NodeTellsNextWith policy c (node_fed c piece s) turn (node_fed c (drop size piece) t)
+heard_alike_with stands policy c piece s t turn size h =
+    let rest : drop size piece ≡ h.rest = ap (drop size) h.front.piece_is ∙ drop_at h.message h.rest size (sym h.size_is) in
+    let whole : node_fed c h.rest (node_fed c h.message s) ≡ node_fed c piece s =
+    fed_twice c h.message h.rest s ∙ ap (λ l. node_fed c l s) (sym h.front.piece_is) in
+    subst (λ v. NodeTellsNextWith policy c v turn (node_fed c (drop size piece) t)) whole
+    (subst (λ l. NodeTellsNextWith policy c (node_fed c h.rest (node_fed c h.message s)) turn (node_fed c l t)) (sym rest)
+    (next_fed_with stands policy turn.arrived c h.rest (node_fed c h.message s) t turn.answer h.told))

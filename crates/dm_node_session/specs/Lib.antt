@@ -8,3 +8,4 @@ pub mod NodeLaws
 pub mod NodeHearing
 pub mod NodePolicies
 pub mod NodeStreams
+pub mod NodeEnding

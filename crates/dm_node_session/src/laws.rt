@@ -1,6 +1,8 @@
 //! Laws of a node's session. Each function is a law: it does nothing but call the laws that it stands on, and its
 //! contract is the law.
-ghost use Rattle.dm_node_session.specs.NodeHearing.{NodeHeardAlike};
+ghost use Rattle.dm_node_session.specs.NodeEnding.{NodeCloseIsLast, NodeGoneIsSilent, NodeGoneTellsNothing};
+ghost use Rattle.dm_node_session.specs.NodeEnding.{NodeEndsWith};
+ghost use Rattle.dm_node_session.specs.NodeHearing.{NodeHeardAlike, NodeHeardAlikeWith};
 ghost use Rattle.dm_node_session.specs.NodeHeld.{AllHeldAreThere};
 ghost use Rattle.dm_node_session.specs.NodeLaws.{AreSoundNeighbours, EventLeavesOthers, NextLeavesOthers};
 ghost use Rattle.dm_node_session.specs.NodeLaws.{NextWithLeavesOthers};
@@ -78,6 +80,18 @@ pub fn heard_alike()
     one_front();
 }
 
+/// The same of what is told by a policy for unknown hosts.
+pub fn heard_alike_by<U: UnknownHosts>(policy: &U)
+    ensures { NodeHeardAlikeWith (record {
+      makes = U.makes policy.now;
+      turns_away = U.turns_away policy.now;
+      most = U.most policy.now;
+    }) }
+{
+    one_front();
+    let _most = policy.most();
+}
+
 /// Whatever cuts a stream, telling the pieces is a telling of the whole.
 pub fn cuts_alike()
     ensures { NodeCutsAlike }
@@ -108,4 +122,22 @@ pub fn one_telling()
     each_event_is_one_step();
     each_event_keeps_settled();
     each_opening_has_its_message();
+}
+
+/// Nothing is told of a connection behind its Close or its end.
+pub fn closed_is_down()
+    ensures close { NodeCloseIsLast }
+    ensures order { NodeGoneIsSilent }
+    ensures octets { NodeGoneTellsNothing }
+{}
+
+/// The same of what is told by a policy for unknown hosts.
+pub fn closed_is_down_by<U: UnknownHosts>(policy: &U)
+    ensures { NodeEndsWith (record {
+      makes = U.makes policy.now;
+      turns_away = U.turns_away policy.now;
+      most = U.most policy.now;
+    }) }
+{
+    let _most = policy.most();
 }

@@ -5,6 +5,7 @@ ghost use Rattle.dm_node.specs.Telling.{IsFree};
 ghost use Rattle.dm_peer.specs.Events.{Arrived};
 ghost use Rattle.dm_session.specs.Intakes.{Intakes as AllIntakes, closes};
 ghost use Rattle.dm_session.specs.Naming.{NamesThere};
+ghost use Rattle.dm_node_session.specs.NodeHearing.{NodeHearsWholeWith, NodeHearTakesMemory, NodeHearsNothing};
 ghost use Rattle.dm_node_session.specs.NodeHeld.{AllHeldAreThere, AreKept};
 ghost use Rattle.dm_node_session.specs.NodePolicies.{NodeMovesWith, NodeTellsNextWith};
 ghost use Rattle.dm_node_session.specs.NodeSeen.{node_session_of};
@@ -12,7 +13,7 @@ ghost use Rattle.dm_node_session.specs.NodeSessions.{TakesMemoryAt, NodeIsOut, N
 ghost use Rattle.dm_node_session.specs.NodeTurns.{as_node_turn};
 
 use crate::NodeSession;
-use crate::node_turn::NodeTurn;
+use crate::node_turn::{HeardNodeTurn, NodeTurn};
 use crate::telling::look_at;
 use dm_machine::Conn;
 use dm_machine::laws::each_opening_has_its_message;
@@ -111,6 +112,44 @@ impl NodeSession {
                 Ok(turn) => Ok(Some(turn)),
                 Err(error) => Err(error),
             },
+        }
+    }
+
+    /// Tells the whole message of the connection with which the piece begins, where it lies, as
+    /// [`hear`](NodeSession::hear) does it, but by a policy for unknown hosts, as
+    /// [`next_with`](NodeSession::next_with) does. Where memory is wanted nothing changes, and it can be told again.
+    pub fn hear_with<U: UnknownHosts>(
+        &mut self,
+        alloc: Global,
+        policy: &U,
+        conn: Conn,
+        piece: &[u8],
+    ) -> Result<Option<HeardNodeTurn>, AllocError>
+        ensures heard { IfOk result (λ found. IfSome found (λ heard. NodeHearsWholeWith (record {
+          makes = U.makes policy.now;
+          turns_away = U.turns_away policy.now;
+          most = U.most policy.now;
+        }) conn
+            piece.now (node_session_of self.old) (as_node_turn heard.turn) heard.len (node_session_of self.new))) }
+        ensures none { IfOk result (λ found. IfNone found (NodeHearsNothing conn piece.now (node_session_of self.old)
+            × (node_session_of self.new ≡ node_session_of self.old))) }
+        ensures unchanged { OnErr result (node_session_of self.new ≡ node_session_of self.old) }
+        // Memory is wanted only for what the message asks of its neighbour, or for a stranger's CER.
+        ensures memory { OnErr result (NodeHearTakesMemory conn piece.now (node_session_of self.old)) }
+    {
+        match self.intakes.whole_in(conn, piece) {
+            Some(len) => {
+                let whole = &piece[..len];
+                match tell_with(alloc, &mut self.neighbours, policy, conn, whole) {
+                    Ok(answer) => {
+                        self.settle(&answer);
+                        let turn = NodeTurn::of_message(conn, answer);
+                        Ok(Some(HeardNodeTurn { turn, len }))
+                    }
+                    Err(error) => Err(error),
+                }
+            }
+            None => Ok(None),
         }
     }
 }

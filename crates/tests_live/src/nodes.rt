@@ -240,6 +240,35 @@ fn permitted(
     (turn, state, is_there)
 }
 
+/// The same where its CER is told where it lies, with how many octets are told.
+fn permitted_in_place(
+    rt: &(impl Abort + AllocGlobal),
+    most: usize,
+    letter: u8,
+) -> (Option<(usize, Option<usize>, usize)>, Option<State>) {
+    let mut session = three(rt);
+    let policy = Template::new(config(rt, b"b.example"), most);
+    let _none = asked(rt, &mut session, NodeOrder::Accept(Conn(1)));
+    let mut octets = hex::decode(rt.alloc(), CER_OF_B.as_bytes()).expect(rt, "digits");
+    if let Some(octet) = octets.get_mut(28) {
+        *octet = letter;
+    }
+    let told = match session.hear_with(rt.alloc(), &policy, Conn(1), octets.as_slice()) {
+        Ok(Some(heard)) => Some((
+            heard.len,
+            heard.turn.answer.neighbour,
+            heard.turn.answer.actions.len(),
+        )),
+        Ok(None) => None,
+        Err(_) => Some((0, None, 100)),
+    };
+    let state = session.neighbours().state_of(3);
+    drop(octets);
+    drop(policy);
+    drop(session);
+    (told, state)
+}
+
 /// A host that was taken in says what is no message: what that comes to, what is told behind it, and the state then.
 fn broken(
     rt: &(impl Abort + AllocGlobal),
@@ -395,4 +424,18 @@ fn stream_is_told_alike_however_it_is_cut(rt: HostRuntime) {
     assert_eq!(rt; cut(&rt, 112), [told, None, told, None]);
     assert_eq!(rt; cut(&rt, 140), [told, None, told, None]);
     assert_eq!(rt; cut(&rt, 168), [told, told, None, None]);
+}
+
+#[test]
+fn unknown_host_is_taken_in_at_its_cer_in_place(rt: HostRuntime) {
+    assert_eq!(rt;
+        (
+            permitted_in_place(&rt, 4, b'z'),
+            permitted_in_place(&rt, 3, b'z')
+        ),
+        (
+            (Some((112, Some(3), 1)), Some(State::ROpen)),
+            (Some((112, None, 2)), None)
+        )
+    );
 }

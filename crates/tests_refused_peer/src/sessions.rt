@@ -30,8 +30,9 @@ enum Call<'a> {
     /// What came on a connection is told, without a policy or with one.
     Next(Conn),
     NextWith(Conn),
-    /// A message is told where it lies.
+    /// A message is told where it lies, without a policy or with one.
     Hear(Conn, &'a [u8]),
+    HearWith(Conn, &'a [u8]),
 }
 
 /// What a call answered.
@@ -74,6 +75,7 @@ fn respond(alloc: Global, session: &mut NodeSession, policy: &Template, call: Ca
         Call::Next(conn) => told(session.next(alloc, conn)),
         Call::NextWith(conn) => told(session.next_with(alloc, policy, conn)),
         Call::Hear(conn, piece) => heard(session.hear(alloc, conn, piece)),
+        Call::HearWith(conn, piece) => heard(session.hear_with(alloc, policy, conn, piece)),
     }
 }
 
@@ -147,18 +149,29 @@ fn call_once(
 }
 
 /// The messages of a run: a stranger's CER, that of the neighbour, that of a host that is permitted, and a message of
-/// an application. The call of this place has a refusal.
+/// an application. The host that is permitted is heard where its CER lies, or that is kept first. The call of this
+/// place has a refusal.
 #[derive(Clone, Copy)]
 struct Run<'a> {
     strange: &'a [u8],
     known: &'a [u8],
     permitted: &'a [u8],
     message: &'a [u8],
+    is_in_place: bool,
     place: usize,
 }
 
 /// How many calls a run has.
 const CALLS: usize = 14;
+
+/// The CER of the host that is permitted comes.
+fn coming<'a>(run: &Run<'a>) -> Call<'a> {
+    if run.is_in_place {
+        Call::HearWith(Conn(8), run.permitted)
+    } else {
+        Call::Take(NodeOrder::Octets(Conn(8), run.permitted))
+    }
+}
 
 /// A connect that can't be made; a stranger; b.example, which calls; c.example, which is permitted, and breaks off.
 fn calls<'a>(run: &Run<'a>) -> [Call<'a>; CALLS] {
@@ -172,7 +185,7 @@ fn calls<'a>(run: &Run<'a>) -> [Call<'a>; CALLS] {
         Call::Hear(Conn(9), run.known),
         Call::Take(NodeOrder::Submit(0, run.message)),
         Call::Take(NodeOrder::Accept(Conn(8))),
-        Call::Take(NodeOrder::Octets(Conn(8), run.permitted)),
+        coming(run),
         Call::NextWith(Conn(8)),
         Call::Take(NodeOrder::Octets(Conn(8), run.message)),
         Call::NextWith(Conn(8)),
@@ -210,7 +223,7 @@ impl<R: Abort + AllocGlobal> Subject<R> for Run<'_> {
     }
 }
 
-fn check_runs(rt: &(impl Abort + AllocGlobal)) {
+fn check_runs(rt: &(impl Abort + AllocGlobal), is_in_place: bool) {
     let strange = octets(rt, CER);
     let known = octets(rt, CER_OF_B);
     let permitted = octets(rt, CER_OF_C);
@@ -221,6 +234,7 @@ fn check_runs(rt: &(impl Abort + AllocGlobal)) {
             known: known.as_slice(),
             permitted: permitted.as_slice(),
             message: message.as_slice(),
+            is_in_place,
             place,
         };
         each(rt, &run, "a session");
@@ -229,7 +243,12 @@ fn check_runs(rt: &(impl Abort + AllocGlobal)) {
 
 #[test]
 fn sessions_told(rt: HostRuntime) {
-    check_runs(&rt);
+    check_runs(&rt, false);
+}
+
+#[test]
+fn sessions_told_in_place(rt: HostRuntime) {
+    check_runs(&rt, true);
 }
 
 /// A fifth neighbour, of this host: the list of four has no room for it.
