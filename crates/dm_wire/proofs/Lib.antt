@@ -19,3 +19,4 @@ pub mod RoundTrips
 pub mod Spellings
 pub mod Walking
 pub mod Wholes
+pub mod Written

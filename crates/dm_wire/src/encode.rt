@@ -5,7 +5,7 @@ ghost use Rattle.dm_wire.specs.Canonical.{canonical_list, canonical_header, cano
 ghost use Rattle.dm_wire.specs.Limits.{IsLongList, IsLongMessage};
 
 use crate::codes::limits::{HEADER_LEN, MAX_MESSAGE_LEN};
-use crate::put::{header_octets, put_list};
+use crate::put::{header_octets, put_list, write_message};
 use crate::size::list_size;
 use crate::{Avp, Message, WireFault};
 use std::alloc::Global;
@@ -89,9 +89,8 @@ impl Message {
             return Err(WireFault::TooLong);
         };
         let (header, size) = sized;
-        let mut octets = Vec::with_capacity(alloc, size)?;
-        octets.extend_from_slice(&header)?;
-        put_list(&mut octets, self.avps.as_slice())?;
+        let mut octets = vec![in alloc; 0; size]?;
+        write_message(octets.as_mut_slice(), &header, self.avps.as_slice());
         Ok(octets)
     }
 }

@@ -1,5 +1,6 @@
 //! AVPs and headers to octets (RFC 6733, 3 and 4.1).
-ghost use Rattle.std.specs.Prelude.{◌≡◌, ◌⊎◌, ◌↔◌, ◌^◌, ◌<◌, ◌++◌, ◌∷◌, OnOk, IfErr, IsErrOf, IfSome, IfNone};
+ghost use Rattle.std.specs.Prelude.{◌≡◌, ◌⊎◌, ◌↔◌, ◌^◌, ◌<◌, ◌+◌, ◌*◌, ◌/◌, ◌++◌, ◌∷◌, length, replicate};
+ghost use Rattle.std.specs.Prelude.{OnOk, IfErr, IsErrOf, IfSome, IfNone};
 ghost use Rattle.dm_wire.specs.Spelling.{be, avp_length, vendor_octets, SpellsList, SpellsHeader};
 ghost use Rattle.dm_wire.specs.Borrowed.{avp_of};
 ghost use Rattle.dm_wire.specs.Canonical.{worth, avp_flags, zeros, canonical_avp, canonical_list};
@@ -146,4 +147,51 @@ pub fn header_octets(header: Header, size: u32) -> Option<[u8; 20]>
     BigEndian::write_u32(&mut octets[12..], header.hop_id);
     BigEndian::write_u32(&mut octets[16..], header.end_id);
     Some(octets)
+}
+
+/// The AVP, whose Length this is and fits its field, written in the room, which is as long as it and zero.
+#[inline(always)]
+fn write_fitting(room: &mut [u8], avp: AvpRef<'_>, length: usize)
+    requires length { length ≡ avp_length (avp_of avp) }
+    requires fits { avp_length (avp_of avp) < 256 ^ 3 }
+    requires zero { room.old ≡ replicate ((length + 3) / 4 * 4) 0 }
+    ensures { room.new ≡ canonical_avp (avp_of avp.entry) }
+{
+    let front = avp_header(avp, length as u32);
+    room[..8].copy_from_slice(&front);
+    match avp.vendor {
+        None => room[8..length].copy_from_slice(avp.bytes),
+        Some(vendor) => {
+            BigEndian::write_u32(&mut room[8..], vendor);
+            room[12..length].copy_from_slice(avp.bytes);
+        }
+    }
+}
+
+/// The AVPs, written one after the other in the room, which is as long as they and zero.
+fn write_list(room: &mut [u8], avps: &[Avp])
+    requires spelled { SpellsList avps.now (canonical_list avps.now) }
+    requires zero { room.old ≡ replicate (length (canonical_list avps.now)) 0 }
+    ensures { room.new ≡ canonical_list avps.now }
+{
+    let mut place = 0;
+    let mut left = avps;
+    while let [avp, rest @ ..] = left {
+        let avp = avp.borrowed();
+        let length = header_len(avp.vendor) + avp.bytes.len();
+        let end = place + (length + 3) / 4 * 4;
+        write_fitting(&mut room[place..end], avp, length);
+        place = end;
+        left = rest;
+    }
+}
+
+/// The message of this header, written in the room, which is as long as it and zero.
+pub(crate) fn write_message(room: &mut [u8], header: &[u8; 20], avps: &[Avp])
+    requires spelled { SpellsList avps.now (canonical_list avps.now) }
+    requires zero { room.old ≡ replicate (20 + length (canonical_list avps.now)) 0 }
+    ensures { room.new ≡ header.now ++ canonical_list avps.now }
+{
+    room[..20].copy_from_slice(header);
+    write_list(&mut room[20..], avps);
 }
