@@ -197,7 +197,8 @@ closed_out laws ps qs c octets actions k h free d closing =
     subst (λ l. IsFree l d) (sym h.same) (subst (λ x. IsFree ps x) most.same free)
 
 -- the peers are what they were
-abbrev pub OutOrTurnedOff : Policy → Conn → List ℕ → Node → List (Option Peer) → List Action → List (Option Peer) → Type 0
+abbrev pub OutOrTurnedOff :
+    Policy → Conn → List ℕ → Node → List (Option Peer) → List Action → List (Option Peer) → Type 0
 OutOrTurnedOff policy c octets n ps actions qs =
     ((k : Config) × IsPermitted policy ps c octets k × StaysOut ps qs c octets actions k)
     ⊎ ((actions ≡ answer_to n c (caller octets)) × (qs ≡ ps) × IsForbidden policy ps c octets)

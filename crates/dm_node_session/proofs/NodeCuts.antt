@@ -178,7 +178,8 @@ fault_fed stands c more s t answer h =
         peers = h.told.peers;
         moved = h.told.moved;
         left = ap (node_fed c more) h.told.left
-            ∙ fed_settled c more (broken_intake i) (broken_intake i) answer.neighbour h.told.peers answer.actions s refl;
+            ∙ fed_settled c more (broken_intake i) (broken_intake i) answer.neighbour h.told.peers answer.actions s
+            refl;
       };
     }
 
@@ -214,8 +215,8 @@ message_fed_with policy c more s t answer h =
       };
     }
 
-pub next_fed_with : FaultStands → (policy : Policy) (arrived : Option Conn) (c : Conn) (more : List ℕ) (s t : NodeSession)
-    (answer : NodeAnswer) → NodeTellsAsWith policy arrived c s answer t →
+pub next_fed_with : FaultStands → (policy : Policy) (arrived : Option Conn) (c : Conn) (more : List ℕ)
+    (s t : NodeSession) (answer : NodeAnswer) → NodeTellsAsWith policy arrived c s answer t →
     NodeTellsAsWith policy arrived c (node_fed c more s) answer (node_fed c more t)
 next_fed_with stands policy None c more s t answer h = fault_fed stands c more s t answer h
 next_fed_with stands policy (Some d) c more s t answer h = (h.0, message_fed_with policy c more s t answer h.1)

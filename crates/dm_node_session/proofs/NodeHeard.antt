@@ -82,7 +82,8 @@ heard_where_it_lies c piece s t answer qs size h moved left = record {
 pub heard_alike : FaultStands → (c : Conn) (piece : List ℕ) (s t : NodeSession) (turn : NodeTurn) (size : ℕ) →
     NodeHearsWhole c piece s turn size t → NodeTellsNext c (node_fed c piece s) turn (node_fed c (drop size piece) t)
 heard_alike stands c piece s t turn size h =
-    let rest : drop size piece ≡ h.rest = ap (drop size) h.front.piece_is ∙ drop_at h.message h.rest size (sym h.size_is) in
+    let rest : drop size piece ≡ h.rest =
+    ap (drop size) h.front.piece_is ∙ drop_at h.message h.rest size (sym h.size_is) in
     let whole : node_fed c h.rest (node_fed c h.message s) ≡ node_fed c piece s =
     fed_twice c h.message h.rest s ∙ ap (λ l. node_fed c l s) (sym h.front.piece_is) in
     subst (λ v. NodeTellsNext c v turn (node_fed c (drop size piece) t)) whole
@@ -138,9 +139,11 @@ pub heard_alike_with : FaultStands → (policy : Policy) (c : Conn) (piece : Lis
     (turn : NodeTurn) (size : ℕ) → NodeHearsWholeWith policy c piece s turn size t →
     NodeTellsNextWith policy c (node_fed c piece s) turn (node_fed c (drop size piece) t)
 heard_alike_with stands policy c piece s t turn size h =
-    let rest : drop size piece ≡ h.rest = ap (drop size) h.front.piece_is ∙ drop_at h.message h.rest size (sym h.size_is) in
+    let rest : drop size piece ≡ h.rest =
+    ap (drop size) h.front.piece_is ∙ drop_at h.message h.rest size (sym h.size_is) in
     let whole : node_fed c h.rest (node_fed c h.message s) ≡ node_fed c piece s =
     fed_twice c h.message h.rest s ∙ ap (λ l. node_fed c l s) (sym h.front.piece_is) in
     subst (λ v. NodeTellsNextWith policy c v turn (node_fed c (drop size piece) t)) whole
-    (subst (λ l. NodeTellsNextWith policy c (node_fed c h.rest (node_fed c h.message s)) turn (node_fed c l t)) (sym rest)
+    (subst (λ l. NodeTellsNextWith policy c (node_fed c h.rest (node_fed c h.message s)) turn (node_fed c l t))
+    (sym rest)
     (next_fed_with stands policy turn.arrived c h.rest (node_fed c h.message s) t turn.answer h.told))

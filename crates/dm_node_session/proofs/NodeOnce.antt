@@ -82,8 +82,10 @@ told_once : (ps qs rs : List (Option Peer)) (i : ℕ) (e : PeerEvent) (a b : Lis
 told_once ps qs rs i e a b h k =
     let before : h.before ≡ k.before = one_some h.before k.before (sym h.was ∙ k.was) in
     let moved : Moved a h.after ≡ Moved b k.after = sym h.acts ∙ ap (λ p. acts p e) before ∙ k.acts in
-    let after : h.after ≡ k.after = same_after a b h.after k.after moved in
-    (same_actions a b h.after k.after moved, each_same qs rs (h.count ∙ sym k.count) (λ j. at after j (nat_eq j i) refl))
+    let after : h.after ≡ k.after = same_after a b h.after k.after moved in (
+      same_actions a b h.after k.after moved,
+      each_same qs rs (h.count ∙ sym k.count) (λ j. at after j (nat_eq j i) refl),
+    )
   where
     at : h.after ≡ k.after → (j : ℕ) (b : Bool) → nat_eq j i ≡ b → peer_at qs j ≡ peer_at rs j
     at after j true same =
