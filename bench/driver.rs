@@ -14,6 +14,7 @@ mod plain;
 extern "C" {
     fn ours_walk(octets: *const u8, len: usize, times: u32) -> usize;
     fn ours_decode(octets: *const u8, len: usize, times: u32) -> usize;
+    fn ours_hold(octets: *const u8, len: usize, times: u32) -> usize;
     fn ours_check(octets: *const u8, len: usize, times: u32) -> usize;
     fn ours_judge(octets: *const u8, len: usize, times: u32) -> usize;
     fn ours_rule(text: *const u8, len: usize, octets: *const u8, octets_len: usize, times: u32) -> usize;
@@ -205,6 +206,7 @@ fn ours(operation: &str, text: &str, octets: &[u8], times: u32, size: usize) -> 
         match operation {
             "walk" => ours_walk(at, len, times),
             "decode" => ours_decode(at, len, times),
+            "hold" => ours_hold(at, len, times),
             "check" => ours_check(at, len, times),
             "judge" => ours_judge(at, len, times),
             "rule" => ours_rule(text.as_ptr(), text.len(), at, len, times),
@@ -310,9 +312,9 @@ fn agree(octets: &[u8], times: u64) {
         if changed.len() < 20 {
             continue;
         }
-        for operation in ["walk", "decode", "judge", "check", "encode"] {
+        for operation in ["walk", "decode", "hold", "judge", "check", "encode"] {
             let plain = plain::run(operation, &changed, 1, 0);
-            let fast = if operation == "check" { plain } else { fast::run(operation, &changed, 1) };
+            let fast = if matches!(operation, "check" | "hold") { plain } else { fast::run(operation, &changed, 1) };
             let ours = ours(operation, "", &changed, 1, 0);
             if (ours, fast) != (plain, plain) {
                 eprintln!("{operation}: {ours} of ours, {plain} of plain, {fast} of fast: {changed:02x?}");

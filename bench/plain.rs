@@ -337,7 +337,8 @@ pub fn run(operation: &str, octets: &[u8], times: u32, size: usize) -> usize {
     let dictionary = Dictionary::base();
     match operation {
         "walk" => (0..times).map(|_| walk(black_box(octets))).sum(),
-        "decode" => (0..times).map(|_| message_mark(black_box(decode(black_box(octets))))).sum(),
+        // (hold: the same sum of a message that ours holds in one block)
+        "decode" | "hold" => (0..times).map(|_| message_mark(black_box(decode(black_box(octets))))).sum(),
         "check" => decode(octets).map_or(0, |message| {
             (0..times).map(|_| verdict_mark(&dictionary.check(black_box(&message)))).sum()
         }),
