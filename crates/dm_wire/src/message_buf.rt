@@ -1,5 +1,5 @@
 //! Messages held as they came, in one block (RFC 6733, 3).
-ghost use Rattle.std.specs.Prelude.{◌≡◌, ◌⊎◌, option_map, length, slice_get, IfOk, IfErr, IsErrOf};
+ghost use Rattle.std.specs.Prelude.{◌≡◌, ◌⊎◌, option_map, length, slice_get, IfOk, IfErr, IsErrOf, MatchResult};
 ghost use Rattle.std.specs.List.{find};
 ghost use Rattle.dm_wire.specs.declared.fault.WireFault.{WireFault};
 ghost use Rattle.dm_wire.specs.declared.message.Message.{Message};
@@ -46,6 +46,9 @@ impl MessageBuf {
         ensures held { IfOk result (λ held. held ≡ octets.items) }
         // What is held spells a message.
         ensures found { IfOk result (λ held. (m : Message) × SpellsMessage m octets.items) }
+        // What is spelled so is held, unless memory runs out.
+        ensures only { (m : Message) → SpellsMessage m octets.items
+            → MatchResult result (λ held. held ≡ octets.items) (λ fault. fault ≡ WireFault.NoMemory) }
         // Every refusal but want of memory is the octets' own.
         ensures fault { IfErr result (λ fault. (fault ≡ WireFault.NoMemory) ⊎ Refuses octets.items fault) }
         // What is wrong with the octets is answered, whatever memory there is.
@@ -118,7 +121,7 @@ impl MessageBuf {
     }
 
     /// The message where it lies. It never answers want of memory.
-    pub fn lent(&self) -> MessageRef<'_>
+    pub fn borrowed(&self) -> MessageRef<'_>
         ensures { (m : Message) → SpellsMessage m self.now
             → (result.header ≡ m.header) × SpellsList m.avps result.rest.now }
     {

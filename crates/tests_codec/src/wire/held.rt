@@ -46,7 +46,7 @@ fn is_held_as_decoded(alloc: Global, octets: &[u8], copy: Vec<u8>) -> bool {
             Ok(message) => {
                 held.header() == message.header
                     && held.octets() == octets
-                    && held.lent().rest == &octets[20..]
+                    && held.borrowed().rest == &octets[20..]
                     && has_the_avps(&held, &message)
             }
             Err(_) => false,
