@@ -54,13 +54,13 @@ looked_up G b c a f o eb h = rw (← eb) h
 
 -- one AVP more is counted
 pub counted_step : (avps : List AvpDef) (rule : List Entry) (all m k : List Avp) (a : Avp) (start : ℕ)
-    (old new : List ℕ) (at : Option ℕ) → IsCountedBut avps rule all m start old → m ≡ a ∷ k →
-    ((i : ℕ) → i < 256 → slice_index new i ≡
+    (old new : List ℕ) (at : Option ℕ) → length new ≡ length old → IsCountedBut avps rule all m start old → m ≡ a ∷ k →
+    ((i : ℕ) → i < length new → slice_index new i ≡
     (if is_at at (start + i) then min (slice_index old i + 1) 65535 else slice_index old i)) →
     ((i : ℕ) (e : Entry) → i < length rule → e ≡ slice_index_or rule i e →
     is_at at i ≡ counts rule e (definition avps a)) → IsCountedBut avps rule all k start new
-counted_step avps rule all m k a start old new at before_one is one place = λ i e b w here.
-    let (most, sum) = before_one i e b w here in
+counted_step avps rule all m k a start old new at size before_one is one place = λ i e b w here.
+    let (most, sum) = before_one i e (omega (arith, size, b)) w here in
     by i e (counts rule e (definition avps a)) refl (one i b) (place (start + i) e w here) most (rw is at sum)
   where
     by : (i : ℕ) (e : Entry) (t : Bool) → counts rule e (definition avps a) ≡ t

@@ -1,5 +1,7 @@
 -- The limits of judging (own).
 use Rattle.std.specs.Prelude.{ℕ, suc}
+-- how many further entries of a rule are counted in one walk, as the code has it
+pub use Rattle.dm_dict.specs.declared.counts.TheConstants.{WINDOW as window}
 
 -- how many groups may stand inside each other
 abbrev pub group_limit : ℕ
@@ -8,10 +10,6 @@ group_limit = 8
 -- the lists of a message that are judged: its own, and those of the groups inside each other
 abbrev pub list_limit : ℕ
 list_limit = suc group_limit
-
--- how many entries of a rule are counted in one walk
-abbrev pub window : ℕ
-window = 256
 
 -- where a counter stops
 abbrev pub counter_limit : ℕ
@@ -28,10 +26,6 @@ any_command = 0
 -- the slots of the seats of a rule
 abbrev pub seat_slots : ℕ
 seat_slots = 128
-
--- the entries of a rule for which few counters do
-abbrev pub few_entries : ℕ
-few_entries = 32
 
 -- the marks of the codes of a dictionary
 abbrev pub mark_slots : ℕ

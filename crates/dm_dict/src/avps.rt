@@ -1,5 +1,5 @@
 //! The first fault of AVPs under a rule, groups and all (RFC 6733, 4.1, 4.4 and 7.1.5).
-ghost use Rattle.std.specs.Prelude.{◌≡◌, false, List, slice_get};
+ghost use Rattle.std.specs.Prelude.{◌≡◌, ℕ, false, List, slice_get, slice_index};
 ghost use Rattle.std.specs.Option.{option_and_then};
 ghost use Rattle.dm_wire.specs.declared.avp.Avp.{Avp};
 ghost use Rattle.dm_dict.specs.Apart.{IsFit};
@@ -13,7 +13,7 @@ ghost use Rattle.dm_dict.specs.Rules.{definition};
 use crate::codes::{
     AVP_NOT_ALLOWED, AVP_UNSUPPORTED, FAILED_AVP, INVALID_AVP_LENGTH, INVALID_AVP_VALUE,
 };
-use crate::counts::{count_one, no_counts};
+use crate::counts::{count_one, counts_for, many_counts};
 use crate::judged::{Failed, Judged};
 use crate::linked::{Linked, LinkedAvp, LinkedRule};
 use crate::rules::{allows, look_up};
@@ -22,6 +22,7 @@ use byteorder::{BigEndian, ByteOrder};
 use dm_tables::AvpDef;
 use dm_value::{AvpType, ValueFault, value_fault};
 use dm_wire::{AvpRef, AvpsRef, spells_avps};
+use std::alloc::Global;
 
 /// Whether the AVP is Failed-AVP, whose data isn't read.
 pub(crate) fn is_failed_avp(avp: AvpRef<'_>) -> bool
@@ -50,6 +51,7 @@ fn judge_avp<'a>(
     allowed: bool,
     avp: AvpRef<'a>,
     depth: u32,
+    alloc: Option<Global>,
 ) -> Judged<'a>
     requires linked { IsLinked dictionary.now }
     requires fit { IsFit dictionary.now.tables.avps.items }
@@ -83,7 +85,7 @@ fn judge_avp<'a>(
             entries: &def.rule,
             links,
         };
-        return judge_group(dictionary, rule, avp, depth);
+        return judge_group(dictionary, rule, avp, depth, alloc);
     }
     match value_fault(def.kind, avp.bytes) {
         Some(ValueFault::WrongLength) => Judged::Bad {
@@ -109,6 +111,7 @@ fn judge_group<'a>(
     rule: LinkedRule<'_>,
     avp: AvpRef<'a>,
     depth: u32,
+    alloc: Option<Global>,
 ) -> Judged<'a>
     requires linked { IsLinked dictionary.now }
     requires fit { IsFit dictionary.now.tables.avps.items }
@@ -129,16 +132,51 @@ fn judge_group<'a>(
             failed: Failed::Found(AvpRef { bytes: &[], ..avp }),
         };
     }
-    judge_list(dictionary, rule, AvpsRef::Spelled(avp.bytes), depth - 1)
+    let list = AvpsRef::Spelled(avp.bytes);
+    judge_list(dictionary, rule, list, depth - 1, alloc)
 }
 
-/// The first fault of a list of AVPs under the rule, where so many groups may stand inside each other.
+/// The first fault of a list of AVPs under the rule, by these counters, all zero, for the first of its entries.
 #[cycle(judge)]
-pub(crate) fn judge_list<'a>(
+fn judge_counted<'a>(
     dictionary: &Linked,
     rule: LinkedRule<'_>,
     list: AvpsRef<'a>,
     depth: u32,
+    alloc: Option<Global>,
+    counts: &mut [u16],
+) -> Judged<'a>
+    requires linked { IsLinked dictionary.now }
+    requires fit { IsFit dictionary.now.tables.avps.items }
+    requires rule { IsRule dictionary.now.tables.avps.items rule }
+    requires zero { (i : ℕ) → slice_index counts.old i ≡ 0 }
+    ensures fault { (l : List Avp) → Lists list.entry l
+        → shown result ≡ first (list_faults depth dictionary.now.tables.avps.items rule.entry.entries.now l) }
+    ensures missing { finds_missing result ≡ false }
+{
+    let mut left = list;
+    while let Some((avp, rest)) = left.split_first() {
+        let (place, at) = look_up(&dictionary.tables, rule, avp);
+        let allowed = allows(rule.entries, at);
+        match judge_avp(dictionary, place, allowed, avp, depth, alloc) {
+            Judged::Good => {}
+            Judged::Bad { code, failed } => return Judged::Bad { code, failed },
+        }
+        count_one(counts, 0, at);
+        left = rest;
+    }
+    judge_entries(&dictionary.tables, rule, counts, list)
+}
+
+/// The same under a rule of any length, by counters on the stack.
+#[cycle(judge)]
+#[inline(never)]
+fn judge_many<'a>(
+    dictionary: &Linked,
+    rule: LinkedRule<'_>,
+    list: AvpsRef<'a>,
+    depth: u32,
+    alloc: Option<Global>,
 ) -> Judged<'a>
     requires linked { IsLinked dictionary.now }
     requires fit { IsFit dictionary.now.tables.avps.items }
@@ -147,16 +185,32 @@ pub(crate) fn judge_list<'a>(
         → shown result ≡ first (list_faults depth dictionary.now.tables.avps.items rule.entry.entries.now l) }
     ensures missing { finds_missing result ≡ false }
 {
-    let mut counts = no_counts();
-    let mut left = list;
-    while let Some((avp, rest)) = left.split_first() {
-        let (place, at) = look_up(&dictionary.tables, rule, avp);
-        match judge_avp(dictionary, place, allows(rule.entries, at), avp, depth) {
-            Judged::Good => {}
-            Judged::Bad { code, failed } => return Judged::Bad { code, failed },
-        }
-        count_one(&mut counts, 0, at);
-        left = rest;
-    }
-    judge_entries(&dictionary.tables, rule, &counts, list)
+    let mut counts = many_counts();
+    judge_counted(dictionary, rule, list, depth, alloc, &mut counts)
+}
+
+/// The first fault of a list of AVPs under the rule, where so many groups may stand inside each other; by a counter for
+/// each entry of a long rule where there is memory for that.
+#[cycle(judge)]
+pub(crate) fn judge_list<'a>(
+    dictionary: &Linked,
+    rule: LinkedRule<'_>,
+    list: AvpsRef<'a>,
+    depth: u32,
+    alloc: Option<Global>,
+) -> Judged<'a>
+    requires linked { IsLinked dictionary.now }
+    requires fit { IsFit dictionary.now.tables.avps.items }
+    requires rule { IsRule dictionary.now.tables.avps.items rule }
+    ensures fault { (l : List Avp) → Lists list.entry l
+        → shown result ≡ first (list_faults depth dictionary.now.tables.avps.items rule.entry.entries.now l) }
+    ensures missing { finds_missing result ≡ false }
+{
+    let Some(mut counts) = counts_for(alloc, rule.entries) else {
+        return judge_many(dictionary, rule, list, depth, alloc);
+    };
+    let room = counts.as_mut_slice();
+    let judged = judge_counted(dictionary, rule, list, depth, alloc, room);
+    drop(counts);
+    judged
 }

@@ -188,7 +188,7 @@ impl Dictionary {
     {
         good_is_typed();
         let list = AvpsRef::Held(message.avps.as_slice());
-        judge_message(&self.linked, &message.header, list).verdict(alloc)
+        judge_message(&self.linked, &message.header, list, Some(alloc)).verdict(alloc)
     }
 
     /// What the dictionary says of the message where it lies: the verdict of `check`, with the parts of the same failed

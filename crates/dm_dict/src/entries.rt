@@ -13,7 +13,7 @@ ghost use Rattle.dm_dict.specs.Found.{is_found, finds_missing};
 ghost use Rattle.dm_dict.specs.Judgement.{failed_of, shown};
 ghost use Rattle.dm_dict.specs.Rules.{count, counted_avps};
 ghost use Rattle.dm_dict.specs.Counters.{IsCounted};
-ghost use Rattle.dm_dict.specs.Limits.{counter_limit, window};
+ghost use Rattle.dm_dict.specs.Limits.{counter_limit};
 
 use crate::codes::{AVP_OCCURS_TOO_MANY_TIMES, MISSING_AVP};
 use crate::judged::{Failed, Judged};
@@ -156,7 +156,6 @@ fn is_kept(entry: &Entry, counter: u16) -> bool
 /// Whether the counters alone show that no entry of the rule has a fault.
 pub(crate) fn are_kept(rule: &Rule, counts: &[u16]) -> bool
     requires room { length rule.now ≤ length counts.now }
-    requires within { length rule.now ≤ window }
     ensures { (avps : List AvpDef) (l : List Avp) → IsCounted avps rule.now l 0 counts.now → result ≡ true
         → None ≡ first (flat_map (entry_faults avps rule.now l) rule.now) }
 {

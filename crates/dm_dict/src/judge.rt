@@ -19,6 +19,7 @@ use crate::linked::{Linked, LinkedCommand, LinkedRule};
 use crate::passing::passes_list;
 use dm_wire::laws::members_spell;
 use dm_wire::{AvpsRef, Header};
+use std::alloc::Global;
 
 /// Groups that may stand inside each other.
 pub(crate) const GROUPS: u32 = 8;
@@ -39,7 +40,12 @@ pub(crate) fn command_for<'d>(dictionary: &'d Linked, header: &Header) -> Option
 
 /// The first fault of the AVPs of a message under its rule. Most messages have none, as one pass sees; another tells a
 /// fault.
-fn judge_avps<'a>(dictionary: &Linked, rule: LinkedRule<'_>, list: AvpsRef<'a>) -> Judged<'a>
+fn judge_avps<'a>(
+    dictionary: &Linked,
+    rule: LinkedRule<'_>,
+    list: AvpsRef<'a>,
+    alloc: Option<Global>,
+) -> Judged<'a>
     requires linked { IsLinked dictionary.now }
     requires fit { IsFit dictionary.now.tables.avps.items }
     requires rule { IsRule dictionary.now.tables.avps.items rule }
@@ -47,17 +53,19 @@ fn judge_avps<'a>(dictionary: &Linked, rule: LinkedRule<'_>, list: AvpsRef<'a>) 
         → shown result ≡ first (list_faults group_limit dictionary.now.tables.avps.items rule.entry.entries.now l) }
     ensures missing { finds_missing result ≡ false }
 {
-    if passes_list(dictionary, rule, list, GROUPS) {
+    if passes_list(dictionary, rule, list, GROUPS, alloc) {
         return Judged::Good;
     }
-    judge_list(dictionary, rule, list, GROUPS)
+    judge_list(dictionary, rule, list, GROUPS, alloc)
 }
 
-/// The first fault of a message of this header and these AVPs. It never answers want of memory.
+/// The first fault of a message of this header and these AVPs, whose AVPs are counted in memory under a long rule, where
+/// it is given and there is some. It never answers want of memory.
 pub(crate) fn judge_message<'a>(
     dictionary: &Linked,
     header: &Header,
     list: AvpsRef<'a>,
+    alloc: Option<Global>,
 ) -> Judged<'a>
     requires linked { IsLinked dictionary.now }
     ensures fault { (l : List Avp) → Lists list.entry l
@@ -81,22 +89,27 @@ pub(crate) fn judge_message<'a>(
         entries: &def.rule,
         links,
     };
-    judge_avps(dictionary, rule, list)
+    judge_avps(dictionary, rule, list, alloc)
 }
 
 /// Whether nothing is wrong with a message of this header and these AVPs. It never answers want of memory.
-pub(crate) fn is_good(dictionary: &Linked, header: &Header, list: AvpsRef<'_>) -> bool
+pub(crate) fn is_good(
+    alloc: Global,
+    dictionary: &Linked,
+    header: &Header,
+    list: AvpsRef<'_>,
+) -> bool
     requires linked { IsLinked dictionary.now }
     ensures { (l : List Avp) → Lists list.entry l
         → result ≡ has_none (faults (defined dictionary.now.tables) (record { header = header.now; avps = l })) }
 {
-    match judge_message(dictionary, header, list) {
+    match judge_message(dictionary, header, list, Some(alloc)) {
         Judged::Good => true,
         Judged::Bad { .. } => false,
     }
 }
 
-/// The first fault of a message of this header, whose AVPs the octets spell. It never answers want of memory.
+/// The first fault of a message of this header, whose AVPs the octets spell. It takes no memory.
 pub(crate) fn judge_spelled<'a>(
     dictionary: &Linked,
     header: &Header,
@@ -108,7 +121,7 @@ pub(crate) fn judge_spelled<'a>(
     ensures missing { finds_missing result ≡ false }
 {
     members_spell();
-    judge_message(dictionary, header, AvpsRef::Spelled(octets))
+    judge_message(dictionary, header, AvpsRef::Spelled(octets), None)
 }
 
 /// Whether the E bit is set in a request, or the T bit in an answer.

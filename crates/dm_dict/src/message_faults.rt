@@ -71,7 +71,7 @@ pub(crate) fn find<'a>(
     ensures memory { OnErr result ((l : List Avp) → Lists list.entry l
         → has_none (faults (defined dictionary.now.tables) (record { header = header.now; avps = l })) ≡ false) }
 {
-    if is_good(dictionary, header, list) {
+    if is_good(alloc, dictionary, header, list) {
         return Ok(());
     }
     locate_message(alloc, findings, path, dictionary, header, list)

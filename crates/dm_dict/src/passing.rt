@@ -1,6 +1,6 @@
 //! Whether nothing is wrong with AVPs under a rule, groups and all, by one pass that keeps no fault (RFC 6733, 4.1, 4.4
 //! and 7.1.5).
-ghost use Rattle.std.specs.Prelude.{◌≡◌, ◌≢◌, ◌≤◌, [], ℕ, true, None, List, length, min};
+ghost use Rattle.std.specs.Prelude.{◌≡◌, ◌≢◌, [], ℕ, true, None, List, length};
 ghost use Rattle.std.specs.Prelude.{slice_get, slice_index, flat_map};
 ghost use Rattle.std.specs.Option.{option_and_then};
 ghost use Rattle.dm_wire.specs.declared.avp.Avp.{Avp};
@@ -11,12 +11,11 @@ ghost use Rattle.dm_dict.specs.Apart.{IsFit};
 ghost use Rattle.dm_dict.specs.Counters.{IsCounted};
 ghost use Rattle.dm_dict.specs.Faults.{Fault as AFault, avp_faults, data_faults, entry_faults, group_faults};
 ghost use Rattle.dm_dict.specs.Faults.{list_faults, first};
-ghost use Rattle.dm_dict.specs.Limits.{few_entries, window};
 ghost use Rattle.dm_dict.specs.Linked.{IsLinked, IsRule};
 ghost use Rattle.dm_dict.specs.Rules.{definition};
 
 use crate::avps::is_failed_avp;
-use crate::counts::{count_within, few_counts, no_counts};
+use crate::counts::{FEW_ENTRIES, count_one, counts_for, few_counts, many_counts};
 use crate::data::data_fault;
 use crate::entries::are_kept;
 use crate::judged::Judged;
@@ -26,17 +25,11 @@ use crate::windows::judge_entries;
 use dm_tables::{AvpDef, Tables};
 use dm_value::AvpType;
 use dm_wire::{AvpRef, AvpsRef, spells_avps};
+use std::alloc::Global;
 
-/// The most entries of a rule for which few counters do.
-const FEW_ENTRIES: usize = 32;
-
-/// Whether the entries of the rule, of which the first 256 have these counters, have no fault.
-fn pass_entries(
-    tables: &Tables,
-    rule: LinkedRule<'_>,
-    counts: &[u16; 256],
-    list: AvpsRef<'_>,
-) -> bool
+/// Whether the entries of the rule, of which the first ones have these counters, have no fault.
+#[inline(always)]
+fn pass_entries(tables: &Tables, rule: LinkedRule<'_>, counts: &[u16], list: AvpsRef<'_>) -> bool
     requires tables { IsTables tables.now }
     requires fit { IsFit tables.now.avps.items }
     requires rule { IsRule tables.now.avps.items rule }
@@ -45,7 +38,7 @@ fn pass_entries(
         → None ≡ first (flat_map (entry_faults tables.now.avps.items rule.entry.entries.now l)
         rule.entry.entries.now) }
 {
-    if rule.entries.as_slice().len() <= 256 && are_kept(rule.entries, counts) {
+    if rule.entries.as_slice().len() <= counts.len() && are_kept(rule.entries, counts) {
         return true;
     }
     match judge_entries(tables, rule, counts, list) {
@@ -78,6 +71,7 @@ fn passes_avp(
     allowed: bool,
     avp: AvpRef<'_>,
     depth: u32,
+    alloc: Option<Global>,
 ) -> bool
     requires linked { IsLinked dictionary.now }
     requires fit { IsFit dictionary.now.tables.avps.items }
@@ -97,14 +91,20 @@ fn passes_avp(
             entries: &def.rule,
             links,
         };
-        return is_failed_avp(avp) || passes_group(dictionary, rule, avp, depth);
+        return is_failed_avp(avp) || passes_group(dictionary, rule, avp, depth, alloc);
     }
     passes_data(def, avp.bytes) || is_failed_avp(avp)
 }
 
 /// Whether nothing is wrong with a Grouped AVP of this rule, where so many groups may stand inside each other.
 #[cycle(passing)]
-fn passes_group(dictionary: &Linked, rule: LinkedRule<'_>, avp: AvpRef<'_>, depth: u32) -> bool
+fn passes_group(
+    dictionary: &Linked,
+    rule: LinkedRule<'_>,
+    avp: AvpRef<'_>,
+    depth: u32,
+    alloc: Option<Global>,
+) -> bool
     requires linked { IsLinked dictionary.now }
     requires fit { IsFit dictionary.now.tables.avps.items }
     requires rule { IsRule dictionary.now.tables.avps.items rule }
@@ -114,7 +114,8 @@ fn passes_group(dictionary: &Linked, rule: LinkedRule<'_>, avp: AvpRef<'_>, dept
     if depth == 0 || !spells_avps(avp.bytes) {
         return false;
     }
-    passes_list(dictionary, rule, AvpsRef::Spelled(avp.bytes), depth - 1)
+    let list = AvpsRef::Spelled(avp.bytes);
+    passes_list(dictionary, rule, list, depth - 1, alloc)
 }
 
 /// Whether nothing is wrong with each AVP of the list under the rule; they are counted.
@@ -125,14 +126,13 @@ fn pass_each(
     rule: LinkedRule<'_>,
     list: AvpsRef<'_>,
     depth: u32,
+    alloc: Option<Global>,
     counts: &mut [u16],
 ) -> bool
     requires linked { IsLinked dictionary.now }
     requires fit { IsFit dictionary.now.tables.avps.items }
     requires rule { IsRule dictionary.now.tables.avps.items rule }
     requires zero { (i : ℕ) → slice_index counts.old i ≡ 0 }
-    requires room { min (length rule.entries.now) window ≤ length counts.old }
-    ensures size { length counts.new ≡ length counts.old }
     ensures passed { (l : List Avp) → Lists list.entry l → result ≡ true
         → first (list_faults depth dictionary.now.tables.avps.items rule.entry.entries.now l)
         ≡ first (flat_map (entry_faults dictionary.now.tables.avps.items rule.entry.entries.now l)
@@ -143,43 +143,100 @@ fn pass_each(
     let mut left = list;
     while let Some((avp, rest)) = left.split_first() {
         let (place, at) = look_up_marked(dictionary, rule, avp);
-        if !passes_avp(dictionary, place, allows(rule.entries, at), avp, depth) {
+        let allowed = allows(rule.entries, at);
+        if !passes_avp(dictionary, place, allowed, avp, depth, alloc) {
             return false;
         }
-        count_within(counts, at);
+        count_one(counts, 0, at);
         left = rest;
     }
     true
 }
 
-/// Whether nothing is wrong with a list of AVPs under a short rule.
+/// Whether nothing is wrong with a list of AVPs under the rule, by these counters, all zero, for the first of its entries.
 #[cycle(passing)]
-fn passes_short(dictionary: &Linked, rule: LinkedRule<'_>, list: AvpsRef<'_>, depth: u32) -> bool
+#[inline(always)]
+fn passes_counted(
+    dictionary: &Linked,
+    rule: LinkedRule<'_>,
+    list: AvpsRef<'_>,
+    depth: u32,
+    alloc: Option<Global>,
+    counts: &mut [u16],
+) -> bool
     requires linked { IsLinked dictionary.now }
     requires fit { IsFit dictionary.now.tables.avps.items }
     requires rule { IsRule dictionary.now.tables.avps.items rule }
-    requires short { length rule.entries.now ≤ few_entries }
+    requires zero { (i : ℕ) → slice_index counts.old i ≡ 0 }
+    ensures { (l : List Avp) → Lists list.entry l → result ≡ true
+        → None ≡ first (list_faults depth dictionary.now.tables.avps.items rule.entry.entries.now l) }
+{
+    pass_each(dictionary, rule, list, depth, alloc, counts)
+        && pass_entries(&dictionary.tables, rule, counts, list)
+}
+
+/// The same under a rule of few entries.
+#[cycle(passing)]
+fn passes_few(
+    dictionary: &Linked,
+    rule: LinkedRule<'_>,
+    list: AvpsRef<'_>,
+    depth: u32,
+    alloc: Option<Global>,
+) -> bool
+    requires linked { IsLinked dictionary.now }
+    requires fit { IsFit dictionary.now.tables.avps.items }
+    requires rule { IsRule dictionary.now.tables.avps.items rule }
     ensures { (l : List Avp) → Lists list.entry l → result ≡ true
         → None ≡ first (list_faults depth dictionary.now.tables.avps.items rule.entry.entries.now l) }
 {
     let mut counts = few_counts();
-    pass_each(dictionary, rule, list, depth, &mut counts) && are_kept(rule.entries, &counts)
+    passes_counted(dictionary, rule, list, depth, alloc, &mut counts)
 }
 
-/// Whether nothing is wrong with a list of AVPs under a rule of any length.
+/// The same under a rule of many entries.
 // (A function of its own in the machine's code too: its counters would be zeroed at its caller's entry.)
 #[cycle(passing)]
 #[inline(never)]
-fn passes_long(dictionary: &Linked, rule: LinkedRule<'_>, list: AvpsRef<'_>, depth: u32) -> bool
+fn passes_many(
+    dictionary: &Linked,
+    rule: LinkedRule<'_>,
+    list: AvpsRef<'_>,
+    depth: u32,
+    alloc: Option<Global>,
+) -> bool
     requires linked { IsLinked dictionary.now }
     requires fit { IsFit dictionary.now.tables.avps.items }
     requires rule { IsRule dictionary.now.tables.avps.items rule }
     ensures { (l : List Avp) → Lists list.entry l → result ≡ true
         → None ≡ first (list_faults depth dictionary.now.tables.avps.items rule.entry.entries.now l) }
 {
-    let mut counts = no_counts();
-    pass_each(dictionary, rule, list, depth, &mut counts)
-        && pass_entries(&dictionary.tables, rule, &counts, list)
+    let mut counts = many_counts();
+    passes_counted(dictionary, rule, list, depth, alloc, &mut counts)
+}
+
+/// The same under a rule of any length: by a counter for each entry where there is memory for that.
+#[cycle(passing)]
+fn passes_any(
+    dictionary: &Linked,
+    rule: LinkedRule<'_>,
+    list: AvpsRef<'_>,
+    depth: u32,
+    alloc: Option<Global>,
+) -> bool
+    requires linked { IsLinked dictionary.now }
+    requires fit { IsFit dictionary.now.tables.avps.items }
+    requires rule { IsRule dictionary.now.tables.avps.items rule }
+    ensures { (l : List Avp) → Lists list.entry l → result ≡ true
+        → None ≡ first (list_faults depth dictionary.now.tables.avps.items rule.entry.entries.now l) }
+{
+    let Some(mut counts) = counts_for(alloc, rule.entries) else {
+        return passes_many(dictionary, rule, list, depth, alloc);
+    };
+    let room = counts.as_mut_slice();
+    let passes = passes_counted(dictionary, rule, list, depth, alloc, room);
+    drop(counts);
+    passes
 }
 
 /// Whether nothing is wrong with a list of AVPs under the rule, where so many groups may stand inside each other. Where
@@ -190,6 +247,7 @@ pub(crate) fn passes_list(
     rule: LinkedRule<'_>,
     list: AvpsRef<'_>,
     depth: u32,
+    alloc: Option<Global>,
 ) -> bool
     requires linked { IsLinked dictionary.now }
     requires fit { IsFit dictionary.now.tables.avps.items }
@@ -198,8 +256,8 @@ pub(crate) fn passes_list(
         → None ≡ first (list_faults depth dictionary.now.tables.avps.items rule.entry.entries.now l) }
 {
     if rule.entries.as_slice().len() <= FEW_ENTRIES {
-        passes_short(dictionary, rule, list, depth)
+        passes_few(dictionary, rule, list, depth, alloc)
     } else {
-        passes_long(dictionary, rule, list, depth)
+        passes_any(dictionary, rule, list, depth, alloc)
     }
 }

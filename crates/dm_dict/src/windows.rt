@@ -1,4 +1,5 @@
-//! Whether a list has as many AVPs as the entries of a rule want, 256 entries at a time (RFC 6733, 3.2 and 7.1.5).
+//! Whether a list has as many AVPs as the entries of a rule want: those that have counters, and those behind them, a
+//! window of entries at a time (RFC 6733, 3.2 and 7.1.5).
 ghost use Rattle.std.specs.Prelude.{◌≡◌, ◌+◌, ◌<◌, ◌≤◌, ◌⊎◌, true, false, List, length, drop, slice_index_or, flat_map};
 ghost use Rattle.std.specs.Option.{option_or};
 ghost use Rattle.dm_wire.specs.declared.avp.Avp.{Avp};
@@ -14,7 +15,7 @@ ghost use Rattle.dm_dict.specs.Found.{finds_missing};
 ghost use Rattle.dm_dict.specs.Judgement.{shown};
 ghost use Rattle.dm_dict.specs.Limits.{window};
 
-use crate::counts::counts_from;
+use crate::counts::{WINDOW, count_from, window_counts};
 use crate::entries::judge_entry;
 use crate::judged::Judged;
 use crate::linked::LinkedRule;
@@ -47,35 +48,41 @@ fn next_bounded(rule: &Rule, from: usize) -> usize
     at
 }
 
-/// The end of the 256 entries from `from` on, or of the entries.
-fn window_end(size: usize, from: usize) -> usize
+/// The end of so many entries from `from` on, or of the entries.
+fn window_end(size: usize, from: usize, most: usize) -> usize
     requires { from ≤ size }
     ensures above { from ≤ result }
     ensures within { result ≤ size }
-    ensures most { result ≤ from + window }
-    ensures last { (result ≡ size) ⊎ (result ≡ from + window) }
+    ensures most { result ≤ from + most }
+    ensures last { (result ≡ size) ⊎ (result ≡ from + most) }
 {
-    if size - from < 256 { size } else { from + 256 }
+    if size - from < most {
+        size
+    } else {
+        from + most
+    }
 }
 
-/// The first fault of the 256 entries from `from` on.
+/// The first fault of the entries from `from` on that have these counters.
 fn judge_window<'a>(
     tables: &Tables,
     rule: LinkedRule<'_>,
     from: usize,
-    counts: &[u16; 256],
+    counts: &[u16],
     list: AvpsRef<'a>,
 ) -> Judged<'a>
     requires tables { IsTables tables.now }
     requires fit { IsFit tables.now.avps.items }
     requires rule { IsRule tables.now.avps.items rule }
     requires within { from ≤ length rule.entries.now }
-    ensures fault { (l : List Avp) → Lists list.entry l → IsCounted tables.now.avps.items rule.entry.entries.now l from counts.now
+    ensures fault { (l : List Avp) → Lists list.entry l
+        → IsCounted tables.now.avps.items rule.entry.entries.now l from counts.now
         → first (flat_map (entry_faults tables.now.avps.items rule.entry.entries.now l) (drop from rule.entry.entries.now))
-        ≡ option_or (shown result) (first (flat_map (entry_faults tables.now.avps.items rule.entry.entries.now l) (drop (from + window) rule.entry.entries.now))) }
+        ≡ option_or (shown result) (first (flat_map (entry_faults tables.now.avps.items rule.entry.entries.now l)
+        (drop (from + length counts.now) rule.entry.entries.now))) }
     ensures missing { finds_missing result ≡ false }
 {
-    for at in from..window_end(rule.entries.as_slice().len(), from) {
+    for at in from..window_end(rule.entries.as_slice().len(), from, counts.len()) {
         match judge_entry(tables, rule, at, counts[at - from], list) {
             Judged::Good => {}
             Judged::Bad { code, failed } => return Judged::Bad { code, failed },
@@ -84,45 +91,75 @@ fn judge_window<'a>(
     Judged::Good
 }
 
-/// The first fault of the entries from the 256th on. Each window of 256 begins at an entry that has a
-/// bound, and looks all AVPs up once more.
-fn judge_further<'a>(tables: &Tables, rule: LinkedRule<'_>, list: AvpsRef<'a>) -> Judged<'a>
-    requires tables { IsTables tables.now }
-    requires fit { IsFit tables.now.avps.items }
-    requires rule { IsRule tables.now.avps.items rule }
-    ensures fault { (l : List Avp) → Lists list.entry l
-        → shown result ≡ first (flat_map (entry_faults tables.now.avps.items rule.entry.entries.now l) (drop window rule.entry.entries.now)) }
-    ensures missing { finds_missing result ≡ false }
-{
-    let size = rule.entries.as_slice().len();
-    let mut from = next_bounded(rule.entries, 256);
-    while from < size {
-        let counts = counts_from(tables, rule, from, list);
-        match judge_window(tables, rule, from, &counts, list) {
-            Judged::Good => {}
-            Judged::Bad { code, failed } => return Judged::Bad { code, failed },
-        }
-        from = next_bounded(rule.entries, window_end(size, from));
-    }
-    Judged::Good
-}
-
-/// The first fault of the entries of the rule, of which the first 256 have these counters.
-pub(crate) fn judge_entries<'a>(
+/// The first fault of a window of entries from `from` on, for which all AVPs are looked up once more.
+// (A function of its own in the machine's code too, for the room that its counters take of the stack.)
+#[inline(never)]
+fn judge_next<'a>(
     tables: &Tables,
     rule: LinkedRule<'_>,
-    counts: &[u16; 256],
+    from: usize,
     list: AvpsRef<'a>,
 ) -> Judged<'a>
     requires tables { IsTables tables.now }
     requires fit { IsFit tables.now.avps.items }
     requires rule { IsRule tables.now.avps.items rule }
-    ensures fault { (l : List Avp) → Lists list.entry l → IsCounted tables.now.avps.items rule.entry.entries.now l 0 counts.now
-        → shown result ≡ first (flat_map (entry_faults tables.now.avps.items rule.entry.entries.now l) rule.entry.entries.now) }
+    requires within { from ≤ length rule.entries.now }
+    ensures fault { (l : List Avp) → Lists list.entry l
+        → first (flat_map (entry_faults tables.now.avps.items rule.entry.entries.now l) (drop from rule.entry.entries.now))
+        ≡ option_or (shown result) (first (flat_map (entry_faults tables.now.avps.items rule.entry.entries.now l)
+        (drop (from + window) rule.entry.entries.now))) }
+    ensures missing { finds_missing result ≡ false }
+{
+    let mut counts = window_counts();
+    count_from(tables, rule, from, list, &mut counts);
+    judge_window(tables, rule, from, &counts, list)
+}
+
+/// The first fault of the entries from `start` on. Each window of them begins at an entry that has a bound.
+fn judge_further<'a>(
+    tables: &Tables,
+    rule: LinkedRule<'_>,
+    start: usize,
+    list: AvpsRef<'a>,
+) -> Judged<'a>
+    requires tables { IsTables tables.now }
+    requires fit { IsFit tables.now.avps.items }
+    requires rule { IsRule tables.now.avps.items rule }
+    ensures fault { (l : List Avp) → Lists list.entry l
+        → shown result ≡ first (flat_map (entry_faults tables.now.avps.items rule.entry.entries.now l)
+        (drop start rule.entry.entries.now)) }
+    ensures missing { finds_missing result ≡ false }
+{
+    let size = rule.entries.as_slice().len();
+    let mut from = next_bounded(rule.entries, start);
+    while from < size {
+        match judge_next(tables, rule, from, list) {
+            Judged::Good => {}
+            Judged::Bad { code, failed } => return Judged::Bad { code, failed },
+        }
+        from = next_bounded(rule.entries, window_end(size, from, WINDOW));
+    }
+    Judged::Good
+}
+
+/// The first fault of the entries of the rule, of which the first ones have these counters.
+pub(crate) fn judge_entries<'a>(
+    tables: &Tables,
+    rule: LinkedRule<'_>,
+    counts: &[u16],
+    list: AvpsRef<'a>,
+) -> Judged<'a>
+    requires tables { IsTables tables.now }
+    requires fit { IsFit tables.now.avps.items }
+    requires rule { IsRule tables.now.avps.items rule }
+    ensures fault { (l : List Avp) → Lists list.entry l
+        → IsCounted tables.now.avps.items rule.entry.entries.now l 0 counts.now
+        → shown result ≡ first (flat_map (entry_faults tables.now.avps.items rule.entry.entries.now l)
+        rule.entry.entries.now) }
     ensures missing { finds_missing result ≡ false }
 {
     match judge_window(tables, rule, 0, counts, list) {
-        Judged::Good => judge_further(tables, rule, list),
+        Judged::Good => judge_further(tables, rule, counts.len(), list),
         Judged::Bad { code, failed } => Judged::Bad { code, failed },
     }
 }

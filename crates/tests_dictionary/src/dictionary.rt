@@ -9,6 +9,7 @@ mod faults;
 mod groups;
 mod judged;
 mod listed;
+mod long_rules;
 mod printed;
 mod rows;
 mod rules;

@@ -29,13 +29,13 @@ judge_avp-judge_group-requires t c =
       ),
     )
 
-pub judge_list-loop-avp-preserved : goal.judge_list-loop-avp-preserved
-judge_list-loop-avp-preserved t c =
+pub judge_counted-loop-avp-preserved : goal.judge_counted-loop-avp-preserved
+judge_counted-loop-avp-preserved t c =
     let avps = c.args.dictionary.now.tables.avps.items in
     let rule = c.args.rule.entries.now in
     let a = avp_of c.in-Some.avp in
     let G = group_faults c.args.depth avps in
-    let allowed = c.allows.ensures ∙ ap allows c.look_up-place.ensures.entry in
+    let allowed = c.allows-allowed.ensures ∙ ap allows c.look_up-place.ensures.entry in
     let good = looked_up G _ _ a _ _ allowed c.in-Good.ensures.fault in
     λ all h.
     let (m, listed, chain, counted) = c.loop-avp.invariant all h in
@@ -44,5 +44,5 @@ judge_list-loop-avp-preserved t c =
       behind,
       good_member (λ x. avp_faults G (allows (entry_for rule (definition avps x))) x (definition avps x)) _ _ a m k
           chain is good,
-      counted_step avps rule all m k a 0 _ _ _ counted is c.count_one.ensures c.look_up-place.ensures.counts,
+      counted_step avps rule all m k a 0 _ _ _ c.count_one.ensures.size counted is c.count_one.ensures.counted c.look_up-place.ensures.counts,
     )

@@ -7,16 +7,22 @@ use Rattle.dm_dict.specs.Rules.{definition, entry_for, allows}
 use Rattle.dm_dict.proofs.avps.+judge.Given as goal
 
 abbrev pub decreases-judge_list : goal.decreases-judge_list
-decreases-judge_list l = 3 * l.depth + 2
+decreases-judge_list l = 5 * l.depth + 4
+
+abbrev pub decreases-judge_many : goal.decreases-judge_many
+decreases-judge_many l = 5 * l.depth + 3
+
+abbrev pub decreases-judge_counted : goal.decreases-judge_counted
+decreases-judge_counted l = 5 * l.depth + 2
 
 abbrev pub decreases-judge_avp : goal.decreases-judge_avp
-decreases-judge_avp l = 3 * l.depth + 1
+decreases-judge_avp l = 5 * l.depth + 1
 
 abbrev pub decreases-judge_group : goal.decreases-judge_group
-decreases-judge_group l = 3 * l.depth
+decreases-judge_group l = 5 * l.depth
 
-abbrev pub invariant-judge_list-loop-avp : goal.invariant-judge_list-loop-avp
-invariant-judge_list-loop-avp l =
+abbrev pub invariant-judge_counted-loop-avp : goal.invariant-judge_counted-loop-avp
+invariant-judge_counted-loop-avp l =
     (all : List Avp) → Lists l.list all → (m : List Avp) × Lists l.left m
     × (first (list_faults l.depth l.dictionary.tables.avps.items l.rule.entries.now all)
     ≡ first (flat_map
@@ -25,5 +31,5 @@ invariant-judge_list-loop-avp l =
     ++ flat_map (entry_faults l.dictionary.tables.avps.items l.rule.entries.now all) l.rule.entries.now))
     × IsCountedBut l.dictionary.tables.avps.items l.rule.entries.now all m 0 l.counts
 
-abbrev pub decreases-judge_list-loop-avp : goal.decreases-judge_list-loop-avp
-decreases-judge_list-loop-avp l = size_of l.left
+abbrev pub decreases-judge_counted-loop-avp : goal.decreases-judge_counted-loop-avp
+decreases-judge_counted-loop-avp l = size_of l.left

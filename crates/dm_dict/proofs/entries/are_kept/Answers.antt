@@ -10,7 +10,7 @@ loop-at-preserved c = λ avps l counted.
     let rule = c.args.rule.now in
     let at = c.loop-at.at in
     let size = ap length c.as_slice-entry-items.ensures in
-    let most = c.requires.within in
+    let room = c.requires.room in
     let within : at < length rule = omega arith in
     let from_zero : 0 + at ≡ at = omega arith in
     good_element (entry_faults avps rule l) rule _ at within (c.loop-at.invariant avps l counted)

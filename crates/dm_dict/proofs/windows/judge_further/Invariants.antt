@@ -7,7 +7,7 @@ use Rattle.dm_dict.proofs.windows.judge_further.Given as goal
 abbrev pub invariant-loop-from : goal.invariant-loop-from
 invariant-loop-from l =
     (all : List Avp) → Lists l.list all
-    → first (flat_map (entry_faults l.tables.avps.items l.rule.entries.now all) (drop 256 l.rule.entries.now)) ≡
+    → first (flat_map (entry_faults l.tables.avps.items l.rule.entries.now all) (drop l.start l.rule.entries.now)) ≡
     first (flat_map (entry_faults l.tables.avps.items l.rule.entries.now all) (drop l.from l.rule.entries.now))
 
 abbrev pub decreases-loop-from : goal.decreases-loop-from

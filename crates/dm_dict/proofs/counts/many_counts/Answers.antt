@@ -1,7 +1,7 @@
 -- All are zero.
 use Rattle.std.proofs.Common.{◌≡◌, ℕ, zero, suc, get_or, refl}
 use Rattle.std.proofs.Math.ListN.{replicate}
-use Rattle.dm_dict.proofs.counts.no_counts.Goals as goal
+use Rattle.dm_dict.proofs.counts.many_counts.Goals as goal
 
 zero_at : (n i : ℕ) → get_or {A = ℕ} (replicate n 0) i 0 ≡ 0
 zero_at zero i = refl
