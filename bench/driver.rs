@@ -18,6 +18,7 @@ extern "C" {
     fn ours_check(octets: *const u8, len: usize, times: u32) -> usize;
     fn ours_judge(octets: *const u8, len: usize, times: u32) -> usize;
     fn ours_rule(text: *const u8, len: usize, octets: *const u8, octets_len: usize, times: u32) -> usize;
+    fn ours_rule_check(text: *const u8, len: usize, octets: *const u8, octets_len: usize, times: u32) -> usize;
     fn ours_list(text: *const u8, len: usize, octets: *const u8, octets_len: usize, located: bool, times: u32) -> usize;
     fn ours_encode(octets: *const u8, len: usize, times: u32) -> usize;
     fn ours_frame(octets: *const u8, len: usize, size: usize, times: u32) -> usize;
@@ -152,6 +153,11 @@ fn single_rule(size: usize) -> String {
     format!("{avps}< Q > ::= < Diameter Header: 300, REQ >{entries}\n")
 }
 
+/// A request of that command with one AVP of each entry.
+fn filled(size: usize) -> Vec<u8> {
+    message(300, &(0..size).map(|k| avp(80000 + k as u32, true, &[0; 4])).collect::<Vec<_>>())
+}
+
 /// A request of that command with two AVPs of each entry.
 fn exceeded(size: usize) -> Vec<u8> {
     message(300, &(0..2 * size).map(|k| avp(80000 + (k % size) as u32, true, &[0; 4])).collect::<Vec<_>>())
@@ -176,7 +182,7 @@ fn grouped(size: usize) -> Vec<u8> {
 fn text_of(name: &str, size: usize) -> String {
     match name {
         "ruled" => bounded_rule(size),
-        "exceeded" => single_rule(size),
+        "exceeded" | "filled" => single_rule(size),
         "grouped" => grouped_rule(),
         _ => String::new(),
     }
@@ -194,6 +200,7 @@ fn input(name: &str, size: usize) -> Vec<u8> {
         "watchdogs" => watchdog(0).repeat(1000),
         "ruled" => ruled(),
         "exceeded" => exceeded(size),
+        "filled" => filled(size),
         "grouped" => grouped(size),
         _ => panic!("no input {name}"),
     }
@@ -210,6 +217,7 @@ fn ours(operation: &str, text: &str, octets: &[u8], times: u32, size: usize) -> 
             "check" => ours_check(at, len, times),
             "judge" => ours_judge(at, len, times),
             "rule" => ours_rule(text.as_ptr(), text.len(), at, len, times),
+            "rule_check" => ours_rule_check(text.as_ptr(), text.len(), at, len, times),
             "faults" | "located" => ours_list(text.as_ptr(), text.len(), at, len, operation == "located", times),
             "encode" => ours_encode(at, len, times),
             "frame" => ours_frame(at, len, size, times),
