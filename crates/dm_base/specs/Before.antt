@@ -21,11 +21,11 @@ abbrev pub Before : List ℕ → List ℕ → Type 0
 Before h k = Precedes (lower h) (lower k)
 
 -- the order of two texts: the first difference decides, and a proper front comes first
-abbrev pub order : List ℕ → List ℕ → Ordering
-order [] [] = Equal
-order [] (b ∷ t) = Less
-order (a ∷ s) [] = Greater
-order (a ∷ s) (b ∷ t) = if nat_lt a b then Less else (if nat_lt b a then Greater else order s t)
+abbrev pub order_of_hosts : List ℕ → List ℕ → Ordering
+order_of_hosts [] [] = Equal
+order_of_hosts [] (b ∷ t) = Less
+order_of_hosts (a ∷ s) [] = Greater
+order_of_hosts (a ∷ s) (b ∷ t) = if nat_lt a b then Less else (if nat_lt b a then Greater else order_of_hosts s t)
 
 -- of two hosts with different `lower` just one comes before the other
 abbrev pub OneComesFirst : Type 0

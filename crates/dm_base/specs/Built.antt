@@ -80,7 +80,8 @@ behind_failed n = map (number_avp supported_vendor_id) (supported_vendors n.extr
 -- Vendor-Id, Product-Name, Origin-State-Id, the Failed-AVP where there is one, and the rest (5.3.1 and 5.3.2)
 abbrev pub behind_addresses : Node → List Avp → List Avp
 behind_addresses n failed =
-    number_avp vendor_id n.vendor ∷ product_avp n.product ∷ (state_avps (own_state n.extras) ++ (failed ++ behind_failed n))
+    number_avp vendor_id n.vendor ∷ product_avp n.product
+    ∷ (state_avps (own_state n.extras) ++ (failed ++ behind_failed n))
 
 -- what a node says of itself (5.3.1 and 5.3.2)
 abbrev pub capabilities : Node → List Avp → List Avp
@@ -135,7 +136,11 @@ built_cer n id = record { header = request_header capabilities_exchange id; avps
 
 -- Device-Watchdog-Request (5.5.1)
 abbrev pub built_dwr : Node → ℕ → Message
-built_dwr n id = record { header = request_header device_watchdog id; avps = origin n (state_avps (own_state n.extras)) }
+built_dwr n id = record {
+  header = request_header device_watchdog id;
+  avps = origin n
+      (state_avps (own_state n.extras));
+}
 
 -- Disconnect-Peer-Request (5.4.1)
 abbrev pub built_dpr : Node → ℕ → Cause → Message

@@ -15,7 +15,9 @@ pub use Rattle.dm_wire.specs.declared.codes.avps.TheConstants.{ORIGIN_HOST as or
 pub use Rattle.dm_wire.specs.declared.codes.avps.TheConstants.{ORIGIN_STATE_ID as origin_state_id}
 pub use Rattle.dm_wire.specs.declared.codes.avps.TheConstants.{PRODUCT_NAME as product_name}
 pub use Rattle.dm_wire.specs.declared.codes.avps.TheConstants.{SUPPORTED_VENDOR_ID as supported_vendor_id}
-pub use Rattle.dm_wire.specs.declared.codes.avps.TheConstants.{VENDOR_SPECIFIC_APPLICATION_ID as vendor_specific_application_id}
+pub use Rattle.dm_wire.specs.declared.codes.avps.TheConstants.{
+  VENDOR_SPECIFIC_APPLICATION_ID as vendor_specific_application_id,
+}
 -- the Application-ID of a relay, and the Inband-Security-Id of a connection without security
 pub use Rattle.dm_base.specs.declared.codes.TheConstants.{RELAY as relay, NO_INBAND_SECURITY as no_inband_security}
 

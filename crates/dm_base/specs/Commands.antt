@@ -2,7 +2,8 @@
 use Rattle.std.specs.Prelude.{ℕ, Bool, nat_eq, Option, None, Some, is_some, if◌then◌else◌}
 use Rattle.dm_base.specs.Codes.{capabilities_exchange, device_watchdog, disconnect_peer}
 use Rattle.dm_base.specs.declared.base_command.BaseCommand.{BaseCommand}
-use Rattle.dm_base.specs.declared.base_command.BaseCommand.TheVariants.{CapabilitiesExchange, DeviceWatchdog, DisconnectPeer}
+use Rattle.dm_base.specs.declared.base_command.BaseCommand.TheVariants.{CapabilitiesExchange}
+use Rattle.dm_base.specs.declared.base_command.BaseCommand.TheVariants.{DeviceWatchdog, DisconnectPeer}
 
 -- the base command of a code
 abbrev pub base_command : ℕ → Option BaseCommand

@@ -1,5 +1,6 @@
 -- What kind of message a message is, and what it says of capabilities (RFC 6733, 5.3 to 5.5).
-use Rattle.std.specs.Prelude.{◌≡◌, ℕ, ◌&&◌, ◌||◌, nat_eq, unwrap_or, Option, None, Some, IsSome, Result, Ok, Err, List, [], length, find, if◌then◌else◌, Bool, true, false}
+use Rattle.std.specs.Prelude.{◌≡◌, ℕ, ◌&&◌, ◌||◌, nat_eq, unwrap_or, Option, None, Some, IsSome, Result}
+use Rattle.std.specs.Prelude.{Ok, Err, List, [], length, find, if◌then◌else◌, Bool, true, false}
 use Rattle.std.specs.List.{flat_map}
 use Rattle.std.specs.Option.{option_eq, option_to_list}
 use Rattle.std.specs.Int.{cast_signed, w32}
@@ -15,7 +16,8 @@ use Rattle.dm_base.specs.Codes.{auth_application_id, acct_application_id, vendor
 use Rattle.dm_base.specs.Codes.{inband_security_id, result_code, disconnect_cause}
 use Rattle.dm_base.specs.Commands.{base_command, is_base_command}
 use Rattle.dm_base.specs.declared.base_command.BaseCommand.{BaseCommand}
-use Rattle.dm_base.specs.declared.base_command.BaseCommand.TheVariants.{CapabilitiesExchange, DeviceWatchdog, DisconnectPeer}
+use Rattle.dm_base.specs.declared.base_command.BaseCommand.TheVariants.{CapabilitiesExchange}
+use Rattle.dm_base.specs.declared.base_command.BaseCommand.TheVariants.{DeviceWatchdog, DisconnectPeer}
 use Rattle.dm_base.specs.declared.kind.Caps.{Caps}
 use Rattle.dm_base.specs.declared.kind.Kind.{Kind}
 use Rattle.dm_base.specs.declared.kind.Kind.TheVariants as kinds

@@ -12,7 +12,8 @@ use Rattle.dm_base.specs.declared.kind.Kind.TheVariants as kinds
 use Rattle.dm_base.specs.Codes.{capabilities_exchange, device_watchdog, disconnect_peer}
 use Rattle.dm_base.specs.Kinds.{IsBase}
 use Rattle.dm_base.specs.Spelled.{HasSpelling}
-use Rattle.dm_base.specs.Built.{own_caps, cause_number, built_cer, built_cea, built_dwr, built_dpr, built_answer, built_error}
+use Rattle.dm_base.specs.Built.{own_caps, cause_number, built_cer, built_cea}
+use Rattle.dm_base.specs.Built.{built_dwr, built_dpr, built_answer, built_error}
 
 abbrev pub CerIsOwn : Type 0
 CerIsOwn = (n : Node) (id : ℕ) → IsBase (built_cer n id) (kinds.Cer (own_caps n))

@@ -1,5 +1,5 @@
--- What a message of a capabilities exchange says of its sender, and a Disconnect-Peer-Request of its cause (RFC 6733, 5.3
--- and 5.4.3).
+-- What a message of a capabilities exchange says of its sender, and a Disconnect-Peer-Request of its cause (RFC 6733,
+-- 5.3 and 5.4.3).
 use Rattle.std.specs.Prelude.{◌≡◌, ℕ, ℤ, ◌&&◌, nat_eq, Option, None, Some, option_map, List, if◌then◌else◌}
 use Rattle.std.specs.List.{flat_map}
 use Rattle.std.specs.Option.{option_to_list}
@@ -12,8 +12,8 @@ use Rattle.dm_base.specs.Kinds.{is_plain, data_at, number_in}
 use Rattle.dm_base.specs.declared.sender_ref.SenderRef.{SenderRef}
 
 -- the AVPs that its octets spell
-abbrev pub Tells : SenderRef → List Avp → Type 0
-Tells r l = members r.rest.now ≡ Some l
+abbrev pub HasAvps : SenderRef → List Avp → Type 0
+HasAvps r l = members r.rest.now ≡ Some l
 
 -- the number of the first AVP of a code; none where there is no such AVP, or the first one hasn't four octets
 abbrev pub number_told : ℕ → List Avp → Option ℕ

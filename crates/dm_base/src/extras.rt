@@ -65,8 +65,8 @@ fn ids_of(alloc: Global, applications: &[VendorApplication]) -> Result<Vec<u32>,
 
 impl Extras {
     /// What a node says beyond what it must (RFC 6733, 5.3, 6.11 and 8.16): the applications of vendors, each in a
-    /// Vendor-Specific-Application-Id, the Supported-Vendor-Ids, and Firmware-Revision and Origin-State-Id where there are
-    /// numbers for them. The lists are moved and not copied.
+    /// Vendor-Specific-Application-Id, the Supported-Vendor-Ids, and Firmware-Revision and Origin-State-Id where there
+    /// are numbers for them. The lists are moved and not copied.
     ///
     /// Refuses with `TooLong` where there are over 256 applications or over 256 vendors, else with `NoMemory`.
     pub fn new(

@@ -4,7 +4,8 @@ ghost use Rattle.dm_base.specs.Before.{OneComesFirst};
 ghost use Rattle.dm_base.specs.Common.{CommonIsShared, NodesShare, OwnInCommon, CommonBothWays, SecureNamesNone};
 ghost use Rattle.dm_base.specs.Laws.{CerIsOwn, CeaIsOwn, DwrIsOwn, DwaIsOwn, DprIsOwn, DpaIsOwn, ErrorIsGood};
 ghost use Rattle.dm_base.specs.Told.{CerTellsNode, CeaTellsNode, DwrTellsState, DwaTellsState};
-ghost use Rattle.dm_base.specs.Laws.{CerIsSpelled, CeaIsSpelled, DwrIsSpelled, DprIsSpelled, AnswerIsSpelled, ErrorIsSpelled};
+ghost use Rattle.dm_base.specs.Laws.{CerIsSpelled, CeaIsSpelled, DwrIsSpelled};
+ghost use Rattle.dm_base.specs.Laws.{DprIsSpelled, AnswerIsSpelled, ErrorIsSpelled};
 
 use dm_wire::laws::{avp_sized, message_spelled};
 
@@ -42,8 +43,8 @@ pub fn built_is_spelled()
     avp_sized();
 }
 
-/// What the capabilities exchanges of a node tell, as `sender` reads them, is what the node says of itself, extras too; and
-/// its watchdogs tell the number of its state (5.3 and 8.16). It stands for users.
+/// What the capabilities exchanges of a node tell, as `sender` reads them, is what the node says of itself, extras too;
+/// and its watchdogs tell the number of its state (5.3 and 8.16). It stands for users.
 pub fn built_tells()
     ensures cer { CerTellsNode }
     ensures cea { CeaTellsNode }

@@ -107,9 +107,10 @@ impl Node {
     /// A node of these parts, which are moved and not copied (RFC 6733, 4.3.1 and 5.3; the limits are own). It never
     /// answers want of memory.
     ///
-    /// Refuses, in this order, with `BadHost` (the host, then the realm, is empty or has an octet outside 0x21 to 0x7E),
-    /// `NoAddress`, and `TooLong` (the host, the realm or the product is over 255 octets, or there are over 64 addresses,
-    /// over 256 auth ids or over 256 acct ids), and drops the parts then.
+    /// Refuses, in this order, with `BadHost` (the host, then the realm, is empty or has an octet outside 0x21 to
+    /// 0x7E),
+    /// `NoAddress`, and `TooLong` (the host, the realm or the product is over 255 octets, or there are over 64
+    /// addresses, over 256 auth ids or over 256 acct ids), and drops the parts then.
     pub fn new(
         host: Vec<u8>,
         realm: Vec<u8>,
@@ -160,9 +161,9 @@ impl Node {
         }
     }
 
-    /// The node, which says this too, in place of what it said beyond before (RFC 6733, 5.3, 6.11 and 8.16): the messages
-    /// that it builds carry it where the commands have it, and its applications of vendors are applications in common. The
-    /// extras are moved and not copied. It never answers want of memory.
+    /// The node, which says this too, in place of what it said beyond before (RFC 6733, 5.3, 6.11 and 8.16): the
+    /// messages that it builds carry it where the commands have it, and its applications of vendors are applications in
+    /// common. The extras are moved and not copied. It never answers want of memory.
     pub fn with_extras(self, extras: Extras) -> Node
         ensures host { result.host ≡ self.host }
         ensures realm { result.realm ≡ self.realm }

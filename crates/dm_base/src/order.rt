@@ -1,6 +1,6 @@
 //! The order of hosts in an election (RFC 6733, 5.6.4).
 ghost use Rattle.std.specs.Prelude.{◌≡◌, ◌↔◌};
-ghost use Rattle.dm_base.specs.Before.{Before, lower, lower_octet, order};
+ghost use Rattle.dm_base.specs.Before.{Before, lower, lower_octet, order_of_hosts};
 
 use std::cmp::Ordering;
 
@@ -17,7 +17,7 @@ fn lower_octet(octet: u8) -> u8
 /// The order of the octets with `A` to `Z` taken as `a` to `z`.
 #[tactic(auto, using(crate::proofs::Orders::ended_less, crate::proofs::Orders::ended_greater))]
 fn compare(one: &[u8], other: &[u8]) -> Ordering
-    ensures { result ≡ order (lower one.now) (lower other.now) }
+    ensures { result ≡ order_of_hosts (lower one.now) (lower other.now) }
 {
     let mut at = 0;
     while at < one.len() {
@@ -44,7 +44,7 @@ fn compare(one: &[u8], other: &[u8]) -> Ordering
 /// The order of two hosts: their octets with `A` to `Z` taken as `a` to `z`. The first difference decides, and a proper
 /// front comes first. It never answers want of memory.
 pub fn host_order(one: &[u8], other: &[u8]) -> Ordering
-    ensures value { result ≡ order (lower one.now) (lower other.now) }
+    ensures value { result ≡ order_of_hosts (lower one.now) (lower other.now) }
     ensures less { (result ≡ Ordering.Less) ↔ Before one.now other.now }
     ensures greater { (result ≡ Ordering.Greater) ↔ Before other.now one.now }
     ensures equal { (result ≡ Ordering.Equal) ↔ (lower one.now ≡ lower other.now) }

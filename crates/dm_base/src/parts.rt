@@ -5,7 +5,8 @@ ghost use Rattle.dm_wire.specs.Spelling.{avp_length};
 ghost use Rattle.dm_wire.specs.Canonical.{canonical_avp};
 ghost use Rattle.dm_base.specs.Codes.{longest_failed, vendor_id, supported_vendor_id};
 ghost use Rattle.dm_base.specs.Built.{avp, number_avp, address_avp, product_avp, origin, capabilities, failed_avps};
-ghost use Rattle.dm_base.specs.Built.{id_code, specific_avp, state_avps, firmware_avps, application_avps, behind_failed};
+ghost use Rattle.dm_base.specs.Built.{id_code, specific_avp, state_avps};
+ghost use Rattle.dm_base.specs.Built.{firmware_avps, application_avps, behind_failed};
 ghost use Rattle.dm_base.specs.Extra.{answer_state, own_state, own_firmware, supported_vendors, vendor_applications};
 ghost use Rattle.dm_wire.specs.Canonical.{canonical_list};
 ghost use Rattle.dm_wire.specs.Borrowed.{avp_of};
@@ -250,8 +251,8 @@ fn extra_avps(node: &Node) -> usize
     }
 }
 
-/// No fewer AVPs than a capabilities exchange has: 9, and one for each address, id, application of a vendor and supported
-/// vendor.
+/// No fewer AVPs than a capabilities exchange has: 9, and one for each address, id, application of a vendor and
+/// supported vendor.
 #[tactic(auto, using(crate::proofs::Fitting::few_addresses, crate::proofs::Fitting::few_ids))]
 pub(crate) fn most_avps(node: &Node) -> usize {
     let addresses = node.addresses.as_slice().len();
@@ -270,8 +271,8 @@ pub(crate) fn own_state(node: &Node) -> Option<u32>
     }
 }
 
-/// The number of the node's state, where it has one and an answer to this command tells it: a Device-Watchdog-Answer alone
-/// (RFC 6733, 5.5.2).
+/// The number of the node's state, where it has one and an answer to this command tells it: a Device-Watchdog-Answer
+/// alone (RFC 6733, 5.5.2).
 pub(crate) fn answer_state(node: &Node, command: u32) -> Option<u32>
     ensures { result ≡ answer_state node.now command }
 {

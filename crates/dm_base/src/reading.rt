@@ -6,7 +6,8 @@ ghost use Rattle.dm_wire.specs.declared.avp.Avp.{Avp};
 ghost use Rattle.dm_wire.specs.Borrowed.{avp_of};
 ghost use Rattle.dm_wire.specs.Borrowed.{Lists};
 ghost use Rattle.dm_base.specs.Codes.{vendor_specific_application_id};
-ghost use Rattle.dm_base.specs.Kinds.{is_plain, data_at, number_in, number_at, plain_id, plain_ids, security_id, security_ids, application_ids, caps_of};
+ghost use Rattle.dm_base.specs.Kinds.{is_plain, data_at, number_in, number_at, plain_id, plain_ids};
+ghost use Rattle.dm_base.specs.Kinds.{security_id, security_ids, application_ids, caps_of};
 
 use crate::codes::{
     ACCT_APPLICATION_ID, AUTH_APPLICATION_ID, INBAND_SECURITY_ID, ORIGIN_HOST, ORIGIN_REALM,

@@ -6,7 +6,7 @@ ghost use Rattle.dm_wire.specs.declared.avp.Avp.{Avp};
 ghost use Rattle.dm_wire.specs.Borrowed.{Lists, avp_of};
 ghost use Rattle.dm_wire.specs.Spelling.{SpellsList};
 ghost use Rattle.dm_base.specs.Codes.{capabilities_exchange};
-ghost use Rattle.dm_base.specs.Senders.{Tells, number_told, plain_number, numbers_told, cause_told};
+ghost use Rattle.dm_base.specs.Senders.{HasAvps, number_told, plain_number, numbers_told, cause_told};
 
 use crate::codes::{
     CAPABILITIES_EXCHANGE, DISCONNECT_CAUSE, DISCONNECT_PEER, FIRMWARE_REVISION, ORIGIN_HOST,
@@ -59,35 +59,35 @@ impl<'a> SenderRef<'a> {
 
     /// The first Origin-Host; where there is none, no octets (6.3). It never answers want of memory.
     pub fn host(&self) -> &'a [u8]
-        ensures { (l : List Avp) → Tells self.now l → result.now ≡ data_at origin_host l }
+        ensures { (l : List Avp) → HasAvps self.now l → result.now ≡ data_at origin_host l }
     {
         data_at(AvpsRef::Spelled(self.rest), ORIGIN_HOST)
     }
 
     /// The first Origin-Realm; where there is none, no octets (6.4). It never answers want of memory.
     pub fn realm(&self) -> &'a [u8]
-        ensures { (l : List Avp) → Tells self.now l → result.now ≡ data_at origin_realm l }
+        ensures { (l : List Avp) → HasAvps self.now l → result.now ≡ data_at origin_realm l }
     {
         data_at(AvpsRef::Spelled(self.rest), ORIGIN_REALM)
     }
 
     /// The octets of the first Product-Name; where there is none, no octets (5.3.7). It never answers want of memory.
     pub fn product(&self) -> &'a [u8]
-        ensures { (l : List Avp) → Tells self.now l → result.now ≡ data_at product_name l }
+        ensures { (l : List Avp) → HasAvps self.now l → result.now ≡ data_at product_name l }
     {
         data_at(AvpsRef::Spelled(self.rest), PRODUCT_NAME)
     }
 
     /// The number of the first Vendor-Id, where it has four octets (5.3.3). It never answers want of memory.
     pub fn vendor(&self) -> Option<u32>
-        ensures { (l : List Avp) → Tells self.now l → result ≡ number_told vendor_id l }
+        ensures { (l : List Avp) → HasAvps self.now l → result ≡ number_told vendor_id l }
     {
         number_told(AvpsRef::Spelled(self.rest), VENDOR_ID)
     }
 
     /// The number of the first Firmware-Revision, where it has four octets (5.3.4). It never answers want of memory.
     pub fn firmware(&self) -> Option<u32>
-        ensures { (l : List Avp) → Tells self.now l → result ≡ number_told firmware_revision l }
+        ensures { (l : List Avp) → HasAvps self.now l → result ≡ number_told firmware_revision l }
     {
         number_told(AvpsRef::Spelled(self.rest), FIRMWARE_REVISION)
     }
@@ -95,7 +95,7 @@ impl<'a> SenderRef<'a> {
     /// The number of the first Origin-State-Id, where it has four octets; a greater one than before says that the
     /// sender has lost its state (8.16). It never answers want of memory.
     pub fn state_id(&self) -> Option<u32>
-        ensures { (l : List Avp) → Tells self.now l → result ≡ number_told origin_state_id l }
+        ensures { (l : List Avp) → HasAvps self.now l → result ≡ number_told origin_state_id l }
     {
         number_told(AvpsRef::Spelled(self.rest), ORIGIN_STATE_ID)
     }
@@ -103,8 +103,8 @@ impl<'a> SenderRef<'a> {
     /// The ids of its applications, in order of the message, those of Vendor-Specific-Application-Id too (6.8, 6.9 and
     /// 6.11); or want of memory, which comes only where there are some.
     pub fn applications(&self, alloc: Global) -> Result<IdList, NoMemory>
-        ensures ids { (l : List Avp) → Tells self.now l → IfOk result (λ ids. ids ≡ flat_map application_ids l) }
-        ensures memory { (l : List Avp) → Tells self.now l → OnErr result (flat_map application_ids l ≢ []) }
+        ensures ids { (l : List Avp) → HasAvps self.now l → IfOk result (λ ids. ids ≡ flat_map application_ids l) }
+        ensures memory { (l : List Avp) → HasAvps self.now l → OnErr result (flat_map application_ids l ≢ []) }
     {
         applications(alloc, AvpsRef::Spelled(self.rest))
     }
@@ -112,8 +112,9 @@ impl<'a> SenderRef<'a> {
     /// The vendors that it names with Supported-Vendor-Id, in order of the message (5.3.6); or want of memory,
     /// which comes only where there are some.
     pub fn vendors(&self, alloc: Global) -> Result<IdList, NoMemory>
-        ensures ids { (l : List Avp) → Tells self.now l → IfOk result (λ ids. ids ≡ numbers_told supported_vendor_id l) }
-        ensures memory { (l : List Avp) → Tells self.now l → OnErr result (numbers_told supported_vendor_id l ≢ []) }
+        ensures ids { (l : List Avp) → HasAvps self.now l
+            → IfOk result (λ ids. ids ≡ numbers_told supported_vendor_id l) }
+        ensures memory { (l : List Avp) → HasAvps self.now l → OnErr result (numbers_told supported_vendor_id l ≢ []) }
     {
         let mut ids = Vec::new(alloc);
         put_told(&mut ids, AvpsRef::Spelled(self.rest), SUPPORTED_VENDOR_ID)?;
@@ -125,7 +126,7 @@ impl<'a> SenderRef<'a> {
 /// 5.3). The message isn't checked: whether it is good says `view`. It never answers want of memory.
 pub fn sender<'a>(message: &MessageRef<'a>) -> Option<SenderRef<'a>>
     ensures some { is_some result ≡ nat_eq message.now.header.command capabilities_exchange }
-    ensures tells { (l : List Avp) → SpellsList l message.now.rest.now → IfSome result (λ r. Tells r l) }
+    ensures tells { (l : List Avp) → SpellsList l message.now.rest.now → IfSome result (λ r. HasAvps r l) }
 {
     if message.header.command != CAPABILITIES_EXCHANGE {
         return None;

@@ -7,7 +7,7 @@ use Rattle.std.proofs.lemmas.Bool.{and_parts}
 use Rattle.dm_tables.specs.declared.rule.Entry.{Entry}
 use Rattle.dm_tables.specs.declared.def.AvpDef.{AvpDef}
 use Rattle.dm_tables.specs.Definitions.{is_named}
-use Rattle.dm_tables.specs.Sound.{is_any, is_known, knows_rule}
+use Rattle.dm_tables.specs.Sound.{is_any, is_entry_known, knows_rule}
 use Rattle.dm_dict.specs.Examples.{HasExamples, MissingHasExample}
 use Rattle.dm_dict.specs.Faults.{example, example_of}
 use Rattle.dm_dict.specs.Rules.{stands_for_any}
@@ -42,7 +42,7 @@ mapped true o e h = absurd (cc)
 mapped false None e h = absurd (cc)
 mapped false (Some f) e h = search
 
-known_example : (avps : List AvpDef) (e : Entry) → is_known avps e ≡ true → stands_for_any e ≡ false
+known_example : (avps : List AvpDef) (e : Entry) → is_entry_known avps e ≡ true → stands_for_any e ≡ false
     → IsSome (example avps e)
 known_example avps e k other =
     mapped (stands_for_any e) (find (is_named e.name) avps) other
@@ -51,7 +51,7 @@ known_example avps e k other =
 rule_examples : (avps : List AvpDef) (rule : List Entry) → knows_rule avps rule ≡ true → HasExamples avps rule
 rule_examples avps [] h = tt
 rule_examples avps (e ∷ rule) h =
-    let (here, rest) = and_parts (is_known avps e) (knows_rule avps rule) h in
+    let (here, rest) = and_parts (is_entry_known avps e) (knows_rule avps rule) h in
     (known_example avps e here, rule_examples avps rule rest)
 
 each_example : {D : Type 0} (avps : List AvpDef) (rule : D → List Entry) (ds : List D)

@@ -3,18 +3,18 @@ use Rattle.std.proofs.Common.{◌≡◌, List, [], ◌∷◌, map, refl, ap, ◌
 use Rattle.dm_wire.specs.declared.message.Message.{Message}
 use Rattle.dm_tables.specs.Definitions.{Definitions}
 use Rattle.dm_dict.specs.declared.places.LocatedFault.{LocatedFault}
-use Rattle.dm_dict.specs.Listing.{told, AreFoundIn}
-use Rattle.dm_dict.specs.Located.{located}
+use Rattle.dm_dict.specs.Listing.{fault_listed, AreFoundIn}
+use Rattle.dm_dict.specs.Located.{located_faults}
 use Rattle.dm_dict.specs.Locating.{told_at}
 use Rattle.dm_dict.proofs.Located.{located_are_faults}
 use Rattle.dm_dict.proofs.Placed.{listed_found}
 
 without_paths : (listed : List LocatedFault)
-    → map told (map (λ f. f.fault) listed) ≡ map (λ f. f.fault) (map told_at listed)
+    → map fault_listed (map (λ f. f.fault) listed) ≡ map (λ f. f.fault) (map told_at listed)
 without_paths [] = refl
-without_paths (f ∷ listed) = ap (λ t. told f.fault ∷ t) (without_paths listed)
+without_paths (f ∷ listed) = ap (λ t. fault_listed f.fault ∷ t) (without_paths listed)
 
-pub located_found : (d : Definitions) (m : Message) (listed : List LocatedFault) → map told_at listed ≡ located d m
+pub located_found : (d : Definitions) (m : Message) (listed : List LocatedFault) → map told_at listed ≡ located_faults d m
     → AreFoundIn m.avps (map (λ f. f.fault) listed)
 located_found d m listed is =
     listed_found d m (map (λ f. f.fault) listed)

@@ -7,7 +7,7 @@ use Rattle.std.specs.Cmp.Lexicographic.{same_text}
 use Rattle.dm_tables.specs.declared.rule.Entry.{Entry}
 use Rattle.dm_tables.specs.declared.def.AvpDef.{AvpDef}
 use Rattle.dm_tables.specs.Definitions.{is_named, is_coded}
-use Rattle.dm_tables.specs.Sound.{is_any, is_known, knows_rule}
+use Rattle.dm_tables.specs.Sound.{is_any, is_entry_known, knows_rule}
 use Rattle.dm_dict.specs.Rules.{is_called, names, stands_for_any}
 use Rattle.dm_dict.specs.Apart.{IsFit, IsOwnName}
 use Rattle.dm_dict.specs.Links.{entry_link, rule_links}
@@ -81,7 +81,7 @@ linked_named avps i d at placed e = by (is_called d.name e) refl where
 
 -- an entry of the rule has no link just where it is `AVP`
 unlinked_any : (avps : List AvpDef) → list_any (is_named (codes "AVP")) avps ≡ false → (e : Entry)
-    → is_known avps e ≡ true → option_eq nat_eq None (entry_link avps e) ≡ stands_for_any e
+    → is_entry_known avps e ≡ true → option_eq nat_eq None (entry_link avps e) ≡ stands_for_any e
 unlinked_any avps unnamed e known = by (stands_for_any e) refl where
   some : is_some (entry_link avps e) ≡ list_any (is_named e.name) avps
   some = is_found (is_named e.name) 0 avps
@@ -129,7 +129,7 @@ pub any_place : (avps : List AvpDef) (rule : List Entry) → list_any (is_named 
     → position_from (option_eq nat_eq None) 0 (rule_links avps rule) ≡ position_from stands_for_any 0 rule
 any_place avps rule unnamed closed =
     position_map (option_eq nat_eq None) (entry_link avps) 0 rule ∙
-    position_same (is_known avps) (λ e. option_eq nat_eq None (entry_link avps e)) stands_for_any
+    position_same (is_entry_known avps) (λ e. option_eq nat_eq None (entry_link avps e)) stands_for_any
     (unlinked_any avps unnamed) 0 rule closed
 
 -- the place of the link of what is found, else of the entry without one, is the place of the AVP

@@ -19,7 +19,7 @@ use Rattle.dm_dict.specs.declared.path.Step.{Step}
 use Rattle.dm_dict.specs.declared.path.Path.{Path}
 use Rattle.dm_dict.specs.Locating.{told_behind}
 use Rattle.dm_dict.specs.Numbers.{is_group_type, is_wanted}
-use Rattle.dm_dict.specs.Located.{Located, step_at, here, under, kind_located, group_part, no_groups, avp_located, occurrence, each_located, list_located_by, members_located, group_located, message_located, located}
+use Rattle.dm_dict.specs.Located.{Located, step_at, here, under, kind_located, group_part, no_groups, avp_located, occurrence, each_located, list_located_by, members_located, group_located, message_located, located_faults}
 
 fault_of : Located → Fault
 fault_of f = f.fault
@@ -112,7 +112,7 @@ group_same : (n : ℕ) (avps : List AvpDef) (i : ℕ) (rule : List Entry) (a : A
 group_same zero avps i rule a = map_here (group_faults zero avps rule a)
 group_same (suc n) avps i rule a = members_same n avps i rule a (group_same n avps) (members a.bytes)
 
-pub located_are_faults : (d : Definitions) (m : Message) → map (λ f. f.fault) (located d m) ≡ faults d m
+pub located_are_faults : (d : Definitions) (m : Message) → map (λ f. f.fault) (located_faults d m) ≡ faults d m
 unfolding fault_of
 located_are_faults d m = by (command_for d m.header) where
   by : (c : Option CommandDef) → map fault_of (message_located d.avps m c) ≡ message_faults d.avps m c

@@ -3,7 +3,7 @@ use Rattle.std.proofs.lemmas.List.{append-nil, drop_all, take_all}
 use Rattle.dm_tables.specs.declared.values.EnumValue.{EnumValue}
 use Rattle.std.proofs.Common.{◌≡◌, ◌<◌, ◌≤◌, ℕ, zero, suc, ◌+◌, arith, length, take, drop, get_or, set, Bool, true}
 use Rattle.std.proofs.Common.{false, ◌&&◌, ◌||◌, List, [], ◌∷◌, ◌++◌, map, refl, sym, ◌∙◌, ap}
-use Rattle.dm_tables.specs.SoundParts.{avp_parts}
+use Rattle.dm_tables.specs.SoundParts.{avp_sound_parts}
 use Rattle.std.specs.Prelude.{if◌then◌else◌, Some}
 use Rattle.std.specs.List.{position_from, list_any, list_all}
 use Rattle.std.proofs.lemmas.Bool.{and_parts}
@@ -49,7 +49,7 @@ or_true false = refl
 sound_avp : (before : List AvpDef) (f : AvpDef) → is_sound_avp before f ≡ true
     → is_sound_avp (map without_list before) (without_list f) ≡ true
 sound_avp before f h =
-    let parts = avp_parts before f h in
+    let parts = avp_sound_parts before f h in
     let named : list_any (is_named f.name) (map without_list before) ≡ false =
     any_same (is_named f.name) (λ g. refl) before ∙ parts.new_name in
     let coded : list_any (is_coded f.code f.vendor) (map without_list before) ≡ false =

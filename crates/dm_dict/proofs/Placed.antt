@@ -25,7 +25,7 @@ use Rattle.dm_dict.specs.Codes.{missing_avp, invalid_avp_value, avp_not_allowed,
 use Rattle.dm_dict.specs.Faults.{Fault, first, faults, message_faults, command_for, wrong_bits, fault_with_avp, fault_without_avp, value_faults, is_left_out, unlisted_faults, data_faults, is_failed_avp, avp_faults, excess_faults, entry_faults, example, group_faults, member_faults, list_faults}
 use Rattle.dm_dict.specs.Found.{LiesAmong, IsOneOf, IsPlaced, EachFailedIsThere, IfFound, IfFoundIn, finds_missing, is_missing_found}
 use Rattle.dm_dict.specs.Judgement.{shown, failed_of}
-use Rattle.dm_dict.specs.Listing.{told, all_told, IsFoundIn, AreFoundIn}
+use Rattle.dm_dict.specs.Listing.{fault_listed, all_told, IsFoundIn, AreFoundIn}
 use Rattle.dm_dict.specs.Rules.{definition, entry_for, allows, count, counted_avps, counts}
 
 -- so it is with each of these
@@ -197,5 +197,5 @@ of_map P f (x ∷ xs) h = All-cons (λ x. P (f x)) x xs (All-head P (f x) (map f
 pub listed_found : (d : Definitions) (m : Message) (listed : List ListedFault) → all_told listed ≡ faults d m
     → AreFoundIn m.avps listed
 listed_found d m listed is =
-    All-weaker (λ f. IsPlaced m.avps (told f)) (IsFoundIn m.avps) (λ f. found_there m.avps f.code f.failed f.missing) listed
-    (of_map (IsPlaced m.avps) told listed (subst (All (IsPlaced m.avps)) (sym is) (each_failed_is_there d m)))
+    All-weaker (λ f. IsPlaced m.avps (fault_listed f)) (IsFoundIn m.avps) (λ f. found_there m.avps f.code f.failed f.missing) listed
+    (of_map (IsPlaced m.avps) fault_listed listed (subst (All (IsPlaced m.avps)) (sym is) (each_failed_is_there d m)))

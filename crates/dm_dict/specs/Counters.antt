@@ -1,5 +1,6 @@
 -- Counters of entries of a rule that stand one behind the other, each of which stops at 65535.
-use Rattle.std.specs.Prelude.{◌≡◌, ℕ, ◌+◌, ◌<◌, ◌≤◌, Bool, ◌||◌, nat_lt, Option, None, Some, List, length, min, slice_index, slice_index_or}
+use Rattle.std.specs.Prelude.{◌≡◌, ℕ, ◌+◌, ◌<◌, ◌≤◌, Bool, ◌||◌, nat_lt, Option, None}
+use Rattle.std.specs.Prelude.{Some, List, length, min, slice_index, slice_index_or}
 use Rattle.dm_wire.specs.declared.avp.Avp.{Avp}
 use Rattle.dm_tables.specs.declared.rule.Entry.{Entry}
 use Rattle.dm_tables.specs.declared.def.AvpDef.{AvpDef}
@@ -10,7 +11,8 @@ use Rattle.dm_dict.specs.Limits.{counter_limit}
 abbrev pub IsCountedBut : List AvpDef → List Entry → List Avp → List Avp → ℕ → List ℕ → Type 0
 IsCountedBut avps rule l m from numbers =
     (i : ℕ) (e : Entry) → i < length numbers → from + i < length rule → e ≡ slice_index_or rule (from + i) e →
-    (slice_index numbers i ≤ counter_limit) × (min (slice_index numbers i + count avps rule m e) counter_limit ≡ min (count avps rule l e) counter_limit)
+    (slice_index numbers i ≤ counter_limit)
+    × (min (slice_index numbers i + count avps rule m e) counter_limit ≡ min (count avps rule l e) counter_limit)
 
 -- each counter is what l has for its entry, up to 65535
 abbrev pub IsCounted : List AvpDef → List Entry → List Avp → ℕ → List ℕ → Type 0

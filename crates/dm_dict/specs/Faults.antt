@@ -1,6 +1,8 @@
--- What is wrong with a message under a dictionary: all its faults, in the order in which they are looked for. The codes are
--- those of RFC 6733, 7.1; the order and the limit on groups inside each other are this project's own.
-use Rattle.std.specs.Prelude.{ℕ, suc, zero, Bool, true, false, not, ◌&&◌, ◌||◌, nat_eq, nat_lt, Option, None, Some, option_map, List, [], ◌∷◌, ◌++◌, length, find, flat_map, replicate, slice_get, if◌then◌else◌}
+-- What is wrong with a message under a dictionary: all its faults, in the order in which they are looked for. The codes
+-- are those of RFC 6733, 7.1; the order and the limit on groups inside each other are this project's own.
+use Rattle.std.specs.Prelude.{ℕ, suc, zero, Bool, true, false, not, ◌&&◌, ◌||◌, nat_eq}
+use Rattle.std.specs.Prelude.{nat_lt, Option, None, Some, option_map, List, [], ◌∷◌, ◌++◌}
+use Rattle.std.specs.Prelude.{length, find, flat_map, replicate, slice_get, if◌then◌else◌}
 use Rattle.std.specs.Option.{option_eq}
 use Rattle.std.specs.Int.{cast_signed, w32}
 use Rattle.byteorder.specs.Endian.{big_number}
@@ -20,12 +22,13 @@ use Rattle.dm_tables.specs.declared.def.AvpDef.{AvpDef}
 use Rattle.dm_tables.specs.declared.def.CommandDef.{CommandDef}
 use Rattle.dm_tables.specs.Definitions.{Definitions, is_named, is_headed}
 use Rattle.dm_wire.specs.Members.{members}
-use Rattle.dm_dict.specs.Codes.{command_unsupported, invalid_hdr_bits, avp_unsupported, invalid_avp_value, missing_avp, avp_not_allowed, avp_occurs_too_many_times, invalid_avp_length, failed_avp}
+use Rattle.dm_dict.specs.Codes.{command_unsupported, invalid_hdr_bits, avp_unsupported, invalid_avp_value, missing_avp}
+use Rattle.dm_dict.specs.Codes.{avp_not_allowed, avp_occurs_too_many_times, invalid_avp_length, failed_avp}
 use Rattle.dm_dict.specs.Rules.{definition, stands_for_any, counted_avps, count, entry_for, allows}
 use Rattle.dm_dict.specs.Limits.{group_limit, any_command}
 
--- A fault: its Result-Code and the failed AVP, which stands alone, without the groups round it: that Failed-AVP has them too
--- is a MAY (7.5).
+-- A fault: its Result-Code and the failed AVP, which stands alone, without the groups round it: that Failed-AVP has
+-- them too is a MAY (7.5).
 pub record Fault : Type 0 where
   pub code : ℕ
   pub failed : Option Avp
@@ -59,9 +62,9 @@ data_faults kind values group a = value_faults (flaw kind a.bytes) a ++ unlisted
 abbrev pub is_failed_avp : Avp → Bool
 is_failed_avp a = nat_eq a.code failed_avp && option_eq nat_eq a.vendor None
 
--- One AVP: 5001 where it has no definition and the M bit is set (4.1), 5008 where the rule doesn't allow it (7.1.5), and then
--- its data. One that has no definition passes without the M bit in every rule, also where no `AVP` stands: a receiver 'MAY
--- simply ignore the AVP' (4.1).
+-- One AVP: 5001 where it has no definition and the M bit is set (4.1), 5008 where the rule doesn't allow it (7.1.5),
+-- and then its data. One that has no definition passes without the M bit in every rule, also where no `AVP` stands: a
+-- receiver 'MAY simply ignore the AVP' (4.1).
 abbrev pub avp_faults : (List Entry → Avp → List Fault) → Bool → Avp → Option AvpDef → List Fault
 avp_faults groups allowed a None = if a.mandatory then fault_with_avp avp_unsupported a else []
 avp_faults groups allowed a (Some f) =
@@ -88,9 +91,9 @@ excess_faults None l = []
 excess_faults (Some max) l = if nat_lt 0 max && nat_lt max (length l) then
     record { code = avp_occurs_too_many_times; failed = slice_get l max } ∷ [] else []
 
--- One entry of the rule: 5005 where the list has fewer than min (7.1.5), 5009 where it has more than max. That a fixed entry
--- 'defines the fixed position of an AVP' (3.2) isn't looked at: section 7.1 has no Result-Code for it, and Session-Id, the
--- only one in the base dictionary, SHOULD come first (8.8), no more.
+-- One entry of the rule: 5005 where the list has fewer than min (7.1.5), 5009 where it has more than max. That a fixed
+-- entry 'defines the fixed position of an AVP' (3.2) isn't looked at: section 7.1 has no Result-Code for it, and
+-- Session-Id, the only one in the base dictionary, SHOULD come first (8.8), no more.
 abbrev pub entry_faults : List AvpDef → List Entry → List Avp → Entry → List Fault
 entry_faults avps rule l e =
     (if nat_lt (count avps rule l e) e.min then record { code = missing_avp; failed = example avps e } ∷ [] else [])
@@ -102,14 +105,14 @@ list_faults_by groups avps rule l =
     flat_map (λ a. avp_faults groups (allows (entry_for rule (definition avps a))) a (definition avps a)) l
     ++ flat_map (entry_faults avps rule l) rule
 
--- the members of a group; 5014 where the octets are no AVPs one after the other, with 'an empty payload', which is enough for a
--- Grouped AVP (7.1.5)
+-- the members of a group; 5014 where the octets are no AVPs one after the other, with 'an empty payload', which is
+-- enough for a Grouped AVP (7.1.5)
 abbrev pub member_faults : (List Avp → List Fault) → Avp → Option (List Avp) → List Fault
 member_faults inside a None = fault_with_avp invalid_avp_length (record a { bytes = [] })
 member_faults inside a (Some l) = inside l
 
--- A Grouped AVP of this rule, where n groups may stand inside each other: with none left 5004. RFC 6733 (4.4) lets groups be
--- nested and has no limit; here there is one (own), so that no message sets how deep the walk goes.
+-- A Grouped AVP of this rule, where n groups may stand inside each other: with none left 5004. RFC 6733 (4.4) lets
+-- groups be nested and has no limit; here there is one (own), so that no message sets how deep the walk goes.
 abbrev pub group_faults : ℕ → List AvpDef → List Entry → Avp → List Fault
 group_faults zero avps rule a = fault_with_avp invalid_avp_value a
 group_faults (suc n) avps rule a = member_faults (list_faults_by (group_faults n avps) avps rule) a (members a.bytes)
@@ -123,14 +126,15 @@ is_error_answer h = not h.request && h.error
 
 -- the command whose rule the message has (3)
 abbrev pub command_for : Definitions → Header → Option CommandDef
-command_for d h = find (is_headed (if is_error_answer h then any_command else h.command) h.request (is_error_answer h)) d.commands
+command_for d h = find (is_headed (if is_error_answer h then any_command else h.command) h.request
+    (is_error_answer h)) d.commands
 
 -- the E bit in a request, or the T bit in an answer (3)
 abbrev pub wrong_bits : Header → Bool
 wrong_bits h = (h.request && h.error) || (not h.request && h.retransmit)
 
--- 3001 where there is no rule; else 3008 for the header's bits, and then the AVPs, where eight groups may stand inside each
--- other (7.1.3)
+-- 3001 where there is no rule; else 3008 for the header's bits, and then the AVPs, where eight groups may stand inside
+-- each other (7.1.3)
 abbrev pub message_faults : List AvpDef → Message → Option CommandDef → List Fault
 message_faults avps m None = fault_without_avp command_unsupported
 message_faults avps m (Some c) = (if wrong_bits m.header then fault_without_avp invalid_hdr_bits else []) ++

@@ -1,4 +1,5 @@
--- What a good verdict says of a message: its command is defined, its bits are right, and its AVPs keep to the command's rule.
+-- What a good verdict says of a message: its command is defined, its bits are right, and its AVPs keep to the command's
+-- rule.
 use Rattle.std.specs.Prelude.{◌≡◌, ◌≢◌, ℕ, zero, suc, ◌<◌, ◌≤◌, false, Option, None, Some, IfSome, List}
 use Rattle.dm_wire.specs.declared.avp.Avp.{Avp}
 use Rattle.dm_wire.specs.declared.message.Message.{Message}
@@ -17,8 +18,8 @@ pub record MayStand (rule : List Entry) (f : AvpDef) : Type 0 where
   pub stands : entry_for rule (Some f) ≡ Some entry
   pub room : entry.max ≢ Some 0
 
--- an AVP that is defined may stand there, and its data has a value of its type and of its list, that of Failed-AVP aside; the AVPs of
--- a group are as `inside` says under the group's own rule. One that isn't defined has no M bit
+-- an AVP that is defined may stand there, and its data has a value of its type and of its list, that of Failed-AVP
+-- aside; the AVPs of a group are as `inside` says under the group's own rule. One that isn't defined has no M bit
 abbrev pub KeepsAs : (List Entry → List Avp → Type 0) → List Entry → Avp → Option AvpDef → Type 0
 KeepsAs inside rule a None = a.mandatory ≡ false
 KeepsAs inside rule a (Some f) = MayStand rule f ×
@@ -36,8 +37,8 @@ KeepsTo (suc n) avps rule l =
     Each (λ a. KeepsAs (KeepsTo n avps) rule a (definition avps a)) l ×
     Each (λ e. IsWithinBounds e (count avps rule l e)) rule
 
--- the command of the message is defined, the bits of its header are right (3), and its AVPs and those of the eight groups inside
--- each other keep to their rules
+-- the command of the message is defined, the bits of its header are right (3), and its AVPs and those of the eight
+-- groups inside each other keep to their rules
 pub record KeepsRules (d : Definitions) (m : Message) : Type 0 where
   pub command : CommandDef
   pub defined : command_for d m.header ≡ Some command

@@ -7,12 +7,12 @@ use Rattle.dm_dict.specs.Found.{IsOneOf, IfFoundIn}
 use Rattle.dm_dict.specs.Judgement.{failed_of}
 
 -- the fault that is listed
-abbrev pub told : ListedFault → Fault
-told f = record { code = f.code; failed = failed_of f.failed }
+abbrev pub fault_listed : ListedFault → Fault
+fault_listed f = record { code = f.code; failed = failed_of f.failed }
 
 -- the faults of a list, in order
 abbrev pub all_told : List ListedFault → List Fault
-all_told listed = map told listed
+all_told listed = map fault_listed listed
 
 -- behind those that were listed stand just these
 abbrev pub Adds : List ListedFault → List ListedFault → List Fault → Type 0

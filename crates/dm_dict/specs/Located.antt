@@ -18,8 +18,8 @@ use Rattle.dm_dict.specs.Limits.{group_limit}
 use Rattle.dm_dict.specs.Rules.{definition, entry_for, allows}
 use Rattle.dm_dict.specs.declared.path.Step.{Step}
 
--- A fault with its path: the groups round the failed AVP, the outermost first, each with its occurrence in its list. Of an
--- AVP that is missing these are the groups that lack it.
+-- A fault with its path: the groups round the failed AVP, the outermost first, each with its occurrence in its list. Of
+-- an AVP that is missing these are the groups that lack it.
 pub record Located : Type 0 where
   pub path : List Step
   pub fault : Fault
@@ -61,7 +61,8 @@ abbrev pub avp_located : (List Entry → Avp → List Located) → Bool → Avp 
 avp_located groups allowed a f = map here (avp_faults no_groups allowed a f) ++ group_part groups a f
 
 -- the AVPs of a list behind those of p, under its rule
-abbrev pub each_located : (ℕ → List Entry → Avp → List Located) → List AvpDef → List Entry → List Avp → List Avp → List Located
+abbrev pub each_located : (ℕ → List Entry → Avp → List Located) → List AvpDef → List Entry → List Avp → List Avp
+    → List Located
 each_located groups avps rule p [] = []
 each_located groups avps rule p (a ∷ l) =
     avp_located (groups (occurrence p a)) (allows (entry_for rule (definition avps a))) a (definition avps a)
@@ -90,11 +91,12 @@ list_located n avps rule l = list_located_by (group_located n avps) avps rule l
 abbrev pub message_located : List AvpDef → Message → Option CommandDef → List Located
 message_located avps m None = map here (fault_without_avp command_unsupported)
 message_located avps m (Some c) =
-    map here (if wrong_bits m.header then fault_without_avp invalid_hdr_bits else []) ++ list_located group_limit avps c.rule m.avps
+    map here (if wrong_bits m.header then fault_without_avp invalid_hdr_bits else [])
+    ++ list_located group_limit avps c.rule m.avps
 
-abbrev pub located : Definitions → Message → List Located
-located d m = message_located d.avps m (command_for d m.header)
+abbrev pub located_faults : Definitions → Message → List Located
+located_faults d m = message_located d.avps m (command_for d m.header)
 
 -- without the paths they are just the faults of the message
 abbrev pub LocatedAreFaults : Type 0
-LocatedAreFaults = (d : Definitions) (m : Message) → map (λ f. f.fault) (located d m) ≡ faults d m
+LocatedAreFaults = (d : Definitions) (m : Message) → map (λ f. f.fault) (located_faults d m) ≡ faults d m

@@ -4,7 +4,7 @@ use Rattle.dm_dict.specs.declared.path.Path.{Path}
 use Rattle.dm_dict.specs.declared.path.Step.{Step}
 use Rattle.dm_dict.specs.declared.places.LocatedFault.{LocatedFault}
 use Rattle.dm_dict.specs.declared.findings.Findings.{Findings}
-use Rattle.dm_dict.specs.Listing.{told, all_told}
+use Rattle.dm_dict.specs.Listing.{fault_listed, all_told}
 use Rattle.dm_dict.specs.Located.{Located, here}
 
 -- how many groups a path has room for, as many as may stand inside each other
@@ -17,7 +17,7 @@ path_of p = take p.size p.steps
 
 -- the fault that is listed, with its path
 abbrev pub told_at : LocatedFault → Located
-told_at f = record { path = path_of f.path; fault = told f.fault }
+told_at f = record { path = path_of f.path; fault = fault_listed f.fault }
 
 -- in the groups of this path
 abbrev pub behind : List Step → Located → Located

@@ -1,5 +1,6 @@
 -- The entries of a rule: which AVPs each names, counts and allows (RFC 6733, 3.2).
-use Rattle.std.specs.Prelude.{ℕ, Bool, false, not, nat_eq, Option, None, Some, List, find, filter, length, codes, if◌then◌else◌}
+use Rattle.std.specs.Prelude.{ℕ, Bool, false, not, nat_eq, Option, None, Some}
+use Rattle.std.specs.Prelude.{List, find, filter, length, codes, if◌then◌else◌}
 use Rattle.std.specs.List.{list_any}
 use Rattle.std.specs.Option.{option_eq, option_or}
 use Rattle.std.specs.Cmp.Lexicographic.{pointwise}

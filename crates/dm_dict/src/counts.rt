@@ -56,8 +56,8 @@ pub(crate) fn counts_for(alloc: Option<Global>, rule: &Rule) -> Option<Vec<u16>>
     }
 }
 
-/// One AVP more for the entry at the place, if it has one of the counters, which are for those from `from` on. A counter
-/// stops at 65535.
+/// One AVP more for the entry at the place, if it has one of the counters, which are for those from `from` on. A
+/// counter stops at 65535.
 #[inline(always)]
 pub(crate) fn count_one(counts: &mut [u16], from: usize, at: Option<usize>)
     ensures size { length counts.new ≡ length counts.old }

@@ -6,7 +6,8 @@ ghost use Rattle.dm_wire.specs.declared.message.Message.{Message};
 ghost use Rattle.dm_wire.specs.Spelling.{SpellsList};
 ghost use Rattle.dm_dict_text.specs.declared.fault.DictFault.{DictFault};
 ghost use Rattle.dm_dict_text.specs.declared.fault.DictFault.TheVariants as faults_of;
-ghost use Rattle.dm_tables.specs.Definitions.{Definitions, nothing_defined, is_vendor, is_named, is_coded, is_headed, vendor_number};
+ghost use Rattle.dm_tables.specs.Definitions.{Definitions, nothing_defined, is_vendor};
+ghost use Rattle.dm_tables.specs.Definitions.{is_named, is_coded, is_headed, vendor_number};
 ghost use Rattle.dm_tables.specs.Tables.{defined, IsDictionary};
 ghost use Rattle.dm_tables.specs.Sound.{is_sound, is_closed};
 ghost use Rattle.dm_tables.specs.Base.{base_definitions};
@@ -89,8 +90,10 @@ impl Dictionary {
         ensures defines { IfOk result (λ new. Defines text.now old.now new) }
         ensures fault { IfErr result (λ f. (f ≡ faults_of.NoMemory) ⊎ IsFirstFault text.now old.now f) }
         // What the text defines is read, and its first fault is answered, unless memory runs out.
-        ensures only { (new : Definitions) → Defines text.now old.now new → (result ≡ Ok new) ⊎ (result ≡ Err faults_of.NoMemory) }
-        ensures refuses { (f : DictFault) → IsFirstFault text.now old.now f → (result ≡ Err f) ⊎ (result ≡ Err faults_of.NoMemory) }
+        ensures only { (new : Definitions) → Defines text.now old.now new
+            → (result ≡ Ok new) ⊎ (result ≡ Err faults_of.NoMemory) }
+        ensures refuses { (f : DictFault) → IsFirstFault text.now old.now f
+            → (result ≡ Err f) ⊎ (result ≡ Err faults_of.NoMemory) }
     {
         one_definition();
         one_fault();
@@ -116,7 +119,8 @@ impl Dictionary {
     pub fn vendor_by_name(&self, name: &[u8]) -> Option<u32>
         ensures found { result ≡ vendor_number self.now.vendors name.now }
         // No other vendor has the name.
-        ensures one { filter (is_vendor name.now) self.now.vendors ≡ option_to_list (find (is_vendor name.now) self.now.vendors) }
+        ensures one { filter (is_vendor name.now) self.now.vendors
+            ≡ option_to_list (find (is_vendor name.now) self.now.vendors) }
     {
         one_of_each();
         self.linked.tables.vendors.number_of(name)
@@ -182,7 +186,8 @@ impl Dictionary {
         // The first of all faults, or good where there is none.
         ensures verdict { IfOk result (λ verdict. verdict ≡ verdict_of (first (faults self.now message.now))) }
         // Where it is good each AVP that is defined has a value of its type, in eight groups inside each other too.
-        ensures typed { IfOk result (λ verdict. verdict ≡ Verdict.Good → AreTyped list_limit self.now.avps message.now.avps) }
+        ensures typed { IfOk result (λ verdict. verdict ≡ Verdict.Good
+            → AreTyped list_limit self.now.avps message.now.avps) }
         // Memory is wanted for the failed AVP alone.
         ensures memory { OnErr result (IsSomeAnd (first (faults self.now message.now)) (λ fault. IsSome fault.failed)) }
     {

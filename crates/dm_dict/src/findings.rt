@@ -32,7 +32,8 @@ impl<'a> Findings<'a> {
 
     /// Lists a fault in the groups of the path behind the others, or without them where none are kept.
     pub(crate) fn put(&mut self, path: Option<&Path>, fault: Fault<'a>) -> Result<(), NoMemory>
-        ensures { OnOk result (AddsAt self.old self.new (option_copied path.entry) (map here (all_told (fault.entry ∷ [])))) }
+        ensures { OnOk result (AddsAt self.old self.new (option_copied path.entry) (map here (all_told (fault.entry
+            ∷ [])))) }
     {
         match path {
             None => self.faults.push(fault)?,

@@ -59,8 +59,8 @@ fn judge_avps<'a>(
     judge_list(dictionary, rule, list, GROUPS, alloc)
 }
 
-/// The first fault of a message of this header and these AVPs, whose AVPs are counted in memory under a long rule, where
-/// it is given and there is some. It never answers want of memory.
+/// The first fault of a message of this header and these AVPs, whose AVPs are counted in memory under a long rule,
+/// where it is given and there is some. It never answers want of memory.
 pub(crate) fn judge_message<'a>(
     dictionary: &Linked,
     header: &Header,

@@ -129,8 +129,8 @@ fn locate_avp<'a>(
     Ok(())
 }
 
-/// Lists the faults of the Grouped AVP of this rule that is the nth of its code and vendor, where so many groups may stand
-/// inside each other.
+/// Lists the faults of the Grouped AVP of this rule that is the nth of its code and vendor, where so many groups may
+/// stand inside each other.
 #[cycle(locating)]
 fn locate_group<'a>(
     alloc: Global,
@@ -197,7 +197,8 @@ fn locate_avps<'a>(
     requires room { HasRoomInside (option_copied path) depth }
     requires none { numbers.old.entries ≡ [] }
     requires size { size_of list < 2 ^ 64 }
-    ensures { OnOk result ((l : List Avp) → Lists list.entry l → AddsAt findings.old findings.new (option_copied path.entry)
+    ensures { OnOk result ((l : List Avp) → Lists list.entry l
+        → AddsAt findings.old findings.new (option_copied path.entry)
         (each_located (group_located depth dictionary.now.tables.avps.items) dictionary.now.tables.avps.items
         rule.entry.entries.now [] l)) }
 {
@@ -229,7 +230,8 @@ pub(crate) fn locate_list<'a>(
     requires fit { IsFit dictionary.now.tables.avps.items }
     requires rule { IsRule dictionary.now.tables.avps.items rule }
     requires room { HasRoomInside (option_copied path) depth }
-    ensures { OnOk result ((l : List Avp) → Lists list.entry l → AddsAt findings.old findings.new (option_copied path.entry)
+    ensures { OnOk result ((l : List Avp) → Lists list.entry l
+        → AddsAt findings.old findings.new (option_copied path.entry)
         (list_located depth dictionary.now.tables.avps.items rule.entry.entries.now l)) }
 {
     let mut numbers = IndexMap::new(alloc);

@@ -8,7 +8,7 @@ ghost use Rattle.dm_tables.specs.Tables.{defined};
 ghost use Rattle.dm_dict.specs.Faults.{faults, has_none};
 ghost use Rattle.dm_dict.specs.Linked.{IsLinked};
 ghost use Rattle.dm_dict.specs.Listing.{AreFoundIn};
-ghost use Rattle.dm_dict.specs.Located.{located};
+ghost use Rattle.dm_dict.specs.Located.{located_faults};
 ghost use Rattle.dm_dict.specs.Locating.{told_at, AddsAt};
 
 use crate::codes::{COMMAND_UNSUPPORTED, INVALID_HDR_BITS};
@@ -36,8 +36,9 @@ fn locate_message<'a>(
 ) -> Result<(), NoMemory>
     requires linked { IsLinked dictionary.now }
     requires top { IfSome (option_copied path) (λ top. top.size ≡ 0) }
-    ensures { OnOk result ((l : List Avp) → Lists list.entry l → AddsAt findings.old findings.new (option_copied path.entry)
-        (located (defined dictionary.now.tables) (record { header = header.now; avps = l }))) }
+    ensures { OnOk result ((l : List Avp) → Lists list.entry l
+        → AddsAt findings.old findings.new (option_copied path.entry)
+        (located_faults (defined dictionary.now.tables) (record { header = header.now; avps = l }))) }
 {
     let failed = Failed::Nothing;
     let Some(LinkedCommand { def, links }) = command_for(dictionary, header) else {
@@ -55,7 +56,8 @@ fn locate_message<'a>(
     locate_list(alloc, findings, path, dictionary, rule, list, GROUPS)
 }
 
-/// Lists what is wrong with a message of this header and these AVPs, in no groups. It wants memory only where something is.
+/// Lists what is wrong with a message of this header and these AVPs, in no groups. It wants memory only where something
+/// is.
 pub(crate) fn find<'a>(
     alloc: Global,
     findings: &mut Findings<'a>,
@@ -66,8 +68,9 @@ pub(crate) fn find<'a>(
 ) -> Result<(), NoMemory>
     requires linked { IsLinked dictionary.now }
     requires top { IfSome (option_copied path) (λ top. top.size ≡ 0) }
-    ensures all { OnOk result ((l : List Avp) → Lists list.entry l → AddsAt findings.old findings.new (option_copied path.entry)
-        (located (defined dictionary.now.tables) (record { header = header.now; avps = l }))) }
+    ensures all { OnOk result ((l : List Avp) → Lists list.entry l
+        → AddsAt findings.old findings.new (option_copied path.entry)
+        (located_faults (defined dictionary.now.tables) (record { header = header.now; avps = l }))) }
     ensures memory { OnErr result ((l : List Avp) → Lists list.entry l
         → has_none (faults (defined dictionary.now.tables) (record { header = header.now; avps = l })) ≡ false) }
 {
@@ -87,7 +90,7 @@ fn located<'a>(
     requires linked { IsLinked dictionary.now }
     ensures all { IfOk result (λ listed. (l : List Avp) → Lists list.entry l
         → map told_at listed.items
-        ≡ located (defined dictionary.now.tables) (record { header = header.now; avps = l })) }
+        ≡ located_faults (defined dictionary.now.tables) (record { header = header.now; avps = l })) }
     ensures memory { OnErr result ((l : List Avp) → Lists list.entry l
         → has_none (faults (defined dictionary.now.tables) (record { header = header.now; avps = l })) ≡ false) }
 {
@@ -109,7 +112,7 @@ fn located_spelled<'a>(
     requires linked { IsLinked dictionary.now }
     ensures all { IfOk result (λ listed. (l : List Avp) → SpellsList l octets.now
         → map told_at listed.items
-        ≡ located (defined dictionary.now.tables) (record { header = header.now; avps = l })) }
+        ≡ located_faults (defined dictionary.now.tables) (record { header = header.now; avps = l })) }
     ensures memory { OnErr result ((l : List Avp) → SpellsList l octets.now
         → has_none (faults (defined dictionary.now.tables) (record { header = header.now; avps = l })) ≡ false) }
 {
@@ -126,7 +129,7 @@ impl Dictionary {
         message: &'a Message,
     ) -> Result<Vec<LocatedFault<'a>>, NoMemory>
         // All faults with their paths, in order.
-        ensures all { IfOk result (λ listed. map told_at listed.items ≡ located self.now message.now) }
+        ensures all { IfOk result (λ listed. map told_at listed.items ≡ located_faults self.now message.now) }
         // What is found for each is one of the message's AVPs, or lies in a group of them; or is such a group emptied.
         ensures found { IfOk result (λ listed.
             AreFoundIn message.now.avps (map (λ located. located.fault) listed.items)) }
@@ -145,7 +148,7 @@ impl Dictionary {
     ) -> Result<Vec<LocatedFault<'a>>, NoMemory>
         // All faults of the message that the reference stands for with their paths, in order.
         ensures all { IfOk result (λ listed. (l : List Avp) → SpellsList l message.now.rest.now
-            → map told_at listed.items ≡ located self.now (record { header = message.now.header; avps = l })) }
+            → map told_at listed.items ≡ located_faults self.now (record { header = message.now.header; avps = l })) }
         // What is found for each is one of the message's AVPs, or lies in a group of them; or is such a group emptied.
         ensures found { IfOk result (λ listed. (l : List Avp) → SpellsList l message.now.rest.now
             → AreFoundIn l (map (λ located. located.fault) listed.items)) }

@@ -1,5 +1,6 @@
 //! Which of its code and vendor an AVP is in its list (RFC 6733, 4.1 and 4.4).
-ghost use Rattle.std.specs.Prelude.{◌≡◌, ◌<◌, ◌+◌, ◌^◌, ◌++◌, ◌∷◌, [], ℕ, true, Some, Option, List, length, slice_get, if◌then◌else◌, IfOk, OnOk};
+ghost use Rattle.std.specs.Prelude.{◌≡◌, ◌<◌, ◌+◌, ◌^◌, ◌++◌, ◌∷◌, [], ℕ, true, Some, Option};
+ghost use Rattle.std.specs.Prelude.{List, length, slice_get, if◌then◌else◌, IfOk, OnOk};
 ghost use Rattle.std.specs.Option.{option_and_then, option_copied};
 ghost use Rattle.dm_wire.specs.declared.avp.Avp.{Avp};
 ghost use Rattle.dm_wire.specs.Borrowed.{avp_of};
@@ -67,7 +68,8 @@ pub(crate) fn number<'a>(
         → nth ≡ occurrence p (avp_of avp.entry)) }
     ensures counted { OnOk result ((p : List Avp) → length p + 1 < 2 ^ 64
         → AreNumbered (option_copied path.entry) dictionary.now.tables.avps.items p numbers.old.entries
-        → AreNumbered (option_copied path.entry) dictionary.now.tables.avps.items (p ++ avp_of avp.entry ∷ []) numbers.new.entries) }
+        → AreNumbered (option_copied path.entry) dictionary.now.tables.avps.items (p
+        ++ avp_of avp.entry ∷ []) numbers.new.entries) }
 {
     let Some(_) = path else {
         return Ok(0);

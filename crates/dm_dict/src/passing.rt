@@ -153,7 +153,8 @@ fn pass_each(
     true
 }
 
-/// Whether nothing is wrong with a list of AVPs under the rule, by these counters, all zero, for the first of its entries.
+/// Whether nothing is wrong with a list of AVPs under the rule, by these counters, all zero, for the first of its
+/// entries.
 #[cycle(passing)]
 #[inline(always)]
 fn passes_counted(

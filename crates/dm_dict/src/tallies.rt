@@ -56,7 +56,8 @@ impl<'a> Tally<'a> {
 /// The tallies of the entries of a rule that have counted none, or want of memory for them.
 fn empty_tallies<'a>(alloc: Global, rule: &Rule) -> Result<Vec<Tally<'a>>, NoMemory>
     ensures size { IfOk result (λ tallies. length tallies.items ≡ length rule.now) }
-    ensures tallied { IfOk result (λ tallies. (avps : List AvpDef) (l : List Avp) → AreTallied avps rule.now l l tallies.items) }
+    ensures tallied { IfOk result (λ tallies. (avps : List AvpDef) (l : List Avp)
+        → AreTallied avps rule.now l l tallies.items) }
 {
     let entries = rule.as_slice();
     let mut tallies = Vec::with_capacity(alloc, entries.len())?;

@@ -77,7 +77,8 @@ fn judge_window<'a>(
     requires within { from ≤ length rule.entries.now }
     ensures fault { (l : List Avp) → Lists list.entry l
         → IsCounted tables.now.avps.items rule.entry.entries.now l from counts.now
-        → first (flat_map (entry_faults tables.now.avps.items rule.entry.entries.now l) (drop from rule.entry.entries.now))
+        → first (flat_map (entry_faults tables.now.avps.items rule.entry.entries.now l)
+        (drop from rule.entry.entries.now))
         ≡ option_or (shown result) (first (flat_map (entry_faults tables.now.avps.items rule.entry.entries.now l)
         (drop (from + length counts.now) rule.entry.entries.now))) }
     ensures missing { finds_missing result ≡ false }
@@ -105,7 +106,8 @@ fn judge_next<'a>(
     requires rule { IsRule tables.now.avps.items rule }
     requires within { from ≤ length rule.entries.now }
     ensures fault { (l : List Avp) → Lists list.entry l
-        → first (flat_map (entry_faults tables.now.avps.items rule.entry.entries.now l) (drop from rule.entry.entries.now))
+        → first (flat_map (entry_faults tables.now.avps.items rule.entry.entries.now l)
+        (drop from rule.entry.entries.now))
         ≡ option_or (shown result) (first (flat_map (entry_faults tables.now.avps.items rule.entry.entries.now l)
         (drop (from + window) rule.entry.entries.now))) }
     ensures missing { finds_missing result ≡ false }

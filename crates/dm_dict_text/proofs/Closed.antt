@@ -14,7 +14,7 @@ use Rattle.dm_tables.specs.declared.rule.Entry.{Entry}
 use Rattle.dm_tables.specs.declared.def.VendorDef.{VendorDef}
 use Rattle.dm_tables.specs.declared.def.AvpDef.{AvpDef}
 use Rattle.dm_tables.specs.Definitions.{Definitions, is_vendor, is_named}
-use Rattle.dm_tables.specs.Sound.{is_any, is_known, knows_rule, is_closed}
+use Rattle.dm_tables.specs.Sound.{is_any, is_entry_known, knows_rule, is_closed}
 use Rattle.dm_dict_text.specs.Meaning.{number, entry_of, avp_def_of, group_def_of, command_def_of, vendor_of, WithStrays, with_no_strays, placed, with_item, with_items}
 use Rattle.dm_dict_text.specs.Faults.{fault_if, is_defined, entry_unknown, rule_unknown, reference_unknown, kind_unknown, unknown, vendors_with, items_unknown}
 use Rattle.dm_dict_text.proofs.Along.{none_left, none_right}
@@ -119,8 +119,8 @@ known_more : (avps more : List AvpDef) (rule : List Entry) → knows_rule avps r
     → knows_rule (avps ++ more) rule ≡ true
 known_more avps more [] h = refl
 known_more avps more (e ∷ rule) h =
-    let (here, rest) = and_parts (is_known avps e) (knows_rule avps rule) h in
-    let still : is_known (avps ++ more) e ≡ true = ap (λ b. is_any e.name || b)
+    let (here, rest) = and_parts (is_entry_known avps e) (knows_rule avps rule) h in
+    let still : is_entry_known (avps ++ more) e ≡ true = ap (λ b. is_any e.name || b)
     (list_any-append (is_named e.name) avps more) ∙ or_more (is_any e.name) (list_any (is_named e.name) avps)
     (list_any (is_named e.name) more) here in
     both _ _ still (known_more avps more rule rest)

@@ -18,7 +18,7 @@ use Rattle.dm_tables.specs.declared.def.VendorDef.{VendorDef}
 use Rattle.dm_tables.specs.declared.def.AvpDef.{AvpDef}
 use Rattle.dm_tables.specs.Definitions.{Definitions}
 use Rattle.dm_tables.specs.Sound.{is_any}
-use Rattle.dm_dict_text.specs.Printed.{has_none, is_first_version}
+use Rattle.dm_dict_text.specs.Printed.{has_nothing, is_first_version}
 use Rattle.dm_dict_text.specs.Meaning.{number, vendor_of, avp_def_of, group_def_of, with_no_strays, placed, with_item, with_items}
 use Rattle.dm_dict_text.specs.Faults.{fault_if, first_dict_fault, range_faults, option_faults, rule_faults, reference_faults, is_taken, is_defined, name_faults, code_faults, item_faults, items_faults, entry_unknown, kind_unknown, reference_unknown, unknown, vendors_with, items_unknown}
 use Rattle.dm_tables.specs.Limits.{number_limit}
@@ -189,19 +189,19 @@ faults_first text old fault reads breaks =
     (to_fault text old fault reads breaks, from_fault text old fault reads breaks)
 
 -- neither vendors nor lists come
-no_lists : (avps : List AvpDef) (a : AvpDef) → list_all (λ a. has_none a.values) avps ≡ true → has_none a.values ≡ true
-    → list_all (λ a. has_none a.values) (avps ++ a ∷ []) ≡ true
+no_lists : (avps : List AvpDef) (a : AvpDef) → list_all (λ a. has_nothing a.values) avps ≡ true → has_nothing a.values ≡ true
+    → list_all (λ a. has_nothing a.values) (avps ++ a ∷ []) ≡ true
 no_lists avps a h k =
-    list_all-append (λ (a : AvpDef). has_none a.values) avps (a ∷ []) ∙ rw (h, k) refl
+    list_all-append (λ (a : AvpDef). has_nothing a.values) avps (a ∷ []) ∙ rw (h, k) refl
 
 one_stays : (d : Definitions) (i : FirstItem) → is_first_version d ≡ true
     → is_first_version (first_with_item d i) ≡ true
 one_stays d (FirstAvpIs p) h =
-    let both = and_parts (has_none d.vendors) (list_all (λ a. has_none a.values) d.avps) h in
+    let both = and_parts (has_nothing d.vendors) (list_all (λ a. has_nothing a.values) d.avps) h in
     let lists = no_lists d.avps (first_avp_def p) both.1 refl in
     rw (both.0, lists) refl
 one_stays d (FirstGroupIs p) h =
-    let both = and_parts (has_none d.vendors) (list_all (λ a. has_none a.values) d.avps) h in
+    let both = and_parts (has_nothing d.vendors) (list_all (λ a. has_nothing a.values) d.avps) h in
     let lists = no_lists d.avps (first_group_def p) both.1 refl in
     rw (both.0, lists) refl
 one_stays d (FirstCommandIs p) h = h

@@ -15,14 +15,14 @@ use Rattle.dm_tables.specs.declared.def.CommandDef.{CommandDef}
 use Rattle.dm_tables.specs.Forms.{form_number}
 use Rattle.dm_tables.specs.Listed.{has_number}
 use Rattle.dm_tables.specs.Definitions.{Definitions, nothing_defined, is_vendor, has_vendor_number, is_named, is_titled, is_headed}
-use Rattle.dm_tables.specs.Sound.{is_any, fits_32_bits, option_fits_32_bits, bounds, is_grouped, is_empty_rule, is_repeated, is_late, each_after, is_sound_entry, is_sound_avp, is_sound_command, is_known, knows_rule, is_value, is_listable, is_sound_value, is_enumerated, is_empty_list, is_sound_vendor}
+use Rattle.dm_tables.specs.Sound.{is_any, fits_32_bits, option_fits_32_bits, bounds, is_grouped, is_empty_rule, is_repeated, is_late, each_after, is_sound_entry, is_sound_avp, is_sound_command, is_entry_known, knows_rule, is_value, is_listable, is_sound_value, is_enumerated, is_empty_list, is_sound_vendor}
 use Rattle.dm_dict_text.specs.Printed.{type_name}
 use Rattle.dm_dict_text.specs.Meaning.{number, type_named, entry_of, avp_def_of, group_def_of, value_of, vendor_of, with_no_strays, placed, with_item, with_items}
 use Rattle.dm_dict_text.specs.Faults.{fault_if, faults_along, range_faults, option_faults, low_faults, above_faults, high_faults, bound_faults, place_faults, rule_entry_faults, with_entry, rule_faults, name_faults, code_faults, title_faults, item_faults, items_faults, is_defined, is_taken, reference_faults, listed_value_faults, with_value, entry_unknown, rule_unknown, reference_unknown, kind_unknown, unknown, vendors_with, items_unknown}
 use Rattle.dm_tables.specs.Limits.{number_limit, listed_limit}
 use Rattle.dm_wire.specs.Codes.{max_command}
 use Rattle.dm_dict_text.proofs.Along.{none_both}
-use Rattle.dm_tables.specs.SoundParts.{SoundAvp, avp_parts, command_parts, value_parts, vendor_parts}
+use Rattle.dm_tables.specs.SoundParts.{SoundAvp, avp_sound_parts, command_sound_parts, value_sound_parts, vendor_sound_parts}
 use Rattle.dm_dict_text.proofs.PrintWords.{word_of, number_word, number_of-decimal}
 use Rattle.dm_dict_text.proofs.PrintItems.{written_option, written_vend, written_value, written_list, written_vendor, written_vendors, written_all, written_entry, written_rule, written_plain, written_group, written_avp, written_command, written_avps, written_commands}
 
@@ -159,7 +159,7 @@ same_value line v h = λ i. record { name = v.name; number = listed_value line v
 no_value_fault : (line : ℕ) (before : List EnumValue) (v : EnumValue) → is_sound_value before v ≡ true
     → listed_value_faults before (written_value line v) ≡ []
 no_value_fault line before v h =
-    let p = value_parts before v h in
+    let p = value_sound_parts before v h in
     let small : unsigned_abs v.number ≤ listed_limit = listed_small v.number p.number in
     let wide : unsigned_abs v.number ≤ number_limit = omega arith in
     let in_range : range_faults listed_limit (number_word line (unsigned_abs v.number)) ≡ [] = rw
@@ -176,14 +176,14 @@ no_list_fault line before (v ∷ vs) h =
     let (first, rest) = and_parts (is_sound_value before v) (each_after is_sound_value (before ++ v ∷ []) vs) h in
     none_both (listed_value_faults before (written_value line v)) _ (no_value_fault line before v first)
     (ap (λ x. faults_along listed_value_faults with_value (before ++ x ∷ []) (written_list line vs))
-    (same_value line v (value_parts before v first).number) ∙ no_list_fault line (before ++ v ∷ []) vs rest)
+    (same_value line v (value_sound_parts before v first).number) ∙ no_list_fault line (before ++ v ∷ []) vs rest)
 
 same_list : (line : ℕ) (before vs : List EnumValue) → each_after is_sound_value before vs ≡ true
     → map value_of (written_list line vs) ≡ vs
 same_list line before [] h = refl
 same_list line before (v ∷ vs) h =
     let (first, rest) = and_parts (is_sound_value before v) (each_after is_sound_value (before ++ v ∷ []) vs) h in
-    λ i. same_value line v (value_parts before v first).number i ∷ same_list line (before ++ v ∷ []) vs rest i
+    λ i. same_value line v (value_sound_parts before v first).number i ∷ same_list line (before ++ v ∷ []) vs rest i
 
 -- a type that isn't Grouped is read from its name
 kind_value : (kind : AvpType) → is_grouped kind ≡ false → type_named (type_name kind) ≡ Some kind
@@ -280,7 +280,7 @@ with_one d a = record d { avps = d.avps ++ a ∷ [] }
 avp_added : (line : ℕ) (d : Definitions) (a : AvpDef) → is_sound_avp d.avps a ≡ true
     → IsAdded d (written_avp line a) (with_one d a)
 avp_added line d a h =
-    let p = avp_parts d.avps a h in
+    let p = avp_sound_parts d.avps a h in
     let heads = none_both (name_faults (with_no_strays d) (word_of line a.name))
     (code_faults d (number_word line a.code) (written_vend line a.vendor)) (no_name_fault line d a p)
     (no_code_fault line d a p) in
@@ -332,7 +332,7 @@ with_one_vendor d v = record d { vendors = d.vendors ++ v ∷ [] }
 vendor_added : (line : ℕ) (d : Definitions) (v : VendorDef) → is_sound_vendor d.vendors v ≡ true
     → IsAdded d (written_vendor line v) (with_one_vendor d v)
 vendor_added line d v h =
-    let p = vendor_parts d.vendors v h in
+    let p = vendor_sound_parts d.vendors v h in
     let same : list_any (has_vendor_number (number (number_word line v.number))) d.vendors ≡ false = ap
     (λ n. list_any (has_vendor_number n) d.vendors) (value line v.number p.number) ∙ p.new_number in
     record {
@@ -349,7 +349,7 @@ with_one_command d c = record d { commands = d.commands ++ c ∷ [] }
 command_added : (line : ℕ) (d : Definitions) (c : CommandDef) → is_sound_command d.commands c ≡ true
     → IsAdded d (written_command line c) (with_one_command d c)
 command_added line d c h =
-    let p = command_parts d.commands c h in
+    let p = command_sound_parts d.commands c h in
     let code_small : c.code ≤ max_command = leb-true c.code max_command p.code in
     let code : number (number_word line c.code) ≡ c.code = number_of-decimal c.code (omega arith) in
     let application = value line c.application p.application in
@@ -469,7 +469,7 @@ no_unknown_rule : (line : ℕ) (d : Definitions) (rule : List Entry) → knows_r
     → rule_unknown (with_no_strays d) (written_rule line rule) ≡ []
 no_unknown_rule line d [] h = refl
 no_unknown_rule line d (e ∷ rule) h =
-    let (first, rest) = and_parts (is_known d.avps e) (knows_rule d.avps rule) h in
+    let (first, rest) = and_parts (is_entry_known d.avps e) (knows_rule d.avps rule) h in
     let here : (is_any e.name || is_defined (with_no_strays d) e.name) ≡
     true = known_still (is_any e.name) (list_any (is_named e.name) d.avps) first in
     none_both (entry_unknown (with_no_strays d) (written_entry line e)) _ (rw here refl) (no_unknown_rule line d rule rest)

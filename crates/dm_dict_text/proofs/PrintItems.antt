@@ -29,8 +29,8 @@ use Rattle.dm_value.specs.declared.avp_type.AvpType.{AvpType}
 use Rattle.dm_value.specs.declared.avp_type.AvpType.TheVariants as kinds
 use Rattle.dm_tables.specs.Definitions.{Definitions}
 use Rattle.dm_tables.specs.Sound.{is_proper_name, is_grouped, is_enumerated, is_empty_list, each_after, is_sound_entry, is_sound_rule, is_sound_value, is_sound_list, is_sound_vendor, is_sound_avp, is_sound_command}
-use Rattle.dm_dict_text.specs.Printed.{type_name, has_none, is_first_version}
-use Rattle.dm_tables.specs.SoundParts.{avp_parts, command_parts, value_parts, vendor_parts}
+use Rattle.dm_dict_text.specs.Printed.{type_name, has_nothing, is_first_version}
+use Rattle.dm_tables.specs.SoundParts.{avp_sound_parts, command_sound_parts, value_sound_parts, vendor_sound_parts}
 use Rattle.dm_dict_text.proofs.PrintWords.{word_of, number_word}
 use Rattle.dm_dict_text.proofs.PrintTokens.{option_words, bracket_words, rule_words, more_words, list_words, plain_words, group_words, avp_words, vendors_words, version_words, flag_words, command_words, avps_words, commands_words, entry_parts}
 
@@ -123,7 +123,7 @@ first_line first = if first then 1 else 2
 
 -- a list may stand in a text of the version
 abbrev may_list : Version → List EnumValue → Bool
-may_list First values = has_none values
+may_list First values = has_nothing values
 may_list Second values = true
 
 not_number : (name : List ℕ) → is_proper_name name ≡ true → is_digits name ≡ false
@@ -212,7 +212,7 @@ module _ (names : (w : List ℕ) → is_digits w ≡ false → grammar.is_name_s
       let (first, rest) = and_parts (is_sound_value before v) (each_after is_sound_value (before ++ v ∷ []) values) h in (
         refl,
         (
-          named v.name (value_parts before v first).name,
+          named v.name (value_sound_parts before v first).name,
           (refl, (refl, (refl, value_more line (before ++ v ∷ []) values ws Behind rest b))),
         ),
       )
@@ -254,7 +254,7 @@ module _ (names : (w : List ℕ) → is_digits w ≡ false → grammar.is_name_s
               (Spells (spelling.list (written_value line x) (written_list line values)) Behind) (
                 refl,
                 (
-                  named x.name (value_parts [] x first).name,
+                  named x.name (value_sound_parts [] x first).name,
                   (
                     refl,
                     (
@@ -388,7 +388,7 @@ module _ (names : (w : List ℕ) → is_digits w ≡ false → grammar.is_name_s
       → is_sound_avp before a ≡ true → may_list v a.values ≡ true → Behind ws
       → Spells (spelling.item v (written_avp line a)) Behind (avp_words line a ws)
   avp v line before a ws Behind h may b =
-      let p = avp_parts before a h in
+      let p = avp_sound_parts before a h in
       by (is_grouped a.kind) (group v line a ws Behind p.name p.rule b)
       (plain v line a ws Behind p.name p.list p.listing may b)
     where
@@ -404,7 +404,7 @@ module _ (names : (w : List ℕ) → is_digits w ≡ false → grammar.is_name_s
   commands v line before [] h = refl
   commands v line before (c ∷ cs) h =
       let (first, rest) = and_parts (is_sound_command before c) (each_after is_sound_command (before ++ c ∷ []) cs) h in
-      let p = command_parts before c first in
+      let p = command_sound_parts before c first in
       command v line c (commands_words cs (line + 1)) (Spells (spelling.items v (written_commands cs (line + 1))) Ends)
       p.name p.rule (commands v (line + 1) (before ++ c ∷ []) cs rest)
 
@@ -433,7 +433,7 @@ module _ (names : (w : List ℕ) → is_digits w ≡ false → grammar.is_name_s
         (
           refl,
           (
-            named v.name (vendor_parts before v first).name,
+            named v.name (vendor_sound_parts before v first).name,
             (
               refl,
               (
@@ -452,7 +452,7 @@ module _ (names : (w : List ℕ) → is_digits w ≡ false → grammar.is_name_s
   all_may [] = refl
   all_may (a ∷ ds) = all_may ds
 
-  no_vendors : (vs : List VendorDef) → has_none vs ≡ true → vs ≡ []
+  no_vendors : (vs : List VendorDef) → has_nothing vs ≡ true → vs ≡ []
   no_vendors [] h = refl
   no_vendors (v ∷ vs) h = absurd cc
 
@@ -464,7 +464,7 @@ module _ (names : (w : List ℕ) → is_digits w ≡ false → grammar.is_name_s
     where
       by : (b : Bool) → is_first_version d ≡ b → AreItems (written_all d (first_line b)) (version_words b (all_words d))
       by true e =
-          let (none, may) = and_parts (has_none d.vendors) (list_all (λ a. has_none a.values) d.avps) e in
+          let (none, may) = and_parts (has_nothing d.vendors) (list_all (λ a. has_nothing a.values) d.avps) e in
           let same : d.vendors ≡ [] = no_vendors d.vendors none in
           inl (rw same (avps First 1 [] d.avps d.commands h may k))
       by false e = inr (refl, (refl, (refl, vendors 2 [] d.vendors d.avps d.commands g h (all_may d.avps) k)))

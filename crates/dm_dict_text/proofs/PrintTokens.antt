@@ -19,7 +19,7 @@ use Rattle.dm_tables.specs.declared.def.AvpDef.{AvpDef}
 use Rattle.dm_tables.specs.declared.def.CommandDef.{CommandDef}
 use Rattle.dm_tables.specs.Sound.{is_proper_name, fits_32_bits, option_fits_32_bits, bounds, is_grouped, each_after, is_sound_entry, is_sound_rule, is_sound_avp, is_sound_command, is_listable, is_sound_value, is_sound_list, is_sound_vendor}
 use Rattle.dm_dict_text.specs.Printed.{type_name}
-use Rattle.dm_tables.specs.SoundParts.{avp_parts, command_parts, value_parts, vendor_parts}
+use Rattle.dm_tables.specs.SoundParts.{avp_sound_parts, command_sound_parts, value_sound_parts, vendor_sound_parts}
 use Rattle.dm_dict_text.proofs.PrintText.{number_then, option_then, value_then, more_then, list_then, vendor_then, vendors_then, version_then, bound_then, bracket_then, entry_then, rule_then, end_then, title_then, plain_then, group_then, avp_then, flag_then, flags_then, command_then, avps_then, commands_then}
 use Rattle.dm_dict_text.proofs.PrintWords.{word, word_of, number_word, is_wordish, breaks, word_tokens, number_tokens}
 
@@ -219,7 +219,7 @@ more_tokens : (line : ℕ) (before vs : List EnumValue) (s : List ℕ) → each_
 more_tokens line before [] s h b = refl
 more_tokens line before (v ∷ vs) s h b =
     let (first, rest) = and_parts (is_sound_value before v) (each_after is_sound_value (before ++ v ∷ []) vs) h in
-    let p = value_parts before v first in
+    let p = value_sound_parts before v first in
     ap (λ ws. word Comma (44 ∷ []) line ∷ ws)
     (value_tokens line v (more_then vs s) p.name p.number (more_breaks vs s b) ∙
     ap (value_words line v) (more_tokens line (before ++ v ∷ []) vs s rest b))
@@ -233,7 +233,7 @@ list_tokens : (line : ℕ) (vs : List EnumValue) (s : List ℕ) → is_sound_lis
 list_tokens line [] s h = refl
 list_tokens line (v ∷ vs) s h =
     let (first, rest) = and_parts (is_sound_value [] v) (each_after is_sound_value (v ∷ []) vs) h in
-    let p = value_parts [] v first in
+    let p = value_sound_parts [] v first in
     ap (λ ws. word OpenBrace (123 ∷ []) line ∷ ws)
     (value_tokens line v (more_then vs (32 ∷ 125 ∷ s)) p.name p.number (more_breaks vs (32 ∷ 125 ∷ s) refl) ∙
     ap (value_words line v) (more_tokens line (v ∷ []) vs (32 ∷ 125 ∷ s) rest refl))
@@ -350,7 +350,7 @@ command_tokens line c s named code application rule =
 avp_tokens : (line : ℕ) (before : List AvpDef) (a : AvpDef) (s : List ℕ) → is_sound_avp before a ≡ true
     → tokens_from 0 line (avp_then a s) ≡ avp_words line a (tokens_from 0 (line + 1) s)
 avp_tokens line before a s h =
-    let p = avp_parts before a h in
+    let p = avp_sound_parts before a h in
     by (is_grouped a.kind) (group_tokens line a s (name_wordish a.name p.name) p.code p.vendor p.rule)
     (plain_tokens line a s (name_wordish a.name p.name) p.code p.vendor p.list)
   where
@@ -378,7 +378,7 @@ vendors_tokens line before [] s ws h e = e line
 vendors_tokens line before (v ∷ vendors) s ws h e =
     let (first, rest) = and_parts (is_sound_vendor before v) (each_after is_sound_vendor (before ++ v ∷ []) vendors)
     h in
-    let p = vendor_parts before v first in
+    let p = vendor_sound_parts before v first in
     vendor_tokens line v (vendors_then vendors s) (name_wordish v.name p.name) p.number ∙ ap (vendor_words line v)
     (vendors_tokens (line + 1) (before ++ v ∷ []) vendors s ws rest e)
 
@@ -394,7 +394,7 @@ commands_tokens line before [] h = refl
 commands_tokens line before (c ∷ commands) h =
     let (first, rest) = and_parts (is_sound_command before c)
     (each_after is_sound_command (before ++ c ∷ []) commands) h in
-    let p = command_parts before c first in
+    let p = command_sound_parts before c first in
     let code : c.code ≤ 16777215 = leb-true c.code 16777215 p.code in
     command_tokens line c (commands_then commands) (name_wordish c.name p.name) (omega arith)
     (small c.application p.application) p.rule

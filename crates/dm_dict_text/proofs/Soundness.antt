@@ -26,9 +26,9 @@ use Rattle.dm_dict_text.specs.Meaning.{number, plain_min, starred_min, low_or, m
 use Rattle.dm_dict_text.specs.Faults.{fault_if, range_faults, option_faults, low_faults, above_faults, high_faults, bound_faults, place_faults, rule_entry_faults, with_entry, rule_faults, faults_along, vendor_item_faults, is_defined, is_taken, reference_faults, listed_value_faults, with_value, value_list_faults, name_faults, code_faults, title_faults, head_faults}
 use Rattle.dm_tables.specs.Limits.{number_limit, listed_limit}
 use Rattle.dm_wire.specs.Codes.{max_command}
-use Rattle.dm_dict_text.specs.Worded.{are_named, are_worded_values, may_have_values}
+use Rattle.dm_dict_text.specs.Worded.{have_proper_names, are_worded_values, may_have_values}
 use Rattle.dm_dict_text.proofs.Along.{none_left, none_right}
-use Rattle.dm_tables.specs.SoundParts.{vendor_parts}
+use Rattle.dm_tables.specs.SoundParts.{vendor_sound_parts}
 
 no_fault : (b : Bool) (f : DictFault) → fault_if b f ≡ [] → b ≡ false
 no_fault true f e = absurd cc
@@ -116,7 +116,7 @@ fold-with_entry before [] = sym (append-nil before)
 fold-with_entry before (e ∷ es) =
     fold-with_entry (with_entry before e) es ∙ append_assoc before (entry_of e ∷ []) (map entry_of es)
 
-pub sound_rule : (es : List written.EntryParts) (rule : List Entry) → rule ≡ fold with_entry [] es → are_named es ≡ true
+pub sound_rule : (es : List written.EntryParts) (rule : List Entry) → rule ≡ fold with_entry [] es → have_proper_names es ≡ true
     → rule_faults es ≡ [] → is_sound_rule rule ≡ true
 sound_rule es rule e named none =
     subst (λ (r : List Entry). is_sound_rule r ≡ true) (sym (e ∙ fold-with_entry [] es))
@@ -145,7 +145,7 @@ found_fits : (name : List ℕ) (before vendors : List VendorDef) (n : ℕ)
 found_fits name before [] n h e = absurd cc
 found_fits name before (v ∷ vs) n h e =
     let (first, rest) = and_parts (is_sound_vendor before v) (each_after is_sound_vendor (before ++ v ∷ []) vs) h in
-    by (is_vendor name v) e (vendor_parts before v first).number (λ g. found_fits name (before ++ v ∷ []) vs n rest g)
+    by (is_vendor name v) e (vendor_sound_parts before v first).number (λ g. found_fits name (before ++ v ∷ []) vs n rest g)
   where
     by : (b : Bool) → option_map (λ x. x.number) (cond b (Some v) (find (is_vendor name) vs)) ≡ Some n
         → fits_32_bits v.number ≡ true → (vendor_number vs name ≡ Some n → fits_32_bits n ≡ true) → fits_32_bits n ≡ true

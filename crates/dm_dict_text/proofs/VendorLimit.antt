@@ -13,7 +13,7 @@ use Rattle.dm_tables.specs.Sound.{each_after, is_sound_avp, option_fits_32_bits}
 use Rattle.dm_dict_text.specs.Meaning.{number, vendor_of}
 use Rattle.dm_dict_text.specs.Faults.{first_dict_fault, fault_if, is_taken, reference_faults}
 use Rattle.dm_tables.specs.Limits.{number_limit}
-use Rattle.dm_tables.specs.SoundParts.{avp_parts}
+use Rattle.dm_tables.specs.SoundParts.{avp_sound_parts}
 
 and_false : (b : Bool) → (b && false) ≡ false
 and_false true = refl
@@ -30,7 +30,7 @@ no_such_vendor code v before [] above sound = refl
 no_such_vendor code v before (d ∷ ds) above sound =
     let (first, rest) = and_parts (is_sound_avp before d) (each_after is_sound_avp (before ++ d ∷ []) ds) sound in
     let here : is_coded code (Some v) d ≡ false = ap (λ b. nat_eq code d.code && b)
-    (other v d.vendor above (avp_parts before d first).vendor) ∙ and_false _ in
+    (other v d.vendor above (avp_sound_parts before d first).vendor) ∙ and_false _ in
     rw here (no_such_vendor code v (before ++ d ∷ []) ds above rest)
 
 above_limit : (b : Bool) (f g : DictFault) → first_dict_fault (fault_if b f) ≡ Some g → b ≡ true

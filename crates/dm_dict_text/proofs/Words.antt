@@ -18,9 +18,9 @@ use Rattle.dm_grammar.specs.Grammar as grammar
 use Rattle.dm_grammar.specs.Items.{EntryParts, ValueParts, Written, AvpParts}
 use Rattle.dm_grammar.specs.Items.Written.{VendorIs, AvpIs, CommandIs, GroupIs}
 use Rattle.dm_grammar.specs.Spelling.Phrase.{Never, Empty, Two, Literal, This, ◌then◌, ◌or◌}
-use Rattle.dm_grammar.specs.Spelling.{Phrase, Spells, name_is, number_is, title, qualifier, bracketed, entry_is, entries, value_is, more_values, reference_may, list, type_is, item, items, Ends, AreItems, command_head, group_head}
+use Rattle.dm_grammar.specs.Spelling.{Phrase, Spells, name_is, number_is, title, qualifier, bracketed, entry_phrase, entries, value_is, more_values, reference_may, list, type_is, item, items, Ends, AreItems, command_head, group_head}
 use Rattle.dm_tables.specs.Sound.{is_proper_name}
-use Rattle.dm_dict_text.specs.Worded.{are_named, are_worded_values, may_have_values, is_worded}
+use Rattle.dm_dict_text.specs.Worded.{have_proper_names, are_worded_values, may_have_values, is_worded}
 
 both : (a b : Bool) → a ≡ true → b ≡ true → (a && b) ≡ true
 both a b e g = rw (e, g) refl
@@ -250,11 +250,11 @@ bracket_named Optional v Behind ws g s =
     named v (Spells (Literal CloseSquare) Behind) l.0 l.1.0 l.1.1
 
 entries_named : (es : List EntryParts) (Behind : List Word → Type 0) (ws : List Word) → AreGood ws
-    → Spells (entries es) Behind ws → are_named es ≡ true
+    → Spells (entries es) Behind ws → have_proper_names es ≡ true
 entries_named [] Behind ws g s = refl
 entries_named (e ∷ es) Behind ws g s =
     let q = left_of (qualifier e.qualifier) (Spells (bracketed e.form e.name) (Spells (entries es) Behind)) ws g s in
-    let l = left_of (entry_is e) (Spells (entries es) Behind) ws g s in
+    let l = left_of (entry_phrase e) (Spells (entries es) Behind) ws g s in
     both _ _ (bracket_named e.form e.name (Spells (entries es) Behind) q.0 q.1.0 q.1.1)
     (entries_named es Behind l.0 l.1.0 l.1.1)
 

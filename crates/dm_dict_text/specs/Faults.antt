@@ -1,6 +1,7 @@
--- The faults of the items of a dictionary text, in order (RFC 6733, 3.2): token by token, and those of one token in the order
--- Range, Duplicate, Order; then the names that nothing defines.
-use Rattle.std.specs.Prelude.{ℕ, pos, false, nat_eq, ◌≡◌, ◌⊎◌, Bool, ◌||◌, not, nat_lt, is_some, List, [], ◌∷◌, ◌++◌, Option, Some, None, if◌then◌else◌}
+-- The faults of the items of a dictionary text, in order (RFC 6733, 3.2): token by token, and those of one token in the
+-- order Range, Duplicate, Order; then the names that nothing defines.
+use Rattle.std.specs.Prelude.{ℕ, pos, false, nat_eq, ◌≡◌, ◌⊎◌, Bool, ◌||◌, not, nat_lt}
+use Rattle.std.specs.Prelude.{is_some, List, [], ◌∷◌, ◌++◌, Option, Some, None, if◌then◌else◌}
 use Rattle.std.specs.List.{list_any, flat_map}
 use Rattle.std.specs.Cmp.Lexicographic.{pointwise}
 use Rattle.dm_wire.specs.Codes.{max_command}
@@ -19,9 +20,11 @@ use Rattle.dm_tables.specs.declared.def.CommandDef.{CommandDef}
 use Rattle.dm_tables.specs.Forms.{form_number}
 use Rattle.dm_tables.specs.Limits.{number_limit, listed_limit}
 use Rattle.dm_tables.specs.Listed.{has_number}
-use Rattle.dm_tables.specs.Definitions.{Definitions, is_vendor, has_vendor_number, is_named, is_coded, is_titled, is_headed}
+use Rattle.dm_tables.specs.Definitions.{Definitions, is_vendor, has_vendor_number}
+use Rattle.dm_tables.specs.Definitions.{is_named, is_coded, is_titled, is_headed}
 use Rattle.dm_tables.specs.Sound.{is_any, is_value, is_repeated, is_late}
-use Rattle.dm_dict_text.specs.Meaning.{number, type_named, min_of, entry_of, value_of, vendor_def_of, vendor_of, WithStrays, with_item}
+use Rattle.dm_dict_text.specs.Meaning.{number, type_named, min_of, entry_of, value_of}
+use Rattle.dm_dict_text.specs.Meaning.{vendor_def_of, vendor_of, WithStrays, with_item}
 
 abbrev pub fault_if : Bool → DictFault → List DictFault
 fault_if b f = if b then f ∷ [] else []
@@ -62,8 +65,8 @@ abbrev pub high_faults : ℕ → Option Range → List DictFault
 high_faults min None = []
 high_faults min (Some q) = above_faults min q.high
 
--- The numbers of an entry. RFC 6733 (3.2) also wants a least number of 1 or more of a required entry, and 0 of an optional one;
--- a text that breaks that is taken (own): what it says can be counted as well.
+-- The numbers of an entry. RFC 6733 (3.2) also wants a least number of 1 or more of a required entry, and 0 of an
+-- optional one; a text that breaks that is taken (own): what it says can be counted as well.
 abbrev pub bound_faults : written.EntryParts → List DictFault
 bound_faults e = low_faults e.qualifier ++ high_faults (min_of e.form e.qualifier) e.qualifier
 
@@ -159,7 +162,8 @@ rule_unknown all rule = flat_map (entry_unknown all) rule
 
 -- a name that none of the vendors has
 abbrev pub reference_unknown : List VendorDef → Option VendorReference → List DictFault
-reference_unknown vendors (Some (NamedBy w)) = fault_if (not (list_any (is_vendor w.text) vendors)) (is.UnknownName w.line)
+reference_unknown vendors (Some (NamedBy w)) = fault_if (not (list_any (is_vendor w.text) vendors))
+    (is.UnknownName w.line)
 reference_unknown vendors _ = []
 
 abbrev pub kind_unknown : Word → List DictFault

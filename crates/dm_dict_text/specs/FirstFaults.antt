@@ -13,7 +13,8 @@ use Rattle.dm_tables.specs.declared.def.AvpDef.{AvpDef}
 use Rattle.dm_tables.specs.Definitions.{Definitions, is_named, is_coded, with_avp, with_command}
 use Rattle.dm_tables.specs.Sound.{is_any}
 use Rattle.dm_dict_text.specs.Meaning.{number, type_named, entry_of, command_def_of}
-use Rattle.dm_dict_text.specs.Faults.{fault_if, faults_along, range_faults, option_faults, rule_faults, command_item_faults, kind_unknown}
+use Rattle.dm_dict_text.specs.Faults.{fault_if, faults_along, range_faults, option_faults}
+use Rattle.dm_dict_text.specs.Faults.{rule_faults, command_item_faults, kind_unknown}
 use Rattle.dm_tables.specs.Limits.{number_limit}
 
 -- an AVP without values; an unknown type is a fault elsewhere

@@ -4,7 +4,8 @@ use Rattle.std.specs.List.{flat_map}
 use Rattle.dm_tables.specs.declared.def.AvpDef.{AvpDef}
 use Rattle.dm_tables.specs.Definitions.{Definitions}
 use Rattle.dm_tables.specs.Sound.{is_grouped}
-use Rattle.dm_dict_text.specs.Printed.{type_name, spaced, spaced_number, spaced_option, line_end, group_line, command_line, is_first_version, printed}
+use Rattle.dm_dict_text.specs.Printed.{type_name, spaced, spaced_number, spaced_option, line_end}
+use Rattle.dm_dict_text.specs.Printed.{group_line, command_line, is_first_version, printed}
 
 -- @ NAME CODE TYPE VENDOR
 abbrev pub first_plain_line : AvpDef → List ℕ

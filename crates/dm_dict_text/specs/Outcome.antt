@@ -12,7 +12,8 @@ use Rattle.dm_dict_text.specs.Faults.{first_dict_fault, items_faults, items_unkn
 
 -- the faults of the items token by token, then the unknown names
 abbrev pub all_faults : Definitions → List Written → List DictFault
-all_faults old items = items_faults (with_no_strays old) items ++ items_unknown (with_items (with_no_strays old) items) old.vendors items
+all_faults old items = items_faults (with_no_strays old) items
+    ++ items_unknown (with_items (with_no_strays old) items) old.vendors items
 
 -- the text has items without fault, and the new definitions are the old ones followed by theirs
 pub record Defines (text : List ℕ) (old new : Definitions) : Type 0 where
@@ -29,4 +30,5 @@ pub record HasItemFault (text : List ℕ) (old : Definitions) (fault : DictFault
 
 -- a Syntax fault anywhere comes before the others
 abbrev pub IsFirstFault : List ℕ → Definitions → DictFault → Type 0
-IsFirstFault text old fault = ((line : ℕ) × (fault ≡ Syntax line) × IsSyntaxFault text line) ⊎ HasItemFault text old fault
+IsFirstFault text old fault = ((line : ℕ) × (fault ≡ Syntax line) × IsSyntaxFault text line)
+    ⊎ HasItemFault text old fault

@@ -1,12 +1,15 @@
--- The text of definitions (RFC 6733, 3.2): a line for each, its tokens behind single spaces; `:` and `,` follow without one,
--- and a qualifier is one word.
-use Rattle.std.specs.Prelude.{ℕ, unsigned_abs, Bool, true, false, ◌&&◌, List, [], ◌∷◌, ◌++◌, codes, Option, Some, None, if◌then◌else◌}
+-- The text of definitions (RFC 6733, 3.2): a line for each, its tokens behind single spaces; `:` and `,` follow without
+-- one, and a qualifier is one word.
+use Rattle.std.specs.Prelude.{ℕ, unsigned_abs, Bool, true, false, ◌&&◌, List, []}
+use Rattle.std.specs.Prelude.{◌∷◌, ◌++◌, codes, Option, Some, None, if◌then◌else◌}
 use Rattle.std.specs.List.{flat_map, list_all}
 use Rattle.std.specs.Fmt.{decimal}
 use Rattle.dm_grammar.specs.declared.item.Form.{Form}
 use Rattle.dm_grammar.specs.declared.item.Form.TheVariants.{Fixed, Required, Optional}
 use Rattle.dm_value.specs.declared.avp_type.AvpType.{AvpType}
-use Rattle.dm_value.specs.declared.avp_type.AvpType.TheVariants.{OctetString, Integer32, Integer64, Unsigned32, Unsigned64, Address, Time, UTF8String, DiameterIdentity, DiameterURI, Enumerated, Grouped}
+use Rattle.dm_value.specs.declared.avp_type.AvpType.TheVariants.{OctetString, Integer32, Integer64, Unsigned32}
+use Rattle.dm_value.specs.declared.avp_type.AvpType.TheVariants.{Unsigned64, Address, Time, UTF8String}
+use Rattle.dm_value.specs.declared.avp_type.AvpType.TheVariants.{DiameterIdentity, DiameterURI, Enumerated, Grouped}
 use Rattle.dm_tables.specs.declared.rule.Entry.{Entry}
 use Rattle.dm_tables.specs.declared.values.EnumValue.{EnumValue}
 use Rattle.dm_tables.specs.declared.def.VendorDef.{VendorDef}
@@ -56,7 +59,8 @@ closing_bracket Optional = codes " ]"
 
 -- MIN*MAX { NAME }, both numbers in full (3.2 lets either be left out)
 abbrev pub entry_text : Entry → List ℕ
-entry_text e = spaced_number e.min ++ codes "*" ++ decimal_option e.max ++ opening_bracket e.form ++ e.name ++ closing_bracket e.form
+entry_text e = spaced_number e.min ++ codes "*" ++ decimal_option e.max ++ opening_bracket e.form ++ e.name
+    ++ closing_bracket e.form
 
 abbrev pub rule_text : List Entry → List ℕ
 rule_text rule = flat_map entry_text rule
@@ -85,7 +89,8 @@ value_list_text (v ∷ vs) = codes " {" ++ listed_value_text v ++ flat_map next_
 abbrev pub plain_end : AvpDef → List ℕ
 plain_end d = spaced (type_name d.kind) ++ spaced_option d.vendor ++ value_list_text d.values ++ line_end
 
--- @ NAME CODE TYPE VENDOR LIST (own: RFC 6733 has no grammar for an AVP that is no group; its definitions are prose, 4.5)
+-- @ NAME CODE TYPE VENDOR LIST (own: RFC 6733 has no grammar for an AVP that is no group; its definitions are prose,
+-- 4.5)
 abbrev pub plain_line : AvpDef → List ℕ
 plain_line d = codes "@ " ++ d.name ++ spaced_number d.code ++ plain_end d
 
@@ -121,13 +126,13 @@ command_head_text c = codes " > ::= < Diameter Header:" ++ spaced_number c.code 
 abbrev pub command_line : CommandDef → List ℕ
 command_line c = codes "< " ++ c.name ++ command_head_text c ++ rule_end c.rule
 
-abbrev pub has_none : {A : Type 0} → List A → Bool
-has_none [] = true
-has_none (x ∷ xs) = false
+abbrev pub has_nothing : {A : Type 0} → List A → Bool
+has_nothing [] = true
+has_nothing (x ∷ xs) = false
 
 -- there are no vendors and no lists of values, so a text of version 1 says it all
 abbrev pub is_first_version : Definitions → Bool
-is_first_version d = has_none d.vendors && list_all (λ a. has_none a.values) d.avps
+is_first_version d = has_nothing d.vendors && list_all (λ a. has_nothing a.values) d.avps
 
 -- @ 2, where a text of version 1 doesn't say it all (own)
 abbrev pub version_line : Definitions → List ℕ

@@ -6,8 +6,8 @@ use Rattle.dm_grammar.specs.Items.{EntryParts, ValueParts, VendorParts, AvpParts
 use Rattle.dm_grammar.specs.Items.Written.{VendorIs, AvpIs, GroupIs, CommandIs}
 use Rattle.dm_tables.specs.Sound.{is_proper_name}
 
-abbrev pub are_named : List EntryParts → Bool
-are_named rule = list_all (λ e. is_proper_name e.name.text) rule
+abbrev pub have_proper_names : List EntryParts → Bool
+have_proper_names rule = list_all (λ e. is_proper_name e.name.text) rule
 
 abbrev pub is_worded_vendor : VendorParts → Bool
 is_worded_vendor p = is_proper_name p.name.text
@@ -24,10 +24,10 @@ abbrev pub is_worded_avp : AvpParts → Bool
 is_worded_avp p = is_proper_name p.name.text && are_worded_values p.values && may_have_values p.kind.text p.values
 
 abbrev pub is_worded_group : GroupParts → Bool
-is_worded_group p = is_proper_name p.name.text && are_named p.rule
+is_worded_group p = is_proper_name p.name.text && have_proper_names p.rule
 
 abbrev pub is_worded_command : CommandParts → Bool
-is_worded_command p = is_proper_name p.name.text && are_named p.rule
+is_worded_command p = is_proper_name p.name.text && have_proper_names p.rule
 
 abbrev pub is_worded : Written → Bool
 is_worded (VendorIs p) = is_worded_vendor p

@@ -4,7 +4,8 @@ ghost use Rattle.dm_grammar.specs.Views.{view_word, view_vendor, view_reference_
 ghost use Rattle.dm_tables.specs.Tables.{defined, IsIndexed, IsTables};
 ghost use Rattle.dm_dict_text.specs.Making.{making};
 ghost use Rattle.dm_dict_text.specs.Meaning.{number, vendor_of};
-ghost use Rattle.dm_dict_text.specs.Faults.{first_dict_fault, is_defined, is_taken, vendor_item_faults, reference_faults, name_faults, code_faults, title_faults, head_faults};
+ghost use Rattle.dm_dict_text.specs.Faults.{first_dict_fault, is_defined, is_taken, vendor_item_faults};
+ghost use Rattle.dm_dict_text.specs.Faults.{reference_faults, name_faults, code_faults, title_faults, head_faults};
 
 use crate::DictFault;
 use crate::number::{number, optional_number};
@@ -20,7 +21,8 @@ pub fn check_vendor(tables: &Tables, item: &VendorItem<'_>) -> Result<u32, DictF
     requires { IsIndexed tables.now }
     ensures number { IfOk result (λ n. n ≡ number (view_word item.now.number)) }
     ensures good { IfOk result (λ _. vendor_item_faults tables.now.vendors.items.items (view_vendor item.now) ≡ []) }
-    ensures fault { IfErr result (λ f. first_dict_fault (vendor_item_faults tables.now.vendors.items.items (view_vendor item.now)) ≡ Some f) }
+    ensures fault { IfErr result (λ f. first_dict_fault
+        (vendor_item_faults tables.now.vendors.items.items (view_vendor item.now)) ≡ Some f) }
 {
     if tables.vendors.has_name(item.name.text) {
         return Err(DictFault::Duplicate(item.name.line));
@@ -48,7 +50,8 @@ pub fn check_name(
 ) -> Result<(), DictFault>
     requires { IsIndexed tables.now }
     ensures good { OnOk result (name_faults (making tables.now strays.now) (view_word word.entry) ≡ []) }
-    ensures fault { IfErr result (λ f. first_dict_fault (name_faults (making tables.now strays.now) (view_word word.entry)) ≡ Some f) }
+    ensures fault { IfErr result (λ f. first_dict_fault
+        (name_faults (making tables.now strays.now) (view_word word.entry)) ≡ Some f) }
 {
     if word.text == b"AVP".as_slice() || is_defined(tables, strays, word.text) {
         Err(DictFault::Duplicate(word.line))
@@ -63,9 +66,11 @@ fn vendor_of(
     word: Option<VendorWord<'_>>,
 ) -> Result<Option<Option<u32>>, DictFault>
     requires { IsIndexed tables.now }
-    ensures vendor { IfOk result (λ v. v ≡ vendor_of tables.now.vendors.items.items (view_reference_option word.entry)) }
+    ensures vendor { IfOk result (λ v. v ≡ vendor_of tables.now.vendors.items.items
+        (view_reference_option word.entry)) }
     ensures good { IfOk result (λ _. reference_faults (view_reference_option word.entry) ≡ []) }
-    ensures fault { IfErr result (λ f. first_dict_fault (reference_faults (view_reference_option word.entry)) ≡ Some f) }
+    ensures fault { IfErr result (λ f. first_dict_fault (reference_faults (view_reference_option word.entry))
+        ≡ Some f) }
 {
     match word {
         None => Ok(Some(None)),
@@ -96,9 +101,12 @@ pub fn check_code(
 ) -> Result<(u32, Option<Option<u32>>), DictFault>
     requires { IsTables tables.now }
     ensures code { IfOk result (λ x. x.0 ≡ number (view_word code.entry)) }
-    ensures vendor { IfOk result (λ x. x.1 ≡ vendor_of tables.now.vendors.items.items (view_reference_option vendor.entry)) }
-    ensures good { IfOk result (λ _. code_faults (defined tables.now) (view_word code.entry) (view_reference_option vendor.entry) ≡ []) }
-    ensures fault { IfErr result (λ f. first_dict_fault (code_faults (defined tables.now) (view_word code.entry) (view_reference_option vendor.entry)) ≡ Some f) }
+    ensures vendor { IfOk result (λ x. x.1
+        ≡ vendor_of tables.now.vendors.items.items (view_reference_option vendor.entry)) }
+    ensures good { IfOk result (λ _. code_faults (defined tables.now) (view_word code.entry)
+        (view_reference_option vendor.entry) ≡ []) }
+    ensures fault { IfErr result (λ f. first_dict_fault
+        (code_faults (defined tables.now) (view_word code.entry) (view_reference_option vendor.entry)) ≡ Some f) }
 {
     let line = code.line;
     let code = number(code, u32::MAX)?;
@@ -118,7 +126,8 @@ pub fn check_code(
 pub fn check_title(tables: &Tables, word: Token<'_>) -> Result<(), DictFault>
     requires { IsIndexed tables.now }
     ensures good { OnOk result (title_faults tables.now.commands.items (view_word word.entry) ≡ []) }
-    ensures fault { IfErr result (λ f. first_dict_fault (title_faults tables.now.commands.items (view_word word.entry)) ≡ Some f) }
+    ensures fault { IfErr result (λ f. first_dict_fault (title_faults tables.now.commands.items (view_word word.entry))
+        ≡ Some f) }
 {
     if tables.has_title(word.text) {
         Err(DictFault::Duplicate(word.line))
@@ -133,7 +142,8 @@ pub fn check_head(tables: &Tables, item: &CommandItem<'_>) -> Result<(u32, u32),
     ensures code { IfOk result (λ x. x.0 ≡ number (view_command item.now).code) }
     ensures application { IfOk result (λ x. x.1 ≡ unwrap_or (option_map number (view_command item.now).application) 0) }
     ensures good { IfOk result (λ _. head_faults tables.now.commands.items (view_command item.now) ≡ []) }
-    ensures fault { IfErr result (λ f. first_dict_fault (head_faults tables.now.commands.items (view_command item.now)) ≡ Some f) }
+    ensures fault { IfErr result (λ f. first_dict_fault (head_faults tables.now.commands.items (view_command item.now))
+        ≡ Some f) }
 {
     let code = number(item.code, COMMAND_LIMIT)?;
     if tables.has_head(code, item.request, item.error) {

@@ -1,5 +1,6 @@
 //! The items of a dictionary text, defined one after the other (RFC 6733, 3.2).
-ghost use Rattle.std.specs.Prelude.{◌≡◌, ◌⊎◌, ℕ, [], ◌∷◌, ◌++◌, map, nat_eq, true, false, Option, Some, None, OnOk, IfErr};
+ghost use Rattle.std.specs.Prelude.{◌≡◌, ◌⊎◌, ℕ, [], ◌∷◌, ◌++◌, map, nat_eq};
+ghost use Rattle.std.specs.Prelude.{true, false, Option, Some, None, OnOk, IfErr};
 ghost use Rattle.std.specs.List.{list_all, list_any};
 ghost use Rattle.std.specs.Cmp.Lexicographic.{pointwise};
 ghost use Rattle.dm_grammar.specs.Views.{view_vendor, view_avp, view_group, view_command, view_item};
@@ -8,9 +9,11 @@ ghost use Rattle.dm_tables.specs.Definitions.{with_vendor, with_command};
 ghost use Rattle.dm_tables.specs.Sound.{is_sound_avp};
 ghost use Rattle.dm_tables.specs.Tables.{defined, IsTables};
 ghost use Rattle.dm_dict_text.specs.Making.{making};
-ghost use Rattle.dm_dict_text.specs.Worded.{is_worded_vendor, is_worded_avp, is_worded_group, is_worded_command, is_worded};
+ghost use Rattle.dm_dict_text.specs.Worded.{is_worded_vendor, is_worded_avp};
+ghost use Rattle.dm_dict_text.specs.Worded.{is_worded_group, is_worded_command, is_worded};
 ghost use Rattle.dm_dict_text.specs.Meaning.{vendor_def_of, command_def_of, placed, with_item, with_items};
-ghost use Rattle.dm_dict_text.specs.Faults.{StopsAtFirst, vendor_item_faults, avp_item_faults, group_item_faults, command_item_faults, item_faults, items_faults};
+ghost use Rattle.dm_dict_text.specs.Faults.{StopsAtFirst, vendor_item_faults, avp_item_faults};
+ghost use Rattle.dm_dict_text.specs.Faults.{group_item_faults, command_item_faults, item_faults, items_faults};
 ghost use Rattle.dm_grammar.specs.Items.Written.{AvpIs, GroupIs};
 
 use crate::DictFault;
@@ -30,9 +33,11 @@ fn define_vendor(alloc: Global, tables: &mut Tables, item: &VendorItem<'_>) -> R
     requires tables { IsTables tables.old }
     requires worded { is_worded_vendor (view_vendor item.now) ≡ true }
     ensures good { OnOk result (vendor_item_faults tables.old.vendors.items.items (view_vendor item.now) ≡ []) }
-    ensures added { OnOk result (defined tables.new ≡ with_vendor (defined tables.old) (vendor_def_of (view_vendor item.now))) }
+    ensures added { OnOk result (defined tables.new
+        ≡ with_vendor (defined tables.old) (vendor_def_of (view_vendor item.now))) }
     ensures tables { OnOk result (IsTables tables.new) }
-    ensures fault { IfErr result (StopsAtFirst (vendor_item_faults tables.old.vendors.items.items (view_vendor item.now))) }
+    ensures fault { IfErr result (StopsAtFirst
+        (vendor_item_faults tables.old.vendors.items.items (view_vendor item.now))) }
 {
     let number = check_vendor(tables, item)?;
     let vendor = VendorDef {
@@ -55,7 +60,8 @@ fn place<'a>(
     requires tables { IsTables tables.old }
     requires new { list_any (pointwise nat_eq name.now) (making tables.old strays.old).strays ≡ false }
     requires sound { (v : Option ℕ) → vendor ≡ Some v → is_sound_avp tables.old.avps.items avp ≡ true }
-    ensures added { OnOk result (making tables.new strays.new ≡ placed (making tables.old strays.old) name.now (λ _. avp) vendor) }
+    ensures added { OnOk result (making tables.new strays.new
+        ≡ placed (making tables.old strays.old) name.now (λ _. avp) vendor) }
     ensures tables { OnOk result (IsTables tables.new) }
     ensures fault { IfErr result (λ f. f ≡ faults.NoMemory) }
 {
@@ -82,7 +88,8 @@ fn define_avp<'a>(
     requires tables { IsTables tables.old }
     requires worded { is_worded_avp (view_avp item.now) ≡ true }
     ensures good { OnOk result (avp_item_faults (making tables.old strays.old) (view_avp item.now) ≡ []) }
-    ensures added { OnOk result (making tables.new strays.new ≡ with_item (making tables.old strays.old) (AvpIs (view_avp item.now))) }
+    ensures added { OnOk result (making tables.new strays.new
+        ≡ with_item (making tables.old strays.old) (AvpIs (view_avp item.now))) }
     ensures tables { OnOk result (IsTables tables.new) }
     ensures fault { IfErr result (StopsAtFirst (avp_item_faults (making tables.old strays.old) (view_avp item.now))) }
 {
@@ -111,9 +118,11 @@ fn define_group<'a>(
     requires tables { IsTables tables.old }
     requires worded { is_worded_group (view_group item.now) ≡ true }
     ensures good { OnOk result (group_item_faults (making tables.old strays.old) (view_group item.now) ≡ []) }
-    ensures added { OnOk result (making tables.new strays.new ≡ with_item (making tables.old strays.old) (GroupIs (view_group item.now))) }
+    ensures added { OnOk result (making tables.new strays.new
+        ≡ with_item (making tables.old strays.old) (GroupIs (view_group item.now))) }
     ensures tables { OnOk result (IsTables tables.new) }
-    ensures fault { IfErr result (StopsAtFirst (group_item_faults (making tables.old strays.old) (view_group item.now))) }
+    ensures fault { IfErr result (StopsAtFirst
+        (group_item_faults (making tables.old strays.old) (view_group item.now))) }
 {
     check_name(tables, strays, item.name)?;
     let (code, vendor) = check_code(tables, item.code, item.vendor)?;
@@ -139,9 +148,11 @@ fn define_command(
     requires tables { IsTables tables.old }
     requires worded { is_worded_command (view_command item.now) ≡ true }
     ensures good { OnOk result (command_item_faults tables.old.commands.items (view_command item.now) ≡ []) }
-    ensures added { OnOk result (defined tables.new ≡ with_command (defined tables.old) (command_def_of (view_command item.now))) }
+    ensures added { OnOk result (defined tables.new
+        ≡ with_command (defined tables.old) (command_def_of (view_command item.now))) }
     ensures tables { OnOk result (IsTables tables.new) }
-    ensures fault { IfErr result (StopsAtFirst (command_item_faults tables.old.commands.items (view_command item.now))) }
+    ensures fault { IfErr result (StopsAtFirst
+        (command_item_faults tables.old.commands.items (view_command item.now))) }
 {
     check_title(tables, item.name)?;
     let (code, application) = check_head(tables, item)?;
@@ -168,7 +179,8 @@ fn define<'a>(
     requires tables { IsTables tables.old }
     requires worded { is_worded (view_item item.now) ≡ true }
     ensures good { OnOk result (item_faults (making tables.old strays.old) (view_item item.now) ≡ []) }
-    ensures added { OnOk result (making tables.new strays.new ≡ with_item (making tables.old strays.old) (view_item item.now)) }
+    ensures added { OnOk result (making tables.new strays.new
+        ≡ with_item (making tables.old strays.old) (view_item item.now)) }
     ensures tables { OnOk result (IsTables tables.new) }
     ensures fault { IfErr result (StopsAtFirst (item_faults (making tables.old strays.old) (view_item item.now))) }
 {
@@ -190,9 +202,11 @@ pub fn define_all<'a>(
     requires tables { IsTables tables.old }
     requires worded { list_all is_worded (map view_item items.now) ≡ true }
     ensures good { OnOk result (items_faults (making tables.old strays.old) (map view_item items.now) ≡ []) }
-    ensures added { OnOk result (making tables.new strays.new ≡ with_items (making tables.old strays.old) (map view_item items.now)) }
+    ensures added { OnOk result (making tables.new strays.new
+        ≡ with_items (making tables.old strays.old) (map view_item items.now)) }
     ensures tables { OnOk result (IsTables tables.new) }
-    ensures fault { IfErr result (StopsAtFirst (items_faults (making tables.old strays.old) (map view_item items.now))) }
+    ensures fault { IfErr result (StopsAtFirst
+        (items_faults (making tables.old strays.old) (map view_item items.now))) }
 {
     for item in items {
         define(alloc, tables, strays, item)?;

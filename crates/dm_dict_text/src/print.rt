@@ -2,7 +2,12 @@
 ghost use Rattle.std.specs.Prelude.{◌≡◌, ◌++◌, ◌∷◌, [], OnOk};
 ghost use Rattle.std.specs.List.{flat_map, list_all};
 ghost use Rattle.std.specs.Fmt.{decimal};
-ghost use Rattle.dm_dict_text.specs.Printed.{type_name, spaced, spaced_number, spaced_option, decimal_option, opening_bracket, closing_bracket, entry_text, rule_text, vendor_line, listed_value_text, next_value, value_list_text, plain_end, plain_line, rule_end, group_head_text, group_line, avp_line, flag_text, flags_text, command_head_text, command_line, has_none, is_first_version, version_line, printed};
+ghost use Rattle.dm_dict_text.specs.Printed.{type_name, spaced, spaced_number, spaced_option, decimal_option};
+ghost use Rattle.dm_dict_text.specs.Printed.{opening_bracket, closing_bracket, entry_text, rule_text};
+ghost use Rattle.dm_dict_text.specs.Printed.{vendor_line, listed_value_text, next_value, value_list_text};
+ghost use Rattle.dm_dict_text.specs.Printed.{plain_end, plain_line, rule_end, group_head_text, group_line};
+ghost use Rattle.dm_dict_text.specs.Printed.{avp_line, flag_text, flags_text, command_head_text, command_line};
+ghost use Rattle.dm_dict_text.specs.Printed.{has_nothing, is_first_version, version_line, printed};
 ghost use Rattle.dm_tables.specs.Tables.{defined};
 
 use dm_grammar::Form;
@@ -275,7 +280,7 @@ fn put_vendors(alloc: Global, text: &mut Vec<u8>, vendors: &[VendorDef]) -> Resu
 
 /// Whether no AVP has a list of values.
 fn has_no_lists(avps: &[AvpDef]) -> bool
-    ensures { result ≡ list_all (λ a. has_none a.values) avps.now }
+    ensures { result ≡ list_all (λ a. has_nothing a.values) avps.now }
 {
     for avp in avps {
         if let [_, ..] = avp.values.as_slice() {

@@ -33,7 +33,8 @@ fn add_items<'a>(
     requires old { IsDictionary old.now }
     requires worded { list_all is_worded (map view_item items.now) ≡ true }
     ensures good { OnOk result (all_faults (defined old.now) (map view_item items.now) ≡ []) }
-    ensures added { OnOk result (defined tables.new ≡ (with_items (with_no_strays (defined old.now)) (map view_item items.now)).definitions) }
+    ensures added { OnOk result (defined tables.new
+        ≡ (with_items (with_no_strays (defined old.now)) (map view_item items.now)).definitions) }
     ensures dictionary { OnOk result (IsDictionary tables.new) }
     ensures fault { IfErr result (StopsAtFirst (all_faults (defined old.now) (map view_item items.now))) }
 {
@@ -51,7 +52,8 @@ fn tables_of(alloc: Global, old: &Tables, items: &[Item<'_>]) -> Result<Tables, 
     requires old { IsDictionary old.now }
     requires worded { list_all is_worded (map view_item items.now) ≡ true }
     ensures good { IfOk result (λ _. all_faults (defined old.now) (map view_item items.now) ≡ []) }
-    ensures added { IfOk result (λ new. defined new ≡ (with_items (with_no_strays (defined old.now)) (map view_item items.now)).definitions) }
+    ensures added { IfOk result (λ new. defined new
+        ≡ (with_items (with_no_strays (defined old.now)) (map view_item items.now)).definitions) }
     ensures dictionary { IfOk result IsDictionary }
     ensures fault { IfErr result (StopsAtFirst (all_faults (defined old.now) (map view_item items.now))) }
 {

@@ -5,7 +5,8 @@ ghost use Rattle.dm_tables.specs.Tables.{IsIndexed};
 ghost use Rattle.dm_dict_text.specs.Making.{making};
 ghost use Rattle.dm_tables.specs.Vendored.{IsVendored};
 ghost use Rattle.dm_dict_text.specs.Meaning.{vendor_count};
-ghost use Rattle.dm_dict_text.specs.Faults.{first_dict_fault, entry_unknown, rule_unknown, reference_unknown, kind_unknown, unknown, vendors_with, items_unknown};
+ghost use Rattle.dm_dict_text.specs.Faults.{first_dict_fault, entry_unknown, rule_unknown, reference_unknown};
+ghost use Rattle.dm_dict_text.specs.Faults.{kind_unknown, unknown, vendors_with, items_unknown};
 
 use crate::DictFault;
 use crate::checks::is_defined;
@@ -56,7 +57,8 @@ fn unknown_vendor(
     word: Option<VendorWord<'_>>,
 ) -> Option<DictFault>
     requires { IsVendored vendors.now }
-    ensures { result ≡ first_dict_fault (reference_unknown (take first vendors.now.items.items) (view_reference_option word.entry)) }
+    ensures { result ≡ first_dict_fault (reference_unknown (take first vendors.now.items.items)
+        (view_reference_option word.entry)) }
 {
     match word {
         Some(VendorWord::Named(word)) if !vendors.has_name_among(first, word.text) => {
@@ -86,7 +88,8 @@ fn unknown_in_item(
     item: &Item<'_>,
 ) -> Option<DictFault>
     requires { IsIndexed tables.now }
-    ensures { result ≡ first_dict_fault (unknown (making tables.now strays.now) (take first tables.now.vendors.items.items) (view_item item.now)) }
+    ensures { result ≡ first_dict_fault (unknown (making tables.now strays.now)
+        (take first tables.now.vendors.items.items) (view_item item.now)) }
 {
     match item {
         Item::Vendor(_) => None,
@@ -123,7 +126,8 @@ pub fn first_unknown(
     requires within { first ≤ length tables.now.vendors.items.items }
     requires theirs { fold vendors_with (take first tables.now.vendors.items.items) (map view_item items.now)
         ≡ tables.now.vendors.items.items }
-    ensures { result ≡ first_dict_fault (items_unknown (making tables.now strays.now) (take first tables.now.vendors.items.items) (map view_item items.now)) }
+    ensures { result ≡ first_dict_fault (items_unknown (making tables.now strays.now)
+        (take first tables.now.vendors.items.items) (map view_item items.now)) }
 {
     let mut seen = first;
     for item in items {

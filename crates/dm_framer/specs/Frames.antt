@@ -1,5 +1,6 @@
 -- Where the messages of a stream begin and end (RFC 6733, 3).
-use Rattle.std.specs.Prelude.{◌≡◌, ◌≢◌, ℕ, ◌%◌, ◌<◌, ◌≤◌, ◌⊎◌, Option, None, Some, List, ◌++◌, length, drop, slice_index}
+use Rattle.std.specs.Prelude.{◌≡◌, ◌≢◌, ℕ, ◌%◌, ◌<◌, ◌≤◌, ◌⊎◌, Option, None}
+use Rattle.std.specs.Prelude.{Some, List, ◌++◌, length, drop, slice_index}
 use Rattle.std.specs.List.{AllByRecursion, concat}
 use Rattle.byteorder.specs.Endian.{big_number}
 use Rattle.dm_framer.specs.declared.fault.FrameFault.{FrameFault}

@@ -14,7 +14,7 @@ abbrev pub new_stream : ℕ → Stream
 new_stream max = record { octets = []; max = max; fault = None }
 
 -- of a buffer the first octets are handed out, and a kept fault is that of the octets behind them
-pub record IsSound (buffer : List ℕ) (taken max : ℕ) (fault : Option FrameFault) : Type 0 where
+pub record IsSoundStream (buffer : List ℕ) (taken max : ℕ) (fault : Option FrameFault) : Type 0 where
   pub within : taken ≤ length buffer
   pub kept : IfSome fault (λ found. HasFault max (drop taken buffer) found)
 

@@ -29,13 +29,13 @@ pub struct Framer {
 
 impl Model for Framer {
     ghost use Rattle.std.specs.Prelude.{drop};
-    ghost use Rattle.dm_framer.specs.Stream.{Stream, IsSound};
+    ghost use Rattle.dm_framer.specs.Stream.{Stream, IsSoundStream};
 
     ghost Value = { Stream };
 
     ghost view = { λ f. record { octets = drop f.taken f.buffer.items; max = f.max; fault = f.fault } };
 
-    ghost invariant = { λ f. IsSound f.buffer.items f.taken f.max f.fault };
+    ghost invariant = { λ f. IsSoundStream f.buffer.items f.taken f.max f.fault };
 }
 
 impl Framer {

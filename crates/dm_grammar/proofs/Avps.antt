@@ -13,7 +13,7 @@ use Rattle.dm_grammar.specs.Items.VendorReference.{NumberedBy, NamedBy}
 use Rattle.dm_grammar.specs.Items.Written.{AvpIs}
 use Rattle.dm_grammar.specs.Places.GrammarPlace.{Text, AtSign, AtVendor, AvpName, AvpCode, Vendored, ListOpen}
 use Rattle.dm_grammar.specs.Places.TokenRole.{NameOfAvp, CodeIs, KindIs}
-use Rattle.dm_grammar.specs.Readers.{begins, begins_vendor, behind_kind, behind_vendor, behind_brace, may_list, fault_line, adding_item, with_kind, with_values}
+use Rattle.dm_grammar.specs.Readers.{begins_with, begins_vendor, behind_kind, behind_vendor, behind_brace, may_list, fault_line, adding_item, with_kind, with_values}
 use Rattle.dm_grammar.specs.Told.{Gathered, filled, collect}
 use Rattle.dm_grammar.proofs.Heads.{nothing_told}
 use Rattle.dm_grammar.proofs.Syntax.{same_symbol}
@@ -33,7 +33,7 @@ pub name_no_symbol : (b : Bool) (s t : Symbol) → is_name_symbol s ≡ false �
 name_no_symbol true s t n m f = let e : is_name_symbol s ≡ is_name_symbol t = ap is_name_symbol (same_symbol s t f) in absurd cc
 name_no_symbol false s t n m f = f
 
-at_vendor : (how : Reading) (ws : List Word) → begins AnyName ws ≡ false
+at_vendor : (how : Reading) (ws : List Word) → begins_with AnyName ws ≡ false
     → collect how AtVendor ws ≡ collect how AvpName ws
 at_vendor how [] h = refl
 at_vendor how (w ∷ ws) h = rw (collect, h) refl
@@ -45,7 +45,7 @@ second_name : (b : Bool) (last : ℕ) (w : Word) (ws : List Word)
     → collect how AtSign (w ∷ ws) ≡ filled NameOfAvp w (collect how AvpName ws)
 second_name true last w ws f n h =
     let how : Reading = record { version = Second; last = last } in
-    let none : begins AnyName ws ≡ false = rw f at n in
+    let none : begins_with AnyName ws ≡ false = rw f at n in
     let here : collect how AtSign (w ∷ ws) ≡ filled NameOfAvp w (collect how AtVendor ws) = rw (collect, f) refl in
     here ∙ ap (filled NameOfAvp w) (at_vendor how ws none)
 second_name false last w ws f n h = rw (collect, f, h) refl
@@ -63,14 +63,14 @@ name_taken how w all ws n e h =
     ap (collect how AtSign) e ∙ name_in how.version how.last w ws (rw e at n) h
 
 name_missing_in : (v : Version) (last : ℕ) (ws : List Word) → let how : Reading = record { version = v; last = last } in
-    begins AnyName ws ≡ false → collect how AtSign ws ≡ Err (fault_line last ws)
+    begins_with AnyName ws ≡ false → collect how AtSign ws ≡ Err (fault_line last ws)
 name_missing_in v last [] h = refl
 name_missing_in First last (w ∷ ws) h = rw (collect, h) refl
 name_missing_in Second last (w ∷ ws) h =
     let no = no_name_no_word (fits (One symbols.Vendor) w.symbol) symbols.Vendor w.symbol refl h refl in
     rw (collect, no, h) refl
 
-pub name_missing : (how : Reading) (line : ℕ) (ws : List Word) → begins AnyName ws ≡ false
+pub name_missing : (how : Reading) (line : ℕ) (ws : List Word) → begins_with AnyName ws ≡ false
     → line ≡ fault_line how.last ws
     → collect how AtSign ws ≡ Err line
 name_missing how line ws h e = name_missing_in how.version how.last ws h ∙ ap Err (sym e)
@@ -98,36 +98,36 @@ kind_taken how w all ws may m e h =
     ∙ ap (λ (b : Bool). filled KindIs w (collect how (behind_kind b) ws)) (sym m))
 
 kind_missing_in : (v : Version) (last : ℕ) (ws : List Word) → let how : Reading = record { version = v; last = last } in
-    begins AnyName ws ≡ false → collect how AvpCode ws ≡ Err (fault_line last ws)
+    begins_with AnyName ws ≡ false → collect how AvpCode ws ≡ Err (fault_line last ws)
 kind_missing_in v last [] h = refl
 kind_missing_in First last (w ∷ ws) h = rw (collect, h) refl
 kind_missing_in Second last (w ∷ ws) h =
     let no = no_name_no_word (fits (One symbols.Enumerated) w.symbol) symbols.Enumerated w.symbol refl h refl in
     rw (collect, no, h) refl
 
-pub kind_missing : (how : Reading) (line : ℕ) (ws : List Word) → begins AnyName ws ≡ false
+pub kind_missing : (how : Reading) (line : ℕ) (ws : List Word) → begins_with AnyName ws ≡ false
     → line ≡ fault_line how.last ws
     → collect how AvpCode ws ≡ Err line
 kind_missing how line ws h e = kind_missing_in how.version how.last ws h ∙ ap Err (sym e)
 
 -- `{` before a list, and none
-open_brace : (how : Reading) (ws : List Word) → begins (One symbols.OpenBrace) ws ≡ true
+open_brace : (how : Reading) (ws : List Word) → begins_with (One symbols.OpenBrace) ws ≡ true
     → collect how Vendored ws ≡ collect how ListOpen (drop 1 ws)
 open_brace how [] h = absurd cc
 open_brace how (w ∷ ws) h = rw (collect, h) (nothing_told w (collect how ListOpen ws))
 
-no_brace : (how : Reading) (ws : List Word) → begins (One symbols.OpenBrace) ws ≡ false
+no_brace : (how : Reading) (ws : List Word) → begins_with (One symbols.OpenBrace) ws ≡ false
     → collect how Vendored ws ≡ collect how Text ws
 no_brace how [] h = refl
 no_brace how (w ∷ ws) h = rw (collect, h) refl
 
 pub brace_there : (how : Reading) (may : Bool) (ws rest : List Word) → may ≡ true
-    → begins (One symbols.OpenBrace) ws ≡ true
+    → begins_with (One symbols.OpenBrace) ws ≡ true
     → rest ≡ drop 1 ws → collect how (behind_vendor may) ws ≡ collect how (behind_brace true) rest
 brace_there how true ws rest m h e = rw e (open_brace how ws h)
 brace_there how false ws rest m h e = absurd cc
 
-pub brace_missing : (how : Reading) (may : Bool) (ws : List Word) → (may && begins (One symbols.OpenBrace) ws) ≡ false
+pub brace_missing : (how : Reading) (may : Bool) (ws : List Word) → (may && begins_with (One symbols.OpenBrace) ws) ≡ false
     → collect how (behind_vendor may) ws ≡ collect how (behind_brace false) ws
 brace_missing how true ws h = no_brace how ws h
 brace_missing how false ws h = refl

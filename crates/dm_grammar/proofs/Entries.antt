@@ -15,7 +15,7 @@ use Rattle.dm_grammar.specs.Items.{EntryParts}
 use Rattle.dm_grammar.specs.Places.{GrammarPlace}
 use Rattle.dm_grammar.specs.Places.GrammarPlace.{InRule, Low, Starred, High, FixedOpen, FixedName, BraceOpen, BraceName, SquareOpen, SquareName}
 use Rattle.dm_grammar.specs.Places.TokenRole.{NoPart, OpensEntry, EntryIs, StarIs, HighIs}
-use Rattle.dm_grammar.specs.Readers.{begins, bracket_form, close_of, adding_entry, low_before}
+use Rattle.dm_grammar.specs.Readers.{begins_with, bracket_form, close_of, adding_entry, low_before}
 use Rattle.dm_grammar.specs.Told.{Gathered, plain_entry, filled, collect}
 use Rattle.dm_grammar.proofs.Plain.{word}
 
@@ -104,7 +104,7 @@ with_high None star w e (Err line) = refl
 with_high (Some v) star w e (Err line) = refl
 
 -- from behind the `*` to the bracket
-no_number : (how : Reading) (ws : List Word) → begins (One symbols.Number) ws ≡ false
+no_number : (how : Reading) (ws : List Word) → begins_with (One symbols.Number) ws ≡ false
     → collect how Starred ws ≡ collect how High ws
 no_number how [] h = refl
 no_number how (w ∷ ws) h = rw (collect, h) refl
@@ -116,7 +116,7 @@ a_number how ws rest w e h = rw (e, collect, h) refl
 -- what `optional` answers of a number
 abbrev pub Number? : Option Token → List Word → List Word → Type 0
 Number? v ws rest =
-    MatchOption v ((rest ≡ ws) × (begins (One symbols.Number) ws ≡ false))
+    MatchOption v ((rest ≡ ws) × (begins_with (One symbols.Number) ws ≡ false))
     (λ t. (ws ≡ view_word t ∷ rest) × (fits (One symbols.Number) (view_word t).symbol ≡ true))
 
 starred_entry : (how : Reading) (low : Option Word) (star : Word) (ws rest end : List Word) (v : Option Token)

@@ -13,9 +13,9 @@ use Rattle.dm_grammar.specs.Places.GrammarPlace.{Text, TitleLess, TitleName, Tit
 use Rattle.dm_grammar.specs.Places.TokenRole.{NoPart, BeginsItem, TitleIs, TitleOrFixed, DefineIs, OpensEntry, LowIs, StarIs, HighIs, EntryIs}
 use Rattle.dm_grammar.specs.Grammar.{on, by, fits, steps_from, may_end}
 use Rattle.dm_grammar.specs.Items.{Range, EntryParts, Written}
-use Rattle.dm_grammar.specs.Readers.{begins, begins_entry}
+use Rattle.dm_grammar.specs.Readers.{begins_with, begins_entry}
 use Rattle.dm_grammar.specs.Told.{Gathered, fill, filled, collect}
-use Rattle.dm_grammar.specs.Spelling.{Spells, number_may, qualifier, bracketed, entry_is, entries}
+use Rattle.dm_grammar.specs.Spelling.{Spells, number_may, qualifier, bracketed, entry_phrase, entries}
 use Rattle.dm_grammar.specs.Spelling.Phrase.{Empty, Literal}
 use Rattle.dm_grammar.proofs.Plain.{word}
 use Rattle.dm_grammar.proofs.Rules.{no_entry}
@@ -103,11 +103,11 @@ entry_told e t =
 
 entry_of_walk : (how : Reading) (form : Form) (n : Word) (o : Option Range)
     → let e : EntryParts = record { form = form; name = n; qualifier = o } in
-    Walk how InRule (entry_is e) InRule (entry_told e)
+    Walk how InRule (entry_phrase e) InRule (entry_told e)
 entry_of_walk how form n None = stay how InRule also bracket_walk how form n
 entry_of_walk how form n (Some q) = range_walk how q.low q.high also high_bracket_walk how form n
 
-entry_walk : (how : Reading) (e : EntryParts) → Walk how InRule (entry_is e) InRule (entry_told e)
+entry_walk : (how : Reading) (e : EntryParts) → Walk how InRule (entry_phrase e) InRule (entry_told e)
 entry_walk how e = entry_of_walk how e.form e.name e.qualifier
 
 bracket_made : (form : Form) (n : Word) (es : List EntryParts) (is : List Written)
@@ -148,12 +148,12 @@ one_token false how p q x role t w ws e f h =
 
 next_told : (how : Reading) (p q : GrammarPlace) (x : Terminal) (role : TokenRole) (t : Gathered) (ws : List Word)
     → steps_from how.version p ≡ by x q role
-    → may_end p ≡ false → Tells how p t ws → (begins x ws ≡ true) × ((u : Gathered) × Tells how q u (drop 1 ws))
+    → may_end p ≡ false → Tells how p t ws → (begins_with x ws ≡ true) × ((u : Gathered) × Tells how q u (drop 1 ws))
 next_told how p q x role t [] e n h = let bad : collect how p [] ≡ Err how.last = end_here how p n in absurd cc
 next_told how p q x role t (w ∷ ws) e n h = one_token (fits x w.symbol) how p q x role t w ws e refl h
 
 title_there : (how : Reading) (t : Gathered) (ws : List Word) → Tells how TitleLess t ws
-    → (begins AnyName ws && begins (One symbols.Greater) (drop 1 ws) && begins (One symbols.Define) (drop 2 ws)) ≡ true
+    → (begins_with AnyName ws && begins_with (One symbols.Greater) (drop 1 ws) && begins_with (One symbols.Define) (drop 2 ws)) ≡ true
 title_there how t [] h = absurd cc
 title_there how t (n ∷ ws) h =
     let a = next_told how TitleLess TitleName AnyName TitleIs t (n ∷ ws) refl refl h in

@@ -14,7 +14,7 @@ use Rattle.dm_grammar.specs.Items.Written.{VendorIs, AvpIs, GroupIs, CommandIs}
 use Rattle.dm_grammar.specs.Syntax.{TakesWord, Leads, StandsAtToken, StandsAtEnd, IsSyntaxFault}
 use Rattle.dm_grammar.specs.Spelling.{Phrase, Spells, Ends, AreItems, name_is, number_is, number_may, reference_may, kind_and_values, type_is, title, second, group_vendor, entries, item, items}
 use Rattle.dm_grammar.specs.Spelling.Phrase.{Never, Empty, Two, Literal, This, ◌then◌, ◌or◌}
-use Rattle.dm_grammar.specs.FirstVersion.{FirstItem, first_item, first_items, AreFirst, CanBegin, BreaksAtToken, BreaksAtEnd, Breaks, as_written, AreFirstWritten}
+use Rattle.dm_grammar.specs.FirstVersion.{FirstItem, first_item_phrase, first_items, AreFirst, CanBegin, BreaksAtToken, BreaksAtEnd, Breaks, as_written, AreFirstWritten}
 use Rattle.dm_grammar.specs.FirstVersion.FirstItem.{FirstAvpIs, FirstGroupIs, FirstCommandIs}
 use Rattle.dm_grammar.proofs.Syntax.{AllTaken, ok_taken, one_place}
 use Rattle.dm_grammar.proofs.Walks.{before_items}
@@ -32,7 +32,7 @@ same_second : (d : Option Word) → group_vendor First (option_map NumberedBy d)
 same_second None = refl
 same_second (Some w) = refl
 
-same_item : (i : FirstItem) → item First (as_written i) ≡ first_item i
+same_item : (i : FirstItem) → item First (as_written i) ≡ first_item_phrase i
 same_item (FirstAvpIs a) =
     ap (λ (p : Phrase). Literal symbols.At then name_is a.name then number_is a.code then name_is a.kind then p)
     (same_vendor a.vendor)

@@ -14,13 +14,13 @@ use Rattle.dm_grammar.specs.Grammar.{GrammarStep, fits, symbol_number, steps_fro
 use Rattle.dm_grammar.specs.Places.{GrammarPlace, TokenRole}
 use Rattle.dm_grammar.specs.Places.GrammarPlace.{InRule, Coded, CodedComma, Requested, RequestedComma, Proxied, ProxiedComma, Flagged, FlaggedComma, HeadEnd}
 use Rattle.dm_grammar.specs.Places.TokenRole.{NoPart, SecondIs, CodeIs, CommandHead, RequestFlag, ProxiableFlag, ErrorFlag, Rules}
-use Rattle.dm_grammar.specs.Readers.{begins, begins_flag, with_second, with_end, with_head}
+use Rattle.dm_grammar.specs.Readers.{begins_with, begins_flag, with_second, with_end, with_head}
 use Rattle.dm_grammar.specs.Told.{Gathered, filled, collect}
 
 -- what `optional` answers
 abbrev pub Taken : Symbol → Option Token → List Word → List Word → Type 0
 Taken s v ws rest =
-    MatchOption v ((rest ≡ ws) × (begins (One s) ws ≡ false))
+    MatchOption v ((rest ≡ ws) × (begins_with (One s) ws ≡ false))
     (λ t. (ws ≡ view_word t ∷ rest) × (fits (One s) (view_word t).symbol ≡ true))
 
 -- `>` before a rule
@@ -50,13 +50,13 @@ number_there : (how : Reading) (n : Word) (rest : List Word) → fits (One symbo
     → collect how Flagged (n ∷ rest) ≡ filled SecondIs n (collect how HeadEnd rest)
 number_there how n rest h = let c = fits_one symbols.Number symbols.Comma n.symbol refl h in rw (collect, c, h) refl
 
-number_missing : (how : Reading) (ws : List Word) → begins (One symbols.Comma) ws ≡ false
-    → begins (One symbols.Number) ws ≡ false → collect how Flagged ws ≡ collect how HeadEnd ws
+number_missing : (how : Reading) (ws : List Word) → begins_with (One symbols.Comma) ws ≡ false
+    → begins_with (One symbols.Number) ws ≡ false → collect how Flagged ws ≡ collect how HeadEnd ws
 number_missing how [] c h = refl
 number_missing how (w ∷ ws) c h = rw (collect, c, h) refl
 
 pub plain_end : (how : Reading) (ws rest end : List Word) (v : Option Token) (g : Word)
-    → begins (One symbols.Comma) ws ≡ false → Taken symbols.Number v ws rest
+    → begins_with (One symbols.Comma) ws ≡ false → Taken symbols.Number v ws rest
     → collect how HeadEnd rest ≡ filled Rules g (collect how InRule end)
     → collect how Flagged ws ≡ with_second (view_option v) (collect how InRule end)
 plain_end how ws rest end None g c n h =
@@ -69,7 +69,7 @@ plain_end how ws rest end (Some v) g c n h =
     (collect how InRule end)))
 
 pub plain_fault : (how : Reading) (line : ℕ) (ws rest : List Word) (v : Option Token)
-    → begins (One symbols.Comma) ws ≡ false
+    → begins_with (One symbols.Comma) ws ≡ false
     → Taken symbols.Number v ws rest → collect how HeadEnd rest ≡ Err line → collect how Flagged ws ≡ Err line
 plain_fault how line ws rest None c n h =
     number_missing how ws c n.1 ∙ subst (λ (s : List Word). collect how HeadEnd s ≡ Err line) n.0 h
@@ -105,14 +105,14 @@ not_flagged role (Ok told) = refl
 not_flagged role (Err line) = refl
 
 flag_behind_comma : (how : Reading) (p pc q qc : GrammarPlace) (s : Symbol) (role : TokenRole) (after : List GrammarStep)
-    → FlagPlace how.version p pc q qc s role after → (ws : List Word) → begins (One s) ws ≡ false
+    → FlagPlace how.version p pc q qc s role after → (ws : List Word) → begins_with (One s) ws ≡ false
     → collect how pc ws ≡ collect how qc ws
 flag_behind_comma how p pc q qc s role after f [] h = rw (collect, f.no_end_behind, f.no_end_comma) refl
 flag_behind_comma how p pc q qc s role after f (w ∷ ws) h = rw (collect, f.behind, h) refl
 
 no_flag : (b : Bool) (how : Reading) (p pc q qc : GrammarPlace) (s : Symbol) (role : TokenRole) (after : List GrammarStep)
     → FlagPlace how.version p pc q qc s role after → (w : Word) (ws : List Word) → fits (One symbols.Comma) w.symbol ≡ b
-    → (b ≡ true → begins (One s) ws ≡ false) → collect how p (w ∷ ws) ≡ collect how q (w ∷ ws)
+    → (b ≡ true → begins_with (One s) ws ≡ false) → collect how p (w ∷ ws) ≡ collect how q (w ∷ ws)
 no_flag true how p pc q qc s role after f w ws c h =
     rw (collect, f.here, f.there, c)
     (ap (filled NoPart w) (flag_behind_comma how p pc q qc s role after f ws (h refl)))
@@ -136,7 +136,7 @@ flag_read how p pc q qc s role after f sets false (w ∷ ws) h =
     no_flag (fits (One symbols.Comma) w.symbol) how p pc q qc s role after f w ws refl (λ t. sym (rw t at h))
     ∙ not_flagged role (collect how q (w ∷ ws))
 flag_read how p pc q qc s role after f sets true (c ∷ []) h =
-    let e = and_parts (fits (One symbols.Comma) c.symbol) (begins (One s) []) (sym h) in
+    let e = and_parts (fits (One symbols.Comma) c.symbol) (begins_with (One s) []) (sym h) in
     absurd cc
 flag_read how p pc q qc s role after f sets true (c ∷ w ∷ ws) h =
     let e = and_parts (fits (One symbols.Comma) c.symbol) (fits (One s) w.symbol) (sym h) in

@@ -12,7 +12,7 @@ use Rattle.dm_grammar.specs.Grammar.{fits, is_name_symbol, steps_from, by}
 use Rattle.dm_grammar.specs.Places.{GrammarPlace, TokenRole}
 use Rattle.dm_grammar.specs.Places.GrammarPlace.{Text, AtSign, TitleLess, TitleName, Titled, Defined, InRule, Low, Starred, High, Angle, AngleName, Closed, FixedOpen, FixedName, BraceOpen, SquareOpen}
 use Rattle.dm_grammar.specs.Places.TokenRole.{NoPart, BeginsItem, OpensEntry, EntryIs, StarIs, LowIs, TitleIs, TitleOrFixed, DefineIs}
-use Rattle.dm_grammar.specs.Readers.{begins, begins_entry}
+use Rattle.dm_grammar.specs.Readers.{begins_with, begins_entry}
 use Rattle.dm_grammar.specs.Told.{Gathered, filled, collect}
 use Rattle.dm_grammar.proofs.Plain.{word}
 
@@ -75,7 +75,7 @@ untitled how [] = refl
 untitled how (w ∷ ws) = untitled_from w.symbol w.text w.line how ws
 
 -- without `::=` a name in `<` and `>` is an entry
-closed_rule : (how : Reading) (ws : List Word) → begins (One symbols.Define) ws ≡ false
+closed_rule : (how : Reading) (ws : List Word) → begins_with (One symbols.Define) ws ≡ false
     → collect how Closed ws ≡ collect how InRule ws
 closed_rule how [] h = refl
 closed_rule how (w ∷ ws) h = rw (collect, h) refl
@@ -87,7 +87,7 @@ fixed_told o n g (Ok told) h = rw h refl
 fixed_told o n g (Err line) h = refl
 
 fixed_closed : (b : Bool) (o n g : Word) (how : Reading) (ws : List Word) → fits (One symbols.Greater) g.symbol ≡ b
-    → (b ≡ true → begins (One symbols.Define) ws ≡ false) →
+    → (b ≡ true → begins_with (One symbols.Define) ws ≡ false) →
     filled OpensEntry o (filled TitleOrFixed n (collect how AngleName (g ∷ ws))) ≡ filled OpensEntry o
     (filled (EntryIs Fixed) n (collect how FixedName (g ∷ ws)))
 fixed_closed true o n g how ws e h =
@@ -95,7 +95,7 @@ fixed_closed true o n g how ws e h =
 fixed_closed false o n g how ws e h = rw (collect, e) refl
 
 fixed_named : (b : Bool) (o n : Word) (how : Reading) (ws : List Word) → is_name_symbol n.symbol ≡ b
-    → (b ≡ true → (begins (One symbols.Greater) ws && begins (One symbols.Define) (drop 1 ws)) ≡ false) →
+    → (b ≡ true → (begins_with (One symbols.Greater) ws && begins_with (One symbols.Define) (drop 1 ws)) ≡ false) →
     filled OpensEntry o (collect how Angle (n ∷ ws)) ≡ filled OpensEntry o (collect how FixedOpen (n ∷ ws))
 fixed_named true o n how [] e h = rw (collect, e) refl
 fixed_named true o n how (g ∷ ws) e h =
@@ -103,7 +103,7 @@ fixed_named true o n how (g ∷ ws) e h =
 fixed_named false o n how ws e h = rw (collect, e) refl
 
 fixed_entry : (text : List ℕ) (line : ℕ) (how : Reading) (ws : List Word)
-    → (begins AnyName ws && begins (One symbols.Greater) (drop 1 ws) && begins (One symbols.Define) (drop 2 ws))
+    → (begins_with AnyName ws && begins_with (One symbols.Greater) (drop 1 ws) && begins_with (One symbols.Define) (drop 2 ws))
     ≡ false → collect how InRule (word symbols.Less text line ∷ ws) ≡ collect how High
     (word symbols.Less text line ∷ ws)
 fixed_entry text line how [] h = refl
@@ -119,8 +119,8 @@ is_title true h = refl
 is_title false h = absurd cc
 
 rule_bracket_from : (s : Symbol) (text : List ℕ) (line : ℕ) (how : Reading) (ws : List Word)
-    → begins_entry (word s text line ∷ ws) ≡ true → begins (One symbols.Number) (word s text line ∷ ws) ≡ false
-    → begins (One symbols.Star) (word s text line ∷ ws) ≡ false
+    → begins_entry (word s text line ∷ ws) ≡ true → begins_with (One symbols.Number) (word s text line ∷ ws) ≡ false
+    → begins_with (One symbols.Star) (word s text line ∷ ws) ≡ false
     → collect how InRule (word s text line ∷ ws) ≡ collect how High (word s text line ∷ ws)
 rule_bracket_from symbols.Number text line how ws e n s = absurd cc
 rule_bracket_from symbols.Star text line how ws e n s = absurd cc
@@ -130,8 +130,8 @@ rule_bracket_from symbols.Less text line how ws e n s = fixed_entry text line ho
 rule_bracket_from _ text line how ws e n s = absurd cc
 
 -- an entry that begins with no number and no `*` begins with a bracket
-pub rule_bracket : (how : Reading) (ws : List Word) → begins_entry ws ≡ true → begins (One symbols.Number) ws ≡ false
-    → begins (One symbols.Star) ws ≡ false → collect how InRule ws ≡ collect how High ws
+pub rule_bracket : (how : Reading) (ws : List Word) → begins_entry ws ≡ true → begins_with (One symbols.Number) ws ≡ false
+    → begins_with (One symbols.Star) ws ≡ false → collect how InRule ws ≡ collect how High ws
 rule_bracket how [] e n s = absurd cc
 rule_bracket how (w ∷ ws) e n s = rule_bracket_from w.symbol w.text w.line how ws e n s
 
@@ -145,8 +145,8 @@ closed_title : (how : Reading) (d : Word) (ws : List Word) → fits (One symbols
     → collect how Closed (d ∷ ws) ≡ filled DefineIs d (collect how Defined ws)
 closed_title how d ws h = rw (collect, h) refl
 
-title_at : (o : Word) (how : Reading) (ws : List Word) → begins AnyName ws ≡ true
-    → begins (One symbols.Greater) (drop 1 ws) ≡ true → begins (One symbols.Define) (drop 2 ws) ≡ true
+title_at : (o : Word) (how : Reading) (ws : List Word) → begins_with AnyName ws ≡ true
+    → begins_with (One symbols.Greater) (drop 1 ws) ≡ true → begins_with (One symbols.Define) (drop 2 ws) ≡ true
     → filled OpensEntry o (collect how Angle ws) ≡ filled BeginsItem o (collect how TitleLess ws)
 title_at o how [] a b c = absurd cc
 title_at o how (n ∷ []) a b c = absurd cc
@@ -161,7 +161,7 @@ title_at o how (n ∷ g ∷ d ∷ ws) a b c =
     ∙ ap (filled NoPart g) (one_step how Titled Defined NoPart (One symbols.Define) d ws refl c)))))
 
 a_title : (text : List ℕ) (line : ℕ) (how : Reading) (ws : List Word)
-    → (begins AnyName ws && begins (One symbols.Greater) (drop 1 ws) && begins (One symbols.Define) (drop 2 ws)) ≡ true
+    → (begins_with AnyName ws && begins_with (One symbols.Greater) (drop 1 ws) && begins_with (One symbols.Define) (drop 2 ws)) ≡ true
     → collect how InRule (word symbols.Less text line ∷ ws) ≡ collect how Text (word symbols.Less text line ∷ ws)
 a_title text line how ws h =
     let most = and_parts _ _ h in

@@ -15,7 +15,7 @@ use Rattle.dm_grammar.specs.Items.Written.{VendorIs}
 use Rattle.dm_grammar.specs.Places.{GrammarPlace}
 use Rattle.dm_grammar.specs.Places.GrammarPlace.{Text, AtSign, VendorNamed, Typed, TypedColon, Listed, ListedColon, Vendored, GroupCoded, GroupNamed, Flagged}
 use Rattle.dm_grammar.specs.Places.TokenRole.{NameOfAvp, NamedIs, SecondIs, CodeIs, Rules}
-use Rattle.dm_grammar.specs.Readers.{VendorPlace, begins, begins_named, begins_vendor, behind_kind, behind_vendor, adding_item, adding_reference, with_end, with_second}
+use Rattle.dm_grammar.specs.Readers.{VendorPlace, begins_with, begins_named, begins_vendor, behind_kind, behind_vendor, adding_item, adding_reference, with_end, with_second}
 use Rattle.dm_grammar.specs.Told.{Gathered, filled, collect, reference_told}
 use Rattle.dm_grammar.proofs.Avps.{name_no_symbol}
 use Rattle.dm_grammar.proofs.Heads.{Taken, fits_one, nothing_told}
@@ -50,13 +50,13 @@ pub vendor_told : (how : Reading) (w n c : Word) (ws : List Word)
     ≡ adding_item (VendorIs (record { name = n; number = c })) (collect how Text ws)
 vendor_told how w n c ws = vendor_made w n c (collect how Text ws) (plain how ws)
 
-pub no_word : (v : Version) (ws : List Word) → begins_vendor v ws ≡ true → begins (One symbols.Vendor) ws ≡ true
+pub no_word : (v : Version) (ws : List Word) → begins_vendor v ws ≡ true → begins_with (One symbols.Vendor) ws ≡ true
 no_word First ws h = absurd cc
-no_word Second ws h = (and_parts (begins (One symbols.Vendor) ws) (begins AnyName (drop 1 ws)) h).0
+no_word Second ws h = (and_parts (begins_with (One symbols.Vendor) ws) (begins_with AnyName (drop 1 ws)) h).0
 
-pub no_name : (v : Version) (ws : List Word) → begins_vendor v ws ≡ true → begins AnyName (drop 1 ws) ≡ true
+pub no_name : (v : Version) (ws : List Word) → begins_vendor v ws ≡ true → begins_with AnyName (drop 1 ws) ≡ true
 no_name First ws h = absurd cc
-no_name Second ws h = (and_parts (begins (One symbols.Vendor) ws) (begins AnyName (drop 1 ws)) h).1
+no_name Second ws h = (and_parts (begins_with (One symbols.Vendor) ws) (begins_with AnyName (drop 1 ws)) h).1
 
 -- [vend]: a colon
 colon_in : (v : Version) (last : ℕ) (p colon q : GrammarPlace) (ws : List Word)
@@ -96,7 +96,7 @@ number_in v last p colon q n ws f h = rw (collect, f.here, h) refl
 -- neither
 neither_in : (v : Version) (last : ℕ) (p colon q : GrammarPlace) (ws : List Word)
     → let how : Reading = record { version = v; last = last } in
-    VendorPlace v p colon q → begins_named v ws ≡ false → begins (One symbols.Number) ws ≡ false
+    VendorPlace v p colon q → begins_named v ws ≡ false → begins_with (One symbols.Number) ws ≡ false
     → collect how p ws ≡ collect how q ws
 neither_in v last p colon q [] f c h = rw (collect, f.ends) refl
 neither_in First last p colon q (w ∷ ws) f c h = rw (collect, f.here, h) refl

@@ -1,12 +1,14 @@
 -- The grammar of a text of version 1, whole (RFC 6733 section 3.2; "@" is own): a vendor is a number, and no value is
 -- listed.
 use Rattle.std.specs.Prelude.{◌≡◌, ℕ, List, [], ◌∷◌, ◌++◌, map, Option, option_map, ◌⊎◌}
-use Rattle.dm_grammar.specs.declared.symbol.Symbol.TheVariants.{Less, Greater, Colon, At, Define, Header, Avp, AvpHeader}
+use Rattle.dm_grammar.specs.declared.symbol.Symbol.TheVariants.{Less, Greater, Colon, At}
+use Rattle.dm_grammar.specs.declared.symbol.Symbol.TheVariants.{Define, Header, Avp, AvpHeader}
 use Rattle.dm_grammar.specs.Tokens.{Word, tokens, last_line}
 use Rattle.dm_grammar.specs.Items.{EntryParts, CommandParts, Written}
 use Rattle.dm_grammar.specs.Items.VendorReference.{NumberedBy}
 use Rattle.dm_grammar.specs.Items.Written.{AvpIs, GroupIs, CommandIs}
-use Rattle.dm_grammar.specs.Spelling.{Phrase, Spells, Ends, name_is, number_is, number_may, title, second, command_head, entries}
+use Rattle.dm_grammar.specs.Spelling.{Phrase, Spells, Ends, name_is, number_is}
+use Rattle.dm_grammar.specs.Spelling.{number_may, title, second, command_head, entries}
 use Rattle.dm_grammar.specs.Spelling.Phrase.{Empty, Literal, ◌then◌, ◌or◌}
 
 -- "@" name number type [number]
@@ -30,21 +32,22 @@ pub data FirstItem : Type 0 where
 
 -- ahead = ("AVP" "Header" | "AVP-Header") ":" number [[","] number]
 abbrev pub first_head : FirstGroup → Phrase
-first_head g = (Literal Avp then Literal Header or Literal AvpHeader) then Literal Colon then number_is g.code then second g.vendor
+first_head g =
+    (Literal Avp then Literal Header or Literal AvpHeader) then Literal Colon then number_is g.code then second g.vendor
 
 -- item = "@" name number type [number] | title "::=" "<" dhead ">" *entry | title "::=" "<" ahead ">" *entry
-abbrev pub first_item : FirstItem → Phrase
-first_item (FirstAvpIs a) =
+abbrev pub first_item_phrase : FirstItem → Phrase
+first_item_phrase (FirstAvpIs a) =
     Literal At then name_is a.name then number_is a.code then name_is a.kind then number_may a.vendor
-first_item (FirstCommandIs c) =
+first_item_phrase (FirstCommandIs c) =
     title c.name then Literal Define then Literal Less then command_head c then Literal Greater then entries c.rule
-first_item (FirstGroupIs g) =
+first_item_phrase (FirstGroupIs g) =
     title g.name then Literal Define then Literal Less then first_head g then Literal Greater then entries g.rule
 
 -- text = *item
 abbrev pub first_items : List FirstItem → Phrase
 first_items [] = Empty
-first_items (i ∷ is) = first_item i then first_items is
+first_items (i ∷ is) = first_item_phrase i then first_items is
 
 -- the tokens are these items, and nothing behind them
 abbrev pub AreFirst : List FirstItem → List Word → Type 0

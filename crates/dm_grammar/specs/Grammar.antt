@@ -1,17 +1,31 @@
 -- The grammar of the dictionary text (RFC 6733 section 3.2) as a finite list of steps: in a text of a version, from
 -- a place, by a token, to the next place. The version tells what may stand behind "@", as a type, behind a type and
 -- behind a group's code; no step of version 1 leads to the places of vendors' names and lists (own).
-use Rattle.std.specs.Prelude.{ℕ, Bool, true, false, ◌&&◌, not, nat_eq, List, [], ◌∷◌, ◌++◌, Option, Some, None, if◌then◌else◌}
+use Rattle.std.specs.Prelude.{ℕ, Bool, true, false, ◌&&◌, not, nat_eq, List}
+use Rattle.std.specs.Prelude.{[], ◌∷◌, ◌++◌, Option, Some, None, if◌then◌else◌}
 use Rattle.dm_grammar.specs.declared.symbol.Symbol.{Symbol}
-use Rattle.dm_grammar.specs.declared.symbol.Symbol.TheVariants.{Less, Greater, OpenBrace, CloseBrace, OpenSquare, CloseSquare, Star, Comma, Colon, At, Define, Number, Name, Diameter, Header, DiameterHeader, Avp, AvpHeader, Req, Pxy, Err, Vendor, Enumerated, Stray}
+use Rattle.dm_grammar.specs.declared.symbol.Symbol.TheVariants.{Less, Greater, OpenBrace, CloseBrace, OpenSquare}
+use Rattle.dm_grammar.specs.declared.symbol.Symbol.TheVariants.{CloseSquare, Star, Comma, Colon, At, Define, Number}
+use Rattle.dm_grammar.specs.declared.symbol.Symbol.TheVariants.{Name, Diameter, Header, DiameterHeader, Avp}
+use Rattle.dm_grammar.specs.declared.symbol.Symbol.TheVariants.{AvpHeader, Req, Pxy, Err, Vendor, Enumerated, Stray}
 use Rattle.dm_grammar.specs.declared.item.Form.TheVariants.{Fixed, Required, Optional}
 use Rattle.dm_grammar.specs.declared.terminal.Terminal.{Terminal}
 use Rattle.dm_grammar.specs.declared.terminal.Terminal.TheVariants.{AnyName, NameBut, One}
 use Rattle.dm_grammar.specs.declared.reading.Version.{Version}
 use Rattle.dm_grammar.specs.declared.reading.Version.TheVariants.{First, Second}
 use Rattle.dm_grammar.specs.Places.{GrammarPlace, TokenRole}
-use Rattle.dm_grammar.specs.Places.GrammarPlace.{Text, AtSign, AvpName, AvpCode, Typed, TypedColon, AtVendor, VendorNamed, Listed, ListedColon, Vendored, ListOpen, ValueName, ValueEnd, TitleLess, TitleName, Titled, Defined, Head, CommandWord, CommandColon, CommandCode, Coded, CodedComma, Requested, RequestedComma, Proxied, ProxiedComma, GroupWord, GroupColon, GroupCode, GroupCoded, GroupNamed, Flagged, FlaggedComma, HeadEnd, InRule, Low, Starred, High, Angle, AngleName, Closed, FixedOpen, FixedName, BraceOpen, BraceName, SquareOpen, SquareName}
-use Rattle.dm_grammar.specs.Places.TokenRole.{NoPart, BeginsItem, NameOfAvp, CodeIs, KindIs, SecondIs, NamedIs, ValueIs, TitleIs, TitleOrFixed, DefineIs, CommandHead, GroupHead, RequestFlag, ProxiableFlag, ErrorFlag, Rules, OpensEntry, LowIs, StarIs, HighIs, EntryIs}
+use Rattle.dm_grammar.specs.Places.GrammarPlace.{Text, AtSign, AvpName, AvpCode, Typed, TypedColon, AtVendor}
+use Rattle.dm_grammar.specs.Places.GrammarPlace.{VendorNamed, Listed, ListedColon, Vendored, ListOpen, ValueName}
+use Rattle.dm_grammar.specs.Places.GrammarPlace.{ValueEnd, TitleLess, TitleName, Titled, Defined, Head, CommandWord}
+use Rattle.dm_grammar.specs.Places.GrammarPlace.{CommandColon, CommandCode, Coded, CodedComma, Requested}
+use Rattle.dm_grammar.specs.Places.GrammarPlace.{RequestedComma, Proxied, ProxiedComma, GroupWord, GroupColon}
+use Rattle.dm_grammar.specs.Places.GrammarPlace.{GroupCode, GroupCoded, GroupNamed, Flagged, FlaggedComma, HeadEnd}
+use Rattle.dm_grammar.specs.Places.GrammarPlace.{InRule, Low, Starred, High, Angle, AngleName, Closed, FixedOpen}
+use Rattle.dm_grammar.specs.Places.GrammarPlace.{FixedName, BraceOpen, BraceName, SquareOpen, SquareName}
+use Rattle.dm_grammar.specs.Places.TokenRole.{NoPart, BeginsItem, NameOfAvp, CodeIs, KindIs, SecondIs}
+use Rattle.dm_grammar.specs.Places.TokenRole.{NamedIs, ValueIs, TitleIs, TitleOrFixed, DefineIs}
+use Rattle.dm_grammar.specs.Places.TokenRole.{CommandHead, GroupHead, RequestFlag, ProxiableFlag}
+use Rattle.dm_grammar.specs.Places.TokenRole.{ErrorFlag, Rules, OpensEntry, LowIs, StarIs, HighIs, EntryIs}
 
 -- a word that only its place makes special is a name elsewhere
 abbrev pub is_name_symbol : Symbol → Bool

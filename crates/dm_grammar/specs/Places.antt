@@ -9,7 +9,8 @@ pub data GrammarPlace : Type 0 where
   TitleLess TitleName Titled Defined Head : GrammarPlace
   CommandWord CommandColon CommandCode Coded CodedComma Requested RequestedComma Proxied ProxiedComma : GrammarPlace
   GroupWord GroupColon GroupCode GroupCoded GroupNamed Flagged FlaggedComma HeadEnd : GrammarPlace
-  InRule Low Starred High Angle AngleName Closed FixedOpen FixedName BraceOpen BraceName SquareOpen SquareName : GrammarPlace
+  InRule Low Starred High Angle AngleName Closed : GrammarPlace
+  FixedOpen FixedName BraceOpen BraceName SquareOpen SquareName : GrammarPlace
 
 -- what a token is to the item that it stands in
 pub data TokenRole : Type 0 where

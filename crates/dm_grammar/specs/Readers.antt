@@ -1,11 +1,14 @@
 -- What the readers of the parts of an item look at, and what they ensure.
-use Rattle.std.specs.Prelude.{ℕ, Bool, true, false, ◌&&◌, ◌||◌, not, List, [], ◌∷◌, ◌++◌, ◌≡◌, drop, Option, Some, None, Result, Ok, Err, ⊤}
+use Rattle.std.specs.Prelude.{ℕ, Bool, true, false, ◌&&◌, ◌||◌, not, List, [], ◌∷◌}
+use Rattle.std.specs.Prelude.{◌++◌, ◌≡◌, drop, Option, Some, None, Result, Ok, Err, ⊤}
 use Rattle.dm_grammar.specs.declared.item.Form.{Form}
 use Rattle.dm_grammar.specs.declared.item.Form.TheVariants.{Fixed, Required, Optional}
 use Rattle.dm_grammar.specs.declared.fault.ItemFault.{ItemFault}
 use Rattle.dm_grammar.specs.declared.fault.ItemFault.TheVariants.{Syntax, NoMemory}
 use Rattle.dm_grammar.specs.declared.symbol.Symbol.{Symbol}
-use Rattle.dm_grammar.specs.declared.symbol.Symbol.TheVariants.{Less, Greater, OpenBrace, CloseBrace, OpenSquare, CloseSquare, Star, Comma, Colon, Define, Number, Vendor, Enumerated}
+use Rattle.dm_grammar.specs.declared.symbol.Symbol.TheVariants.{Less, Greater, OpenBrace, CloseBrace}
+use Rattle.dm_grammar.specs.declared.symbol.Symbol.TheVariants.{OpenSquare, CloseSquare, Star, Comma}
+use Rattle.dm_grammar.specs.declared.symbol.Symbol.TheVariants.{Colon, Define, Number, Vendor, Enumerated}
 use Rattle.dm_grammar.specs.declared.terminal.Terminal.{Terminal}
 use Rattle.dm_grammar.specs.declared.terminal.Terminal.TheVariants.{AnyName, One}
 use Rattle.dm_grammar.specs.declared.reading.Version.{Version}
@@ -20,20 +23,22 @@ use Rattle.dm_grammar.specs.Places.TokenRole.{LowIs, SecondIs, NamedIs, KindIs}
 use Rattle.dm_grammar.specs.Told.{Gathered, none_gathered, item_before, filled}
 
 -- the tokens begin with the terminal
-abbrev pub begins : Terminal → List Word → Bool
-begins t [] = false
-begins t (w ∷ ws) = fits t w.symbol
+abbrev pub begins_with : Terminal → List Word → Bool
+begins_with t [] = false
+begins_with t (w ∷ ws) = fits t w.symbol
 
 -- "<" name ">" "::="
 abbrev pub begins_title : List Word → Bool
-begins_title ws = begins (One Less) ws && begins AnyName (drop 1 ws) && begins (One Greater) (drop 2 ws) &&
-    begins (One Define) (drop 3 ws)
+begins_title ws = begins_with (One Less) ws && begins_with AnyName (drop 1 ws) && begins_with (One Greater)
+    (drop 2 ws) &&
+    begins_with (One Define) (drop 3 ws)
 
 -- an entry, and no item
 abbrev pub begins_entry : List Word → Bool
 begins_entry ws =
-    begins (One Number) ws || begins (One Star) ws || begins (One OpenBrace) ws || begins (One OpenSquare) ws
-    || (begins (One Less) ws && not (begins_title ws))
+    begins_with (One Number) ws || begins_with (One Star) ws || begins_with (One OpenBrace) ws || begins_with
+    (One OpenSquare) ws
+    || (begins_with (One Less) ws && not (begins_title ws))
 
 -- the form of the entry that a bracket opens, and what closes it
 abbrev pub bracket_form : Symbol → Option Form
@@ -67,12 +72,12 @@ low_before (Some w) r = filled LowIs w r
 -- the word `vendor` and a name behind it, in a text of version 2
 abbrev pub begins_vendor : Version → List Word → Bool
 begins_vendor First ws = false
-begins_vendor Second ws = begins (One Vendor) ws && begins AnyName (drop 1 ws)
+begins_vendor Second ws = begins_with (One Vendor) ws && begins_with AnyName (drop 1 ws)
 
 -- a colon before the name of a vendor, in a text of version 2
 abbrev pub begins_named : Version → List Word → Bool
 begins_named First ws = false
-begins_named Second ws = begins (One Colon) ws
+begins_named Second ws = begins_with (One Colon) ws
 
 -- a type behind which a list may stand
 abbrev pub may_list : Version → Word → Bool
@@ -124,7 +129,7 @@ with_kind k v r = filled KindIs k (adding_reference v r)
 
 -- a comma and a flag
 abbrev pub begins_flag : Symbol → List Word → Bool
-begins_flag s ws = begins (One Comma) ws && begins (One s) (drop 1 ws)
+begins_flag s ws = begins_with (One Comma) ws && begins_with (One s) (drop 1 ws)
 
 -- the number at the end of a head, before a rule
 abbrev pub with_second : Option Word → Result Gathered ℕ → Result Gathered ℕ

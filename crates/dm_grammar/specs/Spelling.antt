@@ -2,7 +2,10 @@
 -- of version 2 vendors have names, and an Enumerated AVP may list its values (own).
 use Rattle.std.specs.Prelude.{◌≡◌, Bool, true, false, List, [], ◌∷◌, codes, Option, Some, None, ◌⊎◌}
 use Rattle.dm_grammar.specs.declared.symbol.Symbol.{Symbol}
-use Rattle.dm_grammar.specs.declared.symbol.Symbol.TheVariants.{Less, Greater, OpenBrace, CloseBrace, OpenSquare, CloseSquare, Star, Comma, Colon, At, Define, Number, Diameter, Header, DiameterHeader, Avp, AvpHeader, Req, Pxy, Err, Vendor, Enumerated}
+use Rattle.dm_grammar.specs.declared.symbol.Symbol.TheVariants.{Less, Greater, OpenBrace, CloseBrace, OpenSquare}
+use Rattle.dm_grammar.specs.declared.symbol.Symbol.TheVariants.{CloseSquare, Star, Comma, Colon, At, Define}
+use Rattle.dm_grammar.specs.declared.symbol.Symbol.TheVariants.{Number, Diameter, Header, DiameterHeader, Avp}
+use Rattle.dm_grammar.specs.declared.symbol.Symbol.TheVariants.{AvpHeader, Req, Pxy, Err, Vendor, Enumerated}
 use Rattle.dm_grammar.specs.declared.item.Form.{Form}
 use Rattle.dm_grammar.specs.declared.item.Form.TheVariants.{Fixed, Required, Optional}
 use Rattle.dm_grammar.specs.declared.reading.Version.{Version}
@@ -11,7 +14,8 @@ use Rattle.dm_grammar.specs.declared.terminal.Terminal.{Terminal}
 use Rattle.dm_grammar.specs.declared.terminal.Terminal.TheVariants.{AnyName, One}
 use Rattle.dm_grammar.specs.Tokens.{Word}
 use Rattle.dm_grammar.specs.Grammar.{fits}
-use Rattle.dm_grammar.specs.Items.{VendorReference, ValueParts, Range, EntryParts, VendorParts, AvpParts, GroupParts, CommandParts, Written}
+use Rattle.dm_grammar.specs.Items.{VendorReference, ValueParts, Range, EntryParts}
+use Rattle.dm_grammar.specs.Items.{VendorParts, AvpParts, GroupParts, CommandParts, Written}
 use Rattle.dm_grammar.specs.Items.VendorReference.{NumberedBy, NamedBy}
 use Rattle.dm_grammar.specs.Items.Written.{VendorIs, AvpIs, GroupIs, CommandIs}
 
@@ -115,7 +119,8 @@ group_vendor v (Some (NamedBy w)) = reference_is v (NamedBy w)
 -- ahead2 = ("AVP" "Header" | "AVP-Header") ":" number [[","] number | ":" name]
 abbrev pub group_head : Version → GroupParts → Phrase
 group_head v g =
-    (Literal Avp then Literal Header or Literal AvpHeader) then Literal Colon then number_is g.code then group_vendor v g.vendor
+    (Literal Avp then Literal Header or Literal AvpHeader) then Literal Colon then number_is g.code
+    then group_vendor v g.vendor
 
 -- qual = [number] "*" [number]
 abbrev pub qualifier : Option Range → Phrase
@@ -129,13 +134,13 @@ bracketed Required w = Literal OpenBrace then name_is w then Literal CloseBrace
 bracketed Optional w = Literal OpenSquare then name_is w then Literal CloseSquare
 
 -- entry = [qual] ("<" name ">" | "{" name "}" | "[" name "]")
-abbrev pub entry_is : EntryParts → Phrase
-entry_is e = qualifier e.qualifier then bracketed e.form e.name
+abbrev pub entry_phrase : EntryParts → Phrase
+entry_phrase e = qualifier e.qualifier then bracketed e.form e.name
 
 -- *entry
 abbrev pub entries : List EntryParts → Phrase
 entries [] = Empty
-entries (e ∷ es) = entry_is e then entries es
+entries (e ∷ es) = entry_phrase e then entries es
 
 -- "@" "vendor" name number; a text of version 1 has none
 abbrev pub vendor : Version → VendorParts → Phrase

@@ -5,7 +5,10 @@ use Rattle.std.specs.List.{list_all}
 use Rattle.std.specs.Cmp.Lexicographic.{pointwise}
 use Rattle.dm_grammar.specs.declared.symbol.KeyWord.{KeyWord}
 use Rattle.dm_grammar.specs.declared.symbol.Symbol.{Symbol}
-use Rattle.dm_grammar.specs.declared.symbol.Symbol.TheVariants.{Less, Greater, OpenBrace, CloseBrace, OpenSquare, CloseSquare, Star, Comma, Colon, At, Number, Name, Diameter, Header, DiameterHeader, Avp, AvpHeader, Req, Pxy, Err, Vendor, Enumerated, Stray}
+use Rattle.dm_grammar.specs.declared.symbol.Symbol.TheVariants.{Less, Greater, OpenBrace, CloseBrace, OpenSquare}
+use Rattle.dm_grammar.specs.declared.symbol.Symbol.TheVariants.{CloseSquare, Star, Comma, Colon, At, Number, Name}
+use Rattle.dm_grammar.specs.declared.symbol.Symbol.TheVariants.{Diameter, Header, DiameterHeader, Avp, AvpHeader}
+use Rattle.dm_grammar.specs.declared.symbol.Symbol.TheVariants.{Req, Pxy, Err, Vendor, Enumerated, Stray}
 
 -- a word begins with a letter or a digit
 abbrev pub begins_word : ℕ → Bool

@@ -1,5 +1,6 @@
 -- The tokens of a text, with their lines.
-use Rattle.std.specs.Prelude.{ℕ, zero, suc, ◌+◌, ◌-◌, ◌≡◌, nat_eq, List, [], ◌∷◌, length, take, count_by, codes, Option, Some, None, if◌then◌else◌}
+use Rattle.std.specs.Prelude.{ℕ, zero, suc, ◌+◌, ◌-◌, ◌≡◌, nat_eq, List, [], ◌∷◌, length}
+use Rattle.std.specs.Prelude.{take, count_by, codes, Option, Some, None, if◌then◌else◌}
 use Rattle.std.specs.List.{prefix_len, starts_with}
 use Rattle.dm_grammar.specs.declared.symbol.Symbol.{Symbol}
 use Rattle.dm_grammar.specs.declared.symbol.Symbol.TheVariants.{Define, Stray}

@@ -7,7 +7,10 @@ use Rattle.dm_grammar.specs.Tokens.{Word, tokens}
 use Rattle.dm_grammar.specs.Versions.{body_of, reading_of}
 use Rattle.dm_grammar.specs.Places.{GrammarPlace, TokenRole}
 use Rattle.dm_grammar.specs.Places.GrammarPlace.{Text}
-use Rattle.dm_grammar.specs.Places.TokenRole.{NoPart, BeginsItem, NameOfAvp, CodeIs, KindIs, SecondIs, NamedIs, ValueIs, TitleIs, TitleOrFixed, DefineIs, CommandHead, GroupHead, RequestFlag, ProxiableFlag, ErrorFlag, Rules, OpensEntry, LowIs, StarIs, HighIs, EntryIs}
+use Rattle.dm_grammar.specs.Places.TokenRole.{NoPart, BeginsItem, NameOfAvp, CodeIs, KindIs, SecondIs}
+use Rattle.dm_grammar.specs.Places.TokenRole.{NamedIs, ValueIs, TitleIs, TitleOrFixed, DefineIs}
+use Rattle.dm_grammar.specs.Places.TokenRole.{CommandHead, GroupHead, RequestFlag, ProxiableFlag}
+use Rattle.dm_grammar.specs.Places.TokenRole.{ErrorFlag, Rules, OpensEntry, LowIs, StarIs, HighIs, EntryIs}
 use Rattle.dm_grammar.specs.Grammar.{steps_from, taking, may_end}
 use Rattle.dm_grammar.specs.Items.{EntryParts, Range, ValueParts, VendorReference, Written}
 use Rattle.dm_grammar.specs.Items.VendorReference.{NumberedBy, NamedBy}

@@ -14,7 +14,8 @@ use Rattle.dm_grammar.specs.declared.head.Head.{Head}
 use Rattle.dm_grammar.specs.declared.item.Item.{Item}
 use Rattle.dm_grammar.specs.declared.item.Item.TheVariants.{Vendor, Avp, Group, Command}
 use Rattle.dm_grammar.specs.Tokens.{Word}
-use Rattle.dm_grammar.specs.Items.{VendorParts, ValueParts, VendorReference, AvpParts, Range, EntryParts, GroupParts, CommandParts, Written}
+use Rattle.dm_grammar.specs.Items.{VendorParts, ValueParts, VendorReference, AvpParts}
+use Rattle.dm_grammar.specs.Items.{Range, EntryParts, GroupParts, CommandParts, Written}
 use Rattle.dm_grammar.specs.Readers.{HeadParts}
 use Rattle.dm_grammar.specs.Items.VendorReference.{NumberedBy, NamedBy}
 use Rattle.dm_grammar.specs.Items.Written.{VendorIs, AvpIs, GroupIs, CommandIs}

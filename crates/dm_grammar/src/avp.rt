@@ -4,7 +4,8 @@ ghost use Rattle.std.specs.Prelude.{◌≡◌, ◌<◌, ◌≤◌, false, length
 ghost use Rattle.dm_grammar.specs.Items.Written.{AvpIs};
 ghost use Rattle.dm_grammar.specs.Places.GrammarPlace.{AtSign, AvpCode, AvpName, Text};
 ghost use Rattle.dm_grammar.specs.Places.TokenRole.{CodeIs, KindIs, NameOfAvp};
-ghost use Rattle.dm_grammar.specs.Readers.{IfSyntax, begins_vendor, behind_brace, behind_kind, behind_vendor, may_list, adding_item, with_kind};
+ghost use Rattle.dm_grammar.specs.Readers.{IfSyntax, begins_vendor, behind_brace, behind_kind};
+ghost use Rattle.dm_grammar.specs.Readers.{behind_vendor, may_list, adding_item, with_kind};
 ghost use Rattle.dm_grammar.specs.Told.{collect, filled};
 ghost use Rattle.dm_grammar.specs.Views.{view_word, view_avp, view_reference_option, view_words};
 
@@ -35,7 +36,8 @@ fn kind<'t, 'a>(
     how: Reading,
 ) -> Result<((Token<'a>, bool), &'t [Token<'a>]), usize>
     ensures tells { MatchResult result
-        (λ x. collect how AvpCode (view_words tokens.now) ≡ filled KindIs (view_word x.0.0) (collect how (behind_kind x.0.1) (view_words x.1.now)))
+        (λ x. collect how AvpCode (view_words tokens.now)
+        ≡ filled KindIs (view_word x.0.0) (collect how (behind_kind x.0.1) (view_words x.1.now)))
         (λ line. collect how AvpCode (view_words tokens.now) ≡ Err line) }
     ensures shorter { IfOk result (λ x. length x.1.now < length tokens.now) }
 {
@@ -45,7 +47,8 @@ fn kind<'t, 'a>(
 
 /// `{` before a list, where one may stand.
 fn brace<'t, 'a>(tokens: &'t [Token<'a>], how: Reading, may: bool) -> (bool, &'t [Token<'a>])
-    ensures tells { collect how (behind_vendor may) (view_words tokens.now) ≡ collect how (behind_brace result.0) (view_words result.1.now) }
+    ensures tells { collect how (behind_vendor may) (view_words tokens.now)
+        ≡ collect how (behind_brace result.0) (view_words result.1.now) }
     ensures shorter { length result.1.now ≤ length tokens.now }
 {
     if may && begins(tokens, Terminal::One(Symbol::OpenBrace)) {
@@ -69,7 +72,9 @@ fn typed<'t, 'a>(
     how: Reading,
 ) -> Result<(TypePart<'a>, &'t [Token<'a>]), usize>
     ensures tells { MatchResult result
-        (λ x. collect how AvpCode (view_words tokens.now) ≡ with_kind (view_word x.0.kind) (view_reference_option x.0.vendor) (collect how (behind_brace x.0.list) (view_words x.1.now)))
+        (λ x. collect how AvpCode (view_words tokens.now)
+        ≡ with_kind (view_word x.0.kind) (view_reference_option x.0.vendor)
+        (collect how (behind_brace x.0.list) (view_words x.1.now)))
         (λ line. collect how AvpCode (view_words tokens.now) ≡ Err line) }
     ensures shorter { IfOk result (λ x. length x.1.now < length tokens.now) }
 {
@@ -85,7 +90,10 @@ fn coded<'t, 'a>(
     how: Reading,
 ) -> Result<((Token<'a>, TypePart<'a>), &'t [Token<'a>]), usize>
     ensures tells { MatchResult result
-        (λ x. collect how AvpName (view_words tokens.now) ≡ filled CodeIs (view_word x.0.0) (with_kind (view_word x.0.1.kind) (view_reference_option x.0.1.vendor) (collect how (behind_brace x.0.1.list) (view_words x.1.now))))
+        (λ x. collect how AvpName (view_words tokens.now)
+        ≡ filled CodeIs (view_word x.0.0)
+        (with_kind (view_word x.0.1.kind) (view_reference_option x.0.1.vendor)
+        (collect how (behind_brace x.0.1.list) (view_words x.1.now))))
         (λ line. collect how AvpName (view_words tokens.now) ≡ Err line) }
     ensures shorter { IfOk result (λ x. length x.1.now < length tokens.now) }
 {
@@ -101,7 +109,10 @@ fn avp_words<'t, 'a>(
 ) -> Result<((Token<'a>, Token<'a>, TypePart<'a>), &'t [Token<'a>]), usize>
     requires { begins_vendor how.version (view_words tokens.now) ≡ false }
     ensures tells { MatchResult result
-        (λ x. collect how AtSign (view_words tokens.now) ≡ filled NameOfAvp (view_word x.0.0) (filled CodeIs (view_word x.0.1) (with_kind (view_word x.0.2.kind) (view_reference_option x.0.2.vendor) (collect how (behind_brace x.0.2.list) (view_words x.1.now)))))
+        (λ x. collect how AtSign (view_words tokens.now)
+        ≡ filled NameOfAvp (view_word x.0.0)
+        (filled CodeIs (view_word x.0.1) (with_kind (view_word x.0.2.kind) (view_reference_option x.0.2.vendor)
+        (collect how (behind_brace x.0.2.list) (view_words x.1.now)))))
         (λ line. collect how AtSign (view_words tokens.now) ≡ Err line) }
     ensures shorter { IfOk result (λ x. length x.1.now < length tokens.now) }
 {
@@ -118,7 +129,8 @@ pub(crate) fn avp_item<'t, 'a>(
 ) -> Result<(AvpItem<'a>, &'t [Token<'a>]), ItemFault>
     requires { begins_vendor how.version (view_words tokens.now) ≡ false }
     ensures tells { MatchResult result
-        (λ x. collect how AtSign (view_words tokens.now) ≡ adding_item (AvpIs (view_avp x.0)) (collect how Text (view_words x.1.now)))
+        (λ x. collect how AtSign (view_words tokens.now)
+        ≡ adding_item (AvpIs (view_avp x.0)) (collect how Text (view_words x.1.now)))
         (λ fault. IfSyntax fault (λ line. collect how AtSign (view_words tokens.now) ≡ Err line)) }
     ensures shorter { IfOk result (λ x. length x.1.now < length tokens.now) }
 {

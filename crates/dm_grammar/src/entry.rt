@@ -42,7 +42,8 @@ fn bracketed<'t, 'a>(
     how: Reading,
 ) -> Result<(EntryItem<'a>, &'t [Token<'a>]), usize>
     ensures tells { MatchResult result
-        (λ x. collect how High (view_words tokens.now) ≡ adding_entry (view_entry x.0) (collect how InRule (view_words x.1.now)))
+        (λ x. collect how High (view_words tokens.now)
+        ≡ adding_entry (view_entry x.0) (collect how InRule (view_words x.1.now)))
         (λ line. collect how High (view_words tokens.now) ≡ Err line) }
     ensures plain { IfOk result (λ x. x.0.qualifier ≡ None) }
     ensures shorter { IfOk result (λ x. length x.1.now < length tokens.now) }
@@ -70,7 +71,8 @@ fn starred<'t, 'a>(
     how: Reading,
 ) -> Result<(EntryItem<'a>, &'t [Token<'a>]), usize>
     ensures tells { MatchResult result
-        (λ x. low_before (view_option low.entry) (collect how Low (view_words tokens.now)) ≡ adding_entry (view_entry x.0) (collect how InRule (view_words x.1.now)))
+        (λ x. low_before (view_option low.entry) (collect how Low (view_words tokens.now))
+        ≡ adding_entry (view_entry x.0) (collect how InRule (view_words x.1.now)))
         (λ line. low_before (view_option low.entry) (collect how Low (view_words tokens.now)) ≡ Err line) }
     ensures shorter { IfOk result (λ x. length x.1.now < length tokens.now) }
 {
@@ -99,7 +101,8 @@ pub(crate) fn entry<'t, 'a>(
 ) -> Result<(EntryItem<'a>, &'t [Token<'a>]), usize>
     requires { begins_entry (view_words tokens.now) ≡ true }
     ensures tells { MatchResult result
-        (λ x. collect how InRule (view_words tokens.now) ≡ adding_entry (view_entry x.0) (collect how InRule (view_words x.1.now)))
+        (λ x. collect how InRule (view_words tokens.now)
+        ≡ adding_entry (view_entry x.0) (collect how InRule (view_words x.1.now)))
         (λ line. collect how InRule (view_words tokens.now) ≡ Err line) }
     ensures shorter { IfOk result (λ x. length x.1.now < length tokens.now) }
 {

@@ -31,7 +31,8 @@ pub(crate) struct Head<'a> {
 /// `,` and a flag, where they are there.
 fn flag<'t, 'a>(tokens: &'t [Token<'a>], symbol: Symbol) -> (bool, &'t [Token<'a>])
     ensures flag { result.0 ≡ begins_flag symbol (view_words tokens.now) }
-    ensures rest { view_words result.1.now ≡ (if result.0 then drop 2 (view_words tokens.now) else view_words tokens.now) }
+    ensures rest { view_words result.1.now
+        ≡ (if result.0 then drop 2 (view_words tokens.now) else view_words tokens.now) }
     ensures shorter { length result.1.now ≤ length tokens.now }
 {
     if stands_at(tokens, 0, Terminal::One(Symbol::Comma))
@@ -49,7 +50,8 @@ fn head_end<'t, 'a>(
     how: Reading,
 ) -> Result<(Option<Token<'a>>, &'t [Token<'a>]), usize>
     ensures tells { MatchResult result
-        (λ x. collect how Flagged (view_words tokens.now) ≡ with_second (view_option x.0) (collect how InRule (view_words x.1.now)))
+        (λ x. collect how Flagged (view_words tokens.now)
+        ≡ with_second (view_option x.0) (collect how InRule (view_words x.1.now)))
         (λ line. collect how Flagged (view_words tokens.now) ≡ Err line) }
     ensures shorter { IfOk result (λ x. length x.1.now < length tokens.now) }
 {
@@ -78,7 +80,8 @@ pub(crate) fn command_head<'t, 'a>(
     how: Reading,
 ) -> Result<(Head<'a>, &'t [Token<'a>]), usize>
     ensures tells { (w : Word) → MatchResult result
-        (λ x. filled CommandHead w (collect how CommandColon (view_words tokens.now)) ≡ with_head (view_head x.0) (collect how InRule (view_words x.1.now)))
+        (λ x. filled CommandHead w (collect how CommandColon (view_words tokens.now))
+        ≡ with_head (view_head x.0) (collect how InRule (view_words x.1.now)))
         (λ line. collect how CommandColon (view_words tokens.now) ≡ Err line) }
     ensures shorter { IfOk result (λ x. length x.1.now < length tokens.now) }
 {
@@ -110,7 +113,8 @@ fn group_end<'t, 'a>(
     how: Reading,
 ) -> Result<((Option<Token<'a>>, Option<Token<'a>>), &'t [Token<'a>]), usize>
     ensures tells { MatchResult result
-        (λ x. collect how GroupCoded (view_words tokens.now) ≡ with_end (view_option x.0.0) (view_option x.0.1) (collect how InRule (view_words x.1.now)))
+        (λ x. collect how GroupCoded (view_words tokens.now)
+        ≡ with_end (view_option x.0.0) (view_option x.0.1) (collect how InRule (view_words x.1.now)))
         (λ line. collect how GroupCoded (view_words tokens.now) ≡ Err line) }
     ensures shorter { IfOk result (λ x. length x.1.now < length tokens.now) }
 {
@@ -135,7 +139,8 @@ pub(crate) fn group_head<'t, 'a>(
     how: Reading,
 ) -> Result<(Head<'a>, &'t [Token<'a>]), usize>
     ensures tells { MatchResult result
-        (λ x. collect how GroupColon (view_words tokens.now) ≡ with_head (view_head x.0) (collect how InRule (view_words x.1.now)))
+        (λ x. collect how GroupColon (view_words tokens.now)
+        ≡ with_head (view_head x.0) (collect how InRule (view_words x.1.now)))
         (λ line. collect how GroupColon (view_words tokens.now) ≡ Err line) }
     ensures shorter { IfOk result (λ x. length x.1.now < length tokens.now) }
 {

@@ -18,15 +18,18 @@ ghost use Rattle.dm_grammar.specs.Tokens.{Word, tokens};
 /// version 2 its tokens are those behind `@` and `2`.
 pub fn syntax_law()
     ensures good { (text : List ℕ) → IsGrammatical text ↔ ((items : List Written) × AreItems items (tokens text)) }
-    ensures one_place { (v : Version) (ws : List Word) (p q : GrammarPlace) → Leads v Text ws p → Leads v Text ws q → p ≡ q }
+    ensures one_place { (v : Version) (ws : List Word) (p q : GrammarPlace) → Leads v Text ws p → Leads v Text ws q
+        → p ≡ q }
 {}
 
 /// A law of the definitions, with nothing to run. The tokens of a text are items, form by form, as the grammar of
 /// either version reads, or it has a Syntax fault, and never both; they are the items of one list at most, and a
 /// Syntax fault stands at one line.
 pub fn items_law()
-    ensures some { (text : List ℕ) → ((items : List Written) × AreItems items (tokens text)) ⊎ ((line : ℕ) × IsSyntaxFault text line) }
-    ensures apart { (text : List ℕ) (items : List Written) (line : ℕ) → AreItems items (tokens text) → IsSyntaxFault text line → ⊥ }
+    ensures some { (text : List ℕ) → ((items : List Written) × AreItems items (tokens text))
+        ⊎ ((line : ℕ) × IsSyntaxFault text line) }
+    ensures apart { (text : List ℕ) (items : List Written) (line : ℕ) → AreItems items (tokens text)
+        → IsSyntaxFault text line → ⊥ }
     ensures one_list { (ws : List Word) (a b : List Written) → AreItems a ws → AreItems b ws → a ≡ b }
     ensures one_line { (text : List ℕ) (m n : ℕ) → IsSyntaxFault text m → IsSyntaxFault text n → m ≡ n }
 {}
@@ -43,7 +46,9 @@ pub fn words_law()
 /// stands there, or where it is the last line of a text that could go on and isn't one yet. No text of version 1
 /// begins with `@` and `2`, so each is read by its own grammar.
 pub fn first_version_law()
-    ensures items { (text : List ℕ) (items : List Written) → is_second (tokens text) ≡ false → AreItems items (tokens text) ↔ AreFirstWritten items (tokens text) }
-    ensures fault { (text : List ℕ) (line : ℕ) → is_second (tokens text) ≡ false → IsSyntaxFault text line ↔ Breaks text line }
+    ensures items { (text : List ℕ) (items : List Written) → is_second (tokens text) ≡ false
+        → AreItems items (tokens text) ↔ AreFirstWritten items (tokens text) }
+    ensures fault { (text : List ℕ) (line : ℕ) → is_second (tokens text) ≡ false → IsSyntaxFault text line
+        ↔ Breaks text line }
     ensures apart { (ws : List Word) (is : List FirstItem) → AreFirst is ws → is_second ws ≡ false }
 {}

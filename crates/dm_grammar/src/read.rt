@@ -1,12 +1,13 @@
 //! A text's items.
 
-ghost use Rattle.std.specs.Prelude.{◌≡◌, ◌<◌, ◌++◌, ◌∷◌, ℕ, Result, length, map, false, [], MatchResult, IfOk, IfErr, Ok, Err};
+ghost use Rattle.std.specs.Prelude.{◌≡◌, ◌<◌, ◌++◌, ◌∷◌, ℕ, Result, length, map};
+ghost use Rattle.std.specs.Prelude.{false, [], MatchResult, IfOk, IfErr, Ok, Err};
 ghost use Rattle.dm_grammar.specs.declared.item.Item.{Item};
 ghost use Rattle.dm_grammar.specs.declared.symbol.Symbol.TheVariants.{At};
 ghost use Rattle.dm_grammar.specs.declared.terminal.Terminal.TheVariants.{One};
 ghost use Rattle.dm_grammar.specs.Places.GrammarPlace.{AtSign, Text};
 ghost use Rattle.dm_grammar.specs.Places.TokenRole.{TitleIs};
-ghost use Rattle.dm_grammar.specs.Readers.{IfSyntax, begins, with_head, adding_item, with_rule};
+ghost use Rattle.dm_grammar.specs.Readers.{IfSyntax, begins_with, with_head, adding_item, with_rule};
 ghost use Rattle.dm_grammar.specs.Spelling.{AreItems};
 ghost use Rattle.dm_grammar.specs.Syntax.{IsSyntaxFault};
 ghost use Rattle.dm_grammar.specs.Told.{Gathered, collect, filled, items_told, items_or_line};
@@ -31,7 +32,9 @@ use std::alloc::Global;
 
 /// The command or the group of a title, a head and a rule.
 fn defined<'a>(name: Token<'a>, head: Head<'a>, rule: Vec<EntryItem<'a>>) -> Item<'a>
-    ensures { (r : Result Gathered ℕ) → filled TitleIs (view_word name.entry) (with_head (view_head head.entry) (with_rule (map view_entry rule.entry.items) r)) ≡ adding_item (view_item result) r }
+    ensures { (r : Result Gathered ℕ) → filled TitleIs (view_word name.entry)
+        (with_head (view_head head.entry) (with_rule (map view_entry rule.entry.items) r))
+        ≡ adding_item (view_item result) r }
 {
     if head.command {
         Item::Command(CommandItem {
@@ -60,9 +63,10 @@ fn definition<'t, 'a>(
     how: Reading,
 ) -> Result<(Item<'a>, &'t [Token<'a>]), ItemFault>
     requires some { 0 < length tokens.now }
-    requires no_avp { begins (One At) (view_words tokens.now) ≡ false }
+    requires no_avp { begins_with (One At) (view_words tokens.now) ≡ false }
     ensures tells { MatchResult result
-        (λ x. collect how Text (view_words tokens.now) ≡ adding_item (view_item x.0) (collect how Text (view_words x.1.now)))
+        (λ x. collect how Text (view_words tokens.now)
+        ≡ adding_item (view_item x.0) (collect how Text (view_words x.1.now)))
         (λ fault. IfSyntax fault (λ line. collect how Text (view_words tokens.now) ≡ Err line)) }
     ensures shorter { IfOk result (λ x. length x.1.now < length tokens.now) }
 {
@@ -82,7 +86,8 @@ fn at_item<'t, 'a>(
     how: Reading,
 ) -> Result<(Item<'a>, &'t [Token<'a>]), ItemFault>
     ensures tells { MatchResult result
-        (λ x. collect how AtSign (view_words tokens.now) ≡ adding_item (view_item x.0) (collect how Text (view_words x.1.now)))
+        (λ x. collect how AtSign (view_words tokens.now)
+        ≡ adding_item (view_item x.0) (collect how Text (view_words x.1.now)))
         (λ fault. IfSyntax fault (λ line. collect how AtSign (view_words tokens.now) ≡ Err line)) }
     ensures shorter { IfOk result (λ x. length x.1.now < length tokens.now) }
 {
@@ -105,7 +110,8 @@ fn item<'t, 'a>(
 ) -> Result<(Item<'a>, &'t [Token<'a>]), ItemFault>
     requires { 0 < length tokens.now }
     ensures tells { MatchResult result
-        (λ x. collect how Text (view_words tokens.now) ≡ adding_item (view_item x.0) (collect how Text (view_words x.1.now)))
+        (λ x. collect how Text (view_words tokens.now)
+        ≡ adding_item (view_item x.0) (collect how Text (view_words x.1.now)))
         (λ fault. IfSyntax fault (λ line. collect how Text (view_words tokens.now) ≡ Err line)) }
     ensures shorter { IfOk result (λ x. length x.1.now < length tokens.now) }
 {
@@ -125,7 +131,9 @@ fn next_item<'t, 'a>(
 ) -> Result<&'t [Token<'a>], ItemFault>
     requires { 0 < length tokens.now }
     ensures tells { MatchResult result
-        (λ rest. (i : Item) × ((found.new.items ≡ found.old.items ++ i ∷ []) × (collect how Text (view_words tokens.now) ≡ adding_item (view_item i) (collect how Text (view_words rest.now)))))
+        (λ rest. (i : Item) × ((found.new.items ≡ found.old.items ++ i ∷ [])
+        × (collect how Text (view_words tokens.now)
+        ≡ adding_item (view_item i) (collect how Text (view_words rest.now)))))
         (λ fault. IfSyntax fault (λ line. collect how Text (view_words tokens.now) ≡ Err line)) }
     ensures shorter { IfOk result (λ rest. length rest.now < length tokens.now) }
 {
@@ -144,8 +152,10 @@ fn fill<'a>(
     found: &mut Vec<Item<'a>>,
 ) -> Result<(), ItemFault>
     requires { found.old.items ≡ [] }
-    ensures items { IfOk result (λ _. items_told (collect how Text (view_words tokens.now)) ≡ Ok (map view_item found.new.items)) }
-    ensures fault { IfErr result (λ fault. IfSyntax fault (λ line. items_told (collect how Text (view_words tokens.now)) ≡ Err line)) }
+    ensures items { IfOk result (λ _. items_told (collect how Text (view_words tokens.now))
+        ≡ Ok (map view_item found.new.items)) }
+    ensures fault { IfErr result (λ fault. IfSyntax fault (λ line. items_told (collect how Text (view_words tokens.now))
+        ≡ Err line)) }
 {
     let mut rest = tokens;
     while !rest.is_empty() {
@@ -157,8 +167,10 @@ fn fill<'a>(
 
 /// All items, to the end of the tokens.
 fn items<'a>(alloc: Global, tokens: &[Token<'a>], how: Reading) -> Result<Vec<Item<'a>>, ItemFault>
-    ensures items { IfOk result (λ items. items_told (collect how Text (view_words tokens.now)) ≡ Ok (map view_item items.items)) }
-    ensures fault { IfErr result (λ fault. IfSyntax fault (λ line. items_told (collect how Text (view_words tokens.now)) ≡ Err line)) }
+    ensures items { IfOk result (λ items. items_told (collect how Text (view_words tokens.now))
+        ≡ Ok (map view_item items.items)) }
+    ensures fault { IfErr result (λ fault. IfSyntax fault (λ line. items_told (collect how Text (view_words tokens.now))
+        ≡ Err line)) }
 {
     let mut found = Vec::new(alloc);
     let done = fill(alloc, tokens, how, &mut found);
@@ -178,7 +190,8 @@ fn text_items(alloc: Global, text: &[u8]) -> Result<Vec<Item<'_>>, ItemFault>
     found
 }
 
-/// The items of a dictionary text (RFC 6733 section 3.2) of version 1 or 2, in order. The tokens are borrowed from the text.
+/// The items of a dictionary text (RFC 6733 section 3.2) of version 1 or 2, in order. The tokens are borrowed from the
+/// text.
 ///
 /// # Errors
 ///

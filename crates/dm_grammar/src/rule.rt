@@ -21,7 +21,8 @@ pub(crate) fn rule<'t, 'a>(
     how: Reading,
 ) -> Result<(Vec<EntryItem<'a>>, &'t [Token<'a>]), ItemFault>
     ensures tells { MatchResult result
-        (λ x. collect how InRule (view_words tokens.now) ≡ with_rule (map view_entry x.0.items) (collect how Text (view_words x.1.now)))
+        (λ x. collect how InRule (view_words tokens.now)
+        ≡ with_rule (map view_entry x.0.items) (collect how Text (view_words x.1.now)))
         (λ fault. IfSyntax fault (λ line. collect how InRule (view_words tokens.now) ≡ Err line)) }
     ensures shorter { IfOk result (λ x. length x.1.now ≤ length tokens.now) }
 {

@@ -1,9 +1,10 @@
 //! One token of the rest of a text.
 
-ghost use Rattle.std.specs.Prelude.{◌≡◌, ◌<◌, ◌≤◌, ◌∷◌, [], false, true, drop, length, MatchResult, MatchOption, IfOk, Err};
+ghost use Rattle.std.specs.Prelude.{◌≡◌, ◌<◌, ◌≤◌, ◌∷◌, [], false, true, drop};
+ghost use Rattle.std.specs.Prelude.{length, MatchResult, MatchOption, IfOk, Err};
 ghost use Rattle.dm_grammar.specs.Grammar.{by, fits, may_end, steps_from};
 ghost use Rattle.dm_grammar.specs.Places.{GrammarPlace, TokenRole};
-ghost use Rattle.dm_grammar.specs.Readers.{begins, begins_title, fault_line};
+ghost use Rattle.dm_grammar.specs.Readers.{begins_with, begins_title, fault_line};
 ghost use Rattle.dm_grammar.specs.Told.{collect, filled};
 ghost use Rattle.dm_grammar.specs.Views.{view_word, view_words};
 
@@ -26,12 +27,16 @@ pub(crate) fn expect<'t, 'a>(
     how: Reading,
     terminal: Terminal,
 ) -> Result<(Token<'a>, &'t [Token<'a>]), usize>
-    ensures tells { (p q : GrammarPlace) (r : TokenRole) → steps_from how.version p ≡ by terminal q r → may_end p ≡ false →
-        MatchResult result (λ x. collect how p (view_words tokens.now) ≡ filled r (view_word x.0) (collect how q (view_words x.1.now)))
+    ensures tells { (p q : GrammarPlace) (r : TokenRole) → steps_from how.version p ≡ by terminal q r
+        → may_end p ≡ false →
+        MatchResult result (λ x. collect how p (view_words tokens.now)
+        ≡ filled r (view_word x.0) (collect how q (view_words x.1.now)))
         (λ line. collect how p (view_words tokens.now) ≡ Err line) }
     ensures found { MatchResult result
-        (λ x. (view_words tokens.now ≡ view_word x.0 ∷ view_words x.1.now) × (fits terminal (view_word x.0).symbol ≡ true))
-        (λ line. (begins terminal (view_words tokens.now) ≡ false) × (line ≡ fault_line how.last (view_words tokens.now))) }
+        (λ x. (view_words tokens.now ≡ view_word x.0 ∷ view_words x.1.now)
+        × (fits terminal (view_word x.0).symbol ≡ true))
+        (λ line. (begins_with terminal (view_words tokens.now) ≡ false)
+        × (line ≡ fault_line how.last (view_words tokens.now))) }
     ensures shorter { IfOk result (λ x. length x.1.now < length tokens.now) }
 {
     match tokens.split_first() {
@@ -54,8 +59,10 @@ pub(crate) fn expect_two<'t, 'a>(
     first: Terminal,
     second: Terminal,
 ) -> Result<((Token<'a>, Token<'a>), &'t [Token<'a>]), usize>
-    ensures tells { (p q s : GrammarPlace) (r t : TokenRole) → steps_from how.version p ≡ by first q r → may_end p ≡ false → steps_from how.version q ≡ by second s t → may_end q ≡ false →
-        MatchResult result (λ x. collect how p (view_words tokens.now) ≡ filled r (view_word x.0.0) (filled t (view_word x.0.1) (collect how s (view_words x.1.now))))
+    ensures tells { (p q s : GrammarPlace) (r t : TokenRole) → steps_from how.version p ≡ by first q r
+        → may_end p ≡ false → steps_from how.version q ≡ by second s t → may_end q ≡ false →
+        MatchResult result (λ x. collect how p (view_words tokens.now)
+        ≡ filled r (view_word x.0.0) (filled t (view_word x.0.1) (collect how s (view_words x.1.now))))
         (λ line. collect how p (view_words tokens.now) ≡ Err line) }
     ensures shorter { IfOk result (λ x. length x.1.now < length tokens.now) }
 {
@@ -69,8 +76,10 @@ pub(crate) fn optional<'t, 'a>(
     tokens: &'t [Token<'a>],
     terminal: Terminal,
 ) -> (Option<Token<'a>>, &'t [Token<'a>])
-    ensures tells { MatchOption result.0 ((view_words result.1.now ≡ view_words tokens.now) × (begins terminal (view_words tokens.now) ≡ false))
-        (λ t. (view_words tokens.now ≡ view_word t ∷ view_words result.1.now) × (fits terminal (view_word t).symbol ≡ true)) }
+    ensures tells { MatchOption result.0 ((view_words result.1.now ≡ view_words tokens.now)
+        × (begins_with terminal (view_words tokens.now) ≡ false))
+        (λ t. (view_words tokens.now ≡ view_word t ∷ view_words result.1.now)
+        × (fits terminal (view_word t).symbol ≡ true)) }
     ensures shorter { length result.1.now ≤ length tokens.now }
 {
     match tokens.split_first() {
@@ -87,14 +96,14 @@ pub(crate) fn optional<'t, 'a>(
 
 /// Whether the token at a place is there and is the terminal.
 pub(crate) fn stands_at(tokens: &[Token<'_>], place: usize, terminal: Terminal) -> bool
-    ensures { result ≡ begins terminal (drop place (view_words tokens.now)) }
+    ensures { result ≡ begins_with terminal (drop place (view_words tokens.now)) }
 {
     place < tokens.len() && fits(terminal, tokens[place].symbol)
 }
 
 /// Whether the tokens begin with the terminal.
 pub(crate) fn begins(tokens: &[Token<'_>], terminal: Terminal) -> bool
-    ensures { result ≡ begins terminal (view_words tokens.now) }
+    ensures { result ≡ begins_with terminal (view_words tokens.now) }
 {
     stands_at(tokens, 0, terminal)
 }

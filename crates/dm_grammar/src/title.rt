@@ -5,7 +5,7 @@ ghost use Rattle.dm_grammar.specs.declared.symbol.Symbol.TheVariants.{At, Less};
 ghost use Rattle.dm_grammar.specs.declared.terminal.Terminal.TheVariants.{One};
 ghost use Rattle.dm_grammar.specs.Places.GrammarPlace.{CommandWord, GroupWord, Head as HeadPlace, InRule, Text, Titled};
 ghost use Rattle.dm_grammar.specs.Places.TokenRole.{CommandHead, TitleIs};
-ghost use Rattle.dm_grammar.specs.Readers.{begins, fault_line, with_head};
+ghost use Rattle.dm_grammar.specs.Readers.{begins_with, fault_line, with_head};
 ghost use Rattle.dm_grammar.specs.Told.{collect, filled};
 ghost use Rattle.dm_grammar.specs.Tokens.{Word};
 ghost use Rattle.dm_grammar.specs.Views.{view_word, view_head, view_words};
@@ -60,7 +60,8 @@ fn group_words<'t, 'a>(
 /// A head: ("Diameter" "Header" | "Diameter-Header") or ("AVP" "Header" | "AVP-Header"), and its rest.
 fn head<'t, 'a>(tokens: &'t [Token<'a>], how: Reading) -> Result<(Head<'a>, &'t [Token<'a>]), usize>
     ensures tells { MatchResult result
-        (λ x. collect how HeadPlace (view_words tokens.now) ≡ with_head (view_head x.0) (collect how InRule (view_words x.1.now)))
+        (λ x. collect how HeadPlace (view_words tokens.now)
+        ≡ with_head (view_head x.0) (collect how InRule (view_words x.1.now)))
         (λ line. collect how HeadPlace (view_words tokens.now) ≡ Err line) }
     ensures shorter { IfOk result (λ x. length x.1.now < length tokens.now) }
 {
@@ -82,10 +83,11 @@ fn bare_title<'t, 'a>(
     how: Reading,
 ) -> Result<(Token<'a>, &'t [Token<'a>]), usize>
     requires some { 0 < length tokens.now }
-    requires no_avp { begins (One At) (view_words tokens.now) ≡ false }
-    requires bare { begins (One Less) (view_words tokens.now) ≡ false }
+    requires no_avp { begins_with (One At) (view_words tokens.now) ≡ false }
+    requires bare { begins_with (One Less) (view_words tokens.now) ≡ false }
     ensures tells { MatchResult result
-        (λ x. collect how Text (view_words tokens.now) ≡ filled TitleIs (view_word x.0) (collect how Titled (view_words x.1.now)))
+        (λ x. collect how Text (view_words tokens.now)
+        ≡ filled TitleIs (view_word x.0) (collect how Titled (view_words x.1.now)))
         (λ line. collect how Text (view_words tokens.now) ≡ Err line) }
     ensures shorter { IfOk result (λ x. length x.1.now < length tokens.now) }
 {
@@ -102,9 +104,10 @@ fn title<'t, 'a>(
     how: Reading,
 ) -> Result<(Token<'a>, &'t [Token<'a>]), usize>
     requires some { 0 < length tokens.now }
-    requires no_avp { begins (One At) (view_words tokens.now) ≡ false }
+    requires no_avp { begins_with (One At) (view_words tokens.now) ≡ false }
     ensures tells { MatchResult result
-        (λ x. collect how Text (view_words tokens.now) ≡ filled TitleIs (view_word x.0) (collect how Titled (view_words x.1.now)))
+        (λ x. collect how Text (view_words tokens.now)
+        ≡ filled TitleIs (view_word x.0) (collect how Titled (view_words x.1.now)))
         (λ line. collect how Text (view_words tokens.now) ≡ Err line) }
     ensures shorter { IfOk result (λ x. length x.1.now < length tokens.now) }
 {
@@ -129,9 +132,10 @@ fn titled<'t, 'a>(
     how: Reading,
 ) -> Result<(Token<'a>, &'t [Token<'a>]), usize>
     requires some { 0 < length tokens.now }
-    requires no_avp { begins (One At) (view_words tokens.now) ≡ false }
+    requires no_avp { begins_with (One At) (view_words tokens.now) ≡ false }
     ensures tells { MatchResult result
-        (λ x. collect how Text (view_words tokens.now) ≡ filled TitleIs (view_word x.0) (collect how HeadPlace (view_words x.1.now)))
+        (λ x. collect how Text (view_words tokens.now)
+        ≡ filled TitleIs (view_word x.0) (collect how HeadPlace (view_words x.1.now)))
         (λ line. collect how Text (view_words tokens.now) ≡ Err line) }
     ensures shorter { IfOk result (λ x. length x.1.now < length tokens.now) }
 {
@@ -151,9 +155,10 @@ pub(crate) fn opening<'t, 'a>(
     how: Reading,
 ) -> Result<((Token<'a>, Head<'a>), &'t [Token<'a>]), usize>
     requires some { 0 < length tokens.now }
-    requires no_avp { begins (One At) (view_words tokens.now) ≡ false }
+    requires no_avp { begins_with (One At) (view_words tokens.now) ≡ false }
     ensures tells { MatchResult result
-        (λ x. collect how Text (view_words tokens.now) ≡ filled TitleIs (view_word x.0.0) (with_head (view_head x.0.1) (collect how InRule (view_words x.1.now))))
+        (λ x. collect how Text (view_words tokens.now)
+        ≡ filled TitleIs (view_word x.0.0) (with_head (view_head x.0.1) (collect how InRule (view_words x.1.now))))
         (λ line. collect how Text (view_words tokens.now) ≡ Err line) }
     ensures shorter { IfOk result (λ x. length x.1.now < length tokens.now) }
 {

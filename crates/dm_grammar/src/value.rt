@@ -43,7 +43,8 @@ fn value<'t, 'a>(
     how: Reading,
 ) -> Result<((ValueItem<'a>, bool), &'t [Token<'a>]), usize>
     ensures tells { MatchResult result
-        (λ x. collect how ListOpen (view_words tokens.now) ≡ adding_value (view_value x.0.0) (collect how (behind_brace x.0.1) (view_words x.1.now)))
+        (λ x. collect how ListOpen (view_words tokens.now)
+        ≡ adding_value (view_value x.0.0) (collect how (behind_brace x.0.1) (view_words x.1.now)))
         (λ line. collect how ListOpen (view_words tokens.now) ≡ Err line) }
     ensures shorter { IfOk result (λ x. length x.1.now < length tokens.now) }
 {
@@ -69,7 +70,8 @@ pub(crate) fn values<'t, 'a>(
     list: bool,
 ) -> Result<(Vec<ValueItem<'a>>, &'t [Token<'a>]), ItemFault>
     ensures tells { MatchResult result
-        (λ x. collect how (behind_brace list) (view_words tokens.now) ≡ with_values (map view_value x.0.items) (collect how Text (view_words x.1.now)))
+        (λ x. collect how (behind_brace list) (view_words tokens.now)
+        ≡ with_values (map view_value x.0.items) (collect how Text (view_words x.1.now)))
         (λ fault. IfSyntax fault (λ line. collect how (behind_brace list) (view_words tokens.now) ≡ Err line)) }
     ensures shorter { IfOk result (λ x. length x.1.now ≤ length tokens.now) }
 {

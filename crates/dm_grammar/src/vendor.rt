@@ -35,7 +35,8 @@ pub(crate) fn vendor_item<'t, 'a>(
 ) -> Result<(VendorItem<'a>, &'t [Token<'a>]), usize>
     requires { begins_vendor how.version (view_words tokens.now) ≡ true }
     ensures tells { MatchResult result
-        (λ x. collect how AtSign (view_words tokens.now) ≡ adding_item (VendorIs (view_vendor x.0)) (collect how Text (view_words x.1.now)))
+        (λ x. collect how AtSign (view_words tokens.now)
+        ≡ adding_item (VendorIs (view_vendor x.0)) (collect how Text (view_words x.1.now)))
         (λ line. collect how AtSign (view_words tokens.now) ≡ Err line) }
     ensures shorter { IfOk result (λ x. length x.1.now < length tokens.now) }
 {
@@ -62,7 +63,8 @@ pub(crate) fn vendor_told<'a>(
 /// `:` before a vendor's name, where it is there and the text of version 2.
 pub(crate) fn colon<'t, 'a>(tokens: &'t [Token<'a>], how: Reading) -> (bool, &'t [Token<'a>])
     ensures named { result.0 ≡ begins_named how.version (view_words tokens.now) }
-    ensures rest { view_words result.1.now ≡ (if result.0 then drop 1 (view_words tokens.now) else view_words tokens.now) }
+    ensures rest { view_words result.1.now
+        ≡ (if result.0 then drop 1 (view_words tokens.now) else view_words tokens.now) }
     ensures shorter { length result.1.now ≤ length tokens.now }
 {
     match how.version {
@@ -83,7 +85,8 @@ pub(crate) fn vendor_word<'t, 'a>(
     how: Reading,
 ) -> Result<(Option<VendorWord<'a>>, &'t [Token<'a>]), usize>
     ensures tells { (p colon q : GrammarPlace) → VendorPlace how.version p colon q → MatchResult result
-        (λ x. collect how p (view_words tokens.now) ≡ adding_reference (view_reference_option x.0) (collect how q (view_words x.1.now)))
+        (λ x. collect how p (view_words tokens.now)
+        ≡ adding_reference (view_reference_option x.0) (collect how q (view_words x.1.now)))
         (λ line. collect how p (view_words tokens.now) ≡ Err line) }
     ensures shorter { IfOk result (λ x. length x.1.now ≤ length tokens.now) }
 {

@@ -10,8 +10,8 @@ use Rattle.dm_machine.specs.declared.inputs.Word.TheVariants.{Cer}
 use Rattle.dm_machine.specs.declared.outputs.Command.{Command}
 use Rattle.dm_machine.specs.Node.{Node}
 use Rattle.dm_machine.specs.Moves as moves
-use Rattle.dm_machine.specs.Moves.{outcome}
-use Rattle.dm_machine.specs.Connection.{Hold, NotHeld, OpenAsR, hold_of, concern_of, HeardOnIt, Order, SendsCea, orders_to, AtConnection}
+use Rattle.dm_machine.specs.Moves.{machine_outcome}
+use Rattle.dm_machine.specs.Connection.{Hold, NotHeld, OpenAsR, hold_of, concern_of, HeardOnIt, ConnOrder, SendsCea, orders_to, AtConnection}
 use Rattle.dm_machine.specs.Openings.{is_hold, has_order, is_entered, OpensAcceptedWithCea}
 use Rattle.dm_machine.specs.Causes.{IsCaused, EachHoldIsCaused}
 use Rattle.dm_machine.specs.Ordered.{OrdersAreToldApart}
@@ -38,14 +38,14 @@ use Rattle.dm_history.proofs.Stories.{HasHeard, StoryOf}
 
 -- where a connection is taken, a first message is read
 reads : ClosesUnread → (p : Peer) → IsSettled p → (e : PeerEvent) (h : Option Heard) (commands : List Command)
-    (core : Node) → outcome p.standing.core (input_of e h) (wins p.config) ≡ moves.Moved commands core → (c : Conn) →
+    (core : Node) → machine_outcome p.standing.core (input_of e h) (wins p.config) ≡ moves.NodeMoved commands core → (c : Conn) →
     hold_of p.standing.core c ≡ NotHeld → (hold_of core c ≡ NotHeld → ⊥) → (s : List ℕ) → e ≡ Arrived c s →
     reads_first p.standing.core.state ≡ true
 reads closes p was e h commands core o c free held s is = elim (cases_Bool (reads_first p.standing.core.state)) [
   | inl y ↦ y
   | inr y ↦
       let n = p.standing.core in
-      let same = sym o ∙ (ap (λ f. outcome n (input_of f h) (wins p.config)) is
+      let same = sym o ∙ (ap (λ f. machine_outcome n (input_of f h) (wins p.config)) is
       ∙ closes n c (word_heard h) (wins p.config) was.shaped (ap not y) free) in
       let there : core ≡ n = cc same in
       absurd (held (ap (λ k. hold_of k c) there ∙ free))
@@ -60,7 +60,7 @@ pub record TakenByCer (p : Peer) (e : PeerEvent) (h : Option Heard) (c : Conn) :
   pub answered : cer_answered p.standing.waiting h ≡ cer.message.header
 
 pub came_cer : ClosesUnread → (p : Peer) → IsSettled p → (e : PeerEvent) (h : Option Heard) (commands : List Command)
-    (core : Node) → outcome p.standing.core (input_of e h) (wins p.config) ≡ moves.Moved commands core →
+    (core : Node) → machine_outcome p.standing.core (input_of e h) (wins p.config) ≡ moves.NodeMoved commands core →
     AreRead p e h → (c : Conn) → hold_of p.standing.core c ≡ NotHeld → (hold_of core c ≡ NotHeld → ⊥) →
     concern_of (input_of e h) c ≡ HeardOnIt Cer → TakenByCer p e h c
 came_cer closes p was e h commands core o read c free held k =
@@ -83,7 +83,7 @@ base_cer p to m good is =
 
 -- a CEA answers a CER
 cea_to : ClosesUnread → (p : Peer) → IsSettled p → (e : PeerEvent) (h : Option Heard) (commands : List Command)
-    (core : Node) → outcome p.standing.core (input_of e h) (wins p.config) ≡ moves.Moved commands core →
+    (core : Node) → machine_outcome p.standing.core (input_of e h) (wins p.config) ≡ moves.NodeMoved commands core →
     AreRead p e h → (c : Conn) (past : List Happened) (before : Hold) → hold_of p.standing.core c ≡ before →
     hold_of core c ≡ OpenAsR → (before ≡ OpenAsR → ⊥) →
     IsCaused (concern_of (input_of e h) c) before OpenAsR (orders_to c commands) →
@@ -101,7 +101,7 @@ not_before h e same = cc (sym (ap (λ k. not (is_hold OpenAsR k)) same) ∙ e)
 
 pub cea_answers_base : OpensAcceptedWithCea → EachHoldIsCaused → ClosesUnread → (p : Peer) → IsSettled p →
     (e : PeerEvent) (h : Option Heard) (commands : List Command) (core : Node) →
-    outcome p.standing.core (input_of e h) (wins p.config) ≡ moves.Moved commands core → AreRead p e h → (c : Conn)
+    machine_outcome p.standing.core (input_of e h) (wins p.config) ≡ moves.NodeMoved commands core → AreRead p e h → (c : Conn)
     (past : List Happened) → StoryOf p.config p.standing c past (hold_of p.standing.core c) →
     has_order SendsCea (orders_to c commands) ≡ true →
     is_base_command (cer_answered p.standing.waiting h).command ≡ true
@@ -122,8 +122,8 @@ cea_answers_base accepted law closes p was e h commands core o read c past story
 pub prompt_answers_base : AnswersWhatIsHeard → OrdersAreToldApart → (p : Peer) → IsSettled p → (e : PeerEvent)
     (h : Option Heard)
     (commands : List Command) (core : Node) →
-    outcome p.standing.core (input_of e h) (wins p.config) ≡ moves.Moved commands core → AreRead p e h → (c : Conn)
-    (want : Order) → is_prompt want ≡ true → has_order want (orders_to c commands) ≡ true →
+    machine_outcome p.standing.core (input_of e h) (wins p.config) ≡ moves.NodeMoved commands core → AreRead p e h → (c : Conn)
+    (want : ConnOrder) → is_prompt want ≡ true → has_order want (orders_to c commands) ≡ true →
     is_base_command (header_of h).command ≡ true
 prompt_answers_base answers apart p was e h commands core o read c want prompt has =
     let n = p.standing.core in

@@ -4,10 +4,10 @@ use Rattle.std.specs.Prelude.{IsTrue}
 use Rattle.std.proofs.lemmas.Bool.{and_parts, and_from}
 use Rattle.dm_machine.specs.declared.connection.Conn.{Conn}
 use Rattle.dm_machine.specs.declared.outputs.Command.{Command}
-use Rattle.dm_machine.specs.Connection.{NotHeld, hold_of, concern_of, Order, Closes, order_to, with_order, orders_to, AtConnection}
+use Rattle.dm_machine.specs.Connection.{NotHeld, hold_of, concern_of, ConnOrder, Closes, order_to, with_order, orders_to, AtConnection}
 use Rattle.dm_machine.specs.Ordered.{EachCommandIsAnOrder}
 use Rattle.dm_machine.specs.Changes.{EachConnectionChangesAsAllowed}
-use Rattle.dm_machine.specs.Openings.{is_hold, has_order, names_it, is_left_unclosed, ends_at_close, ClosesWhatItGivesUp, LeavesOthersAlone, EndsAtClose}
+use Rattle.dm_machine.specs.Openings.{is_hold, has_order, names_it, is_left_unclosed, ends_in_close, ClosesWhatItGivesUp, LeavesOthersAlone, EndsAtClose}
 use Rattle.dm_peer.specs.declared.actions.Action.{Action}
 use Rattle.dm_peer.specs.declared.actions.Action.TheVariants.{Send, Close}
 use Rattle.dm_peer.specs.declared.config.Config.{Config}
@@ -144,21 +144,21 @@ ended_is_last laws config next past p c lived was =
     }
 
 -- what follows a Close within a step
-ends_further : (o : Option Order) (rest : List Order) → ends_at_close (with_order o rest) ≡ true →
-    ends_at_close rest ≡ true
+ends_further : (o : Option ConnOrder) (rest : List ConnOrder) → ends_in_close (with_order o rest) ≡ true →
+    ends_in_close rest ≡ true
 ends_further None rest e = e
 ends_further (Some o) [] e = refl
 ends_further (Some Closes) (x ∷ rest) e = cc
 ends_further (Some _) (x ∷ rest) e = e
 
-none_behind : (rest : List Order) → ends_at_close (Closes ∷ rest) ≡ true → rest ≡ []
+none_behind : (rest : List ConnOrder) → ends_in_close (Closes ∷ rest) ≡ true → rest ≡ []
 none_behind [] e = refl
 none_behind (x ∷ rest) e = cc
 
 ends_behind : (c : Conn) (a : Command) (before behind : List Command) → order_to c a ≡ Some Closes →
-    ends_at_close (orders_to c (before ++ a ∷ behind)) ≡ true → orders_to c behind ≡ []
+    ends_in_close (orders_to c (before ++ a ∷ behind)) ≡ true → orders_to c behind ≡ []
 ends_behind c a [] behind is e =
-    none_behind (orders_to c behind) (sym (ap (λ o. ends_at_close (with_order o (orders_to c behind))) is) ∙ e)
+    none_behind (orders_to c behind) (sym (ap (λ o. ends_in_close (with_order o (orders_to c behind))) is) ∙ e)
 ends_behind c a (x ∷ before) behind is e =
     ends_behind c a before behind is (ends_further (order_to c x) (orders_to c (before ++ a ∷ behind)) e)
 
@@ -174,12 +174,12 @@ behind_none last orders p was e after c s earlier later (inl t) (first, more, st
     let f = action_of p e t.heard in
     let a = sourced f t.commands (Close c) earlier later (sym t.acted) in
     let b = sourced f a.behind (Send c s) first more (a.rest ∙ stands) in
-    let law : ends_at_close (orders_to c t.commands) ≡ true =
-    subst (AtConnection (λ k before then orders. ends_at_close orders ≡ true) n i c) t.moves
+    let law : ends_in_close (orders_to c t.commands) ≡ true =
+    subst (AtConnection (λ k before then orders. ends_in_close orders ≡ true) n i c) t.moves
     (last n i (wins p.config) c was.shaped) in
     sent_none orders p e t.heard a.behind c s b.command (b.before, b.behind, b.stands) b.gives
     (ends_behind c a.command a.before a.behind (closes_order p e t.heard a.command c a.gives)
-    (sym (ap (λ l. ends_at_close (orders_to c l)) a.stands) ∙ law))
+    (sym (ap (λ l. ends_in_close (orders_to c l)) a.stands) ∙ law))
 
 pub nothing_follows : CloseLaws → NothingFollowsClose
 nothing_follows laws config next past p e after c s earlier later lived is there =

@@ -6,7 +6,7 @@ use Rattle.dm_machine.specs.Openings.{names_it}
 use Rattle.dm_peer.specs.Events.{PeerEvent, Start, Ack, Nack, Arrived, Gone}
 use Rattle.dm_peer.specs.Said.{Heard, word_heard}
 use Rattle.dm_peer.specs.Acts.{input_of}
-use Rattle.dm_history.specs.Naming.{names_conn, tells_made, tells_end}
+use Rattle.dm_history.specs.Naming.{names_conn, tells_made, event_ends}
 
 abbrev pub is_end : Concern → Bool
 is_end NacksIt = true
@@ -37,7 +37,7 @@ names_as (Gone d) h c = if_so names_it refl (d.0 == c.0) EndsIt refl
 names_as (Arrived d s) h c = if_so names_it refl (d.0 == c.0) (HeardOnIt (word_heard h)) refl
 names_as _ h c = refl
 
-pub ends_as : (e : PeerEvent) (h : Option Heard) (c : Conn) → is_end (concern_of (input_of e h) c) ≡ tells_end e c
+pub ends_as : (e : PeerEvent) (h : Option Heard) (c : Conn) → is_end (concern_of (input_of e h) c) ≡ event_ends e c
 ends_as (Start d) h c = if_not is_end refl (d.0 == c.0) StartsIt refl
 ends_as (Ack d) h c = if_not is_end refl (d.0 == c.0) AcksIt refl
 ends_as (Nack d) h c = if_so is_end refl (d.0 == c.0) NacksIt refl

@@ -4,9 +4,9 @@ use Rattle.std.proofs.lemmas.Bool.{and_parts, cases_Bool, eqb-true}
 use Rattle.dm_machine.specs.declared.connection.Conn.{Conn}
 use Rattle.dm_machine.specs.Node.{Node}
 use Rattle.dm_machine.specs.Forms.{EachShapeIsAForm}
-use Rattle.dm_machine.specs.Reading.{place_in, named_by}
+use Rattle.dm_machine.specs.Reading.{place_in, conn_named}
 use Rattle.dm_machine.specs.Moves as moves
-use Rattle.dm_machine.specs.Moves.{Outcome, is_open, outcome}
+use Rattle.dm_machine.specs.Moves.{NodeOutcome, is_open, machine_outcome}
 use Rattle.dm_machine.specs.Connection.{hold_of, concern_of}
 use Rattle.dm_machine.specs.Upward.{is_open_hold}
 use Rattle.dm_machine.specs.EachStep.{StepTest, everywhere, passes_of, EachStepHolds}
@@ -44,9 +44,9 @@ lasts law kept first past p c was (declined older q e lived) opened none =
     lasts law kept first older q c was lived opened (and_parts (never_ends first c older) true none).0
 
 -- an open state is entered with the count 0
-abbrev begins_at : Outcome → Bool
-begins_at (moves.Moved commands next) = not (is_open next.state) || (next.count == 0)
-begins_at (moves.Refused r) = true
+abbrev begins_at : NodeOutcome → Bool
+begins_at (moves.NodeMoved commands next) = not (is_open next.state) || (next.count == 0)
+begins_at (moves.NodeRefused r) = true
 
 abbrev enters_at_zero : StepTest
 enters_at_zero n at i o = is_open n.state || begins_at o
@@ -100,8 +100,8 @@ opened_now law few p was e actions next later (inl t) c free opened =
     let state = ap (λ m. is_open m.state) here
     ∙ state_open next.standing.core (law next.standing.core later.shaped) c opened in
     let shut = shut_before law p was e actions next later t c free now state in
-    let test : enters_at_zero n (place_in n (named_by i)) i (moves.Moved t.commands t.core) ≡ true =
-    subst (λ (o : Outcome). enters_at_zero n (place_in n (named_by i)) i o ≡ true) t.moves
+    let test : enters_at_zero n (place_in n (conn_named i)) i (moves.NodeMoved t.commands t.core) ≡ true =
+    subst (λ (o : NodeOutcome). enters_at_zero n (place_in n (conn_named i)) i o ≡ true) t.moves
     (few enters_at_zero entered n i (wins p.config) was.shaped) in
     ap (λ m. m.count) (sym here) ∙ zero_at (is_open n.state) (is_open t.core.state) t.core.count test shut state
 

@@ -16,7 +16,7 @@ use Rattle.dm_peer.specs.Sent.{action_of}
 use Rattle.dm_peer.specs.Acts.{Moved, input_of, is_made}
 use Rattle.dm_peer.specs.Settled.{IsSettled}
 use Rattle.dm_history.specs.History.{Happened, done_at, declined_at, StandsAmong}
-use Rattle.dm_history.specs.Naming.{IsClosing, IsEnding}
+use Rattle.dm_history.specs.Naming.{IsClosing, HasEnded}
 use Rattle.dm_history.specs.Opened.{HasArrived}
 use Rattle.dm_history.proofs.Among.{mapped}
 use Rattle.dm_history.proofs.Concerns.{is_end, ends_as}
@@ -59,7 +59,7 @@ ended_now : ClosesWhatItGivesUp → EachOrderIsACommand → (p : Peer) → IsSet
     (actions : List Action) (next : Peer) →
     (t : IsTurn p e actions next) → (c : Conn) → hold_of t.core c ≡ NotHeld →
     is_hold NotHeld (hold_of p.standing.core c) ≡ false →
-    IsClosing c (done_at e actions) ⊎ IsEnding c (done_at e actions)
+    IsClosing c (done_at e actions) ⊎ HasEnded c (done_at e actions)
 ended_now closed orders p was e actions next t c free held =
     let k = concern_of (input_of e t.heard) c in
     let before = hold_of p.standing.core c in

@@ -13,7 +13,7 @@ use Rattle.dm_machine.specs.declared.outputs.Command.TheVariants as command
 use Rattle.dm_machine.specs.Node.{Node}
 use Rattle.dm_machine.specs.Forms.{Form}
 use Rattle.dm_machine.specs.Moves as moves
-use Rattle.dm_machine.specs.Moves.{outcome}
+use Rattle.dm_machine.specs.Moves.{machine_outcome}
 use Rattle.dm_machine.specs.Connection.{Hold, NotHeld, Pending, Made, OpenAsI, ClosingAsI, Taken, OpenAsR, ClosingAsR, hold_of, HeardOnIt, concern_of, SendsCer, SendsCea, if_ordered, orders_to, AtConnection}
 use Rattle.dm_machine.specs.Openings.{is_hold, has_order, is_ack}
 use Rattle.dm_machine.specs.Causes.{IsCaused}
@@ -48,7 +48,7 @@ unawaited_made p c m made e = sym (ap (λ h. is_made h && is_unawaited p.standin
 module _ (laws : StepLaws) (p : Peer) (e : PeerEvent) (h : Option Heard) (commands : List Command) (core : Node)
     (past : List Happened) (before : IsTold p past)
     (settled : IsSettled (standing_at p (standing_after p.standing h (request_in commands) core)))
-    (o : outcome p.standing.core (input_of e h) (wins p.config) ≡ moves.Moved commands core) (read : AreRead p e h)
+    (o : machine_outcome p.standing.core (input_of e h) (wins p.config) ≡ moves.NodeMoved commands core) (read : AreRead p e h)
     (c : Conn) where
   abbrev n : Node
   n = p.standing.core

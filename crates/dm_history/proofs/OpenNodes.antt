@@ -17,8 +17,8 @@ use Rattle.dm_machine.specs.Forms.{Form, closed, wait_conn_ack, wait_i_cea, wait
 use Rattle.dm_machine.specs.Reading.{Place, OnX, OnNew, place_of, first_message, message_on_x, message_event, connect_event, end_event}
 use Rattle.dm_machine.specs.Table as table
 use Rattle.dm_machine.specs.declared.outputs.Command.{Command}
-use Rattle.dm_machine.specs.Moves.{Outcome, Moved, Refused, is_open, outcome, by_table}
-use Rattle.dm_machine.specs.Connection.{Hold, NotHeld, Pending, Made, OpenAsI, ClosingAsI, Taken, OpenAsR, ClosingAsR, hold_as, hold_of, Concern, Stops, Ticks, AcksIt, NacksIt, EndsIt, HeardOnIt, if_named, concern_of}
+use Rattle.dm_machine.specs.Moves.{NodeOutcome, NodeMoved, NodeRefused, is_open, machine_outcome, by_table}
+use Rattle.dm_machine.specs.Connection.{Hold, NotHeld, Pending, Made, OpenAsI, ClosingAsI, Taken, OpenAsR, ClosingAsR, hold_as, hold_of, Concern, AsksStop, SaysTick, AcksIt, NacksIt, EndsIt, HeardOnIt, if_named, concern_of}
 use Rattle.dm_machine.specs.Upward.{is_open_hold}
 use Rattle.dm_history.proofs.SameConn.{same_conn, same_number}
 
@@ -37,8 +37,8 @@ keeps_open _ = false
 
 -- the count with which it does
 abbrev pub kept_count : ℕ → Concern → Option ℕ
-kept_count k Stops = None
-kept_count k Ticks = if k == 2 then None else Some (k + 1)
+kept_count k AsksStop = None
+kept_count k SaysTick = if k == 2 then None else Some (k + 1)
 kept_count k EndsIt = None
 kept_count k (HeardOnIt w) = if keeps_open w then Some 0 else None
 kept_count k _ = Some k
@@ -47,12 +47,12 @@ abbrev pub LeftAs : Role → Conn → Option ℕ → Node → Type 0
 LeftAs role c (Some k) next = next ≡ open_node role c k
 LeftAs role c None next = is_open next.state ≡ false
 
-abbrev pub LeavesNode : Role → Conn → Option ℕ → Outcome → Type 0
-LeavesNode role c m (Moved commands next) = LeftAs role c m next
-LeavesNode role c m (Refused r) = ⊤
+abbrev pub LeavesNode : Role → Conn → Option ℕ → NodeOutcome → Type 0
+LeavesNode role c m (NodeMoved commands next) = LeftAs role c m next
+LeavesNode role c m (NodeRefused r) = ⊤
 
 at_tick : (role : Role) (c : Conn) (k : ℕ) → IsTrue (nat_le k 2) → (wins : Bool) →
-    LeavesNode role c (kept_count k Ticks) (outcome (open_node role c k) input.Tick wins)
+    LeavesNode role c (kept_count k SaysTick) (machine_outcome (open_node role c k) input.Tick wins)
 at_tick Initiated c zero few wins = refl
 at_tick Initiated c (suc zero) few wins = refl
 at_tick Initiated c (suc (suc zero)) few wins = refl
@@ -160,7 +160,7 @@ open_connects role c k d wins e q kept =
 
 -- an open node after each input
 pub open_step : (role : Role) (c : Conn) (k : ℕ) → IsTrue (nat_le k 2) → (i : Input) (wins : Bool) →
-    LeavesNode role c (kept_count k (concern_of i c)) (outcome (open_node role c k) i wins)
+    LeavesNode role c (kept_count k (concern_of i c)) (machine_outcome (open_node role c k) i wins)
 open_step Initiated c k few (input.Start d) wins = tt
 open_step Accepted c k few (input.Start d) wins = tt
 open_step Initiated c k few input.Stop wins = refl
@@ -173,14 +173,14 @@ open_step role c k few input.Tick wins = at_tick role c k few wins
 open_step role c k few (input.Ack d) wins = open_connects role c k d wins table.IRcvConnAck AcksIt refl
 open_step role c k few (input.Nack d) wins = open_connects role c k d wins table.IRcvConnNack NacksIt refl
 open_step role c k few (input.Gone d) wins =
-    subst (λ b. LeavesNode role c (kept_count k (if_named b EndsIt)) (outcome (open_node role c k) (input.Gone d) wins))
+    subst (λ b. LeavesNode role c (kept_count k (if_named b EndsIt)) (machine_outcome (open_node role c k) (input.Gone d) wins))
     (flip_same c.0 d.0)
     (subst (λ at. LeavesNode role c (kept_count k (if_named (c.0 == d.0) EndsIt))
     (by_table (open_node role c k) (end_event (open_as role) at) (Some d) wins)) (sym (at_place role c d))
     (gone_by role c k d wins (c.0 == d.0)))
 open_step role c k few (input.Heard d w) wins =
     subst (λ b. LeavesNode role c (kept_count k (if_named b (HeardOnIt w)))
-    (outcome (open_node role c k) (input.Heard d w) wins)) (flip_same c.0 d.0)
+    (machine_outcome (open_node role c k) (input.Heard d w) wins)) (flip_same c.0 d.0)
     (subst (λ at. LeavesNode role c (kept_count k (if_named (c.0 == d.0) (HeardOnIt w)))
     (by_table (open_node role c k) (message_event (open_as role) w at) (Some d) wins)) (sym (at_place role c d))
     (heard_by role c k d w wins (c.0 == d.0)))
@@ -270,9 +270,9 @@ none_open n form c shut = elim (cases_Bool (is_open_hold (hold_of n c))) [
 
 -- after a step
 pub step_leaves : (n : Node) → Form n → (c : Conn) → (f : OpenForm n c) → (i : Input) (wins : Bool)
-    (commands : List Command) (next : Node) → outcome n i wins ≡ Moved commands next →
+    (commands : List Command) (next : Node) → machine_outcome n i wins ≡ NodeMoved commands next →
     LeftAs f.role c (kept_count n.count (concern_of i c)) next
 step_leaves n form c f i wins commands next o =
     subst (LeavesNode f.role c (kept_count n.count (concern_of i c))) o
-    (subst (λ (m : Node). LeavesNode f.role c (kept_count m.count (concern_of i c)) (outcome m i wins)) (sym f.is)
+    (subst (λ (m : Node). LeavesNode f.role c (kept_count m.count (concern_of i c)) (machine_outcome m i wins)) (sym f.is)
     (open_step f.role c f.count f.few i wins))

@@ -14,7 +14,7 @@ use Rattle.dm_machine.specs.declared.inputs.Word.{Word}
 use Rattle.dm_machine.specs.declared.inputs.Word.TheVariants.{Unreadable, Other}
 use Rattle.dm_machine.specs.declared.outputs.Command.{Command}
 use Rattle.dm_machine.specs.declared.outputs.Command.TheVariants as command
-use Rattle.dm_machine.specs.Connection.{Concern, HeardOnIt, Order, SendsCer, SendsCea, SendsRefusal, SendsDwr, SendsDwa, SendsDpr, SendsDpa, SendsSubmit, Closes, if_ordered, order_to}
+use Rattle.dm_machine.specs.Connection.{Concern, HeardOnIt, ConnOrder, SendsCer, SendsCea, SendsRefusal, SendsDwr, SendsDwa, SendsDpr, SendsDpa, SendsSubmit, Closes, if_ordered, order_to}
 use Rattle.dm_machine.specs.Openings.{is_order, has_order}
 use Rattle.dm_machine.specs.Ordered.{OrdersAreToldApart}
 use Rattle.dm_machine.specs.Answering.{is_prompt, asks_for, has_its_request}
@@ -24,12 +24,12 @@ use Rattle.dm_peer.specs.Events.{PeerEvent, octets_in, cause_in}
 use Rattle.dm_peer.specs.Octets.{octets_of}
 use Rattle.dm_peer.specs.Said.{Heard}
 use Rattle.dm_peer.specs.Sent.{action_of, answer_by, refusal, is_protocol_error, header_of, fault_in, cer_answered}
-use Rattle.dm_history.specs.Carrying.{cer, dwr, dpr, cea, answer, error, AreOwn}
+use Rattle.dm_history.specs.Carrying.{cer, dwr, dpr, cea, answer, error_answer, AreOwn}
 use Rattle.dm_history.proofs.SameConn.{is_conn}
 
 -- a command that sends on a connection is an order of it, and one that closes it closes it
 pub sends_order : (p : Peer) (e : PeerEvent) (h : Option Heard) (a : Command) (c : Conn) (s : List ℕ) →
-    action_of p e h a ≡ Send c s → (o : Order) × (order_to c a ≡ Some o)
+    action_of p e h a ≡ Send c s → (o : ConnOrder) × (order_to c a ≡ Some o)
 sends_order p e h (command.SendCer d) c s is = (SendsCer, ap (λ b. if_ordered b SendsCer) (is_conn d c (cc is)))
 sends_order p e h (command.SendCea d) c s is = (SendsCea, ap (λ b. if_ordered b SendsCea) (is_conn d c (cc is)))
 sends_order p e h (command.SendRefusal d) c s is =
@@ -53,7 +53,7 @@ up_command p e h command.Up s is = (refl, cc is)
 up_command p e h _ s is = absurd (cc is)
 
 -- an order that answers what is heard, with what it answers
-each_has : OrdersAreToldApart → (k : Concern) (o : Order) (orders : List Order) → list_all
+each_has : OrdersAreToldApart → (k : Concern) (o : ConnOrder) (orders : List ConnOrder) → list_all
     (has_its_request k) orders ≡ true →
     has_order o orders ≡ true → has_its_request k o ≡ true
 each_has apart k o [] all has = absurd (cc has)
@@ -64,22 +64,22 @@ each_has apart k o (x ∷ rest) all has =
       | inr r ↦ each_has apart k o rest both.1 r
     ]
 
-abbrev IsAskedFor : Concern → Order → Type 0
+abbrev IsAskedFor : Concern → ConnOrder → Type 0
 IsAskedFor k o = (w : Word) × (k ≡ HeardOnIt w) × (asks_for w o ≡ true)
 
-prompted : (k : Concern) (o : Order) → has_its_request k o ≡ true → is_prompt o ≡ true → IsAskedFor k o
+prompted : (k : Concern) (o : ConnOrder) → has_its_request k o ≡ true → is_prompt o ≡ true → IsAskedFor k o
 prompted (HeardOnIt w) o has prompt = (w, refl, sym (ap (λ b. not b || asks_for w o) prompt) ∙ has)
 prompted _ o has prompt = absurd (cc (prompt, has))
 
-pub asked_for : OrdersAreToldApart → (k : Concern) (o : Order) (orders : List Order) → list_all
+pub asked_for : OrdersAreToldApart → (k : Concern) (o : ConnOrder) (orders : List ConnOrder) → list_all
     (has_its_request k) orders ≡ true →
     is_prompt o ≡ true → has_order o orders ≡ true → IsAskedFor k o
 asked_for apart k o orders all prompt has = prompted k o (each_has apart k o orders all has) prompt
 
-pub asks_base : (w : Word) (o : Order) → asks_for w o ≡ true → Other ≡ w → ⊥
+pub asks_base : (w : Word) (o : ConnOrder) → asks_for w o ≡ true → Other ≡ w → ⊥
 asks_base w o asks same = cc (ap (λ v. asks_for v o) same ∙ asks)
 
-pub asks_readable : (w : Word) (o : Order) → asks_for w o ≡ true → Unreadable ≡ w → ⊥
+pub asks_readable : (w : Word) (o : ConnOrder) → asks_for w o ≡ true → Unreadable ≡ w → ⊥
 asks_readable w o asks same = cc (ap (λ v. asks_for v o) same ∙ asks)
 
 -- what a command sends
@@ -91,7 +91,7 @@ answer_own n to f base =
 refused_own : (n : base_node.Node) (to : Header) (f : Fault) → is_base_command to.command ≡ true → (protocol : Bool)
     (o : Option BaseCommand) → AreOwn n (octets_of (if protocol then built_error n to f.code else answer_by o n to f))
 refused_own n to f base true o =
-    record { message = built_error n to f.code; own = error to f.code; base = base; spelled = refl }
+    record { message = built_error n to f.code; own = error_answer to f.code; base = base; spelled = refl }
 refused_own n to f base false (Some CapabilitiesExchange) =
     record { message = built_cea n to f.code f.failed; own = cea to f.code f.failed; base = base; spelled = refl }
 refused_own n to f base false (Some DeviceWatchdog) = answer_own n to f base
@@ -105,7 +105,7 @@ own_as n s t own is = subst (AreOwn n) is own
 abbrev pub AnswersBase : Peer → Option Heard → Conn → Command → Type 0
 AnswersBase p h c a =
     (order_to c a ≡ Some SendsCea → is_base_command (cer_answered p.standing.waiting h).command ≡ true)
-    × ((o : Order) → order_to c a ≡ Some o → is_prompt o ≡ true → is_base_command (header_of h).command ≡ true)
+    × ((o : ConnOrder) → order_to c a ≡ Some o → is_prompt o ≡ true → is_base_command (header_of h).command ≡ true)
 
 pub own_sent : (p : Peer) (e : PeerEvent) (h : Option Heard) (c : Conn) (s : List ℕ) (a : Command) →
     action_of p e h a ≡ Send c s → AnswersBase p h c a →

@@ -12,7 +12,7 @@ use Rattle.dm_machine.specs.Node.{Node}
 use Rattle.dm_machine.specs.Forms.{Form, EachShapeIsAForm}
 use Rattle.dm_machine.specs.Awaiting.{awaits_cea, awaits_dpa}
 use Rattle.dm_machine.specs.Moves as moves
-use Rattle.dm_machine.specs.Moves.{is_open, outcome}
+use Rattle.dm_machine.specs.Moves.{is_open, machine_outcome}
 use Rattle.dm_machine.specs.Connection.{Hold, OpenAsI, OpenAsR, hold_of, Concern, StartsIt, AcksIt, NacksIt, EndsIt, HeardOnIt, if_named, concern_of}
 use Rattle.dm_machine.specs.Upward.{is_open_hold}
 use Rattle.dm_peer.specs.declared.actions.Action.{Action}
@@ -21,7 +21,7 @@ use Rattle.dm_peer.specs.Events.{PeerEvent, Start, Stop, Timeout, Tick, Ack, Nac
 use Rattle.dm_peer.specs.Configs.{wins}
 use Rattle.dm_peer.specs.Said.{Heard, heard_in}
 use Rattle.dm_peer.specs.Acts.{Outcome, Moved, acts, input_of, outcome_of, turned, steps, is_made, is_unread, is_unawaited, is_dropped}
-use Rattle.dm_peer.specs.Cases.{is_deaf, is_bare, Hears, unread, no_message, message, submits, bare, Case, step, drop, refusal, EachEventIsACase}
+use Rattle.dm_peer.specs.Cases.{is_deaf, is_bare, Hears, unread, no_message, message, submits_it, bare, Case, step, drop, refusal, EachEventIsACase}
 use Rattle.dm_peer.specs.Silence.{drops}
 use Rattle.dm_peer.specs.Settled.{IsSettled, EachEventKeepsSettled}
 use Rattle.dm_history.specs.Carrying.{StandsOpen}
@@ -54,19 +54,19 @@ left_count n form c f None next after shut =
 -- the step of the state machine behind an outcome
 record StepMade (p : Peer) (e : PeerEvent) (h : Option Heard) (next : Peer) : Type 0 where
   pub commands : List Command
-  pub moves : outcome p.standing.core (input_of e h) (wins p.config) ≡ moves.Moved commands next.standing.core
+  pub moves : machine_outcome p.standing.core (input_of e h) (wins p.config) ≡ moves.NodeMoved commands next.standing.core
 
 same_core : (a b : List Action) (p q : Peer) → Moved a p ≡ Moved b q → p.standing.core ≡ q.standing.core
 same_core a b p q e = cc e
 
-made_by : (p : Peer) (e : PeerEvent) (h : Option Heard) (actions : List Action) (next : Peer) (o : moves.Outcome) →
-    outcome p.standing.core (input_of e h) (wins p.config) ≡ o → outcome_of p e h o ≡ Moved actions next →
+made_by : (p : Peer) (e : PeerEvent) (h : Option Heard) (actions : List Action) (next : Peer) (o : moves.NodeOutcome) →
+    machine_outcome p.standing.core (input_of e h) (wins p.config) ≡ o → outcome_of p e h o ≡ Moved actions next →
     StepMade p e h next
-made_by p e h actions next (moves.Refused r) o is = absurd (cc is)
-made_by p e h actions next (moves.Moved commands core) o is =
+made_by p e h actions next (moves.NodeRefused r) o is = absurd (cc is)
+made_by p e h actions next (moves.NodeMoved commands core) o is =
     record {
       commands = commands;
-      moves = o ∙ ap (moves.Moved commands) (same_core _ actions _ next is);
+      moves = o ∙ ap (moves.NodeMoved commands) (same_core _ actions _ next is);
     }
 
 step_made : (p : Peer) (e : PeerEvent) (h : Option Heard) (actions : List Action) (next : Peer) →
@@ -184,7 +184,7 @@ said_count law p was c opened e h (message d s m read is kept) =
     (taken_there p c d m opened kept (same_conn d c same))
     ∙ sym (ap (λ o. not (ends_at_message p.config o)) is))
     (λ same. ap (drops p c) is ∙ (ap (λ x. is_dropped p x m.header) (sym (same_conn d c same)) ∙ kept))
-said_count law p was c opened e h (submits s state can) = refl
+said_count law p was c opened e h (submits_it s state can) = refl
 said_count law p was c opened e h (bare f is) = by_bare p c f is
 
 -- an answer that is dropped has no R bit

@@ -7,7 +7,7 @@ use Rattle.dm_machine.specs.declared.inputs.Input.TheVariants as input
 use Rattle.dm_machine.specs.declared.outputs.Command.TheVariants.{SendSubmit}
 use Rattle.dm_machine.specs.Forms.{EachShapeIsAForm}
 use Rattle.dm_machine.specs.Moves as moves
-use Rattle.dm_machine.specs.Moves.{is_open, outcome}
+use Rattle.dm_machine.specs.Moves.{is_open, machine_outcome}
 use Rattle.dm_machine.specs.Connection.{hold_of}
 use Rattle.dm_machine.specs.Upward.{is_open_hold}
 use Rattle.dm_peer.specs.declared.actions.Action.{Action}
@@ -25,7 +25,7 @@ use Rattle.dm_history.proofs.OpenNodes.{open_node, state_form, opens_itself}
 
 -- the step of an open node at a Submit
 submit_step : (role : Role) (c : Conn) (k : ℕ) (w : Bool) →
-    outcome (open_node role c k) input.Submit w ≡ moves.Moved (SendSubmit c ∷ []) (open_node role c k)
+    machine_outcome (open_node role c k) input.Submit w ≡ moves.NodeMoved (SendSubmit c ∷ []) (open_node role c k)
 submit_step Initiated c k w = refl
 submit_step Accepted c k w = refl
 
@@ -42,7 +42,7 @@ submit_sent law p s actions next was is =
     let f = x.1 in
     let node = open_node f.role c f.count in
     let out = turned_is n input.Submit (wins p.config)
-    ∙ (ap (λ m. outcome m input.Submit (wins p.config)) f.is ∙ submit_step f.role c f.count (wins p.config)) in
+    ∙ (ap (λ m. machine_outcome m input.Submit (wins p.config)) f.is ∙ submit_step f.role c f.count (wins p.config)) in
     let all = sym (ap (outcome_of p e None) out) ∙ taken.1 in
     record {
       conn = c;

@@ -10,7 +10,7 @@ use Rattle.dm_machine.specs.declared.outputs.Command.{Command}
 use Rattle.dm_machine.specs.Node.{Node}
 use Rattle.dm_machine.specs.Connection.{hold_of}
 use Rattle.dm_machine.specs.Moves as moves
-use Rattle.dm_machine.specs.Moves.{is_open, outcome}
+use Rattle.dm_machine.specs.Moves.{is_open, machine_outcome}
 use Rattle.dm_peer.specs.declared.actions.Action.{Action}
 use Rattle.dm_peer.specs.declared.fault.PeerFault.TheVariants.{NotOpen, BadSubmit}
 use Rattle.dm_peer.specs.declared.peer.Peer.{Peer}
@@ -19,9 +19,9 @@ use Rattle.dm_peer.specs.Configs.{wins}
 use Rattle.dm_peer.specs.Said.{Heard, heard_in}
 use Rattle.dm_peer.specs.Sent.{actions_of}
 use Rattle.dm_peer.specs.After.{request_in, standing_after}
-use Rattle.dm_peer.specs.Acts.{Outcome, Moved, Refused, acts, turned, input_of, outcome_of, standing_at, steps, is_unread, is_made, is_unawaited, is_dropped, heard, can_submit}
+use Rattle.dm_peer.specs.Acts.{Outcome, Moved, Refused, acts, turned, input_of, outcome_of, standing_at, steps, is_unread, is_made, is_unawaited, is_dropped, heard_outcome, can_submit}
 
-pub turned_is : (n : Node) (i : Input) (w : Bool) → turned n i w ≡ outcome n i w
+pub turned_is : (n : Node) (i : Input) (w : Bool) → turned n i w ≡ machine_outcome n i w
 unfolding turned
 turned_is n i w = refl
 
@@ -43,7 +43,7 @@ pub record IsTurn (p : Peer) (e : PeerEvent) (actions : List Action) (next : Pee
   pub heard : Option Heard
   pub commands : List Command
   pub core : Node
-  pub moves : outcome p.standing.core (input_of e heard) (wins p.config) ≡ moves.Moved commands core
+  pub moves : machine_outcome p.standing.core (input_of e heard) (wins p.config) ≡ moves.NodeMoved commands core
   pub acted : actions ≡ actions_of p e heard commands
   pub stands : next ≡ standing_at p (standing_after p.standing heard (request_in commands) core)
   pub read : AreRead p e heard
@@ -61,10 +61,10 @@ abbrev pub TurnsAs : Peer → PeerEvent → Outcome → Type 0
 TurnsAs p e (Moved actions next) = IsTurn p e actions next ⊎ DropsAnswer p e actions next
 TurnsAs p e (Refused f) = ⊤
 
-by_outcome : (p : Peer) (e : PeerEvent) (h : Option Heard) → AreRead p e h → (o : moves.Outcome) →
-    outcome p.standing.core (input_of e h) (wins p.config) ≡ o → TurnsAs p e (outcome_of p e h o)
-by_outcome p e h read (moves.Refused r) is = tt
-by_outcome p e h read (moves.Moved commands core) is =
+by_outcome : (p : Peer) (e : PeerEvent) (h : Option Heard) → AreRead p e h → (o : moves.NodeOutcome) →
+    machine_outcome p.standing.core (input_of e h) (wins p.config) ≡ o → TurnsAs p e (outcome_of p e h o)
+by_outcome p e h read (moves.NodeRefused r) is = tt
+by_outcome p e h read (moves.NodeMoved commands core) is =
     inl (record {
       heard = h;
       commands = commands;
@@ -108,12 +108,12 @@ dropping p c s m is false drop =
     })
 
 reading : (p : Peer) (c : Conn) (s : List ℕ) (o : Option Message) → message_in s ≡ o →
-    TurnsAs p (Arrived c s) (heard p (Arrived c s) c o)
+    TurnsAs p (Arrived c s) (heard_outcome p (Arrived c s) c o)
 reading p c s None is = step p (Arrived c s)
 reading p c s (Some m) is = dropping p c s m is (is_dropped p c m.header) refl
 
 arriving : (p : Peer) (c : Conn) (s : List ℕ) (unread : Bool) →
-    TurnsAs p (Arrived c s) (if unread then steps p (Arrived c s) None else heard p (Arrived c s) c (message_in s))
+    TurnsAs p (Arrived c s) (if unread then steps p (Arrived c s) None else heard_outcome p (Arrived c s) c (message_in s))
 arriving p c s true = step p (Arrived c s)
 arriving p c s false = reading p c s (message_in s) refl
 

@@ -6,7 +6,7 @@ use Rattle.std.proofs.lemmas.List.Elements.{All-contains}
 use Rattle.std.proofs.lemmas.List.Sums.{AllPass-from_list_all}
 use Rattle.dm_machine.specs.declared.connection.Conn.{Conn}
 use Rattle.dm_machine.specs.Connection.{Hold, NotHeld, Pending, hold_of, Concern, AcksIt, NacksIt, EndsIt, HeardOnIt, if_named, concern_of, orders_to, AtConnection}
-use Rattle.dm_machine.specs.Changes.{Change, change, allowed, at_nack, at_end, EachConnectionChangesAsAllowed}
+use Rattle.dm_machine.specs.Changes.{Change, changed_to, allowed, at_nack, at_end, EachConnectionChangesAsAllowed}
 use Rattle.dm_machine.specs.Openings.{is_hold}
 use Rattle.dm_peer.specs.declared.actions.Action.{Action}
 use Rattle.dm_peer.specs.declared.config.Config.{Config}
@@ -16,7 +16,7 @@ use Rattle.dm_peer.specs.Configs.{wins}
 use Rattle.dm_peer.specs.Acts.{Moved, input_of}
 use Rattle.dm_peer.specs.Settled.{IsSettled, FreshIsSettled, EachEventKeepsSettled}
 use Rattle.dm_history.specs.History.{Happened, new_peer, Became, untold, done, declined, Once}
-use Rattle.dm_history.specs.Naming.{tells_made, tells_end, NacksUnmade}
+use Rattle.dm_history.specs.Naming.{tells_made, event_ends, NacksUnmade}
 use Rattle.dm_history.proofs.Concerns.{is_making, makes_as}
 use Rattle.dm_history.proofs.Turning.{IsTurn, TurnsAs, turns}
 use Rattle.dm_history.proofs.Holding.{is_free}
@@ -55,20 +55,20 @@ gone_listed _ = refl
 passes : EachConnectionChangesAsAllowed → (p : Peer) → IsSettled p → (e : PeerEvent) (actions : List Action)
     (next : Peer) → (t : IsTurn p e actions next) → (c : Conn) (k : Concern) → concern_of (input_of e t.heard) c ≡ k →
     (test : Change → Bool) → list_all test (allowed k (hold_of p.standing.core c)) ≡ true →
-    test (change (hold_of t.core c) (orders_to c t.commands)) ≡ true
+    test (changed_to (hold_of t.core c) (orders_to c t.commands)) ≡ true
 passes changes p was e actions next t c k is test all =
     let n = p.standing.core in
     let i = input_of e t.heard in
-    let x = change (hold_of t.core c) (orders_to c t.commands) in
+    let x = changed_to (hold_of t.core c) (orders_to c t.commands) in
     let there : Contains (allowed (concern_of i c) (hold_of n c)) x =
-    subst (AtConnection (λ j before after orders. Contains (allowed j before) (change after orders)) n i c) t.moves
+    subst (AtConnection (λ j before after orders. Contains (allowed j before) (changed_to after orders)) n i c) t.moves
     (changes n i (wins p.config) c was.shaped) in
     let list = allowed k (hold_of n c) in
     All-contains (λ y. test y ≡ true) list x (AllPass-from_list_all test list all)
     (subst (λ j. Contains (allowed j (hold_of n c)) x) is there)
 
 pub ended_free : EachConnectionChangesAsAllowed → (p : Peer) → IsSettled p → (e : PeerEvent) (actions : List Action)
-    (next : Peer) (c : Conn) (past : List Happened) → tells_end e c ≡ true → NacksUnmade c e past →
+    (next : Peer) (c : Conn) (past : List Happened) → event_ends e c ≡ true → NacksUnmade c e past →
     ((Once (λ x earlier. tells_made x.event c ≡ true) past → ⊥) → is_unmade (hold_of p.standing.core c) ≡ true) →
     TurnsAs p e (Moved actions next) → hold_of next.standing.core c ≡ NotHeld
 ended_free changes p was (Nack d) actions next c past named first unmade (inl t) =

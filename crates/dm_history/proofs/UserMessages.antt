@@ -12,7 +12,7 @@ use Rattle.dm_machine.specs.declared.outputs.Command.{Command}
 use Rattle.dm_machine.specs.declared.outputs.Command.TheVariants as command
 use Rattle.dm_machine.specs.Node.{node_at}
 use Rattle.dm_machine.specs.Moves as moves
-use Rattle.dm_machine.specs.Moves.{outcome}
+use Rattle.dm_machine.specs.Moves.{machine_outcome}
 use Rattle.dm_machine.specs.Connection.{Hold, OpenAsI, OpenAsR, hold_of, concern_of, SendsCea, SendsSubmit, orders_to, AtConnection}
 use Rattle.dm_machine.specs.Openings.{has_order, OpensAcceptedWithCea}
 use Rattle.dm_machine.specs.Answering.{AnswersWhatIsHeard}
@@ -26,7 +26,7 @@ use Rattle.dm_peer.specs.Configs.{wins}
 use Rattle.dm_peer.specs.Said.{Heard, heard_in, word_heard}
 use Rattle.dm_peer.specs.Sent.{action_of}
 use Rattle.dm_peer.specs.After.{standing_after}
-use Rattle.dm_peer.specs.Acts.{Moved, acts, input_of, outcome_of, standing_at, steps, is_unread, is_made, is_unawaited, heard}
+use Rattle.dm_peer.specs.Acts.{Moved, acts, input_of, outcome_of, standing_at, steps, is_unread, is_made, is_unawaited, heard_outcome}
 use Rattle.dm_peer.specs.Settled.{IsSettled}
 use Rattle.dm_history.specs.History.{Happened, StandsAmong}
 use Rattle.dm_history.specs.Carrying.{StandsOpen, CameOnOpen, AreOwn, IsPassedOn, IsCarried, CarriesNext, EachRunCarries}
@@ -81,7 +81,7 @@ handed_up law p was e actions next t s (earlier, later, stands) =
     let a = sourced (action_of p e t.heard) t.commands (Up s) earlier later (sym t.acted ∙ stands) in
     let u = up_command p e t.heard a.command s a.gives in
     let has = has_up_at t.commands a.command a.before a.behind a.stands u.0 in
-    let o : UpIsHeard n i (moves.Moved t.commands t.core) =
+    let o : UpIsHeard n i (moves.NodeMoved t.commands t.core) =
     subst (UpIsHeard n i) t.moves (law n i (wins p.config) was.shaped) in
     let g = o has in
     let here = heard_by e t.heard g.conn s g.heard u.1 in
@@ -165,11 +165,11 @@ each_up law p was c s m opened is other =
     let core = node_at n.state n.held 0 in
     let i = input_of e h in
     let word = other_word p.config m other in
-    let out = turned_is n i (wins p.config) ∙ (ap (λ w. outcome n (input.Heard c w) (wins p.config)) word
+    let out = turned_is n i (wins p.config) ∙ (ap (λ w. machine_outcome n (input.Heard c w) (wins p.config)) word
     ∙ law n c (wins p.config) was.shaped opened) in (
       standing_at p (standing_after p.standing h None core),
-      ap (λ b. if b then steps p e None else heard p e c (message_in s)) (open_unread n.state (hold_of n c) opened)
-          ∙ (ap (heard p e c) is
+      ap (λ b. if b then steps p e None else heard_outcome p e c (message_in s)) (open_unread n.state (hold_of n c) opened)
+          ∙ (ap (heard_outcome p e c) is
           ∙ (ap (λ b. if b then Moved [] p else steps p e h) (none_dropped p c m other) ∙ ap (outcome_of p e h) out)),
     )
 

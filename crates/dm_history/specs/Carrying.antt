@@ -31,7 +31,7 @@ pub data IsOwnMessage (n : Node) : Message → Type 0 where
   dpr : (id : ℕ) (cause : Cause) → IsOwnMessage n (built_dpr n id cause)
   cea : (to : Header) (code : ℕ) (failed : Option Avp) → IsOwnMessage n (built_cea n to code failed)
   answer : (to : Header) (code : ℕ) (failed : Option Avp) → IsOwnMessage n (built_answer n to code failed)
-  error : (to : Header) (code : ℕ) → IsOwnMessage n (built_error n to code)
+  error_answer : (to : Header) (code : ℕ) → IsOwnMessage n (built_error n to code)
 
 -- the octets are those of such a message, of command 257, 280 or 282
 pub record AreOwn (n : Node) (s : List ℕ) : Type 0 where

@@ -9,7 +9,7 @@ use Rattle.dm_peer.specs.declared.actions.Action.{Action}
 use Rattle.dm_peer.specs.declared.config.Config.{Config}
 use Rattle.dm_peer.specs.declared.peer.Peer.{Peer}
 use Rattle.dm_peer.specs.Events.{PeerEvent}
-use Rattle.dm_peer.specs.After.{fresh}
+use Rattle.dm_peer.specs.After.{fresh_standing}
 use Rattle.dm_peer.specs.Acts.{Moved, acts}
 
 -- an event, and what the peer did at it, in order; nothing where it was refused
@@ -24,7 +24,7 @@ abbrev pub declined_at : PeerEvent → Happened
 declined_at e = record { event = e; did = None }
 
 abbrev pub new_peer : Config → ℕ → Peer
-new_peer config next = record { config = config; standing = fresh next }
+new_peer config next = record { config = config; standing = fresh_standing next }
 
 -- the first peer, told these events, is this one then; an event that is refused, by rule or for want of memory, changes
 -- nothing

@@ -1,5 +1,6 @@
 -- The whole lists of a run: what is handed up, against what came for the user on the open connection.
-use Rattle.std.specs.Prelude.{◌≡◌, ℕ, Bool, false, not, ◌&&◌, Option, None, Some, is_some, List, [], ◌∷◌, ◌++◌, if◌then◌else◌}
+use Rattle.std.specs.Prelude.{◌≡◌, ℕ, Bool, false, not, ◌&&◌, Option, None}
+use Rattle.std.specs.Prelude.{Some, is_some, List, [], ◌∷◌, ◌++◌, if◌then◌else◌}
 use Rattle.dm_wire.specs.declared.message.Message.{Message}
 use Rattle.dm_wire.specs.Whole.{message_in}
 use Rattle.dm_base.specs.Commands.{is_base_command}

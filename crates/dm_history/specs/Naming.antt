@@ -14,10 +14,10 @@ tells_made (Arrived d s) c = d.0 == c.0
 tells_made _ c = false
 
 -- it tells that the connection couldn't be made, or has ended
-abbrev pub tells_end : PeerEvent → Conn → Bool
-tells_end (Nack d) c = d.0 == c.0
-tells_end (Gone d) c = d.0 == c.0
-tells_end _ c = false
+abbrev pub event_ends : PeerEvent → Conn → Bool
+event_ends (Nack d) c = d.0 == c.0
+event_ends (Gone d) c = d.0 == c.0
+event_ends _ c = false
 
 -- a Nack is told of what wasn't made: no event before told that it was
 abbrev pub NacksUnmade : Conn → PeerEvent → List Happened → Type 0
@@ -31,14 +31,14 @@ pub record IsClosing (c : Conn) (x : Happened) : Type 0 where
   pub closes : StandsAmong actions (Close c)
 
 -- or it was told that it couldn't be made, or has ended
-pub record IsEnding (c : Conn) (x : Happened) : Type 0 where
+pub record HasEnded (c : Conn) (x : Happened) : Type 0 where
   pub actions : List Action
   pub did : x.did ≡ Some actions
-  pub ends : tells_end x.event c ≡ true
+  pub ends : event_ends x.event c ≡ true
 
 -- the connection has ended, by a Close, its disconnect or its Nack, and no event since then names it
 abbrev pub EndedSince : Conn → List Happened → Type 0
 EndedSince c [] = ⊥
 EndedSince c (x ∷ past) =
-    IsClosing c x ⊎ (IsEnding c x × NacksUnmade c x.event past)
+    IsClosing c x ⊎ (HasEnded c x × NacksUnmade c x.event past)
     ⊎ ((names_conn x.event c ≡ false) × EndedSince c past)

@@ -13,7 +13,7 @@ use Rattle.dm_peer.specs.declared.peer.Peer.{Peer}
 use Rattle.dm_peer.specs.Events.{Ack, Arrived}
 use Rattle.dm_peer.specs.Octets.{octets_of}
 use Rattle.dm_history.specs.History.{Happened, done_at, new_peer, Became, Once, StandsAmong}
-use Rattle.dm_history.specs.Naming.{IsClosing, IsEnding}
+use Rattle.dm_history.specs.Naming.{IsClosing, HasEnded}
 use Rattle.dm_history.specs.Meant.{IsAcceptableCer, IsAcceptableCea}
 
 -- the message came on the connection
@@ -32,7 +32,7 @@ pub record HasArrived (c : Conn) (x : Happened) : Type 0 where
 -- nothing came on it since it last was closed or told ended, or ever
 abbrev pub IsUnheard : Conn → List Happened → Type 0
 IsUnheard c [] = ⊤
-IsUnheard c (x ∷ past) = (IsClosing c x ⊎ IsEnding c x) ⊎ ((HasArrived c x → ⊥) × IsUnheard c past)
+IsUnheard c (x ∷ past) = (IsClosing c x ⊎ HasEnded c x) ⊎ ((HasArrived c x → ⊥) × IsUnheard c past)
 
 -- the message came on it, as the first there
 pub record CameFirst (c : Conn) (m : Message) (x : Happened) (past : List Happened) : Type 0 where

@@ -1,5 +1,6 @@
 -- How long an open connection stays open, and what the watchdog counts on it (RFC 6733, 5.4 to 5.6; RFC 3539, 3.4.1).
-use Rattle.std.specs.Prelude.{◌≡◌, ℕ, ◌+◌, Bool, true, false, not, ◌&&◌, ◌||◌, ◌==◌, Option, None, Some, is_some, Result, Ok, List, [], ◌∷◌, if◌then◌else◌}
+use Rattle.std.specs.Prelude.{◌≡◌, ℕ, ◌+◌, Bool, true, false, not, ◌&&◌, ◌||◌, ◌==◌, Option}
+use Rattle.std.specs.Prelude.{None, Some, is_some, Result, Ok, List, [], ◌∷◌, if◌then◌else◌}
 use Rattle.dm_wire.specs.declared.message.Header.{Header}
 use Rattle.dm_wire.specs.declared.message.Message.{Message}
 use Rattle.dm_wire.specs.Whole.{message_in}

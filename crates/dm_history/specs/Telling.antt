@@ -5,7 +5,7 @@ use Rattle.dm_peer.specs.declared.actions.Action.{Action}
 use Rattle.dm_peer.specs.declared.events.Event as declared_event
 use Rattle.dm_peer.specs.declared.fault.PeerFault.{PeerFault}
 use Rattle.dm_peer.specs.declared.peer.Peer.{Peer}
-use Rattle.dm_peer.specs.Events.{PeerEvent, told}
+use Rattle.dm_peer.specs.Events.{PeerEvent, event_told}
 use Rattle.dm_peer.specs.Acts.{Moved, Refused, acts}
 use Rattle.dm_history.specs.History.{Happened, done_at, declined_at}
 
@@ -21,7 +21,8 @@ RepliesSo p e (Err f) next = (acts p e ≡ Refused f) × (next ≡ p)
 -- the first peer replies so to these events, the latest first, and is this one then
 pub data Replied (first : Peer) : List PeerEvent → List EventReply → Peer → Type 0 where
   unasked : Replied first [] [] first
-  asked : (events : List PeerEvent) (replies : List EventReply) (p : Peer) (e : PeerEvent) (reply : EventReply) (next : Peer) →
+  asked : (events : List PeerEvent) (replies : List EventReply) (p : Peer) (e : PeerEvent) (reply : EventReply)
+      (next : Peer) →
       Replied first events replies p → RepliesSo p e reply next →
       Replied first (e ∷ events) (reply ∷ replies) next
 
@@ -36,7 +37,7 @@ happened_in _ _ = []
 
 -- the events of a list that have a reply, the latest first
 abbrev pub events_told : List declared_event.Event → List EventReply → List PeerEvent
-events_told events replies = reverse (take (length replies) (map told events))
+events_told events replies = reverse (take (length replies) (map event_told events))
 
 abbrev pub run_of : List declared_event.Event → List EventReply → List Happened
 run_of events replies = happened_in (events_told events replies) (reverse replies)

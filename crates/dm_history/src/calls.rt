@@ -2,7 +2,7 @@
 //! which step it is.
 ghost use Rattle.std.specs.Prelude.{◌≡◌, List, ◌∷◌, IfOk, OnErr};
 ghost use Rattle.dm_peer.specs.declared.peer.Peer.{Peer};
-ghost use Rattle.dm_peer.specs.Events.{told};
+ghost use Rattle.dm_peer.specs.Events.{event_told};
 ghost use Rattle.dm_history.specs.History.{Happened, Became, new_peer, done_at, declined_at};
 
 use dm_peer::{Actions, Config, Event, Peer, PeerFault};
@@ -28,9 +28,9 @@ pub fn begin_anew(peer: &mut Peer)
 /// Those of `Peer::on`; the event is then declined.
 pub fn go_on(peer: &mut Peer, alloc: Global, event: Event<'_>) -> Result<Actions, PeerFault>
     ensures done { IfOk result (λ actions. (first : Peer) (past : List Happened) → Became first past peer.old
-        → Became first (done_at (told event.entry) actions.items ∷ past) peer.new) }
+        → Became first (done_at (event_told event.entry) actions.items ∷ past) peer.new) }
     ensures declined { OnErr result ((first : Peer) (past : List Happened) → Became first past peer.old
-        → Became first (declined_at (told event.entry) ∷ past) peer.new) }
+        → Became first (declined_at (event_told event.entry) ∷ past) peer.new) }
 {
     peer.on(alloc, event)
 }

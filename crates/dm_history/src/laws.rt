@@ -66,8 +66,8 @@ pub fn each_run_is_in_order()
 }
 
 /// An open connection stays open exactly at all events but these: a Stop, its disconnect, the third Tick since
-/// something came on it, octets on it that are no message, a CER on it, good or not, and a good DPR. So it is open until one of
-/// these is told.
+/// something came on it, octets on it that are no message, a CER on it, good or not, and a good DPR. So it is open
+/// until one of these is told.
 pub fn each_open_stays()
     ensures exactly { EachOpenStays }
     ensures lasts { EachOpenLasts }

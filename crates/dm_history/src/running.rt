@@ -1,8 +1,9 @@
 //! Events one after the other, and what is promised of every list of them, whatever the other side is.
-ghost use Rattle.std.specs.Prelude.{◌≡◌, ◌+◌, ◌≤◌, ◌<◌, ◌∷◌, List, IfOk, OnOk, OnErr, true, reverse, length, vec_len, vec_capacity};
+ghost use Rattle.std.specs.Prelude.{◌≡◌, ◌+◌, ◌≤◌, ◌<◌, ◌∷◌, List, IfOk, OnOk, OnErr};
+ghost use Rattle.std.specs.Prelude.{true, reverse, length, vec_len, vec_capacity};
 ghost use Rattle.dm_machine.specs.declared.connection.Conn.{Conn};
 ghost use Rattle.dm_peer.specs.declared.peer.Peer as declared_peer;
-ghost use Rattle.dm_peer.specs.Events.{PeerEvent, told};
+ghost use Rattle.dm_peer.specs.Events.{PeerEvent, event_told};
 ghost use Rattle.dm_history.specs.Carrying.{StandsOpen};
 ghost use Rattle.dm_history.specs.InOrder.{all_ups, all_came_open, SendsIfSubmitted};
 ghost use Rattle.dm_history.specs.Promised.{LeadsOn, LeavesOpened, CarriesThrough, LeavesEnded, ClosesThrough};
@@ -33,7 +34,7 @@ fn ask(
     alloc: Global,
     event: Event<'_>,
 ) -> Result<Result<Actions, PeerFault>, NoMemory>
-    ensures replied { IfOk result (λ reply. RepliesSo peer.old (told event.entry) reply peer.new) }
+    ensures replied { IfOk result (λ reply. RepliesSo peer.old (event_told event.entry) reply peer.new) }
     ensures unchanged { OnErr result (peer.new ≡ peer.old) }
 {
     match peer.on(alloc, event) {
@@ -63,7 +64,7 @@ fn tell(
 ) -> Result<(), NoMemory>
     ensures told { OnOk result ((first : declared_peer.Peer) (events : List PeerEvent) →
         Replied first events (reverse replies.old.items) peer.old →
-        Replied first (told event.entry ∷ events) (reverse replies.new.items) peer.new) }
+        Replied first (event_told event.entry ∷ events) (reverse replies.new.items) peer.new) }
     ensures counted { OnOk result (length replies.new.items ≡ length replies.old.items + 1) }
     ensures peer { OnErr result (peer.new ≡ peer.old) }
     ensures replies { OnErr result (replies.new.items ≡ replies.old.items) }

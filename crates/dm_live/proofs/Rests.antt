@@ -3,7 +3,7 @@ use Rattle.std.proofs.Common.{◌≡◌, ℕ, List, [], ◌∷◌}
 use Rattle.dm_text.specs.Numbers.{TellsNumber, TellsLongNumber}
 use Rattle.dm_base.specs.declared.kind.Cause.{Cause}
 use Rattle.dm_base.specs.Built.{cause_number}
-use Rattle.dm_session.specs.Orders.{Order, Octets, Stop}
+use Rattle.dm_session.specs.Orders.{Order, Octets, StopOrder}
 use Rattle.dm_live.specs.declared.order_name.OrderName.TheVariants as names
 use Rattle.dm_live.specs.OrderLines.{order_name, TellsRest}
 
@@ -18,5 +18,5 @@ no_octets rest none o is told = absurd (cc)
 pub no_stop : (rest : List (List ℕ))
     → ((cause : Cause) (number : List ℕ) → rest ≡ number ∷ [] → TellsNumber (cause_number cause) number → ⊥)
     → (o : Order) → order_name o ≡ names.Stop → TellsRest o rest → ⊥
-no_stop rest none (Stop cause) is told = none cause told.0 told.1 told.2
+no_stop rest none (StopOrder cause) is told = none cause told.0 told.1 told.2
 no_stop rest none o is told = absurd (cc)

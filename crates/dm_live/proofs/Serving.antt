@@ -8,7 +8,7 @@ use Rattle.std.proofs.KnownBytes.{Appends-nil, Appends-trans}
 use Rattle.dm_live.specs.declared.fault.LiveFault.{LiveFault}
 use Rattle.dm_live.specs.declared.fault.LiveFault.TheVariants.{Read, Write, Memory}
 use Rattle.dm_live.specs.Input.{GivesLine}
-use Rattle.dm_live.specs.Served.{Stage, Drafting, AnswersLine, AnswersLines, Serves, BeginsNext, Stops}
+use Rattle.dm_live.specs.Served.{Stage, Drafting, AnswersLine, AnswersLines, Serves, BeginsNext, StopsShort}
 use Rattle.dm_live.specs.Settings.{no_settings}
 
 -- one line more
@@ -128,7 +128,7 @@ nothing_next Write before rest stage (inr is) = absurd (cc)
 
 pub stopped : (input rest : Option (List ℕ)) (before : ℕ) (stage : Stage) (old new : Option (List ℕ))
     (fault : LiveFault) → ServedOf input rest before stage old new → (fault ≡ Read) ⊎ (fault ≡ Memory)
-    → IfSome input (λ octets. Stops fault octets old new)
+    → IfSome input (λ octets. StopsShort fault octets old new)
 stopped None rest before stage old new fault so is = tt
 stopped (Some octets) rest before stage old new fault so is =
     let Holds : List ℕ → Type 0 = λ v. Appends old new v in
@@ -148,7 +148,7 @@ stopped (Some octets) rest before stage old new fault so is =
 pub stopped_writing : (input rest next : Option (List ℕ)) (before : ℕ) (m b : Stage) (old mid new : Option (List ℕ))
     (line front back : List ℕ) (fault : LiveFault) → ServedOf input rest before m old mid → Given rest next true line
     → AnswersLine (before + 1) line m b (front ++ back) → Appends mid new front → fault ≡ Write
-    → IfSome input (λ octets. Stops fault octets old new)
+    → IfSome input (λ octets. StopsShort fault octets old new)
 stopped_writing None rest next before m b old mid new line front back fault so given answers written is = tt
 stopped_writing (Some octets) rest next before m b old mid new line front back fault so given answers written is =
     let at = given_left rest next so.left line so.rest_is given in
@@ -200,7 +200,7 @@ pub line_unwritten : (input rest next : Option (List ℕ)) (more : Bool) (before
     → ServedOf input rest before a old mid → Given rest next more line → more ≡ true → said ≡ line
     → Made (before + 1) said a b cleared made → cleared ≡ [] → octets ≡ made
     → (front back : List ℕ) × (octets ≡ front ++ back) × Appends mid new front → fault ≡ Write
-    → IfSome input (λ octets. Stops fault octets old new)
+    → IfSome input (λ octets. StopsShort fault octets old new)
 line_unwritten input rest next more before a b old mid new line said cleared made octets fault so given is same answer
     none whole part write =
     let Gives : Bool → Type 0 = λ v. Given rest next v line in

@@ -3,7 +3,7 @@ use Rattle.std.proofs.Common.{◌≡◌, ℕ, List, [], ◌∷◌, ◌++◌, ap,
 use Rattle.std.proofs.Common.{Result, Ok, Err, OnOk}
 use Rattle.dm_machine.specs.declared.connection.Conn.{Conn}
 use Rattle.dm_session.specs.Sessions.{Turn, TellsAlong}
-use Rattle.dm_session.specs.Orders.{Order, Start, Ack, Nack, Accept, Octets, Gone, Timeout, Tick, Stop, Submit, Reset}
+use Rattle.dm_session.specs.Orders.{Order, StartOrder, AckOrder, NackOrder, Accept, Octets, GoneOrder, TimeoutOrder, TickOrder, StopOrder, SubmitOrder, Reset}
 use Rattle.dm_peer.specs.declared.peer.Peer.{Peer}
 use Rattle.dm_live.specs.AnswerLines.{turn_lines, turns_lines, state_line}
 use Rattle.dm_live.specs.Answers.{HearsOut, Answers}
@@ -57,15 +57,15 @@ along_told c m n (turn ∷ turns) along = (along.0.session, along.1.0, along_tol
 
 out_told : (o : Order) (m n : Meeting) (text : List ℕ) → HearsMet o m n text → HearsOut o m.session n.session text
 out_told (Octets c piece) m n text (turns, along, out, is) = (turns, along_told c m n turns along, out, is)
-out_told (Start c) m n text (same, is) = (ap (λ v. v.session) same, is)
-out_told (Ack c) m n text (same, is) = (ap (λ v. v.session) same, is)
-out_told (Nack c) m n text (same, is) = (ap (λ v. v.session) same, is)
+out_told (StartOrder c) m n text (same, is) = (ap (λ v. v.session) same, is)
+out_told (AckOrder c) m n text (same, is) = (ap (λ v. v.session) same, is)
+out_told (NackOrder c) m n text (same, is) = (ap (λ v. v.session) same, is)
 out_told (Accept c) m n text (same, is) = (ap (λ v. v.session) same, is)
-out_told (Gone c) m n text (same, is) = (ap (λ v. v.session) same, is)
-out_told Timeout m n text (same, is) = (ap (λ v. v.session) same, is)
-out_told Tick m n text (same, is) = (ap (λ v. v.session) same, is)
-out_told (Stop cause) m n text (same, is) = (ap (λ v. v.session) same, is)
-out_told (Submit octets) m n text (same, is) = (ap (λ v. v.session) same, is)
+out_told (GoneOrder c) m n text (same, is) = (ap (λ v. v.session) same, is)
+out_told TimeoutOrder m n text (same, is) = (ap (λ v. v.session) same, is)
+out_told TickOrder m n text (same, is) = (ap (λ v. v.session) same, is)
+out_told (StopOrder cause) m n text (same, is) = (ap (λ v. v.session) same, is)
+out_told (SubmitOrder octets) m n text (same, is) = (ap (λ v. v.session) same, is)
 out_told Reset m n text (same, is) = (ap (λ v. v.session) same, is)
 
 -- and an answer is one of the session

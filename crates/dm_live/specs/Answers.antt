@@ -4,7 +4,7 @@ use Rattle.dm_machine.specs.declared.connection.Conn.{Conn}
 use Rattle.dm_peer.specs.declared.actions.Action.{Action}
 use Rattle.dm_peer.specs.declared.fault.PeerFault.{PeerFault}
 use Rattle.dm_session.specs.Sessions.{Session, Turn, TellsAlong, IsOut}
-use Rattle.dm_session.specs.Orders.{Order, Accept, Octets, Reset, Takes, Refuses}
+use Rattle.dm_session.specs.Orders.{Order, Accept, Octets, Reset, Takes, RefusesOrder}
 use Rattle.dm_live.specs.AnswerLines.{action_lines, turns_lines, refusal_line, state_line}
 
 -- the line of an order that tells no event, where it is one of those that tell one: its connection isn't there, or a
@@ -24,7 +24,7 @@ asked_lines o (Some actions) = action_lines actions
 abbrev pub TakesAs : Order → Session → Session → List ℕ → Type 0
 TakesAs o s t text =
     ((asks : Option (List Action)) × Takes o s asks t × (text ≡ asked_lines o asks))
-    ⊎ ((f : PeerFault) × Refuses o s f × (t ≡ s) × (text ≡ refusal_line f))
+    ⊎ ((f : PeerFault) × RefusesOrder o s f × (t ≡ s) × (text ≡ refusal_line f))
 
 -- what came on connection c is told turn by turn until nothing is left to tell, and this is printed of it
 abbrev pub TellsOut : Conn → Session → Session → List ℕ → Type 0

@@ -11,7 +11,7 @@ use Rattle.dm_peer.specs.declared.config.Config.{Config}
 use Rattle.dm_peer.specs.declared.fault.ConfigFault.{ConfigFault}
 use Rattle.dm_peer.specs.declared.fault.ConfigFault.TheVariants as config_faults
 use Rattle.dm_peer.specs.Hosts.{config_fault}
-use Rattle.dm_peer.specs.After.{fresh}
+use Rattle.dm_peer.specs.After.{fresh_standing}
 use Rattle.dm_session.specs.Intakes.{none_there}
 use Rattle.dm_session.specs.Sessions.{Session}
 use Rattle.dm_live.specs.Settings.{Settings}
@@ -89,7 +89,7 @@ pub record IsMadeOf (s : Settings) (c : Config) : Type 0 where
 -- the session that the settings begin: a closed peer, without connections
 pub record Begins (s : Settings) (t : Session) : Type 0 where
   pub config : IsMadeOf s t.peer.config
-  pub standing : t.peer.standing ≡ fresh s.first_id
+  pub standing : t.peer.standing ≡ fresh_standing s.first_id
   pub intakes : t.intakes ≡ none_there
   pub first_max : t.first_max ≡ s.first_max
   pub most : t.most ≡ s.most

@@ -5,7 +5,8 @@ use Rattle.dm_text.specs.Numbers.{TellsNumber, TellsLongNumber}
 use Rattle.dm_text.specs.Hexadecimal.{word_octets}
 use Rattle.dm_base.specs.Built.{cause_number}
 use Rattle.dm_machine.specs.declared.connection.Conn.{Conn}
-use Rattle.dm_session.specs.Orders.{Order, Start, Ack, Nack, Accept, Octets, Gone, Timeout, Tick, Stop, Submit, Reset}
+use Rattle.dm_session.specs.Orders.{Order, StartOrder, AckOrder, NackOrder, Accept, Octets, GoneOrder}
+use Rattle.dm_session.specs.Orders.{TimeoutOrder, TickOrder, StopOrder, SubmitOrder, Reset}
 use Rattle.dm_live.specs.declared.order_name.OrderName.{OrderName}
 use Rattle.dm_live.specs.declared.order_name.OrderName.TheVariants as names
 
@@ -25,16 +26,16 @@ name_word names.Reset = codes "reset"
 
 -- the name of an order
 abbrev pub order_name : Order → OrderName
-order_name (Start c) = names.Start
-order_name (Ack c) = names.Ack
-order_name (Nack c) = names.Nack
+order_name (StartOrder c) = names.Start
+order_name (AckOrder c) = names.Ack
+order_name (NackOrder c) = names.Nack
 order_name (Accept c) = names.Accept
 order_name (Octets c piece) = names.Octets
-order_name (Gone c) = names.Gone
-order_name Timeout = names.Timeout
-order_name Tick = names.Tick
-order_name (Stop cause) = names.Stop
-order_name (Submit octets) = names.Submit
+order_name (GoneOrder c) = names.Gone
+order_name TimeoutOrder = names.Timeout
+order_name TickOrder = names.Tick
+order_name (StopOrder cause) = names.Stop
+order_name (SubmitOrder octets) = names.Submit
 order_name Reset = names.Reset
 
 -- one word, the number of a connection in decimal
@@ -43,18 +44,18 @@ TellsConn c rest = (number : List ℕ) × (rest ≡ number ∷ []) × TellsLongN
 
 -- what an order says behind its name: numbers in decimal, octets in hexadecimal
 abbrev pub TellsRest : Order → List (List ℕ) → Type 0
-TellsRest (Start c) rest = TellsConn c rest
-TellsRest (Ack c) rest = TellsConn c rest
-TellsRest (Nack c) rest = TellsConn c rest
+TellsRest (StartOrder c) rest = TellsConn c rest
+TellsRest (AckOrder c) rest = TellsConn c rest
+TellsRest (NackOrder c) rest = TellsConn c rest
 TellsRest (Accept c) rest = TellsConn c rest
 TellsRest (Octets c piece) rest =
     (number digits : List ℕ) × (rest ≡ number ∷ digits ∷ []) × TellsLongNumber c.0 number
     × (word_octets digits ≡ Some piece)
-TellsRest (Gone c) rest = TellsConn c rest
-TellsRest Timeout rest = rest ≡ []
-TellsRest Tick rest = rest ≡ []
-TellsRest (Stop cause) rest = (number : List ℕ) × (rest ≡ number ∷ []) × TellsNumber (cause_number cause) number
-TellsRest (Submit octets) rest = (digits : List ℕ) × (rest ≡ digits ∷ []) × (word_octets digits ≡ Some octets)
+TellsRest (GoneOrder c) rest = TellsConn c rest
+TellsRest TimeoutOrder rest = rest ≡ []
+TellsRest TickOrder rest = rest ≡ []
+TellsRest (StopOrder cause) rest = (number : List ℕ) × (rest ≡ number ∷ []) × TellsNumber (cause_number cause) number
+TellsRest (SubmitOrder octets) rest = (digits : List ℕ) × (rest ≡ digits ∷ []) × (word_octets digits ≡ Some octets)
 TellsRest Reset rest = rest ≡ []
 
 -- the line of an order: its name, and what it says behind it

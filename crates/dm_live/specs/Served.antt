@@ -107,7 +107,7 @@ BeginsNext Write before (line ∷ lines) a front =
 BeginsNext fault before lines a front = front ≡ []
 
 -- what a writer got of a run that stopped: the answers of the first lines, and this of the next one's
-pub record Stops (fault : LiveFault) (octets : List ℕ) (old new : Option (List ℕ)) : Type 0 where
+pub record StopsShort (fault : LiveFault) (octets : List ℕ) (old new : Option (List ℕ)) : Type 0 where
   pub done : List (List ℕ)
   pub rest : List (List ℕ)
   pub mid : Stage

@@ -1,7 +1,7 @@
 //! An order, told and answered.
 ghost use Rattle.std.specs.Prelude.{◌≡◌, ◌++◌, ℕ, List, true, false, IfOk, OnOk};
 ghost use Rattle.std.specs.String.{string_bytes};
-ghost use Rattle.dm_session.specs.Orders.{asked};
+ghost use Rattle.dm_session.specs.Orders.{order_asked};
 ghost use Rattle.dm_session.specs.Seen.{session_of};
 ghost use Rattle.dm_session.specs.Sessions.{Turn as OneTurn, IsOut};
 ghost use Rattle.dm_live.specs.AnswerLines.{turn_lines};
@@ -64,7 +64,7 @@ fn take_order(
     text: &mut String,
 ) -> Result<(), AllocError>
     ensures { OnOk result ((own : List ℕ)
-        × TakesMet (asked order.entry) (met_with (session_of session.old) known.old)
+        × TakesMet (order_asked order.entry) (met_with (session_of session.old) known.old)
         (met_with (session_of session.new) known.new) own
         × (string_bytes text.new ≡ string_bytes text.old ++ own)) }
 {
@@ -78,7 +78,7 @@ fn take_order(
 /// Appends that an order told no event, where it is one of those that tell one.
 #[tactic(auto, unfolding(crate::specs::Answers::ignored_line))]
 fn push_ignored(text: &mut String, order: Order<'_>) -> Result<(), AllocError>
-    ensures { OnOk result (string_bytes text.new ≡ string_bytes text.old ++ ignored_line (asked order.entry)) }
+    ensures { OnOk result (string_bytes text.new ≡ string_bytes text.old ++ ignored_line (order_asked order.entry)) }
 {
     match order {
         Order::Accept(_) | Order::Octets(_, _) | Order::Reset => Ok(()),

@@ -1,7 +1,7 @@
 //! The lines of orders.
 ghost use Rattle.std.specs.Prelude.{◌≡◌, ◌≢◌, [], IfOk, IfSome, IfNone, MatchOption};
 ghost use Rattle.dm_text.specs.Words.{words};
-ghost use Rattle.dm_session.specs.Orders.{Order as AskedOrder, asked};
+ghost use Rattle.dm_session.specs.Orders.{Order as AskedOrder, order_asked};
 ghost use Rattle.dm_live.specs.OrderLines.{order_name, TellsRest, TellsOrder};
 ghost use Rattle.dm_live.specs.ReadOrders.{told_order};
 
@@ -33,7 +33,7 @@ pub enum OrderLine {
 impl OrderLine {
     /// The order for a session. It never answers want of memory.
     pub fn order(&self) -> Order<'_>
-        ensures { asked result ≡ told_order self.now }
+        ensures { order_asked result ≡ told_order self.now }
     {
         match self {
             OrderLine::Start(conn) => Order::Start(*conn),

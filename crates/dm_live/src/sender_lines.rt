@@ -5,7 +5,7 @@ ghost use Rattle.std.specs.String.{string_bytes};
 ghost use Rattle.dm_wire.specs.declared.avp.Avp.{Avp};
 ghost use Rattle.dm_base.specs.Codes.{supported_vendor_id};
 ghost use Rattle.dm_base.specs.Kinds.{application_ids};
-ghost use Rattle.dm_base.specs.Senders.{Tells, numbers_told};
+ghost use Rattle.dm_base.specs.Senders.{HasAvps, numbers_told};
 ghost use Rattle.dm_session.specs.Acquaintances.{exchange_in};
 ghost use Rattle.dm_live.specs.SenderLines.{IsSender, octets_line, number_line, number_lines, number_line_if_any};
 ghost use Rattle.dm_live.specs.SenderLines.{name_lines, version_lines, ability_lines};
@@ -72,7 +72,7 @@ fn push_numbers(text: &mut String, name: &str, numbers: &[u32]) -> Result<(), Al
 /// Appends what the sender says in names.
 #[tactic(auto, unfolding(crate::specs::SenderLines::name_lines))]
 fn push_names(text: &mut String, sender: SenderRef<'_>) -> Result<(), AllocError>
-    ensures { (l : List Avp) → Tells sender.entry l
+    ensures { (l : List Avp) → HasAvps sender.entry l
         → OnOk result (string_bytes text.new ≡ string_bytes text.old ++ name_lines l) }
 {
     push_octets(text, "host", sender.host())?;
@@ -86,7 +86,7 @@ fn push_applications(
     text: &mut String,
     sender: SenderRef<'_>,
 ) -> Result<(), AllocError>
-    ensures { (l : List Avp) → Tells sender.entry l → OnOk result (string_bytes text.new
+    ensures { (l : List Avp) → HasAvps sender.entry l → OnOk result (string_bytes text.new
         ≡ string_bytes text.old ++ number_lines (codes "application") (flat_map application_ids l)) }
 {
     match sender.applications(alloc) {
@@ -101,7 +101,7 @@ fn push_applications(
 
 /// Appends the vendors that the sender supports.
 fn push_vendors(alloc: Global, text: &mut String, sender: SenderRef<'_>) -> Result<(), AllocError>
-    ensures { (l : List Avp) → Tells sender.entry l → OnOk result (string_bytes text.new
+    ensures { (l : List Avp) → HasAvps sender.entry l → OnOk result (string_bytes text.new
         ≡ string_bytes text.old ++ number_lines (codes "supports") (numbers_told supported_vendor_id l)) }
 {
     match sender.vendors(alloc) {
@@ -117,7 +117,7 @@ fn push_vendors(alloc: Global, text: &mut String, sender: SenderRef<'_>) -> Resu
 /// Appends what the sender says in numbers.
 #[tactic(auto, unfolding(crate::specs::SenderLines::version_lines))]
 fn push_version(text: &mut String, sender: SenderRef<'_>) -> Result<(), AllocError>
-    ensures { (l : List Avp) → Tells sender.entry l
+    ensures { (l : List Avp) → HasAvps sender.entry l
         → OnOk result (string_bytes text.new ≡ string_bytes text.old ++ version_lines l) }
 {
     push_if_any(text, "vendor", sender.vendor())?;
@@ -127,7 +127,7 @@ fn push_version(text: &mut String, sender: SenderRef<'_>) -> Result<(), AllocErr
 /// Appends what the sender can do, and its state.
 #[tactic(auto, unfolding(crate::specs::SenderLines::ability_lines))]
 fn push_ability(alloc: Global, text: &mut String, sender: SenderRef<'_>) -> Result<(), AllocError>
-    ensures { (l : List Avp) → Tells sender.entry l
+    ensures { (l : List Avp) → HasAvps sender.entry l
         → OnOk result (string_bytes text.new ≡ string_bytes text.old ++ ability_lines l) }
 {
     push_applications(alloc, text, sender)?;

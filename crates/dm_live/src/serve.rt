@@ -1,6 +1,6 @@
 //! The loop over the lines.
 ghost use Rattle.std.specs.Prelude.{◌≡◌, IfSome, IfErr, OnOk};
-ghost use Rattle.dm_live.specs.Served.{Drafting, Serves, Stops};
+ghost use Rattle.dm_live.specs.Served.{Drafting, Serves, StopsShort};
 ghost use Rattle.dm_live.specs.Settings.{no_settings};
 ghost use Rattle.dm_live.specs.Stages.{stage_of};
 
@@ -22,7 +22,7 @@ pub fn serve_lines<R: BufRead, W: Write>(
     ensures whole { OnOk result (IfSome (R.remaining reader.old) (λ octets.
         Serves octets (W.contents writer.old) (W.contents writer.new))) }
     ensures stopped { IfErr result (λ fault. IfSome (R.remaining reader.old) (λ octets.
-        Stops fault octets (W.contents writer.old) (W.contents writer.new))) }
+        StopsShort fault octets (W.contents writer.old) (W.contents writer.new))) }
 {
     let mut live = Live::new(alloc);
     let done = serve_all(alloc, &mut live, reader, writer);
@@ -41,7 +41,7 @@ fn serve_all<R: BufRead, W: Write>(
     ensures whole { OnOk result (IfSome (R.remaining reader.old) (λ octets.
         Serves octets (W.contents writer.old) (W.contents writer.new))) }
     ensures stopped { IfErr result (λ fault. IfSome (R.remaining reader.old) (λ octets.
-        Stops fault octets (W.contents writer.old) (W.contents writer.new))) }
+        StopsShort fault octets (W.contents writer.old) (W.contents writer.new))) }
 {
     let mut line = Vec::new(alloc);
     let mut text = String::new(alloc);

@@ -3,7 +3,7 @@ use Rattle.std.proofs.Common.{◌≡◌, ◌⊎◌, inl, inr, Bool, true, false,
 use Rattle.std.proofs.lemmas.Bool.{and_parts, or_cases}
 use Rattle.std.specs.List.{list_all}
 use Rattle.dm_machine.specs.declared.inputs.Word.TheVariants.{Cer, Cea}
-use Rattle.dm_machine.specs.Connection.{Hold, NotHeld, Pending, Made, OpenAsI, Taken, OpenAsR, Concern, AcksIt, HeardOnIt, Order, SendsCer, SendsCea}
+use Rattle.dm_machine.specs.Connection.{Hold, NotHeld, Pending, Made, OpenAsI, Taken, OpenAsR, Concern, AcksIt, HeardOnIt, ConnOrder, SendsCer, SendsCea}
 use Rattle.dm_machine.specs.Openings.{is_hold, has_order, is_ack, is_good_cea}
 use Rattle.dm_machine.specs.Causes.{IsCaused, EachHoldIsCaused}
 use Rattle.dm_machine.specs.Answering.{has_its_request, AnswersWhatIsHeard}
@@ -16,7 +16,7 @@ is_good_cer (HeardOnIt Cer) = true
 is_good_cer _ = false
 
 -- the law as a test of each listed change
-abbrev fits_cause : Concern → Hold → Hold → List Order → Bool
+abbrev fits_cause : Concern → Hold → Hold → List ConnOrder → Bool
 fits_cause k before OpenAsR orders =
     is_hold before OpenAsR
     || (has_order SendsCea orders && (is_hold before Taken || (is_hold before NotHeld && is_good_cer k)))
@@ -60,7 +60,7 @@ taken_by k h e = elim (or_cases (is_hold h Taken) (is_hold h NotHeld && is_good_
   | inr r ↦ inr (by_cer k h r)
 ]
 
-caused : (k : Concern) (before after : Hold) (orders : List Order) → fits_cause k before after orders ≡ true →
+caused : (k : Concern) (before after : Hold) (orders : List ConnOrder) → fits_cause k before after orders ≡ true →
     IsCaused k before after orders
 caused k h OpenAsR orders e =
     let how = is_hold h Taken || (is_hold h NotHeld && is_good_cer k) in

@@ -3,8 +3,8 @@ use Rattle.std.proofs.Common.{◌≡◌, ℕ, zero, suc, Bool, true, false, ◌&
 use Rattle.std.proofs.lemmas.Bool.{and_parts}
 use Rattle.std.proofs.lemmas.Bool.Decides.{nat_tests}
 use Rattle.std.proofs.lemmas.List.Elements.{Contains-push, Contains-append_left, Contains-append_right}
-use Rattle.dm_machine.specs.Connection.{Hold, NotHeld, Pending, Made, OpenAsI, ClosingAsI, Taken, OpenAsR, ClosingAsR, Order, Connects, SendsCer, SendsCea, SendsRefusal, SendsDwr, SendsDwa, SendsDpr, SendsDpa, SendsSubmit, Closes}
-use Rattle.dm_machine.specs.Changes.{Change, change}
+use Rattle.dm_machine.specs.Connection.{Hold, NotHeld, Pending, Made, OpenAsI, ClosingAsI, Taken, OpenAsR, ClosingAsR, ConnOrder, Connects, SendsCer, SendsCea, SendsRefusal, SendsDwr, SendsDwa, SendsDpr, SendsDpa, SendsSubmit, Closes}
+use Rattle.dm_machine.specs.Changes.{Change, changed_to}
 use Rattle.dm_machine.specs.Openings.{hold_code, is_hold, order_code, is_order}
 
 abbrev hold_from : ℕ → Hold
@@ -27,7 +27,7 @@ hold_from-code Taken = refl
 hold_from-code OpenAsR = refl
 hold_from-code ClosingAsR = refl
 
-abbrev order_from : ℕ → Order
+abbrev order_from : ℕ → ConnOrder
 order_from zero = Connects
 order_from (suc zero) = SendsCer
 order_from (suc (suc zero)) = SendsCea
@@ -39,7 +39,7 @@ order_from (suc (suc (suc (suc (suc (suc (suc zero))))))) = SendsDpa
 order_from (suc (suc (suc (suc (suc (suc (suc (suc zero)))))))) = SendsSubmit
 order_from _ = Closes
 
-order_from-code : (o : Order) → order_from (order_code o) ≡ o
+order_from-code : (o : ConnOrder) → order_from (order_code o) ≡ o
 order_from-code Connects = refl
 order_from-code SendsCer = refl
 order_from-code SendsCea = refl
@@ -57,21 +57,21 @@ same_number m n e = grind (arith, nat_tests)
 pub same_hold : (h k : Hold) → is_hold h k ≡ true → h ≡ k
 same_hold h k e = sym (hold_from-code h) ∙ (ap hold_from (same_number (hold_code h) (hold_code k) e) ∙ hold_from-code k)
 
-pub same_order : (o p : Order) → is_order o p ≡ true → o ≡ p
+pub same_order : (o p : ConnOrder) → is_order o p ≡ true → o ≡ p
 same_order o p e = sym (order_from-code o) ∙
     (ap order_from (same_number (order_code o) (order_code p) e) ∙ order_from-code p)
 
-abbrev pub are_orders : List Order → List Order → Bool
+abbrev pub are_orders : List ConnOrder → List ConnOrder → Bool
 are_orders [] [] = true
 are_orders (o ∷ more) (p ∷ rest) = is_order o p && are_orders more rest
 are_orders _ _ = false
 
-pub same_orders : (xs ys : List Order) → are_orders xs ys ≡ true → xs ≡ ys
+pub same_orders : (xs ys : List ConnOrder) → are_orders xs ys ≡ true → xs ≡ ys
 same_orders [] [] e = refl
 same_orders (o ∷ more) (p ∷ rest) e =
     let both = and_parts (is_order o p) (are_orders more rest) e in
-    ap (λ (q : Order). q ∷ more) (same_order o p both.0) ∙
-    ap (λ (qs : List Order). p ∷ qs) (same_orders more rest both.1)
+    ap (λ (q : ConnOrder). q ∷ more) (same_order o p both.0) ∙
+    ap (λ (qs : List ConnOrder). p ∷ qs) (same_orders more rest both.1)
 same_orders [] (p ∷ rest) e = absurd cc
 same_orders (o ∷ more) [] e = absurd cc
 
@@ -81,8 +81,8 @@ is_change x y = is_hold x.next y.next && are_orders x.orders y.orders
 same_change : (x y : Change) → is_change x y ≡ true → x ≡ y
 same_change x y e =
     let both = and_parts (is_hold x.next y.next) (are_orders x.orders y.orders) e in
-    ap (λ (h : Hold). change h x.orders) (same_hold x.next y.next both.0)
-    ∙ ap (λ (orders : List Order). change y.next orders) (same_orders x.orders y.orders both.1)
+    ap (λ (h : Hold). changed_to h x.orders) (same_hold x.next y.next both.0)
+    ∙ ap (λ (orders : List ConnOrder). changed_to y.next orders) (same_orders x.orders y.orders both.1)
 
 abbrev pub lists_change : Change → List Change → Bool
 lists_change x [] = false

@@ -8,9 +8,9 @@ use Rattle.dm_machine.specs.declared.inputs.Input.TheVariants.{Start, Ack, Nack,
 use Rattle.dm_machine.specs.declared.outputs.Command.{Command}
 use Rattle.dm_machine.specs.declared.outputs.Command.TheVariants.{Connect, SendCer, SendCea, SendRefusal, SendDwr, SendDwa, SendDpr, SendDpa, SendSubmit, Close, Up}
 use Rattle.dm_machine.specs.Node.{Node}
-use Rattle.dm_machine.specs.Moves.{Outcome, Moved, Refused, outcome}
-use Rattle.dm_machine.specs.Connection.{Hold, Concern, StartsIt, AcksIt, NacksIt, EndsIt, HeardOnIt, hold_as, hold_in, hold_of, if_named, concern_of, Order, Connects, SendsCer, SendsCea, SendsRefusal, SendsDwr, SendsDwa, SendsDpr, SendsDpa, SendsSubmit, Closes, if_ordered, order_to, with_order, orders_to, AtConnection}
-use Rattle.dm_machine.specs.Changes.{change, allowed, EachConnectionChangesAsAllowed}
+use Rattle.dm_machine.specs.Moves.{NodeOutcome, NodeMoved, NodeRefused, machine_outcome}
+use Rattle.dm_machine.specs.Connection.{Hold, Concern, StartsIt, AcksIt, NacksIt, EndsIt, HeardOnIt, hold_as, hold_in, hold_of, if_named, concern_of, ConnOrder, Connects, SendsCer, SendsCea, SendsRefusal, SendsDwr, SendsDwa, SendsDpr, SendsDpa, SendsSubmit, Closes, if_ordered, order_to, with_order, orders_to, AtConnection}
+use Rattle.dm_machine.specs.Changes.{changed_to, allowed, EachConnectionChangesAsAllowed}
 use Rattle.std.specs.Prelude.{Contains}
 use Rattle.dm_machine.proofs.Renamed.{renamed_held, renamed_node, renamed_input, renamed_command, renamed_commands, renamed_outcome}
 use Rattle.dm_machine.proofs.Marks.{this, mark, mark_if}
@@ -39,7 +39,7 @@ concern_marked (Gone d) c = ap (λ (b : Bool). if_named b EndsIt) (asked c d)
 concern_marked (Heard d w) c = ap (λ (b : Bool). if_named b (HeardOnIt w)) (asked c d)
 concern_marked _ c = refl
 
-ordered : (c d : Conn) (o : Order) → if_ordered ((mark c d).0 == 1) o ≡ if_ordered (d.0 == c.0) o
+ordered : (c d : Conn) (o : ConnOrder) → if_ordered ((mark c d).0 == 1) o ≡ if_ordered (d.0 == c.0) o
 ordered c d o = ap (λ (b : Bool). if_ordered b o) (asked c d)
 
 order_marked : (c : Conn) (a : Command) → order_to this (renamed_command (mark c) a) ≡ order_to c a
@@ -59,26 +59,26 @@ orders_marked : (c : Conn) (commands : List Command) →
     orders_to this (renamed_commands (mark c) commands) ≡ orders_to c commands
 orders_marked c [] = refl
 orders_marked c (a ∷ more) =
-    ap (λ (o : Option Order). with_order o (orders_to this (renamed_commands (mark c) more))) (order_marked c a)
+    ap (λ (o : Option ConnOrder). with_order o (orders_to this (renamed_commands (mark c) more))) (order_marked c a)
     ∙ ap (with_order (order_to c a)) (orders_marked c more)
 
-abbrev IsListed : Concern → Hold → Hold → List Order → Type 0
-IsListed k before after orders = Contains (allowed k before) (change after orders)
+abbrev IsListed : Concern → Hold → Hold → List ConnOrder → Type 0
+IsListed k before after orders = Contains (allowed k before) (changed_to after orders)
 
-from_marked : (n : Node) (i : Input) (c : Conn) (o : Outcome) →
+from_marked : (n : Node) (i : Input) (c : Conn) (o : NodeOutcome) →
     is_listed (renamed_node (mark c) n) (renamed_input (mark c) i) (renamed_outcome (mark c) o) ≡ true →
     AtConnection IsListed n i c o
-from_marked n i c (Refused r) h = tt
-from_marked n i c (Moved commands next) h =
+from_marked n i c (NodeRefused r) h = tt
+from_marked n i c (NodeMoved commands next) h =
     let k = concern_of (renamed_input (mark c) i) this in
     let before = hold_in n.state (renamed_held (mark c) n.held) this in
     let later = hold_in next.state (renamed_held (mark c) next.held) this in
     let orders = orders_to this (renamed_commands (mark c) commands) in
-    let here : IsListed k before later orders = among (change later orders) (allowed k before) h in
-    subst (λ (x : List Order). IsListed (concern_of i c) (hold_of n c) (hold_of next c) x) (orders_marked c commands)
+    let here : IsListed k before later orders = among (changed_to later orders) (allowed k before) h in
+    subst (λ (x : List ConnOrder). IsListed (concern_of i c) (hold_of n c) (hold_of next c) x) (orders_marked c commands)
     (subst (λ (x : Hold). IsListed (concern_of i c) (hold_of n c) x orders) (hold_marked next.state next.held c)
     (subst (λ (x : Hold). IsListed (concern_of i c) x later orders) (hold_marked n.state n.held c)
     (subst (λ (x : Concern). IsListed x before later orders) (concern_marked i c) here)))
 
 pub each_connection : EachConnectionChangesAsAllowed
-each_connection n i wins c h = from_marked n i c (outcome n i wins) (listed n i wins c h)
+each_connection n i wins c h = from_marked n i c (machine_outcome n i wins) (listed n i wins c h)

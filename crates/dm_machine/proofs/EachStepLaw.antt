@@ -5,7 +5,7 @@ use Rattle.dm_machine.specs.declared.connection.Conn.{Conn}
 use Rattle.dm_machine.specs.declared.phase.Role.TheVariants.{Initiated, Accepted}
 use Rattle.dm_machine.specs.Node.{Node}
 use Rattle.dm_machine.specs.Forms.{Form, closed, wait_conn_ack, wait_i_cea, wait_conn_ack_elect, wait_returns, r_open, i_open, closing}
-use Rattle.dm_machine.specs.Reading.{Place, OnI, OnR, OnX, OnNew, named_by, place_in, event_of}
+use Rattle.dm_machine.specs.Reading.{Place, OnI, OnR, OnX, OnNew, conn_named, place_in, event_of}
 use Rattle.dm_machine.specs.Moves.{by_table}
 use Rattle.dm_machine.specs.EachStep.{nodes_of, places_of, everywhere, passes_at, passes_on, EachStepHolds}
 use Rattle.dm_machine.proofs.FormLemmas.{form_of}
@@ -63,7 +63,7 @@ at_place f n (closing role x) (Some c) h = by_one f (x.0 == c.0) OnX h
 pub each_step_holds : EachStepHolds
 each_step_holds test h n i wins shaped =
     let form = form_of n shaped in
-    let new = named_by i in
+    let new = conn_named i in
     let here = place_in n new in
     let c = conn_in i in
     let at_n = at_node (λ (k : Node). everywhere (passes_on test k c) (places_of k.state)) (λ a b. h a b c) n form in

@@ -9,7 +9,7 @@ use Rattle.dm_machine.specs.declared.inputs.Input.{Input}
 use Rattle.dm_machine.specs.declared.inputs.Input.TheVariants.{Start, Stop, Timeout, Tick, Ack, Nack, Gone, Submit, Heard}
 use Rattle.dm_machine.specs.declared.inputs.Word.{Word}
 use Rattle.dm_machine.specs.declared.inputs.Word.TheVariants.{Unreadable, Cer, CerRefused, Cea, CeaFailed, Dwr, DwrBad, Dwa, DwaBad, Dpr, DprBad, Dpa, DpaBad, Other}
-use Rattle.dm_machine.specs.Reading.{Place, OnI, OnR, OnX, OnNew, named_by}
+use Rattle.dm_machine.specs.Reading.{Place, OnI, OnR, OnX, OnNew, conn_named}
 use Rattle.dm_machine.specs.EachStep.{all_words, inputs_of, everywhere}
 use Rattle.dm_machine.proofs.Renamed.{renamed_input}
 use Rattle.dm_machine.proofs.Marks.{this, another, mark_if, mark}
@@ -82,7 +82,7 @@ at_word f h Other = at f all_words 13 h
 
 -- the connection that an input names, or the other one
 abbrev pub conn_in : Input → Conn
-conn_in i = unwrap_or (named_by i) another
+conn_in i = unwrap_or (conn_named i) another
 
 -- a test at every input of a connection
 abbrev pub every_input : (Input → Bool) → Conn → Bool

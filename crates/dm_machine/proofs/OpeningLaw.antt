@@ -8,10 +8,10 @@ use Rattle.std.specs.Prelude.{Contains}
 use Rattle.dm_machine.specs.declared.connection.Conn.{Conn}
 use Rattle.dm_machine.specs.declared.inputs.Input.{Input}
 use Rattle.dm_machine.specs.Node.{Node}
-use Rattle.dm_machine.specs.Moves.{Outcome, Moved, Refused, outcome}
-use Rattle.dm_machine.specs.Connection.{Hold, NotHeld, Pending, Made, OpenAsI, ClosingAsI, Taken, OpenAsR, ClosingAsR, Concern, NamesAnother, Stops, TimesOut, Ticks, Submits, StartsIt, AcksIt, NacksIt, EndsIt, HeardOnIt, hold_of, concern_of, Order, SendsCer, SendsCea, Closes, orders_to, AtConnection, AtEachStep}
-use Rattle.dm_machine.specs.Changes.{Change, change, allowed}
-use Rattle.dm_machine.specs.Openings.{is_hold, has_order, is_entered, is_ack, is_good_cea, names_it, is_left_unclosed, OpensAcceptedWithCea, OpensInitiatedAtCea, SendsCerAtAck, ClosesWhatItGivesUp, LeavesOthersAlone, ends_at_close, EndsAtClose}
+use Rattle.dm_machine.specs.Moves.{NodeOutcome, NodeMoved, NodeRefused, machine_outcome}
+use Rattle.dm_machine.specs.Connection.{Hold, NotHeld, Pending, Made, OpenAsI, ClosingAsI, Taken, OpenAsR, ClosingAsR, Concern, NamesAnother, AsksStop, SaysTimeout, SaysTick, AsksSubmit, StartsIt, AcksIt, NacksIt, EndsIt, HeardOnIt, hold_of, concern_of, ConnOrder, SendsCer, SendsCea, Closes, orders_to, AtConnection, AtEachStep}
+use Rattle.dm_machine.specs.Changes.{Change, changed_to, allowed}
+use Rattle.dm_machine.specs.Openings.{is_hold, has_order, is_entered, is_ack, is_good_cea, names_it, is_left_unclosed, OpensAcceptedWithCea, OpensInitiatedAtCea, SendsCerAtAck, ClosesWhatItGivesUp, LeavesOthersAlone, ends_in_close, EndsAtClose}
 use Rattle.dm_machine.specs.EachStep.{all_words, everywhere}
 use Rattle.dm_machine.proofs.Every.{at, at_word}
 use Rattle.dm_machine.proofs.Steps.{when, is_when}
@@ -33,7 +33,7 @@ at_hold f e ClosingAsR = at f holds 7 e
 
 -- how an input concerns a connection, but for messages
 abbrev concerns : List Concern
-concerns = NamesAnother ∷ Stops ∷ TimesOut ∷ Ticks ∷ Submits ∷ StartsIt ∷ AcksIt ∷ NacksIt ∷ EndsIt ∷ []
+concerns = NamesAnother ∷ AsksStop ∷ SaysTimeout ∷ SaysTick ∷ AsksSubmit ∷ StartsIt ∷ AcksIt ∷ NacksIt ∷ EndsIt ∷ []
 
 abbrev every_concern : (Concern → Bool) → Bool
 every_concern f = everywhere f concerns && everywhere (λ w. f (HeardOnIt w)) all_words
@@ -43,10 +43,10 @@ at_concern f e = by (and_parts (everywhere f concerns) (everywhere (λ w. f (Hea
   by : (everywhere f concerns ≡ true) × (everywhere (λ w. f (HeardOnIt w)) all_words ≡ true)
       → (k : Concern) → f k ≡ true
   by p NamesAnother = at f concerns 0 p.0
-  by p Stops = at f concerns 1 p.0
-  by p TimesOut = at f concerns 2 p.0
-  by p Ticks = at f concerns 3 p.0
-  by p Submits = at f concerns 4 p.0
+  by p AsksStop = at f concerns 1 p.0
+  by p SaysTimeout = at f concerns 2 p.0
+  by p SaysTick = at f concerns 3 p.0
+  by p AsksSubmit = at f concerns 4 p.0
   by p StartsIt = at f concerns 5 p.0
   by p AcksIt = at f concerns 6 p.0
   by p NacksIt = at f concerns 7 p.0
@@ -71,19 +71,19 @@ passes test e k h x m =
 
 -- a fact of how a step looks from one connection
 abbrev pub Fact : Type 1
-Fact = Concern → Hold → Hold → List Order → Type 0
+Fact = Concern → Hold → Hold → List ConnOrder → Type 0
 
 from_outcome : (P : Fact) → OfListed (λ k h x. P k h x.next x.orders) →
-    (n : Node) (i : Input) (c : Conn) (o : Outcome) →
-    AtConnection (λ k before after orders. Contains (allowed k before) (change after orders)) n i c o →
+    (n : Node) (i : Input) (c : Conn) (o : NodeOutcome) →
+    AtConnection (λ k before after orders. Contains (allowed k before) (changed_to after orders)) n i c o →
     AtConnection P n i c o
-from_outcome P f n i c (Refused r) m = tt
-from_outcome P f n i c (Moved commands next) m =
-    f (concern_of i c) (hold_of n c) (change (hold_of next c) (orders_to c commands)) m
+from_outcome P f n i c (NodeRefused r) m = tt
+from_outcome P f n i c (NodeMoved commands next) m =
+    f (concern_of i c) (hold_of n c) (changed_to (hold_of next c) (orders_to c commands)) m
 
 -- what holds of each listed change holds of each connection at each step
 pub from_changes : (P : Fact) → OfListed (λ k h x. P k h x.next x.orders) → AtEachStep P
-from_changes P f n i wins c h = from_outcome P f n i c (outcome n i wins) (each_connection n i wins c h)
+from_changes P f n i wins c h = from_outcome P f n i c (machine_outcome n i wins) (each_connection n i wins c h)
 
 -- that two tests agree, as one
 abbrev pub agree : Bool → Bool → Bool
@@ -97,7 +97,7 @@ agreed true false e = cc
 agreed false true e = cc
 
 abbrev pub SeenTest : Type 0
-SeenTest = Concern → Hold → Hold → List Order → Bool
+SeenTest = Concern → Hold → Hold → List ConnOrder → Bool
 
 abbrev pub agree_at : SeenTest → SeenTest → ChangeTest
 agree_at f g k h x = agree (f k h x.next x.orders) (g k h x.next x.orders)
@@ -170,7 +170,7 @@ alone = from_changes (λ k before after orders. IsTrue (is_other k before) → (
     left_alone
 
 abbrev nothing_follows : SeenTest
-nothing_follows k before after orders = ends_at_close orders
+nothing_follows k before after orders = ends_in_close orders
 
 abbrev pub is_any : SeenTest
 is_any k before after orders = true

@@ -11,7 +11,7 @@ use Rattle.dm_machine.specs.declared.outputs.Command.TheVariants.{Connect, SendC
 use Rattle.dm_machine.specs.Table.{TableEvent, Start, IRcvConnNack, WinElection, SendMessage, Stop, Act, ISndConnReq, RAccept, RSndCea, ISndCer, Error, IDisc, RDisc, RReject, XSndMessage, XSndDwa, XSndDpr, XSndDpa, XDisc, RSndRefusal, XSndRefusal, XSndDwr, Row}
 use Rattle.dm_machine.specs.Rows.{rows, row_in}
 use Rattle.dm_machine.specs.Node.{Node, node_at, is_same_role, held_as, only_held, without, pair_of}
-use Rattle.dm_machine.specs.Moves.{to_one, commands_of, held_after, all_commands, all_held, held_at, count_after, Outcome, Moved, Refused, by_row, by_no_row, by_event, raises_win, after_commands, then_won, by_table}
+use Rattle.dm_machine.specs.Moves.{to_one, commands_of, held_after, all_commands, all_held, held_at, count_after, NodeOutcome, NodeMoved, NodeRefused, by_row, by_no_row, by_event, raises_win, after_commands, then_won, by_table}
 
 -- everything with each connection put through a map
 abbrev pub renamed_held : (Conn → Conn) → List (Role × Conn) → List (Role × Conn)
@@ -50,9 +50,9 @@ abbrev pub renamed_commands : (Conn → Conn) → List Command → List Command
 renamed_commands f [] = []
 renamed_commands f (a ∷ more) = renamed_command f a ∷ renamed_commands f more
 
-abbrev pub renamed_outcome : (Conn → Conn) → Outcome → Outcome
-renamed_outcome f (Moved commands n) = Moved (renamed_commands f commands) (renamed_node f n)
-renamed_outcome f (Refused r) = Refused r
+abbrev pub renamed_outcome : (Conn → Conn) → NodeOutcome → NodeOutcome
+renamed_outcome f (NodeMoved commands n) = NodeMoved (renamed_commands f commands) (renamed_node f n)
+renamed_outcome f (NodeRefused r) = NodeRefused r
 
 renamed_commands-append : (f : Conn → Conn) (xs ys : List Command) →
     renamed_commands f (xs ++ ys) ≡ renamed_commands f xs ++ renamed_commands f ys
@@ -183,12 +183,12 @@ by_row-renamed : (f : Conn → Conn) (r : Row) (n : Node) (e : TableEvent) (new 
 by_row-renamed f r n e new =
     let count = count_after n.state r.next e n.count in
     let at = held_at-renamed f e n.held in
-    ap (λ (held : List (Role × Conn)). Moved (all_commands r.acts (renamed_new f new) held)
+    ap (λ (held : List (Role × Conn)). NodeMoved (all_commands r.acts (renamed_new f new) held)
     (node_at r.next (all_held r.acts (renamed_new f new) held) count)) at
-    ∙ (ap (λ (commands : List Command). Moved commands
+    ∙ (ap (λ (commands : List Command). NodeMoved commands
     (node_at r.next (all_held r.acts (renamed_new f new) (renamed_held f (held_at e n.held))) count))
     (all_commands-renamed f r.acts new (held_at e n.held))
-    ∙ ap (λ (held : List (Role × Conn)). Moved (renamed_commands f (all_commands r.acts new (held_at e n.held)))
+    ∙ ap (λ (held : List (Role × Conn)). NodeMoved (renamed_commands f (all_commands r.acts new (held_at e n.held)))
     (node_at r.next held count)) (all_held-renamed f r.acts new (held_at e n.held)))
 
 by_no_row-renamed : (f : Conn → Conn) (n : Node) (e : TableEvent) →
@@ -203,20 +203,20 @@ by_event-renamed : (f : Conn → Conn) (o : Option Row) (n : Node) (e : TableEve
 by_event-renamed f None n e new = by_no_row-renamed f n e
 by_event-renamed f (Some r) n e new = by_row-renamed f r n e new
 
-after_commands-renamed : (f : Conn → Conn) (before : List Command) (o : Outcome) →
+after_commands-renamed : (f : Conn → Conn) (before : List Command) (o : NodeOutcome) →
     after_commands (renamed_commands f before) (renamed_outcome f o) ≡ renamed_outcome f (after_commands before o)
-after_commands-renamed f before (Refused r) = refl
-after_commands-renamed f before (Moved more n) = ap (λ (t : List Command). Moved t (renamed_node f n))
+after_commands-renamed f before (NodeRefused r) = refl
+after_commands-renamed f before (NodeMoved more n) = ap (λ (t : List Command). NodeMoved t (renamed_node f n))
     (sym (renamed_commands-append f before more))
 
-then_won-renamed : (f : Conn → Conn) (o : Outcome) → then_won (renamed_outcome f o) ≡ renamed_outcome f (then_won o)
-then_won-renamed f (Refused r) = refl
-then_won-renamed f (Moved before n) =
+then_won-renamed : (f : Conn → Conn) (o : NodeOutcome) → then_won (renamed_outcome f o) ≡ renamed_outcome f (then_won o)
+then_won-renamed f (NodeRefused r) = refl
+then_won-renamed f (NodeMoved before n) =
     ap (after_commands (renamed_commands f before))
     (by_event-renamed f (row_in rows n.state WinElection) n WinElection None)
     ∙ after_commands-renamed f before (by_event (row_in rows n.state WinElection) n WinElection None)
 
-won_if : (f : Conn → Conn) (b : Bool) (o from : Outcome) → o ≡ renamed_outcome f from →
+won_if : (f : Conn → Conn) (b : Bool) (o from : NodeOutcome) → o ≡ renamed_outcome f from →
     (if b then then_won o else o) ≡ renamed_outcome f (if b then then_won from else from)
 won_if f true o from h = ap then_won h ∙ then_won-renamed f from
 won_if f false o from h = h

@@ -10,7 +10,7 @@ use Rattle.dm_machine.specs.declared.state_name.State.TheVariants.{WaitConnAck, 
 use Rattle.dm_machine.specs.declared.inputs.Input.{Input}
 use Rattle.dm_machine.specs.declared.outputs.Command.{Command}
 use Rattle.dm_machine.specs.Node.{Node, is_held_in, is_count_of}
-use Rattle.dm_machine.specs.Moves.{Outcome, Moved, Refused, outcome}
+use Rattle.dm_machine.specs.Moves.{NodeOutcome, NodeMoved, NodeRefused, machine_outcome}
 use Rattle.dm_machine.specs.Shape.{KeepsShape, EachStepKeepsShape}
 use Rattle.dm_machine.proofs.Renamed.{renamed_held, renamed_node, renamed_input, renamed_commands, renamed_outcome}
 use Rattle.dm_machine.proofs.Marks.{mark}
@@ -36,11 +36,11 @@ held_from_seen IOpen ((Initiated, i) ∷ []) h = refl
 held_from_seen Closing ((role, x) ∷ []) h = refl
 held_from_seen _ _ h = cc (h (record { 0 = 0 }))
 
-from_marked : (o : Outcome) (n : Node) (i : Input) →
+from_marked : (o : NodeOutcome) (n : Node) (i : Input) →
     ((c : Conn) → is_kept (renamed_node (mark c) n) (renamed_input (mark c) i) (renamed_outcome (mark c) o) ≡ true) →
     KeepsShape o
-from_marked (Refused r) n i h = tt
-from_marked (Moved commands next) n i h =
+from_marked (NodeRefused r) n i h = tt
+from_marked (NodeMoved commands next) n i h =
     let held = λ (c : Conn). is_held_seen next.state (renamed_held (mark c) next.held) in
     let counted = is_count_of next.state next.count in
     let few = λ (c : Conn). nat_le (length (renamed_commands (mark c) commands)) 4 in
@@ -54,4 +54,4 @@ from_marked (Moved commands next) n i h =
     )
 
 pub each_step : EachStepKeepsShape
-each_step n i wins h = from_marked (outcome n i wins) n i (λ c. kept n i wins c h)
+each_step n i wins h = from_marked (machine_outcome n i wins) n i (λ c. kept n i wins c h)

@@ -6,8 +6,8 @@ use Rattle.dm_machine.specs.declared.outputs.Refusal.TheVariants.{NotClosed, Not
 use Rattle.dm_machine.specs.Table.{TableEvent, RConnCer}
 use Rattle.dm_machine.specs.Node.{Node}
 use Rattle.dm_machine.specs.Forms.{Form, closed, wait_conn_ack, wait_i_cea, wait_conn_ack_elect, wait_returns, r_open, i_open, closing}
-use Rattle.dm_machine.specs.Reading.{named_by, event_of}
-use Rattle.dm_machine.specs.Moves.{by_table, outcome, refusal_of}
+use Rattle.dm_machine.specs.Reading.{conn_named, event_of}
+use Rattle.dm_machine.specs.Moves.{by_table, machine_outcome, node_refusal}
 use Rattle.dm_machine.specs.EachStep.{StepTest, everywhere, passes_of}
 use Rattle.dm_machine.specs.Refusals.{refused_as, RefusesByState}
 use Rattle.dm_machine.specs.Elections.{holds_elections, WinnerCountsInElections}
@@ -32,7 +32,7 @@ same (Some NotClosed) (Some NotOpen) e = absurd (cc e)
 same (Some NotOpen) (Some NotClosed) e = absurd (cc e)
 
 abbrev is_by_state : StepTest
-is_by_state n at i o = are_same (refused_as o) (refusal_of n.state i)
+is_by_state n at i o = are_same (refused_as o) (node_refusal n.state i)
 
 by_state : (i r c : Conn) → IsTrue (passes_of is_by_state i r c)
 unfolding everywhere
@@ -40,7 +40,7 @@ by_state i r c = refl
 
 pub refuses_by_state : RefusesByState
 refuses_by_state n i wins shaped =
-    same (refused_as (outcome n i wins)) (refusal_of n.state i) (each_step_holds is_by_state by_state n i wins shaped)
+    same (refused_as (machine_outcome n i wins)) (node_refusal n.state i) (each_step_holds is_by_state by_state n i wins shaped)
 
 -- elections
 loses_alike : (n : Node) → Form n → (e : TableEvent) (new : Option Conn) (wins : Bool) →
@@ -61,4 +61,4 @@ loses_alike n (closing role x) RConnCer new wins = refl
 loses_alike n (closing role x) _ new wins = refl
 
 pub winner_counts : WinnerCountsInElections
-winner_counts n i wins shaped = loses_alike n (form_of n shaped) (event_of n i) (named_by i) wins
+winner_counts n i wins shaped = loses_alike n (form_of n shaped) (event_of n i) (conn_named i) wins

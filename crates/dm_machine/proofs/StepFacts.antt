@@ -8,9 +8,9 @@ use Rattle.dm_machine.specs.declared.state_name.State.{State}
 use Rattle.dm_machine.specs.declared.state_name.State.TheVariants.{WaitConnAckElect, WaitReturns}
 use Rattle.dm_machine.specs.declared.inputs.Input.{Input}
 use Rattle.dm_machine.specs.Node.{Node, is_shaped, is_held_in, is_count_of}
-use Rattle.dm_machine.specs.Moves.{Moved, Refused, outcome}
+use Rattle.dm_machine.specs.Moves.{NodeMoved, NodeRefused, machine_outcome}
 use Rattle.dm_machine.specs.Connection.{hold_of, concern_of, orders_to}
-use Rattle.dm_machine.specs.Changes.{change, allowed}
+use Rattle.dm_machine.specs.Changes.{changed_to, allowed}
 use Rattle.dm_machine.proofs.Renamed.{renamed_node, renamed_input, renamed_outcome}
 use Rattle.dm_machine.proofs.Marks.{this, mark}
 use Rattle.dm_machine.specs.EachStep.{everywhere}
@@ -26,15 +26,15 @@ is_held_seen s held = is_held_in s held
 
 -- the change of the connection that is looked at is listed
 abbrev pub is_listed : MarkedTest
-is_listed n i (Moved commands next) = lists_change (change (hold_of next this) (orders_to this commands))
+is_listed n i (NodeMoved commands next) = lists_change (changed_to (hold_of next this) (orders_to this commands))
     (allowed (concern_of i this) (hold_of n this))
-is_listed n i (Refused r) = true
+is_listed n i (NodeRefused r) = true
 
 -- the next node has its shape, and there are few commands
 abbrev pub is_kept : MarkedTest
-is_kept n i (Moved commands next) = (is_held_seen next.state next.held && is_count_of next.state next.count) &&
+is_kept n i (NodeMoved commands next) = (is_held_seen next.state next.held && is_count_of next.state next.count) &&
     nat_le (length commands) 4
-is_kept n i (Refused r) = true
+is_kept n i (NodeRefused r) = true
 
 abbrev is_right : MarkedTest
 is_right n i o = is_listed n i o && is_kept n i o
@@ -45,7 +45,7 @@ checked = refl
 
 abbrev seen : MarkedTest → Node → Input → Bool → Conn → Bool
 seen test n i wins c = test (renamed_node (mark c) n) (renamed_input (mark c) i)
-    (renamed_outcome (mark c) (outcome n i wins))
+    (renamed_outcome (mark c) (machine_outcome n i wins))
 
 right : (n : Node) (i : Input) (wins : Bool) (c : Conn) → IsTrue (is_shaped n) → seen is_right n i wins c ≡ true
 right n i wins c h = at_step is_right checked n i wins c h

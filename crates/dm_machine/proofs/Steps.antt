@@ -11,8 +11,8 @@ use Rattle.dm_machine.specs.declared.inputs.Input.{Input}
 use Rattle.dm_machine.specs.declared.inputs.Input.TheVariants.{Start, Ack, Nack, Gone, Heard}
 use Rattle.dm_machine.specs.Table.{TableEvent}
 use Rattle.dm_machine.specs.Node.{Node, node_at, is_shaped}
-use Rattle.dm_machine.specs.Reading.{Place, named_by, place_in, event_at, event_of}
-use Rattle.dm_machine.specs.Moves.{Outcome, outcome, by_table}
+use Rattle.dm_machine.specs.Reading.{Place, conn_named, place_in, event_at, event_of}
+use Rattle.dm_machine.specs.Moves.{NodeOutcome, machine_outcome, by_table}
 use Rattle.dm_machine.specs.Forms.{Form, closed, wait_conn_ack, wait_i_cea, wait_conn_ack_elect, wait_returns, r_open, i_open, closing}
 use Rattle.dm_machine.specs.EachStep.{everywhere}
 use Rattle.dm_machine.proofs.FormLemmas.{form_of}
@@ -89,18 +89,18 @@ at_form f h c n (closing Accepted x) = at_one f Closing Accepted 0 (at (everywhe
 
 -- a law of one step, as a test of the marked node, the marked input and the marked outcome
 abbrev pub MarkedTest : Type 0
-MarkedTest = Node → Input → Outcome → Bool
+MarkedTest = Node → Input → NodeOutcome → Bool
 
 abbrev at_win : MarkedTest → Node → Input → Place → Bool → Bool
-at_win law n i at wins = law n i (by_table n (event_at n.state n.count at i) (named_by i) wins)
+at_win law n i at wins = law n i (by_table n (event_at n.state n.count at i) (conn_named i) wins)
 
 abbrev in_place : MarkedTest → Node → Input → Place → Bool
-in_place law n i at = when (fits n (named_by i) at) (everywhere (at_win law n i at) bools)
+in_place law n i at = when (fits n (conn_named i) at) (everywhere (at_win law n i at) bools)
 
 abbrev pub every_step : MarkedTest → Bool
 every_step law = every_node (λ n. everywhere (every_input (λ i. everywhere (in_place law n i) places)) marks)
 
-named_mark : (c : Conn) (i : Input) → named_by (renamed_input (mark c) i) ≡ renamed_new (mark c) (named_by i)
+named_mark : (c : Conn) (i : Input) → conn_named (renamed_input (mark c) i) ≡ renamed_new (mark c) (conn_named i)
 named_mark c (Start d) = refl
 named_mark c (Ack d) = refl
 named_mark c (Nack d) = refl
@@ -120,22 +120,22 @@ event_mark c s n _ at = refl
 -- the law holds of each step of each node of the right shape
 pub at_step : (law : MarkedTest) → every_step law ≡ true → (n : Node) (i : Input) (wins : Bool) (c : Conn) →
     IsTrue (is_shaped n) →
-    law (renamed_node (mark c) n) (renamed_input (mark c) i) (renamed_outcome (mark c) (outcome n i wins)) ≡ true
+    law (renamed_node (mark c) n) (renamed_input (mark c) i) (renamed_outcome (mark c) (machine_outcome n i wins)) ≡ true
 at_step law h n i wins c g =
     let m = renamed_node (mark c) n in
     let j = renamed_input (mark c) i in
-    let at = place_in n (named_by i) in
+    let at = place_in n (conn_named i) in
     let each = λ (k : Node). everywhere (every_input (λ j'. everywhere (in_place law k j') places)) marks in
     let at_n = at_form each h c n (form_of n g) in
     let at_i = at_marked_input (λ j'. everywhere (in_place law m j') places) at_n c i in
     let at_p = at_place (in_place law m j) at_i at in
     let F : Option Conn → Type 0 = λ o. fits m o at ≡ true in
-    let fit = subst F (sym (named_mark c i)) (place_fits n c (named_by i)) in
-    let here = is_when (fits m (named_by j) at) (everywhere (at_win law m j at) bools) at_p fit in
+    let fit = subst F (sym (named_mark c i)) (place_fits n c (conn_named i)) in
+    let here = is_when (fits m (conn_named j) at) (everywhere (at_win law m j at) bools) at_p fit in
     let at_w = at_bool (at_win law m j at) here wins in
-    let by_event : TableEvent → Type 0 = λ e. law m j (by_table m e (named_by j) wins) ≡ true in
+    let by_event : TableEvent → Type 0 = λ e. law m j (by_table m e (conn_named j) wins) ≡ true in
     let by_name : Option Conn → Type 0 = λ o. law m j (by_table m (event_of n i) o wins) ≡ true in
-    let by_outcome : Outcome → Type 0 = λ o. law m j o ≡ true in
+    let by_outcome : NodeOutcome → Type 0 = λ o. law m j o ≡ true in
     let read = subst by_event (event_mark c n.state n.count i at) at_w in
-    subst by_outcome (by_table-renamed (mark c) n (event_of n i) (named_by i) wins)
+    subst by_outcome (by_table-renamed (mark c) n (event_of n i) (conn_named i) wins)
     (subst by_name (named_mark c i) read)

@@ -6,7 +6,7 @@ use Rattle.dm_machine.specs.declared.inputs.Word.TheVariants.{Cer, CerRefused}
 use Rattle.dm_machine.specs.Node.{Node}
 use Rattle.dm_machine.specs.Forms.{Form, closed, wait_conn_ack, wait_i_cea, wait_conn_ack_elect, wait_returns, r_open, i_open, closing}
 use Rattle.dm_machine.specs.Reading.{Place, first_message, message_event}
-use Rattle.dm_machine.specs.Moves.{Moved, by_table}
+use Rattle.dm_machine.specs.Moves.{NodeMoved, by_table}
 use Rattle.dm_machine.specs.Connection.{NotHeld}
 use Rattle.dm_machine.specs.Strangers.{lets_in, turned_away, TurnsStrangersAway}
 use Rattle.dm_machine.proofs.FormLemmas.{form_of}
@@ -14,7 +14,7 @@ use Rattle.dm_machine.proofs.UnreadLaw.{placed, rejected}
 
 -- by the form of the node
 away : (n : Node) → Form n → (c : Conn) (wins : Bool) (w : Word) → lets_in n.state w ≡ false →
-    by_table n (first_message w) (Some c) wins ≡ Moved (turned_away n.state w c) n
+    by_table n (first_message w) (Some c) wins ≡ NodeMoved (turned_away n.state w c) n
 away n closed c wins Cer out = cc
 away n closed c wins CerRefused out = refl
 away n closed c wins _ out = refl

@@ -14,7 +14,7 @@ use Rattle.dm_machine.specs.Rows.{rows, row_in}
 use Rattle.dm_machine.specs.Node.{Node}
 use Rattle.dm_machine.specs.Forms.{Form, closed, wait_conn_ack, wait_i_cea, wait_conn_ack_elect, wait_returns, r_open, i_open, closing}
 use Rattle.dm_machine.specs.Reading.{Place, OnI, OnR, OnX, OnNew, place_as, place_of, first_message, message_on_i, message_event, event_of, end_event}
-use Rattle.dm_machine.specs.Moves.{Moved, raises_win, by_event, then_won, by_table}
+use Rattle.dm_machine.specs.Moves.{NodeMoved, raises_win, by_event, then_won, by_table}
 use Rattle.dm_machine.specs.Connection.{Hold, NotHeld, Pending, Made, Taken, hold_as, hold_in, hold_of}
 use Rattle.dm_machine.specs.Unread.{reads_first, ClosesUnread, DropsBeforeAck, ReadsAsPeerDisc, EndsAtWord}
 use Rattle.dm_machine.proofs.FormLemmas.{form_of}
@@ -53,7 +53,7 @@ pub placed : (n : Node) (c : Conn) (h : Hold) → hold_of n c ≡ h → place_of
 placed n c h e = place_of-hold n.state n.held c ∙ ap place_at e
 
 pub rejected : (n : Node) → Form n → IsTrue (not (reads_first n.state)) → (c : Conn) (wins : Bool) (w : Word) →
-    by_table n (first_message w) (Some c) wins ≡ Moved (Close c ∷ []) n
+    by_table n (first_message w) (Some c) wins ≡ NodeMoved (Close c ∷ []) n
 rejected n (wait_conn_ack_elect i r apart) g c wins Cer = refl
 rejected n (wait_conn_ack_elect i r apart) g c wins CerRefused = refl
 rejected n (wait_conn_ack_elect i r apart) g c wins _ = refl
@@ -112,7 +112,7 @@ no_row ROpen = refl
 no_row IOpen = refl
 no_row Closing = refl
 
-nothing_follows : (n : Node) (new : Option Conn) (wins : Bool) → by_table n NoEvent new wins ≡ Moved [] n
+nothing_follows : (n : Node) (new : Option Conn) (wins : Bool) → by_table n NoEvent new wins ≡ NodeMoved [] n
 nothing_follows n new wins =
     ap (λ (r : Option Row). if raises_win r wins then then_won (by_event r n NoEvent new) else by_event r n NoEvent new)
     (no_row n.state)

@@ -10,8 +10,8 @@ use Rattle.dm_machine.specs.declared.outputs.Command.TheVariants.{Up}
 use Rattle.dm_machine.specs.Table.{XRcvMessage}
 use Rattle.dm_machine.specs.Node.{Node, node_at}
 use Rattle.dm_machine.specs.Forms.{Form, closed, wait_conn_ack, wait_i_cea, wait_conn_ack_elect, wait_returns, r_open, i_open, closing}
-use Rattle.dm_machine.specs.Reading.{Place, OnX, OnNew, place_of, place_in, message_event, named_by}
-use Rattle.dm_machine.specs.Moves.{Outcome, Moved, Refused, is_open, outcome, by_table}
+use Rattle.dm_machine.specs.Reading.{Place, OnX, OnNew, place_of, place_in, message_event, conn_named}
+use Rattle.dm_machine.specs.Moves.{NodeOutcome, NodeMoved, NodeRefused, is_open, machine_outcome, by_table}
 use Rattle.dm_machine.specs.Connection.{Hold, NotHeld, Pending, Made, OpenAsI, ClosingAsI, Taken, OpenAsR, ClosingAsR, hold_of, SendsSubmit}
 use Rattle.dm_machine.specs.Openings.{has_order}
 use Rattle.dm_machine.specs.Upward.{is_open_hold, is_submitted, SubmitsWhereOpen, has_up, IsHeardOpen, UpIsHeard, HandsUpWhereOpen, HandsUpEach, OpenOnOne}
@@ -49,7 +49,7 @@ open_if false a e = cc
 
 -- each message goes up
 up_at : (n : Node) → Form n → (c : Conn) (wins : Bool) → is_open_hold (hold_of n c) ≡ true →
-    by_table n XRcvMessage (Some c) wins ≡ Moved (Up ∷ []) (node_at n.state n.held 0)
+    by_table n XRcvMessage (Some c) wins ≡ NodeMoved (Up ∷ []) (node_at n.state n.held 0)
 up_at n (r_open r k few) c wins e = refl
 up_at n (i_open i k few) c wins e = refl
 up_at n closed c wins e = cc
@@ -72,9 +72,9 @@ hands_up_each n c wins shaped e =
     (placed n c (hold_of n c) refl ∙ open_place (hold_of n c) e) ∙ up_at n (form_of n shaped) c wins e
 
 -- nothing else does
-abbrev goes_up : Outcome → Bool
-goes_up (Moved commands next) = has_up commands
-goes_up (Refused r) = false
+abbrev goes_up : NodeOutcome → Bool
+goes_up (NodeMoved commands next) = has_up commands
+goes_up (NodeRefused r) = false
 
 abbrev is_x : Place → Bool
 is_x OnX = true
@@ -114,9 +114,9 @@ opened_at n (wait_returns i r apart) c e at = cc
 opened_at n (closing role x) c e at = cc
 
 heard_open : (n : Node) → Form n → (i : Input) →
-    (is_open n.state && (is_x (place_in n (named_by i)) && is_other i)) ≡ true → IsHeardOpen n i
+    (is_open n.state && (is_x (place_in n (conn_named i)) && is_other i)) ≡ true → IsHeardOpen n i
 heard_open n f i e =
-    let at = place_in n (named_by i) in
+    let at = place_in n (conn_named i) in
     let both = and_parts (is_open n.state) (is_x at && is_other i) e in
     let here = and_parts (is_x at) (is_other i) both.1 in
     let other = heard_other i here.1 in
@@ -124,19 +124,19 @@ heard_open n f i e =
       conn = other.0;
       heard = other.1;
       opened = opened_at n f other.0 both.0
-          (subst (λ (j : Input). is_x (place_in n (named_by j)) ≡ true) other.1 here.0);
+          (subst (λ (j : Input). is_x (place_in n (conn_named j)) ≡ true) other.1 here.0);
     }
 
-by_outcome : (n : Node) → Form n → (i : Input) (o : Outcome) → is_up_heard n (place_in n (named_by i)) i o ≡ true →
+by_outcome : (n : Node) → Form n → (i : Input) (o : NodeOutcome) → is_up_heard n (place_in n (conn_named i)) i o ≡ true →
     UpIsHeard n i o
-by_outcome n f i (Moved commands next) e =
+by_outcome n f i (NodeMoved commands next) e =
     λ up. heard_open n f i
-    (is_when (has_up commands) (is_open n.state && (is_x (place_in n (named_by i)) && is_other i)) e up)
-by_outcome n f i (Refused r) e = tt
+    (is_when (has_up commands) (is_open n.state && (is_x (place_in n (conn_named i)) && is_other i)) e up)
+by_outcome n f i (NodeRefused r) e = tt
 
 pub hands_up : HandsUpWhereOpen
 hands_up n i wins shaped =
-    by_outcome n (form_of n shaped) i (outcome n i wins) (each_step_holds is_up_heard up_heard n i wins shaped)
+    by_outcome n (form_of n shaped) i (machine_outcome n i wins) (each_step_holds is_up_heard up_heard n i wins shaped)
 
 -- and there is one open connection at most
 one_at : (n : Node) → Form n → (c d : Conn) → is_open_hold (hold_of n c) ≡ true → is_open_hold (hold_of n d) ≡ true →

@@ -1,19 +1,24 @@
 -- What a step may do to one connection: a finite table, and what it comes to in words.
 use Rattle.std.specs.Prelude.{List, [], ◌∷◌, Contains}
 use Rattle.dm_machine.specs.declared.inputs.Word.{Word}
-use Rattle.dm_machine.specs.declared.inputs.Word.TheVariants.{Unreadable, Cer, CerRefused, Cea, Dwr, DwrBad, Dwa, DwaBad, Dpr, DprBad, Dpa, Other}
-use Rattle.dm_machine.specs.Connection.{Hold, NotHeld, Pending, Made, OpenAsI, ClosingAsI, Taken, OpenAsR, ClosingAsR, Concern, NamesAnother, Stops, TimesOut, Ticks, Submits, StartsIt, AcksIt, NacksIt, EndsIt, HeardOnIt, Order, Connects, SendsCer, SendsCea, SendsRefusal, SendsDwr, SendsDwa, SendsDpr, SendsDpa, SendsSubmit, Closes, AtEachStep}
+use Rattle.dm_machine.specs.declared.inputs.Word.TheVariants.{Unreadable, Cer, CerRefused, Cea, Dwr}
+use Rattle.dm_machine.specs.declared.inputs.Word.TheVariants.{DwrBad, Dwa, DwaBad, Dpr, DprBad, Dpa, Other}
+use Rattle.dm_machine.specs.Connection.{Hold, NotHeld, Pending, Made, OpenAsI, ClosingAsI, Taken, OpenAsR}
+use Rattle.dm_machine.specs.Connection.{ClosingAsR, Concern, NamesAnother, AsksStop, SaysTimeout, SaysTick}
+use Rattle.dm_machine.specs.Connection.{AsksSubmit, StartsIt, AcksIt, NacksIt, EndsIt, HeardOnIt}
+use Rattle.dm_machine.specs.Connection.{ConnOrder, Connects, SendsCer, SendsCea, SendsRefusal, SendsDwr}
+use Rattle.dm_machine.specs.Connection.{SendsDwa, SendsDpr, SendsDpa, SendsSubmit, Closes, AtEachStep}
 
 -- what the connection is then, and what it is ordered
 pub record Change : Type 0 where
   pub next : Hold
-  pub orders : List Order
+  pub orders : List ConnOrder
 
-abbrev pub change : Hold → List Order → Change
-change next orders = record { next = next; orders = orders }
+abbrev pub changed_to : Hold → List ConnOrder → Change
+changed_to next orders = record { next = next; orders = orders }
 
-abbrev pub just : Hold → List Order → List Change
-just next orders = change next orders ∷ []
+abbrev pub just : Hold → List ConnOrder → List Change
+just next orders = changed_to next orders ∷ []
 
 abbrev pub unchanged : Hold → List Change
 unchanged h = just h []
@@ -24,8 +29,8 @@ given_up = just NotHeld (Closes ∷ [])
 -- the input names another connection: the initiated one may lose an election, the accepted one may be left alone or
 -- given up
 abbrev pub at_another : Hold → List Change
-at_another Made = change Made [] ∷ given_up
-at_another Taken = change Taken [] ∷ change OpenAsR (SendsCea ∷ []) ∷ given_up
+at_another Made = changed_to Made [] ∷ given_up
+at_another Taken = changed_to Taken [] ∷ changed_to OpenAsR (SendsCea ∷ []) ∷ given_up
 at_another h = unchanged h
 
 -- what is held outside the open states gets none: there a Stop or Submit is refused
@@ -49,8 +54,8 @@ at_timeout _ = given_up
 
 -- by the watchdog's count
 abbrev pub at_tick : Hold → List Change
-at_tick OpenAsI = change OpenAsI (SendsDwr ∷ []) ∷ change OpenAsI [] ∷ given_up
-at_tick OpenAsR = change OpenAsR (SendsDwr ∷ []) ∷ change OpenAsR [] ∷ given_up
+at_tick OpenAsI = changed_to OpenAsI (SendsDwr ∷ []) ∷ changed_to OpenAsI [] ∷ given_up
+at_tick OpenAsR = changed_to OpenAsR (SendsDwr ∷ []) ∷ changed_to OpenAsR [] ∷ given_up
 at_tick h = unchanged h
 
 -- what is held gets none: outside Closed a Start is refused
@@ -60,7 +65,7 @@ at_start _ = []
 
 -- the CER, and where the election is won at once the Close
 abbrev pub at_ack : Hold → List Change
-at_ack Pending = change Made (SendsCer ∷ []) ∷ change NotHeld (SendsCer ∷ Closes ∷ []) ∷ []
+at_ack Pending = changed_to Made (SendsCer ∷ []) ∷ changed_to NotHeld (SendsCer ∷ Closes ∷ []) ∷ []
 at_ack h = unchanged h
 
 abbrev pub at_nack : Hold → List Change
@@ -74,8 +79,8 @@ at_end _ = given_up
 
 -- the first message of a new connection, by what the node waits for
 abbrev pub at_first_word : Word → List Change
-at_first_word Cer = change Taken [] ∷ change OpenAsR (SendsCea ∷ []) ∷ given_up
-at_first_word CerRefused = change NotHeld (SendsRefusal ∷ Closes ∷ []) ∷ given_up
+at_first_word Cer = changed_to Taken [] ∷ changed_to OpenAsR (SendsCea ∷ []) ∷ given_up
+at_first_word CerRefused = changed_to NotHeld (SendsRefusal ∷ Closes ∷ []) ∷ given_up
 at_first_word _ = given_up
 
 abbrev pub at_awaited_word : Word → List Change
@@ -112,10 +117,10 @@ at_word ClosingAsR w = at_closing_word ClosingAsR w
 -- the changes that a step may make, by how it concerns the connection and what that is to the node
 abbrev pub allowed : Concern → Hold → List Change
 allowed NamesAnother h = at_another h
-allowed Stops h = at_stop h
-allowed TimesOut h = at_timeout h
-allowed Ticks h = at_tick h
-allowed Submits h = at_submit h
+allowed AsksStop h = at_stop h
+allowed SaysTimeout h = at_timeout h
+allowed SaysTick h = at_tick h
+allowed AsksSubmit h = at_submit h
 allowed StartsIt h = at_start h
 allowed AcksIt h = at_ack h
 allowed NacksIt h = at_nack h
@@ -124,4 +129,5 @@ allowed (HeardOnIt w) h = at_word h w
 
 -- every step changes every connection in a listed way
 abbrev pub EachConnectionChangesAsAllowed : Type 0
-EachConnectionChangesAsAllowed = AtEachStep (λ k before after orders. Contains (allowed k before) (change after orders))
+EachConnectionChangesAsAllowed = AtEachStep
+    (λ k before after orders. Contains (allowed k before) (changed_to after orders))

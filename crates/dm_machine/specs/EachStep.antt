@@ -5,18 +5,21 @@ use Rattle.std.specs.List.{list_all}
 use Rattle.dm_machine.specs.declared.connection.Conn.{Conn}
 use Rattle.dm_machine.specs.declared.phase.Role.TheVariants.{Initiated, Accepted}
 use Rattle.dm_machine.specs.declared.state_name.State.{State}
-use Rattle.dm_machine.specs.declared.state_name.State.TheVariants.{Closed, WaitConnAck, WaitICea, WaitConnAckElect, WaitReturns, ROpen, IOpen, Closing}
+use Rattle.dm_machine.specs.declared.state_name.State.TheVariants.{Closed, WaitConnAck, WaitICea, WaitConnAckElect}
+use Rattle.dm_machine.specs.declared.state_name.State.TheVariants.{WaitReturns, ROpen, IOpen, Closing}
 use Rattle.dm_machine.specs.declared.inputs.Input.{Input}
-use Rattle.dm_machine.specs.declared.inputs.Input.TheVariants.{Start, Stop, Timeout, Tick, Ack, Nack, Gone, Submit, Heard}
+use Rattle.dm_machine.specs.declared.inputs.Input.TheVariants.{Start, Stop, Timeout, Tick}
+use Rattle.dm_machine.specs.declared.inputs.Input.TheVariants.{Ack, Nack, Gone, Submit, Heard}
 use Rattle.dm_machine.specs.declared.inputs.Word.{Word}
-use Rattle.dm_machine.specs.declared.inputs.Word.TheVariants.{Unreadable, Cer, CerRefused, Cea, CeaFailed, Dwr, DwrBad, Dwa, DwaBad, Dpr, DprBad, Dpa, DpaBad, Other}
+use Rattle.dm_machine.specs.declared.inputs.Word.TheVariants.{Unreadable, Cer, CerRefused, Cea, CeaFailed, Dwr}
+use Rattle.dm_machine.specs.declared.inputs.Word.TheVariants.{DwrBad, Dwa, DwaBad, Dpr, DprBad, Dpa, DpaBad, Other}
 use Rattle.dm_machine.specs.Node.{Node, node_at, is_shaped}
-use Rattle.dm_machine.specs.Reading.{Place, OnI, OnR, OnX, OnNew, named_by, place_in, event_at}
-use Rattle.dm_machine.specs.Moves.{Outcome, by_table, outcome}
+use Rattle.dm_machine.specs.Reading.{Place, OnI, OnR, OnX, OnNew, conn_named, place_in, event_at}
+use Rattle.dm_machine.specs.Moves.{NodeOutcome, by_table, machine_outcome}
 
 -- a test of a node, an input and the place of its connection, and what comes of it
 abbrev pub StepTest : Type 0
-StepTest = Node → Place → Input → Outcome → Bool
+StepTest = Node → Place → Input → NodeOutcome → Bool
 
 -- the nodes of the right shape that hold i and r
 abbrev pub nodes_of : Conn → Conn → List Node
@@ -60,7 +63,8 @@ everywhere f l = list_all f l
 -- the test holds of an input on a connection at a place, whoever wins
 abbrev pub passes_at : StepTest → Node → Place → Input → Bool
 passes_at test n at i =
-    everywhere (λ wins. test n at i (by_table n (event_at n.state n.count at i) (named_by i) wins)) (true ∷ false ∷ [])
+    everywhere (λ wins. test n at i (by_table n (event_at n.state n.count at i) (conn_named i) wins)) (true ∷ false
+    ∷ [])
 
 abbrev pub passes_on : StepTest → Node → Conn → Place → Bool
 passes_on test n c at =
@@ -74,4 +78,4 @@ abbrev pub EachStepHolds : Type 0
 EachStepHolds =
     (test : StepTest) → ((i r c : Conn) → IsTrue (passes_of test i r c)) →
     (n : Node) (i : Input) (wins : Bool) → IsTrue (is_shaped n) →
-    IsTrue (test n (place_in n (named_by i)) i (outcome n i wins))
+    IsTrue (test n (place_in n (conn_named i)) i (machine_outcome n i wins))

@@ -4,7 +4,7 @@ use Rattle.dm_machine.specs.declared.state_name.State.{State}
 use Rattle.dm_machine.specs.declared.state_name.State.TheVariants.{WaitICea, WaitConnAckElect}
 use Rattle.dm_machine.specs.declared.inputs.Input.{Input}
 use Rattle.dm_machine.specs.Node.{Node, is_shaped}
-use Rattle.dm_machine.specs.Moves.{outcome}
+use Rattle.dm_machine.specs.Moves.{machine_outcome}
 
 -- those where the other side's CER meets the own one: the one that comes, or the one that is sent
 abbrev pub holds_elections : State → Bool
@@ -15,4 +15,4 @@ holds_elections _ = false
 abbrev pub WinnerCountsInElections : Type 0
 WinnerCountsInElections =
     (n : Node) (i : Input) (wins : Bool) → IsTrue (is_shaped n) →
-    outcome n i (holds_elections n.state && wins) ≡ outcome n i wins
+    machine_outcome n i (holds_elections n.state && wins) ≡ machine_outcome n i wins

@@ -3,7 +3,8 @@ use Rattle.std.specs.Prelude.{ℕ, not, ◌==◌, nat_le, IsTrue, [], ◌∷◌}
 use Rattle.dm_machine.specs.declared.connection.Conn.{Conn}
 use Rattle.dm_machine.specs.declared.phase.Role.{Role}
 use Rattle.dm_machine.specs.declared.phase.Role.TheVariants.{Initiated, Accepted}
-use Rattle.dm_machine.specs.declared.state_name.State.TheVariants.{Closed, WaitConnAck, WaitICea, WaitConnAckElect, WaitReturns, ROpen, IOpen, Closing}
+use Rattle.dm_machine.specs.declared.state_name.State.TheVariants.{Closed, WaitConnAck, WaitICea, WaitConnAckElect}
+use Rattle.dm_machine.specs.declared.state_name.State.TheVariants.{WaitReturns, ROpen, IOpen, Closing}
 use Rattle.dm_machine.specs.Node.{Node, node_at, is_shaped}
 
 pub data Form : Node → Type 0 where

@@ -8,14 +8,18 @@ use Rattle.dm_machine.specs.declared.state_name.State.TheVariants.{Closed, ROpen
 use Rattle.dm_machine.specs.declared.inputs.Input.{Input}
 use Rattle.dm_machine.specs.declared.inputs.Input.TheVariants as input
 use Rattle.dm_machine.specs.declared.outputs.Command.{Command}
-use Rattle.dm_machine.specs.declared.outputs.Command.TheVariants.{Connect, SendCer, SendCea, SendRefusal, SendDwr, SendDwa, SendDpr, SendDpa, SendSubmit, Close}
+use Rattle.dm_machine.specs.declared.outputs.Command.TheVariants.{Connect, SendCer, SendCea, SendRefusal, SendDwr}
+use Rattle.dm_machine.specs.declared.outputs.Command.TheVariants.{SendDwa, SendDpr, SendDpa, SendSubmit, Close}
 use Rattle.dm_machine.specs.declared.outputs.Command.TheVariants as command
 use Rattle.dm_machine.specs.declared.outputs.Refusal.{Refusal}
 use Rattle.dm_machine.specs.declared.outputs.Refusal.TheVariants.{NotClosed, NotOpen}
-use Rattle.dm_machine.specs.Table.{TableEvent, Start, RConnCer, IRcvConnNack, WinElection, SendMessage, Stop, RConnRefusedCer, RConnOther, FirstTick, SecondTick, Act, ISndConnReq, RAccept, RSndCea, ISndCer, Cleanup, Elect, Error, IDisc, RDisc, RReject, XSndMessage, Up, XSndDwa, XSndDpr, XSndDpa, XDisc, RSndRefusal, XSndRefusal, XSndDwr, Row}
+use Rattle.dm_machine.specs.Table.{TableEvent, Start, RConnCer, IRcvConnNack, WinElection, SendMessage, Stop}
+use Rattle.dm_machine.specs.Table.{RConnRefusedCer, RConnOther, FirstTick, SecondTick, Act, ISndConnReq, RAccept}
+use Rattle.dm_machine.specs.Table.{RSndCea, ISndCer, Cleanup, Elect, Error, IDisc, RDisc, RReject, XSndMessage}
+use Rattle.dm_machine.specs.Table.{Up, XSndDwa, XSndDpr, XSndDpa, XDisc, RSndRefusal, XSndRefusal, XSndDwr, Row}
 use Rattle.dm_machine.specs.Rows.{rows, row_in}
 use Rattle.dm_machine.specs.Node.{Node, node_at, held_as, only_held, without, pair_of}
-use Rattle.dm_machine.specs.Reading.{named_by, event_of}
+use Rattle.dm_machine.specs.Reading.{conn_named, event_of}
 
 abbrev pub to_one : (Conn → Command) → Option Conn → List Command
 to_one make None = []
@@ -86,24 +90,24 @@ is_open _ = false
 abbrev pub count_after : State → State → TableEvent → ℕ → ℕ
 count_after from next e n = if is_open from && is_open next then counted e n else 0
 
-pub data Outcome : Type 0 where
-  Moved : List Command → Node → Outcome
-  Refused : Refusal → Outcome
+pub data NodeOutcome : Type 0 where
+  NodeMoved : List Command → Node → NodeOutcome
+  NodeRefused : Refusal → NodeOutcome
 
-abbrev pub by_row : Row → Node → TableEvent → Option Conn → Outcome
+abbrev pub by_row : Row → Node → TableEvent → Option Conn → NodeOutcome
 by_row r n e new =
     let held = held_at e n.held
-    in Moved (all_commands r.acts new held)
+    in NodeMoved (all_commands r.acts new held)
     (node_at r.next (all_held r.acts new held) (count_after n.state r.next e n.count))
 
 -- without a row a Start, Stop or Submit is refused, and all else changes nothing
-abbrev pub by_no_row : Node → TableEvent → Outcome
-by_no_row n Start = Refused NotClosed
-by_no_row n Stop = Refused NotOpen
-by_no_row n SendMessage = Refused NotOpen
-by_no_row n _ = Moved [] n
+abbrev pub by_no_row : Node → TableEvent → NodeOutcome
+by_no_row n Start = NodeRefused NotClosed
+by_no_row n Stop = NodeRefused NotOpen
+by_no_row n SendMessage = NodeRefused NotOpen
+by_no_row n _ = NodeMoved [] n
 
-abbrev pub by_event : Option Row → Node → TableEvent → Option Conn → Outcome
+abbrev pub by_event : Option Row → Node → TableEvent → Option Conn → NodeOutcome
 by_event (Some r) n e new = by_row r n e new
 by_event None n e new = by_no_row n e
 
@@ -117,37 +121,37 @@ abbrev pub raises_win : Option Row → Bool → Bool
 raises_win None wins = false
 raises_win (Some r) wins = has_elect r.acts && wins
 
-abbrev pub after_commands : List Command → Outcome → Outcome
-after_commands before (Refused r) = Refused r
-after_commands before (Moved more n) = Moved (before ++ more) n
+abbrev pub after_commands : List Command → NodeOutcome → NodeOutcome
+after_commands before (NodeRefused r) = NodeRefused r
+after_commands before (NodeMoved more n) = NodeMoved (before ++ more) n
 
 -- the row of Win-Election follows in the same step
-abbrev pub then_won : Outcome → Outcome
-then_won (Refused r) = Refused r
-then_won (Moved before n) = after_commands before (by_event (row_in rows n.state WinElection) n WinElection None)
+abbrev pub then_won : NodeOutcome → NodeOutcome
+then_won (NodeRefused r) = NodeRefused r
+then_won (NodeMoved before n) = after_commands before (by_event (row_in rows n.state WinElection) n WinElection None)
 
 -- the outcome of an event of the table
-abbrev pub by_table : Node → TableEvent → Option Conn → Bool → Outcome
+abbrev pub by_table : Node → TableEvent → Option Conn → Bool → NodeOutcome
 by_table n e new wins =
     let found = row_in rows n.state e in
     let first = by_event found n e new in
     if raises_win found wins then then_won first else first
 
 -- the one outcome of an input
-abbrev pub outcome : Node → Input → Bool → Outcome
-outcome n i wins = by_table n (event_of n i) (named_by i) wins
+abbrev pub machine_outcome : Node → Input → Bool → NodeOutcome
+machine_outcome n i wins = by_table n (event_of n i) (conn_named i) wins
 
 -- the step that an input makes
 abbrev pub Moves : Node → Input → Bool → List Command → Node → Type 0
-Moves n i wins commands next = outcome n i wins ≡ Moved commands next
+Moves n i wins commands next = machine_outcome n i wins ≡ NodeMoved commands next
 
-abbrev pub Refuses : Node → Input → Bool → Refusal → Type 0
-Refuses n i wins r = outcome n i wins ≡ Refused r
+abbrev pub MachineRefuses : Node → Input → Bool → Refusal → Type 0
+MachineRefuses n i wins r = machine_outcome n i wins ≡ NodeRefused r
 
 -- the inputs that are refused: Start outside Closed, Stop and Submit outside the open states
-abbrev pub refusal_of : State → Input → Option Refusal
-refusal_of Closed (input.Start c) = None
-refusal_of s (input.Start c) = Some NotClosed
-refusal_of s input.Stop = if is_open s then None else Some NotOpen
-refusal_of s input.Submit = if is_open s then None else Some NotOpen
-refusal_of _ _ = None
+abbrev pub node_refusal : State → Input → Option Refusal
+node_refusal Closed (input.Start c) = None
+node_refusal s (input.Start c) = Some NotClosed
+node_refusal s input.Stop = if is_open s then None else Some NotOpen
+node_refusal s input.Submit = if is_open s then None else Some NotOpen
+node_refusal _ _ = None

@@ -3,7 +3,10 @@
 use Rattle.std.specs.Prelude.{◌≡◌, ℕ, Bool, true, false, not, ◌&&◌, ◌==◌, List, [], ◌∷◌, IsTrue}
 use Rattle.std.specs.List.{list_any}
 use Rattle.dm_machine.specs.declared.inputs.Word.TheVariants.{Cea}
-use Rattle.dm_machine.specs.Connection.{Hold, NotHeld, Pending, Made, OpenAsI, ClosingAsI, Taken, OpenAsR, ClosingAsR, Concern, StartsIt, AcksIt, NacksIt, EndsIt, HeardOnIt, Order, Connects, SendsCer, SendsCea, SendsRefusal, SendsDwr, SendsDwa, SendsDpr, SendsDpa, SendsSubmit, Closes, AtEachStep}
+use Rattle.dm_machine.specs.Connection.{Hold, NotHeld, Pending, Made, OpenAsI, ClosingAsI, Taken, OpenAsR}
+use Rattle.dm_machine.specs.Connection.{ClosingAsR, Concern, StartsIt, AcksIt, NacksIt, EndsIt, HeardOnIt}
+use Rattle.dm_machine.specs.Connection.{ConnOrder, Connects, SendsCer, SendsCea, SendsRefusal, SendsDwr}
+use Rattle.dm_machine.specs.Connection.{SendsDwa, SendsDpr, SendsDpa, SendsSubmit, Closes, AtEachStep}
 
 -- what a connection is, and orders, are told apart by their numbers
 abbrev pub hold_code : Hold → ℕ
@@ -19,7 +22,7 @@ hold_code ClosingAsR = 7
 abbrev pub is_hold : Hold → Hold → Bool
 is_hold h k = hold_code h == hold_code k
 
-abbrev pub order_code : Order → ℕ
+abbrev pub order_code : ConnOrder → ℕ
 order_code Connects = 0
 order_code SendsCer = 1
 order_code SendsCea = 2
@@ -31,10 +34,10 @@ order_code SendsDpa = 7
 order_code SendsSubmit = 8
 order_code Closes = 9
 
-abbrev pub is_order : Order → Order → Bool
+abbrev pub is_order : ConnOrder → ConnOrder → Bool
 is_order o p = order_code o == order_code p
 
-abbrev pub has_order : Order → List Order → Bool
+abbrev pub has_order : ConnOrder → List ConnOrder → Bool
 has_order o orders = list_any (is_order o) orders
 
 -- what a connection was not, it is
@@ -92,12 +95,12 @@ LeavesOthersAlone =
     IsTrue (is_hold NotHeld before && not (names_it k)) → (after ≡ NotHeld) × (orders ≡ []))
 
 -- nothing is ordered behind a Close
-abbrev pub ends_at_close : List Order → Bool
-ends_at_close [] = true
-ends_at_close (Closes ∷ []) = true
-ends_at_close (Closes ∷ more) = false
-ends_at_close (o ∷ more) = ends_at_close more
+abbrev pub ends_in_close : List ConnOrder → Bool
+ends_in_close [] = true
+ends_in_close (Closes ∷ []) = true
+ends_in_close (Closes ∷ more) = false
+ends_in_close (o ∷ more) = ends_in_close more
 
 -- a connection that is closed is ordered nothing more at that step
 abbrev pub EndsAtClose : Type 0
-EndsAtClose = AtEachStep (λ k before after orders. ends_at_close orders ≡ true)
+EndsAtClose = AtEachStep (λ k before after orders. ends_in_close orders ≡ true)

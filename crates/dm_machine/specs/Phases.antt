@@ -7,12 +7,13 @@ use Rattle.dm_machine.specs.declared.phase.Role.TheVariants.{Initiated, Accepted
 use Rattle.dm_machine.specs.declared.phase.Phase.{Phase}
 use Rattle.dm_machine.specs.declared.phase.Phase.TheVariants as phase
 use Rattle.dm_machine.specs.declared.state_name.State.{State}
-use Rattle.dm_machine.specs.declared.state_name.State.TheVariants.{Closed, WaitConnAck, WaitICea, WaitConnAckElect, WaitReturns, ROpen, IOpen, Closing}
+use Rattle.dm_machine.specs.declared.state_name.State.TheVariants.{Closed, WaitConnAck, WaitICea, WaitConnAckElect}
+use Rattle.dm_machine.specs.declared.state_name.State.TheVariants.{WaitReturns, ROpen, IOpen, Closing}
 use Rattle.dm_machine.specs.declared.inputs.Input.{Input}
 use Rattle.dm_machine.specs.declared.outputs.Command.{Command}
 use Rattle.dm_machine.specs.declared.outputs.Refusal.{Refusal}
 use Rattle.dm_machine.specs.Node.{Node, node_at, is_shaped}
-use Rattle.dm_machine.specs.Moves.{Moves, Refuses, refusal_of}
+use Rattle.dm_machine.specs.Moves.{Moves, MachineRefuses, node_refusal}
 
 abbrev pub open_as : Role → State
 open_as Initiated = IOpen
@@ -27,15 +28,16 @@ node_of (phase.WaitReturns i r) = node_at WaitReturns ((Initiated, i) ∷ (Accep
 node_of (phase.Open role x n) = node_at (open_as role) ((role, x) ∷ []) n
 node_of (phase.Closing role x) = node_at Closing ((role, x) ∷ []) 0
 
-abbrev pub IsShaped : Phase → Type 0
-IsShaped p = IsTrue (is_shaped (node_of p))
+abbrev pub IsShapedPhase : Phase → Type 0
+IsShapedPhase p = IsTrue (is_shaped (node_of p))
 
 -- the answer is the one outcome of the input: a state of the right shape, or a refusal by the rule for refusals
-abbrev pub Steps : Phase → Input → Bool → Result (Phase × ArrayVec Command) Refusal → Type 0
-Steps p i wins answer =
+abbrev pub PhaseSteps : Phase → Input → Bool → Result (Phase × ArrayVec Command) Refusal → Type 0
+PhaseSteps p i wins answer =
     MatchResult answer
-    (λ r. Moves (node_of p) i wins r.1.items (node_of r.0) × IsShaped r.0 × (refusal_of (node_of p).state i ≡ None))
-    (λ e. Refuses (node_of p) i wins e × (refusal_of (node_of p).state i ≡ Some e))
+    (λ r. Moves (node_of p) i wins r.1.items (node_of r.0) × IsShapedPhase r.0
+    × (node_refusal (node_of p).state i ≡ None))
+    (λ e. MachineRefuses (node_of p) i wins e × (node_refusal (node_of p).state i ≡ Some e))
 
 -- a node as the code's state
 abbrev pub phase_at : State → List (Role × Conn) → ℕ → Phase

@@ -8,8 +8,12 @@ use Rattle.dm_machine.specs.declared.state_name.State.TheVariants.{WaitICea, Wai
 use Rattle.dm_machine.specs.declared.inputs.Input.{Input}
 use Rattle.dm_machine.specs.declared.inputs.Input.TheVariants as input
 use Rattle.dm_machine.specs.declared.inputs.Word.{Word}
-use Rattle.dm_machine.specs.declared.inputs.Word.TheVariants.{Unreadable, Cer, CerRefused, Cea, CeaFailed, Dwr, DwrBad, Dwa, DwaBad, Dpr, DprBad, Dpa, DpaBad, Other}
-use Rattle.dm_machine.specs.Table.{TableEvent, Start, RConnCer, IRcvConnAck, IRcvConnNack, Timeout, IRcvCea, IRcvNonCea, IPeerDisc, RPeerDisc, SendMessage, XRcvMessage, XRcvDwr, XRcvDwa, Stop, XRcvDpr, XRcvDpa, XPeerDisc, RConnRefusedCer, RConnOther, XRcvExchange, XRcvRefusedRequest, XRcvBadDwa, XRcvBadDpa, FirstTick, SecondTick, ThirdTick, NoEvent}
+use Rattle.dm_machine.specs.declared.inputs.Word.TheVariants.{Unreadable, Cer, CerRefused, Cea, CeaFailed, Dwr}
+use Rattle.dm_machine.specs.declared.inputs.Word.TheVariants.{DwrBad, Dwa, DwaBad, Dpr, DprBad, Dpa, DpaBad, Other}
+use Rattle.dm_machine.specs.Table.{TableEvent, Start, RConnCer, IRcvConnAck, IRcvConnNack, Timeout, IRcvCea, IRcvNonCea}
+use Rattle.dm_machine.specs.Table.{IPeerDisc, RPeerDisc, SendMessage, XRcvMessage, XRcvDwr, XRcvDwa, Stop, XRcvDpr}
+use Rattle.dm_machine.specs.Table.{XRcvDpa, XPeerDisc, RConnRefusedCer, RConnOther, XRcvExchange, XRcvRefusedRequest}
+use Rattle.dm_machine.specs.Table.{XRcvBadDwa, XRcvBadDpa, FirstTick, SecondTick, ThirdTick, NoEvent}
 use Rattle.dm_machine.specs.Node.{Node}
 
 -- what a connection is to a node: I, R, x, or one that it doesn't hold
@@ -31,13 +35,13 @@ place_of s [] c = OnNew
 place_of s (p ∷ ps) c = if p.1.0 == c.0 then place_as s p.0 else place_of s ps c
 
 -- the connection that an input names
-abbrev pub named_by : Input → Option Conn
-named_by (input.Start c) = Some c
-named_by (input.Ack c) = Some c
-named_by (input.Nack c) = Some c
-named_by (input.Gone c) = Some c
-named_by (input.Heard c w) = Some c
-named_by _ = None
+abbrev pub conn_named : Input → Option Conn
+conn_named (input.Start c) = Some c
+conn_named (input.Ack c) = Some c
+conn_named (input.Nack c) = Some c
+conn_named (input.Gone c) = Some c
+conn_named (input.Heard c w) = Some c
+conn_named _ = None
 
 -- the first message on a new connection
 abbrev pub first_message : Word → TableEvent
@@ -96,8 +100,8 @@ abbrev pub connect_event : TableEvent → Place → TableEvent
 connect_event e OnI = e
 connect_event e _ = NoEvent
 
-abbrev pub tick_event : ℕ → TableEvent
-tick_event n = if n == 0 then FirstTick else (if n == 1 then SecondTick else ThirdTick)
+abbrev pub event_of_tick : ℕ → TableEvent
+event_of_tick n = if n == 0 then FirstTick else (if n == 1 then SecondTick else ThirdTick)
 
 -- the place of the connection that an input names, if it names one
 abbrev pub place_in : Node → Option Conn → Place
@@ -109,7 +113,7 @@ abbrev pub event_at : State → ℕ → Place → Input → TableEvent
 event_at s n at (input.Start c) = Start
 event_at s n at input.Stop = Stop
 event_at s n at input.Timeout = Timeout
-event_at s n at input.Tick = tick_event n
+event_at s n at input.Tick = event_of_tick n
 event_at s n at (input.Ack c) = connect_event IRcvConnAck at
 event_at s n at (input.Nack c) = connect_event IRcvConnNack at
 event_at s n at (input.Gone c) = end_event s at
@@ -117,4 +121,4 @@ event_at s n at input.Submit = SendMessage
 event_at s n at (input.Heard c w) = message_event s w at
 
 abbrev pub event_of : Node → Input → TableEvent
-event_of n i = event_at n.state n.count (place_in n (named_by i)) i
+event_of n i = event_at n.state n.count (place_in n (conn_named i)) i

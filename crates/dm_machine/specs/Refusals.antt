@@ -3,13 +3,13 @@ use Rattle.std.specs.Prelude.{◌≡◌, Bool, IsTrue, Option, None, Some}
 use Rattle.dm_machine.specs.declared.inputs.Input.{Input}
 use Rattle.dm_machine.specs.declared.outputs.Refusal.{Refusal}
 use Rattle.dm_machine.specs.Node.{Node, is_shaped}
-use Rattle.dm_machine.specs.Moves.{Outcome, Moved, Refused, outcome, refusal_of}
+use Rattle.dm_machine.specs.Moves.{NodeOutcome, NodeMoved, NodeRefused, machine_outcome, node_refusal}
 
-abbrev pub refused_as : Outcome → Option Refusal
-refused_as (Moved commands next) = None
-refused_as (Refused r) = Some r
+abbrev pub refused_as : NodeOutcome → Option Refusal
+refused_as (NodeMoved commands next) = None
+refused_as (NodeRefused r) = Some r
 
 abbrev pub RefusesByState : Type 0
 RefusesByState =
     (n : Node) (i : Input) (wins : Bool) → IsTrue (is_shaped n) →
-    refused_as (outcome n i wins) ≡ refusal_of n.state i
+    refused_as (machine_outcome n i wins) ≡ node_refusal n.state i

@@ -1,8 +1,14 @@
 -- The rows of the state table and the own ones, and the row of a state and an event.
-use Rattle.std.specs.Prelude.{ℕ, Bool, true, ◌&&◌, ◌==◌, if◌then◌else◌, Option, Some, None, IfSome, is_none, IsTrue, List, [], ◌∷◌, ◌++◌, Contains}
+use Rattle.std.specs.Prelude.{ℕ, Bool, true, ◌&&◌, ◌==◌, if◌then◌else◌, Option, Some, None}
+use Rattle.std.specs.Prelude.{IfSome, is_none, IsTrue, List, [], ◌∷◌, ◌++◌, Contains}
 use Rattle.dm_machine.specs.declared.state_name.State.{State}
-use Rattle.dm_machine.specs.declared.state_name.State.TheVariants.{Closed, WaitConnAck, WaitICea, WaitConnAckElect, WaitReturns, ROpen, IOpen, Closing}
-use Rattle.dm_machine.specs.Table.{TableEvent, Start, RConnCer, IRcvConnAck, IRcvConnNack, Timeout, IRcvCea, IRcvNonCea, IPeerDisc, RPeerDisc, WinElection, SendMessage, XRcvMessage, XRcvDwr, XRcvDwa, Stop, XRcvDpr, XRcvDpa, XPeerDisc, RConnRefusedCer, RConnOther, XRcvExchange, XRcvRefusedRequest, XRcvBadDwa, XRcvBadDpa, FirstTick, SecondTick, ThirdTick, NoEvent, Row, table}
+use Rattle.dm_machine.specs.declared.state_name.State.TheVariants.{Closed, WaitConnAck, WaitICea, WaitConnAckElect}
+use Rattle.dm_machine.specs.declared.state_name.State.TheVariants.{WaitReturns, ROpen, IOpen, Closing}
+use Rattle.dm_machine.specs.Table.{TableEvent, Start, RConnCer, IRcvConnAck, IRcvConnNack, Timeout, IRcvCea}
+use Rattle.dm_machine.specs.Table.{IRcvNonCea, IPeerDisc, RPeerDisc, WinElection, SendMessage, XRcvMessage}
+use Rattle.dm_machine.specs.Table.{XRcvDwr, XRcvDwa, Stop, XRcvDpr, XRcvDpa, XPeerDisc, RConnRefusedCer}
+use Rattle.dm_machine.specs.Table.{RConnOther, XRcvExchange, XRcvRefusedRequest, XRcvBadDwa, XRcvBadDpa}
+use Rattle.dm_machine.specs.Table.{FirstTick, SecondTick, ThirdTick, NoEvent, Row, table}
 use Rattle.dm_machine.specs.OwnRows.{own_rows}
 
 abbrev pub rows : List Row
@@ -59,11 +65,11 @@ row_in [] s e = None
 row_in (r ∷ rs) s e = if is_for s e r then Some r else row_in rs s e
 
 -- no row is followed by another for its state and event
-abbrev pub are_apart : List Row → Bool
-are_apart [] = true
-are_apart (r ∷ rs) = is_none (row_in rs r.from r.event) && are_apart rs
+abbrev pub rows_apart : List Row → Bool
+rows_apart [] = true
+rows_apart (r ∷ rs) = is_none (row_in rs r.from r.event) && rows_apart rs
 
 -- a state and an event have at most one row, and the row that is found is a row of the list, for that state and event
 pub record HasOneRowEach : Type 0 where
-  pub apart : IsTrue (are_apart rows)
+  pub apart : IsTrue (rows_apart rows)
   pub found : (s : State) (e : TableEvent) → IfSome (row_in rows s e) (λ r. Contains rows r × IsTrue (is_for s e r))

@@ -2,7 +2,8 @@
 -- I is the initiated, R the accepted connection, x the one on which the peer is open or closing.
 use Rattle.std.specs.Prelude.{List, [], ◌∷◌, ◌++◌}
 use Rattle.dm_machine.specs.declared.state_name.State.{State}
-use Rattle.dm_machine.specs.declared.state_name.State.TheVariants.{Closed, WaitConnAck, WaitICea, WaitConnAckElect, WaitReturns, ROpen, IOpen, Closing}
+use Rattle.dm_machine.specs.declared.state_name.State.TheVariants.{Closed, WaitConnAck, WaitICea, WaitConnAckElect}
+use Rattle.dm_machine.specs.declared.state_name.State.TheVariants.{WaitReturns, ROpen, IOpen, Closing}
 
 -- the events of the table [5.6.2], then those of the own rules, then what is no event of the table
 pub data TableEvent : Type 0 where
@@ -68,50 +69,50 @@ pub record Row : Type 0 where
   pub acts : List Act
   pub next : State
 
-abbrev pub row : State → TableEvent → List Act → State → Row
-row from event acts next = record { from = from; event = event; acts = acts; next = next }
+abbrev pub table_row : State → TableEvent → List Act → State → Row
+table_row from event acts next = record { from = from; event = event; acts = acts; next = next }
 
 -- the rows that R-Open and I-Open share
 abbrev pub open_rows : State → List Row
 open_rows same =
-    row same SendMessage (XSndMessage ∷ []) same
-    ∷ row same XRcvMessage (Up ∷ []) same
-    ∷ row same XRcvDwr (XSndDwa ∷ []) same
-    ∷ row same XRcvDwa [] same
-    ∷ row same RConnCer (RReject ∷ []) same
-    ∷ row same Stop (XSndDpr ∷ []) Closing
-    ∷ row same XRcvDpr (XSndDpa ∷ []) Closing
-    ∷ row same XPeerDisc (XDisc ∷ []) Closed
+    table_row same SendMessage (XSndMessage ∷ []) same
+    ∷ table_row same XRcvMessage (Up ∷ []) same
+    ∷ table_row same XRcvDwr (XSndDwa ∷ []) same
+    ∷ table_row same XRcvDwa [] same
+    ∷ table_row same RConnCer (RReject ∷ []) same
+    ∷ table_row same Stop (XSndDpr ∷ []) Closing
+    ∷ table_row same XRcvDpr (XSndDpa ∷ []) Closing
+    ∷ table_row same XPeerDisc (XDisc ∷ []) Closed
     ∷ []
 
 abbrev pub table : List Row
 table =
-    (row Closed Start (ISndConnReq ∷ []) WaitConnAck
-    ∷ row Closed RConnCer (RAccept ∷ RSndCea ∷ []) ROpen
-    ∷ row WaitConnAck IRcvConnAck (ISndCer ∷ []) WaitICea
-    ∷ row WaitConnAck IRcvConnNack (Cleanup ∷ []) Closed
-    ∷ row WaitConnAck RConnCer (RAccept ∷ []) WaitConnAckElect
-    ∷ row WaitConnAck Timeout (Error ∷ []) Closed
-    ∷ row WaitICea IRcvCea [] IOpen
-    ∷ row WaitICea RConnCer (RAccept ∷ Elect ∷ []) WaitReturns
-    ∷ row WaitICea IPeerDisc (IDisc ∷ []) Closed
-    ∷ row WaitICea IRcvNonCea (Error ∷ []) Closed
-    ∷ row WaitICea Timeout (Error ∷ []) Closed
-    ∷ row WaitConnAckElect IRcvConnAck (ISndCer ∷ Elect ∷ []) WaitReturns
-    ∷ row WaitConnAckElect IRcvConnNack (RSndCea ∷ []) ROpen
-    ∷ row WaitConnAckElect RPeerDisc (RDisc ∷ []) WaitConnAck
-    ∷ row WaitConnAckElect RConnCer (RReject ∷ []) WaitConnAckElect
-    ∷ row WaitConnAckElect Timeout (Error ∷ []) Closed
-    ∷ row WaitReturns WinElection (IDisc ∷ RSndCea ∷ []) ROpen
-    ∷ row WaitReturns IPeerDisc (IDisc ∷ RSndCea ∷ []) ROpen
-    ∷ row WaitReturns IRcvCea (RDisc ∷ []) IOpen
-    ∷ row WaitReturns RPeerDisc (RDisc ∷ []) WaitICea
-    ∷ row WaitReturns RConnCer (RReject ∷ []) WaitReturns
-    ∷ row WaitReturns Timeout (Error ∷ []) Closed
+    (table_row Closed Start (ISndConnReq ∷ []) WaitConnAck
+    ∷ table_row Closed RConnCer (RAccept ∷ RSndCea ∷ []) ROpen
+    ∷ table_row WaitConnAck IRcvConnAck (ISndCer ∷ []) WaitICea
+    ∷ table_row WaitConnAck IRcvConnNack (Cleanup ∷ []) Closed
+    ∷ table_row WaitConnAck RConnCer (RAccept ∷ []) WaitConnAckElect
+    ∷ table_row WaitConnAck Timeout (Error ∷ []) Closed
+    ∷ table_row WaitICea IRcvCea [] IOpen
+    ∷ table_row WaitICea RConnCer (RAccept ∷ Elect ∷ []) WaitReturns
+    ∷ table_row WaitICea IPeerDisc (IDisc ∷ []) Closed
+    ∷ table_row WaitICea IRcvNonCea (Error ∷ []) Closed
+    ∷ table_row WaitICea Timeout (Error ∷ []) Closed
+    ∷ table_row WaitConnAckElect IRcvConnAck (ISndCer ∷ Elect ∷ []) WaitReturns
+    ∷ table_row WaitConnAckElect IRcvConnNack (RSndCea ∷ []) ROpen
+    ∷ table_row WaitConnAckElect RPeerDisc (RDisc ∷ []) WaitConnAck
+    ∷ table_row WaitConnAckElect RConnCer (RReject ∷ []) WaitConnAckElect
+    ∷ table_row WaitConnAckElect Timeout (Error ∷ []) Closed
+    ∷ table_row WaitReturns WinElection (IDisc ∷ RSndCea ∷ []) ROpen
+    ∷ table_row WaitReturns IPeerDisc (IDisc ∷ RSndCea ∷ []) ROpen
+    ∷ table_row WaitReturns IRcvCea (RDisc ∷ []) IOpen
+    ∷ table_row WaitReturns RPeerDisc (RDisc ∷ []) WaitICea
+    ∷ table_row WaitReturns RConnCer (RReject ∷ []) WaitReturns
+    ∷ table_row WaitReturns Timeout (Error ∷ []) Closed
     ∷ [])
     ++ open_rows ROpen
     ++ open_rows IOpen
-    ++ (row Closing XRcvDpa (XDisc ∷ []) Closed
-    ∷ row Closing XPeerDisc (XDisc ∷ []) Closed
-    ∷ row Closing Timeout (Error ∷ []) Closed
+    ++ (table_row Closing XRcvDpa (XDisc ∷ []) Closed
+    ∷ table_row Closing XPeerDisc (XDisc ∷ []) Closed
+    ∷ table_row Closing Timeout (Error ∷ []) Closed
     ∷ [])

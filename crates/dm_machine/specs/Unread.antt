@@ -9,7 +9,7 @@ use Rattle.dm_machine.specs.declared.outputs.Command.TheVariants.{Close}
 use Rattle.dm_machine.specs.Table.{RPeerDisc}
 use Rattle.dm_machine.specs.Node.{Node, is_shaped}
 use Rattle.dm_machine.specs.Reading.{event_of}
-use Rattle.dm_machine.specs.Moves.{Moves, outcome}
+use Rattle.dm_machine.specs.Moves.{Moves, machine_outcome}
 use Rattle.dm_machine.specs.Connection.{NotHeld, Pending, Taken, hold_of}
 
 -- whether the first message of a new connection is read
@@ -40,4 +40,4 @@ ReadsAsPeerDisc = (n : Node) (c : Conn) (w : Word) → hold_of n c ≡ Taken →
 abbrev pub EndsAtWord : Type 0
 EndsAtWord =
     (n : Node) (c : Conn) (w : Word) (wins : Bool) →
-    hold_of n c ≡ Taken → outcome n (Heard c w) wins ≡ outcome n (Gone c) wins
+    hold_of n c ≡ Taken → machine_outcome n (Heard c w) wins ≡ machine_outcome n (Gone c) wins

@@ -7,8 +7,8 @@ use Rattle.dm_machine.specs.declared.inputs.Word.TheVariants.{Other}
 use Rattle.dm_machine.specs.declared.outputs.Command.{Command}
 use Rattle.dm_machine.specs.declared.outputs.Command.TheVariants.{Up}
 use Rattle.dm_machine.specs.Node.{Node, node_at, is_shaped}
-use Rattle.dm_machine.specs.Moves.{Outcome, Moved, Refused, Moves, outcome}
-use Rattle.dm_machine.specs.Connection.{Hold, OpenAsI, OpenAsR, hold_of, Concern, Submits, SendsSubmit, AtEachStep}
+use Rattle.dm_machine.specs.Moves.{NodeOutcome, NodeMoved, NodeRefused, Moves, machine_outcome}
+use Rattle.dm_machine.specs.Connection.{Hold, OpenAsI, OpenAsR, hold_of, Concern, AsksSubmit, SendsSubmit, AtEachStep}
 use Rattle.dm_machine.specs.Openings.{has_order}
 
 -- the node is open on the connection
@@ -18,7 +18,7 @@ is_open_hold OpenAsR = true
 is_open_hold _ = false
 
 abbrev pub is_submitted : Concern → Bool
-is_submitted Submits = true
+is_submitted AsksSubmit = true
 is_submitted _ = false
 
 -- a message of the user is sent exactly on the connection on which the node is open, at a Submit
@@ -37,12 +37,13 @@ pub record IsHeardOpen (n : Node) (i : Input) : Type 0 where
   pub heard : i ≡ Heard conn Other
   pub opened : is_open_hold (hold_of n conn) ≡ true
 
-abbrev pub UpIsHeard : Node → Input → Outcome → Type 0
-UpIsHeard n i (Moved commands next) = has_up commands ≡ true → IsHeardOpen n i
-UpIsHeard n i (Refused r) = ⊤
+abbrev pub UpIsHeard : Node → Input → NodeOutcome → Type 0
+UpIsHeard n i (NodeMoved commands next) = has_up commands ≡ true → IsHeardOpen n i
+UpIsHeard n i (NodeRefused r) = ⊤
 
 abbrev pub HandsUpWhereOpen : Type 0
-HandsUpWhereOpen = (n : Node) (i : Input) (wins : Bool) → IsTrue (is_shaped n) → UpIsHeard n i (outcome n i wins)
+HandsUpWhereOpen = (n : Node) (i : Input) (wins : Bool) → IsTrue (is_shaped n)
+    → UpIsHeard n i (machine_outcome n i wins)
 
 -- and each such message is handed up, and nothing else is ordered
 abbrev pub HandsUpEach : Type 0

@@ -2,7 +2,7 @@
 ghost use Rattle.std.specs.Prelude.{◌≡◌, [], IfOk, IfErr, IsTrue};
 ghost use Rattle.dm_machine.specs.declared.phase.Role.TheVariants.{Initiated, Accepted};
 ghost use Rattle.dm_machine.specs.Node.{node_at, held_as, is_shaped};
-ghost use Rattle.dm_machine.specs.Moves.{Moves, Refuses, refusal_of};
+ghost use Rattle.dm_machine.specs.Moves.{Moves, MachineRefuses, node_refusal};
 
 use crate::connection::Conn;
 use crate::inputs::Input;
@@ -26,11 +26,11 @@ impl Model for Core {
     ghost Value = { Node };
 
     ghost use Rattle.dm_machine.specs.declared.phase.Phase.{Phase};
-    ghost use Rattle.dm_machine.specs.Phases.{IsShaped, node_of, phase_of, phase_of-node_of};
+    ghost use Rattle.dm_machine.specs.Phases.{IsShapedPhase, node_of, phase_of, phase_of-node_of};
 
     ghost view = { λ a. node_of a.phase };
 
-    ghost invariant = { λ a. IsShaped a.phase };
+    ghost invariant = { λ a. IsShapedPhase a.phase };
 
     ghost inverse = { λ n. record { phase = phase_of n } };
 
@@ -133,9 +133,9 @@ impl Default for Core {
 /// `NotClosed` for a Start outside Closed, `NotOpen` for a Stop or Submit outside R-Open and I-Open.
 pub fn step(core: &Core, input: Input, wins: bool) -> Result<(Core, Commands), Refusal>
     ensures moves { IfOk result (λ r. Moves core.now input wins r.1.items r.0) }
-    ensures refuses { IfErr result (Refuses core.now input wins) }
-    ensures ok_unless_refused { IfOk result (λ _. refusal_of core.now.state input ≡ None) }
-    ensures refused { IfErr result (λ e. refusal_of core.now.state input ≡ Some e) }
+    ensures refuses { IfErr result (MachineRefuses core.now input wins) }
+    ensures ok_unless_refused { IfOk result (λ _. node_refusal core.now.state input ≡ None) }
+    ensures refused { IfErr result (λ e. node_refusal core.now.state input ≡ Some e) }
     ensures shaped { IfOk result (λ r. IsTrue (is_shaped r.0)) }
 {
     let (phase, commands) = from_phase(core.phase, input, wins)?;

@@ -1,5 +1,5 @@
 //! The state table: one function for each state, with the table's row in words above each arm.
-ghost use Rattle.dm_machine.specs.Phases.{IsShaped, Steps};
+ghost use Rattle.dm_machine.specs.Phases.{IsShapedPhase, PhaseSteps};
 
 mod closed;
 mod closing;
@@ -25,8 +25,8 @@ pub type Stepped = Result<(Phase, Commands), Refusal>;
 
 /// One step of the state table.
 pub fn from_phase(phase: Phase, input: Input, wins: bool) -> Stepped
-    requires { IsShaped phase }
-    ensures { Steps phase input wins result }
+    requires { IsShapedPhase phase }
+    ensures { PhaseSteps phase input wins result }
 {
     match phase {
         Phase::Closed => from_closed(input),

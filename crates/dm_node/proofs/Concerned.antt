@@ -3,7 +3,7 @@ use Rattle.std.proofs.Common.{◌≡◌, inl, inr, ℕ, true, false, Option, Non
 use Rattle.dm_base.specs.Before.{lower}
 use Rattle.dm_machine.specs.declared.connection.Conn.{Conn}
 use Rattle.dm_peer.specs.declared.peer.Peer.{Peer}
-use Rattle.dm_node.specs.Calling.{Caller, caller}
+use Rattle.dm_node.specs.Calling.{Caller, caller_of}
 use Rattle.dm_node.specs.Holding.{holds_at}
 use Rattle.dm_node.specs.Neighbourhoods.{IsNeighbourhood}
 use Rattle.dm_node.specs.OneConcerned.{OneIsConcerned}
@@ -30,7 +30,7 @@ one_addressed ps c s i j n (inl a) (inl b) = n.apart.one i j c a b
 one_addressed ps c s i j n (inl a) (inr b) = absurd (not_free ps c i a b.0)
 one_addressed ps c s i j n (inr a) (inl b) = absurd (not_free ps c j b a.0)
 one_addressed ps c s i j n (inr a) (inr b) =
-    let same = same_host b.1 a.1 (some_is (caller s) b.1 a.1 b.2 a.2) in
+    let same = same_host b.1 a.1 (some_is (caller_of s) b.1 a.1 b.2 a.2) in
     n.unlike.one i j (lower a.1.1) a.3 (b.3 ∙ ap Some same)
 
 pub one_is_concerned : OneIsConcerned

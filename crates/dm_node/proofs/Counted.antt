@@ -3,7 +3,7 @@ use Rattle.std.proofs.Common.{◌≡◌, ◌≤◌, ◌<◌, ◌+◌, ℕ, zero,
 use Rattle.std.proofs.Math.ListN.{set}
 use Rattle.std.proofs.lemmas.List.Sums.{count_by-le-length, sum_by-cons, sum_by_push}
 use Rattle.dm_peer.specs.declared.peer.Peer.{Peer}
-use Rattle.dm_node.specs.Emptying.{set_back, without, with_set_back, all_set_back}
+use Rattle.dm_node.specs.Emptying.{set_back, without_peer, with_set_back, all_set_back}
 use Rattle.dm_node.specs.Holding.{peer_at}
 use Rattle.dm_node.specs.Unknown.{present}
 
@@ -53,14 +53,14 @@ present_set (x ∷ xs) (suc i) y same =
 
 -- somebody went
 present_gone : (ps : List (Option Peer)) (i : ℕ) (p : Peer) → peer_at ps i ≡ Some p →
-    present ps ≡ suc (present (without ps i))
+    present ps ≡ suc (present (without_peer ps i))
 present_gone [] i p at = absurd (cc)
 present_gone (None ∷ xs) zero p at = absurd (cc)
 present_gone (Some x ∷ xs) zero p at = first_some x xs ∙ ap suc (sym (first_none xs))
 present_gone (None ∷ xs) (suc i) p at =
-    first_none xs ∙ present_gone xs i p at ∙ ap suc (sym (first_none (without xs i)))
+    first_none xs ∙ present_gone xs i p at ∙ ap suc (sym (first_none (without_peer xs i)))
 present_gone (Some x ∷ xs) (suc i) p at =
-    first_some x xs ∙ ap suc (present_gone xs i p at) ∙ ap suc (sym (first_some x (without xs i)))
+    first_some x xs ∙ ap suc (present_gone xs i p at) ∙ ap suc (sym (first_some x (without_peer xs i)))
 
 pub some_before : (ps : List (Option Peer)) (i n : ℕ) (gone : Option Peer) → gone ≡ peer_at ps i → n ≡ present ps →
     IfSome gone (λ p. 0 < n)
@@ -71,11 +71,11 @@ same_suc : (a b : ℕ) → suc a ≡ suc b → a ≡ b
 same_suc a b e = omega (arith, e)
 
 pub counted_less : (ps qs : List (Option Peer)) (i n m : ℕ) (gone : Option Peer) → gone ≡ peer_at ps i →
-    n ≡ present ps → qs ≡ without ps i → IfSome gone (λ p. n ≡ suc m) → IfNone gone (m ≡ n) → m ≡ present qs
+    n ≡ present ps → qs ≡ without_peer ps i → IfSome gone (λ p. n ≡ suc m) → IfNone gone (m ≡ n) → m ≡ present qs
 counted_less ps qs i n m None at is less some none =
     none ∙ is ∙ sym (ap present less ∙ present_set ps i None (ap is_some at))
 counted_less ps qs i n m (Some p) at is less some none =
-    same_suc m (present (without ps i)) (sym some ∙ is ∙ present_gone ps i p (sym at)) ∙ sym (ap present less)
+    same_suc m (present (without_peer ps i)) (sym some ∙ is ∙ present_gone ps i p (sym at)) ∙ sym (ap present less)
 
 some_set_back : (o : Option Peer) → is_some (option_map set_back o) ≡ is_some o
 some_set_back None = refl

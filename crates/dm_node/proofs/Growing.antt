@@ -6,19 +6,19 @@ use Rattle.dm_peer.specs.declared.config.Config.{Config}
 use Rattle.dm_peer.specs.declared.peer.Peer.{Peer}
 use Rattle.dm_peer.specs.declared.standing.Standing.{Standing}
 use Rattle.dm_history.specs.History.{new_peer}
-use Rattle.dm_peer.specs.After.{fresh}
+use Rattle.dm_peer.specs.After.{fresh_standing}
 use Rattle.dm_machine.specs.Connection.{hold_of}
 use Rattle.dm_node.specs.Holding.{is_held, holds, holds_it, holds_at, host_of, host_at, AreApart, AreUnlike}
 use Rattle.dm_node.proofs.Places.{grown}
 
-pub fresh_holds : (y : Peer) (n : ℕ) (c : Conn) → y.standing ≡ fresh n → holds c y ≡ false
+pub fresh_holds : (y : Peer) (n : ℕ) (c : Conn) → y.standing ≡ fresh_standing n → holds c y ≡ false
 fresh_holds y n c is = ap (λ (s : Standing). is_held (hold_of s.core c)) is
 
 two_truths : (b : Bool) → b ≡ true → b ≡ false → ⊥
 two_truths true p q = cc
 two_truths false p q = cc
 
-pub still : (ps : List (Option Peer)) (y : Peer) (n : ℕ) (c : Conn) (j : ℕ) → y.standing ≡ fresh n →
+pub still : (ps : List (Option Peer)) (y : Peer) (n : ℕ) (c : Conn) (j : ℕ) → y.standing ≡ fresh_standing n →
     holds_at (ps ++ Some y ∷ []) c j ≡ true →
     holds_at ps c j ≡ true
 still ps y n c j is h =
@@ -27,7 +27,7 @@ still ps y n c j is h =
       | inr last ↦ absurd (two_truths (holds c y) (subst (λ o. holds_it c o ≡ true) last.1 h) (fresh_holds y n c is))
     ]
 
-pub apart_grown : (ps : List (Option Peer)) (y : Peer) (n : ℕ) → y.standing ≡ fresh n → AreApart ps →
+pub apart_grown : (ps : List (Option Peer)) (y : Peer) (n : ℕ) → y.standing ≡ fresh_standing n → AreApart ps →
     AreApart (ps ++ Some y ∷ [])
 apart_grown ps y n is apart =
     record { one = λ i j c h g. apart.one i j c (still ps y n c i is h) (still ps y n c j is g) }
@@ -61,6 +61,6 @@ pub unlike_none : AreUnlike []
 unlike_none = record { one = λ i j h p q. absurd (none_named i h p) }
 
 -- what a new peer is
-pub made : (y : Peer) (k : Config) → y.config ≡ k → y.standing ≡ fresh k.first_id → y ≡ new_peer k k.first_id
+pub made : (y : Peer) (k : Config) → y.config ≡ k → y.standing ≡ fresh_standing k.first_id → y ≡ new_peer k k.first_id
 made y k p q =
     ap (λ c. record { config = c; standing = y.standing }) p ∙ ap (λ s. record { config = k; standing = s }) q

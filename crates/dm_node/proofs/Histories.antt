@@ -9,10 +9,10 @@ use Rattle.dm_peer.specs.declared.config.Config.{Config}
 use Rattle.dm_peer.specs.declared.peer.Peer.{Peer}
 use Rattle.dm_peer.specs.Events.{PeerEvent}
 use Rattle.dm_node.specs.Adding.{with_new}
-use Rattle.dm_node.specs.Emptying.{set_back, without, with_set_back}
+use Rattle.dm_node.specs.Emptying.{set_back, without_peer, with_set_back}
 use Rattle.dm_node.specs.Holding.{peer_at}
-use Rattle.dm_node.specs.NodeHistory.{NodeStep, NodeBecame, nobody_yet, added, told, refused, unmoved, removed, back, all_back, own_past, HasOwnHistory, EachNeighbourHasItsHistory}
-use Rattle.dm_node.specs.Telling.{IsTold}
+use Rattle.dm_node.specs.NodeHistory.{NodeStep, NodeBecame, nobody_yet, added, told, refused_event, unmoved, removed, back, all_back, own_past, HasOwnHistory, EachNeighbourHasItsHistory}
+use Rattle.dm_node.specs.Telling.{PeerIsTold}
 use Rattle.dm_node.proofs.Places.{grown, nobody_behind, set_here, set_else, set_at}
 use Rattle.dm_node.proofs.Rostered.{each_back}
 use Rattle.dm_node.proofs.Taking.{config_kept}
@@ -85,7 +85,7 @@ module _ (past : List NodeStep) (ps : List (Option Peer)) (each : Each past ps) 
   added_history c i p false q at = each i p (added_else ps c i p (other_number i (length ps) q) at)
 
   told_history : EachEventIsOneStep → (qs : List (Option Peer)) (j : ℕ) (e : PeerEvent) (actions : List Action)
-      (i : ℕ) (p : Peer) (b : Bool) → nat_eq i j ≡ b → IsTold ps qs j e actions → peer_at qs i ≡ Some p →
+      (i : ℕ) (p : Peer) (b : Bool) → nat_eq i j ≡ b → PeerIsTold ps qs j e actions → peer_at qs i ≡ Some p →
       HasOwnHistory (if b then done_at e actions ∷ own_past i past else own_past i past) p
   told_history step qs j e actions i p true q tells at =
       let here : i ≡ j = same_number i j q in
@@ -103,11 +103,11 @@ module _ (past : List NodeStep) (ps : List (Option Peer)) (each : Each past ps) 
       record { next = had.next; became = declined (own_past i past) p e had.became }
   refused_history e i p false at = each i p at
 
-  removed_history : (j i : ℕ) (p : Peer) (b : Bool) → nat_eq i j ≡ b → peer_at (without ps j) i ≡ Some p →
+  removed_history : (j i : ℕ) (p : Peer) (b : Bool) → nat_eq i j ≡ b → peer_at (without_peer ps j) i ≡ Some p →
       HasOwnHistory (own_past i past) p
   removed_history j i p true q at =
       let here : i ≡ j = same_number i j q in
-      let there : peer_at (without ps j) j ≡ Some p = ap (peer_at (without ps j)) (sym here) ∙ at in
+      let there : peer_at (without_peer ps j) j ≡ Some p = ap (peer_at (without_peer ps j)) (sym here) ∙ at in
       elim (set_at ps j None) [
         | inl gone ↦ no_peer p (sym gone ∙ there)
         | inr still ↦ each i p (ap (peer_at ps) here ∙ sym still ∙ there)
@@ -126,7 +126,7 @@ module _ (step : EachEventIsOneStep) where
   history past ps (added old before c was) i p at = added_history old before (history old before was) c i p _ refl at
   history past ps (told old before after j e actions was tells) i p at =
       told_history old before (history old before was) step after j e actions i p _ refl tells at
-  history past ps (refused old before j e was) i p at =
+  history past ps (refused_event old before j e was) i p at =
       refused_history old before (history old before was) e i p (nat_eq i j) at
   history past ps (unmoved old before was) i p at = history old before was i p at
   history past ps (removed old before j was) i p at =

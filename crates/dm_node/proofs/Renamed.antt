@@ -3,7 +3,7 @@ use Rattle.std.proofs.Common.{◌≡◌, ℕ, Bool, true, false, List, [], ◌�
 use Rattle.dm_base.specs.Before.{lower}
 use Rattle.dm_peer.specs.declared.peer.Peer.{Peer}
 use Rattle.dm_node.specs.declared.hosts.Hosts.{Hosts}
-use Rattle.dm_node.specs.Emptying.{set_back, with_set_back, without, all_set_back}
+use Rattle.dm_node.specs.Emptying.{set_back, with_set_back, without_peer, all_set_back}
 use Rattle.dm_node.specs.Holding.{peer_at, host_of, host_at}
 use Rattle.dm_node.specs.Naming.{is_host, noted_number, AreHostsNoted, IsForgotten}
 use Rattle.dm_node.proofs.Keyed.{itself, is_that}
@@ -53,7 +53,7 @@ module _ (o n : Hosts) (ps : List (Option Peer)) (y : Peer) (named : AreHostsNot
 module _ (o n : Hosts) (ps : List (Option Peer)) (i : ℕ) (p : Peer) (at : peer_at ps i ≡ Some p) (named : AreHostsNoted o ps)
     (noted : (h : List ℕ) → noted_number n h ≡ if is_host (lower p.config.peer) h then None else noted_number o h) where
   has_less : (h : List ℕ) (j : ℕ) (b : Bool) → is_host (lower p.config.peer) h ≡ b →
-      (if b then None else noted_number o h) ≡ Some j → host_at (without ps i) j ≡ Some h
+      (if b then None else noted_number o h) ≡ Some j → host_at (without_peer ps i) j ≡ Some h
   has_less h j true q e = no_number e
   has_less h j false q e =
       let was : host_at ps j ≡ Some h = named.has h j e in
@@ -73,38 +73,38 @@ module _ (o n : Hosts) (ps : List (Option Peer)) (i : ℕ) (p : Peer) (at : peer
       ∙ named.noted h i (ap host_of at ∙ ap Some (is_that (lower p.config.peer) h q)))))
   noted_less h j false q un e = named.noted h j e
 
-  noted_left : (h : List ℕ) (j : ℕ) → host_at (without ps i) j ≡ Some h →
+  noted_left : (h : List ℕ) (j : ℕ) → host_at (without_peer ps i) j ≡ Some h →
       (if is_host (lower p.config.peer) h then None else noted_number o h) ≡ Some j
   noted_left h j e =
       elim (same_or j i) [
         | inl s ↦ no_host
             (sym (ap host_of (set_here ps i None (subst IsSome (sym at) refl)))
-            ∙ ap (host_at (without ps i)) (sym s) ∙ e)
+            ∙ ap (host_at (without_peer ps i)) (sym s) ∙ e)
         | inr un ↦ noted_less h j (is_host (lower p.config.peer) h) refl un
             (sym (ap host_of (set_else ps i j None un)) ∙ e)
       ]
 
-  named_less : AreHostsNoted n (without ps i)
+  named_less : AreHostsNoted n (without_peer ps i)
   named_less = record {
     has = λ h j e. has_less h j (is_host (lower p.config.peer) h) refl (sym (noted h) ∙ e);
     noted = λ h j e. noted h ∙ noted_left h j e;
   }
 
-nobody_less : (ps : List (Option Peer)) (i j : ℕ) → peer_at ps i ≡ None → host_at (without ps i) j ≡ host_at ps j
+nobody_less : (ps : List (Option Peer)) (i j : ℕ) → peer_at ps i ≡ None → host_at (without_peer ps i) j ≡ host_at ps j
 nobody_less ps i j none =
     elim (same_or j i) [
       | inl s ↦ elim (set_at ps i None) [
-        | inl a ↦ ap (host_at (without ps i)) s ∙ ap host_of a ∙ sym (ap host_of none) ∙ ap (host_at ps) (sym s)
-        | inr b ↦ ap (host_at (without ps i)) s ∙ ap host_of b ∙ ap (host_at ps) (sym s)
+        | inl a ↦ ap (host_at (without_peer ps i)) s ∙ ap host_of a ∙ sym (ap host_of none) ∙ ap (host_at ps) (sym s)
+        | inr b ↦ ap (host_at (without_peer ps i)) s ∙ ap host_of b ∙ ap (host_at ps) (sym s)
       ]
       | inr un ↦ ap host_of (set_else ps i j None un)
     ]
 
-pub named_without : (o n : Hosts) (ps qs : List (Option Peer)) (i : ℕ) (gone : Option Peer) → qs ≡ without ps i →
+pub named_without : (o n : Hosts) (ps qs : List (Option Peer)) (i : ℕ) (gone : Option Peer) → qs ≡ without_peer ps i →
     peer_at ps i ≡ gone → IsForgotten gone o n → AreHostsNoted o ps → AreHostsNoted n qs
 named_without o n ps qs i None is at same named =
     subst (AreHostsNoted n) (sym is)
-    (noted_same o n (without ps i) same (named_same o ps (without ps i) (λ j. nobody_less ps i j at) named))
+    (noted_same o n (without_peer ps i) same (named_same o ps (without_peer ps i) (λ j. nobody_less ps i j at) named))
 named_without o n ps qs i (Some p) is at noted named =
     subst (AreHostsNoted n) (sym is) (named_less o n ps i p at named noted)
 

@@ -2,7 +2,7 @@
 use Rattle.std.proofs.Common.{◌≡◌, ℕ, zero, suc, true, false, List, [], ◌∷◌, option_map, Option, None, Some, refl, sym, ap, subst, ◌∙◌, inl, inr, ◌++◌, Result, Ok, Err, OnOk, OnErr}
 use Rattle.std.proofs.Math.ListN.{set}
 use Rattle.dm_machine.specs.declared.connection.Conn.{Conn}
-use Rattle.dm_peer.specs.After.{fresh}
+use Rattle.dm_peer.specs.After.{fresh_standing}
 use Rattle.dm_peer.specs.declared.config.Config.{Config}
 use Rattle.dm_peer.specs.declared.peer.Peer.{Peer}
 use Rattle.dm_node.specs.Adding.{with_new}
@@ -90,7 +90,7 @@ resettled ps qs i y before is held =
     record { held = held; others = λ j un. ap (λ l. peer_at l j) is ∙ set_else ps i j y un }
 
 -- one more, that holds nothing
-owned_grown : (ps : List (Option Peer)) (y : Peer) (n : ℕ) (o : Owners) → y.standing ≡ fresh n → AreOwned o ps →
+owned_grown : (ps : List (Option Peer)) (y : Peer) (n : ℕ) (o : Owners) → y.standing ≡ fresh_standing n → AreOwned o ps →
     AreOwned o (ps ++ Some y ∷ [])
 owned_grown ps y n o is owned = record {
   holds = λ w c i e.

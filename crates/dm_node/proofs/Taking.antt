@@ -10,7 +10,7 @@ use Rattle.dm_machine.specs.Connection.{Hold, NotHeld, Pending, Made, OpenAsI, C
 use Rattle.dm_machine.specs.Openings.{is_hold, names_it, LeavesOthersAlone}
 use Rattle.dm_machine.specs.Node.{is_shaped}
 use Rattle.dm_machine.specs.Moves as moves
-use Rattle.dm_machine.specs.Moves.{outcome}
+use Rattle.dm_machine.specs.Moves.{machine_outcome}
 use Rattle.dm_peer.specs.declared.actions.Action.{Action}
 use Rattle.dm_peer.specs.declared.peer.Peer.{Peer}
 use Rattle.dm_peer.specs.Configs.{wins}
@@ -19,7 +19,7 @@ use Rattle.dm_peer.specs.Said.{Heard}
 use Rattle.dm_peer.specs.Acts.{Moved, acts, input_of}
 use Rattle.dm_peer.specs.Steps.{EachEventIsOneStep, Follows, IsStep}
 use Rattle.dm_node.specs.Holding.{peer_at, is_held, holds, holds_it, holds_at, host_of, host_at, AreApart}
-use Rattle.dm_node.specs.Telling.{conn_of, IsTold}
+use Rattle.dm_node.specs.Telling.{conn_of, PeerIsTold}
 
 same_number : (a b : ℕ) → (a == b) ≡ true → a ≡ b
 same_number a b h = grind arith
@@ -62,7 +62,7 @@ at_step : LeavesOthersAlone → (p q : Peer) (e : PeerEvent) (actions : List Act
 at_step alone p q e actions shaped s c free_of not_held =
     let at : AtConnection (λ k before after orders.
     IsTrue (is_hold NotHeld before && not (names_it k)) → (after ≡ NotHeld) × (orders ≡ []))
-    p.standing.core (input_of e s.heard) c (moves.Moved s.commands q.standing.core) =
+    p.standing.core (input_of e s.heard) c (moves.NodeMoved s.commands q.standing.core) =
     subst (λ o. AtConnection (λ k before after orders.
     IsTrue (is_hold NotHeld before && not (names_it k)) → (after ≡ NotHeld) × (orders ≡ []))
     p.standing.core (input_of e s.heard) c o) s.moves
@@ -174,7 +174,7 @@ hosts_after ps i e x y there now left j = same_host ps i j x y there now left.co
 
 pub is_told : (ps : List (Option Peer)) (i : ℕ) (e : PeerEvent) (x y : Peer) (actions : List Action) →
     peer_at ps i ≡ Some x → peer_at (set ps i (Some y)) i ≡ Some y → acts x e ≡ Moved actions y →
-    IsTold ps (set ps i (Some y)) i e actions
+    PeerIsTold ps (set ps i (Some y)) i e actions
 is_told ps i e x y actions there now is = record {
   before = x;
   after = y;

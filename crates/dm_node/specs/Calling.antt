@@ -31,8 +31,8 @@ caller_in None = None
 caller_in (Some m) =
     if is_cer_header m.header then option_map (λ host. (m.header, host)) (calling_host m.avps) else None
 
-abbrev pub caller : List ℕ → Option Caller
-caller s = caller_in (message_in s)
+abbrev pub caller_of : List ℕ → Option Caller
+caller_of s = caller_in (message_in s)
 
 -- what a stranger is answered: a CER 3010 with the E bit (7.1.3), all else nothing; and it is closed
 abbrev pub answer_to : Node → Conn → Option Caller → List Action

@@ -9,9 +9,9 @@ use Rattle.dm_peer.specs.declared.config.Config.{Config}
 use Rattle.dm_peer.specs.declared.peer.Peer.{Peer}
 use Rattle.dm_peer.specs.Events.{PeerEvent}
 use Rattle.dm_node.specs.Adding.{with_new}
-use Rattle.dm_node.specs.Emptying.{without, with_set_back, all_set_back}
+use Rattle.dm_node.specs.Emptying.{without_peer, with_set_back, all_set_back}
 use Rattle.dm_node.specs.Holding.{peer_at}
-use Rattle.dm_node.specs.Telling.{IsTold}
+use Rattle.dm_node.specs.Telling.{PeerIsTold}
 
 -- a neighbour was added under this number; the one of this number was told an event and did this, or refused it; an
 -- event moved nobody; one was removed; one was set back; all were
@@ -30,13 +30,13 @@ pub data NodeBecame : List NodeStep → List (Option Peer) → Type 0 where
   added : (past : List NodeStep) (ps : List (Option Peer)) (config : Config) →
       NodeBecame past ps → NodeBecame (WasAdded (length ps) ∷ past) (with_new ps config)
   told : (past : List NodeStep) (ps qs : List (Option Peer)) (i : ℕ) (e : PeerEvent) (actions : List Action) →
-      NodeBecame past ps → IsTold ps qs i e actions → NodeBecame (WasTold i e actions ∷ past) qs
-  refused : (past : List NodeStep) (ps : List (Option Peer)) (i : ℕ) (e : PeerEvent) →
+      NodeBecame past ps → PeerIsTold ps qs i e actions → NodeBecame (WasTold i e actions ∷ past) qs
+  refused_event : (past : List NodeStep) (ps : List (Option Peer)) (i : ℕ) (e : PeerEvent) →
       NodeBecame past ps → NodeBecame (HasDeclined i e ∷ past) ps
   unmoved : (past : List NodeStep) (ps : List (Option Peer)) →
       NodeBecame past ps → NodeBecame (MovedNobody ∷ past) ps
   removed : (past : List NodeStep) (ps : List (Option Peer)) (i : ℕ) →
-      NodeBecame past ps → NodeBecame (WasRemoved i ∷ past) (without ps i)
+      NodeBecame past ps → NodeBecame (WasRemoved i ∷ past) (without_peer ps i)
   back : (past : List NodeStep) (ps : List (Option Peer)) (i : ℕ) →
       NodeBecame past ps → NodeBecame (WasSetBack i ∷ past) (with_set_back ps i)
   all_back : (past : List NodeStep) (ps : List (Option Peer)) →

@@ -13,7 +13,7 @@ use Rattle.dm_node.specs.declared.events.NodeEvent.TheVariants as event
 use Rattle.dm_node.specs.declared.fault.EventFault.{EventFault}
 use Rattle.dm_node.specs.declared.fault.EventFault.TheVariants as fault
 use Rattle.dm_peer.specs.declared.fault.PeerFault.TheVariants.{NoMemory}
-use Rattle.dm_node.specs.Calling.{Caller, caller, answer_to}
+use Rattle.dm_node.specs.Calling.{Caller, caller_of, answer_to}
 use Rattle.dm_node.specs.Holding.{peer_at, holds_at, host_at}
 
 -- the connection that an event names
@@ -27,7 +27,7 @@ conn_of _ = None
 
 -- the neighbour of this number is told the event: what happens to it is what happens to a peer of its own, and to each
 -- other one nothing
-pub record IsTold (ps qs : List (Option Peer)) (i : ℕ) (e : PeerEvent) (actions : List Action) : Type 0 where
+pub record PeerIsTold (ps qs : List (Option Peer)) (i : ℕ) (e : PeerEvent) (actions : List Action) : Type 0 where
   pub before : Peer
   pub after : Peer
   pub was : peer_at ps i ≡ Some before
@@ -59,7 +59,7 @@ abbrev pub IsAddressed : List (Option Peer) → Conn → List ℕ → ℕ → Ty
 IsAddressed ps c s i =
     (holds_at ps c i ≡ true)
     ⊎ (((j : ℕ) → holds_at ps c j ≡ false)
-    × (call : Caller) × (caller s ≡ Some call) × (host_at ps i ≡ Some (lower call.1)))
+    × (call : Caller) × (caller_of s ≡ Some call) × (host_at ps i ≡ Some (lower call.1)))
 
 -- the event concerns the neighbour of this number: it names it, or a connection that this one holds, or it is a first
 -- message of its host
@@ -100,7 +100,7 @@ IsMisdirected ps e f = ⊥
 
 -- the event is the CER of a stranger
 abbrev pub IsStrangeCer : NodeEvent → Type 0
-IsStrangeCer (event.Arrived c octets) = IsSome (caller octets.now)
+IsStrangeCer (event.Arrived c octets) = IsSome (caller_of octets.now)
 IsStrangeCer _ = ⊥
 
 -- why the node refuses: the event is misdirected, the neighbour that it concerns refuses, or memory is wanted for the
@@ -113,5 +113,5 @@ IsRefusedHere ps e f = IsMisdirected ps e f
 
 -- what is done at an event that concerns no neighbour
 abbrev pub strange : Node → NodeEvent → List Action
-strange n (event.Arrived c octets) = answer_to n c (caller octets.now)
+strange n (event.Arrived c octets) = answer_to n c (caller_of octets.now)
 strange n _ = []

@@ -8,14 +8,14 @@ use Rattle.dm_peer.specs.declared.config.Config.{Config}
 use Rattle.dm_peer.specs.declared.peer.Peer.{Peer}
 use Rattle.dm_wire.specs.declared.message.Header.{Header}
 use Rattle.dm_node.specs.Adding.{with_new}
-use Rattle.dm_node.specs.Calling.{Caller, caller}
-use Rattle.dm_node.specs.Telling.{Concerns, IsTold, told_of}
+use Rattle.dm_node.specs.Calling.{Caller, caller_of}
+use Rattle.dm_node.specs.Telling.{Concerns, PeerIsTold, told_of}
 use Rattle.dm_node.specs.declared.events.NodeEvent.{NodeEvent}
 use Rattle.dm_node.specs.declared.events.NodeEvent.TheVariants as event
 
 -- who calls at the event
 abbrev pub caller_at : NodeEvent → Option Caller
-caller_at (event.Arrived c octets) = caller octets.now
+caller_at (event.Arrived c octets) = caller_of octets.now
 caller_at _ = None
 
 -- the event is the CER of this host, and concerns no neighbour
@@ -44,7 +44,7 @@ IsTurnedAway turns_away most ps e = (host : List ℕ) → IsUnknown ps e host �
 pub record IsTakenIn (ps qs : List (Option Peer)) (i : ℕ) (e : NodeEvent) (actions : List Action) (config : Config)
     : Type 0 where
   pub number : i ≡ length ps
-  pub told : IsTold (with_new ps config) qs i (told_of e) actions
+  pub told : PeerIsTold (with_new ps config) qs i (told_of e) actions
   pub stays : told.after.standing.core.state ≡ Closed → ⊥
 
 -- a peer of its own for the host, told the event, does this and is Closed: nobody is added

@@ -3,7 +3,7 @@ ghost use Rattle.std.specs.Prelude.{◌≡◌, List, IfSome, IfNone, IfOk, OnErr
 ghost use Rattle.std.specs.Option.{option_copied};
 ghost use Rattle.dm_base.specs.Codes.{origin_host};
 ghost use Rattle.dm_base.specs.Kinds.{is_plain};
-ghost use Rattle.dm_node.specs.Calling.{calling_host, is_cer_header, caller_in, caller, answer_to};
+ghost use Rattle.dm_node.specs.Calling.{calling_host, is_cer_header, caller_in, caller_of, answer_to};
 ghost use Rattle.dm_wire.specs.declared.avp.Avp.{Avp};
 ghost use Rattle.dm_wire.specs.Borrowed.{avp_of, Lists};
 ghost use Rattle.dm_wire.specs.Members.{members};
@@ -73,8 +73,8 @@ fn caller_in<'a>(message: &MessageRef<'a>) -> Option<(Header, &'a [u8])>
 
 /// The header of a CER, and the host that it says it is from. It never answers want of memory.
 pub(crate) fn caller<'a>(octets: &'a [u8]) -> Option<(Header, &'a [u8])>
-    ensures found { IfSome result (λ r. caller octets.now ≡ Some (r.0, r.1.now)) }
-    ensures none { IfNone result (caller octets.now ≡ None) }
+    ensures found { IfSome result (λ r. caller_of octets.now ≡ Some (r.0, r.1.now)) }
+    ensures none { IfNone result (caller_of octets.now ≡ None) }
 {
     match read_message(octets) {
         Some(message) => caller_in(&message),
@@ -89,9 +89,9 @@ pub(crate) fn answer_to(
     conn: Conn,
     octets: &[u8],
 ) -> Result<Actions, NoMemory>
-    ensures answer { IfOk result (λ actions. actions.items ≡ answer_to node.now conn (caller octets.now)) }
+    ensures answer { IfOk result (λ actions. actions.items ≡ answer_to node.now conn (caller_of octets.now)) }
     ensures spelled { IfOk result (λ actions. All SendsSpelling actions.items) }
-    ensures memory { OnErr result (IsSome (caller octets.now)) }
+    ensures memory { OnErr result (IsSome (caller_of octets.now)) }
 {
     let mut actions = ArrayVec::new();
     if let Some((header, _)) = caller(octets) {

@@ -1,6 +1,6 @@
 //! A neighbour taken out, or set back.
 ghost use Rattle.std.specs.Prelude.{◌≡◌, ℕ, ◌<◌, None, Some, map, option_map};
-ghost use Rattle.dm_node.specs.Emptying.{without, set_back, with_set_back, all_set_back};
+ghost use Rattle.dm_node.specs.Emptying.{without_peer, set_back, with_set_back, all_set_back};
 ghost use Rattle.dm_node.specs.Holding.{peer_at};
 
 use dm_peer::Peer;
@@ -8,7 +8,7 @@ use dm_peer::Peer;
 /// The neighbour of the number, taken out.
 pub(crate) fn take_at(peers: &mut Vec<Option<Peer>>, index: usize) -> Option<Peer>
     ensures gone { result ≡ peer_at peers.old.items index }
-    ensures without { peers.new.items ≡ without peers.old.items index }
+    ensures without { peers.new.items ≡ without_peer peers.old.items index }
 {
     if index < peers.len() {
         peers[index].take()

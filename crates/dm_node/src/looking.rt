@@ -6,7 +6,7 @@ ghost use Rattle.dm_base.specs.Before.{lower};
 ghost use Rattle.dm_machine.specs.Connection.{hold_of};
 ghost use Rattle.dm_node.specs.Holding.{peer_at, holds, holds_it, holds_at, host_of, host_at, AreApart, AreUnlike};
 ghost use Rattle.dm_node.specs.declared.fault.AddFault.TheVariants.{Known};
-ghost use Rattle.dm_peer.specs.After.{fresh};
+ghost use Rattle.dm_peer.specs.After.{fresh_standing};
 ghost use Rattle.dm_peer.specs.declared.peer.Peer.{Peer};
 
 use dm_peer::{Conn, Peer};

@@ -41,9 +41,9 @@ impl Neighbours {
     ghost use Rattle.dm_peer.specs.declared.peer.Peer.{Peer};
     ghost use Rattle.dm_node.specs.Adding.{with_new};
     ghost use Rattle.dm_node.specs.Declining.{IsRuledOut, TakesNoMemory, IsDirected, IsByRule, IsDeclinedHere};
-    ghost use Rattle.dm_node.specs.Emptying.{without, with_set_back, all_set_back};
+    ghost use Rattle.dm_node.specs.Emptying.{without_peer, with_set_back, all_set_back};
     ghost use Rattle.dm_node.specs.Holding.{peer_at, host_at, holds_at, IsKnown};
-    ghost use Rattle.dm_node.specs.Telling.{Concerns, IsTold, IsMisdirected, IsRefusedHere, strange, told_of};
+    ghost use Rattle.dm_node.specs.Telling.{Concerns, PeerIsTold, IsMisdirected, IsRefusedHere, strange, told_of};
     ghost use Rattle.dm_node.specs.declared.fault.AddFault.TheVariants.{Known, NoMemory};
     ghost use Rattle.dm_node.specs.declared.fault.EventFault.{EventFault};
     ghost use Rattle.dm_node.specs.declared.fault.EventFault.TheVariants.{Peer as of_peer};
@@ -122,7 +122,7 @@ impl Neighbours {
     /// can be closed. It never answers want of memory.
     pub fn remove(&mut self, index: usize) -> Option<Peer>
         ensures gone { result ≡ peer_at self.old.peers index }
-        ensures without { self.new.peers ≡ without self.old.peers index }
+        ensures without { self.new.peers ≡ without_peer self.old.peers index }
         ensures node { self.new.node ≡ self.old.node }
     {
         self.roster.take(index)
@@ -157,7 +157,7 @@ impl Neighbours {
     pub fn on(&mut self, alloc: Global, event: NodeEvent<'_>) -> Result<NodeActions, EventFault>
         ensures concerned { IfOk result (λ r. IfSome r.neighbour (Concerns self.old.peers event.entry)) }
         ensures told { IfOk result (λ r. IfSome r.neighbour (λ i.
-            IsTold self.old.peers self.new.peers i (told_of event.entry) r.actions.items)) }
+            PeerIsTold self.old.peers self.new.peers i (told_of event.entry) r.actions.items)) }
         ensures nobody { IfOk result (λ r. IfNone r.neighbour ((i : ℕ) → Concerns self.old.peers event.entry i → ⊥)) }
         ensures strange { IfOk result (λ r. IfNone r.neighbour ((self.new.peers ≡ self.old.peers)
             × (r.actions.items ≡ strange self.old.node event.entry))) }

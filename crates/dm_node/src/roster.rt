@@ -5,7 +5,7 @@ ghost use Rattle.std.specs.Option.{option_copied};
 ghost use Rattle.dm_base.specs.Before.{lower};
 ghost use Rattle.dm_machine.specs.declared.connection.Conn.{Conn};
 ghost use Rattle.dm_node.specs.Adding.{with_new};
-ghost use Rattle.dm_node.specs.Emptying.{without, with_set_back, all_set_back};
+ghost use Rattle.dm_node.specs.Emptying.{without_peer, with_set_back, all_set_back};
 ghost use Rattle.dm_node.specs.Holding.{peer_at, holds, holds_at, host_at, IsKnown};
 ghost use Rattle.dm_node.specs.Rosters.{IsRoster};
 ghost use Rattle.dm_node.specs.Unknown.{present};
@@ -119,7 +119,7 @@ impl Roster {
     pub(crate) fn take(&mut self, index: usize) -> Option<Peer>
         requires { IsRoster self.old }
         ensures gone { result ≡ peer_at self.old.peers.items index }
-        ensures without { self.new.peers.items ≡ without self.old.peers.items index }
+        ensures without { self.new.peers.items ≡ without_peer self.old.peers.items index }
         ensures roster { IsRoster self.new }
     {
         let before = holding_at(&self.peers, index);

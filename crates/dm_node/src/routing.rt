@@ -3,7 +3,7 @@ ghost use Rattle.std.specs.Prelude.{◌≡◌, ℕ, true, None, Some, Err, IsSom
 ghost use Rattle.dm_node.specs.Holding.{peer_at};
 ghost use Rattle.dm_node.specs.Rosters.{IsRoster};
 ghost use Rattle.dm_node.specs.Telling.{told_of, IsAddressed, Concerns, IsAlone, IsMisdirected};
-ghost use Rattle.dm_peer.specs.Events.{told};
+ghost use Rattle.dm_peer.specs.Events.{event_told};
 ghost use Rattle.dm_node.specs.declared.fault.EventFault.{EventFault};
 ghost use Rattle.dm_node.specs.declared.fault.EventFault.TheVariants.{NoNeighbour};
 
@@ -15,7 +15,7 @@ use dm_peer::{Conn, Event, Peer};
 
 /// The event as its neighbour is told it.
 pub(crate) fn told_of<'a>(event: NodeEvent<'a>) -> Event<'a>
-    ensures { told result ≡ told_of event.entry }
+    ensures { event_told result ≡ told_of event.entry }
 {
     match event {
         NodeEvent::Start(_, conn) => Event::Start(conn),

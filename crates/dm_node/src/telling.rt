@@ -5,12 +5,12 @@ ghost use Rattle.dm_node.specs.Declining.{IsRuledOut, TakesNoMemory, IsDeclined,
 ghost use Rattle.dm_node.specs.Holding.{peer_at, holds_at, AreApart, AreUnlike};
 ghost use Rattle.dm_node.specs.Naming.{AreHostsNoted};
 ghost use Rattle.dm_node.specs.Rosters.{IsRoster};
-ghost use Rattle.dm_node.specs.Telling.{conn_of, told_of, Concerns, IsAlone, IsTold, IsRefusedBy, IsRefusedHere};
+ghost use Rattle.dm_node.specs.Telling.{conn_of, told_of, Concerns, IsAlone, PeerIsTold, IsRefusedBy, IsRefusedHere};
 ghost use Rattle.dm_node.specs.Telling.{IsStrangeCer, strange};
 ghost use Rattle.dm_node.specs.declared.fault.EventFault.TheVariants as faults;
 ghost use Rattle.dm_node.specs.Unknown.{present};
 ghost use Rattle.dm_node.specs.declared.hosts.Hosts.{Hosts};
-ghost use Rattle.dm_peer.specs.Events.{told};
+ghost use Rattle.dm_peer.specs.Events.{event_told};
 ghost use Rattle.dm_peer.specs.Spelled.{SendsSpelling};
 ghost use Rattle.dm_peer.specs.declared.fault.PeerFault.{PeerFault};
 ghost use Rattle.dm_peer.specs.declared.fault.PeerFault.TheVariants as peer_faults;
@@ -36,17 +36,17 @@ fn tell(
     event: Event<'_>,
 ) -> Result<Actions, PeerFault>
     requires there { IsSome (peer_at peers.old.items index) }
-    requires only { (j : ℕ) (c : Conn) → conn_of (told event) ≡ Some c → holds_at peers.old.items c j ≡ true
+    requires only { (j : ℕ) (c : Conn) → conn_of (event_told event) ≡ Some c → holds_at peers.old.items c j ≡ true
         → j ≡ index }
     ensures told { IfOk result (λ actions.
-        IsTold peers.old.items peers.new.items index (told event.entry) actions.items) }
+        PeerIsTold peers.old.items peers.new.items index (event_told event.entry) actions.items) }
     ensures spelled { IfOk result (λ actions. All SendsSpelling actions.items) }
-    ensures refused { IfErr result (IsRefusedBy peers.old.items index (told event.entry)) }
+    ensures refused { IfErr result (IsRefusedBy peers.old.items index (event_told event.entry)) }
     ensures ruled { IfErr result (λ f. (f ≡ peer_faults.NoMemory)
-        ⊎ IsRuledOut peers.old.items index (told event.entry) f) }
-    ensures refuses { (f : PeerFault) → IsRuledOut peers.old.items index (told event.entry) f → result ≡ Err f }
-    ensures silent { TakesNoMemory peers.old.items index (told event.entry)
-        → IfErr result (IsDeclined peers.old.items index (told event.entry)) }
+        ⊎ IsRuledOut peers.old.items index (event_told event.entry) f) }
+    ensures refuses { (f : PeerFault) → IsRuledOut peers.old.items index (event_told event.entry) f → result ≡ Err f }
+    ensures silent { TakesNoMemory peers.old.items index (event_told event.entry)
+        → IfErr result (IsDeclined peers.old.items index (event_told event.entry)) }
     ensures unchanged { OnErr result (peers.new.items ≡ peers.old.items) }
     ensures apart { AreApart peers.old.items → AreApart peers.new.items }
     ensures unlike { AreUnlike peers.old.items → AreUnlike peers.new.items }
@@ -77,7 +77,7 @@ pub(crate) fn tell_one(
     requires alone { IsAlone roster.old.peers.items (told_of event) index }
     ensures neighbour { IfOk result (λ r. r.neighbour ≡ Some index) }
     ensures told { IfOk result (λ r.
-        IsTold roster.old.peers.items roster.new.peers.items index (told_of event.entry) r.actions.items) }
+        PeerIsTold roster.old.peers.items roster.new.peers.items index (told_of event.entry) r.actions.items) }
     ensures spelled { IfOk result (λ r. All SendsSpelling r.actions.items) }
     ensures refused { IfErr result (IsRefusedHere roster.old.peers.items event.entry) }
     ensures ruled { IfErr result (IsByRule roster.old.peers.items event.entry) }

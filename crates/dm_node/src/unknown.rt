@@ -53,7 +53,7 @@ fn tell_unknown<U: UnknownHosts>(
 impl Neighbours {
     ghost use Rattle.std.specs.Prelude.{Err};
     ghost use Rattle.dm_node.specs.Declining.{IsRuledOut, TakesNoMemory, IsDirected, IsByRule, IsDeclinedHere};
-    ghost use Rattle.dm_node.specs.Telling.{IsTold, IsMisdirected, IsRefusedHere, told_of};
+    ghost use Rattle.dm_node.specs.Telling.{PeerIsTold, IsMisdirected, IsRefusedHere, told_of};
     ghost use Rattle.dm_node.specs.declared.fault.EventFault.{EventFault};
     ghost use Rattle.dm_peer.specs.declared.fault.PeerFault.{PeerFault};
 
@@ -76,7 +76,7 @@ impl Neighbours {
     ) -> Result<NodeActions, EventFault>
         ensures told { IfOk result (λ r. IfSome r.neighbour (λ i.
             (Concerns self.old.peers event.entry i
-            × IsTold self.old.peers self.new.peers i (told_of event.entry) r.actions.items)
+            × PeerIsTold self.old.peers self.new.peers i (told_of event.entry) r.actions.items)
             ⊎ ((config : Config)
             × IsOffered (U.makes policy.now) (U.most policy.now) self.old.peers event.entry config
             × IsTakenIn self.old.peers self.new.peers i event.entry r.actions.items config))) }

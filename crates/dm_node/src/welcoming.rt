@@ -11,7 +11,7 @@ ghost use Rattle.dm_node.specs.Unknown.{IsUnknown, IsTakenIn, IsLeft};
 ghost use Rattle.dm_node.specs.declared.events.NodeEvent.{NodeEvent};
 ghost use Rattle.dm_node.specs.declared.fault.EventFault.TheVariants as faults;
 ghost use Rattle.dm_peer.specs.Acts.{Moved, acts};
-ghost use Rattle.dm_peer.specs.Events.{told};
+ghost use Rattle.dm_peer.specs.Events.{event_told};
 ghost use Rattle.dm_peer.specs.Refusing.{refusal_of};
 ghost use Rattle.dm_peer.specs.Spelled.{SendsSpelling};
 ghost use Rattle.dm_peer.specs.declared.config.Config.{Config};
@@ -34,11 +34,11 @@ struct Met {
 
 /// A new peer of the configuration is told the event.
 fn meet(alloc: Global, config: Config, event: Event<'_>) -> Result<Met, PeerFault>
-    requires { (s : State) → refusal_of s (told event) ≡ None }
+    requires { (s : State) → refusal_of s (event_told event) ≡ None }
     ensures acts { IfOk result (λ met.
-        acts (new_peer config config.first_id) (told event.entry) ≡ Moved met.actions.items met.peer) }
+        acts (new_peer config config.first_id) (event_told event.entry) ≡ Moved met.actions.items met.peer) }
     ensures config { IfOk result (λ met. met.peer.config ≡ config) }
-    ensures takes { IfOk result (λ met. (c : Conn) → (conn_of (told event.entry) ≡ Some c → ⊥)
+    ensures takes { IfOk result (λ met. (c : Conn) → (conn_of (event_told event.entry) ≡ Some c → ⊥)
         → holds c met.peer ≡ false) }
     ensures spelled { IfOk result (λ met. All SendsSpelling met.actions.items) }
     ensures memory { IfErr result (λ f. f ≡ peer_faults.NoMemory) }

@@ -3,7 +3,7 @@ use Rattle.std.proofs.Common.{◌≡◌, ℕ, zero, suc, Option, None, Some, Lis
 use Rattle.dm_machine.specs.declared.connection.Conn.{Conn}
 use Rattle.dm_base.specs.declared.node.Node.{Node}
 use Rattle.dm_node.specs.Holding.{peer_at}
-use Rattle.dm_node.specs.Telling.{IsTold}
+use Rattle.dm_node.specs.Telling.{PeerIsTold}
 use Rattle.dm_peer.specs.declared.actions.Action.{Action}
 use Rattle.dm_peer.specs.declared.peer.Peer.{Peer}
 use Rattle.dm_peer.specs.Acts.{Moved, acts}
@@ -33,7 +33,7 @@ pub record MovesAlone (p : Peer) (e : PeerEvent) (actions : List Action) (who : 
   pub first : who ≡ 0
 
 at_first : (p : Peer) (qs : List (Option Peer)) (i : ℕ) (e : PeerEvent) (actions : List Action) →
-    IsTold (Some p ∷ []) qs i e actions → MovesAlone p e actions i qs
+    PeerIsTold (Some p ∷ []) qs i e actions → MovesAlone p e actions i qs
 at_first p qs zero e actions h = record {
   next = h.after;
   acted = subst (λ x. acts x e ≡ Moved actions h.after) (one_some p h.before h.was) h.acts;
@@ -48,7 +48,7 @@ moved_alone : (to : Option ℕ) (e : PeerEvent) (n : Node) (p : Peer) (ps qs : L
 moved_alone to e n p ps qs None actions i one m is = absurd (cc is)
 moved_alone to e n p ps qs (Some k) actions i one m is =
     subst (λ x. MovesAlone p e actions x qs) (same_number i k is)
-    (at_first p qs k e actions (subst (λ l. IsTold l qs k e actions) one m.1))
+    (at_first p qs k e actions (subst (λ l. PeerIsTold l qs k e actions) one m.1))
 
 with_these : Peer → NodeSession → Intakes → Session
 with_these q s f = record { peer = q; intakes = f; first_max = s.first_max; most = s.most }

@@ -6,7 +6,7 @@ use Rattle.std.proofs.lemmas.Bool.{and_parts, eqb-true}
 use Rattle.dm_machine.specs.declared.connection.Conn.{Conn}
 use Rattle.dm_machine.specs.declared.outputs.Command.{Command}
 use Rattle.dm_machine.specs.declared.outputs.Command.TheVariants as command
-use Rattle.dm_machine.specs.Connection.{Hold, NotHeld, Pending, Made, OpenAsI, ClosingAsI, Taken, OpenAsR, ClosingAsR, hold_of, Concern, StartsIt, AcksIt, NacksIt, EndsIt, HeardOnIt, Stops, TimesOut, Ticks, Submits, NamesAnother, if_named, concern_of, Order, Connects, SendsCer, SendsCea, SendsRefusal, SendsDwr, SendsDwa, SendsDpr, SendsDpa, SendsSubmit, Closes, if_ordered, with_order, orders_to, AtConnection}
+use Rattle.dm_machine.specs.Connection.{Hold, NotHeld, Pending, Made, OpenAsI, ClosingAsI, Taken, OpenAsR, ClosingAsR, hold_of, Concern, StartsIt, AcksIt, NacksIt, EndsIt, HeardOnIt, AsksStop, SaysTimeout, SaysTick, AsksSubmit, NamesAnother, if_named, concern_of, ConnOrder, Connects, SendsCer, SendsCea, SendsRefusal, SendsDwr, SendsDwa, SendsDpr, SendsDpa, SendsSubmit, Closes, if_ordered, with_order, orders_to, AtConnection}
 use Rattle.dm_machine.specs.Deeds.{Deed, ClosesOn, deed_of_command}
 use Rattle.dm_machine.specs.Node.{is_shaped}
 use Rattle.dm_machine.specs.Openings.{is_hold, is_order, has_order, is_left_unclosed, ClosesWhatItGivesUp}
@@ -20,7 +20,7 @@ use Rattle.dm_peer.specs.Holding.{is_held, holds, closes_conn}
 use Rattle.dm_peer.specs.Kept.{IsKept}
 use Rattle.dm_peer.specs.Said.{Heard}
 use Rattle.dm_peer.specs.Steps.{EachEventIsOneStep, Follows, IsStep, deed_of}
-use Rattle.dm_session.specs.Intakes.{closes}
+use Rattle.dm_session.specs.Intakes.{actions_close}
 
 -- octets came on the connection
 abbrev pub CameOn : PeerEvent → Conn → Type 0
@@ -30,26 +30,26 @@ abbrev closes_it : Conn → Deed → Bool
 closes_it c (ClosesOn d) = d.0 == c.0
 closes_it c _ = false
 
-by_deeds : (c : Conn) (actions : List Action) → closes actions c.0 ≡ list_any (closes_it c) (map deed_of actions)
+by_deeds : (c : Conn) (actions : List Action) → actions_close actions c.0 ≡ list_any (closes_it c) (map deed_of actions)
 by_deeds c [] = refl
 by_deeds c (action.Connect d ∷ actions) = by_deeds c actions
 by_deeds c (action.Send d s ∷ actions) = by_deeds c actions
 by_deeds c (action.Close d ∷ actions) = ap (λ b. (d.0 == c.0) || b) (by_deeds c actions)
 by_deeds c (action.Up s ∷ actions) = by_deeds c actions
 
-pub closes_as : (c : Conn) (actions : List Action) → closes actions c.0 ≡ list_any (closes_conn c) actions
+pub closes_as : (c : Conn) (actions : List Action) → actions_close actions c.0 ≡ list_any (closes_conn c) actions
 closes_as c [] = refl
 closes_as c (action.Connect d ∷ actions) = closes_as c actions
 closes_as c (action.Send d s ∷ actions) = closes_as c actions
 closes_as c (action.Close d ∷ actions) = ap (λ b. (d.0 == c.0) || b) (closes_as c actions)
 closes_as c (action.Up s ∷ actions) = closes_as c actions
 
-other_order : (b : Bool) (o : Order) (rest : List Order) → is_order Closes o ≡ false →
+other_order : (b : Bool) (o : ConnOrder) (rest : List ConnOrder) → is_order Closes o ≡ false →
     has_order Closes (with_order (if_ordered b o) rest) ≡ has_order Closes rest
 other_order true o rest other = ap (λ x. x || has_order Closes rest) other
 other_order false o rest other = refl
 
-close_order : (b : Bool) (rest : List Order) →
+close_order : (b : Bool) (rest : List ConnOrder) →
     has_order Closes (with_order (if_ordered b Closes) rest) ≡ (b || has_order Closes rest)
 close_order true rest = refl
 close_order false rest = refl
@@ -83,10 +83,10 @@ heard_or_held StartsIt NotHeld e = cc
 heard_or_held AcksIt NotHeld e = cc
 heard_or_held NacksIt NotHeld e = cc
 heard_or_held EndsIt NotHeld e = cc
-heard_or_held Stops NotHeld e = cc
-heard_or_held TimesOut NotHeld e = cc
-heard_or_held Ticks NotHeld e = cc
-heard_or_held Submits NotHeld e = cc
+heard_or_held AsksStop NotHeld e = cc
+heard_or_held SaysTimeout NotHeld e = cc
+heard_or_held SaysTick NotHeld e = cc
+heard_or_held AsksSubmit NotHeld e = cc
 heard_or_held NamesAnother NotHeld e = cc
 heard_or_held k Pending e = inl refl
 heard_or_held k Made e = inl refl
@@ -131,7 +131,7 @@ abbrev pub ClosesOwn : Peer → PeerEvent → Conn → Peer → Type 0
 ClosesOwn p e c q = ((holds c p ≡ true) ⊎ CameOn e c) × (holds c q ≡ false)
 
 closed_at : ClosesWhatItGivesUp → (p q : Peer) (e : PeerEvent) (actions : List Action) (c : Conn) →
-    IsTrue (is_shaped p.standing.core) → IsStep p e actions q → closes actions c.0 ≡ true → ClosesOwn p e c q
+    IsTrue (is_shaped p.standing.core) → IsStep p e actions q → actions_close actions c.0 ≡ true → ClosesOwn p e c q
 closed_at closed p q e actions c shaped s closing =
     let n = p.standing.core in
     let i = input_of e s.heard in
@@ -151,12 +151,12 @@ closed_at closed p q e actions c shaped s closing =
       not_held (hold_of q.standing.core c) both.0,
     )
 
-none_closes : (c : Conn) (actions : List Action) → actions ≡ [] → closes actions c.0 ≡ true → false ≡ true
-none_closes c actions none closing = sym (ap (λ l. closes l c.0) none) ∙ closing
+none_closes : (c : Conn) (actions : List Action) → actions ≡ [] → actions_close actions c.0 ≡ true → false ≡ true
+none_closes c actions none closing = sym (ap (λ l. actions_close l c.0) none) ∙ closing
 
 -- so whatever else is known of a peer than that its state machine's node has its form
 pub closes_shaped : EachEventIsOneStep → ClosesWhatItGivesUp → (p q : Peer) (e : PeerEvent) (actions : List Action)
-    (c : Conn) → IsTrue (is_shaped p.standing.core) → acts p e ≡ Moved actions q → closes actions c.0 ≡ true →
+    (c : Conn) → IsTrue (is_shaped p.standing.core) → acts p e ≡ Moved actions q → actions_close actions c.0 ≡ true →
     ClosesOwn p e c q
 closes_shaped step closed p q e actions c shaped is closing =
     elim (subst (Follows p e) is (step p e)) [
@@ -168,7 +168,7 @@ closes_shaped step closed p q e actions c shaped is closing =
 abbrev pub ClosesItsOwn : Type 0
 ClosesItsOwn =
     (p q : Peer) (e : PeerEvent) (actions : List Action) (c : Conn) → IsKept p → acts p e ≡ Moved actions q →
-    closes actions c.0 ≡ true → (holds c p ≡ true) ⊎ CameOn e c
+    actions_close actions c.0 ≡ true → (holds c p ≡ true) ⊎ CameOn e c
 
 pub closes_its_own : EachEventIsOneStep → ClosesWhatItGivesUp → ClosesItsOwn
 closes_its_own step closed p q e actions c kept is closing =

@@ -11,9 +11,9 @@ use Rattle.dm_machine.specs.Moves as moves
 use Rattle.dm_machine.specs.Node.{is_shaped}
 use Rattle.dm_machine.specs.Openings.{is_hold, names_it, LeavesOthersAlone, ClosesWhatItGivesUp}
 use Rattle.dm_node.specs.Adding.{with_new}
-use Rattle.dm_node.specs.Calling.{Caller, caller, answer_to}
+use Rattle.dm_node.specs.Calling.{Caller, caller_of, answer_to}
 use Rattle.dm_node.specs.Holding.{peer_at, holds_it, holds_at, AreApart}
-use Rattle.dm_node.specs.Telling.{Concerns, IsAddressed, IsTold, IsFree, strange, told_of}
+use Rattle.dm_node.specs.Telling.{Concerns, IsAddressed, PeerIsTold, IsFree, strange, told_of}
 use Rattle.dm_node.specs.Unknown.{IsOffered, IsTurnedAway, IsTakenIn, IsLeft}
 use Rattle.dm_node.specs.declared.events.NodeEvent.{NodeEvent}
 use Rattle.dm_node.specs.declared.events.NodeEvent.TheVariants as event
@@ -28,7 +28,7 @@ use Rattle.dm_peer.specs.Kept.{IsKept}
 use Rattle.dm_peer.specs.Said.{Heard}
 use Rattle.dm_peer.specs.Settled.{FreshIsSettled}
 use Rattle.dm_peer.specs.Steps.{EachEventIsOneStep, Follows, IsStep}
-use Rattle.dm_session.specs.Intakes.{Intakes, is_there, closes}
+use Rattle.dm_session.specs.Intakes.{Intakes, is_there, actions_close}
 use Rattle.dm_session.specs.Naming.{NamesThere}
 use Rattle.dm_node_session.specs.NodeHeld.{AllHeldAreThere, AreKept}
 use Rattle.dm_node_session.specs.NodePolicies.{Policy, IsStrangeHost, IsPermitted, IsForbidden, Joins, StaysOut, NodeMovesWith}
@@ -64,7 +64,7 @@ step_takes alone p q d octets actions shaped s c other free =
     let i = input_of (Arrived d octets) s.heard in
     let at : AtConnection (λ k before after orders.
     IsTrue (is_hold NotHeld before && not (names_it k)) → (after ≡ NotHeld) × (orders ≡ []))
-    p.standing.core i c (moves.Moved s.commands q.standing.core) =
+    p.standing.core i c (moves.NodeMoved s.commands q.standing.core) =
     subst (λ o. AtConnection (λ k before after orders.
     IsTrue (is_hold NotHeld before && not (names_it k)) → (after ≡ NotHeld) × (orders ≡ []))
     p.standing.core i c o) s.moves
@@ -110,7 +110,7 @@ came_there : (c d : Conn) (octets : List ℕ) → CameOn (Arrived c octets) d �
 came_there c d octets (s, e) = cc e
 
 first_closes : PeerLaws → (k : Config) (q : Peer) (c d : Conn) (octets : List ℕ) (actions : List Action) →
-    acts (new_peer k k.first_id) (Arrived c octets) ≡ Moved actions q → closes actions d.0 ≡ true → ClosesAtMost c d q
+    acts (new_peer k k.first_id) (Arrived c octets) ≡ Moved actions q → actions_close actions d.0 ≡ true → ClosesAtMost c d q
 first_closes laws k q c d octets actions is closing =
     let own = closes_shaped laws.step laws.gives_up (new_peer k k.first_id) q (Arrived c octets) actions d
     (fresh_shaped laws k) is closing in
@@ -176,7 +176,7 @@ pub stranger_free : (ps : List (Option Peer)) (c : Conn) (octets : List ℕ) →
 stranger_free ps c octets nobody j = free_of (holds_at ps c j) (λ held. nobody j (inl held))
 
 closed_joined : PeerLaws → (ps qs : List (Option Peer)) (i : ℕ) (c : Conn) (octets : List ℕ) (actions : List Action)
-    (k : Config) → Joins ps qs i c octets actions k → IsFree ps c → (d : Conn) → closes actions d.0 ≡ true →
+    (k : Config) → Joins ps qs i c octets actions k → IsFree ps c → (d : Conn) → actions_close actions d.0 ≡ true →
     IsFree qs d
 closed_joined laws ps qs i c octets actions k h free d closing j = by (nat_eq j i) refl
   where
@@ -190,7 +190,7 @@ closed_joined laws ps qs i c octets actions k h free d closing j = by (nat_eq j 
         ∙ subst (λ x. holds_at ps x j ≡ false) most.same (free j)
 
 closed_out : PeerLaws → (ps qs : List (Option Peer)) (c : Conn) (octets : List ℕ) (actions : List Action)
-    (k : Config) → StaysOut ps qs c octets actions k → IsFree ps c → (d : Conn) → closes actions d.0 ≡ true →
+    (k : Config) → StaysOut ps qs c octets actions k → IsFree ps c → (d : Conn) → actions_close actions d.0 ≡ true →
     IsFree qs d
 closed_out laws ps qs c octets actions k h free d closing =
     let most = first_closes laws k h.after c d octets actions h.acted closing in
@@ -201,7 +201,7 @@ abbrev pub OutOrTurnedOff :
     Policy → Conn → List ℕ → Node → List (Option Peer) → List Action → List (Option Peer) → Type 0
 OutOrTurnedOff policy c octets n ps actions qs =
     ((k : Config) × IsPermitted policy ps c octets k × StaysOut ps qs c octets actions k)
-    ⊎ ((actions ≡ answer_to n c (caller octets)) × (qs ≡ ps) × IsForbidden policy ps c octets)
+    ⊎ ((actions ≡ answer_to n c (caller_of octets)) × (qs ≡ ps) × IsForbidden policy ps c octets)
 
 pub peers_stay : (policy : Policy) (c : Conn) (octets : List ℕ) (n : Node) (ps qs : List (Option Peer))
     (actions : List Action) → OutOrTurnedOff policy c octets n ps actions qs → qs ≡ ps
@@ -234,18 +234,18 @@ kept_with policy c octets n ps qs None actions kept m looked =
 -- what is closed nobody holds behind them
 closed_nobody : PeerLaws → (policy : Policy) (c : Conn) (octets : List ℕ) (n : Node) (ps qs : List (Option Peer))
     (actions : List Action) → ((i : ℕ) → IsAddressed ps c octets i → ⊥) →
-    OutOrTurnedOff policy c octets n ps actions qs → (d : Conn) → closes actions d.0 ≡ true → IsFree qs d
+    OutOrTurnedOff policy c octets n ps actions qs → (d : Conn) → actions_close actions d.0 ≡ true → IsFree qs d
 closed_nobody laws policy c octets n ps qs actions nobody (inl (k, permitted, out)) d closing =
     closed_out laws ps qs c octets actions k out (stranger_free ps c octets nobody) d closing
 closed_nobody laws policy c octets n ps qs actions nobody (inr (answer, same, forbidden)) d closing =
     subst (λ l. IsFree l d) (sym same)
     (subst (λ x. IsFree ps x)
-    (closed_answer n c (caller octets) d (ap (λ l. closes l d.0) (sym answer) ∙ closing))
+    (closed_answer n c (caller_of octets) d (ap (λ l. actions_close l d.0) (sym answer) ∙ closing))
     (stranger_free ps c octets nobody))
 
 pub closed_with : ClosedIsUnheld → ClosesItsOwn → PeerLaws → (policy : Policy) (c : Conn) (octets : List ℕ) (n : Node)
     (ps qs : List (Option Peer)) (who : Option ℕ) (actions : List Action) → AreKept ps → AreApart ps →
-    NodeMovesWith policy c octets n ps who actions qs → (d : Conn) → closes actions d.0 ≡ true → IsFree qs d
+    NodeMovesWith policy c octets n ps who actions qs → (d : Conn) → actions_close actions d.0 ≡ true → IsFree qs d
 closed_with closed own laws policy c octets n ps qs (Some i) actions kept apart (inl m) d closing =
     closed_told closed own None (Arrived c octets) ps qs i actions kept apart m.0 m.1 d closing
 closed_with closed own laws policy c octets n ps qs (Some i) actions kept apart (inr (k, permitted, joins)) d closing =
@@ -266,7 +266,7 @@ policy_of makes turns_away most = record { makes = makes; turns_away = turns_awa
 abbrev pub TakenOrTold :
     (List ℕ → Config → Type 0) → ℕ → List (Option Peer) → List (Option Peer) → NodeEvent → List Action → ℕ → Type 0
 TakenOrTold makes most ps qs e actions i =
-    (Concerns ps e i × IsTold ps qs i (told_of e) actions)
+    (Concerns ps e i × PeerIsTold ps qs i (told_of e) actions)
     ⊎ ((k : Config) × IsOffered makes most ps e k × IsTakenIn ps qs i e actions k)
 
 abbrev pub LeftOrStrange :
@@ -276,7 +276,7 @@ LeftOrStrange makes turns_away most n ps qs e actions =
     ((k : Config) × IsOffered makes most ps e k × IsLeft ps qs e actions k)
     ⊎ ((qs ≡ ps) × (actions ≡ strange n e) × IsTurnedAway turns_away most ps e)
 
-strange_host : (ps : List (Option Peer)) (c : Conn) (octets host : List ℕ) (call : Caller) → caller octets ≡ Some call →
+strange_host : (ps : List (Option Peer)) (c : Conn) (octets host : List ℕ) (call : Caller) → caller_of octets ≡ Some call →
     call.1 ≡ host → ((i : ℕ) → IsAddressed ps c octets i → ⊥) → IsStrangeHost ps c octets host
 strange_host ps c octets host call calls named nobody =
     record { call = call; calls = calls; named = named; nobody = nobody }
@@ -333,7 +333,7 @@ left_or_strange makes turns_away most n ps qs (event.Arrived c piece) actions no
     same,
     λ host h. turned host (record {
       header = h.call.0;
-      calls = host_is (caller piece.now) h.call host h.calls h.named;
+      calls = host_is (caller_of piece.now) h.call host h.calls h.named;
       nobody = h.nobody;
     }),
   ),

@@ -6,7 +6,7 @@ use Rattle.dm_machine.specs.declared.connection.Conn.{Conn}
 use Rattle.dm_peer.specs.declared.peer.Peer.{Peer}
 use Rattle.dm_peer.specs.Events.{PeerEvent}
 use Rattle.dm_peer.specs.Events as event
-use Rattle.dm_session.specs.Intakes.{Intake, Intakes, is_there, is_numbered, with_intake, broken_intake, changed, shut, fed_intake, with_max, closes, left_by, raised_at}
+use Rattle.dm_session.specs.Intakes.{Intake, Intakes, is_there, is_conn_number, with_intake, broken_intake, changed, taken_down, fed_intake, with_max, actions_close, left_by, raised_at}
 use Rattle.dm_session.specs.Sessions.{own_of, other_of}
 use Rattle.dm_node_session.specs.declared.node_order.NodeOrder.{NodeOrder}
 use Rattle.dm_node_session.specs.declared.node_order.NodeOrder.TheVariants as order
@@ -16,7 +16,7 @@ use Rattle.dm_node_session.specs.NodePolicies.{Policy, NodeTellsAsWith}
 use Rattle.dm_node_session.specs.NodeSessions.{NodeSession, NodeAnswer, NodeTellsAs, concerned_in, raised_for, node_settled, with_node_intakes}
 
 none_raised_at : (m : ℕ) (o : Option Conn) (f : Intakes) (d : ℕ) → f d ≡ None → raised_at m o f d ≡ None
-none_raised_at m o f d h = by (is_numbered d o)
+none_raised_at m o f d h = by (is_conn_number d o)
   where
     by : (b : Bool) → cond b (option_map (with_max m) (f d)) (f d) ≡ None
     by true = ap (option_map (with_max m)) h
@@ -32,7 +32,7 @@ none_raised m (Some q) f d h = by (is_open q.standing.core.state)
 
 -- what was closed isn't there
 closed_is_gone : (s t : NodeSession) (answer : NodeAnswer) (qs : List (Option Peer)) (d : ℕ) →
-    t ≡ node_settled answer.neighbour qs answer.actions s → closes answer.actions d ≡ true → t.intakes d ≡ None
+    t ≡ node_settled answer.neighbour qs answer.actions s → actions_close answer.actions d ≡ true → t.intakes d ≡ None
 closed_is_gone s t answer qs d left is =
     ap (λ (v : NodeSession). v.intakes d) left
     ∙ none_raised s.most (concerned_in qs answer.neighbour) (left_by answer.actions s.intakes) d
@@ -46,14 +46,14 @@ abbrev with_broken : Conn → NodeSession → Intake → NodeSession
 with_broken c s i = with_node_intakes (with_intake c.0 (Some (broken_intake i)) s.intakes) s
 
 pub close_is_last : (arrived : Option Conn) (c d : Conn) (s t : NodeSession) (answer : NodeAnswer) →
-    NodeTellsAs arrived c s answer t → closes answer.actions d.0 ≡ true → t.intakes d.0 ≡ None
+    NodeTellsAs arrived c s answer t → actions_close answer.actions d.0 ≡ true → t.intakes d.0 ≡ None
 close_is_last None c d s t answer h is =
     closed_is_gone (with_broken c s h.intake) t answer h.told.peers d.0 h.told.left is
 close_is_last (Some e) c d s t answer h is =
     closed_is_gone (with_rest c s h.1.intake h.1.rest) t answer h.1.told.peers d.0 h.1.told.left is
 
 pub close_is_last_with : (policy : Policy) (arrived : Option Conn) (c d : Conn) (s t : NodeSession)
-    (answer : NodeAnswer) → NodeTellsAsWith policy arrived c s answer t → closes answer.actions d.0 ≡ true →
+    (answer : NodeAnswer) → NodeTellsAsWith policy arrived c s answer t → actions_close answer.actions d.0 ≡ true →
     t.intakes d.0 ≡ None
 close_is_last_with policy None c d s t answer h is =
     closed_is_gone (with_broken c s h.intake) t answer h.told.peers d.0 h.told.left is
@@ -80,7 +80,7 @@ not_there c d e s t asks none same h =
     let gone : is_there d.0 s.intakes ≡ false = ap (λ v. is_there v.0 s.intakes) same ∙ ap is_some none in
     subst (λ b. cond b (NodeTellsOnce None e s asks t) (NodeTellsNothing s asks t)) gone h
 
-none_shut : (d c : ℕ) (f : Intakes) → f c ≡ None → shut d f c ≡ None
+none_shut : (d c : ℕ) (f : Intakes) → f c ≡ None → taken_down d f c ≡ None
 none_shut d c f h = by (nat_eq d c)
   where
     by : (b : Bool) → cond b None (f c) ≡ None

@@ -4,9 +4,9 @@ use Rattle.std.specs.Option.{IfNone}
 use Rattle.std.proofs.lemmas.Bool.{eqb-true, eq-eqb}
 use Rattle.dm_base.specs.declared.node.Node.{Node}
 use Rattle.dm_machine.specs.declared.connection.Conn.{Conn}
-use Rattle.dm_node.specs.Calling.{Caller, caller, answer_to}
+use Rattle.dm_node.specs.Calling.{Caller, caller_of, answer_to}
 use Rattle.dm_node.specs.Holding.{peer_at, holds_it, holds_at, AreApart}
-use Rattle.dm_node.specs.Telling.{Concerns, IsAddressed, IsTold, IsFree, IsMisdirected, IsRefusedBy, IsRefusedHere, IsStrangeCer, strange, told_of}
+use Rattle.dm_node.specs.Telling.{Concerns, IsAddressed, PeerIsTold, IsFree, IsMisdirected, IsRefusedBy, IsRefusedHere, IsStrangeCer, strange, told_of}
 use Rattle.dm_node.specs.declared.events.NodeEvent.{NodeEvent}
 use Rattle.dm_node.specs.declared.events.NodeEvent.TheVariants as event
 use Rattle.dm_node.specs.declared.fault.EventFault.{EventFault}
@@ -20,7 +20,7 @@ use Rattle.dm_peer.specs.Events.{PeerEvent, Start, Stop, Timeout, Tick, Ack, Nac
 use Rattle.dm_peer.specs.Holding.{holds, names_conn, OthersStayUnheld, ClosedIsUnheld}
 use Rattle.dm_peer.specs.Kept.{IsKept}
 use Rattle.dm_peer.specs.Refusing.{RefusesByRule, fault_at}
-use Rattle.dm_session.specs.Intakes.{Intakes, is_there, closes}
+use Rattle.dm_session.specs.Intakes.{Intakes, is_there, actions_close}
 use Rattle.dm_session.specs.Naming.{NamesThere}
 use Rattle.dm_node_session.specs.NodeHeld.{AllHeldAreThere, AreKept}
 use Rattle.dm_node_session.specs.NodeSessions.{IsConcerned, NodeMoves, turned_off, TakesMemoryAt}
@@ -72,7 +72,7 @@ strange_as n (event.Gone c) = refl
 
 -- what the clauses of `Neighbours::on` come to
 pub moved : (n : Node) (ps qs : List (Option Peer)) (e : NodeEvent) (who : Option ℕ) (actions : List Action) →
-    IfSome who (Concerns ps e) → IfSome who (λ i. IsTold ps qs i (told_of e) actions) →
+    IfSome who (Concerns ps e) → IfSome who (λ i. PeerIsTold ps qs i (told_of e) actions) →
     IfNone who ((i : ℕ) → Concerns ps e i → ⊥) → IfNone who ((qs ≡ ps) × (actions ≡ strange n e)) →
     NodeMoves (neighbour_named e) (told_of e) n ps who actions qs
 moved n ps qs e (Some i) actions is told none stays = (is_for ps e i is, told)
@@ -81,7 +81,7 @@ moved n ps qs e None actions is told none stays =
 
 -- what is held behind it is there
 pub held_told : OthersStayUnheld → (ps qs : List (Option Peer)) (i : ℕ) (e : PeerEvent) (actions : List Action)
-    (f : Intakes) → AreKept ps → IsTold ps qs i e actions → AllHeldAreThere ps f → NamesThere e f → AllHeldAreThere qs f
+    (f : Intakes) → AreKept ps → PeerIsTold ps qs i e actions → AllHeldAreThere ps f → NamesThere e f → AllHeldAreThere qs f
 held_told others ps qs i e actions f kept told there named j c held = by (nat_eq j i) refl where
   at : holds c told.after ≡ true → (b n : Bool) → holds c told.before ≡ b → names_conn e c ≡ n → is_there c.0 f ≡ true
   at now true n before names = there i c (ap (holds_it c) told.was ∙ before)
@@ -105,7 +105,7 @@ held_moved others to e n ps qs None actions kept m f there named = subst (λ l. 
 
 -- each neighbour is kept behind it
 pub kept_told : (ps qs : List (Option Peer)) (i : ℕ) (e : PeerEvent) (actions : List Action) → AreKept ps →
-    IsTold ps qs i e actions → IfSome (peer_at qs i) IsKept → AreKept qs
+    PeerIsTold ps qs i e actions → IfSome (peer_at qs i) IsKept → AreKept qs
 kept_told ps qs i e actions kept told looked j p at = by (nat_eq j i) refl where
   by : (b : Bool) → nat_eq j i ≡ b → IsKept p
   by true same =
@@ -129,8 +129,8 @@ came_alone to e ps i j c apart is (s, same) held =
 
 -- what is closed nobody holds behind it
 pub closed_told : ClosedIsUnheld → ClosesItsOwn → (to : Option ℕ) (e : PeerEvent) (ps qs : List (Option Peer)) (i : ℕ)
-    (actions : List Action) → AreKept ps → AreApart ps → IsConcerned ps to e i → IsTold ps qs i e actions →
-    (c : Conn) → closes actions c.0 ≡ true → IsFree qs c
+    (actions : List Action) → AreKept ps → AreApart ps → IsConcerned ps to e i → PeerIsTold ps qs i e actions →
+    (c : Conn) → actions_close actions c.0 ≡ true → IsFree qs c
 closed_told closed own to e ps qs i actions kept apart is told c closing j = by (nat_eq j i) refl where
   keeps : IsKept told.before
   keeps = kept i told.before told.was
@@ -153,7 +153,7 @@ closed_told closed own to e ps qs i actions kept apart is told c closing j = by 
       ap (holds_it c) (told.others j (unlike j i other))
       ∙ free (unlike j i other) (holds_at ps c j) refl
 
-pub closed_answer : (n : Node) (d : Conn) (call : Option Caller) (c : Conn) → closes (answer_to n d call) c.0 ≡ true → d ≡ c
+pub closed_answer : (n : Node) (d : Conn) (call : Option Caller) (c : Conn) → actions_close (answer_to n d call) c.0 ≡ true → d ≡ c
 closed_answer n d None c is = by (nat_eq d.0 c.0) refl is where
   by : (b : Bool) → nat_eq d.0 c.0 ≡ b → (b || false) ≡ true → d ≡ c
   by true e h = ap (λ m. record { 0 = m }) (eqb-true d.0 c.0 e)
@@ -168,10 +168,10 @@ free_of true un = absurd (un refl)
 free_of false un = refl
 
 closed_stranger : (to : Option ℕ) (e : PeerEvent) (n : Node) (ps : List (Option Peer)) →
-    ((i : ℕ) → IsConcerned ps to e i → ⊥) → (c : Conn) → closes (turned_off n e) c.0 ≡ true → IsFree ps c
+    ((i : ℕ) → IsConcerned ps to e i → ⊥) → (c : Conn) → actions_close (turned_off n e) c.0 ≡ true → IsFree ps c
 closed_stranger to (Arrived d s) n ps nobody c is j =
     free_of (holds_at ps c j) (λ held. nobody j (inl (subst (λ x. holds_at ps x j ≡ true)
-    (sym (closed_answer n d (caller s) c is)) held)))
+    (sym (closed_answer n d (caller_of s) c is)) held)))
 closed_stranger to (Start d) n ps nobody c is j = absurd (true≢false (sym is))
 closed_stranger to (Stop cause) n ps nobody c is j = absurd (true≢false (sym is))
 closed_stranger to Timeout n ps nobody c is j = absurd (true≢false (sym is))
@@ -183,11 +183,11 @@ closed_stranger to (Gone d) n ps nobody c is j = absurd (true≢false (sym is))
 
 pub closed_moved : ClosedIsUnheld → ClosesItsOwn → (to : Option ℕ) (e : PeerEvent) (n : Node)
     (ps qs : List (Option Peer)) (who : Option ℕ) (actions : List Action) → AreKept ps → AreApart ps →
-    NodeMoves to e n ps who actions qs → (c : Conn) → closes actions c.0 ≡ true → IsFree qs c
+    NodeMoves to e n ps who actions qs → (c : Conn) → actions_close actions c.0 ≡ true → IsFree qs c
 closed_moved closed own to e n ps qs (Some i) actions kept apart m c is =
     closed_told closed own to e ps qs i actions kept apart m.0 m.1 c is
 closed_moved closed own to e n ps qs None actions kept apart m c is =
-    subst (λ l. IsFree l c) (sym m.2) (closed_stranger to e n ps m.0 c (ap (λ l. closes l c.0) (sym m.1) ∙ is))
+    subst (λ l. IsFree l c) (sym m.2) (closed_stranger to e n ps m.0 c (ap (λ l. actions_close l c.0) (sym m.1) ∙ is))
 
 -- why it is refused
 misdirected : (ps : List (Option Peer)) (e : NodeEvent) (f : EventFault) → IsMisdirected ps e f →
@@ -235,7 +235,7 @@ wanted rule p c s f kept (inr is) = absurd (cc (sym (ap fault_at is) ∙ rule p 
 
 memory_at : RefusesByRule → (ps : List (Option Peer)) (c : Conn) (octets : List ℕ) (e : NodeEvent) (f : EventFault) →
     AreKept ps → told_of e ≡ Arrived c octets → ((i : ℕ) → Concerns ps e i → IsAddressed ps c octets i) →
-    ((i : ℕ) → IsAddressed ps c octets i → Concerns ps e i) → (IsStrangeCer e → IsSome (caller octets)) →
+    ((i : ℕ) → IsAddressed ps c octets i → Concerns ps e i) → (IsStrangeCer e → IsSome (caller_of octets)) →
     ((g : EventFault) → IsMisdirected ps e g → ⊥) → IsRefusedHere ps e f → TakesMemoryAt c octets ps
 memory_at rule ps c octets e (fault.Peer f) kept is there back cer none (inl (i, at, h)) =
     inl (

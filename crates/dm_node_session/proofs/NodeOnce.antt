@@ -8,10 +8,10 @@ use Rattle.dm_framer.specs.Laws.{OneFront, FrameOrFault, FaultStands}
 use Rattle.dm_framer.specs.Frames.{HasFault}
 use Rattle.dm_machine.specs.declared.connection.Conn.{Conn}
 use Rattle.dm_machine.specs.Openings.{LeavesOthersAlone}
-use Rattle.dm_node.specs.Calling.{Caller, caller}
+use Rattle.dm_node.specs.Calling.{Caller, caller_of}
 use Rattle.dm_node.specs.Holding.{peer_at, holds_it, holds_at, host_of, host_at, AreApart, AreUnlike}
 use Rattle.dm_node.specs.Neighbourhoods.{IsNeighbourhood}
-use Rattle.dm_node.specs.Telling.{IsAddressed, IsTold}
+use Rattle.dm_node.specs.Telling.{IsAddressed, PeerIsTold}
 use Rattle.dm_peer.specs.declared.actions.Action.{Action}
 use Rattle.dm_peer.specs.declared.config.Config.{Config}
 use Rattle.dm_peer.specs.declared.peer.Peer.{Peer}
@@ -50,7 +50,7 @@ one_addressed ps c s i j n (inl a) (inr b) = absurd (two_truths (holds_at ps c i
 one_addressed ps c s i j n (inr a) (inl b) = absurd (two_truths (holds_at ps c j) b (a.0 j))
 one_addressed ps c s i j n (inr a) (inr b) =
     n.unlike.one i j (lower a.1.1) a.3
-    (b.3 ∙ ap (λ (x : Caller). Some (lower x.1)) (some_is (caller s) b.1 a.1 b.2 a.2))
+    (b.3 ∙ ap (λ (x : Caller). Some (lower x.1)) (some_is (caller_of s) b.1 a.1 b.2 a.2))
 
 -- neighbours that are the same one by one are the same
 each_same : (qs rs : List (Option Peer)) → length qs ≡ length rs → ((j : ℕ) → peer_at qs j ≡ peer_at rs j) → qs ≡ rs
@@ -77,8 +77,8 @@ same_actions a b p q e = cc
 same_after : (a b : List Action) (p q : Peer) → Moved a p ≡ Moved b q → p ≡ q
 same_after a b p q e = cc
 
-told_once : (ps qs rs : List (Option Peer)) (i : ℕ) (e : PeerEvent) (a b : List Action) → IsTold ps qs i e a →
-    IsTold ps rs i e b → (a ≡ b) × (qs ≡ rs)
+told_once : (ps qs rs : List (Option Peer)) (i : ℕ) (e : PeerEvent) (a b : List Action) → PeerIsTold ps qs i e a →
+    PeerIsTold ps rs i e b → (a ≡ b) × (qs ≡ rs)
 told_once ps qs rs i e a b h k =
     let before : h.before ≡ k.before = one_some h.before k.before (sym h.was ∙ k.was) in
     let moved : Moved a h.after ≡ Moved b k.after = sym h.acts ∙ ap (λ p. acts p e) before ∙ k.acts in
@@ -100,7 +100,7 @@ moves_once : (c : Conn) (s : List ℕ) (n : Node) (ps qs rs : List (Option Peer)
 moves_once c s n ps qs rs a b sound (Some i) (Some j) is also h k =
     let same : i ≡ j = one_addressed ps c s i j sound h.0 k.0 in
     let one = told_once ps qs rs j (Arrived c s) a.actions b.actions
-    (subst (λ m. IsTold ps qs m (Arrived c s) a.actions) same h.1) k.1 in
+    (subst (λ m. PeerIsTold ps qs m (Arrived c s) a.actions) same h.1) k.1 in
     record { neighbour = is ∙ ap Some same ∙ sym also; actions = one.0; peers = one.1 }
 moves_once c s n ps qs rs a b sound (Some i) None is also h k = absurd (k.0 i h.0)
 moves_once c s n ps qs rs a b sound None (Some j) is also h k = absurd (h.0 j k.0)
@@ -208,7 +208,7 @@ same_config step p q e actions is =
 
 -- behind octets no connection is held by two
 apart_told : StayLaws → (c : Conn) (s : List ℕ) (ps qs : List (Option Peer)) (i : ℕ) (actions : List Action) →
-    Wholly ps → IsAddressed ps c s i → IsTold ps qs i (Arrived c s) actions → AreApart qs
+    Wholly ps → IsAddressed ps c s i → PeerIsTold ps qs i (Arrived c s) actions → AreApart qs
 apart_told laws c s ps qs i actions sound at told = record {
   one = λ j k d h g. by j k d h g (nat_eq j i) refl (nat_eq k i) refl;
 }
@@ -244,7 +244,7 @@ apart_told laws c s ps qs i actions sound at told = record {
 
 -- and no two have one host
 hosts_stay : StayLaws → (e : PeerEvent) (ps qs : List (Option Peer)) (i : ℕ) (actions : List Action) →
-    IsTold ps qs i e actions → (j : ℕ) → host_at qs j ≡ host_at ps j
+    PeerIsTold ps qs i e actions → (j : ℕ) → host_at qs j ≡ host_at ps j
 hosts_stay laws e ps qs i actions told j = by (nat_eq j i) refl
   where
     by : (b : Bool) → nat_eq j i ≡ b → host_at qs j ≡ host_at ps j
@@ -255,7 +255,7 @@ hosts_stay laws e ps qs i actions told j = by (nat_eq j i) refl
     by false other = ap host_of (told.others j (unlike j i other))
 
 unlike_told : StayLaws → (e : PeerEvent) (ps qs : List (Option Peer)) (i : ℕ) (actions : List Action) → AreUnlike ps →
-    IsTold ps qs i e actions → AreUnlike qs
+    PeerIsTold ps qs i e actions → AreUnlike qs
 unlike_told laws e ps qs i actions apart told = record {
   one = λ j k host h g.
       apart.one j k host (sym (hosts_stay laws e ps qs i actions told j) ∙ h)
@@ -263,7 +263,7 @@ unlike_told laws e ps qs i actions apart told = record {
 }
 
 settled_told : StayLaws → (e : PeerEvent) (ps qs : List (Option Peer)) (i : ℕ) (actions : List Action) → Wholly ps →
-    IsTold ps qs i e actions → (j : ℕ) (p : Peer) → peer_at qs j ≡ Some p → IsSettled p
+    PeerIsTold ps qs i e actions → (j : ℕ) (p : Peer) → peer_at qs j ≡ Some p → IsSettled p
 settled_told laws e ps qs i actions sound told j p at = by (nat_eq j i) refl
   where
     after : IsSettled told.after

@@ -5,7 +5,7 @@ use Rattle.std.proofs.lemmas.Bool.{eqb-true}
 use Rattle.dm_base.specs.declared.node.Node.{Node}
 use Rattle.dm_machine.specs.declared.connection.Conn.{Conn}
 use Rattle.dm_node.specs.Holding.{peer_at, holds_it, holds_at, AreApart}
-use Rattle.dm_node.specs.Telling.{IsFree, IsTold}
+use Rattle.dm_node.specs.Telling.{IsFree, PeerIsTold}
 use Rattle.dm_node.specs.declared.fault.EventFault.{EventFault}
 use Rattle.dm_node.specs.declared.fault.EventFault.TheVariants as fault
 use Rattle.dm_peer.specs.declared.actions.Action.{Action}
@@ -13,7 +13,7 @@ use Rattle.dm_peer.specs.declared.fault.PeerFault.TheVariants.{NoMemory}
 use Rattle.dm_peer.specs.declared.peer.Peer.{Peer}
 use Rattle.dm_peer.specs.Events.{Start, Gone}
 use Rattle.dm_peer.specs.Holding.{GoneIsUnheld}
-use Rattle.dm_session.specs.Intakes.{Intake, Intakes, is_there, shut, with_intake, new_intake}
+use Rattle.dm_session.specs.Intakes.{Intake, Intakes, is_there, taken_down, with_intake, new_intake}
 use Rattle.dm_node_session.specs.declared.node_order.NodeOrder.{NodeOrder}
 use Rattle.dm_node_session.specs.declared.node_order.NodeOrder.TheVariants as order
 use Rattle.dm_node_session.specs.NodeHeld.{AllHeldAreThere, AreKept}
@@ -28,7 +28,7 @@ none_of None e = refl
 none_of (Some i) e = absurd (true≢false e)
 
 -- a connection that wasn't there, opened and shut again
-shut_again : (max c : ℕ) (f : Intakes) → f c ≡ None → shut c (with_intake c (Some (new_intake max)) f) ≡ f
+shut_again : (max c : ℕ) (f : Intakes) → f c ≡ None → taken_down c (with_intake c (Some (new_intake max)) f) ≡ f
 shut_again max c f none = fun_ext (λ d. at d (nat_eq c d) refl)
   where
     at : (d : ℕ) (b : Bool) → nat_eq c d ≡ b → cond b None (cond b (Some (new_intake max)) (f d)) ≡ f d
@@ -38,7 +38,7 @@ shut_again max c f none = fun_ext (λ d. at d (nat_eq c d) refl)
 pub shut_opened : (c : Conn) (s : NodeSession) → is_there c.0 s.intakes ≡ false → node_shut c (node_opened c s) ≡ s
 shut_opened c s e =
     let new = with_intake c.0 (Some (new_intake s.first_max)) s.intakes in
-    ap (λ b. with_node_intakes (shut c.0 (cond b s.intakes new)) s) e
+    ap (λ b. with_node_intakes (taken_down c.0 (cond b s.intakes new)) s) e
     ∙ ap (λ f. with_node_intakes f s) (shut_again s.first_max c.0 s.intakes (none_of (s.intakes c.0) e))
 
 -- a Start of a connection that wasn't there
@@ -50,7 +50,7 @@ started n c s o t asks e is told =
 
 -- behind its end nobody holds a connection
 gone_told : GoneIsUnheld → (c : Conn) (ps qs : List (Option Peer)) (i : ℕ) (actions : List Action) → AreKept ps →
-    AreApart ps → holds_at ps c i ≡ true → IsTold ps qs i (Gone c) actions → IsFree qs c
+    AreApart ps → holds_at ps c i ≡ true → PeerIsTold ps qs i (Gone c) actions → IsFree qs c
 gone_told gone c ps qs i actions kept apart is told j = by (nat_eq j i) refl where
   free : (j ≡ i → ⊥) → (b : Bool) → holds_at ps c j ≡ b → b ≡ false
   free un true held = absurd (un (apart.one j i c held is))

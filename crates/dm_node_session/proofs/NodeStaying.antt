@@ -6,7 +6,7 @@ use Rattle.dm_node.specs.Holding.{holds_at}
 use Rattle.dm_node.specs.Telling.{IsFree}
 use Rattle.dm_peer.specs.declared.actions.Action.{Action}
 use Rattle.dm_peer.specs.declared.peer.Peer.{Peer}
-use Rattle.dm_session.specs.Intakes.{Intake, Intakes, is_there, opened, shut, changed, with_intake, closes, left_by}
+use Rattle.dm_session.specs.Intakes.{Intake, Intakes, is_there, opened, taken_down, changed, with_intake, actions_close, left_by}
 use Rattle.dm_peer.specs.Events.{PeerEvent, Arrived, Start}
 use Rattle.dm_session.specs.Naming.{NamesThere, NamesAtMost}
 use Rattle.dm_session.specs.Staying.{OpeningKeeps, ChangingKeeps, TellingKeeps, RaisingKeeps, ClosingKeeps, ShuttingKeeps}
@@ -30,7 +30,7 @@ held_with keeps ps d i f there j c held = keeps d i f c.0 (there j c held)
 
 -- one that nobody holds may go
 pub held_shut : ShuttingKeeps → (ps : List (Option Peer)) (d : Conn) (f : Intakes) → AllHeldAreThere ps f →
-    IsFree ps d → AllHeldAreThere ps (shut d.0 f)
+    IsFree ps d → AllHeldAreThere ps (taken_down d.0 f)
 held_shut keeps ps d f there free i c held =
     ap is_some (keeps d.0 c.0 f (λ e. two_truths (holds_at ps c i) held
     (subst (λ x. holds_at ps x i ≡ false) (ap (λ n. record { 0 = n }) e) (free i))))
@@ -44,10 +44,10 @@ raised_there keeps most (Some p) f c is = keeps most p f c is
 -- and so may what is closed
 pub held_left : ClosingKeeps → RaisingKeeps → (ps : List (Option Peer)) (actions : List Action) (most : ℕ)
     (p : Option Peer) (f : Intakes) → AllHeldAreThere ps f →
-    ((c : Conn) → closes actions c.0 ≡ true → IsFree ps c) → AllHeldAreThere ps (raised_for most p (left_by actions f))
+    ((c : Conn) → actions_close actions c.0 ≡ true → IsFree ps c) → AllHeldAreThere ps (raised_for most p (left_by actions f))
 held_left closing raising ps actions most p f there free i c held =
-    raised_there raising most p (left_by actions f) c.0 (by (closes actions c.0) refl) where
-      by : (b : Bool) → closes actions c.0 ≡ b → is_there c.0 (left_by actions f) ≡ true
+    raised_there raising most p (left_by actions f) c.0 (by (actions_close actions c.0) refl) where
+      by : (b : Bool) → actions_close actions c.0 ≡ b → is_there c.0 (left_by actions f) ≡ true
       by true e = absurd (two_truths (holds_at ps c i) held (free c e i))
       by false e = ap is_some (closing actions c.0 f e) ∙ there i c held
 

@@ -17,7 +17,7 @@ use Rattle.dm_peer.specs.declared.actions.Action.{Action}
 use Rattle.dm_peer.specs.declared.peer.Peer.{Peer}
 use Rattle.dm_peer.specs.Events.{PeerEvent, Arrived}
 use Rattle.dm_peer.specs.Holding.{is_held, holds, ClosedIsUnheld}
-use Rattle.dm_session.specs.Intakes.{Intake, Intakes, is_numbered, with_intake, with_max, closes, left_by, raised_at}
+use Rattle.dm_session.specs.Intakes.{Intake, Intakes, is_conn_number, with_intake, with_max, actions_close, left_by, raised_at}
 use Rattle.dm_session.specs.Sessions.{own_of, other_of}
 use Rattle.dm_session.specs.Staying.{ClosingKeeps}
 use Rattle.dm_node_session.specs.NodeLaws.{AreSoundNeighbours, IsLeftAlone}
@@ -45,31 +45,31 @@ as_is_held WaitReturns Initiated = refl
 as_is_held WaitReturns Accepted = refl
 
 in_role : (s : State) (role : Role) (held : List (Role × Conn)) (c : Conn) →
-    is_numbered c.0 (held_as role held) ≡ true → is_held (hold_in s held c) ≡ true
+    is_conn_number c.0 (held_as role held) ≡ true → is_held (hold_in s held c) ≡ true
 in_role s role [] c e = absurd (true≢false (sym e))
 in_role s role (p ∷ ps) c e =
     by (p.1.0 == c.0) refl (is_same_role p.0 role) refl (λ rest. in_role s role ps c rest)
   where
     by : (b : Bool) → (p.1.0 == c.0) ≡ b → (r : Bool) → is_same_role p.0 role ≡ r →
-        (is_numbered c.0 (held_as role ps) ≡ true → is_held (hold_in s ps c) ≡ true) →
+        (is_conn_number c.0 (held_as role ps) ≡ true → is_held (hold_in s ps c) ≡ true) →
         is_held (cond b (hold_as s p.0) (hold_in s ps c)) ≡ true
     by true here r is more = as_is_held s p.0
     by false other true is more =
         absurd (two_truths (p.1.0 == c.0)
-        (subst (λ b. is_numbered c.0 (cond b (Some p.1) (held_as role ps)) ≡ true) is e) other)
+        (subst (λ b. is_conn_number c.0 (cond b (Some p.1) (held_as role ps)) ≡ true) is e) other)
     by false other false is more =
-        more (subst (λ b. is_numbered c.0 (cond b (Some p.1) (held_as role ps)) ≡ true) is e)
+        more (subst (λ b. is_conn_number c.0 (cond b (Some p.1) (held_as role ps)) ≡ true) is e)
 
 not_numbered : (role : Role) (p : Peer) (c : Conn) → holds c p ≡ false →
-    is_numbered c.0 (held_as role p.standing.core.held) ≡ false
-not_numbered role p c free = by (is_numbered c.0 (held_as role p.standing.core.held)) refl
+    is_conn_number c.0 (held_as role p.standing.core.held) ≡ false
+not_numbered role p c free = by (is_conn_number c.0 (held_as role p.standing.core.held)) refl
   where
-    by : (b : Bool) → is_numbered c.0 (held_as role p.standing.core.held) ≡ b → b ≡ false
+    by : (b : Bool) → is_conn_number c.0 (held_as role p.standing.core.held) ≡ b → b ≡ false
     by true e =
         absurd (two_truths (holds c p) (in_role p.standing.core.state role p.standing.core.held c e) free)
     by false e = refl
 
-raised_else : (most : ℕ) (o : Option Conn) (f : Intakes) (d : ℕ) → is_numbered d o ≡ false → raised_at most o f d ≡ f d
+raised_else : (most : ℕ) (o : Option Conn) (f : Intakes) (d : ℕ) → is_conn_number d o ≡ false → raised_at most o f d ≡ f d
 raised_else most o f d e = ap (λ b. cond b (option_map (with_max most) (f d)) (f d)) e
 
 raised_elsewhere : (most : ℕ) (p : Option Peer) (f : Intakes) (c : Conn) → holds_it c p ≡ false →
@@ -100,17 +100,17 @@ not_his qs (Some i) j c apart un held = by (holds_at qs c i) refl
     by false other = refl
 
 not_closed : (actions : List Action) (qs : List (Option Peer)) (j : ℕ) (c : Conn) →
-    (closes actions c.0 ≡ true → holds_at qs c j ≡ false) → holds_at qs c j ≡ true → closes actions c.0 ≡ false
-not_closed actions qs j c free held = by (closes actions c.0) refl
+    (actions_close actions c.0 ≡ true → holds_at qs c j ≡ false) → holds_at qs c j ≡ true → actions_close actions c.0 ≡ false
+not_closed actions qs j c free held = by (actions_close actions c.0) refl
   where
-    by : (b : Bool) → closes actions c.0 ≡ b → b ≡ false
+    by : (b : Bool) → actions_close actions c.0 ≡ b → b ≡ false
     by true e = absurd (two_truths (holds_at qs c j) held (free e))
     by false e = refl
 
 -- what is settled leaves alone whoever stays
 settled_leaves : ClosingKeeps → (s t : NodeSession) (answer : NodeAnswer) (qs : List (Option Peer)) (j : ℕ) →
     t ≡ node_settled answer.neighbour qs answer.actions s → AreApart t.peers → peer_at qs j ≡ peer_at s.peers j →
-    ((c : Conn) → closes answer.actions c.0 ≡ true → IsFree qs c) → (answer.neighbour ≡ Some j → ⊥) → IsLeftAlone j s t
+    ((c : Conn) → actions_close answer.actions c.0 ≡ true → IsFree qs c) → (answer.neighbour ≡ Some j → ⊥) → IsLeftAlone j s t
 settled_leaves keeps s t answer qs j left apart same closed un = record {
   peer = ap (λ (v : NodeSession). peer_at v.peers j) left ∙ same;
   came = λ c held.

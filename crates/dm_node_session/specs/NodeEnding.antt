@@ -1,7 +1,7 @@
 -- Behind a Close of a node's connection, and behind its end, nothing is told of it (RFC 6733, 5.6).
 use Rattle.std.specs.Prelude.{◌≡◌, true, Option, None}
 use Rattle.dm_machine.specs.declared.connection.Conn.{Conn}
-use Rattle.dm_session.specs.Intakes.{closes}
+use Rattle.dm_session.specs.Intakes.{actions_close}
 use Rattle.dm_node_session.specs.declared.node_order.NodeOrder.{NodeOrder}
 use Rattle.dm_node_session.specs.declared.node_order.NodeOrder.TheVariants as order
 use Rattle.dm_node_session.specs.NodeOrders.{NodeTakes}
@@ -12,7 +12,7 @@ use Rattle.dm_node_session.specs.NodeSessions.{NodeSession, NodeAnswer, NodeTurn
 abbrev pub NodeCloseIsLast : Type 0
 NodeCloseIsLast =
     (c d : Conn) (s t : NodeSession) (turn : NodeTurn) → NodeTellsNext c s turn t
-    → closes turn.answer.actions d.0 ≡ true → t.intakes d.0 ≡ None
+    → actions_close turn.answer.actions d.0 ≡ true → t.intakes d.0 ≡ None
 
 -- the order tells what happened on connection c
 abbrev pub IsOnConn : Conn → NodeOrder → Type 0
@@ -35,6 +35,6 @@ NodeGoneTellsNothing =
 -- by a policy too
 pub record NodeEndsWith (policy : Policy) : Type 0 where
   pub close : (c d : Conn) (s t : NodeSession) (turn : NodeTurn) → NodeTellsNextWith policy c s turn t
-      → closes turn.answer.actions d.0 ≡ true → t.intakes d.0 ≡ None
+      → actions_close turn.answer.actions d.0 ≡ true → t.intakes d.0 ≡ None
   pub octets : (c : Conn) (s t : NodeSession) (turn : NodeTurn) → s.intakes c.0 ≡ None
       → NodeTellsNextWith policy c s turn t → ⊥

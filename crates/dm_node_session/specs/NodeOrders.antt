@@ -2,7 +2,7 @@
 use Rattle.std.specs.Prelude.{◌≡◌, ◌⊎◌, ℕ, cond, true, false, Option, None, Some, List, [], ◌∷◌, ◌++◌}
 use Rattle.dm_machine.specs.declared.connection.Conn.{Conn}
 use Rattle.dm_node.specs.declared.fault.EventFault.{EventFault}
-use Rattle.dm_node.specs.Emptying.{without, with_set_back, all_set_back}
+use Rattle.dm_node.specs.Emptying.{without_peer, with_set_back, all_set_back}
 use Rattle.dm_node.specs.Holding.{peer_at, holds_it, holds_at}
 use Rattle.dm_node.specs.Telling.{IsFree}
 use Rattle.dm_peer.specs.declared.actions.Action.{Action}
@@ -10,7 +10,7 @@ use Rattle.dm_peer.specs.declared.actions.Action.TheVariants.{Close}
 use Rattle.dm_peer.specs.declared.peer.Peer.{Peer}
 use Rattle.dm_peer.specs.Events.{PeerEvent}
 use Rattle.dm_peer.specs.Events as event
-use Rattle.dm_session.specs.Intakes.{Intakes, none_there, is_there, opened, shut}
+use Rattle.dm_session.specs.Intakes.{Intakes, none_there, is_there, opened, taken_down}
 use Rattle.dm_session.specs.Sessions.{own_of, other_of}
 use Rattle.dm_node_session.specs.declared.node_order.NodeOrder.{NodeOrder}
 use Rattle.dm_node_session.specs.declared.node_order.NodeOrder.TheVariants as order
@@ -35,7 +35,7 @@ abbrev pub node_opened : Conn → NodeSession → NodeSession
 node_opened c s = with_node_intakes (opened s.first_max c.0 s.intakes) s
 
 abbrev pub node_shut : Conn → NodeSession → NodeSession
-node_shut c s = with_node_intakes (shut c.0 s.intakes) s
+node_shut c s = with_node_intakes (taken_down c.0 s.intakes) s
 
 -- connection c is no more there, but where a neighbour still holds it
 abbrev pub ShutsUnheld : Conn → NodeSession → NodeSession → Type 0
@@ -88,7 +88,7 @@ abbrev pub node_without : ℕ → NodeSession → NodeSession
 node_without n s =
     record {
       node = s.node;
-      peers = without s.peers n;
+      peers = without_peer s.peers n;
       intakes = left_by_peer (peer_at s.peers n) s.intakes;
       first_max = s.first_max;
       most = s.most;

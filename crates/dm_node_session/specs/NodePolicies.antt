@@ -6,8 +6,8 @@ use Rattle.dm_history.specs.History.{new_peer}
 use Rattle.dm_machine.specs.declared.connection.Conn.{Conn}
 use Rattle.dm_machine.specs.declared.state_name.State.TheVariants.{Closed}
 use Rattle.dm_node.specs.Adding.{with_new}
-use Rattle.dm_node.specs.Calling.{Caller, caller, answer_to}
-use Rattle.dm_node.specs.Telling.{IsAddressed, IsTold}
+use Rattle.dm_node.specs.Calling.{Caller, caller_of, answer_to}
+use Rattle.dm_node.specs.Telling.{IsAddressed, PeerIsTold}
 use Rattle.dm_node.specs.Unknown.{present}
 use Rattle.dm_peer.specs.declared.actions.Action.{Action}
 use Rattle.dm_peer.specs.declared.config.Config.{Config}
@@ -28,7 +28,7 @@ pub record Policy : Type 1 where
 -- the octets of connection c are the CER of this host, and concern no neighbour
 pub record IsStrangeHost (ps : List (Option Peer)) (c : Conn) (octets host : List ℕ) : Type 0 where
   pub call : Caller
-  pub calls : caller octets ≡ Some call
+  pub calls : caller_of octets ≡ Some call
   pub named : call.1 ≡ host
   pub nobody : (i : ℕ) → IsAddressed ps c octets i → ⊥
 
@@ -48,7 +48,7 @@ IsForbidden policy ps c octets =
 pub record Joins (ps qs : List (Option Peer)) (i : ℕ) (c : Conn) (octets : List ℕ) (actions : List Action)
     (config : Config) : Type 0 where
   pub number : i ≡ length ps
-  pub told : IsTold (with_new ps config) qs i (Arrived c octets) actions
+  pub told : PeerIsTold (with_new ps config) qs i (Arrived c octets) actions
   pub stays : told.after.standing.core.state ≡ Closed → ⊥
 
 -- a peer of its own for the host, told the octets, does this and is Closed: nobody is added
@@ -65,12 +65,12 @@ pub record StaysOut (ps qs : List (Option Peer)) (c : Conn) (octets : List ℕ) 
 abbrev pub NodeMovesWith :
     Policy → Conn → List ℕ → Node → List (Option Peer) → Option ℕ → List Action → List (Option Peer) → Type 0
 NodeMovesWith policy c octets n ps (Some i) actions qs =
-    (IsAddressed ps c octets i × IsTold ps qs i (Arrived c octets) actions)
+    (IsAddressed ps c octets i × PeerIsTold ps qs i (Arrived c octets) actions)
     ⊎ ((config : Config) × IsPermitted policy ps c octets config × Joins ps qs i c octets actions config)
 NodeMovesWith policy c octets n ps None actions qs =
     ((i : ℕ) → IsAddressed ps c octets i → ⊥)
     × (((config : Config) × IsPermitted policy ps c octets config × StaysOut ps qs c octets actions config)
-    ⊎ ((actions ≡ answer_to n c (caller octets)) × (qs ≡ ps) × IsForbidden policy ps c octets))
+    ⊎ ((actions ≡ answer_to n c (caller_of octets)) × (qs ≡ ps) × IsForbidden policy ps c octets))
 
 -- the octets of connection c are told, and this is what they ask for
 pub record NodeTellsWith (policy : Policy) (c : Conn) (octets : List ℕ) (s : NodeSession) (answer : NodeAnswer)

@@ -2,9 +2,9 @@
 use Rattle.std.specs.Prelude.{◌≡◌, ◌⊎◌, ℕ, true, Option, None, Some, IsSome, IfSome, IsTrue, List, []}
 use Rattle.dm_base.specs.declared.node.Node.{Node}
 use Rattle.dm_machine.specs.declared.connection.Conn.{Conn}
-use Rattle.dm_node.specs.Calling.{caller, answer_to}
+use Rattle.dm_node.specs.Calling.{caller_of, answer_to}
 use Rattle.dm_node.specs.Holding.{peer_at, holds_at}
-use Rattle.dm_node.specs.Telling.{IsAddressed, IsTold}
+use Rattle.dm_node.specs.Telling.{IsAddressed, PeerIsTold}
 use Rattle.dm_peer.specs.declared.actions.Action.{Action}
 use Rattle.dm_peer.specs.declared.peer.Peer.{Peer}
 use Rattle.dm_peer.specs.Acts.{acts, wants_memory}
@@ -43,14 +43,14 @@ IsConcerned ps to e i = to ≡ Some i
 
 -- what is done at an event that concerns nobody: a stranger's CER is answered 3010, and he is closed
 abbrev pub turned_off : Node → PeerEvent → List Action
-turned_off n (Arrived c s) = answer_to n c (caller s)
+turned_off n (Arrived c s) = answer_to n c (caller_of s)
 turned_off n _ = []
 
 -- one event of a node: the one neighbour that it concerns is told, and nothing happens to the others; or it concerns
 -- nobody, and nothing happens to any
 abbrev pub NodeMoves :
     Option ℕ → PeerEvent → Node → List (Option Peer) → Option ℕ → List Action → List (Option Peer) → Type 0
-NodeMoves to e n ps (Some i) actions qs = IsConcerned ps to e i × IsTold ps qs i e actions
+NodeMoves to e n ps (Some i) actions qs = IsConcerned ps to e i × PeerIsTold ps qs i e actions
 NodeMoves to e n ps None actions qs = ((i : ℕ) → IsConcerned ps to e i → ⊥) × (actions ≡ turned_off n e) × (qs ≡ ps)
 
 -- the neighbour that was concerned, if one was
@@ -131,7 +131,7 @@ abbrev pub TakesMemoryAt : Conn → List ℕ → List (Option Peer) → Type 0
 TakesMemoryAt c octets ps =
     ((i : ℕ) × (p : Peer) × IsAddressed ps c octets i × (peer_at ps i ≡ Some p)
     × IsTrue (wants_memory (acts p (Arrived c octets))))
-    ⊎ (((i : ℕ) → IsAddressed ps c octets i → ⊥) × IsSome (caller octets))
+    ⊎ (((i : ℕ) → IsAddressed ps c octets i → ⊥) × IsSome (caller_of octets))
 
 -- the next message of connection c takes memory to be told, or the fault of its stream does
 abbrev pub NodeNextTakesMemory : Conn → NodeSession → Type 0

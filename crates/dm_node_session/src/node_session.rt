@@ -30,7 +30,7 @@ impl NodeSession {
     ghost use Rattle.dm_node.specs.Telling.{IsFree, told_of};
     ghost use Rattle.dm_node.specs.declared.fault.EventFault.TheVariants as faults;
     ghost use Rattle.dm_peer.specs.declared.fault.PeerFault.TheVariants as peer_faults;
-    ghost use Rattle.dm_session.specs.Intakes.{Intake, IsFaulty, none_there, is_there, closes};
+    ghost use Rattle.dm_session.specs.Intakes.{Intake, IsFaulty, none_there, is_there, actions_close};
     ghost use Rattle.dm_session.specs.Naming.{NamesThere};
     ghost use Rattle.dm_node_session.specs.NodeOrders.{node_opened, node_shut};
     ghost use Rattle.dm_node_session.specs.NodeSeen.{node_session_of};
@@ -127,7 +127,7 @@ impl NodeSession {
     /// What the answer closes, which nobody holds, is no more there, and what the neighbour that it is of holds takes
     /// longer messages where that is open.
     pub(crate) fn settle(&mut self, answer: &NodeActions)
-        requires { (c : Conn) → closes answer.now.actions.items c.0 ≡ true
+        requires { (c : Conn) → actions_close answer.now.actions.items c.0 ≡ true
             → IsFree (node_session_of self.old).peers c }
         ensures { node_session_of self.new ≡ node_settled answer.now.neighbour (node_session_of self.old).peers
             answer.now.actions.items (node_session_of self.old) }

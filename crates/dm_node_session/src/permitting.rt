@@ -3,7 +3,7 @@ ghost use Rattle.std.specs.Prelude.{◌≡◌, true, IfOk, IfSome, IfNone, OnErr
 ghost use Rattle.dm_machine.specs.declared.connection.Conn.{Conn};
 ghost use Rattle.dm_node.specs.Telling.{IsFree};
 ghost use Rattle.dm_peer.specs.Events.{Arrived};
-ghost use Rattle.dm_session.specs.Intakes.{Intakes as AllIntakes, closes};
+ghost use Rattle.dm_session.specs.Intakes.{Intakes as AllIntakes, actions_close};
 ghost use Rattle.dm_session.specs.Naming.{NamesThere};
 ghost use Rattle.dm_node_session.specs.NodeHearing.{NodeHearsWholeWith, NodeHearTakesMemory, NodeHearsNothing};
 ghost use Rattle.dm_node_session.specs.NodeHeld.{AllHeldAreThere, AreKept};
@@ -42,7 +42,7 @@ fn tell_with<U: UnknownHosts>(
       most = U.most policy.now;
     }) conn octets.now neighbours.old.node
         neighbours.old.peers answer.neighbour answer.actions.items neighbours.new.peers) }
-    ensures closed { IfOk result (λ answer. (c : Conn) → closes answer.actions.items c.0 ≡ true
+    ensures closed { IfOk result (λ answer. (c : Conn) → actions_close answer.actions.items c.0 ≡ true
         → IsFree neighbours.new.peers c) }
     ensures held { (f : AllIntakes) → AllHeldAreThere neighbours.old.peers f → NamesThere (Arrived conn octets.now) f
         → AllHeldAreThere neighbours.new.peers f }

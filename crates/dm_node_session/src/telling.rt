@@ -8,7 +8,7 @@ ghost use Rattle.dm_peer.specs.declared.fault.PeerFault.TheVariants as peer_faul
 ghost use Rattle.dm_peer.specs.Events.{Arrived};
 ghost use Rattle.dm_peer.specs.Kept.{IsKept};
 ghost use Rattle.dm_session.specs.Held.{intakes_of};
-ghost use Rattle.dm_session.specs.Intakes.{Intakes as AllIntakes, closes};
+ghost use Rattle.dm_session.specs.Intakes.{Intakes as AllIntakes, actions_close};
 ghost use Rattle.dm_session.specs.Naming.{NamesThere};
 ghost use Rattle.dm_session.specs.Sessions.{raised};
 ghost use Rattle.dm_node_session.specs.NodeHeld.{AllHeldAreThere, AreKept};
@@ -45,7 +45,7 @@ pub(crate) fn tell_neighbours(
     requires kept { AreKept neighbours.old.peers }
     ensures moved { IfOk result (λ answer. NodeMoves (neighbour_named event.entry) (told_of event.entry)
         neighbours.old.node neighbours.old.peers answer.neighbour answer.actions.items neighbours.new.peers) }
-    ensures closed { IfOk result (λ answer. (c : Conn) → closes answer.actions.items c.0 ≡ true
+    ensures closed { IfOk result (λ answer. (c : Conn) → actions_close answer.actions.items c.0 ≡ true
         → IsFree neighbours.new.peers c) }
     ensures held { (f : AllIntakes) → AllHeldAreThere neighbours.old.peers f → NamesThere (told_of event.entry) f
         → AllHeldAreThere neighbours.new.peers f }

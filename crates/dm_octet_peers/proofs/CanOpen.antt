@@ -6,7 +6,7 @@ use Rattle.dm_peer.specs.declared.config.Config.{Config}
 use Rattle.dm_peer.specs.declared.peer.Peer.{Peer}
 use Rattle.dm_two_peers.specs.Follows.{IsMachine}
 use Rattle.dm_two_peers.specs.Facts.{IsSoundWorld}
-use Rattle.dm_two_peers.specs.Worlds.{World, After, Done, Ignored, NoLink}
+use Rattle.dm_two_peers.specs.Worlds.{World, After, DoneWith, Ignored, NoLink}
 use Rattle.dm_two_peers.specs.Happens.{Happening, happens, world_after, RunEnd, ran_on, run_from, run}
 use Rattle.dm_two_peers.specs.Laws.{ClosedIsSound, HappeningKeepsSound, world_of}
 use Rattle.dm_two_peers.specs.Recovering.{EachWorldCanOpen, ResetKeepsPeer}
@@ -42,7 +42,7 @@ IsPeerWorld w = IsSoundWorld octet_peers w × ArePeers w
 
 ran_good : (r : RunEnd Peer (List ℕ)) (o : After Peer (List ℕ)) → IsPeerWorld (world_after r.world o) →
     IfSome (ran_on r o) (λ z. IsPeerWorld z.world)
-ran_good r (Done next put) good = good
+ran_good r (DoneWith next put) good = good
 ran_good r Ignored good = good
 ran_good r NoLink good = tt
 

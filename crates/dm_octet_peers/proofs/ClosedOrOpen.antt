@@ -7,7 +7,7 @@ use Rattle.dm_peer.specs.declared.config.Config.{Config}
 use Rattle.dm_peer.specs.declared.peer.Peer.{Peer}
 use Rattle.dm_peer.specs.Configs.{wins}
 use Rattle.dm_two_peers.specs.Links.{Side, A, B}
-use Rattle.dm_two_peers.specs.Worlds.{World, peer_at}
+use Rattle.dm_two_peers.specs.Worlds.{World, peer_on}
 use Rattle.dm_two_peers.specs.Happens.{Happening, run}
 use Rattle.dm_two_peers.specs.Laws.{world_of}
 use Rattle.dm_two_peers.specs.Quiet.{is_quiet}
@@ -24,7 +24,7 @@ use Rattle.dm_octet_peers.proofs.CanOpen.{RunLaws, IsPeerWorld, each_run_good}
 
 -- one of the two didn't lose its election to the other
 one_won : OctetsAreElecting → (w : World Peer (List ℕ)) → ArePeers w →
-    (s : Side) × (is_returning (peer_at s w).standing.core.state ≡ false)
+    (s : Side) × (is_returning (peer_on s w).standing.core.state ≡ false)
 one_won electing w peers =
     let a = w.a.config in
     let b = w.b.config in

@@ -20,7 +20,7 @@ use Rattle.dm_machine.specs.EachStep.{EachStepHolds}
 use Rattle.dm_machine.specs.Shape.{EachStepKeepsShape}
 use Rattle.dm_machine.specs.Connection.{Hold, NotHeld, Made, hold_of}
 use Rattle.dm_machine.specs.Unread.{reads_first}
-use Rattle.dm_machine.specs.Moves.{outcome}
+use Rattle.dm_machine.specs.Moves.{machine_outcome}
 use Rattle.dm_peer.specs.declared.config.Config.{Config}
 use Rattle.dm_peer.specs.declared.peer.Peer.{Peer}
 use Rattle.dm_peer.specs.Events as told
@@ -53,7 +53,7 @@ if_false false x y e = refl
 -- what is heard of octets that are looked at, and aren't dropped
 heard_of : (p : Peer) (e : told.PeerEvent) (c : Conn) (o : Option Message) (h : Heard) →
     option_map (heard_in p.config) o ≡ Some h → ((k : Header) → k ≡ h.header → is_dropped p c k ≡ false) →
-    peer_acts.heard p e c o ≡ steps p e (Some h)
+    peer_acts.heard_outcome p e c o ≡ steps p e (Some h)
 heard_of p e c None h is kept = cc
 heard_of p e c (Some m) h is kept =
     let this : heard_in p.config m ≡ h = cc in
@@ -127,17 +127,17 @@ pub record Below : Type 0 where
 stepped : Below → (a b : Config) (s : Side) (p : Peer) (e : told.PeerEvent) (h : Option Heard) →
     IsPeerOf (octet_talks a b) s p → acts p e ≡ steps p e h →
     RepliesAs octet_peers (octet_talks a b) s p (header_heard h)
-    (outcome p.standing.core (peer_acts.input_of e h) (wins (config_at a b s))) (as_reply (acts p e))
+    (machine_outcome p.standing.core (peer_acts.input_of e h) (wins (config_at a b s))) (as_reply (acts p e))
 stepped below a b s p e h is steps_so =
     subst (λ o. RepliesAs octet_peers (octet_talks a b) s p (header_heard h)
-    (outcome p.standing.core (peer_acts.input_of e h) (wins (config_at a b s))) (as_reply o)) (sym steps_so)
+    (machine_outcome p.standing.core (peer_acts.input_of e h) (wins (config_at a b s))) (as_reply o)) (sym steps_so)
     (step_replies below.steps below.shape a b s p e h is)
 
 octet_replies : Below → (a b : Config) → ArePaired a b →
     (s : Side) (p : Peer) (e : Event (List ℕ)) (i : Input) (heard : Option Header) →
     IsPeerOf (octet_talks a b) s p →
     IsReadAs octet_peers (octet_talks a b) s p e i heard →
-    RepliesAs octet_peers (octet_talks a b) s p heard (outcome p.standing.core i (wins (config_at a b s)))
+    RepliesAs octet_peers (octet_talks a b) s p heard (machine_outcome p.standing.core i (wins (config_at a b s)))
     (octet_peers.reply p e)
 octet_replies below a b paired s p e i heard is (reads_start c) = stepped below a b s p (told.Start c) None is refl
 octet_replies below a b paired s p e i heard is (reads_ack c) = stepped below a b s p (told.Ack c) None is refl

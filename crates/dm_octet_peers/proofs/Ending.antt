@@ -12,9 +12,9 @@ use Rattle.dm_machine.specs.declared.outputs.Command.{Command}
 use Rattle.dm_machine.specs.Node.{Node, is_shaped}
 use Rattle.dm_machine.specs.Connection.{Hold, hold_of, orders_to, AtConnection}
 use Rattle.dm_machine.specs.Connection as hold
-use Rattle.dm_machine.specs.Changes.{Change, change, allowed, at_word, EachConnectionChangesAsAllowed}
+use Rattle.dm_machine.specs.Changes.{Change, changed_to, allowed, at_word, EachConnectionChangesAsAllowed}
 use Rattle.dm_machine.specs.Moves as moves
-use Rattle.dm_machine.specs.Moves.{outcome}
+use Rattle.dm_machine.specs.Moves.{machine_outcome}
 use Rattle.dm_peer.specs.Configs.{wins}
 use Rattle.dm_two_peers.specs.Machine.{conn}
 use Rattle.dm_two_peers.specs.Delivery.{is_done_hold, is_unmade}
@@ -57,14 +57,14 @@ word_concern c w = ap (λ b. hold.if_named b (hold.HeardOnIt w)) (self_named c)
 
 pub done_after : EachConnectionChangesAsAllowed → (n next : Node) (c : ℕ) (w : Word) (wins : Bool)
     (commands : List Command) → is_shaped n ≡ true →
-    outcome n (input.Heard (conn c) w) wins ≡ moves.Moved commands next → ends_word w ≡ true →
+    machine_outcome n (input.Heard (conn c) w) wins ≡ moves.NodeMoved commands next → ends_word w ≡ true →
     is_open_hold (hold_of n (conn c)) ≡ false → is_unmade (hold_of n (conn c)) ≡ false →
     is_done_hold (hold_of next (conn c)) ≡ true
 done_after changes n next c w wins commands shaped is ends opened unmade =
     let before = hold_of n (conn c) in
-    let x = change (hold_of next (conn c)) (orders_to (conn c) commands) in
+    let x = changed_to (hold_of next (conn c)) (orders_to (conn c) commands) in
     let raw : Contains (allowed (hold.concern_of (input.Heard (conn c) w) (conn c)) before) x =
-    subst (λ (o : moves.Outcome). AtConnection (λ j b a os. Contains (allowed j b) (change a os)) n
+    subst (λ (o : moves.NodeOutcome). AtConnection (λ j b a os. Contains (allowed j b) (changed_to a os)) n
     (input.Heard (conn c) w) (conn c) o) is (changes n (input.Heard (conn c) w) wins (conn c) shaped) in
     let there : Contains (at_word before w) x = subst (λ k. Contains (allowed k before) x) (word_concern c w) raw in
     All-contains (λ y. is_done_after y ≡ true) (at_word before w) x

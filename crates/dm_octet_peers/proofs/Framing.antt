@@ -164,16 +164,16 @@ plain_step laws p e h other =
     let w = wins p.config in
     by_outcome (turned n i w) (subst PlainOutcome (sym (turned_is n i w)) (outcome_plain n i w other))
   where
-    by_outcome : (o : moves.Outcome) → PlainOutcome o → FramedOutcome (outcome_of p e h o)
-    by_outcome (moves.Moved commands core) is = all_framed laws p e h commands (inl is)
-    by_outcome (moves.Refused r) is = tt
+    by_outcome : (o : moves.NodeOutcome) → PlainOutcome o → FramedOutcome (outcome_of p e h o)
+    by_outcome (moves.NodeMoved commands core) is = all_framed laws p e h commands (inl is)
+    by_outcome (moves.NodeRefused r) is = tt
 
 submit_step : FrameLaws → (p : Peer) (s : List ℕ) → IsSent s → FramedOutcome (steps p (told.Submit s) None)
 submit_step laws p s sent = by_outcome (turned p.standing.core (input_of (told.Submit s) None) (wins p.config))
   where
-    by_outcome : (o : moves.Outcome) → FramedOutcome (outcome_of p (told.Submit s) None o)
-    by_outcome (moves.Moved commands core) = all_framed laws p (told.Submit s) None commands (inr sent)
-    by_outcome (moves.Refused r) = tt
+    by_outcome : (o : moves.NodeOutcome) → FramedOutcome (outcome_of p (told.Submit s) None o)
+    by_outcome (moves.NodeMoved commands core) = all_framed laws p (told.Submit s) None commands (inr sent)
+    by_outcome (moves.NodeRefused r) = tt
 
 -- octets that can be submitted are a frame
 can_framed : FrameLaws → (s : List ℕ) → AreOctets s → (o : Option Message) → message_in s ≡ o →

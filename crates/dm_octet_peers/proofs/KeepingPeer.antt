@@ -3,7 +3,7 @@ use Rattle.std.proofs.Common.{◌≡◌, true, Option, refl, sym, subst}
 use Rattle.std.specs.Prelude.{⊤}
 use Rattle.dm_machine.specs.Shape.{KeepsShape, EachStepKeepsShape}
 use Rattle.dm_machine.specs.Moves as moves
-use Rattle.dm_machine.specs.Moves.{outcome}
+use Rattle.dm_machine.specs.Moves.{machine_outcome}
 use Rattle.dm_peer.specs.declared.peer.Peer.{Peer}
 use Rattle.dm_peer.specs.Events as told
 use Rattle.dm_peer.specs.Configs.{wins}
@@ -29,11 +29,11 @@ abbrev pub KeepsPeer : Peer → Outcome → Type 0
 KeepsPeer p (Moved actions next) = (next.config ≡ p.config) × IsKept next
 KeepsPeer p (Refused f) = ⊤
 
-by_outcome : WinnerDoesNotReturn → (p : Peer) (e : told.PeerEvent) (h : Option Heard) (o : moves.Outcome) →
-    outcome p.standing.core (input_of e h) (wins p.config) ≡ o → IsKept p → KeepsShape o →
+by_outcome : WinnerDoesNotReturn → (p : Peer) (e : told.PeerEvent) (h : Option Heard) (o : moves.NodeOutcome) →
+    machine_outcome p.standing.core (input_of e h) (wins p.config) ≡ o → IsKept p → KeepsShape o →
     KeepsPeer p (outcome_of p e h o)
-by_outcome law p e h (moves.Refused r) is was kept = tt
-by_outcome law p e h (moves.Moved commands core) is was kept =
+by_outcome law p e h (moves.NodeRefused r) is was kept = tt
+by_outcome law p e h (moves.NodeMoved commands core) is was kept =
     (refl, (stands_after p h commands core was.0 kept.0, step_returns law p e h commands core is was.1))
 
 step_keeps : MachineLaws → (p : Peer) (e : told.PeerEvent) (h : Option Heard) → IsKept p → KeepsPeer p (steps p e h)

@@ -11,22 +11,22 @@ use Rattle.dm_peer.specs.Configs.{wins}
 use Rattle.dm_peer.specs.Said.{word_heard}
 use Rattle.dm_peer.specs.Acts.{Outcome, Moved, Refused, acts, input_of, is_made}
 use Rattle.dm_peer.specs.Steps as peer
-use Rattle.dm_two_peers.specs.Machine.{conn, Elsewhere, HeardOnIt, tie_as, tie_of}
-use Rattle.dm_two_peers.specs.Peers.{Event, Arrived, concern_by, deed_of}
-use Rattle.dm_two_peers.specs.Follows.{StepsAsMachine, Drops, is_droppable, FollowsMachine, IsMachine}
+use Rattle.dm_two_peers.specs.Machine.{conn, Elsewhere, HeardOnLink, tie_as, tie_of}
+use Rattle.dm_two_peers.specs.Peers.{Event, ArrivedEvent, concern_by, deed_in}
+use Rattle.dm_two_peers.specs.Follows.{StepsAsMachine, DropsMessage, is_droppable, FollowsMachine, IsMachine}
 use Rattle.dm_octet_peers.proofs.Declining.{same_input, Declined, octets_decline}
 use Rattle.dm_octet_peers.specs.Octets.{of_event, as_action, as_actions, as_reply, octet_peers}
 
 -- deeds are the same on both sides
-action_done : (a : declared_action.Action) → deed_of (as_action a) ≡ peer.deed_of a
+action_done : (a : declared_action.Action) → deed_in (as_action a) ≡ peer.deed_of a
 action_done (action.Connect c) = refl
 action_done (action.Send c s) = refl
 action_done (action.Close c) = refl
 action_done (action.Up s) = refl
 
-actions_done : (l : List declared_action.Action) → map deed_of (as_actions l) ≡ map peer.deed_of l
+actions_done : (l : List declared_action.Action) → map deed_in (as_actions l) ≡ map peer.deed_of l
 actions_done [] = refl
-actions_done (a ∷ l) = ap (λ o. o ∷ map deed_of (as_actions l)) (action_done a)
+actions_done (a ∷ l) = ap (λ o. o ∷ map deed_in (as_actions l)) (action_done a)
     ∙ ap (λ os. peer.deed_of a ∷ os) (actions_done l)
 
 step_taken : (p next : Peer) (e : Event (List ℕ)) (actions : List declared_action.Action) →
@@ -43,7 +43,7 @@ step_taken p next e actions step =
     }
 
 -- what is dropped may be
-made_droppable : (h : machine.Hold) → is_made h ≡ true → is_droppable HeardOnIt (tie_as h) ≡ true
+made_droppable : (h : machine.Hold) → is_made h ≡ true → is_droppable HeardOnLink (tie_as h) ≡ true
 made_droppable machine.NotHeld m = cc
 made_droppable machine.Pending m = cc
 made_droppable _ m = refl
@@ -53,15 +53,15 @@ same_number a b h = grind (arith, nat_tests)
 
 dropped_at : (p : Peer) (d : Conn) (c : ℕ) (b : Bool) → (d.0 == c) ≡ b →
     is_made (machine.hold_of p.standing.core d) ≡ true →
-    is_droppable (if b then HeardOnIt else Elsewhere) (tie_of p.standing.core c) ≡ true
+    is_droppable (if b then HeardOnLink else Elsewhere) (tie_of p.standing.core c) ≡ true
 dropped_at p d c true e made =
     let at_d = made_droppable (machine.hold_of p.standing.core d) made in
-    subst (λ n. is_droppable HeardOnIt (tie_of p.standing.core n) ≡ true) (same_number d.0 c e) at_d
+    subst (λ n. is_droppable HeardOnLink (tie_of p.standing.core n) ≡ true) (same_number d.0 c e) at_d
 dropped_at p d c false e made = refl
 
 -- the event that brings octets
-pub arrives : (e : Event (List ℕ)) (d : Conn) (s : List ℕ) → of_event e ≡ told.Arrived d s → e ≡ Arrived d s
-arrives (Arrived d' s') d s is = cc
+pub arrives : (e : Event (List ℕ)) (d : Conn) (s : List ℕ) → of_event e ≡ told.Arrived d s → e ≡ ArrivedEvent d s
+arrives (ArrivedEvent d' s') d s is = cc
 arrives _ d s is = cc
 
 drop_heard : (p : Peer) (e : Event (List ℕ)) (d : Conn) (s : List ℕ) (c : ℕ) → of_event e ≡ told.Arrived d s →
@@ -72,7 +72,7 @@ drop_heard p e d s c is made =
     (sym (arrives e d s is)) (dropped_at p d c (d.0 == c) refl made)
 
 drop_taken : (p next : Peer) (e : Event (List ℕ)) (actions : List declared_action.Action) →
-    peer.IsDrop p (of_event e) actions next → Drops octet_peers p e (as_actions actions) next
+    peer.IsDrop p (of_event e) actions next → DropsMessage octet_peers p e (as_actions actions) next
 drop_taken p next e actions drop =
     record {
       on = drop.conn;

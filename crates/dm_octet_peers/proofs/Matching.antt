@@ -20,15 +20,15 @@ use Rattle.dm_machine.specs.Node.{Node, is_shaped}
 use Rattle.dm_machine.specs.Forms.{EachShapeIsAForm}
 use Rattle.dm_machine.specs.Awaiting.{awaits_cea, awaits_dpa, holds_cer, number_after, waiting_after}
 use Rattle.dm_machine.specs.Unread.{reads_first, ClosesUnread}
-use Rattle.dm_machine.specs.Connection.{Hold, Order, hold_of, orders_to, if_ordered, with_order, concern_of}
+use Rattle.dm_machine.specs.Connection.{Hold, ConnOrder, hold_of, orders_to, if_ordered, with_order, concern_of}
 use Rattle.dm_machine.specs.Connection as machine
 use Rattle.dm_machine.specs.Openings.{is_hold, has_order}
 use Rattle.dm_machine.specs.Ordered.{OrdersAreToldApart}
-use Rattle.dm_machine.specs.Changes.{change, EachConnectionChangesAsAllowed}
+use Rattle.dm_machine.specs.Changes.{changed_to, EachConnectionChangesAsAllowed}
 use Rattle.dm_machine.specs.EachStep.{EachStepHolds}
 use Rattle.dm_machine.specs.Upward.{is_open_hold}
 use Rattle.dm_machine.specs.Moves as moves
-use Rattle.dm_machine.specs.Moves.{is_open, outcome}
+use Rattle.dm_machine.specs.Moves.{is_open, machine_outcome}
 use Rattle.dm_peer.specs.declared.peer.Peer.{Peer}
 use Rattle.dm_peer.specs.Configs.{wins}
 use Rattle.dm_peer.specs.Events as told
@@ -41,12 +41,12 @@ use Rattle.dm_peer.specs.Acts.{input_of, standing_at, is_made, is_unread}
 use Rattle.dm_peer.specs.Cases.{Hears, unread, no_message, message, bare}
 use Rattle.dm_two_peers.specs.Machine.{conn}
 use Rattle.dm_two_peers.specs.Machine as two
-use Rattle.dm_two_peers.specs.Peers.{Event, Start, Stop, Timeout, Tick, Ack, Nack, Gone, Submit, Arrived, concern_by}
+use Rattle.dm_two_peers.specs.Peers.{Event, StartEvent, StopEvent, TimeoutEvent, TickEvent, AckEvent, NackEvent, GoneEvent, SubmitEvent, ArrivedEvent, concern_by}
 use Rattle.dm_two_peers.specs.Delivery.{is_closing_hold, is_unmade}
 use Rattle.dm_two_peers.specs.Requests.{heard_on, Owes, waits, gives}
 use Rattle.dm_octet_peers.specs.Octets.{of_event}
 use Rattle.dm_octet_peers.specs.Talking.{is_standing}
-use Rattle.dm_octet_peers.specs.Matching.{has_fit, is_numbered, base_kind, is_good_dpr, is_good_dpa, waiting_number}
+use Rattle.dm_octet_peers.specs.Matching.{has_fit, is_numbered_so, base_kind, is_good_dpr, is_good_dpa, waiting_number}
 use Rattle.dm_octet_peers.specs.Matching.{octet_requests, is_matching}
 use Rattle.dm_octet_peers.proofs.Bases.{heard_header}
 use Rattle.dm_octet_peers.proofs.MatchingTable.{is_ack, is_start, is_stop, brings_word, brings_cer, brings_dpr, brings_dpa}
@@ -90,11 +90,11 @@ pub pending_by : (h : Hold) → is_hold machine.Pending h ≡ true → h ≡ mac
 pending_by machine.Pending e = refl
 pending_by _ e = cc
 
-pub silent_by : (os : List Order) → is_silent os ≡ true → os ≡ []
+pub silent_by : (os : List ConnOrder) → is_silent os ≡ true → os ≡ []
 silent_by [] e = refl
 silent_by (o ∷ os) e = cc
 
-pub one_by : OrdersAreToldApart → (o : Order) (os : List Order) → just_one o os ≡ true → os ≡ o ∷ []
+pub one_by : OrdersAreToldApart → (o : ConnOrder) (os : List ConnOrder) → just_one o os ≡ true → os ≡ o ∷ []
 one_by apart o [] e = cc
 one_by apart o (q ∷ []) e = ap (λ x. x ∷ []) (sym (apart o q e))
 one_by apart o (q ∷ z ∷ os) e = cc
@@ -154,9 +154,9 @@ pub record Came (p : Peer) (e : Event (List ℕ)) (h : Option Heard) (c : ℕ) (
 
 pub came_of : (p : Peer) (c : ℕ) (h : Option Heard) (y : List ℕ) (e : Event (List ℕ)) → Hears p (of_event e) h →
     heard_on c e ≡ Some y → Came p e h c y
-came_of p c h y (Arrived d s) hears is = by_test (d.0 == c) refl is
+came_of p c h y (ArrivedEvent d s) hears is = by_test (d.0 == c) refl is
   where
-    by_test : (b : Bool) → (d.0 == c) ≡ b → (if b then Some s else None) ≡ Some y → Came p (Arrived d s) h c y
+    by_test : (b : Bool) → (d.0 == c) ≡ b → (if b then Some s else None) ≡ Some y → Came p (ArrivedEvent d s) h c y
     by_test false named is = cc
     by_test true named is =
         let link : d ≡ conn c = ap conn (eqb-true d.0 c named) in
@@ -167,14 +167,14 @@ came_of p c h y (Arrived d s) hears is = by_test (d.0 == c) refl is
           spoken = spoken_by p c y h (subst (λ z. Hears p (told.Arrived z y) h) link
               (subst (λ z. Hears p (told.Arrived d z) h) same hears));
         }
-came_of p c h y (Start d) hears is = cc
-came_of p c h y (Stop cause) hears is = cc
-came_of p c h y Timeout hears is = cc
-came_of p c h y Tick hears is = cc
-came_of p c h y (Ack d) hears is = cc
-came_of p c h y (Nack d) hears is = cc
-came_of p c h y (Gone d) hears is = cc
-came_of p c h y (Submit s) hears is = cc
+came_of p c h y (StartEvent d) hears is = cc
+came_of p c h y (StopEvent cause) hears is = cc
+came_of p c h y TimeoutEvent hears is = cc
+came_of p c h y TickEvent hears is = cc
+came_of p c h y (AckEvent d) hears is = cc
+came_of p c h y (NackEvent d) hears is = cc
+came_of p c h y (GoneEvent d) hears is = cc
+came_of p c h y (SubmitEvent s) hears is = cc
 
 calm_named : (b : Bool) (k : machine.Concern) → brings_word k ≡ false → brings_word (machine.if_named b k) ≡ true → ⊥
 calm_named true k f e = cc
@@ -182,62 +182,62 @@ calm_named false k f e = cc
 
 pub word_there : (c : ℕ) (h : Option Heard) (e : Event (List ℕ)) →
     brings_word (concern_of (input_of (of_event e) h) (conn c)) ≡ true → (y : List ℕ) × (heard_on c e ≡ Some y)
-word_there c h (Arrived d s) is = by_test (d.0 == c) is
+word_there c h (ArrivedEvent d s) is = by_test (d.0 == c) is
   where
     by_test : (b : Bool) → brings_word (machine.if_named b (machine.HeardOnIt (word_heard h))) ≡ true →
         (y : List ℕ) × ((if b then Some s else None) ≡ Some y)
     by_test true is = (s, refl)
     by_test false is = cc
-word_there c h (Start d) is = absurd (calm_named (d.0 == c) machine.StartsIt refl is)
-word_there c h (Stop cause) is = cc
-word_there c h Timeout is = cc
-word_there c h Tick is = cc
-word_there c h (Ack d) is = absurd (calm_named (d.0 == c) machine.AcksIt refl is)
-word_there c h (Nack d) is = absurd (calm_named (d.0 == c) machine.NacksIt refl is)
-word_there c h (Gone d) is = absurd (calm_named (d.0 == c) machine.EndsIt refl is)
-word_there c h (Submit s) is = cc
+word_there c h (StartEvent d) is = absurd (calm_named (d.0 == c) machine.StartsIt refl is)
+word_there c h (StopEvent cause) is = cc
+word_there c h TimeoutEvent is = cc
+word_there c h TickEvent is = cc
+word_there c h (AckEvent d) is = absurd (calm_named (d.0 == c) machine.AcksIt refl is)
+word_there c h (NackEvent d) is = absurd (calm_named (d.0 == c) machine.NacksIt refl is)
+word_there c h (GoneEvent d) is = absurd (calm_named (d.0 == c) machine.EndsIt refl is)
+word_there c h (SubmitEvent s) is = cc
 
 no_ack : (b : Bool) (k : machine.Concern) → is_ack k ≡ false → is_ack (machine.if_named b k) ≡ true → ⊥
 no_ack true k f e = cc
 no_ack false k f e = cc
 
 pub ack_there : (c : ℕ) (h : Option Heard) (e : Event (List ℕ)) →
-    is_ack (concern_of (input_of (of_event e) h) (conn c)) ≡ true → concern_by e (conn c) ≡ two.AcksIt
-ack_there c h (Ack d) is = by_test (d.0 == c) is
+    is_ack (concern_of (input_of (of_event e) h) (conn c)) ≡ true → concern_by e (conn c) ≡ two.MakesLink
+ack_there c h (AckEvent d) is = by_test (d.0 == c) is
   where
     by_test : (b : Bool) → is_ack (machine.if_named b machine.AcksIt) ≡ true →
-        (if b then two.AcksIt else two.Elsewhere) ≡ two.AcksIt
+        (if b then two.MakesLink else two.Elsewhere) ≡ two.MakesLink
     by_test true is = refl
     by_test false is = cc
-ack_there c h (Start d) is = absurd (no_ack (d.0 == c) machine.StartsIt refl is)
-ack_there c h (Stop cause) is = cc
-ack_there c h Timeout is = cc
-ack_there c h Tick is = cc
-ack_there c h (Nack d) is = absurd (no_ack (d.0 == c) machine.NacksIt refl is)
-ack_there c h (Gone d) is = absurd (no_ack (d.0 == c) machine.EndsIt refl is)
-ack_there c h (Submit s) is = cc
-ack_there c h (Arrived d s) is = absurd (no_ack (d.0 == c) (machine.HeardOnIt (word_heard h)) refl is)
+ack_there c h (StartEvent d) is = absurd (no_ack (d.0 == c) machine.StartsIt refl is)
+ack_there c h (StopEvent cause) is = cc
+ack_there c h TimeoutEvent is = cc
+ack_there c h TickEvent is = cc
+ack_there c h (NackEvent d) is = absurd (no_ack (d.0 == c) machine.NacksIt refl is)
+ack_there c h (GoneEvent d) is = absurd (no_ack (d.0 == c) machine.EndsIt refl is)
+ack_there c h (SubmitEvent s) is = cc
+ack_there c h (ArrivedEvent d s) is = absurd (no_ack (d.0 == c) (machine.HeardOnIt (word_heard h)) refl is)
 
 no_start : (b : Bool) (k : machine.Concern) → is_start k ≡ false → is_start (machine.if_named b k) ≡ true → ⊥
 no_start true k f e = cc
 no_start false k f e = cc
 
 pub start_there : (c : ℕ) (h : Option Heard) (e : Event (List ℕ)) →
-    is_start (concern_of (input_of (of_event e) h) (conn c)) ≡ true → concern_by e (conn c) ≡ two.StartsIt
-start_there c h (Start d) is = by_test (d.0 == c) is
+    is_start (concern_of (input_of (of_event e) h) (conn c)) ≡ true → concern_by e (conn c) ≡ two.StartsLink
+start_there c h (StartEvent d) is = by_test (d.0 == c) is
   where
     by_test : (b : Bool) → is_start (machine.if_named b machine.StartsIt) ≡ true →
-        (if b then two.StartsIt else two.Elsewhere) ≡ two.StartsIt
+        (if b then two.StartsLink else two.Elsewhere) ≡ two.StartsLink
     by_test true is = refl
     by_test false is = cc
-start_there c h (Ack d) is = absurd (no_start (d.0 == c) machine.AcksIt refl is)
-start_there c h (Stop cause) is = cc
-start_there c h Timeout is = cc
-start_there c h Tick is = cc
-start_there c h (Nack d) is = absurd (no_start (d.0 == c) machine.NacksIt refl is)
-start_there c h (Gone d) is = absurd (no_start (d.0 == c) machine.EndsIt refl is)
-start_there c h (Submit s) is = cc
-start_there c h (Arrived d s) is = absurd (no_start (d.0 == c) (machine.HeardOnIt (word_heard h)) refl is)
+start_there c h (AckEvent d) is = absurd (no_start (d.0 == c) machine.AcksIt refl is)
+start_there c h (StopEvent cause) is = cc
+start_there c h TimeoutEvent is = cc
+start_there c h TickEvent is = cc
+start_there c h (NackEvent d) is = absurd (no_start (d.0 == c) machine.NacksIt refl is)
+start_there c h (GoneEvent d) is = absurd (no_start (d.0 == c) machine.EndsIt refl is)
+start_there c h (SubmitEvent s) is = cc
+start_there c h (ArrivedEvent d s) is = absurd (no_start (d.0 == c) (machine.HeardOnIt (word_heard h)) refl is)
 
 no_stop : (b : Bool) (k : machine.Concern) → is_stop k ≡ false → is_stop (machine.if_named b k) ≡ true → ⊥
 no_stop true k f e = cc
@@ -245,15 +245,15 @@ no_stop false k f e = cc
 
 pub stop_there : (c : ℕ) (h : Option Heard) (e : Event (List ℕ)) →
     is_stop (concern_of (input_of (of_event e) h) (conn c)) ≡ true → is_stop_input (input_of (of_event e) h) ≡ true
-stop_there c h (Stop cause) is = refl
-stop_there c h (Start d) is = absurd (no_stop (d.0 == c) machine.StartsIt refl is)
-stop_there c h (Ack d) is = absurd (no_stop (d.0 == c) machine.AcksIt refl is)
-stop_there c h Timeout is = cc
-stop_there c h Tick is = cc
-stop_there c h (Nack d) is = absurd (no_stop (d.0 == c) machine.NacksIt refl is)
-stop_there c h (Gone d) is = absurd (no_stop (d.0 == c) machine.EndsIt refl is)
-stop_there c h (Submit s) is = cc
-stop_there c h (Arrived d s) is = absurd (no_stop (d.0 == c) (machine.HeardOnIt (word_heard h)) refl is)
+stop_there c h (StopEvent cause) is = refl
+stop_there c h (StartEvent d) is = absurd (no_stop (d.0 == c) machine.StartsIt refl is)
+stop_there c h (AckEvent d) is = absurd (no_stop (d.0 == c) machine.AcksIt refl is)
+stop_there c h TimeoutEvent is = cc
+stop_there c h TickEvent is = cc
+stop_there c h (NackEvent d) is = absurd (no_stop (d.0 == c) machine.NacksIt refl is)
+stop_there c h (GoneEvent d) is = absurd (no_stop (d.0 == c) machine.EndsIt refl is)
+stop_there c h (SubmitEvent s) is = cc
+stop_there c h (ArrivedEvent d s) is = absurd (no_stop (d.0 == c) (machine.HeardOnIt (word_heard h)) refl is)
 
 -- where a message comes it is no Stop
 pub word_no_stop : (p : Peer) (c : ℕ) (h : Option Heard) (e : Event (List ℕ)) (y : List ℕ) → Came p e h c y →
@@ -279,9 +279,9 @@ pub record IsCerOf (n : ℕ) (h : Header) : Type 0 where
   pub command : nat_eq h.command capabilities_exchange ≡ true
   pub number : h.hop_id ≡ n
 
-pub cer_parts : (n : ℕ) (h : Header) → (has_fit h && is_numbered true capabilities_exchange n h) ≡ true → IsCerOf n h
+pub cer_parts : (n : ℕ) (h : Header) → (has_fit h && is_numbered_so true capabilities_exchange n h) ≡ true → IsCerOf n h
 cer_parts n h e =
-    let a = and_parts (has_fit h) (is_numbered true capabilities_exchange n h) e in
+    let a = and_parts (has_fit h) (is_numbered_so true capabilities_exchange n h) e in
     let b = and_parts (nat_eq h.hop_id n) (nat_eq h.command capabilities_exchange && h.request) a.1 in
     let c = and_parts (nat_eq h.command capabilities_exchange) h.request b.1 in
     record { fit = a.0; command = c.0; number = eqb-true h.hop_id n b.0 }

@@ -34,7 +34,7 @@ use Rattle.dm_peer.specs.Said as said_words
 use Rattle.dm_peer.specs.Said.{word_of_bad, refusal_of_caps, heard_caps, word_of_code, said_by_kind, said, kind_under, heard_in}
 use Rattle.dm_peer.specs.Sent.{is_protocol_error, answer_by, refusal}
 use Rattle.dm_peer.specs.Acts.{can_submit}
-use Rattle.dm_octet_peers.specs.Matching.{spells, is_numbered, has_fit, base_kind, is_good_dpr, is_good_dpa, octet_requests}
+use Rattle.dm_octet_peers.specs.Matching.{spells_such, is_numbered_so, has_fit, base_kind, is_good_dpr, is_good_dpa, octet_requests}
 
 pub record MessageLaws : Type 0 where
   pub cer : CerIsSpelled
@@ -52,7 +52,7 @@ unfolding octets_of
 read_back laws m s = laws.inside (octets_of m) m (laws.canonical m s.octets s.spelled)
 
 passes_built : MessageLaws → (f : Message → Bool) (m : Message) → HasSpelling m → f m ≡ true →
-    spells f (octets_of m) ≡ true
+    spells_such f (octets_of m) ≡ true
 passes_built laws f m s h =
     ap (λ (o : Option Message). elim o [ None ↦ false | Some z ↦ f z ]) (read_back laws m s) ∙ h
 
@@ -89,7 +89,7 @@ hop_and n b h = both (nat_eq n n) b (self n) h
 pub cer_is : MessageLaws → (node : base.Node) (n : ℕ) → is_number n ≡ true →
     octet_requests.is_cer n (octets_of (built_cer node n)) ≡ true
 cer_is laws node n h =
-    passes_built laws (λ m. has_fit m.header && is_numbered true capabilities_exchange n m.header) (built_cer node n)
+    passes_built laws (λ m. has_fit m.header && is_numbered_so true capabilities_exchange n m.header) (built_cer node n)
     (laws.cer node n (low n (256 ^ 4) (number_low n h)))
     (both (has_fit (request_header capabilities_exchange n)) _ (request_fits n h) (hop_and n true refl))
 
@@ -97,7 +97,7 @@ pub cea_is : MessageLaws → (node : base.Node) (to : Header) → has_fit to ≡
     nat_eq to.command capabilities_exchange ≡ true →
     octet_requests.is_cea to.hop_id (octets_of (built_cea node to success None)) ≡ true
 cea_is laws node to fit command =
-    passes_built laws (λ m. is_numbered false capabilities_exchange to.hop_id m.header) (built_cea node to success None)
+    passes_built laws (λ m. is_numbered_so false capabilities_exchange to.hop_id m.header) (built_cea node to success None)
     (laws.cea node to success None (fits_of to fit))
     (hop_and to.hop_id _ (both (nat_eq to.command capabilities_exchange) true command refl))
 
@@ -109,10 +109,10 @@ pub dpr_is : MessageLaws → (node : base.Node) (n : ℕ) (cause : Cause) → is
     octet_requests.is_dpr n (octets_of (built_dpr node n cause)) ≡ true
 dpr_is laws node n cause h =
     let m = built_dpr node n cause in
-    passes_built laws (λ z. has_fit z.header && (is_numbered true disconnect_peer n z.header && is_good_dpr
+    passes_built laws (λ z. has_fit z.header && (is_numbered_so true disconnect_peer n z.header && is_good_dpr
     (base_kind z))) m (laws.dpr node n cause (low n (256 ^ 4) (number_low n h)))
     (both (has_fit (request_header disconnect_peer n)) _ (request_fits n h)
-    (both (is_numbered true disconnect_peer n (request_header disconnect_peer n)) _ (hop_and n true refl)
+    (both (is_numbered_so true disconnect_peer n (request_header disconnect_peer n)) _ (hop_and n true refl)
     (ap is_good_dpr (base_is m _ (laws.own_dpr node n cause)))))
 
 pub dpa_is : MessageLaws → (node : base.Node) (to : Header) → has_fit to ≡ true →
@@ -120,9 +120,9 @@ pub dpa_is : MessageLaws → (node : base.Node) (to : Header) → has_fit to ≡
     octet_requests.is_dpa to.hop_id (octets_of (built_answer node to success None)) ≡ true
 dpa_is laws node to fit command =
     let m = built_answer node to success None in
-    passes_built laws (λ z. is_numbered false disconnect_peer to.hop_id z.header && is_good_dpa (base_kind z)) m
+    passes_built laws (λ z. is_numbered_so false disconnect_peer to.hop_id z.header && is_good_dpa (base_kind z)) m
     (laws.answer node to success None (fits_of to fit))
-    (both (is_numbered false disconnect_peer to.hop_id (answer_header false to)) _
+    (both (is_numbered_so false disconnect_peer to.hop_id (answer_header false to)) _
     (hop_and to.hop_id _ (both (nat_eq to.command disconnect_peer) true command refl))
     (ap is_good_dpa (base_is m _ (laws.own_dpa node to success None (eqb-true to.command disconnect_peer command)))))
 

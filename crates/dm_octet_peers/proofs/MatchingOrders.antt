@@ -5,7 +5,7 @@ use Rattle.dm_base.specs.Codes.{success}
 use Rattle.dm_base.specs.Built.{built_cer, built_dwr, built_dpr, built_cea, built_answer}
 use Rattle.dm_machine.specs.declared.outputs.Command.{Command}
 use Rattle.dm_machine.specs.declared.outputs.Command.TheVariants as command
-use Rattle.dm_machine.specs.Connection.{Order, if_ordered, with_order, orders_to}
+use Rattle.dm_machine.specs.Connection.{ConnOrder, if_ordered, with_order, orders_to}
 use Rattle.dm_machine.specs.Connection as machine
 use Rattle.dm_machine.specs.Openings.{has_order}
 use Rattle.dm_peer.specs.declared.peer.Peer.{Peer}
@@ -15,12 +15,12 @@ use Rattle.dm_peer.specs.Octets.{octets_of}
 use Rattle.dm_peer.specs.Said.{Heard}
 use Rattle.dm_peer.specs.Sent.{cer_answered, refusal, header_of, fault_in, actions_of}
 use Rattle.dm_two_peers.specs.Machine.{conn}
-use Rattle.dm_two_peers.specs.Peers.{deed_of, closes_at}
+use Rattle.dm_two_peers.specs.Peers.{deed_in, closes_at}
 use Rattle.dm_two_peers.specs.Requests.{sent_on}
 use Rattle.dm_octet_peers.specs.Octets.{as_actions}
 
 -- the octets that an order sends
-abbrev pub said_for : Peer → told.PeerEvent → Option Heard → Order → List (List ℕ)
+abbrev pub said_for : Peer → told.PeerEvent → Option Heard → ConnOrder → List (List ℕ)
 said_for p e h machine.SendsCer = octets_of (built_cer p.config.node p.standing.next) ∷ []
 said_for p e h machine.SendsCea =
     octets_of (built_cea p.config.node (cer_answered p.standing.waiting h) success None) ∷ []
@@ -33,18 +33,18 @@ said_for p e h machine.SendsSubmit = octets_in e ∷ []
 said_for p e h machine.Connects = []
 said_for p e h machine.Closes = []
 
-abbrev pub all_said : Peer → told.PeerEvent → Option Heard → List Order → List (List ℕ)
+abbrev pub all_said : Peer → told.PeerEvent → Option Heard → List ConnOrder → List (List ℕ)
 all_said p e h [] = []
 all_said p e h (o ∷ orders) = said_for p e h o ++ all_said p e h orders
 
 module _ (p : Peer) (e : told.PeerEvent) (h : Option Heard) (c : ℕ) where
-  one : (b : Bool) (o : Order) (x : List ℕ) (xs : List (List ℕ)) (orders : List Order) →
+  one : (b : Bool) (o : ConnOrder) (x : List ℕ) (xs : List (List ℕ)) (orders : List ConnOrder) →
       said_for p e h o ≡ x ∷ [] → xs ≡ all_said p e h orders →
       (if b then x ∷ xs else xs) ≡ all_said p e h (with_order (if_ordered b o) orders)
   one true o x xs orders is rest = ap (λ ys. x ∷ ys) rest ∙ ap (λ zs. zs ++ all_said p e h orders) (sym is)
   one false o x xs orders is rest = rest
 
-  none : (b : Bool) (o : Order) (xs : List (List ℕ)) (orders : List Order) → said_for p e h o ≡ [] →
+  none : (b : Bool) (o : ConnOrder) (xs : List (List ℕ)) (orders : List ConnOrder) → said_for p e h o ≡ [] →
       xs ≡ all_said p e h orders → xs ≡ all_said p e h (with_order (if_ordered b o) orders)
   none true o xs orders is rest = rest ∙ ap (λ zs. zs ++ all_said p e h orders) (sym is)
   none false o xs orders is rest = rest
@@ -64,7 +64,7 @@ module _ (p : Peer) (e : told.PeerEvent) (h : Option Heard) (c : ℕ) where
   sent_by_orders (command.Close d ∷ more) = none (d.0 == c) machine.Closes _ _ refl (sent_by_orders more)
   sent_by_orders (command.Up ∷ more) = sent_by_orders more
 
-  unclosed : (b : Bool) (o : Order) (rest : Bool) (orders : List Order) →
+  unclosed : (b : Bool) (o : ConnOrder) (rest : Bool) (orders : List ConnOrder) →
       has_order machine.Closes (o ∷ []) ≡ false → rest ≡ has_order machine.Closes orders →
       rest ≡ has_order machine.Closes (with_order (if_ordered b o) orders)
   unclosed true machine.Closes rest orders is same = cc
@@ -79,13 +79,13 @@ module _ (p : Peer) (e : told.PeerEvent) (h : Option Heard) (c : ℕ) where
   unclosed true machine.SendsSubmit rest orders is same = same
   unclosed false o rest orders is same = same
 
-  closes : (b rest : Bool) (orders : List Order) → rest ≡ has_order machine.Closes orders →
+  closes : (b rest : Bool) (orders : List ConnOrder) → rest ≡ has_order machine.Closes orders →
       (b || rest) ≡ has_order machine.Closes (with_order (if_ordered b machine.Closes) orders)
   closes true rest orders same = refl
   closes false rest orders same = same
 
   pub closed_by_orders : (commands : List Command) →
-      closes_at c (map deed_of (as_actions (actions_of p e h commands)))
+      closes_at c (map deed_in (as_actions (actions_of p e h commands)))
       ≡ has_order machine.Closes (orders_to (conn c) commands)
   closed_by_orders [] = refl
   closed_by_orders (command.Connect d ∷ more) = unclosed (d.0 == c) machine.Connects _ _ refl (closed_by_orders more)

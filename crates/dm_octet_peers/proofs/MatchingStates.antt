@@ -13,7 +13,7 @@ use Rattle.dm_machine.specs.Node.{Node, is_shaped}
 use Rattle.dm_machine.specs.Forms.{Form, closed, wait_conn_ack, wait_i_cea, wait_conn_ack_elect, wait_returns, r_open, i_open, closing}
 use Rattle.dm_machine.specs.Connection.{Hold, NotHeld, Pending, Made, OpenAsI, ClosingAsI, Taken, OpenAsR, ClosingAsR, hold_of}
 use Rattle.dm_machine.specs.EachStep.{StepTest, everywhere, passes_of, EachStepHolds}
-use Rattle.dm_machine.specs.Moves.{Outcome, Moved, Refused, is_open, outcome}
+use Rattle.dm_machine.specs.Moves.{NodeOutcome, NodeMoved, NodeRefused, is_open, machine_outcome}
 use Rattle.dm_peer.specs.After.{request_in, is_cer, is_dpr}
 use Rattle.dm_two_peers.specs.Machine.{conn}
 
@@ -66,9 +66,9 @@ numbers_kept i n commands next =
     && (if_then (awaits_dpa n.state && awaits_dpa next.state) (not (is_dpr (request_in commands)))
     && if_then (is_open n.state && awaits_dpa next.state) (same (is_stop_input i) (is_dpr (request_in commands))))
 
-abbrev numbers_of : Input → Node → Outcome → Bool
-numbers_of i n (Moved commands next) = numbers_kept i n commands next
-numbers_of i n (Refused r) = true
+abbrev numbers_of : Input → Node → NodeOutcome → Bool
+numbers_of i n (NodeMoved commands next) = numbers_kept i n commands next
+numbers_of i n (NodeRefused r) = true
 
 abbrev keeps_numbers : StepTest
 keeps_numbers n at i o = numbers_of i n o
@@ -78,6 +78,6 @@ unfolding everywhere
 numbers_checked i r c = refl
 
 pub step_keeps_numbers : EachStepHolds → (n next : Node) (i : Input) (wins : Bool) (commands : List Command) →
-    is_shaped n ≡ true → outcome n i wins ≡ Moved commands next → numbers_kept i n commands next ≡ true
+    is_shaped n ≡ true → machine_outcome n i wins ≡ NodeMoved commands next → numbers_kept i n commands next ≡ true
 step_keeps_numbers steps n next i wins commands shaped is =
     subst (λ o. numbers_of i n o ≡ true) is (steps keeps_numbers numbers_checked n i wins shaped)

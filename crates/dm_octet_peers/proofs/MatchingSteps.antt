@@ -21,15 +21,15 @@ use Rattle.dm_machine.specs.Node.{Node, is_shaped}
 use Rattle.dm_machine.specs.Forms.{EachShapeIsAForm}
 use Rattle.dm_machine.specs.Awaiting.{awaits_cea, awaits_dpa, holds_cer, number_after, waiting_after}
 use Rattle.dm_machine.specs.Unread.{reads_first, ClosesUnread}
-use Rattle.dm_machine.specs.Connection.{Hold, Order, hold_of, orders_to, if_ordered, with_order, Concern, concern_of}
+use Rattle.dm_machine.specs.Connection.{Hold, ConnOrder, hold_of, orders_to, if_ordered, with_order, Concern, concern_of}
 use Rattle.dm_machine.specs.Connection as machine
 use Rattle.dm_machine.specs.Openings.{is_hold, is_order, has_order}
 use Rattle.dm_machine.specs.Ordered.{OrdersAreToldApart}
-use Rattle.dm_machine.specs.Changes.{change, EachConnectionChangesAsAllowed}
+use Rattle.dm_machine.specs.Changes.{changed_to, EachConnectionChangesAsAllowed}
 use Rattle.dm_machine.specs.EachStep.{EachStepHolds}
 use Rattle.dm_machine.specs.Upward.{is_open_hold}
 use Rattle.dm_machine.specs.Moves as moves
-use Rattle.dm_machine.specs.Moves.{is_open, outcome}
+use Rattle.dm_machine.specs.Moves.{is_open, machine_outcome}
 use Rattle.dm_peer.specs.declared.peer.Peer.{Peer}
 use Rattle.dm_peer.specs.Configs.{wins}
 use Rattle.dm_peer.specs.Events as told
@@ -39,16 +39,16 @@ use Rattle.dm_peer.specs.Said.{Heard, heard_in, word_heard, header_heard}
 use Rattle.dm_peer.specs.Sent.{cer_answered, header_of, fault_in}
 use Rattle.dm_peer.specs.After.{request_in, is_cer, is_dpr, standing_after}
 use Rattle.dm_peer.specs.Acts.{input_of, standing_at, is_made}
-use Rattle.dm_peer.specs.Cases.{Hears, submits, bare}
+use Rattle.dm_peer.specs.Cases.{Hears, submits_it, bare}
 use Rattle.dm_two_peers.specs.Machine.{conn}
 use Rattle.dm_two_peers.specs.Machine as two
-use Rattle.dm_two_peers.specs.Peers.{Event, Start, Stop, Timeout, Tick, Ack, Nack, Gone, Submit, Arrived, concern_by}
+use Rattle.dm_two_peers.specs.Peers.{Event, StartEvent, StopEvent, TimeoutEvent, TickEvent, AckEvent, NackEvent, GoneEvent, SubmitEvent, ArrivedEvent, concern_by}
 use Rattle.dm_two_peers.specs.Delivery.{is_closing_hold, is_unmade}
 use Rattle.dm_two_peers.specs.Requests.{heard_on, IsEnding, StillAwaits, AsksCea, Owes, waits, gives, AwaitsEnd, still, asks}
 use Rattle.dm_two_peers.specs.Requests.{HeardEnd, MatchesOn}
 use Rattle.dm_octet_peers.specs.Octets.{of_event}
 use Rattle.dm_octet_peers.specs.Talking.{is_standing}
-use Rattle.dm_octet_peers.specs.Matching.{has_fit, is_numbered, base_kind, is_good_dpr, is_good_dpa, waiting_number}
+use Rattle.dm_octet_peers.specs.Matching.{has_fit, is_numbered_so, base_kind, is_good_dpr, is_good_dpa, waiting_number}
 use Rattle.dm_octet_peers.specs.Matching.{octet_requests, is_matching}
 use Rattle.dm_octet_peers.proofs.Bases.{heard_header}
 use Rattle.dm_octet_peers.proofs.MatchingTable.{is_ack, is_start, is_stop, brings_word, brings_cer, brings_dpr, brings_dpa}
@@ -81,7 +81,7 @@ pub record IsTurn (p : Peer) (e : Event (List ℕ)) (h : Option Heard) (commands
   pub waiting : (holds_cer p.standing.core.state || is_none p.standing.waiting) ≡ true
   pub ending : (awaits_dpa p.standing.core.state || is_none p.standing.awaited.dpa) ≡ true
   pub hears : Hears p (of_event e) h
-  pub moved : outcome p.standing.core (input_of (of_event e) h) (wins p.config) ≡ moves.Moved commands core
+  pub moved : machine_outcome p.standing.core (input_of (of_event e) h) (wins p.config) ≡ moves.NodeMoved commands core
   pub open_still : has_order machine.Closes (orders_to (conn c) commands) ≡ false
 
 reads_none : (s : State) → holds_cer s ≡ true → not (reads_first s) ≡ true
@@ -147,30 +147,30 @@ no_submit_named false k f e = cc
 
 submit_event : (c : ℕ) (h : Option Heard) (e : Event (List ℕ)) →
     is_submit (concern_of (input_of (of_event e) h) (conn c)) ≡ true → is_submit_event (of_event e) ≡ true
-submit_event c h (Submit s) is = refl
-submit_event c h (Start d) is = absurd (no_submit_named (d.0 == c) machine.StartsIt refl is)
-submit_event c h (Ack d) is = absurd (no_submit_named (d.0 == c) machine.AcksIt refl is)
-submit_event c h (Stop cause) is = cc
-submit_event c h Timeout is = cc
-submit_event c h Tick is = cc
-submit_event c h (Nack d) is = absurd (no_submit_named (d.0 == c) machine.NacksIt refl is)
-submit_event c h (Gone d) is = absurd (no_submit_named (d.0 == c) machine.EndsIt refl is)
-submit_event c h (Arrived d s) is =
+submit_event c h (SubmitEvent s) is = refl
+submit_event c h (StartEvent d) is = absurd (no_submit_named (d.0 == c) machine.StartsIt refl is)
+submit_event c h (AckEvent d) is = absurd (no_submit_named (d.0 == c) machine.AcksIt refl is)
+submit_event c h (StopEvent cause) is = cc
+submit_event c h TimeoutEvent is = cc
+submit_event c h TickEvent is = cc
+submit_event c h (NackEvent d) is = absurd (no_submit_named (d.0 == c) machine.NacksIt refl is)
+submit_event c h (GoneEvent d) is = absurd (no_submit_named (d.0 == c) machine.EndsIt refl is)
+submit_event c h (ArrivedEvent d s) is =
     absurd (no_submit_named (d.0 == c) (machine.HeardOnIt (word_heard h)) refl is)
 
 -- what is submitted asks for none
 submits_none : (p : Peer) (h : Option Heard) (e : Event (List ℕ)) → Hears p (of_event e) h →
     is_submit_event (of_event e) ≡ true → octet_requests.asks_end (octets_in (of_event e)) ≡ false
-submits_none p h (Submit s) (submits z opened can) is = submitted_asks s can
-submits_none p h (Submit s) (bare z b) is = cc
-submits_none p h (Start d) hears is = cc
-submits_none p h (Stop cause) hears is = cc
-submits_none p h Timeout hears is = cc
-submits_none p h Tick hears is = cc
-submits_none p h (Ack d) hears is = cc
-submits_none p h (Nack d) hears is = cc
-submits_none p h (Gone d) hears is = cc
-submits_none p h (Arrived d s) hears is = cc
+submits_none p h (SubmitEvent s) (submits_it z opened can) is = submitted_asks s can
+submits_none p h (SubmitEvent s) (bare z b) is = cc
+submits_none p h (StartEvent d) hears is = cc
+submits_none p h (StopEvent cause) hears is = cc
+submits_none p h TimeoutEvent hears is = cc
+submits_none p h TickEvent hears is = cc
+submits_none p h (AckEvent d) hears is = cc
+submits_none p h (NackEvent d) hears is = cc
+submits_none p h (GoneEvent d) hears is = cc
+submits_none p h (ArrivedEvent d s) hears is = cc
 
 module _ (laws : StepLaws) (p : Peer) (e : Event (List ℕ)) (h : Option Heard) (commands : List Command) (core : Node)
     (c : ℕ) (turn : IsTurn p e h commands core c) where
@@ -186,7 +186,7 @@ module _ (laws : StepLaws) (p : Peer) (e : Event (List ℕ)) (h : Option Heard) 
   abbrev after : Hold
   after = hold_of core (conn c)
 
-  abbrev orders : List Order
+  abbrev orders : List ConnOrder
   orders = orders_to (conn c) commands
 
   abbrev sent : List (List ℕ)
@@ -195,7 +195,7 @@ module _ (laws : StepLaws) (p : Peer) (e : Event (List ℕ)) (h : Option Heard) 
   abbrev next : Peer
   next = standing_at p (standing_after p.standing h (request_in commands) core)
 
-  well : IsWell kk before (change after orders)
+  well : IsWell kk before (changed_to after orders)
   well = step_is_well laws.changes n core (input_of (of_event e) h) (wins p.config) c commands turn.shaped turn.moved
       turn.open_still
 
@@ -215,11 +215,11 @@ module _ (laws : StepLaws) (p : Peer) (e : Event (List ℕ)) (h : Option Heard) 
       let a = and_parts _ _ all in
       (a.0, and_parts _ _ a.1)
 
-  sent_one : (o : Order) (x : List ℕ) → just_one o orders ≡ true → all_said p (of_event e) h (o ∷ []) ≡ x ∷ [] →
+  sent_one : (o : ConnOrder) (x : List ℕ) → just_one o orders ≡ true → all_said p (of_event e) h (o ∷ []) ≡ x ∷ [] →
       sent ≡ x ∷ []
   sent_one o x is says = ap (λ os. all_said p (of_event e) h os) (one_by laws.apart o orders is) ∙ says
 
-  sent_any : (o : Order) (f : List ℕ → Bool) (x : List ℕ) → just_one o orders ≡ true →
+  sent_any : (o : ConnOrder) (f : List ℕ → Bool) (x : List ℕ) → just_one o orders ≡ true →
       all_said p (of_event e) h (o ∷ []) ≡ x ∷ [] → f x ≡ true → list_any f sent ≡ true
   sent_any o f x is says passes = ap (λ xs. list_any f xs) (sent_one o x is says) ∙ ap (λ b. b || false) passes
 
@@ -239,7 +239,7 @@ module _ (laws : StepLaws) (p : Peer) (e : Event (List ℕ)) (h : Option Heard) 
         | inl holds ↦
             let closes = laws.closes n (conn c) (word_heard h) (wins p.config) turn.shaped (reads_none n.state holds) new
             in
-            let moves_so = sym turn.moved ∙ (ap (λ i. outcome n i (wins p.config)) (came y is).enters ∙ closes) in
+            let moves_so = sym turn.moved ∙ (ap (λ i. machine_outcome n i (wins p.config)) (came y is).enters ∙ closes) in
             let same_commands : commands ≡ command.Close (conn c) ∷ [] = cc moves_so in
             let closed : has_order machine.Closes (orders_to (conn c) commands) ≡ true =
             ap (λ os. has_order machine.Closes (orders_to (conn c) os)) same_commands
@@ -280,7 +280,7 @@ module _ (laws : StepLaws) (p : Peer) (e : Event (List ℕ)) (h : Option Heard) 
       not_false false e = cc
 
   -- and its CEA is awaited
-  still_awaits : (before ≡ machine.Pending → concern_by e (conn c) ≡ two.AcksIt → ⊥) → after ≡ machine.Made →
+  still_awaits : (before ≡ machine.Pending → concern_by e (conn c) ≡ two.MakesLink → ⊥) → after ≡ machine.Made →
       StillAwaits octet_requests p next before (heard_on c e) sent
   still_awaits no_ack made =
       let w = if_is (is_hold machine.Made after) _ well.made (ap (λ x. is_hold machine.Made x) made) in
@@ -310,7 +310,7 @@ module _ (laws : StepLaws) (p : Peer) (e : Event (List ℕ)) (h : Option Heard) 
       ]
 
   -- a new connection on which nothing comes
-  rests : before ≡ machine.NotHeld → heard_on c e ≡ None → (concern_by e (conn c) ≡ two.StartsIt → ⊥) →
+  rests : before ≡ machine.NotHeld → heard_on c e ≡ None → (concern_by e (conn c) ≡ two.StartsLink → ⊥) →
       (after ≡ machine.NotHeld) × (sent ≡ [])
   rests new none no_start =
       elim (cases_Bool (brings_word kk || is_start kk)) [
@@ -443,7 +443,7 @@ module _ (laws : StepLaws) (p : Peer) (e : Event (List ℕ)) (h : Option Heard) 
   dpa_brings y k o is closing heard dpa (deaf d) = absurd (not_both (is_made before) (closing_made before closing) d)
   dpa_brings y k o is closing heard dpa (wordless none) = absurd (spelled_none _ y none dpa)
   dpa_brings y k o is closing heard dpa (speaks m there) =
-      let good = (and_parts (is_numbered false disconnect_peer k m.header) (is_good_dpa (base_kind m))
+      let good = (and_parts (is_numbered_so false disconnect_peer k m.header) (is_good_dpa (base_kind m))
       (spelled_passes _ y m there dpa)).1 in
       ap brings_dpa ((came y heard).concern
       ∙ ap (λ z. machine.HeardOnIt z) (ap word_heard is ∙ dpa_heard p.config m good))
@@ -551,7 +551,7 @@ module _ (laws : StepLaws) (p : Peer) (e : Event (List ℕ)) (h : Option Heard) 
   dpr_spoken y k o is heard made dpr (wordless none) = absurd (spelled_none _ y none dpr)
   dpr_spoken y k o is heard made dpr (speaks m there) =
       let a = and_parts (has_fit m.header) _ (spelled_passes _ y m there dpr) in
-      let b = and_parts (is_numbered true disconnect_peer k m.header) (is_good_dpr (base_kind m)) a.1 in
+      let b = and_parts (is_numbered_so true disconnect_peer k m.header) (is_good_dpr (base_kind m)) a.1 in
       let d = and_parts (nat_eq m.header.hop_id k) _ b.0 in
       let of_command = (and_parts (nat_eq m.header.command disconnect_peer) m.header.request d.1).0 in
       let brings : brings_dpr kk ≡ true =
@@ -576,7 +576,7 @@ module _ (laws : StepLaws) (p : Peer) (e : Event (List ℕ)) (h : Option Heard) 
       not_pending machine.ClosingAsR e = refl
 
   -- none is sent but at a Stop
-  quiet_order : (o : Order) → is_order machine.SendsDpr o ≡ false →
+  quiet_order : (o : ConnOrder) → is_order machine.SendsDpr o ≡ false →
       (is_order machine.SendsSubmit o ≡ true → is_submit_event (of_event e) ≡ true) →
       Quiet (said_for p (of_event e) h o)
   quiet_order machine.SendsDpr no_dpr submit = cc
@@ -593,7 +593,7 @@ module _ (laws : StepLaws) (p : Peer) (e : Event (List ℕ)) (h : Option Heard) 
       one_quiet _ (answer_asks (built_answer p.config.node (header_of h) success None) refl)
   quiet_order machine.SendsSubmit no_dpr submit = one_quiet _ (submits_none p h e turn.hears (submit refl))
 
-  quiet_orders : (os : List Order) → has_order machine.SendsDpr os ≡ false →
+  quiet_orders : (os : List ConnOrder) → has_order machine.SendsDpr os ≡ false →
       (has_order machine.SendsSubmit os ≡ true → is_submit_event (of_event e) ≡ true) →
       Quiet (all_said p (of_event e) h os)
   quiet_orders [] no_dpr submit = refl

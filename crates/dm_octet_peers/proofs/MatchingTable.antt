@@ -10,12 +10,12 @@ use Rattle.dm_machine.specs.declared.inputs.Word.{Word}
 use Rattle.dm_machine.specs.declared.inputs.Word.TheVariants as word
 use Rattle.dm_machine.specs.declared.outputs.Command.{Command}
 use Rattle.dm_machine.specs.Node.{Node, is_shaped}
-use Rattle.dm_machine.specs.Connection.{Hold, Order, hold_of, orders_to, AtConnection, Concern, concern_of}
+use Rattle.dm_machine.specs.Connection.{Hold, ConnOrder, hold_of, orders_to, AtConnection, Concern, concern_of}
 use Rattle.dm_machine.specs.Connection as machine
 use Rattle.dm_machine.specs.Openings.{is_hold, is_order, has_order}
-use Rattle.dm_machine.specs.Changes.{Change, change, allowed, EachConnectionChangesAsAllowed}
+use Rattle.dm_machine.specs.Changes.{Change, changed_to, allowed, EachConnectionChangesAsAllowed}
 use Rattle.dm_machine.specs.Moves as moves
-use Rattle.dm_machine.specs.Moves.{outcome}
+use Rattle.dm_machine.specs.Moves.{machine_outcome}
 use Rattle.dm_two_peers.specs.Machine.{conn}
 use Rattle.dm_two_peers.specs.Delivery.{is_closing_hold}
 use Rattle.dm_machine.specs.Upward.{is_open_hold}
@@ -29,11 +29,11 @@ is_start machine.StartsIt = true
 is_start _ = false
 
 abbrev pub is_stop : Concern → Bool
-is_stop machine.Stops = true
+is_stop machine.AsksStop = true
 is_stop _ = false
 
 abbrev pub is_submit : Concern → Bool
-is_submit machine.Submits = true
+is_submit machine.AsksSubmit = true
 is_submit _ = false
 
 abbrev pub brings_word : Concern → Bool
@@ -52,11 +52,11 @@ abbrev pub brings_dpa : Concern → Bool
 brings_dpa (machine.HeardOnIt word.Dpa) = true
 brings_dpa _ = false
 
-abbrev pub is_silent : List Order → Bool
+abbrev pub is_silent : List ConnOrder → Bool
 is_silent [] = true
 is_silent _ = false
 
-abbrev pub just_one : Order → List Order → Bool
+abbrev pub just_one : ConnOrder → List ConnOrder → Bool
 just_one o (p ∷ []) = is_order o p
 just_one o _ = false
 
@@ -122,10 +122,10 @@ each_hold f =
 
 checked_of : (k : Concern) → each_hold (all_well k) ≡ true
 checked_of machine.NamesAnother = refl
-checked_of machine.Stops = refl
-checked_of machine.TimesOut = refl
-checked_of machine.Ticks = refl
-checked_of machine.Submits = refl
+checked_of machine.AsksStop = refl
+checked_of machine.SaysTimeout = refl
+checked_of machine.SaysTick = refl
+checked_of machine.AsksSubmit = refl
 checked_of machine.StartsIt = refl
 checked_of machine.AcksIt = refl
 checked_of machine.NacksIt = refl
@@ -187,15 +187,15 @@ unclosed true b h e = cc
 unclosed false b h e = h
 
 pub step_is_well : EachConnectionChangesAsAllowed → (n next : Node) (i : Input) (wins : Bool) (c : ℕ)
-    (commands : List Command) → is_shaped n ≡ true → outcome n i wins ≡ moves.Moved commands next →
+    (commands : List Command) → is_shaped n ≡ true → machine_outcome n i wins ≡ moves.NodeMoved commands next →
     has_order machine.Closes (orders_to (conn c) commands) ≡ false →
-    IsWell (concern_of i (conn c)) (hold_of n (conn c)) (change (hold_of next (conn c)) (orders_to (conn c) commands))
+    IsWell (concern_of i (conn c)) (hold_of n (conn c)) (changed_to (hold_of next (conn c)) (orders_to (conn c) commands))
 step_is_well changes n next i wins c commands shaped is open_still =
     let k = concern_of i (conn c) in
     let h = hold_of n (conn c) in
-    let x = change (hold_of next (conn c)) (orders_to (conn c) commands) in
+    let x = changed_to (hold_of next (conn c)) (orders_to (conn c) commands) in
     let there : Contains (allowed k h) x =
-    subst (λ (o : moves.Outcome). AtConnection (λ j b a os. Contains (allowed j b) (change a os)) n i (conn c) o) is
+    subst (λ (o : moves.NodeOutcome). AtConnection (λ j b a os. Contains (allowed j b) (changed_to a os)) n i (conn c) o) is
     (changes n i wins (conn c) shaped) in
     let well : is_well k h x ≡ true =
     All-contains (λ y. is_well k h y ≡ true) (allowed k h) x

@@ -157,29 +157,29 @@ step_sends laws p e h shaped well may other =
     (subst PlainOutcome (sym (turned_is n i (wins p.config))) (outcome_plain n i (wins p.config) other))
     (asks_at laws p e h shaped may)
   where
-    by_outcome : (o : moves.Outcome) → PlainOutcome o →
+    by_outcome : (o : moves.NodeOutcome) → PlainOutcome o →
         (is_base_heard h ≡ true) ⊎ (asks_none p.standing.core o ≡ true) → SendsNone (outcome_of p e h o)
-    by_outcome (moves.Moved commands core) plain (inl is) = all_sent p e h well commands plain (inl is)
-    by_outcome (moves.Moved commands core) plain (inr is) =
+    by_outcome (moves.NodeMoved commands core) plain (inl is) = all_sent p e h well commands plain (inl is)
+    by_outcome (moves.NodeMoved commands core) plain (inr is) =
         all_sent p e h well commands plain
         (inr (and_parts (list_all (answers_none (holds_cer p.standing.core.state)) commands)
         (not (holds_cer core.state) || holds_cer p.standing.core.state) is).0)
-    by_outcome (moves.Refused r) plain either = tt
+    by_outcome (moves.NodeRefused r) plain either = tt
 
 step_waits : EachStepHolds → (p : Peer) (e : told.PeerEvent) (h : Option Heard) → is_shaped p.standing.core ≡ true →
     is_waiting_well p ≡ true → MayHear p h → KeepsWaiting (steps p e h)
 step_waits laws p e h shaped well may =
     by_outcome (turned p.standing.core (input_of e h) (wins p.config)) (asks_at laws p e h shaped may)
   where
-    by_outcome : (o : moves.Outcome) → (is_base_heard h ≡ true) ⊎ (asks_none p.standing.core o ≡ true) →
+    by_outcome : (o : moves.NodeOutcome) → (is_base_heard h ≡ true) ⊎ (asks_none p.standing.core o ≡ true) →
         KeepsWaiting (outcome_of p e h o)
-    by_outcome (moves.Moved commands core) (inl is) =
+    by_outcome (moves.NodeMoved commands core) (inl is) =
         waits_after (holds_cer core.state) (holds_cer p.standing.core.state) p.standing.waiting h well (inl is)
-    by_outcome (moves.Moved commands core) (inr is) =
+    by_outcome (moves.NodeMoved commands core) (inr is) =
         waits_after (holds_cer core.state) (holds_cer p.standing.core.state) p.standing.waiting h well
         (inr (and_parts (list_all (answers_none (holds_cer p.standing.core.state)) commands)
         (not (holds_cer core.state) || holds_cer p.standing.core.state) is).1)
-    by_outcome (moves.Refused r) either = tt
+    by_outcome (moves.NodeRefused r) either = tt
 
 pub acts_send_none : EachStepHolds → (p : Peer) (e : told.PeerEvent) → is_shaped p.standing.core ≡ true →
     is_waiting_well p ≡ true → is_submit_event e ≡ false → SendsNone (acts p e)

@@ -18,9 +18,9 @@ use Rattle.dm_machine.specs.declared.outputs.Command.TheVariants as command
 use Rattle.dm_machine.specs.Table.{TableEvent, IRcvConnAck, IRcvConnNack, WinElection, SendMessage, Act, ISndConnReq, RAccept, RSndCea, ISndCer, Cleanup, Elect, Error, IDisc, RDisc, RReject, XSndMessage, Up, XSndDwa, XSndDpr, XSndDpa, XDisc, RSndRefusal, XSndRefusal, XSndDwr, Row}
 use Rattle.dm_machine.specs.Table as table
 use Rattle.dm_machine.specs.Node.{Node, held_as, only_held}
-use Rattle.dm_machine.specs.Reading.{Place, OnI, OnR, OnX, OnNew, place_of, first_message, message_on_i, message_on_x, message_event, end_event, connect_event, named_by, event_of}
+use Rattle.dm_machine.specs.Reading.{Place, OnI, OnR, OnX, OnNew, place_of, first_message, message_on_i, message_on_x, message_event, end_event, connect_event, conn_named, event_of}
 use Rattle.dm_machine.specs.Rows.{rows, event_code, is_for, row_in, state_code}
-use Rattle.dm_machine.specs.Moves.{Outcome, Moved, Refused, to_one, commands_of, held_after, all_commands, held_at, by_no_row, by_event, raises_win, after_commands, then_won, outcome}
+use Rattle.dm_machine.specs.Moves.{NodeOutcome, NodeMoved, NodeRefused, to_one, commands_of, held_after, all_commands, held_at, by_no_row, by_event, raises_win, after_commands, then_won, machine_outcome}
 
 abbrev pub is_plain : Command → Bool
 is_plain (command.SendSubmit c) = false
@@ -174,9 +174,9 @@ no_submit n (input.Gone c) is = on_end n.state (place_of n.state n.held c)
 no_submit n input.Submit is = cc
 
 -- the outcome
-abbrev pub PlainOutcome : Outcome → Type 0
-PlainOutcome (Moved commands next) = are_plain commands ≡ true
-PlainOutcome (Refused r) = ⊤
+abbrev pub PlainOutcome : NodeOutcome → Type 0
+PlainOutcome (NodeMoved commands next) = are_plain commands ≡ true
+PlainOutcome (NodeRefused r) = ⊤
 
 none_plain : (n : Node) (e : TableEvent) → PlainOutcome (by_no_row n e)
 none_plain n table.Start = tt
@@ -189,25 +189,25 @@ event_plain : (found : Option Row) → PlainRow found → (n : Node) (e : TableE
 event_plain None plain n e new = none_plain n e
 event_plain (Some r) plain n e new = acts_plain r.acts plain new (held_at e n.held)
 
-after_plain : (before : List Command) (o : Outcome) → are_plain before ≡ true → PlainOutcome o →
+after_plain : (before : List Command) (o : NodeOutcome) → are_plain before ≡ true → PlainOutcome o →
     PlainOutcome (after_commands before o)
-after_plain before (Refused r) a b = tt
-after_plain before (Moved more n) a b = both_plain before more a b
+after_plain before (NodeRefused r) a b = tt
+after_plain before (NodeMoved more n) a b = both_plain before more a b
 
-won_plain : (o : Outcome) → PlainOutcome o → PlainOutcome (then_won o)
-won_plain (Refused r) plain = tt
-won_plain (Moved before n) plain =
+won_plain : (o : NodeOutcome) → PlainOutcome o → PlainOutcome (then_won o)
+won_plain (NodeRefused r) plain = tt
+won_plain (NodeMoved before n) plain =
     after_plain before (by_event (row_in rows n.state WinElection) n WinElection None) plain
     (event_plain (row_in rows n.state WinElection) (row_plain rows rows_fine n.state WinElection refl)
     n WinElection None)
 
-either_plain : (b : Bool) (o : Outcome) → PlainOutcome o → PlainOutcome (if b then then_won o else o)
+either_plain : (b : Bool) (o : NodeOutcome) → PlainOutcome o → PlainOutcome (if b then then_won o else o)
 either_plain true o plain = won_plain o plain
 either_plain false o plain = plain
 
-pub outcome_plain : (n : Node) (i : Input) (wins : Bool) → is_submit_input i ≡ false → PlainOutcome (outcome n i wins)
+pub outcome_plain : (n : Node) (i : Input) (wins : Bool) → is_submit_input i ≡ false → PlainOutcome (machine_outcome n i wins)
 outcome_plain n i wins other =
     let e = event_of n i in
     let found = row_in rows n.state e in
-    either_plain (raises_win found wins) (by_event found n e (named_by i))
-    (event_plain found (row_plain rows rows_fine n.state e (no_submit n i other)) n e (named_by i))
+    either_plain (raises_win found wins) (by_event found n e (conn_named i))
+    (event_plain found (row_plain rows rows_fine n.state e (no_submit n i other)) n e (conn_named i))

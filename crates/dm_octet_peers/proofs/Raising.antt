@@ -14,13 +14,13 @@ use Rattle.dm_machine.specs.Connection.{Hold, hold_of}
 use Rattle.dm_machine.specs.Connection as hold
 use Rattle.dm_machine.specs.Changes.{EachConnectionChangesAsAllowed}
 use Rattle.dm_machine.specs.Moves as moves
-use Rattle.dm_machine.specs.Moves.{outcome}
+use Rattle.dm_machine.specs.Moves.{machine_outcome}
 use Rattle.dm_peer.specs.declared.peer.Peer.{Peer}
 use Rattle.dm_peer.specs.Events as told
 use Rattle.dm_peer.specs.Configs.{wins}
 use Rattle.dm_peer.specs.Said.{Heard, heard_in, word_heard}
 use Rattle.dm_peer.specs.After.{awaited_of}
-use Rattle.dm_peer.specs.Acts.{Outcome, Moved, Refused, turned, input_of, outcome_of, steps, is_made, is_unread, is_dropped, heard, can_submit, acts}
+use Rattle.dm_peer.specs.Acts.{Outcome, Moved, Refused, turned, input_of, outcome_of, steps, is_made, is_unread, is_dropped, heard_outcome, can_submit, acts}
 use Rattle.dm_two_peers.specs.Machine.{conn}
 use Rattle.dm_two_peers.specs.Delivery.{ups_of, HandsUpHeard}
 use Rattle.dm_octet_peers.specs.Octets.{as_actions}
@@ -47,7 +47,7 @@ module _ (changes : EachConnectionChangesAsAllowed) (ups : HandsUpWhereOpen) (ea
   now = told.Arrived (conn c) s
 
   -- nothing is handed up
-  quiet_step : (h : Option Heard) → is_silent (outcome p.standing.core (input_of now h) (wins p.config)) ≡ true →
+  quiet_step : (h : Option Heard) → is_silent (machine_outcome p.standing.core (input_of now h) (wins p.config)) ≡ true →
       (is_app s && is_open_hold before) ≡ false → (is_app s ≡ true → ends_word (word_heard h) ≡ true) →
       RaisesAt p c s (steps p now h)
   quiet_step h silent none ends =
@@ -55,10 +55,10 @@ module _ (changes : EachConnectionChangesAsAllowed) (ups : HandsUpWhereOpen) (ea
       (wins p.config)) (subst (λ o. is_silent o ≡ true)
       (sym (turned_is p.standing.core (input_of now h) (wins p.config))) silent)
     where
-      by_outcome : (o : moves.Outcome) → o ≡ outcome p.standing.core (input_of now h) (wins p.config) →
+      by_outcome : (o : moves.NodeOutcome) → o ≡ machine_outcome p.standing.core (input_of now h) (wins p.config) →
           is_silent o ≡ true → RaisesAt p c s (outcome_of p now h o)
-      by_outcome (moves.Refused r) is quiet = tt
-      by_outcome (moves.Moved commands core) is quiet =
+      by_outcome (moves.NodeRefused r) is quiet = tt
+      by_outcome (moves.NodeMoved commands core) is quiet =
           record {
             hands = ups_none p now h commands (not_up (has_up commands) quiet)
                 ∙ sym (ap (λ b. if b then s ∷ [] else []) none);
@@ -75,7 +75,7 @@ module _ (changes : EachConnectionChangesAsAllowed) (ups : HandsUpWhereOpen) (ea
       let up = each n (conn c) (wins p.config) shaped opened in
       subst (λ o. RaisesAt p c s (outcome_of p now h o))
       (sym (turned_is n (input_of now h) (wins p.config)
-      ∙ (ap (λ w. outcome n (input.Heard (conn c) w) (wins p.config)) other ∙ up)))
+      ∙ (ap (λ w. machine_outcome n (input.Heard (conn c) w) (wins p.config)) other ∙ up)))
       (record {
         hands = sym (ap (λ b. if b then s ∷ [] else []) (both app opened));
         ends = λ a closed_now made. cc;
@@ -95,7 +95,7 @@ module _ (changes : EachConnectionChangesAsAllowed) (ups : HandsUpWhereOpen) (ea
   unread_closed state _ h = refl
 
   closed_silent : (h : Option Heard) → (word_heard h ≡ Other → is_open_hold before ≡ false) →
-      is_silent (outcome p.standing.core (input_of now h) (wins p.config)) ≡ true
+      is_silent (machine_outcome p.standing.core (input_of now h) (wins p.config)) ≡ true
   closed_silent h closed = silent_step ups p.standing.core shaped (input_of now h) (wins p.config) none
     where
       none : IsHeardOpen p.standing.core (input_of now h) → ⊥
@@ -107,7 +107,7 @@ module _ (changes : EachConnectionChangesAsAllowed) (ups : HandsUpWhereOpen) (ea
           cc
 
   unheard_silent : (h : Option Heard) → is_other (word_heard h) ≡ false →
-      is_silent (outcome p.standing.core (input_of now h) (wins p.config)) ≡ true
+      is_silent (machine_outcome p.standing.core (input_of now h) (wins p.config)) ≡ true
   unheard_silent h other = closed_silent h (λ word. let both = sym (ap is_other word) ∙ other in cc)
 
   unread_step : is_unread p.standing.core.state before ≡ true → RaisesAt p c s (steps p now None)
@@ -161,12 +161,12 @@ module _ (changes : EachConnectionChangesAsAllowed) (ups : HandsUpWhereOpen) (ea
       (option_eq nat_eq (awaited_of p.standing.awaited m.header.command) (Some m.header.hop_id)) is)
   read_step m spelled false is = message_step m spelled (is_base_command m.header.command) refl
 
-  heard_step : (o : Option Message) → message_in s ≡ o → RaisesAt p c s (heard p now (conn c) o)
+  heard_step : (o : Option Message) → message_in s ≡ o → RaisesAt p c s (heard_outcome p now (conn c) o)
   heard_step None spelled = no_app_step None refl (ap can_submit spelled)
   heard_step (Some m) spelled = read_step m spelled (is_dropped p (conn c) m.header) refl
 
   arrived_step : (b : Bool) → is_unread p.standing.core.state before ≡ b →
-      RaisesAt p c s (if b then steps p now None else heard p now (conn c) (message_in s))
+      RaisesAt p c s (if b then steps p now None else heard_outcome p now (conn c) (message_in s))
   arrived_step true unread = unread_step unread
   arrived_step false unread = heard_step (message_in s) refl
 

@@ -13,7 +13,7 @@ use Rattle.dm_machine.specs.Node.{Node, is_shaped}
 use Rattle.dm_machine.specs.EachStep.{EachStepHolds}
 use Rattle.dm_machine.specs.Shape.{KeepsShape, EachStepKeepsShape}
 use Rattle.dm_machine.specs.Moves as moves
-use Rattle.dm_machine.specs.Moves.{outcome}
+use Rattle.dm_machine.specs.Moves.{machine_outcome}
 use Rattle.dm_peer.specs.declared.config.Config.{Config}
 use Rattle.dm_peer.specs.declared.peer.Peer.{Peer}
 use Rattle.dm_peer.specs.Events.{PeerEvent}
@@ -94,10 +94,10 @@ stands_after p h commands core was shaped =
     waits)
 
 replies_by : (a b : Config) (s : Side) (p : Peer) (e : PeerEvent) (h : Option Heard) →
-    IsPeerOf (octet_talks a b) s p → (o : moves.Outcome) → KeepsShape o → SendsAlike o →
+    IsPeerOf (octet_talks a b) s p → (o : moves.NodeOutcome) → KeepsShape o → SendsAlike o →
     RepliesAs octet_peers (octet_talks a b) s p (header_heard h) o (as_reply (outcome_of p e h o))
-replies_by a b s p e h is (moves.Refused r) kept alike = refl
-replies_by a b s p e h is (moves.Moved commands core) kept alike =
+replies_by a b s p e h is (moves.NodeRefused r) kept alike = refl
+replies_by a b s p e h is (moves.NodeMoved commands core) kept alike =
     let sends = request_in commands in
     record {
       actions = as_actions (sent.actions_of p e h commands);
@@ -111,7 +111,7 @@ replies_by a b s p e h is (moves.Moved commands core) kept alike =
       waiting = refl;
     }
 
-pub turned_is : (n : Node) (i : Input) (w : Bool) → turned n i w ≡ outcome n i w
+pub turned_is : (n : Node) (i : Input) (w : Bool) → turned n i w ≡ machine_outcome n i w
 unfolding turned
 turned_is n i w = refl
 
@@ -125,14 +125,14 @@ shaped_of p h =
 pub step_replies : EachStepHolds → EachStepKeepsShape →
     (a b : Config) (s : Side) (p : Peer) (e : PeerEvent) (h : Option Heard) → IsPeerOf (octet_talks a b) s p →
     RepliesAs octet_peers (octet_talks a b) s p (header_heard h)
-    (outcome p.standing.core (input_of e h) (wins (config_at a b s))) (as_reply (steps p e h))
+    (machine_outcome p.standing.core (input_of e h) (wins (config_at a b s))) (as_reply (steps p e h))
 step_replies laws shape a b s p e h is =
     let n = p.standing.core in
     let i = input_of e h in
     let shaped = shaped_of p is.stands in
-    subst (λ (k : Config). RepliesAs octet_peers (octet_talks a b) s p (header_heard h) (outcome n i (wins k))
+    subst (λ (k : Config). RepliesAs octet_peers (octet_talks a b) s p (header_heard h) (machine_outcome n i (wins k))
     (as_reply (steps p e h))) is.configured
-    (subst (λ o. RepliesAs octet_peers (octet_talks a b) s p (header_heard h) (outcome n i (wins p.config))
+    (subst (λ o. RepliesAs octet_peers (octet_talks a b) s p (header_heard h) (machine_outcome n i (wins p.config))
     (as_reply (outcome_of p e h o))) (sym (turned_is n i (wins p.config)))
-    (replies_by a b s p e h is (outcome n i (wins p.config)) (shape n i (wins p.config) shaped)
+    (replies_by a b s p e h is (machine_outcome n i (wins p.config)) (shape n i (wins p.config) shaped)
     (outcome_alike laws n shaped i (wins p.config))))

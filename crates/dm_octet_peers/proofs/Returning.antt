@@ -5,7 +5,7 @@ use Rattle.dm_machine.specs.declared.outputs.Command.{Command}
 use Rattle.dm_machine.specs.declared.state_name.State.{State}
 use Rattle.dm_machine.specs.Node.{Node}
 use Rattle.dm_machine.specs.Moves as moves
-use Rattle.dm_machine.specs.Moves.{outcome}
+use Rattle.dm_machine.specs.Moves.{machine_outcome}
 use Rattle.dm_peer.specs.declared.peer.Peer.{Peer}
 use Rattle.dm_peer.specs.Events as told
 use Rattle.dm_peer.specs.Configs.{wins}
@@ -30,10 +30,10 @@ unless_winning true true h = cc (h refl)
 
 -- after a step
 pub step_returns : WinnerDoesNotReturn → (p : Peer) (e : told.PeerEvent) (h : Option Heard) (commands : List Command)
-    (core : Node) → outcome p.standing.core (input_of e h) (wins p.config) ≡ moves.Moved commands core →
+    (core : Node) → machine_outcome p.standing.core (input_of e h) (wins p.config) ≡ moves.NodeMoved commands core →
     returns_as_loser p ≡ true → not (is_returning core.state && wins p.config) ≡ true
 step_returns law p e h commands core is was =
     unless_winning (is_returning core.state) (wins p.config)
     (λ won. law p.standing.core core (input_of e h) commands
     (not_lost p.standing.core.state (wins p.config) was won)
-    (ap (λ b. outcome p.standing.core (input_of e h) b) (sym won) ∙ is))
+    (ap (λ b. machine_outcome p.standing.core (input_of e h) b) (sym won) ∙ is))

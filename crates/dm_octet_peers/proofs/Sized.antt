@@ -21,7 +21,7 @@ use Rattle.dm_peer.specs.Octets.{octets_of}
 use Rattle.dm_peer.specs.Said.{Heard}
 use Rattle.dm_peer.specs.Sent.{action_of, actions_of}
 use Rattle.dm_peer.specs.Acts.{Outcome, Moved, Refused, turned, input_of, outcome_of, steps, can_submit, acts}
-use Rattle.dm_two_peers.specs.Peers.{Acts}
+use Rattle.dm_two_peers.specs.Peers.{ActsBy}
 use Rattle.dm_two_peers.specs.Streams.{sends_sized}
 use Rattle.dm_octet_peers.specs.Octets.{of_event, as_actions, as_reply}
 use Rattle.dm_octet_peers.specs.Laws.{OctetsAreSized}
@@ -105,15 +105,15 @@ plain_fine true commands plain = all_fine true refl commands
 plain_fine false commands plain = plain
 
 step_sized : (p : Peer) (e : told.PeerEvent) (h : Option Heard) →
-    ((o : moves.Outcome) → turned p.standing.core (input_of e h) (wins p.config) ≡ o → PlainOutcome o) →
+    ((o : moves.NodeOutcome) → turned p.standing.core (input_of e h) (wins p.config) ≡ o → PlainOutcome o) →
     SizedOutcome (steps p e h)
 step_sized p e h plain =
     by_outcome (turned p.standing.core (input_of e h) (wins p.config)) (plain _ refl)
   where
-    by_outcome : (o : moves.Outcome) → PlainOutcome o → SizedOutcome (outcome_of p e h o)
-    by_outcome (moves.Moved commands core) is =
+    by_outcome : (o : moves.NodeOutcome) → PlainOutcome o → SizedOutcome (outcome_of p e h o)
+    by_outcome (moves.NodeMoved commands core) is =
         all_sized p e h commands (plain_fine (has_octets (octets_in e)) commands is)
-    by_outcome (moves.Refused r) is = tt
+    by_outcome (moves.NodeRefused r) is = tt
 
 plain_step : (p : Peer) (e : told.PeerEvent) (h : Option Heard) → is_submit_input (input_of e h) ≡ false →
     SizedOutcome (steps p e h)
@@ -126,10 +126,10 @@ plain_step p e h other =
 submit_step : (p : Peer) (s : List ℕ) → has_octets s ≡ true → SizedOutcome (steps p (told.Submit s) None)
 submit_step p s has = by_outcome (turned p.standing.core (input_of (told.Submit s) None) (wins p.config))
   where
-    by_outcome : (o : moves.Outcome) → SizedOutcome (outcome_of p (told.Submit s) None o)
-    by_outcome (moves.Moved commands core) =
+    by_outcome : (o : moves.NodeOutcome) → SizedOutcome (outcome_of p (told.Submit s) None o)
+    by_outcome (moves.NodeMoved commands core) =
         all_sized p (told.Submit s) None commands (all_fine (has_octets s) has commands)
-    by_outcome (moves.Refused r) = tt
+    by_outcome (moves.NodeRefused r) = tt
 
 submits : (p : Peer) (s : List ℕ) (is_open_now can : Bool) → (can ≡ true → has_octets s ≡ true) →
     SizedOutcome
@@ -150,7 +150,7 @@ acts_sized p e = walked p SizedOutcome refl e (λ is f. tt) (λ h may. plain_ste
 pub octets_are_sized : OctetsAreSized
 octets_are_sized p next e actions is = by_reply (acts p (of_event e)) (acts_sized p (of_event e)) is
   where
-    by_reply : (o : Outcome) → SizedOutcome o → as_reply o ≡ Acts actions next →
+    by_reply : (o : Outcome) → SizedOutcome o → as_reply o ≡ ActsBy actions next →
         sends_sized (λ s. length s) actions ≡ true
     by_reply (Moved done after) has same =
         let this : as_actions done ≡ actions = cc in

@@ -13,22 +13,22 @@ use Rattle.dm_machine.specs.declared.outputs.Command.{Command}
 use Rattle.dm_machine.specs.declared.outputs.Command.TheVariants as command
 use Rattle.dm_machine.specs.Awaiting.{holds_cer}
 use Rattle.dm_machine.specs.Node.{Node, is_shaped}
-use Rattle.dm_machine.specs.Moves.{Outcome, Moved, Refused, outcome}
+use Rattle.dm_machine.specs.Moves.{NodeOutcome, NodeMoved, NodeRefused, machine_outcome}
 use Rattle.dm_machine.specs.EachStep.{StepTest, everywhere, passes_of, EachStepHolds}
 use Rattle.dm_peer.specs.After.{request_in, is_cer}
 use Rattle.dm_two_peers.specs.Electing.{has_send_cer}
 
-abbrev pub SendsAlike : Outcome → Type 0
-SendsAlike (Moved commands next) = is_cer (request_in commands) ≡ has_send_cer commands
-SendsAlike (Refused r) = ⊤
+abbrev pub SendsAlike : NodeOutcome → Type 0
+SendsAlike (NodeMoved commands next) = is_cer (request_in commands) ≡ has_send_cer commands
+SendsAlike (NodeRefused r) = ⊤
 
 abbrev same : Bool → Bool → Bool
 same true b = b
 same false b = not b
 
-abbrev is_alike : Outcome → Bool
-is_alike (Moved commands next) = same (is_cer (request_in commands)) (has_send_cer commands)
-is_alike (Refused r) = true
+abbrev is_alike : NodeOutcome → Bool
+is_alike (NodeMoved commands next) = same (is_cer (request_in commands)) (has_send_cer commands)
+is_alike (NodeRefused r) = true
 
 -- the words of base requests
 abbrev asks_answer : Word → Bool
@@ -52,10 +52,10 @@ answers_none waits (command.SendDwa c) = false
 answers_none waits (command.SendDpa c) = false
 answers_none waits _ = true
 
-abbrev pub asks_none : Node → Outcome → Bool
-asks_none n (Moved commands next) =
+abbrev pub asks_none : Node → NodeOutcome → Bool
+asks_none n (NodeMoved commands next) =
     list_all (answers_none (holds_cer n.state)) commands && (not (holds_cer next.state) || holds_cer n.state)
-asks_none n (Refused r) = true
+asks_none n (NodeRefused r) = true
 
 abbrev sends_well : StepTest
 sends_well n at i o = is_alike o && (is_request i || asks_none n o)
@@ -70,14 +70,14 @@ same_is true false e = cc
 same_is false true e = cc
 same_is false false e = refl
 
-alike_is : (o : Outcome) → is_alike o ≡ true → SendsAlike o
-alike_is (Moved commands next) e = same_is (is_cer (request_in commands)) (has_send_cer commands) e
-alike_is (Refused r) e = tt
+alike_is : (o : NodeOutcome) → is_alike o ≡ true → SendsAlike o
+alike_is (NodeMoved commands next) e = same_is (is_cer (request_in commands)) (has_send_cer commands) e
+alike_is (NodeRefused r) e = tt
 
 pub outcome_alike : EachStepHolds → (n : Node) → is_shaped n ≡ true → (i : Input) (wins : Bool) →
-    SendsAlike (outcome n i wins)
+    SendsAlike (machine_outcome n i wins)
 outcome_alike steps n shaped i wins =
-    let o = outcome n i wins in
+    let o = machine_outcome n i wins in
     let both = and_parts (is_alike o) (is_request i || asks_none n o) (steps sends_well checked n i wins shaped) in
     alike_is o both.0
 
@@ -86,8 +86,8 @@ right_of true b h e = cc
 right_of false b h e = h
 
 pub asks_none_step : EachStepHolds → (n : Node) → is_shaped n ≡ true → (i : Input) (wins : Bool) →
-    is_request i ≡ false → asks_none n (outcome n i wins) ≡ true
+    is_request i ≡ false → asks_none n (machine_outcome n i wins) ≡ true
 asks_none_step steps n shaped i wins calm =
-    let o = outcome n i wins in
+    let o = machine_outcome n i wins in
     let both = and_parts (is_alike o) (is_request i || asks_none n o) (steps sends_well checked n i wins shaped) in
     right_of (is_request i) (asks_none n o) both.1 calm

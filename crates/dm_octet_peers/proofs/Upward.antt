@@ -55,9 +55,9 @@ step_raises ups p e h shaped calm =
     (subst (λ o. is_silent o ≡ true) (sym (turned_is n i (wins p.config)))
     (silent_step ups n shaped i (wins p.config) (λ here. let heard = ap is_heard_input here.heard in cc)))
   where
-    by_outcome : (o : moves.Outcome) → is_silent o ≡ true → RaisesNone (outcome_of p e h o)
-    by_outcome (moves.Moved commands core) silent = ups_none p e h commands (not_up (has_up commands) silent)
-    by_outcome (moves.Refused r) silent = tt
+    by_outcome : (o : moves.NodeOutcome) → is_silent o ≡ true → RaisesNone (outcome_of p e h o)
+    by_outcome (moves.NodeMoved commands core) silent = ups_none p e h commands (not_up (has_up commands) silent)
+    by_outcome (moves.NodeRefused r) silent = tt
 
 pub acts_raise_none : HandsUpWhereOpen → (p : Peer) (e : told.PeerEvent) → is_shaped p.standing.core ≡ true →
     is_arrival e ≡ false → RaisesNone (acts p e)

@@ -10,7 +10,7 @@ use Rattle.dm_peer.specs.declared.peer.Peer.{Peer}
 use Rattle.dm_peer.specs.declared.actions.Action as declared_action
 use Rattle.dm_peer.specs.Acts.{Outcome, Moved, Refused, acts}
 use Rattle.dm_two_peers.specs.Machine.{conn}
-use Rattle.dm_two_peers.specs.Peers.{Event, Submit, Arrived, Action, Acts}
+use Rattle.dm_two_peers.specs.Peers.{Event, SubmitEvent, ArrivedEvent, Action, ActsBy}
 use Rattle.dm_two_peers.specs.Delivery.{ups_of, sends_all, HandsUpHeard}
 use Rattle.dm_octet_peers.specs.Octets.{of_event, as_actions, as_reply}
 use Rattle.dm_octet_peers.specs.Carrying.{is_app, OctetsCarry}
@@ -26,17 +26,17 @@ record IsReply (o : Outcome) (actions : List (Action (List ℕ))) (next : Peer) 
   pub moved : o ≡ Moved done next
   pub same : as_actions done ≡ actions
 
-of_reply : (o : Outcome) (actions : List (Action (List ℕ))) (next : Peer) → as_reply o ≡ Acts actions next →
+of_reply : (o : Outcome) (actions : List (Action (List ℕ))) (next : Peer) → as_reply o ≡ ActsBy actions next →
     IsReply o actions next
 of_reply (Moved done q) actions next is = record { done = done; moved = cc; same = cc }
 of_reply (Refused f) actions next is = cc
 
-no_submit : (e : Event (List ℕ)) → ((s : List ℕ) → e ≡ Submit s → ⊥) → is_submit_event (of_event e) ≡ false
-no_submit (Submit s) other = absurd (other s refl)
+no_submit : (e : Event (List ℕ)) → ((s : List ℕ) → e ≡ SubmitEvent s → ⊥) → is_submit_event (of_event e) ≡ false
+no_submit (SubmitEvent s) other = absurd (other s refl)
 no_submit _ other = refl
 
-no_arrival : (e : Event (List ℕ)) → ((c : Conn) (s : List ℕ) → e ≡ Arrived c s → ⊥) → is_arrival (of_event e) ≡ false
-no_arrival (Arrived c s) other = absurd (other c s refl)
+no_arrival : (e : Event (List ℕ)) → ((c : Conn) (s : List ℕ) → e ≡ ArrivedEvent c s → ⊥) → is_arrival (of_event e) ≡ false
+no_arrival (ArrivedEvent c s) other = absurd (other c s refl)
 no_arrival _ other = refl
 
 pub octets_carry : EachShapeIsAForm → EachStepHolds → EachConnectionChangesAsAllowed → HandsUpWhereOpen → HandsUpEach →
@@ -50,7 +50,7 @@ octets_carry form steps changes ups each =
           (subst SendsNone r.moved
           (acts_send_none steps p (of_event e) it.shaped it.fit (no_submit e other)));
       hears = λ p next c s actions it is.
-          let r = of_reply (acts p (of_event (Arrived (conn c) s))) actions next is in
+          let r = of_reply (acts p (of_event (ArrivedEvent (conn c) s))) actions next is in
           subst (λ (l : List (Action (List ℕ))). HandsUpHeard is_app (hold_of p.standing.core (conn c))
           (hold_of next.standing.core (conn c)) s (ups_of l)) r.same
           (subst (λ o. RaisesAt p c s o) r.moved

@@ -13,7 +13,7 @@ use Rattle.dm_peer.specs.declared.fault.PeerFault.TheVariants.{NotOpen, BadSubmi
 use Rattle.dm_peer.specs.declared.peer.Peer.{Peer}
 use Rattle.dm_peer.specs.Events as told
 use Rattle.dm_peer.specs.Said.{Heard, heard_in}
-use Rattle.dm_peer.specs.Acts.{Outcome, Moved, Refused, input_of, steps, is_unread, is_dropped, heard, can_submit, acts}
+use Rattle.dm_peer.specs.Acts.{Outcome, Moved, Refused, input_of, steps, is_unread, is_dropped, heard_outcome, can_submit, acts}
 use Rattle.dm_octet_peers.proofs.Bases.{other_heard, heard_header}
 use Rattle.dm_octet_peers.proofs.Stepping.{is_request}
 use Rattle.dm_octet_peers.proofs.Plain.{is_submit_input}
@@ -41,12 +41,12 @@ module _ (p : Peer) (Holds : Outcome → Type 0) (drops : Holds (Moved [] p)) wh
   dropped e m true each = drops
   dropped e m false each = each (Some (heard_in p.config m)) (something m)
 
-  read : (e : told.PeerEvent) (c : Conn) (o : Option Message) → OfSteps e → Holds (heard p e c o)
+  read : (e : told.PeerEvent) (c : Conn) (o : Option Message) → OfSteps e → Holds (heard_outcome p e c o)
   read e c None each = each None nothing
   read e c (Some m) each = dropped e m (is_dropped p c m.header) each
 
   arrived : (e : told.PeerEvent) (c : Conn) (s : List ℕ) (unread : Bool) → OfSteps e →
-      Holds (if unread then steps p e None else heard p e c (message_in s))
+      Holds (if unread then steps p e None else heard_outcome p e c (message_in s))
   arrived e c s true each = each None nothing
   arrived e c s false each = read e c (message_in s) each
 

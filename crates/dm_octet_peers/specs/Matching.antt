@@ -23,12 +23,12 @@ use Rattle.dm_octet_peers.specs.Talking.{ArePaired, is_standing}
 use Rattle.dm_octet_peers.specs.Laws.{fresh_peer}
 
 -- the message that octets spell passes a test
-abbrev pub spells : (Message → Bool) → List ℕ → Bool
-spells passes s = elim (message_in s) [ None ↦ false | Some m ↦ passes m ]
+abbrev pub spells_such : (Message → Bool) → List ℕ → Bool
+spells_such passes s = elim (message_in s) [ None ↦ false | Some m ↦ passes m ]
 
 -- a header of a command under a number, a request or an answer
-abbrev pub is_numbered : Bool → ℕ → ℕ → Header → Bool
-is_numbered request command n h =
+abbrev pub is_numbered_so : Bool → ℕ → ℕ → Header → Bool
+is_numbered_so request command n h =
     nat_eq h.hop_id n && (nat_eq h.command command && (if request then h.request else not h.request))
 
 -- the numbers of a header fit their fields
@@ -61,12 +61,12 @@ octet_requests =
       cea_of = λ p. p.standing.awaited.cea;
       dpa_of = λ p. p.standing.awaited.dpa;
       cer_of = λ p. waiting_number p.standing.waiting;
-      is_cer = λ n. spells (λ m. has_fit m.header && is_numbered true capabilities_exchange n m.header);
-      is_cea = λ n. spells (λ m. is_numbered false capabilities_exchange n m.header);
-      is_dpr = λ n. spells (λ m. has_fit m.header && (is_numbered true disconnect_peer n m.header && is_good_dpr
+      is_cer = λ n. spells_such (λ m. has_fit m.header && is_numbered_so true capabilities_exchange n m.header);
+      is_cea = λ n. spells_such (λ m. is_numbered_so false capabilities_exchange n m.header);
+      is_dpr = λ n. spells_such (λ m. has_fit m.header && (is_numbered_so true disconnect_peer n m.header && is_good_dpr
           (base_kind m)));
-      is_dpa = λ n. spells (λ m. is_numbered false disconnect_peer n m.header && is_good_dpa (base_kind m));
-      asks_end = spells (λ m. nat_eq m.header.command disconnect_peer && m.header.request);
+      is_dpa = λ n. spells_such (λ m. is_numbered_so false disconnect_peer n m.header && is_good_dpa (base_kind m));
+      asks_end = spells_such (λ m. nat_eq m.header.command disconnect_peer && m.header.request);
     }
 
 -- a peer that stands as one does after every list of events, and awaits a DPA in Closing alone
@@ -77,8 +77,8 @@ is_matching p = is_standing p && (awaits_dpa p.standing.core.state || is_none p.
 abbrev pub OctetAnswersMatch : Type 0
 OctetAnswersMatch = AnswersMatch octet_peers octet_requests is_matching
 
--- wherever a run of two new peers that are configured for each other falls quiet both are Closed, or both are open on one
--- link in opposite roles
+-- wherever a run of two new peers that are configured for each other falls quiet both are Closed, or both are open on
+-- one link in opposite roles
 abbrev pub EachOctetQuietRunIsClosedOrOpen : Type 0
 EachOctetQuietRunIsClosedOrOpen =
     (a b : Config) → ArePaired a b → a.first_id < 2 ^ 32 → b.first_id < 2 ^ 32 → (hs : List (Happening (List ℕ))) →

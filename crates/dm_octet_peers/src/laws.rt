@@ -141,9 +141,9 @@ pub fn each_octet_quiet_run_is_joined()
     octets_are_a_machine();
 }
 
-/// Peers over octets match an answer with its request by the Hop-by-Hop Identifier, at the exchanges that open and end a
-/// connection: a CER is answered by the CEA of its number, and a DPR by the DPA of its number, whatever came in between,
-/// and neither is dropped by the peer that awaits it (3, 5.3, 5.4 and 6.2.1).
+/// Peers over octets match an answer with its request by the Hop-by-Hop Identifier, at the exchanges that open and end
+/// a connection: a CER is answered by the CEA of its number, and a DPR by the DPA of its number, whatever came in
+/// between, and neither is dropped by the peer that awaits it (3, 5.3, 5.4 and 6.2.1).
 pub fn octet_answers_match()
     ensures { OctetAnswersMatch }
 {
@@ -160,8 +160,8 @@ pub fn octet_answers_match()
     unread_words_are_alike();
 }
 
-/// Wherever a run of two new peers that are configured for each other falls quiet, whatever was lost and restarted, both
-/// are Closed, or both are open on one connection in opposite roles, I-Open against R-Open (5.6).
+/// Wherever a run of two new peers that are configured for each other falls quiet, whatever was lost and restarted,
+/// both are Closed, or both are open on one connection in opposite roles, I-Open against R-Open (5.6).
 pub fn each_octet_quiet_run_is_closed_or_open()
     ensures { EachOctetQuietRunIsClosedOrOpen }
 {

@@ -15,13 +15,13 @@ use Rattle.dm_peer.specs.declared.peer.Peer.{Peer}
 use Rattle.dm_peer.specs.Events.{PeerEvent, Start, Stop, Timeout, Tick, Ack, Nack, Arrived, Gone, Submit}
 use Rattle.dm_peer.specs.Said.{Heard, word_heard, heard_caps, word_of_bad, refusal_of_caps, said, kind_under}
 use Rattle.dm_peer.specs.Acts.{input_of}
-use Rattle.dm_peer.specs.Steps.{has_fault, is_arrival, is_stop, is_submit, has_what_it_says}
-use Rattle.dm_peer.specs.Cases.{Hears, unread, no_message, message, submits, bare}
+use Rattle.dm_peer.specs.Steps.{has_heard_fault, is_arrival, is_stop, is_submit, has_what_it_says}
+use Rattle.dm_peer.specs.Cases.{Hears, unread, no_message, message, submits_it, bare}
 use Rattle.dm_peer.proofs.Few.{word_of, is_read, is_refused_word, is_stop_input, is_submit_input, is_asked}
 
 -- a message that is refused has its fault
 abbrev pub fits : Option Heard → Bool
-fits h = not (is_refused_word (word_heard h)) || has_fault h
+fits h = not (is_refused_word (word_heard h)) || has_heard_fault h
 
 -- what is heard has it
 by_bad : (b : Bool) → (not b || true) ≡ true
@@ -51,7 +51,7 @@ pub heard_fits : (p : Peer) (e : PeerEvent) (h : Option Heard) → Hears p e h �
 heard_fits p e h (message c s m read is kept) = said_fits p.config m.header (kind_under p.config m)
 heard_fits p e h (unread c s deaf) = refl
 heard_fits p e h (no_message c s read none) = refl
-heard_fits p e h (submits s opened can) = refl
+heard_fits p e h (submits_it s opened can) = refl
 heard_fits p e h (bare e' is) = refl
 
 -- where a message is read, it came and was heard
@@ -69,12 +69,12 @@ is_message (Gone c) h is = absurd (cc is)
 is_message (Submit s) h is = absurd (cc is)
 
 -- and where it is refused, it has its fault
-has_its_fault : (h : Option Heard) (b : Bool) → (not b || has_fault h) ≡ true → b ≡ true → has_fault h ≡ true
+has_its_fault : (h : Option Heard) (b : Bool) → (not b || has_heard_fault h) ≡ true → b ≡ true → has_heard_fault h ≡ true
 has_its_fault h true fit is = fit
 has_its_fault h false fit is = absurd (cc is)
 
 is_refusal : (e : PeerEvent) (h : Option Heard) → fits h ≡ true → is_refused_word (word_of (input_of e h)) ≡ true →
-    has_fault h ≡ true
+    has_heard_fault h ≡ true
 is_refusal (Arrived c s) h fit is = has_its_fault h (is_refused_word (word_heard h)) fit is
 is_refusal (Start c) h fit is = absurd (cc is)
 is_refusal (Stop cause) h fit is = absurd (cc is)

@@ -8,8 +8,8 @@ use Rattle.dm_peer.specs.declared.fault.PeerFault.TheVariants.{NotOpen, BadSubmi
 use Rattle.dm_peer.specs.declared.peer.Peer.{Peer}
 use Rattle.dm_peer.specs.Events.{Start, Stop, Timeout, Tick, Ack, Nack, Arrived, Gone, Submit}
 use Rattle.dm_peer.specs.Said.{heard_in}
-use Rattle.dm_peer.specs.Acts.{Moved, Refused, steps, is_dropped, heard, can_submit}
-use Rattle.dm_peer.specs.Cases.{is_deaf, unread, no_message, message, submits, bare, Case, step, drop, refusal, EachEventIsACase}
+use Rattle.dm_peer.specs.Acts.{Moved, Refused, steps, is_dropped, heard_outcome, can_submit}
+use Rattle.dm_peer.specs.Cases.{is_deaf, unread, no_message, message, submits_it, bare, Case, step, drop, refusal, EachEventIsACase}
 
 message_case : (p : Peer) (c : Conn) (s : List ℕ) (m : Message) → is_deaf p c ≡ false → message_in s ≡ Some m →
     (b : Bool) → is_dropped p c m.header ≡ b →
@@ -19,19 +19,19 @@ message_case p c s m read is false dropped =
     step (Arrived c s) (Some (heard_in p.config m)) (message c s m read is dropped)
 
 read_case : (p : Peer) (c : Conn) (s : List ℕ) → is_deaf p c ≡ false → (o : Option Message) → message_in s ≡ o →
-    Case p (Arrived c s) (heard p (Arrived c s) c o)
+    Case p (Arrived c s) (heard_outcome p (Arrived c s) c o)
 read_case p c s read None is = step (Arrived c s) None (no_message c s read is)
 read_case p c s read (Some m) is = message_case p c s m read is (is_dropped p c m.header) refl
 
 arrived_case : (p : Peer) (c : Conn) (s : List ℕ) (b : Bool) → is_deaf p c ≡ b →
-    Case p (Arrived c s) (if b then steps p (Arrived c s) None else heard p (Arrived c s) c (message_in s))
+    Case p (Arrived c s) (if b then steps p (Arrived c s) None else heard_outcome p (Arrived c s) c (message_in s))
 arrived_case p c s true deaf = step (Arrived c s) None (unread c s deaf)
 arrived_case p c s false deaf = read_case p c s deaf (message_in s) refl
 
 submit_case : (p : Peer) (s : List ℕ) (opened can : Bool) → is_open p.standing.core.state ≡ opened →
     can_submit (message_in s) ≡ can →
     Case p (Submit s) (if opened then (if can then steps p (Submit s) None else Refused BadSubmit) else Refused NotOpen)
-submit_case p s true true opened can = step (Submit s) None (submits s opened can)
+submit_case p s true true opened can = step (Submit s) None (submits_it s opened can)
 submit_case p s true false opened can = refusal s BadSubmit (rw (opened, can) refl)
 submit_case p s false can opened is = refusal s NotOpen (rw opened refl)
 

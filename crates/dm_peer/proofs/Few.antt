@@ -11,7 +11,7 @@ use Rattle.dm_machine.specs.declared.inputs.Word.TheVariants.{Unreadable, CerRef
 use Rattle.dm_machine.specs.declared.outputs.Command.{Command}
 use Rattle.dm_machine.specs.declared.outputs.Command.TheVariants as command
 use Rattle.dm_machine.specs.Node.{Node, is_shaped}
-use Rattle.dm_machine.specs.Moves.{Outcome, Moved, Refused, outcome}
+use Rattle.dm_machine.specs.Moves.{NodeOutcome, NodeMoved, NodeRefused, machine_outcome}
 use Rattle.dm_machine.specs.Strangers.{is_good_cer}
 use Rattle.dm_machine.specs.Awaiting.{awaits_cea, holds_cer}
 use Rattle.dm_machine.specs.EachStep.{StepTest, everywhere, passes_of, EachStepHolds}
@@ -48,11 +48,11 @@ is_quiet input.Timeout = true
 is_quiet _ = false
 
 -- a state that awaits a CEA is entered with a CER, one in which a CER waits at a good CER
-abbrev pub is_entered : State → Word → Outcome → Bool
-is_entered s w (Moved commands next) =
+abbrev pub is_entered : State → Word → NodeOutcome → Bool
+is_entered s w (NodeMoved commands next) =
     (not (awaits_cea next.state) || (awaits_cea s || is_cer (request_in commands)))
     && (not (holds_cer next.state) || (holds_cer s || is_good_cer w))
-is_entered s w (Refused r) = true
+is_entered s w (NodeRefused r) = true
 
 -- what a command asks of the state and the input at which it is ordered
 abbrev pub is_asked : State → Input → Command → Bool
@@ -65,9 +65,9 @@ is_asked s i (command.SendSubmit c) = is_submit_input i
 is_asked s i command.Up = is_read (word_of i)
 is_asked s i _ = true
 
-abbrev pub are_asked : State → Input → Outcome → Bool
-are_asked s i (Moved commands next) = list_all (is_asked s i) commands
-are_asked s i (Refused r) = true
+abbrev pub are_asked : State → Input → NodeOutcome → Bool
+are_asked s i (NodeMoved commands next) = list_all (is_asked s i) commands
+are_asked s i (NodeRefused r) = true
 
 -- a command whose action takes no memory
 abbrev pub is_light : Command → Bool
@@ -75,9 +75,9 @@ is_light (command.Connect c) = true
 is_light (command.Close c) = true
 is_light _ = false
 
-abbrev pub are_light : Outcome → Bool
-are_light (Moved commands next) = list_all is_light commands
-are_light (Refused r) = true
+abbrev pub are_light : NodeOutcome → Bool
+are_light (NodeMoved commands next) = list_all is_light commands
+are_light (NodeRefused r) = true
 
 abbrev is_right : StepTest
 is_right n at i o =
@@ -88,15 +88,15 @@ unfolding everywhere
 checked i r c = refl
 
 -- the facts of a step
-pub record StepFacts (n : Node) (i : Input) (o : Outcome) : Type 0 where
+pub record StepFacts (n : Node) (i : Input) (o : NodeOutcome) : Type 0 where
   pub entered : is_entered n.state (word_of i) o ≡ true
   pub asked : are_asked n.state i o ≡ true
   pub light : (not (is_quiet i) || are_light o) ≡ true
 
 pub facts : EachStepHolds → (n : Node) (i : Input) (wins : Bool) → IsTrue (is_shaped n) →
-    StepFacts n i (outcome n i wins)
+    StepFacts n i (machine_outcome n i wins)
 facts few n i wins shaped =
-    let o = outcome n i wins in
+    let o = machine_outcome n i wins in
     let light = not (is_quiet i) || are_light o in
     let all = and_parts (is_entered n.state (word_of i) o) (are_asked n.state i o && light)
     (few is_right checked n i wins shaped) in

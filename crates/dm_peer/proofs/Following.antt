@@ -7,7 +7,7 @@ use Rattle.dm_machine.specs.declared.outputs.Command.TheVariants as command
 use Rattle.dm_machine.specs.Node.{Node}
 use Rattle.dm_machine.specs.Connection.{hold_of}
 use Rattle.dm_machine.specs.Moves as moves
-use Rattle.dm_machine.specs.Moves.{outcome}
+use Rattle.dm_machine.specs.Moves.{machine_outcome}
 use Rattle.dm_machine.specs.Deeds.{deed_of_command}
 use Rattle.dm_machine.specs.EachStep.{EachStepHolds}
 use Rattle.dm_peer.specs.declared.peer.Peer.{Peer}
@@ -42,15 +42,15 @@ deeds_kept : (p : Peer) (e : PeerEvent) (h : Option Heard) (l : List Command) �
 deeds_kept p e h [] = refl
 deeds_kept p e h (c ∷ l) = rw (deed_kept p e h c, deeds_kept p e h l) refl
 
-pub turned_is : (n : Node) (i : Input) (w : Bool) → turned n i w ≡ outcome n i w
+pub turned_is : (n : Node) (i : Input) (w : Bool) → turned n i w ≡ machine_outcome n i w
 unfolding turned
 turned_is n i w = refl
 
-by_outcome : (p : Peer) (e : PeerEvent) (h : Option Heard) → fits h ≡ true → (o : moves.Outcome) →
-    outcome p.standing.core (input_of e h) (wins p.config) ≡ o →
+by_outcome : (p : Peer) (e : PeerEvent) (h : Option Heard) → fits h ≡ true → (o : moves.NodeOutcome) →
+    machine_outcome p.standing.core (input_of e h) (wins p.config) ≡ o →
     (IsSettled p → are_asked p.standing.core.state (input_of e h) o ≡ true) → Follows p e (outcome_of p e h o)
-by_outcome p e h fit (moves.Refused r) is asked = tt
-by_outcome p e h fit (moves.Moved commands core) is asked =
+by_outcome p e h fit (moves.NodeRefused r) is asked = tt
+by_outcome p e h fit (moves.NodeMoved commands core) is asked =
     inl (record {
       heard = h;
       commands = commands;

@@ -8,8 +8,8 @@ use Rattle.std.proofs.lemmas.List.Sums.{AllPass-from_list_all}
 use Rattle.dm_machine.specs.declared.connection.Conn.{Conn}
 use Rattle.dm_machine.specs.declared.outputs.Command.{Command}
 use Rattle.dm_machine.specs.declared.outputs.Command.TheVariants as command
-use Rattle.dm_machine.specs.Connection.{Hold, NotHeld, Pending, Made, OpenAsI, ClosingAsI, Taken, OpenAsR, ClosingAsR, hold_of, Concern, StartsIt, AcksIt, NacksIt, EndsIt, HeardOnIt, if_named, concern_of, Order, Connects, SendsCer, SendsCea, SendsRefusal, SendsDwr, SendsDwa, SendsDpr, SendsDpa, SendsSubmit, Closes, if_ordered, with_order, orders_to, AtConnection}
-use Rattle.dm_machine.specs.Changes.{Change, change, allowed, at_end, EachConnectionChangesAsAllowed}
+use Rattle.dm_machine.specs.Connection.{Hold, NotHeld, Pending, Made, OpenAsI, ClosingAsI, Taken, OpenAsR, ClosingAsR, hold_of, Concern, StartsIt, AcksIt, NacksIt, EndsIt, HeardOnIt, if_named, concern_of, ConnOrder, Connects, SendsCer, SendsCea, SendsRefusal, SendsDwr, SendsDwa, SendsDpr, SendsDpa, SendsSubmit, Closes, if_ordered, with_order, orders_to, AtConnection}
+use Rattle.dm_machine.specs.Changes.{Change, changed_to, allowed, at_end, EachConnectionChangesAsAllowed}
 use Rattle.dm_machine.specs.Deeds.{Deed, ClosesOn, deed_of_command}
 use Rattle.dm_machine.specs.Openings.{is_hold, is_order, has_order, names_it, is_left_unclosed, ClosesWhatItGivesUp, LeavesOthersAlone}
 use Rattle.dm_peer.specs.declared.actions.Action.{Action}
@@ -87,12 +87,12 @@ by_deeds c (action.Send d s ∷ actions) = by_deeds c actions
 by_deeds c (action.Close d ∷ actions) = ap (λ b. (d.0 == c.0) || b) (by_deeds c actions)
 by_deeds c (action.Up s ∷ actions) = by_deeds c actions
 
-passed_over : (b : Bool) (o : Order) (rest : List Order) → is_order Closes o ≡ false →
+passed_over : (b : Bool) (o : ConnOrder) (rest : List ConnOrder) → is_order Closes o ≡ false →
     has_order Closes (with_order (if_ordered b o) rest) ≡ has_order Closes rest
 passed_over true o rest other = ap (λ x. x || has_order Closes rest) other
 passed_over false o rest other = refl
 
-counted : (b : Bool) (rest : List Order) →
+counted : (b : Bool) (rest : List ConnOrder) →
     has_order Closes (with_order (if_ordered b Closes) rest) ≡ (b || has_order Closes rest)
 counted true rest = refl
 counted false rest = refl
@@ -155,10 +155,10 @@ gone_at : EachConnectionChangesAsAllowed → (p q : Peer) (actions : List Action
 gone_at changes p q actions c kept s =
     let n = p.standing.core in
     let i = input_of (Gone c) s.heard in
-    let x = change (hold_of q.standing.core c) (orders_to c s.commands) in
+    let x = changed_to (hold_of q.standing.core c) (orders_to c s.commands) in
     let list = at_end (hold_of n c) in
     let there : Contains (allowed (concern_of i c) (hold_of n c)) x =
-    subst (AtConnection (λ j before after orders. Contains (allowed j before) (change after orders)) n i c) s.moves
+    subst (AtConnection (λ j before after orders. Contains (allowed j before) (changed_to after orders)) n i c) s.moves
     (changes n i (wins p.config) c kept.settled.shaped) in
     let ends : concern_of i c ≡ EndsIt = ap (λ b. if_named b EndsIt) (eq-eqb c.0 c.0 refl) in
     unheld (hold_of q.standing.core c)

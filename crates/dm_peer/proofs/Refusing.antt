@@ -16,19 +16,19 @@ use Rattle.dm_peer.specs.Configs.{wins}
 use Rattle.dm_peer.specs.Said.{Heard, heard_in}
 use Rattle.dm_peer.specs.Acts.{Outcome, turned, input_of, outcome_of, steps, acts}
 use Rattle.dm_peer.specs.Refusing.{refusal_of, fault_at, RefusesByRule}
-use Rattle.dm_peer.specs.Cases.{is_bare, Hears, unread, no_message, message, submits, bare, Case, step, drop, refusal}
+use Rattle.dm_peer.specs.Cases.{is_bare, Hears, unread, no_message, message, submits_it, bare, Case, step, drop, refusal}
 use Rattle.dm_peer.proofs.Cases.{cases}
 use Rattle.dm_peer.proofs.Following.{turned_is}
 
 -- a step is refused by the state machine's rule
-by_outcome : (p : Peer) (e : PeerEvent) (h : Option Heard) (o : moves.Outcome) →
+by_outcome : (p : Peer) (e : PeerEvent) (h : Option Heard) (o : moves.NodeOutcome) →
     fault_at (outcome_of p e h o) ≡ option_map fault_of (refused_as o)
-by_outcome p e h (moves.Moved commands core) = refl
-by_outcome p e h (moves.Refused r) = refl
+by_outcome p e h (moves.NodeMoved commands core) = refl
+by_outcome p e h (moves.NodeRefused r) = refl
 
 step_refuses : RefusesByState →
     (p : Peer) (e : PeerEvent) (h : Option Heard) → IsTrue (is_shaped p.standing.core) →
-    fault_at (steps p e h) ≡ option_map fault_of (moves.refusal_of p.standing.core.state (input_of e h))
+    fault_at (steps p e h) ≡ option_map fault_of (moves.node_refusal p.standing.core.state (input_of e h))
 step_refuses law p e h shaped =
     let n = p.standing.core in
     let i = input_of e h in
@@ -39,17 +39,17 @@ step_refuses law p e h shaped =
 
 -- which is the peer's
 at_arrival : (s : State) (c : Conn) (octets : List ℕ) (h : Option Heard) →
-    moves.refusal_of s (input_of (Arrived c octets) h) ≡ None
+    moves.node_refusal s (input_of (Arrived c octets) h) ≡ None
 at_arrival Closed c octets h = refl
 at_arrival _ c octets h = refl
 
-at_submit : (s : State) → is_open s ≡ true → moves.refusal_of s input.Submit ≡ None
+at_submit : (s : State) → is_open s ≡ true → moves.node_refusal s input.Submit ≡ None
 at_submit ROpen is = refl
 at_submit IOpen is = refl
 at_submit _ is = cc
 
 at_bare : (s : State) (e : PeerEvent) → is_bare e ≡ true →
-    option_map fault_of (moves.refusal_of s (input_of e None)) ≡ refusal_of s e
+    option_map fault_of (moves.node_refusal s (input_of e None)) ≡ refusal_of s e
 at_bare Closed (Start c) is = refl
 at_bare _ (Start c) is = refl
 at_bare ROpen (Stop cause) is = refl
@@ -69,12 +69,12 @@ at_bare s (Arrived c octets) is = absurd (cc is)
 at_bare s (Submit octets) is = absurd (cc is)
 
 rule : (p : Peer) (e : PeerEvent) (h : Option Heard) → Hears p e h →
-    option_map fault_of (moves.refusal_of p.standing.core.state (input_of e h)) ≡ refusal_of p.standing.core.state e
+    option_map fault_of (moves.node_refusal p.standing.core.state (input_of e h)) ≡ refusal_of p.standing.core.state e
 rule p e h (unread c s deaf) = ap (option_map fault_of) (at_arrival p.standing.core.state c s None)
 rule p e h (no_message c s read none) = ap (option_map fault_of) (at_arrival p.standing.core.state c s None)
 rule p e h (message c s m read is kept) =
     ap (option_map fault_of) (at_arrival p.standing.core.state c s (Some (heard_in p.config m)))
-rule p e h (submits s opened can) =
+rule p e h (submits_it s opened can) =
     ap (option_map fault_of) (at_submit p.standing.core.state opened) ∙ rw (opened, can) refl
 rule p e h (bare e' is) = at_bare p.standing.core.state e' is
 

@@ -49,11 +49,11 @@ cer_is_heard (Nack c) h is = absurd (cc is)
 cer_is_heard (Gone c) h is = absurd (cc is)
 cer_is_heard (Submit s) h is = absurd (cc is)
 
-by_outcome : (p : Peer) (e : PeerEvent) (h : Option Heard) (o : moves.Outcome) → IsSettled p →
+by_outcome : (p : Peer) (e : PeerEvent) (h : Option Heard) (o : moves.NodeOutcome) → IsSettled p →
     KeepsShape o → is_entered p.standing.core.state (word_of (input_of e h)) o ≡ true →
     LeavesSettled (outcome_of p e h o)
-by_outcome p e h (moves.Refused r) was kept fine = tt
-by_outcome p e h (moves.Moved commands core) was kept fine =
+by_outcome p e h (moves.NodeRefused r) was kept fine = tt
+by_outcome p e h (moves.NodeMoved commands core) was kept fine =
     let s = p.standing.core.state in
     let cer = is_good_cer (word_of (input_of e h)) in
     let sent = request_in commands in

@@ -11,7 +11,7 @@ use Rattle.dm_machine.specs.declared.outputs.Command.TheVariants as command
 use Rattle.dm_machine.specs.Node.{Node, is_shaped}
 use Rattle.dm_machine.specs.Connection.{Hold, NotHeld, Pending, hold_of}
 use Rattle.dm_machine.specs.Moves as moves
-use Rattle.dm_machine.specs.Moves.{outcome}
+use Rattle.dm_machine.specs.Moves.{machine_outcome}
 use Rattle.dm_machine.specs.Unread.{ClosesUnread, DropsBeforeAck}
 use Rattle.dm_machine.specs.EachStep.{EachStepHolds}
 use Rattle.dm_peer.specs.declared.peer.Peer.{Peer}
@@ -21,7 +21,7 @@ use Rattle.dm_peer.specs.Said.{Heard}
 use Rattle.dm_peer.specs.Sent.{action_of, takes_memory}
 use Rattle.dm_peer.specs.Acts.{Outcome, turned, input_of, outcome_of, steps, is_unread, wants_memory, acts}
 use Rattle.dm_peer.specs.Silence.{drops, is_silent, SilentTakesNone}
-use Rattle.dm_peer.specs.Cases.{is_deaf, Hears, unread, no_message, message, submits, bare, Case, step, drop, refusal}
+use Rattle.dm_peer.specs.Cases.{is_deaf, Hears, unread, no_message, message, submits_it, bare, Case, step, drop, refusal}
 use Rattle.dm_peer.proofs.Cases.{cases}
 use Rattle.dm_peer.proofs.Few.{is_light, are_light, is_quiet, facts}
 use Rattle.dm_peer.proofs.Following.{turned_is}
@@ -33,13 +33,13 @@ light p e h (command.Connect c ∷ l) is = light p e h l is
 light p e h (command.Close c ∷ l) is = light p e h l is
 light p e h (_ ∷ l) is = absurd cc
 
-light_outcome : (p : Peer) (e : PeerEvent) (h : Option Heard) (o : moves.Outcome) →
+light_outcome : (p : Peer) (e : PeerEvent) (h : Option Heard) (o : moves.NodeOutcome) →
     are_light o ≡ true → wants_memory (outcome_of p e h o) ≡ false
-light_outcome p e h (moves.Moved commands n) is = light p e h commands is
-light_outcome p e h (moves.Refused r) is = refl
+light_outcome p e h (moves.NodeMoved commands n) is = light p e h commands is
+light_outcome p e h (moves.NodeRefused r) is = refl
 
 light_step : (p : Peer) (e : PeerEvent) (h : Option Heard) →
-    are_light (outcome p.standing.core (input_of e h) (wins p.config)) ≡ true → wants_memory (steps p e h) ≡ false
+    are_light (machine_outcome p.standing.core (input_of e h) (wins p.config)) ≡ true → wants_memory (steps p e h) ≡ false
 light_step p e h is =
     let i = input_of e h in
     let w = wins p.config in
@@ -49,7 +49,7 @@ light_step p e h is =
 unread_light : ClosesUnread → DropsBeforeAck →
     (n : Node) (c : Conn) (w : Bool) → IsTrue (is_shaped n) →
     (h : Hold) → hold_of n c ≡ h → is_unread n.state h ≡ true →
-    are_light (outcome n (input.Heard c Unreadable) w) ≡ true
+    are_light (machine_outcome n (input.Heard c Unreadable) w) ≡ true
 unread_light law before n c w shaped NotHeld e is = ap are_light (law n c Unreadable w shaped is e)
 unread_light law before n c w shaped Pending e is = ap are_light (before n c Unreadable w shaped e)
 unread_light law before n c w shaped _ e is = absurd cc
@@ -72,7 +72,7 @@ bare_light few p e shaped quiet =
     let n = p.standing.core in
     let i = input_of e None in
     let w = wins p.config in
-    light_step p e None (light_quiet (is_quiet i) (are_light (outcome n i w)) (facts few n i w shaped).light quiet)
+    light_step p e None (light_quiet (is_quiet i) (are_light (machine_outcome n i w)) (facts few n i w shaped).light quiet)
 
 step_light : EachStepHolds → ClosesUnread → DropsBeforeAck →
     (p : Peer) (e : PeerEvent) (h : Option Heard) → IsTrue (is_shaped p.standing.core) → is_silent p e ≡ true →
@@ -85,7 +85,7 @@ step_light few law before p e h shaped is (no_message c s read none) =
     absurd (not_silent (is_deaf p c) (drops p c (message_in s)) read (drops_as p c s None none) is)
 step_light few law before p e h shaped is (message c s m read heard kept) =
     absurd (not_silent (is_deaf p c) (drops p c (message_in s)) read (drops_as p c s (Some m) heard ∙ kept) is)
-step_light few law before p e h shaped is (submits s opened can) = absurd (cc is)
+step_light few law before p e h shaped is (submits_it s opened can) = absurd (cc is)
 step_light few law before p e h shaped is (bare (Start c) plain) = bare_light few p (Start c) shaped refl
 step_light few law before p e h shaped is (bare Timeout plain) = bare_light few p Timeout shaped refl
 step_light few law before p e h shaped is (bare (Arrived c s) plain) = absurd (cc plain)

@@ -19,7 +19,7 @@ use Rattle.dm_peer.specs.Acts.{Outcome, turned, input_of, outcome_of, steps, can
 use Rattle.dm_peer.specs.Settled.{IsSettled}
 use Rattle.dm_peer.specs.Steps.{is_submit}
 use Rattle.dm_peer.specs.Spelled.{IsSpelling, SendsSpelling, IsFitting, FreshIsFitting, LeavesSpelled, EachSendIsSpelled}
-use Rattle.dm_peer.specs.Cases.{is_bare, Hears, unread, no_message, message, submits, bare, Case, step, drop, refusal}
+use Rattle.dm_peer.specs.Cases.{is_bare, Hears, unread, no_message, message, submits_it, bare, Case, step, drop, refusal}
 use Rattle.dm_peer.proofs.Headers.{heard_header}
 use Rattle.dm_peer.proofs.Cases.{cases}
 use Rattle.dm_peer.proofs.Few.{are_asked, facts}
@@ -48,10 +48,10 @@ waiting_fits true false old now was is = is
 
 -- a step: what its commands say is there, so that a Submit alone sends what it brings
 by_outcome : SpellingLaws → (p : Peer) (e : PeerEvent) (h : Option Heard) → IsSettled p → IsGiven p e h →
-    fits h ≡ true → (o : moves.Outcome) → are_asked p.standing.core.state (input_of e h) o ≡ true →
+    fits h ≡ true → (o : moves.NodeOutcome) → are_asked p.standing.core.state (input_of e h) o ≡ true →
     LeavesSpelled (outcome_of p e h o)
-by_outcome laws p e h was given fit (moves.Refused r) is = tt
-by_outcome laws p e h was given fit (moves.Moved commands core) is = (
+by_outcome laws p e h was given fit (moves.NodeRefused r) is = tt
+by_outcome laws p e h was given fit (moves.NodeMoved commands core) is = (
   all_spelled laws p e h given commands (all_there p e h was.waiting fit commands is),
   record {
     next = next_fits (request_in commands) p.standing.next given.kept.next;
@@ -108,7 +108,7 @@ given laws p e h octets fit (message c s m read is kept) =
           (spelled_fits m s ((laws.within s m octets).0 is));
       submitted = λ submit. cc;
     }
-given laws p e h octets fit (submits s opened can) =
+given laws p e h octets fit (submits_it s opened can) =
     record { kept = fit; header = tt; submitted = λ submit. can_spell laws s octets (message_in s) refl can }
 given laws p e h octets fit (bare e' is) = bare_given p e' fit (bare_brings e' is)
 

@@ -24,7 +24,7 @@ use Rattle.dm_peer.specs.Sent.{actions_of, refusal, header_of, fault_in}
 use Rattle.dm_machine.specs.Awaiting.{awaits_cea, awaits_dwa, awaits_dpa, holds_cer, number_after}
 use Rattle.dm_peer.specs.After.{is_dwa, dwa_left, request_in, standing_after}
 use Rattle.dm_peer.specs.Settled.{IsSettled}
-use Rattle.dm_peer.specs.Acts.{Moved, input_of, outcome_of, standing_at, steps, is_made, is_unread, is_unawaited, heard}
+use Rattle.dm_peer.specs.Acts.{Moved, input_of, outcome_of, standing_at, steps, is_made, is_unread, is_unawaited, heard_outcome}
 use Rattle.dm_peer.specs.Strangers.{TurnsAway, OnlyTurnsAway, StrangersChangeNothing}
 use Rattle.dm_peer.proofs.Following.{turned_is}
 
@@ -113,7 +113,7 @@ not_open _ b reads = refl
 read_away : TurnsStrangersAway → (p : Peer) (c : Conn) (s : List ℕ) (m : Option Message) → IsSettled p →
     hold_of p.standing.core c ≡ NotHeld → reads_first p.standing.core.state ≡ true →
     lets_in p.standing.core.state (word_heard (option_map (heard_in p.config) m)) ≡ false →
-    OnlyTurnsAway p c (heard p (Arrived c s) c m)
+    OnlyTurnsAway p c (heard_outcome p (Arrived c s) c m)
 read_away law p c s None was free reads out =
     step_away law p c s None was free (not_open p.standing.core.state false reads) out
 read_away law p c s (Some m) was free reads out =
@@ -126,10 +126,10 @@ pub strangers : TurnsStrangersAway → StrangersChangeNothing
 strangers law p c s was strange =
     let n = p.standing.core in
     subst (λ hold. OnlyTurnsAway p c (if is_unread n.state hold then steps p (Arrived c s) None
-    else heard p (Arrived c s) c (message_in s))) (sym strange.0) (by (reads_first n.state) refl)
+    else heard_outcome p (Arrived c s) c (message_in s))) (sym strange.0) (by (reads_first n.state) refl)
   where
     by : (reads : Bool) → reads_first p.standing.core.state ≡ reads →
-        OnlyTurnsAway p c (if not reads then steps p (Arrived c s) None else heard p (Arrived c s) c (message_in s))
+        OnlyTurnsAway p c (if not reads then steps p (Arrived c s) None else heard_outcome p (Arrived c s) c (message_in s))
     by true reads = read_away law p c s (message_in s) was strange.0 reads strange.1
     by false reads =
         step_away law p c s None was strange.0 (and-false (is_open p.standing.core.state))

@@ -1,5 +1,6 @@
 -- What a peer does at an event: one step of the state machine, with what is sent, closed and handed up (RFC 6733, 5.6).
-use Rattle.std.specs.Prelude.{◌≡◌, ◌⊎◌, IsTrue, Bool, true, false, not, ◌&&◌, nat_eq, Option, None, Some, List, [], if◌then◌else◌}
+use Rattle.std.specs.Prelude.{◌≡◌, ◌⊎◌, IsTrue, Bool, true, false, not, ◌&&◌}
+use Rattle.std.specs.Prelude.{nat_eq, Option, None, Some, List, [], if◌then◌else◌}
 use Rattle.std.specs.List.{list_any}
 use Rattle.std.specs.Option.{option_eq}
 use Rattle.dm_wire.specs.declared.message.Header.{Header}
@@ -12,7 +13,7 @@ use Rattle.dm_machine.specs.declared.inputs.Input.TheVariants as input
 use Rattle.dm_machine.specs.Node.{Node}
 use Rattle.dm_machine.specs.Connection.{Hold, hold_of}
 use Rattle.dm_machine.specs.Unread.{reads_first}
-use Rattle.dm_machine.specs.Moves.{is_open, outcome}
+use Rattle.dm_machine.specs.Moves.{is_open, machine_outcome}
 use Rattle.dm_machine.specs.Moves as moves
 use Rattle.dm_peer.specs.declared.actions.Action.{Action}
 use Rattle.dm_peer.specs.declared.arrivals.Footing.{Footing}
@@ -51,14 +52,14 @@ abbrev pub standing_at : Peer → Standing → Peer
 standing_at p standing = record { config = p.config; standing = standing }
 
 -- what the state machine's outcome comes to
-abbrev pub outcome_of : Peer → PeerEvent → Option Heard → moves.Outcome → Outcome
-outcome_of p e h (moves.Moved commands core) =
+abbrev pub outcome_of : Peer → PeerEvent → Option Heard → moves.NodeOutcome → Outcome
+outcome_of p e h (moves.NodeMoved commands core) =
     Moved (actions_of p e h commands) (standing_at p (standing_after p.standing h (request_in commands) core))
-outcome_of p e h (moves.Refused r) = Refused (fault_of r)
+outcome_of p e h (moves.NodeRefused r) = Refused (fault_of r)
 
 -- one step of the state machine
-unfoldable pub turned : Node → Input → Bool → moves.Outcome
-turned n i wins = outcome n i wins
+unfoldable pub turned : Node → Input → Bool → moves.NodeOutcome
+turned n i wins = machine_outcome n i wins
 
 abbrev pub steps : Peer → PeerEvent → Option Heard → Outcome
 steps p e h = outcome_of p e h (turned p.standing.core (input_of e h) (wins p.config))
@@ -87,9 +88,9 @@ abbrev pub is_dropped : Peer → Conn → Header → Bool
 is_dropped p c h = is_made (hold_of p.standing.core c) && is_unawaited p.standing.awaited h
 
 -- octets that are looked at, as the message that they spell
-abbrev pub heard : Peer → PeerEvent → Conn → Option Message → Outcome
-heard p e c None = steps p e None
-heard p e c (Some m) = if is_dropped p c m.header then Moved [] p else steps p e (Some (heard_in p.config m))
+abbrev pub heard_outcome : Peer → PeerEvent → Conn → Option Message → Outcome
+heard_outcome p e c None = steps p e None
+heard_outcome p e c (Some m) = if is_dropped p c m.header then Moved [] p else steps p e (Some (heard_in p.config m))
 
 -- (own) a message of a base command, or octets that are none, can't be submitted
 abbrev pub can_submit : Option Message → Bool
@@ -104,7 +105,7 @@ abbrev pub acts : Peer → PeerEvent → Outcome
 acts p (Arrived c s) =
     if is_unread p.standing.core.state (hold_of p.standing.core c)
     then steps p (Arrived c s) None
-    else heard p (Arrived c s) c (message_in s)
+    else heard_outcome p (Arrived c s) c (message_in s)
 acts p (Submit s) = if is_open p.standing.core.state then submitted p (Submit s) (message_in s) else Refused NotOpen
 acts p (Start c) = steps p (Start c) None
 acts p (Stop cause) = steps p (Stop cause) None

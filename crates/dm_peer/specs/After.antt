@@ -1,8 +1,10 @@
 -- Where a peer stands after a step: its numbers, and what it waits for.
-use Rattle.std.specs.Prelude.{ℕ, ◌+◌, ◌%◌, ◌^◌, Bool, true, false, ◌&&◌, Option, None, Some, List, [], ◌∷◌, if◌then◌else◌}
+use Rattle.std.specs.Prelude.{ℕ, ◌+◌, ◌%◌, ◌^◌, Bool, true, false, ◌&&◌}
+use Rattle.std.specs.Prelude.{Option, None, Some, List, [], ◌∷◌, if◌then◌else◌}
 use Rattle.dm_base.specs.Commands.{base_command}
 use Rattle.dm_base.specs.declared.base_command.BaseCommand.{BaseCommand}
-use Rattle.dm_base.specs.declared.base_command.BaseCommand.TheVariants.{CapabilitiesExchange, DeviceWatchdog, DisconnectPeer}
+use Rattle.dm_base.specs.declared.base_command.BaseCommand.TheVariants.{CapabilitiesExchange}
+use Rattle.dm_base.specs.declared.base_command.BaseCommand.TheVariants.{DeviceWatchdog, DisconnectPeer}
 use Rattle.dm_machine.specs.declared.state_name.State.{State}
 use Rattle.dm_machine.specs.declared.state_name.State.TheVariants.{Closed}
 use Rattle.dm_machine.specs.declared.outputs.Command.{Command}
@@ -32,8 +34,8 @@ abbrev pub awaited_of : Awaited → ℕ → Option ℕ
 awaited_of a command = awaited_by a (base_command command)
 
 -- Closed with no connections, awaiting nothing
-abbrev pub fresh : ℕ → Standing
-fresh next = record { core = node_at Closed [] 0; next = next; waiting = None; awaited = nothing_awaited }
+abbrev pub fresh_standing : ℕ → Standing
+fresh_standing next = record { core = node_at Closed [] 0; next = next; waiting = None; awaited = nothing_awaited }
 
 -- the request that a command sends
 abbrev pub request_of : Command → Option Request

@@ -28,7 +28,7 @@ pub data Hears (p : Peer) : PeerEvent → Option Heard → Type 0 where
   no_message : (c : Conn) (s : List ℕ) → is_deaf p c ≡ false → message_in s ≡ None → Hears p (Arrived c s) None
   message : (c : Conn) (s : List ℕ) (m : Message) → is_deaf p c ≡ false → message_in s ≡ Some m →
       is_dropped p c m.header ≡ false → Hears p (Arrived c s) (Some (heard_in p.config m))
-  submits : (s : List ℕ) → is_open p.standing.core.state ≡ true → can_submit (message_in s) ≡ true →
+  submits_it : (s : List ℕ) → is_open p.standing.core.state ≡ true → can_submit (message_in s) ≡ true →
       Hears p (Submit s) None
   bare : (e : PeerEvent) → is_bare e ≡ true → Hears p e None
 

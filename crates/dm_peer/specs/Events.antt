@@ -17,16 +17,16 @@ pub data PeerEvent : Type 0 where
   Gone : Conn → PeerEvent
   Submit : List ℕ → PeerEvent
 
-abbrev pub told : Event → PeerEvent
-told (event.Start c) = Start c
-told (event.Stop cause) = Stop cause
-told event.Timeout = Timeout
-told event.Tick = Tick
-told (event.Ack c) = Ack c
-told (event.Nack c) = Nack c
-told (event.Arrived c octets) = Arrived c octets.now
-told (event.Gone c) = Gone c
-told (event.Submit octets) = Submit octets.now
+abbrev pub event_told : Event → PeerEvent
+event_told (event.Start c) = Start c
+event_told (event.Stop cause) = Stop cause
+event_told event.Timeout = Timeout
+event_told event.Tick = Tick
+event_told (event.Ack c) = Ack c
+event_told (event.Nack c) = Nack c
+event_told (event.Arrived c octets) = Arrived c octets.now
+event_told (event.Gone c) = Gone c
+event_told (event.Submit octets) = Submit octets.now
 
 -- the octets that an event brings
 abbrev pub octets_in : PeerEvent → List ℕ

@@ -1,5 +1,6 @@
 -- What a message says to a peer: its word, and why it is refused (RFC 6733, 5.3 and 5.6).
-use Rattle.std.specs.Prelude.{ℕ, Bool, true, false, not, ◌&&◌, nat_le, Option, None, Some, option_map, List, Result, Ok, Err, if◌then◌else◌}
+use Rattle.std.specs.Prelude.{ℕ, Bool, true, false, not, ◌&&◌, nat_le, Option, None}
+use Rattle.std.specs.Prelude.{Some, option_map, List, Result, Ok, Err, if◌then◌else◌}
 use Rattle.dm_wire.specs.declared.codes.results.TheConstants.{UNKNOWN_PEER as unknown_peer}
 use Rattle.dm_wire.specs.declared.codes.results.TheConstants.{NO_COMMON_APPLICATION as no_common_application}
 use Rattle.dm_wire.specs.declared.codes.results.TheConstants.{NO_COMMON_SECURITY as no_common_security}
@@ -16,7 +17,8 @@ use Rattle.dm_base.specs.Commands.{base_command}
 use Rattle.dm_base.specs.Kinds.{kind}
 use Rattle.dm_base.specs.Common.{is_common, is_secure}
 use Rattle.dm_machine.specs.declared.inputs.Word.{Word}
-use Rattle.dm_machine.specs.declared.inputs.Word.TheVariants.{Unreadable, Cer, CerRefused, Cea, CeaFailed, Dwr, DwrBad, Dwa, DwaBad, Dpr, DprBad, Dpa, DpaBad, Other}
+use Rattle.dm_machine.specs.declared.inputs.Word.TheVariants.{Unreadable, Cer, CerRefused, Cea, CeaFailed, Dwr}
+use Rattle.dm_machine.specs.declared.inputs.Word.TheVariants.{DwrBad, Dwa, DwaBad, Dpr, DprBad, Dpa, DpaBad, Other}
 use Rattle.dm_peer.specs.declared.config.Config.{Config}
 use Rattle.dm_peer.specs.declared.reading.HeardRef.{HeardRef}
 use Rattle.dm_peer.specs.Hosts.{is_same_host}
@@ -35,8 +37,8 @@ heard_of r = record { header = r.header; word = r.word; failure = shown r.judged
 abbrev pub good : Header → Word → Heard
 good h word = record { header = h; word = word; failure = None }
 
-abbrev pub refused : Header → Word → Fault → Heard
-refused h word failure = record { header = h; word = word; failure = Some failure }
+abbrev pub refused_message : Header → Word → Fault → Heard
+refused_message h word failure = record { header = h; word = word; failure = Some failure }
 
 -- the word of a message that fails its check, by its command and the R bit: only those of base commands are checked
 abbrev pub bad_word : Option BaseCommand → Bool → Word
@@ -60,7 +62,7 @@ refusal_of_caps c caps =
 
 abbrev pub heard_caps : Header → Option ℕ → Heard
 heard_caps h None = good h Cer
-heard_caps h (Some code) = refused h CerRefused (record { code = code; failed = None })
+heard_caps h (Some code) = refused_message h CerRefused (record { code = code; failed = None })
 
 -- a CEA is good with a Result-Code of success (7.1.2)
 abbrev pub word_of_code : ℕ → Word
@@ -77,7 +79,7 @@ said_by_kind c h kinds.Other = good h Other
 
 abbrev pub said : Config → Header → Result Kind Fault → Heard
 said c h (Ok k) = said_by_kind c h k
-said c h (Err f) = refused h (word_of_bad h) f
+said c h (Err f) = refused_message h (word_of_bad h) f
 
 -- the kind of a message under the configuration's dictionary, which is the base one
 unfoldable pub kind_under : Config → Message → Result Kind Fault

@@ -1,5 +1,6 @@
 -- What a command asks of the caller: the messages that a peer sends (RFC 6733, 5.3 to 5.6).
-use Rattle.std.specs.Prelude.{ℕ, Bool, true, false, ◌&&◌, nat_le, nat_lt, unwrap_or, Option, None, Some, List, map, if◌then◌else◌}
+use Rattle.std.specs.Prelude.{ℕ, Bool, true, false, ◌&&◌, nat_le, nat_lt, unwrap_or}
+use Rattle.std.specs.Prelude.{Option, None, Some, List, map, if◌then◌else◌}
 use Rattle.dm_base.specs.Codes.{success}
 use Rattle.dm_base.specs.Commands.{base_command}
 use Rattle.dm_base.specs.declared.base_command.BaseCommand.{BaseCommand}

@@ -3,7 +3,7 @@ use Rattle.std.specs.Prelude.{⊤, ℕ}
 use Rattle.dm_peer.specs.declared.config.Config.{Config}
 use Rattle.dm_peer.specs.declared.peer.Peer.{Peer}
 use Rattle.dm_peer.specs.Events.{PeerEvent}
-use Rattle.dm_peer.specs.After.{fresh}
+use Rattle.dm_peer.specs.After.{fresh_standing}
 use Rattle.dm_peer.specs.KeptAt.{IsSettledAt}
 use Rattle.dm_peer.specs.Acts.{Outcome, Moved, Refused, acts}
 
@@ -12,7 +12,7 @@ IsSettled p = IsSettledAt p.standing
 
 -- a new peer is, and so is one after `reset`
 abbrev pub FreshIsSettled : Type 0
-FreshIsSettled = (c : Config) (next : ℕ) → IsSettled (record { config = c; standing = fresh next })
+FreshIsSettled = (c : Config) (next : ℕ) → IsSettled (record { config = c; standing = fresh_standing next })
 
 abbrev pub LeavesSettled : Outcome → Type 0
 LeavesSettled (Moved actions next) = IsSettled next

@@ -8,7 +8,7 @@ use Rattle.dm_peer.specs.declared.config.Config.{Config}
 use Rattle.dm_peer.specs.declared.peer.Peer.{Peer}
 use Rattle.dm_peer.specs.Events.{PeerEvent, octets_in}
 use Rattle.dm_wire.specs.Octets.{AreOctets}
-use Rattle.dm_peer.specs.After.{fresh}
+use Rattle.dm_peer.specs.After.{fresh_standing}
 use Rattle.dm_peer.specs.Settled.{IsSettled}
 use Rattle.dm_peer.specs.KeptAt.{IsFittingAt}
 use Rattle.dm_peer.specs.Acts.{Outcome, Moved, Refused, acts}
@@ -28,7 +28,8 @@ IsFitting p = IsFittingAt p.standing
 
 -- those of a new peer do, and of one after `reset`, where the next one does
 abbrev pub FreshIsFitting : Type 0
-FreshIsFitting = (c : Config) (next : ℕ) → next < 256 ^ 4 → IsFitting (record { config = c; standing = fresh next })
+FreshIsFitting = (c : Config) (next : ℕ) → next < 256 ^ 4
+    → IsFitting (record { config = c; standing = fresh_standing next })
 
 -- the outcome sends spellings alone, and the numbers fit still
 abbrev pub LeavesSpelled : Outcome → Type 0

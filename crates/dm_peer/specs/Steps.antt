@@ -8,7 +8,7 @@ use Rattle.dm_machine.specs.declared.outputs.Command.TheVariants as command
 use Rattle.dm_machine.specs.Connection.{hold_of}
 use Rattle.dm_machine.specs.Deeds.{Deed, ConnectsOn, SendsOn, ClosesOn, HandsUp, deed_of_command}
 use Rattle.dm_machine.specs.Moves as moves
-use Rattle.dm_machine.specs.Moves.{outcome}
+use Rattle.dm_machine.specs.Moves.{machine_outcome}
 use Rattle.dm_peer.specs.declared.actions.Action.{Action}
 use Rattle.dm_peer.specs.declared.actions.Action.TheVariants as action
 use Rattle.dm_peer.specs.declared.peer.Peer.{Peer}
@@ -40,14 +40,14 @@ is_submit (Submit s) = true
 is_submit _ = false
 
 -- what was heard is refused
-abbrev pub has_fault : Option Heard → Bool
-has_fault None = false
-has_fault (Some h) = is_some h.failure
+abbrev pub has_heard_fault : Option Heard → Bool
+has_heard_fault None = false
+has_heard_fault (Some h) = is_some h.failure
 
 -- what a command says is there: the request of an answer, the fault of a refusal, the cause of a disconnect, the octets
 abbrev pub has_what_it_says : Peer → PeerEvent → Option Heard → Command → Bool
 has_what_it_says p e h (command.SendCea c) = is_some p.standing.waiting || is_some h
-has_what_it_says p e h (command.SendRefusal c) = has_fault h
+has_what_it_says p e h (command.SendRefusal c) = has_heard_fault h
 has_what_it_says p e h (command.SendDwa c) = is_some h
 has_what_it_says p e h (command.SendDpa c) = is_some h
 has_what_it_says p e h (command.SendDpr c) = is_stop e
@@ -60,7 +60,8 @@ has_what_it_says p e h _ = true
 pub record IsStep (p : Peer) (e : PeerEvent) (actions : List Action) (next : Peer) : Type 0 where
   pub heard : Option Heard
   pub commands : List Command
-  pub moves : outcome p.standing.core (input_of e heard) (wins p.config) ≡ moves.Moved commands next.standing.core
+  pub moves : machine_outcome p.standing.core (input_of e heard) (wins p.config)
+      ≡ moves.NodeMoved commands next.standing.core
   pub done : actions ≡ actions_of p e heard commands
   pub deeds : map deed_of actions ≡ map deed_of_command commands
   pub told : IsSettled p → list_all (has_what_it_says p e heard) commands ≡ true

@@ -3,7 +3,7 @@ ghost use Rattle.std.specs.Prelude.{◌≡◌, ◌≤◌, ◌+◌, ◌++◌, IfO
 ghost use Rattle.std.specs.List.{list_any};
 ghost use Rattle.arrayvec.specs.ArrayVec.{array_vec_len};
 ghost use Rattle.dm_dict.specs.Judgement.{shown};
-ghost use Rattle.dm_peer.specs.Events.{told, octets_in, cause_in};
+ghost use Rattle.dm_peer.specs.Events.{event_told, octets_in, cause_in};
 ghost use Rattle.dm_peer.specs.Lent.{heard_by};
 ghost use Rattle.dm_peer.specs.Sent.{
   sent,
@@ -93,7 +93,7 @@ fn cer_answered(waiting: Option<Header>, heard: Option<&HeardRef<'_>>) -> Header
 
 /// A copy of the octets that the event brings.
 fn copied(alloc: Global, event: Event<'_>) -> Result<Octets, NoMemory>
-    ensures { IfOk result (λ octets. octets ≡ octets_in (told event.entry)) }
+    ensures { IfOk result (λ octets. octets ≡ octets_in (event_told event.entry)) }
 {
     let octets = match event {
         Event::Arrived(_, octets) | Event::Submit(octets) => octets,
@@ -104,7 +104,7 @@ fn copied(alloc: Global, event: Event<'_>) -> Result<Octets, NoMemory>
 
 /// The cause of a Stop, which alone has one.
 fn cause_in(event: Event<'_>) -> Cause
-    ensures { result ≡ cause_in (told event.entry) }
+    ensures { result ≡ cause_in (event_told event.entry) }
 {
     match event {
         Event::Stop(cause) => cause,
@@ -121,9 +121,9 @@ fn action_of(
     command: Command,
 ) -> Sending
     ensures found { IfOk result (λ action. action
-        ≡ action_of peer.now (told event.entry) (heard_by heard.entry) command) }
+        ≡ action_of peer.now (event_told event.entry) (heard_by heard.entry) command) }
     ensures memory { OnErr result (IsTrue (takes_memory
-        (action_of peer.now (told event.entry) (heard_by heard.entry) command))) }
+        (action_of peer.now (event_told event.entry) (heard_by heard.entry) command))) }
 {
     let node = &peer.config.node;
     let standing = peer.standing.get();
@@ -157,9 +157,9 @@ pub(crate) fn put_actions(
 ) -> Result<(), NoMemory>
     requires { array_vec_len actions.old + length commands.now ≤ 4 }
     ensures found { OnOk result (actions.new.items ≡ actions.old.items
-        ++ actions_of peer.now (told event.entry) (heard_by heard.entry) commands.now) }
+        ++ actions_of peer.now (event_told event.entry) (heard_by heard.entry) commands.now) }
     ensures memory { OnErr result (IsTrue (list_any takes_memory
-        (actions_of peer.now (told event.entry) (heard_by heard.entry) commands.now))) }
+        (actions_of peer.now (event_told event.entry) (heard_by heard.entry) commands.now))) }
 {
     let mut left = commands;
     while let [command, rest @ ..] = left {

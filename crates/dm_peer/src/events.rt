@@ -1,5 +1,5 @@
 //! What a peer is told: commands of its user, the passing of time, and what happens on connections.
-ghost use Rattle.dm_peer.specs.Events.{told, octets_in};
+ghost use Rattle.dm_peer.specs.Events.{event_told, octets_in};
 ghost use Rattle.dm_wire.specs.Octets.{AreOctets};
 
 use dm_base::Cause;
@@ -37,7 +37,7 @@ fn are_octets(octets: &[u8])
 
 /// What an event brings are octets.
 pub(crate) fn brings_octets(event: Event<'_>)
-    ensures { AreOctets (octets_in (told event.entry)) }
+    ensures { AreOctets (octets_in (event_told event.entry)) }
 {
     match event {
         Event::Arrived(_, octets) | Event::Submit(octets) => are_octets(octets),

@@ -2,7 +2,7 @@
 ghost use Rattle.std.specs.Prelude.{◌≡◌, ℕ, IfErr, OnOk, List, [], All};
 ghost use Rattle.dm_machine.specs.declared.connection.Conn.{Conn};
 ghost use Rattle.dm_peer.specs.Acts.{Moved, acts, standing_at, IsRefused};
-ghost use Rattle.dm_peer.specs.Events.{Arrived, told};
+ghost use Rattle.dm_peer.specs.Events.{Arrived, event_told};
 ghost use Rattle.dm_peer.specs.Kept.{IsKept};
 ghost use Rattle.dm_peer.specs.Spelled.{SendsSpelling};
 ghost use Rattle.dm_peer.specs.Strangers.{AreStrange, TurnsAway};
@@ -24,12 +24,12 @@ pub(crate) fn kept_answer(
 ) -> Result<(), PeerFault>
     requires stands { standing.old ≡ peer.now.standing }
     requires none { actions.old.items ≡ [] }
-    ensures moved { OnOk result (acts peer.now (told event.entry)
+    ensures moved { OnOk result (acts peer.now (event_told event.entry)
         ≡ Moved actions.new.items (standing_at peer.now standing.new)) }
-    ensures refused { IfErr result (IsRefused (acts peer.now (told event.entry))) }
+    ensures refused { IfErr result (IsRefused (acts peer.now (event_told event.entry))) }
     ensures kept { OnOk result (IsKept (standing_at peer.now standing.new)) }
     ensures spelled { OnOk result (All SendsSpelling actions.new.items) }
-    ensures stranger { (conn : Conn) (octets : List ℕ) → told event.entry ≡ Arrived conn octets
+    ensures stranger { (conn : Conn) (octets : List ℕ) → event_told event.entry ≡ Arrived conn octets
         → AreStrange peer.now conn octets
         → OnOk result (TurnsAway conn actions.new.items × (standing_at peer.now standing.new ≡ peer.now)) }
 {

@@ -5,8 +5,8 @@ ghost use Rattle.dm_machine.specs.Node.{held_as, is_shaped};
 ghost use Rattle.dm_machine.specs.declared.connection.Conn.{Conn};
 ghost use Rattle.dm_machine.specs.declared.phase.Role.TheVariants.{Initiated, Accepted};
 ghost use Rattle.dm_peer.specs.Acts.{Moved, Refused, acts, standing_at, IsRefused};
-ghost use Rattle.dm_peer.specs.After.{awaited_of, fresh};
-ghost use Rattle.dm_peer.specs.Events.{Arrived, told};
+ghost use Rattle.dm_peer.specs.After.{awaited_of, fresh_standing};
+ghost use Rattle.dm_peer.specs.Events.{Arrived, event_told};
 ghost use Rattle.dm_peer.specs.Holding.{holds};
 ghost use Rattle.dm_peer.specs.Refusing.{refusal_of};
 ghost use Rattle.dm_peer.specs.Silence.{is_silent};
@@ -38,7 +38,7 @@ impl Peer {
     /// A closed peer of the configuration. It never answers want of memory.
     pub fn new(config: Config) -> Peer
         ensures config { result.config ≡ config }
-        ensures standing { result.standing ≡ fresh config.first_id }
+        ensures standing { result.standing ≡ fresh_standing config.first_id }
         // The first number is one of four octets.
         ensures number { config.first_id < 2 ^ 32 }
     {
@@ -48,7 +48,7 @@ impl Peer {
 
     /// Back to Closed, with no connections and awaiting nothing. The numbers go on. It never answers want of memory.
     pub fn reset(&mut self)
-        ensures { self.new ≡ standing_at self.old (fresh self.old.standing.next) }
+        ensures { self.new ≡ standing_at self.old (fresh_standing self.old.standing.next) }
     {
         self.standing = Kept::fresh(self.standing.get().next);
     }
@@ -61,21 +61,21 @@ impl Peer {
     /// for octets that are no message, or one of command 257, 280 or 282, and `NoMemory`, which comes only where
     /// something is sent or handed up. The peer is as it was after each.
     pub fn on(&mut self, alloc: Global, event: Event<'_>) -> Result<Actions, PeerFault>
-        ensures acts { IfOk result (λ actions. acts self.old (told event.entry) ≡ Moved actions.items self.new) }
-        ensures refused { IfErr result (IsRefused (acts self.old (told event.entry))) }
+        ensures acts { IfOk result (λ actions. acts self.old (event_told event.entry) ≡ Moved actions.items self.new) }
+        ensures refused { IfErr result (IsRefused (acts self.old (event_told event.entry))) }
         ensures unchanged { OnErr result (self.new ≡ self.old) }
         // But for want of memory the rules alone refuse, and what they refuse is refused so.
         ensures ruled { IfErr result (λ f. (f ≡ NoMemory)
-            ⊎ (refusal_of self.old.standing.core.state (told event.entry) ≡ Some f)) }
-        ensures refuses { (f : PeerFault) → refusal_of self.old.standing.core.state (told event.entry) ≡ Some f
+            ⊎ (refusal_of self.old.standing.core.state (event_told event.entry) ≡ Some f)) }
+        ensures refuses { (f : PeerFault) → refusal_of self.old.standing.core.state (event_told event.entry) ≡ Some f
             → result ≡ Err f }
         // A Start, a Timeout, octets that aren't looked at and an answer that is dropped never want memory.
-        ensures silent { is_silent self.old (told event.entry) ≡ true
-            → IfErr result (λ f. acts self.old (told event.entry) ≡ Refused f) }
+        ensures silent { is_silent self.old (event_told event.entry) ≡ true
+            → IfErr result (λ f. acts self.old (event_told event.entry) ≡ Refused f) }
         // The octets of each Send spell a message.
         ensures spelled { IfOk result (λ actions. All SendsSpelling actions.items) }
         // A stranger changes nothing: its connection is closed, behind an answer or none, and no more is done.
-        ensures stranger { (conn : Conn) (octets : List ℕ) → told event.entry ≡ Arrived conn octets
+        ensures stranger { (conn : Conn) (octets : List ℕ) → event_told event.entry ≡ Arrived conn octets
             → AreStrange self.old conn octets
             → IfOk result (λ actions. TurnsAway conn actions.items × (self.new ≡ self.old)) }
     {

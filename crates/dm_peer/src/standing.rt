@@ -1,6 +1,6 @@
 //! Where a peer stands: its core, its next number, and what it waits for.
 ghost use Rattle.std.specs.Prelude.{◌≡◌, None};
-ghost use Rattle.dm_peer.specs.After.{awaited_of, nothing_awaited, fresh};
+ghost use Rattle.dm_peer.specs.After.{awaited_of, nothing_awaited, fresh_standing};
 
 use dm_base::BaseCommand;
 use dm_machine::Core;
@@ -61,11 +61,11 @@ impl Awaited {
 
 impl Standing {
     ghost use Rattle.std.specs.Prelude.{◌≡◌};
-    ghost use Rattle.dm_peer.specs.After.{fresh};
+    ghost use Rattle.dm_peer.specs.After.{fresh_standing};
 
     /// Closed with no connections, awaiting nothing, with this next number.
     pub(crate) fn new(next: u32) -> Standing
-        ensures { result ≡ fresh next }
+        ensures { result ≡ fresh_standing next }
     {
         Standing {
             core: Core::new(),
@@ -98,13 +98,13 @@ impl Model for Kept {
 
 impl Kept {
     ghost use Rattle.std.specs.Prelude.{◌≡◌};
-    ghost use Rattle.dm_peer.specs.After.{fresh};
+    ghost use Rattle.dm_peer.specs.After.{fresh_standing};
     ghost use Rattle.dm_peer.specs.KeptAt.{IsKeptAt};
 
     /// Closed with no connections, awaiting nothing, with this next number.
     #[tactic(auto, using(crate::proofs::Kept::fresh_is_kept))]
     pub(crate) fn fresh(next: u32) -> Kept
-        ensures { result ≡ fresh next }
+        ensures { result ≡ fresh_standing next }
     {
         Kept {
             standing: Standing::new(next),

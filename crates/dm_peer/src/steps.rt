@@ -11,7 +11,7 @@ ghost use Rattle.dm_peer.specs.Acts.{
   Moved,
   acts,
   steps,
-  heard,
+  heard_outcome,
   turned,
   input_of,
   standing_at,
@@ -19,7 +19,7 @@ ghost use Rattle.dm_peer.specs.Acts.{
   can_submit,
 };
 ghost use Rattle.dm_peer.specs.Configs.{wins};
-ghost use Rattle.dm_peer.specs.Events.{told, Arrived, Submit};
+ghost use Rattle.dm_peer.specs.Events.{event_told, Arrived, Submit};
 ghost use Rattle.dm_peer.specs.Faults.{fault_of};
 ghost use Rattle.dm_peer.specs.Places.{footing_of};
 ghost use Rattle.dm_peer.specs.Lent.{heard_by};
@@ -57,9 +57,9 @@ fn may_win(config: &Config, state: State) -> bool
 /// One step of the state machine.
 #[tactic(auto, unfolding(crate::specs::Acts::turned))]
 fn turned(core: &Core, input: Input, config: &Config) -> Result<(Core, Commands), PeerFault>
-    ensures moved { IfOk result (λ r. turned core.now input (wins config.now) ≡ moves.Moved r.1.items r.0) }
+    ensures moved { IfOk result (λ r. turned core.now input (wins config.now) ≡ moves.NodeMoved r.1.items r.0) }
     ensures refused { IfErr result (λ f. (r : Refusal)
-        × (turned core.now input (wins config.now) ≡ moves.Refused r) × (f ≡ fault_of r)) }
+        × (turned core.now input (wins config.now) ≡ moves.NodeRefused r) × (f ≡ fault_of r)) }
 {
     each_state_decides();
     match step(core, input, may_win(config, core.state())) {
@@ -70,7 +70,7 @@ fn turned(core: &Core, input: Input, config: &Config) -> Result<(Core, Commands)
 
 /// The event as the state machine's input.
 fn input_of(event: Event<'_>, heard: Option<&HeardRef<'_>>) -> Input
-    ensures { result ≡ input_of (told event.entry) (heard_by heard.entry) }
+    ensures { result ≡ input_of (event_told event.entry) (heard_by heard.entry) }
 {
     match event {
         Event::Start(conn) => Input::Start(conn),
@@ -96,9 +96,10 @@ fn steps(
 ) -> Result<(), PeerFault>
     requires stands { standing.old ≡ peer.now.standing }
     requires none { actions.old.items ≡ [] }
-    ensures moved { OnOk result (steps peer.now (told event.entry) (heard_by heard.entry)
+    ensures moved { OnOk result (steps peer.now (event_told event.entry) (heard_by heard.entry)
         ≡ Moved actions.new.items (standing_at peer.now standing.new)) }
-    ensures refused { IfErr result (IsRefused (steps peer.now (told event.entry) (heard_by heard.entry))) }
+    ensures refused { IfErr result (IsRefused
+        (steps peer.now (event_told event.entry) (heard_by heard.entry))) }
 {
     let before = peer.standing.get();
     let (core, commands) = turned(&before.core, input_of(event, heard), &peer.config)?;
@@ -124,11 +125,12 @@ fn heard(
     requires none { actions.old.items ≡ [] }
     ensures moved { (l : List Avp) → SpellsList l message.now.rest.now
         → OnOk result (
-        heard peer.now (told event.entry) conn (Some (record { header = message.now.header; avps = l }))
+        heard_outcome peer.now (event_told event.entry) conn (Some (record { header = message.now.header; avps = l }))
         ≡ Moved actions.new.items (standing_at peer.now standing.new)) }
     ensures refused { (l : List Avp) → SpellsList l message.now.rest.now
         → IfErr result (IsRefused
-        (heard peer.now (told event.entry) conn (Some (record { header = message.now.header; avps = l })))) }
+        (heard_outcome peer.now (event_told event.entry) conn
+        (Some (record { header = message.now.header; avps = l })))) }
 {
     if is_dropped(&standing.awaited, footing, &message.header) {
         return Ok(());
@@ -210,9 +212,9 @@ pub(crate) fn answer(
 ) -> Result<(), PeerFault>
     requires stands { standing.old ≡ peer.now.standing }
     requires none { actions.old.items ≡ [] }
-    ensures moved { OnOk result (acts peer.now (told event.entry)
+    ensures moved { OnOk result (acts peer.now (event_told event.entry)
         ≡ Moved actions.new.items (standing_at peer.now standing.new)) }
-    ensures refused { IfErr result (IsRefused (acts peer.now (told event.entry))) }
+    ensures refused { IfErr result (IsRefused (acts peer.now (event_told event.entry))) }
 {
     match event {
         Event::Arrived(conn, octets) => arrived(alloc, peer, conn, octets, standing, actions),

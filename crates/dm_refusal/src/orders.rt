@@ -1,7 +1,8 @@
 //! Orders to the shim `tools/refuse.c`, and its answers.
 //!
 //! No block of 2^62 octets or more is ever to be had. Where the shim is loaded before the C library, a request for one
-//! is an order or a question to it. Elsewhere all of them are refused, nothing else is, and each question is answered no.
+//! is an order or a question to it. Elsewhere all of them are refused, nothing else is, and each question is answered
+//! no.
 use std::alloc::{AllocError, Global};
 
 /// An order: the request of this number from here on is refused, none at 0.

@@ -7,7 +7,7 @@ use Rattle.dm_replay.specs.declared.host_line.HostLine.{HostLine}
 use Rattle.dm_replay.specs.declared.lines_so_far.NamedPeers.{NamedPeers}
 use Rattle.dm_replay.specs.declared.lines_so_far.NamedPeers.TheVariants.{NotYet, One, Both}
 use Rattle.dm_replay.specs.Scripts.{TellsEach, MayStandBehind, MayFollow, IsFirstBad}
-use Rattle.dm_replay.specs.LinesSoFar.{TellSoFar, host_of}
+use Rattle.dm_replay.specs.LinesSoFar.{TellSoFar, line_host}
 
 pub each-follow : (n : ℕ) (list : List Happening) (lines : List (List ℕ)) → TellsEach list lines
     → MayFollow (suc (suc n)) lines
@@ -22,10 +22,10 @@ pub stands-follow : (lines : List (List ℕ)) (hosts : NamedPeers) (list : List 
 stands-follow lines NotYet list s = let Follow : List (List ℕ) → Type 0 = λ v. MayFollow 0 v in subst Follow
     (sym s.0) tt
 stands-follow lines (One left) list s =
-    let Follow : List (List ℕ) → Type 0 = λ v. MayFollow 0 v in subst Follow (sym s.1) ((host_of left, s.3), tt)
+    let Follow : List (List ℕ) → Type 0 = λ v. MayFollow 0 v in subst Follow (sym s.1) ((line_host left, s.3), tt)
 stands-follow lines (Both left right) list s =
     let Follow : List (List ℕ) → Type 0 = λ v. MayFollow 0 v in
-    subst Follow (sym s.3) ((host_of left, s.4), ((host_of right, s.5), each-follow 0 list s.2 s.6))
+    subst Follow (sym s.3) ((line_host left, s.4), ((line_host right, s.5), each-follow 0 list s.2 s.6))
 
 -- the line behind those before it
 pub lines-next : (text line rest rest' : List ℕ) (before : List (List ℕ)) → lines text ≡ before ++ lines rest
@@ -71,7 +71,7 @@ broken_off text rest before hosts left list count h none is one stands =
     inr (record {
       line = s.0;
       whole = ap content all ∙ s.1;
-      good = (host_of left, s.3);
+      good = (line_host left, s.3);
       number = is ∙ ap length
           (sym all);
     })

@@ -1,6 +1,6 @@
 -- A text is read as one thing.
 use Rattle.std.proofs.Common.{◌≡◌, ℕ, true, List, [], ◌∷◌, Some, None, Ok, Err, ap, sym, ◌∙◌, refl, subst}
-use Rattle.dm_base.specs.Before.{lower, order}
+use Rattle.dm_base.specs.Before.{lower, order_of_hosts}
 use Rattle.dm_peer.specs.declared.config.Config.{Config}
 use Rattle.dm_peer.specs.Hosts.{is_equal, is_same_host}
 use Rattle.dm_world.specs.declared.happening.Happening.{Happening}
@@ -43,7 +43,7 @@ not_one_host laws text s a b =
     ap lower (a.left_is.node.host ∙ ap (λ h. h.host) one.0) ∙ b.same ∙ ap lower
     (sym (a.left_is.peer ∙ ap (λ h. h.host) one.1))
     in
-    let Equal : List ℕ → Type 0 = λ v. is_equal (order (lower s.left.node.host) v) ≡ true in
+    let Equal : List ℕ → Type 0 = λ v. is_equal (order_of_hosts (lower s.left.node.host) v) ≡ true in
     let yes : is_same_host s.left.node.host s.left.peer ≡ true = subst Equal same
     (own_equal (lower s.left.node.host)) in
     let both = sym yes ∙ s.left.other_host in

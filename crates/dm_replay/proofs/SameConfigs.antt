@@ -11,7 +11,7 @@ use Rattle.dm_base.specs.declared.node.Node.{Node}
 use Rattle.dm_peer.specs.declared.config.Config.{Config}
 use Rattle.dm_peer.specs.Hosts.{is_same_host}
 use Rattle.dm_replay.specs.HostLines.{Host}
-use Rattle.dm_replay.specs.ReadScript.{IsNodeOf, IsConfigOf}
+use Rattle.dm_replay.specs.ReadScript.{IsNodeOfHost, IsConfigOf}
 
 -- two proofs that a test answers so are one
 one_proof : (b v : Bool) (p q : b ≡ v) → p ≡ q
@@ -70,9 +70,9 @@ same_node n m e =
     let here : To (parts n) = λ g. ap (node_of (parts n)) (one_fit (parts n) (fits n) g) in
     subst To e here (fits m)
 
-one_node : (h : Host) (n m : Node) → IsNodeOf h n → IsNodeOf h m → n ≡ m
+one_node : (h : Host) (n m : Node) → IsNodeOfHost h n → IsNodeOfHost h m → n ≡ m
 one_node h n m a b =
-    let of : (k : Node) → IsNodeOf h k → parts k ≡
+    let of : (k : Node) → IsNodeOfHost h k → parts k ≡
     (h.host, codes "example", V4 (127 ∷ 0 ∷ 0 ∷ 1 ∷ []) ∷ [], 0, codes "dmpeer", h.application ∷ [], [], None) =
     λ k c. λ i. (c.host i, c.realm i, c.addresses i, c.vendor i, c.product i, c.auth i, c.acct i, c.extras i)
     in same_node n m (of n a ∙ sym (of m b))

@@ -2,20 +2,20 @@
 use Rattle.std.proofs.Common.{◌≡◌, ◌⊎◌, inl, inr, ℕ, Bool, true, false, cond, not, nat_lt, List, [], ◌∷◌, Some, None, arith, ap, sym, ◌∙◌, refl}
 use Rattle.std.specs.declared.cmp.Ordering.TheVariants.{Less, Greater}
 use Rattle.std.proofs.lemmas.Bool.{ltb-false}
-use Rattle.dm_base.specs.Before.{lower, order}
+use Rattle.dm_base.specs.Before.{lower, order_of_hosts}
 use Rattle.dm_base.specs.Fit.{is_name}
 use Rattle.dm_peer.specs.declared.fault.ConfigFault.{ConfigFault}
 use Rattle.dm_peer.specs.declared.fault.ConfigFault.TheVariants.{BadHost, SameHost, NoMemory}
 use Rattle.dm_peer.specs.Hosts.{is_equal, is_same_host, config_fault}
 
 -- texts of which neither comes before the other are one
-equal_texts : (s t : List ℕ) → is_equal (order s t) ≡ true → s ≡ t
+equal_texts : (s t : List ℕ) → is_equal (order_of_hosts s t) ≡ true → s ≡ t
 equal_texts [] [] e = refl
 equal_texts [] (b ∷ t) e = absurd (cc)
 equal_texts (a ∷ s) [] e = absurd (cc)
 equal_texts (a ∷ s) (b ∷ t) e = by (equal_texts s t) (nat_lt a b) refl (nat_lt b a) refl e where
-  by : (is_equal (order s t) ≡ true → s ≡ t) → (v : Bool) → nat_lt a b ≡ v → (w : Bool) → nat_lt b a ≡ w
-      → is_equal (cond v Less (cond w Greater (order s t))) ≡ true → a ∷ s ≡ b ∷ t
+  by : (is_equal (order_of_hosts s t) ≡ true → s ≡ t) → (v : Bool) → nat_lt a b ≡ v → (w : Bool) → nat_lt b a ≡ w
+      → is_equal (cond v Less (cond w Greater (order_of_hosts s t))) ≡ true → a ∷ s ≡ b ∷ t
   by later true is w is' k = absurd (cc)
   by later false is true is' k = absurd (cc)
   by later false is false is' k =

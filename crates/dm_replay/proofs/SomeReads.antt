@@ -5,7 +5,7 @@ use Rattle.std.proofs.lemmas.Str.{is_utf8-from_IsUtf8, IsUtf8-from_ascii}
 use Rattle.std.proofs.lemmas.Bool.{lt-ltb, and_from}
 use Rattle.dm_value.specs.declared.address.Ip.TheVariants.{V4}
 use Rattle.dm_tables.specs.Base.{base_definitions}
-use Rattle.dm_base.specs.Before.{lower, order}
+use Rattle.dm_base.specs.Before.{lower, order_of_hosts}
 use Rattle.dm_base.specs.Fit.{is_name, is_number, is_product, are_ids}
 use Rattle.dm_base.specs.declared.node.Node.{Node}
 use Rattle.dm_peer.specs.declared.config.Config.{Config}
@@ -90,7 +90,7 @@ differ-back h k differ = by (is_same_host k h) refl where
   by : (b : Bool) → is_same_host k h ≡ b → b ≡ false
   by false is = refl
   by true is =
-      let Equal : List ℕ → Type 0 = λ v. is_equal (order (lower h) v) ≡ true in
+      let Equal : List ℕ → Type 0 = λ v. is_equal (order_of_hosts (lower h) v) ≡ true in
       let yes : is_same_host h k ≡ true = subst Equal (sym (same_host k h is)) (own_equal (lower h)) in
       absurd (let both = sym yes ∙ differ in cc)
 

@@ -2,7 +2,7 @@
 use Rattle.std.proofs.Common.{◌≡◌, ℕ, Bool, true, false, cond, not, List, [], ◌++◌, ◌∷◌, codes, Option, Some, None, nat_lt, Result, Ok, Err, inl, inr, ◌⊎◌, arith, ap, sym, ◌∙◌, refl, subst}
 use Rattle.std.proofs.lemmas.Bool.{ltb-true}
 use Rattle.std.specs.declared.cmp.Ordering.TheVariants.{Less, Greater}
-use Rattle.dm_base.specs.Before.{lower, order}
+use Rattle.dm_base.specs.Before.{lower, order_of_hosts}
 use Rattle.dm_base.specs.Common.{are_common}
 use Rattle.dm_peer.specs.declared.config.Config.{Config}
 use Rattle.dm_peer.specs.declared.peer.Peer.{Peer}
@@ -76,11 +76,11 @@ not_peers left right f h k fault is =
     (are_common left.node right.node) h k (fault ∙ ap Some is)
 
 -- a text is its own equal
-pub own_equal : (s : List ℕ) → is_equal (order s s) ≡ true
+pub own_equal : (s : List ℕ) → is_equal (order_of_hosts s s) ≡ true
 own_equal [] = refl
 own_equal (b ∷ s) = by (own_equal s) (nat_lt b b) refl where
-  by : is_equal (order s s) ≡ true → (v : Bool) → nat_lt b b ≡ v
-      → is_equal (cond v Less (cond v Greater (order s s))) ≡ true
+  by : is_equal (order_of_hosts s s) ≡ true → (v : Bool) → nat_lt b b ≡ v
+      → is_equal (cond v Less (cond v Greater (order_of_hosts s s))) ≡ true
   by later true is = absurd (let less = ltb-true b b is in omega (arith, less))
   by later false is = later
 

@@ -7,7 +7,8 @@ use Rattle.dm_base.specs.Built.{cause_number}
 use Rattle.dm_world.specs.declared.side.Side.{Side}
 use Rattle.dm_world.specs.declared.side.Side.TheVariants.{A, B}
 use Rattle.dm_world.specs.declared.happening.Happening.{Happening}
-use Rattle.dm_world.specs.declared.happening.Happening.TheVariants.{Start, Stop, Timeout, Tick, Restart, Ack, Nack, Deliver, Piece, Lose, Submit}
+use Rattle.dm_world.specs.declared.happening.Happening.TheVariants.{Start, Stop, Timeout, Tick, Restart}
+use Rattle.dm_world.specs.declared.happening.Happening.TheVariants.{Ack, Nack, Deliver, Piece, Lose, Submit}
 use Rattle.dm_replay.specs.declared.verb.Verb.{Verb}
 use Rattle.dm_replay.specs.declared.verb.Verb.TheVariants as verbs
 

@@ -9,14 +9,14 @@ use Rattle.dm_replay.specs.HostLines.{Host, TellsHost}
 use Rattle.dm_replay.specs.Scripts.{TellsEach}
 
 -- what a line says of a peer
-abbrev pub host_of : HostLine → Host
-host_of line = record { host = line.host.now; application = line.application }
+abbrev pub line_host : HostLine → Host
+line_host line = record { host = line.host.now; application = line.application }
 
 -- the lines tell these peers, and then these happenings
 abbrev pub TellSoFar : List (List ℕ) → NamedPeers → List Happening → Type 0
 TellSoFar lines NotYet list = (lines ≡ []) × (list ≡ [])
 TellSoFar lines (One left) list =
-    (first : List ℕ) × (lines ≡ first ∷ []) × (list ≡ []) × TellsHost A (host_of left) first
+    (first : List ℕ) × (lines ≡ first ∷ []) × (list ≡ []) × TellsHost A (line_host left) first
 TellSoFar lines (Both left right) list =
     (first second : List ℕ) × (rest : List (List ℕ)) × (lines ≡ first ∷ second ∷ rest)
-    × TellsHost A (host_of left) first × TellsHost B (host_of right) second × TellsEach list rest
+    × TellsHost A (line_host left) first × TellsHost B (line_host right) second × TellsEach list rest

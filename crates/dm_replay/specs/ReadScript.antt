@@ -14,7 +14,7 @@ use Rattle.dm_replay.specs.declared.fault.ScriptFault.TheVariants.{Syntax, SameH
 use Rattle.dm_replay.specs.declared.script.Script.{Script}
 
 -- the node of a peer that a script names
-pub record IsNodeOf (h : Host) (n : Node) : Type 0 where
+pub record IsNodeOfHost (h : Host) (n : Node) : Type 0 where
   pub host : n.host ≡ h.host
   pub realm : n.realm ≡ codes "example"
   pub addresses : n.addresses ≡ V4 (127 ∷ 0 ∷ 0 ∷ 1 ∷ []) ∷ []
@@ -26,7 +26,7 @@ pub record IsNodeOf (h : Host) (n : Node) : Type 0 where
 
 -- the configuration of a peer that a script names: for the other's host, and with 1 as the number of the first request
 pub record IsConfigOf (own other : Host) (c : Config) : Type 0 where
-  pub node : IsNodeOf own c.node
+  pub node : IsNodeOfHost own c.node
   pub peer : c.peer ≡ other.host
   pub first_id : c.first_id ≡ 1
   pub dictionary : c.dictionary ≡ base_definitions

@@ -1,9 +1,10 @@
 -- What is printed for a text, and whether all of it was good.
-use Rattle.std.specs.Prelude.{◌≡◌, ℕ, ◌+◌, Bool, true, false, if◌then◌else◌, List, [], ◌∷◌, ◌++◌, codes, Option, Some, None, Result, Ok, Err}
+use Rattle.std.specs.Prelude.{◌≡◌, ℕ, ◌+◌, Bool, true, false, if◌then◌else◌, List, []}
+use Rattle.std.specs.Prelude.{◌∷◌, ◌++◌, codes, Option, Some, None, Result, Ok, Err}
 use Rattle.std.specs.Fmt.{decimal}
 use Rattle.dm_base.specs.Common.{are_common}
 use Rattle.dm_peer.specs.declared.peer.Peer.{Peer}
-use Rattle.dm_two_peers.specs.Worlds.{World, After, Done, Ignored, NoLink}
+use Rattle.dm_two_peers.specs.Worlds.{World, After, DoneWith, Ignored, NoLink}
 use Rattle.dm_two_peers.specs.Happens.{happens}
 use Rattle.dm_two_peers.specs.Laws.{world_of}
 use Rattle.dm_world.specs.declared.fault.Effect.TheVariants as effects
@@ -25,7 +26,7 @@ put_before line rest = (line ++ rest.0, rest.1)
 -- isn't there ends the run
 abbrev pub and_then : ℕ → World Peer (List ℕ) → After Peer (List ℕ) → (World Peer (List ℕ) → List ℕ × Bool)
     → List ℕ × Bool
-and_then n w (Done next put) others = put_before (trace_line n effects.Done next) (others next)
+and_then n w (DoneWith next put) others = put_before (trace_line n effects.Done next) (others next)
 and_then n w Ignored others = put_before (trace_line n effects.Ignored w) (others w)
 and_then n w NoLink others = (nolink_line n, false)
 

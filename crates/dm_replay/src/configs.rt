@@ -2,8 +2,8 @@
 ghost use Rattle.std.specs.Prelude.{◌≡◌, true, IfOk};
 ghost use Rattle.dm_base.specs.Before.{lower};
 ghost use Rattle.dm_base.specs.Fit.{is_name};
-ghost use Rattle.dm_replay.specs.LinesSoFar.{host_of};
-ghost use Rattle.dm_replay.specs.ReadScript.{IsNodeOf, IsConfigOf};
+ghost use Rattle.dm_replay.specs.LinesSoFar.{line_host};
+ghost use Rattle.dm_replay.specs.ReadScript.{IsNodeOfHost, IsConfigOf};
 
 use crate::host_line::HostLine;
 use dm_base::Node;
@@ -14,7 +14,7 @@ use std::alloc::{AllocError, Global};
 /// The node of a peer.
 fn node(alloc: Global, own: HostLine<'_>) -> Result<Node, AllocError>
     requires { is_name own.host.now ≡ true }
-    ensures { IfOk result (IsNodeOf (host_of own.entry)) }
+    ensures { IfOk result (IsNodeOfHost (line_host own.entry)) }
 {
     let mut addresses = Vec::new(alloc);
     addresses.push(Ip::V4([127, 0, 0, 1]))?;
@@ -34,7 +34,7 @@ pub fn config(alloc: Global, own: HostLine<'_>, other: HostLine<'_>) -> Result<C
     requires own { is_name own.host.now ≡ true }
     requires other { is_name other.host.now ≡ true }
     requires differ { lower own.host.now ≡ lower other.host.now → ⊥ }
-    ensures { IfOk result (IsConfigOf (host_of own.entry) (host_of other.entry)) }
+    ensures { IfOk result (IsConfigOf (line_host own.entry) (line_host other.entry)) }
 {
     let node = node(alloc, own)?;
     let peer = Vec::from_slice(alloc, other.host)?;

@@ -3,7 +3,7 @@ ghost use Rattle.std.specs.Prelude.{◌≡◌, ◌⊎◌, [], ℕ, List, IfOk, I
 ghost use Rattle.dm_text.specs.Lines.{content_lines};
 ghost use Rattle.dm_replay.specs.declared.fault.ScriptFault.TheVariants.{Syntax, NoMemory};
 ghost use Rattle.dm_replay.specs.Scripts.{TellsScript, IsFirstBad};
-ghost use Rattle.dm_replay.specs.LinesSoFar.{host_of};
+ghost use Rattle.dm_replay.specs.LinesSoFar.{line_host};
 
 use crate::fault::ScriptFault;
 use crate::host_line::HostLine;
@@ -31,7 +31,7 @@ pub struct ScriptLines<'a> {
 pub fn read_lines(alloc: Global, text: &[u8]) -> Result<Option<ScriptLines<'_>>, ScriptFault>
     ensures none { IfOk result (λ read. IfNone read (content_lines text.now ≡ [])) }
     ensures told { IfOk result (λ read. IfSome read (λ s.
-        TellsScript (host_of s.left) (host_of s.right) s.list.items text.now)) }
+        TellsScript (line_host s.left) (line_host s.right) s.list.items text.now)) }
     ensures fault { IfErr result (λ f. (f ≡ NoMemory) ⊎ ((n : ℕ) × (f ≡ Syntax n) × IsFirstBad text.now n)) }
 {
     lines_are_joined();

@@ -2,7 +2,7 @@
 ghost use Rattle.std.specs.Prelude.{◌≡◌, ◌⊎◌, true, Err, Option, Some, None, Result, Ok, IfOk, IfErr};
 ghost use Rattle.dm_base.specs.Before.{lower};
 ghost use Rattle.dm_base.specs.Fit.{is_name};
-ghost use Rattle.dm_replay.specs.LinesSoFar.{host_of};
+ghost use Rattle.dm_replay.specs.LinesSoFar.{line_host};
 ghost use Rattle.dm_replay.specs.declared.fault.ScriptFault.{ScriptFault};
 ghost use Rattle.dm_replay.specs.declared.script.Script.{Script};
 ghost use Rattle.dm_replay.specs.ReadScript.{IsConfigOf, IsReading};
@@ -51,8 +51,8 @@ fn script_of(alloc: Global, lines: ScriptLines<'_>) -> Result<Script, AllocError
     requires left { is_name lines.left.host.now ≡ true }
     requires right { is_name lines.right.host.now ≡ true }
     requires differ { lower lines.left.host.now ≡ lower lines.right.host.now → ⊥ }
-    ensures left { IfOk result (λ s. IsConfigOf (host_of lines.entry.left) (host_of lines.entry.right) s.left) }
-    ensures right { IfOk result (λ s. IsConfigOf (host_of lines.entry.right) (host_of lines.entry.left) s.right) }
+    ensures left { IfOk result (λ s. IsConfigOf (line_host lines.entry.left) (line_host lines.entry.right) s.left) }
+    ensures right { IfOk result (λ s. IsConfigOf (line_host lines.entry.right) (line_host lines.entry.left) s.right) }
     ensures list { IfOk result (λ s. s.list ≡ lines.entry.list.items) }
 {
     let left = config(alloc, lines.left, lines.right)?;

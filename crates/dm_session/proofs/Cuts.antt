@@ -9,7 +9,7 @@ use Rattle.dm_machine.specs.Moves.{is_open}
 use Rattle.dm_machine.specs.declared.connection.Conn.{Conn}
 use Rattle.dm_peer.specs.declared.actions.Action.{Action}
 use Rattle.dm_peer.specs.declared.peer.Peer.{Peer}
-use Rattle.dm_session.specs.Intakes.{Intake, Intakes, is_numbered, with_intake, changed, fed_intake, broken_intake, with_max, closes, left_by, raised_at}
+use Rattle.dm_session.specs.Intakes.{Intake, Intakes, is_conn_number, with_intake, changed, fed_intake, broken_intake, with_max, actions_close, left_by, raised_at}
 use Rattle.dm_session.specs.Sessions.{Session, Turn, own_of, other_of, with_intakes, settled, fed, TellsMessage, TellsFault, TellsAs, TellsAlong}
 
 -- what came and wasn't broken off
@@ -76,7 +76,7 @@ fed_and_raised_at more m false false o = refl
 
 fed_and_raised : (k : ℕ) (more : List ℕ) (m : ℕ) (c : Option Conn) (f : Intakes) →
     changed k (fed_intake more) (raised_at m c f) ≡ raised_at m c (changed k (fed_intake more) f)
-fed_and_raised k more m c f = fun_ext (λ d. fed_and_raised_at more m (nat_eq k d) (is_numbered d c) (f d))
+fed_and_raised k more m c f = fun_ext (λ d. fed_and_raised_at more m (nat_eq k d) (is_conn_number d c) (f d))
 
 -- a piece and a connection's own change, and what is closed
 fed_and_left_at : (more : List ℕ) (i j : Intake) (e z : Bool) (o : Option Intake) → fed_intake more i ≡ j →
@@ -91,7 +91,7 @@ fed_and_left : (k : ℕ) (more : List ℕ) (i j : Intake) (actions : List Action
     changed k (fed_intake more) (left_by actions (with_intake k (Some i) f))
     ≡ left_by actions (with_intake k (Some j) (changed k (fed_intake more) f))
 fed_and_left k more i j actions f is =
-    fun_ext (λ d. fed_and_left_at more i j (nat_eq k d) (closes actions d) (f d) is)
+    fun_ext (λ d. fed_and_left_at more i j (nat_eq k d) (actions_close actions d) (f d) is)
 
 fed_behind : (k : ℕ) (more : List ℕ) (m : ℕ) (own other : Option Conn) (b : Bool) (f g : Intakes) →
     changed k (fed_intake more) f ≡ g →

@@ -8,13 +8,13 @@ use Rattle.dm_peer.specs.declared.peer.Peer.{Peer}
 use Rattle.dm_peer.specs.Events.{PeerEvent}
 use Rattle.dm_peer.specs.Events as event
 use Rattle.dm_peer.specs.Holding.{holds}
-use Rattle.dm_session.specs.Intakes.{Intake, Intakes, is_there, is_numbered, changed, shut, fed_intake, with_max, closes, left_by, raised_at}
+use Rattle.dm_session.specs.Intakes.{Intake, Intakes, is_there, is_conn_number, changed, taken_down, fed_intake, with_max, actions_close, left_by, raised_at}
 use Rattle.dm_session.specs.Sessions.{Session, own_of, other_of, raised, Tells, TellsAs}
-use Rattle.dm_session.specs.Orders.{Order, Start, Ack, Nack, Accept, Octets, Gone, Timeout, Tick, Stop, Submit, Reset, TellsOnce, TellsNothing, TellsIfThere, TellsNack, TellsEnd, Takes, with_shut, with_unheld}
-use Rattle.dm_session.specs.Laws.{IsOn}
+use Rattle.dm_session.specs.Orders.{Order, StartOrder, AckOrder, NackOrder, Accept, Octets, GoneOrder, TimeoutOrder, TickOrder, StopOrder, SubmitOrder, Reset, TellsOnce, TellsNothing, TellsIfThere, TellsNack, TellsEnd, Takes, with_shut, with_unheld}
+use Rattle.dm_session.specs.Laws.{IsOrderOn}
 
 none_raised_at : (m : ℕ) (o : Option Conn) (f : Intakes) (d : ℕ) → f d ≡ None → raised_at m o f d ≡ None
-none_raised_at m o f d h = by (is_numbered d o)
+none_raised_at m o f d h = by (is_conn_number d o)
   where
     by : (b : Bool) → cond b (option_map (with_max m) (f d)) (f d) ≡ None
     by true = ap (option_map (with_max m)) h
@@ -29,13 +29,13 @@ none_raised m q f d h = by (is_open q.standing.core.state)
 
 -- what was closed isn't there
 closed_is_gone : (e : PeerEvent) (s t : Session) (actions : List Action) (d : ℕ) → Tells e s actions t →
-    closes actions d ≡ true → t.intakes d ≡ None
+    actions_close actions d ≡ true → t.intakes d ≡ None
 closed_is_gone e s t actions d h is =
     ap (λ v. v.intakes d) h.left
     ∙ none_raised s.most h.next (left_by actions s.intakes) d (ap (λ b. cond b None (s.intakes d)) is)
 
 pub close_is_last : (arrived : Option Conn) (c d : Conn) (s t : Session) (actions : List Action) →
-    TellsAs arrived c s actions t → closes actions d.0 ≡ true → t.intakes d.0 ≡ None
+    TellsAs arrived c s actions t → actions_close actions d.0 ≡ true → t.intakes d.0 ≡ None
 close_is_last None c d s t actions h is = closed_is_gone _ _ t actions d.0 h.told is
 close_is_last (Some e) c d s t actions h is = closed_is_gone _ _ t actions d.0 h.1.told is
 
@@ -54,7 +54,7 @@ not_there c d e s t asks none same h =
     let gone : is_there d.0 s.intakes ≡ false = ap (λ v. is_there v.0 s.intakes) same ∙ ap is_some none in
     subst (λ b. cond b (TellsOnce e s asks t) (TellsNothing s asks t)) gone h
 
-none_shut : (d c : ℕ) (f : Intakes) → f c ≡ None → shut d f c ≡ None
+none_shut : (d c : ℕ) (f : Intakes) → f c ≡ None → taken_down d f c ≡ None
 none_shut d c f h = by (nat_eq d c)
   where
     by : (b : Bool) → cond b None (f c) ≡ None
@@ -93,18 +93,18 @@ nack_not_there c d s t asks none same h =
     )
 
 pub gone_is_silent : (c : Conn) (order : Order) (s t : Session) (asks : Option (List Action)) →
-    s.intakes c.0 ≡ None → IsOn c order → Takes order s asks t → (asks ≡ None) × (t.intakes c.0 ≡ None)
-gone_is_silent c (Ack d) s t asks none same h =
+    s.intakes c.0 ≡ None → IsOrderOn c order → Takes order s asks t → (asks ≡ None) × (t.intakes c.0 ≡ None)
+gone_is_silent c (AckOrder d) s t asks none same h =
     let nothing = not_there c d (event.Ack d) s t asks none same h in
     (nothing.0, ap (λ v. v.intakes c.0) nothing.1 ∙ none)
-gone_is_silent c (Nack d) s t asks none same h = nack_not_there c d s t asks none same h
-gone_is_silent c (Gone d) s t asks none same h = end_not_there c d (event.Gone d) s t asks none same h
+gone_is_silent c (NackOrder d) s t asks none same h = nack_not_there c d s t asks none same h
+gone_is_silent c (GoneOrder d) s t asks none same h = end_not_there c d (event.Gone d) s t asks none same h
 gone_is_silent c (Octets d piece) s t asks none same h =
     (h.0, ap (λ v. v.intakes c.0) h.1 ∙ none_fed d.0 c.0 piece s.intakes none)
-gone_is_silent c (Start d) s t asks none same h = absurd same
+gone_is_silent c (StartOrder d) s t asks none same h = absurd same
 gone_is_silent c (Accept d) s t asks none same h = absurd same
-gone_is_silent c Timeout s t asks none same h = absurd same
-gone_is_silent c Tick s t asks none same h = absurd same
-gone_is_silent c (Stop cause) s t asks none same h = absurd same
-gone_is_silent c (Submit octets) s t asks none same h = absurd same
+gone_is_silent c TimeoutOrder s t asks none same h = absurd same
+gone_is_silent c TickOrder s t asks none same h = absurd same
+gone_is_silent c (StopOrder cause) s t asks none same h = absurd same
+gone_is_silent c (SubmitOrder octets) s t asks none same h = absurd same
 gone_is_silent c Reset s t asks none same h = absurd same

@@ -8,7 +8,7 @@ use Rattle.dm_machine.specs.Moves.{is_open}
 use Rattle.dm_peer.specs.declared.actions.Action.{Action}
 use Rattle.dm_peer.specs.declared.actions.Action.TheVariants as action
 use Rattle.dm_peer.specs.declared.peer.Peer.{Peer}
-use Rattle.dm_peer.specs.After.{fresh}
+use Rattle.dm_peer.specs.After.{fresh_standing}
 use Rattle.dm_machine.specs.Node.{is_shaped}
 use Rattle.dm_peer.specs.declared.fault.PeerFault.{PeerFault}
 use Rattle.dm_peer.specs.Refusing.{RefusesByRule, fault_at}
@@ -19,7 +19,7 @@ use Rattle.dm_peer.specs.Holding.{holds, names_conn, closes_conn, OthersStayUnhe
 use Rattle.dm_peer.specs.Kept.{IsKept}
 use Rattle.dm_session.specs.Held.{HeldAreThere}
 use Rattle.dm_session.specs.Naming.{NamesThere, NamesAtMost}
-use Rattle.dm_session.specs.Intakes.{Intake, Intakes, is_there, is_numbered, closes, left_by, opened, shut, changed, with_intake, with_max, new_intake, raised_at}
+use Rattle.dm_session.specs.Intakes.{Intake, Intakes, is_there, is_conn_number, actions_close, left_by, opened, taken_down, changed, with_intake, with_max, new_intake, raised_at}
 use Rattle.dm_session.specs.Sessions.{Session, own_of, other_of, raised}
 use Rattle.dm_session.specs.Orders.{with_opened, TellsOnce, TellsNothing, TellsIfThere}
 
@@ -27,7 +27,7 @@ two_truths : (b : Bool) → b ≡ true → b ≡ false → ⊥
 two_truths b is other = true≢false (sym is ∙ other)
 
 -- a new peer holds nothing
-pub fresh_holds_none : (p : Peer) (n : ℕ) (f : Intakes) → p.standing ≡ fresh n → HeldAreThere p f
+pub fresh_holds_none : (p : Peer) (n : ℕ) (f : Intakes) → p.standing ≡ fresh_standing n → HeldAreThere p f
 fresh_holds_none p n f is c held =
     absurd (two_truths (holds c p) held (ap (λ s. holds c (record p { standing = s })) is))
 
@@ -66,7 +66,7 @@ itself_opened max c f = by (is_there c f) refl where
 
 there_raised_at : (max c : ℕ) (o : Option Conn) (f : Intakes) → is_there c f ≡ true →
     is_there c (raised_at max o f) ≡ true
-there_raised_at max c o f is = by (is_numbered c o) (f c) is where
+there_raised_at max c o f is = by (is_conn_number c o) (f c) is where
   by : (b : Bool) (i : Option Intake) → is_some i ≡ true → is_some (cond b (option_map (with_max max) i) i) ≡ true
   by true (Some i) e = refl
   by true None e = e
@@ -95,7 +95,7 @@ pub held_with : (p : Peer) (d : ℕ) (i : Intake) (f : Intakes) → HeldAreThere
 held_with p d i f there = more_there p f (with_intake d (Some i) f) there (λ c. there_with d c i f)
 
 -- one that isn't held may go
-pub held_shut : (p : Peer) (d : Conn) (f : Intakes) → HeldAreThere p f → holds d p ≡ false → HeldAreThere p (shut d.0 f)
+pub held_shut : (p : Peer) (d : Conn) (f : Intakes) → HeldAreThere p f → holds d p ≡ false → HeldAreThere p (taken_down d.0 f)
 held_shut p d f there free c held = by (nat_eq d.0 c.0) refl where
   by : (b : Bool) → nat_eq d.0 c.0 ≡ b → is_some (cond b None (f c.0)) ≡ true
   by true e =
@@ -105,10 +105,10 @@ held_shut p d f there free c held = by (nat_eq d.0 c.0) refl where
 
 -- and so may what the actions close
 pub held_left : (p : Peer) (actions : List Action) (most : ℕ) (f : Intakes) → HeldAreThere p f →
-    ((c : Conn) → closes actions c.0 ≡ true → holds c p ≡ false) → HeldAreThere p (raised most p (left_by actions f))
+    ((c : Conn) → actions_close actions c.0 ≡ true → holds c p ≡ false) → HeldAreThere p (raised most p (left_by actions f))
 held_left p actions most f there free c held =
-    there_raised most c.0 p (left_by actions f) (by (closes actions c.0) refl) where
-      by : (b : Bool) → closes actions c.0 ≡ b → is_some (cond b None (f c.0)) ≡ true
+    there_raised most c.0 p (left_by actions f) (by (actions_close actions c.0) refl) where
+      by : (b : Bool) → actions_close actions c.0 ≡ b → is_some (cond b None (f c.0)) ≡ true
       by true e = absurd (two_truths (holds c p) held (free c e))
       by false e = there c held
 
@@ -122,7 +122,7 @@ held_after others p q e actions f kept is there named c held = by (names_conn e 
   by false other false before =
       absurd (two_truths (holds c q) held (others p q e actions c kept is before other))
 
-closes_as : (c : Conn) (actions : List Action) → closes actions c.0 ≡ list_any (closes_conn c) actions
+closes_as : (c : Conn) (actions : List Action) → actions_close actions c.0 ≡ list_any (closes_conn c) actions
 closes_as c [] = refl
 closes_as c (action.Connect d ∷ actions) = closes_as c actions
 closes_as c (action.Send d s ∷ actions) = closes_as c actions
@@ -130,7 +130,7 @@ closes_as c (action.Close d ∷ actions) = ap (λ b. nat_eq d.0 c.0 || b) (close
 closes_as c (action.Up s ∷ actions) = closes_as c actions
 
 pub closed_unheld : ClosedIsUnheld → (p q : Peer) (e : PeerEvent) (actions : List Action) → IsKept p →
-    acts p e ≡ Moved actions q → (c : Conn) → closes actions c.0 ≡ true → holds c q ≡ false
+    acts p e ≡ Moved actions q → (c : Conn) → actions_close actions c.0 ≡ true → holds c q ≡ false
 closed_unheld closed p q e actions kept is c closing =
     closed p q e actions c kept is (sym (closes_as c actions) ∙ closing)
 

@@ -9,7 +9,7 @@ use Rattle.dm_peer.specs.declared.actions.Action.TheVariants as action
 use Rattle.dm_session.specs.declared.intake.Front.{Front}
 use Rattle.dm_session.specs.declared.intake.Front.TheVariants.{Nothing, Message, Fault}
 use Rattle.dm_session.specs.Fronts.{IsFront, IsFrontAt}
-use Rattle.dm_session.specs.Intakes.{Intake, Intakes, IsToldOut, closes, is_close_of, left_by, shut, is_there, with_intake, new_intake}
+use Rattle.dm_session.specs.Intakes.{Intake, Intakes, IsToldOut, actions_close, is_close_of, left_by, taken_down, is_there, with_intake, new_intake}
 use Rattle.dm_session.specs.Hearing.{IsWholeIn, IsNotWhole, IsWholeAt}
 use Rattle.dm_session.specs.Sessions.{Session, with_intakes}
 use Rattle.dm_peer.specs.Events as event
@@ -23,8 +23,8 @@ both false false i = refl
 
 -- what a Close and then others close
 pub left_close : (d : Conn) (rest : List Action) (f : Intakes) →
-    left_by rest (shut d.0 f) ≡ left_by (action.Close d ∷ rest) f
-left_close d rest f = fun_ext (λ c. both (nat_eq d.0 c) (closes rest c) (f c))
+    left_by rest (taken_down d.0 f) ≡ left_by (action.Close d ∷ rest) f
+left_close d rest f = fun_ext (λ c. both (nat_eq d.0 c) (actions_close rest c) (f c))
 
 -- what stands at the front of a connection that is there
 pub front_there : (o : Option Intake) (i : Intake) (f : Front) → Some i ≡ o → IsFront i f → IsFrontAt o f
@@ -54,7 +54,7 @@ whole_none o piece e = subst (λ v. IfSome v (λ j. IsNotWhole j piece)) e tt
 -- what one action closes, and then others
 pub left_on : (a : Action) (rest : List Action) (f : Intakes) →
     left_by rest (left_by (a ∷ []) f) ≡ left_by (a ∷ rest) f
-left_on a rest f = fun_ext (λ c. one (is_close_of c a) (closes rest c) (f c))
+left_on a rest f = fun_ext (λ c. one (is_close_of c a) (actions_close rest c) (f c))
   where
     one : (a b : Bool) (i : Option Intake) → cond b None (cond (a || false) None i) ≡ cond (a || b) None i
     one true true i = refl
@@ -73,7 +73,7 @@ none_of None e = refl
 none_of (Some i) e = absurd (true≢false e)
 
 -- a connection that wasn't there, opened and shut again
-shut_again : (max c : ℕ) (f : Intakes) → f c ≡ None → shut c (with_intake c (Some (new_intake max)) f) ≡ f
+shut_again : (max c : ℕ) (f : Intakes) → f c ≡ None → taken_down c (with_intake c (Some (new_intake max)) f) ≡ f
 shut_again max c f none = fun_ext (λ d. at d (nat_eq c d) refl)
   where
     at : (d : ℕ) (b : Bool) → nat_eq c d ≡ b → cond b None (cond b (Some (new_intake max)) (f d)) ≡ f d
@@ -83,7 +83,7 @@ shut_again max c f none = fun_ext (λ d. at d (nat_eq c d) refl)
 pub shut_opened : (c : Conn) (s : Session) → is_there c.0 s.intakes ≡ false → with_shut c (with_opened c s) ≡ s
 shut_opened c s e =
     let new = with_intake c.0 (Some (new_intake s.first_max)) s.intakes in
-    ap (λ b. with_intakes (shut c.0 (cond b s.intakes new)) s) e
+    ap (λ b. with_intakes (taken_down c.0 (cond b s.intakes new)) s) e
     ∙ ap (λ f. with_intakes f s) (shut_again s.first_max c.0 s.intakes (none_of (s.intakes c.0) e))
 
 -- a Start of a connection that wasn't there

@@ -39,17 +39,17 @@ abbrev pub opened : ℕ → ℕ → Intakes → Intakes
 opened max c f = cond (is_there c f) f (with_intake c (Some (new_intake max)) f)
 
 -- connection c is no more there
-abbrev pub shut : ℕ → Intakes → Intakes
-shut c f = with_intake c None f
+abbrev pub taken_down : ℕ → Intakes → Intakes
+taken_down c f = with_intake c None f
 
 -- connection c, where it is there, is changed so
 abbrev pub changed : ℕ → (Intake → Intake) → Intakes → Intakes
 changed c change f d = cond (nat_eq c d) (option_map change (f d)) (f d)
 
 -- the connection, if it is one, has this number
-abbrev pub is_numbered : ℕ → Option Conn → Bool
-is_numbered d None = false
-is_numbered d (Some c) = nat_eq c.0 d
+abbrev pub is_conn_number : ℕ → Option Conn → Bool
+is_conn_number d None = false
+is_conn_number d (Some c) = nat_eq c.0 d
 
 -- the action closes connection c
 abbrev pub is_close_of : ℕ → Action → Bool
@@ -57,12 +57,12 @@ is_close_of c (action.Close d) = nat_eq d.0 c
 is_close_of c _ = false
 
 -- the actions close connection c
-abbrev pub closes : List Action → ℕ → Bool
-closes actions c = list_any (is_close_of c) actions
+abbrev pub actions_close : List Action → ℕ → Bool
+actions_close actions c = list_any (is_close_of c) actions
 
 -- what the actions close is no more there
 abbrev pub left_by : List Action → Intakes → Intakes
-left_by actions f c = cond (closes actions c) None (f c)
+left_by actions f c = cond (actions_close actions c) None (f c)
 
 -- a piece came
 abbrev pub fed_intake : List ℕ → Intake → Intake
@@ -93,4 +93,4 @@ IsToldOut i = i.is_broken ≡ false → IsPartial i.max i.octets
 
 -- the connection, if it is there, takes messages up to this maximum
 abbrev pub raised_at : ℕ → Option Conn → Intakes → Intakes
-raised_at max o f d = cond (is_numbered d o) (option_map (with_max max) (f d)) (f d)
+raised_at max o f d = cond (is_conn_number d o) (option_map (with_max max) (f d)) (f d)

@@ -3,8 +3,8 @@ use Rattle.std.specs.Prelude.{◌≡◌, ℕ, true, Option, None, List, [], ◌�
 use Rattle.std.specs.List.{concat}
 use Rattle.dm_machine.specs.declared.connection.Conn.{Conn}
 use Rattle.dm_peer.specs.declared.actions.Action.{Action}
-use Rattle.dm_session.specs.Intakes.{closes}
-use Rattle.dm_session.specs.Orders.{Order, Ack, Nack, Octets, Gone, Takes}
+use Rattle.dm_session.specs.Intakes.{actions_close}
+use Rattle.dm_session.specs.Orders.{Order, AckOrder, NackOrder, Octets, GoneOrder, Takes}
 use Rattle.dm_session.specs.Sessions.{Session, Turn, TellsNext, TellsAlong, IsOut, fed}
 use Rattle.dm_session.specs.Hearing.{HearsWhole}
 
@@ -53,21 +53,21 @@ HeardAlike =
 -- behind a Close of a connection it isn't there
 abbrev pub CloseIsLast : Type 0
 CloseIsLast =
-    (c d : Conn) (s t : Session) (turn : Turn) → TellsNext c s turn t → closes turn.actions d.0 ≡ true
+    (c d : Conn) (s t : Session) (turn : Turn) → TellsNext c s turn t → actions_close turn.actions d.0 ≡ true
     → t.intakes d.0 ≡ None
 
 -- the order tells what happened on connection c
-abbrev pub IsOn : Conn → Order → Type 0
-IsOn c (Ack d) = d ≡ c
-IsOn c (Nack d) = d ≡ c
-IsOn c (Octets d piece) = d ≡ c
-IsOn c (Gone d) = d ≡ c
-IsOn c _ = ⊥
+abbrev pub IsOrderOn : Conn → Order → Type 0
+IsOrderOn c (AckOrder d) = d ≡ c
+IsOrderOn c (NackOrder d) = d ≡ c
+IsOrderOn c (Octets d piece) = d ≡ c
+IsOrderOn c (GoneOrder d) = d ≡ c
+IsOrderOn c _ = ⊥
 
 -- of a connection that isn't there nothing is told, and it stays so
 abbrev pub GoneIsSilent : Type 0
 GoneIsSilent =
-    (c : Conn) (order : Order) (s t : Session) (asks : Option (List Action)) → s.intakes c.0 ≡ None → IsOn c order
+    (c : Conn) (order : Order) (s t : Session) (asks : Option (List Action)) → s.intakes c.0 ≡ None → IsOrderOn c order
     → Takes order s asks t → (asks ≡ None) × (t.intakes c.0 ≡ None)
 
 abbrev pub GoneTellsNothing : Type 0

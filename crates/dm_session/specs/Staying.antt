@@ -2,7 +2,8 @@
 use Rattle.std.specs.Prelude.{◌≡◌, ℕ, true, false, Some, List}
 use Rattle.dm_peer.specs.declared.actions.Action.{Action}
 use Rattle.dm_peer.specs.declared.peer.Peer.{Peer}
-use Rattle.dm_session.specs.Intakes.{Intake, Intakes, is_there, opened, shut, changed, with_intake, closes, left_by}
+use Rattle.dm_session.specs.Intakes.{Intake, Intakes, is_there, opened, taken_down}
+use Rattle.dm_session.specs.Intakes.{changed, with_intake, actions_close, left_by}
 use Rattle.dm_session.specs.Sessions.{raised}
 
 -- each connection that is there before is there afterwards
@@ -26,7 +27,7 @@ RaisingKeeps = (most : ℕ) (p : Peer) (f : Intakes) → KeepsThere f (raised mo
 -- what isn't closed stays, and what isn't shut
 abbrev pub ClosingKeeps : Type 0
 ClosingKeeps =
-    (actions : List Action) (c : ℕ) (f : Intakes) → closes actions c ≡ false → left_by actions f c ≡ f c
+    (actions : List Action) (c : ℕ) (f : Intakes) → actions_close actions c ≡ false → left_by actions f c ≡ f c
 
 abbrev pub ShuttingKeeps : Type 0
-ShuttingKeeps = (d c : ℕ) (f : Intakes) → (d ≡ c → ⊥) → shut d f c ≡ f c
+ShuttingKeeps = (d c : ℕ) (f : Intakes) → (d ≡ c → ⊥) → taken_down d f c ≡ f c

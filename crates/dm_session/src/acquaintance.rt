@@ -2,7 +2,7 @@
 ghost use Rattle.std.specs.Prelude.{◌≡◌, None};
 ghost use Rattle.std.specs.Option.{MatchOption};
 ghost use Rattle.dm_wire.specs.declared.message.Message.{Message};
-ghost use Rattle.dm_base.specs.Senders.{Tells};
+ghost use Rattle.dm_base.specs.Senders.{HasAvps};
 ghost use Rattle.dm_session.specs.Acquaintances.{exchange_in};
 
 use dm_base::SenderRef;
@@ -14,7 +14,7 @@ use std::marker::Model;
 /// The CER or CEA that the octets spell, as what it says of its sender. It never answers want of memory.
 pub(crate) fn exchange_in(octets: &[u8]) -> Option<SenderRef<'_>>
     ensures { MatchOption result (exchange_in octets.now ≡ None)
-        (λ r. (m : Message) × (exchange_in octets.now ≡ Some m) × Tells r m.avps) }
+        (λ r. (m : Message) × (exchange_in octets.now ≡ Some m) × HasAvps r m.avps) }
 {
     match read_message(octets) {
         Some(message) => dm_base::sender(&message),
@@ -59,7 +59,7 @@ impl Acquaintance {
     /// What the other side said of itself (RFC 6733, 5.3); None where nobody was met. It never answers want of memory.
     pub fn sender(&self) -> Option<SenderRef<'_>>
         ensures { MatchOption result (exchange_in self.now.octets ≡ None)
-            (λ r. (m : Message) × (exchange_in self.now.octets ≡ Some m) × Tells r m.avps) }
+            (λ r. (m : Message) × (exchange_in self.now.octets ≡ Some m) × HasAvps r m.avps) }
     {
         exchange_in(self.octets.as_slice())
     }

@@ -1,6 +1,6 @@
 //! The connections that are there, by number.
 ghost use Rattle.std.specs.Prelude.{◌≡◌, ◌∷◌, [], ℕ, List, Some, IfSome, IfNone, cond, OnOk, OnErr};
-ghost use Rattle.dm_session.specs.Intakes.{none_there, is_there, opened, shut, changed, raised_at, left_by};
+ghost use Rattle.dm_session.specs.Intakes.{none_there, is_there, opened, taken_down, changed, raised_at, left_by};
 ghost use Rattle.dm_session.specs.Intakes.{fed_intake, broken_intake, with_intake, Intake as OneIntake, IsFirst};
 ghost use Rattle.dm_session.specs.Fronts.{IsFrontAt};
 ghost use Rattle.dm_session.specs.Hearing.{IsWholeAt, IsNotWhole};
@@ -79,7 +79,7 @@ impl Intakes {
 
     /// The connection is no more there. It never answers want of memory.
     pub fn shut(&mut self, conn: Conn)
-        ensures { intakes_of self.new ≡ shut conn.0 (intakes_of self.old) }
+        ensures { intakes_of self.new ≡ taken_down conn.0 (intakes_of self.old) }
     {
         let _gone = self.map.swap_remove(&conn.0);
     }

@@ -4,7 +4,7 @@ ghost use Rattle.std.specs.Option.{option_map};
 ghost use Rattle.dm_session.specs.Acquaintances.{IsAwaited, AwaitsExchange, HearsExchange, KnownBehind};
 ghost use Rattle.dm_session.specs.Acquaintances.{awaits_election, is_exchange_to, known_at, known_after, known_if_any};
 ghost use Rattle.dm_session.specs.Hearing.{HearsWhole, HearTakesMemory, HearsNothing, IsWholeAt};
-ghost use Rattle.dm_session.specs.Orders.{as_turn, asked, Takes, Refuses};
+ghost use Rattle.dm_session.specs.Orders.{as_turn, order_asked, Takes, RefusesOrder};
 ghost use Rattle.dm_session.specs.Seen.{session_of};
 ghost use Rattle.dm_session.specs.Sessions.{TellsNext, NeedsMemory, NextTakesMemory, IsOut};
 
@@ -211,10 +211,10 @@ impl Session {
         order: Order<'_>,
         acquaintance: &mut Acquaintance,
     ) -> Result<Option<Actions>, PeerFault>
-        ensures taken { IfOk result (λ asks. Takes (asked order.entry) (session_of self.old)
+        ensures taken { IfOk result (λ asks. Takes (order_asked order.entry) (session_of self.old)
             (option_map (λ actions. actions.items) asks) (session_of self.new)) }
         ensures refused { IfErr result (λ fault. (fault ≡ PeerFault.NoMemory)
-            ⊎ Refuses (asked order.entry) (session_of self.old) fault) }
+            ⊎ RefusesOrder (order_asked order.entry) (session_of self.old) fault) }
         ensures unchanged { OnErr result (session_of self.new ≡ session_of self.old) }
         ensures met { OnOk result (acquaintance.new
             ≡ known_after (session_of self.old) (session_of self.new) acquaintance.old) }

@@ -27,23 +27,23 @@ impl Session {
     ghost use Rattle.std.specs.List.{list_any};
     ghost use Rattle.dm_machine.specs.declared.connection.Conn.{Conn};
     ghost use Rattle.dm_peer.specs.Acts.{acts, IsRefused};
-    ghost use Rattle.dm_peer.specs.Events.{told};
-    ghost use Rattle.dm_peer.specs.After.{fresh};
+    ghost use Rattle.dm_peer.specs.Events.{event_told};
+    ghost use Rattle.dm_peer.specs.After.{fresh_standing};
     ghost use Rattle.dm_peer.specs.Holding.{holds};
-    ghost use Rattle.dm_session.specs.Intakes.{none_there, is_there, closes};
+    ghost use Rattle.dm_session.specs.Intakes.{none_there, is_there, actions_close};
     ghost use Rattle.dm_session.specs.Sessions.{Tells, TellsNext, NeedsMemory, NextTakesMemory, IsOut};
     ghost use Rattle.dm_session.specs.Sessions.{fed, settled};
     ghost use Rattle.dm_session.specs.Acquaintances.{IsAwaited, AwaitsExchange};
     ghost use Rattle.dm_session.specs.Hearing.{HearsWhole, HearTakesMemory, HearsNothing, IsWholeAt};
     ghost use Rattle.dm_session.specs.Seen.{session_of};
     ghost use Rattle.dm_session.specs.Naming.{NamesThere};
-    ghost use Rattle.dm_session.specs.Orders.{as_turn, closed, with_opened, with_shut, with_unheld};
+    ghost use Rattle.dm_session.specs.Orders.{as_turn, closed_session, with_opened, with_shut, with_unheld};
 
     /// A closed peer without connections. A message takes at most `first_max` octets before the capabilities exchange,
     /// and `most` behind it. It never answers want of memory.
     pub fn new(alloc: Global, config: Config, first_max: u32, most: u32) -> Session
         ensures config { (session_of result).peer.config ≡ config }
-        ensures standing { (session_of result).peer.standing ≡ fresh config.first_id }
+        ensures standing { (session_of result).peer.standing ≡ fresh_standing config.first_id }
         ensures none { (session_of result).intakes ≡ none_there }
         ensures first_max { (session_of result).first_max ≡ first_max }
         ensures most { (session_of result).most ≡ most }
@@ -100,7 +100,7 @@ impl Session {
 
     /// The peer is closed, and has no connection. It never answers want of memory.
     pub(crate) fn reset(&mut self)
-        ensures { session_of self.new ≡ closed (session_of self.old) }
+        ensures { session_of self.new ≡ closed_session (session_of self.old) }
     {
         self.peer.reset();
         self.intakes.clear();
@@ -116,10 +116,10 @@ impl Session {
 
     /// Tells the peer an event, which names no connection that isn't there.
     pub(crate) fn tell(&mut self, alloc: Global, event: Event<'_>) -> Result<Actions, PeerFault>
-        requires { NamesThere (told event) (session_of self.old).intakes }
+        requires { NamesThere (event_told event) (session_of self.old).intakes }
         ensures told { IfOk result (λ actions.
-            Tells (told event.entry) (session_of self.old) actions.items (session_of self.new)) }
-        ensures refused { IfErr result (IsRefused (acts (session_of self.old).peer (told event.entry))) }
+            Tells (event_told event.entry) (session_of self.old) actions.items (session_of self.new)) }
+        ensures refused { IfErr result (IsRefused (acts (session_of self.old).peer (event_told event.entry))) }
         ensures unchanged { OnErr result (session_of self.new ≡ session_of self.old) }
     {
         each_event_names_what_it_takes();
@@ -132,7 +132,7 @@ impl Session {
     /// What the actions close, which the peer doesn't hold, is no more there, and what an open peer holds takes longer
     /// messages.
     fn settle(&mut self, actions: &[Action])
-        requires { (c : Conn) → closes actions.now c.0 ≡ true → holds c (session_of self.old).peer ≡ false }
+        requires { (c : Conn) → actions_close actions.now c.0 ≡ true → holds c (session_of self.old).peer ≡ false }
         ensures { session_of self.new ≡ settled (session_of self.old).peer actions.now (session_of self.old) }
     {
         self.intakes.leave(actions);

@@ -1,12 +1,12 @@
 //! What an order comes to.
 ghost use Rattle.std.specs.Prelude.{◌≡◌, ◌⊎◌, IfOk, IfErr, OnErr};
 ghost use Rattle.std.specs.Option.{option_map};
-ghost use Rattle.dm_peer.specs.Events.{told};
+ghost use Rattle.dm_peer.specs.Events.{event_told};
 ghost use Rattle.dm_session.specs.Seen.{session_of};
 ghost use Rattle.dm_session.specs.Naming.{NamesThere, NamesAtMost};
-ghost use Rattle.dm_session.specs.Orders.{asked, Takes, TellsOnce, TellsIfThere, TellsNack, TellsStart};
-ghost use Rattle.dm_session.specs.Orders.{Refuses, RefusesOnce, RefusesIfThere};
-ghost use Rattle.dm_session.specs.Orders.{Start as AskedStart, Nack as AskedNack, Gone as AskedGone};
+ghost use Rattle.dm_session.specs.Orders.{order_asked, Takes, TellsOnce, TellsIfThere, TellsNack, TellsStart};
+ghost use Rattle.dm_session.specs.Orders.{RefusesOrder, RefusesOnce, RefusesIfThere};
+ghost use Rattle.dm_session.specs.Orders.{StartOrder as AskedStart, NackOrder as AskedNack, GoneOrder as AskedGone};
 
 use crate::{Order, Session};
 use dm_machine::Conn;
@@ -22,10 +22,10 @@ impl Session {
     /// Those of `Peer::on`: want of memory, or the peer refuses the order's event. The session is as it was after each,
     /// and the order can be told again.
     pub fn take(&mut self, alloc: Global, order: Order<'_>) -> Result<Option<Actions>, PeerFault>
-        ensures taken { IfOk result (λ asks. Takes (asked order.entry) (session_of self.old)
+        ensures taken { IfOk result (λ asks. Takes (order_asked order.entry) (session_of self.old)
             (option_map (λ actions. actions.items) asks) (session_of self.new)) }
         ensures refused { IfErr result (λ fault. (fault ≡ PeerFault.NoMemory)
-            ⊎ Refuses (asked order.entry) (session_of self.old) fault) }
+            ⊎ RefusesOrder (order_asked order.entry) (session_of self.old) fault) }
         ensures unchanged { OnErr result (session_of self.new ≡ session_of self.old) }
     {
         match order {
@@ -54,11 +54,11 @@ impl Session {
 
     /// Tells an event, which names no connection that isn't there.
     fn tell_once(&mut self, alloc: Global, event: Event<'_>) -> Result<Option<Actions>, PeerFault>
-        requires { NamesThere (told event) (session_of self.old).intakes }
-        ensures told { IfOk result (λ asks. TellsOnce (told event.entry) (session_of self.old)
+        requires { NamesThere (event_told event) (session_of self.old).intakes }
+        ensures told { IfOk result (λ asks. TellsOnce (event_told event.entry) (session_of self.old)
             (option_map (λ actions. actions.items) asks) (session_of self.new)) }
         ensures refused { IfErr result (λ fault. (fault ≡ PeerFault.NoMemory)
-            ⊎ RefusesOnce (told event.entry) (session_of self.old) fault) }
+            ⊎ RefusesOnce (event_told event.entry) (session_of self.old) fault) }
         ensures unchanged { OnErr result (session_of self.new ≡ session_of self.old) }
     {
         match self.tell(alloc, event) {
@@ -74,11 +74,11 @@ impl Session {
         conn: Conn,
         event: Event<'_>,
     ) -> Result<Option<Actions>, PeerFault>
-        requires { NamesAtMost (told event) conn }
-        ensures told { IfOk result (λ asks. TellsIfThere conn (told event.entry) (session_of self.old)
+        requires { NamesAtMost (event_told event) conn }
+        ensures told { IfOk result (λ asks. TellsIfThere conn (event_told event.entry) (session_of self.old)
             (option_map (λ actions. actions.items) asks) (session_of self.new)) }
         ensures refused { IfErr result (λ fault. (fault ≡ PeerFault.NoMemory)
-            ⊎ RefusesIfThere conn (told event.entry) (session_of self.old) fault) }
+            ⊎ RefusesIfThere conn (event_told event.entry) (session_of self.old) fault) }
         ensures unchanged { OnErr result (session_of self.new ≡ session_of self.old) }
     {
         if self.has(conn) {
@@ -93,7 +93,7 @@ impl Session {
         ensures told { IfOk result (λ asks. TellsNack conn (session_of self.old)
             (option_map (λ actions. actions.items) asks) (session_of self.new)) }
         ensures refused { IfErr result (λ fault. (fault ≡ PeerFault.NoMemory)
-            ⊎ Refuses (AskedNack conn) (session_of self.old) fault) }
+            ⊎ RefusesOrder (AskedNack conn) (session_of self.old) fault) }
         ensures unchanged { OnErr result (session_of self.new ≡ session_of self.old) }
     {
         match self.tell_there(alloc, conn, Event::Nack(conn)) {
@@ -110,7 +110,7 @@ impl Session {
         ensures told { IfOk result (λ asks. Takes (AskedGone conn) (session_of self.old)
             (option_map (λ actions. actions.items) asks) (session_of self.new)) }
         ensures refused { IfErr result (λ fault. (fault ≡ PeerFault.NoMemory)
-            ⊎ Refuses (AskedGone conn) (session_of self.old) fault) }
+            ⊎ RefusesOrder (AskedGone conn) (session_of self.old) fault) }
         ensures unchanged { OnErr result (session_of self.new ≡ session_of self.old) }
     {
         each_event_names_what_it_takes();
@@ -130,7 +130,7 @@ impl Session {
         ensures told { IfOk result (λ asks. TellsStart conn (session_of self.old)
             (option_map (λ actions. actions.items) asks) (session_of self.new)) }
         ensures refused { IfErr result (λ fault. (fault ≡ PeerFault.NoMemory)
-            ⊎ Refuses (AskedStart conn) (session_of self.old) fault) }
+            ⊎ RefusesOrder (AskedStart conn) (session_of self.old) fault) }
         ensures unchanged { OnErr result (session_of self.new ≡ session_of self.old) }
     {
         if self.has(conn) {

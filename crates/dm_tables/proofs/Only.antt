@@ -12,7 +12,7 @@ use Rattle.dm_tables.specs.declared.def.CommandDef.{CommandDef}
 use Rattle.dm_tables.specs.Definitions.{Definitions, is_vendor, is_named, is_coded, is_headed}
 use Rattle.dm_tables.specs.Sound.{each_after, is_sound_vendor, is_sound_avp, is_sound_command, is_sound}
 use Rattle.dm_tables.proofs.Members.{only_one}
-use Rattle.dm_tables.specs.SoundParts.{vendor_parts, avp_parts, command_parts, sound_parts}
+use Rattle.dm_tables.specs.SoundParts.{vendor_sound_parts, avp_sound_parts, command_sound_parts, sound_parts}
 use Rattle.dm_tables.specs.OneOfEach.{HasOneOfEach}
 
 abbrev code_eq : ℕ × Option ℕ → ℕ × Option ℕ → Bool
@@ -30,13 +30,13 @@ head_laws = search (comparing, rules)
 pub one_vendor : (vendors : List VendorDef) (name : List ℕ) → each_after is_sound_vendor [] vendors ≡ true
     → filter (is_vendor name) vendors ≡ option_to_list (find (is_vendor name) vendors)
 one_vendor vendors name h =
-    only_one is_sound_vendor (λ v. is_vendor v.name) (is_vendor name) (λ before v s. (vendor_parts before v s).new_name)
+    only_one is_sound_vendor (λ v. is_vendor v.name) (is_vendor name) (λ before v s. (vendor_sound_parts before v s).new_name)
     (λ a b e. nat_list_eq_equiv.congr name a.name b.name e) [] vendors h
 
 pub one_named : (avps : List AvpDef) (name : List ℕ) → each_after is_sound_avp [] avps ≡ true
     → filter (is_named name) avps ≡ option_to_list (find (is_named name) avps)
 one_named avps name h =
-    only_one is_sound_avp (λ a. is_named a.name) (is_named name) (λ before a s. (avp_parts before a s).new_name)
+    only_one is_sound_avp (λ a. is_named a.name) (is_named name) (λ before a s. (avp_sound_parts before a s).new_name)
     (λ a b e. nat_list_eq_equiv.congr name a.name b.name e) [] avps h
 
 -- where none passes, none does at a place
@@ -70,7 +70,7 @@ pub one_coded : (avps : List AvpDef) (code : ℕ) (vendor : Option ℕ) → each
     → filter (is_coded code vendor) avps ≡ option_to_list (find (is_coded code vendor) avps)
 one_coded avps code vendor h =
     only_one is_sound_avp (λ a. is_coded a.code a.vendor) (is_coded code vendor)
-    (λ before a s. (avp_parts before a s).new_code)
+    (λ before a s. (avp_sound_parts before a s).new_code)
     (λ a b e. code_laws.congr (code, vendor) (a.code, a.vendor) (b.code, b.vendor) e) [] avps h
 
 -- the place of a definition that has the code and vendor is what they find
@@ -86,7 +86,7 @@ pub one_headed : (commands : List CommandDef) (code : ℕ) (request err : Bool)
     → filter (is_headed code request err) commands ≡ option_to_list (find (is_headed code request err) commands)
 one_headed commands code request err h =
     only_one is_sound_command (λ c. is_headed c.code c.request c.err) (is_headed code request err)
-    (λ before c s. (command_parts before c s).new_head)
+    (λ before c s. (command_sound_parts before c s).new_head)
     (λ a b e. head_laws.congr (code, request, err) (a.code, a.request, a.err) (b.code, b.request, b.err) e) [] commands
     h
 

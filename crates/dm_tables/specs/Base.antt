@@ -1,9 +1,10 @@
--- The definitions of the base dictionary, one by one (RFC 6733, 4.5 and 5.3 to 7.5). Where they depart from it, that stands
--- beside them.
+-- The definitions of the base dictionary, one by one (RFC 6733, 4.5 and 5.3 to 7.5). Where they depart from it, that
+-- stands beside them.
 use Rattle.std.specs.Prelude.{ℕ, Bool, true, false, List, [], ◌∷◌, ◌++◌, codes, Some, None}
 use Rattle.dm_grammar.specs.declared.item.Form.TheVariants.{Fixed, Required, Optional}
 use Rattle.dm_value.specs.declared.avp_type.AvpType.{AvpType}
-use Rattle.dm_value.specs.declared.avp_type.AvpType.TheVariants.{OctetString, Unsigned32, Address, Time, UTF8String, DiameterIdentity, DiameterURI, Enumerated, Grouped}
+use Rattle.dm_value.specs.declared.avp_type.AvpType.TheVariants.{OctetString, Unsigned32, Address, Time, UTF8String}
+use Rattle.dm_value.specs.declared.avp_type.AvpType.TheVariants.{DiameterIdentity, DiameterURI, Enumerated, Grouped}
 use Rattle.dm_tables.specs.declared.rule.Entry.{Entry}
 use Rattle.dm_tables.specs.declared.def.AvpDef.{AvpDef}
 use Rattle.dm_tables.specs.declared.def.CommandDef.{CommandDef}
@@ -42,7 +43,8 @@ plain_avp name code kind = record { name = name; code = code; vendor = None; kin
 
 -- < NAME > ::= < AVP Header: CODE > RULE
 abbrev pub grouped_avp : List ℕ → ℕ → List Entry → AvpDef
-grouped_avp name code rule = record { name = name; code = code; vendor = None; kind = Grouped; rule = rule; values = [] }
+grouped_avp name code rule =
+    record { name = name; code = code; vendor = None; kind = Grouped; rule = rule; values = [] }
 
 -- < NAME > ::= < Diameter Header: CODE, FLAG > RULE
 abbrev pub command_def : List ℕ → ℕ → Bool → Bool → List Entry → CommandDef
@@ -78,11 +80,12 @@ plain_avps =
     ∷ (plain_avp (codes "Inband-Security-Id") inband_security_id Unsigned32)
     ∷ []
 
--- Wider than RFC 6733 (6.11), which has `{ Vendor-Id }`: RFC 3588 had `1*`, and what was made after it is to pass. That just
--- one of the two ids stands there (6.11) no rule can say, and it isn't looked at.
+-- Wider than RFC 6733 (6.11), which has `{ Vendor-Id }`: RFC 3588 had `1*`, and what was made after it is to pass. That
+-- just one of the two ids stands there (6.11) no rule can say, and it isn't looked at.
 abbrev pub vendor_specific_application_id_def : AvpDef
 vendor_specific_application_id_def = grouped_avp (codes "Vendor-Specific-Application-Id") vendor_specific_application_id
-    ((required_some (codes "Vendor-Id")) ∷ (optional_one (codes "Auth-Application-Id")) ∷ (optional_one (codes "Acct-Application-Id")) ∷
+    ((required_some (codes "Vendor-Id")) ∷ (optional_one (codes "Auth-Application-Id"))
+    ∷ (optional_one (codes "Acct-Application-Id")) ∷
     [])
 
 abbrev pub failed_avp_def : AvpDef
@@ -90,11 +93,13 @@ failed_avp_def = grouped_avp (codes "Failed-AVP") failed_avp ((required_some (co
 
 abbrev pub proxy_info_def : AvpDef
 proxy_info_def =
-    grouped_avp (codes "Proxy-Info") proxy_info ((required_one (codes "Proxy-Host")) ∷ (required_one (codes "Proxy-State")) ∷ (optional_any (codes "AVP")) ∷ [])
+    grouped_avp (codes "Proxy-Info") proxy_info ((required_one (codes "Proxy-Host"))
+    ∷ (required_one (codes "Proxy-State")) ∷ (optional_any (codes "AVP")) ∷ [])
 
 abbrev pub experimental_result_def : AvpDef
 experimental_result_def =
-    grouped_avp (codes "Experimental-Result") experimental_result ((required_one (codes "Vendor-Id")) ∷ (required_one (codes "Experimental-Result-Code")) ∷ [])
+    grouped_avp (codes "Experimental-Result") experimental_result ((required_one (codes "Vendor-Id"))
+    ∷ (required_one (codes "Experimental-Result-Code")) ∷ [])
 
 abbrev pub cer_def : CommandDef
 cer_def = command_def (codes "CER") capabilities_exchange true false
@@ -113,7 +118,8 @@ cer_def = command_def (codes "CER") capabilities_exchange true false
     ∷ (optional_any (codes "AVP"))
     ∷ [])
 
--- `*[ Failed-AVP ]`, here and in DWA, DPA and answer-message, is wider than RFC 6733 (5.3.2, 5.4.2, 5.5.2, 7.2), which has
+-- `*[ Failed-AVP ]`, here and in DWA, DPA and answer-message, is wider than RFC 6733 (5.3.2, 5.4.2, 5.5.2, 7.2), which
+-- has
 -- `[ Failed-AVP ]`: RFC 3588 had `*`, and what was made after it is to pass.
 abbrev pub cea_def : CommandDef
 cea_def = command_def (codes "CEA") capabilities_exchange false false
@@ -173,8 +179,8 @@ dpa_def = command_def (codes "DPA") disconnect_peer false false
     ∷ [])
 
 -- The rule of every answer with the E bit: such an answer doesn't follow the rule of its command but
--- this one (7.2), whose header there has `code` for whatever command was asked. A dictionary holds one code, so it stands
--- at 0, which is no command's.
+-- this one (7.2), whose header there has `code` for whatever command was asked. A dictionary holds one code, so it
+-- stands at 0, which is no command's.
 abbrev pub answer_message_def : CommandDef
 answer_message_def = command_def (codes "answer-message") 0 false true
     ((fixed_optional (codes "Session-Id"))
@@ -191,7 +197,8 @@ answer_message_def = command_def (codes "answer-message") 0 false true
     ∷ [])
 
 abbrev pub base_avps : List AvpDef
-base_avps = plain_avps ++ vendor_specific_application_id_def ∷ failed_avp_def ∷ proxy_info_def ∷ experimental_result_def ∷ []
+base_avps = plain_avps ++ vendor_specific_application_id_def ∷ failed_avp_def ∷ proxy_info_def ∷ experimental_result_def
+    ∷ []
 
 abbrev pub base_commands : List CommandDef
 base_commands = cer_def ∷ cea_def ∷ dwr_def ∷ dwa_def ∷ dpr_def ∷ dpa_def ∷ answer_message_def ∷ []

@@ -6,7 +6,9 @@ pub use Rattle.dm_wire.specs.declared.codes.avps.TheConstants.{EVENT_TIMESTAMP a
 pub use Rattle.dm_wire.specs.declared.codes.avps.TheConstants.{HOST_IP_ADDRESS as host_ip_address}
 pub use Rattle.dm_wire.specs.declared.codes.avps.TheConstants.{AUTH_APPLICATION_ID as auth_application_id}
 pub use Rattle.dm_wire.specs.declared.codes.avps.TheConstants.{ACCT_APPLICATION_ID as acct_application_id}
-pub use Rattle.dm_wire.specs.declared.codes.avps.TheConstants.{VENDOR_SPECIFIC_APPLICATION_ID as vendor_specific_application_id}
+pub use Rattle.dm_wire.specs.declared.codes.avps.TheConstants.{
+  VENDOR_SPECIFIC_APPLICATION_ID as vendor_specific_application_id,
+}
 pub use Rattle.dm_wire.specs.declared.codes.avps.TheConstants.{SESSION_ID as session_id, ORIGIN_HOST as origin_host}
 pub use Rattle.dm_wire.specs.declared.codes.avps.TheConstants.{SUPPORTED_VENDOR_ID as supported_vendor_id}
 pub use Rattle.dm_wire.specs.declared.codes.avps.TheConstants.{VENDOR_ID as vendor_id}

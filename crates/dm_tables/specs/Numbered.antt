@@ -9,7 +9,8 @@ use Rattle.dm_tables.specs.Listed.{has_number}
 
 -- under each number is the place of the first value that has it
 abbrev pub IsNumbered : Inside → Type 0
-IsNumbered values = (n : ℤ) → lookup (int_eq n) values.places.entries ≡ position_from (has_number n) 0 values.items.items
+IsNumbered values = (n : ℤ) → lookup (int_eq n) values.places.entries
+    ≡ position_from (has_number n) 0 values.items.items
 
 -- a place under its number, if there is none yet
 abbrev pub with_place : List (ℤ × ℕ) → ℤ → ℕ → List (ℤ × ℕ)

@@ -8,7 +8,8 @@ use Rattle.dm_tables.specs.Sound.{is_sound}
 abbrev pub IsOnly : {D : Type 0} → (D → Bool) → List D → Type 0
 IsOnly test ds = filter test ds ≡ option_to_list (find test ds)
 
--- one vendor of a name, one AVP of a name (3.2), one of a code and vendor (4.1), one command of a code with R and E bits (3)
+-- one vendor of a name, one AVP of a name (3.2), one of a code and vendor (4.1), one command of a code with R and E
+-- bits (3)
 pub record HasOneOfEach (d : Definitions) : Type 0 where
   pub vendor : (name : List ℕ) → IsOnly (is_vendor name) d.vendors
   pub name : (name : List ℕ) → IsOnly (is_named name) d.avps

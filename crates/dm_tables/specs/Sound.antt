@@ -1,5 +1,6 @@
 -- What the definitions of a dictionary keep to (RFC 6733, 3.2), so that each can be written in a text and looked up.
-use Rattle.std.specs.Prelude.{ℕ, ℤ, pos, negsuc, Bool, true, false, ◌&&◌, ◌||◌, not, nat_eq, nat_le, nat_lt, List, [], ◌∷◌, ◌++◌, codes, Option, Some, None}
+use Rattle.std.specs.Prelude.{ℕ, ℤ, pos, negsuc, Bool, true, false, ◌&&◌, ◌||◌, not, nat_eq}
+use Rattle.std.specs.Prelude.{nat_le, nat_lt, List, [], ◌∷◌, ◌++◌, codes, Option, Some, None}
 use Rattle.std.specs.Char.{is_ascii_alphanumeric, is_ascii_digit}
 use Rattle.std.specs.List.{list_all, list_any}
 use Rattle.std.specs.Cmp.Lexicographic.{pointwise}
@@ -15,9 +16,11 @@ use Rattle.dm_value.specs.declared.avp_type.AvpType.TheVariants.{Enumerated, Gro
 use Rattle.dm_tables.specs.Forms.{form_number}
 use Rattle.dm_tables.specs.Limits.{number_limit, listed_limit}
 use Rattle.dm_tables.specs.Listed.{has_number}
-use Rattle.dm_tables.specs.Definitions.{Definitions, is_vendor, has_vendor_number, is_named, is_coded, is_titled, is_headed}
+use Rattle.dm_tables.specs.Definitions.{Definitions, is_vendor, has_vendor_number}
+use Rattle.dm_tables.specs.Definitions.{is_named, is_coded, is_titled, is_headed}
 
--- Letters, digits and hyphens, no hyphen first, and not digits alone. Wider than RFC 6733 (3.2), where a diameter-name is
+-- Letters, digits and hyphens, no hyphen first, and not digits alone. Wider than RFC 6733 (3.2), where a diameter-name
+-- is
 -- `ALPHA *(ALPHA / DIGIT / "-")`: names in use begin with a digit, as 3GPP-IMSI. Digits alone are a number.
 abbrev pub is_proper_name : List ℕ → Bool
 is_proper_name [] = false
@@ -99,8 +102,8 @@ is_sound_vendor before v =
     is_proper_name v.name && not (list_any (is_vendor v.name) before)
     && fits_32_bits v.number && not (list_any (has_vendor_number v.number) before)
 
--- a name of its own that isn't AVP, a code and vendor of its own, a rule only where Grouped, and a list of values only where
--- Enumerated
+-- a name of its own that isn't AVP, a code and vendor of its own, a rule only where Grouped, and a list of values only
+-- where Enumerated
 abbrev pub is_sound_avp : List AvpDef → AvpDef → Bool
 is_sound_avp before d =
     is_proper_name d.name && not (is_any d.name) && not (list_any (is_named d.name) before)
@@ -116,11 +119,11 @@ is_sound_command before c =
     && fits_32_bits c.application && is_sound_rule c.rule
 
 -- an entry names an AVP, or is AVP
-abbrev pub is_known : List AvpDef → Entry → Bool
-is_known avps e = is_any e.name || list_any (is_named e.name) avps
+abbrev pub is_entry_known : List AvpDef → Entry → Bool
+is_entry_known avps e = is_any e.name || list_any (is_named e.name) avps
 
 abbrev pub knows_rule : List AvpDef → List Entry → Bool
-knows_rule avps rule = list_all (is_known avps) rule
+knows_rule avps rule = list_all (is_entry_known avps) rule
 
 abbrev pub is_sound : Definitions → Bool
 is_sound d = each_after is_sound_vendor [] d.vendors && each_after is_sound_avp [] d.avps &&

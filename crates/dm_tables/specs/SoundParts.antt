@@ -8,8 +8,12 @@ use Rattle.dm_tables.specs.declared.def.CommandDef.{CommandDef}
 use Rattle.dm_tables.specs.declared.def.VendorDef.{VendorDef}
 use Rattle.dm_tables.specs.declared.values.EnumValue.{EnumValue}
 use Rattle.dm_tables.specs.Listed.{has_number}
-use Rattle.dm_tables.specs.Definitions.{Definitions, is_vendor, has_vendor_number, is_named, is_coded, is_titled, is_headed}
-use Rattle.dm_tables.specs.Sound.{is_sound_avp, is_sound_command, is_proper_name, is_any, fits_32_bits, option_fits_32_bits, is_sound_rule, is_grouped, is_empty_rule, is_sound_list, is_enumerated, is_empty_list, is_sound_value, is_sound_vendor, is_value, is_listable, is_sound, each_after}
+use Rattle.dm_tables.specs.Definitions.{Definitions, is_vendor, has_vendor_number}
+use Rattle.dm_tables.specs.Definitions.{is_named, is_coded, is_titled, is_headed}
+use Rattle.dm_tables.specs.Sound.{is_sound_avp, is_sound_command, is_proper_name, is_any, fits_32_bits}
+use Rattle.dm_tables.specs.Sound.{option_fits_32_bits, is_sound_rule, is_grouped, is_empty_rule}
+use Rattle.dm_tables.specs.Sound.{is_sound_list, is_enumerated, is_empty_list, is_sound_value}
+use Rattle.dm_tables.specs.Sound.{is_sound_vendor, is_value, is_listable, is_sound, each_after}
 
 pub is_not : (b : Bool) → not b ≡ true → b ≡ false
 is_not true e = cc
@@ -27,8 +31,8 @@ pub record SoundAvp (before : List AvpDef) (d : AvpDef) : Type 0 where
   pub list : is_sound_list d.values ≡ true
   pub listing : (is_enumerated d.kind || is_empty_list d.values) ≡ true
 
-pub avp_parts : (before : List AvpDef) (d : AvpDef) → is_sound_avp before d ≡ true → SoundAvp before d
-avp_parts before d h =
+pub avp_sound_parts : (before : List AvpDef) (d : AvpDef) → is_sound_avp before d ≡ true → SoundAvp before d
+avp_sound_parts before d h =
     let (h9, listing) = and_parts _ _ h in
     let (h8, list) = and_parts _ _ h9 in
     let (h7, kind) = and_parts _ _ h8 in
@@ -59,9 +63,9 @@ pub record SoundCommand (before : List CommandDef) (d : CommandDef) : Type 0 whe
   pub application : fits_32_bits d.application ≡ true
   pub rule : is_sound_rule d.rule ≡ true
 
-pub command_parts : (before : List CommandDef) (d : CommandDef) → is_sound_command before d ≡ true
+pub command_sound_parts : (before : List CommandDef) (d : CommandDef) → is_sound_command before d ≡ true
     → SoundCommand before d
-command_parts before d h =
+command_sound_parts before d h =
     let (h5, rule) = and_parts _ _ h in
     let (h4, application) = and_parts _ _ h5 in
     let (h3, new_head) = and_parts _ _ h4 in
@@ -82,8 +86,9 @@ pub record SoundVendor (before : List VendorDef) (v : VendorDef) : Type 0 where
   pub number : fits_32_bits v.number ≡ true
   pub new_number : list_any (has_vendor_number v.number) before ≡ false
 
-pub vendor_parts : (before : List VendorDef) (v : VendorDef) → is_sound_vendor before v ≡ true → SoundVendor before v
-vendor_parts before v h =
+pub vendor_sound_parts : (before : List VendorDef) (v : VendorDef) → is_sound_vendor before v ≡ true
+    → SoundVendor before v
+vendor_sound_parts before v h =
     let (h3, new_number) = and_parts _ _ h in
     let (h2, number) = and_parts _ _ h3 in
     let (name, new_name) = and_parts _ _ h2 in
@@ -95,8 +100,8 @@ pub record SoundValue (before : List EnumValue) (v : EnumValue) : Type 0 where
   pub number : is_listable v.number ≡ true
   pub new_number : list_any (has_number v.number) before ≡ false
 
-pub value_parts : (before : List EnumValue) (v : EnumValue) → is_sound_value before v ≡ true → SoundValue before v
-value_parts before v h =
+pub value_sound_parts : (before : List EnumValue) (v : EnumValue) → is_sound_value before v ≡ true → SoundValue before v
+value_sound_parts before v h =
     let (h3, new_number) = and_parts _ _ h in
     let (h2, number) = and_parts _ _ h3 in
     let (name, new_name) = and_parts _ _ h2 in

@@ -36,8 +36,8 @@ pub record IsDictionary (t : Tables) : Type 0 where
   pub tables : IsTables t
   pub closed : is_closed (defined t) ≡ true
 
--- what is guessed for a code and vendor: the place that is noted under the lowest bits of the code, where the definition
--- there has them
+-- what is guessed for a code and vendor: the place that is noted under the lowest bits of the code, where the
+-- definition there has them
 abbrev pub guess_at : ℕ → Option ℕ → ℕ → Option AvpDef → Option ℕ
 guess_at code vendor place None = None
 guess_at code vendor place (Some d) = if is_coded code vendor d then Some place else None

@@ -1,5 +1,5 @@
-//! The definitions of vendors, AVPs and commands that a Diameter peer goes by, as tables with an index for each key: the
-//! base ones, and the look-ups by name and by code (RFC 6733, 3.2, 4 and 4.1).
+//! The definitions of vendors, AVPs and commands that a Diameter peer goes by, as tables with an index for each key:
+//! the base ones, and the look-ups by name and by code (RFC 6733, 3.2, 4 and 4.1).
 #![tactic(auto)]
 
 mod base;

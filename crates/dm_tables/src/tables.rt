@@ -4,7 +4,8 @@ ghost use Rattle.std.specs.List.{list_any, position_from};
 ghost use Rattle.std.specs.Option.{option_copied, option_and_then};
 ghost use Rattle.std.specs.Cmp.Lexicographic.{pointwise};
 ghost use Rattle.indexmap.specs.IndexMap.{insert_entry};
-ghost use Rattle.dm_tables.specs.Definitions.{is_named, is_coded, is_titled, is_headed, with_vendor, with_avp, with_command};
+ghost use Rattle.dm_tables.specs.Definitions.{is_named, is_coded, is_titled, is_headed};
+ghost use Rattle.dm_tables.specs.Definitions.{with_vendor, with_avp, with_command};
 ghost use Rattle.dm_tables.specs.Sound.{each_after, is_sound_vendor, is_sound_avp, is_sound_command};
 
 use crate::vendors::Vendors;
@@ -22,7 +23,8 @@ pub struct Tables {
     pub codes: IndexMap<(u32, Option<u32>), usize>,
     pub titles: IndexMap<Vec<u8>, usize>,
     pub heads: IndexMap<(u32, bool, bool), usize>,
-    /// Where an AVP of a code may stand, by the lowest bits of the code. It is a guess, and looked at before it is taken.
+    /// Where an AVP of a code may stand, by the lowest bits of the code. It is a guess, and looked at before it is
+    /// taken.
     pub guesses: [u16; 512],
 }
 

@@ -6,7 +6,7 @@ use Rattle.dm_wire.specs.declared.avp.Avp.{Avp}
 use Rattle.dm_wire.specs.declared.message.Header.{Header}
 use Rattle.dm_text.specs.Numbers.{TellsNumber}
 use Rattle.dm_text.specs.Words.{words}
-use Rattle.dm_tool.specs.Text.{mark, header_marks, avp_marks}
+use Rattle.dm_tool.specs.Text.{flag_mark, header_marks, avp_marks}
 use Rattle.dm_tool.specs.AvpWords.{TellsCode, TellsData}
 use Rattle.dm_tool.specs.Messages.{TellsHeader, TellsNames, TellsAvp}
 use Rattle.dm_tool.proofs.Slashes.{one_code}
@@ -14,9 +14,9 @@ use Rattle.dm_tool.proofs.Decided.{Decided, are_octets, same_words, number_told,
 use Rattle.dm_tool.proofs.Decided.{data_told}
 
 abbrev MarkTold : ℕ → ℕ → Type 0
-MarkTold letter b = ((set : Bool) × (b ≡ mark set letter)) ⊎ ((set : Bool) → b ≡ mark set letter → ⊥)
+MarkTold letter b = ((set : Bool) × (b ≡ flag_mark set letter)) ⊎ ((set : Bool) → b ≡ flag_mark set letter → ⊥)
 
-neither : (letter b : ℕ) → (b ≡ letter → ⊥) → (b ≡ 45 → ⊥) → (set : Bool) → b ≡ mark set letter → ⊥
+neither : (letter b : ℕ) → (b ≡ letter → ⊥) → (b ≡ 45 → ⊥) → (set : Bool) → b ≡ flag_mark set letter → ⊥
 neither letter b h k true e = h e
 neither letter b h k false e = k e
 
@@ -36,8 +36,8 @@ avp_marks_told v [] = inr (λ m p e. cc)
 avp_marks_told v (a ∷ []) = inr (λ m p e. cc)
 avp_marks_told v (a ∷ b ∷ []) = inr (λ m p e. cc)
 avp_marks_told v (a ∷ b ∷ c ∷ d ∷ w) = inr (λ m p e. cc)
-avp_marks_told v (a ∷ b ∷ c ∷ []) = by (cases_eq a (mark v 86)) (mark_told 77 b) (mark_told 80 c) where
-  by : Decided (a ≡ mark v 86) → MarkTold 77 b → MarkTold 80 c → AvpMarksTold v (a ∷ b ∷ c ∷ [])
+avp_marks_told v (a ∷ b ∷ c ∷ []) = by (cases_eq a (flag_mark v 86)) (mark_told 77 b) (mark_told 80 c) where
+  by : Decided (a ≡ flag_mark v 86) → MarkTold 77 b → MarkTold 80 c → AvpMarksTold v (a ∷ b ∷ c ∷ [])
   by (inl h) (inl k) (inl l) = inl (k.0, l.0, λ i. h i ∷ k.1 i ∷ l.1 i ∷ [])
   by (inl h) (inl k) (inr l) = inr (λ m p e. l p (ap (λ s. slice_index_or s 2 0) e))
   by (inl h) (inr k) l = inr (λ m p e. k m (ap (λ s. slice_index_or s 1 0) e))

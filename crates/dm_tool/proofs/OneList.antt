@@ -3,7 +3,7 @@ use Rattle.std.proofs.Common.{◌≡◌, List, [], ◌∷◌, ◌++◌, ℕ, app
 use Rattle.dm_wire.specs.declared.avp.Avp.{Avp}
 use Rattle.dm_wire.specs.declared.message.Header.{Header}
 use Rattle.dm_wire.specs.declared.message.Message.{Message}
-use Rattle.dm_tool.specs.Messages.{TellsHeader, TellsAvp, TellsAvps, TellsMessage, TellsAll}
+use Rattle.dm_tool.specs.Messages.{TellsHeader, TellsAvp, TellsAvps, LinesTell, TellsAll}
 use Rattle.dm_tool.specs.Build.{IsOutOfPlace}
 use Rattle.dm_tool.proofs.OneTold.{one_header, one_avp, no_avp}
 
@@ -42,7 +42,7 @@ abbrev made_message : Header → List Avp → Message
 made_message h l = record { header = h; avps = l }
 
 -- of what follows a message
-one_step : (m j : Message) (f g x y : List (List ℕ)) → TellsMessage m f → TellsMessage j g → f ++ x ≡ g ++ y
+one_step : (m j : Message) (f g x y : List (List ℕ)) → LinesTell m f → LinesTell j g → f ++ x ≡ g ++ y
     → BeginsWithNoAvp x → BeginsWithNoAvp y → (m ≡ j) × (x ≡ y)
 one_step m j [] g x y h k e nx ny = absurd h
 one_step m j (line ∷ f) [] x y h k e nx ny = absurd k
@@ -56,17 +56,17 @@ one_step m j (line ∷ f) (other ∷ g) x y h k e nx ny =
         → made_message m.header m.avps ≡ made_message j.header j.avps
     same_message m j e0 e1 = rw (e0, e1) refl
 
-message_first : (m : Message) (f x : List (List ℕ)) → TellsMessage m f → BeginsWithNoAvp (f ++ x)
+message_first : (m : Message) (f x : List (List ℕ)) → LinesTell m f → BeginsWithNoAvp (f ++ x)
 message_first m [] x h = absurd h
 message_first m (first ∷ f) x h =
     λ line rest e a told. let Tells : List ℕ → Type 0 = λ v. TellsHeader m.header v in no_avp m.header a line
     (subst Tells (same_head e) h.0) told
 
-none_told : (m : Message) (f x : List (List ℕ)) → TellsMessage m f → f ++ x ≡ [] → ⊥
+none_told : (m : Message) (f x : List (List ℕ)) → LinesTell m f → f ++ x ≡ [] → ⊥
 none_told m [] x h e = absurd h
 none_told m (line ∷ f) x h e = not_none e
 
-header_first : (m : Message) (f x t : List (List ℕ)) (line : List ℕ) → TellsMessage m f → line ∷ t ≡ f ++ x
+header_first : (m : Message) (f x t : List (List ℕ)) (line : List ℕ) → LinesTell m f → line ∷ t ≡ f ++ x
     → TellsHeader m.header line
 header_first m [] x t line h e = absurd h
 header_first m (first ∷ f) x t line h e =

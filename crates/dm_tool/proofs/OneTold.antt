@@ -4,14 +4,14 @@ use Rattle.std.proofs.Common.{sym, ◌∙◌, refl, subst}
 use Rattle.hex.specs.Hex.{decode_of}
 use Rattle.dm_wire.specs.declared.avp.Avp.{Avp}
 use Rattle.dm_wire.specs.declared.message.Header.{Header}
-use Rattle.dm_tool.specs.Text.{mark}
+use Rattle.dm_tool.specs.Text.{flag_mark}
 use Rattle.dm_text.specs.Numbers.{TellsNumber}
 use Rattle.dm_tool.specs.AvpWords.{TellsCode, TellsData}
 use Rattle.dm_tool.specs.Messages.{TellsHeader, TellsAvp}
 use Rattle.dm_tool.proofs.Slashes.{one_number, one_code}
 
 -- a character tells one flag
-one_mark : (letter : ℕ) (a b : Bool) → letter ≢ 45 → mark a letter ≡ mark b letter → a ≡ b
+one_mark : (letter : ℕ) (a b : Bool) → letter ≢ 45 → flag_mark a letter ≡ flag_mark b letter → a ≡ b
 one_mark letter true true other h = refl
 one_mark letter false false other h = refl
 one_mark letter true false other h = absurd (other h)

@@ -3,10 +3,10 @@ use Rattle.std.proofs.Common.{◌≡◌, List, [], ◌∷◌, ◌++◌, ℕ, app
 use Rattle.dm_wire.specs.declared.avp.Avp.{Avp}
 use Rattle.dm_wire.specs.declared.message.Header.{Header}
 use Rattle.dm_wire.specs.declared.message.Message.{Message}
-use Rattle.dm_tool.specs.Messages.{TellsAvp, TellsAvps, TellsMessage, TellsAll}
+use Rattle.dm_tool.specs.Messages.{TellsAvp, TellsAvps, LinesTell, TellsAll}
 
 -- the lines of one message
-pub tells-one : (m : Message) (s : List (List ℕ)) → TellsMessage m s → TellsAll (m ∷ []) s
+pub tells-one : (m : Message) (s : List (List ℕ)) → LinesTell m s → TellsAll (m ∷ []) s
 tells-one m s h = (s, [], sym (append-nil s), h, refl)
 
 pub tells-append : (l k : List Message) (s t : List (List ℕ)) → TellsAll l s → TellsAll k t → TellsAll (l ++ k) (s ++ t)
@@ -35,7 +35,7 @@ avps-push (b ∷ l) a (first ∷ s) line h g = (h.0, avps-push l a s line h.1 g)
 
 -- the lines of a message, and one more AVP
 pub message-push : (h : Header) (l : List Avp) (a : Avp) (s : List (List ℕ)) (line : List ℕ)
-    → TellsMessage (record { header = h; avps = l }) s → TellsAvp a line
-    → TellsMessage (record { header = h; avps = l ++ a ∷ [] }) (s ++ line ∷ [])
+    → LinesTell (record { header = h; avps = l }) s → TellsAvp a line
+    → LinesTell (record { header = h; avps = l ++ a ∷ [] }) (s ++ line ∷ [])
 message-push h l a [] line told g = absurd told
 message-push h l a (first ∷ s) line told g = (told.0, avps-push l a s line told.1 g)

@@ -48,11 +48,11 @@ TellsAvps (a ∷ l) [] = ⊥
 TellsAvps (a ∷ l) (line ∷ lines) = TellsAvp a line × TellsAvps l lines
 
 -- the first line tells the header, and the others the AVPs
-abbrev pub TellsMessage : Message → List (List ℕ) → Type 0
-TellsMessage m [] = ⊥
-TellsMessage m (line ∷ lines) = TellsHeader m.header line × TellsAvps m.avps lines
+abbrev pub LinesTell : Message → List (List ℕ) → Type 0
+LinesTell m [] = ⊥
+LinesTell m (line ∷ lines) = TellsHeader m.header line × TellsAvps m.avps lines
 
 -- the lines tell the messages, one after the other
 abbrev pub TellsAll : List Message → List (List ℕ) → Type 0
 TellsAll [] lines = lines ≡ []
-TellsAll (m ∷ l) lines = (first rest : List (List ℕ)) × (lines ≡ first ++ rest) × TellsMessage m first × TellsAll l rest
+TellsAll (m ∷ l) lines = (first rest : List (List ℕ)) × (lines ≡ first ++ rest) × LinesTell m first × TellsAll l rest

@@ -26,7 +26,7 @@ Prints Replay = ReplaysText
 
 -- A run whose texts are these, over what the reader has left (input, then rest) and what the writer holds (before,
 -- after).
-pub record Ran (Texts : List ℕ → List ℕ → Bool → Type 0) (input rest before after : Option (List ℕ))
+pub record RanTool (Texts : List ℕ → List ℕ → Bool → Type 0) (input rest before after : Option (List ℕ))
     (outcome : Result Bool ToolFault) : Type 0 where
   -- the text of the whole input is written, and the outcome is whether all of it was good
   pub printed : IfOk outcome

@@ -6,7 +6,8 @@ use Rattle.dm_wire.specs.declared.avp.Avp.{Avp}
 use Rattle.dm_wire.specs.declared.message.Message.{Message}
 use Rattle.dm_wire.specs.declared.fault.WireFault.{WireFault}
 use Rattle.dm_wire.specs.declared.fault.WireFault.TheVariants.{TooShort, Version, Length, AvpLength, TooLong, NoMemory}
-pub use Rattle.dm_wire.specs.Printed.{mark, header_marks, avp_marks, header_letters, avp_letters, header_text, avp_text}
+pub use Rattle.dm_wire.specs.Printed.{flag_mark, header_marks, avp_marks, header_letters}
+pub use Rattle.dm_wire.specs.Printed.{avp_letters, header_text, avp_text}
 
 -- an AVP's line
 unfoldable pub shown_avp : Avp → List ℕ

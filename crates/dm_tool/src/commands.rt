@@ -5,7 +5,7 @@
 //! either. Where the writer fails a front of the text was written.
 ghost use Rattle.dm_replay.specs.Replay.{ReplaysText};
 ghost use Rattle.dm_tool.specs.Build.{BuildsText};
-ghost use Rattle.dm_tool.specs.Run.{Checks, Ran};
+ghost use Rattle.dm_tool.specs.Run.{Checks, RanTool};
 ghost use Rattle.dm_tool.specs.Show.{ShowsText};
 
 use crate::choice::Choice;
@@ -23,7 +23,7 @@ pub fn run_show<R: Read, W: Write>(
     reader: &mut R,
     writer: &mut W,
 ) -> Result<bool, ToolFault>
-    ensures { Ran ShowsText (R.remaining reader.old) (R.remaining reader.new)
+    ensures { RanTool ShowsText (R.remaining reader.old) (R.remaining reader.new)
         (W.contents writer.old) (W.contents writer.new) result }
 {
     run(alloc, Choice::Show, reader, writer)
@@ -43,7 +43,7 @@ pub fn run_check<R: Read, W: Write>(
     writer: &mut W,
     with_dict: bool,
 ) -> Result<bool, ToolFault>
-    ensures { Ran (Checks with_dict) (R.remaining reader.old) (R.remaining reader.new)
+    ensures { RanTool (Checks with_dict) (R.remaining reader.old) (R.remaining reader.new)
         (W.contents writer.old) (W.contents writer.new) result }
 {
     run(alloc, Choice::Check { with_dict }, reader, writer)
@@ -60,7 +60,7 @@ pub fn run_build<R: Read, W: Write>(
     reader: &mut R,
     writer: &mut W,
 ) -> Result<bool, ToolFault>
-    ensures { Ran BuildsText (R.remaining reader.old) (R.remaining reader.new)
+    ensures { RanTool BuildsText (R.remaining reader.old) (R.remaining reader.new)
         (W.contents writer.old) (W.contents writer.new) result }
 {
     run(alloc, Choice::Build, reader, writer)
@@ -79,7 +79,7 @@ pub fn run_replay<R: Read, W: Write>(
     reader: &mut R,
     writer: &mut W,
 ) -> Result<bool, ToolFault>
-    ensures { Ran ReplaysText (R.remaining reader.old) (R.remaining reader.new)
+    ensures { RanTool ReplaysText (R.remaining reader.old) (R.remaining reader.new)
         (W.contents writer.old) (W.contents writer.new) result }
 {
     run(alloc, Choice::Replay, reader, writer)

@@ -1,7 +1,7 @@
 //! The first line of a message.
 ghost use Rattle.std.specs.Prelude.{◌≡◌, ◌∷◌, ℕ, Bool, List, IfSome, IfNone};
 ghost use Rattle.dm_wire.specs.declared.message.Header.{Header};
-ghost use Rattle.dm_tool.specs.Text.{mark, header_marks};
+ghost use Rattle.dm_tool.specs.Text.{flag_mark, header_marks};
 ghost use Rattle.dm_text.specs.Numbers.{TellsNumber};
 ghost use Rattle.dm_text.specs.Words.{words};
 ghost use Rattle.dm_tool.specs.Messages.{TellsHeader, TellsNames};
@@ -99,9 +99,9 @@ fn read_flags(word: &[u8]) -> Option<Flags>
 
 /// Whether two flags are set: of each its letter stands there, or `-`.
 pub fn read_two_flags(first: u8, letter: u8, second: u8, other: u8) -> Option<(bool, bool)>
-    ensures first { IfSome result (λ set. first ≡ mark set.0 letter) }
-    ensures second { IfSome result (λ set. second ≡ mark set.1 other) }
-    ensures none { IfNone result ((f g : Bool) → first ≡ mark f letter → second ≡ mark g other → ⊥) }
+    ensures first { IfSome result (λ set. first ≡ flag_mark set.0 letter) }
+    ensures second { IfSome result (λ set. second ≡ flag_mark set.1 other) }
+    ensures none { IfNone result ((f g : Bool) → first ≡ flag_mark f letter → second ≡ flag_mark g other → ⊥) }
 {
     let first = read_flag(first, letter)?;
     let second = read_flag(second, other)?;
@@ -110,8 +110,8 @@ pub fn read_two_flags(first: u8, letter: u8, second: u8, other: u8) -> Option<(b
 
 /// Whether a flag is set: its letter stands there, or `-`.
 pub fn read_flag(octet: u8, letter: u8) -> Option<bool>
-    ensures told { IfSome result (λ set. octet ≡ mark set letter) }
-    ensures none { IfNone result ((set : Bool) → octet ≡ mark set letter → ⊥) }
+    ensures told { IfSome result (λ set. octet ≡ flag_mark set letter) }
+    ensures none { IfNone result ((set : Bool) → octet ≡ flag_mark set letter → ⊥) }
 {
     if octet == letter {
         Some(true)

@@ -4,10 +4,10 @@ ghost use Rattle.std.specs.Io.KnownBytes.{Appends};
 ghost use Rattle.std.specs.String.{string_bytes};
 ghost use Rattle.dm_tool.specs.declared.choice.Choice.{Choice};
 ghost use Rattle.dm_tool.specs.Choice.{words_of};
-ghost use Rattle.dm_tool.specs.Ending.{ending_of};
+ghost use Rattle.dm_tool.specs.Ending.{tool_ending};
 ghost use Rattle.dm_tool.specs.Limits.{HasMost};
 ghost use Rattle.dm_tool.specs.Program.{line_of, without_words};
-ghost use Rattle.dm_tool.specs.Run.{Prints, Ran};
+ghost use Rattle.dm_tool.specs.Run.{Prints, RanTool};
 
 use crate::fault::ToolFault;
 use crate::output::write_text;
@@ -52,7 +52,7 @@ pub fn run_program<S: Source, W: Write, E: Write>(
 ) -> Ended
     ensures ran { IfOk words (λ list. IfSome result.outcome (λ outcome.
         (choice : Choice) × (map string_bytes list.items ≡ words_of choice)
-        × Ran (Prints choice) (S.left reader.old) (S.left reader.new)
+        × RanTool (Prints choice) (S.left reader.old) (S.left reader.new)
         (W.contents writer.old) (W.contents writer.new) outcome)) }
     ensures refused { IfOk words (λ list. IfNone result.outcome
         ((choice : Choice) → map string_bytes list.items ≡ words_of choice → ⊥)) }
@@ -61,10 +61,10 @@ pub fn run_program<S: Source, W: Write, E: Write>(
     ensures unread { IfNone result.outcome (reader.new ≡ reader.old) }
     ensures unwritten { IfNone result.outcome (writer.new ≡ writer.old) }
     ensures idle { OnErr words ((reader.new ≡ reader.old) × (writer.new ≡ writer.old)) }
-    ensures status { result.status ≡ (ending_of result.outcome).0 }
+    ensures status { result.status ≡ (tool_ending result.outcome).0 }
     ensures told { result.told ≡ true →
-        Appends (E.contents errors.old) (E.contents errors.new) (line_of (ending_of result.outcome).1) }
-    ensures front { (front rest : List ℕ) × (line_of (ending_of result.outcome).1 ≡ front ++ rest)
+        Appends (E.contents errors.old) (E.contents errors.new) (line_of (tool_ending result.outcome).1) }
+    ensures front { (front rest : List ℕ) × (line_of (tool_ending result.outcome).1 ≡ front ++ rest)
         × Appends (E.contents errors.old) (E.contents errors.new) front }
 {
     match words {
@@ -81,10 +81,10 @@ pub fn run_program<S: Source, W: Write, E: Write>(
 /// The status for an outcome, once its words stand on standard error.
 fn finish<E: Write>(outcome: Option<Result<bool, ToolFault>>, errors: &mut E) -> Ended
     ensures outcome { result.outcome ≡ outcome }
-    ensures status { result.status ≡ (ending_of outcome).0 }
+    ensures status { result.status ≡ (tool_ending outcome).0 }
     ensures told { result.told ≡ true →
-        Appends (E.contents errors.old) (E.contents errors.new) (line_of (ending_of outcome).1) }
-    ensures front { (front rest : List ℕ) × (line_of (ending_of outcome).1 ≡ front ++ rest)
+        Appends (E.contents errors.old) (E.contents errors.new) (line_of (tool_ending outcome).1) }
+    ensures front { (front rest : List ℕ) × (line_of (tool_ending outcome).1 ≡ front ++ rest)
         × Appends (E.contents errors.old) (E.contents errors.new) front }
 {
     let (status, words) = ending(outcome);

@@ -4,7 +4,7 @@ ghost use Rattle.std.specs.String.{string_bytes};
 ghost use Rattle.dm_tool.specs.declared.choice.Choice.{Choice};
 ghost use Rattle.dm_tool.specs.Choice.{words_of};
 ghost use Rattle.dm_tool.specs.Limits.{HasMost};
-ghost use Rattle.dm_tool.specs.Run.{Prints, Ran};
+ghost use Rattle.dm_tool.specs.Run.{Prints, RanTool};
 
 use crate::build::build_text;
 use crate::check::{check_text, check_with_dictionary};
@@ -30,7 +30,7 @@ pub fn run_words<R: Read, W: Write>(
     writer: &mut W,
 ) -> Option<Result<bool, ToolFault>>
     ensures ran { IfSome result (λ outcome. (choice : Choice) × (map string_bytes words.now ≡ words_of choice)
-        × Ran (Prints choice) (R.remaining reader.old) (R.remaining reader.new)
+        × RanTool (Prints choice) (R.remaining reader.old) (R.remaining reader.new)
         (W.contents writer.old) (W.contents writer.new) outcome) }
     ensures refused { IfNone result ((choice : Choice) → map string_bytes words.now ≡ words_of choice → ⊥) }
     ensures unread { IfNone result (reader.new ≡ reader.old) }
@@ -47,7 +47,7 @@ pub fn run_chosen<S: Source, W: Write>(
     writer: &mut W,
 ) -> Option<Result<bool, ToolFault>>
     ensures ran { IfSome result (λ outcome. (choice : Choice) × (map string_bytes words.now ≡ words_of choice)
-        × Ran (Prints choice) (S.left reader.old) (S.left reader.new)
+        × RanTool (Prints choice) (S.left reader.old) (S.left reader.new)
         (W.contents writer.old) (W.contents writer.new) outcome) }
     ensures refused { IfNone result ((choice : Choice) → map string_bytes words.now ≡ words_of choice → ⊥) }
     ensures read { S.never_fails ≡ true → result ≡ Some (Err ToolFault.Read) → HasMost (S.left reader.old) }
@@ -65,7 +65,7 @@ pub fn run<S: Source, W: Write>(
     reader: &mut S,
     writer: &mut W,
 ) -> Result<bool, ToolFault>
-    ensures ran { Ran (Prints choice) (S.left reader.old) (S.left reader.new)
+    ensures ran { RanTool (Prints choice) (S.left reader.old) (S.left reader.new)
         (W.contents writer.old) (W.contents writer.new) result }
     ensures read { S.never_fails ≡ true → IsErrOf result ToolFault.Read → HasMost (S.left reader.old) }
 {

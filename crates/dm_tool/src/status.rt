@@ -1,6 +1,6 @@
 //! What the program says when it ends.
 ghost use Rattle.std.specs.Prelude.{◌≡◌};
-ghost use Rattle.dm_tool.specs.Ending.{ending_of};
+ghost use Rattle.dm_tool.specs.Ending.{tool_ending};
 
 use crate::fault::ToolFault;
 
@@ -9,7 +9,7 @@ use crate::fault::ToolFault;
 /// The outcome is None where the words of the command line choose no command. A run tells
 /// whether all of its input was good.
 pub fn ending(outcome: Option<Result<bool, ToolFault>>) -> (u8, &'static str)
-    ensures { (result.0, result.1.now) ≡ ending_of outcome }
+    ensures { (result.0, result.1.now) ≡ tool_ending outcome }
 {
     match outcome {
         None => (2, "dmpeer: usage"),

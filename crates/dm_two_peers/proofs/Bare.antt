@@ -3,15 +3,15 @@ use Rattle.std.proofs.Common.{◌≡◌, Bool, true, false, not, ◌&&◌, refl}
 use Rattle.std.proofs.lemmas.Bool.{and_parts, and_from}
 use Rattle.dm_two_peers.specs.Links.{A, opens, Link, view_of}
 use Rattle.dm_two_peers.specs.Facts.{is_up, is_none}
-use Rattle.dm_two_peers.specs.Bare.{is_bare, OnlyUpLinksCarry}
+use Rattle.dm_two_peers.specs.Bare.{is_bare_way, OnlyUpLinksCarry}
 use Rattle.dm_two_peers.proofs.StandingSteps.{is_when}
 use Rattle.dm_two_peers.proofs.Checks.{conclusion}
 use Rattle.dm_two_peers.proofs.Comings.{standing_at}
 
-by_ends : {M : Type 0} (mine : Bool) (l : Link M) → is_bare (view_of mine l).incoming ≡ true →
-    is_bare (view_of mine l).outgoing ≡ true → (is_bare l.to_opener && is_bare l.to_other) ≡ true
-by_ends true l h k = and_from (is_bare l.to_opener) (is_bare l.to_other) h k
-by_ends false l h k = and_from (is_bare l.to_opener) (is_bare l.to_other) k h
+by_ends : {M : Type 0} (mine : Bool) (l : Link M) → is_bare_way (view_of mine l).incoming ≡ true →
+    is_bare_way (view_of mine l).outgoing ≡ true → (is_bare_way l.to_opener && is_bare_way l.to_other) ≡ true
+by_ends true l h k = and_from (is_bare_way l.to_opener) (is_bare_way l.to_other) h k
+by_ends false l h k = and_from (is_bare_way l.to_opener) (is_bare_way l.to_other) k h
 
 unless_up : (b : Bool) → b ≡ false → not b ≡ true
 unless_up b h = rw h refl

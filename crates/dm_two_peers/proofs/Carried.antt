@@ -5,18 +5,18 @@ use Rattle.std.specs.Prelude.{⊤}
 use Rattle.std.proofs.lemmas.Bool.{and_parts}
 use Rattle.dm_machine.specs.Connection.{Hold, hold_of}
 use Rattle.dm_machine.specs.Connection as hold
-use Rattle.dm_two_peers.specs.Machine.{conn, Node, Concern, AcksIt, EndsIt, HeardOnIt, Tie, MadeOpen, Taken, tie_as}
-use Rattle.dm_two_peers.specs.Machine.{is_held}
-use Rattle.dm_two_peers.specs.Links.{Side, A, B, flip, opens, LinkPhase, Pending, Up, Cancelled, End, Fresh, Open, Shut}
+use Rattle.dm_two_peers.specs.Machine.{conn, Node, LinkConcern, MakesLink, EndsLink, HeardOnLink, Tie, ConnectedOpen, AcceptedTie, tie_as}
+use Rattle.dm_two_peers.specs.Machine.{is_tie_held}
+use Rattle.dm_two_peers.specs.Links.{Side, A, B, flip, opens, LinkPhase, LinkPending, LinkUp, LinkCancelled, End, Fresh, Open, Shut}
 use Rattle.dm_two_peers.specs.Links.{Link, View}
-use Rattle.dm_two_peers.specs.Peers.{Event, Start, Stop, Timeout, Tick, Ack, Nack, Gone, Submit, Arrived, Action, Send}
-use Rattle.dm_two_peers.specs.Peers.{Close, Connect, Reply, Acts, Declines, Peers, concern_by, deed_of, sends_at}
+use Rattle.dm_two_peers.specs.Peers.{Event, StartEvent, StopEvent, TimeoutEvent, TickEvent, AckEvent, NackEvent, GoneEvent, SubmitEvent, ArrivedEvent, Action, Send}
+use Rattle.dm_two_peers.specs.Peers.{Close, Connect, Reply, ActsBy, Declines, Peers, concern_by, deed_in, sends_at}
 use Rattle.dm_two_peers.specs.Peers as peers
-use Rattle.dm_two_peers.specs.Worlds.{World, peer_at}
+use Rattle.dm_two_peers.specs.Worlds.{World, peer_on}
 use Rattle.dm_two_peers.specs.Happens.{Happening, Loses, own_view}
 use Rattle.dm_two_peers.specs.Facts.{Standing, turned_over, is_sound_standing, is_up, is_pending, is_open_end, is_shut}
 use Rattle.dm_two_peers.specs.Facts.{is_none, is_coming, IsSoundWorld}
-use Rattle.dm_two_peers.specs.Turns.{Turn}
+use Rattle.dm_two_peers.specs.Turns.{WorldTurn}
 use Rattle.dm_two_peers.specs.Delivery.{apps, is_closing_hold, is_done_hold, is_unmade, sends_all, IsCarrier}
 use Rattle.dm_machine.specs.Upward.{is_open_hold}
 use Rattle.dm_two_peers.proofs.Columns.{words_at}
@@ -42,7 +42,7 @@ over_of n c = is_done_hold (hold_of n (conn c))
 
 abbrev pub Carried : {P M : Type 0} → Peers P M → (M → Bool) → Bool → World P M → Side → ℕ → List M → List M → Type 0
 Carried m is_app lost w t c said up =
-    WayOnLink is_app lost (over_of (m.node_of (peer_at t w)) c) t (slice_get w.links c) said up
+    WayOnLink is_app lost (over_of (m.node_of (peer_on t w)) c) t (slice_get w.links c) said up
 
 -- a pending link has no marks
 abbrev is_blank_at : Standing → Bool
@@ -75,14 +75,14 @@ blank_out false s good pending =
     (is_when (is_sound_standing t) _ (at_standing is_blank_at blank_checked t) good) pending)).0
 
 -- what the world looked at
-pub handed_ack : (mine : Bool) (k : Concern) (s : Standing) → is_handed mine k s ≡ true → is_ack k ≡ true →
+pub handed_ack : (mine : Bool) (k : LinkConcern) (s : Standing) → is_handed mine k s ≡ true → is_ack k ≡ true →
     is_pending s.phase ≡ true
-handed_ack mine AcksIt s h e = (and_parts mine (is_pending s.phase) h).1
+handed_ack mine MakesLink s h e = (and_parts mine (is_pending s.phase) h).1
 handed_ack mine _ s h e = cc
 
-pub handed_end : (mine : Bool) (k : Concern) (s : Standing) → is_handed mine k s ≡ true → is_end k ≡ true →
+pub handed_end : (mine : Bool) (k : LinkConcern) (s : Standing) → is_handed mine k s ≡ true → is_end k ≡ true →
     is_coming s.in_mark ≡ true
-handed_end mine EndsIt s h e = (and_parts (is_up s.phase && not (is_shut s.own) && s.in_empty) (is_coming s.in_mark)
+handed_end mine EndsLink s h e = (and_parts (is_up s.phase && not (is_shut s.own) && s.in_empty) (is_coming s.in_mark)
     h).1
 handed_end mine _ s h e = cc
 
@@ -90,23 +90,23 @@ pub not_is : (b : Bool) → not b ≡ true → b ≡ false
 not_is true h = cc
 not_is false h = refl
 
-pub up_is : (p : LinkPhase) → is_up p ≡ true → p ≡ Up
-up_is Up h = refl
-up_is Pending h = cc
-up_is Cancelled h = cc
+pub up_is : (p : LinkPhase) → is_up p ≡ true → p ≡ LinkUp
+up_is LinkUp h = refl
+up_is LinkPending h = cc
+up_is LinkCancelled h = cc
 
 pub open_unshut : (e : End) → is_open_end e ≡ true → is_shut e ≡ false
 open_unshut Open h = refl
 open_unshut Fresh h = cc
 open_unshut Shut h = cc
 
-pub held_over : (h : Hold) → is_held (tie_as h) ≡ true → is_done_hold h ≡ true → is_closing_hold h ≡ true
+pub held_over : (h : Hold) → is_tie_held (tie_as h) ≡ true → is_done_hold h ≡ true → is_closing_hold h ≡ true
 held_over hold.ClosingAsI e g = refl
 held_over hold.ClosingAsR e g = refl
 held_over hold.NotHeld e g = cc
 held_over _ e g = cc
 
-pub made_is : (h : Hold) → is_ready HeardOnIt (tie_as h) ≡ true → is_unmade h ≡ false
+pub made_is : (h : Hold) → is_ready HeardOnLink (tie_as h) ≡ true → is_unmade h ≡ false
 made_is hold.Pending e = cc
 made_is hold.NotHeld e = refl
 made_is hold.Made e = refl
@@ -121,12 +121,12 @@ open_tied hold.OpenAsI e = refl
 open_tied hold.OpenAsR e = refl
 open_tied _ e = cc
 
-pub open_held : (t : Tie) → is_open_tie t ≡ true → is_held t ≡ true
+pub open_held : (t : Tie) → is_open_tie t ≡ true → is_tie_held t ≡ true
 open_held t h = by_tie t h
   where
-    by_tie : (t : Tie) → is_open_tie t ≡ true → is_held t ≡ true
-    by_tie MadeOpen h = refl
-    by_tie Taken h = refl
+    by_tie : (t : Tie) → is_open_tie t ≡ true → is_tie_held t ≡ true
+    by_tie ConnectedOpen h = refl
+    by_tie AcceptedTie h = refl
     by_tie _ h = cc
 
 pub same_left : (a b : Bool) → same_bool a b ≡ true → b ≡ true → a ≡ true
@@ -181,25 +181,25 @@ plain_words is_app d (Close c ∷ more) h = by_test (c.0 == d) (plain_words is_a
     by_test true rest = refl
     by_test false rest = rest
 plain_words is_app d (Connect c ∷ more) h = plain_words is_app d more h
-plain_words is_app d (peers.Up x ∷ more) h = plain_words is_app d more h
+plain_words is_app d (peers.HandUp x ∷ more) h = plain_words is_app d more h
 
 -- a world with its peers as they carry messages
 pub record IsCarrying {P M : Type 0} (m : Peers P M) (stands : P → Bool) (w : World P M) : Type 0 where
   pub sound : IsSoundWorld m w
-  pub fits : (s : Side) → IsTrue (stands (peer_at s w))
+  pub fits : (s : Side) → IsTrue (stands (peer_on s w))
 
 pub carrier : {P M : Type 0} (m : Peers P M) (stands : P → Bool) (s : Side) (w : World P M) → IsCarrying m stands w →
-    IsCarrier m stands (peer_at s w)
+    IsCarrier m stands (peer_on s w)
 carrier m stands s w good =
     record { shaped = (side_sound m s w good.sound).own_shaped; fit = good.fits s }
 
 -- where a message comes from
 abbrev pub Front : {P M : Type 0} → World P M → Side → Event M → Type 0
-Front {P} {M} w t (Arrived d x) =
+Front {P} {M} w t (ArrivedEvent d x) =
     (l : Link M) × ((xs : List M) × ((slice_get w.links d.0 ≡ Some l) × ((own_view t l).incoming.messages ≡ x ∷ xs)))
 Front w t _ = ⊤
 
-abbrev pub turn_with : {M : Type 0} → Side → Event M → List (Action M) → Turn M
+abbrev pub turn_with : {M : Type 0} → Side → Event M → List (Action M) → WorldTurn M
 turn_with s e actions = record { side = s; event = e; actions = actions }
 
 abbrev pub names_loss : {M : Type 0} → ℕ → Happening M → Bool

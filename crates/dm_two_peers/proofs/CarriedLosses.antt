@@ -5,7 +5,7 @@ use Rattle.dm_two_peers.specs.Links.{Side, A, B, flip, opens, LinkPhase, End, Ma
 use Rattle.dm_two_peers.specs.Links.{view_of, by_side}
 use Rattle.dm_two_peers.specs.Peers.{Peers}
 use Rattle.dm_two_peers.specs.Steps.{marked}
-use Rattle.dm_two_peers.specs.Worlds.{World, peer_at, with_links, change_at, Done}
+use Rattle.dm_two_peers.specs.Worlds.{World, peer_on, with_links, change_at, DoneWith}
 use Rattle.dm_two_peers.specs.Happens.{take_part, lost_link, lost_messages, whole_in, kept_at, own_view}
 use Rattle.dm_two_peers.specs.Delivery.{apps}
 use Rattle.dm_two_peers.proofs.Closing.{CarriesOn}
@@ -76,14 +76,14 @@ module _ {P M : Type 0} (m : Peers P M) (is_app : M → Bool) (stands : P → Bo
       over said up is f.1 way
 
   pub loss_keeps : (t : Side) (c : ℕ) (w : World P M) (d a b : ℕ) → ((d == c) ≡ true → lost ≡ true) →
-      Keeps m is_app stands carries lost w t c (Done (with_links (change_at d (lost_link m.size a b) w.links) w) []) []
+      Keeps m is_app stands carries lost w t c (DoneWith (with_links (change_at d (lost_link m.size a b) w.links) w) []) []
   loss_keeps t c w d a b is =
       mapped_keeps m is_app stands carries lost t c w (λ l. if d == c then lost_link m.size a b l else l)
       (change_at d (lost_link m.size a b) w.links)
       (change_at-tested d c (d == c) (lost_link m.size a b) w.links refl)
       (λ l said up at way. kept_if m is_app stands carries lost t (d == c) (lost_link m.size a b) l
-      (over_of (m.node_of (peer_at t w)) c) said up
-      (λ named. lost_view a b (opens t l.opener) l (over_of (m.node_of (peer_at t w)) c) said up (is named) way) way)
+      (over_of (m.node_of (peer_on t w)) c) said up
+      (λ named. lost_view a b (opens t l.opener) l (over_of (m.node_of (peer_on t w)) c) said up (is named) way) way)
 
   -- a part of a message
   taken_view : (t s : Side) (k : ℕ) (l : Link M) (over : Bool) (said up : List M) →
@@ -102,12 +102,12 @@ module _ {P M : Type 0} (m : Peers P M) (is_app : M → Bool) (stands : P → Bo
       (sym (view_other B (take_part k) l)) way
 
   pub part_keeps : (t s : Side) (c : ℕ) (w : World P M) (d k : ℕ) →
-      Keeps m is_app stands carries lost w t c (Done (with_links (change_at d (by_side s (take_part k)) w.links) w) [])
+      Keeps m is_app stands carries lost w t c (DoneWith (with_links (change_at d (by_side s (take_part k)) w.links) w) [])
       []
   part_keeps t s c w d k =
       mapped_keeps m is_app stands carries lost t c w (λ l. if d == c then by_side s (take_part k) l else l)
       (change_at d (by_side s (take_part k)) w.links)
       (change_at-tested d c (d == c) (by_side s (take_part k)) w.links refl)
       (λ l said up at way. kept_if m is_app stands carries lost t (d == c) (by_side s (take_part k)) l
-      (over_of (m.node_of (peer_at t w)) c) said up
-      (λ named. taken_view t s k l (over_of (m.node_of (peer_at t w)) c) said up way) way)
+      (over_of (m.node_of (peer_on t w)) c) said up
+      (λ named. taken_view t s k l (over_of (m.node_of (peer_on t w)) c) said up way) way)

@@ -6,9 +6,9 @@ use Rattle.std.proofs.lemmas.Bool.{eqb-true}
 use Rattle.dm_machine.specs.Connection.{hold_of}
 use Rattle.dm_two_peers.specs.Machine.{conn, Node, Tie, tie_of}
 use Rattle.dm_two_peers.specs.Links.{Side, A, B, flip, opens, Link, by_side}
-use Rattle.dm_two_peers.specs.Peers.{Event, Start, Stop, Timeout, Tick, Ack, Nack, Gone, Submit, Arrived, Action, Acts}
-use Rattle.dm_two_peers.specs.Peers.{Peers, concern_by, deed_of, sends_at}
-use Rattle.dm_two_peers.specs.Worlds.{World, peer_at}
+use Rattle.dm_two_peers.specs.Peers.{Event, StartEvent, StopEvent, TimeoutEvent, TickEvent, AckEvent, NackEvent, GoneEvent, SubmitEvent, ArrivedEvent, Action, ActsBy}
+use Rattle.dm_two_peers.specs.Peers.{Peers, concern_by, deed_in, sends_at}
+use Rattle.dm_two_peers.specs.Worlds.{World, peer_on}
 use Rattle.dm_two_peers.specs.Happens.{own_view}
 use Rattle.dm_two_peers.specs.Facts.{is_shut}
 use Rattle.dm_two_peers.specs.Delivery.{submitted_by, handed_up_by, ups_of, apps, SendsSubmitted}
@@ -28,26 +28,26 @@ module _ {P M : Type 0} (m : Peers P M) (is_app : M → Bool) (stands : P → Bo
     (lost : Bool) where
   other_raises : (t : Side) (c : ℕ) (e : Event M) (actions : List (Action M)) →
       handed_up_by t c (turn_with (flip t) e actions) ≡ []
-  other_raises t c (Arrived d x) actions = no_other_raise t (d.0 == c) (ups_of actions)
-  other_raises t c (Submit x) actions = no_other_up t (ups_of actions)
-  other_raises t c (Start d) actions = no_other_up t (ups_of actions)
-  other_raises t c (Stop cause) actions = no_other_up t (ups_of actions)
-  other_raises t c Timeout actions = no_other_up t (ups_of actions)
-  other_raises t c Tick actions = no_other_up t (ups_of actions)
-  other_raises t c (Ack d) actions = no_other_up t (ups_of actions)
-  other_raises t c (Nack d) actions = no_other_up t (ups_of actions)
-  other_raises t c (Gone d) actions = no_other_up t (ups_of actions)
+  other_raises t c (ArrivedEvent d x) actions = no_other_raise t (d.0 == c) (ups_of actions)
+  other_raises t c (SubmitEvent x) actions = no_other_up t (ups_of actions)
+  other_raises t c (StartEvent d) actions = no_other_up t (ups_of actions)
+  other_raises t c (StopEvent cause) actions = no_other_up t (ups_of actions)
+  other_raises t c TimeoutEvent actions = no_other_up t (ups_of actions)
+  other_raises t c TickEvent actions = no_other_up t (ups_of actions)
+  other_raises t c (AckEvent d) actions = no_other_up t (ups_of actions)
+  other_raises t c (NackEvent d) actions = no_other_up t (ups_of actions)
+  other_raises t c (GoneEvent d) actions = no_other_up t (ups_of actions)
 
   abbrev After_other : (t : Side) (w : World P M) (c : ℕ) (e : Event M) (p : P) (actions : List (Action M)) →
       List M → List M → Type 0
   After_other t w c e p actions said up =
-      WayOnLink is_app lost (over_of (m.node_of (peer_at t w)) c) t
+      WayOnLink is_app lost (over_of (m.node_of (peer_on t w)) c) t
       (option_map (by_side (flip t) (stepped_by m is_app stands carries lost c e actions p)) (slice_get w.links c))
       said up
 
   other_by : (t : Side) (w : World P M) (c : ℕ) (e : Event M) (p : P) (actions : List (Action M))
       (said up new more : List M) → IsCarrying m stands w →
-      Hands (flip t) (m.node_of (peer_at (flip t) w)) (m.node_of (peer_at (flip (flip t)) w)) e w.links →
+      Hands (flip t) (m.node_of (peer_on (flip t) w)) (m.node_of (peer_on (flip (flip t)) w)) e w.links →
       apps is_app (words_at c actions) ≡ new →
       ((l : Link M) → slice_get w.links c ≡ Some l → IsNew is_app lost (concern_by e (conn c)) l.phase
       (own_view t l).other new) →
@@ -57,8 +57,8 @@ module _ {P M : Type 0} (m : Peers P M) (is_app : M → Bool) (stands : P → Bo
       subst (λ (ys : List M). After_other t w c e p actions (said ++ new) ys)
       (sym (ap (λ ys. up ++ ys) none_more ∙ append-nil up))
       (on_mapped m is_app stands carries lost t
-      (by_side (flip t) (stepped_by m is_app stands carries lost c e actions p)) (over_of (m.node_of (peer_at t w)) c)
-      (over_of (m.node_of (peer_at t w)) c) said up (said ++ new) up (slice_get w.links c)
+      (by_side (flip t) (stepped_by m is_app stands carries lost c e actions p)) (over_of (m.node_of (peer_on t w)) c)
+      (over_of (m.node_of (peer_on t w)) c) said up (said ++ new) up (slice_get w.links c)
       (λ l at way. other_fits m is_app stands carries lost t w c e p actions l new said up good at
       (hands.handed c l at) words (this l at) way)
       (λ at e g. (ap (λ xs. xs ++ new) e ∙ nothing at, g)) h)
@@ -77,21 +77,21 @@ module _ {P M : Type 0} (m : Peers P M) (is_app : M → Bool) (stands : P → Bo
   or_false false = refl
 
   abbrev new_of : Side → ℕ → M → List (Action M) → List M
-  new_of t c x acts = if opens (flip t) (flip t) && sends_at c (map deed_of acts) then x ∷ [] else []
+  new_of t c x acts = if opens (flip t) (flip t) && sends_at c (map deed_in acts) then x ∷ [] else []
 
   other_submits : (t : Side) (w : World P M) (c : ℕ) (x : M) (p : P) (actions : List (Action M)) (said up : List M) →
       IsCarrying m stands w →
-      Hands (flip t) (m.node_of (peer_at (flip t) w)) (m.node_of (peer_at (flip (flip t)) w)) (Submit x) w.links →
-      m.reply (peer_at (flip t) w) (Submit x) ≡ Acts actions p → Carried m is_app lost w t c said up →
-      After_other t w c (Submit x) p actions (said ++ submitted_by t c (turn_with (flip t) (Submit x) actions))
-      (up ++ handed_up_by t c (turn_with (flip t) (Submit x) actions))
+      Hands (flip t) (m.node_of (peer_on (flip t) w)) (m.node_of (peer_on (flip (flip t)) w)) (SubmitEvent x) w.links →
+      m.reply (peer_on (flip t) w) (SubmitEvent x) ≡ ActsBy actions p → Carried m is_app lost w t c said up →
+      After_other t w c (SubmitEvent x) p actions (said ++ submitted_by t c (turn_with (flip t) (SubmitEvent x) actions))
+      (up ++ handed_up_by t c (turn_with (flip t) (SubmitEvent x) actions))
   other_submits t w c x p actions said up good hands replies h =
       let sides = side_sound m (flip t) w good.sound in
-      let sub = carries.does.submits (peer_at (flip t) w) p x actions (carrier m stands (flip t) w good) replies in
+      let sub = carries.does.submits (peer_on (flip t) w) p x actions (carrier m stands (flip t) w good) replies in
       by_test sub (sub.link == c) refl
     where
       n : Node
-      n = m.node_of (peer_at (flip t) w)
+      n = m.node_of (peer_on (flip t) w)
 
       new_is : (sub : SendsSubmitted is_app n x actions) (b : Bool) → (sub.link == c) ≡ b →
           new_of t c x actions ≡ (if b then x ∷ [] else [])
@@ -112,37 +112,37 @@ module _ {P M : Type 0} (m : Peers P M) (is_app : M → Bool) (stands : P → Bo
       opened sub named = subst (λ d. is_open_hold (hold_of n (conn d)) ≡ true) (eqb-true sub.link c named) sub.opened
 
       by_test : (sub : SendsSubmitted is_app n x actions) (b : Bool) → (sub.link == c) ≡ b →
-          After_other t w c (Submit x) p actions (said ++ submitted_by t c (turn_with (flip t) (Submit x) actions))
-          (up ++ handed_up_by t c (turn_with (flip t) (Submit x) actions))
+          After_other t w c (SubmitEvent x) p actions (said ++ submitted_by t c (turn_with (flip t) (SubmitEvent x) actions))
+          (up ++ handed_up_by t c (turn_with (flip t) (SubmitEvent x) actions))
       by_test sub true named =
-          other_by t w c (Submit x) p actions said up (new_of t c x actions) _ good hands
+          other_by t w c (SubmitEvent x) p actions said up (new_of t c x actions) _ good hands
           (words_are sub true named ∙ sym (new_is sub true named))
           (λ l at. let is = tie_open m is_app stands carries lost (flip t) w c l good at (opened sub named) in
           says_one refl is.0 (ap (λ e. is_shut e) (sym (flip_view m is_app stands carries lost t l)) ∙ is.1))
-          (λ at. absurd (no_link sub named at)) (other_raises t c (Submit x) actions) h
+          (λ at. absurd (no_link sub named at)) (other_raises t c (SubmitEvent x) actions) h
         where
           no_link : (sub : SendsSubmitted is_app n x actions) → (sub.link == c) ≡ true → slice_get w.links c ≡ None → ⊥
           no_link sub named at =
-              let there = held_there (flip t) n (m.node_of (peer_at (flip (flip t)) w)) w.links c
+              let there = held_there (flip t) n (m.node_of (peer_on (flip (flip t)) w)) w.links c
               (side_sound m (flip t) w good.sound)
               (open_held (tie_of n c) (open_tied (hold_of n (conn c)) (opened sub named))) in
               let is = there.1 in cc
       by_test sub false named =
-          other_by t w c (Submit x) p actions said up (new_of t c x actions) _ good hands
+          other_by t w c (SubmitEvent x) p actions said up (new_of t c x actions) _ good hands
           (words_are sub false named ∙ sym (new_is sub false named))
           (λ l at. says_none (new_is sub false named)) (λ at. new_is sub false named)
-          (other_raises t c (Submit x) actions) h
+          (other_raises t c (SubmitEvent x) actions) h
 
   other_calm : (t : Side) (w : World P M) (c : ℕ) (e : Event M) (p : P) (actions : List (Action M)) (said up : List M)
       (new : List M) → IsCarrying m stands w →
-      Hands (flip t) (m.node_of (peer_at (flip t) w)) (m.node_of (peer_at (flip (flip t)) w)) e w.links →
-      m.reply (peer_at (flip t) w) e ≡ Acts actions p → ((x : M) → e ≡ Submit x → ⊥) → new ≡ [] →
+      Hands (flip t) (m.node_of (peer_on (flip t) w)) (m.node_of (peer_on (flip (flip t)) w)) e w.links →
+      m.reply (peer_on (flip t) w) e ≡ ActsBy actions p → ((x : M) → e ≡ SubmitEvent x → ⊥) → new ≡ [] →
       Carried m is_app lost w t c said up →
       After_other t w c e p actions (said ++ new) (up ++ handed_up_by t c (turn_with (flip t) e actions))
   other_calm t w c e p actions said up new good hands replies other is h =
       let sides = side_sound m (flip t) w good.sound in
       other_by t w c e p actions said up new (handed_up_by t c (turn_with (flip t) e actions)) good hands
-      (plain_words is_app c actions (carries.does.others (peer_at (flip t) w) p e actions
+      (plain_words is_app c actions (carries.does.others (peer_on (flip t) w) p e actions
       (carrier m stands (flip t) w good) other replies)
       ∙ sym is)
       (λ l at. says_none is) (λ at. is) (other_raises t c e actions) h
@@ -150,28 +150,28 @@ module _ {P M : Type 0} (m : Peers P M) (is_app : M → Bool) (stands : P → Bo
   abbrev OtherStep : (t : Side) (w : World P M) (c : ℕ) (e : Event M) (p : P) (actions : List (Action M)) → Type 0
   OtherStep t w c e p actions =
       (said up : List M) → IsCarrying m stands w →
-      Hands (flip t) (m.node_of (peer_at (flip t) w)) (m.node_of (peer_at (flip (flip t)) w)) e w.links →
-      m.reply (peer_at (flip t) w) e ≡ Acts actions p → Carried m is_app lost w t c said up →
+      Hands (flip t) (m.node_of (peer_on (flip t) w)) (m.node_of (peer_on (flip (flip t)) w)) e w.links →
+      m.reply (peer_on (flip t) w) e ≡ ActsBy actions p → Carried m is_app lost w t c said up →
       After_other t w c e p actions (said ++ submitted_by t c (turn_with (flip t) e actions))
       (up ++ handed_up_by t c (turn_with (flip t) e actions))
 
   pub other_step : (t : Side) (w : World P M) (c : ℕ) (e : Event M) (p : P) (actions : List (Action M)) →
       OtherStep t w c e p actions
-  other_step t w c (Submit x) p actions said up good hands replies h =
+  other_step t w c (SubmitEvent x) p actions said up good hands replies h =
       other_submits t w c x p actions said up good hands replies h
-  other_step t w c (Start d) p actions said up good hands replies h =
-      other_calm t w c (Start d) p actions said up [] good hands replies (λ x q. cc) refl h
-  other_step t w c (Stop cause) p actions said up good hands replies h =
-      other_calm t w c (Stop cause) p actions said up [] good hands replies (λ x q. cc) refl h
-  other_step t w c Timeout p actions said up good hands replies h =
-      other_calm t w c Timeout p actions said up [] good hands replies (λ x q. cc) refl h
-  other_step t w c Tick p actions said up good hands replies h =
-      other_calm t w c Tick p actions said up [] good hands replies (λ x q. cc) refl h
-  other_step t w c (Ack d) p actions said up good hands replies h =
-      other_calm t w c (Ack d) p actions said up [] good hands replies (λ x q. cc) refl h
-  other_step t w c (Nack d) p actions said up good hands replies h =
-      other_calm t w c (Nack d) p actions said up [] good hands replies (λ x q. cc) refl h
-  other_step t w c (Gone d) p actions said up good hands replies h =
-      other_calm t w c (Gone d) p actions said up [] good hands replies (λ x q. cc) refl h
-  other_step t w c (Arrived d x) p actions said up good hands replies h =
-      other_calm t w c (Arrived d x) p actions said up [] good hands replies (λ y q. cc) refl h
+  other_step t w c (StartEvent d) p actions said up good hands replies h =
+      other_calm t w c (StartEvent d) p actions said up [] good hands replies (λ x q. cc) refl h
+  other_step t w c (StopEvent cause) p actions said up good hands replies h =
+      other_calm t w c (StopEvent cause) p actions said up [] good hands replies (λ x q. cc) refl h
+  other_step t w c TimeoutEvent p actions said up good hands replies h =
+      other_calm t w c TimeoutEvent p actions said up [] good hands replies (λ x q. cc) refl h
+  other_step t w c TickEvent p actions said up good hands replies h =
+      other_calm t w c TickEvent p actions said up [] good hands replies (λ x q. cc) refl h
+  other_step t w c (AckEvent d) p actions said up good hands replies h =
+      other_calm t w c (AckEvent d) p actions said up [] good hands replies (λ x q. cc) refl h
+  other_step t w c (NackEvent d) p actions said up good hands replies h =
+      other_calm t w c (NackEvent d) p actions said up [] good hands replies (λ x q. cc) refl h
+  other_step t w c (GoneEvent d) p actions said up good hands replies h =
+      other_calm t w c (GoneEvent d) p actions said up [] good hands replies (λ x q. cc) refl h
+  other_step t w c (ArrivedEvent d x) p actions said up good hands replies h =
+      other_calm t w c (ArrivedEvent d x) p actions said up [] good hands replies (λ y q. cc) refl h

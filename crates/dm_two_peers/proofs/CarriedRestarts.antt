@@ -5,7 +5,7 @@ use Rattle.std.proofs.lemmas.Option.{slice_get-map}
 use Rattle.dm_two_peers.specs.Machine.{Elsewhere}
 use Rattle.dm_two_peers.specs.Links.{Side, A, B, flip, opens, Link, View, by_side}
 use Rattle.dm_two_peers.specs.Peers.{Peers}
-use Rattle.dm_two_peers.specs.Worlds.{World, peer_at, with_peer, Done}
+use Rattle.dm_two_peers.specs.Worlds.{World, peer_on, with_peer, DoneWith}
 use Rattle.dm_two_peers.specs.Happens.{restarted, restart_links, own_view}
 use Rattle.dm_two_peers.specs.Follows.{IsMachine}
 use Rattle.dm_two_peers.proofs.StandingOthers.{closes_own}
@@ -52,7 +52,7 @@ module _ {P M : Type 0} (m : Peers P M) (is_app : M → Bool) (stands : P → Bo
       [] v.incoming.mark said up refl (says_none refl) (λ a. cc) (λ a. cc) way))
 
   restart_links_keep : (t s : Side) (c : ℕ) (w : World P M) (over' : Bool) (said up : List M) →
-      ((l : Link M) (said up : List M) → WayOnView is_app lost (over_of (m.node_of (peer_at t w)) c) (own_view t l) said
+      ((l : Link M) (said up : List M) → WayOnView is_app lost (over_of (m.node_of (peer_on t w)) c) (own_view t l) said
       up →
       WayOnView is_app lost over' (own_view t (by_side s (restarted (opens s l.opener)) l)) said up) →
       Carried m is_app lost w t c said up →
@@ -61,12 +61,12 @@ module _ {P M : Type 0} (m : Peers P M) (is_app : M → Bool) (stands : P → Bo
       let f : Link M → Link M = λ l. by_side s (restarted (opens s l.opener)) l in
       padded m is_app stands carries lost over' t (slice_get (restart_links s w.links) c) said up [] [] refl refl
       (subst (λ (o : Option (Link M)). WayOnLink is_app lost over' t o said up) (sym (slice_get-map f w.links c))
-      (on_mapped m is_app stands carries lost t f (over_of (m.node_of (peer_at t w)) c) over' said up said up
+      (on_mapped m is_app stands carries lost t f (over_of (m.node_of (peer_on t w)) c) over' said up said up
       (slice_get w.links c)
       (λ l at way. each l said up way) (λ at e g. (e, g)) h))
 
   pub restart_keeps : IsMachine m → (t s : Side) (c : ℕ) (w : World P M) →
-      Keeps m is_app stands carries lost w t c (Done (with_peer s (m.reset (peer_at s w)) (restart_links s w.links) w)
+      Keeps m is_app stands carries lost w t c (DoneWith (with_peer s (m.reset (peer_on s w)) (restart_links s w.links) w)
       []) []
   restart_keeps is A A c w said up h =
       restart_links_keep A A c w (over_of (m.node_of (m.reset w.a)) c) said up

@@ -2,10 +2,10 @@
 use Rattle.std.proofs.Common.{◌≡◌, ℕ, zero, suc, Bool, true, false, Option, Some, List, [], ◌∷◌, ◌++◌, length}
 use Rattle.std.proofs.Common.{slice_get, refl, sym, ap, subst, ◌∙◌, append-nil, inl, inr}
 use Rattle.dm_machine.specs.Connection.{hold_of}
-use Rattle.dm_two_peers.specs.Machine.{conn, Elsewhere, is_held}
+use Rattle.dm_two_peers.specs.Machine.{conn, Elsewhere, is_tie_held}
 use Rattle.dm_two_peers.specs.Links.{Side, A, B, flip, opens, Link, View, by_side, new_link}
-use Rattle.dm_two_peers.specs.Peers.{Event, Start, Submit, Action, Reply, Acts, Declines, Peers}
-use Rattle.dm_two_peers.specs.Worlds.{World, peer_at, perform, after_reply}
+use Rattle.dm_two_peers.specs.Peers.{Event, StartEvent, SubmitEvent, Action, Reply, ActsBy, Declines, Peers}
+use Rattle.dm_two_peers.specs.Worlds.{World, peer_on, perform, after_reply}
 use Rattle.dm_two_peers.specs.Happens.{own_view}
 use Rattle.dm_two_peers.specs.Facts.{is_up, is_open_end}
 use Rattle.dm_two_peers.specs.Turns.{turn_by}
@@ -70,28 +70,28 @@ module _ {P M : Type 0} (m : Peers P M) (is_app : M → Bool) (stands : P → Bo
 
   start_stays : (t : Side) (w : World P M) (c : ℕ) (e : Event M) (p : P) (actions : List (Action M)) (l : Link M) →
       IsCarrying m stands w → slice_get (w.links ++ new_link t ∷ []) c ≡ Some l →
-      m.reply (peer_at t w) e ≡ Acts actions p →
-      is_up l.phase ≡ true → is_open_end (own_view t l).own ≡ true → over_of (m.node_of (peer_at t w)) c ≡ true →
+      m.reply (peer_on t w) e ≡ ActsBy actions p →
+      is_up l.phase ≡ true → is_open_end (own_view t l).own ≡ true → over_of (m.node_of (peer_on t w)) c ≡ true →
       over_of (m.node_of p) c ≡ true
   start_stays t w c e p actions l good at replies is_now opened over =
       elim (appended_at w.links (new_link t) c l at) [
         | inl there ↦
-            let n = m.node_of (peer_at t w) in
+            let n = m.node_of (peer_on t w) in
             let st = standing_at m t w c l in
             let sides = side_sound m t w good.sound in
-            let held = same_right (is_open_end st.own) (is_held st.own_tie)
+            let held = same_right (is_open_end st.own) (is_tie_held st.own_tie)
             (is_when (is_up st.phase) _ (conclusion 0 (opens t l.opener) st (sides.each c l there)) is_now) opened in
-            carries.closes (peer_at t w) p e actions c sides.own_shaped replies
+            carries.closes (peer_on t w) p e actions c sides.own_shaped replies
             (held_over (hold_of n (conn c)) held over)
         | inr q ↦ let none_up = subst (λ z. is_up z.phase ≡ true) q.1 is_now in cc
       ]
 
   start_own : (t : Side) (w : World P M) (c : ℕ) (p : P) (e : Event M) (actions : List (Action M)) (said up : List M) →
-      IsCarrying m stands w → m.reply (peer_at t w) e ≡ Acts actions p → Carried m is_app lost w t c said up →
+      IsCarrying m stands w → m.reply (peer_on t w) e ≡ ActsBy actions p → Carried m is_app lost w t c said up →
       WayOnLink is_app lost (over_of (m.node_of p) c) t
       (slice_get (perform t actions (w.links ++ new_link t ∷ [])) c) said up
   start_own t w c p e actions said up good replies h =
-      let over = over_of (m.node_of (peer_at t w)) c in
+      let over = over_of (m.node_of (peer_on t w)) c in
       let over' = over_of (m.node_of p) c in
       let links = w.links ++ new_link t ∷ [] in
       subst (λ (o : Option (Link M)). WayOnLink is_app lost over' t o said up) (sym (performed_at t actions c links))
@@ -115,10 +115,10 @@ module _ {P M : Type 0} (m : Peers P M) (is_app : M → Bool) (stands : P → Bo
 
   start_other : (t : Side) (w : World P M) (c : ℕ) (p : P) (e : Event M) (actions : List (Action M))
       (said up : List M) → apps is_app (words_at c actions) ≡ [] → Carried m is_app lost w t c said up →
-      WayOnLink is_app lost (over_of (m.node_of (peer_at t w)) c) t
+      WayOnLink is_app lost (over_of (m.node_of (peer_on t w)) c) t
       (slice_get (perform (flip t) actions (w.links ++ new_link (flip t) ∷ [])) c) said up
   start_other t w c p e actions said up words h =
-      let over = over_of (m.node_of (peer_at t w)) c in
+      let over = over_of (m.node_of (peer_on t w)) c in
       let links = w.links ++ new_link (flip t) ∷ [] in
       subst (λ (o : Option (Link M)). WayOnLink is_app lost over t o said up)
       (sym (performed_at (flip t) actions c links))
@@ -135,42 +135,42 @@ module _ {P M : Type 0} (m : Peers P M) (is_app : M → Bool) (stands : P → Bo
       (λ at e g. (e, g)) (appends t (flip t) over w.links c said up h))
 
   abbrev pub start_event : World P M → Event M
-  start_event w = Start (conn (length w.links))
+  start_event w = StartEvent (conn (length w.links))
 
   abbrev StartKeeps : Side → Side → ℕ → World P M → Reply P M → Type 0
   StartKeeps t s c w r = Keeps m is_app stands carries lost w t c (after_reply m s (start_event w) w r)
       (turn_by s (start_event w) r)
 
-  not_submit : (w : World P M) (x : M) → start_event w ≡ Submit x → ⊥
+  not_submit : (w : World P M) (x : M) → start_event w ≡ SubmitEvent x → ⊥
   not_submit w x h = cc
 
   plain_start : (s : Side) (w : World P M) (c : ℕ) (p : P) (actions : List (Action M)) → IsCarrying m stands w →
-      m.reply (peer_at s w) (start_event w) ≡ Acts actions p → apps is_app (words_at c actions) ≡ []
+      m.reply (peer_on s w) (start_event w) ≡ ActsBy actions p → apps is_app (words_at c actions) ≡ []
   plain_start s w c p actions good replies =
-      plain_words is_app c actions (carries.does.others (peer_at s w) p (start_event w) actions
+      plain_words is_app c actions (carries.does.others (peer_on s w) p (start_event w) actions
       (carrier m stands s w good) (not_submit w) replies)
 
   started_silent : (s : Side) (w : World P M) (p : P) (actions : List (Action M)) → IsCarrying m stands w →
-      m.reply (peer_at s w) (start_event w) ≡ Acts actions p → ups_of actions ++ [] ≡ []
+      m.reply (peer_on s w) (start_event w) ≡ ActsBy actions p → ups_of actions ++ [] ≡ []
   started_silent s w p actions good replies =
       append-nil (ups_of actions)
-      ∙ carries.does.silent (peer_at s w) p (start_event w) actions (carrier m stands s w good) (λ d x q. cc) replies
+      ∙ carries.does.silent (peer_on s w) p (start_event w) actions (carrier m stands s w good) (λ d x q. cc) replies
 
   pub start_keeps : (t s : Side) (c : ℕ) (w : World P M) (r : Reply P M) → IsCarrying m stands w →
-      m.reply (peer_at s w) (start_event w) ≡ r → StartKeeps t s c w r
+      m.reply (peer_on s w) (start_event w) ≡ r → StartKeeps t s c w r
   start_keeps t s c w Declines good replies said up h = padded m is_app stands carries lost _ t _ said up [] [] refl
       refl h
-  start_keeps A A c w (Acts actions p) good replies said up h =
+  start_keeps A A c w (ActsBy actions p) good replies said up h =
       padded m is_app stands carries lost _ A _ said up [] _ refl (started_silent A w p actions good replies)
       (start_own A w c p (start_event w) actions said up good replies h)
-  start_keeps B B c w (Acts actions p) good replies said up h =
+  start_keeps B B c w (ActsBy actions p) good replies said up h =
       padded m is_app stands carries lost _ B _ said up [] _ refl (started_silent B w p actions good replies)
       (start_own B w c p (start_event w) actions said up good replies h)
-  start_keeps A B c w (Acts actions p) good replies said up h =
+  start_keeps A B c w (ActsBy actions p) good replies said up h =
       padded m is_app stands carries lost _ A _ said up [] [] refl refl
       (start_other A w c p (start_event w) actions said up
       (plain_start B w c p actions good replies) h)
-  start_keeps B A c w (Acts actions p) good replies said up h =
+  start_keeps B A c w (ActsBy actions p) good replies said up h =
       padded m is_app stands carries lost _ B _ said up [] [] refl refl
       (start_other B w c p (start_event w) actions said up
       (plain_start A w c p actions good replies) h)

@@ -2,7 +2,7 @@
 use Rattle.std.proofs.Common.{◌≡◌, ◌⊎◌, inl, inr, ℕ, Bool, true, false, ◌&&◌, refl, sym}
 use Rattle.std.proofs.Common.{subst}
 use Rattle.std.proofs.lemmas.Bool.{and_parts, and_from}
-use Rattle.dm_two_peers.specs.Machine.{Concern, Elsewhere, Tie, Unheld}
+use Rattle.dm_two_peers.specs.Machine.{LinkConcern, Elsewhere, Tie, Unheld}
 use Rattle.dm_two_peers.specs.Facts.{Standing, turned_over, is_sound_standing, is_up}
 use Rattle.dm_two_peers.proofs.Every.{all_true, at, nth, every_bool, every_concern}
 use Rattle.dm_two_peers.proofs.Every.{at_bool, at_tie, at_concern, at_standing}
@@ -17,14 +17,14 @@ sound_turned : (mine : Bool) (s : Standing) → turned_over mine (turned_over mi
 sound_turned true s = refl
 sound_turned false s = refl
 
-pub record IsStepOf (mine : Bool) (k : Concern) (s : Standing) : Type 0 where
+pub record IsStepOf (mine : Bool) (k : LinkConcern) (s : Standing) : Type 0 where
   pub ready : is_ready k s.own_tie ≡ true
   pub after : (t : Tie) (closed sent : Bool) → is_allowed k s.own_tie t closed sent ≡ true →
       after_pop k s.in_empty
       (λ ie. after_put (puts_in k sent s) closed s.out_empty
       (λ oe. is_sound_standing (turned_over mine (standing_after k t closed ie oe s)))) ≡ true
 
-step_of : (mine : Bool) (k : Concern) (s : Standing) → step_by mine k s ≡ true → is_handed mine k s ≡ true →
+step_of : (mine : Bool) (k : LinkConcern) (s : Standing) → step_by mine k s ≡ true → is_handed mine k s ≡ true →
     IsStepOf mine k s
 step_of mine k s h handed =
     let here = is_when (is_handed mine k s) _ h handed in
@@ -38,7 +38,7 @@ step_of mine k s h handed =
           closed) sent) ok;
     }
 
-pub step_at : (mine : Bool) (k : Concern) (s : Standing) → is_sound_standing (turned_over mine s) ≡ true →
+pub step_at : (mine : Bool) (k : LinkConcern) (s : Standing) → is_sound_standing (turned_over mine s) ≡ true →
     is_handed mine k s ≡ true → IsStepOf mine k s
 step_at true k s good handed =
     step_of true k s (at_concern (λ k. step_by true k s)
@@ -51,7 +51,7 @@ step_at false k s good handed =
     false) k)
     handed
 
-pub spent_of : (mine : Bool) (k : Concern) (s : Standing) → is_sound_standing (turned_over mine s) ≡ true →
+pub spent_of : (mine : Bool) (k : LinkConcern) (s : Standing) → is_sound_standing (turned_over mine s) ≡ true →
     spent_at mine k s ≡ true
 spent_of true k s good =
     at_concern (λ k. spent_at true k s)

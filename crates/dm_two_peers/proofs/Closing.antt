@@ -4,12 +4,12 @@ use Rattle.std.proofs.lemmas.List.Elements.{All-contains}
 use Rattle.std.proofs.lemmas.List.Sums.{AllPass-from_list_all}
 use Rattle.std.specs.List.{list_all}
 use Rattle.std.specs.Prelude.{Contains}
-use Rattle.dm_machine.specs.Moves.{Outcome}
+use Rattle.dm_machine.specs.Moves.{NodeOutcome}
 use Rattle.dm_machine.specs.Connection.{Hold, hold_of, orders_to, AtConnection}
 use Rattle.dm_machine.specs.Connection as machine
-use Rattle.dm_machine.specs.Changes.{Change, change, allowed}
+use Rattle.dm_machine.specs.Changes.{Change, changed_to, allowed}
 use Rattle.dm_two_peers.specs.Machine.{conn, Node, is_shaped}
-use Rattle.dm_two_peers.specs.Peers.{Event, Action, Reply, Acts, Peers}
+use Rattle.dm_two_peers.specs.Peers.{Event, Action, Reply, ActsBy, Peers}
 use Rattle.dm_two_peers.specs.Follows.{FollowsMachine, IsMachine}
 use Rattle.dm_two_peers.specs.Delivery.{is_closing_hold, is_done_hold, CarriesMessages}
 use Rattle.dm_two_peers.proofs.Every.{all_true}
@@ -39,7 +39,7 @@ closing_over machine.ClosingAsR e = refl
 closing_over _ e = cc
 
 by_follows : {P M : Type 0} (m : Peers P M) (p next : P) (e : Event M) (actions : List (Action M)) (c : ℕ)
-    (r : Reply P M) → MachineLaws → IsTrue (is_shaped (m.node_of p)) → r ≡ Acts actions next → FollowsMachine m p e r →
+    (r : Reply P M) → MachineLaws → IsTrue (is_shaped (m.node_of p)) → r ≡ ActsBy actions next → FollowsMachine m p e r →
     is_closing_hold (hold_of (m.node_of p) (conn c)) ≡ true → is_done_hold (hold_of (m.node_of next) (conn c)) ≡ true
 by_follows {P} {M} m p next e actions c r laws shaped is h closing =
     let n = m.node_of p in
@@ -48,11 +48,11 @@ by_follows {P} {M} m p next e actions c r laws shaped is h closing =
       | inl step ↦
           let mk = machine.concern_of step.input (conn c) in
           let orders = orders_to (conn c) step.commands in
-          let raw : Contains (allowed mk (hold_of n (conn c))) (change (hold_of n' (conn c)) orders) =
-          subst (λ (o : Outcome). AtConnection
-          (λ j before after os. Contains (allowed j before) (change after os)) n step.input (conn c) o)
+          let raw : Contains (allowed mk (hold_of n (conn c))) (changed_to (hold_of n' (conn c)) orders) =
+          subst (λ (o : NodeOutcome). AtConnection
+          (λ j before after os. Contains (allowed j before) (changed_to after os)) n step.input (conn c) o)
           step.moves (laws.changes n step.input step.wins (conn c) shaped) in
-          closing_here mk (hold_of n (conn c)) (change (hold_of n' (conn c)) orders) raw closing
+          closing_here mk (hold_of n (conn c)) (changed_to (hold_of n' (conn c)) orders) raw closing
       | inr drop ↦
           closing_over (hold_of n' (conn c))
           (subst (λ (x : Node). is_closing_hold (hold_of x (conn c)) ≡ true) (sym drop.stays) closing)
@@ -62,7 +62,7 @@ by_follows {P} {M} m p next e actions c r laws shaped is h closing =
 pub record CarriesOn {P M : Type 0} (m : Peers P M) (is_app : M → Bool) (stands : P → Bool) : Type 0 where
   pub does : CarriesMessages m is_app stands
   pub closes : (p next : P) (e : Event M) (actions : List (Action M)) (c : ℕ) → IsTrue (is_shaped (m.node_of p)) →
-      m.reply p e ≡ Acts actions next → IsTrue (is_closing_hold (hold_of (m.node_of p) (conn c))) →
+      m.reply p e ≡ ActsBy actions next → IsTrue (is_closing_hold (hold_of (m.node_of p) (conn c))) →
       IsTrue (is_done_hold (hold_of (m.node_of next) (conn c)))
 
 pub carries_on_proof : {P M : Type 0} (m : Peers P M) (is_app : M → Bool) (stands : P → Bool) → MachineLaws →

@@ -1,11 +1,11 @@
 -- What a step does to a link by columns: each part of a view after it, and the sum of the actions.
 use Rattle.std.proofs.Common.{◌≡◌, ℕ, Bool, true, false, ◌==◌, if◌then◌else◌, List, [], ◌∷◌, map, refl}
 use Rattle.std.specs.Bool.{⊤}
-use Rattle.dm_two_peers.specs.Machine.{Concern, Elsewhere, StartsIt, AcksIt, NacksIt, EndsIt, HeardOnIt}
-use Rattle.dm_two_peers.specs.Links.{LinkPhase, Up, End, Shut, Mark, NoMark, Direction, empty_direction, View}
-use Rattle.dm_two_peers.specs.Peers.{Action, Send, Close, Connect, deed_of, closes_at}
+use Rattle.dm_two_peers.specs.Machine.{LinkConcern, Elsewhere, StartsLink, MakesLink, FailsLink, EndsLink, HeardOnLink}
+use Rattle.dm_two_peers.specs.Links.{LinkPhase, LinkUp, End, Shut, Mark, NoMark, Direction, empty_direction, View}
+use Rattle.dm_two_peers.specs.Peers.{Action, Send, Close, Connect, deed_in, closes_at}
 use Rattle.dm_two_peers.specs.Peers as peers
-use Rattle.dm_two_peers.specs.Steps.{added, entered, with_sent, with_close, settled}
+use Rattle.dm_two_peers.specs.Steps.{queued, entered, with_sent, with_close, settled_view}
 
 -- a view of these parts, and with nothing else in it
 abbrev seen : {M : Type 0} → LinkPhase → End → End → Direction M → Direction M → View M
@@ -16,31 +16,31 @@ abbrev bare : Mark → Direction ⊤
 bare mark = record { messages = []; taken = 0; mark = mark }
 
 -- each part of a view after an event
-abbrev pub phase_at : Concern → LinkPhase → LinkPhase
+abbrev pub phase_at : LinkConcern → LinkPhase → LinkPhase
 phase_at k p = (entered k (seen p Shut Shut (bare NoMark) (bare NoMark))).phase
 
-abbrev pub own_at : Concern → End → End
-own_at k own = (entered k (seen Up own Shut (bare NoMark) (bare NoMark))).own
+abbrev pub own_at : LinkConcern → End → End
+own_at k own = (entered k (seen LinkUp own Shut (bare NoMark) (bare NoMark))).own
 
-abbrev pub other_at : Concern → End → End
-other_at k other = (entered k (seen Up Shut other (bare NoMark) (bare NoMark))).other
+abbrev pub other_at : LinkConcern → End → End
+other_at k other = (entered k (seen LinkUp Shut other (bare NoMark) (bare NoMark))).other
 
-abbrev pub messages_at : {M : Type 0} → Concern → List M → List M
+abbrev pub messages_at : {M : Type 0} → LinkConcern → List M → List M
 messages_at k ms =
     (entered k
-    (seen Up Shut Shut (record { messages = ms; taken = 0; mark = NoMark }) empty_direction)).incoming.messages
+    (seen LinkUp Shut Shut (record { messages = ms; taken = 0; mark = NoMark }) empty_direction)).incoming.messages
 
-abbrev pub taken_at : Concern → ℕ → ℕ
+abbrev pub taken_at : LinkConcern → ℕ → ℕ
 taken_at k n =
-    (entered k (seen Up Shut Shut (record { messages = []; taken = n; mark = NoMark }) (bare NoMark))).incoming.taken
+    (entered k (seen LinkUp Shut Shut (record { messages = []; taken = n; mark = NoMark }) (bare NoMark))).incoming.taken
 
-abbrev pub incoming_mark_at : Concern → Mark → Mark
-incoming_mark_at k mark = (entered k (seen Up Shut Shut (bare mark) (bare NoMark))).incoming.mark
+abbrev pub incoming_mark_at : LinkConcern → Mark → Mark
+incoming_mark_at k mark = (entered k (seen LinkUp Shut Shut (bare mark) (bare NoMark))).incoming.mark
 
-abbrev pub outgoing_mark_at : Concern → End → Mark → Mark
-outgoing_mark_at k own mark = (entered k (seen Up own Shut (bare NoMark) (bare mark))).outgoing.mark
+abbrev pub outgoing_mark_at : LinkConcern → End → Mark → Mark
+outgoing_mark_at k own mark = (entered k (seen LinkUp own Shut (bare NoMark) (bare mark))).outgoing.mark
 
-abbrev pub entered_columns : {M : Type 0} → Concern → View M → View M
+abbrev pub entered_columns : {M : Type 0} → LinkConcern → View M → View M
 entered_columns k v =
     record {
       phase = phase_at k v.phase;
@@ -60,13 +60,13 @@ entered_columns k v =
       };
     }
 
-pub entered_by_columns : {M : Type 0} (k : Concern) (v : View M) → entered k v ≡ entered_columns k v
+pub entered_by_columns : {M : Type 0} (k : LinkConcern) (v : View M) → entered k v ≡ entered_columns k v
 entered_by_columns Elsewhere v = refl
-entered_by_columns StartsIt v = refl
-entered_by_columns AcksIt v = refl
-entered_by_columns NacksIt v = refl
-entered_by_columns EndsIt v = refl
-entered_by_columns HeardOnIt v = refl
+entered_by_columns StartsLink v = refl
+entered_by_columns MakesLink v = refl
+entered_by_columns FailsLink v = refl
+entered_by_columns EndsLink v = refl
+entered_by_columns HeardOnLink v = refl
 
 -- each part of a view after a Close or none
 abbrev pub phase_after : Bool → LinkPhase → LinkPhase
@@ -90,7 +90,7 @@ summed closed words v =
       other = v.other;
       incoming = v.incoming;
       outgoing = record {
-        messages = added v.phase v.outgoing.mark words v.outgoing.messages;
+        messages = queued v.phase v.outgoing.mark words v.outgoing.messages;
         taken =
             v.outgoing.taken;
         mark = mark_after closed v.phase v.outgoing.mark;
@@ -103,7 +103,7 @@ acted d [] v = v
 acted d (Send c m ∷ actions) v = acted d actions (if c.0 == d then with_sent m v else v)
 acted d (Close c ∷ actions) v = acted d actions (if c.0 == d then with_close v else v)
 acted d (Connect c ∷ actions) v = acted d actions v
-acted d (peers.Up m ∷ actions) v = acted d actions v
+acted d (peers.HandUp m ∷ actions) v = acted d actions v
 
 -- what is said on link d before it is closed
 abbrev pub words_at : {M : Type 0} → ℕ → List (Action M) → List M
@@ -111,11 +111,11 @@ words_at d [] = []
 words_at d (Send c m ∷ actions) = if c.0 == d then m ∷ words_at d actions else words_at d actions
 words_at d (Close c ∷ actions) = if c.0 == d then [] else words_at d actions
 words_at d (Connect c ∷ actions) = words_at d actions
-words_at d (peers.Up m ∷ actions) = words_at d actions
+words_at d (peers.HandUp m ∷ actions) = words_at d actions
 
 abbrev pub is_closed_at : {M : Type 0} → ℕ → List (Action M) → Bool
-is_closed_at d actions = closes_at d (map deed_of actions)
+is_closed_at d actions = closes_at d (map deed_in actions)
 
 -- the whole step
-abbrev pub stepped : {M : Type 0} → Concern → Bool → ℕ → List (Action M) → View M → View M
-stepped k holds d actions v = settled k holds (acted d actions (entered k v))
+abbrev pub stepped : {M : Type 0} → LinkConcern → Bool → ℕ → List (Action M) → View M → View M
+stepped k holds d actions v = settled_view k holds (acted d actions (entered k v))

@@ -7,7 +7,7 @@ use Rattle.dm_two_peers.specs.Peers.{Peers}
 use Rattle.dm_two_peers.specs.Worlds.{World}
 use Rattle.dm_two_peers.specs.Happens.{own_view}
 use Rattle.dm_two_peers.specs.Quiet.{is_in_part, is_in_part_at}
-use Rattle.dm_two_peers.specs.Streams.{IsFront}
+use Rattle.dm_two_peers.specs.Streams.{IsNextTowards}
 use Rattle.dm_two_peers.specs.Counting.{EachPieceCounts}
 
 is_less : (a b : ℕ) → a < b → nat_lt a b ≡ true
@@ -18,7 +18,7 @@ not_less a b h = grind (arith, nat_tests, h)
 
 -- the test at the front message
 at_front : {P M : Type 0} (m : Peers P M) (w : World P M) (c : ℕ) (s : Side) (l : Link M) (x : M) (more : List M)
-    (k : ℕ) → IsFront w c s l x more →
+    (k : ℕ) → IsNextTowards w c s l x more →
     is_in_part_at m.size s k (slice_get w.links c) ≡ nat_lt ((own_view s l).incoming.taken + k) (m.size x)
 at_front m w c s l x more k front =
     let d = (own_view s l).incoming in

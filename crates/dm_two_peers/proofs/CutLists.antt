@@ -2,13 +2,13 @@
 use Rattle.std.proofs.Common.{◌≡◌, ℕ, ◌==◌, Bool, true, false, ◌&&◌, nat_lt, if◌then◌else◌}
 use Rattle.std.proofs.Common.{List, [], ◌∷◌, ◌++◌, refl, sym, subst}
 use Rattle.std.proofs.lemmas.Bool.{and_parts, and_from, eqb-true}
-use Rattle.dm_two_peers.specs.Machine.{Concern, Elsewhere, StartsIt, AcksIt, NacksIt, EndsIt, HeardOnIt}
-use Rattle.dm_two_peers.specs.Links.{LinkPhase, Pending, Up, Cancelled, Mark}
+use Rattle.dm_two_peers.specs.Machine.{LinkConcern, Elsewhere, StartsLink, MakesLink, FailsLink, EndsLink, HeardOnLink}
+use Rattle.dm_two_peers.specs.Links.{LinkPhase, LinkPending, LinkUp, LinkCancelled, Mark}
 use Rattle.dm_two_peers.specs.Links.{NoMark, Coming, Delivered}
 use Rattle.dm_two_peers.specs.Peers.{Action, Send}
 use Rattle.dm_two_peers.specs.Peers.{Close, Connect}
 use Rattle.dm_two_peers.specs.Peers as peers
-use Rattle.dm_two_peers.specs.Steps.{added}
+use Rattle.dm_two_peers.specs.Steps.{queued}
 use Rattle.dm_two_peers.specs.Streams.{are_sized, is_cut, sends_sized}
 use Rattle.dm_two_peers.proofs.Columns.{messages_at, taken_at, words_at}
 
@@ -38,7 +38,7 @@ way_append size xs ys n h g =
     (cut_append size xs ys n parts.1 g)
 
 way_popped : {M : Type 0} (size : M → ℕ) (ms : List M) (n : ℕ) → is_way size ms n ≡ true →
-    is_way size (messages_at HeardOnIt ms) 0 ≡ true
+    is_way size (messages_at HeardOnLink ms) 0 ≡ true
 way_popped size [] n h = refl
 way_popped size (x ∷ []) n h = refl
 way_popped size (x ∷ y ∷ ys) n h =
@@ -47,22 +47,22 @@ way_popped size (x ∷ y ∷ ys) n h =
     and_from (are_sized size (y ∷ ys)) (nat_lt 0 (size y)) rest
     (and_parts (nat_lt 0 (size y)) (are_sized size ys) rest).0
 
-pub way_at : {M : Type 0} (size : M → ℕ) (k : Concern) (ms : List M) (n : ℕ) → is_way size ms n ≡ true →
+pub way_at : {M : Type 0} (size : M → ℕ) (k : LinkConcern) (ms : List M) (n : ℕ) → is_way size ms n ≡ true →
     is_way size (messages_at k ms) (taken_at k n) ≡ true
-way_at size HeardOnIt ms n h = way_popped size ms n h
+way_at size HeardOnLink ms n h = way_popped size ms n h
 way_at size Elsewhere ms n h = h
-way_at size StartsIt ms n h = h
-way_at size AcksIt ms n h = h
-way_at size NacksIt ms n h = h
-way_at size EndsIt ms n h = h
+way_at size StartsLink ms n h = h
+way_at size MakesLink ms n h = h
+way_at size FailsLink ms n h = h
+way_at size EndsLink ms n h = h
 
 pub way_added : {M : Type 0} (size : M → ℕ) (p : LinkPhase) (mark : Mark) (words old : List M) (n : ℕ) →
-    is_way size old n ≡ true → are_sized size words ≡ true → is_way size (added p mark words old) n ≡ true
-way_added size Up NoMark words old n h g = way_append size old words n h g
-way_added size Up Coming words old n h g = h
-way_added size Up Delivered words old n h g = h
-way_added size Pending mark words old n h g = h
-way_added size Cancelled mark words old n h g = h
+    is_way size old n ≡ true → are_sized size words ≡ true → is_way size (queued p mark words old) n ≡ true
+way_added size LinkUp NoMark words old n h g = way_append size old words n h g
+way_added size LinkUp Coming words old n h g = h
+way_added size LinkUp Delivered words old n h g = h
+way_added size LinkPending mark words old n h g = h
+way_added size LinkCancelled mark words old n h g = h
 
 pub sized_if : {M : Type 0} (size : M → ℕ) (b : Bool) (xs ys : List M) → are_sized size xs ≡ true →
     are_sized size ys ≡ true → are_sized size (if b then xs else ys) ≡ true
@@ -80,4 +80,4 @@ words_sized size d (Send c x ∷ more) h =
 words_sized size d (Close c ∷ more) h = sized_if size (c.0 == d) [] (words_at d more) refl
     (words_sized size d more h)
 words_sized size d (Connect c ∷ more) h = words_sized size d more h
-words_sized size d (peers.Up x ∷ more) h = words_sized size d more h
+words_sized size d (peers.HandUp x ∷ more) h = words_sized size d more h

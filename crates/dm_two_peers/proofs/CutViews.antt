@@ -2,8 +2,8 @@
 use Rattle.std.proofs.Common.{◌≡◌, ℕ, ◌+◌, ◌-◌, Bool, true, false, nat_lt, nat_le, if◌then◌else◌}
 use Rattle.std.proofs.Common.{List, [], ◌∷◌, refl, sym, subst}
 use Rattle.std.proofs.lemmas.Bool.{and_parts, and_from}
-use Rattle.dm_two_peers.specs.Machine.{Concern}
-use Rattle.dm_two_peers.specs.Links.{Side, flip, opens, LinkPhase, Pending, Up, Cancelled, Mark}
+use Rattle.dm_two_peers.specs.Machine.{LinkConcern}
+use Rattle.dm_two_peers.specs.Links.{Side, flip, opens, LinkPhase, LinkPending, LinkUp, LinkCancelled, Mark}
 use Rattle.dm_two_peers.specs.Links.{NoMark, Coming, Delivered, Link, View, view_of, link_of, by_side}
 use Rattle.dm_two_peers.specs.Peers.{Action}
 use Rattle.dm_two_peers.specs.Steps.{entered, with_close}
@@ -43,7 +43,7 @@ side_cut size s f l keeps h =
     let mine = opens s l.opener in link_cut size mine l.opener (f (view_of mine l))
     (keeps (view_of mine l) (view_cut size mine l h))
 
-pub entered_cut : {M : Type 0} (size : M → ℕ) (k : Concern) (v : View M) → CutView size v → CutView size (entered k v)
+pub entered_cut : {M : Type 0} (size : M → ℕ) (k : LinkConcern) (v : View M) → CutView size v → CutView size (entered k v)
 entered_cut size k v h = subst (λ u. CutView size u) (sym (entered_by_columns k v))
     record { incoming = way_at size k v.incoming.messages v.incoming.taken h.incoming; outgoing = h.outgoing }
 
@@ -61,7 +61,7 @@ pub acted_cut : {M : Type 0} (size : M → ℕ) (d : ℕ) (actions : List (Actio
 acted_cut size d actions v g h = subst (λ u. CutView size u) (sym (acted_summed d actions v))
     (summed_cut size (is_closed_at d actions) (words_at d actions) v (words_sized size d actions g) h)
 
-pub stepped_cut : {M : Type 0} (size : M → ℕ) (k : Concern) (b : Bool) (d : ℕ) (actions : List (Action M))
+pub stepped_cut : {M : Type 0} (size : M → ℕ) (k : LinkConcern) (b : Bool) (d : ℕ) (actions : List (Action M))
     (v : View M) → sends_sized size actions ≡ true → CutView size v → CutView size (stepped k b d actions v)
 stepped_cut size k b d actions v g h =
     let after = acted_cut size d actions (entered k v) g (entered_cut size k v h) in
@@ -143,11 +143,11 @@ shut_cut size v h = subst (λ u. CutView size u) (sym (shut_is_summed v)) (summe
 
 -- a restart
 restarted_by : {M : Type 0} (size : M → ℕ) (mine : Bool) (p : LinkPhase) (v : View M) → CutView size v →
-    CutView size (elim p [ Pending ↦ elim mine [ true ↦ with_close v | false ↦ v ] | _ ↦ with_close v ])
-restarted_by size true Pending v h = shut_cut size v h
-restarted_by size false Pending v h = h
-restarted_by size mine Up v h = shut_cut size v h
-restarted_by size mine Cancelled v h = shut_cut size v h
+    CutView size (elim p [ LinkPending ↦ elim mine [ true ↦ with_close v | false ↦ v ] | _ ↦ with_close v ])
+restarted_by size true LinkPending v h = shut_cut size v h
+restarted_by size false LinkPending v h = h
+restarted_by size mine LinkUp v h = shut_cut size v h
+restarted_by size mine LinkCancelled v h = shut_cut size v h
 
 pub restarted_cut : {M : Type 0} (size : M → ℕ) (mine : Bool) (v : View M) → CutView size v →
     CutView size (restarted mine v)

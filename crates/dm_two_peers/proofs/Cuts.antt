@@ -5,20 +5,20 @@ use Rattle.std.proofs.Common.{inr}
 use Rattle.std.proofs.lemmas.Bool.{eqb-true, cases_Bool}
 use Rattle.std.proofs.lemmas.Option.{slice_get-map}
 use Rattle.dm_two_peers.specs.Machine.{conn, Node, tie_of}
-use Rattle.dm_two_peers.specs.Machine.{is_held}
-use Rattle.dm_two_peers.specs.Links.{Side, opens, LinkPhase, Pending, Up, Cancelled, End, Fresh, Open, Shut, Mark}
+use Rattle.dm_two_peers.specs.Machine.{is_tie_held}
+use Rattle.dm_two_peers.specs.Links.{Side, opens, LinkPhase, LinkPending, LinkUp, LinkCancelled, End, Fresh, Open, Shut, Mark}
 use Rattle.dm_two_peers.specs.Links.{NoMark, Coming, Delivered, Link, view_of, by_side, new_link}
-use Rattle.dm_two_peers.specs.Peers.{Event, Start, Stop, Timeout, Tick, Ack, Nack, Gone, Submit, Arrived, Action}
-use Rattle.dm_two_peers.specs.Peers.{Reply, Acts, Declines, Peers, concern_by}
+use Rattle.dm_two_peers.specs.Peers.{Event, StartEvent, StopEvent, TimeoutEvent, TickEvent, AckEvent, NackEvent, GoneEvent, SubmitEvent, ArrivedEvent, Action}
+use Rattle.dm_two_peers.specs.Peers.{Reply, ActsBy, Declines, Peers, concern_by}
 use Rattle.dm_two_peers.specs.Steps.{entered}
-use Rattle.dm_two_peers.specs.Worlds.{World, peer_at, with_peer, with_links, change_at, enter, perform, settle, After, Done}
+use Rattle.dm_two_peers.specs.Worlds.{World, peer_on, with_peer, with_links, change_at, enter, perform, settle, After, DoneWith}
 use Rattle.dm_two_peers.specs.Worlds.{Ignored, NoLink, after_reply, tell, after_drop}
 use Rattle.dm_two_peers.specs.Happens.{Happening, Starts, Stops, TimesOut, Ticks, Restarts, Acks, Nacks, Delivers, Pieces}
 use Rattle.dm_two_peers.specs.Happens.{Loses, Submits, Next, NextMessage, NextDisconnect, NextNothing, next_in, comes}
 use Rattle.dm_two_peers.specs.Happens.{deliver_next, take_part, deliver_part}
 use Rattle.dm_two_peers.specs.Happens.{lost_link, are_shut, restarted, restart_links, if_up, if_pending, at_link}
 use Rattle.dm_two_peers.specs.Happens.{own_view, happens, world_after, RunEnd, ran_on, run_from}
-use Rattle.dm_two_peers.specs.Streams.{is_cut_link, AreCut, sends_sized, IsSized}
+use Rattle.dm_two_peers.specs.Streams.{is_cut_link, AreCut, sends_sized, IsMeasured}
 use Rattle.dm_two_peers.proofs.Columns.{acted}
 use Rattle.dm_two_peers.proofs.Columns.{stepped}
 use Rattle.dm_two_peers.proofs.Stepped.{IsStart, performed_at, entered_at, stepped_at}
@@ -71,36 +71,36 @@ stepped_links : {P M : Type 0} (m : Peers P M) (s : Side) (e : Event M) (actions
     (links : List (Link M)) → (IsStart e → ⊥) → sends_sized m.size actions ≡ true → CutLinks m.size links →
     CutLinks m.size (settle s e n (perform s actions (enter s e links)))
 stepped_links m s e actions n links no_start g good d l at =
-    let f = stepped (concern_by e (conn d)) (is_held (tie_of n d)) d actions in
+    let f = stepped (concern_by e (conn d)) (is_tie_held (tie_of n d)) d actions in
     let old = mapped_some (by_side s f) (slice_get links d) l
     (sym (stepped_at s e actions n d links no_start) ∙ at) in
     subst (λ k. is_cut_link m.size k ≡ true) (sym old.2)
     (side_cut m.size s f old.0
-    (λ v h. stepped_cut m.size (concern_by e (conn d)) (is_held (tie_of n d)) d actions v g h)
+    (λ v h. stepped_cut m.size (concern_by e (conn d)) (is_tie_held (tie_of n d)) d actions v g h)
     (good d old.0 old.1))
 
-module _ {P M : Type 0} (m : Peers P M) (sized : IsSized m) where
+module _ {P M : Type 0} (m : Peers P M) (sized : IsMeasured m) where
   abbrev pub KeepsCut : World P M → After P M → Type 0
   KeepsCut w after = AreCut m w → AreCut m (world_after w after)
 
-  answered_cut : (s : Side) (e : Event M) (w : World P M) (r : Reply P M) → m.reply (peer_at s w) e ≡ r →
+  answered_cut : (s : Side) (e : Event M) (w : World P M) (r : Reply P M) → m.reply (peer_on s w) e ≡ r →
       (IsStart e → ⊥) → KeepsCut w (after_reply m s e w r)
   answered_cut s e w Declines eq no_start good = good
-  answered_cut s e w (Acts actions p) eq no_start good =
+  answered_cut s e w (ActsBy actions p) eq no_start good =
       links_cut m s p (settle s e (m.node_of p) (perform s actions (enter s e w.links))) w
-      (stepped_links m s e actions (m.node_of p) w.links no_start (sized (peer_at s w) p e actions eq) good)
+      (stepped_links m s e actions (m.node_of p) w.links no_start (sized (peer_on s w) p e actions eq) good)
 
   told_cut : (s : Side) (e : Event M) (w : World P M) → (IsStart e → ⊥) → KeepsCut w (tell m s e w)
-  told_cut s e w no_start good = answered_cut s e w (m.reply (peer_at s w) e) refl no_start good
+  told_cut s e w no_start good = answered_cut s e w (m.reply (peer_on s w) e) refl no_start good
 
   started_cut : (s : Side) (w : World P M) (r : Reply P M) →
-      m.reply (peer_at s w) (Start (conn (length w.links))) ≡ r →
-      KeepsCut w (after_reply m s (Start (conn (length w.links))) w r)
+      m.reply (peer_on s w) (StartEvent (conn (length w.links))) ≡ r →
+      KeepsCut w (after_reply m s (StartEvent (conn (length w.links))) w r)
   started_cut s w Declines eq good = good
-  started_cut s w (Acts actions p) eq good =
+  started_cut s w (ActsBy actions p) eq good =
       links_cut m s p (perform s actions (w.links ++ new_link s ∷ [])) w
       (performed_cut m.size s actions (w.links ++ new_link s ∷ [])
-      (sized (peer_at s w) p (Start (conn (length w.links))) actions eq) (new_cut m.size s w.links good))
+      (sized (peer_on s w) p (StartEvent (conn (length w.links))) actions eq) (new_cut m.size s w.links good))
 
   dropped_cut : (s : Side) (e : Event M) (w : World P M) → (IsStart e → ⊥) → KeepsCut w (after_drop s e w)
   dropped_cut s e w no_start good d l at =
@@ -119,8 +119,8 @@ module _ {P M : Type 0} (m : Peers P M) (sized : IsSized m) where
   delivered_cut : (c : ℕ) (s : Side) (end : End) (nx : Next M) (w : World P M) →
       KeepsCut w (deliver_next m c s end nx w)
   delivered_cut c s end NextNothing w good = good
-  delivered_cut c s end (NextMessage x) w good = comes_cut s (Arrived (conn c) x) end w (λ q. elim q [ ]) good
-  delivered_cut c s end NextDisconnect w good = comes_cut s (Gone (conn c)) end w (λ q. elim q [ ]) good
+  delivered_cut c s end (NextMessage x) w good = comes_cut s (ArrivedEvent (conn c) x) end w (λ q. elim q [ ]) good
+  delivered_cut c s end NextDisconnect w good = comes_cut s (GoneEvent (conn c)) end w (λ q. elim q [ ]) good
 
   front_of : (ms : List M) (mark : Mark) (x : M) → next_in ms mark ≡ NextMessage x → (xs : List M) × (ms ≡ x ∷ xs)
   front_of (y ∷ ys) mark x h = (ys, cc)
@@ -141,7 +141,7 @@ module _ {P M : Type 0} (m : Peers P M) (sized : IsSized m) where
       (taking_cut m.size k (view_of mine l) x xs front low (view_cut m.size mine l (good c l at)))))
 
   piece_size_cut : (b : Bool) (w w1 : World P M) (after : After P M) → (b ≡ true → AreCut m w1) →
-      AreCut m (world_after w after) → AreCut m (world_after w (if b then Done w1 [] else after))
+      AreCut m (world_after w after) → AreCut m (world_after w (if b then DoneWith w1 [] else after))
   piece_size_cut true w w1 after f g = f refl
   piece_size_cut false w w1 after f g = g
 
@@ -154,9 +154,9 @@ module _ {P M : Type 0} (m : Peers P M) (sized : IsSized m) where
       let v = own_view s l in
       let front = front_of v.incoming.messages v.incoming.mark x nx in
       piece_size_cut (nat_lt (v.incoming.taken + k) (m.size x)) w
-      (with_links (change_at c (by_side s (take_part k)) w.links) w) (comes m s (Arrived (conn c) x) v.own w)
+      (with_links (change_at c (by_side s (take_part k)) w.links) w) (comes m s (ArrivedEvent (conn c) x) v.own w)
       (λ low. taken_cut w c s k l x front.0 at front.1 low good)
-      (comes_cut s (Arrived (conn c) x) v.own w (λ q. elim q [ ]) good)
+      (comes_cut s (ArrivedEvent (conn c) x) v.own w (λ q. elim q [ ]) good)
 
   if_cut : (w : World P M) (b : Bool) (x y : After P M) → AreCut m (world_after w x) → AreCut m (world_after w y) →
       AreCut m (world_after w (if b then x else y))
@@ -165,15 +165,15 @@ module _ {P M : Type 0} (m : Peers P M) (sized : IsSized m) where
 
   up_cut : (w : World P M) (p : LinkPhase) (after : After P M) → KeepsCut w after →
       KeepsCut w (if_up p after Ignored)
-  up_cut w Up after f good = f good
-  up_cut w Pending after f good = good
-  up_cut w Cancelled after f good = good
+  up_cut w LinkUp after f good = f good
+  up_cut w LinkPending after f good = good
+  up_cut w LinkCancelled after f good = good
 
   pending_cut : (w : World P M) (p : LinkPhase) (after : After P M) → KeepsCut w after →
       KeepsCut w (if_pending p after Ignored)
-  pending_cut w Pending after f good = f good
-  pending_cut w Up after f good = good
-  pending_cut w Cancelled after f good = good
+  pending_cut w LinkPending after f good = f good
+  pending_cut w LinkUp after f good = good
+  pending_cut w LinkCancelled after f good = good
 
   there_cut : (w : World P M) (c : ℕ) (o : Option (Link M)) (f : Link M → After P M) → slice_get w.links c ≡ o →
       ((l : Link M) → slice_get w.links c ≡ Some l → KeepsCut w (f l)) → KeepsCut w (at_link o f)
@@ -181,9 +181,9 @@ module _ {P M : Type 0} (m : Peers P M) (sized : IsSized m) where
   there_cut w c (Some l) f e keeps good = keeps l e good
 
   restart_cut : (s : Side) (w : World P M) → AreCut m w →
-      AreCut m (with_peer s (m.reset (peer_at s w)) (restart_links s w.links) w)
+      AreCut m (with_peer s (m.reset (peer_on s w)) (restart_links s w.links) w)
   restart_cut s w good =
-      links_cut m s (m.reset (peer_at s w)) (restart_links s w.links) w (λ c l at.
+      links_cut m s (m.reset (peer_on s w)) (restart_links s w.links) w (λ c l at.
       let f : Link M → Link M = λ z. by_side s (restarted (opens s z.opener)) z in
       let old = mapped_some f (slice_get w.links c) l (sym (slice_get-map f w.links c) ∙ at) in
       let mine = opens s old.0.opener in
@@ -197,20 +197,20 @@ module _ {P M : Type 0} (m : Peers P M) (sized : IsSized m) where
 
   pub happening_cut : (w : World P M) (h : Happening M) → KeepsCut w (happens m w h)
   happening_cut w (Starts s) good = started_cut s w
-      (m.reply (peer_at s w) (Start (conn (length w.links)))) refl good
-  happening_cut w (Stops s cause) good = told_cut s (Stop cause) w (λ q. elim q [ ]) good
-  happening_cut w (TimesOut s) good = told_cut s Timeout w (λ q. elim q [ ]) good
-  happening_cut w (Ticks s) good = told_cut s Tick w (λ q. elim q [ ]) good
-  happening_cut w (Submits s x) good = told_cut s (Submit x) w (λ q. elim q [ ]) good
+      (m.reply (peer_on s w) (StartEvent (conn (length w.links)))) refl good
+  happening_cut w (Stops s cause) good = told_cut s (StopEvent cause) w (λ q. elim q [ ]) good
+  happening_cut w (TimesOut s) good = told_cut s TimeoutEvent w (λ q. elim q [ ]) good
+  happening_cut w (Ticks s) good = told_cut s TickEvent w (λ q. elim q [ ]) good
+  happening_cut w (Submits s x) good = told_cut s (SubmitEvent x) w (λ q. elim q [ ]) good
   happening_cut w (Restarts s) good = restart_cut s w good
   happening_cut w (Acks c) good =
       there_cut w c (slice_get w.links c) _ refl
-      (λ l at. pending_cut w l.phase (tell m l.opener (Ack (conn c)) w)
-      (told_cut l.opener (Ack (conn c)) w (λ q. elim q [ ]))) good
+      (λ l at. pending_cut w l.phase (tell m l.opener (AckEvent (conn c)) w)
+      (told_cut l.opener (AckEvent (conn c)) w (λ q. elim q [ ]))) good
   happening_cut w (Nacks c) good =
       there_cut w c (slice_get w.links c) _ refl
-      (λ l at. pending_cut w l.phase (tell m l.opener (Nack (conn c)) w)
-      (told_cut l.opener (Nack (conn c)) w (λ q. elim q [ ]))) good
+      (λ l at. pending_cut w l.phase (tell m l.opener (NackEvent (conn c)) w)
+      (told_cut l.opener (NackEvent (conn c)) w (λ q. elim q [ ]))) good
   happening_cut w (Delivers c s) good =
       there_cut w c (slice_get w.links c) _ refl
       (λ l at. up_cut w l.phase
@@ -232,7 +232,7 @@ module _ {P M : Type 0} (m : Peers P M) (sized : IsSized m) where
 
   ran_cut : (r : RunEnd P M) (after : After P M) → AreCut m (world_after r.world after) →
       IfSome (ran_on r after) (λ z. AreCut m z.world)
-  ran_cut r (Done w put) good = good
+  ran_cut r (DoneWith w put) good = good
   ran_cut r Ignored good = good
   ran_cut r NoLink good = tt
 

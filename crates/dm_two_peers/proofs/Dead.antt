@@ -4,14 +4,14 @@ use Rattle.std.proofs.Common.{refl, sym, ap, subst, ◌∙◌, arith}
 use Rattle.std.specs.List.{list_all}
 use Rattle.std.proofs.lemmas.Bool.{and_parts, and_from}
 use Rattle.std.proofs.lemmas.Option.{slice_get-map}
-use Rattle.dm_two_peers.specs.Links.{Side, A, B, opens, LinkPhase, Pending, Up, Cancelled, End, Mark, NoMark, Coming}
+use Rattle.dm_two_peers.specs.Links.{Side, A, B, opens, LinkPhase, LinkPending, LinkUp, LinkCancelled, End, Mark, NoMark, Coming}
 use Rattle.dm_two_peers.specs.Links.{Delivered, Direction, Link, by_side}
 use Rattle.dm_two_peers.specs.Peers.{Peers}
 use Rattle.dm_two_peers.specs.Worlds.{World, change_at}
 use Rattle.dm_two_peers.specs.Happens.{restarted, restart_links}
 use Rattle.dm_two_peers.specs.Facts.{is_up, is_shut, IsSoundWorld}
 use Rattle.dm_two_peers.specs.Quiet.{is_still}
-use Rattle.dm_two_peers.specs.Bare.{is_bare}
+use Rattle.dm_two_peers.specs.Bare.{is_bare_way}
 use Rattle.dm_two_peers.specs.Draining.{under_way_on, under_way}
 use Rattle.dm_two_peers.proofs.Lists.{mapped_some, all_where}
 use Rattle.dm_two_peers.proofs.Bare.{bare_at}
@@ -20,9 +20,9 @@ use Rattle.dm_two_peers.proofs.Bare.{bare_at}
 abbrev pub is_dead : {M : Type 0} → Link M → Bool
 is_dead l =
     elim l.phase [
-      | Pending ↦ false
-      | Up ↦ is_shut l.opener_end && is_shut l.other_end
-      | Cancelled ↦ is_still l.to_opener && is_still l.to_other
+      | LinkPending ↦ false
+      | LinkUp ↦ is_shut l.opener_end && is_shut l.other_end
+      | LinkCancelled ↦ is_still l.to_opener && is_still l.to_other
     ]
 
 abbrev pub are_dead : {M : Type 0} → List (Link M) → Bool
@@ -35,16 +35,16 @@ dead_at : {M : Type 0} (o : Side) (p : LinkPhase) (u v : End) (i j : Direction M
     (is_up p ≡ false → (is_still i && is_still j) ≡ true) →
     is_dead (restarts_at B (restarts_at A
     (record { opener = o; phase = p; opener_end = u; other_end = v; to_opener = i; to_other = j }))) ≡ true
-dead_at A Pending u v i j h = h refl
-dead_at A Cancelled u v i j h = h refl
-dead_at A Up u v i j h = refl
-dead_at B Pending u v i j h = h refl
-dead_at B Cancelled u v i j h = h refl
-dead_at B Up u v i j h = refl
+dead_at A LinkPending u v i j h = h refl
+dead_at A LinkCancelled u v i j h = h refl
+dead_at A LinkUp u v i j h = refl
+dead_at B LinkPending u v i j h = h refl
+dead_at B LinkCancelled u v i j h = h refl
+dead_at B LinkUp u v i j h = refl
 
 -- where nothing was put in nothing is under way
 still_from : {M : Type 0} (ms : List M) (n : ℕ) (k : Mark) →
-    is_bare (record { messages = ms; taken = n; mark = k }) ≡ true →
+    is_bare_way (record { messages = ms; taken = n; mark = k }) ≡ true →
     is_still (record { messages = ms; taken = n; mark = k }) ≡ true
 still_from [] n NoMark h = refl
 still_from [] n Coming h = cc
@@ -54,7 +54,7 @@ still_from (x ∷ xs) n k h = cc
 still_at : {P M : Type 0} (m : Peers P M) (w : World P M) → IsSoundWorld m w → (c : ℕ) (l : Link M) →
     slice_get w.links c ≡ Some l → is_up l.phase ≡ false → (is_still l.to_opener && is_still l.to_other) ≡ true
 still_at m w good c l at down =
-    let p = and_parts (is_bare l.to_opener) (is_bare l.to_other) (bare_at m w good c l at down) in
+    let p = and_parts (is_bare_way l.to_opener) (is_bare_way l.to_other) (bare_at m w good c l at down) in
     and_from (is_still l.to_opener) (is_still l.to_other)
     (still_from l.to_opener.messages l.to_opener.taken l.to_opener.mark p.0)
     (still_from l.to_other.messages l.to_other.taken l.to_other.mark p.1)

@@ -6,13 +6,13 @@ use Rattle.dm_machine.specs.Connection.{hold_of}
 use Rattle.dm_two_peers.specs.Machine.{conn}
 use Rattle.dm_two_peers.specs.Links.{Side, A, B, Link}
 use Rattle.dm_two_peers.specs.Peers.{Peers}
-use Rattle.dm_two_peers.specs.Worlds.{World, peer_at, After, Done, Ignored, NoLink}
+use Rattle.dm_two_peers.specs.Worlds.{World, peer_on, After, DoneWith, Ignored, NoLink}
 use Rattle.dm_two_peers.specs.Happens.{Happening, Starts, Stops, TimesOut, Ticks, Restarts, Acks, Nacks, Delivers, Pieces}
 use Rattle.dm_two_peers.specs.Happens.{Loses, Submits, own_view, happens, world_after, RunEnd, ran_on, run_from, run}
 use Rattle.dm_two_peers.specs.Follows.{IsMachine}
 use Rattle.dm_two_peers.specs.Facts.{IsSoundWorld}
 use Rattle.dm_two_peers.specs.Laws.{world_of}
-use Rattle.dm_two_peers.specs.Turns.{Turn, turns, all_turns}
+use Rattle.dm_two_peers.specs.Turns.{WorldTurn, turns, all_turns}
 use Rattle.dm_two_peers.specs.Delivery.{submitted_by, submitted_on, handed_up_by, handed_up_on, apps, CarriesMessages}
 use Rattle.dm_two_peers.specs.Delivery.{has_loss_of, DeliversInOrder}
 use Rattle.dm_two_peers.proofs.Ties.{MachineLaws}
@@ -24,13 +24,13 @@ use Rattle.dm_two_peers.proofs.CarriedViews.{tie_open}
 use Rattle.dm_two_peers.proofs.CarriedHappenings.{happening_keeps}
 use Rattle.dm_two_peers.proofs.BothPeers.{happening_both}
 
-submitted_append : {M : Type 0} (t : Side) (c : ℕ) (us vs : List (Turn M)) →
+submitted_append : {M : Type 0} (t : Side) (c : ℕ) (us vs : List (WorldTurn M)) →
     submitted_on t c (us ++ vs) ≡ submitted_on t c us ++ submitted_on t c vs
 submitted_append t c [] vs = refl
 submitted_append t c (u ∷ us) vs = ap (λ xs. submitted_by t c u ++ xs) (submitted_append t c us vs)
     ∙ sym (append_assoc (submitted_by t c u) (submitted_on t c us) (submitted_on t c vs))
 
-raised_append : {M : Type 0} (t : Side) (c : ℕ) (us vs : List (Turn M)) →
+raised_append : {M : Type 0} (t : Side) (c : ℕ) (us vs : List (WorldTurn M)) →
     handed_up_on t c (us ++ vs) ≡ handed_up_on t c us ++ handed_up_on t c vs
 raised_append t c [] vs = refl
 raised_append t c (u ∷ us) vs = ap (λ xs. handed_up_by t c u ++ xs) (raised_append t c us vs)
@@ -75,9 +75,9 @@ module _ {P M : Type 0} (m : Peers P M) (laws : MachineLaws) (is : IsMachine m) 
       record {
         sound = happens_sound m laws is w h good.sound;
         fits = happening_both m (λ p. IsTrue (stands p)) w good.fits
-            (λ s e actions next replies. carries.does.keeps (peer_at s w) next e actions
+            (λ s e actions next replies. carries.does.keeps (peer_on s w) next e actions
             (carrier m stands s w good) replies)
-            (λ s. carries.does.resets (peer_at s w) (carrier m stands s w good)) h;
+            (λ s. carries.does.resets (peer_on s w) (carrier m stands s w good)) h;
       }
 
   abbrev RunsFrom : List (Happening M) → Type 0
@@ -86,7 +86,7 @@ module _ {P M : Type 0} (m : Peers P M) (laws : MachineLaws) (is : IsMachine m) 
       IfSome (run_from m (Some r) hs) (λ z. Runs z.world (said ++ submitted_on t c (all_turns m r.world hs))
       (up ++ handed_up_on t c (all_turns m r.world hs)))
 
-  went_on : (hs : List (Happening M)) → RunsFrom hs → (r : RunEnd P M) (after : After P M) (us : List (Turn M))
+  went_on : (hs : List (Happening M)) → RunsFrom hs → (r : RunEnd P M) (after : After P M) (us : List (WorldTurn M))
       (said up : List M) → (has_loss_of c hs ≡ true → lost ≡ true) →
       Runs (world_after r.world after) (said ++ submitted_on t c us) (up ++ handed_up_on t c us) →
       IfSome (run_from m (ran_on r after) hs) (λ z. Runs z.world
@@ -94,7 +94,7 @@ module _ {P M : Type 0} (m : Peers P M) (laws : MachineLaws) (is : IsMachine m) 
       (up ++ handed_up_on t c (us ++ all_turns m (world_after r.world after) hs)))
   went_on hs ih r after us said up loss now = by_after after now
     where
-      both_are : (vs : List (Turn M)) (o : Option (RunEnd P M)) →
+      both_are : (vs : List (WorldTurn M)) (o : Option (RunEnd P M)) →
           IfSome o (λ z. Runs z.world ((said ++ submitted_on t c us) ++ submitted_on t c vs)
           ((up ++ handed_up_on t c us) ++ handed_up_on t c vs)) →
           IfSome o (λ z. Runs z.world (said ++ submitted_on t c (us ++ vs)) (up ++ handed_up_on t c (us ++ vs)))
@@ -112,7 +112,7 @@ module _ {P M : Type 0} (m : Peers P M) (laws : MachineLaws) (is : IsMachine m) 
           IfSome (run_from m (ran_on r after) hs) (λ z. Runs z.world
           (said ++ submitted_on t c (us ++ all_turns m (world_after r.world after) hs))
           (up ++ handed_up_on t c (us ++ all_turns m (world_after r.world after) hs)))
-      by_after (Done w put) now =
+      by_after (DoneWith w put) now =
           both_are (all_turns m w hs) _
           (ih (record { world = w; put = r.put ++ put }) (said ++ submitted_on t c us) (up
           ++ handed_up_on t c us) loss now)
@@ -140,7 +140,7 @@ module _ {P M : Type 0} (m : Peers P M) (laws : MachineLaws) (is : IsMachine m) 
   delivered_at w said up now = by_link (slice_get w.links c) refl now.carried
     where
       by_link : (o : Option (Link M)) → slice_get w.links c ≡ o →
-          WayOnLink is_app lost (over_of (m.node_of (peer_at t w)) c) t o said up →
+          WayOnLink is_app lost (over_of (m.node_of (peer_on t w)) c) t o said up →
           DeliversInOrder m is_app w t c lost said up
       by_link None at h =
           record {
@@ -156,7 +156,7 @@ module _ {P M : Type 0} (m : Peers P M) (laws : MachineLaws) (is : IsMachine m) 
                 let same : l ≡ z = cc (at, there) in
                 let ready = tie_open m is_app stands carries lost t w c l now.carrying at opened in
                 let hears = hears_now is_app lost l.phase (own_view t l).own
-                (hold_of (m.node_of (peer_at t w)) (conn c)) ready.0 ready.1 opened in
+                (hold_of (m.node_of (peer_on t w)) (conn c)) ready.0 ready.1 opened in
                 let u = h.under hears in
                 subst (λ k. said ≡ up ++ apps is_app (own_view t k).incoming.messages) same
                 (h.whole ∙ ap (λ xs. up ++ xs)
@@ -186,6 +186,6 @@ run_delivers {P} {M} m laws is is_app stands carries a b sound left right hs t c
     hs
     (record { sound = sound; fits = both }) (refl, refl) (λ e. e)
   where
-    both : (s : Side) → IsTrue (stands (peer_at s (world_of {M = M} a b)))
+    both : (s : Side) → IsTrue (stands (peer_on s (world_of {M = M} a b)))
     both A = left
     both B = right

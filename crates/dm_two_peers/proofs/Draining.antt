@@ -4,10 +4,10 @@ use Rattle.std.proofs.Common.{slice_get, refl, sym, subst, ◌∙◌, arith, app
 use Rattle.std.proofs.lemmas.Bool.{and_parts}
 use Rattle.std.proofs.lemmas.Option.{IfSome_then}
 use Rattle.dm_two_peers.specs.Machine.{conn}
-use Rattle.dm_two_peers.specs.Links.{LinkPhase, Pending, Up, Cancelled, Link, by_side}
-use Rattle.dm_two_peers.specs.Peers.{Ack, Nack, Peers}
+use Rattle.dm_two_peers.specs.Links.{LinkPhase, LinkPending, LinkUp, LinkCancelled, Link, by_side}
+use Rattle.dm_two_peers.specs.Peers.{AckEvent, NackEvent, Peers}
 use Rattle.dm_two_peers.specs.Steps.{entered}
-use Rattle.dm_two_peers.specs.Worlds.{World, with_links, change_at, After, Done, Ignored, NoLink, tell}
+use Rattle.dm_two_peers.specs.Worlds.{World, with_links, change_at, After, DoneWith, Ignored, NoLink, tell}
 use Rattle.dm_two_peers.specs.Happens.{Happening, Acks, Nacks, Delivers, if_pending, at_link, happens, world_after, RunEnd}
 use Rattle.dm_two_peers.specs.Happens.{ran_on, run_from}
 use Rattle.dm_two_peers.specs.Quiet.{is_quiet, cost, steps_of, steps_taken}
@@ -24,14 +24,14 @@ data Wanes {P M : Type 0} (m : Peers P M) (w : World P M) (h : Happening M) : Af
   stays : Wanes m w h Ignored
   is_lost : Wanes m w h NoLink
   moves : (links : List (Link M)) → are_dead links ≡ true → under_way links + cost m w h ≡ under_way w.links →
-      Wanes m w h (Done (with_links links w) [])
+      Wanes m w h (DoneWith (with_links links w) [])
 
 no_pending : {P M : Type 0} (m : Peers P M) (w : World P M) (h : Happening M) (p : LinkPhase) (u v : Bool)
-    (x : After P M) → elim p [ Pending ↦ false | Up ↦ u | Cancelled ↦ v ] ≡ true →
+    (x : After P M) → elim p [ LinkPending ↦ false | LinkUp ↦ u | LinkCancelled ↦ v ] ≡ true →
     Wanes m w h (if_pending p x Ignored)
-no_pending m w h Pending u v x e = cc
-no_pending m w h Up u v x e = stays
-no_pending m w h Cancelled u v x e = stays
+no_pending m w h LinkPending u v x e = cc
+no_pending m w h LinkUp u v x e = stays
+no_pending m w h LinkCancelled u v x e = stays
 
 at_wanes : {P M : Type 0} (m : Peers P M) (w : World P M) (h : Happening M) (f : Link M → After P M)
     (o : Option (Link M)) → ((l : Link M) → o ≡ Some l → Wanes m w h (f l)) → Wanes m w h (at_link o f)
@@ -42,11 +42,11 @@ wanes_proof : {P M : Type 0} (m : Peers P M) (w : World P M) (h : Happening M) �
     is_ack_nack_or_delivery h ≡ true → Wanes m w h (happens m w h)
 wanes_proof m w (Acks c) d e =
     at_wanes m w (Acks c) _ (slice_get w.links c)
-    (λ l at. no_pending m w (Acks c) l.phase _ _ (tell m l.opener (Ack (conn c)) w)
+    (λ l at. no_pending m w (Acks c) l.phase _ _ (tell m l.opener (AckEvent (conn c)) w)
     (all_at (λ z. is_dead z) w.links c l d at))
 wanes_proof m w (Nacks c) d e =
     at_wanes m w (Nacks c) _ (slice_get w.links c)
-    (λ l at. no_pending m w (Nacks c) l.phase _ _ (tell m l.opener (Nack (conn c)) w)
+    (λ l at. no_pending m w (Nacks c) l.phase _ _ (tell m l.opener (NackEvent (conn c)) w)
     (all_at (λ z. is_dead z) w.links c l d at))
 wanes_proof {P} {M} m w (Delivers c s) d e =
     at_wanes m w (Delivers c s) (delivery_of m c s w) (slice_get w.links c)

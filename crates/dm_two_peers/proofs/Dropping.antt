@@ -2,12 +2,12 @@
 use Rattle.std.proofs.Common.{◌≡◌, ◌⊎◌, inl, inr, ℕ, suc, ◌+◌, true, ◌&&◌, Some, List, [], ◌∷◌, slice_get, refl, arith}
 use Rattle.std.specs.List.{list_all}
 use Rattle.std.proofs.lemmas.Bool.{and_parts, and_from}
-use Rattle.dm_two_peers.specs.Machine.{Concern, HeardOnIt, EndsIt}
-use Rattle.dm_two_peers.specs.Links.{Side, A, B, LinkPhase, Pending, Up, Cancelled, End, Fresh, Open, Shut, Mark, NoMark}
+use Rattle.dm_two_peers.specs.Machine.{LinkConcern, HeardOnLink, EndsLink}
+use Rattle.dm_two_peers.specs.Links.{Side, A, B, LinkPhase, LinkPending, LinkUp, LinkCancelled, End, Fresh, Open, Shut, Mark, NoMark}
 use Rattle.dm_two_peers.specs.Links.{Coming, Delivered, Direction, Link, by_side}
 use Rattle.dm_two_peers.specs.Peers.{Peers}
 use Rattle.dm_two_peers.specs.Steps.{entered}
-use Rattle.dm_two_peers.specs.Worlds.{World, with_links, change_at, Done, Ignored}
+use Rattle.dm_two_peers.specs.Worlds.{World, with_links, change_at, DoneWith, Ignored}
 use Rattle.dm_two_peers.specs.Happens.{own_view}
 use Rattle.dm_two_peers.specs.Quiet.{is_still, is_quiet_link}
 use Rattle.dm_two_peers.specs.Draining.{under_way_on}
@@ -21,8 +21,8 @@ pub record Idles {M : Type 0} (s : Side) (l : Link M) : Type 1 where
 
 -- what comes to it is dropped
 pub record Discards {M : Type 0} (s : Side) (l : Link M) : Type 1 where
-  pub concern : Concern
-  pub delivers : {P : Type 0} (m : Peers P M) (w : World P M) (c : ℕ) → delivery_of m c s w l ≡ Done
+  pub concern : LinkConcern
+  pub delivers : {P : Type 0} (m : Peers P M) (w : World P M) (c : ℕ) → delivery_of m c s w l ≡ DoneWith
       (with_links (change_at c (by_side s (entered concern)) w.links) w) []
   pub dead : is_dead (by_side s (entered concern) l) ≡ true
   pub less : under_way_on (by_side s (entered concern) l) + 1 ≡ under_way_on l
@@ -32,38 +32,38 @@ abbrev link_at : {M : Type 0} → Side → LinkPhase → End → End → Directi
 link_at o p u v i j = record { opener = o; phase = p; opener_end = u; other_end = v; to_opener = i; to_other = j }
 
 abbrev shut_link : {M : Type 0} → Side → Direction M → Direction M → Link M
-shut_link o i j = link_at o Up Shut Shut i j
+shut_link o i j = link_at o LinkUp Shut Shut i j
 
 seen_at : {M : Type 0} (o s : Side) (is : List M) (ti : ℕ) (mi : Mark) (js : List M) (tj : ℕ) (mj : Mark) →
     let l = shut_link o (record { messages = is; taken = ti; mark = mi })
     (record { messages = js; taken = tj; mark = mj }) in Idles s l ⊎ Discards s l
 seen_at A A (x ∷ xs) ti mi js tj mj =
-    inr (record { concern = HeardOnIt; delivers = λ m w c. refl; dead = refl; less = omega arith })
+    inr (record { concern = HeardOnLink; delivers = λ m w c. refl; dead = refl; less = omega arith })
 seen_at A A [] ti Coming js tj mj =
-    inr (record { concern = EndsIt; delivers = λ m w c. refl; dead = refl; less = omega arith })
+    inr (record { concern = EndsLink; delivers = λ m w c. refl; dead = refl; less = omega arith })
 seen_at A A [] ti NoMark js tj mj = inl (record { still = refl; ignored = λ m w c. refl })
 seen_at A A [] ti Delivered js tj mj = inl (record { still = refl; ignored = λ m w c. refl })
 seen_at A B is ti mi (x ∷ xs) tj mj =
-    inr (record { concern = HeardOnIt; delivers = λ m w c. refl; dead = refl; less = omega arith })
+    inr (record { concern = HeardOnLink; delivers = λ m w c. refl; dead = refl; less = omega arith })
 seen_at A B is ti mi [] tj Coming =
-    inr (record { concern = EndsIt; delivers = λ m w c. refl; dead = refl; less = omega arith })
+    inr (record { concern = EndsLink; delivers = λ m w c. refl; dead = refl; less = omega arith })
 seen_at A B is ti mi [] tj NoMark = inl (record { still = refl; ignored = λ m w c. refl })
 seen_at A B is ti mi [] tj Delivered = inl (record { still = refl; ignored = λ m w c. refl })
 seen_at B A is ti mi (x ∷ xs) tj mj =
-    inr (record { concern = HeardOnIt; delivers = λ m w c. refl; dead = refl; less = omega arith })
+    inr (record { concern = HeardOnLink; delivers = λ m w c. refl; dead = refl; less = omega arith })
 seen_at B A is ti mi [] tj Coming =
-    inr (record { concern = EndsIt; delivers = λ m w c. refl; dead = refl; less = omega arith })
+    inr (record { concern = EndsLink; delivers = λ m w c. refl; dead = refl; less = omega arith })
 seen_at B A is ti mi [] tj NoMark = inl (record { still = refl; ignored = λ m w c. refl })
 seen_at B A is ti mi [] tj Delivered = inl (record { still = refl; ignored = λ m w c. refl })
 seen_at B B (x ∷ xs) ti mi js tj mj =
-    inr (record { concern = HeardOnIt; delivers = λ m w c. refl; dead = refl; less = omega arith })
+    inr (record { concern = HeardOnLink; delivers = λ m w c. refl; dead = refl; less = omega arith })
 seen_at B B [] ti Coming js tj mj =
-    inr (record { concern = EndsIt; delivers = λ m w c. refl; dead = refl; less = omega arith })
+    inr (record { concern = EndsLink; delivers = λ m w c. refl; dead = refl; less = omega arith })
 seen_at B B [] ti NoMark js tj mj = inl (record { still = refl; ignored = λ m w c. refl })
 seen_at B B [] ti Delivered js tj mj = inl (record { still = refl; ignored = λ m w c. refl })
 
 still_own : {M : Type 0} (s o : Side) (u v : End) (i j : Direction M) → (is_still i && is_still j) ≡ true →
-    is_still (own_view s (link_at o Cancelled u v i j)).incoming ≡ true
+    is_still (own_view s (link_at o LinkCancelled u v i j)).incoming ≡ true
 still_own A A u v i j h = (and_parts (is_still i) (is_still j) h).0
 still_own A B u v i j h = (and_parts (is_still i) (is_still j) h).1
 still_own B A u v i j h = (and_parts (is_still i) (is_still j) h).1
@@ -71,23 +71,23 @@ still_own B B u v i j h = (and_parts (is_still i) (is_still j) h).0
 
 pub seen : {M : Type 0} (s o : Side) (p : LinkPhase) (u v : End) (i j : Direction M) →
     is_dead (link_at o p u v i j) ≡ true → Idles s (link_at o p u v i j) ⊎ Discards s (link_at o p u v i j)
-seen s o Pending u v i j h = cc
-seen s o Cancelled u v i j h = inl (record { still = still_own s o u v i j h; ignored = λ m w c. refl })
-seen s o Up Shut Shut i j h = seen_at o s i.messages i.taken i.mark j.messages j.taken j.mark
-seen s o Up Shut Fresh i j h = cc
-seen s o Up Shut Open i j h = cc
-seen s o Up Fresh v i j h = cc
-seen s o Up Open v i j h = cc
+seen s o LinkPending u v i j h = cc
+seen s o LinkCancelled u v i j h = inl (record { still = still_own s o u v i j h; ignored = λ m w c. refl })
+seen s o LinkUp Shut Shut i j h = seen_at o s i.messages i.taken i.mark j.messages j.taken j.mark
+seen s o LinkUp Shut Fresh i j h = cc
+seen s o LinkUp Shut Open i j h = cc
+seen s o LinkUp Fresh v i j h = cc
+seen s o LinkUp Open v i j h = cc
 
 -- where nothing comes to either side it is quiet
 both_still : {M : Type 0} (o : Side) (p : LinkPhase) (u v : End) (i j : Direction M) →
     let l = link_at o p u v i j in is_dead l ≡ true → is_still (own_view A l).incoming ≡ true →
     is_still (own_view B l).incoming ≡ true → is_quiet_link l ≡ true
-both_still o Pending u v i j h a b = cc
-both_still A Up u v i j h a b = and_from (is_still i) (is_still j) a b
-both_still B Up u v i j h a b = and_from (is_still i) (is_still j) b a
-both_still A Cancelled u v i j h a b = and_from (is_still i) (is_still j) a b
-both_still B Cancelled u v i j h a b = and_from (is_still i) (is_still j) b a
+both_still o LinkPending u v i j h a b = cc
+both_still A LinkUp u v i j h a b = and_from (is_still i) (is_still j) a b
+both_still B LinkUp u v i j h a b = and_from (is_still i) (is_still j) b a
+both_still A LinkCancelled u v i j h a b = and_from (is_still i) (is_still j) a b
+both_still B LinkCancelled u v i j h a b = and_from (is_still i) (is_still j) b a
 
 -- the side to which something comes on a link
 record DropsOne {M : Type 0} (l : Link M) : Type 1 where

@@ -4,12 +4,12 @@ use Rattle.std.proofs.Common.{List, length, slice_get, refl, sym, ap, subst, ◌
 use Rattle.std.proofs.lemmas.Bool.{cases_eq}
 use Rattle.std.proofs.lemmas.Bool.Decides.{nat_tests}
 use Rattle.std.proofs.lemmas.Option.{slice_get_within}
-use Rattle.dm_two_peers.specs.Machine.{conn, Node, Concern, Elsewhere, concern_if_named}
+use Rattle.dm_two_peers.specs.Machine.{conn, Node, LinkConcern, Elsewhere, concern_if_named}
 use Rattle.dm_two_peers.specs.Machine.{tie_of}
 use Rattle.dm_two_peers.specs.Links.{Side, A, B, flip, opens}
 use Rattle.dm_two_peers.specs.Links.{Link, View, view_of, by_side}
-use Rattle.dm_two_peers.specs.Peers.{Event, Start, Reply, Acts, Declines, Peers, concern_by}
-use Rattle.dm_two_peers.specs.Worlds.{World, peer_at, with_peer, with_links, change_at, after_reply}
+use Rattle.dm_two_peers.specs.Peers.{Event, StartEvent, Reply, ActsBy, Declines, Peers, concern_by}
+use Rattle.dm_two_peers.specs.Worlds.{World, peer_on, with_peer, with_links, change_at, after_reply}
 use Rattle.dm_two_peers.specs.Worlds.{tell}
 use Rattle.dm_two_peers.specs.Happens.{world_after}
 use Rattle.dm_two_peers.specs.Follows.{IsMachine}
@@ -22,72 +22,72 @@ use Rattle.dm_two_peers.proofs.Keeps.{Hands, step_keeps, flip_link, sound_flip}
 use Rattle.dm_two_peers.proofs.StartKeeps.{start_keeps}
 
 pub side_sound : {P M : Type 0} (m : Peers P M) (s : Side) (w : World P M) → IsSoundWorld m w →
-    AreSound s (m.node_of (peer_at s w)) (m.node_of (peer_at (flip s) w)) w.links
+    AreSound s (m.node_of (peer_on s w)) (m.node_of (peer_on (flip s) w)) w.links
 side_sound m A w good = good
 side_sound m B w good = sound_flip A (m.node_of w.a) (m.node_of w.b) w.links good
 
 pub sound_back : {P M : Type 0} (m : Peers P M) (s : Side) (w : World P M) (p : P) (links : List (Link M)) →
-    AreSound s (m.node_of p) (m.node_of (peer_at (flip s) w)) links → IsSoundWorld m (with_peer s p links w)
+    AreSound s (m.node_of p) (m.node_of (peer_on (flip s) w)) links → IsSoundWorld m (with_peer s p links w)
 sound_back m A w p links good = good
 sound_back m B w p links good = sound_flip B (m.node_of p) (m.node_of w.a) links good
 
 -- a peer takes an event that is no Start
 answered_sound : {P M : Type 0} (m : Peers P M) → MachineLaws → IsMachine m →
-    (s : Side) (e : Event M) (w : World P M) (r : Reply P M) → m.reply (peer_at s w) e ≡ r → IsSoundWorld m w →
-    Hands s (m.node_of (peer_at s w)) (m.node_of (peer_at (flip s) w)) e w.links → (IsStart e → ⊥) →
+    (s : Side) (e : Event M) (w : World P M) (r : Reply P M) → m.reply (peer_on s w) e ≡ r → IsSoundWorld m w →
+    Hands s (m.node_of (peer_on s w)) (m.node_of (peer_on (flip s) w)) e w.links → (IsStart e → ⊥) →
     ((c : ℕ) → length w.links ≤ c → concern_by e (conn c) ≡ Elsewhere) →
     IsSoundWorld m (world_after w (after_reply m s e w r))
 answered_sound m laws is s e w Declines eq good hands no_start later = good
-answered_sound m laws is s e w (Acts actions p) eq good hands no_start later =
+answered_sound m laws is s e w (ActsBy actions p) eq good hands no_start later =
     let g = side_sound m s w good in
     sound_back m s w p _
-    (step_keeps s (m.node_of (peer_at s w)) (m.node_of p)
-    (m.node_of (peer_at (flip s) w)) e actions w.links g hands
-    (ties_kept m (peer_at s w) p e actions laws is g.own_shaped eq) no_start later)
+    (step_keeps s (m.node_of (peer_on s w)) (m.node_of p)
+    (m.node_of (peer_on (flip s) w)) e actions w.links g hands
+    (ties_kept m (peer_on s w) p e actions laws is g.own_shaped eq) no_start later)
 
 pub started_sound : {P M : Type 0} (m : Peers P M) → MachineLaws → IsMachine m →
-    (s : Side) (w : World P M) (r : Reply P M) → m.reply (peer_at s w) (Start (conn (length w.links))) ≡ r →
-    IsSoundWorld m w → IsSoundWorld m (world_after w (after_reply m s (Start (conn (length w.links))) w r))
+    (s : Side) (w : World P M) (r : Reply P M) → m.reply (peer_on s w) (StartEvent (conn (length w.links))) ≡ r →
+    IsSoundWorld m w → IsSoundWorld m (world_after w (after_reply m s (StartEvent (conn (length w.links))) w r))
 started_sound m laws is s w Declines eq good = good
-started_sound {P} {M} m laws is s w (Acts actions p) eq good =
+started_sound {P} {M} m laws is s w (ActsBy actions p) eq good =
     let g = side_sound m s w good in
-    let e : Event M = Start (conn (length w.links)) in
+    let e : Event M = StartEvent (conn (length w.links)) in
     sound_back m s w p _
-    (start_keeps s (m.node_of (peer_at s w)) (m.node_of p) (m.node_of (peer_at (flip s) w)) actions w.links g
-    (ties_kept m (peer_at s w) p e actions laws is g.own_shaped eq))
+    (start_keeps s (m.node_of (peer_on s w)) (m.node_of p) (m.node_of (peer_on (flip s) w)) actions w.links g
+    (ties_kept m (peer_on s w) p e actions laws is g.own_shaped eq))
 
 -- an event that concerns no link
 pub calm_sound : {P M : Type 0} (m : Peers P M) → MachineLaws → IsMachine m →
     (s : Side) (e : Event M) (w : World P M) → IsSoundWorld m w → (IsStart e → ⊥) →
     ((c : ℕ) → concern_by e (conn c) ≡ Elsewhere) → IsSoundWorld m (world_after w (tell m s e w))
 calm_sound m laws is s e w good no_start calm =
-    answered_sound m laws is s e w (m.reply (peer_at s w) e) refl good
+    answered_sound m laws is s e w (m.reply (peer_on s w) e) refl good
     (record {
       handed = λ d l at. subst
           (λ k. is_handed (opens s l.opener) k
-          (standing_of (tie_of (m.node_of (peer_at s w)) d) (tie_of (m.node_of (peer_at (flip s) w)) d)
+          (standing_of (tie_of (m.node_of (peer_on s w)) d) (tie_of (m.node_of (peer_on (flip s) w)) d)
           (view_of (opens s l.opener) l)) ≡ true) (sym (calm d)) refl;
     })
     no_start (λ c h. calm c)
 
 -- an event that concerns one link
-named_here : (c : ℕ) (k : Concern) → concern_if_named (conn c) (conn c) k ≡ k
+named_here : (c : ℕ) (k : LinkConcern) → concern_if_named (conn c) (conn c) k ≡ k
 named_here c k = grind (arith, nat_tests)
 
-named_other : (c d : ℕ) (k : Concern) → (d ≡ c → ⊥) → concern_if_named (conn c) (conn d) k ≡ Elsewhere
+named_other : (c d : ℕ) (k : LinkConcern) → (d ≡ c → ⊥) → concern_if_named (conn c) (conn d) k ≡ Elsewhere
 named_other c d k h = grind (arith, nat_tests)
 
 pub same_link : {X : Type 0} (xs : List X) (c : ℕ) (x y : X) → slice_get xs c ≡ Some x → slice_get xs c ≡ Some y →
     x ≡ y
 same_link xs c x y h k = cc
 
-pub hands_at : {M : Type 0} (s : Side) (own other : Node) (e : Event M) (k : Concern) (links : List (Link M)) (c : ℕ)
+pub hands_at : {M : Type 0} (s : Side) (own other : Node) (e : Event M) (k : LinkConcern) (links : List (Link M)) (c : ℕ)
     (l : Link M) → slice_get links c ≡ Some l → ((d : ℕ) → concern_by e (conn d)
     ≡ concern_if_named (conn c) (conn d) k) →
     is_handed (opens s l.opener) k
     (standing_of (tie_of own c) (tie_of other c) (view_of (opens s l.opener) l)) ≡ true → Hands s own other e links
 hands_at {M} s own other e k links c l at names handed =
-    let F : Concern → ℕ → Link M →
+    let F : LinkConcern → ℕ → Link M →
     Type 0 = λ x d y. is_handed (opens s y.opener) x
     (standing_of (tie_of own d) (tie_of other d) (view_of (opens s y.opener) y)) ≡ true in
     record {
@@ -102,17 +102,17 @@ hands_at {M} s own other e k links c l at names handed =
     }
 
 pub one_sound : {P M : Type 0} (m : Peers P M) → MachineLaws → IsMachine m →
-    (s : Side) (e : Event M) (k : Concern) (w : World P M) (c : ℕ) (l : Link M) → IsSoundWorld m w →
+    (s : Side) (e : Event M) (k : LinkConcern) (w : World P M) (c : ℕ) (l : Link M) → IsSoundWorld m w →
     slice_get w.links c ≡ Some l →
     ((d : ℕ) → concern_by e (conn d) ≡ concern_if_named (conn c) (conn d) k) → (IsStart e → ⊥) →
     is_handed (opens s l.opener) k
-    (standing_of (tie_of (m.node_of (peer_at s w)) c) (tie_of (m.node_of (peer_at (flip s) w)) c)
+    (standing_of (tie_of (m.node_of (peer_on s w)) c) (tie_of (m.node_of (peer_on (flip s) w)) c)
     (view_of (opens s l.opener) l)) ≡ true →
     IsSoundWorld m (world_after w (tell m s e w))
 one_sound m laws is s e k w c l good at names no_start handed =
     let lt = slice_get_within w.links c l at in
-    answered_sound m laws is s e w (m.reply (peer_at s w) e) refl good
-    (hands_at s (m.node_of (peer_at s w)) (m.node_of (peer_at (flip s) w)) e k w.links c l at names handed)
+    answered_sound m laws is s e w (m.reply (peer_on s w) e) refl good
+    (hands_at s (m.node_of (peer_on s w)) (m.node_of (peer_on (flip s) w)) e k w.links c l at names handed)
     no_start (λ d h. names d ∙ named_other c d k (λ (q : d ≡ c). absurd (omega (arith, lt, h, q))))
 
 -- one link alone is changed
@@ -142,7 +142,7 @@ change_sound {P} {M} m w c f good h =
     }
 
 to_a : {P M : Type 0} (m : Peers P M) (s : Side) (w : World P M) (c : ℕ) (l : Link M) →
-    IsSoundLink s (m.node_of (peer_at s w)) (m.node_of (peer_at (flip s) w)) c l →
+    IsSoundLink s (m.node_of (peer_on s w)) (m.node_of (peer_on (flip s) w)) c l →
     IsSoundLink A (m.node_of w.a) (m.node_of w.b) c l
 to_a m A w c l h = h
 to_a m B w c l h = flip_link B l.opener (tie_of (m.node_of w.b) c) (tie_of (m.node_of w.a) c) l h
@@ -150,13 +150,13 @@ to_a m B w c l h = flip_link B l.opener (tie_of (m.node_of w.b) c) (tie_of (m.no
 pub side_changed : {P M : Type 0} (m : Peers P M) (s : Side) (w : World P M) (c : ℕ) (f : View M → View M) →
     IsSoundWorld m w →
     ((l : Link M) → slice_get w.links c ≡ Some l →
-    IsSoundView (opens s l.opener) (tie_of (m.node_of (peer_at s w)) c)
-    (tie_of (m.node_of (peer_at (flip s) w)) c) (f (view_of (opens s l.opener) l))) →
+    IsSoundView (opens s l.opener) (tie_of (m.node_of (peer_on s w)) c)
+    (tie_of (m.node_of (peer_on (flip s) w)) c) (f (view_of (opens s l.opener) l))) →
     IsSoundWorld m (with_links (change_at c (by_side s f) w.links) w)
 side_changed m s w c f good h =
     change_sound m w c (by_side s f) good (λ l at.
     let mine = opens s l.opener in
-    let t = tie_of (m.node_of (peer_at s w)) c in
-    let u = tie_of (m.node_of (peer_at (flip s) w)) c in
+    let t = tie_of (m.node_of (peer_on s w)) c in
+    let u = tie_of (m.node_of (peer_on (flip s) w)) c in
     to_a m s w c (by_side s f l)
     (subst (λ x. IsSoundView mine t u x) (sym (view_link mine l.opener (f (view_of mine l)))) (h l at)))

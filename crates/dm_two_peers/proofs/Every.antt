@@ -1,9 +1,9 @@
 -- A test at every value of a small type, by computing it at each.
 use Rattle.std.proofs.Common.{◌≡◌, ℕ, zero, suc, Bool, true, false, ◌&&◌, List, [], ◌∷◌, refl}
 use Rattle.std.proofs.lemmas.Bool.{and_parts}
-use Rattle.dm_two_peers.specs.Machine.{Concern, Elsewhere, StartsIt, AcksIt, NacksIt, EndsIt, HeardOnIt, Tie, Unheld}
-use Rattle.dm_two_peers.specs.Machine.{Connecting, Made, MadeOpen, Taken}
-use Rattle.dm_two_peers.specs.Links.{LinkPhase, Pending, Up, Cancelled, End, Fresh, Open, Shut, Mark, NoMark, Coming}
+use Rattle.dm_two_peers.specs.Machine.{LinkConcern, Elsewhere, StartsLink, MakesLink, FailsLink, EndsLink, HeardOnLink, Tie, Unheld}
+use Rattle.dm_two_peers.specs.Machine.{Connecting, Connected, ConnectedOpen, AcceptedTie}
+use Rattle.dm_two_peers.specs.Links.{LinkPhase, LinkPending, LinkUp, LinkCancelled, End, Fresh, Open, Shut, Mark, NoMark, Coming}
 use Rattle.dm_two_peers.specs.Links.{Delivered}
 use Rattle.dm_two_peers.specs.Facts.{Standing}
 
@@ -26,13 +26,13 @@ abbrev bools : (Bool → Bool) → List Bool
 bools f = f true ∷ f false ∷ []
 
 abbrev ties : (Tie → Bool) → List Bool
-ties f = f Unheld ∷ f Connecting ∷ f Made ∷ f MadeOpen ∷ f Taken ∷ []
+ties f = f Unheld ∷ f Connecting ∷ f Connected ∷ f ConnectedOpen ∷ f AcceptedTie ∷ []
 
-abbrev concerns : (Concern → Bool) → List Bool
-concerns f = f Elsewhere ∷ f StartsIt ∷ f AcksIt ∷ f NacksIt ∷ f EndsIt ∷ f HeardOnIt ∷ []
+abbrev concerns : (LinkConcern → Bool) → List Bool
+concerns f = f Elsewhere ∷ f StartsLink ∷ f MakesLink ∷ f FailsLink ∷ f EndsLink ∷ f HeardOnLink ∷ []
 
 abbrev phases : (LinkPhase → Bool) → List Bool
-phases f = f Pending ∷ f Up ∷ f Cancelled ∷ []
+phases f = f LinkPending ∷ f LinkUp ∷ f LinkCancelled ∷ []
 
 abbrev ends : (End → Bool) → List Bool
 ends f = f Fresh ∷ f Open ∷ f Shut ∷ []
@@ -46,7 +46,7 @@ every_bool f = all_true (bools f)
 unfoldable pub every_tie : (Tie → Bool) → Bool
 every_tie f = all_true (ties f)
 
-unfoldable pub every_concern : (Concern → Bool) → Bool
+unfoldable pub every_concern : (LinkConcern → Bool) → Bool
 every_concern f = all_true (concerns f)
 
 unfoldable pub every_phase : (LinkPhase → Bool) → Bool
@@ -67,24 +67,24 @@ pub at_tie : (f : Tie → Bool) → every_tie f ≡ true → (x : Tie) → f x �
 unfolding every_tie
 at_tie f h Unheld = at (ties f) 0 h
 at_tie f h Connecting = at (ties f) 1 h
-at_tie f h Made = at (ties f) 2 h
-at_tie f h MadeOpen = at (ties f) 3 h
-at_tie f h Taken = at (ties f) 4 h
+at_tie f h Connected = at (ties f) 2 h
+at_tie f h ConnectedOpen = at (ties f) 3 h
+at_tie f h AcceptedTie = at (ties f) 4 h
 
-pub at_concern : (f : Concern → Bool) → every_concern f ≡ true → (x : Concern) → f x ≡ true
+pub at_concern : (f : LinkConcern → Bool) → every_concern f ≡ true → (x : LinkConcern) → f x ≡ true
 unfolding every_concern
 at_concern f h Elsewhere = at (concerns f) 0 h
-at_concern f h StartsIt = at (concerns f) 1 h
-at_concern f h AcksIt = at (concerns f) 2 h
-at_concern f h NacksIt = at (concerns f) 3 h
-at_concern f h EndsIt = at (concerns f) 4 h
-at_concern f h HeardOnIt = at (concerns f) 5 h
+at_concern f h StartsLink = at (concerns f) 1 h
+at_concern f h MakesLink = at (concerns f) 2 h
+at_concern f h FailsLink = at (concerns f) 3 h
+at_concern f h EndsLink = at (concerns f) 4 h
+at_concern f h HeardOnLink = at (concerns f) 5 h
 
 pub at_phase : (f : LinkPhase → Bool) → every_phase f ≡ true → (x : LinkPhase) → f x ≡ true
 unfolding every_phase
-at_phase f h Pending = at (phases f) 0 h
-at_phase f h Up = at (phases f) 1 h
-at_phase f h Cancelled = at (phases f) 2 h
+at_phase f h LinkPending = at (phases f) 0 h
+at_phase f h LinkUp = at (phases f) 1 h
+at_phase f h LinkCancelled = at (phases f) 2 h
 
 pub at_end : (f : End → Bool) → every_end f ≡ true → (x : End) → f x ≡ true
 unfolding every_end

@@ -51,7 +51,7 @@ at_hold f e OpenAsR = at (holds f) 6 e
 at_hold f e ClosingAsR = at (holds f) 7 e
 
 abbrev ways : (machine.Concern → Bool) → List Bool
-ways f = f machine.NamesAnother ∷ f machine.Stops ∷ f machine.TimesOut ∷ f machine.Ticks ∷ f machine.Submits ∷ f
+ways f = f machine.NamesAnother ∷ f machine.AsksStop ∷ f machine.SaysTimeout ∷ f machine.SaysTick ∷ f machine.AsksSubmit ∷ f
     machine.StartsIt ∷ f machine.AcksIt ∷ f machine.NacksIt ∷ f machine.EndsIt ∷ every_word
     (λ w. f (machine.HeardOnIt w)) ∷ []
 
@@ -61,10 +61,10 @@ every_way f = all_true (ways f)
 pub at_way : (f : machine.Concern → Bool) → every_way f ≡ true → (k : machine.Concern) → f k ≡ true
 unfolding every_way
 at_way f e machine.NamesAnother = at (ways f) 0 e
-at_way f e machine.Stops = at (ways f) 1 e
-at_way f e machine.TimesOut = at (ways f) 2 e
-at_way f e machine.Ticks = at (ways f) 3 e
-at_way f e machine.Submits = at (ways f) 4 e
+at_way f e machine.AsksStop = at (ways f) 1 e
+at_way f e machine.SaysTimeout = at (ways f) 2 e
+at_way f e machine.SaysTick = at (ways f) 3 e
+at_way f e machine.AsksSubmit = at (ways f) 4 e
 at_way f e machine.StartsIt = at (ways f) 5 e
 at_way f e machine.AcksIt = at (ways f) 6 e
 at_way f e machine.NacksIt = at (ways f) 7 e

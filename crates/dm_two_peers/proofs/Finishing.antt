@@ -4,7 +4,7 @@ use Rattle.std.proofs.Common.{refl, sym, ap, subst, ◌∙◌, arith, inl, inr, 
 use Rattle.std.proofs.lemmas.Bool.{and_from, leb-true}
 use Rattle.dm_two_peers.specs.Links.{Side}
 use Rattle.dm_two_peers.specs.Peers.{Peers}
-use Rattle.dm_two_peers.specs.Worlds.{World, Put, After, Done}
+use Rattle.dm_two_peers.specs.Worlds.{World, Put, After, DoneWith}
 use Rattle.dm_two_peers.specs.Happens.{Happening, Acks, Delivers, happens, RunEnd, ran_on, run_from, run}
 use Rattle.dm_two_peers.specs.Quiet.{is_clean_one, links_made, makes, kept_of, kept, cost, steps_taken}
 use Rattle.dm_two_peers.specs.Electing.{Talks, IsElecting}
@@ -32,7 +32,7 @@ module _ {P M C H : Type 0} (m : Peers P M) (t : Talks P M C H) where
 
   further_of : {h h' : ℕ} (g l : Side) (k : Phase) (x y c : ℕ) (after : After P M) (gs ls : List ℕ) →
       Went m t g l k x y h h' c after gs ls → c ≡ 1 → gs ≡ [] → ls ≡ [] → (w : World P M) (put : List (Put M)) →
-      after ≡ Done w put → Further g l k x y w
+      after ≡ DoneWith w put → Further g l k x y w
   further_of g l k x y c after gs ls stays one eg e_l w put e = cc
   further_of g l k x y c after gs ls is_lost one eg e_l w put e = cc
   further_of g l k x y c after gs ls (moves w0 put0 gs0 ls0 k' x' y' q adds e0 e4 e5) one eg e_l w put e =

@@ -3,11 +3,11 @@ use Rattle.std.proofs.Common.{◌≡◌, ℕ, Bool, true, false, not, ◌&&◌, 
 use Rattle.std.proofs.Common.{Option, Some, None, List, refl, sym, ap, ◌∙◌}
 use Rattle.std.proofs.Common.{◌⊎◌, inl, inr}
 use Rattle.std.specs.Prelude.{option_map}
-use Rattle.dm_two_peers.specs.Machine.{Concern, AcksIt}
+use Rattle.dm_two_peers.specs.Machine.{LinkConcern, MakesLink}
 use Rattle.dm_two_peers.specs.Links.{Side, A, B, opens, LinkPhase, End}
 use Rattle.dm_two_peers.specs.Links.{Link, View, view_of, link_of, by_side}
 use Rattle.dm_two_peers.specs.Peers.{Action}
-use Rattle.dm_two_peers.specs.Steps.{entered, own_settled, settled}
+use Rattle.dm_two_peers.specs.Steps.{entered, own_settled, settled_view}
 use Rattle.dm_two_peers.specs.Happens.{own_view}
 use Rattle.dm_two_peers.specs.Facts.{is_up, is_fresh}
 use Rattle.dm_two_peers.specs.Making.{has_fresh_end, is_fresh_on}
@@ -29,27 +29,27 @@ fresh_of b p own other = is_up p && is_fresh (own_or b own other)
 abbrev pub fresh_in : {M : Type 0} → Bool → View M → Bool
 fresh_in b v = fresh_of b v.phase v.own v.other
 
-abbrev pub is_ack : Concern → Bool
-is_ack AcksIt = true
+abbrev pub is_ack : LinkConcern → Bool
+is_ack MakesLink = true
 is_ack _ = false
 
 -- a step and an entry, at every view
-abbrev fresh_stepped : Bool → Concern → Bool → Bool → LinkPhase → End → End → Bool
+abbrev fresh_stepped : Bool → LinkConcern → Bool → Bool → LinkPhase → End → End → Bool
 fresh_stepped b k holds closed p own other =
     fresh_of b (phase_after closed (phase_at k p))
     (own_settled k holds (own_after closed (phase_at k p) (own_at k own))) (other_at k other)
 
-abbrev fresh_entered : Bool → Concern → LinkPhase → End → End → Bool
+abbrev fresh_entered : Bool → LinkConcern → LinkPhase → End → End → Bool
 fresh_entered b k p own other = fresh_of b (phase_at k p) (own_at k own) (other_at k other)
 
-abbrev was_or_made_at : Bool → Concern → LinkPhase → End → End → Bool
+abbrev was_or_made_at : Bool → LinkConcern → LinkPhase → End → End → Bool
 was_or_made_at b k p own other = fresh_of b p own other || (is_ack k && not b)
 
-abbrev step_at : Bool → Concern → Bool → Bool → LinkPhase → End → End → Bool
+abbrev step_at : Bool → LinkConcern → Bool → Bool → LinkPhase → End → End → Bool
 step_at b k holds closed p own other =
     when (fresh_stepped b k holds closed p own other) (was_or_made_at b k p own other)
 
-abbrev entry_at : Bool → Concern → LinkPhase → End → End → Bool
+abbrev entry_at : Bool → LinkConcern → LinkPhase → End → End → Bool
 entry_at b k p own other = when (fresh_entered b k p own other) (was_or_made_at b k p own other)
 
 steps_checked : every_bool
@@ -65,16 +65,16 @@ entries_checked : every_bool
 unfolding all_true every_bool every_concern every_phase every_end
 entries_checked = refl
 
-pub step_makes : {M : Type 0} (b : Bool) (k : Concern) (holds : Bool) (d : ℕ) (actions : List (Action M)) (v : View M) →
+pub step_makes : {M : Type 0} (b : Bool) (k : LinkConcern) (holds : Bool) (d : ℕ) (actions : List (Action M)) (v : View M) →
     fresh_in b (stepped k holds d actions v) ≡ true → (fresh_in b v || (is_ack k && not b)) ≡ true
 step_makes b k holds d actions v h =
     let closed = is_closed_at d actions in
     is_when (fresh_stepped b k holds closed v.phase v.own v.other) (was_or_made_at b k v.phase v.own v.other)
     (at_end _ (at_end _ (at_phase _ (at_bool _
     (at_bool _ (at_concern _ (at_bool _ steps_checked b) k) holds) closed) v.phase) v.own) v.other)
-    (sym (ap (λ x. fresh_in b (settled k holds x)) (acted_entered d actions k v)) ∙ h)
+    (sym (ap (λ x. fresh_in b (settled_view k holds x)) (acted_entered d actions k v)) ∙ h)
 
-pub entry_makes : {M : Type 0} (b : Bool) (k : Concern) (v : View M) →
+pub entry_makes : {M : Type 0} (b : Bool) (k : LinkConcern) (v : View M) →
     fresh_in b (entered k v) ≡ true → (fresh_in b v || (is_ack k && not b)) ≡ true
 entry_makes b k v h =
     is_when (fresh_entered b k v.phase v.own v.other) (was_or_made_at b k v.phase v.own v.other)
@@ -122,7 +122,7 @@ either false true false h = inr (refl, refl)
 either false true true h = cc
 either false false mine h = cc
 
-pub link_makes : {M : Type 0} (s t : Side) (k : Concern) (f : View M → View M) (l : Link M) →
+pub link_makes : {M : Type 0} (s t : Side) (k : LinkConcern) (f : View M → View M) (l : Link M) →
     (fresh_in (opens s t) (f (own_view t l)) ≡ true →
     (fresh_in (opens s t) (own_view t l) || (is_ack k && not (opens s t))) ≡ true) →
     has_fresh_end s (by_side t f l) ≡ true → WasOrMade (has_fresh_end s l) (is_ack k) (opens s t)

@@ -2,11 +2,11 @@
 use Rattle.std.proofs.Common.{◌≡◌, ℕ, suc, ◌+◌, ◌-◌, ◌≤◌, ◌==◌, Bool, true, false, nat_le, if◌then◌else◌, Some, List}
 use Rattle.std.proofs.Common.{[], ◌∷◌, length, slice_get, refl, sym, ap, subst, ◌∙◌, arith, ◌⊎◌, inl, inr}
 use Rattle.std.proofs.lemmas.Option.{slice_get-map}
-use Rattle.dm_two_peers.specs.Machine.{conn, Elsewhere, AcksIt, NacksIt, Tie, Unheld, tie_of, closed_node}
-use Rattle.dm_two_peers.specs.Links.{Side, A, flip, opens, LinkPhase, Pending, Up, Cancelled, End, Mark, NoMark, Coming}
+use Rattle.dm_two_peers.specs.Machine.{conn, Elsewhere, MakesLink, FailsLink, Tie, Unheld, tie_of, closed_node}
+use Rattle.dm_two_peers.specs.Links.{Side, A, flip, opens, LinkPhase, LinkPending, LinkUp, LinkCancelled, End, Mark, NoMark, Coming}
 use Rattle.dm_two_peers.specs.Links.{Delivered, Direction, Link, View, view_of, by_side}
-use Rattle.dm_two_peers.specs.Peers.{Start, Stop, Timeout, Tick, Ack, Nack, Submit, Peers}
-use Rattle.dm_two_peers.specs.Worlds.{World, peer_at, with_peer, with_links, change_at, Ignored}
+use Rattle.dm_two_peers.specs.Peers.{StartEvent, StopEvent, TimeoutEvent, TickEvent, AckEvent, NackEvent, SubmitEvent, Peers}
+use Rattle.dm_two_peers.specs.Worlds.{World, peer_on, with_peer, with_links, change_at, Ignored}
 use Rattle.dm_two_peers.specs.Happens.{Happening, Starts, Stops, TimesOut, Ticks, Restarts, Acks, Nacks, Delivers, Pieces}
 use Rattle.dm_two_peers.specs.Happens.{Loses, Submits, next_in, whole_in, lost_messages, kept_at, lost_link, are_shut}
 use Rattle.dm_two_peers.specs.Happens.{restarted, restart_links, own_view, happens, world_after}
@@ -44,10 +44,10 @@ lost_empty size k NoMark old = kept_empty size k old
 lost_empty size k Coming old = kept_empty size k old
 lost_empty size k Delivered old = inr refl
 
-up_is : (p : LinkPhase) → p ≡ Up → is_up p ≡ true
+up_is : (p : LinkPhase) → p ≡ LinkUp → is_up p ≡ true
 up_is p h = rw h refl
 
-lost_view : {M : Type 0} (size : M → ℕ) (a b : ℕ) (mine : Bool) (t u : Tie) (l : Link M) → l.phase ≡ Up →
+lost_view : {M : Type 0} (size : M → ℕ) (a b : ℕ) (mine : Bool) (t u : Tie) (l : Link M) → l.phase ≡ LinkUp →
     IsSoundView mine t u (view_of mine l) → IsSoundView mine t u (view_of mine (lost_link size a b l))
 lost_view size a b true t u l p good =
     lost_of (standing_of t u (view_of true l)) _ _ good (up_is l.phase p)
@@ -59,7 +59,7 @@ lost_view size a b false t u l p good =
     (lost_empty size (kept_at (flip l.opener) a b + l.to_other.taken) l.to_other.mark l.to_other.messages)
 
 lost_sound : {P M : Type 0} (m : Peers P M) (w : World P M) (c a b : ℕ) (l : Link M) → IsSoundWorld m w →
-    slice_get w.links c ≡ Some l → l.phase ≡ Up →
+    slice_get w.links c ≡ Some l → l.phase ≡ LinkUp →
     IsSoundWorld m (with_links (change_at c (lost_link m.size a b) w.links) w)
 lost_sound {P} {M} m w c a b l good at p =
     change_sound m w c (lost_link m.size a b) good (λ k there.
@@ -82,18 +82,18 @@ summed_sound mine closed t u v h =
 pub restarted_at : {M : Type 0} (mine : Bool) (p : LinkPhase) (own other : End) (i o : Direction M) →
     restarted mine (record { phase = p; own = own; other = other; incoming = i; outgoing = o }) ≡ summed
     (closes_own mine p) [] (record { phase = p; own = own; other = other; incoming = i; outgoing = o })
-restarted_at true Pending own other i o = shut_is_summed
-    (record { phase = Pending; own = own; other = other; incoming = i; outgoing = o })
-restarted_at false Pending own other i o = nothing_summed
-    (record { phase = Pending; own = own; other = other; incoming = i; outgoing = o })
-restarted_at true Up own other i o = shut_is_summed
-    (record { phase = Up; own = own; other = other; incoming = i; outgoing = o })
-restarted_at false Up own other i o = shut_is_summed
-    (record { phase = Up; own = own; other = other; incoming = i; outgoing = o })
-restarted_at true Cancelled own other i o = shut_is_summed
-    (record { phase = Cancelled; own = own; other = other; incoming = i; outgoing = o })
-restarted_at false Cancelled own other i o = shut_is_summed
-    (record { phase = Cancelled; own = own; other = other; incoming = i; outgoing = o })
+restarted_at true LinkPending own other i o = shut_is_summed
+    (record { phase = LinkPending; own = own; other = other; incoming = i; outgoing = o })
+restarted_at false LinkPending own other i o = nothing_summed
+    (record { phase = LinkPending; own = own; other = other; incoming = i; outgoing = o })
+restarted_at true LinkUp own other i o = shut_is_summed
+    (record { phase = LinkUp; own = own; other = other; incoming = i; outgoing = o })
+restarted_at false LinkUp own other i o = shut_is_summed
+    (record { phase = LinkUp; own = own; other = other; incoming = i; outgoing = o })
+restarted_at true LinkCancelled own other i o = shut_is_summed
+    (record { phase = LinkCancelled; own = own; other = other; incoming = i; outgoing = o })
+restarted_at false LinkCancelled own other i o = shut_is_summed
+    (record { phase = LinkCancelled; own = own; other = other; incoming = i; outgoing = o })
 
 restart_view : {M : Type 0} (mine : Bool) (t u : Tie) (v : View M) → IsSoundView mine t u v →
     IsSoundView mine Unheld u (restarted mine v)
@@ -106,11 +106,11 @@ length-restart s [] = refl
 length-restart s (l ∷ links) = ap (λ n. suc n) (length-restart s links)
 
 restart_sound : {P M : Type 0} (m : Peers P M) → IsMachine m → (s : Side) (w : World P M) → IsSoundWorld m w →
-    IsSoundWorld m (with_peer s (m.reset (peer_at s w)) (restart_links s w.links) w)
+    IsSoundWorld m (with_peer s (m.reset (peer_on s w)) (restart_links s w.links) w)
 restart_sound {P} {M} m is s w good =
     let g = side_sound m s w good in
-    let own = m.node_of (peer_at s w) in
-    let other = m.node_of (peer_at (flip s) w) in
+    let own = m.node_of (peer_on s w) in
+    let other = m.node_of (peer_on (flip s) w) in
     let f : Link M → Link M = λ l. by_side s (restarted (opens s l.opener)) l in
     let len = length-restart s w.links in
     let closed : AreSound s closed_node other (restart_links s w.links) =
@@ -128,30 +128,30 @@ restart_sound {P} {M} m is s w good =
       own_later = λ c h. refl;
       other_later = λ c h. let h' : length w.links ≤ c = omega (arith, len, h) in g.other_later c h';
     } in
-    sound_back m s w (m.reset (peer_at s w)) (restart_links s w.links)
-    (subst (λ n. AreSound s n other (restart_links s w.links)) (sym (is.resets (peer_at s w))) closed)
+    sound_back m s w (m.reset (peer_on s w)) (restart_links s w.links)
+    (subst (λ n. AreSound s n other (restart_links s w.links)) (sym (is.resets (peer_on s w))) closed)
 
 -- one happening, and all
 pub happens_sound : {P M : Type 0} (m : Peers P M) → MachineLaws → IsMachine m →
     (w : World P M) (h : Happening M) → IsSoundWorld m w → IsSoundWorld m (world_after w (happens m w h))
 happens_sound m laws is w (Starts s) good = started_sound m laws is s w
-    (m.reply (peer_at s w) (Start (conn (length w.links)))) refl good
-happens_sound m laws is w (Stops s cause) good = calm_sound m laws is s (Stop cause) w good (λ h. elim h [ ])
+    (m.reply (peer_on s w) (StartEvent (conn (length w.links)))) refl good
+happens_sound m laws is w (Stops s cause) good = calm_sound m laws is s (StopEvent cause) w good (λ h. elim h [ ])
     (λ c. refl)
-happens_sound m laws is w (TimesOut s) good = calm_sound m laws is s Timeout w good (λ h. elim h [ ]) (λ c. refl)
-happens_sound m laws is w (Ticks s) good = calm_sound m laws is s Tick w good (λ h. elim h [ ]) (λ c. refl)
-happens_sound m laws is w (Submits s x) good = calm_sound m laws is s (Submit x) w good (λ h. elim h [ ])
+happens_sound m laws is w (TimesOut s) good = calm_sound m laws is s TimeoutEvent w good (λ h. elim h [ ]) (λ c. refl)
+happens_sound m laws is w (Ticks s) good = calm_sound m laws is s TickEvent w good (λ h. elim h [ ]) (λ c. refl)
+happens_sound m laws is w (Submits s x) good = calm_sound m laws is s (SubmitEvent x) w good (λ h. elim h [ ])
     (λ c. refl)
 happens_sound m laws is w (Restarts s) good = restart_sound m is s w good
 happens_sound m laws is w (Acks c) good =
     there_sound m w (slice_get w.links c) _ (λ l at.
     pending_sound m w l.phase _
-    (λ p. one_sound m laws is l.opener (Ack (conn c)) AcksIt w c l good at (λ d. refl) (λ h. elim h [ ])
+    (λ p. one_sound m laws is l.opener (AckEvent (conn c)) MakesLink w c l good at (λ d. refl) (λ h. elim h [ ])
     (handed_ack (opens l.opener l.opener) (standing_at m l.opener w c l) (opens_self l.opener) p)) good) good
 happens_sound m laws is w (Nacks c) good =
     there_sound m w (slice_get w.links c) _ (λ l at.
     pending_sound m w l.phase _
-    (λ p. one_sound m laws is l.opener (Nack (conn c)) NacksIt w c l good at (λ d. refl) (λ h. elim h [ ])
+    (λ p. one_sound m laws is l.opener (NackEvent (conn c)) FailsLink w c l good at (λ d. refl) (λ h. elim h [ ])
     (handed_nack (opens l.opener l.opener) (standing_at m l.opener w c l) (opens_self l.opener) p)) good) good
 happens_sound m laws is w (Delivers c s) good =
     there_sound m w (slice_get w.links c) _ (λ l at.

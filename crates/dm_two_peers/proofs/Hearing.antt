@@ -1,7 +1,7 @@
 -- Which ends may still hand something up, and which directions have no disconnect, at a step of either side.
 use Rattle.std.proofs.Common.{◌≡◌, Bool, true, false, not, ◌&&◌, ◌||◌, refl, ap}
-use Rattle.dm_two_peers.specs.Machine.{Concern, AcksIt, EndsIt, HeardOnIt}
-use Rattle.dm_two_peers.specs.Links.{LinkPhase, Pending, Up, Cancelled, End, Fresh, Open, Shut, Mark, NoMark, Coming}
+use Rattle.dm_two_peers.specs.Machine.{LinkConcern, MakesLink, EndsLink, HeardOnLink}
+use Rattle.dm_two_peers.specs.Links.{LinkPhase, LinkPending, LinkUp, LinkCancelled, End, Fresh, Open, Shut, Mark, NoMark, Coming}
 use Rattle.dm_two_peers.specs.Links.{Delivered}
 use Rattle.dm_two_peers.specs.Steps.{own_settled}
 use Rattle.dm_two_peers.specs.Facts.{is_up, is_pending, is_open_end, is_shut, is_none, is_coming}
@@ -12,22 +12,22 @@ use Rattle.dm_two_peers.proofs.StandingSteps.{when}
 
 -- whether an end may still hand something up, by whether its node is done with the link
 abbrev pub may_hear : LinkPhase → End → Bool → Bool
-may_hear Pending e over = true
-may_hear Cancelled e over = false
-may_hear Up Shut over = false
-may_hear Up Fresh over = true
-may_hear Up Open over = not over
+may_hear LinkPending e over = true
+may_hear LinkCancelled e over = false
+may_hear LinkUp Shut over = false
+may_hear LinkUp Fresh over = true
+may_hear LinkUp Open over = not over
 
-abbrev pub is_ack : Concern → Bool
-is_ack AcksIt = true
+abbrev pub is_ack : LinkConcern → Bool
+is_ack MakesLink = true
 is_ack _ = false
 
-abbrev pub is_end : Concern → Bool
-is_end EndsIt = true
+abbrev pub is_end : LinkConcern → Bool
+is_end EndsLink = true
 is_end _ = false
 
-abbrev pub is_word : Concern → Bool
-is_word HeardOnIt = true
+abbrev pub is_word : LinkConcern → Bool
+is_word HeardOnLink = true
 is_word _ = false
 
 abbrev pub imp : Bool → Bool → Bool
@@ -42,7 +42,7 @@ is_imp true b h = h refl
 is_imp false b h = refl
 
 -- no step lets an end hear that couldn't
-abbrev hears_own : Concern → Bool → Bool → Bool → Bool → LinkPhase → End → Bool
+abbrev hears_own : LinkConcern → Bool → Bool → Bool → Bool → LinkPhase → End → Bool
 hears_own k closed holds over over' p own =
     when (imp (is_ack k) (is_pending p) && imp (is_up p && is_open_end own && over) over')
     (imp (may_hear (phase_after closed (phase_at k p))
@@ -55,7 +55,7 @@ pub hears_own_checked : every_concern
 unfolding all_true every_bool every_concern every_phase every_end
 hears_own_checked = refl
 
-abbrev hears_other : Concern → Bool → Bool → LinkPhase → End → Bool
+abbrev hears_other : LinkConcern → Bool → Bool → LinkPhase → End → Bool
 hears_other k closed over p own =
     when (imp (is_ack k) (is_pending p))
     (imp (may_hear (phase_after closed (phase_at k p)) (other_at k own) over) (may_hear p own over))
@@ -69,14 +69,14 @@ hears_other_checked = refl
 -- after a word that ends what isn't open, nothing is heard
 abbrev ends_own : Bool → Bool → End → Bool
 ends_own closed holds own =
-    not (may_hear (phase_after closed Up) (own_settled HeardOnIt holds (own_after closed Up own)) true)
+    not (may_hear (phase_after closed LinkUp) (own_settled HeardOnLink holds (own_after closed LinkUp own)) true)
 
 pub ends_own_checked : every_bool (λ closed. every_bool (λ holds. every_end (λ own. ends_own closed holds own))) ≡ true
 unfolding all_true every_bool every_end
 ends_own_checked = refl
 
 -- an end that isn't shut has no disconnect from it, but for a loss
-abbrev marks_own : Concern → End → Mark → Bool
+abbrev marks_own : LinkConcern → End → Mark → Bool
 marks_own k other mark =
     when (imp (is_ack k) (is_none mark) && imp (is_end k) (is_coming mark) && imp (not (is_shut other)) (is_none mark))
     (imp (not (is_shut (other_at k other))) (is_none (incoming_mark_at k mark)))
@@ -85,7 +85,7 @@ pub marks_own_checked : every_concern (λ k. every_end (λ other. every_mark (λ
 unfolding all_true every_concern every_end every_mark
 marks_own_checked = refl
 
-abbrev marks_other : Concern → Bool → Bool → LinkPhase → End → Mark → Bool
+abbrev marks_other : LinkConcern → Bool → Bool → LinkPhase → End → Mark → Bool
 marks_other k closed holds p other mark =
     when (imp (is_ack k) (is_none mark) && imp (not (is_shut other)) (is_none mark))
     (imp (not (is_shut (own_settled k holds (own_after closed (phase_at k p) (own_at k other)))))

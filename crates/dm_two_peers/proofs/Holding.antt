@@ -7,21 +7,21 @@ use Rattle.dm_machine.specs.declared.state_name.State.TheVariants.{Closed, WaitC
 use Rattle.dm_machine.specs.declared.state_name.State.TheVariants.{WaitReturns, ROpen, IOpen, Closing}
 use Rattle.dm_machine.specs.Node.{is_held_in, is_count_of}
 use Rattle.dm_two_peers.specs.Machine.{Conn, Role, Initiated, Accepted, Node, node_at, is_shaped, is_same_role, tie_of}
-use Rattle.dm_two_peers.specs.Machine.{is_held}
+use Rattle.dm_two_peers.specs.Machine.{is_tie_held}
 use Rattle.dm_two_peers.specs.Joining.{StandsOn}
 use Rattle.dm_two_peers.proofs.StandingOthers.{is_connecting, is_taken}
 
 -- nothing; one link alone, as its initiator or having accepted it; one of each; or one whose connect is pending
 pub data HeldLinks (n : Node) : Type 0 where
   none : n.state ≡ Closed → HeldLinks n
-  one : (role : Role) (c : ℕ) → StandsOn n role c → is_held (tie_of n c) ≡ true →
-      is_taken (tie_of n c) ≡ is_same_role role Accepted → ((d : ℕ) → is_held (tie_of n d) ≡ true → c ≡ d) → HeldLinks n
-  two : (i r : ℕ) → n.state ≡ WaitReturns → is_held (tie_of n i) ≡ true → is_taken (tie_of n i) ≡ false →
-      is_held (tie_of n r) ≡ true → is_taken (tie_of n r) ≡ true → HeldLinks n
-  pends : (c : ℕ) → is_held (tie_of n c) ≡ true → is_connecting (tie_of n c) ≡ true → HeldLinks n
+  one : (role : Role) (c : ℕ) → StandsOn n role c → is_tie_held (tie_of n c) ≡ true →
+      is_taken (tie_of n c) ≡ is_same_role role Accepted → ((d : ℕ) → is_tie_held (tie_of n d) ≡ true → c ≡ d) → HeldLinks n
+  two : (i r : ℕ) → n.state ≡ WaitReturns → is_tie_held (tie_of n i) ≡ true → is_taken (tie_of n i) ≡ false →
+      is_tie_held (tie_of n r) ≡ true → is_taken (tie_of n r) ≡ true → HeldLinks n
+  pends : (c : ℕ) → is_tie_held (tie_of n c) ≡ true → is_connecting (tie_of n c) ≡ true → HeldLinks n
 
 only_one : (s : State) (role : Role) (i : Conn) (n d : ℕ) →
-    is_held (tie_of (node_at s ((role, i) ∷ []) n) d) ≡ true → i.0 ≡ d
+    is_tie_held (tie_of (node_at s ((role, i) ∷ []) n) d) ≡ true → i.0 ≡ d
 only_one s Initiated i n d h = grind (arith, nat_tests, h)
 only_one s Accepted i n d h = grind (arith, nat_tests, h)
 
@@ -50,11 +50,11 @@ holding_of n h =
 
 -- a Closed node holds nothing
 none_at : (s : State) (held : List (Role × Conn)) (n c : ℕ) → is_held_in s held ≡ true → s ≡ Closed →
-    is_held (tie_of (node_at s held n) c) ≡ true → ⊥
+    is_tie_held (tie_of (node_at s held n) c) ≡ true → ⊥
 none_at Closed [] n c h e k = cc
 none_at Closed (p ∷ ps) n c h e k = cc
 none_at _ held n c h e k = cc
 
-pub none_held : (n : Node) (c : ℕ) → is_shaped n ≡ true → n.state ≡ Closed → is_held (tie_of n c) ≡ true → ⊥
+pub none_held : (n : Node) (c : ℕ) → is_shaped n ≡ true → n.state ≡ Closed → is_tie_held (tie_of n c) ≡ true → ⊥
 none_held n c h e k = none_at n.state n.held n.count c
     (and_parts (is_held_in n.state n.held) (is_count_of n.state n.count) h).0 e k

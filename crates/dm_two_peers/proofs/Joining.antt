@@ -3,10 +3,10 @@ use Rattle.std.proofs.Common.{◌≡◌, ◌⊎◌, inl, inr, ℕ, Bool, true, f
 use Rattle.std.proofs.lemmas.Bool.{and_from}
 use Rattle.dm_machine.specs.declared.state_name.State.{State}
 use Rattle.dm_machine.specs.declared.state_name.State.TheVariants.{Closed, WaitReturns}
-use Rattle.dm_two_peers.specs.Machine.{Accepted, Node, is_same_role, tie_of, is_held}
-use Rattle.dm_two_peers.specs.Links.{Side, A, B, flip, opens, LinkPhase, Pending, Up, Cancelled}
+use Rattle.dm_two_peers.specs.Machine.{Accepted, Node, is_same_role, tie_of, is_tie_held}
+use Rattle.dm_two_peers.specs.Links.{Side, A, B, flip, opens, LinkPhase, LinkPending, LinkUp, LinkCancelled}
 use Rattle.dm_two_peers.specs.Peers.{Peers}
-use Rattle.dm_two_peers.specs.Worlds.{World, peer_at}
+use Rattle.dm_two_peers.specs.Worlds.{World, peer_on}
 use Rattle.dm_two_peers.specs.Facts.{is_pending, IsSoundWorld}
 use Rattle.dm_two_peers.specs.Quiet.{is_quiet_link, is_quiet}
 use Rattle.dm_two_peers.specs.Joining.{StandsOn, AreJoined, both_closed, on_one, is_returning, QuietIsJoined}
@@ -23,14 +23,14 @@ use Rattle.dm_two_peers.proofs.Holding.{HeldLinks, none, one, two, pends, holdin
 
 -- what is known of two nodes and the links that they hold
 record Known (a b : Node) : Type 0 where
-  pub to_b : (c : ℕ) → is_held (tie_of a c) ≡ true → is_held (tie_of b c) ≡ true
-  pub to_a : (c : ℕ) → is_held (tie_of b c) ≡ true → is_held (tie_of a c) ≡ true
-  pub opposed : (c : ℕ) → is_held (tie_of a c) ≡ true → is_held (tie_of b c) ≡ true →
+  pub to_b : (c : ℕ) → is_tie_held (tie_of a c) ≡ true → is_tie_held (tie_of b c) ≡ true
+  pub to_a : (c : ℕ) → is_tie_held (tie_of b c) ≡ true → is_tie_held (tie_of a c) ≡ true
+  pub opposed : (c : ℕ) → is_tie_held (tie_of a c) ≡ true → is_tie_held (tie_of b c) ≡ true →
       not (same_bool (is_taken (tie_of a c)) (is_taken (tie_of b c))) ≡ true
-  pub empty_a : a.state ≡ Closed → (c : ℕ) → is_held (tie_of a c) ≡ true → ⊥
-  pub empty_b : b.state ≡ Closed → (c : ℕ) → is_held (tie_of b c) ≡ true → ⊥
-  pub calm_a : (c : ℕ) → is_held (tie_of a c) ≡ true → is_connecting (tie_of a c) ≡ true → ⊥
-  pub calm_b : (c : ℕ) → is_held (tie_of b c) ≡ true → is_connecting (tie_of b c) ≡ true → ⊥
+  pub empty_a : a.state ≡ Closed → (c : ℕ) → is_tie_held (tie_of a c) ≡ true → ⊥
+  pub empty_b : b.state ≡ Closed → (c : ℕ) → is_tie_held (tie_of b c) ≡ true → ⊥
+  pub calm_a : (c : ℕ) → is_tie_held (tie_of a c) ≡ true → is_connecting (tie_of a c) ≡ true → ⊥
+  pub calm_b : (c : ℕ) → is_tie_held (tie_of b c) ≡ true → is_connecting (tie_of b c) ≡ true → ⊥
 
 not_both : (x : Bool) → x ≡ false → x ≡ true → ⊥
 not_both x e f = cc
@@ -66,26 +66,26 @@ pairs a b k (two i r st hi ti hr tr) (two i' r' st' hi' ti' hr' tr') = inr (st, 
 
 -- two sides of a quiet world
 opposed_at : {P M : Type 0} (m : Peers P M) (w : World P M) → IsSoundWorld m w → (c : ℕ) →
-    is_held (tie_of (m.node_of w.a) c) ≡ true → is_held (tie_of (m.node_of w.b) c) ≡ true →
+    is_tie_held (tie_of (m.node_of w.a) c) ≡ true → is_tie_held (tie_of (m.node_of w.b) c) ≡ true →
     not (same_bool (is_taken (tie_of (m.node_of w.a) c)) (is_taken (tie_of (m.node_of w.b) c))) ≡ true
 opposed_at m w good c h h' =
     let at = held_there A (m.node_of w.a) (m.node_of w.b) w.links c good h in
     let l = at.0 in
     let st = standing_at m A w c l in
     is_when _ _ (conclusion 3 (opens A l.opener) st (good.each c l at.1))
-    (and_from (is_held st.own_tie) (is_held st.other_tie) h h')
+    (and_from (is_tie_held st.own_tie) (is_tie_held st.other_tie) h h')
 
-pending_loud : (p : LinkPhase) (b : Bool) → is_pending p ≡ true → elim p [ Pending ↦ false | _ ↦ b ] ≡ true → ⊥
-pending_loud Pending b e h = cc
-pending_loud Up b e h = cc
-pending_loud Cancelled b e h = cc
+pending_loud : (p : LinkPhase) (b : Bool) → is_pending p ≡ true → elim p [ LinkPending ↦ false | _ ↦ b ] ≡ true → ⊥
+pending_loud LinkPending b e h = cc
+pending_loud LinkUp b e h = cc
+pending_loud LinkCancelled b e h = cc
 
 calm_at : {P M : Type 0} (m : Peers P M) (w : World P M) → IsSoundWorld m w → is_quiet w ≡ true → (s : Side) (c : ℕ) →
-    is_held (tie_of (m.node_of (peer_at s w)) c) ≡ true →
-    is_connecting (tie_of (m.node_of (peer_at s w)) c) ≡ true → ⊥
+    is_tie_held (tie_of (m.node_of (peer_on s w)) c) ≡ true →
+    is_connecting (tie_of (m.node_of (peer_on s w)) c) ≡ true → ⊥
 calm_at m w good quiet s c h p =
     let g = side_sound m s w good in
-    let at = held_there s (m.node_of (peer_at s w)) (m.node_of (peer_at (flip s) w)) w.links c g h in
+    let at = held_there s (m.node_of (peer_on s w)) (m.node_of (peer_on (flip s) w)) w.links c g h in
     let l = at.0 in
     let st = standing_at m s w c l in
     pending_loud l.phase _
@@ -97,7 +97,7 @@ not_lost : (s : State) → s ≡ WaitReturns → is_returning s ≡ false → �
 not_lost s e f = cc (ap (λ x. is_returning x) e, f)
 
 one_lost : {P M : Type 0} (m : Peers P M) (w : World P M) (s : Side) →
-    is_returning (m.node_of (peer_at s w)).state ≡ false → (m.node_of w.a).state ≡ WaitReturns →
+    is_returning (m.node_of (peer_on s w)).state ≡ false → (m.node_of w.a).state ≡ WaitReturns →
     (m.node_of w.b).state ≡ WaitReturns → ⊥
 one_lost m w A h e f = not_lost (m.node_of w.a).state e h
 one_lost m w B h e f = not_lost (m.node_of w.b).state f h

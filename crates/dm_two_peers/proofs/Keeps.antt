@@ -1,13 +1,13 @@
 -- An event that a side's peer takes keeps the links sound.
 use Rattle.std.proofs.Common.{◌≡◌, ℕ, ◌≤◌, Bool, true, false, ◌&&◌, Some, List, [], ◌∷◌, ◌++◌, length}
 use Rattle.std.proofs.Common.{map, slice_get, refl, sym, subst, ◌∙◌, arith, append-nil}
-use Rattle.dm_two_peers.specs.Machine.{conn, Node, Concern, Elsewhere, StartsIt, AcksIt, NacksIt, EndsIt, HeardOnIt, Tie}
-use Rattle.dm_two_peers.specs.Machine.{Unheld, Connecting, Made, MadeOpen, Taken, tie_of, is_held}
-use Rattle.dm_two_peers.specs.Links.{Side, A, B, flip, opens, LinkPhase, Pending, Up, Cancelled, Mark, NoMark, Coming}
+use Rattle.dm_two_peers.specs.Machine.{conn, Node, LinkConcern, Elsewhere, StartsLink, MakesLink, FailsLink, EndsLink, HeardOnLink, Tie}
+use Rattle.dm_two_peers.specs.Machine.{Unheld, Connecting, Connected, ConnectedOpen, AcceptedTie, tie_of, is_tie_held}
+use Rattle.dm_two_peers.specs.Links.{Side, A, B, flip, opens, LinkPhase, LinkPending, LinkUp, LinkCancelled, Mark, NoMark, Coming}
 use Rattle.dm_two_peers.specs.Links.{Delivered, Link, View, view_of, by_side}
-use Rattle.dm_two_peers.specs.Peers.{Event, Action, deed_of, closes_at, sends_at, concern_by}
-use Rattle.dm_two_peers.specs.Steps.{added, settled}
-use Rattle.dm_two_peers.specs.Worlds.{takes, enter, perform, settle}
+use Rattle.dm_two_peers.specs.Peers.{Event, Action, deed_in, closes_at, sends_at, concern_by}
+use Rattle.dm_two_peers.specs.Steps.{queued, settled_view}
+use Rattle.dm_two_peers.specs.Worlds.{takes_more, enter, perform, settle}
 use Rattle.dm_two_peers.specs.Facts.{turned_over, is_empty, is_sound_standing, standing_of, IsSoundView, IsSoundLink}
 use Rattle.dm_two_peers.specs.Facts.{AreSound}
 use Rattle.dm_two_peers.proofs.Columns.{phase_at, messages_at, outgoing_mark_at, words_at, is_closed_at}
@@ -22,14 +22,14 @@ use Rattle.dm_two_peers.proofs.Stepped.{IsStart, length-perform, length-enter}
 use Rattle.dm_two_peers.proofs.Lists.{view_link, mapped_some}
 use Rattle.dm_two_peers.proofs.Stepped.{length-settle, stepped_at}
 
-popped : {M : Type 0} (k : Concern) (f : Bool → Bool) (ms : List M) → after_pop k (is_empty ms) f ≡ true →
+popped : {M : Type 0} (k : LinkConcern) (f : Bool → Bool) (ms : List M) → after_pop k (is_empty ms) f ≡ true →
     f (is_empty (messages_at k ms)) ≡ true
-popped HeardOnIt f ms h = at_bool f h (is_empty (messages_at HeardOnIt ms))
+popped HeardOnLink f ms h = at_bool f h (is_empty (messages_at HeardOnLink ms))
 popped Elsewhere f ms h = h
-popped StartsIt f ms h = h
-popped AcksIt f ms h = h
-popped NacksIt f ms h = h
-popped EndsIt f ms h = h
+popped StartsLink f ms h = h
+popped MakesLink f ms h = h
+popped FailsLink f ms h = h
+popped EndsLink f ms h = h
 
 none_put : {M : Type 0} (f : Bool → Bool) (words old : List M) → f (is_empty old) ≡ true → is_empty words ≡ true →
     f (is_empty (old ++ words)) ≡ true
@@ -43,31 +43,31 @@ some_put f (x ∷ xs) [] h e = h
 some_put f [] [] h e = cc
 
 pub put_in : {M : Type 0} (sent closed : Bool) (p : LinkPhase) (mark : Mark) (f : Bool → Bool) (words old : List M) →
-    after_put (sent && takes p mark) closed (is_empty old) f ≡ true → (sent ≡ false → is_empty words ≡ true) →
-    (sent ≡ true → closed ≡ false → is_empty words ≡ false) → f (is_empty (added p mark words old)) ≡ true
-put_in true true Up NoMark f words old h g k = at_bool f h (is_empty (old ++ words))
-put_in true false Up NoMark f words old h g k = some_put f words old h (k refl refl)
-put_in false closed Up NoMark f words old h g k = none_put f words old h (g refl)
-put_in true closed Up Coming f words old h g k = h
-put_in false closed Up Coming f words old h g k = h
-put_in true closed Up Delivered f words old h g k = h
-put_in false closed Up Delivered f words old h g k = h
-put_in true closed Pending mark f words old h g k = h
-put_in false closed Pending mark f words old h g k = h
-put_in true closed Cancelled mark f words old h g k = h
-put_in false closed Cancelled mark f words old h g k = h
+    after_put (sent && takes_more p mark) closed (is_empty old) f ≡ true → (sent ≡ false → is_empty words ≡ true) →
+    (sent ≡ true → closed ≡ false → is_empty words ≡ false) → f (is_empty (queued p mark words old)) ≡ true
+put_in true true LinkUp NoMark f words old h g k = at_bool f h (is_empty (old ++ words))
+put_in true false LinkUp NoMark f words old h g k = some_put f words old h (k refl refl)
+put_in false closed LinkUp NoMark f words old h g k = none_put f words old h (g refl)
+put_in true closed LinkUp Coming f words old h g k = h
+put_in false closed LinkUp Coming f words old h g k = h
+put_in true closed LinkUp Delivered f words old h g k = h
+put_in false closed LinkUp Delivered f words old h g k = h
+put_in true closed LinkPending mark f words old h g k = h
+put_in false closed LinkPending mark f words old h g k = h
+put_in true closed LinkCancelled mark f words old h g k = h
+put_in false closed LinkCancelled mark f words old h g k = h
 
 -- a step keeps a link sound, in the view of the side that steps
-view_keeps : {M : Type 0} (mine : Bool) (k : Concern) (own own' other : Tie) (d : ℕ) (actions : List (Action M))
+view_keeps : {M : Type 0} (mine : Bool) (k : LinkConcern) (own own' other : Tie) (d : ℕ) (actions : List (Action M))
     (v : View M) →
     IsSoundView mine own other v → is_handed mine k (standing_of own other v) ≡ true →
     (is_ready k own ≡ true →
-    is_allowed k own own' (closes_at d (map deed_of actions)) (sends_at d (map deed_of actions)) ≡ true) →
-    IsSoundView mine own' other (stepped k (is_held own') d actions v)
+    is_allowed k own own' (closes_at d (map deed_in actions)) (sends_at d (map deed_in actions)) ≡ true) →
+    IsSoundView mine own' other (stepped k (is_tie_held own') d actions v)
 view_keeps mine k own own' other d actions v good handed law =
     let s = standing_of own other v in
     let closed = is_closed_at d actions in
-    let sent = sends_at d (map deed_of actions) in
+    let sent = sends_at d (map deed_in actions) in
     let words = words_at d actions in
     let step = step_at mine k s good handed in
     let result : Bool → Bool → Bool = λ ie oe. is_sound_standing
@@ -77,7 +77,7 @@ view_keeps mine k own own' other d actions v good handed law =
     let put = put_in sent closed (phase_at k v.phase) (outgoing_mark_at k v.own v.outgoing.mark)
     (λ oe. result (is_empty (messages_at k v.incoming.messages)) oe) words v.outgoing.messages pop
     (unsent_unsaid d actions) (λ a b. sent_said d actions a b) in
-    subst (λ x. IsSoundView mine own' other (settled k (is_held own') x))
+    subst (λ x. IsSoundView mine own' other (settled_view k (is_tie_held own') x))
     (sym (acted_entered d actions k v)) put
 
 pub link_keeps : {M : Type 0} (s : Side) (own own' other : Node) (e : Event M) (actions : List (Action M)) (d : ℕ)
@@ -87,7 +87,7 @@ pub link_keeps : {M : Type 0} (s : Side) (own own' other : Node) (e : Event M) (
     (standing_of (tie_of own d) (tie_of other d) (view_of (opens s l.opener) l)) ≡ true →
     KeepsTies own e actions own' →
     IsSoundLink s own' other d
-    (by_side s (stepped (concern_by e (conn d)) (is_held (tie_of own' d)) d actions) l)
+    (by_side s (stepped (concern_by e (conn d)) (is_tie_held (tie_of own' d)) d actions) l)
 link_keeps s own own' other e actions d l good handed ties =
     let mine = opens s l.opener in
     let k = concern_by e (conn d) in
@@ -95,7 +95,7 @@ link_keeps s own own' other e actions d l good handed ties =
     let after = view_keeps mine k (tie_of own d) (tie_of own' d) (tie_of other d) d actions v good handed
     (ties.changes d) in
     subst (λ x. IsSoundView mine (tie_of own' d) (tie_of other d) x)
-    (sym (view_link mine l.opener (stepped k (is_held (tie_of own' d)) d actions v))) after
+    (sym (view_link mine l.opener (stepped k (is_tie_held (tie_of own' d)) d actions v))) after
 
 -- what the world looked at, of each link
 pub record Hands {M : Type 0} (s : Side) (own other : Node) (e : Event M) (links : List (Link M)) : Type 0 where
@@ -107,20 +107,20 @@ stays_unheld : (t : Tie) (closed sent : Bool) → is_allowed Elsewhere Unheld t 
 stays_unheld Unheld closed sent h = refl
 stays_unheld Connecting true sent h = cc
 stays_unheld Connecting false sent h = cc
-stays_unheld Made true sent h = cc
-stays_unheld Made false sent h = cc
-stays_unheld MadeOpen true sent h = cc
-stays_unheld MadeOpen false sent h = cc
-stays_unheld Taken true sent h = cc
-stays_unheld Taken false sent h = cc
+stays_unheld Connected true sent h = cc
+stays_unheld Connected false sent h = cc
+stays_unheld ConnectedOpen true sent h = cc
+stays_unheld ConnectedOpen false sent h = cc
+stays_unheld AcceptedTie true sent h = cc
+stays_unheld AcceptedTie false sent h = cc
 
 pub unheld_later : {M : Type 0} (own own' : Node) (e : Event M) (actions : List (Action M)) (c : ℕ) →
     KeepsTies own e actions own' → tie_of own c ≡ Unheld → concern_by e (conn c) ≡ Elsewhere →
     tie_of own' c ≡ Unheld
 unheld_later own own' e actions c ties none k =
-    let closed = closes_at c (map deed_of actions) in
-    let sent = sends_at c (map deed_of actions) in
-    let F : Concern → Tie → Type 0 = λ x t. is_ready x t ≡ true →
+    let closed = closes_at c (map deed_in actions) in
+    let sent = sends_at c (map deed_in actions) in
+    let F : LinkConcern → Tie → Type 0 = λ x t. is_ready x t ≡ true →
     is_allowed x t (tie_of own' c) closed sent ≡ true in
     let law : F Elsewhere Unheld = subst (λ t. F Elsewhere t) none
     (subst (λ x. F x (tie_of own c)) k (ties.changes c)) in
@@ -138,7 +138,7 @@ step_keeps s own own' other e actions links good hands ties no_start later =
       own_shaped = ties.shaped;
       other_shaped = good.other_shaped;
       each = λ c l at.
-          let f = by_side s (stepped (concern_by e (conn c)) (is_held (tie_of own' c)) c actions) in
+          let f = by_side s (stepped (concern_by e (conn c)) (is_tie_held (tie_of own' c)) c actions) in
           let old = mapped_some f (slice_get links c) l (sym (stepped_at s e actions own' c links no_start) ∙ at) in
           subst (λ x. IsSoundLink s own' other c x) (sym old.2)
           (link_keeps s own own' other e actions c old.0 (good.each c old.0 old.1)

@@ -5,9 +5,9 @@ use Rattle.std.specs.Prelude.{option_map, All}
 use Rattle.std.proofs.lemmas.Bool.{cases_Bool, and_parts, eqb-true}
 use Rattle.std.proofs.lemmas.List.Elements.{All-nil, All-cons}
 use Rattle.dm_two_peers.specs.Machine.{Node}
-use Rattle.dm_two_peers.specs.Links.{Side, flip, LinkPhase, Pending, Up, Cancelled, Direction, Link, link_of}
+use Rattle.dm_two_peers.specs.Links.{Side, flip, LinkPhase, LinkPending, LinkUp, LinkCancelled, Direction, Link, link_of}
 use Rattle.dm_two_peers.specs.Peers.{Peers}
-use Rattle.dm_two_peers.specs.Worlds.{World, peer_at}
+use Rattle.dm_two_peers.specs.Worlds.{World, peer_on}
 use Rattle.dm_two_peers.specs.Quiet.{is_still, is_quiet_link}
 use Rattle.dm_machine.specs.Awaiting.{awaits_cea}
 use Rattle.dm_two_peers.specs.Electing.{Talks}
@@ -29,10 +29,10 @@ still_none d h = still_list d.messages d h refl
     still_list (x ∷ xs) d h e = cc
         (subst (λ zs. is_still (record { messages = zs; taken = d.taken; mark = d.mark }) ≡ true) e h)
 
-both_still : (p : LinkPhase) (b : Bool) → elim p [ Pending ↦ false | _ ↦ b ] ≡ true → b ≡ true
-both_still Pending b h = cc
-both_still Up b h = h
-both_still Cancelled b h = h
+both_still : (p : LinkPhase) (b : Bool) → elim p [ LinkPending ↦ false | _ ↦ b ] ≡ true → b ≡ true
+both_still LinkPending b h = cc
+both_still LinkUp b h = h
+both_still LinkCancelled b h = h
 
 -- what is under way on a link of a stage
 record CarriesNumbered {M : Type 0} (s : Side) (a b : M) (l : Link M) : Type 0 where
@@ -81,14 +81,14 @@ module _ {P M C H : Type 0} (m : Peers P M) (t : Talks P M C H) where
       }
 
   matches : (s o : Side) → IsPair s o → (w : World P M) (n : Node) (h h' : ℕ) (q : Link M) →
-      Stands m t s (peer_at s w) n h h' → CarriesNumbered s (t.cer (t.config s) h) (t.cea (t.config o) h) q →
-      IsTrue (awaits_cea (m.node_of (peer_at q.opener w)).state) → IsMatchedLink t w q
+      Stands m t s (peer_on s w) n h h' → CarriesNumbered s (t.cer (t.config s) h) (t.cea (t.config o) h) q →
+      IsTrue (awaits_cea (m.node_of (peer_on q.opener w)).state) → IsMatchedLink t w q
   matches s o pair w n h h' q a c awaits =
       record {
         number = h;
-        awaited = ap (λ z. t.awaited_of (peer_at z w)) c.opener
+        awaited = ap (λ z. t.awaited_of (peer_on z w)) c.opener
             ∙ a.awaits (subst (λ (k : Node). awaits_cea k.state ≡ true) a.node
-            (subst (λ z. awaits_cea (m.node_of (peer_at z w)).state ≡ true) c.opener awaits));
+            (subst (λ z. awaits_cea (m.node_of (peer_on z w)).state ≡ true) c.opener awaits));
         asked = subst (λ z. All (λ x. x ≡ t.cer (t.config z) h) q.to_other.messages) (sym c.opener) c.asked;
         answered = subst (λ z. All (λ x. x ≡ t.cea (t.config (flip z)) h) q.to_opener.messages) (sym c.opener)
             (subst (λ z. All (λ x. x ≡ t.cea (t.config z) h) q.to_opener.messages) (sym (flipped pair)) c.answered);

@@ -1,7 +1,7 @@
 -- A link as its two sides see it.
 use Rattle.std.proofs.Common.{◌≡◌, List, refl, ap, ◌∙◌}
 use Rattle.dm_two_peers.specs.Links.{Side, A, B, flip, opens, Link, View, view_of, link_of, by_side}
-use Rattle.dm_two_peers.specs.Worlds.{World, peer_at, with_peer}
+use Rattle.dm_two_peers.specs.Worlds.{World, peer_on, with_peer}
 use Rattle.dm_two_peers.specs.Happens.{own_view}
 use Rattle.dm_two_peers.proofs.Lists.{view_link}
 use Rattle.dm_two_peers.proofs.Pairs.{mirror}
@@ -31,11 +31,11 @@ pub view_own : {M : Type 0} (t : Side) (f : View M → View M) (l : Link M) →
 view_own t f l = view_link (opens t l.opener) l.opener (f (own_view t l))
 
 pub peer_own : {P M : Type 0} (t : Side) (p : P) (links : List (Link M)) (w : World P M) →
-    peer_at t (with_peer t p links w) ≡ p
+    peer_on t (with_peer t p links w) ≡ p
 peer_own A p links w = refl
 peer_own B p links w = refl
 
 pub peer_other : {P M : Type 0} (t : Side) (p : P) (links : List (Link M)) (w : World P M) →
-    peer_at t (with_peer (flip t) p links w) ≡ peer_at t w
+    peer_on t (with_peer (flip t) p links w) ≡ peer_on t w
 peer_other A p links w = refl
 peer_other B p links w = refl

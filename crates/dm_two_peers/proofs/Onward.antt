@@ -3,7 +3,7 @@ use Rattle.std.proofs.Common.{◌≡◌, ℕ, true, false, List, slice_get, refl
 use Rattle.std.specs.Prelude.{option_map}
 use Rattle.dm_two_peers.specs.Links.{Side, Coming, Delivered, link_of}
 use Rattle.dm_two_peers.specs.Peers.{Peers}
-use Rattle.dm_two_peers.specs.Worlds.{World, Put, Done}
+use Rattle.dm_two_peers.specs.Worlds.{World, Put, DoneWith}
 use Rattle.dm_two_peers.specs.Happens.{Happening, Acks, Delivers, at_link, happens}
 use Rattle.dm_two_peers.specs.Electing.{Talks, IsElecting}
 use Rattle.dm_two_peers.specs.Falling.{is_ack_or_delivery}
@@ -25,11 +25,11 @@ module _ {P M C H : Type 0} (m : Peers P M) (t : Talks P M C H) where
     pub passes : is_ack_or_delivery h ≡ true
     pub world : World P M
     pub put : List (Put M)
-    pub is : happens m w h ≡ Done world put
+    pub is : happens m w h ≡ DoneWith world put
 
   onward_ack : (s o : Side) (w : World P M) (c : ℕ) (st : Stage) (h i j : ℕ) (world : World P M) (put : List (Put M)) →
       slice_get w.links c ≡ option_map (link_of true s) (own_at m t s o st h i j) →
-      acked m s c w (own_at m t s o st h i j) ≡ Done world put → StepOnward w
+      acked m s c w (own_at m t s o st h i j) ≡ DoneWith world put → StepOnward w
   onward_ack s o w c st h i j world put at e =
       record {
         h = Acks c;
@@ -41,7 +41,7 @@ module _ {P M C H : Type 0} (m : Peers P M) (t : Talks P M C H) where
 
   onward_own : (s o : Side) → IsPair s o → (w : World P M) (c : ℕ) (st : Stage) (h i j : ℕ) (world : World P M)
       (put : List (Put M)) → slice_get w.links c ≡ option_map (link_of true s) (own_at m t s o st h i j) →
-      arrives m s c w (own_at m t s o st h i j) ≡ Done world put → StepOnward w
+      arrives m s c w (own_at m t s o st h i j) ≡ DoneWith world put → StepOnward w
   onward_own s o pair w c st h i j world put at e =
       record {
         h = Delivers c s;
@@ -54,7 +54,7 @@ module _ {P M C H : Type 0} (m : Peers P M) (t : Talks P M C H) where
   onward_other : (s o : Side) → IsPair s o → (w : World P M) (c : ℕ) (st : Stage) (h i j : ℕ) (world : World P M)
       (put : List (Put M)) →
       slice_get w.links c ≡ option_map (link_of false o) (option_map mirror (own_at m t o s st h i j)) →
-      arrives m s c w (option_map mirror (own_at m t o s st h i j)) ≡ Done world put → StepOnward w
+      arrives m s c w (option_map mirror (own_at m t o s st h i j)) ≡ DoneWith world put → StepOnward w
   onward_other s o pair w c st h i j world put at e =
       record {
         h = Delivers c s;

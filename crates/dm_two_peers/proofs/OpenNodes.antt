@@ -7,8 +7,8 @@ use Rattle.dm_machine.specs.declared.state_name.State.{State}
 use Rattle.dm_machine.specs.declared.state_name.State.TheVariants.{ROpen, IOpen}
 use Rattle.dm_machine.specs.Node.{is_held_in, is_count_of}
 use Rattle.dm_two_peers.specs.Machine.{Conn, conn, Role, Initiated, Accepted, Node, node_at, held_as, is_shaped}
-use Rattle.dm_two_peers.specs.Machine.{is_same_role, is_open, Tie, Unheld, tie_of, is_held}
-use Rattle.dm_two_peers.specs.Links.{Side, A, B, opens, LinkPhase, Pending, Up, Cancelled, End, Fresh, Open, Shut}
+use Rattle.dm_two_peers.specs.Machine.{is_same_role, is_open, Tie, Unheld, tie_of, is_tie_held}
+use Rattle.dm_two_peers.specs.Links.{Side, A, B, opens, LinkPhase, LinkPending, LinkUp, LinkCancelled, End, Fresh, Open, Shut}
 use Rattle.dm_two_peers.specs.Links.{Mark, NoMark, Coming, Delivered, Link}
 use Rattle.dm_two_peers.specs.Facts.{is_up, is_pending, is_open_end, is_coming}
 use Rattle.dm_two_peers.specs.Facts.{AreSound}
@@ -19,7 +19,7 @@ use Rattle.dm_two_peers.proofs.StandingOthers.{is_open_tie, is_taken, same_bool}
 pub record OpensBy (n : Node) (r : Role) (c : ℕ) : Type 0 where
   pub tie : is_open_tie (tie_of n c) ≡ true
   pub role : is_taken (tie_of n c) ≡ is_same_role r Accepted
-  pub only : (d : ℕ) → is_held (tie_of n d) ≡ true → c ≡ d
+  pub only : (d : ℕ) → is_tie_held (tie_of n d) ≡ true → c ≡ d
 
 opens_r : (c n : ℕ) → OpensBy (node_at ROpen ((Accepted, conn c) ∷ []) n) Accepted c
 opens_r c n = record {
@@ -61,18 +61,18 @@ there_below [] c h = absurd (omega (arith, h))
 there_below (x ∷ xs) zero h = (x, refl)
 there_below (x ∷ xs) (suc c) h = there_below xs c (omega (arith, h))
 
-not_held : (t : Tie) → t ≡ Unheld → is_held t ≡ true → ⊥
-not_held t e h = cc (ap is_held e, h)
+not_held : (t : Tie) → t ≡ Unheld → is_tie_held t ≡ true → ⊥
+not_held t e h = cc (ap is_tie_held e, h)
 
 pub held_there : {M : Type 0} (s : Side) (own other : Node) (links : List (Link M)) (c : ℕ) →
-    AreSound s own other links → is_held (tie_of own c) ≡ true → (l : Link M) × (slice_get links c ≡ Some l)
+    AreSound s own other links → is_tie_held (tie_of own c) ≡ true → (l : Link M) × (slice_get links c ≡ Some l)
 held_there s own other links c good held =
     elim (cases_lt c (length links)) [
       | inl lt ↦ there_below links c lt
       | inr late ↦ absurd (not_held (tie_of own c) (good.own_later c late) held)
     ]
 
-pub open_held : (t : Tie) → is_open_tie t ≡ true → is_held t ≡ true
+pub open_held : (t : Tie) → is_open_tie t ≡ true → is_tie_held t ≡ true
 open_held Unheld h = cc
 open_held _ h = refl
 
@@ -86,18 +86,18 @@ coming_is Coming h = refl
 coming_is NoMark h = cc
 coming_is Delivered h = cc
 
-pub up_is : (p : LinkPhase) → is_up p ≡ true → p ≡ Up
-up_is Up h = refl
-up_is Pending h = cc
-up_is Cancelled h = cc
+pub up_is : (p : LinkPhase) → is_up p ≡ true → p ≡ LinkUp
+up_is LinkUp h = refl
+up_is LinkPending h = cc
+up_is LinkCancelled h = cc
 
-pub is_up_at : (p : LinkPhase) → p ≡ Up → is_up p ≡ true
+pub is_up_at : (p : LinkPhase) → p ≡ LinkUp → is_up p ≡ true
 is_up_at p h = rw h refl
 
-pub pending_is : (p : LinkPhase) → is_pending p ≡ true → p ≡ Pending
-pending_is Pending h = refl
-pending_is Up h = cc
-pending_is Cancelled h = cc
+pub pending_is : (p : LinkPhase) → is_pending p ≡ true → p ≡ LinkPending
+pending_is LinkPending h = refl
+pending_is LinkUp h = cc
+pending_is LinkCancelled h = cc
 
 pub opener_is : (s o : Side) → opens s o ≡ true → o ≡ s
 opener_is A A h = refl

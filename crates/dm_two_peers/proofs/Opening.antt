@@ -5,7 +5,7 @@ use Rattle.std.specs.Prelude.{option_map}
 use Rattle.dm_two_peers.specs.Machine.{closed_node}
 use Rattle.dm_two_peers.specs.Links.{Side, A, B, Link}
 use Rattle.dm_two_peers.specs.Peers.{Peers}
-use Rattle.dm_two_peers.specs.Worlds.{World, peer_at, Put, Done}
+use Rattle.dm_two_peers.specs.Worlds.{World, peer_on, Put, DoneWith}
 use Rattle.dm_two_peers.specs.Happens.{Happening, Starts, Restarts, Acks, Delivers, at_link, happens, RunEnd, ran_on}
 use Rattle.dm_two_peers.specs.Happens.{run_from, run}
 use Rattle.dm_two_peers.specs.Follows.{IsMachine}
@@ -29,8 +29,8 @@ use Rattle.dm_two_peers.proofs.Clearing.{can_clear_proof}
 
 -- four happenings that are done
 four_done : {P M : Type 0} (m : Peers P M) (r : RunEnd P M) (h1 h2 h3 h4 : Happening M) (w1 w2 w3 w4 : World P M)
-    (p1 p2 p3 p4 : List (Put M)) → happens m r.world h1 ≡ Done w1 p1 → happens m w1 h2 ≡ Done w2 p2 →
-    happens m w2 h3 ≡ Done w3 p3 → happens m w3 h4 ≡ Done w4 p4 →
+    (p1 p2 p3 p4 : List (Put M)) → happens m r.world h1 ≡ DoneWith w1 p1 → happens m w1 h2 ≡ DoneWith w2 p2 →
+    happens m w2 h3 ≡ DoneWith w3 p3 → happens m w3 h4 ≡ DoneWith w4 p4 →
     run_from m (Some r) (h1 ∷ h2 ∷ h3 ∷ h4 ∷ []) ≡ Some
     (record { world = w4; put = r.put ++ p1 ++ p2 ++ p3 ++ p4 })
 four_done {P} {M} m r h1 h2 h3 h4 w1 w2 w3 w4 p1 p2 p3 p4 e1 e2 e3 e4 =
@@ -58,16 +58,16 @@ module _ {P M C H : Type 0} (m : Peers P M) (t : Talks P M C H) where
     pub quiet : is_quiet end.world ≡ true
     pub opened : AreOpenOnKept m end.world (record { opener = s; link = n })
 
-  open_from : IsElecting m t → (s o : Side) → IsPair s o → (r : RunEnd P M) → IsPeerOf t s (peer_at s r.world) →
-      IsPeerOf t o (peer_at o r.world) → m.node_of (peer_at s r.world) ≡ closed_node →
-      m.node_of (peer_at o r.world) ≡ closed_node → is_quiet r.world ≡ true →
+  open_from : IsElecting m t → (s o : Side) → IsPair s o → (r : RunEnd P M) → IsPeerOf t s (peer_on s r.world) →
+      IsPeerOf t o (peer_on o r.world) → m.node_of (peer_on s r.world) ≡ closed_node →
+      m.node_of (peer_on o r.world) ≡ closed_node → is_quiet r.world ≡ true →
       Opened s o r (length r.world.links)
   open_from el s o pair r own other own_closed other_closed quiet =
       let x = length r.world.links in
       let y = suc x in
       let q = begins m t el s o r.world own other own_closed other_closed quiet in
       let g1 = start_first m t el s o pair r.world x y closed_node q.h q.h' q.at in
-      let h1 = t.next_of (peer_at s g1.world) in
+      let h1 = t.next_of (peer_on s g1.world) in
       let g2 = acks_plain m t el s o pair g1.world x y 0 0 None closed_node q.h q.h' g1.at refl in
       let f2 = at_flip m t s o g2.world x y (own_at m t s o Asked h1 0 0) None (wait_i_cea x) closed_node h1 q.h'
       g2.at in

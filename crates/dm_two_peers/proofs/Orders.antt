@@ -20,16 +20,16 @@ use Rattle.dm_two_peers.proofs.StandingSteps.{when, is_when, is_ready, is_allowe
 use Rattle.dm_two_peers.proofs.EveryHold.{every_word, every_hold, at_hold, every_way, at_way}
 
 -- what the machine allows is allowed here
-abbrev pub is_close : machine.Order → Bool
+abbrev pub is_close : machine.ConnOrder → Bool
 is_close machine.Closes = true
 is_close _ = false
 
-abbrev pub is_send : machine.Order → Bool
+abbrev pub is_send : machine.ConnOrder → Bool
 is_send machine.Connects = false
 is_send machine.Closes = false
 is_send _ = true
 
-abbrev pub some_order : (machine.Order → Bool) → List machine.Order → Bool
+abbrev pub some_order : (machine.ConnOrder → Bool) → List machine.ConnOrder → Bool
 some_order f [] = false
 some_order f (o ∷ os) = f o || some_order f os
 
@@ -55,7 +55,7 @@ allowed_here k h x ok ready =
     (AllPass-from_list_all (is_coarser k h) (allowed k h) at_h) ok) ready
 
 -- the orders of commands
-with_test : (f : machine.Order → Bool) (b : Bool) (o : machine.Order) (more : List machine.Order) →
+with_test : (f : machine.ConnOrder → Bool) (b : Bool) (o : machine.ConnOrder) (more : List machine.ConnOrder) →
     some_order f (with_order (if_ordered b o) more) ≡ ((b && f o) || some_order f more)
 with_test f true o more = refl
 with_test f false o more = refl
@@ -64,7 +64,7 @@ under_and : (b t : Bool) → t ≡ false → (b && t) ≡ false
 under_and true t h = h
 under_and false t h = refl
 
-without_test : (f : machine.Order → Bool) (b : Bool) (o : machine.Order) (more : List machine.Order) →
+without_test : (f : machine.ConnOrder → Bool) (b : Bool) (o : machine.ConnOrder) (more : List machine.ConnOrder) →
     f o ≡ false → some_order f (with_order (if_ordered b o) more) ≡ some_order f more
 without_test f b o more h = with_test f b o more ∙ ap (λ (t : Bool). t || some_order f more) (under_and b (f o) h)
 
@@ -72,11 +72,11 @@ and_true : (b t : Bool) → t ≡ true → (b && t) ≡ b
 and_true true t h = h
 and_true false t h = refl
 
-passing_test : (f : machine.Order → Bool) (b : Bool) (o : machine.Order) (more : List machine.Order) → f o ≡ true →
+passing_test : (f : machine.ConnOrder → Bool) (b : Bool) (o : machine.ConnOrder) (more : List machine.ConnOrder) → f o ≡ true →
     some_order f (with_order (if_ordered b o) more) ≡ (b || some_order f more)
 passing_test f b o more h = with_test f b o more ∙ ap (λ (t : Bool). t || some_order f more) (and_true b (f o) h)
 
-close_ordered : (c : ℕ) (a : Command) (os : List Deed) (more : List machine.Order) →
+close_ordered : (c : ℕ) (a : Command) (os : List Deed) (more : List machine.ConnOrder) →
     closes_at c os ≡ some_order is_close more →
     closes_at c (deed_of_command a ∷ os) ≡ some_order is_close (with_order (order_to (conn c) a) more)
 close_ordered c (command.Close d) os more h = ap (λ (b : Bool). (d.0 == c) || b) h
@@ -101,7 +101,7 @@ close_ordered c (command.SendDpa d) os more h = h
 close_ordered c (command.SendSubmit d) os more h = h
     ∙ sym (without_test is_close (d.0 == c) machine.SendsSubmit more refl)
 
-send_ordered : (c : ℕ) (a : Command) (os : List Deed) (more : List machine.Order) →
+send_ordered : (c : ℕ) (a : Command) (os : List Deed) (more : List machine.ConnOrder) →
     sends_at c os ≡ some_order is_send more →
     sends_at c (deed_of_command a ∷ os) ≡ some_order is_send (with_order (order_to (conn c) a) more)
 send_ordered c (command.Close d) os more h = h ∙ sym (without_test is_send (d.0 == c) machine.Closes more refl)

@@ -5,10 +5,10 @@ use Rattle.std.specs.Prelude.{option_map}
 use Rattle.std.proofs.lemmas.Bool.{cases_Bool, and_parts, or_cases, eqb-true}
 use Rattle.dm_two_peers.specs.Machine.{Node}
 use Rattle.dm_two_peers.specs.Links.{Side, A, B, flip, Link, View, link_of, by_side}
-use Rattle.dm_two_peers.specs.Peers.{Event, Action, Send, Close, Connect, Reply, Acts, Peers, concern_by}
+use Rattle.dm_two_peers.specs.Peers.{Event, Action, Send, Close, Connect, Reply, ActsBy, Peers, concern_by}
 use Rattle.dm_two_peers.specs.Peers as peers
 use Rattle.dm_two_peers.specs.Steps.{with_sent, with_close}
-use Rattle.dm_two_peers.specs.Worlds.{World, peer_at, with_peer, Put, Message, Disconnect, change_at, takes, put_if}
+use Rattle.dm_two_peers.specs.Worlds.{World, peer_on, with_peer, Put, PutMessage, Disconnect, change_at, takes_more, put_if}
 use Rattle.dm_two_peers.specs.Worlds.{puts_of}
 use Rattle.dm_two_peers.specs.Quiet.{is_quiet_link}
 use Rattle.dm_machine.specs.Awaiting.{awaits_cea, holds_cer}
@@ -57,12 +57,12 @@ other_flipped s None = refl
 other_flipped s (Some v) = refl
 
 pub here_after : {P M : Type 0} (s o : Side) → IsPair s o → (p : P) (links : List (Link M)) (w : World P M) →
-    peer_at s (with_peer s p links w) ≡ p
+    peer_on s (with_peer s p links w) ≡ p
 here_after s o ab p links w = refl
 here_after s o ba p links w = refl
 
 pub there_after : {P M : Type 0} (s o : Side) → IsPair s o → (p : P) (links : List (Link M)) (w : World P M) →
-    peer_at o w ≡ peer_at o (with_peer s p links w)
+    peer_on o w ≡ peer_on o (with_peer s p links w)
 there_after s o ab p links w = refl
 there_after s o ba p links w = refl
 
@@ -82,8 +82,8 @@ pub record Stands {P M C H : Type 0} (m : Peers P M) (t : Talks P M C H) (s : Si
 
 pub record AreAt {P M C H : Type 0} (m : Peers P M) (t : Talks P M C H) (s o : Side) (w : World P M) (x y : ℕ)
     (u v : Option (View M)) (n n' : Node) (h h' : ℕ) : Type 0 where
-  pub own : Stands m t s (peer_at s w) n h h'
-  pub other : Stands m t o (peer_at o w) n' h' h
+  pub own : Stands m t s (peer_on s w) n h h'
+  pub other : Stands m t o (peer_on o w) n' h' h
   pub at_x : slice_get w.links x ≡ option_map (link_of true s) u
   pub at_y : slice_get w.links y ≡ option_map (link_of false o) v
   pub apart : (x == y) ≡ false
@@ -109,7 +109,7 @@ at_flip m t s o w x y u v n n' h h' a =
 -- what actions on the two links put in
 abbrev pub put_at : {M : Type 0} → Put M → Option (View M) → List (Put M)
 put_at p None = []
-put_at p (Some v) = elim (takes v.phase v.outgoing.mark) [ true ↦ p ∷ [] | false ↦ [] ]
+put_at p (Some v) = elim (takes_more v.phase v.outgoing.mark) [ true ↦ p ∷ [] | false ↦ [] ]
 
 abbrev pub done_if : {M : Type 0} → Bool → (View M → View M) → Option (View M) → Option (View M)
 done_if b f u = option_map (λ z. if b then f z else z) u
@@ -118,20 +118,20 @@ abbrev pub puts_by : {M : Type 0} → Side → ℕ → ℕ → List (Action M) �
     List (Put M)
 puts_by o x y [] u v = []
 puts_by o x y (Send c a ∷ more) u v =
-    (if c.0 == x then put_at (Message c.0 o a) u else put_at (Message c.0 o a) v)
+    (if c.0 == x then put_at (PutMessage c.0 o a) u else put_at (PutMessage c.0 o a) v)
     ++ puts_by o x y more (done_if (c.0 == x) (with_sent a) u) (done_if (c.0 == y) (with_sent a) v)
 puts_by o x y (Close c ∷ more) u v =
     (if c.0 == x then put_at (Disconnect c.0 o) u else put_at (Disconnect c.0 o) v)
     ++ puts_by o x y more (done_if (c.0 == x) with_close u) (done_if (c.0 == y) with_close v)
 puts_by o x y (Connect c ∷ more) u v = puts_by o x y more u v
-puts_by o x y (peers.Up a ∷ more) u v = puts_by o x y more u v
+puts_by o x y (peers.HandUp a ∷ more) u v = puts_by o x y more u v
 
 abbrev pub names : {M : Type 0} → ℕ → ℕ → List (Action M) → Bool
 names x y [] = true
 names x y (Send c a ∷ more) = ((c.0 == x) || (c.0 == y)) && names x y more
 names x y (Close c ∷ more) = ((c.0 == x) || (c.0 == y)) && names x y more
 names x y (Connect c ∷ more) = names x y more
-names x y (peers.Up a ∷ more) = names x y more
+names x y (peers.HandUp a ∷ more) = names x y more
 
 own_put : {M : Type 0} (s o : Side) → IsPair s o → (p : Put M) (u : Option (View M)) →
     put_if s p (option_map (link_of true s) u) ≡ put_at p u
@@ -196,18 +196,18 @@ puts_seen : {M : Type 0} (s o : Side) (actions : List (Action M)) (links : List 
     puts_of s actions links ≡ puts_by o x y actions u v
 puts_seen s o [] links x y u v two h = refl
 puts_seen s o (Connect c ∷ more) links x y u v two h = puts_seen s o more links x y u v two h
-puts_seen s o (peers.Up a ∷ more) links x y u v two h = puts_seen s o more links x y u v two h
+puts_seen s o (peers.HandUp a ∷ more) links x y u v two h = puts_seen s o more links x y u v two h
 puts_seen {M} s o (Send c a ∷ more) links x y u v two h =
     let parts = and_parts ((c.0 == x) || (c.0 == y)) (names x y more) h in
     let rest = puts_seen s o more (change_at c.0 (by_side s (with_sent a)) links) x y
     (done_if (c.0 == x) (with_sent a) u)
     (done_if (c.0 == y) (with_sent a) v) (two_changed s o links x y u v c.0 (with_sent a) two) parts.1 in
-    ap (λ (z : Side). put_if s (Message c.0 z a) (slice_get links c.0) ++ puts_of s more
+    ap (λ (z : Side). put_if s (PutMessage c.0 z a) (slice_get links c.0) ++ puts_of s more
     (change_at c.0 (by_side s (with_sent a)) links)) (flipped two.pair)
     ∙ (ap (λ (ps : List (Put M)). ps ++ puts_of s more (change_at c.0 (by_side s (with_sent a)) links))
-    (put_tested s o links x y u v c.0 (Message c.0 o a) (c.0 == x) refl two parts.0)
+    (put_tested s o links x y u v c.0 (PutMessage c.0 o a) (c.0 == x) refl two parts.0)
     ∙ ap (λ (ps : List (Put M)).
-    (if c.0 == x then put_at (Message c.0 o a) u else put_at (Message c.0 o a) v) ++ ps) rest)
+    (if c.0 == x then put_at (PutMessage c.0 o a) u else put_at (PutMessage c.0 o a) v) ++ ps) rest)
 puts_seen {M} s o (Close c ∷ more) links x y u v two h =
     let parts = and_parts ((c.0 == x) || (c.0 == y)) (names x y more) h in
     let rest = puts_seen s o more (change_at c.0 (by_side s with_close) links) x y (done_if (c.0 == x) with_close u)

@@ -5,7 +5,7 @@ use Rattle.std.specs.Prelude.{option_map}
 use Rattle.dm_two_peers.specs.Machine.{Node, closed_node}
 use Rattle.dm_two_peers.specs.Links.{Side, Coming, Delivered}
 use Rattle.dm_two_peers.specs.Peers.{Peers}
-use Rattle.dm_two_peers.specs.Worlds.{World, Put, Disconnect, After, Done, Ignored, NoLink}
+use Rattle.dm_two_peers.specs.Worlds.{World, Put, Disconnect, After, DoneWith, Ignored, NoLink}
 use Rattle.dm_two_peers.specs.Electing.{Talks}
 use Rattle.dm_two_peers.proofs.Pairs.{mirror, AreAt}
 use Rattle.dm_two_peers.proofs.CleanSteps.{wait_conn_ack, wait_i_cea, elect, returns, r_open, i_open}
@@ -220,4 +220,4 @@ module _ {P M C H : Type 0} (m : Peers P M) (t : Talks P M C H) where
     moves : (w : World P M) (put : List (Put M)) (gs ls : List ℕ) (k' : Phase) (x' y' : ℕ) →
         (q : InPhase g l w k' x' y') → Adds g l k k' x y n n' x' y' q.h q.h' put → depth k + c ≤ depth k' →
         present (stage_g k) x ++ gs ≡ present (stage_g k') x' →
-        present (stage_l k) y ++ ls ≡ present (stage_l k') y' → Went g l k x y n n' c (Done w put) gs ls
+        present (stage_l k) y ++ ls ≡ present (stage_l k') y' → Went g l k x y n n' c (DoneWith w put) gs ls

@@ -5,7 +5,7 @@ use Rattle.std.specs.Prelude.{option_map}
 use Rattle.std.proofs.lemmas.Bool.{leb-true}
 use Rattle.dm_two_peers.specs.Machine.{conn}
 use Rattle.dm_two_peers.specs.Links.{Side, NoMark, Coming, Delivered, View, link_of}
-use Rattle.dm_two_peers.specs.Peers.{Ack, Peers}
+use Rattle.dm_two_peers.specs.Peers.{AckEvent, Peers}
 use Rattle.dm_two_peers.specs.Worlds.{World, Put, After, Ignored, NoLink, tell}
 use Rattle.dm_two_peers.specs.Happens.{next_in, deliver_next, deliver_part, if_up, if_pending, at_link, own_view}
 use Rattle.dm_two_peers.specs.Electing.{Talks}
@@ -23,7 +23,7 @@ mirror_twice (Some v) = refl
 -- an Ack, a delivery and a piece, by a side's view of the link
 abbrev pub acked : {P M : Type 0} → Peers P M → Side → ℕ → World P M → Option (View M) → After P M
 acked m s c w None = NoLink
-acked m s c w (Some z) = if_pending z.phase (tell m s (Ack (conn c)) w) Ignored
+acked m s c w (Some z) = if_pending z.phase (tell m s (AckEvent (conn c)) w) Ignored
 
 abbrev pub arrives : {P M : Type 0} → Peers P M → Side → ℕ → World P M → Option (View M) → After P M
 arrives m s c w None = NoLink
@@ -38,7 +38,7 @@ pieces_in m s c n w (Some z) =
 
 pub acked_own : {P M : Type 0} (m : Peers P M) (s : Side) (c : ℕ) (w : World P M) (u : Option (View M)) →
     at_link (option_map (link_of true s) u)
-    (λ l. if_pending l.phase (tell m l.opener (Ack (conn c)) w) Ignored) ≡ acked m s c w u
+    (λ l. if_pending l.phase (tell m l.opener (AckEvent (conn c)) w) Ignored) ≡ acked m s c w u
 acked_own m s c w None = refl
 acked_own m s c w (Some z) = refl
 

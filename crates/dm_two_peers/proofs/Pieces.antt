@@ -5,10 +5,10 @@ use Rattle.std.proofs.Common.{List, [], ◌∷◌, slice_get, refl, sym, ap, sub
 use Rattle.std.specs.Prelude.{option_map}
 use Rattle.std.proofs.lemmas.Bool.{and_parts}
 use Rattle.dm_two_peers.specs.Machine.{conn, Node}
-use Rattle.dm_two_peers.specs.Links.{Side, opens, LinkPhase, Pending, Up, Cancelled, End, Mark, NoMark, Coming, Delivered}
+use Rattle.dm_two_peers.specs.Links.{Side, opens, LinkPhase, LinkPending, LinkUp, LinkCancelled, End, Mark, NoMark, Coming, Delivered}
 use Rattle.dm_two_peers.specs.Links.{Link, View, view_of, link_of, by_side}
-use Rattle.dm_two_peers.specs.Peers.{Arrived, Peers}
-use Rattle.dm_two_peers.specs.Worlds.{World, with_links, change_at, After, Done, Ignored}
+use Rattle.dm_two_peers.specs.Peers.{ArrivedEvent, Peers}
+use Rattle.dm_two_peers.specs.Worlds.{World, with_links, change_at, After, DoneWith, Ignored}
 use Rattle.dm_two_peers.specs.Happens.{NextNothing, next_in, comes, deliver_next, take_part, deliver_part, if_up}
 use Rattle.dm_two_peers.specs.Happens.{if_pending, own_view}
 use Rattle.dm_two_peers.specs.Quiet.{is_still, is_quiet_link, is_in_part}
@@ -34,17 +34,17 @@ still_next [] n Coming h = cc
 still_next [] n Delivered h = refl
 still_next (x ∷ xs) n mark h = cc
 
-quiet_ways : {M : Type 0} (l : Link M) → is_quiet_link l ≡ true → l.phase ≡ Up →
+quiet_ways : {M : Type 0} (l : Link M) → is_quiet_link l ≡ true → l.phase ≡ LinkUp →
     (is_still l.to_opener && is_still l.to_other) ≡ true
 quiet_ways l h e = subst
-    (λ (p : LinkPhase). elim p [ Pending ↦ false | _ ↦ is_still l.to_opener && is_still l.to_other ] ≡ true) e h
+    (λ (p : LinkPhase). elim p [ LinkPending ↦ false | _ ↦ is_still l.to_opener && is_still l.to_other ] ≡ true) e h
 
 seen_still : {M : Type 0} (mine : Bool) (l : Link M) → is_still l.to_opener ≡ true → is_still l.to_other ≡ true →
     is_still (view_of mine l).incoming ≡ true
 seen_still true l h g = h
 seen_still false l h g = g
 
-quiet_next : {M : Type 0} (mine : Bool) (l : Link M) → is_quiet_link l ≡ true → l.phase ≡ Up →
+quiet_next : {M : Type 0} (mine : Bool) (l : Link M) → is_quiet_link l ≡ true → l.phase ≡ LinkUp →
     next_in (view_of mine l).incoming.messages (view_of mine l).incoming.mark ≡ NextNothing
 quiet_next mine l h e =
     let parts = and_parts (is_still l.to_opener) (is_still l.to_other) (quiet_ways l h e) in
@@ -193,7 +193,7 @@ module _ {P M C H : Type 0} (m : Peers P M) (t : Talks P M C H) where
 
   piece_size : (g l : Side) (k : Phase) (x y : ℕ) (b : Bool) (w1 : World P M) (after : After P M) →
       (q : InPhase m t g l w1 k x y) → Went m t g l k x y q.h q.h' 1 after [] [] →
-      Went m t g l k x y q.h q.h' (if b then 0 else 1) (if b then Done w1 [] else after) [] []
+      Went m t g l k x y q.h q.h' (if b then 0 else 1) (if b then DoneWith w1 [] else after) [] []
   piece_size g l k x y true w1 after q h = moves w1 [] [] [] k x y q (none_added g l k x y q.h q.h')
       (omega arith) (append-nil (present (stage_g k) x)) (append-nil (present (stage_l k) y))
   piece_size g l k x y false w1 after q h = h
@@ -210,7 +210,7 @@ module _ {P M C H : Type 0} (m : Peers P M) (t : Talks P M C H) where
   piece_next g l k x y s c n w end taken [] Delivered q h = stays
   piece_next g l k x y s c n w end taken (a ∷ more) mark q h =
       piece_size g l k x y (nat_lt (taken + n) (m.size a))
-      (with_links (change_at c (by_side s (take_part n)) w.links) w) (comes m s (Arrived (conn c) a) end w) q h
+      (with_links (change_at c (by_side s (take_part n)) w.links) w) (comes m s (ArrivedEvent (conn c) a) end w) q h
 
   piece_none : {h h' : ℕ} (g l : Side) (k : Phase) (x y i : ℕ) (b : Bool) (after : After P M) →
       Went m t g l k x y h h' i after [] [] → Went m t g l k x y h h' i (if b then Ignored else after) [] []
@@ -220,9 +220,9 @@ module _ {P M C H : Type 0} (m : Peers P M) (t : Talks P M C H) where
   piece_up : {h h' : ℕ} (g l : Side) (k : Phase) (x y i : ℕ) (p : LinkPhase) (one two : After P M) →
       (Went m t g l k x y h h' 1 one [] [] → Went m t g l k x y h h' i two [] []) →
       Went m t g l k x y h h' 1 (if_up p one Ignored) [] [] → Went m t g l k x y h h' i (if_up p two Ignored) [] []
-  piece_up g l k x y i Up one two f h = f h
-  piece_up g l k x y i Pending one two f h = stays
-  piece_up g l k x y i Cancelled one two f h = stays
+  piece_up g l k x y i LinkUp one two f h = f h
+  piece_up g l k x y i LinkPending one two f h = stays
+  piece_up g l k x y i LinkCancelled one two f h = stays
 
   pub pieces_went : (g l : Side) (k : Phase) (x y : ℕ) (s : Side) (c n : ℕ) (w : World P M) (u : Option (View M)) →
       (q : InPhase m t g l (with_links (change_at c (by_side s (take_part n)) w.links) w) k x y) →
@@ -238,21 +238,21 @@ module _ {P M C H : Type 0} (m : Peers P M) (t : Talks P M C H) where
 
   -- what comes to another link
   quiet_pending : {h h' : ℕ} (g l : Side) (k : Phase) (x y : ℕ) (p : LinkPhase) (b : Bool) (after : After P M) →
-      elim p [ Pending ↦ false | _ ↦ b ] ≡ true → Went m t g l k x y h h' 1 (if_pending p after Ignored) [] []
-  quiet_pending g l k x y Pending b after h = cc
-  quiet_pending g l k x y Up b after h = stays
-  quiet_pending g l k x y Cancelled b after h = stays
+      elim p [ LinkPending ↦ false | _ ↦ b ] ≡ true → Went m t g l k x y h h' 1 (if_pending p after Ignored) [] []
+  quiet_pending g l k x y LinkPending b after h = cc
+  quiet_pending g l k x y LinkUp b after h = stays
+  quiet_pending g l k x y LinkCancelled b after h = stays
 
   pub quiet_ack : {h h' : ℕ} (g l : Side) (k : Phase) (x y : ℕ) (q : Link M) (after : After P M) →
       is_quiet_link q ≡ true → Went m t g l k x y h h' 1 (if_pending q.phase after Ignored) [] []
   quiet_ack g l k x y q after h = quiet_pending g l k x y q.phase (is_still q.to_opener && is_still q.to_other) after h
 
   quiet_up : {h h' : ℕ} (n : ℕ) (g l : Side) (k : Phase) (x y : ℕ) (p : LinkPhase) (after : After P M) →
-      (p ≡ Up → after ≡ Ignored) →
+      (p ≡ LinkUp → after ≡ Ignored) →
       Went m t g l k x y h h' n (if_up p after Ignored) [] []
-  quiet_up {h} {h'} n g l k x y Up after f = subst (λ z. Went m t g l k x y h h' n z [] []) (sym (f refl)) stays
-  quiet_up n g l k x y Pending after f = stays
-  quiet_up n g l k x y Cancelled after f = stays
+  quiet_up {h} {h'} n g l k x y LinkUp after f = subst (λ z. Went m t g l k x y h h' n z [] []) (sym (f refl)) stays
+  quiet_up n g l k x y LinkPending after f = stays
+  quiet_up n g l k x y LinkCancelled after f = stays
 
   pub quiet_arrives : {h h' : ℕ} (g l : Side) (k : Phase) (x y : ℕ) (s : Side) (c : ℕ) (w : World P M) (q : Link M) →
       is_quiet_link q ≡ true →

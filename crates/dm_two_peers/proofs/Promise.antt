@@ -5,10 +5,10 @@ use Rattle.std.specs.Prelude.{◌↔◌}
 use Rattle.std.proofs.lemmas.Bool.{cases_eq, and_parts, and_from, or_cases}
 use Rattle.std.proofs.lemmas.Option.{IfSome_then}
 use Rattle.dm_two_peers.specs.Machine.{Role, Initiated, Accepted}
-use Rattle.dm_two_peers.specs.Machine.{is_same_role, tie_of, is_held}
-use Rattle.dm_two_peers.specs.Links.{Side, A, B, flip, opens, LinkPhase, Pending, Up, Cancelled, Open}
+use Rattle.dm_two_peers.specs.Machine.{is_same_role, tie_of, is_tie_held}
+use Rattle.dm_two_peers.specs.Links.{Side, A, B, flip, opens, LinkPhase, LinkPending, LinkUp, LinkCancelled, Open}
 use Rattle.dm_two_peers.specs.Peers.{Peers}
-use Rattle.dm_two_peers.specs.Worlds.{World, peer_at, After, Done, Ignored, NoLink}
+use Rattle.dm_two_peers.specs.Worlds.{World, peer_on, After, DoneWith, Ignored, NoLink}
 use Rattle.dm_two_peers.specs.Happens.{Happening, own_view, happens, world_after, RunEnd, ran_on, run_from, run}
 use Rattle.dm_two_peers.specs.Follows.{IsMachine}
 use Rattle.dm_two_peers.specs.Facts.{Standing, turned_over, is_sound_standing, is_up, is_pending, is_open_end, is_coming}
@@ -33,28 +33,28 @@ abbrev none_cancelled : Standing → Bool
 none_cancelled s =
     when (is_sound_standing s)
     (when (not (is_up s.phase) && not (is_pending s.phase))
-    (same_bool (is_open_end s.own) (is_held s.own_tie) && same_bool (is_open_end s.other) (is_held s.other_tie)))
+    (same_bool (is_open_end s.own) (is_tie_held s.own_tie) && same_bool (is_open_end s.other) (is_tie_held s.other_tie)))
 
 none_cancelled_checked : every_standing none_cancelled ≡ true
 unfolding all_true every_bool every_tie every_phase every_end every_mark
 none_cancelled_checked = refl
 
-cancelled_ends : (mine : Bool) (s : Standing) → is_sound_standing (turned_over mine s) ≡ true → s.phase ≡ Cancelled →
-    same_bool (is_open_end s.own) (is_held s.own_tie) ≡ true
+cancelled_ends : (mine : Bool) (s : Standing) → is_sound_standing (turned_over mine s) ≡ true → s.phase ≡ LinkCancelled →
+    same_bool (is_open_end s.own) (is_tie_held s.own_tie) ≡ true
 cancelled_ends mine s good is = by_mine mine good
   where
-    both : (s : Standing) → is_sound_standing s ≡ true → s.phase ≡ Cancelled →
-        (same_bool (is_open_end s.own) (is_held s.own_tie) ≡ true)
-        × (same_bool (is_open_end s.other) (is_held s.other_tie) ≡ true)
+    both : (s : Standing) → is_sound_standing s ≡ true → s.phase ≡ LinkCancelled →
+        (same_bool (is_open_end s.own) (is_tie_held s.own_tie) ≡ true)
+        × (same_bool (is_open_end s.other) (is_tie_held s.other_tie) ≡ true)
     both s good is =
-        and_parts (same_bool (is_open_end s.own) (is_held s.own_tie))
-        (same_bool (is_open_end s.other) (is_held s.other_tie))
+        and_parts (same_bool (is_open_end s.own) (is_tie_held s.own_tie))
+        (same_bool (is_open_end s.other) (is_tie_held s.other_tie))
         (is_when (not (is_up s.phase) && not (is_pending s.phase)) _
         (is_when (is_sound_standing s) _ (at_standing none_cancelled none_cancelled_checked s) good)
         (ap (λ p. not (is_up p) && not (is_pending p)) is))
 
     by_mine : (mine : Bool) → is_sound_standing (turned_over mine s) ≡ true →
-        same_bool (is_open_end s.own) (is_held s.own_tie) ≡ true
+        same_bool (is_open_end s.own) (is_tie_held s.own_tie) ≡ true
     by_mine true good = (both s good is).0
     by_mine false good = (both (turned_over false s) good is).1
 
@@ -64,30 +64,30 @@ ends_are_held_proof m w good s c l at unpending = by_phase l.phase refl
     st : Standing
     st = standing_at m s w c l
 
-    both_ways : same_bool (is_open_end st.own) (is_held st.own_tie) ≡ true →
-        ((own_view s l).own ≡ Open) ↔ (is_held st.own_tie ≡ true)
+    both_ways : same_bool (is_open_end st.own) (is_tie_held st.own_tie) ≡ true →
+        ((own_view s l).own ≡ Open) ↔ (is_tie_held st.own_tie ≡ true)
     both_ways both = (
-      λ h. same_right (is_open_end st.own) (is_held st.own_tie) both (is_open_at st.own h),
-      λ h. open_is st.own (same_left (is_open_end st.own) (is_held st.own_tie) both h),
+      λ h. same_right (is_open_end st.own) (is_tie_held st.own_tie) both (is_open_at st.own h),
+      λ h. open_is st.own (same_left (is_open_end st.own) (is_tie_held st.own_tie) both h),
     )
 
-    by_phase : (p : LinkPhase) → l.phase ≡ p → ((own_view s l).own ≡ Open) ↔ (is_held st.own_tie ≡ true)
-    by_phase Up e =
+    by_phase : (p : LinkPhase) → l.phase ≡ p → ((own_view s l).own ≡ Open) ↔ (is_tie_held st.own_tie ≡ true)
+    by_phase LinkUp e =
         both_ways
         (is_when (is_up st.phase) _
         (conclusion 0 (opens s l.opener) st ((side_sound m s w good).each c l at)) (is_up_at l.phase e))
-    by_phase Pending e = absurd (unpending e)
-    by_phase Cancelled e =
+    by_phase LinkPending e = absurd (unpending e)
+    by_phase LinkCancelled e =
         both_ways (cancelled_ends (opens s l.opener) st ((side_sound m s w good).each c l at) e)
 
 held_are_links_proof : {P M : Type 0} (m : Peers P M) (w : World P M) → IsSoundWorld m w → HeldAreLinks m w
 held_are_links_proof m w good s c held =
     let g = side_sound m s w good in
-    let at = held_there s (m.node_of (peer_at s w)) (m.node_of (peer_at (flip s) w)) w.links c g held in
+    let at = held_there s (m.node_of (peer_on s w)) (m.node_of (peer_on (flip s) w)) w.links c g held in
     let l = at.0 in
     let st = standing_at m s w c l in
     let mine = opens s l.opener in
-    let here = is_when (is_held st.own_tie) _ (conclusion 1 mine st (g.each c l at.1)) held in
+    let here = is_when (is_tie_held st.own_tie) _ (conclusion 1 mine st (g.each c l at.1)) held in
     record {
       link = l;
       there = at.1;
@@ -103,9 +103,9 @@ held_are_links_proof m w good s c held =
 open_is_matched_proof : {P M : Type 0} (m : Peers P M) (w : World P M) → IsSoundWorld m w → OpenIsMatched m w
 open_is_matched_proof m w good s r c o =
     let g = side_sound m s w good in
-    let own = m.node_of (peer_at s w) in
+    let own = m.node_of (peer_on s w) in
     let tie = (opens_on own r c g.own_shaped o).tie in
-    let at = held_there s own (m.node_of (peer_at (flip s) w)) w.links c g (open_held (tie_of own c) tie) in
+    let at = held_there s own (m.node_of (peer_on (flip s) w)) w.links c g (open_held (tie_of own c) tie) in
     let l = at.0 in
     let st = standing_at m s w c l in
     let here = is_when (is_open_tie st.own_tie) _ (conclusion 2 (opens s l.opener) st (g.each c l at.1)) tie in
@@ -122,8 +122,8 @@ open_is_matched_proof m w good s r c o =
 
 -- the other side holds it, or a disconnect is coming
 other_holds : {P M : Type 0} (m : Peers P M) (w : World P M) → IsSoundWorld m w → (s : Side) (r : Role) (c : ℕ) →
-    IsOpenOn (m.node_of (peer_at s w)) r c →
-    (is_held (tie_of (m.node_of (peer_at (flip s) w)) c) ≡ true) ⊎ HasComingDisconnect w c s
+    IsOpenOn (m.node_of (peer_on s w)) r c →
+    (is_tie_held (tie_of (m.node_of (peer_on (flip s) w)) c) ≡ true) ⊎ HasComingDisconnect w c s
 other_holds m w good s r c o =
     let match = open_is_matched_proof m w good s r c o in
     let l = match.link in
@@ -153,9 +153,9 @@ opposite m w good r r' c o o' =
     let other = opens_on (m.node_of w.b) r' c good.other_shaped o' in
     let match = open_is_matched_proof m w good A r c o in
     let st = standing_at m A w c match.link in
-    let here = is_when (is_held st.own_tie && is_held st.other_tie) _
+    let here = is_when (is_tie_held st.own_tie && is_tie_held st.other_tie) _
     (conclusion 3 (opens A match.link.opener) st (good.each c match.link match.there))
-    (and_from (is_held st.own_tie) (is_held st.other_tie) (open_held st.own_tie mine.tie)
+    (and_from (is_tie_held st.own_tie) (is_tie_held st.other_tie) (open_held st.own_tie mine.tie)
     (open_held st.other_tie other.tie)) in
     roles_apart r r' (is_taken st.own_tie) (is_taken st.other_tie) mine.role other.role here
 
@@ -202,7 +202,7 @@ promised_proof m w good =
 -- runs
 ran_sound : {P M : Type 0} (m : Peers P M) (r : RunEnd P M) (o : After P M) → IsSoundWorld m (world_after r.world o) →
     IfSome (ran_on r o) (λ r. IsSoundWorld m r.world)
-ran_sound m r (Done next put) good = good
+ran_sound m r (DoneWith next put) good = good
 ran_sound m r Ignored good = good
 ran_sound m r NoLink good = tt
 

@@ -3,7 +3,7 @@ use Rattle.std.proofs.Common.{◌≡◌, ◌⊎◌, inl, inr, ℕ, Bool, true, f
 use Rattle.std.proofs.Common.{refl, sym, ap, subst, ◌∙◌, append-nil}
 use Rattle.std.specs.List.{list_any}
 use Rattle.dm_machine.specs.Connection.{Hold, NotHeld, Pending, Made, Taken}
-use Rattle.dm_two_peers.specs.Machine.{Concern, StartsIt, AcksIt}
+use Rattle.dm_two_peers.specs.Machine.{LinkConcern, StartsLink, MakesLink}
 use Rattle.dm_two_peers.specs.Links.{End, Fresh}
 use Rattle.dm_two_peers.specs.Delivery.{is_closing_hold, is_unmade}
 use Rattle.dm_two_peers.specs.Requests.{Requests, IsEnding, StillAwaits, AsksCea, Owes, waits, gives, AwaitsEnd, still, asks}
@@ -126,7 +126,7 @@ module _ {P M : Type 0} (r : Requests P M) where
   later_told inc inc' heard (front x xs) h = any_more r.asks_end x xs h
 
   -- the rest of what is kept, whatever is made
-  own_rest : (p next p' : P) (h after h' : Hold) (far far' : End) (k : Concern) (heard : Option M)
+  own_rest : (p next p' : P) (h after h' : Hold) (far far' : End) (k : LinkConcern) (heard : Option M)
       (out sent inc inc' : List M) → HeardFrom heard inc inc' → MatchesOn r p next h after k heard sent →
       Asks r p p' h h' far out inc →
       (after ≡ Made → (n : ℕ) × ((r.cea_of next ≡ Some n) × Awaits r p' h' far' (out ++ sent) inc' n)) →
@@ -143,8 +143,8 @@ module _ {P M : Type 0} (r : Requests P M) where
         told = λ h. old.told (later_told inc inc' heard from h);
       }
 
-  pub own_asks : (p next p' : P) (h after h' : Hold) (far : End) (k : Concern) (heard : Option M)
-      (out sent inc inc' : List M) → (k ≡ AcksIt → ⊥) → HeardFrom heard inc inc' →
+  pub own_asks : (p next p' : P) (h after h' : Hold) (far : End) (k : LinkConcern) (heard : Option M)
+      (out sent inc inc' : List M) → (k ≡ MakesLink → ⊥) → HeardFrom heard inc inc' →
       MatchesOn r p next h after k heard sent → Asks r p p' h h' far out inc →
       Asks r next p' after h' far (out ++ sent) inc'
   own_asks p next p' h after h' far k heard out sent inc inc' no_ack from t old =
@@ -159,7 +159,7 @@ module _ {P M : Type 0} (r : Requests P M) where
       ))
 
   -- the Ack: the CER is all that is under way
-  pub acked_asks : (p next p' : P) (after : Hold) (far : End) (k : Concern) (sent : List M) → k ≡ AcksIt →
+  pub acked_asks : (p next p' : P) (after : Hold) (far : End) (k : LinkConcern) (sent : List M) → k ≡ MakesLink →
       MatchesOn r p next Pending after k None sent → far ≡ Fresh → Asks r next p' after NotHeld far sent []
   acked_asks p next p' after far k sent ack t fresh =
       own_rest p next p' Pending after NotHeld far far k None [] sent [] [] (nothing [])
@@ -174,8 +174,8 @@ module _ {P M : Type 0} (r : Requests P M) where
       kept taken is (ap (λ ys. ys ++ sent) none ∙ silent)
   owed next after far' out' sent inc n none (gives y sends is) = given y [] (ap (λ ys. ys ++ sent) none ∙ sends) is
 
-  other_awaits : (p' next : P) (h' after : Hold) (far far' : End) (k : Concern) (heard : Option M)
-      (out out' sent inc : List M) (n : ℕ) → (k ≡ StartsIt → ⊥) → HeardFrom heard out out' →
+  other_awaits : (p' next : P) (h' after : Hold) (far far' : End) (k : LinkConcern) (heard : Option M)
+      (out out' sent inc : List M) (n : ℕ) → (k ≡ StartsLink → ⊥) → HeardFrom heard out out' →
       MatchesOn r p' next h' after k heard sent → (heard ≡ None → far ≡ Fresh → far' ≡ Fresh) →
       Awaits r p' h' far out inc n → Awaits r next after far' out' (inc ++ sent) n
   other_awaits p' next h' after far far' k heard out out' sent inc n no_start (nothing xs) t fresh (asked f u x o c i) =
@@ -189,13 +189,13 @@ module _ {P M : Type 0} (r : Requests P M) where
   other_awaits p' next h' after far far' k heard out out' sent inc n no_start from t fresh (given x xs i c) =
       given x (xs ++ sent) (ap (λ ys. ys ++ sent) i) c
 
-  still_ending : (p' next : P) (h' after : Hold) (k : Concern) (heard : Option M) (sent : List M) →
+  still_ending : (p' next : P) (h' after : Hold) (k : LinkConcern) (heard : Option M) (sent : List M) →
       MatchesOn r p' next h' after k heard sent → IsEnding r p' h' → IsEnding r next after
   still_ending p' next h' after k heard sent t e =
       let stays = t.stays e.closing e.number e.awaited in
       record { closing = stays.0; number = e.number; awaited = stays.1 }
 
-  other_ends : (p' next : P) (h' after : Hold) (k : Concern) (heard : Option M) (out out' sent inc : List M) (n : ℕ) →
+  other_ends : (p' next : P) (h' after : Hold) (k : LinkConcern) (heard : Option M) (out out' sent inc : List M) (n : ℕ) →
       HeardFrom heard out out' → MatchesOn r p' next h' after k heard sent →
       ((x : M) → heard ≡ Some x → is_unmade h' ≡ false) →
       (list_any (r.is_dpr n) out ≡ true) ⊎ (list_any (r.is_dpa n) inc ≡ true) →
@@ -209,8 +209,8 @@ module _ {P M : Type 0} (r : Requests P M) where
         | inr more ↦ inl more
       ]
 
-  pub other_asks : (p p' next : P) (h h' after : Hold) (far far' : End) (k : Concern) (heard : Option M)
-      (out out' sent inc : List M) → (k ≡ StartsIt → ⊥) → HeardFrom heard out out' →
+  pub other_asks : (p p' next : P) (h h' after : Hold) (far far' : End) (k : LinkConcern) (heard : Option M)
+      (out out' sent inc : List M) → (k ≡ StartsLink → ⊥) → HeardFrom heard out out' →
       MatchesOn r p' next h' after k heard sent → ((x : M) → heard ≡ Some x → is_unmade h' ≡ false) →
       (heard ≡ None → far ≡ Fresh → far' ≡ Fresh) →
       Asks r p p' h h' far out inc → Asks r p next h after far' out' (inc ++ sent)

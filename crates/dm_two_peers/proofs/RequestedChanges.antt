@@ -5,14 +5,14 @@ use Rattle.std.proofs.lemmas.Bool.{and_parts, eqb-true}
 use Rattle.std.proofs.lemmas.Bool.Decides.{nat_tests}
 use Rattle.std.proofs.lemmas.Option.{slice_get-map, slice_get_within}
 use Rattle.dm_machine.specs.Connection.{Hold, hold_of}
-use Rattle.dm_two_peers.specs.Machine.{conn, Concern, Elsewhere, AcksIt, NacksIt, EndsIt, HeardOnIt, concern_if_named}
-use Rattle.dm_two_peers.specs.Links.{Side, A, B, flip, opens, LinkPhase, Pending, Up, Cancelled, End, Fresh, Open, Shut}
+use Rattle.dm_two_peers.specs.Machine.{conn, LinkConcern, Elsewhere, MakesLink, FailsLink, EndsLink, HeardOnLink, concern_if_named}
+use Rattle.dm_two_peers.specs.Links.{Side, A, B, flip, opens, LinkPhase, LinkPending, LinkUp, LinkCancelled, End, Fresh, Open, Shut}
 use Rattle.dm_two_peers.specs.Links.{Mark, NoMark, Coming, Delivered, Link, View, view_of, by_side, new_link}
-use Rattle.dm_two_peers.specs.Peers.{Event, Start, Stop, Timeout, Tick, Ack, Nack, Gone, Submit, Arrived, Action, Reply}
-use Rattle.dm_two_peers.specs.Peers.{Acts, Declines, Peers, concern_by}
+use Rattle.dm_two_peers.specs.Peers.{Event, StartEvent, StopEvent, TimeoutEvent, TickEvent, AckEvent, NackEvent, GoneEvent, SubmitEvent, ArrivedEvent, Action, Reply}
+use Rattle.dm_two_peers.specs.Peers.{ActsBy, Declines, Peers, concern_by}
 use Rattle.dm_two_peers.specs.Steps.{marked, entered}
-use Rattle.dm_two_peers.specs.Worlds.{World, Put, Disconnect, put_if, peer_at, with_peer, with_links, change_at, enter}
-use Rattle.dm_two_peers.specs.Worlds.{perform, After, Done, Ignored, NoLink, after_reply, tell, after_drop}
+use Rattle.dm_two_peers.specs.Worlds.{World, Put, Disconnect, put_if, peer_on, with_peer, with_links, change_at, enter}
+use Rattle.dm_two_peers.specs.Worlds.{perform, After, DoneWith, Ignored, NoLink, after_reply, tell, after_drop}
 use Rattle.dm_two_peers.specs.Happens.{Happening, Starts, Stops, TimesOut, Ticks, Restarts, Acks, Nacks, Delivers, Pieces}
 use Rattle.dm_two_peers.specs.Happens.{Loses, Submits, Next, NextMessage, NextDisconnect, NextNothing, next_in, comes}
 use Rattle.dm_two_peers.specs.Happens.{deliver_next, take_part, deliver_part, lost_link, are_shut, restarted}
@@ -77,12 +77,12 @@ restart_marks mine v u =
     (subst (λ (z : View _). IsUnmarked z) (restarted_at mine v.phase v.own v.other v.incoming v.outgoing) u).up
     (subst (λ (z : View _). IsUnmarked z) (restarted_at mine v.phase v.own v.other v.incoming v.outgoing) u).going
   where
-    by_phase : (mine : Bool) (p : LinkPhase) → phase_after (closes_own mine p) p ≡ Up →
+    by_phase : (mine : Bool) (p : LinkPhase) → phase_after (closes_own mine p) p ≡ LinkUp →
         mark_after (closes_own mine p) p v.outgoing.mark ≡ NoMark → ⊥
-    by_phase true Pending e f = cc
-    by_phase false Pending e f = cc
-    by_phase mine Up e f = never_closed Up v.outgoing.mark e f
-    by_phase mine Cancelled e f = cc
+    by_phase true LinkPending e f = cc
+    by_phase false LinkPending e f = cc
+    by_phase mine LinkUp e f = never_closed LinkUp v.outgoing.mark e f
+    by_phase mine LinkCancelled e f = cc
 
 loss_marks : {M : Type 0} (size : M → ℕ) (a b : ℕ) (mine : Bool) (l : Link M) →
     IsUnmarked (view_of mine (lost_link size a b l)) → ⊥
@@ -103,17 +103,17 @@ module _ {P M : Type 0} (m : Peers P M) (r : Requests P M) (stands : P → Bool)
   mapped_asks : (s : Side) (w : World P M) (links : List (Link M)) (f : ℕ → Link M → Link M) →
       ((c : ℕ) (l : Link M) → slice_get links c ≡ Some l → (z : Link M) × (slice_get w.links c ≡ Some z) × (l ≡ f c z)) →
       ((c : ℕ) (z : Link M) → slice_get w.links c ≡ Some z →
-      At (peer_at s w) (peer_at (flip s) w) c (own_view s z) →
-      At (peer_at s w) (peer_at (flip s) w) c (own_view s (f c z))) → All w → All (with_links links w)
+      At (peer_on s w) (peer_on (flip s) w) c (own_view s z) →
+      At (peer_on s w) (peer_on (flip s) w) c (own_view s (f c z))) → All w → All (with_links links w)
   mapped_asks s w links f back each all =
       from_links m r stands s links w (λ c l at.
       let old = back c l at in
-      subst (λ z. At (peer_at s w) (peer_at (flip s) w) c (own_view s z)) (sym old.2)
+      subst (λ z. At (peer_on s w) (peer_on (flip s) w) c (own_view s z)) (sym old.2)
       (each c old.0 old.1 (all s c old.0 old.1)))
 
   -- a part of a message
   pub part_asks : (s : Side) (w : World P M) (d k : ℕ) →
-      KeepsAll w (Done (with_links (change_at d (by_side s (take_part k)) w.links) w) [])
+      KeepsAll w (DoneWith (with_links (change_at d (by_side s (take_part k)) w.links) w) [])
   part_asks s w d k all =
       mapped_asks s w (change_at d (by_side s (take_part k)) w.links)
       (λ c l. if d == c then by_side s (take_part k) l else l)
@@ -121,17 +121,17 @@ module _ {P M : Type 0} (m : Peers P M) (r : Requests P M) (stands : P → Bool)
       (sym (change_at-tested d c (d == c) (by_side s (take_part k)) w.links refl) ∙ at))
       (λ c z at h. by_test (d == c) c z h) all
     where
-      by_test : (b : Bool) (c : ℕ) (z : Link M) → At (peer_at s w) (peer_at (flip s) w) c (own_view s z) →
-          At (peer_at s w) (peer_at (flip s) w) c (own_view s (if b then by_side s (take_part k) z else z))
+      by_test : (b : Bool) (c : ℕ) (z : Link M) → At (peer_on s w) (peer_on (flip s) w) c (own_view s z) →
+          At (peer_on s w) (peer_on (flip s) w) c (own_view s (if b then by_side s (take_part k) z else z))
       by_test false c z h = h
       by_test true c z h =
-          subst (λ v. At (peer_at s w) (peer_at (flip s) w) c v) (sym (view_own s (take_part k) z)) (λ u.
+          subst (λ v. At (peer_on s w) (peer_on (flip s) w) c v) (sym (view_own s (take_part k) z)) (λ u.
           let each = h (record { up = u.up; coming = u.coming; going = u.going }) in
           record { own = each.own; other = each.other })
 
   -- a loss
   pub loss_asks : (w : World P M) (d a b : ℕ) (put : List (Put M)) →
-      KeepsAll w (Done (with_links (change_at d (lost_link m.size a b) w.links) w) put)
+      KeepsAll w (DoneWith (with_links (change_at d (lost_link m.size a b) w.links) w) put)
   loss_asks w d a b put all =
       mapped_asks A w (change_at d (lost_link m.size a b) w.links)
       (λ c l. if d == c then lost_link m.size a b l else l)
@@ -147,61 +147,61 @@ module _ {P M : Type 0} (m : Peers P M) (r : Requests P M) (stands : P → Bool)
   -- what comes to a shut end
   drop_asks : (s : Side) (w : World P M) (e : Event M) → (IsStart e → ⊥) →
       ((c : ℕ) (z : Link M) → slice_get w.links c ≡ Some z →
-      At (peer_at s w) (peer_at (flip s) w) c (own_view s z) →
-      At (peer_at s w) (peer_at (flip s) w) c (entered (concern_by e (conn c)) (own_view s z))) →
+      At (peer_on s w) (peer_on (flip s) w) c (own_view s z) →
+      At (peer_on s w) (peer_on (flip s) w) c (entered (concern_by e (conn c)) (own_view s z))) →
       KeepsAll w (after_drop s e w)
   drop_asks s w e no_start each all =
       mapped_asks s w (enter s e w.links) (λ c l. by_side s (entered (concern_by e (conn c))) l)
       (λ c l at. mapped_some _ (slice_get w.links c) l (sym (entered_at s e c w.links no_start) ∙ at))
-      (λ c z at h. subst (λ v. At (peer_at s w) (peer_at (flip s) w) c v)
+      (λ c z at h. subst (λ v. At (peer_on s w) (peer_on (flip s) w) c v)
       (sym (view_own s (entered (concern_by e (conn c))) z)) (each c z at h)) all
 
   -- a shut end has its disconnect
   shut_never : (s : Side) (w : World P M) (d : ℕ) (l : Link M) → IsCarrying m stands w →
-      slice_get w.links d ≡ Some l → l.phase ≡ Up → (own_view s l).own ≡ Shut →
+      slice_get w.links d ≡ Some l → l.phase ≡ LinkUp → (own_view s l).own ≡ Shut →
       (own_view s l).outgoing.mark ≡ NoMark → ⊥
   shut_never s w d l good at up shut none =
       not_none (own_view s l).outgoing.mark
       (shut_marked (opens s l.opener) (standing_at m s w d l) ((side_sound m s w good.sound).each d l at)
       (ap (λ p. is_up p) up) (ap (λ e. is_shut e) shut)) none
 
-  abbrev DropsAt : Side → World P M → ℕ → ℕ → Concern → Bool → Type 0
+  abbrev DropsAt : Side → World P M → ℕ → ℕ → LinkConcern → Bool → Type 0
   DropsAt s w d c k b =
       (z : Link M) → (d == c) ≡ b → slice_get w.links c ≡ Some z →
-      At (peer_at s w) (peer_at (flip s) w) c (own_view s z) →
-      At (peer_at s w) (peer_at (flip s) w) c (entered (if b then k else Elsewhere) (own_view s z))
+      At (peer_on s w) (peer_on (flip s) w) c (own_view s z) →
+      At (peer_on s w) (peer_on (flip s) w) c (entered (if b then k else Elsewhere) (own_view s z))
 
   word_at : (s : Side) (w : World P M) (d c : ℕ) (l : Link M) → IsCarrying m stands w →
-      slice_get w.links d ≡ Some l → l.phase ≡ Up → (own_view s l).own ≡ Shut → (b : Bool) →
-      DropsAt s w d c HeardOnIt b
+      slice_get w.links d ≡ Some l → l.phase ≡ LinkUp → (own_view s l).own ≡ Shut → (b : Bool) →
+      DropsAt s w d c HeardOnLink b
   word_at s w d c l good at up shut false z named there h = h
   word_at s w d c l good at up shut true z named there h =
       λ u. absurd
       (let here : slice_get w.links c ≡ Some l = subst (λ n. slice_get w.links n ≡ Some l) (eqb-true d c named) at in
       let same : l ≡ z = cc (here, there) in
-      shut_never s w c z good there (subst (λ y. y.phase ≡ Up) same up)
+      shut_never s w c z good there (subst (λ y. y.phase ≡ LinkUp) same up)
       (subst (λ y. (own_view s y).own ≡ Shut) same shut) u.going)
 
-  end_at : (s : Side) (w : World P M) (d c : ℕ) (b : Bool) → DropsAt s w d c EndsIt b
+  end_at : (s : Side) (w : World P M) (d c : ℕ) (b : Bool) → DropsAt s w d c EndsLink b
   end_at s w d c false z named there h = h
   end_at s w d c true z named there h = λ u. let none = u.coming in cc
 
   pub word_drops : (s : Side) (w : World P M) (d : ℕ) (l : Link M) (x : M) → IsCarrying m stands w →
-      slice_get w.links d ≡ Some l → l.phase ≡ Up → (own_view s l).own ≡ Shut →
-      KeepsAll w (after_drop s (Arrived (conn d) x) w)
+      slice_get w.links d ≡ Some l → l.phase ≡ LinkUp → (own_view s l).own ≡ Shut →
+      KeepsAll w (after_drop s (ArrivedEvent (conn d) x) w)
   word_drops s w d l x good at up shut all =
-      drop_asks s w (Arrived (conn d) x) (λ q. elim q [ ])
+      drop_asks s w (ArrivedEvent (conn d) x) (λ q. elim q [ ])
       (λ c z there h. word_at s w d c l good at up shut (d == c) z refl there h) all
 
-  pub end_drops : (s : Side) (w : World P M) (d : ℕ) → KeepsAll w (after_drop s (Gone (conn d)) w)
+  pub end_drops : (s : Side) (w : World P M) (d : ℕ) → KeepsAll w (after_drop s (GoneEvent (conn d)) w)
   end_drops s w d all =
-      drop_asks s w (Gone (conn d)) (λ q. elim q [ ]) (λ c z there h. end_at s w d c (d == c) z refl there h) all
+      drop_asks s w (GoneEvent (conn d)) (λ q. elim q [ ]) (λ c z there h. end_at s w d c (d == c) z refl there h) all
 
   -- a restart
   pub restart_asks : (s : Side) (w : World P M) (put : List (Put M)) →
-      KeepsAll w (Done (with_peer s (m.reset (peer_at s w)) (restart_links s w.links) w) put)
+      KeepsAll w (DoneWith (with_peer s (m.reset (peer_on s w)) (restart_links s w.links) w) put)
   restart_asks s w put all =
-      from_side m r stands s (m.reset (peer_at s w)) (restart_links s w.links) w (λ c l at.
+      from_side m r stands s (m.reset (peer_on s w)) (restart_links s w.links) w (λ c l at.
       let f : Link M → Link M = λ z. by_side s (restarted (opens s z.opener)) z in
       let old = mapped_some f (slice_get w.links c) l (sym (slice_get-map f w.links c) ∙ at) in
       λ u. absurd (restart_marks (opens s old.0.opener) (own_view s old.0)

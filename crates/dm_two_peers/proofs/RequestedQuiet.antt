@@ -8,11 +8,11 @@ use Rattle.std.proofs.lemmas.Option.{IfSome_then}
 use Rattle.dm_machine.specs.declared.state_name.State.{State}
 use Rattle.dm_machine.specs.declared.state_name.State.TheVariants as state
 use Rattle.dm_machine.specs.Connection.{Hold, NotHeld, Made, Taken, hold_as, hold_in, hold_of}
-use Rattle.dm_two_peers.specs.Machine.{conn, Role, Initiated, Accepted, Node, held_as, is_same_role, is_open, tie_of, tie_as, is_held}
+use Rattle.dm_two_peers.specs.Machine.{conn, Role, Initiated, Accepted, Node, held_as, is_same_role, is_open, tie_of, tie_as, is_tie_held}
 use Rattle.dm_two_peers.specs.Machine.{closed_node}
 use Rattle.dm_two_peers.specs.Links.{Side, A, B, flip, opens, Mark, NoMark, Coming, Delivered, End, Link, view_of}
 use Rattle.dm_two_peers.specs.Peers.{Peers}
-use Rattle.dm_two_peers.specs.Worlds.{World, peer_at, After, Done, Ignored, NoLink}
+use Rattle.dm_two_peers.specs.Worlds.{World, peer_on, After, DoneWith, Ignored, NoLink}
 use Rattle.dm_two_peers.specs.Happens.{Happening, own_view, happens, world_after, RunEnd, ran_on, run_from, run}
 use Rattle.dm_two_peers.specs.Follows.{IsMachine}
 use Rattle.dm_two_peers.specs.Facts.{Standing, turned_over, is_empty, is_sound_standing, is_up, is_open_end, is_coming}
@@ -92,11 +92,11 @@ stands_hold n role c st =
     self : (c : ℕ) → (c == c) ≡ true
     self c = grind (arith, nat_tests)
 
-stands_held : (n : Node) (role : Role) (c : ℕ) → StandsOn n role c → is_held (tie_of n c) ≡ true
+stands_held : (n : Node) (role : Role) (c : ℕ) → StandsOn n role c → is_tie_held (tie_of n c) ≡ true
 stands_held n role c st =
-    ap (λ h. is_held (tie_as h)) (stands_hold n role c st) ∙ by_state role n.state st.state
+    ap (λ h. is_tie_held (tie_as h)) (stands_hold n role c st) ∙ by_state role n.state st.state
   where
-    by_state : (role : Role) (s : State) → can_rest_in role s ≡ true → is_held (tie_as (hold_as s role)) ≡ true
+    by_state : (role : Role) (s : State) → can_rest_in role s ≡ true → is_tie_held (tie_as (hold_as s role)) ≡ true
     by_state Initiated state.WaitICea e = refl
     by_state Initiated state.IOpen e = refl
     by_state Initiated state.Closing e = refl
@@ -169,12 +169,12 @@ module _ {P M : Type 0} (m : Peers P M) (laws : MachineLaws) (is : IsMachine m) 
 
   -- the other side's end is open where it holds the link
   other_opens : (w : World P M) (c : ℕ) (l : Link M) → IsSoundWorld m w → slice_get w.links c ≡ Some l →
-      is_up l.phase ≡ true → is_held (tie_of (m.node_of w.b) c) ≡ true → is_open_end (own_view A l).other ≡ true
+      is_up l.phase ≡ true → is_tie_held (tie_of (m.node_of w.b) c) ≡ true → is_open_end (own_view A l).other ≡ true
   other_opens w c l good at up held =
       let sides = side_sound m B w good in
       let s = standing_at m B w c l in
       subst (λ e. is_open_end e ≡ true) (same_end l.opener l)
-      (same_left (is_open_end s.own) (is_held s.own_tie)
+      (same_left (is_open_end s.own) (is_tie_held s.own_tie)
       (is_when (is_up s.phase) _ (conclusion 0 (opens B l.opener) s (sides.each c l at)) up) held)
     where
       same_end : (o : Side) (l : Link M) → (view_of (opens B o) l).own ≡ (view_of (opens A o) l).other
@@ -189,7 +189,7 @@ module _ {P M : Type 0} (m : Peers P M) (laws : MachineLaws) (is : IsMachine m) 
     pub outgoing : (own_view A l).outgoing.messages ≡ []
 
   idle_at : (w : World P M) (c : ℕ) → IsSoundWorld m w → is_quiet w ≡ true →
-      is_held (tie_of (m.node_of w.a) c) ≡ true → is_held (tie_of (m.node_of w.b) c) ≡ true →
+      is_tie_held (tie_of (m.node_of w.a) c) ≡ true → is_tie_held (tie_of (m.node_of w.b) c) ≡ true →
       (l : Link M) × IsIdle w c l
   idle_at w c good quiet held held' =
       let at = held_there A (m.node_of w.a) (m.node_of w.b) w.links c good held in
@@ -199,13 +199,13 @@ module _ {P M : Type 0} (m : Peers P M) (laws : MachineLaws) (is : IsMachine m) 
       let sound = good.each c l at.1 in
       let calm = not_pending l.phase (is_still l.to_opener && is_still l.to_other) mine
       (all_at (λ z. is_quiet_link z) w.links c l quiet at.1)
-      (is_when (is_held s.own_tie) _ (conclusion 1 mine s sound) held) in
+      (is_when (is_tie_held s.own_tie) _ (conclusion 1 mine s sound) held) in
       let ways = and_parts (is_still l.to_opener) (is_still l.to_other) calm.1 in
       let seen = seen_both mine l ways.0 ways.1 in
       let i = still_at (own_view A l).incoming seen.0 in
       let o = still_at (own_view A l).outgoing seen.1 in
       let un = undelivered_at mine s sound calm.0 in
-      let own_open = same_left (is_open_end s.own) (is_held s.own_tie)
+      let own_open = same_left (is_open_end s.own) (is_tie_held s.own_tie)
       (is_when (is_up s.phase) _ (conclusion 0 mine s sound) calm.0) held in
       let other_open = other_opens w c l good at.1 calm.0 held' in (
         l,
@@ -222,7 +222,7 @@ module _ {P M : Type 0} (m : Peers P M) (laws : MachineLaws) (is : IsMachine m) 
       )
 
   settles : (w : World P M) → Runs w → is_quiet w ≡ true → (s : Side) →
-      is_returning (m.node_of (peer_at s w)).state ≡ false → AreClosedOrOpen (m.node_of w.a) (m.node_of w.b)
+      is_returning (m.node_of (peer_on s w)).state ≡ false → AreClosedOrOpen (m.node_of w.a) (m.node_of w.b)
   settles w now quiet s away = by_joined (quiet_is_joined_proof m w now.carrying.sound quiet s away)
     where
       by_link : (role role' : Role) (c : ℕ) → is_same_role role role' ≡ false → StandsOn (m.node_of w.a) role c →
@@ -259,16 +259,16 @@ module _ {P M : Type 0} (m : Peers P M) (laws : MachineLaws) (is : IsMachine m) 
         carrying = record {
           sound = happens_sound m laws is w h now.carrying.sound;
           fits = happening_both m (λ p. IsTrue (stands p)) w now.carrying.fits
-              (λ s e actions next replies. match.keeps (peer_at s w) next e actions
+              (λ s e actions next replies. match.keeps (peer_on s w) next e actions
               (carrier m stands s w now.carrying) replies)
-              (λ s. match.resets (peer_at s w) (carrier m stands s w now.carrying)) h;
+              (λ s. match.resets (peer_on s w) (carrier m stands s w now.carrying)) h;
         };
         asks = happening_asks m r stands match w h now.carrying now.asks;
       }
 
   ran : (z : RunEnd P M) (after : After P M) → Runs (world_after z.world after) →
       IfSome (ran_on z after) (λ y. Runs y.world)
-  ran z (Done w put) now = now
+  ran z (DoneWith w put) now = now
   ran z Ignored now = now
   ran z NoLink now = tt
 
@@ -283,7 +283,7 @@ module _ {P M : Type 0} (m : Peers P M) (laws : MachineLaws) (is : IsMachine m) 
   pub run_settles : (a b : P) → IsSoundWorld m (world_of a b) → IsTrue (stands a) → IsTrue (stands b) →
       (hs : List (Happening M)) →
       IfSome (run m (world_of a b) hs) (λ z. is_quiet z.world ≡ true → (s : Side) →
-      is_returning (m.node_of (peer_at s z.world)).state ≡ false →
+      is_returning (m.node_of (peer_on s z.world)).state ≡ false →
       AreClosedOrOpen (m.node_of z.world.a) (m.node_of z.world.b))
   run_settles a b sound left right hs =
       IfSome_then (run m (world_of a b) hs)
@@ -294,7 +294,7 @@ module _ {P M : Type 0} (m : Peers P M) (laws : MachineLaws) (is : IsMachine m) 
       }))
       (λ z now quiet s away. settles z.world now quiet s away)
     where
-      both : (s : Side) → IsTrue (stands (peer_at s (world_of {M = M} a b)))
+      both : (s : Side) → IsTrue (stands (peer_on s (world_of {M = M} a b)))
       both A = left
       both B = right
 

@@ -4,14 +4,14 @@ use Rattle.std.proofs.Common.{Option, Some, None, List, [], ◌∷◌, ◌++◌,
 use Rattle.std.proofs.lemmas.Bool.{and_parts, eqb-true}
 use Rattle.dm_machine.specs.Connection.{Hold, hold_of}
 use Rattle.dm_machine.specs.Connection as hold
-use Rattle.dm_two_peers.specs.Machine.{Conn, conn, Concern, Elsewhere, AcksIt, NacksIt, EndsIt, HeardOnIt, tie_of, tie_as}
-use Rattle.dm_two_peers.specs.Machine.{is_held}
-use Rattle.dm_two_peers.specs.Links.{Side, A, B, flip, opens, LinkPhase, Up, Link, View, view_of, by_side}
-use Rattle.dm_two_peers.specs.Peers.{Event, Start, Stop, Timeout, Tick, Ack, Nack, Gone, Submit, Arrived, Action, Send}
-use Rattle.dm_two_peers.specs.Peers.{Close, Connect, Reply, Acts, Declines, Peers, concern_by}
+use Rattle.dm_two_peers.specs.Machine.{Conn, conn, LinkConcern, Elsewhere, MakesLink, FailsLink, EndsLink, HeardOnLink, tie_of, tie_as}
+use Rattle.dm_two_peers.specs.Machine.{is_tie_held}
+use Rattle.dm_two_peers.specs.Links.{Side, A, B, flip, opens, LinkPhase, LinkUp, Link, View, view_of, by_side}
+use Rattle.dm_two_peers.specs.Peers.{Event, StartEvent, StopEvent, TimeoutEvent, TickEvent, AckEvent, NackEvent, GoneEvent, SubmitEvent, ArrivedEvent, Action, Send}
+use Rattle.dm_two_peers.specs.Peers.{Close, Connect, Reply, ActsBy, Declines, Peers, concern_by}
 use Rattle.dm_two_peers.specs.Peers as peers
-use Rattle.dm_two_peers.specs.Steps.{settled}
-use Rattle.dm_two_peers.specs.Worlds.{World, peer_at, with_peer, with_links, enter, perform, settle, after_reply, tell}
+use Rattle.dm_two_peers.specs.Steps.{settled_view}
+use Rattle.dm_two_peers.specs.Worlds.{World, peer_on, with_peer, with_links, enter, perform, settle, after_reply, tell}
 use Rattle.dm_two_peers.specs.Happens.{own_view, world_after}
 use Rattle.dm_two_peers.specs.Facts.{Standing, turned_over, is_empty, is_sound_standing, is_pending, is_up, is_shut}
 use Rattle.dm_two_peers.specs.Facts.{is_none}
@@ -53,13 +53,13 @@ words_sent c (Close d ∷ actions) h = by_test (d.0 == c) h (λ g. words_sent c 
     by_test true h f = cc
     by_test false h f = f h
 words_sent c (Connect d ∷ actions) h = words_sent c actions h
-words_sent c (peers.Up x ∷ actions) h = words_sent c actions h
+words_sent c (peers.HandUp x ∷ actions) h = words_sent c actions h
 
 -- a pending link from its opener
 abbrev waits_pending : Standing → Bool
 waits_pending s =
     when (is_sound_standing s) (when (is_pending s.phase)
-    (is_connecting s.own_tie && (not (is_held s.other_tie) && (s.in_empty && s.out_empty))))
+    (is_connecting s.own_tie && (not (is_tie_held s.other_tie) && (s.in_empty && s.out_empty))))
 
 pending_checked : every_standing waits_pending ≡ true
 unfolding all_true every_bool every_tie every_phase every_end every_mark
@@ -67,18 +67,18 @@ pending_checked = refl
 
 record IsWaiting (s : Standing) : Type 0 where
   pub own : is_connecting s.own_tie ≡ true
-  pub other : not (is_held s.other_tie) ≡ true
+  pub other : not (is_tie_held s.other_tie) ≡ true
   pub inc : s.in_empty ≡ true
   pub out : s.out_empty ≡ true
 
 waiting_at : (mine : Bool) (s : Standing) → is_sound_standing (turned_over mine s) ≡ true →
-    is_handed mine AcksIt s ≡ true → IsWaiting s
+    is_handed mine MakesLink s ≡ true → IsWaiting s
 waiting_at false s good h = cc
 waiting_at true s good h =
     let all = is_when (is_pending s.phase) _
     (is_when (is_sound_standing s) _ (at_standing waits_pending pending_checked s) good) h in
-    let parts = and_parts (is_connecting s.own_tie) (not (is_held s.other_tie) && (s.in_empty && s.out_empty)) all in
-    let more = and_parts (not (is_held s.other_tie)) (s.in_empty && s.out_empty) parts.1 in
+    let parts = and_parts (is_connecting s.own_tie) (not (is_tie_held s.other_tie) && (s.in_empty && s.out_empty)) all in
+    let more = and_parts (not (is_tie_held s.other_tie)) (s.in_empty && s.out_empty) parts.1 in
     let last = and_parts s.in_empty s.out_empty more.1 in
     record { own = parts.0; other = more.0; inc = last.0; out = last.1 }
 
@@ -86,7 +86,7 @@ pends_by : (h : Hold) → is_connecting (tie_as h) ≡ true → h ≡ hold.Pendi
 pends_by hold.Pending e = refl
 pends_by _ e = cc
 
-unheld_by : (h : Hold) → not (is_held (tie_as h)) ≡ true → h ≡ hold.NotHeld
+unheld_by : (h : Hold) → not (is_tie_held (tie_as h)) ≡ true → h ≡ hold.NotHeld
 unheld_by hold.NotHeld e = refl
 unheld_by _ e = cc
 
@@ -102,7 +102,7 @@ module _ {P M : Type 0} (m : Peers P M) (r : Requests P M) (stands : P → Bool)
   abbrev pub AllAsk : World P M → Type 0
   AllAsk w =
       (s : Side) (c : ℕ) (l : Link M) → slice_get w.links c ≡ Some l →
-      AskAt (peer_at s w) (peer_at (flip s) w) c (own_view s l)
+      AskAt (peer_on s w) (peer_on (flip s) w) c (own_view s l)
 
   turned_view : (s o : Side) (p p' : P) (c : ℕ) (l : Link M) → AskAt p p' c (view_of (opens s o) l) →
       AskAt p' p c (view_of (opens (flip s) o) l)
@@ -112,7 +112,7 @@ module _ {P M : Type 0} (m : Peers P M) (r : Requests P M) (stands : P → Bool)
 
   -- from one side it is so from the other
   pub from_side : (s : Side) (p : P) (links : List (Link M)) (w : World P M) →
-      ((c : ℕ) (l : Link M) → slice_get links c ≡ Some l → AskAt p (peer_at (flip s) w) c (own_view s l)) →
+      ((c : ℕ) (l : Link M) → slice_get links c ≡ Some l → AskAt p (peer_on (flip s) w) c (own_view s l)) →
       AllAsk (with_peer s p links w)
   from_side A p links w each A c l at = each c l at
   from_side A p links w each B c l at = turned_view A l.opener p w.b c l (each c l at)
@@ -121,62 +121,62 @@ module _ {P M : Type 0} (m : Peers P M) (r : Requests P M) (stands : P → Bool)
 
   pub from_links : (s : Side) (links : List (Link M)) (w : World P M) →
       ((c : ℕ) (l : Link M) → slice_get links c ≡ Some l →
-      AskAt (peer_at s w) (peer_at (flip s) w) c (own_view s l)) →
+      AskAt (peer_on s w) (peer_on (flip s) w) c (own_view s l)) →
       AllAsk (with_links links w)
   from_links A links w each t c l at = from_side A w.a links w each t c l at
   from_links B links w each t c l at = from_side B w.b links w each t c l at
 
   -- what the world hands over
-  abbrev Handed : Side → World P M → ℕ → Link M → Concern → Option M → Type 0
+  abbrev Handed : Side → World P M → ℕ → Link M → LinkConcern → Option M → Type 0
   Handed s w c l k heard =
-      IsHanded (own_view s l) (hold_of (m.node_of (peer_at s w)) (conn c))
-      (hold_of (m.node_of (peer_at (flip s) w)) (conn c)) k heard
+      IsHanded (own_view s l) (hold_of (m.node_of (peer_on s w)) (conn c))
+      (hold_of (m.node_of (peer_on (flip s) w)) (conn c)) k heard
 
   module _ (s : Side) (w : World P M) (good : IsCarrying m stands w) (c : ℕ) (l : Link M)
       (at : slice_get w.links c ≡ Some l) where
-    handed_ack : (b : Bool) → is_handed (opens s l.opener) (if b then AcksIt else Elsewhere) (standing_at m s w c l)
+    handed_ack : (b : Bool) → is_handed (opens s l.opener) (if b then MakesLink else Elsewhere) (standing_at m s w c l)
         ≡ true →
-        Handed s w c l (if b then AcksIt else Elsewhere) None
+        Handed s w c l (if b then MakesLink else Elsewhere) None
     handed_ack false h = passes
     handed_ack true h =
         let st = standing_at m s w c l in
         let is = waiting_at (opens s l.opener) st ((side_sound m s w good.sound).each c l at) h in
         acks (pends_by _ is.own) (unheld_by _ is.other) (empty_is _ is.inc) (empty_is _ is.out)
 
-    handed_nack : (b : Bool) → Handed s w c l (if b then NacksIt else Elsewhere) None
+    handed_nack : (b : Bool) → Handed s w c l (if b then FailsLink else Elsewhere) None
     handed_nack false = passes
     handed_nack true = nacks
 
-    handed_end : (b : Bool) → Handed s w c l (if b then EndsIt else Elsewhere) None
+    handed_end : (b : Bool) → Handed s w c l (if b then EndsLink else Elsewhere) None
     handed_end false = passes
     handed_end true = ends
 
-    handed_word : (b : Bool) (x : M) → is_handed (opens s l.opener) (if b then HeardOnIt else Elsewhere)
+    handed_word : (b : Bool) (x : M) → is_handed (opens s l.opener) (if b then HeardOnLink else Elsewhere)
         (standing_at m s w c l) ≡ true →
         (b ≡ true → (xs : List M) × ((own_view s l).incoming.messages ≡ x ∷ xs)) →
-        Handed s w c l (if b then HeardOnIt else Elsewhere) (if b then Some x else None)
+        Handed s w c l (if b then HeardOnLink else Elsewhere) (if b then Some x else None)
     handed_word false x h front = passes
     handed_word true x h front =
         let ms = front refl in
         hears x ms.0 ms.1
-        (made_is (hold_of (m.node_of (peer_at s w)) (conn c)) (step_at (opens s l.opener) HeardOnIt
+        (made_is (hold_of (m.node_of (peer_on s w)) (conn c)) (step_at (opens s l.opener) HeardOnLink
         (standing_at m s w c l) ((side_sound m s w good.sound).each c l at) h).ready)
 
     handed_by : (e : Event M) → (IsStart e → ⊥) →
         is_handed (opens s l.opener) (concern_by e (conn c)) (standing_at m s w c l) ≡ true → Front w s e →
         Handed s w c l (concern_by e (conn c)) (heard_on c e)
-    handed_by (Start d) no_start h front = absurd (no_start (started d))
+    handed_by (StartEvent d) no_start h front = absurd (no_start (started d))
       where
-        started : (d : Conn) → IsStart {M = M} (Start d)
+        started : (d : Conn) → IsStart {M = M} (StartEvent d)
         started d = at_start d
-    handed_by (Stop cause) no_start h front = passes
-    handed_by Timeout no_start h front = passes
-    handed_by Tick no_start h front = passes
-    handed_by (Submit x) no_start h front = passes
-    handed_by (Ack d) no_start h front = handed_ack (d.0 == c) h
-    handed_by (Nack d) no_start h front = handed_nack (d.0 == c)
-    handed_by (Gone d) no_start h front = handed_end (d.0 == c)
-    handed_by (Arrived d x) no_start h front =
+    handed_by (StopEvent cause) no_start h front = passes
+    handed_by TimeoutEvent no_start h front = passes
+    handed_by TickEvent no_start h front = passes
+    handed_by (SubmitEvent x) no_start h front = passes
+    handed_by (AckEvent d) no_start h front = handed_ack (d.0 == c) h
+    handed_by (NackEvent d) no_start h front = handed_nack (d.0 == c)
+    handed_by (GoneEvent d) no_start h front = handed_end (d.0 == c)
+    handed_by (ArrivedEvent d x) no_start h front =
         handed_word (d.0 == c) x h (λ named.
         let there : slice_get w.links c ≡ Some front.0 =
         subst (λ n. slice_get w.links n ≡ Some front.0) (eqb-true d.0 c named) front.1.1.0 in
@@ -186,50 +186,50 @@ module _ {P M : Type 0} (m : Peers P M) (r : Requests P M) (stands : P → Bool)
   module _ (match : AnswersMatch m r stands) where
     -- a step of a side
     pub turn_of_step : (s : Side) (w : World P M) (p : P) (e : Event M) (actions : List (Action M)) (c : ℕ) →
-        IsCarrying m stands w → m.reply (peer_at s w) e ≡ Acts actions p → is_closed_at c actions ≡ false →
-        MatchesOn r (peer_at s w) p (hold_of (m.node_of (peer_at s w)) (conn c)) (hold_of (m.node_of p) (conn c))
+        IsCarrying m stands w → m.reply (peer_on s w) e ≡ ActsBy actions p → is_closed_at c actions ≡ false →
+        MatchesOn r (peer_on s w) p (hold_of (m.node_of (peer_on s w)) (conn c)) (hold_of (m.node_of p) (conn c))
         (concern_by e (conn c)) (heard_on c e) (words_at c actions)
     turn_of_step s w p e actions c good replies open_still =
-        subst (λ ws. MatchesOn r (peer_at s w) p (hold_of (m.node_of (peer_at s w)) (conn c))
+        subst (λ ws. MatchesOn r (peer_on s w) p (hold_of (m.node_of (peer_on s w)) (conn c))
         (hold_of (m.node_of p) (conn c)) (concern_by e (conn c)) (heard_on c e) ws)
         (sym (words_sent c actions open_still))
-        (match.matches (peer_at s w) p e actions c (carrier m stands s w good) replies open_still)
+        (match.matches (peer_on s w) p e actions c (carrier m stands s w good) replies open_still)
 
     stepped_asks : (s : Side) (w : World P M) (p : P) (e : Event M) (actions : List (Action M)) (c : ℕ) (l : Link M) →
         (IsStart e → ⊥) → IsCarrying m stands w → slice_get w.links c ≡ Some l →
         is_handed (opens s l.opener) (concern_by e (conn c)) (standing_at m s w c l) ≡ true → Front w s e →
-        m.reply (peer_at s w) e ≡ Acts actions p → AskAt (peer_at s w) (peer_at (flip s) w) c (own_view s l) →
-        AskAt p (peer_at (flip s) w) c
-        (own_view s (by_side s (stepped (concern_by e (conn c)) (is_held (tie_of (m.node_of p) c)) c actions) l))
+        m.reply (peer_on s w) e ≡ ActsBy actions p → AskAt (peer_on s w) (peer_on (flip s) w) c (own_view s l) →
+        AskAt p (peer_on (flip s) w) c
+        (own_view s (by_side s (stepped (concern_by e (conn c)) (is_tie_held (tie_of (m.node_of p) c)) c actions) l))
     stepped_asks s w p e actions c l no_start good at handed front replies both =
         let k = concern_by e (conn c) in
-        let holds = is_held (tie_of (m.node_of p) c) in
+        let holds = is_tie_held (tie_of (m.node_of p) c) in
         let v = own_view s l in
-        subst (λ u. AskAt p (peer_at (flip s) w) c u)
+        subst (λ u. AskAt p (peer_on (flip s) w) c u)
         (sym (view_own s (stepped k holds c actions) l
-        ∙ ap (λ (u : View M). settled k holds u) (acted_entered c actions k v)))
-        (step_asks r (peer_at s w) p (peer_at (flip s) w) (hold_of (m.node_of (peer_at s w)) (conn c))
-        (hold_of (m.node_of p) (conn c)) (hold_of (m.node_of (peer_at (flip s) w)) (conn c)) k (heard_on c e)
+        ∙ ap (λ (u : View M). settled_view k holds u) (acted_entered c actions k v)))
+        (step_asks r (peer_on s w) p (peer_on (flip s) w) (hold_of (m.node_of (peer_on s w)) (conn c))
+        (hold_of (m.node_of p) (conn c)) (hold_of (m.node_of (peer_on (flip s) w)) (conn c)) k (heard_on c e)
         (is_closed_at c actions) holds (words_at c actions) v
         (handed_by s w good c l at e no_start handed front)
         (λ open_still. turn_of_step s w p e actions c good replies open_still) both)
 
     answered_asks : (s : Side) (w : World P M) (e : Event M) (o : Reply P M) → (IsStart e → ⊥) →
         IsCarrying m stands w →
-        Hands s (m.node_of (peer_at s w)) (m.node_of (peer_at (flip s) w)) e w.links → Front w s e →
-        m.reply (peer_at s w) e ≡ o → AllAsk w → AllAsk (world_after w (after_reply m s e w o))
+        Hands s (m.node_of (peer_on s w)) (m.node_of (peer_on (flip s) w)) e w.links → Front w s e →
+        m.reply (peer_on s w) e ≡ o → AllAsk w → AllAsk (world_after w (after_reply m s e w o))
     answered_asks s w e Declines no_start good hands front replies all = all
-    answered_asks s w e (Acts actions p) no_start good hands front replies all =
+    answered_asks s w e (ActsBy actions p) no_start good hands front replies all =
         from_side s p (settle s e (m.node_of p) (perform s actions (enter s e w.links))) w (λ c l at.
-        let f = by_side s (stepped (concern_by e (conn c)) (is_held (tie_of (m.node_of p) c)) c actions) in
+        let f = by_side s (stepped (concern_by e (conn c)) (is_tie_held (tie_of (m.node_of p) c)) c actions) in
         let old = mapped_some f (slice_get w.links c) l
         (sym (stepped_at s e actions (m.node_of p) c w.links no_start) ∙ at) in
-        subst (λ z. AskAt p (peer_at (flip s) w) c (own_view s z)) (sym old.2)
+        subst (λ z. AskAt p (peer_on (flip s) w) c (own_view s z)) (sym old.2)
         (stepped_asks s w p e actions c old.0 no_start good old.1 (hands.handed c old.0 old.1) front replies
         (all s c old.0 old.1)))
 
     pub told_asks : (s : Side) (w : World P M) (e : Event M) → (IsStart e → ⊥) → IsCarrying m stands w →
-        Hands s (m.node_of (peer_at s w)) (m.node_of (peer_at (flip s) w)) e w.links → Front w s e →
+        Hands s (m.node_of (peer_on s w)) (m.node_of (peer_on (flip s) w)) e w.links → Front w s e →
         AllAsk w → AllAsk (world_after w (tell m s e w))
     told_asks s w e no_start good hands front all =
-        answered_asks s w e (m.reply (peer_at s w) e) no_start good hands front refl all
+        answered_asks s w e (m.reply (peer_on s w) e) no_start good hands front refl all

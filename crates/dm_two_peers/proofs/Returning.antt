@@ -14,10 +14,10 @@ use Rattle.dm_machine.specs.declared.outputs.Command.{Command}
 use Rattle.dm_machine.specs.Table.{TableEvent, WinElection, SendMessage, Row}
 use Rattle.dm_machine.specs.Table as table
 use Rattle.dm_machine.specs.Node.{Node, node_at}
-use Rattle.dm_machine.specs.Reading.{named_by, event_of}
+use Rattle.dm_machine.specs.Reading.{conn_named, event_of}
 use Rattle.dm_machine.specs.Rows.{rows, event_code, is_for, row_in, state_code}
-use Rattle.dm_machine.specs.Moves.{Outcome, Moved, Refused, by_no_row, by_event, has_elect, raises_win, after_commands}
-use Rattle.dm_machine.specs.Moves.{then_won, outcome}
+use Rattle.dm_machine.specs.Moves.{NodeOutcome, NodeMoved, NodeRefused, by_no_row, by_event, has_elect, raises_win, after_commands}
+use Rattle.dm_machine.specs.Moves.{then_won, machine_outcome}
 use Rattle.dm_two_peers.specs.Joining.{is_returning, WinnerDoesNotReturn}
 
 -- by the number of the state
@@ -47,9 +47,9 @@ row_fine (r ∷ rs) fine s e =
         (here, (and_parts (state_code r.from == state_code s) (event_code r.event == event_code e) is).0)
     by_test false is here more = more
 
-abbrev IsElsewhere : Outcome → Type 0
-IsElsewhere (Moved commands next) = has_returned next.state ≡ false
-IsElsewhere (Refused r) = ⊤
+abbrev IsElsewhere : NodeOutcome → Type 0
+IsElsewhere (NodeMoved commands next) = has_returned next.state ≡ false
+IsElsewhere (NodeRefused r) = ⊤
 
 none_fine : (n : Node) (e : TableEvent) → has_returned n.state ≡ false → IsElsewhere (by_no_row n e)
 none_fine n table.Start h = tt
@@ -83,10 +83,10 @@ found_fine : (n : Node) (e : TableEvent) (new : Option Conn) → has_returned n.
 found_fine n e new away None fine = none_fine n e away
 found_fine n e new away (Some r) fine = fine_by r n e new away fine.1 (has_elect r.acts) fine.0
 
-winner_elsewhere : (n : Node) (i : Input) → has_returned n.state ≡ false → IsElsewhere (outcome n i true)
+winner_elsewhere : (n : Node) (i : Input) → has_returned n.state ≡ false → IsElsewhere (machine_outcome n i true)
 winner_elsewhere n i away =
     let e = event_of n i in
-    found_fine n e (named_by i) away (row_in rows n.state e) (row_fine rows rows_fine n.state e)
+    found_fine n e (conn_named i) away (row_in rows n.state e) (row_fine rows rows_fine n.state e)
 
 by_code : (s : State) → is_returning s ≡ has_returned s
 by_code WaitReturns = refl

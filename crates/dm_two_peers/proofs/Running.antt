@@ -6,7 +6,7 @@ use Rattle.std.specs.Prelude.{option_map}
 use Rattle.std.proofs.lemmas.Bool.{cases_Bool, and_parts, eqb-true}
 use Rattle.dm_two_peers.specs.Machine.{conn}
 use Rattle.dm_two_peers.specs.Links.{Side, A, B, Link, View, link_of}
-use Rattle.dm_two_peers.specs.Peers.{Ack, Peers}
+use Rattle.dm_two_peers.specs.Peers.{AckEvent, Peers}
 use Rattle.dm_two_peers.specs.Worlds.{World, Put, After, Ignored, tell}
 use Rattle.dm_two_peers.specs.Happens.{Happening, Starts, Stops, TimesOut, Ticks, Restarts, Acks, Nacks, Delivers, Pieces}
 use Rattle.dm_two_peers.specs.Happens.{Loses, Submits, next_in, deliver_next, deliver_part, if_up, if_pending, at_link}
@@ -33,7 +33,7 @@ either_side g l ba B = inl refl
 
 -- what the link of a number is, as a happening asks
 abbrev pub ack_of : {P M : Type 0} → Peers P M → ℕ → World P M → Link M → After P M
-ack_of m c w l = if_pending l.phase (tell m l.opener (Ack (conn c)) w) Ignored
+ack_of m c w l = if_pending l.phase (tell m l.opener (AckEvent (conn c)) w) Ignored
 
 abbrev pub delivery_of : {P M : Type 0} → Peers P M → ℕ → Side → World P M → Link M → After P M
 delivery_of m c s w l = let v = own_view s l in if_up l.phase
@@ -75,7 +75,7 @@ module _ {P M C H : Type 0} (m : Peers P M) (t : Talks P M C H) where
   ack_went el g l pair wins loses w k x y q c =
       let f = flip_in m t g l w k x y q in
       which_link g l w k x y q (λ d o. WentAt g l k x y q.h q.h' 1 (at_link o (ack_of m d w))) (λ d. is_lost)
-      (λ d z h. quiet_ack m t g l k x y z (tell m z.opener (Ack (conn d)) w) h)
+      (λ d z h. quiet_ack m t g l k x y z (tell m z.opener (AckEvent (conn d)) w) h)
       (subst (λ a. WentAt g l k x y q.h q.h' 1 a)
       (sym (ap (λ o. at_link o (ack_of m x w)) q.at.at_x
       ∙ acked_own m g x w (own_at m t g l (stage_g k) q.h q.i q.j)))

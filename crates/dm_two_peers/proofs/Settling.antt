@@ -7,7 +7,7 @@ use Rattle.std.proofs.lemmas.Bool.{ne_eqb}
 use Rattle.dm_two_peers.specs.Machine.{Accepted, closed_node}
 use Rattle.dm_two_peers.specs.Links.{Side, A, B, NoMark, Coming, Delivered, link_of}
 use Rattle.dm_two_peers.specs.Peers.{Peers}
-use Rattle.dm_two_peers.specs.Worlds.{World, peer_at, Put}
+use Rattle.dm_two_peers.specs.Worlds.{World, peer_on, Put}
 use Rattle.dm_two_peers.specs.Happens.{Happening, RunEnd}
 use Rattle.dm_two_peers.specs.Quiet.{is_quiet_link, is_quiet, links_made, KeptLink, kept_of, kept, steps_taken}
 use Rattle.dm_two_peers.specs.Electing.{Talks, IsPeerOf, IsElecting}
@@ -45,19 +45,19 @@ module _ {P M C H : Type 0} (m : Peers P M) (t : Talks P M C H) where
   quiet_at s o w d (Parted Delivered NoMark) h i j q e = refl
   quiet_at s o w d (Parted Delivered Delivered) h i j q e = refl
 
-  pub are_open : (g l : Side) → IsPair g l → (w : World P M) (x : ℕ) → m.node_of (peer_at g w) ≡ i_open x →
-      m.node_of (peer_at l w) ≡ r_open x → AreOpenOnKept m w (record { opener = g; link = x })
+  pub are_open : (g l : Side) → IsPair g l → (w : World P M) (x : ℕ) → m.node_of (peer_on g w) ≡ i_open x →
+      m.node_of (peer_on l w) ≡ r_open x → AreOpenOnKept m w (record { opener = g; link = x })
   are_open g l ab w x e e' =
       record {
-        opener = opens_as_i (m.node_of (peer_at g w)) x e;
+        opener = opens_as_i (m.node_of (peer_on g w)) x e;
         other = opens_as_r
-            (m.node_of (peer_at l w)) x e';
+            (m.node_of (peer_on l w)) x e';
       }
   are_open g l ba w x e e' =
       record {
-        opener = opens_as_i (m.node_of (peer_at g w)) x e;
+        opener = opens_as_i (m.node_of (peer_on g w)) x e;
         other = opens_as_r
-            (m.node_of (peer_at l w)) x e';
+            (m.node_of (peer_on l w)) x e';
       }
 
   -- the link that is kept, by who wins
@@ -196,21 +196,21 @@ module _ {P M C H : Type 0} (m : Peers P M) (t : Talks P M C H) where
   at_rest el s p h' is closed =
       record { peer = is; node = closed; awaits = λ b. cc; waits = λ b. cc; number = el.numbers p is.stands }
 
-  pub begins : IsElecting m t → (g l : Side) (w : World P M) → IsPeerOf t g (peer_at g w) →
-      IsPeerOf t l (peer_at l w) → m.node_of (peer_at g w) ≡ closed_node → m.node_of (peer_at l w) ≡ closed_node →
+  pub begins : IsElecting m t → (g l : Side) (w : World P M) → IsPeerOf t g (peer_on g w) →
+      IsPeerOf t l (peer_on l w) → m.node_of (peer_on g w) ≡ closed_node → m.node_of (peer_on l w) ≡ closed_node →
       is_quiet w ≡ true →
       InPhase m t g l w C1 (length w.links) (suc (length w.links))
   begins el g l w is is' closed closed' quiet =
       record {
-        h = t.next_of (peer_at g w);
-        h' = t.next_of (peer_at l w);
+        h = t.next_of (peer_on g w);
+        h' = t.next_of (peer_on l w);
         i = 0;
         j = 0;
         i' = 0;
         j' = 0;
         at = record {
-          own = at_rest el g (peer_at g w) (t.next_of (peer_at l w)) is closed;
-          other = at_rest el l (peer_at l w) (t.next_of (peer_at g w)) is' closed';
+          own = at_rest el g (peer_on g w) (t.next_of (peer_on l w)) is closed;
+          other = at_rest el l (peer_on l w) (t.next_of (peer_on g w)) is' closed';
           at_x = past_end w.links;
           at_y = past_more w.links;
           apart = ne_eqb _ _ (λ e. absurd (omega (arith, e)));

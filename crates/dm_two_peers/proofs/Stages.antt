@@ -1,13 +1,13 @@
 -- How far a link of a clean run has come, and what a step of a peer in it comes to.
 use Rattle.std.proofs.Common.{◌≡◌, ℕ, true, IsTrue, Option, Some, None, List, [], ◌∷◌, ◌++◌, refl, ap, subst, ◌∙◌}
 use Rattle.std.specs.Prelude.{option_map}
-use Rattle.dm_machine.specs.Moves.{Outcome, Moved}
-use Rattle.dm_two_peers.specs.Machine.{conn, Node, Input, Command, outcome, tie_of, is_held}
-use Rattle.dm_two_peers.specs.Links.{Side, LinkPhase, Pending, Up, End, Fresh, Open, Shut, Mark, NoMark, Coming, Direction}
+use Rattle.dm_machine.specs.Moves.{NodeOutcome, NodeMoved}
+use Rattle.dm_two_peers.specs.Machine.{conn, Node, Input, Command, machine_outcome, tie_of, is_tie_held}
+use Rattle.dm_two_peers.specs.Links.{Side, LinkPhase, LinkPending, LinkUp, End, Fresh, Open, Shut, Mark, NoMark, Coming, Direction}
 use Rattle.dm_two_peers.specs.Links.{View, by_side}
-use Rattle.dm_two_peers.specs.Peers.{Event, Action, Acts, Peers, concern_by}
+use Rattle.dm_two_peers.specs.Peers.{Event, Action, ActsBy, Peers, concern_by}
 use Rattle.dm_two_peers.specs.Steps.{entered}
-use Rattle.dm_two_peers.specs.Worlds.{World, peer_at, Put, enter, puts_of, puts_at_entry, tell}
+use Rattle.dm_two_peers.specs.Worlds.{World, peer_on, Put, enter, puts_of, puts_at_entry, tell}
 use Rattle.dm_machine.specs.Awaiting.{awaits_cea, holds_cer, number_after, waiting_after}
 use Rattle.dm_two_peers.specs.Electing.{Talks, IsPeerOf, IsReadAs, has_send_cer, IsSaid, AreSaid, RepliesBy, RepliesAs}
 use Rattle.dm_two_peers.specs.Electing.{IsElecting}
@@ -37,13 +37,13 @@ seen p own other i o = record { phase = p; own = own; other = other; incoming = 
 -- acts its opener sees it, with its CER, its CEA, and the octets delivered of what is under way
 abbrev pub stage_view : {M : Type 0} → Stage → M → M → ℕ → ℕ → Option (View M)
 stage_view Unmade a b j k = None
-stage_view Dialled a b j k = Some (seen Pending Shut Shut (direction_of [] j NoMark) (direction_of [] k NoMark))
-stage_view Asked a b j k = Some (seen Up Open Fresh (direction_of [] j NoMark) (direction_of (a ∷ []) k NoMark))
-stage_view Accepted a b j k = Some (seen Up Open Open (direction_of [] j NoMark) (direction_of [] k NoMark))
-stage_view Answered a b j k = Some (seen Up Open Open (direction_of (b ∷ []) j NoMark) (direction_of [] k NoMark))
-stage_view Dropped a b j k = Some (seen Up Shut Fresh (direction_of [] j NoMark) (direction_of (a ∷ []) k Coming))
-stage_view Halved a b j k = Some (seen Up Shut Open (direction_of [] j NoMark) (direction_of [] k Coming))
-stage_view (Parted i o) a b j k = Some (seen Up Shut Shut (direction_of [] j i) (direction_of [] k o))
+stage_view Dialled a b j k = Some (seen LinkPending Shut Shut (direction_of [] j NoMark) (direction_of [] k NoMark))
+stage_view Asked a b j k = Some (seen LinkUp Open Fresh (direction_of [] j NoMark) (direction_of (a ∷ []) k NoMark))
+stage_view Accepted a b j k = Some (seen LinkUp Open Open (direction_of [] j NoMark) (direction_of [] k NoMark))
+stage_view Answered a b j k = Some (seen LinkUp Open Open (direction_of (b ∷ []) j NoMark) (direction_of [] k NoMark))
+stage_view Dropped a b j k = Some (seen LinkUp Shut Fresh (direction_of [] j NoMark) (direction_of (a ∷ []) k Coming))
+stage_view Halved a b j k = Some (seen LinkUp Shut Open (direction_of [] j NoMark) (direction_of [] k Coming))
+stage_view (Parted i o) a b j k = Some (seen LinkUp Shut Shut (direction_of [] j i) (direction_of [] k o))
 
 -- what commands make a peer do
 module _ {P M C H : Type 0} (m : Peers P M) (t : Talks P M C H) where
@@ -77,10 +77,10 @@ module _ {P M C H : Type 0} (m : Peers P M) (t : Talks P M C H) where
 
   pub replied : IsElecting m t → (s : Side) (p : P) (e : Event M) (i : Input) (heard : Option H) → IsPeerOf t s p →
       IsReadAs m t s p e i heard → (n : Node) → m.node_of p ≡ n → (commands : List Command) (next : Node) →
-      outcome n i (t.wins s) ≡ Moved commands next → RepliesBy m t s p heard commands next (m.reply p e)
+      machine_outcome n i (t.wins s) ≡ NodeMoved commands next → RepliesBy m t s p heard commands next (m.reply p e)
   replied el s p e i heard is reads n node commands next out =
-      subst (λ (o : Outcome). RepliesAs m t s p heard o (m.reply p e))
-      (ap (λ (k : Node). outcome k i (t.wins s)) node ∙ out) (el.replies s p e i heard is reads)
+      subst (λ (o : NodeOutcome). RepliesAs m t s p heard o (m.reply p e))
+      (ap (λ (k : Node). machine_outcome k i (t.wins s)) node ∙ out) (el.replies s p e i heard is reads)
 
   -- a reply's peer stands
   pub stands_by : (s : Side) (p : P) (e : Event M) (heard : Option H) (commands : List Command) (n next : Node)
@@ -105,22 +105,22 @@ module _ {P M C H : Type 0} (m : Peers P M) (t : Talks P M C H) where
       (w : World P M) (x y : ℕ) (u v u1 v1 : Option (View M)) (n n' n1 : Node) (h h' h1 : ℕ) (e : Event M)
       (i : Input) (heard : Option H) (commands : List Command)
       (actions : List (Action M)) (ps : List (Put M)) → AreAt m t s o w x y u v n n' h h' →
-      (IsStart e → ⊥) → IsReadAs m t s (peer_at s w) e i heard → outcome n i (t.wins s) ≡ Moved commands n1 →
-      ((acts : List (Action M)) → AreSaid t s (peer_at s w) heard commands acts → acts ≡ actions) →
+      (IsStart e → ⊥) → IsReadAs m t s (peer_on s w) e i heard → machine_outcome n i (t.wins s) ≡ NodeMoved commands n1 →
+      ((acts : List (Action M)) → AreSaid t s (peer_on s w) heard commands acts → acts ≡ actions) →
       (awaits_cea n1.state ≡ true →
-      number_after (awaits_cea n1.state) (has_send_cer commands) (t.next_of (peer_at s w))
-      (t.awaited_of (peer_at s w)) ≡ Some h1) →
+      number_after (awaits_cea n1.state) (has_send_cer commands) (t.next_of (peer_on s w))
+      (t.awaited_of (peer_on s w)) ≡ Some h1) →
       (holds_cer n1.state ≡ true →
-      waiting_after n.state heard n1.state (t.waiting_of (peer_at s w)) ≡ Some (t.cer_header h')) →
+      waiting_after n.state heard n1.state (t.waiting_of (peer_on s w)) ≡ Some (t.cer_header h')) →
       IsTrue (t.is_number h1) → (holds_cer n'.state ≡ true → h1 ≡ h) →
-      option_map (stepped (concern_by e (conn x)) (is_held (tie_of n1 x)) x actions) u ≡ u1 →
-      option_map (stepped (concern_by e (conn y)) (is_held (tie_of n1 y)) y actions) v ≡ v1 →
+      option_map (stepped (concern_by e (conn x)) (is_tie_held (tie_of n1 x)) x actions) u ≡ u1 →
+      option_map (stepped (concern_by e (conn y)) (is_tie_held (tie_of n1 y)) y actions) v ≡ v1 →
       IsCalm e actions x y → names x y actions ≡ true → puts_at_entry s e w.links ≡ [] →
       puts_by o x y actions (option_map (entered (concern_by e (conn x))) u)
       (option_map (entered (concern_by e (conn y))) v) ≡ ps → Goes m t s o x y u1 v1 n1 n' h1 h' (tell m s e w) ps
   turn el s o pair w x y u v u1 v1 n n' n1 h h' h1 e i heard commands actions ps a no_start reads
       out said f g number still to_u to_v calm named at_entry puts =
-      let p = peer_at s w in
+      let p = peer_on s w in
       let r = replied el s p e i heard a.own.peer reads n a.own.node commands n1 out in
       let links = enter s e w.links in
       let at_x = entered_at s e x w.links no_start
@@ -134,5 +134,5 @@ module _ {P M C H : Type 0} (m : Peers P M) (t : Talks P M C H) where
       ∙ (puts_of_two s o pair actions links x y (option_map (entered (concern_by e (conn x))) u)
       (option_map (entered (concern_by e (conn y))) v) at_x at_y named ∙ puts) in
       told_at m t s o pair w x y u v u1 v1 n n' n1 h h' h1 e actions r.peer ps a no_start
-      (r.replies ∙ ap (λ (acts : List (Action M)). Acts acts r.peer) (said r.actions r.said))
+      (r.replies ∙ ap (λ (acts : List (Action M)). ActsBy acts r.peer) (said r.actions r.said))
       (stands_by s p e heard commands n n1 h1 h' a.own.node r f g number) still to_u to_v calm all

@@ -1,8 +1,8 @@
 -- What else happens keeps a link's standing sound: checked at every standing.
 use Rattle.std.proofs.Common.{◌≡◌, Bool, true, false, not, ◌&&◌, ◌||◌, List, [], ◌∷◌, refl}
-use Rattle.dm_two_peers.specs.Machine.{Concern, Elsewhere, EndsIt, HeardOnIt, Tie, Unheld}
-use Rattle.dm_two_peers.specs.Machine.{Connecting, MadeOpen, Taken, is_held}
-use Rattle.dm_two_peers.specs.Links.{LinkPhase, Pending}
+use Rattle.dm_two_peers.specs.Machine.{LinkConcern, Elsewhere, EndsLink, HeardOnLink, Tie, Unheld}
+use Rattle.dm_two_peers.specs.Machine.{Connecting, ConnectedOpen, AcceptedTie, is_tie_held}
+use Rattle.dm_two_peers.specs.Links.{LinkPhase, LinkPending}
 use Rattle.dm_two_peers.specs.Steps.{marked}
 use Rattle.dm_two_peers.specs.Facts.{Standing, turned_over, is_sound_standing, is_pending, is_up, is_fresh, is_open_end}
 use Rattle.dm_two_peers.specs.Facts.{is_shut, is_none, is_coming}
@@ -12,7 +12,7 @@ use Rattle.dm_two_peers.proofs.Every.{every_mark, every_standing}
 use Rattle.dm_two_peers.proofs.StandingSteps.{when, standing_after}
 
 -- what comes to a shut end
-abbrev pub standing_entered : Concern → Bool → Standing → Standing
+abbrev pub standing_entered : LinkConcern → Bool → Standing → Standing
 standing_entered k in_empty s =
     record {
       own_tie = s.own_tie;
@@ -26,14 +26,14 @@ standing_entered k in_empty s =
       out_mark = outgoing_mark_at k s.own s.out_mark;
     }
 
-abbrev pub spent_at : Bool → Concern → Standing → Bool
+abbrev pub spent_at : Bool → LinkConcern → Standing → Bool
 spent_at mine k s =
     when (is_up s.phase && is_shut s.own)
     (elim k [
-      | HeardOnIt ↦ when (not s.in_empty)
-          (every_bool (λ ie. is_sound_standing (turned_over mine (standing_entered HeardOnIt ie s))))
-      | EndsIt ↦ when (s.in_empty && is_coming s.in_mark)
-          (is_sound_standing (turned_over mine (standing_entered EndsIt s.in_empty s)))
+      | HeardOnLink ↦ when (not s.in_empty)
+          (every_bool (λ ie. is_sound_standing (turned_over mine (standing_entered HeardOnLink ie s))))
+      | EndsLink ↦ when (s.in_empty && is_coming s.in_mark)
+          (is_sound_standing (turned_over mine (standing_entered EndsLink s.in_empty s)))
       | _ ↦ true
     ])
 
@@ -72,7 +72,7 @@ lost_checked = refl
 
 -- a restart of one side
 abbrev pub closes_own : Bool → LinkPhase → Bool
-closes_own mine Pending = mine
+closes_own mine LinkPending = mine
 closes_own mine _ = true
 
 abbrev pub restart_is_sound : Standing → Bool
@@ -88,12 +88,12 @@ restarts_checked = refl
 
 -- what a sound standing has, from either side
 abbrev pub is_open_tie : Tie → Bool
-is_open_tie MadeOpen = true
-is_open_tie Taken = true
+is_open_tie ConnectedOpen = true
+is_open_tie AcceptedTie = true
 is_open_tie _ = false
 
 abbrev pub is_taken : Tie → Bool
-is_taken Taken = true
+is_taken AcceptedTie = true
 is_taken _ = false
 
 abbrev pub is_connecting : Tie → Bool
@@ -113,13 +113,13 @@ is_calm_standing s = s.in_empty && (s.out_empty && (not (is_coming s.in_mark) &&
 
 abbrev pub conclusions : Bool → Standing → List Bool
 conclusions mine s =
-    when (is_up s.phase) (same_bool (is_open_end s.own) (is_held s.own_tie))
-    ∷ when (is_held s.own_tie) (is_up s.phase || (is_pending s.phase && mine))
+    when (is_up s.phase) (same_bool (is_open_end s.own) (is_tie_held s.own_tie))
+    ∷ when (is_tie_held s.own_tie) (is_up s.phase || (is_pending s.phase && mine))
     ∷ when (is_open_tie s.own_tie) (is_up s.phase && (is_open_end s.other || is_coming s.in_mark))
-    ∷ when (is_held s.own_tie && is_held s.other_tie) (not (same_bool (is_taken s.own_tie) (is_taken s.other_tie)))
-    ∷ when (is_open_end s.other && is_up s.phase) (is_held s.other_tie)
+    ∷ when (is_tie_held s.own_tie && is_tie_held s.other_tie) (not (same_bool (is_taken s.own_tie) (is_taken s.other_tie)))
+    ∷ when (is_open_end s.other && is_up s.phase) (is_tie_held s.other_tie)
     ∷ when (is_up s.phase && is_fresh s.own) (not mine)
-    ∷ when (is_up s.phase && (is_held s.own_tie && is_calm_standing s)) (is_held s.other_tie)
+    ∷ when (is_up s.phase && (is_tie_held s.own_tie && is_calm_standing s)) (is_tie_held s.other_tie)
     ∷ when (not (is_up s.phase)) (s.in_empty && (s.out_empty && (is_none s.in_mark && is_none s.out_mark)))
     ∷ when (is_connecting s.own_tie) (is_pending s.phase)
     ∷ []

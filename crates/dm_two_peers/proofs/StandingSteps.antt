@@ -1,9 +1,9 @@
 -- A step of a peer keeps a link's standing sound: checked at every standing.
 use Rattle.std.proofs.Common.{◌≡◌, Bool, true, false, not, ◌&&◌, refl}
-use Rattle.dm_two_peers.specs.Machine.{Concern, Elsewhere, StartsIt, AcksIt, NacksIt, EndsIt, HeardOnIt, Tie, Unheld}
-use Rattle.dm_two_peers.specs.Machine.{Connecting, Made, MadeOpen, Taken, is_held}
+use Rattle.dm_two_peers.specs.Machine.{LinkConcern, Elsewhere, StartsLink, MakesLink, FailsLink, EndsLink, HeardOnLink, Tie, Unheld}
+use Rattle.dm_two_peers.specs.Machine.{Connecting, Connected, ConnectedOpen, AcceptedTie, is_tie_held}
 use Rattle.dm_two_peers.specs.Steps.{own_settled}
-use Rattle.dm_two_peers.specs.Worlds.{takes}
+use Rattle.dm_two_peers.specs.Worlds.{takes_more}
 use Rattle.dm_two_peers.specs.Facts.{Standing, turned_over, is_sound_standing, is_pending, is_up}
 use Rattle.dm_two_peers.specs.Facts.{is_shut, is_coming}
 use Rattle.dm_two_peers.proofs.Columns.{phase_at, own_at, other_at, incoming_mark_at, outgoing_mark_at, phase_after}
@@ -21,62 +21,62 @@ is_when false x h e = cc
 
 -- the changes that a step of the peer may make to a link: how the event concerns it, how the node held and holds it,
 -- whether it is closed, and whether something is sent on it
-abbrev pub is_allowed : Concern → Tie → Tie → Bool → Bool → Bool
+abbrev pub is_allowed : LinkConcern → Tie → Tie → Bool → Bool → Bool
 is_allowed Elsewhere Unheld Unheld false sent = not sent
 is_allowed Elsewhere Connecting Connecting false sent = not sent
 is_allowed Elsewhere Connecting Unheld true sent = not sent
-is_allowed Elsewhere Made Made false sent = true
-is_allowed Elsewhere Made Unheld true sent = true
-is_allowed Elsewhere MadeOpen MadeOpen false sent = true
-is_allowed Elsewhere MadeOpen Made false sent = true
-is_allowed Elsewhere MadeOpen Unheld true sent = true
-is_allowed Elsewhere Taken Taken false sent = true
-is_allowed Elsewhere Taken Unheld true sent = true
-is_allowed StartsIt Unheld Connecting false sent = not sent
-is_allowed AcksIt Connecting Made false sent = sent
-is_allowed AcksIt Connecting Unheld true sent = true
-is_allowed NacksIt Connecting Unheld false sent = not sent
-is_allowed EndsIt Unheld Unheld false sent = not sent
-is_allowed EndsIt Made Unheld true sent = true
-is_allowed EndsIt MadeOpen Unheld true sent = true
-is_allowed EndsIt Taken Unheld true sent = true
-is_allowed HeardOnIt Unheld Taken false sent = true
-is_allowed HeardOnIt Unheld Unheld true sent = true
-is_allowed HeardOnIt Made Made false sent = true
-is_allowed HeardOnIt Made MadeOpen false sent = true
-is_allowed HeardOnIt Made Unheld true sent = true
-is_allowed HeardOnIt MadeOpen MadeOpen false sent = true
-is_allowed HeardOnIt MadeOpen Made false sent = true
-is_allowed HeardOnIt MadeOpen Unheld true sent = true
-is_allowed HeardOnIt Taken Taken false sent = true
-is_allowed HeardOnIt Taken Unheld true sent = true
+is_allowed Elsewhere Connected Connected false sent = true
+is_allowed Elsewhere Connected Unheld true sent = true
+is_allowed Elsewhere ConnectedOpen ConnectedOpen false sent = true
+is_allowed Elsewhere ConnectedOpen Connected false sent = true
+is_allowed Elsewhere ConnectedOpen Unheld true sent = true
+is_allowed Elsewhere AcceptedTie AcceptedTie false sent = true
+is_allowed Elsewhere AcceptedTie Unheld true sent = true
+is_allowed StartsLink Unheld Connecting false sent = not sent
+is_allowed MakesLink Connecting Connected false sent = sent
+is_allowed MakesLink Connecting Unheld true sent = true
+is_allowed FailsLink Connecting Unheld false sent = not sent
+is_allowed EndsLink Unheld Unheld false sent = not sent
+is_allowed EndsLink Connected Unheld true sent = true
+is_allowed EndsLink ConnectedOpen Unheld true sent = true
+is_allowed EndsLink AcceptedTie Unheld true sent = true
+is_allowed HeardOnLink Unheld AcceptedTie false sent = true
+is_allowed HeardOnLink Unheld Unheld true sent = true
+is_allowed HeardOnLink Connected Connected false sent = true
+is_allowed HeardOnLink Connected ConnectedOpen false sent = true
+is_allowed HeardOnLink Connected Unheld true sent = true
+is_allowed HeardOnLink ConnectedOpen ConnectedOpen false sent = true
+is_allowed HeardOnLink ConnectedOpen Connected false sent = true
+is_allowed HeardOnLink ConnectedOpen Unheld true sent = true
+is_allowed HeardOnLink AcceptedTie AcceptedTie false sent = true
+is_allowed HeardOnLink AcceptedTie Unheld true sent = true
 is_allowed _ _ _ _ _ = false
 
 -- what the world hands over: an Ack and a Nack of a pending link, a message and an end of one that is up
-abbrev pub is_ready : Concern → Tie → Bool
+abbrev pub is_ready : LinkConcern → Tie → Bool
 is_ready Elsewhere _ = true
-is_ready StartsIt Unheld = true
-is_ready AcksIt Connecting = true
-is_ready NacksIt Connecting = true
-is_ready HeardOnIt Connecting = false
-is_ready HeardOnIt _ = true
-is_ready EndsIt Connecting = false
-is_ready EndsIt _ = true
+is_ready StartsLink Unheld = true
+is_ready MakesLink Connecting = true
+is_ready FailsLink Connecting = true
+is_ready HeardOnLink Connecting = false
+is_ready HeardOnLink _ = true
+is_ready EndsLink Connecting = false
+is_ready EndsLink _ = true
 is_ready _ _ = false
 
 -- what the world looked at
-abbrev pub is_handed : Bool → Concern → Standing → Bool
+abbrev pub is_handed : Bool → LinkConcern → Standing → Bool
 is_handed mine Elsewhere s = true
-is_handed mine StartsIt s = false
-is_handed mine AcksIt s = mine && is_pending s.phase
-is_handed mine NacksIt s = mine && is_pending s.phase
-is_handed mine EndsIt s = is_up s.phase && not (is_shut s.own) && s.in_empty && is_coming s.in_mark
-is_handed mine HeardOnIt s = is_up s.phase && not (is_shut s.own) && not s.in_empty
+is_handed mine StartsLink s = false
+is_handed mine MakesLink s = mine && is_pending s.phase
+is_handed mine FailsLink s = mine && is_pending s.phase
+is_handed mine EndsLink s = is_up s.phase && not (is_shut s.own) && s.in_empty && is_coming s.in_mark
+is_handed mine HeardOnLink s = is_up s.phase && not (is_shut s.own) && not s.in_empty
 
 -- whether the lists may be empty afterwards: the incoming one loses its front, the outgoing one takes what is sent,
 -- which is something unless a Close came before it
-abbrev pub after_pop : Concern → Bool → (Bool → Bool) → Bool
-after_pop HeardOnIt empty f = every_bool f
+abbrev pub after_pop : LinkConcern → Bool → (Bool → Bool) → Bool
+after_pop HeardOnLink empty f = every_bool f
 after_pop k empty f = f empty
 
 abbrev pub after_put : Bool → Bool → Bool → (Bool → Bool) → Bool
@@ -84,13 +84,13 @@ after_put true true empty f = every_bool f
 after_put true false empty f = f false
 after_put false closed empty f = f empty
 
-abbrev pub standing_after : Concern → Tie → Bool → Bool → Bool → Standing → Standing
+abbrev pub standing_after : LinkConcern → Tie → Bool → Bool → Bool → Standing → Standing
 standing_after k t closed in_empty out_empty s =
     record {
       own_tie = t;
       other_tie = s.other_tie;
       phase = phase_after closed (phase_at k s.phase);
-      own = own_settled k (is_held t) (own_after closed (phase_at k s.phase) (own_at k s.own));
+      own = own_settled k (is_tie_held t) (own_after closed (phase_at k s.phase) (own_at k s.own));
       other = other_at k s.other;
       in_empty = in_empty;
       out_empty = out_empty;
@@ -98,17 +98,17 @@ standing_after k t closed in_empty out_empty s =
       out_mark = mark_after closed (phase_at k s.phase) (outgoing_mark_at k s.own s.out_mark);
     }
 
-abbrev pub puts_in : Concern → Bool → Standing → Bool
-puts_in k sent s = sent && takes (phase_at k s.phase) (outgoing_mark_at k s.own s.out_mark)
+abbrev pub puts_in : LinkConcern → Bool → Standing → Bool
+puts_in k sent s = sent && takes_more (phase_at k s.phase) (outgoing_mark_at k s.own s.out_mark)
 
-abbrev pub step_to : Bool → Concern → Standing → Tie → Bool → Bool → Bool
+abbrev pub step_to : Bool → LinkConcern → Standing → Tie → Bool → Bool → Bool
 step_to mine k s t closed sent =
     when (is_allowed k s.own_tie t closed sent)
     (after_pop k s.in_empty
     (λ ie. after_put (puts_in k sent s) closed s.out_empty
     (λ oe. is_sound_standing (turned_over mine (standing_after k t closed ie oe s)))))
 
-abbrev pub step_by : Bool → Concern → Standing → Bool
+abbrev pub step_by : Bool → LinkConcern → Standing → Bool
 step_by mine k s =
     when (is_handed mine k s)
     (is_ready k s.own_tie && every_tie

@@ -4,11 +4,11 @@ use Rattle.std.proofs.Common.{map, slice_get, refl, sym, ap, subst, ◌∙◌, a
 use Rattle.std.proofs.Common.{length-append}
 use Rattle.std.proofs.lemmas.Bool.Decides.{nat_tests}
 use Rattle.std.proofs.lemmas.Option.{slice_get_within}
-use Rattle.dm_two_peers.specs.Machine.{conn, Node, Concern, Elsewhere, StartsIt, Tie}
-use Rattle.dm_two_peers.specs.Machine.{Unheld, Connecting, Made, MadeOpen, Taken, tie_of, is_held}
+use Rattle.dm_two_peers.specs.Machine.{conn, Node, LinkConcern, Elsewhere, StartsLink, Tie}
+use Rattle.dm_two_peers.specs.Machine.{Unheld, Connecting, Connected, ConnectedOpen, AcceptedTie, tie_of, is_tie_held}
 use Rattle.dm_two_peers.specs.Links.{Side, A, B, opens}
 use Rattle.dm_two_peers.specs.Links.{Link, view_of, link_of, by_side, new_link}
-use Rattle.dm_two_peers.specs.Peers.{Event, Start, Action, deed_of, closes_at, sends_at, concern_by}
+use Rattle.dm_two_peers.specs.Peers.{Event, StartEvent, Action, deed_in, closes_at, sends_at, concern_by}
 use Rattle.dm_two_peers.specs.Worlds.{perform}
 use Rattle.dm_two_peers.specs.Facts.{standing_of, IsSoundView, IsSoundLink}
 use Rattle.dm_two_peers.specs.Facts.{AreSound}
@@ -22,19 +22,19 @@ use Rattle.dm_two_peers.proofs.Stepped.{performed_at, length-perform}
 use Rattle.dm_two_peers.proofs.Keeps.{link_keeps, unheld_later}
 
 -- a Start makes the next link
-start_connects : (t : Tie) (closed sent : Bool) → is_allowed StartsIt Unheld t closed sent ≡ true →
+start_connects : (t : Tie) (closed sent : Bool) → is_allowed StartsLink Unheld t closed sent ≡ true →
     (t ≡ Connecting) × (closed ≡ false) × (sent ≡ false)
 start_connects Connecting false false h = (refl, refl, refl)
 start_connects Connecting false true h = cc
 start_connects Connecting true sent h = cc
 start_connects Unheld true sent h = cc
 start_connects Unheld false sent h = cc
-start_connects Made true sent h = cc
-start_connects Made false sent h = cc
-start_connects MadeOpen true sent h = cc
-start_connects MadeOpen false sent h = cc
-start_connects Taken true sent h = cc
-start_connects Taken false sent h = cc
+start_connects Connected true sent h = cc
+start_connects Connected false sent h = cc
+start_connects ConnectedOpen true sent h = cc
+start_connects ConnectedOpen false sent h = cc
+start_connects AcceptedTie true sent h = cc
+start_connects AcceptedTie false sent h = cc
 
 new_sound : (M : Type 0) (s : Side) (own other : Tie) → own ≡ Connecting → other ≡ Unheld →
     IsSoundView {M = M} (opens s s) own other (view_of (opens s s) (new_link s))
@@ -48,10 +48,10 @@ new_acted A false words h = refl
 new_acted B true words h = cc
 new_acted B false words h = refl
 
-pub start_at : (c d : ℕ) → (d ≡ c → ⊥) → concern_by {M = ℕ} (Start (conn c)) (conn d) ≡ Elsewhere
+pub start_at : (c d : ℕ) → (d ≡ c → ⊥) → concern_by {M = ℕ} (StartEvent (conn c)) (conn d) ≡ Elsewhere
 start_at c d h = grind (arith, nat_tests)
 
-start_here : (c : ℕ) → concern_by {M = ℕ} (Start (conn c)) (conn c) ≡ StartsIt
+start_here : (c : ℕ) → concern_by {M = ℕ} (StartEvent (conn c)) (conn c) ≡ StartsLink
 start_here c = grind (arith, nat_tests)
 
 pub appended_at : {X : Type 0} (xs : List X) (y : X) (c : ℕ) (x : X) → slice_get (xs ++ y ∷ []) c ≡ Some x →
@@ -63,19 +63,19 @@ appended_at (z ∷ xs) y (suc c) x h = elim (appended_at xs y c x h) [ inl e ↦
 
 pub start_keeps : {M : Type 0} (s : Side) (own own' other : Node) (actions : List (Action M))
     (links : List (Link M)) →
-    AreSound s own other links → KeepsTies own (Start (conn (length links))) actions own' →
+    AreSound s own other links → KeepsTies own (StartEvent (conn (length links))) actions own' →
     AreSound s own' other (perform s actions (links ++ new_link s ∷ []))
 start_keeps {M} s own own' other actions links good ties =
     let c0 = length links in
-    let e : Event M = Start (conn c0) in
+    let e : Event M = StartEvent (conn c0) in
     let made = links ++ new_link s ∷ [] in
     let len : length (perform s actions made) ≡ c0 + 1 = omega
     (arith, length-perform s actions made, length-append links (new_link s ∷ [])) in
-    let closed = closes_at c0 (map deed_of actions) in
-    let sent = sends_at c0 (map deed_of actions) in
-    let F : Concern → Tie → Type 0 = λ x t. is_ready x t ≡ true →
+    let closed = closes_at c0 (map deed_in actions) in
+    let sent = sends_at c0 (map deed_in actions) in
+    let F : LinkConcern → Tie → Type 0 = λ x t. is_ready x t ≡ true →
     is_allowed x t (tie_of own' c0) closed sent ≡ true in
-    let law : F StartsIt Unheld = subst (λ t. F StartsIt t) (good.own_later c0 (omega arith))
+    let law : F StartsLink Unheld = subst (λ t. F StartsLink t) (good.own_later c0 (omega arith))
     (subst (λ x. F x (tie_of own c0)) (start_here c0) (ties.changes c0)) in
     let new = start_connects (tie_of own' c0) closed sent (law refl) in
     record {
@@ -90,8 +90,8 @@ start_keeps {M} s own own' other actions links good ties =
                 let k : concern_by e (conn c) ≡ Elsewhere = start_at c0 c
                 (λ (q : c ≡ c0). absurd (omega (arith, lt, q))) in
                 let mine = opens s old.0.opener in
-                let G : Concern → Type 0 = λ x. IsSoundLink s own' other c
-                (by_side s (stepped x (is_held (tie_of own' c)) c actions) old.0) in
+                let G : LinkConcern → Type 0 = λ x. IsSoundLink s own' other c
+                (by_side s (stepped x (is_tie_held (tie_of own' c)) c actions) old.0) in
                 let handed : is_handed mine (concern_by e (conn c))
                 (standing_of (tie_of own c) (tie_of other c) (view_of mine old.0)) ≡ true = rw k refl in
                 let kept = subst G k

@@ -7,12 +7,12 @@ use Rattle.std.proofs.lemmas.Option.{slice_get_within}
 use Rattle.dm_machine.specs.declared.inputs.Input.TheVariants as input
 use Rattle.dm_machine.specs.declared.outputs.Command.TheVariants as command
 use Rattle.dm_machine.specs.declared.outputs.Refusal.TheVariants.{NotClosed}
-use Rattle.dm_machine.specs.Moves.{Outcome, Refused}
-use Rattle.dm_two_peers.specs.Machine.{conn, Node, outcome, closed_node}
+use Rattle.dm_machine.specs.Moves.{NodeOutcome, NodeRefused}
+use Rattle.dm_two_peers.specs.Machine.{conn, Node, machine_outcome, closed_node}
 use Rattle.dm_two_peers.specs.Links.{Side, A, B, Coming, Delivered, Link, View, link_of, by_side, new_link}
-use Rattle.dm_two_peers.specs.Peers.{Event, Start, Gone, Action, Connect, Acts, Declines, Peers, concern_by}
+use Rattle.dm_two_peers.specs.Peers.{Event, StartEvent, GoneEvent, Action, Connect, ActsBy, Declines, Peers, concern_by}
 use Rattle.dm_two_peers.specs.Steps.{entered}
-use Rattle.dm_two_peers.specs.Worlds.{World, peer_at, with_peer, with_links, enter, Ignored, after_reply, tell, after_drop}
+use Rattle.dm_two_peers.specs.Worlds.{World, peer_on, with_peer, with_links, enter, Ignored, after_reply, tell, after_drop}
 use Rattle.dm_two_peers.specs.Quiet.{is_quiet_link}
 use Rattle.dm_two_peers.specs.Electing.{Talks, reads_start, RepliesAs, IsElecting}
 use Rattle.dm_two_peers.proofs.Stepped.{IsStart, entered_at}
@@ -40,7 +40,7 @@ appended_before (x ∷ xs) z zero o h = h
 appended_before (x ∷ xs) z (suc c) o h = appended_before xs z c o h
 
 pub same_peers : {P M : Type 0} (s : Side) (links : List (Link M)) (w : World P M) →
-    peer_at s w ≡ peer_at s (with_links links w)
+    peer_on s w ≡ peer_on s (with_links links w)
 same_peers A links w = refl
 same_peers B links w = refl
 
@@ -82,46 +82,46 @@ module _ {P M C H : Type 0} (m : Peers P M) (t : Talks P M C H) where
       (w : World P M) (x y j k : ℕ) (v : Option (View M)) (n n' : Node) (h h' : ℕ) (mark : _) →
       AreAt m t s o w x y (own_at m t s o (Parted Coming mark) h j k) v n n' h h' →
       Goes m t s o x y (own_at m t s o (Parted Delivered mark) h j k) v n n' h h'
-      (after_drop s (Gone (conn x)) w) []
+      (after_drop s (GoneEvent (conn x)) w) []
   shut_own s o pair w x y j k v n n' h h' mark a =
       let xx = itself x in
       let xy = a.apart in
       dropped_at s o pair w x y (own_at m t s o (Parted Coming mark) h j k) v
-      (own_at m t s o (Parted Delivered mark) h j k) v n n' h h' (Gone (conn x)) a (λ q. elim q [ ])
+      (own_at m t s o (Parted Delivered mark) h j k) v n n' h h' (GoneEvent (conn x)) a (λ q. elim q [ ])
       (simp (xx)) (unnamed _ v (λ z. simp (xy))) (λ d z hx hy. simp (hx))
 
   pub shut_other : (s o : Side) → IsPair s o →
       (w : World P M) (x y j k : ℕ) (u : Option (View M)) (n n' : Node) (h h' : ℕ) (mark : _) →
       AreAt m t s o w x y u (option_map mirror (own_at m t o s (Parted mark Coming) h' j k)) n n' h h' →
       Goes m t s o x y u (option_map mirror (own_at m t o s (Parted mark Delivered) h' j k)) n n' h h'
-      (after_drop s (Gone (conn y)) w) []
+      (after_drop s (GoneEvent (conn y)) w) []
   shut_other s o pair w x y j k u n n' h h' mark a =
       let yy = itself y in
       let yx = not_same x y a.apart in
       dropped_at s o pair w x y u (option_map mirror (own_at m t o s (Parted mark Coming) h' j k)) u
-      (option_map mirror (own_at m t o s (Parted mark Delivered) h' j k)) n n' h h' (Gone (conn y)) a
+      (option_map mirror (own_at m t o s (Parted mark Delivered) h' j k)) n n' h h' (GoneEvent (conn y)) a
       (λ q. elim q [ ]) (unnamed _ u (λ z. simp (yx))) (simp (yy)) (λ d z hx hy. simp (hy))
 
   -- a Start of a closed peer
   start_of : IsElecting m t → (s o : Side) → IsPair s o →
       (w : World P M) (y : ℕ) (v : Option (View M)) (n' : Node) (h h' : ℕ) →
-      Stands m t s (peer_at s w) closed_node h h' → Stands m t o (peer_at o w) n' h' h →
+      Stands m t s (peer_on s w) closed_node h h' → Stands m t o (peer_on o w) n' h' h →
       slice_get (w.links ++ new_link s ∷ []) y ≡ option_map (link_of false o) v → (length w.links == y) ≡ false →
       ((d : ℕ) (l : Link M) → slice_get w.links d ≡ Some l → (y == d) ≡ false → is_quiet_link l ≡ true) →
       Goes m t s o (length w.links) y (own_at m t s o Dialled h 0 0) v (wait_conn_ack (length w.links)) n' h h'
-      (tell m s (Start (conn (length w.links))) w) []
+      (tell m s (StartEvent (conn (length w.links))) w) []
   start_of el s o pair w y v n' h h' own other at_y apart others =
       let x = length w.links in
-      let p = peer_at s w in
-      let e : Event M = Start (conn x) in
+      let p = peer_on s w in
+      let e : Event M = StartEvent (conn x) in
       let r = replied m t el s p e (input.Start (conn x)) None own.peer (reads_start (conn x)) closed_node own.node
       (command.Connect (conn x) ∷ []) (wait_conn_ack x) (out_start x (t.wins s)) in
       let act : Action M = Connect (conn x) in
       let said = one_said m t s p None (command.Connect (conn x)) act r.actions (λ b q. q) r.said in
       let links = w.links ++ new_link s ∷ [] in
       let w1 = with_peer s r.peer links w in
-      let reply : m.reply p e ≡ Acts (act ∷ []) r.peer = r.replies
-      ∙ ap (λ (acts : List (Action M)). Acts acts r.peer) said in
+      let reply : m.reply p e ≡ ActsBy (act ∷ []) r.peer = r.replies
+      ∙ ap (λ (acts : List (Action M)). ActsBy acts r.peer) said in
       let stands = stands_by m t s p e None (command.Connect (conn x) ∷ []) closed_node
       (wait_conn_ack x) h h' own.node r (λ b. cc) (λ b. cc) own.number in
       record {
@@ -153,7 +153,7 @@ module _ {P M C H : Type 0} (m : Peers P M) (t : Talks P M C H) where
   pub start_first : IsElecting m t → (s o : Side) → IsPair s o → (w : World P M) (x y : ℕ) (n' : Node) (h h' : ℕ) →
       AreAt m t s o w x y None None closed_node n' h h' →
       Goes m t s o (length w.links) (suc (length w.links)) (own_at m t s o Dialled h 0 0) None
-      (wait_conn_ack (length w.links)) n' h h' (tell m s (Start (conn (length w.links))) w) []
+      (wait_conn_ack (length w.links)) n' h h' (tell m s (StartEvent (conn (length w.links))) w) []
   start_first el s o pair w x y n' h h' a =
       start_of el s o pair w (suc (length w.links)) None n' h h' a.own a.other (appended_past w.links (new_link s))
       (ne_eqb _ _ (λ e. absurd (omega (arith, e))))
@@ -163,7 +163,7 @@ module _ {P M C H : Type 0} (m : Peers P M) (t : Talks P M C H) where
       (w : World P M) (x y : ℕ) (z : View M) (n' : Node) (h h' : ℕ) →
       AreAt m t s o w x y None (Some z) closed_node n' h h' →
       Goes m t s o (length w.links) y (own_at m t s o Dialled h 0 0) (Some z)
-      (wait_conn_ack (length w.links)) n' h h' (tell m s (Start (conn (length w.links))) w) []
+      (wait_conn_ack (length w.links)) n' h h' (tell m s (StartEvent (conn (length w.links))) w) []
   start_second el s o pair w x y z n' h h' a =
       let within = slice_get_within w.links y (link_of false o z) a.at_y in
       start_of el s o pair w y (Some z) n' h h' a.own a.other
@@ -173,14 +173,14 @@ module _ {P M C H : Type 0} (m : Peers P M) (t : Talks P M C H) where
 
   -- a Start of any other peer is declined
   pub start_declined : IsElecting m t → (s : Side) (w : World P M) (n : Node) (h h' : ℕ) →
-      Stands m t s (peer_at s w) n h h' →
-      outcome n (input.Start (conn (length w.links))) (t.wins s) ≡ Refused NotClosed →
-      tell m s (Start (conn (length w.links))) w ≡ Ignored
+      Stands m t s (peer_on s w) n h h' →
+      machine_outcome n (input.Start (conn (length w.links))) (t.wins s) ≡ NodeRefused NotClosed →
+      tell m s (StartEvent (conn (length w.links))) w ≡ Ignored
   start_declined el s w n h h' own out =
-      let p = peer_at s w in
-      let e : Event M = Start (conn (length w.links)) in
+      let p = peer_on s w in
+      let e : Event M = StartEvent (conn (length w.links)) in
       let declined : m.reply p e ≡ Declines =
-      subst (λ (o : Outcome). RepliesAs m t s p None o (m.reply p e))
-      (ap (λ (k : Node). outcome k (input.Start (conn (length w.links))) (t.wins s)) own.node ∙ out)
+      subst (λ (o : NodeOutcome). RepliesAs m t s p None o (m.reply p e))
+      (ap (λ (k : Node). machine_outcome k (input.Start (conn (length w.links))) (t.wins s)) own.node ∙ out)
       (el.replies s p e (input.Start (conn (length w.links))) None own.peer (reads_start (conn (length w.links)))) in
       ap (λ q. after_reply m s e w q) declined

@@ -4,7 +4,7 @@ use Rattle.std.proofs.Common.{refl}
 use Rattle.std.specs.Prelude.{option_map}
 use Rattle.dm_two_peers.specs.Links.{Side, opens}
 use Rattle.dm_two_peers.specs.Peers.{Peers}
-use Rattle.dm_two_peers.specs.Worlds.{World, peer_at}
+use Rattle.dm_two_peers.specs.Worlds.{World, peer_on}
 use Rattle.dm_two_peers.specs.Electing.{Talks, IsElecting}
 use Rattle.dm_two_peers.proofs.Pairs.{IsPair, ab, ba, swapped, mirror}
 use Rattle.dm_two_peers.proofs.Acting.{own_at, acks_plain, acks_lose, acks_win}
@@ -29,7 +29,7 @@ module _ {P M C H : Type 0} (m : Peers P M) (t : Talks P M C H) where
       Went m t g l k x y q.h q.h' 1 (acked m g x w (own_at m t g l (stage_g k) q.h q.i q.j)) [] []
   ack_g el g l pair wins loses w C1 x y q = idle_ack m t g l C1 x y g l x w (stage_g C1) q.h q.i q.j refl
   ack_g el g l pair wins loses w C2 x y q =
-      went_own m t g l C2 C4 x y (t.next_of (peer_at g w)) q.h' q.i q.j q.i' q.j' as_before _ _
+      went_own m t g l C2 C4 x y (t.next_of (peer_on g w)) q.h' q.i q.j q.i' q.j' as_before _ _
       (acks_plain m t el g l pair w x y q.i q.j
       (option_map mirror (own_at m t l g (stage_l C2) q.h' q.i' q.j')) (node_l C2 x y) q.h q.h' q.at refl)
       refl refl refl refl refl
@@ -41,19 +41,19 @@ module _ {P M C H : Type 0} (m : Peers P M) (t : Talks P M C H) where
   ack_g el g l pair wins loses w C8 x y q = idle_ack m t g l C8 x y g l x w (stage_g C8) q.h q.i q.j refl
   ack_g el g l pair wins loses w C9 x y q = idle_ack m t g l C9 x y g l x w (stage_g C9) q.h q.i q.j refl
   ack_g el g l pair wins loses w C10 x y q =
-      went_own m t g l C10 C11 x y (t.next_of (peer_at g w)) q.h' q.i q.j q.i' q.j' as_before _ _
+      went_own m t g l C10 C11 x y (t.next_of (peer_on g w)) q.h' q.i q.j q.i' q.j' as_before _ _
       (acks_plain m t el g l pair w x y q.i q.j
       (option_map mirror (own_at m t l g (stage_l C10) q.h' q.i' q.j')) (node_l C10 x y) q.h q.h' q.at refl)
       refl refl refl refl refl
   ack_g el g l pair wins loses w C11 x y q = idle_ack m t g l C11 x y g l x w (stage_g C11) q.h q.i q.j refl
   ack_g el g l pair wins loses w C12 x y q =
-      went_own m t g l C12 C15 x y (t.next_of (peer_at g w)) q.h' q.i q.j q.i' q.j' other_first _ _
+      went_own m t g l C12 C15 x y (t.next_of (peer_on g w)) q.h' q.i q.j q.i' q.j' other_first _ _
       (acks_plain m t el g l pair w x y q.i q.j
       (option_map mirror (own_at m t l g (stage_l C12) q.h' q.i' q.j')) (node_l C12 x y) q.h q.h' q.at refl)
       refl refl refl refl refl
   ack_g el g l pair wins loses w C13 x y q = idle_ack m t g l C13 x y g l x w (stage_g C13) q.h q.i q.j refl
   ack_g el g l pair wins loses w C14 x y q =
-      went_own m t g l C14 C17 x y (t.next_of (peer_at g w)) q.h' q.i q.j q.i' q.j' other_first _ _
+      went_own m t g l C14 C17 x y (t.next_of (peer_on g w)) q.h' q.i q.j q.i' q.j' other_first _ _
       (acks_win m t el g l pair wins w x y q.i q.j q.i' q.j' (node_l C14 x y) q.h q.h' q.at refl)
       refl refl refl refl refl
   ack_g el g l pair wins loses w C15 x y q = idle_ack m t g l C15 x y g l x w (stage_g C15) q.h q.i q.j refl
@@ -74,7 +74,7 @@ module _ {P M C H : Type 0} (m : Peers P M) (t : Talks P M C H) where
   ack_l el g l pair wins loses w C1 x y q = idle_ack m t g l C1 x y l g y w (stage_l C1) q.h' q.i' q.j' refl
   ack_l el g l pair wins loses w C2 x y q = idle_ack m t g l C2 x y l g y w (stage_l C2) q.h' q.i' q.j' refl
   ack_l el g l pair wins loses w C3 x y q =
-      went_other m t g l C3 C5 x y q.h (t.next_of (peer_at l w)) q.i q.j q.i' q.j' as_before _ _
+      went_other m t g l C3 C5 x y q.h (t.next_of (peer_on l w)) q.i q.j q.i' q.j' as_before _ _
       (acks_plain m t el l g (swapped pair) w y x q.i' q.j'
       (option_map mirror (own_at m t g l (stage_g C3) q.h q.i q.j)) (node_g C3 x y) q.h' q.h
       (flip_in m t g l w C3 x y q) refl) refl refl refl refl refl
@@ -85,18 +85,18 @@ module _ {P M C H : Type 0} (m : Peers P M) (t : Talks P M C H) where
   ack_l el g l pair wins loses w C8 x y q = idle_ack m t g l C8 x y l g y w (stage_l C8) q.h' q.i' q.j' refl
   ack_l el g l pair wins loses w C9 x y q = idle_ack m t g l C9 x y l g y w (stage_l C9) q.h' q.i' q.j' refl
   ack_l el g l pair wins loses w C10 x y q =
-      went_other m t g l C10 C12 x y q.h (t.next_of (peer_at l w)) q.i q.j q.i' q.j' as_before _ _
+      went_other m t g l C10 C12 x y q.h (t.next_of (peer_on l w)) q.i q.j q.i' q.j' as_before _ _
       (acks_plain m t el l g (swapped pair) w y x q.i' q.j'
       (option_map mirror (own_at m t g l (stage_g C10) q.h q.i q.j)) (node_g C10 x y) q.h' q.h
       (flip_in m t g l w C10 x y q) refl) refl refl refl refl refl
   ack_l el g l pair wins loses w C11 x y q =
-      went_other m t g l C11 C15 x y q.h (t.next_of (peer_at l w)) q.i q.j q.i' q.j' greater_first _ _
+      went_other m t g l C11 C15 x y q.h (t.next_of (peer_on l w)) q.i q.j q.i' q.j' greater_first _ _
       (acks_plain m t el l g (swapped pair) w y x q.i' q.j'
       (option_map mirror (own_at m t g l (stage_g C11) q.h q.i q.j)) (node_g C11 x y) q.h' q.h
       (flip_in m t g l w C11 x y q) refl) refl refl refl refl refl
   ack_l el g l pair wins loses w C12 x y q = idle_ack m t g l C12 x y l g y w (stage_l C12) q.h' q.i' q.j' refl
   ack_l el g l pair wins loses w C13 x y q =
-      went_other m t g l C13 C16 x y q.h (t.next_of (peer_at l w)) q.i q.j q.i' q.j' greater_first _ _
+      went_other m t g l C13 C16 x y q.h (t.next_of (peer_on l w)) q.i q.j q.i' q.j' greater_first _ _
       (acks_lose m t el l g (swapped pair) loses w y x q.i' q.j'
       (option_map mirror (own_at m t g l (stage_g C13) q.h q.i q.j)) (node_g C13 x y) q.h' q.h
       (flip_in m t g l w C13 x y q) refl) refl refl refl refl refl

@@ -5,7 +5,7 @@ use Rattle.std.specs.Prelude.{option_map}
 use Rattle.std.proofs.lemmas.Bool.{leb-true}
 use Rattle.dm_two_peers.specs.Machine.{conn}
 use Rattle.dm_two_peers.specs.Links.{Side, opens}
-use Rattle.dm_two_peers.specs.Peers.{Start, Peers}
+use Rattle.dm_two_peers.specs.Peers.{StartEvent, Peers}
 use Rattle.dm_two_peers.specs.Worlds.{World, After, Ignored, tell}
 use Rattle.dm_two_peers.specs.Happens.{Starts}
 use Rattle.dm_two_peers.specs.Quiet.{makes}
@@ -88,7 +88,7 @@ module _ {P M C H : Type 0} (m : Peers P M) (t : Talks P M C H) where
       ∙ (one_made (opens l l) n n (self_opens l g (swapped pair)) refl ∙ sym e5)))
 
   pub start_g : IsElecting m t → (g l : Side) → IsPair g l → (w : World P M) (k : Phase) (x y : ℕ) →
-      (q : InPhase m t g l w k x y) → MadeBy g l g k x y q.h q.h' w (tell m g (Start (conn (length w.links))) w)
+      (q : InPhase m t g l w k x y) → MadeBy g l g k x y q.h q.h' w (tell m g (StartEvent (conn (length w.links))) w)
   start_g el g l pair w C1 x y q = started_g g l pair C1 C2 x y (suc (length w.links)) w q.h q.h' 0 0 _
       (start_first m t el g l pair w x y (node_l C1 x y) q.h q.h' q.at) refl refl refl refl refl refl
   start_g el g l pair w C2 x y q = declined g l g C2 x y w _
@@ -142,7 +142,7 @@ module _ {P M C H : Type 0} (m : Peers P M) (t : Talks P M C H) where
       (start_declined m t el g w (node_g C25 x y) q.h q.h' q.at.own (out_start_r y (length w.links) (t.wins g)))
 
   pub start_l : IsElecting m t → (g l : Side) → IsPair g l → (w : World P M) (k : Phase) (x y : ℕ) →
-      (q : InPhase m t g l w k x y) → MadeBy g l l k x y q.h q.h' w (tell m l (Start (conn (length w.links))) w)
+      (q : InPhase m t g l w k x y) → MadeBy g l l k x y q.h q.h' w (tell m l (StartEvent (conn (length w.links))) w)
   start_l el g l pair w C1 x y q = started_l g l pair C1 C3 x y (suc (length w.links)) w q.h q.h' 0 0 _
       (start_first m t el l g (swapped pair) w y x (node_g C1 x y) q.h' q.h (flip_in m t g l w C1 x y q))
       refl refl refl refl refl refl

@@ -5,8 +5,8 @@ use Rattle.std.specs.Prelude.{is_none}
 use Rattle.dm_machine.specs.declared.outputs.Command.TheVariants as command
 use Rattle.dm_machine.specs.declared.state_name.State.{State}
 use Rattle.dm_machine.specs.Connection.{Hold, NotHeld, Made, hold_of}
-use Rattle.dm_machine.specs.Moves.{Outcome, Moved, Refused}
-use Rattle.dm_two_peers.specs.Machine.{Input, Command, outcome}
+use Rattle.dm_machine.specs.Moves.{NodeOutcome, NodeMoved, NodeRefused}
+use Rattle.dm_two_peers.specs.Machine.{Input, Command, machine_outcome}
 use Rattle.dm_two_peers.specs.Links.{Side}
 use Rattle.dm_two_peers.specs.Peers.{Event, Send}
 use Rattle.dm_machine.specs.Awaiting.{holds_cer, waiting_after}
@@ -45,10 +45,10 @@ stands_after from next heard old = stands_if (holds_cer next) (holds_cer from) h
     stands_if true c heard old = refl
     stands_if false c heard old = refl
 
-talks_by : (s : Side) (p : Talker) (heard : Option ℕ) (o : Outcome) → IsPeerOf talk_of_talkers s p →
+talks_by : (s : Side) (p : Talker) (heard : Option ℕ) (o : NodeOutcome) → IsPeerOf talk_of_talkers s p →
     RepliesAs talkers talk_of_talkers s p heard o (talk_by p heard o)
-talks_by s p heard (Refused r) is = refl
-talks_by s p heard (Moved commands n) is =
+talks_by s p heard (NodeRefused r) is = refl
+talks_by s p heard (NodeMoved commands n) is =
     record {
       actions = map (talker_action p heard) commands;
       peer = _;
@@ -63,17 +63,17 @@ talks_by s p heard (Moved commands n) is =
 -- the reply at an input that the event is read as
 replies_at : (s : Side) (p : Talker) (e : Event Note) (i : Input) (heard : Option ℕ) → IsPeerOf talk_of_talkers s p →
     talker_input p e ≡ i → talker_heard p e ≡ heard →
-    RepliesAs talkers talk_of_talkers s p heard (outcome p.node i (talk_of_talkers.wins s)) (talkers.reply p e)
+    RepliesAs talkers talk_of_talkers s p heard (machine_outcome p.node i (talk_of_talkers.wins s)) (talkers.reply p e)
 replies_at s p e i heard is at_i at_h =
-    subst (λ j. RepliesAs talkers talk_of_talkers s p heard (outcome p.node j (talk_of_talkers.wins s))
+    subst (λ j. RepliesAs talkers talk_of_talkers s p heard (machine_outcome p.node j (talk_of_talkers.wins s))
     (talkers.reply p e)) at_i
-    (subst (λ h. RepliesAs talkers talk_of_talkers s p h (outcome p.node (talker_input p e) (talk_of_talkers.wins s))
+    (subst (λ h. RepliesAs talkers talk_of_talkers s p h (machine_outcome p.node (talker_input p e) (talk_of_talkers.wins s))
     (talkers.reply p e))
     at_h
-    (subst (λ b. RepliesAs talkers talk_of_talkers s p (talker_heard p e) (outcome p.node (talker_input p e) b)
+    (subst (λ b. RepliesAs talkers talk_of_talkers s p (talker_heard p e) (machine_outcome p.node (talker_input p e) b)
     (talkers.reply p e))
     is.configured
-    (talks_by s p (talker_heard p e) (outcome p.node (talker_input p e) p.wins) is)))
+    (talks_by s p (talker_heard p e) (machine_outcome p.node (talker_input p e) p.wins) is)))
 
 unread_reads : (first : Bool) (h : Hold) → first ≡ true → (not first && is_unheld h) ≡ false
 unread_reads true h e = refl
@@ -98,7 +98,7 @@ if_false false x y e = refl
 talker_replies : (s : Side) (p : Talker) (e : Event Note) (i : Input) (heard : Option ℕ) →
     IsPeerOf talk_of_talkers s p →
     IsReadAs talkers talk_of_talkers s p e i heard →
-    RepliesAs talkers talk_of_talkers s p heard (outcome p.node i (talk_of_talkers.wins s)) (talkers.reply p e)
+    RepliesAs talkers talk_of_talkers s p heard (machine_outcome p.node i (talk_of_talkers.wins s)) (talkers.reply p e)
 talker_replies s p e i heard is (reads_start c) = replies_at s p e i heard is refl refl
 talker_replies s p e i heard is (reads_ack c) = replies_at s p e i heard is refl refl
 talker_replies s p e i heard is (reads_end c) = replies_at s p e i heard is refl refl

@@ -3,8 +3,8 @@ use Rattle.std.proofs.Common.{◌≡◌, Bool, true, false, not, ◌&&◌, if◌
 use Rattle.std.proofs.Common.{subst, ◌∙◌, append_assoc, append-nil}
 use Rattle.dm_machine.specs.Connection.{Hold}
 use Rattle.dm_machine.specs.Connection as hold
-use Rattle.dm_two_peers.specs.Machine.{HeardOnIt}
-use Rattle.dm_two_peers.specs.Links.{LinkPhase, Up, End, Fresh, Open, Shut, Mark}
+use Rattle.dm_two_peers.specs.Machine.{HeardOnLink}
+use Rattle.dm_two_peers.specs.Links.{LinkPhase, LinkUp, End, Fresh, Open, Shut, Mark}
 use Rattle.dm_two_peers.specs.Steps.{own_settled}
 use Rattle.dm_two_peers.specs.Facts.{is_up, is_open_end, is_shut}
 use Rattle.dm_two_peers.specs.Delivery.{apps, is_done_hold, is_unmade, HandsUpHeard}
@@ -20,7 +20,7 @@ module _ {M : Type 0} (is_app : M → Bool) (lost : Bool) where
   abbrev heard_up : Bool → Bool → M → List M
   heard_up app opened x = if app && opened then x ∷ [] else []
 
-  pub hears_now : (p : LinkPhase) (own : End) (before : Hold) → p ≡ Up → is_shut own ≡ false →
+  pub hears_now : (p : LinkPhase) (own : End) (before : Hold) → p ≡ LinkUp → is_shut own ≡ false →
       is_open_hold before ≡ true →
       may_hear p own (is_done_hold before) ≡ true
   hears_now p own before up unshut opened =
@@ -35,20 +35,20 @@ module _ {M : Type 0} (is_app : M → Bool) (lost : Bool) where
           by_hold _ e = cc
 
       at_own : (own : End) → is_shut own ≡ false → (h : Hold) → is_open_hold h ≡ true →
-          may_hear Up own (is_done_hold h) ≡ true
+          may_hear LinkUp own (is_done_hold h) ≡ true
       at_own Fresh u h e = refl
       at_own Open u h e = open_not_over h e
       at_own Shut u h e = cc
 
   own_hears : (b o : Bool) (closed holds : Bool) (own other : End) (before : Hold) (over' : Bool) (x : M) (xs : List M)
       (mark : Mark) (said up : List M) → is_app x ≡ b → is_open_hold before ≡ o → is_shut own ≡ false →
-      (is_up Up ≡ true → is_open_end own ≡ true → is_done_hold before ≡ true → over' ≡ true) →
+      (is_up LinkUp ≡ true → is_open_end own ≡ true → is_done_hold before ≡ true → over' ≡ true) →
       (b ≡ true → o ≡ false → over' ≡ true) →
-      Way is_app lost Up own other (x ∷ xs) mark (is_done_hold before) said up →
-      Way is_app lost (phase_after closed Up) (own_settled HeardOnIt holds (own_after closed Up own)) other xs mark
+      Way is_app lost LinkUp own other (x ∷ xs) mark (is_done_hold before) said up →
+      Way is_app lost (phase_after closed LinkUp) (own_settled HeardOnLink holds (own_after closed LinkUp own)) other xs mark
       over' said (up ++ (heard_up b o x))
   own_hears true true closed holds own other before over' x xs mark said up app opened unshut stays ends way =
-      let u = way.under (hears_now Up own before refl unshut opened) in
+      let u = way.under (hears_now LinkUp own before refl unshut opened) in
       let left = apps is_app xs ++ u.tail in
       let is : way.rest ≡ x ∷ left =
       u.is ∙ ap (λ b. (if b then x ∷ apps is_app xs else apps is_app xs) ++ u.tail) app in
@@ -67,18 +67,18 @@ module _ {M : Type 0} (is_app : M → Bool) (lost : Bool) where
       }
     where
       never : (closed holds : Bool) (own : End) (over' : Bool) → over' ≡ true →
-          may_hear (phase_after closed Up) (own_settled HeardOnIt holds (own_after closed Up own)) over' ≡ true → ⊥
+          may_hear (phase_after closed LinkUp) (own_settled HeardOnLink holds (own_after closed LinkUp own)) over' ≡ true → ⊥
       never closed holds own over' e h =
           let no = at_end _ (at_bool _ (at_bool _ ends_own_checked closed) holds) own in
-          let now = subst (λ o. may_hear (phase_after closed Up)
-          (own_settled HeardOnIt holds (own_after closed Up own)) o ≡ true) e h in
+          let now = subst (λ o. may_hear (phase_after closed LinkUp)
+          (own_settled HeardOnLink holds (own_after closed LinkUp own)) o ≡ true) e h in
           cc
   own_hears false o closed holds own other before over' x xs mark said up app opened unshut stays ends way =
       record {
         rest = way.rest;
         whole = way.whole ∙ ap (λ ys. ys ++ way.rest) (sym (append-nil up));
         under = λ h.
-            let u = way.under (hears_by_own HeardOnIt closed holds (is_done_hold before) over' Up own (λ e. cc) stays
+            let u = way.under (hears_by_own HeardOnLink closed holds (is_done_hold before) over' LinkUp own (λ e. cc) stays
             h) in
             record {
               tail = u.tail;
@@ -91,13 +91,13 @@ module _ {M : Type 0} (is_app : M → Bool) (lost : Bool) where
 
   pub own_heard : (closed holds : Bool) (own other : End) (before after : Hold) (x : M) (xs ups : List M)
       (mark : Mark) (said up : List M) → is_shut own ≡ false → is_unmade before ≡ false →
-      (is_up Up ≡ true → is_open_end own ≡ true → is_done_hold before ≡ true → is_done_hold after ≡ true) →
+      (is_up LinkUp ≡ true → is_open_end own ≡ true → is_done_hold before ≡ true → is_done_hold after ≡ true) →
       HandsUpHeard is_app before after x ups →
-      Way is_app lost Up own other (x ∷ xs) mark (is_done_hold before) said up →
-      Way is_app lost (phase_after closed Up) (own_settled HeardOnIt holds (own_after closed Up own)) other xs mark
+      Way is_app lost LinkUp own other (x ∷ xs) mark (is_done_hold before) said up →
+      Way is_app lost (phase_after closed LinkUp) (own_settled HeardOnLink holds (own_after closed LinkUp own)) other xs mark
       (is_done_hold after) said (up ++ ups)
   own_heard closed holds own other before after x xs ups mark said up unshut made stays heard way =
-      subst (λ ys. Way is_app lost (phase_after closed Up) (own_settled HeardOnIt holds (own_after closed Up own)) other
+      subst (λ ys. Way is_app lost (phase_after closed LinkUp) (own_settled HeardOnLink holds (own_after closed LinkUp own)) other
       xs mark (is_done_hold after) said (up ++ ys)) (sym heard.hands)
       (own_hears (is_app x) (is_open_hold before) closed holds own other before (is_done_hold after) x xs mark said up
       refl
@@ -105,6 +105,6 @@ module _ {M : Type 0} (is_app : M → Bool) (lost : Bool) where
 
   -- what comes to a shut end is dropped
   pub own_drops : (other : End) (x : M) (xs : List M) (mark : Mark) (over : Bool) (said up : List M) →
-      Way is_app lost Up Shut other (x ∷ xs) mark over said up → Way is_app lost Up Shut other xs mark over said up
+      Way is_app lost LinkUp Shut other (x ∷ xs) mark over said up → Way is_app lost LinkUp Shut other xs mark over said up
   own_drops other x xs mark over said up way =
       record { rest = way.rest; whole = way.whole; under = λ h. cc; marks = way.marks }

@@ -1,10 +1,10 @@
 -- What a direction to an end carries after the side across acts.
 use Rattle.std.proofs.Common.{◌≡◌, Bool, true, false, not, List, [], ◌++◌, refl, sym, ap}
 use Rattle.std.proofs.Common.{subst, ◌∙◌, append_assoc, append-nil, ◌⊎◌, inl, inr}
-use Rattle.dm_two_peers.specs.Machine.{Concern, Elsewhere, StartsIt, AcksIt, NacksIt, EndsIt, HeardOnIt}
-use Rattle.dm_two_peers.specs.Links.{LinkPhase, Pending, Up, Cancelled, End, Fresh, Open, Shut, Mark, NoMark, Coming}
+use Rattle.dm_two_peers.specs.Machine.{LinkConcern, Elsewhere, StartsLink, MakesLink, FailsLink, EndsLink, HeardOnLink}
+use Rattle.dm_two_peers.specs.Links.{LinkPhase, LinkPending, LinkUp, LinkCancelled, End, Fresh, Open, Shut, Mark, NoMark, Coming}
 use Rattle.dm_two_peers.specs.Links.{Delivered}
-use Rattle.dm_two_peers.specs.Steps.{marked, added, own_settled}
+use Rattle.dm_two_peers.specs.Steps.{marked, queued, own_settled}
 use Rattle.dm_two_peers.specs.Facts.{is_pending, is_shut, is_none}
 use Rattle.dm_two_peers.specs.Delivery.{apps}
 use Rattle.dm_two_peers.proofs.Columns.{phase_at, own_at, other_at, outgoing_mark_at}
@@ -16,7 +16,7 @@ use Rattle.dm_two_peers.proofs.Hearing.{is_imp, is_none_at, is_not, marks_other_
 use Rattle.dm_two_peers.proofs.Hearing.{may_hear, none_is, not_is}
 use Rattle.dm_two_peers.proofs.Ways.{Under, Way, apps_append}
 
-hears_by_other : (k : Concern) (closed over : Bool) (p : LinkPhase) (own : End) →
+hears_by_other : (k : LinkConcern) (closed over : Bool) (p : LinkPhase) (own : End) →
     (is_ack k ≡ true → is_pending p ≡ true) →
     may_hear (phase_after closed (phase_at k p)) (other_at k own) over ≡ true → may_hear p own over ≡ true
 hears_by_other k closed over p own acks h =
@@ -25,7 +25,7 @@ hears_by_other k closed over p own acks h =
     own)
     (is_imp (is_ack k) (is_pending p) acks)) h
 
-marks_by_other : (k : Concern) (closed holds : Bool) (p : LinkPhase) (other : End) (mark : Mark) →
+marks_by_other : (k : LinkConcern) (closed holds : Bool) (p : LinkPhase) (other : End) (mark : Mark) →
     (is_ack k ≡ true → is_none mark ≡ true) → (is_shut other ≡ false → mark ≡ NoMark) →
     is_shut (own_settled k holds (own_after closed (phase_at k p) (own_at k other))) ≡ false →
     mark_after closed (phase_at k p) (outgoing_mark_at k other mark) ≡ NoMark
@@ -43,27 +43,27 @@ back_marked NoMark h = cc
 back_marked Coming h = cc
 back_marked Delivered h = cc
 
-back_out : (k : Concern) (own : End) (mark : Mark) → outgoing_mark_at k own mark ≡ NoMark → mark ≡ NoMark
-back_out EndsIt Fresh mark h = back_marked mark h
-back_out EndsIt Open mark h = h
-back_out EndsIt Shut mark h = h
-back_out AcksIt own mark h = h
-back_out NacksIt own mark h = h
-back_out StartsIt own mark h = h
-back_out HeardOnIt own mark h = h
+back_out : (k : LinkConcern) (own : End) (mark : Mark) → outgoing_mark_at k own mark ≡ NoMark → mark ≡ NoMark
+back_out EndsLink Fresh mark h = back_marked mark h
+back_out EndsLink Open mark h = h
+back_out EndsLink Shut mark h = h
+back_out MakesLink own mark h = h
+back_out FailsLink own mark h = h
+back_out StartsLink own mark h = h
+back_out HeardOnLink own mark h = h
 back_out Elsewhere own mark h = h
 
 back_after : (closed : Bool) (p : LinkPhase) (mark : Mark) → mark_after closed p mark ≡ NoMark → mark ≡ NoMark
-back_after true Up mark h = back_marked mark h
-back_after true Pending mark h = h
-back_after true Cancelled mark h = h
+back_after true LinkUp mark h = back_marked mark h
+back_after true LinkPending mark h = h
+back_after true LinkCancelled mark h = h
 back_after false p mark h = h
 
 module _ {M : Type 0} (is_app : M → Bool) (lost : Bool) where
   -- nothing new, or a message of a link that is up, whose sender's end is open
-  pub data IsNew (k : Concern) (p : LinkPhase) (other : End) (new : List M) : Type 0 where
+  pub data IsNew (k : LinkConcern) (p : LinkPhase) (other : End) (new : List M) : Type 0 where
     says_none : new ≡ [] → IsNew k p other new
-    says_one : k ≡ Elsewhere → p ≡ Up → is_shut other ≡ false → IsNew k p other new
+    says_one : k ≡ Elsewhere → p ≡ LinkUp → is_shut other ≡ false → IsNew k p other new
 
   full_under : (closed : Bool) (p : LinkPhase) (before mark : Mark) (new messages rest : List M) →
       (mark ≡ NoMark → before ≡ NoMark) → (mark_after closed p mark ≡ NoMark → new ≡ []) → (lost ≡ false → new ≡ []) →
@@ -82,10 +82,10 @@ module _ {M : Type 0} (is_app : M → Bool) (lost : Bool) where
 
   added_under : (closed : Bool) (p : LinkPhase) (before mark : Mark) (words new messages rest : List M) →
       apps is_app words ≡ new → (mark ≡ NoMark → before ≡ NoMark) →
-      (new ≡ [] ⊎ ((p ≡ Up) × (lost ≡ false → mark ≡ NoMark))) →
+      (new ≡ [] ⊎ ((p ≡ LinkUp) × (lost ≡ false → mark ≡ NoMark))) →
       Under is_app lost messages before rest →
-      Under is_app lost (added p mark words messages) (mark_after closed p mark) (rest ++ new)
-  added_under closed Up before NoMark words new messages rest say back this u =
+      Under is_app lost (queued p mark words messages) (mark_after closed p mark) (rest ++ new)
+  added_under closed LinkUp before NoMark words new messages rest say back this u =
       record {
         tail = [];
         is = ap (λ ys. ys ++ new) (u.is ∙ (ap (λ ys. apps is_app messages ++ ys) (u.unmarked (back refl))
@@ -96,37 +96,37 @@ module _ {M : Type 0} (is_app : M → Bool) (lost : Bool) where
         unmarked = λ h. refl;
         sure = λ h. refl;
       }
-  added_under closed Up before Coming words new messages rest say back this u =
-      full_under closed Up before Coming new messages rest back (λ h. cc (back_after closed Up Coming h))
+  added_under closed LinkUp before Coming words new messages rest say back this u =
+      full_under closed LinkUp before Coming new messages rest back (λ h. cc (back_after closed LinkUp Coming h))
       (λ l. elim this [ inl e ↦ e | inr q ↦ cc (q.1 l) ]) u
-  added_under closed Up before Delivered words new messages rest say back this u =
-      full_under closed Up before Delivered new messages rest back (λ h. cc (back_after closed Up Delivered h))
+  added_under closed LinkUp before Delivered words new messages rest say back this u =
+      full_under closed LinkUp before Delivered new messages rest back (λ h. cc (back_after closed LinkUp Delivered h))
       (λ l. elim this [ inl e ↦ e | inr q ↦ cc (q.1 l) ]) u
-  added_under closed Pending before mark words new messages rest say back this u =
-      full_under closed Pending before mark new messages rest back
+  added_under closed LinkPending before mark words new messages rest say back this u =
+      full_under closed LinkPending before mark new messages rest back
       (λ h. elim this [ inl e ↦ e | inr q ↦ cc (q.0) ]) (λ l. elim this [ inl e ↦ e | inr q ↦ cc (q.0) ]) u
-  added_under closed Cancelled before mark words new messages rest say back this u =
-      full_under closed Cancelled before mark new messages rest back
+  added_under closed LinkCancelled before mark words new messages rest say back this u =
+      full_under closed LinkCancelled before mark new messages rest back
       (λ h. elim this [ inl e ↦ e | inr q ↦ cc (q.0) ]) (λ l. elim this [ inl e ↦ e | inr q ↦ cc (q.0) ]) u
 
-  new_or : (k : Concern) (p : LinkPhase) (other : End) (mark : Mark) (new : List M) →
+  new_or : (k : LinkConcern) (p : LinkPhase) (other : End) (mark : Mark) (new : List M) →
       (lost ≡ false → is_shut other ≡ false → mark ≡ NoMark) → IsNew k p other new →
-      (new ≡ [] ⊎ ((phase_at k p ≡ Up) × (lost ≡ false → outgoing_mark_at k other mark ≡ NoMark)))
+      (new ≡ [] ⊎ ((phase_at k p ≡ LinkUp) × (lost ≡ false → outgoing_mark_at k other mark ≡ NoMark)))
   new_or k p other mark new marks (says_none e) = inl e
   new_or k p other mark new marks (says_one e up unshut) =
       inr (
-        subst (λ j. phase_at j p ≡ Up) (sym e) up,
+        subst (λ j. phase_at j p ≡ LinkUp) (sym e) up,
         λ l. subst (λ j. outgoing_mark_at j other mark ≡ NoMark) (sym e) (marks l unshut),
       )
 
-  pub other_acts : (k : Concern) (closed holds over : Bool) (p : LinkPhase) (own other : End)
+  pub other_acts : (k : LinkConcern) (closed holds over : Bool) (p : LinkPhase) (own other : End)
       (messages words new : List M)
       (mark : Mark) (said up : List M) → apps is_app words ≡ new → IsNew k p other new →
       (is_ack k ≡ true → is_pending p ≡ true) → (is_ack k ≡ true → is_none mark ≡ true) →
       Way is_app lost p own other messages mark over said up →
       Way is_app lost (phase_after closed (phase_at k p)) (other_at k own)
       (own_settled k holds (own_after closed (phase_at k p) (own_at k other)))
-      (added (phase_at k p) (outgoing_mark_at k other mark) words messages)
+      (queued (phase_at k p) (outgoing_mark_at k other mark) words messages)
       (mark_after closed (phase_at k p) (outgoing_mark_at k other mark)) over (said ++ new) up
   other_acts k closed holds over p own other messages words new mark said up say this acks blank way =
       record {

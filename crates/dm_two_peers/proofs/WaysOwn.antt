@@ -2,7 +2,7 @@
 use Rattle.std.proofs.Common.{◌≡◌, Bool, true, false, not, ◌&&◌, List, ◌++◌, refl, sym, ap}
 use Rattle.std.proofs.Common.{◌∙◌}
 use Rattle.std.proofs.lemmas.Bool.{and_parts}
-use Rattle.dm_two_peers.specs.Machine.{Concern, Elsewhere, StartsIt, AcksIt, NacksIt, EndsIt, HeardOnIt}
+use Rattle.dm_two_peers.specs.Machine.{LinkConcern, Elsewhere, StartsLink, MakesLink, FailsLink, EndsLink, HeardOnLink}
 use Rattle.dm_two_peers.specs.Links.{LinkPhase, End, Mark, NoMark}
 use Rattle.dm_two_peers.specs.Steps.{own_settled}
 use Rattle.dm_two_peers.specs.Facts.{is_up, is_pending, is_open_end, is_shut, is_none, is_coming}
@@ -16,21 +16,21 @@ use Rattle.dm_two_peers.proofs.Hearing.{is_end, is_imp, is_none_at, is_not, is_w
 use Rattle.dm_two_peers.proofs.Hearing.{may_hear, none_is, not_is}
 use Rattle.dm_two_peers.proofs.Ways.{Way}
 
-back_unmarked : (k : Concern) (mark : Mark) → incoming_mark_at k mark ≡ NoMark → mark ≡ NoMark
-back_unmarked EndsIt mark h = cc
-back_unmarked AcksIt mark h = h
-back_unmarked NacksIt mark h = h
-back_unmarked StartsIt mark h = h
-back_unmarked HeardOnIt mark h = h
+back_unmarked : (k : LinkConcern) (mark : Mark) → incoming_mark_at k mark ≡ NoMark → mark ≡ NoMark
+back_unmarked EndsLink mark h = cc
+back_unmarked MakesLink mark h = h
+back_unmarked FailsLink mark h = h
+back_unmarked StartsLink mark h = h
+back_unmarked HeardOnLink mark h = h
 back_unmarked Elsewhere mark h = h
 
-pub record Fits (k : Concern) (p : LinkPhase) (own : End) (mark : Mark) (over over' : Bool) : Type 0 where
+pub record Fits (k : LinkConcern) (p : LinkPhase) (own : End) (mark : Mark) (over over' : Bool) : Type 0 where
   pub acks : is_ack k ≡ true → is_pending p ≡ true
   pub blank : is_ack k ≡ true → is_none mark ≡ true
   pub ends : is_end k ≡ true → is_coming mark ≡ true
   pub stays : is_up p ≡ true → is_open_end own ≡ true → over ≡ true → over' ≡ true
 
-marks_by_own : (k : Concern) (other : End) (mark : Mark) → (is_ack k ≡ true → is_none mark ≡ true) →
+marks_by_own : (k : LinkConcern) (other : End) (mark : Mark) → (is_ack k ≡ true → is_none mark ≡ true) →
     (is_end k ≡ true → is_coming mark ≡ true) → (is_shut other ≡ false → mark ≡ NoMark) →
     is_shut (other_at k other) ≡ false → incoming_mark_at k mark ≡ NoMark
 marks_by_own k other mark blank ends was h =
@@ -43,7 +43,7 @@ marks_by_own k other mark blank ends was h =
     (is_imp (not (is_shut other)) (is_none mark) (λ g. is_none_at mark (was (not_is (is_shut other) g))))))
     (is_not (is_shut (other_at k other)) h))
 
-pub hears_by_own : (k : Concern) (closed holds over over' : Bool) (p : LinkPhase) (own : End) →
+pub hears_by_own : (k : LinkConcern) (closed holds over over' : Bool) (p : LinkPhase) (own : End) →
     (is_ack k ≡ true → is_pending p ≡ true) →
     (is_up p ≡ true → is_open_end own ≡ true → over ≡ true → over' ≡ true) →
     may_hear (phase_after closed (phase_at k p))
@@ -62,7 +62,7 @@ hears_by_own k closed holds over over' p own acks stays h =
     h
 
 module _ {M : Type 0} (is_app : M → Bool) (lost : Bool) where
-  pub own_calm : (k : Concern) (closed holds over over' : Bool) (p : LinkPhase) (own other : End) (messages : List M)
+  pub own_calm : (k : LinkConcern) (closed holds over over' : Bool) (p : LinkPhase) (own other : End) (messages : List M)
       (mark : Mark) (said up : List M) → is_word k ≡ false → Fits k p own mark over over' →
       Way is_app lost p own other messages mark over said up →
       Way is_app lost (phase_after closed (phase_at k p))
@@ -83,10 +83,10 @@ module _ {M : Type 0} (is_app : M → Bool) (lost : Bool) where
         marks = λ l h. marks_by_own k other mark fits.blank fits.ends (way.marks l) h;
       }
     where
-      kept_at : (k : Concern) (ms : List M) → is_word k ≡ false → messages_at k ms ≡ ms
-      kept_at HeardOnIt ms h = cc
-      kept_at AcksIt ms h = refl
-      kept_at NacksIt ms h = refl
-      kept_at StartsIt ms h = refl
-      kept_at EndsIt ms h = refl
+      kept_at : (k : LinkConcern) (ms : List M) → is_word k ≡ false → messages_at k ms ≡ ms
+      kept_at HeardOnLink ms h = cc
+      kept_at MakesLink ms h = refl
+      kept_at FailsLink ms h = refl
+      kept_at StartsLink ms h = refl
+      kept_at EndsLink ms h = refl
       kept_at Elsewhere ms h = refl

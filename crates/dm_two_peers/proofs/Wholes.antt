@@ -5,15 +5,15 @@ use Rattle.std.proofs.lemmas.Bool.{lt-ltb, le-ltb, ne_eqb}
 use Rattle.std.proofs.lemmas.Option.{slice_get-map}
 use Rattle.std.specs.Prelude.{option_map}
 use Rattle.dm_two_peers.specs.Machine.{conn}
-use Rattle.dm_two_peers.specs.Links.{Side, A, B, opens, LinkPhase, Pending, Up, Cancelled, End, Direction, Link, view_of}
+use Rattle.dm_two_peers.specs.Links.{Side, A, B, opens, LinkPhase, LinkPending, LinkUp, LinkCancelled, End, Direction, Link, view_of}
 use Rattle.dm_two_peers.specs.Links.{link_of, by_side}
-use Rattle.dm_two_peers.specs.Peers.{Arrived, Peers}
+use Rattle.dm_two_peers.specs.Peers.{ArrivedEvent, Peers}
 use Rattle.dm_two_peers.specs.Steps.{marked}
-use Rattle.dm_two_peers.specs.Worlds.{World, with_links, Put, takes, put_if, Disconnect, change_at, After, Done, Ignored}
+use Rattle.dm_two_peers.specs.Worlds.{World, with_links, Put, takes_more, put_if, Disconnect, change_at, After, DoneWith, Ignored}
 use Rattle.dm_two_peers.specs.Happens.{Delivers, Pieces, Loses, next_in, comes, deliver_next, take_part, deliver_part}
 use Rattle.dm_two_peers.specs.Happens.{whole_in, lost_messages, lost, lost_link, are_shut, if_up, at_link, own_view}
 use Rattle.dm_two_peers.specs.Happens.{happens}
-use Rattle.dm_two_peers.specs.Streams.{whole_way, whole_link, whole_world, whole_after, IsFront, IsPiece, EachLossAddsUp}
+use Rattle.dm_two_peers.specs.Streams.{whole_way, whole_link, whole_world, whole_after, IsNextTowards, IsPiece, EachLossAddsUp}
 
 -- one link is changed
 same_mapped : {X Y : Type 0} (g : X → Y) (f : X → X) (c : ℕ) (xs : List X) → ((x : X) → g (f x) ≡ g x) →
@@ -50,9 +50,9 @@ taken_whole w c s k = ap (λ ls. with_links ls w)
 
 module _ {P M : Type 0} (m : Peers P M) where
   piece_is : (w : World P M) (c : ℕ) (s : Side) (l : Link M) (x : M) (more : List M) (k : ℕ) → 0 < k →
-      IsFront w c s l x more →
-      happens m w (Pieces c s k) ≡ (if nat_lt ((own_view s l).incoming.taken + k) (m.size x) then Done
-      (with_links (change_at c (by_side s (take_part k)) w.links) w) [] else comes m s (Arrived (conn c) x)
+      IsNextTowards w c s l x more →
+      happens m w (Pieces c s k) ≡ (if nat_lt ((own_view s l).incoming.taken + k) (m.size x) then DoneWith
+      (with_links (change_at c (by_side s (take_part k)) w.links) w) [] else comes m s (ArrivedEvent (conn c) x)
       (own_view s l).own w)
   piece_is w c s l x more k low front =
       let v = own_view s l in
@@ -66,8 +66,8 @@ module _ {P M : Type 0} (m : Peers P M) where
       (next_in v.incoming.messages v.incoming.mark) w) some
       ∙ ap (λ ms. deliver_part m c s k v.own v.incoming.taken (next_in ms v.incoming.mark) w) front.front))
 
-  delivery_is : (w : World P M) (c : ℕ) (s : Side) (l : Link M) (x : M) (more : List M) → IsFront w c s l x more →
-      happens m w (Delivers c s) ≡ comes m s (Arrived (conn c) x) (own_view s l).own w
+  delivery_is : (w : World P M) (c : ℕ) (s : Side) (l : Link M) (x : M) (more : List M) → IsNextTowards w c s l x more →
+      happens m w (Delivers c s) ≡ comes m s (ArrivedEvent (conn c) x) (own_view s l).own w
   delivery_is w c s l x more front =
       let v = own_view s l in
       ap (λ o. at_link o (λ q. let u = own_view s q in if_up q.phase
@@ -76,22 +76,22 @@ module _ {P M : Type 0} (m : Peers P M) where
       ∙ ap (λ ms. deliver_next m c s v.own (next_in ms v.incoming.mark) w) front.front)
 
   pub piece_adds_up : (w : World P M) (c : ℕ) (s : Side) (l : Link M) (x : M) (more : List M) (k : ℕ) → 0 < k →
-      IsFront w c s l x more → IsPiece m w c s l x k
+      IsNextTowards w c s l x more → IsPiece m w c s l x k
   piece_adds_up w c s l x more k low front =
       let n = (own_view s l).incoming.taken + k in
       let w1 = with_links (change_at c (by_side s (take_part k)) w.links) w in
-      let after = comes m s (Arrived (conn c) x) (own_view s l).own w in
+      let after = comes m s (ArrivedEvent (conn c) x) (own_view s l).own w in
       record {
         part = λ h.
             record {
               world = w1;
               is = piece_is w c s l x more k low front
-                  ∙ ap (λ b. if b then Done w1 [] else after) (lt-ltb n (m.size x) h);
+                  ∙ ap (λ b. if b then DoneWith w1 [] else after) (lt-ltb n (m.size x) h);
               same = taken_whole w c s k;
             };
         last = λ h.
             piece_is w c s l x more k low front
-            ∙ (ap (λ b. if b then Done w1 [] else after) (le-ltb n (m.size x) h)
+            ∙ (ap (λ b. if b then DoneWith w1 [] else after) (le-ltb n (m.size x) h)
             ∙ sym (delivery_is w c s l x more front));
       }
 
@@ -129,7 +129,7 @@ link_lost : {M : Type 0} (size : M → ℕ) (a b : ℕ) (l : Link M) →
 link_lost size a b l = lost_at size a b l.opener l.phase l.opener_end l.other_end l.to_opener l.to_other
 
 abbrev put_at : {M : Type 0} → Bool → Put M → Link M → List (Put M)
-put_at mine p l = elim (takes l.phase (view_of mine l).outgoing.mark) [ true ↦ p ∷ [] | false ↦ [] ]
+put_at mine p l = elim (takes_more l.phase (view_of mine l).outgoing.mark) [ true ↦ p ∷ [] | false ↦ [] ]
 
 put_whole : {M : Type 0} (s : Side) (p : Put M) (l : Link M) →
     put_if s p (Some l) ≡ put_if s p (Some (whole_link l))
@@ -141,16 +141,16 @@ put_whole s p l = by_side_of (opens s l.opener)
 
 same_outcomes : {P M : Type 0} (p : LinkPhase) (b : Bool) (w v : World P M) (ps qs : List (Put M)) →
     whole_world w ≡ whole_world v → ps ≡ qs →
-    whole_after (if_up p (if b then Ignored else Done w ps) Ignored)
-    ≡ whole_after (if_up p (if b then Ignored else Done v qs) Ignored)
-same_outcomes Up true w v ps qs e f = refl
-same_outcomes Up false w v ps qs e f = ap (λ x. Done x ps) e ∙ ap (λ xs. Done (whole_world v) xs) f
-same_outcomes Pending b w v ps qs e f = refl
-same_outcomes Cancelled b w v ps qs e f = refl
+    whole_after (if_up p (if b then Ignored else DoneWith w ps) Ignored)
+    ≡ whole_after (if_up p (if b then Ignored else DoneWith v qs) Ignored)
+same_outcomes LinkUp true w v ps qs e f = refl
+same_outcomes LinkUp false w v ps qs e f = ap (λ x. DoneWith x ps) e ∙ ap (λ xs. DoneWith (whole_world v) xs) f
+same_outcomes LinkPending b w v ps qs e f = refl
+same_outcomes LinkCancelled b w v ps qs e f = refl
 
 abbrev loss_of : {P M : Type 0} → Peers P M → World P M → ℕ → ℕ → ℕ → Link M → After P M
 loss_of m w c a b l =
-    if_up l.phase (if are_shut l.opener_end l.other_end then Ignored else Done
+    if_up l.phase (if are_shut l.opener_end l.other_end then Ignored else DoneWith
     (with_links (change_at c (lost_link m.size a b) w.links) w)
     (put_if B (Disconnect c A) (Some l) ++ put_if A (Disconnect c B) (Some l))) Ignored
 

@@ -4,7 +4,7 @@ use Rattle.dm_machine.specs.declared.state_name.State.TheVariants.{Closed}
 use Rattle.dm_two_peers.specs.Machine.{Role, Node, is_same_role, closed_node}
 use Rattle.dm_two_peers.specs.Links.{Side}
 use Rattle.dm_two_peers.specs.Peers.{Peers}
-use Rattle.dm_two_peers.specs.Worlds.{peer_at}
+use Rattle.dm_two_peers.specs.Worlds.{peer_on}
 use Rattle.dm_two_peers.specs.Happens.{Happening, run}
 use Rattle.dm_two_peers.specs.Follows.{IsMachine}
 use Rattle.dm_two_peers.specs.Agreement.{IsOpenOn}
@@ -27,5 +27,5 @@ EachQuietRunIsClosedOrOpen P M =
     m.node_of a ≡ closed_node → m.node_of b ≡ closed_node → IsTrue (stands a) → IsTrue (stands b) →
     (hs : List (Happening M)) →
     IfSome (run m (world_of a b) hs) (λ z. IsTrue (is_quiet z.world) → (s : Side) →
-    IsFalse (is_returning (m.node_of (peer_at s z.world)).state) →
+    IsFalse (is_returning (m.node_of (peer_on s z.world)).state) →
     AreClosedOrOpen (m.node_of z.world.a) (m.node_of z.world.b))

@@ -5,7 +5,7 @@ use Rattle.dm_two_peers.specs.Peers.{Peers}
 use Rattle.dm_two_peers.specs.Worlds.{World}
 use Rattle.dm_two_peers.specs.Happens.{Pieces, own_view}
 use Rattle.dm_two_peers.specs.Quiet.{cost}
-use Rattle.dm_two_peers.specs.Streams.{IsFront}
+use Rattle.dm_two_peers.specs.Streams.{IsNextTowards}
 
 -- a piece that ends no message is no step, one that ends its message is one
 pub record CountsAtEnd {P M : Type 0} (m : Peers P M) (w : World P M) (c : ℕ) (s : Side) (l : Link M) (x : M)
@@ -16,4 +16,4 @@ pub record CountsAtEnd {P M : Type 0} (m : Peers P M) (w : World P M) (c : ℕ) 
 abbrev pub EachPieceCounts : Type 0 → Type 0 → Type 0
 EachPieceCounts P M =
     (m : Peers P M) (w : World P M) (c : ℕ) (s : Side) (l : Link M) (x : M) (more : List M) (k : ℕ) →
-    IsFront w c s l x more → CountsAtEnd m w c s l x k
+    IsNextTowards w c s l x more → CountsAtEnd m w c s l x k

@@ -2,18 +2,18 @@
 use Rattle.std.specs.Prelude.{◌≡◌, ℕ, ◌≤◌, IsTrue, Option, Some, None, List, [], ◌∷◌, ◌++◌, length, map}
 use Rattle.dm_two_peers.specs.Links.{Side, flip}
 use Rattle.dm_two_peers.specs.Peers.{Peers}
-use Rattle.dm_two_peers.specs.Worlds.{World, Put, Message, Disconnect}
+use Rattle.dm_two_peers.specs.Worlds.{World, Put, PutMessage, Disconnect}
 use Rattle.dm_two_peers.specs.Happens.{Happening, RunEnd}
 use Rattle.dm_two_peers.specs.Quiet.{is_quiet, links_made, KeptLink, kept}
 use Rattle.dm_two_peers.specs.Electing.{Talks}
 
 -- one CER on each link that a side made, from that side to the other
 abbrev pub cers_on : {P M C H : Type 0} → Talks P M C H → (Side → ℕ) → Side → List ℕ → List (Put M)
-cers_on t numbers s links = map (λ c. Message c (flip s) (t.cer (t.config s) (numbers s))) links
+cers_on t numbers s links = map (λ c. PutMessage c (flip s) (t.cer (t.config s) (numbers s))) links
 
 -- the CEA of code 2001 that a side is given for its CER, on the same link
 abbrev pub cea_on : {P M C H : Type 0} → Talks P M C H → (Side → ℕ) → Side → ℕ → Put M
-cea_on t numbers s c = Message c s (t.cea (t.config (flip s)) (numbers s))
+cea_on t numbers s c = PutMessage c s (t.cea (t.config (flip s)) (numbers s))
 
 -- one disconnect on each of the links, towards a side
 abbrev pub disconnects_on : {M : Type 0} → Side → List ℕ → List (Put M)

@@ -5,41 +5,41 @@ use Rattle.dm_machine.specs.Connection.{Hold, NotHeld, Pending, ClosingAsI, Clos
 use Rattle.dm_machine.specs.Upward.{is_open_hold}
 use Rattle.dm_two_peers.specs.Machine.{Conn, conn, Node, closed_node, is_shaped}
 use Rattle.dm_two_peers.specs.Links.{Side, flip, opens, Link}
-use Rattle.dm_two_peers.specs.Peers.{Event, Submit, Arrived, Action, Send, Acts, Peers, deed_of, sends_at}
+use Rattle.dm_two_peers.specs.Peers.{Event, SubmitEvent, ArrivedEvent, Action, Send, ActsBy, Peers, deed_in, sends_at}
 use Rattle.dm_two_peers.specs.Peers as peers
-use Rattle.dm_two_peers.specs.Worlds.{World, peer_at}
+use Rattle.dm_two_peers.specs.Worlds.{World, peer_on}
 use Rattle.dm_two_peers.specs.Happens.{Happening, Loses, own_view, run}
 use Rattle.dm_two_peers.specs.Follows.{IsMachine}
 use Rattle.dm_two_peers.specs.Laws.{world_of}
-use Rattle.dm_two_peers.specs.Turns.{Turn, all_turns}
+use Rattle.dm_two_peers.specs.Turns.{WorldTurn, all_turns}
 
 -- the message that the user of the side across submits, where its peer sends on the link then
-abbrev pub submitted_by : {M : Type 0} → Side → ℕ → Turn M → List M
+abbrev pub submitted_by : {M : Type 0} → Side → ℕ → WorldTurn M → List M
 submitted_by t c u =
     elim u.event [
-      | Submit x ↦ if opens (flip t) u.side && sends_at c (map deed_of u.actions) then x ∷ [] else []
+      | SubmitEvent x ↦ if opens (flip t) u.side && sends_at c (map deed_in u.actions) then x ∷ [] else []
       | _ ↦ []
     ]
 
-abbrev pub submitted_on : {M : Type 0} → Side → ℕ → List (Turn M) → List M
+abbrev pub submitted_on : {M : Type 0} → Side → ℕ → List (WorldTurn M) → List M
 submitted_on t c [] = []
 submitted_on t c (u ∷ us) = submitted_by t c u ++ submitted_on t c us
 
 -- what is handed up to a user
 abbrev pub ups_of : {M : Type 0} → List (Action M) → List M
 ups_of [] = []
-ups_of (peers.Up x ∷ actions) = x ∷ ups_of actions
+ups_of (peers.HandUp x ∷ actions) = x ∷ ups_of actions
 ups_of (_ ∷ actions) = ups_of actions
 
 -- what of it came to a side on the link; what comes with no message counts on each link
-abbrev pub handed_up_by : {M : Type 0} → Side → ℕ → Turn M → List M
+abbrev pub handed_up_by : {M : Type 0} → Side → ℕ → WorldTurn M → List M
 handed_up_by t c u =
     elim u.event [
-      | Arrived d x ↦ if opens t u.side && (d.0 == c) then ups_of u.actions else []
+      | ArrivedEvent d x ↦ if opens t u.side && (d.0 == c) then ups_of u.actions else []
       | _ ↦ if opens t u.side then ups_of u.actions else []
     ]
 
-abbrev pub handed_up_on : {M : Type 0} → Side → ℕ → List (Turn M) → List M
+abbrev pub handed_up_on : {M : Type 0} → Side → ℕ → List (WorldTurn M) → List M
 handed_up_on t c [] = []
 handed_up_on t c (u ∷ us) = handed_up_by t c u ++ handed_up_on t c us
 
@@ -91,17 +91,17 @@ pub record IsCarrier {P M : Type 0} (m : Peers P M) (stands : P → Bool) (p : P
 -- up, and nothing is handed up where none comes
 pub record CarriesMessages {P M : Type 0} (m : Peers P M) (is_app : M → Bool) (stands : P → Bool) : Type 0 where
   pub submits : (p next : P) (x : M) (actions : List (Action M)) → IsCarrier m stands p →
-      m.reply p (Submit x) ≡ Acts actions next → SendsSubmitted is_app (m.node_of p) x actions
+      m.reply p (SubmitEvent x) ≡ ActsBy actions next → SendsSubmitted is_app (m.node_of p) x actions
   pub others : (p next : P) (e : Event M) (actions : List (Action M)) → IsCarrier m stands p →
-      ((x : M) → e ≡ Submit x → ⊥) → m.reply p e ≡ Acts actions next →
+      ((x : M) → e ≡ SubmitEvent x → ⊥) → m.reply p e ≡ ActsBy actions next →
       IsTrue (sends_all (λ x. not (is_app x)) actions)
   pub hears : (p next : P) (c : ℕ) (x : M) (actions : List (Action M)) → IsCarrier m stands p →
-      m.reply p (Arrived (conn c) x) ≡ Acts actions next →
+      m.reply p (ArrivedEvent (conn c) x) ≡ ActsBy actions next →
       HandsUpHeard is_app (hold_of (m.node_of p) (conn c)) (hold_of (m.node_of next) (conn c)) x (ups_of actions)
   pub silent : (p next : P) (e : Event M) (actions : List (Action M)) → IsCarrier m stands p →
-      ((c : Conn) (x : M) → e ≡ Arrived c x → ⊥) → m.reply p e ≡ Acts actions next → ups_of actions ≡ []
+      ((c : Conn) (x : M) → e ≡ ArrivedEvent c x → ⊥) → m.reply p e ≡ ActsBy actions next → ups_of actions ≡ []
   pub keeps : (p next : P) (e : Event M) (actions : List (Action M)) → IsCarrier m stands p →
-      m.reply p e ≡ Acts actions next → IsTrue (stands next)
+      m.reply p e ≡ ActsBy actions next → IsTrue (stands next)
   pub resets : (p : P) → IsCarrier m stands p → IsTrue (stands (m.reset p))
 
 -- whether a list of happenings has a loss of the link
@@ -117,7 +117,7 @@ pub record DeliversInOrder {P M : Type 0} (m : Peers P M) (is_app : M → Bool) 
   pub rest : List M
   pub front : sent ≡ handed ++ rest
   pub whole : (l : Link M) → slice_get w.links c ≡ Some l →
-      IsTrue (is_open_hold (hold_of (m.node_of (peer_at t w)) (conn c))) → lost ≡ false →
+      IsTrue (is_open_hold (hold_of (m.node_of (peer_on t w)) (conn c))) → lost ≡ false →
       sent ≡ handed ++ apps is_app (own_view t l).incoming.messages
 
 -- two closed peers that carry messages deliver them so after every list of happenings, whatever is lost

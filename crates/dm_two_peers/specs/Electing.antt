@@ -4,13 +4,14 @@ use Rattle.std.specs.Prelude.{◌≡◌, ℕ, Bool, true, false, not, IsTrue, �
 use Rattle.dm_machine.specs.declared.inputs.Word.TheVariants.{Unreadable, Cer, Cea}
 use Rattle.dm_machine.specs.declared.inputs.Input.TheVariants as input
 use Rattle.dm_machine.specs.declared.outputs.Command.TheVariants as command
-use Rattle.dm_machine.specs.Moves.{Outcome, Moved, Refused}
+use Rattle.dm_machine.specs.Moves.{NodeOutcome, NodeMoved, NodeRefused}
 use Rattle.dm_machine.specs.Connection.{NotHeld, Made, hold_of}
 use Rattle.dm_machine.specs.Unread.{reads_first}
 use Rattle.dm_machine.specs.Awaiting.{awaits_cea, holds_cer, number_after, waiting_after, cer_to_answer}
-use Rattle.dm_two_peers.specs.Machine.{Conn, Node, Input, Command, outcome}
+use Rattle.dm_two_peers.specs.Machine.{Conn, Node, Input, Command, machine_outcome}
 use Rattle.dm_two_peers.specs.Links.{Side, A, B, flip}
-use Rattle.dm_two_peers.specs.Peers.{Event, Start, Ack, Gone, Arrived, Action, Connect, Send, Close, Reply, Acts, Declines}
+use Rattle.dm_two_peers.specs.Peers.{Event, StartEvent, AckEvent, GoneEvent, ArrivedEvent}
+use Rattle.dm_two_peers.specs.Peers.{Action, Connect, Send, Close, Reply, ActsBy, Declines}
 use Rattle.dm_two_peers.specs.Peers.{Peers}
 
 -- two peers that talk: a peer's configuration (C), the number of its next request, the number of the CEA that it
@@ -41,16 +42,16 @@ pub record IsPeerOf {P M C H : Type 0} (t : Talks P M C H) (s : Side) (p : P) : 
 -- new connection is read in some states alone, and a CEA where it is awaited
 pub data IsReadAs {P M C H : Type 0} (m : Peers P M) (t : Talks P M C H) (s : Side) (p : P) : Event M → Input →
     Option H → Type 0 where
-  reads_start : (c : Conn) → IsReadAs m t s p (Start c) (input.Start c) None
-  reads_ack : (c : Conn) → IsReadAs m t s p (Ack c) (input.Ack c) None
-  reads_end : (c : Conn) → IsReadAs m t s p (Gone c) (input.Gone c) None
+  reads_start : (c : Conn) → IsReadAs m t s p (StartEvent c) (input.Start c) None
+  reads_ack : (c : Conn) → IsReadAs m t s p (AckEvent c) (input.Ack c) None
+  reads_end : (c : Conn) → IsReadAs m t s p (GoneEvent c) (input.Gone c) None
   reads_cer : (c : Conn) (n : ℕ) → IsTrue (t.is_number n) → IsTrue (reads_first (m.node_of p).state) →
       hold_of (m.node_of p) c ≡ NotHeld →
-      IsReadAs m t s p (Arrived c (t.cer (t.config (flip s)) n)) (input.Heard c Cer) (Some (t.cer_header n))
+      IsReadAs m t s p (ArrivedEvent c (t.cer (t.config (flip s)) n)) (input.Heard c Cer) (Some (t.cer_header n))
   leaves_cer : (c : Conn) (n : ℕ) → IsTrue (not (reads_first (m.node_of p).state)) → hold_of (m.node_of p) c ≡ NotHeld →
-      IsReadAs m t s p (Arrived c (t.cer (t.config (flip s)) n)) (input.Heard c Unreadable) None
+      IsReadAs m t s p (ArrivedEvent c (t.cer (t.config (flip s)) n)) (input.Heard c Unreadable) None
   reads_cea : (c : Conn) (n : ℕ) → IsTrue (t.is_number n) → t.awaited_of p ≡ Some n → hold_of (m.node_of p) c ≡ Made →
-      IsReadAs m t s p (Arrived c (t.cea (t.config (flip s)) n)) (input.Heard c Cea) (Some (t.cea_header n))
+      IsReadAs m t s p (ArrivedEvent c (t.cea (t.config (flip s)) n)) (input.Heard c Cea) (Some (t.cea_header n))
 
 abbrev pub has_send_cer : List Command → Bool
 has_send_cer [] = false
@@ -77,7 +78,7 @@ pub record RepliesBy {P M C H : Type 0} (m : Peers P M) (t : Talks P M C H) (s :
     (commands : List Command) (next : Node) (r : Reply P M) : Type 0 where
   pub actions : List (Action M)
   pub peer : P
-  pub replies : r ≡ Acts actions peer
+  pub replies : r ≡ ActsBy actions peer
   pub node : m.node_of peer ≡ next
   pub same : IsPeerOf t s peer
   pub said : AreSaid t s p heard commands actions
@@ -85,10 +86,10 @@ pub record RepliesBy {P M C H : Type 0} (m : Peers P M) (t : Talks P M C H) (s :
       (t.awaited_of p)
   pub waiting : t.waiting_of peer ≡ waiting_after (m.node_of p).state heard next.state (t.waiting_of p)
 
-abbrev pub RepliesAs : {P M C H : Type 0} → Peers P M → Talks P M C H → Side → P → Option H → Outcome → Reply P M →
+abbrev pub RepliesAs : {P M C H : Type 0} → Peers P M → Talks P M C H → Side → P → Option H → NodeOutcome → Reply P M →
     Type 0
-RepliesAs m t s p heard (Refused refusal) r = r ≡ Declines
-RepliesAs m t s p heard (Moved commands next) r = RepliesBy m t s p heard commands next r
+RepliesAs m t s p heard (NodeRefused refusal) r = r ≡ Declines
+RepliesAs m t s p heard (NodeMoved commands next) r = RepliesBy m t s p heard commands next r
 
 pub record IsElecting {P M C H : Type 0} (m : Peers P M) (t : Talks P M C H) : Type 0 where
   pub one_wins : t.wins A ≡ not (t.wins B)
@@ -97,4 +98,4 @@ pub record IsElecting {P M C H : Type 0} (m : Peers P M) (t : Talks P M C H) : T
       t.waiting_of p ≡ None
   pub replies : (s : Side) (p : P) (e : Event M) (i : Input) (heard : Option H) → IsPeerOf t s p →
       IsReadAs m t s p e i heard →
-      RepliesAs m t s p heard (outcome (m.node_of p) i (t.wins s)) (m.reply p e)
+      RepliesAs m t s p heard (machine_outcome (m.node_of p) i (t.wins s)) (m.reply p e)

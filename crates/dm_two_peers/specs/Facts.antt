@@ -1,8 +1,10 @@
 -- What holds of each link between two happenings, whatever the messages say and whoever wins.
 use Rattle.std.specs.Prelude.{◌≡◌, ℕ, ◌≤◌, Bool, true, false, not, ◌&&◌, ◌||◌, IsTrue, List, [], ◌∷◌, Some, slice_get}
 use Rattle.std.specs.Prelude.{length}
-use Rattle.dm_two_peers.specs.Machine.{Node, is_shaped, Tie, Unheld, Connecting, Made, MadeOpen, Taken, tie_of, is_held}
-use Rattle.dm_two_peers.specs.Links.{Side, A, opens, LinkPhase, Pending, Up, Cancelled, End, Fresh, Open, Shut, Mark}
+use Rattle.dm_two_peers.specs.Machine.{Node, is_shaped, Tie, Unheld, Connecting, Connected}
+use Rattle.dm_two_peers.specs.Machine.{ConnectedOpen, AcceptedTie, tie_of, is_tie_held}
+use Rattle.dm_two_peers.specs.Links.{Side, A, opens, LinkPhase, LinkPending, LinkUp}
+use Rattle.dm_two_peers.specs.Links.{LinkCancelled, End, Fresh, Open, Shut, Mark}
 use Rattle.dm_two_peers.specs.Links.{NoMark, Coming, Delivered, Link, View, view_of}
 use Rattle.dm_two_peers.specs.Peers.{Peers}
 use Rattle.dm_two_peers.specs.Worlds.{World}
@@ -39,11 +41,11 @@ is_empty [] = true
 is_empty (m ∷ ms) = false
 
 abbrev pub is_pending : LinkPhase → Bool
-is_pending Pending = true
+is_pending LinkPending = true
 is_pending _ = false
 
 abbrev pub is_up : LinkPhase → Bool
-is_up Up = true
+is_up LinkUp = true
 is_up _ = false
 
 abbrev pub is_fresh : End → Bool
@@ -77,14 +79,14 @@ is_blank s = s.in_empty && s.out_empty && is_none s.in_mark && is_none s.out_mar
 
 -- the opener's end is open just where the opener holds the link, as its initiator, and it is never fresh
 abbrev pub opener_fits : End → Tie → Bool
-opener_fits Open Made = true
-opener_fits Open MadeOpen = true
+opener_fits Open Connected = true
+opener_fits Open ConnectedOpen = true
 opener_fits Shut Unheld = true
 opener_fits _ _ = false
 
 -- the other side's end is open just where that side holds the link, as one that it accepted
 abbrev pub other_fits : End → Tie → Bool
-other_fits Open Taken = true
+other_fits Open AcceptedTie = true
 other_fits Fresh Unheld = true
 other_fits Shut Unheld = true
 other_fits _ _ = false
@@ -97,7 +99,7 @@ end_fits _ in_empty in_mark out_mark = not (is_delivered in_mark)
 
 -- where the other end is fresh, nothing came from it, something is under way to it, and the opener isn't open
 abbrev pub fresh_fits : End → Tie → Bool → Bool → Mark → Bool
-fresh_fits Fresh MadeOpen in_empty out_empty out_mark = false
+fresh_fits Fresh ConnectedOpen in_empty out_empty out_mark = false
 fresh_fits Fresh _ in_empty out_empty out_mark = in_empty && not (out_empty && is_none out_mark)
 fresh_fits _ _ in_empty out_empty out_mark = true
 
@@ -105,9 +107,9 @@ fresh_fits _ _ in_empty out_empty out_mark = true
 abbrev pub is_sound_standing : Standing → Bool
 is_sound_standing s =
     elim s.phase [
-      | Pending ↦ elim s.own_tie [ Connecting ↦ not (is_held s.other_tie) && is_blank s | _ ↦ false ]
-      | Cancelled ↦ not (is_held s.own_tie) && not (is_held s.other_tie) && is_blank s
-      | Up ↦
+      | LinkPending ↦ elim s.own_tie [ Connecting ↦ not (is_tie_held s.other_tie) && is_blank s | _ ↦ false ]
+      | LinkCancelled ↦ not (is_tie_held s.own_tie) && not (is_tie_held s.other_tie) && is_blank s
+      | LinkUp ↦
           opener_fits s.own s.own_tie && other_fits s.other s.other_tie && end_fits s.own s.in_empty s.in_mark
           s.out_mark
           && end_fits s.other s.out_empty s.out_mark s.in_mark && fresh_fits s.other s.own_tie s.in_empty s.out_empty

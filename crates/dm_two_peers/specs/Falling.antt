@@ -3,7 +3,7 @@ use Rattle.std.specs.Prelude.{◌≡◌, ◌⊎◌, ◌+◌, ◌≤◌, Bool, tr
 use Rattle.std.specs.List.{list_all}
 use Rattle.dm_two_peers.specs.Links.{A, B}
 use Rattle.dm_two_peers.specs.Peers.{Peers}
-use Rattle.dm_two_peers.specs.Worlds.{World, Put, Done}
+use Rattle.dm_two_peers.specs.Worlds.{World, Put, DoneWith}
 use Rattle.dm_two_peers.specs.Happens.{Happening, Acks, Delivers, RunEnd, happens, run}
 use Rattle.dm_two_peers.specs.Quiet.{is_quiet, is_clean, links_made, steps_taken, kept}
 use Rattle.dm_two_peers.specs.Electing.{Talks, IsElecting}
@@ -40,7 +40,7 @@ EachCleanRunCanFallQuiet P M C H =
 abbrev pub NothingComes : {P M : Type 0} → Peers P M → World P M → Type 0
 NothingComes {P} {M} m w =
     (h : Happening M) → IsTrue (is_ack_or_delivery h) → (next : World P M) (put : List (Put M)) →
-    happens m w h ≡ Done next put → ⊥
+    happens m w h ≡ DoneWith next put → ⊥
 
 -- a run is quiet where nothing comes any more, after nine steps, and after four where one side alone starts
 pub record FallsQuiet {P M C H : Type 0} (m : Peers P M) (t : Talks P M C H) (w : World P M)

@@ -2,12 +2,14 @@
 use Rattle.std.specs.Prelude.{ℕ, ◌+◌, ◌-◌, Bool, true, false, nat_lt, nat_le, ◌==◌, if◌then◌else◌, List, [], ◌∷◌, ◌++◌}
 use Rattle.std.specs.Prelude.{length, map, Option, Some, None, slice_get}
 use Rattle.dm_two_peers.specs.Machine.{conn}
-use Rattle.dm_two_peers.specs.Links.{Side, A, B, flip, opens, LinkPhase, Pending, Up, End, Shut, Mark, Coming, Delivered}
+use Rattle.dm_two_peers.specs.Links.{Side, A, B, flip, opens, LinkPhase, LinkPending}
+use Rattle.dm_two_peers.specs.Links.{LinkUp, End, Shut, Mark, Coming, Delivered}
 use Rattle.dm_two_peers.specs.Links.{Direction, Link, View, view_of, by_side}
-use Rattle.dm_two_peers.specs.Peers.{Cause, Event, Start, Stop, Timeout, Tick, Ack, Nack, Gone, Submit, Arrived, Peers}
+use Rattle.dm_two_peers.specs.Peers.{Cause, Event, StartEvent, StopEvent, TimeoutEvent, TickEvent}
+use Rattle.dm_two_peers.specs.Peers.{AckEvent, NackEvent, GoneEvent, SubmitEvent, ArrivedEvent, Peers}
 use Rattle.dm_two_peers.specs.Steps.{marked, with_close}
-use Rattle.dm_two_peers.specs.Worlds.{World, peer_at, with_peer, with_links, Put, Disconnect, put_if, change_at, After}
-use Rattle.dm_two_peers.specs.Worlds.{Done, Ignored, NoLink, tell, after_drop}
+use Rattle.dm_two_peers.specs.Worlds.{World, peer_on, with_peer, with_links, Put, Disconnect, put_if, change_at, After}
+use Rattle.dm_two_peers.specs.Worlds.{DoneWith, Ignored, NoLink, tell, after_drop}
 
 -- a Lose names how many of the first octets towards A and towards B are kept, a Piece how many are delivered
 pub data Happening (M : Type 0) : Type 0 where
@@ -41,8 +43,8 @@ comes m s e _ w = tell m s e w
 
 abbrev pub deliver_next : {P M : Type 0} → Peers P M → ℕ → Side → End → Next M → World P M → After P M
 deliver_next m c s end NextNothing w = Ignored
-deliver_next m c s end (NextMessage x) w = comes m s (Arrived (conn c) x) end w
-deliver_next m c s end NextDisconnect w = comes m s (Gone (conn c)) end w
+deliver_next m c s end (NextMessage x) w = comes m s (ArrivedEvent (conn c) x) end w
+deliver_next m c s end NextDisconnect w = comes m s (GoneEvent (conn c)) end w
 
 -- some octets of the front message are delivered, and not its last
 abbrev pub take_part : {M : Type 0} → ℕ → View M → View M
@@ -52,8 +54,8 @@ abbrev pub deliver_part : {P M : Type 0} → Peers P M → ℕ → Side → ℕ 
 deliver_part m c s k end taken NextNothing w = Ignored
 deliver_part m c s k end taken NextDisconnect w = Ignored
 deliver_part m c s k end taken (NextMessage x) w =
-    if nat_lt (taken + k) (m.size x) then Done (with_links (change_at c (by_side s (take_part k)) w.links) w) []
-    else comes m s (Arrived (conn c) x) end w
+    if nat_lt (taken + k) (m.size x) then DoneWith (with_links (change_at c (by_side s (take_part k)) w.links) w) []
+    else comes m s (ArrivedEvent (conn c) x) end w
 
 -- the first messages that lie wholly in k octets
 abbrev pub whole_in : {M : Type 0} → (M → ℕ) → ℕ → List M → List M
@@ -93,7 +95,7 @@ are_shut _ _ = false
 
 -- a restart of a side: each of its ends is shut, and the connects that it asked for are cancelled
 abbrev pub restarted : {M : Type 0} → Bool → View M → View M
-restarted mine v = elim v.phase [ Pending ↦ elim mine [ true ↦ with_close v | false ↦ v ] | _ ↦ with_close v ]
+restarted mine v = elim v.phase [ LinkPending ↦ elim mine [ true ↦ with_close v | false ↦ v ] | _ ↦ with_close v ]
 
 abbrev pub restart_links : {M : Type 0} → Side → List (Link M) → List (Link M)
 restart_links s links = map (λ l. by_side s (restarted (opens s l.opener)) l) links
@@ -104,16 +106,16 @@ restart_puts s c (l ∷ links) = put_if s (Disconnect c (flip s)) (Some l) ++ re
 
 abbrev pub restart : {P M : Type 0} → Peers P M → Side → World P M → After P M
 restart peers side world =
-    Done (with_peer side (peers.reset (peer_at side world)) (restart_links side world.links) world)
+    DoneWith (with_peer side (peers.reset (peer_on side world)) (restart_links side world.links) world)
     (restart_puts side 0 world.links)
 
 -- only on a link that is up, or whose connect is pending
 abbrev pub if_up : {X : Type 0} → LinkPhase → X → X → X
-if_up Up x y = x
+if_up LinkUp x y = x
 if_up _ x y = y
 
 abbrev pub if_pending : {X : Type 0} → LinkPhase → X → X → X
-if_pending Pending x y = x
+if_pending LinkPending x y = x
 if_pending _ x y = y
 
 -- on the link of a number, where there is one
@@ -140,7 +142,7 @@ deliver_piece peers world c side k view =
 -- a loss, that both sides are told
 abbrev pub lose : {P M : Type 0} → Peers P M → World P M → ℕ → ℕ → ℕ → Link M → After P M
 lose peers world c to_a to_b l =
-    Done (with_links (change_at c (lost_link peers.size to_a to_b) world.links) world)
+    DoneWith (with_links (change_at c (lost_link peers.size to_a to_b) world.links) world)
     (put_if B (Disconnect c A) (Some l) ++ put_if A (Disconnect c B) (Some l))
 
 abbrev pub unless_shut : {P M : Type 0} → Link M → After P M → After P M
@@ -148,16 +150,16 @@ unless_shut l after = if are_shut l.opener_end l.other_end then Ignored else aft
 
 -- the one outcome of a happening
 abbrev pub happens : {P M : Type 0} → Peers P M → World P M → Happening M → After P M
-happens peers world (Starts side) = tell peers side (Start (conn (length world.links))) world
-happens peers world (Stops side cause) = tell peers side (Stop cause) world
-happens peers world (TimesOut side) = tell peers side Timeout world
-happens peers world (Ticks side) = tell peers side Tick world
-happens peers world (Submits side message) = tell peers side (Submit message) world
+happens peers world (Starts side) = tell peers side (StartEvent (conn (length world.links))) world
+happens peers world (Stops side cause) = tell peers side (StopEvent cause) world
+happens peers world (TimesOut side) = tell peers side TimeoutEvent world
+happens peers world (Ticks side) = tell peers side TickEvent world
+happens peers world (Submits side message) = tell peers side (SubmitEvent message) world
 happens peers world (Restarts side) = restart peers side world
 happens peers world (Acks link) =
-    on_link world link (λ l. if_pending l.phase (tell peers l.opener (Ack (conn link)) world) Ignored)
+    on_link world link (λ l. if_pending l.phase (tell peers l.opener (AckEvent (conn link)) world) Ignored)
 happens peers world (Nacks link) =
-    on_link world link (λ l. if_pending l.phase (tell peers l.opener (Nack (conn link)) world) Ignored)
+    on_link world link (λ l. if_pending l.phase (tell peers l.opener (NackEvent (conn link)) world) Ignored)
 happens peers world (Delivers link side) =
     on_link world link (λ l. if_up l.phase (deliver peers world link side (own_view side l)) Ignored)
 happens peers world (Pieces link side k) =
@@ -167,7 +169,7 @@ happens peers world (Loses link to_a to_b) =
 
 -- the world after a happening; what is ignored, and what names no link, leaves it
 abbrev pub world_after : {P M : Type 0} → World P M → After P M → World P M
-world_after w (Done next put) = next
+world_after w (DoneWith next put) = next
 world_after w Ignored = w
 world_after w NoLink = w
 
@@ -177,7 +179,7 @@ pub record RunEnd (P M : Type 0) : Type 0 where
   pub put : List (Put M)
 
 abbrev pub ran_on : {P M : Type 0} → RunEnd P M → After P M → Option (RunEnd P M)
-ran_on r (Done next put) = Some (record { world = next; put = r.put ++ put })
+ran_on r (DoneWith next put) = Some (record { world = next; put = r.put ++ put })
 ran_on r Ignored = Some r
 ran_on r NoLink = None
 

@@ -2,11 +2,12 @@
 use Rattle.std.specs.Prelude.{◌≡◌, ℕ, Bool, true, false, IsTrue, IsFalse, [], ◌∷◌, List}
 use Rattle.dm_machine.specs.declared.state_name.State.{State}
 use Rattle.dm_machine.specs.declared.state_name.State.TheVariants.{Closed, WaitICea, WaitReturns, ROpen, IOpen, Closing}
-use Rattle.dm_machine.specs.Moves.{Moved}
-use Rattle.dm_two_peers.specs.Machine.{conn, Role, Initiated, Accepted, Node, Input, Command, outcome, is_same_role}
+use Rattle.dm_machine.specs.Moves.{NodeMoved}
+use Rattle.dm_two_peers.specs.Machine.{conn, Role, Initiated, Accepted, Node, Input}
+use Rattle.dm_two_peers.specs.Machine.{Command, machine_outcome, is_same_role}
 use Rattle.dm_two_peers.specs.Links.{Side}
 use Rattle.dm_two_peers.specs.Peers.{Peers}
-use Rattle.dm_two_peers.specs.Worlds.{World, peer_at}
+use Rattle.dm_two_peers.specs.Worlds.{World, peer_on}
 use Rattle.dm_two_peers.specs.Facts.{IsSoundWorld}
 use Rattle.dm_two_peers.specs.Quiet.{is_quiet}
 
@@ -39,10 +40,10 @@ is_returning _ = false
 abbrev pub QuietIsJoined : Type 0 → Type 0 → Type 0
 QuietIsJoined P M =
     (m : Peers P M) (w : World P M) → IsSoundWorld m w → IsTrue (is_quiet w) → (s : Side) →
-    IsFalse (is_returning (m.node_of (peer_at s w)).state) → AreJoined (m.node_of w.a) (m.node_of w.b)
+    IsFalse (is_returning (m.node_of (peer_on s w)).state) → AreJoined (m.node_of w.a) (m.node_of w.b)
 
 -- a side that wins its elections doesn't come to wait for the other's disconnect
 abbrev pub WinnerDoesNotReturn : Type 0
 WinnerDoesNotReturn =
     (n next : Node) (i : Input) (commands : List Command) → IsFalse (is_returning n.state) →
-    outcome n i true ≡ Moved commands next → IsFalse (is_returning next.state)
+    machine_outcome n i true ≡ NodeMoved commands next → IsFalse (is_returning next.state)

@@ -1,16 +1,18 @@
 -- The state machine itself as peers: a message is its word, and a peer knows whether it wins. It shows that peers as
 -- the laws ask for them exist, and what the definitions say of two runs.
 use Rattle.std.specs.Prelude.{◌≡◌, Bool, true, false, IfSome, List, [], ◌∷◌, map}
-use Rattle.dm_two_peers.specs.Machine.{conn, Initiated, Accepted, Node, node_at, Input, Command, outcome, closed_node}
+use Rattle.dm_two_peers.specs.Machine.{conn, Initiated, Accepted, Node, node_at}
+use Rattle.dm_two_peers.specs.Machine.{Input, Command, machine_outcome, closed_node}
 use Rattle.dm_machine.specs.declared.inputs.Word.{Word}
 use Rattle.dm_machine.specs.declared.inputs.Word.TheVariants.{Cer, Cea, CeaFailed, Dwr, Dwa, Dpr, Dpa, Other}
 use Rattle.dm_machine.specs.declared.inputs.Input.TheVariants as input
 use Rattle.dm_machine.specs.declared.outputs.Command.TheVariants as command
 use Rattle.dm_machine.specs.declared.state_name.State.TheVariants.{IOpen, ROpen}
-use Rattle.dm_machine.specs.Moves.{Outcome, Moved, Refused}
+use Rattle.dm_machine.specs.Moves.{NodeOutcome, NodeMoved, NodeRefused}
 use Rattle.dm_two_peers.specs.Links.{A, B}
-use Rattle.dm_two_peers.specs.Peers.{Event, Start, Stop, Timeout, Tick, Ack, Nack, Gone, Submit, Arrived, Action, Connect}
-use Rattle.dm_two_peers.specs.Peers.{Send, Close, Reply, Acts, Declines, Peers}
+use Rattle.dm_two_peers.specs.Peers.{Event, StartEvent, StopEvent, TimeoutEvent, TickEvent, AckEvent}
+use Rattle.dm_two_peers.specs.Peers.{NackEvent, GoneEvent, SubmitEvent, ArrivedEvent, Action, Connect}
+use Rattle.dm_two_peers.specs.Peers.{Send, Close, Reply, ActsBy, Declines, Peers}
 use Rattle.dm_two_peers.specs.Peers as peers
 use Rattle.dm_two_peers.specs.Happens.{Happening, Starts, Acks, Delivers, run}
 use Rattle.dm_two_peers.specs.Follows.{IsMachine}
@@ -24,15 +26,15 @@ abbrev pub peer_of_kind : Bool → Node → KindPeer
 peer_of_kind wins n = record { node = n; wins = wins }
 
 abbrev pub kind_input : Event Word → Input
-kind_input (Start c) = input.Start c
-kind_input (Stop cause) = input.Stop
-kind_input Timeout = input.Timeout
-kind_input Tick = input.Tick
-kind_input (Ack c) = input.Ack c
-kind_input (Nack c) = input.Nack c
-kind_input (Gone c) = input.Gone c
-kind_input (Submit w) = input.Submit
-kind_input (Arrived c w) = input.Heard c w
+kind_input (StartEvent c) = input.Start c
+kind_input (StopEvent cause) = input.Stop
+kind_input TimeoutEvent = input.Timeout
+kind_input TickEvent = input.Tick
+kind_input (AckEvent c) = input.Ack c
+kind_input (NackEvent c) = input.Nack c
+kind_input (GoneEvent c) = input.Gone c
+kind_input (SubmitEvent w) = input.Submit
+kind_input (ArrivedEvent c w) = input.Heard c w
 
 abbrev pub kind_action : Command → Action Word
 kind_action (command.Connect c) = Connect c
@@ -45,17 +47,17 @@ kind_action (command.SendDpr c) = Send c Dpr
 kind_action (command.SendDpa c) = Send c Dpa
 kind_action (command.SendSubmit c) = Send c Other
 kind_action (command.Close c) = Close c
-kind_action command.Up = peers.Up Other
+kind_action command.Up = peers.HandUp Other
 
-abbrev pub reply_by : Bool → Outcome → Reply KindPeer Word
-reply_by wins (Moved commands n) = Acts (map kind_action commands) (peer_of_kind wins n)
-reply_by wins (Refused r) = Declines
+abbrev pub reply_by : Bool → NodeOutcome → Reply KindPeer Word
+reply_by wins (NodeMoved commands n) = ActsBy (map kind_action commands) (peer_of_kind wins n)
+reply_by wins (NodeRefused r) = Declines
 
 abbrev pub kinds : Peers KindPeer Word
 kinds =
     record {
       node_of = λ p. p.node;
-      reply = λ p e. reply_by p.wins (outcome p.node (kind_input e) p.wins);
+      reply = λ p e. reply_by p.wins (machine_outcome p.node (kind_input e) p.wins);
       reset = λ p. peer_of_kind p.wins closed_node;
       size = λ w. 1;
     }

@@ -17,9 +17,9 @@ opens _ _ = false
 
 -- a link's connect is pending, it is up, or it is cancelled
 pub data LinkPhase : Type 0 where
-  Pending : LinkPhase
-  Up : LinkPhase
-  Cancelled : LinkPhase
+  LinkPending : LinkPhase
+  LinkUp : LinkPhase
+  LinkCancelled : LinkPhase
 
 -- an end of a link that is up: no message of it came yet, it is open, or shut
 pub data End : Type 0 where
@@ -57,7 +57,7 @@ abbrev pub new_link : {M : Type 0} → Side → Link M
 new_link s =
     record {
       opener = s;
-      phase = Pending;
+      phase = LinkPending;
       opener_end = Shut;
       other_end = Shut;
       to_opener = empty_direction;

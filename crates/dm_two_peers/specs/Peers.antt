@@ -1,7 +1,8 @@
 -- A peer in a world: whatever answers an event with actions. Its state is of any type P, its messages of any type M.
 use Rattle.std.specs.Prelude.{ℕ, Bool, false, ◌||◌, ◌==◌, List, [], ◌∷◌}
 use Rattle.dm_machine.specs.Deeds.{Deed, ConnectsOn, SendsOn, ClosesOn, HandsUp}
-use Rattle.dm_two_peers.specs.Machine.{Conn, Node, Concern, Elsewhere, StartsIt, AcksIt, NacksIt, EndsIt, HeardOnIt}
+use Rattle.dm_two_peers.specs.Machine.{Conn, Node, LinkConcern, Elsewhere, StartsLink}
+use Rattle.dm_two_peers.specs.Machine.{MakesLink, FailsLink, EndsLink, HeardOnLink}
 use Rattle.dm_two_peers.specs.Machine.{concern_if_named}
 
 -- why a peer is told to disconnect [5.4.3]
@@ -11,24 +12,24 @@ pub data Cause : Type 0 where
   DoNotWantToTalkToYou : Cause
 
 pub data Event (M : Type 0) : Type 0 where
-  Start : Conn → Event M
-  Stop : Cause → Event M
-  Timeout : Event M
-  Tick : Event M
-  Ack : Conn → Event M
-  Nack : Conn → Event M
-  Gone : Conn → Event M
-  Submit : M → Event M
-  Arrived : Conn → M → Event M
+  StartEvent : Conn → Event M
+  StopEvent : Cause → Event M
+  TimeoutEvent : Event M
+  TickEvent : Event M
+  AckEvent : Conn → Event M
+  NackEvent : Conn → Event M
+  GoneEvent : Conn → Event M
+  SubmitEvent : M → Event M
+  ArrivedEvent : Conn → M → Event M
 
 pub data Action (M : Type 0) : Type 0 where
   Connect : Conn → Action M
   Send : Conn → M → Action M
   Close : Conn → Action M
-  Up : M → Action M
+  HandUp : M → Action M
 
 pub data Reply (P M : Type 0) : Type 0 where
-  Acts : List (Action M) → P → Reply P M
+  ActsBy : List (Action M) → P → Reply P M
   Declines : Reply P M
 
 -- the node that a peer is in, its reply to an event, its state after a restart, and how many octets a message has
@@ -39,20 +40,20 @@ pub record Peers (P M : Type 0) : Type 0 where
   pub size : M → ℕ
 
 -- how an event concerns a connection
-abbrev pub concern_by : {M : Type 0} → Event M → Conn → Concern
-concern_by (Start d) c = concern_if_named d c StartsIt
-concern_by (Ack d) c = concern_if_named d c AcksIt
-concern_by (Nack d) c = concern_if_named d c NacksIt
-concern_by (Gone d) c = concern_if_named d c EndsIt
-concern_by (Arrived d m) c = concern_if_named d c HeardOnIt
+abbrev pub concern_by : {M : Type 0} → Event M → Conn → LinkConcern
+concern_by (StartEvent d) c = concern_if_named d c StartsLink
+concern_by (AckEvent d) c = concern_if_named d c MakesLink
+concern_by (NackEvent d) c = concern_if_named d c FailsLink
+concern_by (GoneEvent d) c = concern_if_named d c EndsLink
+concern_by (ArrivedEvent d m) c = concern_if_named d c HeardOnLink
 concern_by _ c = Elsewhere
 
 -- what an action does, whatever it says
-abbrev pub deed_of : {M : Type 0} → Action M → Deed
-deed_of (Connect c) = ConnectsOn c
-deed_of (Send c m) = SendsOn c
-deed_of (Close c) = ClosesOn c
-deed_of (Up m) = HandsUp
+abbrev pub deed_in : {M : Type 0} → Action M → Deed
+deed_in (Connect c) = ConnectsOn c
+deed_in (Send c m) = SendsOn c
+deed_in (Close c) = ClosesOn c
+deed_in (HandUp m) = HandsUp
 
 -- whether one of the deeds closes a link, or sends on it
 abbrev pub closes_at : ℕ → List Deed → Bool

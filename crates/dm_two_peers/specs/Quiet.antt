@@ -2,9 +2,9 @@
 use Rattle.std.specs.Prelude.{ℕ, ◌+◌, Bool, true, false, ◌&&◌, nat_lt, if◌then◌else◌, Option, Some, None, List, [], ◌∷◌}
 use Rattle.std.specs.Prelude.{◌++◌, length, slice_get}
 use Rattle.std.specs.List.{list_all}
-use Rattle.dm_two_peers.specs.Links.{Side, A, B, opens, Pending, Coming, Direction, Link}
+use Rattle.dm_two_peers.specs.Links.{Side, A, B, opens, LinkPending, Coming, Direction, Link}
 use Rattle.dm_two_peers.specs.Peers.{Peers}
-use Rattle.dm_two_peers.specs.Worlds.{World, After, Done}
+use Rattle.dm_two_peers.specs.Worlds.{World, After, DoneWith}
 use Rattle.dm_two_peers.specs.Happens.{Happening, Starts, Acks, Delivers, Pieces, own_view, happens, world_after}
 
 -- nothing is under way in a direction
@@ -12,7 +12,7 @@ abbrev pub is_still : {M : Type 0} → Direction M → Bool
 is_still d = elim d.messages [ [] ↦ elim d.mark [ Coming ↦ false | _ ↦ true ] | x ∷ xs ↦ false ]
 
 abbrev pub is_quiet_link : {M : Type 0} → Link M → Bool
-is_quiet_link l = elim l.phase [ Pending ↦ false | _ ↦ is_still l.to_opener && is_still l.to_other ]
+is_quiet_link l = elim l.phase [ LinkPending ↦ false | _ ↦ is_still l.to_opener && is_still l.to_other ]
 
 -- no link is pending, and no direction has a message or a disconnect that is coming
 abbrev pub is_quiet : {P M : Type 0} → World P M → Bool
@@ -31,7 +31,7 @@ is_clean hs = list_all (λ h. is_clean_one h) hs
 
 -- the link that a happening makes, where it is a taken Start of the side
 abbrev pub makes : {P M : Type 0} → Side → World P M → Happening M → After P M → List ℕ
-makes s w (Starts t) (Done next put) = if opens s t then length w.links ∷ [] else []
+makes s w (Starts t) (DoneWith next put) = if opens s t then length w.links ∷ [] else []
 makes s w _ _ = []
 
 -- the links that the taken Starts of a side make in a run
@@ -53,7 +53,7 @@ cost m w (Pieces c s k) = if is_in_part_at m.size s k (slice_get w.links c) then
 cost m w _ = 1
 
 abbrev pub steps_of : {P M : Type 0} → Peers P M → World P M → Happening M → After P M → ℕ
-steps_of m w h (Done next put) = cost m w h
+steps_of m w h (DoneWith next put) = cost m w h
 steps_of m w h _ = 0
 
 -- the steps of a run: its happenings that aren't ignored, but for pieces that end no message

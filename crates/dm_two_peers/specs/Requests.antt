@@ -4,12 +4,13 @@ use Rattle.std.specs.Prelude.{◌≡◌, ◌⊎◌, ℕ, Bool, true, false, ◌=
 use Rattle.std.specs.Prelude.{IsTrue, map}
 use Rattle.std.specs.List.{list_any}
 use Rattle.dm_machine.specs.Connection.{Hold, NotHeld, Pending, Made, Taken, hold_of}
-use Rattle.dm_two_peers.specs.Machine.{conn, Concern, StartsIt, AcksIt}
-use Rattle.dm_two_peers.specs.Peers.{Event, Arrived, Action, Send, Acts, Peers, concern_by, deed_of, closes_at}
+use Rattle.dm_two_peers.specs.Machine.{conn, LinkConcern, StartsLink, MakesLink}
+use Rattle.dm_two_peers.specs.Peers.{Event, ArrivedEvent, Action, Send, ActsBy, Peers, concern_by, deed_in, closes_at}
 use Rattle.dm_two_peers.specs.Delivery.{is_closing_hold, is_unmade, IsCarrier}
 
--- what a peer waits for: the number of its CER whose CEA it awaits, that of its DPR whose DPA it awaits, and that of the
--- CER whose CEA it owes; which messages those are, by their numbers; and whether a message may be a DPR of any number
+-- what a peer waits for: the number of its CER whose CEA it awaits, that of its DPR whose DPA it awaits, and that of
+-- the CER whose CEA it owes; which messages those are, by their numbers; and whether a message may be a DPR of any
+-- number
 pub record Requests (P M : Type 0) : Type 0 where
   pub cea_of : P → Option ℕ
   pub dpa_of : P → Option ℕ
@@ -22,7 +23,7 @@ pub record Requests (P M : Type 0) : Type 0 where
 
 -- the message that an event brings on a link
 abbrev pub heard_on : {M : Type 0} → ℕ → Event M → Option M
-heard_on c (Arrived d x) = if d.0 == c then Some x else None
+heard_on c (ArrivedEvent d x) = if d.0 == c then Some x else None
 heard_on c _ = None
 
 -- what is sent on a link
@@ -72,13 +73,13 @@ pub record HeardEnd {P M : Type 0} (r : Requests P M) (heard : Option M) : Type 
   pub ends : r.asks_end message ≡ true
 
 -- what an event does to a connection that isn't closed at it, by how it concerns it
-pub record MatchesOn {P M : Type 0} (r : Requests P M) (p next : P) (before after : Hold) (k : Concern)
+pub record MatchesOn {P M : Type 0} (r : Requests P M) (p next : P) (before after : Hold) (k : LinkConcern)
     (heard : Option M) (sent : List M) : Type 0 where
   -- a connection is made by its Ack, and then the CER goes out; else it was so before
-  pub asks : before ≡ Pending → k ≡ AcksIt → after ≡ Made → AsksCea r next sent
-  pub awaits : (before ≡ Pending → k ≡ AcksIt → ⊥) → after ≡ Made → StillAwaits r p next before heard sent
+  pub asks : before ≡ Pending → k ≡ MakesLink → after ≡ Made → AsksCea r next sent
+  pub awaits : (before ≡ Pending → k ≡ MakesLink → ⊥) → after ≡ Made → StillAwaits r p next before heard sent
   -- nothing is made of a new connection on which nothing comes
-  pub rests : before ≡ NotHeld → heard ≡ None → (k ≡ StartsIt → ⊥) → (after ≡ NotHeld) × (sent ≡ [])
+  pub rests : before ≡ NotHeld → heard ≡ None → (k ≡ StartsLink → ⊥) → (after ≡ NotHeld) × (sent ≡ [])
   -- a CER that comes first waits for its CEA, and so it does until that goes out
   pub takes : before ≡ NotHeld → (x : M) (n : ℕ) → heard ≡ Some x → r.is_cer n x ≡ true → Owes r next after sent n
   pub owes : before ≡ Taken → (n : ℕ) → r.cer_of p ≡ Some n → Owes r next after sent n
@@ -97,9 +98,9 @@ pub record MatchesOn {P M : Type 0} (r : Requests P M) (p next : P) (before afte
 -- peers that do so at every event, as every list of events leaves them
 pub record AnswersMatch {P M : Type 0} (m : Peers P M) (r : Requests P M) (stands : P → Bool) : Type 0 where
   pub matches : (p next : P) (e : Event M) (actions : List (Action M)) (c : ℕ) → IsCarrier m stands p →
-      m.reply p e ≡ Acts actions next → closes_at c (map deed_of actions) ≡ false →
+      m.reply p e ≡ ActsBy actions next → closes_at c (map deed_in actions) ≡ false →
       MatchesOn r p next (hold_of (m.node_of p) (conn c)) (hold_of (m.node_of next) (conn c)) (concern_by e (conn c))
       (heard_on c e) (sent_on c actions)
   pub keeps : (p next : P) (e : Event M) (actions : List (Action M)) → IsCarrier m stands p →
-      m.reply p e ≡ Acts actions next → IsTrue (stands next)
+      m.reply p e ≡ ActsBy actions next → IsTrue (stands next)
   pub resets : (p : P) → IsCarrier m stands p → IsTrue (stands (m.reset p))

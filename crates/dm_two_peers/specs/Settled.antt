@@ -4,7 +4,7 @@ use Rattle.dm_machine.specs.declared.state_name.State.TheVariants.{Closed}
 use Rattle.dm_two_peers.specs.Machine.{Initiated, Accepted, is_shaped}
 use Rattle.dm_two_peers.specs.Links.{Side, A, B, flip, Link}
 use Rattle.dm_two_peers.specs.Peers.{Peers}
-use Rattle.dm_two_peers.specs.Worlds.{World, peer_at, Put, Message, Disconnect}
+use Rattle.dm_two_peers.specs.Worlds.{World, peer_on, Put, PutMessage, Disconnect}
 use Rattle.dm_two_peers.specs.Happens.{Happening, RunEnd, run}
 use Rattle.dm_two_peers.specs.Agreement.{IsOpenOn}
 use Rattle.dm_two_peers.specs.Quiet.{is_quiet, is_clean, links_made, steps_taken, KeptLink, kept}
@@ -16,9 +16,9 @@ use Rattle.dm_two_peers.specs.Courses.{IsOnCourse}
 pub data Tally {P M C H : Type 0} (t : Talks P M C H) : List (Put M) → ℕ → ℕ → ℕ → Type 0 where
   no_more : Tally t [] 0 0 0
   one_cer : (c : ℕ) (s : Side) (n : ℕ) (more : List (Put M)) (cers ceas ends : ℕ) → Tally t more cers ceas ends →
-      Tally t (Message c (flip s) (t.cer (t.config s) n) ∷ more) (1 + cers) ceas ends
+      Tally t (PutMessage c (flip s) (t.cer (t.config s) n) ∷ more) (1 + cers) ceas ends
   one_cea : (c : ℕ) (s : Side) (n : ℕ) (more : List (Put M)) (cers ceas ends : ℕ) → Tally t more cers ceas ends →
-      Tally t (Message c (flip s) (t.cea (t.config s) n) ∷ more) cers (1 + ceas) ends
+      Tally t (PutMessage c (flip s) (t.cea (t.config s) n) ∷ more) cers (1 + ceas) ends
   one_disconnect : (c : ℕ) (s : Side) (more : List (Put M)) (cers ceas ends : ℕ) → Tally t more cers ceas ends →
       Tally t (Disconnect c s ∷ more) cers ceas (1 + ends)
 
@@ -39,8 +39,8 @@ disconnects _ _ = 0
 
 -- open on the link that is kept, its opener as initiator and the other side as responder
 pub record AreOpenOnKept {P M : Type 0} (m : Peers P M) (w : World P M) (k : KeptLink) : Type 0 where
-  pub opener : IsOpenOn (m.node_of (peer_at k.opener w)) Initiated k.link
-  pub other : IsOpenOn (m.node_of (peer_at (flip k.opener) w)) Accepted k.link
+  pub opener : IsOpenOn (m.node_of (peer_on k.opener w)) Initiated k.link
+  pub other : IsOpenOn (m.node_of (peer_on (flip k.opener) w)) Accepted k.link
 
 -- where it falls quiet after a taken Start: both are open, and one CEA, one CER for each taken Start, and the
 -- disconnects were put in
@@ -53,7 +53,7 @@ pub record FellQuiet {P M C H : Type 0} (m : Peers P M) (t : Talks P M C H) (w :
 -- what is under way on a link is its opener's CER with the number that the opener awaits, or the CEA with that number
 pub record IsMatchedLink {P M C H : Type 0} (t : Talks P M C H) (w : World P M) (l : Link M) : Type 0 where
   pub number : ℕ
-  pub awaited : t.awaited_of (peer_at l.opener w) ≡ Some number
+  pub awaited : t.awaited_of (peer_on l.opener w) ≡ Some number
   pub asked : All (λ x. x ≡ t.cer (t.config l.opener) number) l.to_other.messages
   pub answered : All (λ x. x ≡ t.cea (t.config (flip l.opener)) number) l.to_opener.messages
 
@@ -61,7 +61,7 @@ pub record IsMatchedLink {P M C H : Type 0} (t : Talks P M C H) (w : World P M) 
 abbrev pub AnswersMatch : {P M C H : Type 0} → Peers P M → Talks P M C H → World P M → Type 0
 AnswersMatch {P} {M} m t w =
     (c : ℕ) (l : Link M) → slice_get w.links c ≡ Some l →
-    IsTrue (awaits_cea (m.node_of (peer_at l.opener w)).state) → IsMatchedLink t w l
+    IsTrue (awaits_cea (m.node_of (peer_on l.opener w)).state) → IsMatchedLink t w l
 
 -- what a run comes to; it has at most nine steps, and four where one side alone starts
 pub record IsSettledRun {P M C H : Type 0} (m : Peers P M) (t : Talks P M C H) (w : World P M) (hs : List (Happening M))

@@ -3,9 +3,9 @@
 use Rattle.std.specs.Prelude.{◌≡◌, ℕ, ◌+◌, ◌<◌, ◌≤◌, Bool, true, ◌&&◌, ◌==◌, nat_lt, IsTrue, IfSome, Some, List, []}
 use Rattle.std.specs.Prelude.{◌∷◌, map, slice_get}
 use Rattle.std.specs.List.{list_all}
-use Rattle.dm_two_peers.specs.Links.{Side, A, B, Up, Direction, Link}
-use Rattle.dm_two_peers.specs.Peers.{Event, Action, Send, Acts, Peers}
-use Rattle.dm_two_peers.specs.Worlds.{World, with_links, After, Done, Ignored, NoLink}
+use Rattle.dm_two_peers.specs.Links.{Side, A, B, LinkUp, Direction, Link}
+use Rattle.dm_two_peers.specs.Peers.{Event, Action, Send, ActsBy, Peers}
+use Rattle.dm_two_peers.specs.Worlds.{World, with_links, After, DoneWith, Ignored, NoLink}
 use Rattle.dm_two_peers.specs.Happens.{Happening, Delivers, Pieces, Loses, own_view, happens, world_after, run}
 use Rattle.dm_two_peers.specs.Laws.{world_of}
 
@@ -33,21 +33,21 @@ sends_sized size [] = true
 sends_sized size (Send c x ∷ more) = nat_lt 0 (size x) && sends_sized size more
 sends_sized size (_ ∷ more) = sends_sized size more
 
-abbrev pub IsSized : {P M : Type 0} → Peers P M → Type 0
-IsSized {P} {M} m =
-    (p next : P) (e : Event M) (actions : List (Action M)) → m.reply p e ≡ Acts actions next →
+abbrev pub IsMeasured : {P M : Type 0} → Peers P M → Type 0
+IsMeasured {P} {M} m =
+    (p next : P) (e : Event M) (actions : List (Action M)) → m.reply p e ≡ ActsBy actions next →
     IsTrue (sends_sized m.size actions)
 
 -- each happening keeps it so
 abbrev pub HappeningKeepsCut : Type 0 → Type 0 → Type 0
 HappeningKeepsCut P M =
-    (m : Peers P M) → IsSized m → (w : World P M) (h : Happening M) → AreCut m w →
+    (m : Peers P M) → IsMeasured m → (w : World P M) (h : Happening M) → AreCut m w →
     AreCut m (world_after w (happens m w h))
 
 -- after every list of happenings fewer octets are delivered of a front message than it has
 abbrev pub EachRunIsCut : Type 0 → Type 0 → Type 0
 EachRunIsCut P M =
-    (m : Peers P M) → IsSized m → (a b : P) (hs : List (Happening M)) →
+    (m : Peers P M) → IsMeasured m → (a b : P) (hs : List (Happening M)) →
     IfSome (run m (world_of a b) hs) (λ r. AreCut m r.world)
 
 -- a world but for the octets delivered
@@ -61,16 +61,16 @@ abbrev pub whole_world : {P M : Type 0} → World P M → World P M
 whole_world w = with_links (map (λ l. whole_link l) w.links) w
 
 -- a link that is up, with a front message in the direction to a side
-pub record IsFront {P M : Type 0} (w : World P M) (c : ℕ) (s : Side) (l : Link M) (x : M)
+pub record IsNextTowards {P M : Type 0} (w : World P M) (c : ℕ) (s : Side) (l : Link M) (x : M)
     (more : List M) : Type 0 where
   pub there : slice_get w.links c ≡ Some l
-  pub up : l.phase ≡ Up
+  pub up : l.phase ≡ LinkUp
   pub front : (own_view s l).incoming.messages ≡ x ∷ more
 
 -- it changes nothing but the octets delivered
 pub record IsPartOnly {P M : Type 0} (w : World P M) (after : After P M) : Type 0 where
   pub world : World P M
-  pub is : after ≡ Done world []
+  pub is : after ≡ DoneWith world []
   pub same : whole_world world ≡ whole_world w
 
 -- a piece that ends no message changes nothing else; one that ends its message is the delivery
@@ -82,11 +82,11 @@ pub record IsPiece {P M : Type 0} (m : Peers P M) (w : World P M) (c : ℕ) (s :
 abbrev pub EachPieceAddsUp : Type 0 → Type 0 → Type 0
 EachPieceAddsUp P M =
     (m : Peers P M) (w : World P M) (c : ℕ) (s : Side) (l : Link M) (x : M) (more : List M) (k : ℕ) → 0 < k →
-    IsFront w c s l x more → IsPiece m w c s l x k
+    IsNextTowards w c s l x more → IsPiece m w c s l x k
 
 -- an outcome but for the octets delivered
 abbrev pub whole_after : {P M : Type 0} → After P M → After P M
-whole_after (Done w put) = Done (whole_world w) put
+whole_after (DoneWith w put) = DoneWith (whole_world w) put
 whole_after Ignored = Ignored
 whole_after NoLink = NoLink
 

@@ -8,14 +8,15 @@ use Rattle.dm_machine.specs.declared.inputs.Word.TheVariants.{Other}
 use Rattle.dm_machine.specs.declared.inputs.Input.TheVariants as input
 use Rattle.dm_machine.specs.declared.outputs.Command.TheVariants as command
 use Rattle.dm_machine.specs.Connection.{Hold, NotHeld, hold_of}
-use Rattle.dm_machine.specs.Moves.{Outcome, Moved, Refused}
+use Rattle.dm_machine.specs.Moves.{NodeOutcome, NodeMoved, NodeRefused}
 use Rattle.dm_machine.specs.Unread.{reads_first}
-use Rattle.dm_two_peers.specs.Machine.{Conn, Node, Input, Command, outcome, closed_node}
+use Rattle.dm_two_peers.specs.Machine.{Conn, Node, Input, Command, machine_outcome, closed_node}
 use Rattle.dm_two_peers.specs.Links.{Side, A, B}
-use Rattle.dm_two_peers.specs.Peers.{Event, Start, Stop, Timeout, Tick, Ack, Nack, Gone, Submit, Arrived, Action, Connect}
-use Rattle.dm_two_peers.specs.Peers.{Send, Close, Reply, Acts, Declines, Peers}
+use Rattle.dm_two_peers.specs.Peers.{Event, StartEvent, StopEvent, TimeoutEvent, TickEvent, AckEvent}
+use Rattle.dm_two_peers.specs.Peers.{NackEvent, GoneEvent, SubmitEvent, ArrivedEvent, Action, Connect}
+use Rattle.dm_two_peers.specs.Peers.{Send, Close, Reply, ActsBy, Declines, Peers}
 use Rattle.dm_two_peers.specs.Peers as peers
-use Rattle.dm_two_peers.specs.Worlds.{World, Message, Disconnect}
+use Rattle.dm_two_peers.specs.Worlds.{World, PutMessage, Disconnect}
 use Rattle.dm_two_peers.specs.Happens.{run}
 use Rattle.dm_two_peers.specs.Laws.{world_of}
 use Rattle.dm_two_peers.specs.Kinds.{one_starts, both_start}
@@ -46,18 +47,18 @@ abbrev pub is_unread_by : Talker → Conn → Bool
 is_unread_by p c = not (reads_first p.node.state) && is_unheld (hold_of p.node c)
 
 abbrev pub talker_input : Talker → Event Note → Input
-talker_input p (Start c) = input.Start c
-talker_input p (Stop cause) = input.Stop
-talker_input p Timeout = input.Timeout
-talker_input p Tick = input.Tick
-talker_input p (Ack c) = input.Ack c
-talker_input p (Nack c) = input.Nack c
-talker_input p (Gone c) = input.Gone c
-talker_input p (Submit x) = input.Submit
-talker_input p (Arrived c x) = if is_unread_by p c then input.Heard c Unreadable else input.Heard c x.word
+talker_input p (StartEvent c) = input.Start c
+talker_input p (StopEvent cause) = input.Stop
+talker_input p TimeoutEvent = input.Timeout
+talker_input p TickEvent = input.Tick
+talker_input p (AckEvent c) = input.Ack c
+talker_input p (NackEvent c) = input.Nack c
+talker_input p (GoneEvent c) = input.Gone c
+talker_input p (SubmitEvent x) = input.Submit
+talker_input p (ArrivedEvent c x) = if is_unread_by p c then input.Heard c Unreadable else input.Heard c x.word
 
 abbrev pub talker_heard : Talker → Event Note → Option ℕ
-talker_heard p (Arrived c x) = if is_unread_by p c then None else Some x.number
+talker_heard p (ArrivedEvent c x) = if is_unread_by p c then None else Some x.number
 talker_heard p _ = None
 
 abbrev pub number_or_zero : Option ℕ → ℕ
@@ -75,7 +76,7 @@ talker_action p heard (command.SendDpr c) = Send c (note_of Dpr 0)
 talker_action p heard (command.SendDpa c) = Send c (note_of Dpa 0)
 talker_action p heard (command.SendSubmit c) = Send c (note_of Other 0)
 talker_action p heard (command.Close c) = Close c
-talker_action p heard command.Up = peers.Up (note_of Other 0)
+talker_action p heard command.Up = peers.HandUp (note_of Other 0)
 
 abbrev pub talker_after : Talker → Option ℕ → List Command → Node → Talker
 talker_after p heard commands n =
@@ -87,9 +88,9 @@ talker_after p heard commands n =
       waiting = waiting_after p.node.state heard n.state p.waiting;
     }
 
-abbrev pub talk_by : Talker → Option ℕ → Outcome → Reply Talker Note
-talk_by p heard (Moved commands n) = Acts (map (talker_action p heard) commands) (talker_after p heard commands n)
-talk_by p heard (Refused r) = Declines
+abbrev pub talk_by : Talker → Option ℕ → NodeOutcome → Reply Talker Note
+talk_by p heard (NodeMoved commands n) = ActsBy (map (talker_action p heard) commands) (talker_after p heard commands n)
+talk_by p heard (NodeRefused r) = Declines
 
 -- a closed one, that uses a number
 abbrev pub closed_talker : Bool → ℕ → Talker
@@ -99,7 +100,7 @@ abbrev pub talkers : Peers Talker Note
 talkers =
     record {
       node_of = λ p. p.node;
-      reply = λ p e. talk_by p (talker_heard p e) (outcome p.node (talker_input p e) p.wins);
+      reply = λ p e. talk_by p (talker_heard p e) (machine_outcome p.node (talker_input p e) p.wins);
       reset = λ p. closed_talker p.wins p.next;
       size = λ x. 1;
     }
@@ -139,9 +140,9 @@ pub record TwoTalks : Type 0 where
   pub its_link : kept talkers is_a two_talkers one_starts ≡ Some (record { opener = A; link = 0 })
   pub both_sides : IfSome (run talkers two_talkers both_start) (λ r. (is_quiet r.world ≡ true) × (length r.put ≡ 5))
   pub one_course : IfSome (run talkers two_talkers one_starts)
-      (λ r. r.put ≡ Message 0 B (note_of Cer 7) ∷ Message 0 A (note_of Cea 7) ∷ [])
+      (λ r. r.put ≡ PutMessage 0 B (note_of Cer 7) ∷ PutMessage 0 A (note_of Cea 7) ∷ [])
   pub both_courses : IfSome (run talkers two_talkers both_start)
-      (λ r. r.put ≡ Message 0 B (note_of Cer 7) ∷ Message 1 A (note_of Cer 8) ∷ Disconnect 0 B ∷
-      Message 1 B (note_of Cea 8)
+      (λ r. r.put ≡ PutMessage 0 B (note_of Cer 7) ∷ PutMessage 1 A (note_of Cer 8) ∷ Disconnect 0 B ∷
+      PutMessage 1 B (note_of Cea 8)
       ∷ Disconnect 0 A ∷ [])
   pub kept_link : kept talkers is_a two_talkers both_start ≡ Some (record { opener = B; link = 1 })

@@ -112,8 +112,8 @@ pub fn quiet_is_joined<P, M>()
     ensures { QuietIsJoined P M }
 {}
 
-/// Wherever a run of two closed peers falls quiet, whatever was lost and restarted, both are Closed, or both are open on
-/// one connection in opposite roles, I-Open against R-Open, if one of them at least didn't lose its election to the
+/// Wherever a run of two closed peers falls quiet, whatever was lost and restarted, both are Closed, or both are open
+/// on one connection in opposite roles, I-Open against R-Open, if one of them at least didn't lose its election to the
 /// other: none is left in Wait-I-CEA or Closing.
 ///
 /// It holds of peers that match an answer with its request by its number (`AnswersMatch`, RFC 6733, 3).

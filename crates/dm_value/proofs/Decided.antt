@@ -10,7 +10,7 @@ use Rattle.std.proofs.lemmas.List.{take-append-drop}
 use Rattle.std.proofs.lemmas.Slice.Eq.{bytes_eq-Decides}
 use Rattle.std.proofs.lemmas.Str.{is_utf8-from_IsUtf8, IsUtf8-from_is_utf8}
 use Rattle.std.proofs.Math.Seq.{take-append_seam, drop-append_seam}
-use Rattle.dm_value.specs.Columns.{IsVisible, IsUri, family}
+use Rattle.dm_value.specs.Columns.{IsVisibleOctet, HasUriForm, family}
 use Rattle.dm_value.specs.Flaws.{is_visible, is_visible_text, is_under, is_uri, has_its_size}
 
 Decides-le : (a b : ℕ) → Decides (nat_le a b) (a ≤ b)
@@ -19,12 +19,12 @@ Decides-le a b = (leb-true a b, le-leb a b)
 pub Decides-utf8 : (s : List ℕ) → Decides (is_utf8 s) (IsUtf8 s)
 Decides-utf8 s = (IsUtf8-from_is_utf8 s, is_utf8-from_IsUtf8 s)
 
-pub Decides-visible : (octet : ℕ) → Decides (is_visible octet) (IsVisible octet)
+pub Decides-visible : (octet : ℕ) → Decides (is_visible octet) (IsVisibleOctet octet)
 Decides-visible octet =
     Decides-and (nat_le 0x21 octet) (nat_le octet 0x7e) (Decides-le 0x21 octet) (Decides-le octet 0x7e)
 
-pub Decides-all_visible : (s : List ℕ) → Decides (list_all is_visible s) (All IsVisible s)
-Decides-all_visible s = Decides-by_and is_visible IsVisible (list_all is_visible) Decides-visible refl (λ _ _. refl) s
+pub Decides-all_visible : (s : List ℕ) → Decides (list_all is_visible s) (All IsVisibleOctet s)
+Decides-all_visible s = Decides-by_and is_visible IsVisibleOctet (list_all is_visible) Decides-visible refl (λ _ _. refl) s
 
 some_from_length : (s : List ℕ) → 0 < length s → s ≢ []
 some_from_length s h e = let n = ap length e in omega arith
@@ -33,7 +33,7 @@ length_from_some : (s : List ℕ) → s ≢ [] → 0 < length s
 length_from_some [] h = absurd (h refl)
 length_from_some (x ∷ s) h = omega arith
 
-pub Decides-visible_text : (s : List ℕ) → Decides (is_visible_text s) ((s ≢ []) × All IsVisible s)
+pub Decides-visible_text : (s : List ℕ) → Decides (is_visible_text s) ((s ≢ []) × All IsVisibleOctet s)
 Decides-visible_text s =
     Decides-and (nat_lt 0 (length s)) (list_all is_visible s)
     (Decides-like (nat_lt 0 (length s)) (some_from_length s) (length_from_some s) (Decides-ltb 0 (length s)))
@@ -41,10 +41,10 @@ Decides-visible_text s =
 
 -- octets under the scheme
 abbrev IsUnder : List ℕ → List ℕ → Type 0
-IsUnder scheme s = (rest : List ℕ) × (s ≡ scheme ++ rest) × (rest ≢ []) × All IsVisible rest
+IsUnder scheme s = (rest : List ℕ) × (s ≡ scheme ++ rest) × (rest ≢ []) × All IsVisibleOctet rest
 
-behind : (r t : List ℕ) → r ≡ t → r ≢ [] → All IsVisible r → (t ≢ []) × All IsVisible t
-behind r t e some all = (λ f. some (e ∙ f), subst (All IsVisible) e all)
+behind : (r t : List ℕ) → r ≡ t → r ≢ [] → All IsVisibleOctet r → (t ≢ []) × All IsVisibleOctet t
+behind r t e some all = (λ f. some (e ∙ f), subst (All IsVisibleOctet) e all)
 
 Decides-under : (scheme s : List ℕ) → Decides (is_under scheme s) (IsUnder scheme s)
 Decides-under scheme s =
@@ -59,7 +59,7 @@ Decides-under scheme s =
     (Decides-and (bytes_eq front scheme) (is_visible_text rest) (bytes_eq-Decides front scheme)
     (Decides-visible_text rest))
 
-pub Decides-uri : (s : List ℕ) → Decides (is_uri s) (IsUri s)
+pub Decides-uri : (s : List ℕ) → Decides (is_uri s) (HasUriForm s)
 Decides-uri s =
     let one = codes "aaa://" in
     let two = codes "aaas://" in

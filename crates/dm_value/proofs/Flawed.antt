@@ -9,7 +9,7 @@ use Rattle.dm_value.specs.declared.avp_type.AvpType.{AvpType}
 use Rattle.dm_value.specs.declared.avp_type.AvpType.TheVariants.{OctetString, Integer32, Integer64, Unsigned32, Unsigned64, Address, Time, UTF8String, DiameterIdentity, DiameterURI, Enumerated, Grouped}
 use Rattle.dm_value.specs.declared.fault.ValueFault.{ValueFault}
 use Rattle.dm_value.specs.declared.fault.ValueFault.TheVariants.{WrongLength, WrongValue}
-use Rattle.dm_value.specs.Columns.{IsVisible, IsUri, HasWrongLength, HasWrongValue, RefusesData}
+use Rattle.dm_value.specs.Columns.{IsVisibleOctet, HasUriForm, HasWrongLength, HasWrongValue, RefusesData}
 use Rattle.dm_wire.specs.Octets.{AreOctets}
 use Rattle.dm_value.specs.Flaws.{flaw, is_visible, is_uri, sized, tested}
 use Rattle.dm_value.proofs.Decided.{Refutes, Refutes-from_Decides, Refutes-size, Decides-utf8, Decides-all_visible, Decides-uri}
@@ -122,10 +122,10 @@ tested_none n right s e = by (nat_lt (length s) n) right e where
   by false true e = refl
   by false false e = (cc)
 
-pub uri_from_none : (s : List ℕ) → flaw DiameterURI s ≡ None → IsUri s
+pub uri_from_none : (s : List ℕ) → flaw DiameterURI s ≡ None → HasUriForm s
 uri_from_none s e = (Decides-uri s).0 (tested_none 7 (is_uri s) s e)
 
-pub identity_from_none : (s : List ℕ) → flaw DiameterIdentity s ≡ None → (s ≢ []) × All IsVisible s
+pub identity_from_none : (s : List ℕ) → flaw DiameterIdentity s ≡ None → (s ≢ []) × All IsVisibleOctet s
 identity_from_none s e = (
   λ z. (cc ((flaw_tells DiameterIdentity s (λ g. (cc))).0.1 z, e)),
   (Decides-all_visible s).0 (tested_none 1 (list_all is_visible s) s e),

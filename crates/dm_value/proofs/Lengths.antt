@@ -9,7 +9,7 @@ use Rattle.dm_value.specs.declared.avp_type.AvpType.TheVariants.{OctetString, In
 use Rattle.dm_value.specs.declared.value.Value.{Value}
 use Rattle.dm_value.specs.declared.value.Value.TheVariants as value
 use Rattle.dm_value.specs.declared.address.Address.TheVariants as address
-use Rattle.dm_value.specs.Columns.{least_length as least, IsVisible, HasWrongLength}
+use Rattle.dm_value.specs.Columns.{least_length as least, IsVisibleOctet, HasWrongLength}
 use Rattle.dm_value.specs.Flaws.{is_visible}
 use Rattle.dm_value.specs.Meaning.{Means}
 use Rattle.dm_value.proofs.Decided.{Decides-all_visible}
@@ -39,7 +39,7 @@ long Grouped s h = omega arith
 at_least : (kind : AvpType) (s : List ℕ) (v : Value) → Means kind s v → least kind ≤ length s
 at_least kind s v h = long kind s (no_fault kind s v h).0
 
-all_visible : (s : List ℕ) → list_all is_visible s ≡ true → All IsVisible s
+all_visible : (s : List ℕ) → list_all is_visible s ≡ true → All IsVisibleOctet s
 all_visible s e = (Decides-all_visible s).0 e
 
 attained : (kind : AvpType) → (s : List ℕ) × (v : Value) × Means kind s v × (length s ≡ least kind)

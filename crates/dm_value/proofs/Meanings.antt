@@ -11,7 +11,7 @@ use Rattle.dm_value.specs.declared.value.Value.TheVariants as value
 use Rattle.dm_value.specs.declared.address.Address.{Address as AnAddress}
 use Rattle.dm_value.specs.declared.address.Address.TheVariants as address
 use Rattle.dm_value.specs.declared.address.Ip.TheVariants.{V4, V6}
-use Rattle.dm_value.specs.Columns.{family, IsUri, HasWrongLength, HasWrongValue, RefusesData}
+use Rattle.dm_value.specs.Columns.{family, HasUriForm, HasWrongLength, HasWrongValue, RefusesData}
 use Rattle.dm_value.specs.Meaning.{Means, type_of}
 use Rattle.dm_value.specs.OneValue.{OneValue}
 
@@ -112,7 +112,7 @@ not_empty [] h = absurd (h refl)
 not_empty (x ∷ s) h = omega arith
 
 -- a URI has 7 octets or more
-uri_long : (s : List ℕ) → IsUri s → 7 ≤ length s
+uri_long : (s : List ℕ) → HasUriForm s → 7 ≤ length s
 uri_long s (rest, inl e, some, all) =
     let more = not_empty rest some in
     let size = ap length e ∙ length-append (codes "aaa://") rest in

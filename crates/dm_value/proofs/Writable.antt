@@ -17,7 +17,7 @@ use Rattle.dm_value.specs.declared.value.Value.{Value}
 use Rattle.dm_value.specs.declared.value.Value.TheVariants as value
 use Rattle.dm_value.specs.declared.address.Address.TheVariants as address
 use Rattle.dm_value.specs.declared.address.Ip.TheVariants.{V4, V6}
-use Rattle.dm_value.specs.Columns.{IsVisible, IsUri}
+use Rattle.dm_value.specs.Columns.{IsVisibleOctet, HasUriForm}
 use Rattle.dm_value.specs.Flaws.{flaw}
 use Rattle.dm_value.specs.Meaning.{Means, IsInRange, HasNoOctets, HasLongMember, IsMisshapen}
 use Rattle.dm_value.proofs.Flawed.{fault_by_flaw, uri_from_none, identity_from_none}
@@ -34,10 +34,10 @@ none_by : (r : Option ValueFault) → ((r ≢ None) → ⊥) → r ≡ None
 none_by None h = refl
 none_by (Some f) h = absurd (h (λ e. (cc)))
 
-pub shaped_uri : (b : List ℕ) → (flaw DiameterURI b ≢ None → ⊥) → IsUri b
+pub shaped_uri : (b : List ℕ) → (flaw DiameterURI b ≢ None → ⊥) → HasUriForm b
 shaped_uri b h = uri_from_none b (none_by (flaw DiameterURI b) h)
 
-shaped_identity : (b : List ℕ) → (flaw DiameterIdentity b ≢ None → ⊥) → (b ≢ []) × All IsVisible b
+shaped_identity : (b : List ℕ) → (flaw DiameterIdentity b ≢ None → ⊥) → (b ≢ []) × All IsVisibleOctet b
 shaped_identity b h = identity_from_none b (none_by (flaw DiameterIdentity b) h)
 
 -- a misshapen value has no octets, and not for a member's length

@@ -7,7 +7,9 @@ use Rattle.byteorder.specs.Endian.{big_number}
 use Rattle.dm_wire.specs.declared.avp.Avp.{Avp}
 use Rattle.dm_wire.specs.Spelling.{SpellsList}
 use Rattle.dm_value.specs.declared.avp_type.AvpType.{AvpType}
-use Rattle.dm_value.specs.declared.avp_type.AvpType.TheVariants.{OctetString, Integer32, Integer64, Unsigned32, Unsigned64, Address, Time, UTF8String, DiameterIdentity, DiameterURI, Enumerated, Grouped}
+use Rattle.dm_value.specs.declared.avp_type.AvpType.TheVariants.{OctetString, Integer32, Integer64, Unsigned32}
+use Rattle.dm_value.specs.declared.avp_type.AvpType.TheVariants.{Unsigned64, Address, Time, UTF8String}
+use Rattle.dm_value.specs.declared.avp_type.AvpType.TheVariants.{DiameterIdentity, DiameterURI, Enumerated, Grouped}
 use Rattle.dm_value.specs.declared.fault.ValueFault.{ValueFault}
 use Rattle.dm_value.specs.declared.fault.ValueFault.TheVariants.{WrongLength, WrongValue, TooLong, NoMemory}
 
@@ -27,13 +29,14 @@ least_length Enumerated = 4
 least_length Grouped = 0
 
 -- an octet that an identity or a URI may have: ASCII, no space and no control
-abbrev pub IsVisible : ℕ → Type 0
-IsVisible octet = (0x21 ≤ octet) × (octet ≤ 0x7e)
+abbrev pub IsVisibleOctet : ℕ → Type 0
+IsVisibleOctet octet = (0x21 ≤ octet) × (octet ≤ 0x7e)
 
 -- a URI's form, as far as it is looked at: a scheme in lower case, and at least one visible octet (4.3.1)
-abbrev pub IsUri : List ℕ → Type 0
-IsUri s =
-    (rest : List ℕ) × ((s ≡ codes "aaa://" ++ rest) ⊎ (s ≡ codes "aaas://" ++ rest)) × (rest ≢ []) × All IsVisible rest
+abbrev pub HasUriForm : List ℕ → Type 0
+HasUriForm s =
+    (rest : List ℕ) × ((s ≡ codes "aaa://" ++ rest) ⊎ (s ≡ codes "aaas://" ++ rest)) × (rest ≢ [])
+    × All IsVisibleOctet rest
 
 -- the address family: the first two octets (4.3.1)
 abbrev pub family : List ℕ → ℕ
@@ -58,8 +61,8 @@ HasWrongLength Grouped s = (l : List Avp) → SpellsList l s → ⊥
 abbrev pub HasWrongValue : AvpType → List ℕ → Type 0
 HasWrongValue Address s = ((family s ≡ 1) × (length s ≢ 6)) ⊎ ((family s ≡ 2) × (length s ≢ 18))
 HasWrongValue UTF8String s = IsUtf8 s → ⊥
-HasWrongValue DiameterIdentity s = All IsVisible s → ⊥
-HasWrongValue DiameterURI s = IsUri s → ⊥
+HasWrongValue DiameterIdentity s = All IsVisibleOctet s → ⊥
+HasWrongValue DiameterURI s = HasUriForm s → ⊥
 HasWrongValue _ s = ⊥
 
 -- octets of this type are refused for this fault, memory aside: the length comes first

@@ -7,12 +7,14 @@ use Rattle.byteorder.specs.Endian.{big_number}
 use Rattle.dm_wire.specs.Spelling.{SpellsList}
 use Rattle.dm_wire.specs.Limits.{IsLongList}
 use Rattle.dm_value.specs.declared.avp_type.AvpType.{AvpType}
-use Rattle.dm_value.specs.declared.avp_type.AvpType.TheVariants.{OctetString, Integer32, Integer64, Unsigned32, Unsigned64, Address, Time, UTF8String, DiameterIdentity, DiameterURI, Enumerated, Grouped}
+use Rattle.dm_value.specs.declared.avp_type.AvpType.TheVariants.{OctetString, Integer32, Integer64, Unsigned32}
+use Rattle.dm_value.specs.declared.avp_type.AvpType.TheVariants.{Unsigned64, Address, Time, UTF8String}
+use Rattle.dm_value.specs.declared.avp_type.AvpType.TheVariants.{DiameterIdentity, DiameterURI, Enumerated, Grouped}
 use Rattle.dm_value.specs.declared.value.Value.{Value}
 use Rattle.dm_value.specs.declared.value.Value.TheVariants as value
 use Rattle.dm_value.specs.declared.address.Address.TheVariants as address
 use Rattle.dm_value.specs.declared.address.Ip.TheVariants.{V4, V6}
-use Rattle.dm_value.specs.Columns.{family, IsVisible, IsUri}
+use Rattle.dm_value.specs.Columns.{family, IsVisibleOctet, HasUriForm}
 use Rattle.dm_value.specs.Flaws.{flaw}
 
 -- the octets s of a type have the value v
@@ -33,8 +35,8 @@ Means Address s (value.Addr (address.Other n rest)) =
 Means Time s (value.Time n) = (length s ≡ 4) × (n ≡ big_number 4 s)
 Means UTF8String s (value.Text t) = (t ≡ s) × IsUtf8 s
 -- ASCII, no space and no control (4.3.1)
-Means DiameterIdentity s (value.Identity b) = (b ≡ s) × (s ≢ []) × All IsVisible s
-Means DiameterURI s (value.Uri b) = (b ≡ s) × IsUri s
+Means DiameterIdentity s (value.Identity b) = (b ≡ s) × (s ≢ []) × All IsVisibleOctet s
+Means DiameterURI s (value.Uri b) = (b ≡ s) × HasUriForm s
 -- derived from Integer32 (4.3.1)
 Means Enumerated s (value.Enumerated n) = (length s ≡ 4) × (n ≡ cast_signed w32 (big_number 4 s))
 -- AVPs, one after the other, each padded to a multiple of 4 (4.4)

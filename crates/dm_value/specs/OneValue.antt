@@ -19,7 +19,7 @@ NoValueRefused = (kind : AvpType) (s : List ℕ) (v : Value) → Means kind s v 
     (HasWrongLength kind s → ⊥) × (HasWrongValue kind s → ⊥)
 
 -- no octets below the least length have a value, and some of that length do
-abbrev pub LeastLength : Type 0
-LeastLength =
+abbrev pub EachLeastLength : Type 0
+EachLeastLength =
     (kind : AvpType) → ((s : List ℕ) (v : Value) → Means kind s v → least_length kind ≤ length s)
     × ((s : List ℕ) × (v : Value) × Means kind s v × (length s ≡ least_length kind))

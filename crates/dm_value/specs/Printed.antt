@@ -13,7 +13,8 @@ use Rattle.dm_value.specs.declared.address.Ip.TheVariants.{V4, V6}
 use Rattle.dm_value.specs.declared.address.Address.{Address as AnAddress}
 use Rattle.dm_value.specs.declared.address.Address.TheVariants.{Ip, Other}
 use Rattle.dm_value.specs.declared.value.Value.{Value}
-use Rattle.dm_value.specs.declared.value.Value.TheVariants.{Bytes, Int32, Int64, Uint32, Uint64, Addr, Time, Text, Identity, Uri, Enumerated, Group}
+use Rattle.dm_value.specs.declared.value.Value.TheVariants.{Bytes, Int32, Int64, Uint32, Uint64, Addr}
+use Rattle.dm_value.specs.declared.value.Value.TheVariants.{Time, Text, Identity, Uri, Enumerated, Group}
 use Rattle.dm_value.specs.Dates.{from_1900, utc_at, utc_text}
 use Rattle.dm_value.specs.Times.{unix_time}
 

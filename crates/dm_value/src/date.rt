@@ -1,6 +1,7 @@
 //! The date and the time of day of times (RFC 6733, 4.3.1), by the Gregorian calendar.
 ghost use Rattle.std.specs.Prelude.{◌≡◌, Some};
-ghost use Rattle.dm_value.specs.Dates.{is_leap, is_short, days_of_year, days_of_month, from_1900, year_at, month_at, utc_at, IsInstant, two_digits, utc_text};
+ghost use Rattle.dm_value.specs.Dates.{is_leap, is_short, days_of_year, days_of_month, from_1900};
+ghost use Rattle.dm_value.specs.Dates.{year_at, month_at, utc_at, IsInstant, two_digits, utc_text};
 
 use std::fmt;
 

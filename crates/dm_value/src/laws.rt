@@ -1,7 +1,7 @@
 //! Laws of what octets of a type mean. Each function is a law: it does nothing but call the laws that it
 //! stands on, and its contract is the law.
 ghost use Rattle.dm_value.specs.Decided.{FlawDecides, ValueOrFault};
-ghost use Rattle.dm_value.specs.OneValue.{OneValue, OneType, NoValueRefused, LeastLength};
+ghost use Rattle.dm_value.specs.OneValue.{OneValue, OneType, NoValueRefused, EachLeastLength};
 ghost use Rattle.dm_value.specs.ValueIn.{ValueMeant};
 
 use dm_wire::laws::{members_spell, one_list, spelled_are_members};
@@ -25,7 +25,7 @@ pub fn no_value_refused()
 
 /// No octets below the least length of their type have a value, and some of that length do.
 pub fn least_length()
-    ensures { LeastLength }
+    ensures { EachLeastLength }
 {}
 
 /// What `flaw` answers for octets of a type is their fault, or that they have a value (7.1.5).
@@ -42,7 +42,8 @@ pub fn value_or_fault()
     flaw_decides();
 }
 
-/// The value that octets of a type mean is `value_in` of them: what reads it answers that, and what shows it shows that.
+/// The value that octets of a type mean is `value_in` of them: what reads it answers that, and what shows it shows
+/// that.
 pub fn value_meant()
     ensures { ValueMeant }
 {

@@ -48,7 +48,8 @@ impl Value {
         // The data means the value, and no other.
         ensures data { IfOk result (λ avp. Means (type_of self.now) avp.bytes self.now) }
         ensures one { IfOk result (λ avp. (read : Value) → Means (type_of self.now) avp.bytes read → read ≡ self.now) }
-        ensures group { (avps : List Avp) → self.now ≡ Value.Group avps → IfOk result (λ avp. avp.bytes ≡ canonical_list avps) }
+        ensures group { (avps : List Avp) → self.now ≡ Value.Group avps
+            → IfOk result (λ avp. avp.bytes ≡ canonical_list avps) }
         ensures long { IsErrOf result ValueFault.TooLong ↔ HasLongMember self.now }
         ensures value { IsErrOf result ValueFault.WrongValue
             ↔ (HasNoOctets self.now × (HasLongMember self.now → ⊥)) }

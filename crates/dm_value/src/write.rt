@@ -22,8 +22,10 @@ use std::alloc::{AllocError, Global};
 pub fn write_value(alloc: Global, value: &Value) -> Result<Vec<u8>, ValueFault>
     // What is written means the value, and no other.
     ensures found { IfOk result (λ octets. Means (type_of value.now) octets.items value.now) }
-    ensures one { IfOk result (λ octets. (read : Value) → Means (type_of value.now) octets.items read → read ≡ value.now) }
-    ensures group { (avps : List Avp) → value.now ≡ Value.Group avps → IfOk result (λ octets. octets.items ≡ canonical_list avps) }
+    ensures one { IfOk result (λ octets. (read : Value) → Means (type_of value.now) octets.items read
+        → read ≡ value.now) }
+    ensures group { (avps : List Avp) → value.now ≡ Value.Group avps
+        → IfOk result (λ octets. octets.items ≡ canonical_list avps) }
 
     ensures long { IsErrOf result ValueFault.TooLong ↔ HasLongMember value.now }
     // No octets have the value, and not because a member of a group is too long.
@@ -67,7 +69,8 @@ fn is_hidden_ip(address: &Address) -> bool
 fn write_shaped(alloc: Global, value: &Value) -> Result<Vec<u8>, ValueFault>
     requires { IsMisshapen value.now → ⊥ }
     ensures found { IfOk result (λ octets. Means (type_of value.now) octets.items value.now) }
-    ensures group { (avps : List Avp) → value.now ≡ Value.Group avps → IfOk result (λ octets. octets.items ≡ canonical_list avps) }
+    ensures group { (avps : List Avp) → value.now ≡ Value.Group avps
+        → IfOk result (λ octets. octets.items ≡ canonical_list avps) }
     ensures long { IsErrOf result ValueFault.TooLong ↔ HasLongMember value.now }
     ensures range { IsInRange value.now }
     ensures spelled { (avps : List Avp) → value.now ≡ Value.Group avps → HasNoOctets value.now → IsLongList avps }

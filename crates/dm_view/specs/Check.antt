@@ -1,5 +1,7 @@
--- What is said of all that is wrong with a message: its header, and a line for each fault with the groups round its AVP.
-use Rattle.std.specs.Prelude.{ℕ, Bool, true, false, nat_eq, if◌then◌else◌, Option, None, Some, option_map, List, [], ◌∷◌, ◌++◌, length, find, flat_map, codes}
+-- What is said of all that is wrong with a message: its header, and a line for each fault with the groups round its
+-- AVP.
+use Rattle.std.specs.Prelude.{ℕ, Bool, true, false, nat_eq, if◌then◌else◌, Option, None, Some}
+use Rattle.std.specs.Prelude.{option_map, List, [], ◌∷◌, ◌++◌, length, find, flat_map, codes}
 use Rattle.std.specs.Fmt.{decimal}
 use Rattle.dm_wire.specs.declared.avp.Avp.{Avp}
 use Rattle.dm_wire.specs.declared.message.Message.{Message}
@@ -7,7 +9,7 @@ use Rattle.dm_tables.specs.declared.def.AvpDef.{AvpDef}
 use Rattle.dm_tables.specs.Definitions.{Definitions, is_coded}
 use Rattle.dm_dict.specs.Codes.{missing_avp}
 use Rattle.dm_dict.specs.declared.path.Step.{Step}
-use Rattle.dm_dict.specs.Located.{Located, located}
+use Rattle.dm_dict.specs.Located.{Located, located_faults}
 use Rattle.dm_dict.specs.Rules.{definition}
 use Rattle.dm_view.specs.Reasons.{reason_text}
 use Rattle.dm_view.specs.Results.{result_text}
@@ -15,11 +17,12 @@ use Rattle.dm_view.specs.View.{avp_name, front_view, command_of, header_view}
 
 -- a group round the AVP: its name, and which of its code and vendor it is in its list
 unfoldable pub step_text : List AvpDef → Step → List ℕ
-step_text avps s = codes " " ++ (avp_name (find (is_coded s.code s.vendor) avps) ++ (codes "[" ++ (decimal s.nth ++ codes "] /")))
+step_text avps s = codes " " ++ (avp_name (find (is_coded s.code s.vendor) avps)
+    ++ (codes "[" ++ (decimal s.nth ++ codes "] /")))
 
 -- what of a failed AVP is printed: all but its data
-abbrev pub front_of : Avp → Avp
-front_of a = record a { bytes = [] }
+abbrev pub without_data : Avp → Avp
+without_data a = record a { bytes = [] }
 
 abbrev pub failed_length : Option Avp → ℕ
 failed_length None = 0
@@ -37,7 +40,8 @@ failed_view avps code n (Some a) = front_words code (definition avps a) n a
 -- a fault: its Result-Code with its name, the groups round the failed AVP, and that AVP
 unfoldable pub fault_line : List AvpDef → Located → List ℕ
 fault_line avps f = codes "  " ++ (result_text f.fault.code ++ (flat_map (step_text avps) f.path
-    ++ (failed_view avps f.fault.code (failed_length f.fault.failed) (option_map front_of f.fault.failed) ++ 10 ∷ [])))
+    ++ (failed_view avps f.fault.code (failed_length f.fault.failed) (option_map without_data f.fault.failed)
+    ++ 10 ∷ [])))
 
 abbrev pub verdict_words : List Located → List ℕ
 verdict_words [] = codes "good "
@@ -49,5 +53,5 @@ are_none (f ∷ l) = false
 
 -- a message: good or bad, its header, and all its faults in order
 unfoldable pub check_view : Definitions → Message → List ℕ
-check_view d m = verdict_words (located d m) ++ (header_view (command_of d m.header) m.header
-    ++ flat_map (fault_line d.avps) (located d m))
+check_view d m = verdict_words (located_faults d m) ++ (header_view (command_of d m.header) m.header
+    ++ flat_map (fault_line d.avps) (located_faults d m))

@@ -8,9 +8,9 @@ use Rattle.dm_tables.specs.declared.def.AvpDef.{AvpDef}
 use Rattle.dm_tables.specs.Definitions.{Definitions, is_coded}
 use Rattle.dm_dict.specs.Codes.{missing_avp}
 use Rattle.dm_dict.specs.declared.path.Step.{Step}
-use Rattle.dm_dict.specs.Located.{Located, located}
+use Rattle.dm_dict.specs.Located.{Located, located_faults}
 use Rattle.dm_dict.specs.Rules.{definition}
-use Rattle.dm_view.specs.Check.{front_of, failed_length, are_none}
+use Rattle.dm_view.specs.Check.{without_data, failed_length, are_none}
 use Rattle.dm_view.specs.JsonView.{front_members, header_json}
 use Rattle.dm_view.specs.JsonWords.{number_json, name_json, vendor_member}
 use Rattle.dm_view.specs.Reasons.{reason_words}
@@ -46,7 +46,7 @@ failed_members avps code n (Some a) = failed_members_by code (definition avps a)
 unfoldable pub fault_json : List AvpDef → Located → Json
 fault_json avps f = object (member (codes "code") (number_json f.fault.code)
     (member (codes "name") (string (result_name f.fault.code)) (member (codes "path") (array (path_items avps f.path))
-    (failed_members avps f.fault.code (failed_length f.fault.failed) (option_map front_of f.fault.failed)))))
+    (failed_members avps f.fault.code (failed_length f.fault.failed) (option_map without_data f.fault.failed)))))
 
 abbrev pub faults_items : List AvpDef → List Located → Items
 faults_items avps [] = no_items
@@ -57,6 +57,6 @@ verdict_json good = string (if good then codes "good" else codes "bad")
 
 -- a message: whether it is good, its header, and all its faults in order, before more
 abbrev pub check_members : Definitions → Message → Members → Members
-check_members d m more = member (codes "verdict") (verdict_json (are_none (located d m)))
+check_members d m more = member (codes "verdict") (verdict_json (are_none (located_faults d m)))
     (member (codes "header") (header_json (command_of d m.header) m.header)
-    (member (codes "faults") (array (faults_items d.avps (located d m))) more))
+    (member (codes "faults") (array (faults_items d.avps (located_faults d m))) more))

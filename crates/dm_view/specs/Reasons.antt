@@ -2,9 +2,11 @@
 use Rattle.std.specs.Prelude.{ℕ, Bool, ◌||◌, nat_eq, Option, None, Some, List, [], ◌++◌, codes, if◌then◌else◌}
 use Rattle.std.specs.Fmt.{decimal}
 use Rattle.dm_value.specs.declared.avp_type.AvpType.{AvpType}
-use Rattle.dm_value.specs.declared.avp_type.AvpType.TheVariants.{OctetString, Address, UTF8String, DiameterIdentity, DiameterURI, Grouped}
+use Rattle.dm_value.specs.declared.avp_type.AvpType.TheVariants.{OctetString, Address, UTF8String}
+use Rattle.dm_value.specs.declared.avp_type.AvpType.TheVariants.{DiameterIdentity, DiameterURI, Grouped}
 use Rattle.dm_value.specs.Columns.{least_length}
-use Rattle.dm_dict.specs.Codes.{avp_unsupported, invalid_avp_value, avp_not_allowed, avp_occurs_too_many_times, invalid_avp_length}
+use Rattle.dm_dict.specs.Codes.{avp_unsupported, invalid_avp_value, avp_not_allowed}
+use Rattle.dm_dict.specs.Codes.{avp_occurs_too_many_times, invalid_avp_length}
 
 -- numbers and times have one length, all other types a least one (4.2 and 4.3)
 abbrev pub bound_words : AvpType → List ℕ

@@ -1,5 +1,7 @@
--- What a message is shown as: a line for its header, and one for each AVP, those of a group below it, two spaces further in.
-use Rattle.std.specs.Prelude.{ℕ, ℤ, zero, suc, ◌+◌, false, if◌then◌else◌, Option, None, Some, option_map, List, [], ◌∷◌, ◌++◌, find, flat_map, codes}
+-- What a message is shown as: a line for its header, and one for each AVP, those of a group below it, two spaces
+-- further in.
+use Rattle.std.specs.Prelude.{ℕ, ℤ, zero, suc, ◌+◌, false, if◌then◌else◌, Option, None}
+use Rattle.std.specs.Prelude.{Some, option_map, List, [], ◌∷◌, ◌++◌, find, flat_map, codes}
 use Rattle.std.specs.Fmt.{decimal, signed_decimal}
 use Rattle.hex.specs.Hex.{encode_lower}
 use Rattle.dm_wire.specs.declared.avp.Avp.{Avp}
@@ -101,7 +103,8 @@ command_name (Some c) = name_text c.name
 
 -- the flags of a header in words (3)
 abbrev pub flag_words : Header → List ℕ
-flag_words h = (if h.request then codes " request" else codes " answer") ++ (if h.proxiable then codes " proxiable" else [])
+flag_words h = (if h.request then codes " request" else codes " answer")
+    ++ (if h.proxiable then codes " proxiable" else [])
     ++ (if h.error then codes " error" else []) ++ (if h.retransmit then codes " retransmitted" else [])
 
 -- a number in decimal, and in hexadecimal
@@ -111,7 +114,8 @@ both_text n = decimal n ++ codes " (0x" ++ encode_lower (be n 4) ++ codes ")"
 -- the line of a header: the command's name, code, flags, application and identifiers (3)
 unfoldable pub header_view : Option CommandDef → Header → List ℕ
 header_view c h = command_name c ++ codes " " ++ decimal h.command ++ flag_words h ++ codes ", application "
-    ++ decimal h.application ++ codes ", hop-by-hop " ++ both_text h.hop_id ++ codes ", end-to-end " ++ both_text h.end_id
+    ++ decimal h.application ++ codes ", hop-by-hop " ++ both_text h.hop_id ++ codes ", end-to-end "
+    ++ both_text h.end_id
     ++ 10 ∷ []
 
 -- how many groups inside each other are shown by their members

@@ -14,7 +14,8 @@ use std::alloc::{AllocError, Global};
 
 /// Appends a value of an Enumerated: its name where it is listed, and its number.
 fn put_listed(text: &mut String, name: Option<&Octets>, number: i32) -> Result<(), AllocError>
-    ensures { OnOk result (string_bytes text.new ≡ string_bytes text.old ++ listed_text (option_copied name.entry) number) }
+    ensures { OnOk result (string_bytes text.new
+        ≡ string_bytes text.old ++ listed_text (option_copied name.entry) number) }
 {
     match name {
         Some(name) => write!(text, "{} ({number})", Name(name)),

@@ -6,9 +6,10 @@ ghost use Rattle.dm_wire.specs.declared.avp.Avp.{Avp};
 ghost use Rattle.dm_wire.specs.Borrowed.{avp_of};
 ghost use Rattle.dm_wire.specs.Spelling.{SpellsList};
 ghost use Rattle.dm_dict.specs.Judgement.{failed_of};
-ghost use Rattle.dm_dict.specs.Located.{located};
+ghost use Rattle.dm_dict.specs.Located.{located_faults};
 ghost use Rattle.dm_dict.specs.Locating.{told_at};
-ghost use Rattle.dm_view.specs.Check.{step_text, front_of, failed_length, front_words, failed_view, fault_line, verdict_words, are_none, check_view};
+ghost use Rattle.dm_view.specs.Check.{step_text, without_data, failed_length, front_words};
+ghost use Rattle.dm_view.specs.Check.{failed_view, fault_line, verdict_words, are_none, check_view};
 
 use crate::avps::{put_front, put_name};
 use crate::header::put_header;
@@ -45,7 +46,7 @@ fn put_path(text: &mut String, dictionary: &Dictionary, path: &[Step]) -> Result
 
 /// The failed AVP without its data.
 pub(crate) fn front_of(failed: Failed<'_>) -> Option<AvpRef<'_>>
-    ensures { option_map avp_of result ≡ option_map front_of (failed_of failed.entry) }
+    ensures { option_map avp_of result ≡ option_map without_data (failed_of failed.entry) }
 {
     match failed {
         Failed::Nothing => None,
@@ -148,7 +149,8 @@ fn put_faults(
 
 /// Appends whether there are no faults, and tells it.
 fn put_verdict(text: &mut String, faults: &[LocatedFault<'_>]) -> Result<bool, AllocError>
-    ensures shown { OnOk result (string_bytes text.new ≡ string_bytes text.old ++ verdict_words (map told_at faults.now)) }
+    ensures shown { OnOk result (string_bytes text.new
+        ≡ string_bytes text.old ++ verdict_words (map told_at faults.now)) }
     ensures good { IfOk result (λ good. good ≡ are_none (map told_at faults.now)) }
 {
     match faults {
@@ -171,7 +173,7 @@ fn put_checked(
     faults: &[LocatedFault<'_>],
 ) -> Result<bool, AllocError>
     ensures shown { (l : List Avp) → map told_at faults.now
-        ≡ located dictionary.now (record { header = message.now.header; avps = l })
+        ≡ located_faults dictionary.now (record { header = message.now.header; avps = l })
         → OnOk result (string_bytes text.new ≡ string_bytes text.old
         ++ check_view dictionary.now (record { header = message.now.header; avps = l })) }
     ensures good { IfOk result (λ good. good ≡ are_none (map told_at faults.now)) }
@@ -194,7 +196,7 @@ pub fn put_check(
         ≡ string_bytes text.old ++ check_view dictionary.now (record { header = message.now.header; avps = l })) }
     // It is good where it has no faults.
     ensures good { (l : List Avp) → SpellsList l message.now.rest.now → IfOk result (λ good.
-        good ≡ are_none (located dictionary.now (record { header = message.now.header; avps = l }))) }
+        good ≡ are_none (located_faults dictionary.now (record { header = message.now.header; avps = l }))) }
 {
     let faults = dictionary.located_in(alloc, message)?;
     let good = put_checked(text, dictionary, message, faults.as_slice())?;

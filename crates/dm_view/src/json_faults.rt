@@ -8,10 +8,11 @@ ghost use Rattle.json.specs.Tree.{json_tokens, items_tokens, members_tokens};
 ghost use Rattle.dm_wire.specs.declared.avp.Avp.{Avp};
 ghost use Rattle.dm_wire.specs.Borrowed.{avp_of};
 ghost use Rattle.dm_wire.specs.Spelling.{SpellsList};
-ghost use Rattle.dm_dict.specs.Located.{located};
+ghost use Rattle.dm_dict.specs.Located.{located_faults};
 ghost use Rattle.dm_dict.specs.Locating.{told_at};
 ghost use Rattle.dm_view.specs.Check.{are_none};
-ghost use Rattle.dm_view.specs.JsonCheck.{failed_words, failed_members_by, failed_members, fault_json, faults_items, verdict_json, check_members};
+ghost use Rattle.dm_view.specs.JsonCheck.{failed_words, failed_members_by, failed_members};
+ghost use Rattle.dm_view.specs.JsonCheck.{fault_json, faults_items, verdict_json, check_members};
 
 use crate::faults::{failed_length, front_of};
 use crate::json_avps::put_front;
@@ -137,7 +138,7 @@ fn put_checked(
     faults: &[LocatedFault<'_>],
 ) -> Result<(), AllocError>
     ensures { (l : List Avp) → map told_at faults.now
-        ≡ located dictionary.now (record { header = message.now.header; avps = l })
+        ≡ located_faults dictionary.now (record { header = message.now.header; avps = l })
         → (more : Members) → OnOk result (json.new ++ members_tokens more ≡ json.old ++ members_tokens
         (check_members dictionary.now (record { header = message.now.header; avps = l }) more)) }
 {
@@ -163,7 +164,7 @@ pub fn put_json_check(
         (record { header = message.now.header; avps = l }) more)) }
     // It is good where it has no faults.
     ensures good { (l : List Avp) → SpellsList l message.now.rest.now → IfOk result (λ good.
-        good ≡ are_none (located dictionary.now (record { header = message.now.header; avps = l }))) }
+        good ≡ are_none (located_faults dictionary.now (record { header = message.now.header; avps = l }))) }
 {
     let faults = dictionary.located_in(alloc, message)?;
     let good = faults.is_empty();

@@ -1,4 +1,5 @@
-//! What a Diameter message says, in names and values, and all that is wrong with it, by a dictionary (RFC 6733, 3, 4 and 7).
+//! What a Diameter message says, in names and values, and all that is wrong with it, by a dictionary (RFC 6733, 3, 4
+//! and 7).
 #![tactic(auto)]
 
 mod avps;

@@ -2,7 +2,7 @@
 ghost use Rattle.std.specs.Prelude.{◌≡◌, ◌++◌, Some, OnOk};
 ghost use Rattle.std.specs.List.{list_all};
 ghost use Rattle.std.specs.String.{string_bytes};
-ghost use Rattle.dm_view.specs.Words.{is_plain, quoted, indented};
+ghost use Rattle.dm_view.specs.Words.{is_plain_octet, quoted, indented};
 
 use dm_text::Hexadecimal;
 use std::alloc::AllocError;
@@ -27,7 +27,7 @@ impl fmt::Display for Quoted<'_> {
 
 /// Whether no octet is a control or a `"`.
 fn are_plain(octets: &[u8]) -> bool
-    ensures { result ≡ list_all is_plain octets.now }
+    ensures { result ≡ list_all is_plain_octet octets.now }
 {
     octets
         .iter()

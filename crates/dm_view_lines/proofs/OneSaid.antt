@@ -6,10 +6,10 @@ use Rattle.dm_tables.specs.Definitions.{Definitions}
 use Rattle.dm_view_lines.specs.declared.said.Task.{Task}
 use Rattle.dm_view_lines.specs.declared.tally.Tally.{Tally}
 use Rattle.dm_view_lines.specs.Colours.{SaysStyled, styled}
-use Rattle.dm_view_lines.specs.Counts.{added, tally_of}
+use Rattle.dm_view_lines.specs.Counts.{tallied, tally_of}
 use Rattle.dm_view_lines.specs.Digits.{octets_of_line}
-use Rattle.dm_view_lines.specs.Lines.{SaysLine, SaysEach, Says, last_line}
-use Rattle.dm_view_lines.specs.Said.{answer, refused_said, SaysOctets}
+use Rattle.dm_view_lines.specs.Lines.{SaysLine, SaysEach, Says, counts_line}
+use Rattle.dm_view_lines.specs.Said.{message_answer, refused_said, SaysOctets}
 
 -- what octets say is one thing
 pub record OctetLaws : Type 0 where
@@ -22,7 +22,7 @@ module _ (laws : OctetLaws) where
       → SaysOctets task d n s text good → SaysOctets task d n s other fine → (text ≡ other) × (good ≡ fine)
   one_octets task d n s text other good fine (inl h) (inl k) =
       let same = (laws.one_message h.0 k.0 s s [] [] h.1 k.1 refl).0 in
-      (h.2 ∙ ap (λ m. (answer task d n m).0) same ∙ sym k.2, h.3 ∙ ap (λ m. (answer task d n m).1) same ∙ sym k.3)
+      (h.2 ∙ ap (λ m. (message_answer task d n m).0) same ∙ sym k.2, h.3 ∙ ap (λ m. (message_answer task d n m).1) same ∙ sym k.3)
   one_octets task d n s text other good fine (inl h) (inr k) = absurd (laws.no_message_refused h.0 s k.0 h.1 k.1)
   one_octets task d n s text other good fine (inr h) (inl k) = absurd (laws.no_message_refused k.0 s h.0 k.1 h.1)
   one_octets task d n s text other good fine (inr h) (inr k) = (
@@ -45,7 +45,7 @@ module _ (laws : OctetLaws) where
       let head = one_line task d n line h.first k.first h.verdict k.verdict h.line k.line in
       let tail = one_each task d (n + 1) l h.rest k.rest h.others k.others h.behind k.behind in (
         h.text_is ∙ ap (λ v. v ++ h.rest) head.0 ∙ ap (λ v. k.first ++ v) tail.0 ∙ sym k.text_is,
-        h.tally_is ∙ ap (λ v. added (tally_of v) h.others) head.1 ∙ ap (λ v. added (tally_of k.verdict) v) tail.1
+        h.tally_is ∙ ap (λ v. tallied (tally_of v) h.others) head.1 ∙ ap (λ v. tallied (tally_of k.verdict) v) tail.1
             ∙ sym k.tally_is,
       )
 
@@ -53,7 +53,7 @@ module _ (laws : OctetLaws) where
       → Says task d input text good → Says task d input other fine → (text ≡ other) × (good ≡ fine)
   one_said task d input text other good fine h k =
       let same = one_each task d 1 (map octets_of_line (lines input)) h.0 k.0 h.1 k.1 h.2 k.2 in (
-        h.3 ∙ ap (λ v. v ++ last_line task h.1) same.0 ∙ ap (λ v. k.0 ++ last_line task v) same.1 ∙ sym k.3,
+        h.3 ∙ ap (λ v. v ++ counts_line task h.1) same.0 ∙ ap (λ v. k.0 ++ counts_line task v) same.1 ∙ sym k.3,
         h.4 ∙ ap (λ v. nat_eq v.bad 0) same.1 ∙ sym k.4,
       )
 

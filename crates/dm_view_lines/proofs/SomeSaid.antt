@@ -13,10 +13,10 @@ use Rattle.dm_tables.specs.Definitions.{Definitions}
 use Rattle.dm_view_lines.specs.declared.said.Task.{Task}
 use Rattle.dm_view_lines.specs.declared.tally.Tally.{Tally}
 use Rattle.dm_view_lines.specs.Colours.{SaysStyled, styled}
-use Rattle.dm_view_lines.specs.Counts.{no_lines, added, tally_of}
+use Rattle.dm_view_lines.specs.Counts.{no_lines, tallied, tally_of}
 use Rattle.dm_view_lines.specs.Digits.{line_digits, octets_of_line}
-use Rattle.dm_view_lines.specs.Lines.{SaysLine, SaysLines, last_line}
-use Rattle.dm_view_lines.specs.Said.{answer, bad_said, refused_said, SaysOctets}
+use Rattle.dm_view_lines.specs.Lines.{SaysLine, SaysLines, counts_line}
+use Rattle.dm_view_lines.specs.Said.{message_answer, bad_said, refused_said, SaysOctets}
 
 bytes_of : {E : Type 0} (r : Result (List ℕ) E) (octets : List ℕ) → result_ok r ≡ Some octets → r ≡ Ok octets
 bytes_of (Ok bytes) octets is = let same : bytes ≡ octets = cc in ap Ok same
@@ -28,7 +28,7 @@ module _ (message_or_fault : MessageOrFault) where
   some_octets task d n s bytes = by (message_or_fault s bytes) where
     by : ((m : Message) × SpellsMessage m s) ⊎ ((f : WireFault) × Refuses s f)
         → (text : List ℕ) × (good : Bool) × SaysOctets task d n s text good
-    by (inl h) = ((answer task d n h.0).0, (answer task d n h.0).1, inl (h.0, h.1, refl, refl))
+    by (inl h) = ((message_answer task d n h.0).0, (message_answer task d n h.0).1, inl (h.0, h.1, refl, refl))
     by (inr h) = (refused_said task d n s h.0, false, inr (h.0, h.1, refl, refl))
 
   some_line : (task : Task) (d : Definitions) (n : ℕ) (line : List ℕ)
@@ -50,7 +50,7 @@ module _ (message_or_fault : MessageOrFault) where
       let first = some_line task d n line in
       let later = some_lines task d (n + 1) l in (
         first.0 ++ later.0,
-        added (tally_of first.1) later.1,
+        tallied (tally_of first.1) later.1,
         record {
           first = first.0;
           rest = later.0;
@@ -68,7 +68,7 @@ module _ (message_or_fault : MessageOrFault) where
       → (text : List ℕ) × (good : Bool) × SaysStyled coloured task d input text good
   some_styled coloured task d input =
       let said = some_lines task d 1 (lines input) in
-      let plain = said.0 ++ last_line task said.1 in (
+      let plain = said.0 ++ counts_line task said.1 in (
         styled coloured task plain,
         nat_eq said.1.bad 0,
         (plain, (said.0, said.1, said.2, refl, refl), refl),

@@ -6,23 +6,23 @@ use Rattle.dm_text.specs.Joined.{LinesAreFew}
 use Rattle.dm_tables.specs.Definitions.{Definitions}
 use Rattle.dm_view_lines.specs.declared.said.Task.{Task}
 use Rattle.dm_view_lines.specs.declared.tally.Tally.{Tally}
-use Rattle.dm_view_lines.specs.Counts.{no_lines, tally_of, added}
+use Rattle.dm_view_lines.specs.Counts.{no_lines, tally_of, tallied}
 use Rattle.dm_view_lines.specs.Said.{SaysOctets}
 use Rattle.dm_view_lines.specs.Lines.{SaysLine, SaysEach}
 
-pub added-assoc : (t u v : Tally) → added t (added u v) ≡ added (added t u) v
+pub added-assoc : (t u v : Tally) → tallied t (tallied u v) ≡ tallied (tallied t u) v
 added-assoc t u v =
     let good : t.good + (u.good + v.good) ≡ t.good + u.good + v.good = omega arith in
     let bad : t.bad + (u.bad + v.bad) ≡ t.bad + u.bad + v.bad = omega arith in
     λ i. record { good = good i; bad = bad i }
 
-pub added-none : (t : Tally) → added t no_lines ≡ t
+pub added-none : (t : Tally) → tallied t no_lines ≡ t
 added-none t =
     let good : t.good + 0 ≡ t.good = omega arith in
     let bad : t.bad + 0 ≡ t.bad = omega arith in
     λ i. record { good = good i; bad = bad i }
 
-pub none-added : (t : Tally) → added no_lines t ≡ t
+pub none-added : (t : Tally) → tallied no_lines t ≡ t
 none-added t =
     let good : 0 + t.good ≡ t.good = omega arith in
     let bad : 0 + t.bad ≡ t.bad = omega arith in
@@ -33,11 +33,11 @@ pub says-next : (task : Task) (d : Definitions) (all rest rest' : List (Option (
     (line : Option (List ℕ)) (so first : List ℕ) (verdict : Option Bool) (tally : Tally) → rest ≡ line ∷ rest'
     → SaysLine task d n line first verdict
     → ((more : List ℕ) (others : Tally) → SaysEach task d n rest more others
-    → SaysEach task d 1 all (so ++ more) (added tally others))
+    → SaysEach task d 1 all (so ++ more) (tallied tally others))
     → (more : List ℕ) (others : Tally) → SaysEach task d (n + 1) rest' more others
-    → SaysEach task d 1 all ((so ++ first) ++ more) (added (added tally (tally_of verdict)) others)
+    → SaysEach task d 1 all ((so ++ first) ++ more) (tallied (tallied tally (tally_of verdict)) others)
 says-next task d all rest rest' n line so first verdict tally h said whole more others later =
-    let Front : List (Option (List ℕ)) → Type 0 = λ l. SaysEach task d n l (first ++ more) (added (tally_of verdict) others) in
+    let Front : List (Option (List ℕ)) → Type 0 = λ l. SaysEach task d n l (first ++ more) (tallied (tally_of verdict) others) in
     let front : Front rest = subst Front (sym h) (record {
       first = first;
       rest = more;
@@ -48,15 +48,15 @@ says-next task d all rest rest' n line so first verdict tally h said whole more 
       text_is = refl;
       tally_is = refl;
     }) in
-    let Text : List ℕ → Type 0 = λ v. SaysEach task d 1 all v (added (added tally (tally_of verdict)) others) in
+    let Text : List ℕ → Type 0 = λ v. SaysEach task d 1 all v (tallied (tallied tally (tally_of verdict)) others) in
     let Counted : Tally → Type 0 = λ v. SaysEach task d 1 all (so ++ (first ++ more)) v in
     subst Text (sym (append_assoc so first more))
-    (subst Counted (added-assoc tally (tally_of verdict) others) (whole (first ++ more) (added (tally_of verdict) others) front))
+    (subst Counted (added-assoc tally (tally_of verdict) others) (whole (first ++ more) (tallied (tally_of verdict) others) front))
 
 -- no lines are to come
 pub says-all : (task : Task) (d : Definitions) (all rest : List (Option (List ℕ))) (n : ℕ) (so : List ℕ) (tally : Tally)
     → rest ≡ [] → ((more : List ℕ) (others : Tally) → SaysEach task d n rest more others
-    → SaysEach task d 1 all (so ++ more) (added tally others))
+    → SaysEach task d 1 all (so ++ more) (tallied tally others))
     → SaysEach task d 1 all so tally
 says-all task d all rest n so tally h whole =
     let Rest : List (Option (List ℕ)) → Type 0 = λ l. SaysEach task d n l [] no_lines in
@@ -93,7 +93,7 @@ says-none task d n (b ∷ s) none = absurd (let zero = eqb-true (length (b ∷ s
 
 -- one line more is counted
 pub counted : (t : Tally) (verdict : Option Bool) (n : ℕ) → t.good + t.bad ≤ n
-    → (added t (tally_of verdict)).good + (added t (tally_of verdict)).bad ≤ n + 1
+    → (tallied t (tally_of verdict)).good + (tallied t (tally_of verdict)).bad ≤ n + 1
 counted t None n h = omega (arith, h)
 counted t (Some true) n h = omega (arith, h)
 counted t (Some false) n h = omega (arith, h)

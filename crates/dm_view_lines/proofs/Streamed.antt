@@ -8,7 +8,7 @@ use Rattle.dm_view_lines.specs.declared.said.Task.{Task}
 use Rattle.dm_view_lines.specs.declared.stop.Stop.{Stop}
 use Rattle.dm_view_lines.specs.declared.stop.Stop.TheVariants.{Fault, Line}
 use Rattle.dm_view_lines.specs.declared.tally.Tally.{Tally}
-use Rattle.dm_view_lines.specs.Counts.{added, no_lines}
+use Rattle.dm_view_lines.specs.Counts.{tallied, no_lines}
 use Rattle.dm_view_lines.specs.Digits.{octets_of_line}
 use Rattle.dm_view_lines.specs.Frames.{stream_of, octets_then, bad_line, bad_else, stop_of, SaysFrames}
 use Rattle.dm_view_lines.proofs.Pieces.{behind, frames-append}
@@ -28,7 +28,7 @@ pub record AtLine (task : Task) (d : Definitions) (n : ℕ) (octets : Option (Li
     (tally tally' : Tally) (fault : Option FrameFault) (stop : Option Stop) : Type 0 where
   pub bad : octets ≡ None → (stop ≡ Some (Line n)) × (tally' ≡ tally) × (text' ≡ text) × (held' ≡ held)
   pub said : (piece : List ℕ) → octets ≡ Some piece → (more : List ℕ) × (told : Tally) × (text' ≡ text ++ more)
-      × SaysFrames task d (behind tally) (held ++ piece) held' fault more told × (tally' ≡ added tally told)
+      × SaysFrames task d (behind tally) (held ++ piece) held' fault more told × (tally' ≡ tallied tally told)
       × (stop ≡ option_map Fault fault)
 
 -- what is said of a stream, and why it stops
@@ -65,7 +65,7 @@ joined-next task d input left left' line piece octets h at is =
 
 told-next : Cuts → (task : Task) (d : Definitions) (octets piece held held' : List ℕ) (fault : Option FrameFault)
     (so more : List ℕ) (tally tally' told : Tally) → SaysFrames task d 1 octets held None so tally
-    → SaysFrames task d (behind tally) (held ++ piece) held' fault more told → tally' ≡ added tally told
+    → SaysFrames task d (behind tally) (held ++ piece) held' fault more told → tally' ≡ tallied tally told
     → SaysFrames task d 1 (octets ++ piece) held' fault (so ++ more) tally'
 told-next cuts task d octets piece held held' fault so more tally tally' told h k is =
     let Counted : Tally → Type 0 = λ t. SaysFrames task d 1 (octets ++ piece) held' fault (so ++ more) t in
@@ -84,7 +84,7 @@ so-next cuts task d input left left' line n held held' old text text' tally tall
     by (octets_of_line line) refl where
       built : (piece : List ℕ) → octets_of_line line ≡ Some piece → (f : Option FrameFault) (more : List ℕ) (told : Tally)
           → text' ≡ text ++ more → SaysFrames task d (behind tally) (held ++ piece) held' f more told
-          → tally' ≡ added tally told → stop ≡ option_map Fault f → SoFar task d input left' (n + 1) held' old text' tally'
+          → tally' ≡ tallied tally told → stop ≡ option_map Fault f → SoFar task d input left' (n + 1) held' old text' tally'
       built piece is (Some f) more told texted said counted stopped = absurd (cc)
       built piece is None more told texted said counted stopped = record {
         octets = h.octets ++ piece;
@@ -109,7 +109,7 @@ so-stop cuts stays task d input left left' line n held held' old text text' tall
     by (octets_of_line line) refl where
       built : (piece : List ℕ) → octets_of_line line ≡ Some piece → (f : Option FrameFault) (more : List ℕ) (told : Tally)
           → text' ≡ text ++ more → SaysFrames task d (behind tally) (held ++ piece) held' f more told
-          → tally' ≡ added tally told → stop ≡ option_map Fault f → Stopped task d input old text' tally' stop
+          → tally' ≡ tallied tally told → stop ≡ option_map Fault f → Stopped task d input old text' tally' stop
       built piece is None more told texted said counted stopped = absurd (cc)
       built piece is (Some f) more told texted said counted stopped =
           let later = stream_of left' in

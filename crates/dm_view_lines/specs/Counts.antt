@@ -12,8 +12,8 @@ tally_of None = no_lines
 tally_of (Some true) = record { good = 1; bad = 0 }
 tally_of (Some false) = record { good = 0; bad = 1 }
 
-abbrev pub added : Tally → Tally → Tally
-added t u = record { good = t.good + u.good; bad = t.bad + u.bad }
+abbrev pub tallied : Tally → Tally → Tally
+tallied t u = record { good = t.good + u.good; bad = t.bad + u.bad }
 
 abbrev pub tally_line : Tally → List ℕ
 tally_line t = decimal t.good ++ codes " good, " ++ decimal t.bad ++ codes " bad" ++ 10 ∷ []

@@ -17,10 +17,10 @@ use Rattle.dm_view_lines.specs.declared.said.Task.TheVariants.{Show, Check, Show
 use Rattle.dm_view_lines.specs.declared.stop.Stop.{Stop}
 use Rattle.dm_view_lines.specs.declared.stop.Stop.TheVariants.{Fault, Line, Part}
 use Rattle.dm_view_lines.specs.declared.tally.Tally.{Tally}
-use Rattle.dm_view_lines.specs.Counts.{added, tally_of}
+use Rattle.dm_view_lines.specs.Counts.{tallied, tally_of}
 use Rattle.dm_view_lines.specs.Digits.{octets_of_line}
 use Rattle.dm_view_lines.specs.Json.{json_line, error_member, bad_members}
-use Rattle.dm_view_lines.specs.Lines.{SaysEach, last_line}
+use Rattle.dm_view_lines.specs.Lines.{SaysEach, counts_line}
 use Rattle.dm_view_lines.specs.Reasons.{refusal_sentence}
 use Rattle.dm_view_lines.specs.Said.{bad_said}
 
@@ -102,6 +102,6 @@ pub record SaysStream (task : Task) (d : Definitions) (input text : List ℕ) (g
   pub stop : Option Stop
   pub stop_is : stop ≡ stop_of rest fault (bad_line 1 (lines input))
   pub tally : Tally
-  pub tally_is : tally ≡ added counted (tally_of (stop_verdict stop))
-  pub text_is : text ≡ said ++ stop_text task (length told.frames + 1) stop ++ last_line task tally
+  pub tally_is : tally ≡ tallied counted (tally_of (stop_verdict stop))
+  pub text_is : text ≡ said ++ stop_text task (length told.frames + 1) stop ++ counts_line task tally
   pub good_is : good ≡ nat_eq tally.bad 0

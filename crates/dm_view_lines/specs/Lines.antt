@@ -5,7 +5,7 @@ use Rattle.dm_tables.specs.Definitions.{Definitions}
 use Rattle.dm_view_lines.specs.declared.said.Task.{Task}
 use Rattle.dm_view_lines.specs.declared.said.Task.TheVariants.{Show, Check, ShowJson, CheckJson}
 use Rattle.dm_view_lines.specs.declared.tally.Tally.{Tally}
-use Rattle.dm_view_lines.specs.Counts.{no_lines, tally_of, added, tally_line}
+use Rattle.dm_view_lines.specs.Counts.{no_lines, tally_of, tallied, tally_line}
 use Rattle.dm_view_lines.specs.Digits.{octets_of_line}
 use Rattle.dm_view_lines.specs.Json.{json_line, tally_json}
 use Rattle.dm_view_lines.specs.Said.{bad_said, SaysOctets}
@@ -27,7 +27,7 @@ pub record LineThenRest (Line : List ℕ → Option Bool → Type 0) (Rest : Lis
   pub line : Line first verdict
   pub behind : Rest rest others
   pub text_is : text ≡ first ++ rest
-  pub tally_is : tally ≡ added (tally_of verdict) others
+  pub tally_is : tally ≡ tallied (tally_of verdict) others
 
 -- of lines that stand for these octets, the first of which has this number; and how many are good and bad
 abbrev pub SaysEach : Task → Definitions → ℕ → List (Option (List ℕ)) → List ℕ → Tally → Type 0
@@ -39,14 +39,14 @@ abbrev pub SaysLines : Task → Definitions → ℕ → List (List ℕ) → List
 SaysLines task d n lines text tally = SaysEach task d n (map octets_of_line lines) text tally
 
 -- check ends with how many lines were good and bad
-abbrev pub last_line : Task → Tally → List ℕ
-last_line Show t = []
-last_line Check t = tally_line t
-last_line ShowJson t = []
-last_line CheckJson t = json_line (tally_json t)
+abbrev pub counts_line : Task → Tally → List ℕ
+counts_line Show t = []
+counts_line Check t = tally_line t
+counts_line ShowJson t = []
+counts_line CheckJson t = json_line (tally_json t)
 
 -- what is said of an input, and whether none of its lines is bad
 abbrev pub Says : Task → Definitions → List ℕ → List ℕ → Bool → Type 0
 Says task d input text good =
     (said : List ℕ) × (tally : Tally) × SaysLines task d 1 (lines input) said tally
-    × (text ≡ said ++ last_line task tally) × (good ≡ nat_eq tally.bad 0)
+    × (text ≡ said ++ counts_line task tally) × (good ≡ nat_eq tally.bad 0)

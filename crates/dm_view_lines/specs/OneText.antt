@@ -5,14 +5,14 @@ use Rattle.dm_view_lines.specs.declared.said.Task.{Task}
 use Rattle.dm_view_lines.specs.Colours.{SaysStyled}
 
 -- under one dictionary one text at most is said of an input, and it is either good or not
-abbrev pub OneText : Type 0
-OneText =
+abbrev pub OneSaid : Type 0
+OneSaid =
     (coloured : Bool) (task : Task) (d : Definitions) (input text other : List ℕ) (good fine : Bool)
     → SaysStyled coloured task d input text good → SaysStyled coloured task d input other fine
     → (text ≡ other) × (good ≡ fine)
 
 -- under each dictionary something is said of each input, and it is good or not
-abbrev pub SomeText : Type 0
-SomeText =
+abbrev pub SomeSaid : Type 0
+SomeSaid =
     (coloured : Bool) (task : Task) (d : Definitions) (input : List ℕ)
     → (text : List ℕ) × (good : Bool) × SaysStyled coloured task d input text good

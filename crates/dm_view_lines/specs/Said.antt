@@ -9,7 +9,7 @@ use Rattle.dm_wire.specs.Refusal.{Refuses}
 use Rattle.dm_wire.specs.Spelling.{SpellsMessage}
 use Rattle.dm_wire.specs.Whole.{with_header}
 use Rattle.dm_tables.specs.Definitions.{Definitions}
-use Rattle.dm_dict.specs.Located.{located}
+use Rattle.dm_dict.specs.Located.{located_faults}
 use Rattle.dm_view.specs.Check.{are_none, check_view}
 use Rattle.dm_view.specs.JsonCheck.{check_members}
 use Rattle.dm_view.specs.JsonView.{message_members}
@@ -25,15 +25,15 @@ abbrev pub numbered : ℕ → List ℕ → List ℕ
 numbered n said = decimal n ++ codes ": " ++ said
 
 -- of a message: what it says, which is good, or all that is wrong with it
-abbrev pub answer : Task → Definitions → ℕ → Message → List ℕ × Bool
-answer Show d n m = (numbered n (message_view d m), true)
-answer Check d n m = (numbered n (check_view d m), are_none (located d m))
-answer ShowJson d n m = (numbered_json n (message_members d m no_members), true)
-answer CheckJson d n m = (numbered_json n (check_members d m no_members), are_none (located d m))
+abbrev pub message_answer : Task → Definitions → ℕ → Message → List ℕ × Bool
+message_answer Show d n m = (numbered n (message_view d m), true)
+message_answer Check d n m = (numbered n (check_view d m), are_none (located_faults d m))
+message_answer ShowJson d n m = (numbered_json n (message_members d m no_members), true)
+message_answer CheckJson d n m = (numbered_json n (check_members d m no_members), are_none (located_faults d m))
 
 abbrev pub SaysMessage : Task → Definitions → ℕ → List ℕ → List ℕ → Bool → Type 0
 SaysMessage task d n s text good =
-    (m : Message) × SpellsMessage m s × (text ≡ (answer task d n m).0) × (good ≡ (answer task d n m).1)
+    (m : Message) × SpellsMessage m s × (text ≡ (message_answer task d n m).0) × (good ≡ (message_answer task d n m).1)
 
 -- for this reason alone
 abbrev pub bad_said : Task → ℕ → List ℕ → List ℕ

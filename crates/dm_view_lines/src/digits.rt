@@ -2,7 +2,8 @@
 ghost use Rattle.std.specs.Prelude.{◌≡◌, ◌<◌, ◌≤◌, ◌++◌, length, false, IfOk, OnOk};
 ghost use Rattle.std.specs.List.{before_first};
 ghost use Rattle.std.specs.Option.{option_map};
-ghost use Rattle.dm_view_lines.specs.Digits.{without_mark, begins_comment, without_prefix, digits_of_words, line_digits, octets_of_line};
+ghost use Rattle.dm_view_lines.specs.Digits.{without_mark, begins_comment, without_prefix};
+ghost use Rattle.dm_view_lines.specs.Digits.{digits_of_words, line_digits, octets_of_line};
 
 use dm_text::read_hex_word;
 use memchr::{memchr2, memchr3};

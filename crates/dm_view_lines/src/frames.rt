@@ -3,7 +3,7 @@ ghost use Rattle.std.specs.Prelude.{◌≡◌, ◌++◌, ◌+◌, ℕ, Bool, Lis
 ghost use Rattle.std.specs.String.{string_bytes};
 ghost use Rattle.dm_wire.specs.Codes.{max_message_len};
 ghost use Rattle.dm_view_lines.specs.declared.tally.Tally.{Tally};
-ghost use Rattle.dm_view_lines.specs.Counts.{added, tally_of};
+ghost use Rattle.dm_view_lines.specs.Counts.{tallied, tally_of};
 ghost use Rattle.dm_view_lines.specs.Frames.{SaysFrames};
 ghost use Rattle.dm_view_lines.specs.Said.{SaysOctets};
 
@@ -35,7 +35,7 @@ fn put_frame(
     ensures { IfOk result (λ counted. (said : List ℕ) × (good : Bool)
         × SaysOctets task dictionary.now (tally.good + tally.bad + 1) message.now said good
         × (string_bytes text.new ≡ string_bytes text.old ++ said)
-        × (counted ≡ added tally (tally_of (Some good)))) }
+        × (counted ≡ tallied tally (tally_of (Some good)))) }
 {
     let Some(number) = tally.next() else {
         return Err(NoMemory);
@@ -58,7 +58,7 @@ pub(crate) fn put_frames(
     ensures said { IfOk result (λ read. (more : List ℕ) × (told : Tally)
         × (string_bytes text.new ≡ string_bytes text.old ++ more)
         × SaysFrames task dictionary.now (reading.tally.good + reading.tally.bad + 1) framer.old.octets
-        framer.new.octets read.fault more told × (read.tally ≡ added reading.tally told)) }
+        framer.new.octets read.fault more told × (read.tally ≡ tallied reading.tally told)) }
     ensures held { IfOk result (λ read. read.held ≡ length framer.new.octets) }
     ensures kept { framer.new ≡ record framer.old { octets = framer.new.octets } }
 {

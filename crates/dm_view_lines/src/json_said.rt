@@ -5,7 +5,7 @@ ghost use Rattle.json.specs.Json.{object, member, no_members};
 ghost use Rattle.json.specs.Tree.{json_tokens};
 ghost use Rattle.dm_wire.specs.declared.avp.Avp.{Avp};
 ghost use Rattle.dm_wire.specs.Spelling.{SpellsList};
-ghost use Rattle.dm_dict.specs.Located.{located};
+ghost use Rattle.dm_dict.specs.Located.{located_faults};
 ghost use Rattle.dm_view.specs.Check.{are_none};
 ghost use Rattle.dm_view.specs.JsonCheck.{check_members};
 ghost use Rattle.dm_view.specs.JsonView.{message_members};
@@ -67,7 +67,7 @@ fn put_checked_object(
         ++ json_tokens (object (member (codes "number") (number_json number)
         (check_members dictionary.now (record { header = message.now.header; avps = l }) no_members)))) }
     ensures good { (l : List Avp) → SpellsList l message.now.rest.now → IfOk result (λ good.
-        good ≡ are_none (located dictionary.now (record { header = message.now.header; avps = l }))) }
+        good ≡ are_none (located_faults dictionary.now (record { header = message.now.header; avps = l }))) }
 {
     put_number(json, "number", number)?;
     let good = put_json_check(alloc, json, dictionary, message)?;
@@ -87,7 +87,7 @@ pub(crate) fn put_json_checked(
         ≡ string_bytes text.old ++ numbered_json number
         (check_members dictionary.now (record { header = message.now.header; avps = l }) no_members)) }
     ensures good { (l : List Avp) → SpellsList l message.now.rest.now → IfOk result (λ good.
-        good ≡ are_none (located dictionary.now (record { header = message.now.header; avps = l }))) }
+        good ≡ are_none (located_faults dictionary.now (record { header = message.now.header; avps = l }))) }
 {
     let mut json = JsonText::new(alloc);
     let good = put_checked_object(alloc, &mut json, dictionary, number, message)?;

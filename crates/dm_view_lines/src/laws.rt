@@ -1,9 +1,9 @@
 //! Laws of what is said. A law calls those that it stands on, and its contract is the law.
-ghost use Rattle.dm_view_lines.specs.OneText.{OneText, SomeText};
+ghost use Rattle.dm_view_lines.specs.OneText.{OneSaid, SomeSaid};
 
 /// Under one dictionary one text at most is said of an input, and it is either good or not. The law stands for users.
 pub fn one_text()
-    ensures { OneText }
+    ensures { OneSaid }
 {
     dm_wire::laws::one_message();
     dm_wire::laws::one_refusal();
@@ -12,7 +12,7 @@ pub fn one_text()
 
 /// Under each dictionary something is said of each input, and it is good or not. The law stands for users.
 pub fn some_text()
-    ensures { SomeText }
+    ensures { SomeSaid }
 {
     dm_wire::laws::message_or_fault();
 }

@@ -14,8 +14,8 @@ use dm_text::Lines;
 use dm_text::laws::lines_are_joined;
 use std::alloc::Global;
 
-/// Appends what is said of the line of this number, and tells whether it is good; `None` where it says nothing. `digits`
-/// is room that is used again from line to line.
+/// Appends what is said of the line of this number, and tells whether it is good; `None` where it says nothing.
+/// `digits` is room that is used again from line to line.
 fn put_line(
     alloc: Global,
     text: &mut String,

@@ -6,7 +6,7 @@ ghost use Rattle.dm_wire.specs.Codes.{max_message_len};
 ghost use Rattle.dm_framer.specs.declared.fault.FrameFault.{FrameFault};
 ghost use Rattle.dm_view_lines.specs.declared.stop.Stop.TheVariants.{Fault, Line};
 ghost use Rattle.dm_view_lines.specs.declared.tally.Tally.{Tally};
-ghost use Rattle.dm_view_lines.specs.Counts.{added};
+ghost use Rattle.dm_view_lines.specs.Counts.{tallied};
 ghost use Rattle.dm_view_lines.specs.Digits.{octets_of_line};
 ghost use Rattle.dm_view_lines.specs.Frames.{stream_of, bad_line, stop_of, SaysFrames, SaysStream};
 
@@ -39,7 +39,7 @@ fn put_piece(
     ensures said { IfOk result (λ read. (more : List ℕ) × (told : Tally)
         × (string_bytes text.new ≡ string_bytes text.old ++ more)
         × SaysFrames task dictionary.now (reading.tally.good + reading.tally.bad + 1) (framer.old.octets ++ piece.now)
-        framer.new.octets read.fault more told × (read.tally ≡ added reading.tally told)) }
+        framer.new.octets read.fault more told × (read.tally ≡ tallied reading.tally told)) }
     ensures held { IfOk result (λ read. read.held ≡ length framer.new.octets) }
     ensures kept { IfOk result (λ _. framer.new ≡ record framer.old { octets = framer.new.octets }) }
 {
@@ -80,7 +80,7 @@ fn put_line(
     ensures said { IfOk result (λ read. (piece : List ℕ) → octets_of_line line.now ≡ Some piece
         → (more : List ℕ) × (told : Tally) × (string_bytes text.new ≡ string_bytes text.old ++ more)
         × SaysFrames task dictionary.now (reading.tally.good + reading.tally.bad + 1) (framer.old.octets ++ piece)
-        framer.new.octets read.0.fault more told × (read.0.tally ≡ added reading.tally told)
+        framer.new.octets read.0.fault more told × (read.0.tally ≡ tallied reading.tally told)
         × (read.1 ≡ option_map Fault read.0.fault)) }
     ensures held { IfOk result (λ read. read.0.held ≡ length framer.new.octets) }
     ensures kept { IfOk result (λ _. framer.new ≡ record framer.old { octets = framer.new.octets }) }

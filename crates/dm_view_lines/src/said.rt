@@ -6,8 +6,8 @@ ghost use Rattle.dm_wire.specs.Spelling.{SpellsList};
 ghost use Rattle.dm_wire.specs.Refusal.{Refuses};
 ghost use Rattle.dm_view.specs.Check.{are_none, check_view};
 ghost use Rattle.dm_view.specs.View.{message_view};
-ghost use Rattle.dm_dict.specs.Located.{located};
-ghost use Rattle.dm_view_lines.specs.Said.{numbered, answer, refused_said, SaysOctets};
+ghost use Rattle.dm_dict.specs.Located.{located_faults};
+ghost use Rattle.dm_view_lines.specs.Said.{numbered, message_answer, refused_said, SaysOctets};
 
 use crate::front::{put_checked_refusal, put_shown_refusal};
 use crate::json_front::{put_json_checked_refusal, put_json_shown_refusal};
@@ -62,9 +62,9 @@ fn put_answer(
 ) -> Result<bool, NoMemory>
     ensures said { (l : List Avp) → SpellsList l message.now.rest.now → OnOk result (string_bytes text.new
         ≡ string_bytes text.old
-        ++ (answer task dictionary.now number (record { header = message.now.header; avps = l })).0) }
+        ++ (message_answer task dictionary.now number (record { header = message.now.header; avps = l })).0) }
     ensures good { (l : List Avp) → SpellsList l message.now.rest.now → IfOk result (λ good.
-        good ≡ (answer task dictionary.now number (record { header = message.now.header; avps = l })).1) }
+        good ≡ (message_answer task dictionary.now number (record { header = message.now.header; avps = l })).1) }
 {
     match task {
         Task::Show => {
@@ -106,7 +106,7 @@ fn put_checked(
         ≡ string_bytes text.old
         ++ numbered number (check_view dictionary.now (record { header = message.now.header; avps = l }))) }
     ensures good { (l : List Avp) → SpellsList l message.now.rest.now → IfOk result (λ good.
-        good ≡ are_none (located dictionary.now (record { header = message.now.header; avps = l }))) }
+        good ≡ are_none (located_faults dictionary.now (record { header = message.now.header; avps = l }))) }
 {
     write!(text, "{number}: ")?;
     let good = put_check(alloc, text, dictionary, message)?;

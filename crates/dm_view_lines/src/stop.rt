@@ -1,7 +1,7 @@
 //! Why a stream is read no further (RFC 6733, 3 and 7.1.5).
 ghost use Rattle.std.specs.Prelude.{◌≡◌, ◌++◌, ◌+◌, IfOk, OnOk};
 ghost use Rattle.std.specs.String.{string_bytes};
-ghost use Rattle.dm_view_lines.specs.Counts.{added, tally_of};
+ghost use Rattle.dm_view_lines.specs.Counts.{tallied, tally_of};
 ghost use Rattle.dm_view_lines.specs.Frames.{stream_refusal, line_stopped, part_words, stop_line, stop_text};
 ghost use Rattle.dm_view_lines.specs.Frames.{stop_verdict};
 
@@ -92,7 +92,7 @@ pub(crate) fn put_stop(
     tally: Tally,
     stop: Option<Stop>,
 ) -> Result<Tally, NoMemory>
-    ensures { IfOk result (λ counted. (counted ≡ added tally (tally_of (stop_verdict stop)))
+    ensures { IfOk result (λ counted. (counted ≡ tallied tally (tally_of (stop_verdict stop)))
         × (string_bytes text.new ≡ string_bytes text.old ++ stop_text task (tally.good + tally.bad + 1) stop)) }
 {
     let Some(stop) = stop else {

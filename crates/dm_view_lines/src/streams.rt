@@ -10,10 +10,11 @@ use std::io::{Error, ErrorKind, Read, Write};
 /// The most octets of one file.
 pub const INPUT_LIMIT: usize = 67_108_864;
 
-/// Appends all octets that the reader gives up to its end, and a line feed where the last line lacks one. It fails where
-/// the reader does, where it gives more than [`INPUT_LIMIT`] octets, and where memory is wanted.
+/// Appends all octets that the reader gives up to its end, and a line feed where the last line lacks one. It fails
+/// where the reader does, where it gives more than [`INPUT_LIMIT`] octets, and where memory is wanted.
 pub fn read_file<R: Read + Drop>(reader: R, input: &mut Vec<u8>) -> io::Result<()>
-    ensures whole { OnOk result (IfSome (R.remaining reader) (λ octets. input.new.items ≡ ended (input.old.items ++ octets))) }
+    ensures whole { OnOk result (IfSome (R.remaining reader) (λ octets. input.new.items
+        ≡ ended (input.old.items ++ octets))) }
     ensures within { OnOk result (IfSome (R.remaining reader) (λ octets. length octets ≤ input_limit)) }
 {
     let mut front = reader.take(INPUT_LIMIT as u64 + 1);

@@ -1,8 +1,8 @@
 //! How many lines were good and bad.
 ghost use Rattle.std.specs.Prelude.{◌≡◌, ◌+◌, ◌<◌, ◌^◌, ◌++◌, IfSome, OnOk};
 ghost use Rattle.std.specs.String.{string_bytes};
-ghost use Rattle.dm_view_lines.specs.Counts.{added, tally_of, tally_line};
-ghost use Rattle.dm_view_lines.specs.Lines.{last_line};
+ghost use Rattle.dm_view_lines.specs.Counts.{tallied, tally_of, tally_line};
+ghost use Rattle.dm_view_lines.specs.Lines.{counts_line};
 
 use crate::json_parts::put_json_tally;
 use crate::said::Task;
@@ -26,7 +26,7 @@ impl Tally {
     /// The lines so far, and a good line more, a bad one, or one that says nothing.
     pub(crate) fn with(self, verdict: Option<bool>) -> Tally
         requires room { self.good + self.bad + 1 < 2 ^ 64 }
-        ensures { result ≡ added self (tally_of verdict) }
+        ensures { result ≡ tallied self (tally_of verdict) }
     {
         match verdict {
             None => self,
@@ -56,7 +56,7 @@ pub(crate) fn put_last(
     task: Task,
     tally: Tally,
 ) -> Result<(), AllocError>
-    ensures { OnOk result (string_bytes text.new ≡ string_bytes text.old ++ last_line task tally) }
+    ensures { OnOk result (string_bytes text.new ≡ string_bytes text.old ++ counts_line task tally) }
 {
     match task {
         Task::Show | Task::ShowJson => Ok(()),

@@ -4,7 +4,7 @@ use Rattle.std.proofs.lemmas.List.{length-replicate, take_more}
 use Rattle.std.proofs.lemmas.Grind.{flat_map-append}
 use Rattle.std.specs.List.{flat_map}
 use Rattle.dm_wire.specs.declared.avp.Avp.{Avp}
-use Rattle.dm_wire.specs.Spelling.{be, is_set, avp_length, vendor_octets, SpellsAvp, SpellsList}
+use Rattle.dm_wire.specs.Spelling.{be, is_bit_set, avp_length, vendor_octets, SpellsAvp, SpellsList}
 use Rattle.dm_wire.specs.Canonical.{worth, avp_flags, zeros, canonical_avp, canonical_list}
 use Rattle.dm_wire.proofs.Fronts.{header_above}
 use Rattle.dm_wire.proofs.Lists.{list_push}
@@ -12,8 +12,8 @@ use Rattle.dm_wire.proofs.Spellings.{front, size_of}
 
 -- the bits of a flag octet are those that it was made of
 avp_bits : (v m p : Bool) →
-    (is_set (worth v 128 + worth m 64 + worth p 32) 128 ≡ v) × (is_set (worth v 128 + worth m 64 + worth p 32) 64 ≡ m) ×
-    (is_set (worth v 128 + worth m 64 + worth p 32) 32 ≡ p)
+    (is_bit_set (worth v 128 + worth m 64 + worth p 32) 128 ≡ v) × (is_bit_set (worth v 128 + worth m 64 + worth p 32) 64 ≡ m) ×
+    (is_bit_set (worth v 128 + worth m 64 + worth p 32) 32 ≡ p)
 avp_bits true true true = (refl, refl, refl)
 avp_bits true true false = (refl, refl, refl)
 avp_bits true false true = (refl, refl, refl)

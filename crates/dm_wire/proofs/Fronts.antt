@@ -4,14 +4,14 @@ use Rattle.std.proofs.lemmas.List.{take_more, length-take-le, length-drop, get_o
 use Rattle.byteorder.specs.Endian.{big_number}
 use Rattle.byteorder.specs.Numbers.{big_from-lt}
 use Rattle.dm_wire.specs.declared.avp.Avp.{Avp}
-use Rattle.dm_wire.specs.Spelling.{be, is_set, avp_header_len, vendor_octets, SpellsAvp}
+use Rattle.dm_wire.specs.Spelling.{be, is_bit_set, avp_header_len, vendor_octets, SpellsAvp}
 use Rattle.dm_wire.proofs.Numbers.{IsOctets, be-big_number-3, be-big_number-4}
 use Rattle.dm_wire.proofs.Cuts.{take_cut}
 
 -- what a reader has tested where it takes an AVP of this vendor and Length
 pub record Tested (s : List ℕ) (vendor : Option ℕ) (len : ℕ) : Type 0 where
   pub octets : IsOctets s
-  pub vendor_bit : is_set (slice_index s 4) 128 ≡ is_some vendor
+  pub vendor_bit : is_bit_set (slice_index s 4) 128 ≡ is_some vendor
   pub len_is : len ≡ big_number 3 (drop 5 s)
   pub vendor_is : IfSome vendor (λ v. v ≡ big_number 4 (drop 8 s))
   pub above : avp_header_len vendor ≤ len
@@ -23,8 +23,8 @@ read_avp s vendor len =
     record {
       code = big_number 4 s;
       vendor = vendor;
-      mandatory = is_set (slice_index s 4) 64;
-      protected = is_set (slice_index s 4) 32;
+      mandatory = is_bit_set (slice_index s 4) 64;
+      protected = is_bit_set (slice_index s 4) 32;
       bytes = take (len - avp_header_len vendor) (drop (avp_header_len vendor) s);
     }
 

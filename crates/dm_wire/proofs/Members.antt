@@ -5,7 +5,7 @@ use Rattle.std.proofs.lemmas.List.{length-drop, take-append-drop, length-take-le
 use Rattle.std.proofs.Math.Seq.{take-append_seam, drop-append_seam}
 use Rattle.byteorder.specs.Endian.{big_number}
 use Rattle.dm_wire.specs.declared.avp.Avp.{Avp}
-use Rattle.dm_wire.specs.Spelling.{is_set, avp_header_len, SpellsAvp, SpellsList}
+use Rattle.dm_wire.specs.Spelling.{is_bit_set, avp_header_len, SpellsAvp, SpellsList}
 use Rattle.dm_wire.specs.Refusal.{BeginsWithNoAvp}
 use Rattle.dm_wire.proofs.Numbers.{IsOctets}
 use Rattle.dm_wire.proofs.Fronts.{spelled, header_above, octets_behind}
@@ -54,9 +54,9 @@ pub begun : (s : List ℕ) → IsOctets s → Begins s → SpellsAvp (avp_at s) 
 begun s o b =
     spelled s (vendor_at s) (length_at s) (record {
       octets = o;
-      vendor_bit = same_bit (is_set (slice_index s 4) 128) (big_number 4 (drop 8 s));
+      vendor_bit = same_bit (is_bit_set (slice_index s 4) 128) (big_number 4 (drop 8 s));
       len_is = refl;
-      vendor_is = same_vendor (is_set (slice_index s 4) 128) (big_number 4 (drop 8 s));
+      vendor_is = same_vendor (is_bit_set (slice_index s 4) 128) (big_number 4 (drop 8 s));
       above = b.above;
       within = b.within;
     })
@@ -83,7 +83,7 @@ pub front_begins : (s : List ℕ) (a : Avp) (n : ℕ) → n ≤ length s → Spe
 front_begins s a n in_s sp =
     let f = front a (take n s) (drop n s) s sp (sym (take-append-drop n s)) in
     let size : length (take n s) ≡ n = length-take-le n s in_s in
-    let vendor = vendor_is (is_set (slice_index s 4) 128) (big_number 4 (drop 8 s)) a.vendor f.vendor_bit f.vendor in
+    let vendor = vendor_is (is_bit_set (slice_index s 4) 128) (big_number 4 (drop 8 s)) a.vendor f.vendor_bit f.vendor in
     let header : avp_header_len (vendor_at s) ≡ avp_header_len a.vendor = ap avp_header_len vendor in
     let eight : 8 ≤ avp_header_len a.vendor = header_above a.vendor in
     let len : avp_header_len a.vendor + length a.bytes ≡ length_at s = f.len in
@@ -145,7 +145,7 @@ members_stop (x ∷ s) h e = rw e refl
 front_is : (s : List ℕ) (a : Avp) (n : ℕ) → n ≤ length s → SpellsAvp a (take n s) → avp_at s ≡ a
 front_is s a n in_s sp =
     let f = front a (take n s) (drop n s) s sp (sym (take-append-drop n s)) in
-    let vendor = vendor_is (is_set (slice_index s 4) 128) (big_number 4 (drop 8 s)) a.vendor f.vendor_bit f.vendor in
+    let vendor = vendor_is (is_bit_set (slice_index s 4) 128) (big_number 4 (drop 8 s)) a.vendor f.vendor_bit f.vendor in
     let header : avp_header_len (vendor_at s) ≡ avp_header_len a.vendor = ap avp_header_len vendor in
     let len : avp_header_len a.vendor + length a.bytes ≡ length_at s = f.len in
     let size : length_at s - avp_header_len (vendor_at s) ≡ length a.bytes = omega (arith, header, len) in

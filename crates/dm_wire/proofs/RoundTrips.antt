@@ -3,7 +3,7 @@ use Rattle.std.proofs.Common.{◌≡◌, ℕ, ◌^◌, ◌<◌, ◌≤◌, Bool,
 use Rattle.dm_wire.specs.declared.avp.Avp.{Avp}
 use Rattle.dm_wire.specs.declared.message.Header.{Header}
 use Rattle.dm_wire.specs.declared.message.Message.{Message}
-use Rattle.dm_wire.specs.Spelling.{is_set, SpellsList, SpellsHeader, SpellsMessage}
+use Rattle.dm_wire.specs.Spelling.{is_bit_set, SpellsList, SpellsHeader, SpellsMessage}
 use Rattle.dm_wire.specs.Canonical.{flag_octet, header_flags, canonical_avp, canonical_list, canonical_header, message_size, canonical_message}
 use Rattle.dm_wire.proofs.Canonicals.{avp_spelled}
 use Rattle.dm_wire.proofs.Limit.{spelled_size}
@@ -11,8 +11,8 @@ use Rattle.dm_wire.proofs.Messages.{one_message}
 use Rattle.dm_wire.proofs.Lists.{one_list}
 
 -- the bits of a flag octet are those that it was made of
-header_bits : (r p e t : Bool) → (is_set (flag_octet r p e t) 128 ≡ r) × (is_set (flag_octet r p e t) 64 ≡ p) ×
-    (is_set (flag_octet r p e t) 32 ≡ e) × (is_set (flag_octet r p e t) 16 ≡ t)
+header_bits : (r p e t : Bool) → (is_bit_set (flag_octet r p e t) 128 ≡ r) × (is_bit_set (flag_octet r p e t) 64 ≡ p) ×
+    (is_bit_set (flag_octet r p e t) 32 ≡ e) × (is_bit_set (flag_octet r p e t) 16 ≡ t)
 header_bits true true true true = (refl, refl, refl, refl)
 header_bits true true true false = (refl, refl, refl, refl)
 header_bits true true false true = (refl, refl, refl, refl)

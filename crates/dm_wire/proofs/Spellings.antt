@@ -4,13 +4,13 @@ use Rattle.std.proofs.Math.Seq.{take-append_seam, drop-append_seam}
 use Rattle.byteorder.specs.Endian.{big_number}
 use Rattle.byteorder.specs.Numbers.{big_number-reads_back}
 use Rattle.dm_wire.specs.declared.avp.Avp.{Avp}
-use Rattle.dm_wire.specs.Spelling.{be, is_set, avp_header_len, avp_length, vendor_octets, SpellsAvp}
+use Rattle.dm_wire.specs.Spelling.{be, is_bit_set, avp_header_len, avp_length, vendor_octets, SpellsAvp}
 
 -- s begins with the AVP a in n octets: each field of a as a reading of s
 pub record Front (a : Avp) (n : ℕ) (s : List ℕ) : Type 0 where
-  pub vendor_bit : is_set (slice_index s 4) 128 ≡ is_some a.vendor
-  pub mandatory_bit : is_set (slice_index s 4) 64 ≡ a.mandatory
-  pub protected_bit : is_set (slice_index s 4) 32 ≡ a.protected
+  pub vendor_bit : is_bit_set (slice_index s 4) 128 ≡ is_some a.vendor
+  pub mandatory_bit : is_bit_set (slice_index s 4) 64 ≡ a.mandatory
+  pub protected_bit : is_bit_set (slice_index s 4) 32 ≡ a.protected
   pub code : a.code ≡ big_number 4 s
   pub len : avp_length a ≡ big_number 3 (drop 5 s)
   pub vendor : IfSome a.vendor (λ v. v ≡ big_number 4 (drop 8 s))

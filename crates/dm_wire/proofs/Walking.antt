@@ -6,7 +6,7 @@ use Rattle.dm_wire.specs.declared.avp.Avp.{Avp}
 use Rattle.dm_wire.specs.Spelling.{SpellsList}
 use Rattle.dm_wire.specs.Refusal.{IsBadAt}
 use Rattle.dm_wire.specs.WalkStates.{Walk}
-use Rattle.dm_wire.specs.Walks.{walk_over, Passes, Stops, IsDone, WalkGives, ReadsAs}
+use Rattle.dm_wire.specs.Walks.{walk_over, Passes, StopsWalk, IsDone, WalkGives, ReadsAs}
 use Rattle.dm_wire.proofs.Cuts.{take-add}
 use Rattle.dm_wire.proofs.Lists.{list_push, avp_not_empty}
 
@@ -43,7 +43,7 @@ passed_more s l w v a p q =
     }
 
 -- where the walk stops is the first bad octet
-pub passed_stop : (s : List ℕ) (l : List Avp) (w v : Walk) (o : ℕ) → Passed s l w → Stops w o v →
+pub passed_stop : (s : List ℕ) (l : List Avp) (w v : Walk) (o : ℕ) → Passed s l w → StopsWalk w o v →
     IsBadAt 0 s o × SpellsList l (take o s)
 passed_stop s l w v o p q =
     let some : 0 < length w.left = q.some in

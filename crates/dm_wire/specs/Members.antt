@@ -1,13 +1,14 @@
 -- The AVPs that octets spell, as an answer (RFC 6733, 4.1 and 4.4).
-use Rattle.std.specs.Prelude.{◌≡◌, ◌↔◌, ℕ, zero, suc, ◌+◌, ◌-◌, ◌*◌, ◌/◌, Bool, ◌&&◌, nat_le, Option, None, Some, option_map, List, [], ◌∷◌, length, take, drop, slice_index, if◌then◌else◌}
+use Rattle.std.specs.Prelude.{◌≡◌, ◌↔◌, ℕ, zero, suc, ◌+◌, ◌-◌, ◌*◌, ◌/◌, Bool, ◌&&◌, nat_le, Option, None}
+use Rattle.std.specs.Prelude.{Some, option_map, List, [], ◌∷◌, length, take, drop, slice_index, if◌then◌else◌}
 use Rattle.byteorder.specs.Endian.{big_number}
 use Rattle.dm_wire.specs.declared.avp.Avp.{Avp}
-use Rattle.dm_wire.specs.Spelling.{is_set, avp_header_len, SpellsList}
+use Rattle.dm_wire.specs.Spelling.{is_bit_set, avp_header_len, SpellsList}
 use Rattle.dm_wire.specs.Octets.{AreOctets}
 
 -- the Vendor-ID field, where the V bit is set
 abbrev pub vendor_at : List ℕ → Option ℕ
-vendor_at s = if is_set (slice_index s 4) 128 then Some (big_number 4 (drop 8 s)) else None
+vendor_at s = if is_bit_set (slice_index s 4) 128 then Some (big_number 4 (drop 8 s)) else None
 
 -- the AVP Length field
 abbrev pub length_at : List ℕ → ℕ
@@ -23,8 +24,8 @@ avp_at s =
     record {
       code = big_number 4 s;
       vendor = vendor_at s;
-      mandatory = is_set (slice_index s 4) 64;
-      protected = is_set (slice_index s 4) 32;
+      mandatory = is_bit_set (slice_index s 4) 64;
+      protected = is_bit_set (slice_index s 4) 32;
       bytes = take (length_at s - avp_header_len (vendor_at s)) (drop (avp_header_len (vendor_at s)) s);
     }
 

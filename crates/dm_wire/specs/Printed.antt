@@ -11,14 +11,14 @@ abbrev pub dash : ℕ
 dash = 45
 
 -- the flag's letter where it is set, else `-`
-abbrev pub mark : Bool → ℕ → ℕ
-mark set letter = if set then letter else dash
+abbrev pub flag_mark : Bool → ℕ → ℕ
+flag_mark set letter = if set then letter else dash
 
 -- the flags' letters, each in its place or `-`
 abbrev pub marks : List Bool → List ℕ → List ℕ
 marks [] letters = []
 marks (set ∷ more) [] = []
-marks (set ∷ more) (letter ∷ letters) = mark set letter ∷ marks more letters
+marks (set ∷ more) (letter ∷ letters) = flag_mark set letter ∷ marks more letters
 
 -- `R` `P` `E` `T`, each in its place or `-`
 abbrev pub header_marks : Bool → Bool → Bool → Bool → List ℕ

@@ -1,7 +1,8 @@
 -- What octets spell: AVPs, lists of AVPs, headers and messages (RFC 6733, 3 and 4.1).
 -- These are relations, for padding and reserved bits are free. An octet is a number; in the lists of a program it is
 -- below 256.
-use Rattle.std.specs.Prelude.{◌≡◌, ℕ, ◌+◌, ◌%◌, ◌^◌, ◌<◌, ◌≤◌, Bool, not, nat_eq, bit_and, Option, None, Some, IfSome, is_some, List, [], ◌∷◌, ◌++◌, length}
+use Rattle.std.specs.Prelude.{◌≡◌, ℕ, ◌+◌, ◌%◌, ◌^◌, ◌<◌, ◌≤◌, Bool, not, nat_eq, bit_and}
+use Rattle.std.specs.Prelude.{Option, None, Some, IfSome, is_some, List, [], ◌∷◌, ◌++◌, length}
 use Rattle.std.specs.Int.{bytes_high_first}
 use Rattle.dm_wire.specs.declared.avp.Avp.{Avp}
 use Rattle.dm_wire.specs.declared.message.Header.{Header}
@@ -13,8 +14,8 @@ abbrev pub be : ℕ → ℕ → List ℕ
 be n k = bytes_high_first k n
 
 -- the bit of this worth is set in the flag octet
-abbrev pub is_set : ℕ → ℕ → Bool
-is_set octet worth = not (nat_eq (bit_and octet worth) 0)
+abbrev pub is_bit_set : ℕ → ℕ → Bool
+is_bit_set octet worth = not (nat_eq (bit_and octet worth) 0)
 
 -- the octets of an AVP's header: 8, with a Vendor-ID 12 (4.1)
 abbrev pub avp_header_len : Option ℕ → ℕ
@@ -35,9 +36,9 @@ pub record SpellsAvp (a : Avp) (s : List ℕ) : Type 0 where
   pub flags : ℕ
   pub padding : List ℕ
   pub whole : s ≡ be a.code 4 ++ flags ∷ be (avp_length a) 3 ++ vendor_octets a.vendor ++ a.bytes ++ padding
-  pub vendor_bit : is_set flags 128 ≡ is_some a.vendor
-  pub mandatory_bit : is_set flags 64 ≡ a.mandatory
-  pub protected_bit : is_set flags 32 ≡ a.protected
+  pub vendor_bit : is_bit_set flags 128 ≡ is_some a.vendor
+  pub mandatory_bit : is_bit_set flags 64 ≡ a.mandatory
+  pub protected_bit : is_bit_set flags 32 ≡ a.protected
   pub least : length padding < 4
   pub aligned : length s % 4 ≡ 0
   pub code_fits : a.code < 256 ^ 4
@@ -54,10 +55,10 @@ SpellsList (a ∷ l) s = (first : List ℕ) × (rest : List ℕ) × (s ≡ first
 pub record SpellsHeader (h : Header) (size : ℕ) (s : List ℕ) : Type 0 where
   pub flags : ℕ
   pub whole : s ≡ 1 ∷ be size 3 ++ flags ∷ be h.command 3 ++ be h.application 4 ++ be h.hop_id 4 ++ be h.end_id 4
-  pub request_bit : is_set flags 128 ≡ h.request
-  pub proxiable_bit : is_set flags 64 ≡ h.proxiable
-  pub error_bit : is_set flags 32 ≡ h.error
-  pub retransmit_bit : is_set flags 16 ≡ h.retransmit
+  pub request_bit : is_bit_set flags 128 ≡ h.request
+  pub proxiable_bit : is_bit_set flags 64 ≡ h.proxiable
+  pub error_bit : is_bit_set flags 32 ≡ h.error
+  pub retransmit_bit : is_bit_set flags 16 ≡ h.retransmit
   pub size_fits : size ≤ max_message_len
   pub command_fits : h.command < 256 ^ 3
   pub application_fits : h.application < 256 ^ 4

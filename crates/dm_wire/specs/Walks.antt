@@ -1,5 +1,6 @@
 -- Walks over octets, one AVP at a time (RFC 6733, 4.1).
-use Rattle.std.specs.Prelude.{◌≡◌, ℕ, ◌+◌, ◌<◌, ◌⊎◌, true, false, Option, None, Some, Result, Ok, Err, List, [], ◌∷◌, ◌++◌, length, take, map}
+use Rattle.std.specs.Prelude.{◌≡◌, ℕ, ◌+◌, ◌<◌, ◌⊎◌, true, false, Option, None, Some}
+use Rattle.std.specs.Prelude.{Result, Ok, Err, List, [], ◌∷◌, ◌++◌, length, take, map}
 use Rattle.dm_wire.specs.declared.avp.Avp.{Avp}
 use Rattle.dm_wire.specs.declared.borrowed.AvpRef.{AvpRef}
 use Rattle.dm_wire.specs.Borrowed.{avp_of}
@@ -21,7 +22,7 @@ pub record Passes (w : Walk) (a : Avp) (v : Walk) : Type 0 where
   pub goes_on : v.ended ≡ false
 
 -- no AVP begins where the walk w stands, at offset o: it stays there, as v, and has ended
-pub record Stops (w : Walk) (o : ℕ) (v : Walk) : Type 0 where
+pub record StopsWalk (w : Walk) (o : ℕ) (v : Walk) : Type 0 where
   pub going : w.ended ≡ false
   pub some : 0 < length w.left
   pub bad : BeginsWithNoAvp w.left
@@ -36,13 +37,13 @@ IsDone w = (w.left ≡ []) ⊎ (w.ended ≡ true)
 abbrev pub WalkStep : Walk → Option (Result AvpRef ℕ) → Walk → Type 0
 WalkStep w None v = IsDone w × (v ≡ w)
 WalkStep w (Some (Ok a)) v = Passes w (avp_of a) v
-WalkStep w (Some (Err o)) v = Stops w o v
+WalkStep w (Some (Err o)) v = StopsWalk w o v
 
 -- the answers of the calls from w on, up to None
 abbrev pub WalkGives : Walk → List (Result Avp ℕ) → Type 0
 WalkGives w [] = IsDone w
 WalkGives w (Ok a ∷ l) = (v : Walk) × Passes w a v × WalkGives v l
-WalkGives w (Err o ∷ l) = (v : Walk) × Stops w o v × WalkGives v l
+WalkGives w (Err o ∷ l) = (v : Walk) × StopsWalk w o v × WalkGives v l
 
 -- the AVPs of octets that spell a list; else those up to the first bad octet, and then that octet
 abbrev pub ReadsAs : List ℕ → List (Result Avp ℕ) → Type 0

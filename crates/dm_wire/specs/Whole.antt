@@ -1,11 +1,12 @@
 -- The message that octets spell, as an answer (RFC 6733, 3).
-use Rattle.std.specs.Prelude.{◌≡◌, ◌↔◌, ℕ, ◌%◌, Bool, ◌&&◌, nat_eq, nat_le, Option, None, Some, option_map, List, length, drop, slice_index, if◌then◌else◌}
+use Rattle.std.specs.Prelude.{◌≡◌, ◌↔◌, ℕ, ◌%◌, Bool, ◌&&◌, nat_eq, nat_le, Option, None, Some}
+use Rattle.std.specs.Prelude.{option_map, List, length, drop, slice_index, if◌then◌else◌}
 use Rattle.byteorder.specs.Endian.{big_number}
 use Rattle.dm_wire.specs.declared.avp.Avp.{Avp}
 use Rattle.dm_wire.specs.declared.message.Header.{Header}
 use Rattle.dm_wire.specs.declared.message.Message.{Message}
 use Rattle.dm_wire.specs.Members.{members}
-use Rattle.dm_wire.specs.Spelling.{is_set, SpellsMessage}
+use Rattle.dm_wire.specs.Spelling.{is_bit_set, SpellsMessage}
 use Rattle.dm_wire.specs.Octets.{AreOctets}
 
 -- a whole header of version 1, whose Message Length is the size, a multiple of 4
@@ -18,10 +19,10 @@ has_header s =
 abbrev pub header_in : List ℕ → Header
 header_in s =
     record {
-      request = is_set (slice_index s 4) 128;
-      proxiable = is_set (slice_index s 4) 64;
-      error = is_set (slice_index s 4) 32;
-      retransmit = is_set (slice_index s 4) 16;
+      request = is_bit_set (slice_index s 4) 128;
+      proxiable = is_bit_set (slice_index s 4) 64;
+      error = is_bit_set (slice_index s 4) 32;
+      retransmit = is_bit_set (slice_index s 4) 16;
       command = big_number 3 (drop 5 s);
       application = big_number 4 (drop 8 s);
       hop_id = big_number 4 (drop 12 s);

@@ -1,5 +1,6 @@
 //! Messages and lists of AVPs from octets (RFC 6733, 3 and 4.1).
-ghost use Rattle.std.specs.Prelude.{◌≡◌, ◌≢◌, ◌≤◌, ◌⊎◌, ◌↔◌, true, ℕ, List, [], Ok, IfOk, IfErr, IsErrOf, IfSome, MatchResult};
+ghost use Rattle.std.specs.Prelude.{◌≡◌, ◌≢◌, ◌≤◌, ◌⊎◌, ◌↔◌, true, ℕ, List, []};
+ghost use Rattle.std.specs.Prelude.{Ok, IfOk, IfErr, IsErrOf, IfSome, MatchResult};
 ghost use Rattle.dm_wire.specs.declared.avp.Avp.{Avp};
 ghost use Rattle.dm_wire.specs.declared.fault.WireFault.{WireFault};
 ghost use Rattle.dm_wire.specs.Spelling.{SpellsList, SpellsMessage};

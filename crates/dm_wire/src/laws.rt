@@ -1,8 +1,10 @@
 //! Laws of what octets spell. Each function is a law: it does nothing, and its contract is the law.
 ghost use Rattle.dm_wire.specs.Members.{MembersSpell, SpelledAreMembers};
 ghost use Rattle.dm_wire.specs.AvpEquality.{EqualAvps, EqualLists, EqualMessages};
-ghost use Rattle.dm_wire.specs.OneAnswer.{OneMessage, OneAvp, OneList, OneBadOctet, OneRefusal, NoMessageRefused, ListOrBadOctet, MessageOrFault};
-ghost use Rattle.dm_wire.specs.RoundTrip.{CanonicalSpells, ReadsBack, OneSize, CanonicalListSpells, ListReadsBack, CanonicalHeaderSpelled};
+ghost use Rattle.dm_wire.specs.OneAnswer.{OneMessage, OneAvp, OneList, OneBadOctet, OneRefusal};
+ghost use Rattle.dm_wire.specs.OneAnswer.{NoMessageRefused, ListOrBadOctet, MessageOrFault};
+ghost use Rattle.dm_wire.specs.RoundTrip.{CanonicalSpells, ReadsBack, OneSize, CanonicalListSpells};
+ghost use Rattle.dm_wire.specs.RoundTrip.{ListReadsBack, CanonicalHeaderSpelled};
 ghost use Rattle.dm_wire.specs.Walks.{WalkTells};
 ghost use Rattle.dm_wire.specs.Fitting.{AvpSpelled, AvpSized, ListSpelled, MessageSpelled};
 ghost use Rattle.dm_wire.specs.Framing.{SpelledIsFramed, CanonicalIsFramed};

@@ -1,5 +1,6 @@
 //! Lists of AVPs, held or spelled by octets (RFC 6733, 4.1 and 4.4).
-ghost use Rattle.std.specs.Prelude.{◌≡◌, ◌<◌, ◌≤◌, ◌⊎◌, None, List, [], ◌∷◌, length, drop, option_map, is_some, IfSome, IfNone, MatchOption};
+ghost use Rattle.std.specs.Prelude.{◌≡◌, ◌<◌, ◌≤◌, ◌⊎◌, None, List, [], ◌∷◌, length, drop};
+ghost use Rattle.std.specs.Prelude.{option_map, is_some, IfSome, IfNone, MatchOption};
 ghost use Rattle.dm_wire.specs.declared.avp.Avp.{Avp};
 ghost use Rattle.dm_wire.specs.Members.{members};
 ghost use Rattle.dm_wire.specs.Borrowed.{avp_of, Lists, size_of};

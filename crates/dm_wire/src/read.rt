@@ -1,5 +1,6 @@
 //! The first AVP of octets, and the header of a message (RFC 6733, 3 and 4.1).
-ghost use Rattle.std.specs.Prelude.{◌≡◌, ◌^◌, ◌<◌, ◌≤◌, ◌⊎◌, ◌↔◌, length, take, drop, slice_index, IfOk, IfErr, IfSome, IfNone, IsErrOf};
+ghost use Rattle.std.specs.Prelude.{◌≡◌, ◌^◌, ◌<◌, ◌≤◌, ◌⊎◌, ◌↔◌, length, take, drop};
+ghost use Rattle.std.specs.Prelude.{slice_index, IfOk, IfErr, IfSome, IfNone, IsErrOf};
 ghost use Rattle.byteorder.specs.Endian.{big_number};
 ghost use Rattle.dm_wire.specs.Spelling.{SpellsAvp, SpellsHeader};
 ghost use Rattle.dm_wire.specs.Borrowed.{avp_of};
@@ -47,7 +48,8 @@ pub(crate) fn read_header(octets: &[u8]) -> Result<Header, WireFault>
     ensures short { IsErrOf result WireFault.TooShort ↔ IsTooShort octets.now }
     ensures version { IsErrOf result WireFault.Version ↔ IsOtherVersion octets.now }
     ensures len { IsErrOf result WireFault.Length ↔ IsOtherLength octets.now }
-    ensures fault { IfErr result (λ fault. (fault ≡ WireFault.TooShort) ⊎ (fault ≡ WireFault.Version) ⊎ (fault ≡ WireFault.Length)) }
+    ensures fault { IfErr result (λ fault. (fault ≡ WireFault.TooShort) ⊎ (fault ≡ WireFault.Version)
+        ⊎ (fault ≡ WireFault.Length)) }
 {
     if octets.len() < 20 {
         return Err(WireFault::TooShort);

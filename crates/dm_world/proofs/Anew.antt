@@ -3,9 +3,9 @@ use Rattle.std.proofs.Common.{◌≡◌, ℕ, zero, suc, ◌==◌, Bool, true, f
 use Rattle.std.proofs.Common.{Some, None, List, [], ◌∷◌, ◌++◌, slice_get, refl, sym, ap, subst, ◌∙◌, arith}
 use Rattle.std.specs.Prelude.{IsTrue, option_map}
 use Rattle.std.proofs.lemmas.Bool.Decides.{nat_tests}
-use Rattle.dm_two_peers.specs.Machine.{Conn, Node, is_shaped, Tie, Unheld, Connecting, Made, MadeOpen, Taken, tie_of}
-use Rattle.dm_two_peers.specs.Machine.{is_held, held_as, Initiated, Accepted}
-use Rattle.dm_two_peers.specs.Links.{Side, A, B, opens, LinkPhase, Pending, Up, Cancelled, End, Fresh, Open, Shut, Mark}
+use Rattle.dm_two_peers.specs.Machine.{Conn, Node, is_shaped, Tie, Unheld, Connecting, Connected, ConnectedOpen, AcceptedTie, tie_of}
+use Rattle.dm_two_peers.specs.Machine.{is_tie_held, held_as, Initiated, Accepted}
+use Rattle.dm_two_peers.specs.Links.{Side, A, B, opens, LinkPhase, LinkPending, LinkUp, LinkCancelled, End, Fresh, Open, Shut, Mark}
 use Rattle.dm_two_peers.specs.Links.{NoMark, Coming, Delivered, Direction, Link, View, view_of, link_of}
 use Rattle.dm_two_peers.specs.Facts.{is_none, is_shut, is_up, is_fresh, standing_of, turned_over, is_sound_standing, AreSound, opener_fits}
 use Rattle.dm_two_peers.specs.Facts.{other_fits, end_fits, fresh_fits, is_empty}
@@ -32,12 +32,12 @@ idem_view : (b : Bool) (p : LinkPhase) (own other : End) (inc : Direction (List 
     (m : Mark) →
     let v = viewed p own other inc ms tk m in
     restarted b (restarted b v) ≡ restarted b v
-idem_view true Pending own other inc ms tk m = refl
-idem_view false Pending own other inc ms tk m = refl
-idem_view b Cancelled own other inc ms tk m = refl
-idem_view b Up own other inc ms tk NoMark = refl
-idem_view b Up own other inc ms tk Coming = refl
-idem_view b Up own other inc ms tk Delivered = refl
+idem_view true LinkPending own other inc ms tk m = refl
+idem_view false LinkPending own other inc ms tk m = refl
+idem_view b LinkCancelled own other inc ms tk m = refl
+idem_view b LinkUp own other inc ms tk NoMark = refl
+idem_view b LinkUp own other inc ms tk Coming = refl
+idem_view b LinkUp own other inc ms tk Delivered = refl
 
 view_link : (b : Bool) (o : Side) (v : View (List ℕ)) → view_of b (link_of b o v) ≡ v
 view_link true o v = refl
@@ -59,22 +59,22 @@ restarted_twice s l = idem_link (opens s l.opener) l.opener (view_of (opens s l.
 
 -- a view that a restart leaves as it is
 abbrev is_inert : Bool → LinkPhase → End → Mark → Bool
-is_inert b Pending own m = not b
-is_inert b Cancelled own m = true
-is_inert b Up own m = is_shut own && not (is_none m)
+is_inert b LinkPending own m = not b
+is_inert b LinkCancelled own m = true
+is_inert b LinkUp own m = is_shut own && not (is_none m)
 
 inert_view : (b : Bool) (p : LinkPhase) (own other : End) (inc : Direction (List ℕ)) (ms : List (List ℕ)) (tk : ℕ)
     (m : Mark) → is_inert b p own m ≡ true →
     let v = viewed p own other inc ms tk m in
     restarted b v ≡ v
-inert_view true Pending own other inc ms tk m h = cc
-inert_view false Pending own other inc ms tk m h = refl
-inert_view b Cancelled own other inc ms tk m h = refl
-inert_view b Up Shut other inc ms tk NoMark h = cc
-inert_view b Up Shut other inc ms tk Coming h = refl
-inert_view b Up Shut other inc ms tk Delivered h = refl
-inert_view b Up Fresh other inc ms tk m h = cc
-inert_view b Up Open other inc ms tk m h = cc
+inert_view true LinkPending own other inc ms tk m h = cc
+inert_view false LinkPending own other inc ms tk m h = refl
+inert_view b LinkCancelled own other inc ms tk m h = refl
+inert_view b LinkUp Shut other inc ms tk NoMark h = cc
+inert_view b LinkUp Shut other inc ms tk Coming h = refl
+inert_view b LinkUp Shut other inc ms tk Delivered h = refl
+inert_view b LinkUp Fresh other inc ms tk m h = cc
+inert_view b LinkUp Open other inc ms tk m h = cc
 
 inert_link : (s : Side) (l : Link (List ℕ)) →
     is_inert (opens s l.opener) l.phase (own_view s l).own (own_view s l).outgoing.mark ≡ true → restart_link s l ≡ l
@@ -123,14 +123,14 @@ sound_inert : (b : Bool) (p : LinkPhase) (u : Tie) (own other : End) (ie oe : Bo
       out_mark = om;
     })) ≡ true →
     (is_up p && is_fresh own) ≡ false → is_inert b p own om ≡ true
-sound_inert true Pending u own other ie oe im om h f = cc
-sound_inert false Pending u own other ie oe im om h f = refl
-sound_inert b Cancelled u own other ie oe im om h f = refl
-sound_inert true Up u own other ie oe im om h f =
+sound_inert true LinkPending u own other ie oe im om h f = cc
+sound_inert false LinkPending u own other ie oe im om h f = refl
+sound_inert b LinkCancelled u own other ie oe im om h f = refl
+sound_inert true LinkUp u own other ie oe im om h f =
     let p = five (opener_fits own Unheld) (other_fits other u) (end_fits own ie im om) (end_fits other oe om im)
     (fresh_fits other Unheld ie oe om) h in
     opener_shut own ie im om p.0 p.2
-sound_inert false Up u own other ie oe im om h f =
+sound_inert false LinkUp u own other ie oe im om h f =
     let p = five (opener_fits other u) (other_fits own Unheld) (end_fits other oe om im) (end_fits own ie im om)
     (fresh_fits own u oe ie im) h in
     other_shut own ie im om p.1 f p.3
@@ -273,12 +273,12 @@ false_of : (a b : Bool) → (a ≡ true → b ≡ true) → b ≡ false → a �
 false_of true b f h = let e : b ≡ true = f refl in cc
 false_of false b f h = refl
 
-tie_unheld : (t : Tie) → is_held t ≡ false → t ≡ Unheld
+tie_unheld : (t : Tie) → is_tie_held t ≡ false → t ≡ Unheld
 tie_unheld Unheld h = refl
 tie_unheld Connecting h = cc
-tie_unheld Made h = cc
-tie_unheld MadeOpen h = cc
-tie_unheld Taken h = cc
+tie_unheld Connected h = cc
+tie_unheld ConnectedOpen h = cc
+tie_unheld AcceptedTie h = cc
 
 both_false : (a b : Bool) → a ≡ false → b ≡ false → (a || b) ≡ false
 both_false true b h g = cc

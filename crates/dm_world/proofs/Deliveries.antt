@@ -5,10 +5,10 @@ use Rattle.std.specs.Prelude.{if◌then◌else◌}
 use Rattle.std.proofs.lemmas.Bool.Decides.{nat_tests}
 use Rattle.dm_peer.specs.declared.peer.Peer.{Peer}
 use Rattle.dm_two_peers.specs.Machine.{conn}
-use Rattle.dm_two_peers.specs.Links.{Side, Link, by_side, LinkPhase, Pending, Up, Cancelled, End, Mark, NoMark, Coming}
+use Rattle.dm_two_peers.specs.Links.{Side, Link, by_side, LinkPhase, LinkPending, LinkUp, LinkCancelled, End, Mark, NoMark, Coming}
 use Rattle.dm_two_peers.specs.Links.{Delivered}
-use Rattle.dm_two_peers.specs.Peers.{Arrived, Gone}
-use Rattle.dm_two_peers.specs.Worlds.{World, After, Done, Ignored, with_links, change_at}
+use Rattle.dm_two_peers.specs.Peers.{ArrivedEvent, GoneEvent}
+use Rattle.dm_two_peers.specs.Worlds.{World, After, DoneWith, Ignored, with_links, change_at}
 use Rattle.dm_two_peers.specs.Happens.{happens, Delivers, Pieces, deliver_next, deliver_part, take_part, comes, own_view, next_in}
 use Rattle.dm_two_peers.specs.Happens.{if_up, at_link, NextMessage, NextDisconnect, NextNothing}
 use Rattle.dm_two_peers.specs.Happens as happens
@@ -28,28 +28,28 @@ record IsNextMessage (ms : List (List ℕ)) (n : happens.Next (List ℕ)) : Type
 message_next : (p : LinkPhase) (ms : List (List ℕ)) (mk : Mark) →
     next_kind (if_up p (next_in ms mk) NextNothing) ≡ next.Message →
     IsNextMessage ms (if_up p (next_in ms mk) NextNothing)
-message_next Up (x ∷ xs) mk h = record { message = x; front = refl; next = refl }
-message_next Up [] NoMark h = cc
-message_next Up [] Coming h = cc
-message_next Up [] Delivered h = cc
-message_next Pending ms mk h = cc
-message_next Cancelled ms mk h = cc
+message_next LinkUp (x ∷ xs) mk h = record { message = x; front = refl; next = refl }
+message_next LinkUp [] NoMark h = cc
+message_next LinkUp [] Coming h = cc
+message_next LinkUp [] Delivered h = cc
+message_next LinkPending ms mk h = cc
+message_next LinkCancelled ms mk h = cc
 
 disconnect_next : (p : LinkPhase) (ms : List (List ℕ)) (mk : Mark) →
     next_kind (if_up p (next_in ms mk) NextNothing) ≡ next.Disconnect →
     if_up p (next_in ms mk) NextNothing ≡ NextDisconnect
-disconnect_next Up (x ∷ xs) mk h = cc
-disconnect_next Up [] NoMark h = cc
-disconnect_next Up [] Coming h = refl
-disconnect_next Up [] Delivered h = cc
-disconnect_next Pending ms mk h = cc
-disconnect_next Cancelled ms mk h = cc
+disconnect_next LinkUp (x ∷ xs) mk h = cc
+disconnect_next LinkUp [] NoMark h = cc
+disconnect_next LinkUp [] Coming h = refl
+disconnect_next LinkUp [] Delivered h = cc
+disconnect_next LinkPending ms mk h = cc
+disconnect_next LinkCancelled ms mk h = cc
 
 only_up : (w : World Peer (List ℕ)) (c : ℕ) (s : Side) (end : End) (p : LinkPhase) (n : happens.Next (List ℕ)) →
     if_up p (deliver_next octet_peers c s end n w) Ignored ≡ deliver_next octet_peers c s end (if_up p n NextNothing) w
-only_up w c s end Up n = refl
-only_up w c s end Pending n = refl
-only_up w c s end Cancelled n = refl
+only_up w c s end LinkUp n = refl
+only_up w c s end LinkPending n = refl
+only_up w c s end LinkCancelled n = refl
 
 delivers_is : (w : World Peer (List ℕ)) (c : ℕ) (s : Side) (l : Link (List ℕ)) → slice_get w.links c ≡ Some l →
     happens octet_peers w (Delivers c s) ≡
@@ -66,7 +66,7 @@ pub message_step : (s : Side) (c : ℕ) (effect : Effect) (w w' : World Peer (Li
     slice_get w.links c ≡ Some l → next_to s l ≡ next.Message →
     ((l : Link (List ℕ)) (x : List ℕ) → slice_get w.links c ≡ Some l →
     slice_get (own_view s l).incoming.messages 0 ≡ Some x →
-    Effects effect (comes octet_peers s (Arrived (conn c) x) (own_view s l).own w) w w') →
+    Effects effect (comes octet_peers s (ArrivedEvent (conn c) x) (own_view s l).own w) w w') →
     Effects effect (happens octet_peers w (Delivers c s)) w w'
 message_step s c effect w w' l there next step =
     let n = message_next l.phase (own_view s l).incoming.messages (own_view s l).incoming.mark next in
@@ -76,7 +76,7 @@ message_step s c effect w w' l there next step =
 pub disconnect_step : (s : Side) (c : ℕ) (effect : Effect) (w w' : World Peer (List ℕ)) (l : Link (List ℕ)) →
     slice_get w.links c ≡ Some l → next_to s l ≡ next.Disconnect →
     ((l : Link (List ℕ)) → slice_get w.links c ≡ Some l →
-    Effects effect (comes octet_peers s (Gone (conn c)) (own_view s l).own w) w w') →
+    Effects effect (comes octet_peers s (GoneEvent (conn c)) (own_view s l).own w) w w') →
     Effects effect (happens octet_peers w (Delivers c s)) w w'
 disconnect_step s c effect w w' l there next step =
     let n = disconnect_next l.phase (own_view s l).incoming.messages (own_view s l).incoming.mark next in
@@ -88,9 +88,9 @@ none_pieced : {X : Type 0} (k : ℕ) (p : LinkPhase) (x y : X) → k ≡ 0 → i
 none_pieced k p x y none = rw none (by p)
   where
     by : (p : LinkPhase) → if_up p x x ≡ x
-    by Up = refl
-    by Pending = refl
-    by Cancelled = refl
+    by LinkUp = refl
+    by LinkPending = refl
+    by LinkCancelled = refl
 
 not_none : (k : ℕ) → 0 < k → (k == 0) ≡ false
 not_none k some = grind (arith, nat_tests)
@@ -99,9 +99,9 @@ only_up_piece : (w : World Peer (List ℕ)) (c : ℕ) (s : Side) (k : ℕ) (end 
     (n : happens.Next (List ℕ)) (b : Bool) → b ≡ false →
     if_up p (if b then Ignored else deliver_part octet_peers c s k end taken n w) Ignored
     ≡ deliver_part octet_peers c s k end taken (if_up p n NextNothing) w
-only_up_piece w c s k end taken Up n b some = rw some refl
-only_up_piece w c s k end taken Pending n b some = refl
-only_up_piece w c s k end taken Cancelled n b some = refl
+only_up_piece w c s k end taken LinkUp n b some = rw some refl
+only_up_piece w c s k end taken LinkPending n b some = refl
+only_up_piece w c s k end taken LinkCancelled n b some = refl
 
 -- as it is cut from the direction of a link
 abbrev piece_of : World Peer (List ℕ) → ℕ → Side → ℕ → Link (List ℕ) → After Peer (List ℕ)
@@ -167,12 +167,12 @@ part_step s c k w w' l there is_next some below is =
     let front = front_is v.incoming.messages n.message n.front in
     let cut = cut_true v.incoming.taken k (length n.message) (rw (← front) below) in
     let done = with_links (change_at c (by_side s (take_part k)) w.links) w in
-    let last = comes octet_peers s (Arrived (conn c) n.message) v.own w in (
+    let last = comes octet_peers s (ArrivedEvent (conn c) n.message) v.own w in (
       [],
       pieces_is w c s k l there some
           ∙ ap (λ x. deliver_part octet_peers c s k v.own v.incoming.taken x w) n.next
-          ∙ ap (λ b. if b then Done done [] else last) cut
-          ∙ ap (λ (a : World Peer (List ℕ)). Done a []) (sym is),
+          ∙ ap (λ b. if b then DoneWith done [] else last) cut
+          ∙ ap (λ (a : World Peer (List ℕ)). DoneWith a []) (sym is),
     )
 
 -- a piece that ends its message is the delivery
@@ -180,7 +180,7 @@ pub last_step : (s : Side) (c k : ℕ) (outcome : Effect) (w w' : World Peer (Li
     slice_get w.links c ≡ Some l → next_to s l ≡ next.Message → 0 < k → octets_to_come_to s l ≤ k →
     ((l : Link (List ℕ)) (x : List ℕ) → slice_get w.links c ≡ Some l →
     slice_get (own_view s l).incoming.messages 0 ≡ Some x →
-    Effects outcome (comes octet_peers s (Arrived (conn c) x) (own_view s l).own w) w w') →
+    Effects outcome (comes octet_peers s (ArrivedEvent (conn c) x) (own_view s l).own w) w w') →
     Effects outcome (happens octet_peers w (Pieces c s k)) w w'
 last_step s c k outcome w w' l there is_next some above step =
     let v = own_view s l in
@@ -188,9 +188,9 @@ last_step s c k outcome w w' l there is_next some above step =
     let front = front_is v.incoming.messages n.message n.front in
     let cut = cut_false v.incoming.taken k (length n.message) (rw (← front) above) in
     let done = with_links (change_at c (by_side s (take_part k)) w.links) w in
-    let last = comes octet_peers s (Arrived (conn c) n.message) v.own w in
+    let last = comes octet_peers s (ArrivedEvent (conn c) n.message) v.own w in
     let is =
     pieces_is w c s k l there some
     ∙ ap (λ x. deliver_part octet_peers c s k v.own v.incoming.taken x w) n.next
-    ∙ ap (λ b. if b then Done done [] else last) cut in
+    ∙ ap (λ b. if b then DoneWith done [] else last) cut in
     subst (λ (a : After Peer (List ℕ)). Effects outcome a w w') (sym is) (step l n.message there n.front)

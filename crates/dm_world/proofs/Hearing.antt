@@ -3,9 +3,9 @@ use Rattle.std.proofs.Common.{◌≡◌, ℕ, ◌<◌, ◌≤◌, Bool, true, fa
 use Rattle.std.proofs.Common.{slice_get, zero, suc, refl, sym, ap, subst, ◌∙◌, arith}
 use Rattle.std.specs.Prelude.{Result, Ok, Err, IfOk}
 use Rattle.dm_peer.specs.Events as told
-use Rattle.dm_two_peers.specs.Machine.{Conn, conn, Elsewhere, StartsIt, AcksIt, NacksIt, EndsIt, HeardOnIt}
+use Rattle.dm_two_peers.specs.Machine.{Conn, conn, Elsewhere, StartsLink, MakesLink, FailsLink, EndsLink, HeardOnLink}
 use Rattle.dm_two_peers.specs.Links.{Side, opens, Link, view_of, link_of, by_side}
-use Rattle.dm_two_peers.specs.Peers.{Arrived}
+use Rattle.dm_two_peers.specs.Peers.{ArrivedEvent}
 use Rattle.dm_two_peers.specs.Steps.{entered}
 use Rattle.dm_two_peers.specs.Happens.{own_view}
 use Rattle.dm_two_peers.specs.Worlds.{change_at, enter}
@@ -45,12 +45,12 @@ front_read s i ls l x y lt at read front =
 
 pub heard_result : {E : Type 0} (r : Result Effect E) (s : Side) (c : ℕ) (y : List ℕ) (o : Option (Link (List ℕ)))
     (w w' : OctetWorld) → ((x : List ℕ) → front_of s o ≡ Some x → y ≡ x) →
-    IfOk r (λ effect. Effects effect (worlds.tell octet_peers s (Arrived (conn c) y) w) w w') →
+    IfOk r (λ effect. Effects effect (worlds.tell octet_peers s (ArrivedEvent (conn c) y) w) w w') →
     IfOk r (λ effect. (x : List ℕ) → front_of s o ≡ Some x →
-    Effects effect (worlds.tell octet_peers s (Arrived (conn c) x) w) w w')
+    Effects effect (worlds.tell octet_peers s (ArrivedEvent (conn c) x) w) w w')
 heard_result (Err f) s c y o w w' same step = tt
 heard_result (Ok effect) s c y o w w' same step =
-    λ x front. subst (λ z. Effects effect (worlds.tell octet_peers s (Arrived (conn c) z) w) w w') (same x front) step
+    λ x front. subst (λ z. Effects effect (worlds.tell octet_peers s (ArrivedEvent (conn c) z) w) w w') (same x front) step
 
 -- an event that concerns no link leaves it, and so does a Start
 entered_elsewhere : (b : Bool) (l : Link (List ℕ)) → l ≡ link_of b l.opener (entered Elsewhere (view_of b l))
@@ -60,7 +60,7 @@ entered_elsewhere false l = refl
 pub not_entered : (s : Side) (l : Link (List ℕ)) → l ≡ by_side s (entered Elsewhere) l
 not_entered s l = entered_elsewhere (opens s l.opener) l
 
-pub not_started_on : (s : Side) (l : Link (List ℕ)) → l ≡ by_side s (entered StartsIt) l
+pub not_started_on : (s : Side) (l : Link (List ℕ)) → l ≡ by_side s (entered StartsLink) l
 not_started_on s l = entered_elsewhere (opens s l.opener) l
 
 -- an event enters the link that it names
@@ -69,13 +69,13 @@ pub entered_at : (s : Side) (e : told.PeerEvent) (n : Option Conn) (c : Conn) (l
     next ≡ change_at c.0 (by_side s (entered (concern_in e))) ls → next ≡ enter s (as_event e) ls
 entered_at s (told.Start d) n c ls next known is at done = cc
 entered_at s (told.Ack d) n c ls next known is at done =
-    let same : c ≡ d = cc in done ∙ ap (λ (x : Conn). change_at x.0 (by_side s (entered AcksIt)) ls) same
+    let same : c ≡ d = cc in done ∙ ap (λ (x : Conn). change_at x.0 (by_side s (entered MakesLink)) ls) same
 entered_at s (told.Nack d) n c ls next known is at done =
-    let same : c ≡ d = cc in done ∙ ap (λ (x : Conn). change_at x.0 (by_side s (entered NacksIt)) ls) same
+    let same : c ≡ d = cc in done ∙ ap (λ (x : Conn). change_at x.0 (by_side s (entered FailsLink)) ls) same
 entered_at s (told.Gone d) n c ls next known is at done =
-    let same : c ≡ d = cc in done ∙ ap (λ (x : Conn). change_at x.0 (by_side s (entered EndsIt)) ls) same
+    let same : c ≡ d = cc in done ∙ ap (λ (x : Conn). change_at x.0 (by_side s (entered EndsLink)) ls) same
 entered_at s (told.Arrived d x) n c ls next known is at done =
-    let same : c ≡ d = cc in done ∙ ap (λ (x : Conn). change_at x.0 (by_side s (entered HeardOnIt)) ls) same
+    let same : c ≡ d = cc in done ∙ ap (λ (x : Conn). change_at x.0 (by_side s (entered HeardOnLink)) ls) same
 entered_at s (told.Stop cause) n c ls next known is at done = let clash : None ≡ Some c = sym is ∙ at in cc
 entered_at s told.Timeout n c ls next known is at done = let clash : None ≡ Some c = sym is ∙ at in cc
 entered_at s told.Tick n c ls next known is at done = let clash : None ≡ Some c = sym is ∙ at in cc

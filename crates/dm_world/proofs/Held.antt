@@ -9,11 +9,11 @@ use Rattle.dm_machine.specs.Connection.{Hold, NotHeld, Pending, OpenAsI, OpenAsR
 use Rattle.dm_machine.specs.Connection.{hold_in}
 use Rattle.dm_machine.specs.Connection as machine
 use Rattle.dm_two_peers.specs.Machine.{conn, Conn, Role, Initiated, Accepted, Node, held_as, is_shaped, tie_as, tie_of}
-use Rattle.dm_two_peers.specs.Machine.{is_held}
-use Rattle.dm_world.specs.Rooms.{is_conn, holds_link}
+use Rattle.dm_two_peers.specs.Machine.{is_tie_held}
+use Rattle.dm_world.specs.Rooms.{is_conn, node_holds_link}
 
 abbrev is_tied : Hold → Bool
-is_tied h = is_held (tie_as h)
+is_tied h = is_tie_held (tie_as h)
 
 one_tie : (b : Bool) (h : Hold) → is_tied h ≡ true → is_tied (if b then h else NotHeld) ≡ b
 one_tie true h is = is
@@ -47,6 +47,6 @@ first_true : (a b : Bool) → (a && b) ≡ true → a ≡ true
 first_true true b h = refl
 first_true false b h = cc
 
-pub held_by_role : (n : Node) (c : ℕ) → IsTrue (is_shaped n) → is_held (tie_of n c) ≡ holds_link n c
+pub held_by_role : (n : Node) (c : ℕ) → IsTrue (is_shaped n) → is_tie_held (tie_of n c) ≡ node_holds_link n c
 held_by_role n c shaped =
     roles_hold n.state n.held c (first_true (is_held_in n.state n.held) (is_count_of n.state n.count) shaped)

@@ -5,7 +5,7 @@ use Rattle.dm_peer.specs.declared.peer.Peer.{Peer}
 use Rattle.dm_two_peers.specs.Follows.{IsMachine}
 use Rattle.dm_two_peers.specs.Happens.{Happening, happens, world_after}
 use Rattle.dm_two_peers.specs.Laws.{HappeningKeepsSound}
-use Rattle.dm_two_peers.specs.Streams.{IsSized, HappeningKeepsCut}
+use Rattle.dm_two_peers.specs.Streams.{IsMeasured, HappeningKeepsCut}
 use Rattle.dm_octet_peers.specs.Laws.{HappeningKeepsPeers}
 use Rattle.dm_octet_peers.specs.Octets.{octet_peers}
 use Rattle.dm_world.specs.declared.fault.Effect.{Effect}
@@ -20,7 +20,7 @@ pub record KeepingLaws : Type 0 where
   pub sound : HappeningKeepsSound Peer (List ℕ)
   pub peers : HappeningKeepsPeers
   pub cut : HappeningKeepsCut Peer (List ℕ)
-  pub sized : IsSized octet_peers
+  pub sized : IsMeasured octet_peers
 
 kept_after : (w : OctetWorld) (h : Happening (List ℕ)) → KeepingLaws → IsWorldKept w →
     IsWorldKept (world_after w (happens octet_peers w h))

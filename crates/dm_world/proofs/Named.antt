@@ -4,9 +4,9 @@ use Rattle.std.proofs.Common.{◌∷◌, ◌++◌, slice_get, refl, sym, ap, sub
 use Rattle.std.specs.Prelude.{Result, Ok, Err, IfOk, OnErr}
 use Rattle.std.proofs.lemmas.Bool.Decides.{nat_tests}
 use Rattle.dm_peer.specs.declared.peer.Peer.{Peer}
-use Rattle.dm_two_peers.specs.Links.{Side, A, B, flip, opens, LinkPhase, Pending, Up, Cancelled, End, Direction, Link}
+use Rattle.dm_two_peers.specs.Links.{Side, A, B, flip, opens, LinkPhase, LinkPending, LinkUp, LinkCancelled, End, Direction, Link}
 use Rattle.dm_two_peers.specs.Links.{View, view_of, link_of}
-use Rattle.dm_two_peers.specs.Worlds.{peer_at, with_peer, After}
+use Rattle.dm_two_peers.specs.Worlds.{peer_on, with_peer, After}
 use Rattle.dm_two_peers.specs.Happens.{Starts, Stops, TimesOut, Ticks, Restarts, Acks, Nacks, Delivers, Pieces, Loses}
 use Rattle.dm_two_peers.specs.Happens.{Submits, happens, world_after, restarted, restart_links}
 use Rattle.dm_two_peers.specs.Facts.{is_up, is_fresh}
@@ -19,7 +19,7 @@ use Rattle.dm_world.specs.declared.fault.WorldFault.{WorldFault}
 use Rattle.dm_world.specs.declared.happening.Happening as declared_happening
 use Rattle.dm_world.specs.declared.happening.Happening.TheVariants as happening
 use Rattle.dm_world.specs.declared.made.MadeEnds.{MadeEnds}
-use Rattle.dm_world.specs.Ends.{ends_of, AreSameEnds, is_among, AreNamed, IsMade, AreCleared, AreEndsAfter}
+use Rattle.dm_world.specs.Ends.{ends_of, AreSameEnds, is_among, AreNamed, MakesEnds, AreCleared, AreEndsAfter}
 use Rattle.dm_world.specs.Happening.{as_happening}
 use Rattle.dm_world.specs.Seen.{as_side, restart_link}
 use Rattle.dm_world.specs.Views.{OctetWorld, Effects}
@@ -90,7 +90,7 @@ flip_twice A = refl
 flip_twice B = refl
 
 kept_among : (l : Link (List ℕ)) (d : ℕ) (old new : MadeEnds) (s : Side) (c : ℕ) →
-    IsMade effect.Done (Some l) d old new →
+    MakesEnds effect.Done (Some l) d old new →
     is_among c (ends_of s old) ≡ true → is_among c (ends_of s new) ≡ true
 kept_among l d old new s c made =
     let F : Side → Type 0 = λ t. is_among c (ends_of t old) ≡ true → is_among c (ends_of t new) ≡ true in
@@ -99,7 +99,7 @@ kept_among l d old new s c made =
       | inr e ↦ subst F e (λ h. ap (λ cs. is_among c cs) made.1 ∙ h)
     ]
 
-made_among : (l : Link (List ℕ)) (c : ℕ) (old new : MadeEnds) (s : Side) → IsMade effect.Done (Some l) c old new →
+made_among : (l : Link (List ℕ)) (c : ℕ) (old new : MadeEnds) (s : Side) → MakesEnds effect.Done (Some l) c old new →
     l.opener ≡ flip s → is_among c (ends_of s new) ≡ true
 made_among l c old new s made opened =
     let e : flip l.opener ≡ s = ap flip opened ∙ flip_twice s in
@@ -118,7 +118,7 @@ same_number c d e = cc
 acked_named : (w w' : OctetWorld) (d : ℕ) (o : Option (Link (List ℕ))) (old new : MadeEnds) →
     AcksMakeEnds Peer (List ℕ) →
     AreNamed old w.links → slice_get w.links d ≡ o → Effects effect.Done (happens octet_peers w (Acks d)) w w' →
-    IsMade effect.Done o d old new → AreNamed new w'.links
+    MakesEnds effect.Done o d old new → AreNamed new w'.links
 acked_named w w' d None old new law named at step same s c fresh =
     elim (fresh_by effect.Done (Acks d) w w' s c law step fresh) [
       | inl was ↦ ap (λ cs. is_among c cs) (same s) ∙ named s c was
@@ -135,14 +135,14 @@ acked_named w w' d (Some l) old new law named at step adds s c fresh =
           let here : slice_get w.links c ≡ Some l = subst (λ n. slice_get w.links n ≡ Some l) e at in
           let there : Some made.link ≡ Some l = sym made.there ∙ here in
           let is : made.link ≡ l = cc in
-          made_among l c old new s (subst (λ n. IsMade effect.Done (Some l) n old new) e adds)
+          made_among l c old new s (subst (λ n. MakesEnds effect.Done (Some l) n old new) e adds)
           (sym (ap (λ (k : Link (List ℕ)). k.opener) is) ∙ made.opened)
     ]
 
 -- (an Ack that is ignored names nothing)
 acked_after : (outcome : Effect) (w w' : OctetWorld) (d : ℕ) (old new : MadeEnds) → AcksMakeEnds Peer (List ℕ) →
     AreNamed old w.links → Effects outcome (happens octet_peers w (Acks d)) w w' →
-    IsMade outcome (slice_get w.links d) d old new → AreNamed new w'.links
+    MakesEnds outcome (slice_get w.links d) d old new → AreNamed new w'.links
 acked_after effect.Done w w' d old new law named step made =
     acked_named w w' d (slice_get w.links d) old new law named refl step made
 acked_after effect.Ignored w w' d old new law named step made = named_still w w' old new named step.1 made
@@ -154,10 +154,10 @@ no_ack t c e = cc
 stale_view : (mine : Bool) (p : LinkPhase) (own other : End) (i o : Direction (List ℕ)) →
     let v : View (List ℕ) = record { phase = p; own = own; other = other; incoming = i; outgoing = o } in
     (is_up (restarted mine v).phase && is_fresh (restarted mine v).own) ≡ false
-stale_view true Pending own other i o = refl
-stale_view false Pending own other i o = refl
-stale_view mine Cancelled own other i o = refl
-stale_view mine Up own other i o = refl
+stale_view true LinkPending own other i o = refl
+stale_view false LinkPending own other i o = refl
+stale_view mine LinkCancelled own other i o = refl
+stale_view mine LinkUp own other i o = refl
 
 own_back : (mine : Bool) (o : Side) (v : View (List ℕ)) → (view_of mine (link_of mine o v)).own ≡ v.own
 own_back true o v = refl
@@ -193,7 +193,7 @@ cleared_named outcome w w' t old new law named step cleared s c fresh =
           ]
       | inr e ↦
           let links : restart_links t w.links ≡ w'.links =
-          sym (links_after t (octet_peers.reset (peer_at t w)) (restart_links t w.links) w)
+          sym (links_after t (octet_peers.reset (peer_on t w)) (restart_links t w.links) w)
           ∙ ap (λ (v : OctetWorld). v.links) (after_is outcome (happens octet_peers w (Restarts t)) w w' step) in
           let stale : is_fresh_on s (slice_get w'.links c) ≡ false =
           subst (λ ls. is_fresh_on s (slice_get ls c) ≡ false) links
@@ -233,14 +233,14 @@ named_after outcome (happening.Submit t x) w w' old new law named step ends =
 pub made_one : (outcome : Effect) (o : Option (Link (List ℕ))) (l : Link (List ℕ)) (c : ℕ) (old roomy new : MadeEnds)
     (t : Side) → outcome ≡ effect.Done → o ≡ Some l → AreSameEnds old roomy → t ≡ flip l.opener →
     ends_of t new ≡ ends_of t roomy ++ c ∷ [] → ends_of (flip t) new ≡ ends_of (flip t) roomy →
-    IsMade outcome o c old new
+    MakesEnds outcome o c old new
 made_one outcome o l c old roomy new t done there same is added other =
     let here = subst (λ u. (ends_of u new ≡ ends_of u old ++ c ∷ []) × (ends_of (flip u) new ≡ ends_of (flip u) old)) is
     (added ∙ ap (λ cs. cs ++ c ∷ []) (same t), other ∙ same (flip t)) in
-    let made : IsMade effect.Done (Some l) c old new =
+    let made : MakesEnds effect.Done (Some l) c old new =
     (here.0, subst (λ u. ends_of u new ≡ ends_of u old) (flip_twice l.opener) here.1) in
-    subst (λ (e : Effect). IsMade e o c old new) (sym done)
-    (subst (λ (x : Option (Link (List ℕ))). IsMade effect.Done x c old new) (sym there) made)
+    subst (λ (e : Effect). MakesEnds e o c old new) (sym done)
+    (subst (λ (x : Option (Link (List ℕ))). MakesEnds effect.Done x c old new) (sym there) made)
 
 -- and nothing happens where it is refused
 pub named_result : (r : Result Effect WorldFault) (h : declared_happening.Happening) (w w' : OctetWorld)

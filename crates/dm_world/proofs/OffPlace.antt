@@ -11,7 +11,7 @@ use Rattle.dm_peer.specs.declared.fault.PeerFault.{PeerFault}
 use Rattle.dm_peer.specs.declared.fault.PeerFault.TheVariants.{NotClosed, NotOpen}
 use Rattle.dm_peer.specs.declared.peer.Peer.{Peer}
 use Rattle.dm_two_peers.specs.Links.{Side, A, B}
-use Rattle.dm_two_peers.specs.Worlds.{peer_at}
+use Rattle.dm_two_peers.specs.Worlds.{peer_on}
 use Rattle.dm_world.specs.declared.net.Net.{Net}
 use Rattle.dm_world.specs.declared.pair.Pair.{Pair}
 use Rattle.dm_world.specs.Asking.{peer_of, IsAnswerOf}
@@ -55,6 +55,6 @@ pub off_place : RefusesByRule → (s : Side) (e : PeerEvent) (pair : Pair) →
 off_place law s e pair shaped off = ((refused law (peer_of s pair) e shaped off, refl), refl)
 
 -- the peer of a side is that of the world
-pub same_peer : (s : Side) (n : Net) → peer_at s (as_world n) ≡ peer_of s n.pair
+pub same_peer : (s : Side) (n : Net) → peer_on s (as_world n) ≡ peer_of s n.pair
 same_peer A n = refl
 same_peer B n = refl

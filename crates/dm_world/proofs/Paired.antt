@@ -2,7 +2,7 @@
 use Rattle.std.proofs.Common.{◌≡◌, ℕ, Bool, true, false, not, if◌then◌else◌, List, [], ◌∷◌, Some, None, nat_lt, refl}
 use Rattle.std.proofs.Common.{◌∙◌}
 use Rattle.std.specs.declared.cmp.Ordering.TheVariants.{Less, Greater}
-use Rattle.dm_base.specs.Before.{lower, order}
+use Rattle.dm_base.specs.Before.{lower, order_of_hosts}
 use Rattle.dm_base.specs.Common.{are_common}
 use Rattle.dm_peer.specs.declared.config.Config.{Config}
 use Rattle.dm_peer.specs.Hosts.{is_equal, is_same_host}
@@ -11,14 +11,14 @@ use Rattle.dm_world.specs.declared.fault.NewFault.TheVariants.{NotPeers, Nothing
 use Rattle.dm_world.specs.New.{new_fault}
 
 -- neither of two texts comes before the other, whichever is the first
-turned : (s t : List ℕ) → is_equal (order s t) ≡ is_equal (order t s)
+turned : (s t : List ℕ) → is_equal (order_of_hosts s t) ≡ is_equal (order_of_hosts t s)
 turned [] [] = refl
 turned [] (b ∷ t) = refl
 turned (a ∷ s) [] = refl
 turned (a ∷ s) (b ∷ t) = by_first (nat_lt a b) (nat_lt b a) (turned s t) where
-  by_first : (x y : Bool) → is_equal (order s t) ≡ is_equal (order t s) →
-      is_equal (if x then Less else (if y then Greater else order s t))
-      ≡ is_equal (if y then Less else (if x then Greater else order t s))
+  by_first : (x y : Bool) → is_equal (order_of_hosts s t) ≡ is_equal (order_of_hosts t s) →
+      is_equal (if x then Less else (if y then Greater else order_of_hosts s t))
+      ≡ is_equal (if y then Less else (if x then Greater else order_of_hosts t s))
   by_first true true more = refl
   by_first true false more = refl
   by_first false true more = refl

@@ -5,7 +5,7 @@ use Rattle.std.specs.Prelude.{◌<◌, ◌^◌, Result, Ok, Err, IfOk, OnErr, Is
 use Rattle.dm_peer.specs.declared.config.Config.{Config}
 use Rattle.dm_two_peers.specs.Links.{Side}
 use Rattle.dm_two_peers.specs.Peers.{Peers}
-use Rattle.dm_two_peers.specs.Worlds.{World, Put, After, Done, Ignored, NoLink}
+use Rattle.dm_two_peers.specs.Worlds.{World, Put, After, DoneWith, Ignored, NoLink}
 use Rattle.dm_two_peers.specs.Happens.{Happening, RunEnd, ran_on, run_from, run, happens}
 use Rattle.dm_two_peers.specs.ClosedOrOpen.{AreClosedOrOpen}
 use Rattle.dm_two_peers.specs.Quiet.{is_quiet}
@@ -19,7 +19,7 @@ use Rattle.dm_world.specs.declared.happening.Happening as declared_happening
 use Rattle.dm_world.specs.Happening.{as_happening}
 use Rattle.dm_world.specs.Settling.{RanTo}
 use Rattle.dm_world.specs.Views.{OctetWorld, Effects}
-use Rattle.dm_world.specs.Delivering.{new_world, IsPast, HasPast, Delivers}
+use Rattle.dm_world.specs.Delivering.{new_world, IsPast, HasPast, DeliversSubmitted}
 use Rattle.dm_world.proofs.Runs.{ran_snoc}
 
 run_append : {P M : Type 0} (m : Peers P M) (o : Option (RunEnd P M)) (hs gs : List (Happening M)) →
@@ -43,7 +43,7 @@ step_with : {P M : Type 0} (m : Peers P M) (hs : List (Happening M)) (v : World 
     (w : World P M) (old new : List (Put M)) (after : After P M) →
     ComesTo m (ran_on (record { world = w; put = old }) after) hs v →
     ComesTo m (ran_on (record { world = w; put = new }) after) hs v
-step_with m hs v again w old new (Done next put) came = again next (old ++ put) (new ++ put) came
+step_with m hs v again w old new (DoneWith next put) came = again next (old ++ put) (new ++ put) came
 step_with m hs v again w old new Ignored came = again w old new came
 step_with m hs v again w old new NoLink came = came
 
@@ -71,10 +71,10 @@ at_end o r Q e h = subst (λ o. IfSome o Q) e h
 
 -- what is so of each run's end is so of the world that a past led to
 pub past_delivers : EachOctetRunDelivers → (a b : Config) (past : List declared_happening.Happening) (w : OctetWorld) →
-    IsPast w a b past → (t : Side) (c : ℕ) → Delivers a b past w t c
+    IsPast w a b past → (t : Side) (c : ℕ) → DeliversSubmitted a b past w t c
 past_delivers law a b past w is t c =
     at_end (run octet_peers (new_world a b) (map as_happening past)) (record { world = w; put = is.0 })
-    (λ r. Delivers a b past r.world t c) is.1 (law a b (map as_happening past) t c)
+    (λ r. DeliversSubmitted a b past r.world t c) is.1 (law a b (map as_happening past) t c)
 
 -- and where nothing is under way in it both are Closed, or both open on one link
 pub past_closed_or_open : EachOctetQuietRunIsClosedOrOpen → (a b : Config)

@@ -5,7 +5,7 @@ use Rattle.std.specs.List.{remove}
 use Rattle.dm_two_peers.specs.Links.{Side}
 use Rattle.dm_two_peers.specs.Links as links
 use Rattle.dm_machine.specs.Deeds.{Deed, SendsOn, ConnectsOn, ClosesOn, HandsUp}
-use Rattle.dm_two_peers.specs.Peers.{Action, Connect, Send, Close, Up, deed_of, sends_at}
+use Rattle.dm_two_peers.specs.Peers.{Action, Connect, Send, Close, HandUp, deed_in, sends_at}
 use Rattle.dm_two_peers.specs.Worlds.{perform}
 use Rattle.dm_world.specs.declared.link.Link.{Link}
 use Rattle.dm_peer.specs.declared.actions.Action as declared_action
@@ -25,7 +25,7 @@ pub performed_step : (s : Side) (a : Action (List ℕ)) (rest : List (Action (Li
 performed_step s (Connect c) rest ls next is = ap (λ l. perform s rest l) is
 performed_step s (Send c m) rest ls next is = ap (λ l. perform s rest l) is
 performed_step s (Close c) rest ls next is = ap (λ l. perform s rest l) is
-performed_step s (Up m) rest ls next is = ap (λ l. perform s rest l) is
+performed_step s (HandUp m) rest ls next is = ap (λ l. perform s rest l) is
 
 or_true : (a b : Bool) → b ≡ true → (a || b) ≡ true
 or_true true b h = refl
@@ -51,14 +51,14 @@ one_more : (s : Side) (n c : ℕ) (ls : List Link) → HasRoom s ls (suc n) c �
 one_more s n c ls h = subst (λ k. HasRoom s ls k c) (sym (add-one n)) h
 
 pub room_one : (s : Side) (a : Action (List ℕ)) (rest : List (Action (List ℕ))) (ls : List Link) →
-    HasRoomFor s ls (a ∷ rest) → (c : ℕ) → IsTrue (sends_at c (deed_of a ∷ [])) → HasRoom s ls 1 c
+    HasRoomFor s ls (a ∷ rest) → (c : ℕ) → IsTrue (sends_at c (deed_in a ∷ [])) → HasRoom s ls 1 c
 room_one s a rest ls h c sends =
-    less s 1 (suc (length rest)) c ls (omega arith) (h c (sends_first c (deed_of a) (map deed_of rest) sends))
+    less s 1 (suc (length rest)) c ls (omega arith) (h c (sends_first c (deed_in a) (map deed_in rest) sends))
 
 pub room_rest : (s : Side) (a : Action (List ℕ)) (rest : List (Action (List ℕ))) (ls next : List Link) →
     HasRoomFor s ls (a ∷ rest) → ((n c : ℕ) → HasRoom s ls (n + 1) c → HasRoom s next n c) → HasRoomFor s next rest
 room_rest s a rest ls next h keeps c sends =
-    keeps (length rest) c (one_more s (length rest) c ls (h c (sends_later c (deed_of a) (map deed_of rest) sends)))
+    keeps (length rest) c (one_more s (length rest) c ls (h c (sends_later c (deed_in a) (map deed_in rest) sends)))
 
 -- one turn over the actions
 pub room_now : (s : Side) (items new : List declared_action.Action) (x : declared_action.Action) (ls : List Link) →
@@ -88,10 +88,10 @@ pub frames_one : (a : Action (List ℕ)) (rest : List (Action (List ℕ))) → S
 frames_one (Connect c) rest frames = tt
 frames_one (Send c m) rest frames = (frames.0, tt)
 frames_one (Close c) rest frames = tt
-frames_one (Up m) rest frames = tt
+frames_one (HandUp m) rest frames = tt
 
 pub frames_rest : (a : Action (List ℕ)) (rest : List (Action (List ℕ))) → SendFrames (a ∷ rest) → SendFrames rest
 frames_rest (Connect c) rest frames = frames
 frames_rest (Send c m) rest frames = frames.1
 frames_rest (Close c) rest frames = frames
-frames_rest (Up m) rest frames = frames
+frames_rest (HandUp m) rest frames = frames

@@ -4,7 +4,7 @@ use Rattle.std.proofs.lemmas.List.{drop_more, drop_all}
 use Rattle.dm_two_peers.specs.Machine.{Conn, Node, Initiated, Accepted, held_as}
 use Rattle.dm_two_peers.specs.Links.{Side, A, B, Link}
 use Rattle.dm_two_peers.specs.Facts.{AreSound, IsSoundWorld}
-use Rattle.dm_two_peers.specs.Worlds.{peer_at, with_peer, change_at}
+use Rattle.dm_two_peers.specs.Worlds.{peer_on, with_peer, change_at}
 use Rattle.dm_two_peers.specs.Happens.{restart_links}
 use Rattle.dm_octet_peers.specs.Octets.{octet_peers}
 use Rattle.dm_world.specs.declared.made.MadeEnds.{MadeEnds}
@@ -47,7 +47,7 @@ held_restarted s n i r first then done is_i is_r to_i to_r =
 
 world_of : (s : Side) (old new : Net) (links : List (Link (List ℕ))) →
     new.pair ≡ with_peer_of s (reset_of (peer_of s old.pair)) old.pair → as_links new.links.items ≡ links →
-    as_world new ≡ with_peer s (reset_of (peer_at s (as_world old))) links (as_world old)
+    as_world new ≡ with_peer s (reset_of (peer_on s (as_world old))) links (as_world old)
 world_of A old new links pair is = cc
 world_of B old new links pair is = cc
 
@@ -70,7 +70,7 @@ pub world_anew : (s : Side) (old new : Net) (made : MadeEnds) (first : List (Lin
     new.pair ≡ with_peer_of s (reset_of (peer_of s old.pair)) old.pair →
     first ≡ restart_each s (ends_of s made) (as_links old.links.items) →
     as_links new.links.items ≡ restart_each s (held_numbers (peer_of s old.pair).standing.core) first →
-    as_world new ≡ with_peer s (reset_of (peer_at s (as_world old))) (restart_links s (as_links old.links.items))
+    as_world new ≡ with_peer s (reset_of (peer_on s (as_world old))) (restart_links s (as_links old.links.items))
     (as_world old)
 world_anew s old new made first sound named pair named_done held_done =
     world_of s old new (restart_links s (as_links old.links.items)) pair

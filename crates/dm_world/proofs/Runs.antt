@@ -3,7 +3,7 @@ use Rattle.std.proofs.Common.{◌≡◌, ℕ, zero, suc, ◌+◌, ◌<◌, Optio
 use Rattle.std.proofs.Common.{get_or, slice_get, refl, sym, ap, subst, ◌∙◌, arith}
 use Rattle.std.proofs.lemmas.List.{take_more}
 use Rattle.dm_two_peers.specs.Peers.{Peers}
-use Rattle.dm_two_peers.specs.Worlds.{World, Put, After, Done, Ignored}
+use Rattle.dm_two_peers.specs.Worlds.{World, Put, After, DoneWith, Ignored}
 use Rattle.dm_two_peers.specs.Happens.{Happening, RunEnd, ran_on, run_from, run, happens}
 use Rattle.dm_world.specs.declared.fault.Effect.{Effect}
 use Rattle.dm_world.specs.declared.fault.Effect.TheVariants as effect
@@ -30,7 +30,7 @@ run_snoc m (Some q) (k ∷ hs) h r is = run_snoc m (ran_on q (happens m q.world 
 
 -- one happening more
 snoc_done : {P M : Type 0} (m : Peers P M) (w v v' : World P M) (put more : List (Put M)) (hs : List (Happening M))
-    (h : Happening M) → run m w hs ≡ Some (record { world = v; put = put }) → happens m v h ≡ Done v' more →
+    (h : Happening M) → run m w hs ≡ Some (record { world = v; put = put }) → happens m v h ≡ DoneWith v' more →
     run m w (hs ++ h ∷ []) ≡ Some (record { world = v'; put = put ++ more })
 snoc_done {P} {M} m w v v' put more hs h ran step =
     let r : RunEnd P M = record { world = v; put = put } in

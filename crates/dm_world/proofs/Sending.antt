@@ -5,7 +5,7 @@ use Rattle.std.proofs.lemmas.Bool.Decides.{nat_tests}
 use Rattle.dm_machine.specs.declared.inputs.Word.{Word}
 use Rattle.dm_machine.specs.declared.outputs.Command.{Command}
 use Rattle.dm_machine.specs.declared.outputs.Command.TheVariants as command
-use Rattle.dm_machine.specs.Moves.{outcome}
+use Rattle.dm_machine.specs.Moves.{machine_outcome}
 use Rattle.dm_machine.specs.Moves as moves
 use Rattle.dm_machine.specs.Connection as machine
 use Rattle.dm_machine.specs.Connection.{Hold, AtConnection, if_ordered, order_to, with_order, orders_to, hold_of}
@@ -13,10 +13,10 @@ use Rattle.dm_machine.specs.Openings.{LeavesOthersAlone, is_hold, names_it}
 use Rattle.dm_machine.specs.Shape.{KeepsShape}
 use Rattle.dm_peer.specs.declared.actions.Action as declared_action
 use Rattle.dm_peer.specs.declared.peer.Peer.{Peer}
-use Rattle.dm_two_peers.specs.Machine.{Conn, conn, Node, is_shaped, Concern, Elsewhere, StartsIt, AcksIt, NacksIt, EndsIt, HeardOnIt, EachStepKeepsShape, Tie, Unheld, Connecting, Made, MadeOpen, Taken, tie_as, tie_of, is_held, held_as, Initiated, Accepted}
+use Rattle.dm_two_peers.specs.Machine.{Conn, conn, Node, is_shaped, LinkConcern, Elsewhere, StartsLink, MakesLink, FailsLink, EndsLink, HeardOnLink, EachStepKeepsShape, Tie, Unheld, Connecting, Connected, ConnectedOpen, AcceptedTie, tie_as, tie_of, is_tie_held, held_as, Initiated, Accepted}
 use Rattle.dm_two_peers.specs.Links.{Side}
 use Rattle.dm_machine.specs.Deeds.{Deed, deed_of_command}
-use Rattle.dm_two_peers.specs.Peers.{Event, Start, Stop, Timeout, Tick, Ack, Nack, Gone, Submit, Arrived, concern_by, deed_of, sends_at, Reply, Acts}
+use Rattle.dm_two_peers.specs.Peers.{Event, StartEvent, StopEvent, TimeoutEvent, TickEvent, AckEvent, NackEvent, GoneEvent, SubmitEvent, ArrivedEvent, concern_by, deed_in, sends_at, Reply, ActsBy}
 use Rattle.dm_two_peers.specs.Follows.{input_told, StepsAsMachine, FollowsMachine, IsMachine}
 use Rattle.dm_world.specs.declared.link.Link.{Link}
 use Rattle.dm_octet_peers.specs.Octets.{as_actions, octet_peers}
@@ -31,12 +31,12 @@ pub record SendLaws : Type 0 where
   pub keeps : EachStepKeepsShape
 
 -- no order, no message
-send_case : (b : Bool) (o : machine.Order) (more : List machine.Order) (rest : Bool) →
+send_case : (b : Bool) (o : machine.ConnOrder) (more : List machine.ConnOrder) (rest : Bool) →
     with_order (if_ordered b o) more ≡ [] → (more ≡ [] → rest ≡ false) → (b || rest) ≡ false
 send_case true o more rest h f = cc
 send_case false o more rest h f = f h
 
-other_case : (b : Bool) (o : machine.Order) (more : List machine.Order) (rest : Bool) →
+other_case : (b : Bool) (o : machine.ConnOrder) (more : List machine.ConnOrder) (rest : Bool) →
     with_order (if_ordered b o) more ≡ [] → (more ≡ [] → rest ≡ false) → rest ≡ false
 other_case true o more rest h f = cc
 other_case false o more rest h f = f h
@@ -70,38 +70,38 @@ unheld_is machine.OpenAsR e = cc
 unheld_is machine.ClosingAsR e = cc
 
 -- what an event doesn't concern it doesn't name
-unless_named : (b : Bool) (k : Concern) (told : machine.Concern) → (k ≡ Elsewhere → ⊥) →
+unless_named : (b : Bool) (k : LinkConcern) (told : machine.Concern) → (k ≡ Elsewhere → ⊥) →
     (if b then k else Elsewhere) ≡ Elsewhere → not (names_it (machine.if_named b told)) ≡ true
 unless_named true k told other e = absurd (other e)
 unless_named false k told other e = refl
 
 elsewhere_is : (e : Event (List ℕ)) (w : Word) (c : Conn) → concern_by e c ≡ Elsewhere →
     not (names_it (machine.concern_of (input_told e w) c)) ≡ true
-elsewhere_is (Start d) w c e = unless_named (d.0 == c.0) StartsIt machine.StartsIt (λ k. cc) e
-elsewhere_is (Stop cause) w c e = refl
-elsewhere_is Timeout w c e = refl
-elsewhere_is Tick w c e = refl
-elsewhere_is (Ack d) w c e = unless_named (d.0 == c.0) AcksIt machine.AcksIt (λ k. cc) e
-elsewhere_is (Nack d) w c e = unless_named (d.0 == c.0) NacksIt machine.NacksIt (λ k. cc) e
-elsewhere_is (Gone d) w c e = unless_named (d.0 == c.0) EndsIt machine.EndsIt (λ k. cc) e
-elsewhere_is (Submit s) w c e = refl
-elsewhere_is (Arrived d s) w c e = unless_named (d.0 == c.0) HeardOnIt (machine.HeardOnIt w) (λ k. cc) e
+elsewhere_is (StartEvent d) w c e = unless_named (d.0 == c.0) StartsLink machine.StartsIt (λ k. cc) e
+elsewhere_is (StopEvent cause) w c e = refl
+elsewhere_is TimeoutEvent w c e = refl
+elsewhere_is TickEvent w c e = refl
+elsewhere_is (AckEvent d) w c e = unless_named (d.0 == c.0) MakesLink machine.AcksIt (λ k. cc) e
+elsewhere_is (NackEvent d) w c e = unless_named (d.0 == c.0) FailsLink machine.NacksIt (λ k. cc) e
+elsewhere_is (GoneEvent d) w c e = unless_named (d.0 == c.0) EndsLink machine.EndsIt (λ k. cc) e
+elsewhere_is (SubmitEvent s) w c e = refl
+elsewhere_is (ArrivedEvent d s) w c e = unless_named (d.0 == c.0) HeardOnLink (machine.HeardOnIt w) (λ k. cc) e
 
 both_true : (a b : Bool) → a ≡ true → b ≡ true → (a && b) ≡ true
 both_true true b h g = g
 both_true false b h g = cc
 
-abbrev Alone : machine.Concern → Hold → Hold → List machine.Order → Type 0
+abbrev Alone : machine.Concern → Hold → Hold → List machine.ConnOrder → Type 0
 Alone k before after orders = IsTrue (is_hold machine.NotHeld before && not (names_it k)) →
     (after ≡ machine.NotHeld) × (orders ≡ [])
 
 step_unsent : (p next : Peer) (e : Event (List ℕ)) (actions : List declared_action.Action) (c : ℕ) → LeavesOthersAlone →
     IsTrue (is_shaped p.standing.core) → StepsAsMachine octet_peers p e (as_actions actions) next →
     tie_of p.standing.core c ≡ Unheld → concern_by e (conn c) ≡ Elsewhere →
-    sends_at c (map deed_of (as_actions actions)) ≡ false
+    sends_at c (map deed_in (as_actions actions)) ≡ false
 step_unsent p next e actions c law shaped step unheld elsewhere =
-    let at : AtConnection Alone p.standing.core step.input (conn c) (moves.Moved step.commands next.standing.core) =
-    subst (λ (o : moves.Outcome). AtConnection Alone p.standing.core step.input (conn c) o) step.moves
+    let at : AtConnection Alone p.standing.core step.input (conn c) (moves.NodeMoved step.commands next.standing.core) =
+    subst (λ (o : moves.NodeOutcome). AtConnection Alone p.standing.core step.input (conn c) o) step.moves
     (law p.standing.core step.input step.wins (conn c) shaped) in
     let orders =
     (at (both_true (is_hold machine.NotHeld (hold_of p.standing.core (conn c)))
@@ -112,15 +112,15 @@ step_unsent p next e actions c law shaped step unheld elsewhere =
     ap (λ (os : List Deed). sends_at c os) step.deeds ∙ unordered c step.commands orders
 
 reply_unsent : (p next : Peer) (e : Event (List ℕ)) (actions : List declared_action.Action) (c : ℕ) → SendLaws →
-    IsTrue (is_shaped p.standing.core) → octet_peers.reply p e ≡ Acts (as_actions actions) next →
+    IsTrue (is_shaped p.standing.core) → octet_peers.reply p e ≡ ActsBy (as_actions actions) next →
     tie_of p.standing.core c ≡ Unheld → concern_by e (conn c) ≡ Elsewhere →
-    sends_at c (map deed_of (as_actions actions)) ≡ false
+    sends_at c (map deed_in (as_actions actions)) ≡ false
 reply_unsent p next e actions c laws shaped is unheld elsewhere =
-    let follows : FollowsMachine octet_peers p e (Acts (as_actions actions) next) =
+    let follows : FollowsMachine octet_peers p e (ActsBy (as_actions actions) next) =
     subst (λ (r : Reply Peer (List ℕ)). FollowsMachine octet_peers p e r) is (laws.machine.follows p e) in
     elim follows [
       | inl step ↦ step_unsent p next e actions c laws.alone shaped step unheld elsewhere
-      | inr drop ↦ ap (λ l. sends_at c (map deed_of l)) drop.silent
+      | inr drop ↦ ap (λ l. sends_at c (map deed_in l)) drop.silent
     ]
 
 -- at most four actions
@@ -135,18 +135,18 @@ step_few : (p next : Peer) (e : Event (List ℕ)) (actions : List declared_actio
     IsTrue (is_shaped p.standing.core) → StepsAsMachine octet_peers p e (as_actions actions) next →
     length (as_actions actions) ≤ 4
 step_few p next e actions law shaped step =
-    let keeps : KeepsShape (moves.Moved step.commands next.standing.core) = subst (λ (o : moves.Outcome). KeepsShape o)
+    let keeps : KeepsShape (moves.NodeMoved step.commands next.standing.core) = subst (λ (o : moves.NodeOutcome). KeepsShape o)
     step.moves (law p.standing.core step.input step.wins shaped) in
     let few = le_of (length step.commands) 4 keeps.1 in
-    let same = sym (length_mapped deed_of (as_actions actions)) ∙ ap (λ (os : List Deed). length os) step.deeds ∙
+    let same = sym (length_mapped deed_in (as_actions actions)) ∙ ap (λ (os : List Deed). length os) step.deeds ∙
     length_mapped deed_of_command step.commands in
     subst (λ n. n ≤ 4) (sym same) few
 
 reply_few : (p next : Peer) (e : Event (List ℕ)) (actions : List declared_action.Action) → SendLaws →
-    IsTrue (is_shaped p.standing.core) → octet_peers.reply p e ≡ Acts (as_actions actions) next →
+    IsTrue (is_shaped p.standing.core) → octet_peers.reply p e ≡ ActsBy (as_actions actions) next →
     length (as_actions actions) ≤ 4
 reply_few p next e actions laws shaped is =
-    let follows : FollowsMachine octet_peers p e (Acts (as_actions actions) next) =
+    let follows : FollowsMachine octet_peers p e (ActsBy (as_actions actions) next) =
     subst (λ (r : Reply Peer (List ℕ)). FollowsMachine octet_peers p e r) is (laws.machine.follows p e) in
     elim follows [
       | inl step ↦ step_few p next e actions laws.keeps shaped step
@@ -154,27 +154,27 @@ reply_few p next e actions laws shaped is =
     ]
 
 -- a link that is held or named
-tie_decided : (t : Tie) → (is_held t ≡ true) ⊎ (t ≡ Unheld)
+tie_decided : (t : Tie) → (is_tie_held t ≡ true) ⊎ (t ≡ Unheld)
 tie_decided Unheld = inr refl
 tie_decided Connecting = inl refl
-tie_decided Made = inl refl
-tie_decided MadeOpen = inl refl
-tie_decided Taken = inl refl
+tie_decided Connected = inl refl
+tie_decided ConnectedOpen = inl refl
+tie_decided AcceptedTie = inl refl
 
-if_decided : (b : Bool) (k : Concern) → (b ≡ true) ⊎ ((if b then k else Elsewhere) ≡ Elsewhere)
+if_decided : (b : Bool) (k : LinkConcern) → (b ≡ true) ⊎ ((if b then k else Elsewhere) ≡ Elsewhere)
 if_decided true k = inl refl
 if_decided false k = inr refl
 
 named_decided : (e : Event (List ℕ)) (c : ℕ) → (is_conn (named e) c ≡ true) ⊎ (concern_by e (conn c) ≡ Elsewhere)
-named_decided (Start d) c = if_decided (d.0 == c) StartsIt
-named_decided (Ack d) c = if_decided (d.0 == c) AcksIt
-named_decided (Nack d) c = if_decided (d.0 == c) NacksIt
-named_decided (Gone d) c = if_decided (d.0 == c) EndsIt
-named_decided (Arrived d s) c = if_decided (d.0 == c) HeardOnIt
-named_decided (Stop cause) c = inr refl
-named_decided Timeout c = inr refl
-named_decided Tick c = inr refl
-named_decided (Submit s) c = inr refl
+named_decided (StartEvent d) c = if_decided (d.0 == c) StartsLink
+named_decided (AckEvent d) c = if_decided (d.0 == c) MakesLink
+named_decided (NackEvent d) c = if_decided (d.0 == c) FailsLink
+named_decided (GoneEvent d) c = if_decided (d.0 == c) EndsLink
+named_decided (ArrivedEvent d s) c = if_decided (d.0 == c) HeardOnLink
+named_decided (StopEvent cause) c = inr refl
+named_decided TimeoutEvent c = inr refl
+named_decided TickEvent c = inr refl
+named_decided (SubmitEvent s) c = inr refl
 
 or_left : (a b : Bool) → a ≡ true → (a || b) ≡ true
 or_left true b h = refl
@@ -187,7 +187,7 @@ or_right false b h = h
 -- what is sent at an event has room
 pub room_for_reply : (s : Side) (ls : List Link) (p next : Peer) (e : Event (List ℕ))
     (actions : List declared_action.Action) → SendLaws → IsTrue (is_shaped p.standing.core) →
-    HasRoomToSend s ls p.standing.core (named e) → octet_peers.reply p e ≡ Acts (as_actions actions) next →
+    HasRoomToSend s ls p.standing.core (named e) → octet_peers.reply p e ≡ ActsBy (as_actions actions) next →
     HasRoomFor s ls (as_actions actions)
 room_for_reply s ls p next e actions laws shaped room is c sends =
     let n = p.standing.core in
@@ -206,14 +206,14 @@ room_for_reply s ls p next e actions laws shaped room is c sends =
 
 -- a reply keeps the node's shape
 pub reply_shaped : (p next : Peer) (e : Event (List ℕ)) (actions : List declared_action.Action) → SendLaws →
-    IsTrue (is_shaped p.standing.core) → octet_peers.reply p e ≡ Acts (as_actions actions) next →
+    IsTrue (is_shaped p.standing.core) → octet_peers.reply p e ≡ ActsBy (as_actions actions) next →
     IsTrue (is_shaped next.standing.core)
 reply_shaped p next e actions laws shaped is =
-    let follows : FollowsMachine octet_peers p e (Acts (as_actions actions) next) =
+    let follows : FollowsMachine octet_peers p e (ActsBy (as_actions actions) next) =
     subst (λ (r : Reply Peer (List ℕ)). FollowsMachine octet_peers p e r) is (laws.machine.follows p e) in
     elim follows [
       | inl step ↦
-          (subst (λ (o : moves.Outcome). KeepsShape o) step.moves
+          (subst (λ (o : moves.NodeOutcome). KeepsShape o) step.moves
           (laws.keeps p.standing.core step.input step.wins shaped)).0
       | inr drop ↦ subst (λ (n : Node). IsTrue (is_shaped n)) (sym drop.stays) shaped
     ]

@@ -17,7 +17,7 @@ use Rattle.dm_peer.specs.Sent.{takes_memory}
 use Rattle.dm_peer.specs.Silence.{is_silent, SilentTakesNone}
 use Rattle.dm_peer.specs.Events as told
 use Rattle.dm_two_peers.specs.Links.{Side}
-use Rattle.dm_two_peers.specs.Peers.{deed_of, sends_at}
+use Rattle.dm_two_peers.specs.Peers.{deed_in, sends_at}
 use Rattle.dm_world.specs.declared.link.Link.{Link}
 use Rattle.dm_world.specs.declared.net.Net.{Net}
 use Rattle.dm_world.specs.declared.pair.Pair.{Pair}
@@ -34,7 +34,7 @@ or_false_right true b h = cc
 or_false_right false b h = h
 
 none_sent : (c : ℕ) (l : List declared_action.Action) → list_any takes_memory l ≡ false →
-    sends_at c (map deed_of (as_actions l)) ≡ false
+    sends_at c (map deed_in (as_actions l)) ≡ false
 none_sent c [] h = refl
 none_sent c (action.Connect d ∷ l) h =
     none_sent c l (or_false_right (takes_memory (action.Connect d)) (list_any takes_memory l) h)
@@ -56,10 +56,10 @@ silent_room s e old new actions ls law shaped silent answer =
     λ c sends. let clash : true ≡ false = sym sends ∙ none_sent c actions.items none in absurd (cc)
 
 -- the machine never refuses for want of memory
-no_fault : (p : Peer) (e : told.PeerEvent) (o : moves.Outcome) → outcome_of p e None o ≡ Refused NoMemory → ⊥
-no_fault p e (moves.Moved commands core) h = cc
-no_fault p e (moves.Refused refusal.NotClosed) h = cc
-no_fault p e (moves.Refused refusal.NotOpen) h = cc
+no_fault : (p : Peer) (e : told.PeerEvent) (o : moves.NodeOutcome) → outcome_of p e None o ≡ Refused NoMemory → ⊥
+no_fault p e (moves.NodeMoved commands core) h = cc
+no_fault p e (moves.NodeRefused refusal.NotClosed) h = cc
+no_fault p e (moves.NodeRefused refusal.NotOpen) h = cc
 
 -- at a Timeout memory can't be wanted
 pub timeout_wants_none : (s : Side) (old : Net) → SilentTakesNone →

@@ -10,9 +10,9 @@ use Rattle.dm_peer.specs.Acts.{Outcome, Moved, Refused, acts}
 use Rattle.dm_peer.specs.Events as told
 use Rattle.dm_two_peers.specs.Machine.{Conn, conn}
 use Rattle.dm_two_peers.specs.Links.{Side, A, B, flip, Link, new_link}
-use Rattle.dm_two_peers.specs.Peers.{Event, Start, Acts, Declines}
-use Rattle.dm_two_peers.specs.Worlds.{World, peer_at, with_peer, Put, enter, perform, settle, puts_of, puts_at_entry}
-use Rattle.dm_two_peers.specs.Worlds.{After, Done, Ignored, after_reply}
+use Rattle.dm_two_peers.specs.Peers.{Event, StartEvent, ActsBy, Declines}
+use Rattle.dm_two_peers.specs.Worlds.{World, peer_on, with_peer, Put, enter, perform, settle, puts_of, puts_at_entry}
+use Rattle.dm_two_peers.specs.Worlds.{After, DoneWith, Ignored, after_reply}
 use Rattle.dm_two_peers.specs.Worlds as worlds
 use Rattle.dm_world.specs.declared.fault.Effect as effect_of
 use Rattle.dm_world.specs.declared.fault.Effect.TheVariants as effect
@@ -52,7 +52,7 @@ pub reply_is : (p : Peer) (e : told.PeerEvent) (o : Outcome) → acts p e ≡ o 
     octet_peers.reply p (as_event e) ≡ as_reply o
 reply_is p e o is = ap (λ x. as_reply (acts p x)) (event_same e) ∙ ap as_reply is
 
-peer_same : (s : Side) (n : Net) → peer_at s (as_world n) ≡ peer_of s n.pair
+peer_same : (s : Side) (n : Net) → peer_on s (as_world n) ≡ peer_of s n.pair
 peer_same A n = refl
 peer_same B n = refl
 
@@ -78,12 +78,12 @@ done_step s e old new actions answer links =
     let next = peer_of s new.pair in
     let put = puts_at_entry s (as_event e) w.links ++
     puts_of s (as_actions actions.items) (enter s (as_event e) w.links) in
-    let reply : octet_peers.reply (peer_at s w) (as_event e) ≡ Acts (as_actions actions.items) next =
+    let reply : octet_peers.reply (peer_on s w) (as_event e) ≡ ActsBy (as_actions actions.items) next =
     ap (λ p. octet_peers.reply p (as_event e)) (peer_same s old) ∙
     reply_is (peer_of s old.pair) e (Moved actions.items next) answer.0 in (
       put,
       ap (λ r. after_reply octet_peers s (as_event e) w r) reply
-          ∙ ap (λ v. Done v put)
+          ∙ ap (λ v. DoneWith v put)
           (world_is s old new next (links_after s (as_event e) actions.items next (as_links old.links.items)) refl
           answer.1 links),
     )
@@ -132,7 +132,7 @@ pub ignored_step : (s : Side) (e : told.PeerEvent) (old new : Net) → IsAnswerO
 ignored_step s e old new answer links =
     let w = as_world old in
     let refused = answer.0.0 in
-    let reply : octet_peers.reply (peer_at s w) (as_event e) ≡ Declines =
+    let reply : octet_peers.reply (peer_on s w) (as_event e) ≡ Declines =
     ap (λ p. octet_peers.reply p (as_event e)) (peer_same s old) ∙
     reply_is (peer_of s old.pair) e (Refused refused.0) refused.1 in (
       ap (λ r. after_reply octet_peers s (as_event e) w r) reply,
@@ -141,7 +141,7 @@ ignored_step s e old new answer links =
 
 -- a Start names the next link
 abbrev pub Starting : effect_of.Effect → ℕ → Side → Net → Net → Type 0
-Starting outcome n s old new = Effects outcome (worlds.tell octet_peers s (Start (conn n)) (as_world old))
+Starting outcome n s old new = Effects outcome (worlds.tell octet_peers s (StartEvent (conn n)) (as_world old))
     (as_world old) (as_world new)
 
 pub started : (s : Side) (n : ℕ) (old new : Net) (actions : ArrayVec declared_action.Action) →

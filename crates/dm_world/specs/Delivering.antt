@@ -4,7 +4,7 @@ use Rattle.dm_peer.specs.declared.config.Config.{Config}
 use Rattle.dm_two_peers.specs.Delivery.{submitted_on, handed_up_on, has_loss_of, DeliversInOrder}
 use Rattle.dm_two_peers.specs.Laws.{world_of}
 use Rattle.dm_two_peers.specs.Links.{Side}
-use Rattle.dm_two_peers.specs.Turns.{Turn, all_turns}
+use Rattle.dm_two_peers.specs.Turns.{WorldTurn, all_turns}
 use Rattle.dm_octet_peers.specs.Carrying.{is_app}
 use Rattle.dm_octet_peers.specs.Laws.{fresh_peer}
 use Rattle.dm_octet_peers.specs.Octets.{octet_peers}
@@ -28,12 +28,12 @@ pub record HasPast (w : OctetWorld) : Type 0 where
   pub is : IsPast w a b past
 
 -- what the peers were told and did at happenings from the beginning on
-abbrev pub turns_in : Config → Config → List Happening → List (Turn (List ℕ))
+abbrev pub turns_in : Config → Config → List Happening → List (WorldTurn (List ℕ))
 turns_in a b past = all_turns octet_peers (new_world a b) (map as_happening past)
 
 -- what was handed up to a side on a link is a front of what the other side submitted on it; where the side is open on
 -- it and it was never lost, the rest is under way
-abbrev pub Delivers : Config → Config → List Happening → OctetWorld → Side → ℕ → Type 0
-Delivers a b past w t c =
+abbrev pub DeliversSubmitted : Config → Config → List Happening → OctetWorld → Side → ℕ → Type 0
+DeliversSubmitted a b past w t c =
     DeliversInOrder octet_peers is_app w t c (has_loss_of c (map as_happening past))
     (submitted_on t c (turns_in a b past)) (handed_up_on t c (turns_in a b past))

@@ -50,11 +50,11 @@ abbrev pub held_numbers : Node → List ℕ
 held_numbers n = numbers (held_as Initiated n.held) ++ numbers (held_as Accepted n.held)
 
 -- an Ack that is done names its link for the side that didn't open it
-abbrev pub IsMade : Effect → Option (Link (List ℕ)) → ℕ → MadeEnds → MadeEnds → Type 0
-IsMade effect.Done (Some l) c old new =
+abbrev pub MakesEnds : Effect → Option (Link (List ℕ)) → ℕ → MadeEnds → MadeEnds → Type 0
+MakesEnds effect.Done (Some l) c old new =
     (ends_of (flip l.opener) new ≡ ends_of (flip l.opener) old ++ c ∷ []) ×
     (ends_of l.opener new ≡ ends_of l.opener old)
-IsMade _ _ c old new = AreSameEnds old new
+MakesEnds _ _ c old new = AreSameEnds old new
 
 -- none is named any more for a side
 abbrev pub AreCleared : Side → MadeEnds → MadeEnds → Type 0
@@ -62,6 +62,6 @@ AreCleared s old new = (ends_of s new ≡ []) × (ends_of (flip s) new ≡ ends_
 
 -- what is named after a happening
 abbrev pub AreEndsAfter : Effect → declared_happening.Happening → List (Link (List ℕ)) → MadeEnds → MadeEnds → Type 0
-AreEndsAfter outcome (happening.Ack c) ls old new = IsMade outcome (slice_get ls c.0) c.0 old new
+AreEndsAfter outcome (happening.Ack c) ls old new = MakesEnds outcome (slice_get ls c.0) c.0 old new
 AreEndsAfter outcome (happening.Restart s) ls old new = AreCleared (as_side s) old new
 AreEndsAfter outcome _ ls old new = AreSameEnds old new

@@ -3,7 +3,7 @@ use Rattle.std.specs.Prelude.{ℕ, Bool, true, false, not, ◌&&◌, ◌||◌, n
 use Rattle.dm_peer.specs.declared.peer.Peer.{Peer}
 use Rattle.dm_two_peers.specs.Facts.{is_pending, is_shut}
 use Rattle.dm_two_peers.specs.Links.{Side, Link}
-use Rattle.dm_two_peers.specs.Worlds.{World, peer_at}
+use Rattle.dm_two_peers.specs.Worlds.{World, peer_on}
 use Rattle.dm_machine.specs.Moves.{is_open}
 use Rattle.dm_machine.specs.declared.state_name.State.{State}
 use Rattle.dm_world.specs.InPlace.{is_closed_state}
@@ -43,26 +43,26 @@ abbrev pub is_pending_at : Option (Link (List ℕ)) → Bool
 is_pending_at None = false
 is_pending_at (Some l) = is_pending l.phase
 
-abbrev pub is_deaf : Side → Link (List ℕ) → Bool
-is_deaf s l = is_shut (own_view s l).own
+abbrev pub is_shut_at : Side → Link (List ℕ) → Bool
+is_shut_at s l = is_shut (own_view s l).own
 
 -- it is there, something comes next to a side, and the side's end isn't shut
 abbrev pub is_heard_at : Side → Option (Link (List ℕ)) → Bool
 is_heard_at s None = false
-is_heard_at s (Some l) = is_something (next_to s l) && not (is_deaf s l)
+is_heard_at s (Some l) = is_something (next_to s l) && not (is_shut_at s l)
 
 -- it is there, and of a message that comes next some octets come: its last ones to an end that isn't shut, or others
 abbrev pub is_fed_at : Side → ℕ → Option (Link (List ℕ)) → Bool
 is_fed_at s k None = false
 is_fed_at s k (Some l) =
-    is_message (next_to s l) && (not (is_deaf s l) || nat_lt k (octets_to_come_to s l)) && nat_lt 0 k
+    is_message (next_to s l) && (not (is_shut_at s l) || nat_lt k (octets_to_come_to s l)) && nat_lt 0 k
 
 -- the state of a side's peer
 abbrev pub state_at : Side → World Peer (List ℕ) → State
-state_at s w = (peer_at s w).standing.core.state
+state_at s w = (peer_on s w).standing.core.state
 
--- memory may be wanted: never by a Start outside Closed, by a Stop or a Submit where it isn't open, where the link isn't
--- there, or nothing of it comes
+-- memory may be wanted: never by a Start outside Closed, by a Stop or a Submit where it isn't open, where the link
+-- isn't there, or nothing of it comes
 abbrev pub may_want : World Peer (List ℕ) → declared_happening.Happening → Bool
 may_want w (happening.Start s) = is_closed_state (state_at (as_side s) w)
 may_want w (happening.Stop s cause) = is_open (state_at (as_side s) w)

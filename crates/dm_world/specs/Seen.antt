@@ -1,6 +1,7 @@
 -- Sides and links as the laws of two peers see them.
 use Rattle.std.specs.Prelude.{ℕ, true, false, List, map}
-use Rattle.dm_two_peers.specs.Links.{Side, A, B, opens, LinkPhase, Pending, Up, Cancelled, End, Fresh, Open, Shut, Link}
+use Rattle.dm_two_peers.specs.Links.{Side, A, B, opens, LinkPhase, LinkPending, LinkUp}
+use Rattle.dm_two_peers.specs.Links.{LinkCancelled, End, Fresh, Open, Shut, Link}
 use Rattle.dm_two_peers.specs.Links.{by_side}
 use Rattle.dm_two_peers.specs.Happens.{restarted}
 use Rattle.dm_world.specs.declared.side.Side as declared_side
@@ -16,9 +17,9 @@ as_side side.A = A
 as_side side.B = B
 
 abbrev pub as_phase : declared_phase.Phase → LinkPhase
-as_phase phase.Pending = Pending
-as_phase phase.Up = Up
-as_phase phase.Cancelled = Cancelled
+as_phase phase.Pending = LinkPending
+as_phase phase.Up = LinkUp
+as_phase phase.Cancelled = LinkCancelled
 
 abbrev pub as_end : declared_end.End → End
 as_end end.Fresh = Fresh

@@ -5,7 +5,7 @@ use Rattle.dm_peer.specs.declared.actions.Action.{Action}
 use Rattle.dm_peer.specs.declared.peer.Peer.{Peer}
 use Rattle.dm_peer.specs.Events.{PeerEvent, Start, Ack, Nack, Gone, Arrived}
 use Rattle.dm_two_peers.specs.Links.{Side, Link}
-use Rattle.dm_two_peers.specs.Machine.{Concern, Elsewhere, StartsIt, AcksIt, NacksIt, EndsIt, HeardOnIt}
+use Rattle.dm_two_peers.specs.Machine.{LinkConcern, Elsewhere, StartsLink, MakesLink, FailsLink, EndsLink, HeardOnLink}
 use Rattle.dm_two_peers.specs.Peers.{Event}
 use Rattle.dm_two_peers.specs.Worlds.{enter, perform, settle}
 use Rattle.dm_octet_peers.specs.Octets.{as_actions}
@@ -16,12 +16,12 @@ is_start (Start c) = true
 is_start _ = false
 
 -- how an event concerns the link that it names
-abbrev pub concern_in : PeerEvent → Concern
-concern_in (Start c) = StartsIt
-concern_in (Ack c) = AcksIt
-concern_in (Nack c) = NacksIt
-concern_in (Gone c) = EndsIt
-concern_in (Arrived c s) = HeardOnIt
+abbrev pub concern_in : PeerEvent → LinkConcern
+concern_in (Start c) = StartsLink
+concern_in (Ack c) = MakesLink
+concern_in (Nack c) = FailsLink
+concern_in (Gone c) = EndsLink
+concern_in (Arrived c s) = HeardOnLink
 concern_in _ = Elsewhere
 
 -- beside a message that arrived there is the framer that handed it out

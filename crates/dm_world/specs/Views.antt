@@ -3,7 +3,7 @@ use Rattle.std.specs.Prelude.{◌≡◌, ℕ, IsTrue, Bool, Option, Some, None, 
 use Rattle.dm_peer.specs.declared.peer.Peer.{Peer}
 use Rattle.dm_two_peers.specs.Links.{Side, Link}
 use Rattle.dm_two_peers.specs.Happens.{own_view, happens}
-use Rattle.dm_two_peers.specs.Worlds.{World, Put, After, Done, Ignored, NoLink}
+use Rattle.dm_two_peers.specs.Worlds.{World, Put, After, DoneWith, Ignored, NoLink}
 use Rattle.dm_world.specs.declared.fault.Effect.{Effect}
 use Rattle.dm_world.specs.declared.fault.Effect.TheVariants as effect
 use Rattle.dm_world.specs.declared.fault.WorldFault.{WorldFault}
@@ -24,7 +24,7 @@ as_world n = record { a = n.pair.a; b = n.pair.b; links = as_links n.links.items
 -- what is told has this effect: it is done, with some messages and disconnects put in; or it is ignored, and nothing
 -- changes
 abbrev pub Effects : Effect → After Peer (List ℕ) → OctetWorld → OctetWorld → Type 0
-Effects effect.Done after old new = (put : List (Put (List ℕ))) × (after ≡ Done new put)
+Effects effect.Done after old new = (put : List (Put (List ℕ))) × (after ≡ DoneWith new put)
 Effects effect.Ignored after old new = (after ≡ Ignored) × (new ≡ old)
 
 -- why there was no step: there is no such link, or memory is wanted, where some may be

@@ -1,8 +1,8 @@
 -- What goes into a direction, and what leaves it.
 use Rattle.std.specs.Prelude.{ℕ, ◌+◌, List, [], ◌∷◌}
-use Rattle.dm_two_peers.specs.Links.{Direction, LinkPhase, Up, NoMark, Coming, Delivered}
+use Rattle.dm_two_peers.specs.Links.{Direction, LinkPhase, LinkUp, NoMark, Coming, Delivered}
 use Rattle.dm_two_peers.specs.Links as links
-use Rattle.dm_two_peers.specs.Steps.{added, marked}
+use Rattle.dm_two_peers.specs.Steps.{queued, marked}
 use Rattle.dm_world.specs.declared.direction.Mark.{Mark}
 use Rattle.dm_world.specs.declared.direction.Mark.TheVariants as mark
 
@@ -13,7 +13,7 @@ as_mark mark.Delivered = Delivered
 
 -- a message is put in behind the others, unless the disconnect is in
 abbrev pub with_message : List ℕ → Direction (List ℕ) → Direction (List ℕ)
-with_message m d = record { messages = added Up d.mark (m ∷ []) d.messages; taken = d.taken; mark = d.mark }
+with_message m d = record { messages = queued LinkUp d.mark (m ∷ []) d.messages; taken = d.taken; mark = d.mark }
 
 -- a disconnect is put in, where none is
 abbrev pub with_disconnect : Direction (List ℕ) → Direction (List ℕ)

@@ -4,9 +4,9 @@ ghost use Rattle.dm_two_peers.specs.Machine.{conn};
 ghost use Rattle.dm_two_peers.specs.Happens.{happens, Delivers, Pieces, comes, own_view};
 ghost use Rattle.dm_two_peers.specs.Links.{Link};
 ghost use Rattle.dm_two_peers.specs.Worlds as worlds;
-ghost use Rattle.dm_two_peers.specs.Peers.{Arrived, Gone};
+ghost use Rattle.dm_two_peers.specs.Peers.{ArrivedEvent, GoneEvent};
 ghost use Rattle.dm_octet_peers.specs.Octets.{octet_peers};
-ghost use Rattle.dm_world.specs.Happening.{is_deaf, is_heard_at, is_fed_at};
+ghost use Rattle.dm_world.specs.Happening.{is_shut_at, is_heard_at, is_fed_at};
 ghost use Rattle.dm_world.specs.Seen.{as_side, as_links};
 ghost use Rattle.dm_world.specs.Views.{as_world, Effects, IsFault, front_of};
 
@@ -26,7 +26,7 @@ impl Net {
         requires there { index < length self.old.links.items }
         ensures step { IfOk result (λ effect. (x : List ℕ) →
             front_of (as_side side) (slice_get (as_links self.old.links.items) index) ≡ Some x →
-            Effects effect (worlds.tell octet_peers (as_side side) (Arrived (conn index) x) (as_world self.old))
+            Effects effect (worlds.tell octet_peers (as_side side) (ArrivedEvent (conn index) x) (as_world self.old))
             (as_world self.old) (as_world self.new)) }
         ensures unchanged { OnErr result (as_world self.new ≡ as_world self.old) }
     {
@@ -45,11 +45,11 @@ impl Net {
         ensures step { IfOk result (λ effect. (l : Link (List ℕ)) (x : List ℕ) →
             slice_get (as_links self.old.links.items) index ≡ Some l →
             slice_get (own_view (as_side side) l).incoming.messages 0 ≡ Some x →
-            Effects effect (comes octet_peers (as_side side) (Arrived (conn index) x) (own_view (as_side side) l).own
-            (as_world self.old)) (as_world self.old) (as_world self.new)) }
+            Effects effect (comes octet_peers (as_side side) (ArrivedEvent (conn index) x)
+            (own_view (as_side side) l).own (as_world self.old)) (as_world self.old) (as_world self.new)) }
         ensures unchanged { OnErr result (as_world self.new ≡ as_world self.old) }
         ensures heard { OnErr result ((l : Link (List ℕ)) → slice_get (as_links self.old.links.items) index ≡ Some l →
-            is_deaf (as_side side) l ≡ false) }
+            is_shut_at (as_side side) l ≡ false) }
     {
         match self.links[index].own_end(side) {
             End::Shut => {
@@ -71,11 +71,11 @@ impl Net {
         requires there { index < length self.old.links.items }
         ensures step { IfOk result (λ effect. (l : Link (List ℕ)) →
             slice_get (as_links self.old.links.items) index ≡ Some l →
-            Effects effect (comes octet_peers (as_side side) (Gone (conn index)) (own_view (as_side side) l).own
+            Effects effect (comes octet_peers (as_side side) (GoneEvent (conn index)) (own_view (as_side side) l).own
             (as_world self.old)) (as_world self.old) (as_world self.new)) }
         ensures unchanged { OnErr result (as_world self.new ≡ as_world self.old) }
         ensures heard { OnErr result ((l : Link (List ℕ)) → slice_get (as_links self.old.links.items) index ≡ Some l →
-            is_deaf (as_side side) l ≡ false) }
+            is_shut_at (as_side side) l ≡ false) }
     {
         let event = Event::Gone(Conn(index as u64));
         match self.links[index].own_end(side) {

@@ -1,11 +1,11 @@
 //! An event that a side's peer took is followed on the links: it reaches the one that it names, and what the peer asks
 //! for is done.
 ghost use Rattle.std.specs.Prelude.{◌≡◌, ℕ, ◌+◌, IsTrue, false, [], ◌∷◌, length, map};
-ghost use Rattle.dm_peer.specs.Events.{told};
+ghost use Rattle.dm_peer.specs.Events.{event_told};
 ghost use Rattle.dm_two_peers.specs.Links.{by_side};
-ghost use Rattle.dm_two_peers.specs.Machine.{HeardOnIt};
-ghost use Rattle.dm_two_peers.specs.Peers.{deed_of, sends_at};
-ghost use Rattle.dm_two_peers.specs.Steps.{settled};
+ghost use Rattle.dm_two_peers.specs.Machine.{HeardOnLink};
+ghost use Rattle.dm_two_peers.specs.Peers.{deed_in, sends_at};
+ghost use Rattle.dm_two_peers.specs.Steps.{settled_view};
 ghost use Rattle.dm_two_peers.specs.Worlds.{enter, perform, change_at};
 ghost use Rattle.dm_octet_peers.specs.Frames.{SendFrames};
 ghost use Rattle.dm_octet_peers.specs.Octets.{as_action, as_actions, as_event};
@@ -21,7 +21,7 @@ use dm_peer::{Action, Actions, Conn, Event, Peer};
 
 /// The link that the event names.
 pub(crate) fn named(event: Event<'_>) -> Option<Conn>
-    ensures { result ≡ named (as_event (told event.entry)) }
+    ensures { result ≡ named (as_event (event_told event.entry)) }
 {
     match event {
         Event::Start(conn)
@@ -36,9 +36,9 @@ pub(crate) fn named(event: Event<'_>) -> Option<Conn>
 /// The event reaches the side's end of the link that it names, if there is one. Where a message arrived the framer
 /// takes the place of the one that holds octets of it.
 pub(crate) fn enter(links: &mut Vec<Link>, side: Side, event: Event<'_>, framer: Option<Framer>)
-    requires known { is_start (told event) ≡ false }
-    requires framer { FramerFits (told event) framer }
-    ensures entered { as_links links.new.items ≡ enter (as_side side) (as_event (told event.entry))
+    requires known { is_start (event_told event) ≡ false }
+    requires framer { FramerFits (event_told event) framer }
+    ensures entered { as_links links.new.items ≡ enter (as_side side) (as_event (event_told event.entry))
         (as_links links.old.items) }
     ensures room { (n c : ℕ) → HasRoom (as_side side) links.old.items n c →
         HasRoom (as_side side) links.new.items n c }
@@ -56,7 +56,7 @@ pub(crate) fn enter(links: &mut Vec<Link>, side: Side, event: Event<'_>, framer:
 
 /// One action of the side's peer.
 fn perform_one(links: &mut Vec<Link>, side: Side, action: Action)
-    requires room { (c : ℕ) → IsTrue (sends_at c (deed_of (as_action action) ∷ [])) →
+    requires room { (c : ℕ) → IsTrue (sends_at c (deed_in (as_action action) ∷ [])) →
         HasRoom (as_side side) links.old.items 1 c }
     requires frames { SendFrames (as_action action ∷ []) }
     ensures performed { as_links links.new.items
@@ -92,10 +92,11 @@ pub(crate) fn follow(
     framer: Option<Framer>,
     actions: Actions,
 )
-    requires known { is_start (told event) ≡ false }
-    requires framer { FramerFits (told event) framer }
+    requires known { is_start (event_told event) ≡ false }
+    requires framer { FramerFits (event_told event) framer }
     requires sends { CanSend (as_side side) links.old.items actions.items }
-    ensures { as_links links.new.items ≡ links_after (as_side side) (as_event (told event.entry)) actions.items peer.now
+    ensures { as_links links.new.items ≡ links_after (as_side side)
+        (as_event (event_told event.entry)) actions.items peer.now
         (as_links links.old.items) }
 {
     enter(links, side, event, framer);

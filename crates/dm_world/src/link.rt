@@ -1,13 +1,13 @@
 //! A link: what a connection is to both sides.
 ghost use Rattle.std.specs.Prelude.{◌≡◌, ◌+◌, ◌<◌, ◌≤◌, [], length, OnOk, OnErr};
 ghost use Rattle.dm_framer.specs.Frames.{IsFrame};
-ghost use Rattle.dm_peer.specs.Events.{told};
+ghost use Rattle.dm_peer.specs.Events.{event_told};
 ghost use Rattle.dm_two_peers.specs.Facts.{is_pending};
 ghost use Rattle.dm_two_peers.specs.Happens.{take_part, lost_link, own_view};
 ghost use Rattle.dm_two_peers.specs.Links.{new_link, opens, by_side};
-ghost use Rattle.dm_two_peers.specs.Machine.{AcksIt, EndsIt, HeardOnIt};
+ghost use Rattle.dm_two_peers.specs.Machine.{MakesLink, EndsLink, HeardOnLink};
 ghost use Rattle.dm_two_peers.specs.Quiet.{is_quiet_link};
-ghost use Rattle.dm_two_peers.specs.Steps.{with_sent, with_close, entered, settled};
+ghost use Rattle.dm_two_peers.specs.Steps.{with_sent, with_close, entered, settled_view};
 ghost use Rattle.dm_world.specs.Fed.{holding};
 ghost use Rattle.dm_world.specs.Next.{next_to, octets_to_come_to, is_past_loss};
 ghost use Rattle.dm_world.specs.Seen.{as_side, as_end, as_link, out_room, restart_link};
@@ -166,9 +166,9 @@ impl Link {
     /// the one that holds octets of it.
     #[tactic(auto, using(crate::proofs::Hearing::not_entered, crate::proofs::Hearing::not_started_on))]
     pub(crate) fn enter(&mut self, side: Side, event: Event<'_>, framer: Option<Framer>)
-        requires { FramerFits (told event) framer }
+        requires { FramerFits (event_told event) framer }
         ensures entered { as_link self.new
-            ≡ by_side (as_side side) (entered (concern_in (told event.entry))) (as_link self.old) }
+            ≡ by_side (as_side side) (entered (concern_in (event_told event.entry))) (as_link self.old) }
         ensures room { out_room (as_side side) self.old ≤ out_room (as_side side) self.new }
     {
         match event {
@@ -185,7 +185,7 @@ impl Link {
 
     /// The connect came about: both ends are made, and that of the side, the opener, is open.
     fn enter_ack(&mut self, side: Side)
-        ensures entered { as_link self.new ≡ by_side (as_side side) (entered AcksIt) (as_link self.old) }
+        ensures entered { as_link self.new ≡ by_side (as_side side) (entered MakesLink) (as_link self.old) }
         ensures room { out_room (as_side side) self.old ≤ out_room (as_side side) self.new }
     {
         self.phase = Phase::Up;
@@ -201,7 +201,7 @@ impl Link {
     /// The front message comes to the side. The framer takes the place of the one that holds octets of it.
     fn enter_message(&mut self, side: Side, framer: Framer)
         requires { framer ≡ holding [] }
-        ensures entered { as_link self.new ≡ by_side (as_side side) (entered HeardOnIt) (as_link self.old) }
+        ensures entered { as_link self.new ≡ by_side (as_side side) (entered HeardOnLink) (as_link self.old) }
         ensures room { out_room (as_side side) self.old ≤ out_room (as_side side) self.new }
     {
         if self.is_opener(side) {
@@ -213,7 +213,7 @@ impl Link {
 
     /// The disconnect comes to the side: its end is shut. Where that was fresh, a disconnect goes back.
     fn enter_gone(&mut self, side: Side)
-        ensures entered { as_link self.new ≡ by_side (as_side side) (entered EndsIt) (as_link self.old) }
+        ensures entered { as_link self.new ≡ by_side (as_side side) (entered EndsLink) (as_link self.old) }
         ensures room { out_room (as_side side) self.old ≤ out_room (as_side side) self.new }
     {
         let mine = self.is_opener(side);
@@ -234,7 +234,7 @@ impl Link {
 
     /// A fresh end that was heard on is open where its peer holds the link, else shut.
     pub(crate) fn settle(&mut self, side: Side, holds: bool)
-        ensures { as_link self.new ≡ by_side (as_side side) (settled HeardOnIt holds) (as_link self.old) }
+        ensures { as_link self.new ≡ by_side (as_side side) (settled_view HeardOnLink holds) (as_link self.old) }
     {
         let settled = if holds { End::Open } else { End::Shut };
         let mine = self.is_opener(side);

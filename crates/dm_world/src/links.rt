@@ -3,9 +3,9 @@ ghost use Rattle.std.specs.Prelude.{◌≡◌, ℕ, ◌+◌, OnOk, slice_get};
 ghost use Rattle.std.specs.List.{list_all};
 ghost use Rattle.dm_framer.specs.Frames.{IsFrame};
 ghost use Rattle.dm_two_peers.specs.Links.{by_side};
-ghost use Rattle.dm_two_peers.specs.Machine.{HeardOnIt};
+ghost use Rattle.dm_two_peers.specs.Machine.{HeardOnLink};
 ghost use Rattle.dm_two_peers.specs.Quiet.{is_quiet_link};
-ghost use Rattle.dm_two_peers.specs.Steps.{with_sent, with_close, settled};
+ghost use Rattle.dm_two_peers.specs.Steps.{with_sent, with_close, settled_view};
 ghost use Rattle.dm_two_peers.specs.Worlds.{change_at};
 ghost use Rattle.dm_world.specs.Agreeing.{is_coming_at};
 ghost use Rattle.dm_world.specs.Rooms.{HasRoom};
@@ -65,7 +65,7 @@ pub(crate) fn close(links: &mut Vec<Link>, side: Side, index: usize)
 /// A fresh end of the side that was heard on is open where its peer holds the link, else shut.
 pub(crate) fn settle(links: &mut Vec<Link>, side: Side, index: usize, holds: bool)
     ensures { as_links links.new.items
-        ≡ change_at index (by_side (as_side side) (settled HeardOnIt holds)) (as_links links.old.items) }
+        ≡ change_at index (by_side (as_side side) (settled_view HeardOnLink holds)) (as_links links.old.items) }
 {
     if index < links.len() {
         links[index].settle(side, holds);

@@ -1,6 +1,6 @@
 //! Two peers and the links between them, and what each event of a side does to them.
 ghost use Rattle.std.specs.Prelude.{◌≡◌, ◌<◌, IfOk, IfErr, IfSome, OnErr, None, true, false, length, slice_get};
-ghost use Rattle.dm_peer.specs.Events.{told};
+ghost use Rattle.dm_peer.specs.Events.{event_told};
 ghost use Rattle.dm_two_peers.specs.Worlds as worlds;
 ghost use Rattle.dm_wire.specs.Octets.{AreOctets};
 ghost use Rattle.dm_octet_peers.specs.Frames.{submitted_in};
@@ -54,14 +54,14 @@ impl Net {
         side: Side,
         event: Event<'_>,
     ) -> Result<Option<Actions>, NoMemory>
-        requires octets { AreOctets (submitted_in (told event)) }
+        requires octets { AreOctets (submitted_in (event_told event)) }
         ensures same { as_links self.new.links.items ≡ as_links self.old.links.items }
         ensures answer { IfOk result (λ answer.
-            IsAnswerOf (as_side side) (told event.entry) answer self.old.pair self.new.pair) }
+            IsAnswerOf (as_side side) (event_told event.entry) answer self.old.pair self.new.pair) }
         ensures sends { IfOk result (λ answer. IfSome answer (λ actions.
             CanSend (as_side side) self.new.links.items actions.items)) }
         ensures want { OnErr result (is_in_place (peer_of (as_side side) self.old.pair).standing.core.state
-            (told event.entry) ≡ true) }
+            (event_told event.entry) ≡ true) }
         ensures unchanged { OnErr result (self.new.pair ≡ self.old.pair) }
     {
         octets_are_a_machine();
@@ -84,14 +84,14 @@ impl Net {
         event: Event<'_>,
         framer: Option<Framer>,
     ) -> Result<Effect, NoMemory>
-        requires known { is_start (told event) ≡ false }
-        requires octets { AreOctets (submitted_in (told event)) }
-        requires framer { FramerFits (told event) framer }
+        requires known { is_start (event_told event) ≡ false }
+        requires octets { AreOctets (submitted_in (event_told event)) }
+        requires framer { FramerFits (event_told event) framer }
         ensures step { IfOk result (λ effect. Effects effect
-            (worlds.tell octet_peers (as_side side) (as_event (told event.entry)) (as_world self.old))
+            (worlds.tell octet_peers (as_side side) (as_event (event_told event.entry)) (as_world self.old))
             (as_world self.old) (as_world self.new)) }
         ensures want { OnErr result (is_in_place (peer_of (as_side side) self.old.pair).standing.core.state
-            (told event.entry) ≡ true) }
+            (event_told event.entry) ≡ true) }
         ensures unchanged { OnErr result (as_world self.new ≡ as_world self.old) }
     {
         match self.ask(alloc, side, event) {

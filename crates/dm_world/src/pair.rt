@@ -1,9 +1,9 @@
 //! The two peers of a world.
 ghost use Rattle.std.specs.Prelude.{◌≡◌, false, None, IsTrue, IfOk, OnErr};
 ghost use Rattle.dm_machine.specs.Node.{is_shaped};
-ghost use Rattle.dm_two_peers.specs.Machine.{is_held, tie_of};
+ghost use Rattle.dm_two_peers.specs.Machine.{is_tie_held, tie_of};
 ghost use Rattle.dm_peer.specs.Acts.{acts};
-ghost use Rattle.dm_peer.specs.Events.{told};
+ghost use Rattle.dm_peer.specs.Events.{event_told};
 ghost use Rattle.dm_world.specs.InPlace.{is_in_place};
 ghost use Rattle.dm_world.specs.Asking.{peer_of, with_peer_of, reset_of, IsAnswer, IsAnswerOf, IsWant};
 ghost use Rattle.dm_world.specs.Seen.{as_side};
@@ -24,8 +24,9 @@ pub(crate) struct Pair {
 /// What the peer asks for at the event. None where it refuses the event.
 fn ask_one(peer: &mut Peer, alloc: Global, event: Event<'_>) -> Result<Option<Actions>, NoMemory>
     ensures shaped { IsTrue (is_shaped peer.old.standing.core) }
-    ensures answer { IfOk result (λ answer. IsAnswer (acts peer.old (told event.entry)) answer peer.old peer.new) }
-    ensures want { OnErr result (IsWant (acts peer.old (told event.entry))) }
+    ensures answer { IfOk result (λ answer. IsAnswer
+        (acts peer.old (event_told event.entry)) answer peer.old peer.new) }
+    ensures want { OnErr result (IsWant (acts peer.old (event_told event.entry))) }
     ensures unchanged { OnErr result (peer.new ≡ peer.old) }
 {
     let _shaped = peer.state();
@@ -38,7 +39,7 @@ fn ask_one(peer: &mut Peer, alloc: Global, event: Event<'_>) -> Result<Option<Ac
 
 /// Whether the peer holds the connection.
 pub(crate) fn holds(peer: &Peer, conn: Conn) -> bool
-    ensures { result ≡ is_held (tie_of peer.now.standing.core conn.0) }
+    ensures { result ≡ is_tie_held (tie_of peer.now.standing.core conn.0) }
 {
     peer.holds(conn)
 }
@@ -46,7 +47,7 @@ pub(crate) fn holds(peer: &Peer, conn: Conn) -> bool
 /// Whether a peer takes such an event in its state: a Start in Closed, a Stop or a Submit where it is open, all else in
 /// each.
 fn is_in_place(peer: &Peer, event: Event<'_>) -> bool
-    ensures { result ≡ is_in_place peer.now.standing.core.state (told event.entry) }
+    ensures { result ≡ is_in_place peer.now.standing.core.state (event_told event.entry) }
 {
     match event {
         Event::Start(_) => matches!(peer.state(), State::Closed),
@@ -74,8 +75,9 @@ impl Pair {
     /// Whether the side's peer takes such an event in its state. Where it doesn't, it refuses the event.
     #[tactic(auto, using(crate::proofs::OffPlace::off_place))]
     pub(crate) fn takes(&self, side: Side, event: Event<'_>) -> bool
-        ensures state { result ≡ is_in_place (peer_of (as_side side) self.now).standing.core.state (told event.entry) }
-        ensures refused { result ≡ false → IsAnswerOf (as_side side) (told event.entry) None self.now self.now }
+        ensures state { result ≡ is_in_place (peer_of (as_side side) self.now).standing.core.state
+            (event_told event.entry) }
+        ensures refused { result ≡ false → IsAnswerOf (as_side side) (event_told event.entry) None self.now self.now }
     {
         refusals_go_by_rule();
         let peer = self.of(side);
@@ -91,8 +93,9 @@ impl Pair {
         event: Event<'_>,
     ) -> Result<Option<Actions>, NoMemory>
         ensures shaped { IsTrue (is_shaped (peer_of (as_side side) self.old).standing.core) }
-        ensures answer { IfOk result (λ answer. IsAnswerOf (as_side side) (told event.entry) answer self.old self.new) }
-        ensures want { OnErr result (IsWant (acts (peer_of (as_side side) self.old) (told event.entry))) }
+        ensures answer { IfOk result (λ answer. IsAnswerOf (as_side side)
+            (event_told event.entry) answer self.old self.new) }
+        ensures want { OnErr result (IsWant (acts (peer_of (as_side side) self.old) (event_told event.entry))) }
         ensures unchanged { OnErr result (self.new ≡ self.old) }
     {
         match side {

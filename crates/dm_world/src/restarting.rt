@@ -2,10 +2,10 @@
 ghost use Rattle.std.specs.Prelude.{◌≡◌, ◌++◌, IfOk, IfErr, OnErr, slice_get};
 ghost use Rattle.dm_two_peers.specs.Facts.{IsSoundWorld};
 ghost use Rattle.dm_two_peers.specs.Happens.{happens, Acks, restart_links};
-ghost use Rattle.dm_two_peers.specs.Worlds.{with_peer, peer_at};
+ghost use Rattle.dm_two_peers.specs.Worlds.{with_peer, peer_on};
 ghost use Rattle.dm_octet_peers.specs.Octets.{octet_peers};
 ghost use Rattle.dm_world.specs.Asking.{reset_of};
-ghost use Rattle.dm_world.specs.Ends.{AreNamed, AreSameEnds, AreCleared, IsMade, restart_each, numbers};
+ghost use Rattle.dm_world.specs.Ends.{AreNamed, AreSameEnds, AreCleared, MakesEnds, restart_each, numbers};
 ghost use Rattle.dm_world.specs.Happening.{is_pending_at};
 ghost use Rattle.dm_world.specs.Seen.{as_side, as_links};
 ghost use Rattle.dm_world.specs.Views.{as_world, Effects, IsFault};
@@ -49,7 +49,7 @@ impl Net {
         ensures fault { IfErr result (λ f. IsFault f (is_pending_at (slice_get (as_links self.old.links.items) conn.0))
             (happens octet_peers (as_world self.old) (Acks conn.0))) }
         ensures unchanged { OnErr result (as_world self.new ≡ as_world self.old) }
-        ensures made { IfOk result (λ effect. IsMade effect (slice_get (as_links self.old.links.items) conn.0) conn.0
+        ensures made { IfOk result (λ effect. MakesEnds effect (slice_get (as_links self.old.links.items) conn.0) conn.0
             made.old made.new) }
         ensures same { OnErr result (AreSameEnds made.old made.new) }
     {
@@ -75,7 +75,7 @@ impl Net {
         requires sound { IsSoundWorld octet_peers (as_world self.old) }
         requires named { AreNamed made.old (as_links self.old.links.items) }
         ensures anew { as_world self.new ≡ with_peer (as_side side)
-            (reset_of (peer_at (as_side side) (as_world self.old)))
+            (reset_of (peer_on (as_side side) (as_world self.old)))
             (restart_links (as_side side) (as_links self.old.links.items)) (as_world self.old) }
         ensures cleared { AreCleared (as_side side) made.old made.new }
     {

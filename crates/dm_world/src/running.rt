@@ -13,7 +13,7 @@ ghost use Rattle.dm_octet_peers.specs.Laws.{AreClosed};
 ghost use Rattle.dm_octet_peers.specs.Octets.{octet_peers};
 ghost use Rattle.dm_octet_peers.specs.Talking.{ArePaired};
 ghost use Rattle.dm_world.specs.declared.happening.Happening as declared_happening;
-ghost use Rattle.dm_world.specs.Delivering.{IsPast, Delivers, turns_in};
+ghost use Rattle.dm_world.specs.Delivering.{IsPast, DeliversSubmitted, turns_in};
 ghost use Rattle.dm_world.specs.Settling.{AreClean, EitherCanOpen};
 ghost use Rattle.dm_world.specs.Settling.{RanTo, RunSettles, RunFallsQuiet, RunCanFallQuiet};
 ghost use Rattle.dm_world.specs.Views.{IsEnd};
@@ -36,8 +36,8 @@ impl World {
     ///
     /// Whatever happens, in whatever order: neither side is open on two connections, and if both are open, it is on one
     /// connection in opposite roles, or a disconnect is coming to each on its own (`agreed`). On a link that isn't
-    /// pending a side's end is open just where the side holds the link (`ends`). What a side holds is a link that is up,
-    /// or a pending one that it opened (`held`). Where a side is open on a connection, the other end is open, or a
+    /// pending a side's end is open just where the side holds the link (`ends`). What a side holds is a link that is
+    /// up, or a pending one that it opened (`held`). Where a side is open on a connection, the other end is open, or a
     /// disconnect is coming to the side (`matched`). Of a front message fewer octets are delivered than it has, and
     /// where there is none, no octets (`cut`).
     ///
@@ -84,7 +84,7 @@ impl World {
             IsPast self.old a b past → IsPast self.new a b (past ++ take result.0 list.now) }
         ensures delivers { (a b : declared_config.Config) (past : List declared_happening.Happening) →
             IsPast self.old a b past →
-            (t : Side) (c : ℕ) → Delivers a b (past ++ take result.0 list.now) self.new t c }
+            (t : Side) (c : ℕ) → DeliversSubmitted a b (past ++ take result.0 list.now) self.new t c }
         ensures upward { (a b : declared_config.Config) (past : List declared_happening.Happening) →
             IsPast self.old a b past → HandUpWhatCame (turns_in a b (past ++ take result.0 list.now)) }
         ensures settled { AreClosed self.old → AreClean (take result.0 list.now) →

@@ -22,7 +22,8 @@ impl Net {
     pub(crate) fn start(&mut self, alloc: Global, side: Side) -> Result<Effect, NoMemory>
         ensures step { IfOk result (λ effect. Effects effect
             (happens octet_peers (as_world self.old) (Starts (as_side side))) (as_world self.old) (as_world self.new)) }
-        ensures want { OnErr result (is_closed_state (peer_of (as_side side) self.old.pair).standing.core.state ≡ true) }
+        ensures want { OnErr result (is_closed_state (peer_of (as_side side) self.old.pair).standing.core.state
+            ≡ true) }
         ensures unchanged { OnErr result (as_world self.new ≡ as_world self.old) }
     {
         silent_takes_none();

@@ -95,7 +95,7 @@ impl World {
     ghost use Rattle.dm_two_peers.specs.Happens.{happens};
     ghost use Rattle.dm_two_peers.specs.Laws.{world_of};
     ghost use Rattle.dm_two_peers.specs.Quiet.{is_quiet};
-    ghost use Rattle.dm_two_peers.specs.Worlds.{peer_at};
+    ghost use Rattle.dm_two_peers.specs.Worlds.{peer_on};
     ghost use Rattle.dm_octet_peers.specs.Laws.{fresh_peer};
     ghost use Rattle.dm_octet_peers.specs.Octets.{octet_peers};
     ghost use Rattle.dm_world.specs.Agreeing.{is_agreed, open_link, AreBothOpenOn};
@@ -108,8 +108,8 @@ impl World {
     /// One happening: it is done, or ignored with nothing changed.
     ///
     /// Refuses with `NoLink` where it names a link that isn't there, and with `NoMemory` where a growth was refused.
-    /// The world is then what it was. No Timeout, Restart or Lose answers `NoMemory`; nor does a Start outside Closed, a
-    /// Stop or a Submit where the side isn't open, an Ack or a Nack of a connect that isn't pending, a delivery or a
+    /// The world is then what it was. No Timeout, Restart or Lose answers `NoMemory`; nor does a Start outside Closed,
+    /// a Stop or a Submit where the side isn't open, an Ack or a Nack of a connect that isn't pending, a delivery or a
     /// piece where nothing comes, or what comes whole to a shut end, which drops it.
     pub fn apply(&mut self, alloc: Global, happening: &Happening) -> Result<Effect, WorldFault>
         ensures step { IfOk result (λ effect. Effects effect
@@ -129,7 +129,7 @@ impl World {
 
     /// The peer of a side. It never answers want of memory.
     pub fn peer(&self, side: Side) -> &Peer
-        ensures { result.now ≡ peer_at (as_side side) self.now }
+        ensures { result.now ≡ peer_on (as_side side) self.now }
     {
         self.net.pair.of(side)
     }

@@ -23,8 +23,8 @@ pub fn read_input(rt: &HostRuntime, names: Option<&[&str]>, octets: &mut Vec<u8>
     }
 }
 
-/// Appends the texts of the dictionaries as one text of version 2. The version stands before the first line of the first
-/// file.
+/// Appends the texts of the dictionaries as one text of version 2. The version stands before the first line of the
+/// first file.
 pub fn read_dictionaries(rt: &HostRuntime, names: &[&str], text: &mut Vec<u8>) -> Result<()> {
     text.extend_from_slice(VERSION)?;
     read_files(rt, names, text)

@@ -39,6 +39,6 @@ code_of Good = 2001
 code_of (Bad code failed) = code
 
 -- the answer has the request's header, with the E bit for a protocol error (3xxx), and the verdict's Result-Code
-pub record Answers (request : Message) (verdict : Verdict) (answer : Message) : Type 0 where
+pub record AnswersRequest (request : Message) (verdict : Verdict) (answer : Message) : Type 0 where
   pub header : answer.header ≡ record (header_answering request.header) { error = code_of verdict / 1000 == 3 }
   pub code : IsSomeAnd (find (is_of 268 None) answer.avps) (λ a. Means Unsigned32 a.bytes (Uint32 (code_of verdict)))

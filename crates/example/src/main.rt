@@ -3,7 +3,7 @@
 #![tactic(auto)]
 
 ghost use Rattle.std.specs.Prelude.{◌≡◌, IfOk, string_bytes};
-ghost use Rattle.example.specs.Answering.{Answers, Describes, line_text};
+ghost use Rattle.example.specs.Answering.{AnswersRequest, Describes, line_text};
 
 use anyhow::{Context, Result};
 use dm_dict::{Dictionary, Value, ValueFault, Verdict, read_value};
@@ -67,7 +67,7 @@ fn line(alloc: Global, name: &str, value: &Value) -> Result<String, AllocError>
 
 /// The answer to a request: its Result-Code by the verdict, the name and realm of this node, and the failed AVP.
 fn answer(alloc: Global, request: &Message, verdict: &Verdict) -> Result<Message, ValueFault>
-    ensures { IfOk result (λ answer. Answers request.now verdict.now answer) }
+    ensures { IfOk result (λ answer. AnswersRequest request.now verdict.now answer) }
 {
     let (code, failed) = match verdict {
         Verdict::Good => (results::SUCCESS, None),

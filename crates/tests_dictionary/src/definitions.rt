@@ -37,32 +37,53 @@ const PLAIN: &str = "\
 
 /// Its groups and commands, in the printed form.
 const PRINTED: &str = "\
-< Vendor-Specific-Application-Id > ::= < AVP Header: 260 > 1* { Vendor-Id } 0*1 [ Auth-Application-Id ] 0*1 [ Acct-Application-Id ]
+< Vendor-Specific-Application-Id > ::= < AVP Header: 260 > 1* { Vendor-Id } 0*1 [ Auth-Application-Id ] \
+   0*1 [ Acct-Application-Id ]
 < Failed-AVP > ::= < AVP Header: 279 > 1* { AVP }
 < Proxy-Info > ::= < AVP Header: 284 > 1*1 { Proxy-Host } 1*1 { Proxy-State } 0* [ AVP ]
 < Experimental-Result > ::= < AVP Header: 297 > 1*1 { Vendor-Id } 1*1 { Experimental-Result-Code }
-< CER > ::= < Diameter Header: 257, REQ 0 > 1*1 { Origin-Host } 1*1 { Origin-Realm } 1* { Host-IP-Address } 1*1 { Vendor-Id } 1*1 { Product-Name } 0*1 [ Origin-State-Id ] 0* [ Supported-Vendor-Id ] 0* [ Auth-Application-Id ] 0* [ Inband-Security-Id ] 0* [ Acct-Application-Id ] 0* [ Vendor-Specific-Application-Id ] 0*1 [ Firmware-Revision ] 0* [ AVP ]
-< CEA > ::= < Diameter Header: 257 0 > 1*1 { Result-Code } 1*1 { Origin-Host } 1*1 { Origin-Realm } 1* { Host-IP-Address } 1*1 { Vendor-Id } 1*1 { Product-Name } 0*1 [ Origin-State-Id ] 0*1 [ Error-Message ] 0* [ Failed-AVP ] 0* [ Supported-Vendor-Id ] 0* [ Auth-Application-Id ] 0* [ Inband-Security-Id ] 0* [ Acct-Application-Id ] 0* [ Vendor-Specific-Application-Id ] 0*1 [ Firmware-Revision ] 0* [ AVP ]
+< CER > ::= < Diameter Header: 257, REQ 0 > 1*1 { Origin-Host } 1*1 { Origin-Realm } 1* { Host-IP-Address } \
+   1*1 { Vendor-Id } 1*1 { Product-Name } 0*1 [ Origin-State-Id ] 0* [ Supported-Vendor-Id ] \
+   0* [ Auth-Application-Id ] 0* [ Inband-Security-Id ] 0* [ Acct-Application-Id ] \
+   0* [ Vendor-Specific-Application-Id ] 0*1 [ Firmware-Revision ] 0* [ AVP ]
+< CEA > ::= < Diameter Header: 257 0 > 1*1 { Result-Code } 1*1 { Origin-Host } 1*1 { Origin-Realm } \
+   1* { Host-IP-Address } 1*1 { Vendor-Id } 1*1 { Product-Name } 0*1 [ Origin-State-Id ] 0*1 [ Error-Message ] \
+   0* [ Failed-AVP ] 0* [ Supported-Vendor-Id ] 0* [ Auth-Application-Id ] 0* [ Inband-Security-Id ] \
+   0* [ Acct-Application-Id ] 0* [ Vendor-Specific-Application-Id ] 0*1 [ Firmware-Revision ] 0* [ AVP ]
 < DWR > ::= < Diameter Header: 280, REQ 0 > 1*1 { Origin-Host } 1*1 { Origin-Realm } 0*1 [ Origin-State-Id ] 0* [ AVP ]
-< DWA > ::= < Diameter Header: 280 0 > 1*1 { Result-Code } 1*1 { Origin-Host } 1*1 { Origin-Realm } 0*1 [ Error-Message ] 0* [ Failed-AVP ] 0*1 [ Origin-State-Id ] 0* [ AVP ]
+< DWA > ::= < Diameter Header: 280 0 > 1*1 { Result-Code } 1*1 { Origin-Host } 1*1 { Origin-Realm } \
+   0*1 [ Error-Message ] 0* [ Failed-AVP ] 0*1 [ Origin-State-Id ] 0* [ AVP ]
 < DPR > ::= < Diameter Header: 282, REQ 0 > 1*1 { Origin-Host } 1*1 { Origin-Realm } 1*1 { Disconnect-Cause } 0* [ AVP ]
-< DPA > ::= < Diameter Header: 282 0 > 1*1 { Result-Code } 1*1 { Origin-Host } 1*1 { Origin-Realm } 0*1 [ Error-Message ] 0* [ Failed-AVP ] 0* [ AVP ]
-< answer-message > ::= < Diameter Header: 0, ERR 0 > 0*1 < Session-Id > 1*1 { Origin-Host } 1*1 { Origin-Realm } 1*1 { Result-Code } 0*1 [ Origin-State-Id ] 0*1 [ Error-Message ] 0*1 [ Error-Reporting-Host ] 0* [ Failed-AVP ] 0*1 [ Experimental-Result ] 0* [ Proxy-Info ] 0* [ AVP ]
+< DPA > ::= < Diameter Header: 282 0 > 1*1 { Result-Code } 1*1 { Origin-Host } 1*1 { Origin-Realm } \
+   0*1 [ Error-Message ] 0* [ Failed-AVP ] 0* [ AVP ]
+< answer-message > ::= < Diameter Header: 0, ERR 0 > 0*1 < Session-Id > 1*1 { Origin-Host } 1*1 { Origin-Realm } \
+   1*1 { Result-Code } 0*1 [ Origin-State-Id ] 0*1 [ Error-Message ] 0*1 [ Error-Reporting-Host ] 0* [ Failed-AVP ] \
+   0*1 [ Experimental-Result ] 0* [ Proxy-Info ] 0* [ AVP ]
 ";
 
 /// The same as a person writes them.
 const WRITTEN: &str = "\
-< Vendor-Specific-Application-Id > ::= < AVP Header: 260 > 1*{ Vendor-Id } [ Auth-Application-Id ] [ Acct-Application-Id ]
+< Vendor-Specific-Application-Id > ::= < AVP Header: 260 > 1*{ Vendor-Id } [ Auth-Application-Id ] \
+   [ Acct-Application-Id ]
 < Failed-AVP > ::= < AVP Header: 279 > 1*{ AVP }
 < Proxy-Info > ::= < AVP Header: 284 > { Proxy-Host } { Proxy-State } *[ AVP ]
 < Experimental-Result > ::= < AVP Header: 297 > { Vendor-Id } { Experimental-Result-Code }
-< CER > ::= < Diameter Header: 257, REQ > { Origin-Host } { Origin-Realm } 1*{ Host-IP-Address } { Vendor-Id } { Product-Name } [ Origin-State-Id ] *[ Supported-Vendor-Id ] *[ Auth-Application-Id ] *[ Inband-Security-Id ] *[ Acct-Application-Id ] *[ Vendor-Specific-Application-Id ] [ Firmware-Revision ] *[ AVP ]
-< CEA > ::= < Diameter Header: 257 > { Result-Code } { Origin-Host } { Origin-Realm } 1*{ Host-IP-Address } { Vendor-Id } { Product-Name } [ Origin-State-Id ] [ Error-Message ] *[ Failed-AVP ] *[ Supported-Vendor-Id ] *[ Auth-Application-Id ] *[ Inband-Security-Id ] *[ Acct-Application-Id ] *[ Vendor-Specific-Application-Id ] [ Firmware-Revision ] *[ AVP ]
+< CER > ::= < Diameter Header: 257, REQ > { Origin-Host } { Origin-Realm } 1*{ Host-IP-Address } { Vendor-Id } \
+   { Product-Name } [ Origin-State-Id ] *[ Supported-Vendor-Id ] *[ Auth-Application-Id ] *[ Inband-Security-Id ] \
+   *[ Acct-Application-Id ] *[ Vendor-Specific-Application-Id ] [ Firmware-Revision ] *[ AVP ]
+< CEA > ::= < Diameter Header: 257 > { Result-Code } { Origin-Host } { Origin-Realm } 1*{ Host-IP-Address } \
+   { Vendor-Id } { Product-Name } [ Origin-State-Id ] [ Error-Message ] *[ Failed-AVP ] *[ Supported-Vendor-Id ] \
+   *[ Auth-Application-Id ] *[ Inband-Security-Id ] *[ Acct-Application-Id ] *[ Vendor-Specific-Application-Id ] \
+   [ Firmware-Revision ] *[ AVP ]
 < DWR > ::= < Diameter Header: 280, REQ > { Origin-Host } { Origin-Realm } [ Origin-State-Id ] *[ AVP ]
-< DWA > ::= < Diameter Header: 280 > { Result-Code } { Origin-Host } { Origin-Realm } [ Error-Message ] *[ Failed-AVP ] [ Origin-State-Id ] *[ AVP ]
+< DWA > ::= < Diameter Header: 280 > { Result-Code } { Origin-Host } { Origin-Realm } [ Error-Message ] \
+   *[ Failed-AVP ] [ Origin-State-Id ] *[ AVP ]
 < DPR > ::= < Diameter Header: 282, REQ > { Origin-Host } { Origin-Realm } { Disconnect-Cause } *[ AVP ]
-< DPA > ::= < Diameter Header: 282 > { Result-Code } { Origin-Host } { Origin-Realm } [ Error-Message ] *[ Failed-AVP ] *[ AVP ]
-< answer-message > ::= < Diameter Header: 0, ERR > 0*1 < Session-Id > { Origin-Host } { Origin-Realm } { Result-Code } [ Origin-State-Id ] [ Error-Message ] [ Error-Reporting-Host ] *[ Failed-AVP ] [ Experimental-Result ] *[ Proxy-Info ] *[ AVP ]
+< DPA > ::= < Diameter Header: 282 > { Result-Code } { Origin-Host } { Origin-Realm } [ Error-Message ] \
+   *[ Failed-AVP ] *[ AVP ]
+< answer-message > ::= < Diameter Header: 0, ERR > 0*1 < Session-Id > { Origin-Host } { Origin-Realm } \
+   { Result-Code } [ Origin-State-Id ] [ Error-Message ] [ Error-Reporting-Host ] *[ Failed-AVP ] \
+   [ Experimental-Result ] *[ Proxy-Info ] *[ AVP ]
 ";
 
 /// The text of the base dictionary, with its groups and commands in this form.

@@ -218,8 +218,8 @@ fn check_one(rt: &(impl Abort + AllocGlobal), from: State, case: &Case<'_>) {
     assert!(rt; done, "in {from:?} at {case:?}");
 }
 
-/// The host of a node, its peer and its application, what it is told and does, one after the other, and the numbers that
-/// await answers of 257, 280 and 282 then.
+/// The host of a node, its peer and its application, what it is told and does, one after the other, and the numbers
+/// that await answers of 257, 280 and 282 then.
 type Run<'a> = (&'a [u8], &'a [u8], u32, &'a [Case<'a>], [Option<u32>; 3]);
 
 /// No request awaits its answer.

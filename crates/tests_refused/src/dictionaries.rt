@@ -2,7 +2,7 @@
 use crate::each::each_made;
 use crate::rows::*;
 use dm_dict::{DictFault, Dictionary, NoMemory, Verdict};
-use dm_refusal::Making;
+use dm_refusal::{Making, refuse, refuse_each};
 use dm_wire::Message;
 use std::alloc::Global;
 use std::process::Abort;
@@ -276,4 +276,42 @@ fn messages_checked(rt: HostRuntime) {
     let base = base(&rt);
     check_messages(&rt, &VERDICTS, &base);
     drop(base);
+}
+
+/// A dictionary of a command of 300 entries, each of which one AVP may fill.
+fn long_rule(rt: &(impl Abort + AllocGlobal)) -> Dictionary {
+    let mut text = String::new(rt.alloc());
+    for place in 0..300u32 {
+        let code = 80000u32.wrapping_add(place);
+        let line = format!(in rt.alloc(); "@ A{place} {code} Unsigned32\n").expect(rt, "memory");
+        text.push_str(line.as_str()).expect(rt, "memory");
+        drop(line);
+    }
+    let title = "< Ask > ::= < Diameter Header: 300, REQ >";
+    text.push_str(title).expect(rt, "memory");
+    for place in 0..300u32 {
+        let entry = format!(in rt.alloc(); " [ A{place} ]").expect(rt, "memory");
+        text.push_str(entry.as_str()).expect(rt, "memory");
+        drop(entry);
+    }
+    let empty = Dictionary::empty(rt.alloc());
+    let read = Dictionary::read(rt.alloc(), text.as_bytes(), &empty);
+    drop(empty);
+    drop(text);
+    read.expect(rt, "a dictionary")
+}
+
+/// Where no counters of a long rule can be had, they are not wanted: the message is checked all the same.
+#[test]
+fn long_rule_checked(rt: HostRuntime) {
+    let dictionary = long_rule(&rt);
+    let digits = "010000208000012c000000000000000100000001000139ab4000000c00000007";
+    let octets = octets(&rt, digits);
+    let message = Message::decode(rt.alloc(), octets.as_slice()).expect(&rt, "a message");
+    refuse_each(rt.alloc());
+    let checked = dictionary.check(rt.alloc(), &message);
+    refuse(rt.alloc(), 0);
+    assert!(&rt; checked == Ok(Verdict::Good));
+    drop(message);
+    drop(dictionary);
 }

@@ -1,8 +1,8 @@
 //! Tests of what is said of lines: every type of value, vendors, groups inside each other, each reason of a fault, what
 //! may stand in a line, lines as one stream, the same in JSON, and AVPs each on one line.
 //!
-//! What is checked in a test are its steps, and not the values that it compares: so it is one call of a helper, which has
-//! one way out, and owns at most one dictionary.
+//! What is checked in a test are its steps, and not the values that it compares: so it is one call of a helper, which
+//! has one way out, and owns at most one dictionary.
 #![tactic(auto)]
 
 #[cfg(test)]

@@ -1,6 +1,6 @@
 //! Closed.
 ghost use Rattle.std.specs.Prelude.{Bool};
-ghost use Rattle.dm_machine.specs.Phases.{Steps};
+ghost use Rattle.dm_machine.specs.Phases.{PhaseSteps};
 
 use super::Stepped;
 use crate::inputs::{Input, Word};
@@ -8,7 +8,7 @@ use crate::outputs::{Command, Refusal, none, one, two};
 use crate::phase::{Phase, Role};
 
 pub fn from_closed(input: Input) -> Stepped
-    ensures { (wins : Bool) → Steps Phase.Closed input wins result }
+    ensures { (wins : Bool) → PhaseSteps Phase.Closed input wins result }
 {
     match input {
         // Start: I-Snd-Conn-Req, Wait-Conn-Ack

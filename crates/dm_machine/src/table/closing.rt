@@ -1,6 +1,6 @@
 //! Closing, with the one connection `x` in its role.
 ghost use Rattle.std.specs.Prelude.{Bool};
-ghost use Rattle.dm_machine.specs.Phases.{Steps};
+ghost use Rattle.dm_machine.specs.Phases.{PhaseSteps};
 
 use super::Stepped;
 use crate::connection::Conn;
@@ -9,7 +9,7 @@ use crate::outputs::{Command, Refusal, none, one};
 use crate::phase::{Phase, Role};
 
 pub fn from_closing(role: Role, x: Conn, input: Input) -> Stepped
-    ensures { (wins : Bool) → Steps (Phase.Closing role x) input wins result }
+    ensures { (wins : Bool) → PhaseSteps (Phase.Closing role x) input wins result }
 {
     let same = Phase::Closing(role, x);
     match input {

@@ -1,7 +1,7 @@
 //! R-Open and I-Open, which differ in the role alone: with the connection `x` in its role and the watchdog's count.
 ghost use Rattle.std.specs.Prelude.{◌≡◌, Bool};
 ghost use Rattle.dm_machine.specs.declared.phase.Role.TheVariants.{Initiated, Accepted};
-ghost use Rattle.dm_machine.specs.Phases.{IsShaped, Steps};
+ghost use Rattle.dm_machine.specs.Phases.{IsShapedPhase, PhaseSteps};
 
 use super::Stepped;
 use crate::connection::Conn;
@@ -10,9 +10,9 @@ use crate::outputs::{Command, Refusal, none, one};
 use crate::phase::{Phase, Role};
 
 pub fn from_open(role: Role, x: Conn, count: u8, input: Input) -> Stepped
-    requires { IsShaped (Phase.Open role x count) }
-    ensures accepted { role ≡ Accepted → (wins : Bool) → Steps (Phase.Open Accepted x count) input wins result }
-    ensures initiated { role ≡ Initiated → (wins : Bool) → Steps (Phase.Open Initiated x count) input wins result }
+    requires { IsShapedPhase (Phase.Open role x count) }
+    ensures accepted { role ≡ Accepted → (wins : Bool) → PhaseSteps (Phase.Open Accepted x count) input wins result }
+    ensures initiated { role ≡ Initiated → (wins : Bool) → PhaseSteps (Phase.Open Initiated x count) input wins result }
 {
     let same = Phase::Open(role, x, count);
     let heard = Phase::Open(role, x, 0);
@@ -57,9 +57,11 @@ pub fn from_open(role: Role, x: Conn, count: u8, input: Input) -> Stepped
 /// A tick of the watchdog, of which RFC 6733, 5.6 says no more than that RFC 3539 "requires the use of watchdog
 /// messages to probe connections".
 fn ticked(role: Role, x: Conn, count: u8) -> Stepped
-    requires { IsShaped (Phase.Open role x count) }
-    ensures accepted { role ≡ Accepted → (wins : Bool) → Steps (Phase.Open Accepted x count) Input.Tick wins result }
-    ensures initiated { role ≡ Initiated → (wins : Bool) → Steps (Phase.Open Initiated x count) Input.Tick wins result }
+    requires { IsShapedPhase (Phase.Open role x count) }
+    ensures accepted { role ≡ Accepted → (wins : Bool)
+        → PhaseSteps (Phase.Open Accepted x count) Input.Tick wins result }
+    ensures initiated { role ≡ Initiated → (wins : Bool)
+        → PhaseSteps (Phase.Open Initiated x count) Input.Tick wins result }
 {
     match count {
         // (own) the first Tick: x-Snd-DWR, same

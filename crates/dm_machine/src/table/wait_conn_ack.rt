@@ -1,6 +1,6 @@
 //! Wait-Conn-Ack, with the initiated connection `i`.
 ghost use Rattle.std.specs.Prelude.{Bool};
-ghost use Rattle.dm_machine.specs.Phases.{Steps};
+ghost use Rattle.dm_machine.specs.Phases.{PhaseSteps};
 
 use super::Stepped;
 use crate::connection::Conn;
@@ -9,7 +9,7 @@ use crate::outputs::{Command, Refusal, none, one, two};
 use crate::phase::Phase;
 
 pub fn from_wait_conn_ack(i: Conn, input: Input) -> Stepped
-    ensures { (wins : Bool) → Steps (Phase.WaitConnAck i) input wins result }
+    ensures { (wins : Bool) → PhaseSteps (Phase.WaitConnAck i) input wins result }
 {
     let same = Phase::WaitConnAck(i);
     match input {

@@ -1,5 +1,5 @@
 //! Wait-Conn-Ack/Elect, with the initiated connection `i` and the accepted one `r`.
-ghost use Rattle.dm_machine.specs.Phases.{IsShaped, Steps};
+ghost use Rattle.dm_machine.specs.Phases.{IsShapedPhase, PhaseSteps};
 
 use super::Stepped;
 use crate::connection::Conn;
@@ -8,8 +8,8 @@ use crate::outputs::{Command, Refusal, none, one, three, two};
 use crate::phase::{Phase, Role};
 
 pub fn from_wait_conn_ack_elect(i: Conn, r: Conn, input: Input, wins: bool) -> Stepped
-    requires { IsShaped (Phase.WaitConnAckElect i r) }
-    ensures { Steps (Phase.WaitConnAckElect i r) input wins result }
+    requires { IsShapedPhase (Phase.WaitConnAckElect i r) }
+    ensures { PhaseSteps (Phase.WaitConnAckElect i r) input wins result }
 {
     let same = Phase::WaitConnAckElect(i, r);
     let opened = Phase::Open(Role::Accepted, r, 0);

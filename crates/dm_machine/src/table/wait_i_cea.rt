@@ -1,5 +1,5 @@
 //! Wait-I-CEA, with the initiated connection `i`.
-ghost use Rattle.dm_machine.specs.Phases.{Steps};
+ghost use Rattle.dm_machine.specs.Phases.{PhaseSteps};
 
 use super::Stepped;
 use crate::connection::Conn;
@@ -8,7 +8,7 @@ use crate::outputs::{Command, Refusal, none, one, two};
 use crate::phase::{Phase, Role};
 
 pub fn from_wait_i_cea(i: Conn, input: Input, wins: bool) -> Stepped
-    ensures { Steps (Phase.WaitICea i) input wins result }
+    ensures { PhaseSteps (Phase.WaitICea i) input wins result }
 {
     let same = Phase::WaitICea(i);
     match input {

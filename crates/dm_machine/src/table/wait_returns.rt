@@ -1,6 +1,6 @@
 //! Wait-Returns, with the initiated connection `i` and the accepted one `r`.
 ghost use Rattle.std.specs.Prelude.{Bool};
-ghost use Rattle.dm_machine.specs.Phases.{IsShaped, Steps};
+ghost use Rattle.dm_machine.specs.Phases.{IsShapedPhase, PhaseSteps};
 
 use super::Stepped;
 use crate::connection::Conn;
@@ -9,8 +9,8 @@ use crate::outputs::{Command, Refusal, none, one, two};
 use crate::phase::{Phase, Role};
 
 pub fn from_wait_returns(i: Conn, r: Conn, input: Input) -> Stepped
-    requires { IsShaped (Phase.WaitReturns i r) }
-    ensures { (wins : Bool) → Steps (Phase.WaitReturns i r) input wins result }
+    requires { IsShapedPhase (Phase.WaitReturns i r) }
+    ensures { (wins : Bool) → PhaseSteps (Phase.WaitReturns i r) input wins result }
 {
     let same = Phase::WaitReturns(i, r);
     let opened = Phase::Open(Role::Accepted, r, 0);

@@ -72,8 +72,8 @@ fn all_faults_are_listed(rt: HostRuntime) {
     assert_listed(&rt);
 }
 
-/// A Device-Watchdog-Request with two Vendor-Specific-Application-Id behind two AVPs; in the second stands a Result-Code,
-/// which may not.
+/// A Device-Watchdog-Request with two Vendor-Specific-Application-Id behind two AVPs; in the second stands a
+/// Result-Code, which may not.
 const IN_GROUP: &str =
     "01000078800001180000000000000001000000010000010840000011612e6578616d706c65000000000001284000000f6578616d706c650000000104400000200000010a4000000c00000000000001024000000c0000000100000104400000200000010a4000000c000000000000010c4000000c000007d1";
 

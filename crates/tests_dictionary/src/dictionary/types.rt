@@ -194,7 +194,8 @@ const SHAPED_ROWS: &[(&str, &str)] = &[
         "0100001c8000012c0000000000000001000000010000177c40000008",
         "good",
     ),
-    // A group that doesn't frame has empty data: a lone octet, a Length below the header, one past the end, a member without its padding.
+    // A group that doesn't frame has empty data: a lone octet, a Length below the header, one past the end, a member
+    // without its padding.
     (
         "010000208000012c0000000000000001000000010000177c4000000900000000",
         "bad 5014 6012 -M- -",

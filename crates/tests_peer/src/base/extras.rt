@@ -132,8 +132,8 @@ fn extras_in_the_octets_of_success(rt: HostRuntime) {
     assert_success(&rt);
 }
 
-/// Its request is good under the base dictionary, and another node with just one of its applications of vendors has that in
-/// common with it.
+/// Its request is good under the base dictionary, and another node with just one of its applications of vendors has
+/// that in common with it.
 fn assert_common(rt: &(impl Abort + AllocGlobal), application: u32, want: bool) {
     let message = decoded(rt, REQUEST);
     let base = Dictionary::base(rt.alloc()).expect(rt, "memory");

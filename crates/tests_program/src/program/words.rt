@@ -96,7 +96,8 @@ fn other_words_run_nothing(rt: HostRuntime) {
     assert_ends(&rt, rows);
 }
 
-/// Whether the program prints this text for the words and the input, and this on standard error, and ends with this status.
+/// Whether the program prints this text for the words and the input, and this on standard error, and ends with this
+/// status.
 fn says(
     rt: &(impl Abort + AllocGlobal),
     words: Result<Vec<String>, WordsFault>,

@@ -40,8 +40,8 @@ fn one_by_one(
     effect
 }
 
-/// What the happenings of a script tell, line by line, each delivery of a message octet by octet: the sizes are those of the
-/// deliveries, in order.
+/// What the happenings of a script tell, line by line, each delivery of a message octet by octet: the sizes are those
+/// of the deliveries, in order.
 fn told_in_pieces(alloc: Global, input: &str, sizes: &[u32]) -> Option<Vec<u8>> {
     let script = read_script(alloc, input.as_bytes()).ok()??;
     let mut world = World::new(alloc, script.left, script.right).ok()?;

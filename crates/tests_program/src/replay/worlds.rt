@@ -37,8 +37,8 @@ const ONE_STARTED: Tally = Tally {
     second_to_b: 0,
 };
 
-/// The link that A opened falls: its CER and A's disconnect come to B, and B's disconnect to A. On the link that stays a
-/// CER comes to A, and the CEA to B: nine happenings, with two CERs, one CEA and two disconnects.
+/// The link that A opened falls: its CER and A's disconnect come to B, and B's disconnect to A. On the link that stays
+/// a CER comes to A, and the CEA to B: nine happenings, with two CERs, one CEA and two disconnects.
 const BOTH_STARTED: Tally = Tally {
     starts: 2,
     acks: 2,
@@ -73,8 +73,8 @@ fn count(tally: &mut Tally, happening: &Happening) {
     }
 }
 
-/// The happenings, one after the other. One that names a link that isn't there yet is passed over. Whether memory was at
-/// hand.
+/// The happenings, one after the other. One that names a link that isn't there yet is passed over. Whether memory was
+/// at hand.
 fn go_through(alloc: Global, world: &mut World, list: &[Happening], tally: &mut Tally) -> bool {
     for happening in list {
         match world.apply(alloc, happening) {

@@ -1,7 +1,7 @@
 use Rattle.std.proofs.Common.{◌≡◌, false}
 use Rattle.dm_grammar.specs.declared.symbol.Symbol.TheVariants.{Star}
 use Rattle.dm_grammar.specs.declared.terminal.Terminal.TheVariants.{One}
-use Rattle.dm_grammar.specs.Readers.{begins}
+use Rattle.dm_grammar.specs.Readers.{begins_with}
 use Rattle.dm_grammar.specs.Views.{view_words}
 use Rattle.dm_grammar.proofs.Rules.{rule_bracket}
 use Rattle.dm_grammar.proofs.entry.entry.Goals as goal
@@ -9,5 +9,5 @@ use Rattle.dm_grammar.proofs.entry.entry.Goals as goal
 pub returns-else-begins-clause-tells : goal.returns-else-begins-clause-tells
 returns-else-begins-clause-tells c =
     let none = rw c.in-None.is at c.optional.ensures.tells in
-    let star : begins (One Star) (view_words c.args.tokens.now) ≡ false = cc in
+    let star : begins_with (One Star) (view_words c.args.tokens.now) ≡ false = cc in
     rw (rule_bracket c.args.how (view_words c.args.tokens.now) c.requires none.1 star) c.bracketed.ensures.tells

@@ -1,5 +1,5 @@
 use Rattle.std.proofs.Common.{◌∷◌, [], ◌++◌, ap, ◌∙◌}
-use Rattle.dm_peer.specs.Events.{told}
+use Rattle.dm_peer.specs.Events.{event_told}
 use Rattle.dm_history.proofs.Replying.{one_more}
 use Rattle.dm_history.proofs.running.tell.Goals as goal
 
@@ -7,6 +7,6 @@ pub returns-clause-told : goal.returns-clause-told
 returns-clause-told c =
     λ first events before.
     one_more first events c.args.replies.now.items c.push_reserved.new.self.items c.in_ok-reply.reply c.args.peer.now
-    (told c.args.event) c.ask.new.peer
+    (event_told c.args.event) c.ask.new.peer
     (c.push_reserved.ensures.items ∙ ap (λ l. l ++ c.in_ok-reply.reply ∷ []) c.in_ok-reserve_one.ensures.same) before
     c.in_ok-reply.ensures.replied

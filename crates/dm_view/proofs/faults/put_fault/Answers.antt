@@ -2,7 +2,7 @@ use Rattle.std.proofs.Common.{rules, ◌≡◌, ◌++◌, ◌∷◌, [], ap, ◌
 use Rattle.std.specs.Prelude.{option_map}
 use Rattle.std.specs.String.{string_bytes}
 use Rattle.dm_dict.specs.Locating.{told_at}
-use Rattle.dm_view.specs.Check.{step_text, front_of, failed_length, failed_view, fault_line}
+use Rattle.dm_view.specs.Check.{step_text, without_data, failed_length, failed_view, fault_line}
 use Rattle.dm_view.specs.Results.{result_text}
 use Rattle.dm_view.proofs.faults.put_fault.Goals as goal
 
@@ -18,7 +18,7 @@ returns c =
     = c.in_ok-put_path.ensures
     ∙ ap (λ p. string_bytes c.write.new.self ++ flat_map (step_text avps) p) c.as_slice.ensures in
     let failed : string_bytes c.put_failed.new.text ≡ string_bytes c.put_path.new.text
-    ++ failed_view avps f.fault.code (failed_length f.fault.failed) (option_map front_of f.fault.failed)
+    ++ failed_view avps f.fault.code (failed_length f.fault.failed) (option_map without_data f.fault.failed)
     = c.in_ok-put_failed.ensures
     ∙ (λ i. string_bytes c.put_path.new.text
     ++ failed_view avps f.fault.code (c.failed_length-length.ensures i) (c.front_of.ensures i)) in

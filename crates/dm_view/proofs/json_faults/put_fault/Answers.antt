@@ -4,7 +4,7 @@ use Rattle.std.specs.Fmt.{decimal}
 use Rattle.json.specs.Token.{begin_object, begin_array, key, number, string}
 use Rattle.json.specs.Tree.{items_tokens, members_tokens}
 use Rattle.dm_dict.specs.Locating.{told_at}
-use Rattle.dm_view.specs.Check.{front_of, failed_length}
+use Rattle.dm_view.specs.Check.{without_data, failed_length}
 use Rattle.dm_view.specs.JsonCheck.{path_items, failed_members, fault_json}
 use Rattle.dm_view.specs.Results.{result_name}
 use Rattle.dm_view.proofs.json_faults.put_fault.Goals as goal
@@ -29,7 +29,7 @@ returns c =
     ∙ ap (λ p. c.begin_array.new.self ++ items_tokens (path_items avps p)) c.as_slice.ensures in
     let size = failed_length f.fault.failed in
     let failed : c.put_failed.new.json ≡ c.put_path.new.json
-    ++ members_tokens (failed_members avps f.fault.code size (option_map front_of f.fault.failed))
+    ++ members_tokens (failed_members avps f.fault.code size (option_map without_data f.fault.failed))
     = c.in_ok-put_failed.ensures
     ∙ (λ i. c.put_path.new.json
     ++ members_tokens (failed_members avps f.fault.code (c.failed_length-length.ensures i) (c.front_of.ensures i))) in

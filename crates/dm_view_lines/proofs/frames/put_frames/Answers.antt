@@ -1,7 +1,7 @@
 use Rattle.std.proofs.Common.{◌++◌, [], ℕ, List, Some, None, length, length-append, append_assoc, append-nil, arith, ap, sym, ◌∙◌, refl, subst}
 use Rattle.dm_framer.specs.Frames.{HasFault, IsFrame, IsPartial}
 use Rattle.dm_view_lines.specs.declared.tally.Tally.{Tally}
-use Rattle.dm_view_lines.specs.Counts.{no_lines, tally_of, added}
+use Rattle.dm_view_lines.specs.Counts.{no_lines, tally_of, tallied}
 use Rattle.dm_view_lines.proofs.Pieces.{behind, Continues, continues-none, continues-next, continues-end, frames-part, frames-fault}
 use Rattle.dm_view_lines.proofs.Steps.{added-assoc, added-none}
 use Rattle.dm_view_lines.proofs.frames.put_frames.Goals as goal
@@ -45,17 +45,17 @@ loop-message-preserved c =
     let line = said.0 in
     let octets = c.skip.new.self.octets in
     let Left : List ℕ → Type 0 = λ v. Continues c.args.task c.args.dictionary.now c.args.framer.now.octets v
-    c.args.reading.tally (added tally one) (inv.so ++ line) (added inv.told one) in
+    c.args.reading.tally (tallied tally one) (inv.so ++ line) (tallied inv.told one) in
     let Counted : Tally → Type 0 = λ v. Continues c.args.task c.args.dictionary.now c.args.framer.now.octets octets
-    c.args.reading.tally v (inv.so ++ line) (added inv.told one) in
+    c.args.reading.tally v (inv.so ++ line) (tallied inv.told one) in
     let Frame : ℕ → Type 0 = λ m. IsFrame m message in
     record {
       held = omega (arith, inv.held, size, left);
       kept = λ i. record { octets = octets; max = max i; fault = fault i };
       so = inv.so ++ line;
-      told = added inv.told one;
+      told = tallied inv.told one;
       text = said.3 ∙ ap (λ v. v ++ line) inv.text ∙ append_assoc _ inv.so line;
-      counted = said.4 ∙ ap (λ v. added v one) inv.counted ∙ sym (added-assoc c.args.reading.tally inv.told one);
+      counted = said.4 ∙ ap (λ v. tallied v one) inv.counted ∙ sym (added-assoc c.args.reading.tally inv.told one);
       behind = subst Counted (sym said.4) (subst Left (sym (ap (λ f. f.octets) gone))
           (continues-next c.args.task c.args.dictionary.now c.args.framer.now.octets framer.octets more message
           c.args.reading.tally tally inv.so said.0 said.1 inv.told front.first.1 (subst Frame most front.frame) said.2

@@ -1,7 +1,7 @@
 use Rattle.std.proofs.Common.{◌≡◌, ◌++◌, ℕ, List, length}
 use Rattle.std.specs.String.{string_bytes}
 use Rattle.dm_view_lines.specs.declared.tally.Tally.{Tally}
-use Rattle.dm_view_lines.specs.Counts.{added}
+use Rattle.dm_view_lines.specs.Counts.{tallied}
 use Rattle.dm_view_lines.proofs.Pieces.{Continues}
 use Rattle.dm_view_lines.proofs.frames.put_frames.Given as goal
 
@@ -14,7 +14,7 @@ invariant-loop-message l = record {
   so : List ℕ;
   told : Tally;
   text : string_bytes l.text ≡ string_bytes l.fn.text ++ so;
-  counted : l.tally ≡ added l.fn.reading.tally told;
+  counted : l.tally ≡ tallied l.fn.reading.tally told;
   behind : Continues l.fn.task l.dictionary l.fn.framer.octets l.framer.octets l.fn.reading.tally l.tally so told;
 }
 

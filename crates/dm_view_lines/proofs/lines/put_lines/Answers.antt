@@ -1,7 +1,7 @@
 use Rattle.std.proofs.Common.{◌≡◌, ◌≤◌, ◌+◌, ◌++◌, ◌∷◌, [], length-append, append_assoc, arith, ap, sym, ◌∙◌, subst, map}
 use Rattle.std.specs.Str.Lines.{lines}
 use Rattle.dm_view_lines.specs.declared.tally.Tally.{Tally}
-use Rattle.dm_view_lines.specs.Counts.{added, tally_of}
+use Rattle.dm_view_lines.specs.Counts.{tallied, tally_of}
 use Rattle.dm_view_lines.specs.Digits.{octets_of_line}
 use Rattle.dm_view_lines.specs.Lines.{SaysLines}
 use Rattle.dm_view_lines.proofs.Steps.{says-next, says-all, line_counts, lines-next, counted}
@@ -22,7 +22,7 @@ loop-line-preserved c =
     let verdict = c.in_ok-verdict.verdict in
     let tally = c.loop-line.tally in
     let Fits : Tally → Type 0 = λ t. t.good + t.bad ≤ c.loop-line.number + 1 in
-    let with_is : c.with-tally.result ≡ added tally (tally_of verdict) = c.with-tally.ensures in (
+    let with_is : c.with-tally.result ≡ tallied tally (tally_of verdict) = c.with-tally.ensures in (
       inv.0 ++ line ∷ [],
       lines-next c.args.input.now line c.loop-line.line-iterator c.next.new.self inv.0 inv.1 c.in-Some.ensures.steps,
       ap (λ n. n + 1) inv.2 ∙ sym (length-append inv.0 (line ∷ [])),
@@ -31,7 +31,7 @@ loop-line-preserved c =
       said.1 ∙ ap (λ v. v ++ said.0) inv.5 ∙ append_assoc _ inv.4 said.0,
       λ more others later.
           let All : Tally → Type 0 = λ t. SaysLines c.args.task c.args.dictionary.now 1 (lines c.args.input.now)
-          ((inv.4 ++ said.0) ++ more) (added t others) in
+          ((inv.4 ++ said.0) ++ more) (tallied t others) in
           subst All (sym with_is)
           (says-next c.args.task c.args.dictionary.now (map octets_of_line (lines c.args.input.now))
           (map octets_of_line (lines c.loop-line.line-iterator)) (map octets_of_line (lines c.next.new.self))

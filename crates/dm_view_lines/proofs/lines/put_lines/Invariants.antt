@@ -2,7 +2,7 @@ use Rattle.std.proofs.Common.{◌≡◌, ◌≤◌, ◌+◌, ◌++◌, ℕ, List
 use Rattle.std.specs.Str.Lines.{lines}
 use Rattle.std.specs.String.{string_bytes}
 use Rattle.dm_view_lines.specs.declared.tally.Tally.{Tally}
-use Rattle.dm_view_lines.specs.Counts.{added}
+use Rattle.dm_view_lines.specs.Counts.{tallied}
 use Rattle.dm_view_lines.specs.Lines.{SaysLines}
 use Rattle.dm_view_lines.proofs.lines.put_lines.Given as goal
 
@@ -15,4 +15,4 @@ invariant-loop-line l =
     × (so : List ℕ) × (string_bytes l.text ≡ string_bytes l.fn.text ++ so)
     × ((more : List ℕ) (others : Tally)
     → SaysLines l.fn.task l.dictionary (l.number + 1) (lines l.line-iterator) more others
-    → SaysLines l.fn.task l.dictionary 1 (lines l.input) (so ++ more) (added l.tally others))
+    → SaysLines l.fn.task l.dictionary 1 (lines l.input) (so ++ more) (tallied l.tally others))

@@ -2,10 +2,10 @@
 use Rattle.std.proofs.Common.{◌≡◌, refl, ◌∙◌}
 use Rattle.dm_machine.specs.Connection.{Hold, NotHeld, Pending, Made, OpenAsI, ClosingAsI, Taken, OpenAsR, ClosingAsR, hold_of}
 use Rattle.dm_peer.specs.Holding as peers
-use Rattle.dm_two_peers.specs.Machine.{is_held, tie_as}
+use Rattle.dm_two_peers.specs.Machine.{is_tie_held, tie_as}
 use Rattle.dm_world.proofs.pair.holds.Goals as goal
 
-is_tied : (h : Hold) → peers.is_held h ≡ is_held (tie_as h)
+is_tied : (h : Hold) → peers.is_held h ≡ is_tie_held (tie_as h)
 is_tied NotHeld = refl
 is_tied Pending = refl
 is_tied Made = refl

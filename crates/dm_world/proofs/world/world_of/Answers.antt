@@ -2,7 +2,7 @@ use Rattle.std.proofs.Common.{◌≡◌, sym, ap, subst, ◌∙◌}
 use Rattle.dm_peer.specs.declared.config.Config.{Config}
 use Rattle.dm_peer.specs.declared.peer.Peer.{Peer}
 use Rattle.dm_peer.specs.declared.standing.Standing.{Standing}
-use Rattle.dm_peer.specs.After.{fresh}
+use Rattle.dm_peer.specs.After.{fresh_standing}
 use Rattle.dm_two_peers.specs.Facts.{AreSound}
 use Rattle.dm_two_peers.specs.Laws.{world_of}
 use Rattle.dm_two_peers.specs.Streams.{AreCut}
@@ -21,9 +21,9 @@ use Rattle.dm_world.proofs.world.world_of.Goals as goal
 abbrev the_peer : Config → Standing → Peer
 the_peer c s = record { config = c; standing = s }
 
-is_fresh : (p : Peer) (c : Config) → p.config ≡ c → p.standing ≡ fresh c.first_id → fresh_peer c ≡ p
+is_fresh : (p : Peer) (c : Config) → p.config ≡ c → p.standing ≡ fresh_standing c.first_id → fresh_peer c ≡ p
 is_fresh p c e g =
-    ap (λ (k : Config). the_peer k (fresh c.first_id)) (sym e) ∙ ap (λ (s : Standing). the_peer p.config s) (sym g)
+    ap (λ (k : Config). the_peer k (fresh_standing c.first_id)) (sym e) ∙ ap (λ (s : Standing). the_peer p.config s) (sym g)
 
 pub invariant_of-result : goal.invariant_of-result
 invariant_of-result c =

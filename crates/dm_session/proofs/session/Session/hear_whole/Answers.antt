@@ -1,7 +1,7 @@
 -- The message with which the piece begins is told, and nothing of it is kept.
 use Rattle.std.proofs.Common.{sym, subst, ap, ◌∙◌, take}
 use Rattle.dm_peer.specs.Events as event
-use Rattle.dm_session.specs.Intakes.{closes}
+use Rattle.dm_session.specs.Intakes.{actions_close}
 use Rattle.dm_session.specs.Held.{intakes_of}
 use Rattle.dm_session.specs.Hearing.{HearsWhole}
 use Rattle.dm_session.specs.Seen.{session_of}
@@ -35,7 +35,7 @@ pub settle-requires : goal.settle-requires
 settle-requires c = λ d closing.
     closed_unheld c.each_event_names_what_it_takes.ensures.closed c.args.self.now.peer c.on.new.self
     (event.Arrived c.args.conn (take c.args.len c.args.piece.now)) c.in-Ok.actions.items c.every_peer_is_kept.ensures
-    c.in-Ok.ensures.acts d (ap (λ l. closes l d.0) (sym c.as_slice.ensures.value) ∙ closing)
+    c.in-Ok.ensures.acts d (ap (λ l. actions_close l d.0) (sym c.as_slice.ensures.value) ∙ closing)
 
 pub returns-in-Err-clause-memory : goal.returns-in-Err-clause-memory
 returns-in-Err-clause-memory c =

@@ -1,7 +1,7 @@
 -- What stands at the front is told, and goes.
 use Rattle.std.proofs.Common.{refl, sym, ◌∙◌, ap, subst, inl, inr, []}
 use Rattle.dm_peer.specs.Events as event
-use Rattle.dm_session.specs.Intakes.{closes, broken_intake}
+use Rattle.dm_session.specs.Intakes.{actions_close, broken_intake}
 use Rattle.dm_session.specs.Held.{intakes_of, HeldAreThere}
 use Rattle.dm_session.specs.Sessions.{settled, with_intakes, TellsMessage, TellsNext}
 use Rattle.dm_session.specs.Seen.{session_of}
@@ -67,7 +67,7 @@ pub settle-requires : goal.settle-requires
 settle-requires c = λ d closing.
     closed_unheld c.each_event_names_what_it_takes.ensures.closed c.args.self.now.peer c.on.new.self
     (event.Arrived c.args.conn c.in-Message.message.now) c.in-Ok.actions.items c.every_peer_is_kept.ensures
-    c.in-Ok.ensures.acts d (ap (λ l. closes l d.0) (sym c.as_slice.ensures.value) ∙ closing)
+    c.in-Ok.ensures.acts d (ap (λ l. actions_close l d.0) (sym c.as_slice.ensures.value) ∙ closing)
 
 pub invariant_of-self-in-Ok-on : goal.invariant_of-self-in-Ok-on
 invariant_of-self-in-Ok-on c =
@@ -86,7 +86,7 @@ pub settle-requires-in-Ok-on : goal.settle-requires-in-Ok-on
 settle-requires-in-Ok-on c = λ d closing.
     closed_unheld c.each_event_names_what_it_takes.ensures.closed c.args.self.now.peer c.on-in-Fault.new.self
     (event.Arrived c.args.conn []) c.in-Ok-on.actions.items c.every_peer_is_kept.ensures c.in-Ok-on.ensures.acts d
-    (ap (λ l. closes l d.0) (sym c.as_slice-in-Ok-on.ensures.value) ∙ closing)
+    (ap (λ l. actions_close l d.0) (sym c.as_slice-in-Ok-on.ensures.value) ∙ closing)
 
 pub returns-in-Err-clause-memory : goal.returns-in-Err-clause-memory
 returns-in-Err-clause-memory c =

@@ -5,13 +5,13 @@ use Rattle.dm_tables.specs.Tables.{code_key, defined}
 use Rattle.dm_tables.specs.Sound.{is_sound_avp}
 use Rattle.dm_tables.proofs.Places.{on_ok, one_more}
 use Rattle.dm_tables.proofs.Members.{each_after-append}
-use Rattle.dm_tables.specs.SoundParts.{avp_parts, sound_parts, all_sound}
+use Rattle.dm_tables.specs.SoundParts.{avp_sound_parts, sound_parts, all_sound}
 use Rattle.dm_tables.proofs.tables.Tables.add_avp.Goals as goal
 
 pub returns-clause-tables : goal.returns-clause-tables
 returns-clause-tables c =
     let avps = c.args.self.now.avps.items in
-    let parts = avp_parts avps c.args.avp c.requires.sound in
+    let parts = avp_sound_parts avps c.args.avp c.requires.sound in
     let had = c.requires.tables.indexed in
     let sound = sound_parts (defined c.args.self.now) c.requires.tables.sound in
     let last : length c.as_slice-place.result.now ≡ length avps = ap length c.as_slice-place.ensures.value in

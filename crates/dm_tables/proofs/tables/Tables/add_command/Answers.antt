@@ -5,13 +5,13 @@ use Rattle.dm_tables.specs.Tables.{head_key, defined}
 use Rattle.dm_tables.specs.Sound.{is_sound_command}
 use Rattle.dm_tables.proofs.Places.{on_ok, one_more}
 use Rattle.dm_tables.proofs.Members.{each_after-append}
-use Rattle.dm_tables.specs.SoundParts.{command_parts, sound_parts, all_sound}
+use Rattle.dm_tables.specs.SoundParts.{command_sound_parts, sound_parts, all_sound}
 use Rattle.dm_tables.proofs.tables.Tables.add_command.Goals as goal
 
 pub returns-clause-tables : goal.returns-clause-tables
 returns-clause-tables c =
     let commands = c.args.self.now.commands.items in
-    let parts = command_parts commands c.args.command c.requires.sound in
+    let parts = command_sound_parts commands c.args.command c.requires.sound in
     let had = c.requires.tables.indexed in
     let sound = sound_parts (defined c.args.self.now) c.requires.tables.sound in
     let last : length c.as_slice-place.result.now ≡ length commands = ap length c.as_slice-place.ensures.value in

@@ -3,16 +3,16 @@ use Rattle.dm_tables.specs.Tables.{defined}
 use Rattle.dm_tables.specs.Sound.{is_sound_vendor}
 use Rattle.dm_tables.proofs.Places.{on_both}
 use Rattle.dm_tables.proofs.Members.{each_after-append}
-use Rattle.dm_tables.specs.SoundParts.{vendor_parts, sound_parts, all_sound}
+use Rattle.dm_tables.specs.SoundParts.{vendor_sound_parts, sound_parts, all_sound}
 use Rattle.dm_tables.proofs.tables.Tables.add_vendor.Goals as goal
 
 pub add-requires-clause-name : goal.add-requires-clause-name
 add-requires-clause-name c =
-    (vendor_parts c.args.self.now.vendors.items.items c.args.vendor c.requires.sound).new_name
+    (vendor_sound_parts c.args.self.now.vendors.items.items c.args.vendor c.requires.sound).new_name
 
 pub add-requires-clause-number : goal.add-requires-clause-number
 add-requires-clause-number c =
-    (vendor_parts c.args.self.now.vendors.items.items c.args.vendor c.requires.sound).new_number
+    (vendor_sound_parts c.args.self.now.vendors.items.items c.args.vendor c.requires.sound).new_number
 
 pub returns-clause-tables : goal.returns-clause-tables
 returns-clause-tables c =

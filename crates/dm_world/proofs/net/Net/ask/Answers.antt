@@ -1,4 +1,4 @@
-use Rattle.dm_peer.specs.Events.{told}
+use Rattle.dm_peer.specs.Events.{event_told}
 use Rattle.dm_octet_peers.specs.Octets.{as_event}
 use Rattle.dm_world.specs.Asking.{peer_of}
 use Rattle.dm_world.specs.Rooms.{HasRoomToSend, named}
@@ -16,8 +16,8 @@ returns-clause-sends c =
       keeps = c.each_step_keeps_shape.ensures;
     } in
     let room : HasRoomToSend (as_side c.args.side) c.make_room.new.links.items
-    (peer_of (as_side c.args.side) c.args.self.now.pair).standing.core (named (as_event (told c.args.event))) =
+    (peer_of (as_side c.args.side) c.args.self.now.pair).standing.core (named (as_event (event_told c.args.event))) =
     room_seen _ _ _ _ _ _ c.of.ensures c.named.ensures c.in_ok-make_room.ensures.room in
-    can_send c.ask.result (as_side c.args.side) (told c.args.event) c.args.self.now.pair c.ask.new.self
+    can_send c.ask.result (as_side c.args.side) (event_told c.args.event) c.args.self.now.pair c.ask.new.self
     c.make_room.new.links.items laws c.octets_are_frames.ensures c.requires.octets c.ask.ensures.shaped room
     c.ask.ensures.answer

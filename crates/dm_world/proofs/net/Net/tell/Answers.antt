@@ -1,4 +1,4 @@
-use Rattle.dm_peer.specs.Events.{told}
+use Rattle.dm_peer.specs.Events.{event_told}
 use Rattle.dm_octet_peers.specs.Octets.{as_event}
 use Rattle.dm_world.specs.Seen.{as_side}
 use Rattle.dm_world.proofs.Telling.{done_step, ignored_step, followed}
@@ -10,12 +10,12 @@ follow-requires-clause-sends c = rw c.in-Ok-Some.field-0-is at c.in-Ok-Some.ensu
 pub returns-in-Ok-Some-clause-step : goal.returns-in-Ok-Some-clause-step
 returns-in-Ok-Some-clause-step c =
     let answer = rw c.in-Ok-Some.field-0-is at c.in-Ok-Some.ensures.answer in
-    done_step (as_side c.args.side) (told c.args.event) c.args.self.now
+    done_step (as_side c.args.side) (event_told c.args.event) c.args.self.now
     (record { pair = c.ask.new.self.pair; links = c.follow.new.links }) c.in-Ok-Some.actions answer
-    (followed _ (as_event (told c.args.event)) c.in-Ok-Some.actions.items _ _ _ _ _ c.of-peer.ensures c.ask.ensures.same
+    (followed _ (as_event (event_told c.args.event)) c.in-Ok-Some.actions.items _ _ _ _ _ c.of-peer.ensures c.ask.ensures.same
     c.follow.ensures)
 
 pub returns-in-Ok-None-clause-step : goal.returns-in-Ok-None-clause-step
 returns-in-Ok-None-clause-step c =
     let answer = rw c.in-Ok-None.field-0-is at c.in-Ok-None.ensures.answer in
-    ignored_step (as_side c.args.side) (told c.args.event) c.args.self.now c.ask.new.self answer c.ask.ensures.same
+    ignored_step (as_side c.args.side) (event_told c.args.event) c.args.self.now c.ask.new.self answer c.ask.ensures.same
