@@ -1,0 +1,2 @@
+mod Renumbered
+mod Numbered
