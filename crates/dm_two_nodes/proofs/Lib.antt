@@ -1,2 +1,4 @@
 mod Renumbered
 mod Numbered
+mod Acting
+mod Histories

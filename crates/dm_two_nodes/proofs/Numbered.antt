@@ -1,5 +1,5 @@
 -- How an input is read, and what a connection is to a node, under other numbers: as before.
-use Rattle.std.proofs.Common.{◌≡◌, ℕ, ◌==◌, Bool, true, false, if◌then◌else◌, Option, Some, None, List, [], ◌∷◌, refl, sym, ap, subst, ◌∙◌, arith}
+use Rattle.std.proofs.Common.{◌≡◌, ℕ, ◌==◌, Bool, true, false, if◌then◌else◌, Option, List, [], ◌∷◌, refl, sym, ap, ◌∙◌, arith}
 use Rattle.std.proofs.lemmas.Bool.Decides.{nat_tests}
 use Rattle.dm_machine.specs.declared.connection.Conn.{Conn}
 use Rattle.dm_machine.specs.declared.phase.Role.{Role}
@@ -8,7 +8,7 @@ use Rattle.dm_machine.specs.declared.inputs.Input.{Input}
 use Rattle.dm_machine.specs.declared.inputs.Input.TheVariants.{Start, Ack, Nack, Gone, Heard}
 use Rattle.dm_machine.specs.Node.{Node}
 use Rattle.dm_machine.specs.Table.{TableEvent}
-use Rattle.dm_machine.specs.Reading.{Place, place_as, place_of, place_in, conn_named, event_at, event_of}
+use Rattle.dm_machine.specs.Reading.{Place, place_as, place_of, conn_named, event_at, event_of}
 use Rattle.dm_machine.specs.Connection.{Hold, hold_as, hold_in, hold_of}
 use Rattle.dm_machine.specs.Moves.{by_table, machine_outcome}
 use Rattle.dm_two_nodes.specs.Numbering.{IsOneToOne, renumbered, renumbered_held, renumbered_node, renumbered_input, renumbered_outcome, StepsGoByNoNumber}

@@ -4,7 +4,7 @@ use Rattle.dm_machine.specs.declared.connection.Conn.{Conn}
 use Rattle.dm_machine.specs.declared.phase.Role.{Role}
 use Rattle.dm_machine.specs.declared.phase.Role.TheVariants.{Initiated, Accepted}
 use Rattle.dm_machine.specs.declared.outputs.Command.{Command}
-use Rattle.dm_machine.specs.declared.outputs.Command.TheVariants.{Connect, SendCer, SendCea, SendRefusal, SendDwr, SendDwa, SendDpr, SendDpa, SendSubmit, Close, Up}
+use Rattle.dm_machine.specs.declared.outputs.Command.TheVariants.{Connect, SendCer, SendCea, SendRefusal, SendDwr, SendDwa, SendDpr, SendDpa, SendSubmit, Close}
 use Rattle.dm_machine.specs.Table.{TableEvent, Start, IRcvConnNack, WinElection, SendMessage, Stop, Act, ISndConnReq, RAccept, RSndCea, ISndCer, Error, IDisc, RDisc, RReject, XSndMessage, XSndDwa, XSndDpr, XSndDpa, XDisc, RSndRefusal, XSndRefusal, XSndDwr, Row}
 use Rattle.dm_machine.specs.Rows.{rows, row_in}
 use Rattle.dm_machine.specs.Node.{Node, node_at, is_same_role, held_as, only_held, without, pair_of}
