@@ -24,7 +24,7 @@ use Rattle.dm_two_nodes.specs.Numbering.{IsOneToOne, renumbered, renumbered_node
 use Rattle.dm_two_nodes.specs.Renaming.{renumbered_event, renumbered_action, renumbered_actions, renumbered_standing, renumbered_peer, renumbered_acts, PeersGoByNoNumber}
 use Rattle.dm_two_nodes.proofs.Numbered.{hold_of-renumbered}
 
-turned_is : (n : Node) (i : Input) (w : Bool) → turned n i w ≡ machine_outcome n i w
+pub turned_is : (n : Node) (i : Input) (w : Bool) → turned n i w ≡ machine_outcome n i w
 unfolding turned
 turned_is n i w = refl
 

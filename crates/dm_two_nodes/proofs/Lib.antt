@@ -2,3 +2,9 @@ mod Renumbered
 mod Numbered
 mod Acting
 mod Histories
+mod Behind
+mod Neighbours
+mod Sides
+mod Unheld
+mod Gists
+mod Meeting

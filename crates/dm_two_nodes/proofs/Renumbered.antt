@@ -32,7 +32,7 @@ held_if : (f : ℕ → ℕ) (b : Bool) (x : Conn) (o named : Option Conn) → o 
 held_if f true x o named h = refl
 held_if f false x o named h = h
 
-held_as-renumbered : (f : ℕ → ℕ) (role : Role) (held : List (Role × Conn)) →
+pub held_as-renumbered : (f : ℕ → ℕ) (role : Role) (held : List (Role × Conn)) →
     held_as role (renumbered_held f held) ≡ renumbered_new f (held_as role held)
 held_as-renumbered f role [] = refl
 held_as-renumbered f role (p ∷ ps) = held_if f (is_same_role p.0 role) p.1 (held_as role (renumbered_held f ps))

@@ -1,3 +1,5 @@
 pub mod Numbering
 pub mod Renaming
 pub mod Histories
+pub mod Stories
+pub mod Meeting

@@ -1,8 +1,16 @@
 //! Laws of two nodes. Each function is a law: it does nothing but call the laws that it stands on, and its contract is
 //! the law. They stand for users.
 ghost use Rattle.dm_two_nodes.specs.Histories.{HistoryTellsThePeer, HistoriesGoByNoNumber, SameHistoryMakesTheSame};
+ghost use Rattle.dm_two_nodes.specs.Meeting.{EachNeighbourIsItsSide, TwoNodesAgree, QuietNodesAreShutOrOpen};
 ghost use Rattle.dm_two_nodes.specs.Numbering.{StepsGoByNoNumber};
 ghost use Rattle.dm_two_nodes.specs.Renaming.{PeersGoByNoNumber};
+
+use dm_machine::laws::each_node_has_its_form;
+use dm_octet_peers::laws::{each_octet_quiet_run_is_closed_or_open, octets_are_a_machine};
+use dm_peer::Peer;
+use dm_peer::laws::{each_event_is_a_case, each_event_is_one_step, each_event_keeps_settled};
+use dm_two_peers::laws::each_run_is_promised;
+use dm_wire::Octets;
 
 /// The state machine goes by no number of a connection: under other numbers, no two alike, it takes the same steps with
 /// the same commands, under those numbers, and refuses the same (RFC 6733, 5.6).
@@ -26,4 +34,38 @@ pub fn histories_go_by_no_number()
     ensures same { SameHistoryMakesTheSame }
 {
     peers_go_by_no_number();
+}
+
+/// A neighbour of a node is what a side of a run of two peers is, but for numbers of connections, where what befell it
+/// since it was added is what befell the side: the same events taken, and set back where the side restarted. What the
+/// neighbour refused counts for nothing, and no more does what came on connections that it never took up; and whatever
+/// happens to the other neighbours stands freely in between.
+pub fn each_neighbour_is_its_side()
+    ensures { EachNeighbourIsItsSide }
+{
+    peers_go_by_no_number();
+    each_event_is_one_step();
+    each_node_has_its_form();
+    each_event_is_a_case();
+    each_event_keeps_settled();
+}
+
+/// Two nodes agree as two peers do, whatever happens to the rest: where a neighbour of the one and a neighbour of the
+/// other play the sides of one run, neither is open on two connections, and if both are open, it is on one link in
+/// opposite roles, or each has a disconnect coming to it.
+pub fn two_nodes_agree()
+    ensures { TwoNodesAgree }
+{
+    each_neighbour_is_its_side();
+    octets_are_a_machine();
+    each_run_is_promised::<Peer, Octets>();
+}
+
+/// Wherever that run falls quiet, whatever was lost and restarted, and the two are configured for each other, both are
+/// Closed, or both are open on one link in opposite roles, I-Open against R-Open.
+pub fn quiet_nodes_are_shut_or_open()
+    ensures { QuietNodesAreShutOrOpen }
+{
+    each_neighbour_is_its_side();
+    each_octet_quiet_run_is_closed_or_open();
 }
