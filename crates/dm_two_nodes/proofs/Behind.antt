@@ -1,5 +1,6 @@
 -- The peer behind a story: one story behind another, and a story under other numbers.
-use Rattle.std.proofs.Common.{◌≡◌, ℕ, List, [], ◌∷◌, ◌++◌, refl, ap, ◌∙◌}
+use Rattle.std.specs.Prelude.{⊤}
+use Rattle.std.proofs.Common.{sym, subst, ◌≡◌, ℕ, List, [], ◌∷◌, ◌++◌, refl, ap, ◌∙◌}
 use Rattle.dm_peer.specs.declared.peer.Peer.{Peer}
 use Rattle.dm_peer.specs.Acts.{Outcome, Moved, Refused, acts}
 use Rattle.dm_history.specs.Replaying.{peer_left}
@@ -13,7 +14,7 @@ behind_both p [] ys = refl
 behind_both p (TakesEvent e ∷ xs) ys = behind_both (peer_left p (acts p e)) xs ys
 behind_both p (IsSetBack ∷ xs) ys = behind_both (set_back p) xs ys
 
-left_renumbered : (f : ℕ → ℕ) (p : Peer) (o : Outcome) →
+pub left_renumbered : (f : ℕ → ℕ) (p : Peer) (o : Outcome) →
     peer_left (renumbered_peer f p) (renumbered_acts f o) ≡ renumbered_peer f (peer_left p o)
 left_renumbered f p (Moved actions next) = refl
 left_renumbered f p (Refused fault) = refl
@@ -26,3 +27,35 @@ behind_renumbered law f one p (TakesEvent e ∷ xs) =
     (ap (peer_left (renumbered_peer f p)) (law f p e one) ∙ left_renumbered f p (acts p e))
     ∙ behind_renumbered law f one (peer_left p (acts p e)) xs
 behind_renumbered law f one p (IsSetBack ∷ xs) = behind_renumbered law f one (set_back p) xs
+
+-- each event of a story is taken, and none refused
+abbrev pub IsTaken : Outcome → Type 0
+IsTaken (Moved actions next) = ⊤
+IsTaken (Refused fault) = ⊥
+
+abbrev pub AreTaken : Peer → List Chapter → Type 0
+AreTaken p [] = ⊤
+AreTaken p (TakesEvent e ∷ more) = IsTaken (acts p e) × AreTaken (peer_left p (acts p e)) more
+AreTaken p (IsSetBack ∷ more) = AreTaken (set_back p) more
+
+pub taken_both : (p : Peer) (xs ys : List Chapter) → AreTaken p xs → AreTaken (peer_behind p xs) ys →
+    AreTaken p (xs ++ ys)
+taken_both p [] ys first more = more
+taken_both p (TakesEvent e ∷ xs) ys first more =
+    (first.0, taken_both (peer_left p (acts p e)) xs ys first.1 more)
+taken_both p (IsSetBack ∷ xs) ys first more = taken_both (set_back p) xs ys first more
+
+taken_renumbered_at : (f : ℕ → ℕ) (o : Outcome) → IsTaken o → IsTaken (renumbered_acts f o)
+taken_renumbered_at f (Moved actions next) is = tt
+taken_renumbered_at f (Refused fault) is = is
+
+pub taken_renumbered : PeersGoByNoNumber → (f : ℕ → ℕ) → IsOneToOne f → (p : Peer) (xs : List Chapter) →
+    AreTaken p xs → AreTaken (renumbered_peer f p) (renumbered_story f xs)
+taken_renumbered law f one p [] is = tt
+taken_renumbered law f one p (TakesEvent e ∷ xs) is = (
+  subst IsTaken (sym (law f p e one)) (taken_renumbered_at f (acts p e) is.0),
+  subst (λ (q : Peer). AreTaken q (renumbered_story f xs))
+      (sym (ap (peer_left (renumbered_peer f p)) (law f p e one) ∙ left_renumbered f p (acts p e)))
+      (taken_renumbered law f one (peer_left p (acts p e)) xs is.1),
+)
+taken_renumbered law f one p (IsSetBack ∷ xs) is = taken_renumbered law f one (set_back p) xs is

@@ -1,6 +1,6 @@
 -- What passes a peer by leaves it as it was, and so the gist of a story makes of it what the story does.
 use Rattle.std.proofs.Common.{◌≡◌, ℕ, Bool, true, false, not, ◌&&◌, if◌then◌else◌, Option, Some, None, List, [], ◌∷◌, refl, sym, ap, subst, ◌∙◌}
-use Rattle.std.specs.Prelude.{is_some}
+use Rattle.std.specs.Prelude.{is_some, option_map}
 use Rattle.std.proofs.lemmas.Bool.{and_parts}
 use Rattle.dm_wire.specs.declared.message.Header.{Header}
 use Rattle.dm_machine.specs.declared.connection.Conn.{Conn}
@@ -27,8 +27,12 @@ use Rattle.dm_peer.specs.Cases.{Hears, unread, no_message, message, submits_it, 
 use Rattle.dm_history.specs.Replaying.{peer_left}
 use Rattle.dm_node.specs.Emptying.{set_back}
 use Rattle.dm_node.specs.Telling.{conn_of}
-use Rattle.dm_two_nodes.specs.Stories.{Chapter, TakesEvent, IsSetBack, peer_behind, holds_neither, passes_by, gist}
+use Rattle.dm_two_nodes.specs.Numbering.{IsOneToOne, renumbered}
+use Rattle.dm_two_nodes.specs.Renaming.{renumbered_event, renumbered_peer, PeersGoByNoNumber}
+use Rattle.dm_two_nodes.specs.Stories.{renumbered_story, Chapter, TakesEvent, IsSetBack, peer_behind, holds_neither, passes_by, gist}
+use Rattle.dm_two_nodes.proofs.Numbered.{hold_of-renumbered}
 use Rattle.dm_two_nodes.proofs.Acting.{turned_is}
+use Rattle.dm_two_nodes.proofs.Behind.{left_renumbered}
 use Rattle.dm_two_nodes.proofs.Unheld.{Passed, left_it, took_it, refused_it, passed}
 
 -- where a peer stands after a step to the same node that sends no request
@@ -181,3 +185,56 @@ module _ (laws : StoryLaws) where
       let q = peer_left p (acts p e) in
       gist_if p e more (gist q more) (passes_by p e) refl was (gist_is q more (settled_next p e was))
   gist_is p (IsSetBack ∷ more) was = gist_is (set_back p) more (laws.fresh p.config p.standing.next)
+
+-- the gist of a story under other numbers
+module _ (law : PeersGoByNoNumber) (f : ℕ → ℕ) (one : IsOneToOne f) where
+  conn_renumbered : (e : PeerEvent) → conn_of (renumbered_event f e) ≡ option_map (renumbered f) (conn_of e)
+  conn_renumbered (Start c) = refl
+  conn_renumbered (Ack c) = refl
+  conn_renumbered (Nack c) = refl
+  conn_renumbered (Arrived c s) = refl
+  conn_renumbered (Gone c) = refl
+  conn_renumbered _ = refl
+
+  holds_renumbered : (c : Conn) (p : Peer) → holds (renumbered f c) (renumbered_peer f p) ≡ holds c p
+  holds_renumbered c p = ap is_held (hold_of-renumbered f one p.standing.core c)
+
+  neither_renumbered : (p q : Peer) (o : Option Conn) →
+      holds_neither (renumbered_peer f p) (renumbered_peer f q) (option_map (renumbered f) o) ≡ holds_neither p q o
+  neither_renumbered p q None = refl
+  neither_renumbered p q (Some c) =
+      ap (λ (b : Bool). not b && not (holds (renumbered f c) (renumbered_peer f q))) (holds_renumbered c p)
+      ∙ ap (λ (b : Bool). not (holds c p) && not b) (holds_renumbered c q)
+
+  left_same : (p : Peer) (e : PeerEvent) →
+      peer_left (renumbered_peer f p) (acts (renumbered_peer f p) (renumbered_event f e))
+      ≡ renumbered_peer f (peer_left p (acts p e))
+  left_same p e = ap (peer_left (renumbered_peer f p)) (law f p e one) ∙ left_renumbered f p (acts p e)
+
+  passes_renumbered : (p : Peer) (e : PeerEvent) →
+      passes_by (renumbered_peer f p) (renumbered_event f e) ≡ passes_by p e
+  passes_renumbered p e =
+      ap (λ (q : Peer). holds_neither (renumbered_peer f p) q (conn_of (renumbered_event f e))) (left_same p e)
+      ∙ ap (holds_neither (renumbered_peer f p) (renumbered_peer f (peer_left p (acts p e)))) (conn_renumbered e)
+      ∙ neither_renumbered p (peer_left p (acts p e)) (conn_of e)
+
+  with_event : (b : Bool) (e : PeerEvent) (rest : List Chapter) →
+      (if b then renumbered_story f rest else TakesEvent (renumbered_event f e) ∷ renumbered_story f rest)
+      ≡ renumbered_story f (if b then rest else TakesEvent e ∷ rest)
+  with_event true e rest = refl
+  with_event false e rest = refl
+
+  pub gist_renumbered : (p : Peer) (xs : List Chapter) →
+      gist (renumbered_peer f p) (renumbered_story f xs) ≡ renumbered_story f (gist p xs)
+  gist_renumbered p [] = refl
+  gist_renumbered p (TakesEvent e ∷ more) =
+      let here = renumbered_peer f p in
+      let event = renumbered_event f e in
+      let rest = gist (peer_left here (acts here event)) (renumbered_story f more) in
+      ap (λ (b : Bool). if b then rest else TakesEvent event ∷ rest) (passes_renumbered p e)
+      ∙ ap (λ (l : List Chapter). if passes_by p e then l else TakesEvent event ∷ l)
+      (ap (λ (q : Peer). gist q (renumbered_story f more)) (left_same p e)
+      ∙ gist_renumbered (peer_left p (acts p e)) more)
+      ∙ with_event (passes_by p e) e (gist (peer_left p (acts p e)) more)
+  gist_renumbered p (IsSetBack ∷ more) =
+      ap (λ (l : List Chapter). IsSetBack ∷ l) (gist_renumbered (set_back p) more)

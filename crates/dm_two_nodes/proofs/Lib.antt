@@ -8,3 +8,4 @@ mod Sides
 mod Unheld
 mod Gists
 mod Meeting
+mod Playing

@@ -66,7 +66,7 @@ config_of : (p : Peer) (e : PeerEvent) (actions : List Action) (q : Peer) → Fo
 config_of p e actions q (inl step) = step.config
 config_of p e actions q (inr drop) = ap (λ (r : Peer). r.config) drop.same
 
-config_kept : EachEventIsOneStep → (p : Peer) (e : PeerEvent) (actions : List Action) (q : Peer) →
+pub config_kept : EachEventIsOneStep → (p : Peer) (e : PeerEvent) (actions : List Action) (q : Peer) →
     acts p e ≡ Moved actions q → q.config ≡ p.config
 config_kept law p e actions q is = config_of p e actions q (subst (Follows p e) is (law p e))
 

@@ -1,5 +1,5 @@
 -- A side of a run is what its story makes of it.
-use Rattle.std.proofs.Common.{◌≡◌, ℕ, ◌+◌, ◌==◌, nat_lt, Bool, true, false, List, [], ◌∷◌, ◌++◌, length, slice_get, Option, None, Some, if◌then◌else◌, refl, sym, ap, ◌∙◌}
+use Rattle.std.proofs.Common.{subst, ◌≡◌, ℕ, ◌+◌, ◌==◌, nat_lt, Bool, true, false, List, [], ◌∷◌, ◌++◌, length, slice_get, Option, None, Some, if◌then◌else◌, refl, sym, ap, ◌∙◌}
 use Rattle.dm_peer.specs.declared.peer.Peer.{Peer}
 use Rattle.dm_peer.specs.Acts.{Outcome, Moved, Refused, acts}
 use Rattle.dm_history.specs.Replaying.{peer_left}
@@ -11,33 +11,35 @@ use Rattle.dm_two_peers.specs.Happens.{Happening, Starts, Stops, TimesOut, Ticks
 use Rattle.dm_two_peers.specs.Turns.{WorldTurn, turn_by, turn_of, turn_at, turn_delivered, turn_pieced, turns_on}
 use Rattle.dm_octet_peers.specs.Octets.{of_event, as_reply, octet_peers}
 use Rattle.dm_two_nodes.specs.Stories.{turns_taken, side_chapters, side_story, peer_behind}
-use Rattle.dm_two_nodes.proofs.Behind.{behind_both}
+use Rattle.dm_two_nodes.proofs.Behind.{behind_both, IsTaken, AreTaken, taken_both}
 
 module _ (w : World Peer (List ℕ)) where
-  -- each side is, behind what happens, what its turns make of it
+  -- each side is, behind what happens, what its turns make of it, and takes each of their events
   abbrev Fits : After Peer (List ℕ) → List (WorldTurn (List ℕ)) → Type 0
-  Fits after us = (s : Side) → peer_on s (world_after w after) ≡ peer_behind (peer_on s w) (turns_taken s us)
+  Fits after us =
+      (s : Side) → (peer_on s (world_after w after) ≡ peer_behind (peer_on s w) (turns_taken s us))
+      × AreTaken (peer_on s w) (turns_taken s us)
 
   replied : (t : Side) (e : Event (List ℕ)) (o : Outcome) → acts (peer_on t w) (of_event e) ≡ o →
       Fits (after_reply octet_peers t e w (as_reply o)) (turn_by t e (as_reply o))
-  replied t e (Refused fault) is s = refl
-  replied A e (Moved actions next) is A = ap (peer_left w.a) (sym is)
-  replied A e (Moved actions next) is B = refl
-  replied B e (Moved actions next) is A = refl
-  replied B e (Moved actions next) is B = ap (peer_left w.b) (sym is)
+  replied t e (Refused fault) is s = (refl, tt)
+  replied A e (Moved actions next) is A = (ap (peer_left w.a) (sym is), (subst IsTaken (sym is) tt, tt))
+  replied A e (Moved actions next) is B = (refl, tt)
+  replied B e (Moved actions next) is A = (refl, tt)
+  replied B e (Moved actions next) is B = (ap (peer_left w.b) (sym is), (subst IsTaken (sym is) tt, tt))
 
   told : (t : Side) (e : Event (List ℕ)) → Fits (tell octet_peers t e w) (turn_of octet_peers t e w)
   told t e = replied t e (acts (peer_on t w) (of_event e)) refl
 
   came : (t : Side) (e : Event (List ℕ)) (end : End) → Fits (comes octet_peers t e end w) (turn_at octet_peers t e end w)
-  came t e Shut A = refl
-  came t e Shut B = refl
+  came t e Shut A = (refl, tt)
+  came t e Shut B = (refl, tt)
   came t e Fresh s = told t e s
   came t e Open s = told t e s
 
   delivered : (c : ℕ) (t : Side) (end : End) (next : Next (List ℕ)) →
       Fits (deliver_next octet_peers c t end next w) (turn_delivered octet_peers c t end next w)
-  delivered c t end NextNothing s = refl
+  delivered c t end NextNothing s = (refl, tt)
   delivered c t end (NextMessage x) s = came t (ArrivedEvent (conn c) x) end s
   delivered c t end NextDisconnect s = came t (GoneEvent (conn c)) end s
 
@@ -51,62 +53,63 @@ module _ (w : World Peer (List ℕ)) where
   -- what changes links alone
   links_alone : (links : List (Link (List ℕ))) →
       Fits (DoneWith (record w { links = links }) []) []
-  links_alone links A = refl
-  links_alone links B = refl
+  links_alone links A = (refl, tt)
+  links_alone links B = (refl, tt)
 
   pieced : (c : ℕ) (t : Side) (k : ℕ) (end : End) (taken : ℕ) (next : Next (List ℕ)) →
       Fits (deliver_part octet_peers c t k end taken next w) (turn_pieced octet_peers c t k end taken next w)
-  pieced c t k end taken NextNothing s = refl
-  pieced c t k end taken NextDisconnect s = refl
+  pieced c t k end taken NextNothing s = (refl, tt)
+  pieced c t k end taken NextDisconnect s = (refl, tt)
   pieced c t k end taken (NextMessage x) s =
       pieced_if c t end x (nat_lt (taken + k) (octet_peers.size x)) _ (links_alone _) s
 
   zero_if : (b : Bool) (after : After Peer (List ℕ)) (us : List (WorldTurn (List ℕ))) → Fits after us →
       Fits (if b then Ignored else after) (if b then [] else us)
-  zero_if true after us is s = refl
+  zero_if true after us is s = (refl, tt)
   zero_if false after us is s = is s
 
   pending_if : (phase : LinkPhase) (after : After Peer (List ℕ)) (us : List (WorldTurn (List ℕ))) → Fits after us →
       Fits (if_pending phase after Ignored) (if_pending phase us [])
   pending_if LinkPending after us is s = is s
-  pending_if LinkUp after us is s = refl
-  pending_if LinkCancelled after us is s = refl
+  pending_if LinkUp after us is s = (refl, tt)
+  pending_if LinkCancelled after us is s = (refl, tt)
 
   up_if : (phase : LinkPhase) (after : After Peer (List ℕ)) (us : List (WorldTurn (List ℕ))) → Fits after us →
       Fits (if_up phase after Ignored) (if_up phase us [])
-  up_if LinkPending after us is s = refl
+  up_if LinkPending after us is s = (refl, tt)
   up_if LinkUp after us is s = is s
-  up_if LinkCancelled after us is s = refl
+  up_if LinkCancelled after us is s = (refl, tt)
 
   linked : (o : Option (Link (List ℕ))) (after : Link (List ℕ) → After Peer (List ℕ))
       (us : Link (List ℕ) → List (WorldTurn (List ℕ))) → ((l : Link (List ℕ)) → Fits (after l) (us l)) →
       Fits (at_link o after) (turns_on o us)
-  linked None after us is s = refl
+  linked None after us is s = (refl, tt)
   linked (Some l) after us is s = is l s
 
   lost : (o : Option (Link (List ℕ))) (c a b : ℕ) →
       Fits (at_link o (λ l. if_up l.phase (unless_shut l (lose octet_peers w c a b l)) Ignored)) []
-  lost None c a b s = refl
+  lost None c a b s = (refl, tt)
   lost (Some l) c a b s = lost_if l.phase (are_shut l.opener_end l.other_end) s
     where
       lost_if : (phase : LinkPhase) (b' : Bool) →
           Fits (if_up phase (if b' then Ignored else lose octet_peers w c a b l) Ignored) []
-      lost_if LinkPending b' s = refl
-      lost_if LinkCancelled b' s = refl
-      lost_if LinkUp true s = refl
+      lost_if LinkPending b' s = (refl, tt)
+      lost_if LinkCancelled b' s = (refl, tt)
+      lost_if LinkUp true s = (refl, tt)
       lost_if LinkUp false s = links_alone _ s
 
   happened : (h : Happening (List ℕ)) (s : Side) →
-      peer_on s (world_after w (happens octet_peers w h)) ≡ peer_behind (peer_on s w) (side_chapters s w h)
+      (peer_on s (world_after w (happens octet_peers w h)) ≡ peer_behind (peer_on s w) (side_chapters s w h))
+      × AreTaken (peer_on s w) (side_chapters s w h)
   happened (Starts t) s = told t (StartEvent (conn (length w.links))) s
   happened (Stops t cause) s = told t (StopEvent cause) s
   happened (TimesOut t) s = told t TimeoutEvent s
   happened (Ticks t) s = told t TickEvent s
   happened (Submits t x) s = told t (SubmitEvent x) s
-  happened (Restarts A) A = refl
-  happened (Restarts A) B = refl
-  happened (Restarts B) A = refl
-  happened (Restarts B) B = refl
+  happened (Restarts A) A = (refl, tt)
+  happened (Restarts A) B = (refl, tt)
+  happened (Restarts B) A = (refl, tt)
+  happened (Restarts B) B = (refl, tt)
   happened (Acks c) s =
       linked (slice_get w.links c) _ _ (λ l. pending_if l.phase _ _ (told l.opener (AckEvent (conn c)))) s
   happened (Nacks c) s =
@@ -142,5 +145,15 @@ side_is r (h ∷ hs) z s is =
     let on = ran r after hs z is in
     side_is on.0 hs z s on.2
     ∙ ap (λ (w : World Peer (List ℕ)). peer_behind (peer_on s w) (side_story s w hs)) on.1
-    ∙ ap (λ (p : Peer). peer_behind p (side_story s (world_after r.world after) hs)) (happened r.world h s)
+    ∙ ap (λ (p : Peer). peer_behind p (side_story s (world_after r.world after) hs)) (happened r.world h s).0
     ∙ sym (behind_both (peer_on s r.world) (side_chapters s r.world h) (side_story s (world_after r.world after) hs))
+
+-- and takes each event of it
+pub side_takes : (w : World Peer (List ℕ)) (hs : List (Happening (List ℕ))) (s : Side) →
+    AreTaken (peer_on s w) (side_story s w hs)
+side_takes w [] s = tt
+side_takes w (h ∷ hs) s =
+    let next = world_after w (happens octet_peers w h) in
+    let is = happened w h s in
+    taken_both (peer_on s w) (side_chapters s w h) (side_story s next hs) is.1
+    (subst (λ (p : Peer). AreTaken p (side_story s next hs)) is.0 (side_takes next hs s))

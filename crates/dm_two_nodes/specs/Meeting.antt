@@ -1,8 +1,10 @@
--- Two nodes, a neighbour of each: they are what two peers are behind a run, whatever happens to the rest of either node.
+-- Two nodes, a neighbour of each: the two are what two peers are behind a run, whatever happens to the rest of either
+-- node.
 use Rattle.std.specs.Prelude.{◌≡◌, ◌⊎◌, ◌<◌, ◌^◌, ℕ, IsTrue, IsFalse, IfSome, Option, Some, List}
 use Rattle.dm_machine.specs.declared.state_name.State.TheVariants.{Closed}
 use Rattle.dm_machine.specs.Node.{Node, is_same_role}
 use Rattle.dm_machine.specs.declared.phase.Role.{Role}
+use Rattle.dm_peer.specs.declared.config.Config.{Config}
 use Rattle.dm_peer.specs.declared.peer.Peer.{Peer}
 use Rattle.dm_node.specs.Holding.{peer_at}
 use Rattle.dm_node.specs.NodeHistory.{NodeStep, NodeBecame}
@@ -28,8 +30,8 @@ pub record Neighbour : Type 0 where
   pub became : NodeBecame past peers
   pub there : peer_at peers number ≡ Some peer
 
--- in a run of two peers a side begins as the neighbour does, and what befalls it is, in gist, what befell the neighbour,
--- with other numbers of connections
+-- in a run of two peers a side begins as the neighbour does, and what befalls it is, in gist, what befell the
+-- neighbour, with other numbers of connections
 pub record PlaysSide (f : ℕ → ℕ) (n : Neighbour) (s : Side) (w : World Peer (List ℕ))
     (hs : List (Happening (List ℕ))) : Type 0 where
   pub apart : IsOneToOne f
@@ -67,6 +69,20 @@ pub record NeighboursAgree (f g : ℕ → ℕ) (a b : Node) (w : World Peer (Lis
   pub one_here : (r r' : Role) (c d : ℕ) → IsOpenOn a r c → IsOpenOn a r' d → c ≡ d
   pub one_there : (r r' : Role) (c d : ℕ) → IsOpenOn b r c → IsOpenOn b r' d → c ≡ d
   pub both : (r r' : Role) (c d : ℕ) → IsOpenOn a r c → IsOpenOn b r' d → AreLinked f g w r r' c d
+
+-- neighbours that do so, of these configurations
+pub record ArePlayed (f g : ℕ → ℕ) (a b : Config) (hs : List (Happening (List ℕ))) : Type 0 where
+  pub near : Neighbour
+  pub far : Neighbour
+  pub near_config : near.peer.config ≡ a
+  pub far_config : far.peer.config ≡ b
+  pub meet : MeetIn f g near far hs
+
+-- each run is played by two, whatever their numbers of connections
+abbrev pub EachRunIsPlayed : Type 0
+EachRunIsPlayed =
+    (f g : ℕ → ℕ) (a b : Config) (hs : List (Happening (List ℕ))) → IsOneToOne f → IsOneToOne g →
+    ArePlayed f g a b hs
 
 abbrev pub TwoNodesAgree : Type 0
 TwoNodesAgree =

@@ -1,4 +1,5 @@
--- What befalls a neighbour of a node, and a side of a run of two peers: which events it takes, and where it is set back.
+-- What befalls a neighbour of a node, and a side of a run of two peers: which events it takes, and where it is set
+-- back.
 use Rattle.std.specs.Prelude.{ℕ, nat_eq, Bool, false, not, ◌&&◌, if◌then◌else◌}
 use Rattle.std.specs.Prelude.{Option, None, Some, List, [], ◌∷◌, ◌++◌, map}
 use Rattle.dm_machine.specs.declared.connection.Conn.{Conn}

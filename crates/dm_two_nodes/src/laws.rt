@@ -1,7 +1,7 @@
 //! Laws of two nodes. Each function is a law: it does nothing but call the laws that it stands on, and its contract is
 //! the law. They stand for users.
 ghost use Rattle.dm_two_nodes.specs.Histories.{HistoryTellsThePeer, HistoriesGoByNoNumber, SameHistoryMakesTheSame};
-ghost use Rattle.dm_two_nodes.specs.Meeting.{EachNeighbourIsItsSide, TwoNodesAgree, QuietNodesAreShutOrOpen};
+ghost use Rattle.dm_two_nodes.specs.Meeting.{EachNeighbourIsItsSide, EachRunIsPlayed, TwoNodesAgree, QuietNodesAreShutOrOpen};
 ghost use Rattle.dm_two_nodes.specs.Numbering.{StepsGoByNoNumber};
 ghost use Rattle.dm_two_nodes.specs.Renaming.{PeersGoByNoNumber};
 
@@ -48,6 +48,15 @@ pub fn each_neighbour_is_its_side()
     each_node_has_its_form();
     each_event_is_a_case();
     each_event_keeps_settled();
+}
+
+/// Each run of two new peers is played so: there are two nodes with a neighbour each to which just that happened, under
+/// whatever numbers.
+pub fn each_run_is_played()
+    ensures { EachRunIsPlayed }
+{
+    peers_go_by_no_number();
+    each_event_is_one_step();
 }
 
 /// Two nodes agree as two peers do, whatever happens to the rest: where a neighbour of the one and a neighbour of the
