@@ -5,6 +5,11 @@ use Rattle.dm_peer.specs.declared.peer.Peer.{Peer}
 use Rattle.dm_peer.specs.Acts.{Outcome, Moved, Refused, acts}
 use Rattle.dm_history.specs.Replaying.{peer_left}
 use Rattle.dm_node.specs.Emptying.{set_back}
+use Rattle.dm_two_peers.specs.Links.{Side}
+use Rattle.dm_two_peers.specs.Turns.{WorldTurn}
+use Rattle.dm_two_nodes.specs.Delivering.{turn_as}
+use Rattle.dm_peer.specs.Events.{PeerEvent}
+use Rattle.dm_peer.specs.declared.actions.Action.{Action}
 use Rattle.dm_two_nodes.specs.Numbering.{IsOneToOne}
 use Rattle.dm_two_nodes.specs.Renaming.{renumbered_acts, renumbered_peer, PeersGoByNoNumber}
 use Rattle.dm_two_nodes.specs.Stories.{Chapter, TakesEvent, IsSetBack, renumbered_story, peer_behind}
@@ -27,6 +32,31 @@ behind_renumbered law f one p (TakesEvent e ∷ xs) =
     (ap (peer_left (renumbered_peer f p)) (law f p e one) ∙ left_renumbered f p (acts p e))
     ∙ behind_renumbered law f one (peer_left p (acts p e)) xs
 behind_renumbered law f one p (IsSetBack ∷ xs) = behind_renumbered law f one (set_back p) xs
+
+-- what a peer does at each event of a story
+abbrev pub deeds : Outcome → List Action
+deeds (Moved actions next) = actions
+deeds (Refused fault) = []
+
+abbrev pub dones : Peer → List Chapter → List (PeerEvent × List Action)
+dones p [] = []
+dones p (TakesEvent e ∷ more) = (e, deeds (acts p e)) ∷ dones (peer_left p (acts p e)) more
+dones p (IsSetBack ∷ more) = dones (set_back p) more
+
+pub dones_both : (p : Peer) (xs ys : List Chapter) → dones p (xs ++ ys) ≡ dones p xs ++ dones (peer_behind p xs) ys
+dones_both p [] ys = refl
+dones_both p (TakesEvent e ∷ xs) ys =
+    ap (λ (l : List (PeerEvent × List Action)). (e, deeds (acts p e)) ∷ l) (dones_both (peer_left p (acts p e)) xs ys)
+dones_both p (IsSetBack ∷ xs) ys = dones_both (set_back p) xs ys
+
+-- as turns of a side
+abbrev pub as_turns : Side → List (PeerEvent × List Action) → List (WorldTurn (List ℕ))
+as_turns s [] = []
+as_turns s (d ∷ l) = turn_as s d.0 d.1 ∷ as_turns s l
+
+pub turns_both : (s : Side) (k l : List (PeerEvent × List Action)) → as_turns s (k ++ l) ≡ as_turns s k ++ as_turns s l
+turns_both s [] l = refl
+turns_both s (d ∷ k) l = ap (λ (us : List (WorldTurn (List ℕ))). turn_as s d.0 d.1 ∷ us) (turns_both s k l)
 
 -- each event of a story is taken, and none refused
 abbrev pub IsTaken : Outcome → Type 0

@@ -10,6 +10,11 @@ use Rattle.dm_machine.specs.Forms.{EachShapeIsAForm}
 use Rattle.dm_machine.specs.Reading.{conn_named}
 use Rattle.dm_machine.specs.Connection.{Hold, NotHeld, hold_of}
 use Rattle.dm_machine.specs.Unread.{reads_first}
+use Rattle.dm_machine.specs.Upward.{has_up}
+use Rattle.dm_machine.specs.declared.outputs.Command.{Command}
+use Rattle.dm_machine.specs.declared.outputs.Command.TheVariants as command
+use Rattle.dm_two_peers.specs.Delivery.{ups_of}
+use Rattle.dm_octet_peers.specs.Octets.{as_actions}
 use Rattle.dm_machine.specs.Awaiting.{awaits_cea, awaits_dwa, awaits_dpa, holds_cer, number_after, waiting_after}
 use Rattle.dm_machine.specs.Moves.{NodeOutcome, is_open}
 use Rattle.dm_peer.specs.declared.standing.Standing.{Standing}
@@ -17,6 +22,7 @@ use Rattle.dm_peer.specs.declared.standing.Awaited.{Awaited}
 use Rattle.dm_peer.specs.declared.peer.Peer.{Peer}
 use Rattle.dm_peer.specs.Events.{PeerEvent, Start, Ack, Nack, Arrived, Gone}
 use Rattle.dm_peer.specs.Configs.{wins}
+use Rattle.dm_peer.specs.Sent.{actions_of}
 use Rattle.dm_peer.specs.Said.{Heard, word_heard, header_heard}
 use Rattle.dm_peer.specs.After.{is_dwa, standing_after}
 use Rattle.dm_peer.specs.Holding.{is_held, holds}
@@ -32,7 +38,7 @@ use Rattle.dm_two_nodes.specs.Renaming.{renumbered_event, renumbered_peer, Peers
 use Rattle.dm_two_nodes.specs.Stories.{renumbered_story, Chapter, TakesEvent, IsSetBack, peer_behind, holds_neither, passes_by, gist}
 use Rattle.dm_two_nodes.proofs.Numbered.{hold_of-renumbered}
 use Rattle.dm_two_nodes.proofs.Acting.{turned_is}
-use Rattle.dm_two_nodes.proofs.Behind.{left_renumbered}
+use Rattle.dm_two_nodes.proofs.Behind.{left_renumbered, deeds}
 use Rattle.dm_two_nodes.proofs.Unheld.{Passed, left_it, took_it, refused_it, passed}
 
 -- where a peer stands after a step to the same node that sends no request
@@ -119,18 +125,36 @@ named_in (Arrived c s) h = refl
 named_in (Gone c) h = refl
 named_in _ h = refl
 
+-- what is done where nothing is handed up
+silent_actions : (p : Peer) (e : PeerEvent) (h : Option Heard) (commands : List Command) → has_up commands ≡ false →
+    ups_of (as_actions (actions_of p e h commands)) ≡ []
+silent_actions p e h [] un = refl
+silent_actions p e h (command.Up ∷ more) un = cc
+silent_actions p e h (command.Connect c ∷ more) un = silent_actions p e h more un
+silent_actions p e h (command.SendCer c ∷ more) un = silent_actions p e h more un
+silent_actions p e h (command.SendCea c ∷ more) un = silent_actions p e h more un
+silent_actions p e h (command.SendRefusal c ∷ more) un = silent_actions p e h more un
+silent_actions p e h (command.SendDwr c ∷ more) un = silent_actions p e h more un
+silent_actions p e h (command.SendDwa c ∷ more) un = silent_actions p e h more un
+silent_actions p e h (command.SendDpr c ∷ more) un = silent_actions p e h more un
+silent_actions p e h (command.SendDpa c ∷ more) un = silent_actions p e h more un
+silent_actions p e h (command.SendSubmit c ∷ more) un = silent_actions p e h more un
+silent_actions p e h (command.Close c ∷ more) un = silent_actions p e h more un
+
 module _ (p : Peer) (settled : IsSettled p) (c : Conn) where
   abbrev Stays : Outcome → Type 0
-  Stays o = holds c (peer_left p o) ≡ false → peer_left p o ≡ p
+  Stays o = holds c (peer_left p o) ≡ false → (peer_left p o ≡ p) × (ups_of (as_actions (deeds o)) ≡ [])
 
   stays_at : (e : PeerEvent) (h : Option Heard) (o : NodeOutcome) →
       (is_open p.standing.core.state && is_dwa (word_heard h)) ≡ false → Passed p.standing.core c o →
       Stays (outcome_of p e h o)
-  stays_at e h o un (left_it commands none) = λ free.
-      ap (λ r. standing_at p (standing_after p.standing h r p.standing.core)) none
-      ∙ ap (standing_at p) (stands_as_before p.standing h settled un)
+  stays_at e h o un (left_it commands none silent) = λ free. (
+    ap (λ r. standing_at p (standing_after p.standing h r p.standing.core)) none
+        ∙ ap (standing_at p) (stands_as_before p.standing h settled un),
+    silent_actions p e h commands silent,
+  )
   stays_at e h o un (took_it commands next held) = λ free. absurd (cc)
-  stays_at e h o un (refused_it r) = λ free. refl
+  stays_at e h o un (refused_it r) = λ free. (refl, refl)
 
   stays_by : EachShapeIsAForm → (e : PeerEvent) (o : Outcome) → Case p e o → conn_of e ≡ Some c →
       hold_of p.standing.core c ≡ NotHeld → Stays o
@@ -140,8 +164,8 @@ module _ (p : Peer) (settled : IsSettled p) (c : Conn) where
       let i = input_of e h in
       stays_at e h (turned n i w) (free_hears p e h c hears named free)
       (subst (Passed n c) (sym (turned_is n i w)) (passed forms n c w i settled.shaped (named_in e h ∙ named) free))
-  stays_by forms e o (drop d s m deaf is dropped) named free = λ held. refl
-  stays_by forms e o (refusal s f is) named free = λ held. refl
+  stays_by forms e o (drop d s m deaf is dropped) named free = λ held. (refl, refl)
+  stays_by forms e o (refusal s f is) named free = λ held. (refl, refl)
 
 -- what the laws of peers say, for a story
 pub record StoryLaws : Type 0 where
@@ -155,8 +179,9 @@ not_true true is = cc
 not_true false is = refl
 
 module _ (laws : StoryLaws) where
-  passed_by : (p : Peer) (e : PeerEvent) (o : Option Conn) → IsSettled p → conn_of e ≡ o →
-      holds_neither p (peer_left p (acts p e)) o ≡ true → peer_left p (acts p e) ≡ p
+  pub passed_by : (p : Peer) (e : PeerEvent) (o : Option Conn) → IsSettled p → conn_of e ≡ o →
+      holds_neither p (peer_left p (acts p e)) o ≡ true →
+      (peer_left p (acts p e) ≡ p) × (ups_of (as_actions (deeds (acts p e))) ≡ [])
   passed_by p e None settled named is = cc
   passed_by p e (Some c) settled named is =
       let q = peer_left p (acts p e) in
@@ -168,14 +193,14 @@ module _ (laws : StoryLaws) where
   settled_left p (Moved actions next) was is = is
   settled_left p (Refused f) was is = was
 
-  settled_next : (p : Peer) (e : PeerEvent) → IsSettled p → IsSettled (peer_left p (acts p e))
+  pub settled_next : (p : Peer) (e : PeerEvent) → IsSettled p → IsSettled (peer_left p (acts p e))
   settled_next p e was = settled_left p (acts p e) was (laws.kept p e was)
 
   gist_if : (p : Peer) (e : PeerEvent) (more rest : List Chapter) (b : Bool) → passes_by p e ≡ b → IsSettled p →
       peer_behind (peer_left p (acts p e)) rest ≡ peer_behind (peer_left p (acts p e)) more →
       peer_behind p (if b then rest else TakesEvent e ∷ rest) ≡ peer_behind (peer_left p (acts p e)) more
   gist_if p e more rest true is was so =
-      ap (λ (q : Peer). peer_behind q rest) (sym (passed_by p e (conn_of e) was refl is)) ∙ so
+      ap (λ (q : Peer). peer_behind q rest) (sym (passed_by p e (conn_of e) was refl is).0) ∙ so
   gist_if p e more rest false is was so = so
 
   -- the gist of a story makes of a peer what the story does

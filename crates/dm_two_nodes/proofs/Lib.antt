@@ -9,3 +9,4 @@ mod Unheld
 mod Gists
 mod Meeting
 mod Playing
+mod Delivering

@@ -42,7 +42,7 @@ module _ (numbers : PeersGoByNoNumber) (step : EachEventIsOneStep) (laws : Story
       let first = fresh_peer n.peer.config in
       let own = node_story n.number n.past in
       let theirs = side_story s w hs in
-      sym (neighbour_is step n.past n.peers n.number n.peer n.became n.there)
+      sym (neighbour_is step n.past n.peers n.number n.peer n.became n.there).0
       ∙ sym (gist_is laws first own (fresh_settled n.peer.config))
       ∙ ap (peer_behind first) part.story
       ∙ behind_renumbered numbers f part.apart first (gist (peer_on s w) theirs)

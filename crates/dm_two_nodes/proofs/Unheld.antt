@@ -17,12 +17,14 @@ use Rattle.dm_machine.specs.Reading.{Place, OnNew, place_as, place_of, place_in,
 use Rattle.dm_machine.specs.Table.{NoEvent}
 use Rattle.dm_machine.specs.Connection.{Hold, NotHeld, Pending, Made, Taken, OpenAsR, hold_as, hold_in, hold_of}
 use Rattle.dm_machine.specs.Moves.{NodeOutcome, NodeMoved, NodeRefused, by_table, machine_outcome}
+use Rattle.dm_machine.specs.Upward.{has_up}
 use Rattle.dm_peer.specs.Holding.{is_held}
 use Rattle.dm_peer.specs.After.{request_in}
 use Rattle.dm_two_nodes.proofs.Numbered.{equal_numbers}
 
 pub data Passed (n : Node) (c : Conn) : NodeOutcome → Type 0 where
-  left_it : (commands : List Command) → request_in commands ≡ None → Passed n c (NodeMoved commands n)
+  left_it : (commands : List Command) → request_in commands ≡ None → has_up commands ≡ false →
+      Passed n c (NodeMoved commands n)
   took_it : (commands : List Command) (next : Node) → is_held (hold_of next c) ≡ true →
       Passed n c (NodeMoved commands next)
   refused_it : (r : Refusal) → Passed n c (NodeRefused r)
@@ -77,40 +79,40 @@ started n (closing role x) c wins = refused_it _
 heard : (n : Node) → Form n → (c : Conn) (wins : Bool) (w : Word) →
     Passed n c (by_table n (first_message w) (Some c) wins)
 heard n closed c wins Cer = took_it _ _ (held_first c OpenAsR refl)
-heard n closed c wins CerRefused = left_it _ refl
-heard n closed c wins _ = left_it _ refl
+heard n closed c wins CerRefused = left_it _ refl refl
+heard n closed c wins _ = left_it _ refl refl
 heard n (wait_conn_ack i) c wins Cer = took_it _ _ (held_second i c Pending Taken refl refl)
-heard n (wait_conn_ack i) c wins CerRefused = left_it _ refl
-heard n (wait_conn_ack i) c wins _ = left_it _ refl
+heard n (wait_conn_ack i) c wins CerRefused = left_it _ refl refl
+heard n (wait_conn_ack i) c wins _ = left_it _ refl refl
 heard n (wait_i_cea i) c true Cer = took_it _ _ (held_first c OpenAsR refl)
 heard n (wait_i_cea i) c false Cer = took_it _ _ (held_second i c Made Taken refl refl)
-heard n (wait_i_cea i) c wins CerRefused = left_it _ refl
-heard n (wait_i_cea i) c wins _ = left_it _ refl
-heard n (wait_conn_ack_elect i r apart) c wins Cer = left_it _ refl
-heard n (wait_conn_ack_elect i r apart) c wins CerRefused = left_it _ refl
-heard n (wait_conn_ack_elect i r apart) c wins _ = left_it _ refl
-heard n (wait_returns i r apart) c wins Cer = left_it _ refl
-heard n (wait_returns i r apart) c wins CerRefused = left_it _ refl
-heard n (wait_returns i r apart) c wins _ = left_it _ refl
-heard n (r_open r k few) c wins Cer = left_it _ refl
-heard n (r_open r k few) c wins CerRefused = left_it _ refl
-heard n (r_open r k few) c wins _ = left_it _ refl
-heard n (i_open i k few) c wins Cer = left_it _ refl
-heard n (i_open i k few) c wins CerRefused = left_it _ refl
-heard n (i_open i k few) c wins _ = left_it _ refl
-heard n (closing role x) c wins Cer = left_it _ refl
-heard n (closing role x) c wins CerRefused = left_it _ refl
-heard n (closing role x) c wins _ = left_it _ refl
+heard n (wait_i_cea i) c wins CerRefused = left_it _ refl refl
+heard n (wait_i_cea i) c wins _ = left_it _ refl refl
+heard n (wait_conn_ack_elect i r apart) c wins Cer = left_it _ refl refl
+heard n (wait_conn_ack_elect i r apart) c wins CerRefused = left_it _ refl refl
+heard n (wait_conn_ack_elect i r apart) c wins _ = left_it _ refl refl
+heard n (wait_returns i r apart) c wins Cer = left_it _ refl refl
+heard n (wait_returns i r apart) c wins CerRefused = left_it _ refl refl
+heard n (wait_returns i r apart) c wins _ = left_it _ refl refl
+heard n (r_open r k few) c wins Cer = left_it _ refl refl
+heard n (r_open r k few) c wins CerRefused = left_it _ refl refl
+heard n (r_open r k few) c wins _ = left_it _ refl refl
+heard n (i_open i k few) c wins Cer = left_it _ refl refl
+heard n (i_open i k few) c wins CerRefused = left_it _ refl refl
+heard n (i_open i k few) c wins _ = left_it _ refl refl
+heard n (closing role x) c wins Cer = left_it _ refl refl
+heard n (closing role x) c wins CerRefused = left_it _ refl refl
+heard n (closing role x) c wins _ = left_it _ refl refl
 
 ended : (n : Node) → Form n → (c : Conn) (wins : Bool) → Passed n c (by_table n NoEvent (Some c) wins)
-ended n closed c wins = left_it _ refl
-ended n (wait_conn_ack i) c wins = left_it _ refl
-ended n (wait_i_cea i) c wins = left_it _ refl
-ended n (wait_conn_ack_elect i r apart) c wins = left_it _ refl
-ended n (wait_returns i r apart) c wins = left_it _ refl
-ended n (r_open r k few) c wins = left_it _ refl
-ended n (i_open i k few) c wins = left_it _ refl
-ended n (closing role x) c wins = left_it _ refl
+ended n closed c wins = left_it _ refl refl
+ended n (wait_conn_ack i) c wins = left_it _ refl refl
+ended n (wait_i_cea i) c wins = left_it _ refl refl
+ended n (wait_conn_ack_elect i r apart) c wins = left_it _ refl refl
+ended n (wait_returns i r apart) c wins = left_it _ refl refl
+ended n (r_open r k few) c wins = left_it _ refl refl
+ended n (i_open i k few) c wins = left_it _ refl refl
+ended n (closing role x) c wins = left_it _ refl refl
 
 passed_at : (n : Node) → Form n → (c : Conn) (wins : Bool) (i : Input) → conn_named i ≡ Some c →
     Passed n c (by_table n (event_at n.state n.count OnNew i) (Some c) wins)

@@ -3,3 +3,4 @@ pub mod Renaming
 pub mod Histories
 pub mod Stories
 pub mod Meeting
+pub mod Delivering

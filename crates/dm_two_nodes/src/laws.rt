@@ -1,12 +1,15 @@
 //! Laws of two nodes. Each function is a law: it does nothing but call the laws that it stands on, and its contract is
 //! the law. They stand for users.
+ghost use Rattle.dm_two_nodes.specs.Delivering.{TwoNodesDeliver};
 ghost use Rattle.dm_two_nodes.specs.Histories.{HistoryTellsThePeer, HistoriesGoByNoNumber, SameHistoryMakesTheSame};
 ghost use Rattle.dm_two_nodes.specs.Meeting.{EachNeighbourIsItsSide, EachRunIsPlayed, TwoNodesAgree, QuietNodesAreShutOrOpen};
 ghost use Rattle.dm_two_nodes.specs.Numbering.{StepsGoByNoNumber};
 ghost use Rattle.dm_two_nodes.specs.Renaming.{PeersGoByNoNumber};
 
 use dm_machine::laws::each_node_has_its_form;
-use dm_octet_peers::laws::{each_octet_quiet_run_is_closed_or_open, octets_are_a_machine};
+use dm_octet_peers::laws::{
+    each_octet_quiet_run_is_closed_or_open, each_octet_run_delivers, octets_are_a_machine,
+};
 use dm_peer::Peer;
 use dm_peer::laws::{each_event_is_a_case, each_event_is_one_step, each_event_keeps_settled};
 use dm_two_peers::laws::each_run_is_promised;
@@ -77,4 +80,18 @@ pub fn quiet_nodes_are_shut_or_open()
 {
     each_neighbour_is_its_side();
     each_octet_quiet_run_is_closed_or_open();
+}
+
+/// What was handed up to the one neighbour on a link is a front of what the other's user submitted on it: each message
+/// once, in order, octet for octet, and nothing else. Where the side is open on the link and the link had no loss, the
+/// rest is what is under way.
+pub fn two_nodes_deliver()
+    ensures { TwoNodesDeliver }
+{
+    peers_go_by_no_number();
+    each_event_is_one_step();
+    each_node_has_its_form();
+    each_event_is_a_case();
+    each_event_keeps_settled();
+    each_octet_run_delivers();
 }
