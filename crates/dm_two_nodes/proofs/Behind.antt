@@ -12,7 +12,13 @@ use Rattle.dm_peer.specs.Events.{PeerEvent}
 use Rattle.dm_peer.specs.declared.actions.Action.{Action}
 use Rattle.dm_two_nodes.specs.Numbering.{IsOneToOne}
 use Rattle.dm_two_nodes.specs.Renaming.{renumbered_acts, renumbered_peer, PeersGoByNoNumber}
-use Rattle.dm_two_nodes.specs.Stories.{Chapter, TakesEvent, IsSetBack, renumbered_story, peer_behind}
+use Rattle.dm_two_nodes.specs.Stories.{Chapter, TakesEvent, IsSetBack, renumbered_story}
+
+-- the peer behind a story
+abbrev pub peer_behind : Peer → List Chapter → Peer
+peer_behind p [] = p
+peer_behind p (TakesEvent e ∷ more) = peer_behind (peer_left p (acts p e)) more
+peer_behind p (IsSetBack ∷ more) = peer_behind (set_back p) more
 
 pub behind_both : (p : Peer) (xs ys : List Chapter) → peer_behind p (xs ++ ys) ≡ peer_behind (peer_behind p xs) ys
 behind_both p [] ys = refl

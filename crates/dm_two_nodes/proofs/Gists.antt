@@ -35,10 +35,10 @@ use Rattle.dm_node.specs.Emptying.{set_back}
 use Rattle.dm_node.specs.Telling.{conn_of}
 use Rattle.dm_two_nodes.specs.Numbering.{IsOneToOne, renumbered}
 use Rattle.dm_two_nodes.specs.Renaming.{renumbered_event, renumbered_peer, PeersGoByNoNumber}
-use Rattle.dm_two_nodes.specs.Stories.{renumbered_story, Chapter, TakesEvent, IsSetBack, peer_behind, holds_neither, passes_by, gist}
+use Rattle.dm_two_nodes.specs.Stories.{renumbered_story, Chapter, TakesEvent, IsSetBack, holds_neither, passes_by, gist}
 use Rattle.dm_two_nodes.proofs.Numbered.{hold_of-renumbered}
 use Rattle.dm_two_nodes.proofs.Acting.{turned_is}
-use Rattle.dm_two_nodes.proofs.Behind.{left_renumbered, deeds}
+use Rattle.dm_two_nodes.proofs.Behind.{peer_behind, left_renumbered, deeds}
 use Rattle.dm_two_nodes.proofs.Unheld.{Passed, left_it, took_it, refused_it, passed}
 
 -- where a peer stands after a step to the same node that sends no request

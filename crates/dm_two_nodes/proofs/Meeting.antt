@@ -23,10 +23,10 @@ use Rattle.dm_octet_peers.specs.Laws.{fresh_peer}
 use Rattle.dm_octet_peers.specs.Matching.{EachOctetQuietRunIsClosedOrOpen}
 use Rattle.dm_two_nodes.specs.Numbering.{renumbered_node}
 use Rattle.dm_two_nodes.specs.Renaming.{renumbered_peer, PeersGoByNoNumber}
-use Rattle.dm_two_nodes.specs.Stories.{node_story, side_story, peer_behind, gist}
+use Rattle.dm_two_nodes.specs.Stories.{node_story, side_story, gist}
 use Rattle.dm_two_nodes.specs.Meeting.{Neighbour, PlaysSide, EachNeighbourIsItsSide, world_between, NeighboursAgree, TwoNodesAgree, AreShutOrOpen, both_are_shut, both_are_open, QuietNodesAreShutOrOpen}
 use Rattle.dm_two_nodes.proofs.Renumbered.{renumbered_new, held_as-renumbered}
-use Rattle.dm_two_nodes.proofs.Behind.{behind_renumbered}
+use Rattle.dm_two_nodes.proofs.Behind.{peer_behind, behind_renumbered}
 use Rattle.dm_two_nodes.proofs.Neighbours.{neighbour_is}
 use Rattle.dm_two_nodes.proofs.Sides.{side_is}
 use Rattle.dm_two_nodes.proofs.Gists.{StoryLaws, gist_is}

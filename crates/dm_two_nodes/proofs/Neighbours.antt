@@ -18,8 +18,8 @@ use Rattle.dm_two_peers.specs.Turns.{WorldTurn}
 use Rattle.dm_octet_peers.specs.Laws.{fresh_peer}
 use Rattle.dm_two_nodes.specs.Delivering.{turn_as, node_turns}
 use Rattle.std.proofs.lemmas.List.{append-nil}
-use Rattle.dm_two_nodes.specs.Stories.{Chapter, TakesEvent, IsSetBack, node_story, peer_behind}
-use Rattle.dm_two_nodes.proofs.Behind.{behind_both, deeds, dones, dones_both, as_turns, turns_both}
+use Rattle.dm_two_nodes.specs.Stories.{Chapter, TakesEvent, IsSetBack, node_story}
+use Rattle.dm_two_nodes.proofs.Behind.{peer_behind, behind_both, deeds, dones, dones_both, as_turns, turns_both}
 
 -- places of a list of neighbours
 grown : (ps : List (Option Peer)) (y : Option Peer) (j : ℕ) →

@@ -17,9 +17,9 @@ use Rattle.dm_two_peers.specs.Laws.{world_of}
 use Rattle.dm_octet_peers.specs.Laws.{fresh_peer}
 use Rattle.dm_two_nodes.specs.Numbering.{IsOneToOne}
 use Rattle.dm_two_nodes.specs.Renaming.{PeersGoByNoNumber}
-use Rattle.dm_two_nodes.specs.Stories.{Chapter, TakesEvent, IsSetBack, renumbered_story, node_story, side_story, peer_behind, gist}
+use Rattle.dm_two_nodes.specs.Stories.{Chapter, TakesEvent, IsSetBack, renumbered_story, node_story, side_story, gist}
 use Rattle.dm_two_nodes.specs.Meeting.{Neighbour, PlaysSide, world_between, EachRunIsPlayed}
-use Rattle.dm_two_nodes.proofs.Behind.{IsTaken, AreTaken, taken_renumbered}
+use Rattle.dm_two_nodes.proofs.Behind.{peer_behind, IsTaken, AreTaken, taken_renumbered}
 use Rattle.dm_two_nodes.proofs.Neighbours.{config_kept}
 use Rattle.dm_two_nodes.proofs.Sides.{side_takes}
 use Rattle.dm_two_nodes.proofs.Gists.{gist_renumbered}

@@ -12,8 +12,8 @@ use Rattle.dm_two_peers.specs.Happens.{Happening, Starts, Stops, TimesOut, Ticks
 use Rattle.dm_two_peers.specs.Turns.{turns, all_turns, WorldTurn, turn_by, turn_of, turn_at, turn_delivered, turn_pieced, turns_on}
 use Rattle.dm_octet_peers.specs.Octets.{as_cause, of_cause, as_event, of_event, as_actions, as_reply, octet_peers}
 use Rattle.dm_two_nodes.specs.Delivering.{turn_as}
-use Rattle.dm_two_nodes.specs.Stories.{turns_taken, side_chapters, side_story, peer_behind}
-use Rattle.dm_two_nodes.proofs.Behind.{behind_both, IsTaken, AreTaken, taken_both, deeds, dones, dones_both, as_turns, turns_both}
+use Rattle.dm_two_nodes.specs.Stories.{turns_taken, side_chapters, side_story}
+use Rattle.dm_two_nodes.proofs.Behind.{peer_behind, behind_both, IsTaken, AreTaken, taken_both, deeds, dones, dones_both, as_turns, turns_both}
 
 -- the turns of a side
 abbrev pub own_turns : Side → List (WorldTurn (List ℕ)) → List (WorldTurn (List ℕ))

@@ -55,6 +55,20 @@ pub record MeetIn (f g : ℕ → ℕ) (n m : Neighbour) (hs : List (Happening (L
   pub left : PlaysSide f n A (world_between n m) hs
   pub right : PlaysSide g m B (world_between n m) hs
 
+-- neighbours that do so, of these configurations
+pub record ArePlayed (f g : ℕ → ℕ) (a b : Config) (hs : List (Happening (List ℕ))) : Type 0 where
+  pub near : Neighbour
+  pub far : Neighbour
+  pub near_config : near.peer.config ≡ a
+  pub far_config : far.peer.config ≡ b
+  pub meet : MeetIn f g near far hs
+
+-- each run is played by two, whatever their numbers of connections
+abbrev pub EachRunIsPlayed : Type 0
+EachRunIsPlayed =
+    (f g : ℕ → ℕ) (a b : Config) (hs : List (Happening (List ℕ))) → IsOneToOne f → IsOneToOne g →
+    ArePlayed f g a b hs
+
 -- the connections of two neighbours are links of the run: one link in opposite roles, or two links that are ending
 pub record AreLinked (f g : ℕ → ℕ) (w : World Peer (List ℕ)) (role role' : Role) (c d : ℕ) : Type 0 where
   pub near : ℕ
@@ -70,20 +84,7 @@ pub record NeighboursAgree (f g : ℕ → ℕ) (a b : Node) (w : World Peer (Lis
   pub one_there : (r r' : Role) (c d : ℕ) → IsOpenOn b r c → IsOpenOn b r' d → c ≡ d
   pub both : (r r' : Role) (c d : ℕ) → IsOpenOn a r c → IsOpenOn b r' d → AreLinked f g w r r' c d
 
--- neighbours that do so, of these configurations
-pub record ArePlayed (f g : ℕ → ℕ) (a b : Config) (hs : List (Happening (List ℕ))) : Type 0 where
-  pub near : Neighbour
-  pub far : Neighbour
-  pub near_config : near.peer.config ≡ a
-  pub far_config : far.peer.config ≡ b
-  pub meet : MeetIn f g near far hs
-
--- each run is played by two, whatever their numbers of connections
-abbrev pub EachRunIsPlayed : Type 0
-EachRunIsPlayed =
-    (f g : ℕ → ℕ) (a b : Config) (hs : List (Happening (List ℕ))) → IsOneToOne f → IsOneToOne g →
-    ArePlayed f g a b hs
-
+-- whatever happens to the rest
 abbrev pub TwoNodesAgree : Type 0
 TwoNodesAgree =
     (f g : ℕ → ℕ) (n m : Neighbour) (hs : List (Happening (List ℕ))) → MeetIn f g n m hs →

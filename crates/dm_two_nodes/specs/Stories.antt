@@ -55,21 +55,16 @@ abbrev pub side_story : Side → World Peer (List ℕ) → List (Happening (List
 side_story s w [] = []
 side_story s w (h ∷ hs) = side_chapters s w h ++ side_story s (world_after w (happens octet_peers w h)) hs
 
--- the peer behind a story
-abbrev pub peer_behind : Peer → List Chapter → Peer
-peer_behind p [] = p
-peer_behind p (TakesEvent e ∷ more) = peer_behind (peer_left p (acts p e)) more
-peer_behind p (IsSetBack ∷ more) = peer_behind (set_back p) more
-
--- a connection that is held neither before an event nor behind it: the event passes the peer by
+-- neither of two peers holds the connection, if it is one
 abbrev pub holds_neither : Peer → Peer → Option Conn → Bool
 holds_neither p q None = false
 holds_neither p q (Some c) = not (holds c p) && not (holds c q)
 
+-- an event passes a peer by where it names a connection that is held neither before it nor behind it
 abbrev pub passes_by : Peer → PeerEvent → Bool
 passes_by p e = holds_neither p (peer_left p (acts p e)) (conn_of e)
 
--- a story without what passes the peer by: what comes on connections that it never takes up
+-- a story without what passes the peer by
 abbrev pub gist : Peer → List Chapter → List Chapter
 gist p [] = []
 gist p (TakesEvent e ∷ more) =

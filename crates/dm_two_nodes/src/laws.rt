@@ -2,7 +2,8 @@
 //! the law. They stand for users.
 ghost use Rattle.dm_two_nodes.specs.Delivering.{TwoNodesDeliver};
 ghost use Rattle.dm_two_nodes.specs.Histories.{HistoryTellsThePeer, HistoriesGoByNoNumber, SameHistoryMakesTheSame};
-ghost use Rattle.dm_two_nodes.specs.Meeting.{EachNeighbourIsItsSide, EachRunIsPlayed, TwoNodesAgree, QuietNodesAreShutOrOpen};
+ghost use Rattle.dm_two_nodes.specs.Meeting.{EachNeighbourIsItsSide, EachRunIsPlayed};
+ghost use Rattle.dm_two_nodes.specs.Meeting.{TwoNodesAgree, QuietNodesAreShutOrOpen};
 ghost use Rattle.dm_two_nodes.specs.Numbering.{StepsGoByNoNumber};
 ghost use Rattle.dm_two_nodes.specs.Renaming.{PeersGoByNoNumber};
 
