@@ -10,3 +10,4 @@ mod Gists
 mod Meeting
 mod Playing
 mod Delivering
+mod Others

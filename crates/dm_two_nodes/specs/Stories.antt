@@ -19,6 +19,7 @@ use Rattle.dm_two_peers.specs.Turns.{WorldTurn, turns}
 use Rattle.dm_octet_peers.specs.Octets.{of_event, octet_peers}
 use Rattle.dm_two_nodes.specs.Renaming.{renumbered_event}
 
+-- a peer takes an event, or is set back
 pub data Chapter : Type 0 where
   TakesEvent : PeerEvent → Chapter
   IsSetBack : Chapter

@@ -1,6 +1,6 @@
 //! Laws of two nodes. Each function is a law: it does nothing but call the laws that it stands on, and its contract is
 //! the law. They stand for users.
-ghost use Rattle.dm_two_nodes.specs.Delivering.{TwoNodesDeliver};
+ghost use Rattle.dm_two_nodes.specs.Delivering.{OthersLeaveTheStory, TwoNodesDeliver};
 ghost use Rattle.dm_two_nodes.specs.Histories.{HistoryTellsThePeer, HistoriesGoByNoNumber, SameHistoryMakesTheSame};
 ghost use Rattle.dm_two_nodes.specs.Meeting.{EachNeighbourIsItsSide, EachRunIsPlayed};
 ghost use Rattle.dm_two_nodes.specs.Meeting.{TwoNodesAgree, QuietNodesAreShutOrOpen};
@@ -53,6 +53,12 @@ pub fn each_neighbour_is_its_side()
     each_event_is_a_case();
     each_event_keeps_settled();
 }
+
+/// What happens to the rest of a node is no part of that: a step that concerns another neighbour, or nobody, leaves
+/// what befell this one, and its turns.
+pub fn others_leave_the_story()
+    ensures { OthersLeaveTheStory }
+{}
 
 /// Each run of two new peers is played so: there are two nodes with a neighbour each to which just that happened, under
 /// whatever numbers.
