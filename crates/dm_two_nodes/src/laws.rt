@@ -41,9 +41,9 @@ pub fn histories_go_by_no_number()
 }
 
 /// A neighbour of a node is what a side of a run of two peers is, but for numbers of connections, where what befell it
-/// since it was added is what befell the side: the same events taken, and set back where the side restarted. What the
-/// neighbour refused counts for nothing, and no more does what came on connections that it never took up; and whatever
-/// happens to the other neighbours stands freely in between.
+/// since it was added is what befell the side: the same events taken, and set back where the side restarted. What it
+/// refused counts for nothing, nor does an event on a connection that is held neither before it nor behind it; and
+/// whatever happens to the other neighbours stands freely in between.
 pub fn each_neighbour_is_its_side()
     ensures { EachNeighbourIsItsSide }
 {
