@@ -3,6 +3,7 @@ use Rattle.std.proofs.Common.{◌≡◌, ℕ, Bool, true, false, not, ◌&&◌, 
 use Rattle.std.specs.List.{list_all}
 use Rattle.std.proofs.lemmas.Bool.{and_parts, and_from}
 use Rattle.dm_wire.specs.declared.message.Header.{Header}
+use Rattle.dm_wire.specs.declared.message.Message.{Message}
 use Rattle.dm_dict.specs.Faults.{Fault}
 use Rattle.dm_base.specs.declared.kind.Kind.{Kind}
 use Rattle.dm_base.specs.declared.kind.Kind.TheVariants as kinds
@@ -13,7 +14,7 @@ use Rattle.dm_machine.specs.Awaiting.{holds_cer}
 use Rattle.dm_peer.specs.declared.config.Config.{Config}
 use Rattle.dm_peer.specs.declared.peer.Peer.{Peer}
 use Rattle.dm_peer.specs.Events.{PeerEvent, Start, Stop, Timeout, Tick, Ack, Nack, Arrived, Gone, Submit}
-use Rattle.dm_peer.specs.Said.{Heard, word_heard, heard_caps, word_of_bad, refusal_of_caps, said, kind_under}
+use Rattle.dm_peer.specs.Said.{Heard, word_heard, heard_caps, word_of_bad, refusal_of_caps, is_other_sender, said, kind_under}
 use Rattle.dm_peer.specs.Acts.{input_of}
 use Rattle.dm_peer.specs.Steps.{has_heard_fault, is_arrival, is_stop, is_submit, has_what_it_says}
 use Rattle.dm_peer.specs.Cases.{Hears, unread, no_message, message, submits_it, bare}
@@ -28,27 +29,29 @@ by_bad : (b : Bool) → (not b || true) ≡ true
 by_bad true = refl
 by_bad false = refl
 
-by_code : (h : Header) (b : Bool) →
-    fits (Some (record { header = h; word = if b then Cea else CeaFailed; failure = None })) ≡ true
-by_code h true = refl
-by_code h false = refl
+by_code : (h : Header) (other b : Bool) →
+    fits (Some (record { header = h; word = if other then CeaFailed else (if b then Cea else CeaFailed); failure = None }))
+    ≡ true
+by_code h true b = refl
+by_code h false true = refl
+by_code h false false = refl
 
 by_caps : (h : Header) (code : Option ℕ) → fits (Some (heard_caps h code)) ≡ true
 by_caps h None = refl
 by_caps h (Some code) = refl
 
-said_fits : (c : Config) (h : Header) (r : Result Kind Fault) → fits (Some (said c h r)) ≡ true
-said_fits c h (Ok (kinds.Cer caps)) = by_caps h (refusal_of_caps c caps)
-said_fits c h (Ok (kinds.Cea code)) = by_code h (nat_le 2000 code && nat_le code 2999)
-said_fits c h (Ok kinds.Dwr) = refl
-said_fits c h (Ok kinds.Dwa) = refl
-said_fits c h (Ok (kinds.Dpr cause)) = refl
-said_fits c h (Ok kinds.Dpa) = refl
-said_fits c h (Ok kinds.Other) = refl
-said_fits c h (Err f) = by_bad (is_refused_word (word_of_bad h))
+said_fits : (c : Config) (m : Message) (r : Result Kind Fault) → fits (Some (said c m r)) ≡ true
+said_fits c m (Ok (kinds.Cer caps)) = by_caps m.header (refusal_of_caps c caps)
+said_fits c m (Ok (kinds.Cea code)) = by_code m.header (is_other_sender c m) (nat_le 2000 code && nat_le code 2999)
+said_fits c m (Ok kinds.Dwr) = refl
+said_fits c m (Ok kinds.Dwa) = refl
+said_fits c m (Ok (kinds.Dpr cause)) = refl
+said_fits c m (Ok kinds.Dpa) = refl
+said_fits c m (Ok kinds.Other) = refl
+said_fits c m (Err f) = by_bad (is_refused_word (word_of_bad m.header))
 
 pub heard_fits : (p : Peer) (e : PeerEvent) (h : Option Heard) → Hears p e h → fits h ≡ true
-heard_fits p e h (message c s m read is kept) = said_fits p.config m.header (kind_under p.config m)
+heard_fits p e h (message c s m read is kept) = said_fits p.config m (kind_under p.config m)
 heard_fits p e h (unread c s deaf) = refl
 heard_fits p e h (no_message c s read none) = refl
 heard_fits p e h (submits_it s opened can) = refl

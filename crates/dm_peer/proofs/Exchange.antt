@@ -1,5 +1,5 @@
 -- What a node builds is good to the other side.
-use Rattle.std.proofs.Common.{◌≡◌, ℕ, Bool, true, not, Option, None, Some, option_map, Ok, if◌then◌else◌, refl, sym, subst, ap, ◌∙◌, arith, pos}
+use Rattle.std.proofs.Common.{◌≡◌, ℕ, Bool, true, false, not, ◌&&◌, Option, None, Some, option_map, Ok, if◌then◌else◌, refl, sym, subst, ap, ◌∙◌, arith, pos}
 use Rattle.dm_wire.specs.declared.message.Message.{Message}
 use Rattle.dm_wire.specs.RoundTrip.{CanonicalSpells}
 use Rattle.dm_wire.specs.Whole.{SpelledIsIn}
@@ -12,7 +12,7 @@ use Rattle.dm_base.specs.Common.{is_common, is_secure, OwnInCommon}
 use Rattle.dm_base.specs.Laws.{CerIsOwn, CeaIsOwn, DwrIsOwn, DwaIsOwn, DprIsOwn, DpaIsOwn, CerIsSpelled, CeaIsSpelled, DwrIsSpelled, DprIsSpelled, AnswerIsSpelled}
 use Rattle.dm_base.specs.Spelled.{HasSpelling}
 use Rattle.dm_machine.specs.declared.inputs.Word.{Word}
-use Rattle.dm_machine.specs.declared.inputs.Word.TheVariants.{Cer, Cea, Dwr, Dwa, Dpr, Dpa}
+use Rattle.dm_machine.specs.declared.inputs.Word.TheVariants.{Cer, Cea, CeaFailed, Dwr, Dwa, Dpr, Dpa}
 use Rattle.dm_peer.specs.declared.config.Config.{Config}
 use Rattle.dm_peer.specs.Hosts.{is_same_host}
 use Rattle.dm_peer.specs.Octets.{octets_of}
@@ -32,8 +32,8 @@ kind_is c m k base =
 
 -- a message of a kind is heard as a word where its kind is
 heard_as : SentIsHeard → (c : Config) (m : Message) (k : Kind) (word : Word) →
-    HasSpelling m → IsBase m k → said_by_kind c m.header k ≡ good m.header word → IsHeardAs c m word
-heard_as heard c m k word s base told = heard c m s ∙ ap Some (ap (said c m.header) (kind_is c m k base) ∙ told)
+    HasSpelling m → IsBase m k → said_by_kind c m k ≡ good m.header word → IsHeardAs c m word
+heard_as heard c m k word s base told = heard c m s ∙ ap Some (ap (said c m) (kind_is c m k base) ∙ told)
 
 abbrev refusal : Bool → Bool → Bool → Option ℕ
 refusal host common secure =
@@ -51,10 +51,17 @@ cer_is_good heard own spelled shared c d id fits host common =
     (accepted (is_same_host caps.host d.peer) (is_common caps d.node) (is_secure caps)
     host (shared c.node d.node ∙ common) refl))
 
+-- a host that is the configured one where hosts are compared is no other
+no_other : (compares same : Bool) → (compares ≡ true → same ≡ true) → (compares && not same) ≡ false
+no_other false same is = refl
+no_other true same is = ap not (is refl)
+
 pub cea_is_good : SentIsHeard → CeaIsOwn → CeaIsSpelled → CeaIsGood
-cea_is_good heard own spelled c d to fits e =
-    heard_as heard c (built_cea d.node to 2001 None) (kinds.Cea 2001) Cea
-    (spelled d.node to 2001 None fits) (own d.node to 2001 None e (omega arith)) refl
+cea_is_good heard own spelled c d to fits e named =
+    let m = built_cea d.node to 2001 None in
+    heard_as heard c m (kinds.Cea 2001) Cea
+    (spelled d.node to 2001 None fits) (own d.node to 2001 None e (omega arith))
+    (ap (λ b. good m.header (if b then CeaFailed else Cea)) (no_other c.compares (is_same_host d.node.host c.peer) named))
 
 pub dwr_is_good : SentIsHeard → DwrIsOwn → DwrIsSpelled → DwrIsGood
 dwr_is_good heard own spelled c d id fits =

@@ -2,6 +2,7 @@ mod Asking
 mod Headers
 mod HeldAfter
 mod Cases
+mod Comparing
 mod Few
 mod Exchange
 mod Following

@@ -33,10 +33,12 @@ CerIsGood =
     (c d : Config) (id : ℕ) → id < 256 ^ 4 → is_same_host c.node.host d.peer ≡ true → are_common c.node d.node ≡ true
     → IsHeardAs d (built_cer c.node id) Cer
 
--- the CEA that accepts a CER is good to every peer; it has the Hop-by-Hop Identifier of the CER
+-- the CEA that accepts a CER is good to every peer that doesn't compare hosts, whomever it is configured for, and to
+-- one that does where it is configured for the node (own); it has the Hop-by-Hop Identifier of the CER
 abbrev pub CeaIsGood : Type 0
 CeaIsGood =
     (c d : Config) (to : Header) → HeaderFits to → to.command ≡ capabilities_exchange
+    → (c.compares ≡ true → is_same_host d.node.host c.peer ≡ true)
     → IsHeardAs c (built_cea d.node to success None) Cea
 
 -- and so are a watchdog, a disconnect and their answers (5.4 and 5.5)

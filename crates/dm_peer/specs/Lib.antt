@@ -7,6 +7,7 @@ pub mod Configs
 pub mod Octets
 pub mod Places
 pub mod Said
+pub mod Comparing
 pub mod Lent
 pub mod Sent
 pub mod After

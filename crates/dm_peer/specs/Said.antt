@@ -13,8 +13,9 @@ use Rattle.dm_base.specs.declared.base_command.BaseCommand.TheVariants.{Capabili
 use Rattle.dm_base.specs.declared.kind.Caps.{Caps}
 use Rattle.dm_base.specs.declared.kind.Kind.{Kind}
 use Rattle.dm_base.specs.declared.kind.Kind.TheVariants as kinds
+use Rattle.dm_base.specs.Codes.{origin_host}
 use Rattle.dm_base.specs.Commands.{base_command}
-use Rattle.dm_base.specs.Kinds.{kind}
+use Rattle.dm_base.specs.Kinds.{data_at, kind}
 use Rattle.dm_base.specs.Common.{is_common, is_secure}
 use Rattle.dm_machine.specs.declared.inputs.Word.{Word}
 use Rattle.dm_machine.specs.declared.inputs.Word.TheVariants.{Unreadable, Cer, CerRefused, Cea, CeaFailed, Dwr}
@@ -68,18 +69,30 @@ heard_caps h (Some code) = refused_message h CerRefused (record { code = code; f
 abbrev pub word_of_code : ℕ → Word
 word_of_code code = if nat_le 2000 code && nat_le code 2999 then Cea else CeaFailed
 
-abbrev pub said_by_kind : Config → Header → Kind → Heard
-said_by_kind c h (kinds.Cer caps) = heard_caps h (refusal_of_caps c caps)
-said_by_kind c h (kinds.Cea code) = good h (word_of_code code)
-said_by_kind c h kinds.Dwr = good h Dwr
-said_by_kind c h kinds.Dwa = good h Dwa
-said_by_kind c h (kinds.Dpr cause) = good h Dpr
-said_by_kind c h kinds.Dpa = good h Dpa
-said_by_kind c h kinds.Other = good h Other
+-- the host of a message's sender, as the message says it: the first Origin-Host; where there is none, no octets (6.3)
+abbrev pub sender_host : Message → List ℕ
+sender_host m = data_at origin_host m.avps
 
-abbrev pub said : Config → Header → Result Kind Fault → Heard
-said c h (Ok k) = said_by_kind c h k
-said c h (Err f) = refused_message h (word_of_bad h) f
+-- hosts are compared, and the sender isn't the configured peer (own)
+abbrev pub is_other_sender : Config → Message → Bool
+is_other_sender c m = c.compares && not (is_same_host (sender_host m) c.peer)
+
+-- a CEA of another sender fails, whatever its Result-Code; any other goes by its Result-Code
+abbrev pub word_of_cea : Config → Message → ℕ → Word
+word_of_cea c m code = if is_other_sender c m then CeaFailed else word_of_code code
+
+abbrev pub said_by_kind : Config → Message → Kind → Heard
+said_by_kind c m (kinds.Cer caps) = heard_caps m.header (refusal_of_caps c caps)
+said_by_kind c m (kinds.Cea code) = good m.header (word_of_cea c m code)
+said_by_kind c m kinds.Dwr = good m.header Dwr
+said_by_kind c m kinds.Dwa = good m.header Dwa
+said_by_kind c m (kinds.Dpr cause) = good m.header Dpr
+said_by_kind c m kinds.Dpa = good m.header Dpa
+said_by_kind c m kinds.Other = good m.header Other
+
+abbrev pub said : Config → Message → Result Kind Fault → Heard
+said c m (Ok k) = said_by_kind c m k
+said c m (Err f) = refused_message m.header (word_of_bad m.header) f
 
 -- the kind of a message under the configuration's dictionary, which is the base one
 unfoldable pub kind_under : Config → Message → Result Kind Fault
@@ -87,7 +100,7 @@ kind_under c m = kind c.dictionary m
 
 -- what a message says to a peer of this configuration
 abbrev pub heard_in : Config → Message → Heard
-heard_in c m = said c m.header (kind_under c m)
+heard_in c m = said c m (kind_under c m)
 
 -- what octets say, where they spell a message
 abbrev pub heard_at : Config → List ℕ → Option Heard

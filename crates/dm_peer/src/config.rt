@@ -14,12 +14,14 @@ use dm_wire::Octets;
 use std::alloc::{AllocError, Global};
 use std::cmp::Ordering;
 
-/// A node, the host that it is configured for, and where its numbers begin.
+/// A node, the host that it is configured for, where its numbers begin, and whether a CEA's Origin-Host is compared
+/// with that host.
 #[derive(Debug, Drop)]
 pub struct Config {
     pub(crate) node: Node,
     pub(crate) peer: Octets,
     pub(crate) first_id: u32,
+    pub(crate) compares: bool,
     pub(crate) dictionary: Shared,
     pub ghost fit_peer: { is_name peer ≡ true },
     pub ghost other_host: { is_same_host node.host peer ≡ false },
@@ -54,7 +56,8 @@ fn fault_of(host: &[u8], peer: &[u8]) -> Option<ConfigFault>
 impl Config {
     ghost use Rattle.dm_peer.specs.Configs.{wins};
 
-    /// A configuration of these parts, with the base dictionary. `first_id` is the number of the first request.
+    /// A configuration of these parts, with the base dictionary. `first_id` is the number of the first request. It
+    /// doesn't compare the host that a CEA names: see [`comparing`](Config::comparing).
     ///
     /// Refuses, in this order, with `BadHost` (the peer's name is empty, has an octet outside 0x21 to 0x7E, or is over
     /// 255 octets), `SameHost` (it is the node's own, upper and lower case taken as one) and `NoMemory`, and drops the
@@ -72,6 +75,7 @@ impl Config {
         ensures peer { IfOk result (λ config. config.peer ≡ peer.items) }
         ensures first_id { IfOk result (λ config. config.first_id ≡ first_id) }
         ensures dictionary { IfOk result (λ config. config.dictionary ≡ base_definitions) }
+        ensures compares { IfOk result (λ config. config.compares ≡ false) }
     {
         if let Some(fault) = fault_of(node.host(), peer.as_slice()) {
             return Err(fault);
@@ -82,13 +86,29 @@ impl Config {
                 peer: Octets::from_vec(peer),
                 first_id,
                 dictionary,
+                compares: false,
             }),
             Err(_) => Err(ConfigFault::NoMemory),
         }
     }
 
+    /// The same configuration, by which a CEA's first Origin-Host is compared with the peer's host, upper and lower
+    /// case taken as one: a CEA of another host fails whatever its Result-Code, and its connection is closed. This is
+    /// an own rule: RFC 6733 states no such check (5.3 and 5.6). It never answers want of memory.
+    pub fn comparing(self) -> Config
+        ensures node { result.node ≡ self.node }
+        ensures peer { result.peer ≡ self.peer }
+        ensures first_id { result.first_id ≡ self.first_id }
+        ensures dictionary { result.dictionary ≡ self.dictionary }
+        ensures compares { result.compares ≡ true }
+    {
+        let mut config = self;
+        config.compares = true;
+        config
+    }
+
     /// The configuration of the same node for another peer, the host, beginning with the same number. Both have one
-    /// dictionary: but for the names it takes little memory.
+    /// dictionary: but for the names it takes little memory. It compares hosts where this one does.
     ///
     /// Refuses in the order and with the faults of [`new`](Config::new).
     pub fn for_host(&self, alloc: Global, host: &[u8]) -> Result<Config, ConfigFault>
@@ -99,6 +119,7 @@ impl Config {
         ensures peer { IfOk result (λ config. config.peer ≡ host.now) }
         ensures first_id { IfOk result (λ config. config.first_id ≡ self.now.first_id) }
         ensures dictionary { IfOk result (λ config. config.dictionary ≡ base_definitions) }
+        ensures compares { IfOk result (λ config. config.compares ≡ self.now.compares) }
     {
         if let Some(fault) = fault_of(self.node.host(), host) {
             return Err(fault);
@@ -117,12 +138,14 @@ impl Config {
         ensures peer { IfOk result (λ config. config.peer ≡ host.now) }
         ensures first_id { IfOk result (λ config. config.first_id ≡ self.now.first_id) }
         ensures dictionary { IfOk result (λ config. config.dictionary ≡ self.now.dictionary) }
+        ensures compares { IfOk result (λ config. config.compares ≡ self.now.compares) }
     {
         Ok(Config {
             peer: Octets::from_slice(alloc, host)?,
             dictionary: self.dictionary.clone()?,
             node: self.node.clone()?,
             first_id: self.first_id,
+            compares: self.compares,
         })
     }
 

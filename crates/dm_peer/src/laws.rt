@@ -1,6 +1,7 @@
 //! Laws of peers. Each function is a law: it does nothing but call the laws that it stands on, and its contract is the
 //! law.
 ghost use Rattle.dm_peer.specs.Cases.{EachEventIsACase};
+ghost use Rattle.dm_peer.specs.Comparing.{PlainGoesByCode, OtherSenderFails, PeerIsHeardAlike, OthersAreHeardAlike};
 ghost use Rattle.dm_peer.specs.Holding.{OthersStayUnheld, ClosedIsUnheld, GoneIsUnheld};
 ghost use Rattle.dm_peer.specs.Kept.{IsKept};
 ghost use Rattle.dm_peer.specs.Laws.{
@@ -126,9 +127,20 @@ pub fn what_is_sent_is_heard()
     spelled_is_in();
 }
 
+/// What comparing changes: a CEA that passes its check fails where its sender isn't the configured peer, and goes by
+/// its Result-Code without the option; what the configured peer sends, and any other message, says the same with it and
+/// without it. The law stands for users.
+pub fn comparing_fails_other_senders_alone()
+    ensures plain { PlainGoesByCode }
+    ensures fails { OtherSenderFails }
+    ensures peer { PeerIsHeardAlike }
+    ensures others { OthersAreHeardAlike }
+{}
+
 /// The octets that a node sends are good to the other side: a CER to a peer that is configured for it and has an
-/// application in common with it, the CEA that accepts it, a watchdog, a disconnect and their answers to every peer
-/// (RFC 6733, 5.3 to 5.5). The law stands for users: two peers rest on it.
+/// application in common with it; the CEA that accepts it to every peer that doesn't compare hosts, and to one that
+/// does where it is configured for the node; a watchdog, a disconnect and their answers to every peer (RFC 6733, 5.3
+/// to 5.5). The law stands for users: two peers rest on it.
 pub fn sent_is_good()
     ensures cer { CerIsGood }
     ensures cea { CeaIsGood }

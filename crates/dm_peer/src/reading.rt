@@ -11,7 +11,10 @@ ghost use Rattle.dm_peer.specs.Said.{
   heard_in,
   kind_under,
   said_by_kind,
+  sender_host,
+  is_other_sender,
   word_of_bad,
+  word_of_cea,
   word_of_code,
   refusal_of_caps,
   heard_caps,
@@ -20,9 +23,10 @@ ghost use Rattle.dm_peer.specs.Said.{
 use crate::Config;
 use crate::config::is_same_host;
 use dm_base::codes::{NO_COMMON_APPLICATION, NO_COMMON_SECURITY, UNKNOWN_PEER};
-use dm_base::{BaseCommand, CapsRef, KindRef, view};
+use dm_base::{BaseCommand, CapsRef, KindRef, SenderRef, view};
 use dm_dict::{Failed, Judged};
 use dm_machine::Word;
+use dm_wire::laws::spelled_are_members;
 use dm_wire::{Header, MessageRef};
 
 /// A message that was read, with its parts where they lie: its header, its word, and why it is refused, where it is
@@ -104,13 +108,45 @@ fn word_of_code(code: u32) -> Word
     }
 }
 
-/// A message of this kind.
-fn said_by_kind<'a>(config: &Config, header: Header, kind: &KindRef<'_>) -> HeardRef<'a>
-    ensures { (k : Kind) → ShowsKind kind.now k → heard_of result ≡ said_by_kind config.now header k }
+/// The host of the message's sender: the first Origin-Host; where there is none, no octets.
+fn sender_host<'a>(message: &MessageRef<'a>) -> &'a [u8]
+    ensures { (l : List Avp) → SpellsList l message.now.rest.now
+        → result.now ≡ sender_host (record { header = message.now.header; avps = l }) }
 {
+    spelled_are_members();
+    let sender = SenderRef { rest: message.rest };
+    sender.host()
+}
+
+/// Whether hosts are compared, and the message's sender isn't the configured peer.
+fn is_other_sender(config: &Config, message: &MessageRef<'_>) -> bool
+    ensures { (l : List Avp) → SpellsList l message.now.rest.now
+        → result ≡ is_other_sender config.now (record { header = message.now.header; avps = l }) }
+{
+    config.compares && !is_same_host(sender_host(message), config.peer.as_slice())
+}
+
+/// The word of a CEA of this Result-Code.
+fn word_of_cea(config: &Config, message: &MessageRef<'_>, code: u32) -> Word
+    ensures { (l : List Avp) → SpellsList l message.now.rest.now
+        → result ≡ word_of_cea config.now (record { header = message.now.header; avps = l }) code }
+{
+    if is_other_sender(config, message) {
+        Word::CeaFailed
+    } else {
+        word_of_code(code)
+    }
+}
+
+/// A message of this kind.
+fn said_by_kind<'a>(config: &Config, message: &MessageRef<'_>, kind: &KindRef<'_>) -> HeardRef<'a>
+    ensures { (l : List Avp) → SpellsList l message.now.rest.now → (k : Kind) → ShowsKind kind.now k
+        → heard_of result ≡ said_by_kind config.now (record { header = message.now.header; avps = l }) k }
+{
+    let header = message.header;
     match kind {
         KindRef::Cer(caps) => heard_caps(config, header, caps),
-        KindRef::Cea(code) => good(header, word_of_code(*code)),
+        KindRef::Cea(code) => good(header, word_of_cea(config, message, *code)),
         KindRef::Dwr => good(header, Word::Dwr),
         KindRef::Dwa => good(header, Word::Dwa),
         KindRef::Dpr(_) => good(header, Word::Dpr),
@@ -126,7 +162,7 @@ pub(crate) fn hear<'a>(config: &Config, message: &MessageRef<'a>) -> HeardRef<'a
         → heard_of result ≡ heard_in config.now (record { header = message.now.header; avps = l }) }
 {
     match view(config.dictionary.get(), message) {
-        Ok(kind) => said_by_kind(config, message.header, &kind),
+        Ok(kind) => said_by_kind(config, message, &kind),
         Err(judged) => HeardRef {
             header: message.header,
             word: word_of_bad(&message.header),
