@@ -2,7 +2,6 @@
 use Rattle.std.proofs.Common.{◌≡◌, inl, inr, Bool, true, false, ◌&&◌, nat_le, Option, None, Some, is_some, List, Ok, if◌then◌else◌, refl, sym, ap, ◌∙◌}
 use Rattle.std.proofs.lemmas.Bool.{cases_Bool}
 use Rattle.dm_wire.specs.declared.avp.Avp.{Avp}
-use Rattle.dm_wire.specs.declared.message.Header.{Header}
 use Rattle.dm_wire.specs.declared.message.Message.{Message}
 use Rattle.dm_dict.specs.Faults.{Fault, faults, first}
 use Rattle.dm_base.specs.Codes.{result_code}
@@ -15,14 +14,14 @@ use Rattle.dm_base.specs.Kinds.{caps_of, number_at, kind_by, kind_of, kind_or_fa
 use Rattle.dm_machine.specs.declared.inputs.Word.{Word}
 use Rattle.dm_machine.specs.declared.inputs.Word.TheVariants.{Other}
 use Rattle.dm_peer.specs.declared.config.Config.{Config}
-use Rattle.dm_peer.specs.Said.{heard_in, refusal_of_caps, said, kind_under}
+use Rattle.dm_peer.specs.Said.{heard_in, refusal_of_caps, is_other_sender, said, kind_under}
 use Rattle.dm_history.specs.Meant.{IsAcceptableCer, IsAcceptableCea}
 use Rattle.dm_history.proofs.Words.{not_bad, caps_word, code_word}
 
 -- a message of another command is no base message, and the other way round
 abbrev pub word_if : Config → Message → Bool → Word
 word_if c m b =
-    (said c m.header (if b
+    (said c m (if b
     then kind_or_fault (first (faults c.dictionary m)) (kind_of m.header.command m.header.request m.avps)
     else Ok kinds.Other)).word
 
@@ -40,25 +39,25 @@ base_word c m w e differs = elim (cases_Bool (is_base_command m.header.command))
   | inr other ↦ absurd (differs (sym (other_word c m other) ∙ e))
 ]
 
-no_other_kind : (c : Config) (h : Header) (o : Option BaseCommand) (r : Bool) (l : List Avp) →
-    is_some o ≡ true → (said c h (Ok (kind_by o r l))).word ≡ Other → ⊥
-no_other_kind c h (Some CapabilitiesExchange) true l base e =
-    caps_word h (refusal_of_caps c (caps_of l)) Other e (λ x. cc x) (λ x. cc x)
-no_other_kind c h (Some CapabilitiesExchange) false l base e =
+no_other_kind : (c : Config) (m : Message) (o : Option BaseCommand) (r : Bool) (l : List Avp) →
+    is_some o ≡ true → (said c m (Ok (kind_by o r l))).word ≡ Other → ⊥
+no_other_kind c m (Some CapabilitiesExchange) true l base e =
+    caps_word m.header (refusal_of_caps c (caps_of l)) Other e (λ x. cc x) (λ x. cc x)
+no_other_kind c m (Some CapabilitiesExchange) false l base e =
     let code = number_at result_code l in
-    code_word (nat_le 2000 code && nat_le code 2999) Other e (λ x. cc x) (λ x. cc x)
-no_other_kind c h (Some DeviceWatchdog) true l base e = cc e
-no_other_kind c h (Some DeviceWatchdog) false l base e = cc e
-no_other_kind c h (Some DisconnectPeer) true l base e = cc e
-no_other_kind c h (Some DisconnectPeer) false l base e = cc e
-no_other_kind c h None r l base e = cc base
+    code_word (is_other_sender c m) (nat_le 2000 code && nat_le code 2999) Other e (λ x. cc x) (λ x. cc x)
+no_other_kind c m (Some DeviceWatchdog) true l base e = cc e
+no_other_kind c m (Some DeviceWatchdog) false l base e = cc e
+no_other_kind c m (Some DisconnectPeer) true l base e = cc e
+no_other_kind c m (Some DisconnectPeer) false l base e = cc e
+no_other_kind c m None r l base e = cc base
 
 base_differs : (c : Config) (m : Message) (f : Option Fault) → is_base_command m.header.command ≡ true →
-    (said c m.header (kind_or_fault f (kind_of m.header.command m.header.request m.avps))).word ≡ Other → ⊥
+    (said c m (kind_or_fault f (kind_of m.header.command m.header.request m.avps))).word ≡ Other → ⊥
 base_differs c m (Some f) base e =
     not_bad (base_command m.header.command) m.header.request Other e refl
 base_differs c m None base e =
-    no_other_kind c m.header (base_command m.header.command) m.header.request m.avps base e
+    no_other_kind c m (base_command m.header.command) m.header.request m.avps base e
 
 pub other_command : (c : Config) (m : Message) → (heard_in c m).word ≡ Other → is_base_command m.header.command ≡ false
 other_command c m e = elim (cases_Bool (is_base_command m.header.command)) [

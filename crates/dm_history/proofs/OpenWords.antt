@@ -45,27 +45,27 @@ caps_end : (h : Header) (o : Option ℕ) → keeps_open (heard_caps h o).word �
 caps_end h None = refl
 caps_end h (Some code) = refl
 
-good_keeps : (c : Config) (h : Header) (a : Awaited) (o : Option BaseCommand) (r : Bool) (id : ℕ) (l : List Avp) →
+good_keeps : (c : Config) (m : Message) (a : Awaited) (o : Option BaseCommand) (r : Bool) (id : ℕ) (l : List Avp) →
     a.cea ≡ None → a.dpa ≡ None → is_some o ≡ true → IsAwaitedBy a o r id →
-    keeps_open (said c h (Ok (kind_by o r l))).word ≡ leaves (is_disconnect (Ok (kind_by o r l))) o r
-good_keeps c h a (Some CapabilitiesExchange) true id l cea dpa base e = caps_end h (refusal_of_caps c (caps_of l))
-good_keeps c h a (Some CapabilitiesExchange) false id l cea dpa base e = absurd (none_awaited a.cea id cea e)
-good_keeps c h a (Some DeviceWatchdog) true id l cea dpa base e = refl
-good_keeps c h a (Some DeviceWatchdog) false id l cea dpa base e = refl
-good_keeps c h a (Some DisconnectPeer) true id l cea dpa base e = refl
-good_keeps c h a (Some DisconnectPeer) false id l cea dpa base e = absurd (none_awaited a.dpa id dpa e)
-good_keeps c h a None r id l cea dpa base e = cc base
+    keeps_open (said c m (Ok (kind_by o r l))).word ≡ leaves (is_disconnect (Ok (kind_by o r l))) o r
+good_keeps c m a (Some CapabilitiesExchange) true id l cea dpa base e = caps_end m.header (refusal_of_caps c (caps_of l))
+good_keeps c m a (Some CapabilitiesExchange) false id l cea dpa base e = absurd (none_awaited a.cea id cea e)
+good_keeps c m a (Some DeviceWatchdog) true id l cea dpa base e = refl
+good_keeps c m a (Some DeviceWatchdog) false id l cea dpa base e = refl
+good_keeps c m a (Some DisconnectPeer) true id l cea dpa base e = refl
+good_keeps c m a (Some DisconnectPeer) false id l cea dpa base e = absurd (none_awaited a.dpa id dpa e)
+good_keeps c m a None r id l cea dpa base e = cc base
 
 -- a message of a base command, and one of another
 base_keeps : (c : Config) (m : Message) (a : Awaited) (f : Option Fault) → a.cea ≡ None → a.dpa ≡ None →
     is_base_command m.header.command ≡ true → is_unawaited a m.header ≡ false →
-    keeps_open (said c m.header (kind_or_fault f (kind_of m.header.command m.header.request m.avps))).word
+    keeps_open (said c m (kind_or_fault f (kind_of m.header.command m.header.request m.avps))).word
     ≡ leaves (is_disconnect (kind_or_fault f (kind_of m.header.command m.header.request m.avps)))
     (base_command m.header.command) m.header.request
 base_keeps c m a (Some f) cea dpa base e =
     bad_keeps a (base_command m.header.command) m.header.request m.header.hop_id cea dpa base e
 base_keeps c m a None cea dpa base e =
-    good_keeps c m.header a (base_command m.header.command) m.header.request m.header.hop_id m.avps cea dpa base e
+    good_keeps c m a (base_command m.header.command) m.header.request m.header.hop_id m.avps cea dpa base e
 
 no_exchange : (r : Bool) (o : Option BaseCommand) → is_some o ≡ false → true ≡ leaves false o r
 no_exchange r (Some x) e = cc e

@@ -16,7 +16,7 @@ use Rattle.dm_machine.specs.declared.inputs.Word.{Word}
 use Rattle.dm_machine.specs.declared.inputs.Word.TheVariants.{Cer, CerRefused, Cea, CeaFailed, DwrBad, DwaBad, DprBad, DpaBad}
 use Rattle.dm_peer.specs.declared.config.Config.{Config}
 use Rattle.dm_peer.specs.Hosts.{is_same_host}
-use Rattle.dm_peer.specs.Said.{heard_in, heard_caps, bad_word, refusal_of_caps, said, kind_under}
+use Rattle.dm_peer.specs.Said.{heard_in, heard_caps, bad_word, refusal_of_caps, sender_host, is_other_sender, said, kind_under}
 use Rattle.dm_history.specs.Meant.{IsAcceptableCer, IsAcceptableCea}
 
 -- a message that fails its check has a word of its own
@@ -48,35 +48,48 @@ pub caps_word : (h : Header) (o : Option ℕ) (w : Word) → (heard_caps h o).wo
 caps_word h None w e good bad = good e
 caps_word h (Some code) w e good bad = bad e
 
-pub code_word : (b : Bool) (w : Word) → (if b then Cea else CeaFailed) ≡ w → (Cea ≡ w → ⊥) → (CeaFailed ≡ w → ⊥) → ⊥
-code_word true w e good bad = good e
-code_word false w e good bad = bad e
+pub code_word : (other b : Bool) (w : Word) → (if other then CeaFailed else (if b then Cea else CeaFailed)) ≡ w →
+    (Cea ≡ w → ⊥) → (CeaFailed ≡ w → ⊥) → ⊥
+code_word true b w e good bad = bad e
+code_word false true w e good bad = good e
+code_word false false w e good bad = bad e
 
 none_refused : (h : Header) (o : Option ℕ) → (heard_caps h o).word ≡ Cer → o ≡ None
 none_refused h None e = refl
 none_refused h (Some code) e = cc
 
-is_success : (b : Bool) → (if b then Cea else CeaFailed) ≡ Cea → b ≡ true
-is_success true e = refl
-is_success false e = cc
+is_success : (other b : Bool) → (if other then CeaFailed else (if b then Cea else CeaFailed)) ≡ Cea →
+    (b ≡ true) × (other ≡ false)
+is_success true b e = absurd (cc e)
+is_success false true e = (refl, refl)
+is_success false false e = absurd (cc e)
 
-cer_of : (c : Config) (h : Header) (r : Result Kind Fault) → (said c h r).word ≡ Cer →
+cer_of : (c : Config) (m : Message) (r : Result Kind Fault) → (said c m r).word ≡ Cer →
     (caps : Caps) × (r ≡ Ok (kinds.Cer caps)) × (refusal_of_caps c caps ≡ None)
-cer_of c h (Ok (kinds.Cer caps)) e = (caps, refl, none_refused h (refusal_of_caps c caps) e)
-cer_of c h (Ok (kinds.Cea code)) e =
-    absurd (code_word (nat_le 2000 code && nat_le code 2999) Cer e (λ x. cc x) (λ x. cc x))
-cer_of c h (Ok _) e = absurd (cc e)
-cer_of c h (Err f) e =
-    absurd (not_bad (base_command h.command) h.request Cer e refl)
+cer_of c m (Ok (kinds.Cer caps)) e = (caps, refl, none_refused m.header (refusal_of_caps c caps) e)
+cer_of c m (Ok (kinds.Cea code)) e =
+    absurd (code_word (is_other_sender c m) (nat_le 2000 code && nat_le code 2999) Cer e (λ x. cc x) (λ x. cc x))
+cer_of c m (Ok _) e = absurd (cc e)
+cer_of c m (Err f) e =
+    absurd (not_bad (base_command m.header.command) m.header.request Cer e refl)
 
-cea_of : (c : Config) (h : Header) (r : Result Kind Fault) → (said c h r).word ≡ Cea →
+cea_of : (c : Config) (m : Message) (r : Result Kind Fault) → (said c m r).word ≡ Cea →
     (code : ℕ) × (r ≡ Ok (kinds.Cea code)) × ((nat_le 2000 code && nat_le code 2999) ≡ true)
-cea_of c h (Ok (kinds.Cea code)) e = (code, refl, is_success (nat_le 2000 code && nat_le code 2999) e)
-cea_of c h (Ok (kinds.Cer caps)) e =
-    absurd (caps_word h (refusal_of_caps c caps) Cea e (λ x. cc x) (λ x. cc x))
-cea_of c h (Ok _) e = absurd (cc e)
-cea_of c h (Err f) e =
-    absurd (not_bad (base_command h.command) h.request Cea e refl)
+    × (is_other_sender c m ≡ false)
+cea_of c m (Ok (kinds.Cea code)) e =
+    let s = is_success (is_other_sender c m) (nat_le 2000 code && nat_le code 2999) e in
+    (code, refl, s.0, s.1)
+cea_of c m (Ok (kinds.Cer caps)) e =
+    absurd (caps_word m.header (refusal_of_caps c caps) Cea e (λ x. cc x) (λ x. cc x))
+cea_of c m (Ok _) e = absurd (cc e)
+cea_of c m (Err f) e =
+    absurd (not_bad (base_command m.header.command) m.header.request Cea e refl)
+
+-- where hosts are compared and the sender is no other, it is the configured peer
+no_other : (compares same : Bool) → (compares && not same) ≡ false → compares ≡ true → same ≡ true
+no_other true true e is = refl
+no_other true false e is = absurd (cc e)
+no_other false same e is = absurd (cc is)
 
 none_of_three : (x y z : ℕ) (a b d : Bool) →
     (if not a then Some x else (if not b then Some y else (if not d then Some z else None))) ≡ None →
@@ -92,23 +105,29 @@ kind_is c m = refl
 
 pub good_cer : (c : Config) (m : Message) → (heard_in c m).word ≡ Cer → IsAcceptableCer c m
 good_cer c m e =
-    let x = cer_of c m.header (kind_under c m) e in
+    let x = cer_of c m (kind_under c m) e in
     let t = none_of_three 3010 5010 5017 (is_same_host x.0.host c.peer) (is_common x.0 c.node) (is_secure x.0) x.2 in
     record { caps = x.0; checked = sym (kind_is c m) ∙ x.1; named = t.0; shared = t.1; secure = t.2 }
 
 pub good_cea : (c : Config) (m : Message) → (heard_in c m).word ≡ Cea → IsAcceptableCea c m
 good_cea c m e =
-    let x = cea_of c m.header (kind_under c m) e in
+    let x = cea_of c m (kind_under c m) e in
     let t = and_parts (nat_le 2000 x.0) (nat_le x.0 2999) x.2 in
-    record { code = x.0; checked = sym (kind_is c m) ∙ x.1; least = t.0; most = t.1 }
+    record {
+      code = x.0;
+      checked = sym (kind_is c m) ∙ x.1;
+      least = t.0;
+      most = t.1;
+      named = no_other c.compares (is_same_host (sender_host m) c.peer) x.3;
+    }
 
 -- the header of what is heard is that of the message
-pub same_header : (c : Config) (h : Header) (r : Result Kind Fault) → (said c h r).header ≡ h
-same_header c h (Ok (kinds.Cer caps)) = by_refusal (refusal_of_caps c caps) where
-  by_refusal : (o : Option ℕ) → (heard_caps h o).header ≡ h
+pub same_header : (c : Config) (m : Message) (r : Result Kind Fault) → (said c m r).header ≡ m.header
+same_header c m (Ok (kinds.Cer caps)) = by_refusal (refusal_of_caps c caps) where
+  by_refusal : (o : Option ℕ) → (heard_caps m.header o).header ≡ m.header
   by_refusal None = refl
   by_refusal (Some code) = refl
-same_header c h _ = refl
+same_header c m _ = refl
 
 pub heard_header : (c : Config) (m : Message) → (heard_in c m).header ≡ m.header
-heard_header c m = same_header c m.header (kind_under c m)
+heard_header c m = same_header c m (kind_under c m)

@@ -7,6 +7,7 @@ use Rattle.dm_base.specs.Kinds.{kind}
 use Rattle.dm_base.specs.Common.{is_common, is_secure}
 use Rattle.dm_peer.specs.declared.config.Config.{Config}
 use Rattle.dm_peer.specs.Hosts.{is_same_host}
+use Rattle.dm_peer.specs.Said.{sender_host}
 
 -- the message passes its check as a CER of the configured host, has an application in common and asks for no security
 -- mechanism
@@ -17,9 +18,11 @@ pub record IsAcceptableCer (c : Config) (m : Message) : Type 0 where
   pub shared : is_common caps c.node ≡ true
   pub secure : is_secure caps ≡ true
 
--- it passes its check as a CEA with a Result-Code of success, 2000 to 2999
+-- it passes its check as a CEA with a Result-Code of success, 2000 to 2999, and where hosts are compared its sender is
+-- the configured one
 pub record IsAcceptableCea (c : Config) (m : Message) : Type 0 where
   pub code : ℕ
   pub checked : kind c.dictionary m ≡ Ok (kinds.Cea code)
   pub least : nat_le 2000 code ≡ true
   pub most : nat_le code 2999 ≡ true
+  pub named : c.compares ≡ true → is_same_host (sender_host m) c.peer ≡ true
