@@ -22,7 +22,7 @@ use Rattle.dm_machine.specs.declared.inputs.Word.TheVariants.{Cea, CeaFailed, Ot
 use Rattle.dm_peer.specs.declared.config.Config.{Config}
 use Rattle.dm_peer.specs.Octets.{octets_of}
 use Rattle.dm_peer.specs.Said as said_words
-use Rattle.dm_peer.specs.Said.{word_of_bad, refusal_of_caps, heard_caps, word_of_code, said_by_kind, said, kind_under, heard_in}
+use Rattle.dm_peer.specs.Said.{word_of_bad, refusal_of_caps, heard_caps, is_other_sender, word_of_cea, said_by_kind, said, kind_under, heard_in}
 use Rattle.dm_peer.specs.Acts.{can_submit}
 use Rattle.dm_octet_peers.specs.Carrying.{is_app}
 
@@ -35,12 +35,12 @@ caps_header : (h : Header) (o : Option ℕ) → (heard_caps h o).header ≡ h
 caps_header h None = refl
 caps_header h (Some code) = refl
 
-said_header : (c : Config) (h : Header) (r : Result Kind Fault) → (said c h r).header ≡ h
-said_header c h (Ok (kinds.Cer caps)) = caps_header h (refusal_of_caps c caps)
-said_header c h _ = refl
+said_header : (c : Config) (m : Message) (r : Result Kind Fault) → (said c m r).header ≡ m.header
+said_header c m (Ok (kinds.Cer caps)) = caps_header m.header (refusal_of_caps c caps)
+said_header c m _ = refl
 
 pub heard_header : (c : Config) (m : Message) → (heard_in c m).header ≡ m.header
-heard_header c m = said_header c m.header (kind_under c m)
+heard_header c m = said_header c m (kind_under c m)
 
 -- a message of another command is heard as one
 other_kind : (c : Config) (m : Message) → is_base_command m.header.command ≡ false → kind_under c m ≡ Ok kinds.Other
@@ -51,7 +51,7 @@ other_kind c m h =
 
 pub other_heard : (c : Config) (m : Message) → is_base_command m.header.command ≡ false →
     (heard_in c m).word ≡ Other
-other_heard c m h = ap (λ k. (said c m.header k).word) (other_kind c m h)
+other_heard c m h = ap (λ k. (said c m k).word) (other_kind c m h)
 
 -- and one of a base command isn't
 bad_word : (h : Header) → is_other (word_of_bad h) ≡ false
@@ -71,39 +71,40 @@ caps_word : (h : Header) (o : Option ℕ) → is_other (heard_caps h o).word ≡
 caps_word h None = refl
 caps_word h (Some code) = refl
 
-code_word : (code : ℕ) → is_other (word_of_code code) ≡ false
-code_word code = by_test (nat_le 2000 code && nat_le code 2999)
+code_word : (c : Config) (m : Message) (code : ℕ) → is_other (word_of_cea c m code) ≡ false
+code_word c m code = by_tests (is_other_sender c m) (nat_le 2000 code && nat_le code 2999)
   where
-    by_test : (b : Bool) → is_other (if b then Cea else CeaFailed) ≡ false
-    by_test true = refl
-    by_test false = refl
+    by_tests : (another b : Bool) → is_other (if another then CeaFailed else (if b then Cea else CeaFailed)) ≡ false
+    by_tests true b = refl
+    by_tests false true = refl
+    by_tests false false = refl
 
-kind_word : (c : Config) (h : Header) (code : ℕ) (request : Bool) (l : List Avp) →
-    is_base_command code ≡ true → is_other (said_by_kind c h (kind_of code request l)).word ≡ false
-kind_word c h code request l base = by_command (base_command code) request base
+kind_word : (c : Config) (m : Message) (code : ℕ) (request : Bool) (l : List Avp) →
+    is_base_command code ≡ true → is_other (said_by_kind c m (kind_of code request l)).word ≡ false
+kind_word c m code request l base = by_command (base_command code) request base
   where
     by_command : (o : Option BaseCommand) (request : Bool) → is_some o ≡ true →
-        is_other (said_by_kind c h (kind_by o request l)).word ≡ false
-    by_command (Some CapabilitiesExchange) true e = caps_word h (refusal_of_caps c (caps_of l))
-    by_command (Some CapabilitiesExchange) false e = code_word (number_at result_code l)
+        is_other (said_by_kind c m (kind_by o request l)).word ≡ false
+    by_command (Some CapabilitiesExchange) true e = caps_word m.header (refusal_of_caps c (caps_of l))
+    by_command (Some CapabilitiesExchange) false e = code_word c m (number_at result_code l)
     by_command (Some DeviceWatchdog) true e = refl
     by_command (Some DeviceWatchdog) false e = refl
     by_command (Some DisconnectPeer) true e = refl
     by_command (Some DisconnectPeer) false e = refl
     by_command None request e = cc
 
-said_word : (c : Config) (h : Header) (code : ℕ) (request : Bool) (l : List Avp) (o : Option Fault) →
-    is_base_command code ≡ true → is_other (said c h (kind_or_fault o (kind_of code request l))).word ≡ false
-said_word c h code request l None base = kind_word c h code request l base
-said_word c h code request l (Some f) base = bad_word h
+said_word : (c : Config) (m : Message) (code : ℕ) (request : Bool) (l : List Avp) (o : Option Fault) →
+    is_base_command code ≡ true → is_other (said c m (kind_or_fault o (kind_of code request l))).word ≡ false
+said_word c m code request l None base = kind_word c m code request l base
+said_word c m code request l (Some f) base = bad_word m.header
 
 pub base_heard : (c : Config) (m : Message) → is_base_command m.header.command ≡ true →
     is_other (heard_in c m).word ≡ false
 unfolding kind_under
 base_heard c m base =
-    subst (λ b. is_other (said c m.header (if b then kind_or_fault (first (faults c.dictionary m))
+    subst (λ b. is_other (said c m (if b then kind_or_fault (first (faults c.dictionary m))
     (kind_of m.header.command m.header.request m.avps) else Ok kinds.Other)).word ≡ false) (sym base)
-    (said_word c m.header m.header.command m.header.request m.avps (first (faults c.dictionary m)) base)
+    (said_word c m m.header.command m.header.request m.avps (first (faults c.dictionary m)) base)
 
 -- what a node builds is no message of an application
 abbrev command_by : Bool → Bool → Bool → Option BaseCommand

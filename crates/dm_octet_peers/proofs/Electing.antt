@@ -161,7 +161,10 @@ octet_replies below a b paired s p e i heard is (reads_cea c n number awaited ma
     let x = cea_octets (config_at a b (flip s)) n in
     let h = good (answer_header false (request_header capabilities_exchange n)) Cea in
     let from = config_at a b (flip s) in
-    let good_here = below.cea p.config from (request_header capabilities_exchange n) (header_fits n number) refl in
+    let same : is_same_host from.node.host p.config.peer ≡ true =
+    ap (λ (k : Config). is_same_host from.node.host k.peer) is.configured ∙ named a b paired s in
+    let good_here = below.cea p.config from (request_header capabilities_exchange n) (header_fits n number) refl
+    (λ compared. same) in
     stepped below a b s p (told.Arrived c x) (Some h) is
     (acts_heard p c x h (reads_made p.standing.core.state (hold_of p.standing.core c) made) good_here
     (awaited_kept p c n awaited))

@@ -1,5 +1,5 @@
 -- What a node builds is read as what it is; what is heard of a good DPR or DPA, and which messages may be a DPR.
-use Rattle.std.proofs.Common.{◌≡◌, ◌<◌, ◌^◌, ℕ, Bool, true, false, not, ◌&&◌, nat_eq, nat_lt, if◌then◌else◌, Option, None, Some, is_some, List, ◌∷◌, ◌++◌, drop, refl, sym, ap, subst, ◌∙◌, arith}
+use Rattle.std.proofs.Common.{◌≡◌, ◌<◌, ◌^◌, ℕ, Bool, true, false, not, ◌&&◌, nat_eq, nat_lt, nat_le, if◌then◌else◌, Option, None, Some, is_some, List, ◌∷◌, ◌++◌, drop, refl, sym, ap, subst, ◌∙◌, arith}
 use Rattle.std.specs.Prelude.{option_map, Result, Ok, Err, pos}
 use Rattle.std.proofs.lemmas.Bool.{and_parts, and_from, eqb-true}
 use Rattle.std.proofs.lemmas.Bool.Decides.{nat_tests}
@@ -31,7 +31,7 @@ use Rattle.dm_machine.specs.declared.inputs.Word.TheVariants.{Dpr, Dpa, Cea, Cea
 use Rattle.dm_peer.specs.declared.config.Config.{Config}
 use Rattle.dm_peer.specs.Octets.{octets_of}
 use Rattle.dm_peer.specs.Said as said_words
-use Rattle.dm_peer.specs.Said.{word_of_bad, refusal_of_caps, heard_caps, word_of_code, said_by_kind, said, kind_under, heard_in}
+use Rattle.dm_peer.specs.Said.{word_of_bad, refusal_of_caps, heard_caps, is_other_sender, word_of_cea, said_by_kind, said, kind_under, heard_in}
 use Rattle.dm_peer.specs.Sent.{is_protocol_error, answer_by, refusal}
 use Rattle.dm_peer.specs.Acts.{can_submit}
 use Rattle.dm_octet_peers.specs.Matching.{spells_such, is_numbered_so, has_fit, base_kind, is_good_dpr, is_good_dpa, octet_requests}
@@ -132,16 +132,16 @@ unfolding kind_under base_kind
 under_is c m = ap (λ d. kind d m) c.based
 
 pub dpr_heard : (c : Config) (m : Message) → is_good_dpr (base_kind m) ≡ true → (heard_in c m).word ≡ Dpr
-dpr_heard c m h = ap (λ k. (said c m.header k).word) (under_is c m) ∙ by_kind (base_kind m) h
+dpr_heard c m h = ap (λ k. (said c m k).word) (under_is c m) ∙ by_kind (base_kind m) h
   where
-    by_kind : (k : Result Kind Fault) → is_good_dpr k ≡ true → (said c m.header k).word ≡ Dpr
+    by_kind : (k : Result Kind Fault) → is_good_dpr k ≡ true → (said c m k).word ≡ Dpr
     by_kind (Ok (kinds.Dpr cause)) h = refl
     by_kind _ h = cc
 
 pub dpa_heard : (c : Config) (m : Message) → is_good_dpa (base_kind m) ≡ true → (heard_in c m).word ≡ Dpa
-dpa_heard c m h = ap (λ k. (said c m.header k).word) (under_is c m) ∙ by_kind (base_kind m) h
+dpa_heard c m h = ap (λ k. (said c m k).word) (under_is c m) ∙ by_kind (base_kind m) h
   where
-    by_kind : (k : Result Kind Fault) → is_good_dpa k ≡ true → (said c m.header k).word ≡ Dpa
+    by_kind : (k : Result Kind Fault) → is_good_dpa k ≡ true → (said c m k).word ≡ Dpa
     by_kind (Ok kinds.Dpa) h = refl
     by_kind _ h = cc
 
@@ -167,41 +167,42 @@ caps_word : (h : Header) (o : Option ℕ) → is_dpr_word (heard_caps h o).word 
 caps_word h None = refl
 caps_word h (Some code) = refl
 
-code_word : (code : ℕ) → is_dpr_word (word_of_code code) ≡ false
-code_word code = by_test _
+code_word : (c : Config) (m : Message) (code : ℕ) → is_dpr_word (word_of_cea c m code) ≡ false
+code_word c m code = by_tests (is_other_sender c m) (nat_le 2000 code && nat_le code 2999)
   where
-    by_test : (b : Bool) → is_dpr_word (if b then Cea else CeaFailed) ≡ false
-    by_test true = refl
-    by_test false = refl
+    by_tests : (another b : Bool) → is_dpr_word (if another then CeaFailed else (if b then Cea else CeaFailed)) ≡ false
+    by_tests true b = refl
+    by_tests false true = refl
+    by_tests false false = refl
 
-kind_word : (c : Config) (h : Header) (code : ℕ) (request : Bool) (l : List Avp) →
-    is_dpr_word (said_by_kind c h (kind_of code request l)).word ≡ true → (nat_eq code disconnect_peer && request) ≡ true
-kind_word c h code request l is =
+kind_word : (c : Config) (m : Message) (code : ℕ) (request : Bool) (l : List Avp) →
+    is_dpr_word (said_by_kind c m (kind_of code request l)).word ≡ true → (nat_eq code disconnect_peer && request) ≡ true
+kind_word c m code request l is =
     by_tests (nat_eq code capabilities_exchange) (nat_eq code device_watchdog) (nat_eq code disconnect_peer) request is
   where
-    by_tests : (e w d request : Bool) → is_dpr_word (said_by_kind c h (kind_by
+    by_tests : (e w d request : Bool) → is_dpr_word (said_by_kind c m (kind_by
         (if e then Some CapabilitiesExchange else (if w then Some DeviceWatchdog else (if d then Some DisconnectPeer
         else None))) request l)).word ≡ true → (d && request) ≡ true
-    by_tests true w d true is = let no_word = caps_word h (refusal_of_caps c (caps_of l)) in cc (is, no_word)
-    by_tests true w d false is = let no_word = code_word (number_at result_code l) in cc (is, no_word)
+    by_tests true w d true is = let no_word = caps_word m.header (refusal_of_caps c (caps_of l)) in cc (is, no_word)
+    by_tests true w d false is = let no_word = code_word c m (number_at result_code l) in cc (is, no_word)
     by_tests false true d true is = cc
     by_tests false true d false is = cc
     by_tests false false true true is = refl
     by_tests false false true false is = cc
     by_tests false false false request is = cc
 
-said_word : (c : Config) (h : Header) (code : ℕ) (request : Bool) (l : List Avp) (o : Option Fault) →
-    is_dpr_word (said c h (kind_or_fault o (kind_of code request l))).word ≡ true →
+said_word : (c : Config) (m : Message) (code : ℕ) (request : Bool) (l : List Avp) (o : Option Fault) →
+    is_dpr_word (said c m (kind_or_fault o (kind_of code request l))).word ≡ true →
     (nat_eq code disconnect_peer && request) ≡ true
-said_word c h code request l None is = kind_word c h code request l is
-said_word c h code request l (Some f) is = let no_word = bad_word h in cc (is, no_word)
+said_word c m code request l None is = kind_word c m code request l is
+said_word c m code request l (Some f) is = let no_word = bad_word m.header in cc (is, no_word)
 
 base_or_other : (c : Config) (m : Message) (b : Bool) →
-    is_dpr_word (said c m.header (if b then kind_or_fault (first (faults c.dictionary m))
+    is_dpr_word (said c m (if b then kind_or_fault (first (faults c.dictionary m))
     (kind_of m.header.command m.header.request m.avps) else Ok kinds.Other)).word ≡ true →
     (nat_eq m.header.command disconnect_peer && m.header.request) ≡ true
 base_or_other c m true is =
-    said_word c m.header m.header.command m.header.request m.avps (first (faults c.dictionary m)) is
+    said_word c m m.header.command m.header.request m.avps (first (faults c.dictionary m)) is
 base_or_other c m false is = cc
 
 pub dpr_asks : (c : Config) (m : Message) → (heard_in c m).word ≡ Dpr →
