@@ -78,21 +78,21 @@ one_node h n m a b =
     in same_node n m (of n a ∙ sym (of m b))
 
 -- a configuration with the base dictionary itself
-abbrev based : (n : Node) (peer : List ℕ) (first_id : ℕ) → is_name peer ≡ true → is_same_host n.host peer ≡ false
-    → Config
-based n peer first_id fit other =
+abbrev based : (n : Node) (peer : List ℕ) (first_id : ℕ) (compares : Bool) → is_name peer ≡ true
+    → is_same_host n.host peer ≡ false → Config
+based n peer first_id compares fit other =
     record {
       node = n;
       peer = peer;
       first_id = first_id;
       dictionary = base_definitions;
+      compares = compares;
       fit_peer = fit;
-      other_host =
-          other;
+      other_host = other;
       based = refl;
     }
 
-on_base : (c : Config) → c ≡ based c.node c.peer c.first_id c.fit_peer c.other_host
+on_base : (c : Config) → c ≡ based c.node c.peer c.first_id c.compares c.fit_peer c.other_host
 on_base c =
     path_j' {y = base_definitions}
     (λ d is. record {
@@ -100,31 +100,33 @@ on_base c =
       peer = c.peer;
       first_id = c.first_id;
       dictionary = d;
+      compares = c.compares;
       fit_peer = c.fit_peer;
-      other_host =
-          c.other_host;
+      other_host = c.other_host;
       based = is;
     }
-    ≡ based c.node c.peer c.first_id c.fit_peer c.other_host)
+    ≡ based c.node c.peer c.first_id c.compares c.fit_peer c.other_host)
     refl c.based
 
 abbrev Names : Type 0
-Names = Node × List ℕ × ℕ
+Names = Node × List ℕ × ℕ × Bool
 
 abbrev Differ : Names → Type 0
 Differ x = (is_name x.1 ≡ true) × (is_same_host x.0.host x.1 ≡ false)
 
-same_config : (c d : Config) → c.node ≡ d.node → c.peer ≡ d.peer → c.first_id ≡ d.first_id → c ≡ d
-same_config c d n p k =
-    let here : Names = (c.node, c.peer, c.first_id) in
-    let there : Names = (d.node, d.peer, d.first_id) in
-    let e : here ≡ there = λ i. (n i, p i, k i) in
-    let To : Names → Type 0 = λ y. (g : Differ y) → based c.node c.peer c.first_id c.fit_peer c.other_host ≡ based
-    y.0 y.1 y.2 g.0 g.1 in
-    let at : To here = λ g. λ i. based c.node c.peer c.first_id (one_proof _ _ c.fit_peer g.0 i)
+same_config : (c d : Config) → c.node ≡ d.node → c.peer ≡ d.peer → c.first_id ≡ d.first_id → c.compares ≡ d.compares
+    → c ≡ d
+same_config c d n p k w =
+    let here : Names = (c.node, c.peer, c.first_id, c.compares) in
+    let there : Names = (d.node, d.peer, d.first_id, d.compares) in
+    let e : here ≡ there = λ i. (n i, p i, k i, w i) in
+    let To : Names → Type 0 = λ y. (g : Differ y) → based c.node c.peer c.first_id c.compares c.fit_peer c.other_host
+    ≡ based y.0 y.1 y.2 y.3 g.0 g.1 in
+    let at : To here = λ g. λ i. based c.node c.peer c.first_id c.compares (one_proof _ _ c.fit_peer g.0 i)
     (one_proof _ _ c.other_host g.1 i) in
     on_base c ∙ subst To e at (d.fit_peer, d.other_host) ∙ sym (on_base d)
 
 pub one_config : (own other : Host) (c d : Config) → IsConfigOf own other c → IsConfigOf own other d → c ≡ d
 one_config own other c d a b =
     same_config c d (one_node own c.node d.node a.node b.node) (a.peer ∙ sym b.peer) (a.first_id ∙ sym b.first_id)
+    (a.compares ∙ sym b.compares)

@@ -71,6 +71,7 @@ config_of own other name most other_name differ = (
     peer = other.host;
     first_id = 1;
     dictionary = base_definitions;
+    compares = false;
     fit_peer = other_name;
     other_host = differ;
     based = refl;
@@ -81,6 +82,7 @@ config_of own other name most other_name differ = (
     peer = refl;
     first_id = refl;
     dictionary = refl;
+    compares = refl;
   },
 )
 

@@ -1,5 +1,5 @@
 -- What a text is read as.
-use Rattle.std.specs.Prelude.{◌≡◌, ℕ, List, [], ◌∷◌, codes, Option, Some, None, Result, Ok, Err}
+use Rattle.std.specs.Prelude.{◌≡◌, ℕ, false, List, [], ◌∷◌, codes, Option, Some, None, Result, Ok, Err}
 use Rattle.dm_value.specs.declared.address.Ip.TheVariants.{V4}
 use Rattle.dm_tables.specs.Base.{base_definitions}
 use Rattle.dm_base.specs.declared.node.Node.{Node}
@@ -24,12 +24,14 @@ pub record IsNodeOfHost (h : Host) (n : Node) : Type 0 where
   pub acct : n.acct ≡ []
   pub extras : n.extras ≡ None
 
--- the configuration of a peer that a script names: for the other's host, and with 1 as the number of the first request
+-- the configuration of a peer that a script names: for the other's host, with 1 as the number of the first request, and
+-- without comparing the host of a CEA
 pub record IsConfigOf (own other : Host) (c : Config) : Type 0 where
   pub node : IsNodeOfHost own c.node
   pub peer : c.peer ≡ other.host
   pub first_id : c.first_id ≡ 1
   pub dictionary : c.dictionary ≡ base_definitions
+  pub compares : c.compares ≡ false
 
 -- the lines of the text stand for the script
 pub record Scripted (text : List ℕ) (s : Script) : Type 0 where
