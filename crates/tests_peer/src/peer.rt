@@ -1,6 +1,7 @@
 //! Peers over octets, as tables of cases: what a peer is told, what it does, and its state then.
 
 mod broken;
+mod comparing;
 mod examples;
 mod histories;
 mod neighbours;

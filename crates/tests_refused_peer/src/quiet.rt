@@ -1,5 +1,5 @@
 //! Calls that take no memory, of the machine, peers and worlds: each request is refused, and none is made.
-use crate::peers::{node, peer};
+use crate::peers::{config, node, peer};
 use crate::rows::*;
 use crate::scripts::{list_of, script};
 use dm_peer::{Cause, Config, Conn, Core, Event, Input, Peer, PeerFault, Refusal, State, step};
@@ -61,7 +61,7 @@ fn starts(alloc: Global, peer: &mut Peer) -> bool {
     nacked && timed && refused && again && peer.state() == State::Closed
 }
 
-/// A peer that is made of its configuration holds no connection.
+/// A peer that is made of its configuration, which compares hosts, holds no connection.
 #[test]
 fn peers_start(rt: HostRuntime) {
     let node = node(&rt, b"a.example", 4);
@@ -70,7 +70,7 @@ fn peers_start(rt: HostRuntime) {
     refuse_each(rt.alloc());
     let named = config.node().host() == b"a.example".as_slice()
         && config.peer_host() == b"b.example".as_slice();
-    let mut peer = Peer::new(config);
+    let mut peer = Peer::new(config.comparing());
     let right = named
         && starts(rt.alloc(), &mut peer)
         && peer.initiated().is_none()
@@ -102,6 +102,22 @@ fn answers_are_dropped(rt: HostRuntime) {
     assert!(&rt; is_acked);
     refuse_each(alloc);
     drops(&rt, &mut peer, answer.as_slice());
+    drop(peer);
+}
+
+/// The host that a CEA names is compared with the peer's, and the connection is closed.
+#[test]
+fn hosts_are_compared(rt: HostRuntime) {
+    let answer = octets(&rt, CEA_1);
+    let mut peer = Peer::new(config(&rt, b"a.example", b"c.example", 4).comparing());
+    let alloc = rt.alloc();
+    let is_acked = goes_to(alloc, &mut peer, Event::Start(Conn(0)), State::WaitConnAck)
+        && goes_to(alloc, &mut peer, Event::Ack(Conn(0)), State::WaitICea);
+    assert!(&rt; is_acked);
+    refuse_each(alloc);
+    let heard = Event::Arrived(Conn(0), answer.as_slice());
+    let right = goes_to(alloc, &mut peer, heard, State::Closed);
+    check_quiet(&rt, right);
     drop(peer);
 }
 
