@@ -2,6 +2,7 @@ pub mod Apart
 pub mod FirstLine
 pub mod Joined
 pub mod Known
+pub mod NodeTurns
 pub mod Options
 pub mod Pieces
 pub mod Rests

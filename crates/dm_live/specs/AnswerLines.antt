@@ -47,8 +47,12 @@ unfoldable pub held_words : List ℕ → Option Conn → List ℕ
 held_words letter None = []
 held_words letter (Some c) = letter ++ decimal c.0
 
--- how the peer stands: its state, and the connections that it holds
+-- its state, and the connections that it holds
+unfoldable pub standing_words : Peer → List ℕ
+standing_words p =
+    state_text p.standing.core.state ++ held_words (codes " i") (own_of p) ++ held_words (codes " r") (other_of p)
+    ++ 10 ∷ []
+
+-- how the peer stands
 unfoldable pub state_line : Peer → List ℕ
-state_line p =
-    codes "state " ++ state_text p.standing.core.state ++ held_words (codes " i") (own_of p)
-    ++ held_words (codes " r") (other_of p) ++ 10 ∷ []
+state_line p = codes "state " ++ standing_words p

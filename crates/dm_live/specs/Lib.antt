@@ -6,6 +6,8 @@ pub mod Ending
 pub mod Input
 pub mod Laws
 pub mod Meetings
+pub mod NodeAnswers
+pub mod NodeOrderLines
 pub mod OrderLines
 pub mod ReadOrders
 pub mod SenderLines

@@ -4,7 +4,8 @@ ghost use Rattle.std.specs.String.{string_bytes};
 ghost use Rattle.dm_machine.specs.Printed.{state_text};
 ghost use Rattle.dm_session.specs.Orders.{as_turn};
 ghost use Rattle.dm_live.specs.AnswerLines.{action_line, action_lines, arrival_line, turn_lines, refusal_line};
-ghost use Rattle.dm_live.specs.AnswerLines.{held_words, state_line};
+ghost use Rattle.dm_live.specs.Served.{fault_answer};
+ghost use Rattle.dm_live.specs.AnswerLines.{held_words, standing_words, state_line};
 
 use dm_machine::Conn;
 use dm_peer::{Action, Peer, PeerFault};
@@ -41,7 +42,7 @@ pub fn push_actions(text: &mut String, actions: &[Action]) -> Result<(), AllocEr
 
 /// Appends that a whole message came, where one did.
 #[tactic(auto, unfolding(crate::specs::AnswerLines::arrival_line))]
-fn push_arrival(text: &mut String, arrived: Option<Conn>) -> Result<(), AllocError>
+pub(crate) fn push_arrival(text: &mut String, arrived: Option<Conn>) -> Result<(), AllocError>
     ensures { OnOk result (string_bytes text.new ≡ string_bytes text.old ++ arrival_line arrived) }
 {
     if let Some(conn) = arrived {
@@ -72,6 +73,14 @@ pub fn push_refusal(text: &mut String, fault: PeerFault) -> Result<(), AllocErro
     }
 }
 
+/// Appends that the line of this number has this fault.
+pub(crate) fn push_fault(text: &mut String, number: u64, name: &str) -> Result<(), AllocError>
+    ensures { OnOk result (string_bytes text.new ≡ string_bytes text.old ++ fault_answer number name.now) }
+{
+    writeln!(text, "fault {} {}", number, name)?;
+    text.push_str(".\n")
+}
+
 /// Appends the connection, where one is held, behind its letter.
 #[tactic(auto, unfolding(crate::specs::AnswerLines::held_words))]
 fn push_held(text: &mut String, letter: &str, held: Option<Conn>) -> Result<(), AllocError>
@@ -84,10 +93,18 @@ fn push_held(text: &mut String, letter: &str, held: Option<Conn>) -> Result<(), 
 }
 
 /// Appends how the peer stands.
+#[tactic(auto, unfolding(crate::specs::AnswerLines::state_line))]
 pub fn push_state(text: &mut String, peer: &Peer) -> Result<(), AllocError>
     ensures { OnOk result (string_bytes text.new ≡ string_bytes text.old ++ state_line peer.now) }
 {
     text.push_str("state ")?;
+    push_standing(text, peer)
+}
+
+/// Appends the peer's state, and the connections that it holds.
+pub(crate) fn push_standing(text: &mut String, peer: &Peer) -> Result<(), AllocError>
+    ensures { OnOk result (string_bytes text.new ≡ string_bytes text.old ++ standing_words peer.now) }
+{
     text.push_str(peer.state().name())?;
     push_held(text, " i", peer.initiated())?;
     push_held(text, " r", peer.accepted())?;

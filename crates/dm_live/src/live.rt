@@ -13,6 +13,7 @@ ghost use Rattle.dm_live.specs.Settings.{no_settings};
 ghost use Rattle.dm_live.specs.Stages.{stage_of};
 
 use crate::answer::answer_met;
+use crate::answer_lines::push_fault;
 use crate::draft::Draft;
 use crate::order_line::read_order;
 use crate::sender_lines::{is_sender, push_sender};
@@ -170,12 +171,4 @@ fn answer_told(
         }
         None => push_fault(text, number, "Syntax"),
     }
-}
-
-/// Appends that the line of this number has this fault.
-fn push_fault(text: &mut String, number: u64, name: &str) -> Result<(), AllocError>
-    ensures { OnOk result (string_bytes text.new ≡ string_bytes text.old ++ fault_answer number name.now) }
-{
-    writeln!(text, "fault {} {}", number, name)?;
-    text.push_str(".\n")
 }

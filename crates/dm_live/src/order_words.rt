@@ -46,6 +46,65 @@ pub(crate) fn conn_and_word<'a>(left: &mut Words<'a>) -> Option<(Conn, &'a [u8])
     Some((conn, word))
 }
 
+/// The number of a neighbour alone.
+pub(crate) fn index_alone(left: &mut Words<'_>) -> Option<usize>
+    ensures told { IfSome result (λ i. (number : List ℕ) × (words left.old ≡ number ∷ [])
+        × TellsLongNumber i number) }
+    ensures none { IfNone result ((n : ℕ) (number : List ℕ) → words left.old ≡ number ∷ []
+        → TellsLongNumber n number → ⊥) }
+{
+    let index = read_long_number(word_alone(left)?)?;
+    Some(index as usize)
+}
+
+/// The number of a neighbour that the next word tells.
+fn next_index(left: &mut Words<'_>) -> Option<usize>
+    ensures told { IfSome result (λ i. (number : List ℕ) × (words left.old ≡ number ∷ words left.new)
+        × TellsLongNumber i number) }
+    ensures none { IfNone result ((n : ℕ) (number : List ℕ) (more : List (List ℕ)) → words left.old ≡ number ∷ more
+        → TellsLongNumber n number → ⊥) }
+{
+    let index = read_long_number(left.next()?)?;
+    Some(index as usize)
+}
+
+/// The number of a neighbour, and a connection.
+pub(crate) fn index_and_conn(left: &mut Words<'_>) -> Option<(usize, Conn)>
+    ensures told { IfSome result (λ r. (number other : List ℕ) × (words left.old ≡ number ∷ other ∷ [])
+        × TellsLongNumber r.0 number × TellsLongNumber r.1.0 other) }
+    ensures none { IfNone result ((n m : ℕ) (number other : List ℕ) → words left.old ≡ number ∷ other ∷ []
+        → TellsLongNumber n number → TellsLongNumber m other → ⊥) }
+{
+    let index = next_index(left)?;
+    let conn = conn_alone(left)?;
+    Some((index, conn))
+}
+
+/// The number of a neighbour, and that of a cause.
+pub(crate) fn index_and_cause(left: &mut Words<'_>) -> Option<(usize, Cause)>
+    ensures told { IfSome result (λ r. (number other : List ℕ) × (words left.old ≡ number ∷ other ∷ [])
+        × TellsLongNumber r.0 number × TellsNumber (cause_number r.1) other) }
+    ensures none { IfNone result ((n : ℕ) (cause : Cause) (number other : List ℕ)
+        → words left.old ≡ number ∷ other ∷ [] → TellsLongNumber n number → TellsNumber (cause_number cause) other
+        → ⊥) }
+{
+    let index = next_index(left)?;
+    let cause = cause_alone(left)?;
+    Some((index, cause))
+}
+
+/// The number of a neighbour, and one word more.
+pub(crate) fn index_and_word<'a>(left: &mut Words<'a>) -> Option<(usize, &'a [u8])>
+    ensures told { IfSome result (λ r. (number : List ℕ) × (words left.old ≡ number ∷ r.1.now ∷ [])
+        × TellsLongNumber r.0 number) }
+    ensures none { IfNone result ((n : ℕ) (number word : List ℕ) → words left.old ≡ number ∷ word ∷ []
+        → TellsLongNumber n number → ⊥) }
+{
+    let index = next_index(left)?;
+    let word = word_alone(left)?;
+    Some((index, word))
+}
+
 /// Two numbers alone.
 pub(crate) fn two_numbers(left: &mut Words<'_>) -> Option<(u32, u32)>
     ensures told { IfSome result (λ r. (first second : List ℕ) × (words left.old ≡ first ∷ second ∷ [])

@@ -12,7 +12,7 @@ fn add(rt: &(impl Abort + AllocGlobal), session: &mut NodeSession, host: &[u8]) 
 }
 
 /// The node a.example with the neighbours b.example, c.example and d.example.
-fn three(rt: &(impl Abort + AllocGlobal)) -> NodeSession {
+pub(crate) fn three(rt: &(impl Abort + AllocGlobal)) -> NodeSession {
     let mut session = NodeSession::new(rt.alloc(), node(rt), 1000, 16_777_212);
     add(rt, &mut session, b"b.example");
     add(rt, &mut session, b"c.example");

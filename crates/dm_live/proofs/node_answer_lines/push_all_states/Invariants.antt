@@ -1,0 +1,10 @@
+use Rattle.std.proofs.Common.{◌≡◌, ◌++◌, drop}
+use Rattle.std.specs.String.{string_bytes}
+use Rattle.dm_live.specs.NodeAnswers.{neighbours_state_lines}
+use Rattle.dm_live.proofs.node_answer_lines.push_all_states.Given as goal
+
+-- with how the others stand it is the whole
+abbrev pub invariant-place : goal.invariant-place
+invariant-place l =
+    string_bytes l.text ++ neighbours_state_lines l.index (drop l.index l.places)
+    ≡ string_bytes l.fn.text ++ neighbours_state_lines 0 l.places
