@@ -1,6 +1,7 @@
 pub mod Apart
 pub mod FirstLine
 pub mod Joined
+pub mod Joining
 pub mod Known
 pub mod NodeTurns
 pub mod Options

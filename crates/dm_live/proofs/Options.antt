@@ -1,5 +1,5 @@
--- What holds of the value of an option.
-use Rattle.std.proofs.Common.{◌≡◌, Option, Some, None, IfSome, IfNone, subst}
+-- What holds of the value of an option, or of a result.
+use Rattle.std.proofs.Common.{◌≡◌, Option, Some, None, IfSome, IfNone, Result, Ok, Err, IfOk, IfErr, subst}
 
 pub none-anyway : {A P : Type 0} (r : Option A) → P → IfNone r P
 none-anyway None p = p
@@ -10,3 +10,9 @@ some-holds P r x is holds = subst (λ v. IfSome v P) is holds
 
 pub none-holds : {A : Type 0} (P : Type 0) (r : Option A) → r ≡ None → IfNone r P → P
 none-holds P r is holds = subst (λ v. IfNone v P) is holds
+
+pub ok-holds : {T E : Type 0} (P : T → Type 0) (r : Result T E) (v : T) → r ≡ Ok v → IfOk r P → P v
+ok-holds P r v is holds = subst (λ w. IfOk w P) is holds
+
+pub err-holds : {T E : Type 0} (P : E → Type 0) (r : Result T E) (e : E) → r ≡ Err e → IfErr r P → P e
+err-holds P r e is holds = subst (λ w. IfErr w P) is holds

@@ -1,23 +1,26 @@
 -- What one line makes of a run.
-use Rattle.std.proofs.Common.{◌≡◌, inl, inr, ℕ, Bool, false, Option, Some, None, IfSome, IfNone, OnSome, Result, Ok, Err, IfOk, OnOk}
+use Rattle.std.proofs.Common.{◌≡◌, inl, inr, ℕ, Bool, false, Result, Ok, Err, IfOk, OnOk}
 use Rattle.std.proofs.Common.{is_ok, if◌then◌else◌}
 use Rattle.std.proofs.Common.{List, ◌++◌, ◌∷◌, [], codes, ap, ◌∙◌, sym, subst, refl, append_assoc}
-use Rattle.dm_session.specs.declared.session.Session as declared
 use Rattle.dm_session.specs.Orders.{Order}
 use Rattle.dm_session.specs.Acquaintances.{nobody}
-use Rattle.dm_session.specs.Seen.{session_of}
+use Rattle.dm_node_session.specs.declared.node_order.NodeOrder.{NodeOrder}
+use Rattle.dm_node_session.specs.NodeSessions.{NodeSession}
 use Rattle.dm_value.specs.declared.address.Ip.{Ip}
 use Rattle.dm_live.specs.declared.setting_name.SettingName.{SettingName}
 use Rattle.dm_live.specs.declared.setting_name.SettingName.TheVariants as names
+use Rattle.dm_live.specs.declared.begun.Begun.{Begun}
+use Rattle.dm_live.specs.declared.begun.Begun.TheVariants.{Nothing, OnePeer, Node}
 use Rattle.dm_live.specs.declared.live.Live.{Live}
-use Rattle.dm_live.specs.Beginnings.{go_fault, Begins}
 use Rattle.dm_live.specs.Drafts.{settings_of}
 use Rattle.dm_live.specs.Meetings.{Meeting, AnswersMet}
+use Rattle.dm_live.specs.NodeAnswers.{AnswersNode}
+use Rattle.dm_live.specs.NodeOrderLines.{AskedOfNode, node_asked, TellsNodeOrder}
 use Rattle.dm_live.specs.OrderLines.{TellsOrder}
 use Rattle.dm_live.specs.SenderLines.{IsSender, sender_lines}
-use Rattle.dm_live.specs.Served.{Stage, Drafting, with_dot, fault_answer, bad_answer, IsGo, AnswersSetting, AnswersOrder, AnswersLine}
+use Rattle.dm_live.specs.Served.{Stage, Drafting, with_dot, bad_answer, IsGo, AnswersSetting, AnswersOrder, AnswersNodeOrder, AnswersLine}
 use Rattle.dm_live.specs.Settings.{Settings, TellsAddress, Sets, TellsSetting}
-use Rattle.dm_live.specs.Stages.{stage_at, stage_of}
+use Rattle.dm_live.specs.Stages.{stage_at, stage_of, IsBegun}
 
 -- a word that tells no address sets none
 pub no_address : {E : Type 0} (r : Result Bool E) (name : SettingName) (word : List ℕ) (s : Settings)
@@ -65,36 +68,46 @@ pub bad_line : {T E : Type 0} (r : Result T E) (n : ℕ) (line : List ℕ) (s t 
 bad_line (Err e) n line s t old new go none kept ends = tt
 bad_line (Ok v) n line s t old new go none kept ends = (bad_answer n, inr (go, none, kept, refl), ends)
 
--- the line that ends the configuration
-going : (n : ℕ) (line : List ℕ) (s : Settings) (begun : Option declared.Session) (old new : List ℕ) → IsGo line
-    → OnSome begun (go_fault s ≡ None) → IfSome begun (λ t. Begins s (session_of t))
-    → OnSome begun (new ≡ old ++ with_dot (codes "ready" ++ 10 ∷ []))
-    → IfNone begun ((name : List ℕ) × (go_fault s ≡ Some name) × (new ≡ old ++ fault_answer n name))
-    → (answer : List ℕ) × AnswersLine n line (Drafting s) (stage_at s nobody begun) answer × (new ≡ old ++ answer)
-going n line s None old new go good begins ready refused =
-    (fault_answer n refused.0, inr (refused.0, go, refused.1, refl, refl), refused.2)
-going n line s (Some t) old new go good begins ready refused = (
-  with_dot (codes "ready" ++ 10 ∷ []),
-  record { go = go; good = good; begins = begins; unmet = refl; answer = refl },
-  ready,
-)
+-- an order's line to a node, with the dot behind its answer
+pub told_node_line : {T E : Type 0} (r : Result T E) (n : ℕ) (o : NodeOrder) (a : AskedOfNode) (line : List ℕ)
+    (s t : NodeSession) (old mid new more : List ℕ) → TellsNodeOrder a line → node_asked o ≡ a → AnswersNode o s t more
+    → mid ≡ old ++ more → new ≡ (if is_ok r then mid ++ (codes "." ++ 10 ∷ []) else mid)
+    → OnOk r ((answer : List ℕ) × AnswersNodeOrder n line s t answer × (new ≡ old ++ answer))
+told_node_line (Err e) n o a line s t old mid new more tells same answers is ends = tt
+told_node_line (Ok v) n o a line s t old mid new more tells same answers is ends =
+    let dot : List ℕ = codes "." ++ 10 ∷ [] in
+    let Tells : AskedOfNode → Type 0 = λ v. TellsNodeOrder v line in (
+      with_dot more,
+      inl (o, more, subst Tells (sym same) tells, answers, refl),
+      ends ∙ ap (λ v. v ++ dot) is ∙ append_assoc old more dot,
+    )
 
-pub gone_line : (n : ℕ) (line : List ℕ) (a b : Live) (begun : Option declared.Session) (old new : List ℕ)
-    → a.session ≡ None → b.draft ≡ a.draft → b.session ≡ begun → b.known ≡ nobody → IsGo line
-    → OnSome begun (go_fault (settings_of a.draft) ≡ None)
-    → IfSome begun (λ t. Begins (settings_of a.draft) (session_of t))
-    → OnSome begun (new ≡ old ++ with_dot (codes "ready" ++ 10 ∷ []))
-    → IfNone begun ((name : List ℕ) × (go_fault (settings_of a.draft) ≡ Some name)
-    × (new ≡ old ++ fault_answer n name))
+-- a line that tells no order to a node
+pub untold_node_line : {T E : Type 0} (r : Result T E) (n : ℕ) (line : List ℕ) (s : NodeSession) (old new : List ℕ)
+    → ((o : NodeOrder) → TellsNodeOrder (node_asked o) line → ⊥) → OnOk r (new ≡ old ++ bad_answer n)
+    → OnOk r ((answer : List ℕ) × AnswersNodeOrder n line s s answer × (new ≡ old ++ answer))
+untold_node_line (Err e) n line s old new none ends = tt
+untold_node_line (Ok v) n line s old new none ends = (bad_answer n, inr (none, refl, refl), ends)
+
+-- the line that ends the configuration
+going : (n : ℕ) (line : List ℕ) (s : Settings) (begun : Begun) (answer : List ℕ) → IsGo line
+    → IsBegun n s begun answer → AnswersLine n line (Drafting s) (stage_at s nobody begun) answer
+going n line s Nothing answer go (name, fault, is) = inr (name, go, fault, refl, is)
+going n line s (OnePeer t) answer go (good, one, begins, is) =
+    record { go = go; good = good; one = one; begins = begins; unmet = refl; answer = is }
+going n line s (Node t) answer go (good, several, begins, is) =
+    record { go = go; good = good; several = several; begins = begins; answer = is }
+
+pub gone_line : (n : ℕ) (line : List ℕ) (a b : Live) (begun : Begun) (old new : List ℕ)
+    → a.begun ≡ Nothing → b.draft ≡ a.draft → b.begun ≡ begun → b.known ≡ nobody → IsGo line
+    → (answer : List ℕ) × IsBegun n (settings_of a.draft) begun answer × (new ≡ old ++ answer)
     → (answer : List ℕ) × AnswersLine n line (stage_of a) (stage_of b) answer × (new ≡ old ++ answer)
-gone_line n line a b begun old new none draft session known go good begins ready refused =
+gone_line n line a b begun old new none draft is known go (answer, begins, ends) =
     let s = settings_of a.draft in
-    let Between : Stage → Stage → Type 0 = λ v w. (answer : List ℕ) × AnswersLine n line v w answer
-    × (new ≡ old ++ answer) in
-    let From : Stage → Type 0 = λ v. Between v (stage_of b) in
-    let To : Stage → Type 0 = λ v. Between (Drafting s) v in
+    let From : Stage → Type 0 = λ v. AnswersLine n line v (stage_of b) answer in
+    let To : Stage → Type 0 = λ v. AnswersLine n line (Drafting s) v answer in
     let to : stage_at s nobody begun ≡ stage_of b =
-    ap (λ v. stage_at s nobody v) (sym session) ∙ ap (λ v. stage_at s v b.session) (sym known)
-    ∙ ap (λ v. stage_at (settings_of v) b.known b.session) (sym draft) in
+    ap (λ v. stage_at s nobody v) (sym is) ∙ ap (λ v. stage_at s v b.begun) (sym known)
+    ∙ ap (λ v. stage_at (settings_of v) b.known b.begun) (sym draft) in
     let from : Drafting s ≡ stage_of a = ap (λ v. stage_at s a.known v) (sym none) in
-    subst From from (subst To to (going n line s begun old new go good begins ready refused))
+    (answer, subst From from (subst To to (going n line s begun answer go begins)), ends)

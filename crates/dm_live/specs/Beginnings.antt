@@ -1,7 +1,9 @@
 -- What a configuration makes.
 use Rattle.std.specs.Prelude.{◌≡◌, ℕ, Bool, true, false, ◌||◌, not, nat_eq, is_some, length, if◌then◌else◌, Option}
-use Rattle.std.specs.Prelude.{None, Some, List, codes}
+use Rattle.std.specs.Prelude.{None, Some, List, [], ◌∷◌, ◌++◌, codes, bytes_eq, nat_lt}
+use Rattle.std.specs.List.{list_any}
 use Rattle.std.specs.Option.{option_map, option_or}
+use Rattle.dm_base.specs.Before.{lower}
 use Rattle.dm_base.specs.declared.node.Node.{Node}
 use Rattle.dm_base.specs.declared.node_fault.NodeFault.{NodeFault}
 use Rattle.dm_base.specs.declared.node_fault.NodeFault.TheVariants as node_faults
@@ -11,7 +13,9 @@ use Rattle.dm_peer.specs.declared.config.Config.{Config}
 use Rattle.dm_peer.specs.declared.fault.ConfigFault.{ConfigFault}
 use Rattle.dm_peer.specs.declared.fault.ConfigFault.TheVariants as config_faults
 use Rattle.dm_peer.specs.Hosts.{config_fault}
+use Rattle.dm_peer.specs.declared.peer.Peer.{Peer}
 use Rattle.dm_peer.specs.After.{fresh_standing}
+use Rattle.dm_node_session.specs.NodeSessions.{NodeSession}
 use Rattle.dm_session.specs.Intakes.{none_there}
 use Rattle.dm_session.specs.Sessions.{Session}
 use Rattle.dm_live.specs.Settings.{Settings}
@@ -41,15 +45,42 @@ has_extras s =
 abbrev pub extras_fault : Settings → Option (List ℕ)
 extras_fault s = if are_extras_long s.applications s.vendors then Some (codes "TooLong") else None
 
--- why a node can't have the peer that they tell
-abbrev pub peer_fault : Settings → Option (List ℕ)
-peer_fault s = option_map config_fault_name (config_fault s.host s.peer)
+-- the hosts of a node's peers: those of the lines; where none tells one, that of an empty name, which no host has
+abbrev pub hosts_told : List (List ℕ) → List (List ℕ)
+hosts_told [] = [] ∷ []
+hosts_told (host ∷ hosts) = host ∷ hosts
 
--- why they make no configuration: there is no node, or what it says beyond is too long, or it can't have this peer
+abbrev pub first_told : List (List ℕ) → List ℕ
+first_told [] = []
+first_told (host ∷ hosts) = host
+
+-- one of these hosts is this one, upper and lower case taken as one
+abbrev pub is_named_among : List (List ℕ) → List ℕ → Bool
+is_named_among hosts host = list_any (λ other. bytes_eq (lower other) (lower host)) hosts
+
+-- why a node of this host can't have a peer behind these others
+abbrev pub peer_fault : List ℕ → List (List ℕ) → List ℕ → Option (List ℕ)
+peer_fault own before host =
+    option_or (option_map config_fault_name (config_fault own host))
+    (if is_named_among before host then Some (codes "Known") else None)
+
+-- why it can't have the first of these that it can't have
+abbrev pub peers_fault : List ℕ → List (List ℕ) → List (List ℕ) → Option (List ℕ)
+peers_fault own before [] = None
+peers_fault own before (host ∷ hosts) =
+    option_or (peer_fault own before host) (peers_fault own (before ++ host ∷ []) hosts)
+
+-- why the settings make no node that says all they say: there is no node, or what it says beyond is too long
+abbrev pub node_told_fault : Settings → Option (List ℕ)
+node_told_fault s = option_or (option_map node_fault_name (own_fault s)) (extras_fault s)
+
+-- why they begin nothing: there is no such node, or it can't have one of these peers
 abbrev pub go_fault : Settings → Option (List ℕ)
-go_fault s =
-    option_or (option_map node_fault_name (own_fault s))
-    (option_or (extras_fault s) (peer_fault s))
+go_fault s = option_or (node_told_fault s) (peers_fault s.host [] (hosts_told s.peers))
+
+-- they tell several peers
+abbrev pub is_several : Settings → Bool
+is_several s = nat_lt 1 (length s.peers)
 
 -- what a node says beyond what it must is what the settings say, and it says none where they say none
 abbrev pub AreExtrasOf : Settings → Option Extras → Type 0
@@ -80,16 +111,39 @@ pub record IsNodeOf (s : Settings) (n : Node) : Type 0 where
   pub acct : n.acct ≡ s.acct
   pub extras : AreExtrasOf s n.extras
 
--- the configuration that they make; its dictionary is the base one, as of each configuration
-pub record IsMadeOf (s : Settings) (c : Config) : Type 0 where
+-- the configuration that they make for a peer of this host; its dictionary is the base one, as of each configuration
+pub record IsConfiguredFor (s : Settings) (host : List ℕ) (c : Config) : Type 0 where
   pub node : IsNodeOf s c.node
-  pub peer : c.peer ≡ s.peer
+  pub peer : c.peer ≡ host
   pub first_id : c.first_id ≡ s.first_id
 
--- the session that the settings begin: a closed peer, without connections
+-- the session that the settings begin, where they tell one peer: it is closed, without connections
 pub record Begins (s : Settings) (t : Session) : Type 0 where
-  pub config : IsMadeOf s t.peer.config
+  pub config : IsConfiguredFor s (first_told s.peers) t.peer.config
   pub standing : t.peer.standing ≡ fresh_standing s.first_id
   pub intakes : t.intakes ≡ none_there
   pub first_max : t.first_max ≡ s.first_max
   pub most : t.most ≡ s.most
+
+-- a closed peer of the configuration that they make for this host
+pub record IsNewFor (s : Settings) (host : List ℕ) (p : Peer) : Type 0 where
+  pub config : IsConfiguredFor s host p.config
+  pub standing : p.standing ≡ fresh_standing s.first_id
+
+-- these neighbours are such peers of these hosts, one of each, in order
+abbrev pub AreNewFor : Settings → List (List ℕ) → List (Option Peer) → Type 0
+AreNewFor s [] ps = ps ≡ []
+AreNewFor s (host ∷ hosts) ps =
+    (p : Peer) × (qs : List (Option Peer)) × (ps ≡ Some p ∷ qs) × IsNewFor s host p × AreNewFor s hosts qs
+
+-- the session of their node with closed neighbours of these hosts, without connections
+pub record BeginsForHosts (s : Settings) (hosts : List (List ℕ)) (t : NodeSession) : Type 0 where
+  pub node : IsNodeOf s t.node
+  pub peers : AreNewFor s hosts t.peers
+  pub intakes : t.intakes ≡ none_there
+  pub first_max : t.first_max ≡ s.first_max
+  pub most : t.most ≡ s.most
+
+-- the node's session that they begin, where they tell several peers
+abbrev pub BeginsNode : Settings → NodeSession → Type 0
+BeginsNode s t = BeginsForHosts s s.peers t

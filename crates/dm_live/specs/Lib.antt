@@ -4,6 +4,7 @@ pub mod Beginnings
 pub mod Drafts
 pub mod Ending
 pub mod Input
+pub mod Joining
 pub mod Laws
 pub mod Meetings
 pub mod NodeAnswers

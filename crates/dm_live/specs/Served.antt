@@ -1,23 +1,29 @@
 -- What is printed of the lines of an input.
-use Rattle.std.specs.Prelude.{◌≡◌, ◌⊎◌, ◌+◌, ℕ, Option, None, Some, List, [], ◌∷◌, ◌++◌, length, codes}
+use Rattle.std.specs.Prelude.{◌≡◌, ◌⊎◌, ◌+◌, ℕ, true, false, Option, None, Some, List, [], ◌∷◌, ◌++◌, length, codes}
 use Rattle.std.specs.Fmt.{decimal}
 use Rattle.std.specs.Io.KnownBytes.{Appends}
 use Rattle.std.specs.Str.Lines.{lines}
 use Rattle.dm_text.specs.Words.{words}
 use Rattle.dm_session.specs.Orders.{Order}
 use Rattle.dm_session.specs.Acquaintances.{nobody}
+use Rattle.dm_node_session.specs.declared.node_order.NodeOrder.{NodeOrder}
+use Rattle.dm_node_session.specs.NodeSessions.{NodeSession}
 use Rattle.dm_live.specs.declared.fault.LiveFault.{LiveFault}
 use Rattle.dm_live.specs.declared.fault.LiveFault.TheVariants.{Write}
-use Rattle.dm_live.specs.Beginnings.{go_fault, Begins}
+use Rattle.dm_live.specs.Beginnings.{go_fault, is_several, Begins, BeginsNode}
 use Rattle.dm_live.specs.Meetings.{Meeting, AnswersMet}
+use Rattle.dm_live.specs.NodeAnswers.{AnswersNode}
+use Rattle.dm_live.specs.NodeOrderLines.{node_asked, TellsNodeOrder}
 use Rattle.dm_live.specs.OrderLines.{TellsOrder}
 use Rattle.dm_live.specs.SenderLines.{IsSender, sender_lines}
 use Rattle.dm_live.specs.Settings.{Settings, no_settings, TellsSetting}
 
--- a run behind some of its lines: what the configuration says so far, or the session with whom it met
+-- a run behind some of its lines: what the configuration says so far, or the session with whom it met, or the session
+-- of a node of several neighbours
 pub data Stage : Type 0 where
   Drafting : Settings → Stage
   Running : Meeting → Stage
+  RunningNode : NodeSession → Stage
 
 -- an answer is closed by a line of a dot
 abbrev pub with_dot : List ℕ → List ℕ
@@ -40,13 +46,26 @@ abbrev pub GoesNot : ℕ → List ℕ → Settings → Settings → List ℕ →
 GoesNot n line s t text =
     (name : List ℕ) × IsGo line × (go_fault s ≡ Some name) × (t ≡ s) × (text ≡ fault_answer n name)
 
--- it begins the session, which met nobody yet
+-- its answer where it begins a session
+abbrev pub ready_answer : List ℕ
+ready_answer = with_dot (codes "ready" ++ 10 ∷ [])
+
+-- it begins the session of the one peer, which met nobody yet
 pub record Goes (line : List ℕ) (s : Settings) (m : Meeting) (text : List ℕ) : Type 0 where
   pub go : IsGo line
   pub good : go_fault s ≡ None
+  pub one : is_several s ≡ false
   pub begins : Begins s m.session
   pub unmet : m.known ≡ nobody
-  pub answer : text ≡ with_dot (codes "ready" ++ 10 ∷ [])
+  pub answer : text ≡ ready_answer
+
+-- it begins the session of a node of several neighbours
+pub record GoesAsNode (line : List ℕ) (s : Settings) (t : NodeSession) (text : List ℕ) : Type 0 where
+  pub go : IsGo line
+  pub good : go_fault s ≡ None
+  pub several : is_several s ≡ true
+  pub begins : BeginsNode s t
+  pub answer : text ≡ ready_answer
 
 -- a line that says something of the configuration isn't answered
 abbrev pub IsSet : List ℕ → Settings → Settings → List ℕ → Type 0
@@ -71,6 +90,17 @@ abbrev pub TellsNone : ℕ → List ℕ → Meeting → Meeting → List ℕ →
 TellsNone n line s t text =
     (IsSender line → ⊥) × ((o : Order) → TellsOrder o line → ⊥) × (t ≡ s) × (text ≡ bad_answer n)
 
+-- an order to a node is told and answered
+abbrev pub IsToldNode : List ℕ → NodeSession → NodeSession → List ℕ → Type 0
+IsToldNode line s t text =
+    (o : NodeOrder) × (answer : List ℕ) × TellsNodeOrder (node_asked o) line × AnswersNode o s t answer
+    × (text ≡ with_dot answer)
+
+-- a line that tells none changes nothing
+abbrev pub TellsNoneToNode : ℕ → List ℕ → NodeSession → NodeSession → List ℕ → Type 0
+TellsNoneToNode n line s t text =
+    ((o : NodeOrder) → TellsNodeOrder (node_asked o) line → ⊥) × (t ≡ s) × (text ≡ bad_answer n)
+
 -- the line of this number before the session begins, if it doesn't begin it
 abbrev pub AnswersSetting : ℕ → List ℕ → Settings → Settings → List ℕ → Type 0
 AnswersSetting n line s t text = IsSet line s t text ⊎ SaysNothing n line s t text
@@ -79,12 +109,19 @@ AnswersSetting n line s t text = IsSet line s t text ⊎ SaysNothing n line s t 
 abbrev pub AnswersOrder : ℕ → List ℕ → Meeting → Meeting → List ℕ → Type 0
 AnswersOrder n line s t text = IsTold line s t text ⊎ (AsksSender line s t text ⊎ TellsNone n line s t text)
 
+-- and behind that of a node
+abbrev pub AnswersNodeOrder : ℕ → List ℕ → NodeSession → NodeSession → List ℕ → Type 0
+AnswersNodeOrder n line s t text = IsToldNode line s t text ⊎ TellsNoneToNode n line s t text
+
 -- the line of this number, what it makes of a run, and its answer
 abbrev pub AnswersLine : ℕ → List ℕ → Stage → Stage → List ℕ → Type 0
 AnswersLine n line (Drafting s) (Drafting t) text = AnswersSetting n line s t text ⊎ GoesNot n line s t text
 AnswersLine n line (Drafting s) (Running t) text = Goes line s t text
-AnswersLine n line (Running s) (Drafting t) text = ⊥
+AnswersLine n line (Drafting s) (RunningNode t) text = GoesAsNode line s t text
 AnswersLine n line (Running s) (Running t) text = AnswersOrder n line s t text
+AnswersLine n line (Running s) _ text = ⊥
+AnswersLine n line (RunningNode s) (RunningNode t) text = AnswersNodeOrder n line s t text
+AnswersLine n line (RunningNode s) _ text = ⊥
 
 -- lines behind as many others, each answered in turn
 abbrev pub AnswersLines : ℕ → List (List ℕ) → Stage → Stage → List ℕ → Type 0

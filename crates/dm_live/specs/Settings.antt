@@ -11,8 +11,8 @@ use Rattle.dm_value.specs.Printed.{ip_words}
 use Rattle.dm_live.specs.declared.setting_name.SettingName.{SettingName}
 use Rattle.dm_live.specs.declared.setting_name.SettingName.TheVariants as names
 
--- a node, what it says beyond what it must, its peer, the number of the first request, and the greatest Message Lengths
--- before the capabilities exchange and behind it
+-- a node, what it says beyond what it must, the hosts of its peers, the number of the first request to each, and the
+-- greatest Message Lengths before the capabilities exchange and behind it
 pub record Settings : Type 0 where
   pub host : List ℕ
   pub realm : List ℕ
@@ -25,7 +25,7 @@ pub record Settings : Type 0 where
   pub vendors : List ℕ
   pub firmware : Option ℕ
   pub state_id : Option ℕ
-  pub peer : List ℕ
+  pub peers : List (List ℕ)
   pub first_id : ℕ
   pub first_max : ℕ
   pub most : ℕ
@@ -45,7 +45,7 @@ no_settings =
       vendors = [];
       firmware = None;
       state_id = None;
-      peer = [];
+      peers = [];
       first_id = 1;
       first_max = 16777212;
       most = 16777212;
@@ -72,8 +72,8 @@ setting_word names.Max = codes "max"
 abbrev pub TellsAddress : Ip → List ℕ → Type 0
 TellsAddress ip word = (address : IpAddr) × IsIpText word address × (ip ≡ ip_words address)
 
--- What the word behind a name makes of the settings. An address and an application stand behind those said before,
--- another name takes the place of what was said.
+-- What the word behind a name makes of the settings. An address, an application and a peer stand behind those said
+-- before, another name takes the place of what was said.
 abbrev pub Sets : SettingName → List ℕ → Settings → Settings → Type 0
 Sets names.Host word s t = t ≡ record s { host = word }
 Sets names.Realm word s t = t ≡ record s { realm = word }
@@ -86,7 +86,7 @@ Sets names.Acct word s t = (n : ℕ) × TellsNumber n word × (t ≡ record s { 
 Sets names.Supports word s t = (n : ℕ) × TellsNumber n word × (t ≡ record s { vendors = s.vendors ++ n ∷ [] })
 Sets names.Firmware word s t = (n : ℕ) × TellsNumber n word × (t ≡ record s { firmware = Some n })
 Sets names.State word s t = (n : ℕ) × TellsNumber n word × (t ≡ record s { state_id = Some n })
-Sets names.Peer word s t = t ≡ record s { peer = word }
+Sets names.Peer word s t = t ≡ record s { peers = s.peers ++ word ∷ [] }
 Sets names.First word s t = (n : ℕ) × TellsNumber n word × (t ≡ record s { first_id = n })
 Sets names.Early word s t = (n : ℕ) × TellsNumber n word × (t ≡ record s { first_max = n })
 Sets names.Max word s t = (n : ℕ) × TellsNumber n word × (t ≡ record s { most = n })

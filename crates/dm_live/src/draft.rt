@@ -1,10 +1,13 @@
 //! The configuration, line by line.
-ghost use Rattle.std.specs.Prelude.{◌≡◌, ◌≢◌, ◌∷◌, List, ℕ, true, false, IfOk, IfErr, IfSome, IfNone, Some, None, OnOk};
+ghost use Rattle.std.specs.Prelude.{◌≡◌, ◌≢◌, ◌∷◌, [], List, ℕ, true, false, Some, None};
+ghost use Rattle.std.specs.Prelude.{IfOk, IfErr, IfSome, IfNone, OnOk};
 ghost use Rattle.std.specs.Result.{result_err};
 ghost use Rattle.dm_text.specs.Words.{words};
 ghost use Rattle.dm_base.specs.declared.extras_fault.ExtrasFault.TheVariants as extras_faults;
 ghost use Rattle.dm_base.specs.Refusals.{are_extras_long};
-ghost use Rattle.dm_live.specs.Beginnings.{own_fault, peer_fault, go_fault, has_extras, IsOwnOf, IsNodeOf, IsMadeOf};
+ghost use Rattle.dm_peer.specs.Hosts.{config_fault};
+ghost use Rattle.dm_live.specs.Beginnings.{own_fault, node_told_fault, peers_fault, go_fault, hosts_told, first_told};
+ghost use Rattle.dm_live.specs.Beginnings.{is_several, has_extras, IsOwnOf, IsNodeOf, IsConfiguredFor};
 ghost use Rattle.dm_live.specs.Beginnings.{node_fault_name, config_fault_name};
 ghost use Rattle.dm_live.specs.Drafts.{settings_of};
 ghost use Rattle.dm_live.specs.Settings.{Settings, no_settings, Sets, setting_word, specific_word};
@@ -12,11 +15,14 @@ ghost use Rattle.dm_live.specs.Settings.{TellsOne, TellsSpecific, TellsSetting};
 
 use crate::order_words::{two_numbers, word_alone};
 use crate::setting_name::{SettingName, read_setting, read_specific};
-use crate::setting_words::{push_address, push_number, put_name, put_number, put_text, say_number};
+use crate::setting_words::{
+    push_address, push_name, push_number, put_name, put_number, put_text, say_number,
+};
 use dm_base::{Extras, ExtrasFault, Node, NodeFault, VendorApplication};
 use dm_peer::{Config, ConfigFault};
 use dm_text::Words;
 use dm_value::Ip;
+use dm_wire::Octets;
 use std::alloc::{AllocError, Global};
 
 /// The longest message that is taken where no line tells another: a Message Length of 24 bits in whole words.
@@ -36,7 +42,7 @@ pub(crate) struct Draft {
     vendors: Vec<u32>,
     firmware: Option<u32>,
     state_id: Option<u32>,
-    peer: Vec<u8>,
+    peers: Vec<Octets>,
     first_id: u32,
     first_max: u32,
     most: u32,
@@ -59,7 +65,7 @@ impl Draft {
             vendors: Vec::new(alloc),
             firmware: None,
             state_id: None,
-            peer: Vec::new(alloc),
+            peers: Vec::new(alloc),
             first_id: 1,
             first_max: LONGEST,
             most: LONGEST,
@@ -153,17 +159,44 @@ impl Draft {
             SettingName::Supports => push_number(&mut self.vendors, word),
             SettingName::Firmware => Ok(say_number(&mut self.firmware, word)),
             SettingName::State => Ok(say_number(&mut self.state_id, word)),
-            SettingName::Peer => put_name(&mut self.peer, word),
+            SettingName::Peer => push_name(&mut self.peers, word),
             SettingName::First => Ok(put_number(&mut self.first_id, word)),
             SettingName::Early => Ok(put_number(&mut self.first_max, word)),
             SettingName::Max => Ok(put_number(&mut self.most, word)),
         }
     }
 
-    /// The configuration, or the name of why there is none.
+    /// The hosts of the peers.
+    pub(crate) fn peers(&self) -> &[Octets]
+        ensures { result.now ≡ (settings_of self.now).peers }
+    {
+        self.peers.as_slice()
+    }
+
+    /// The host of the first, an empty name where there is none.
+    fn first_peer(&self) -> &[u8]
+        ensures { result.now ≡ first_told (settings_of self.now).peers }
+    {
+        match self.peers.first() {
+            Some(host) => host.as_slice(),
+            None => &[],
+        }
+    }
+
+    /// Whether there are several peers.
+    pub(crate) fn tells_several(&self) -> bool
+        ensures { result ≡ is_several (settings_of self.now) }
+    {
+        self.peers.len() > 1
+    }
+
+    /// The configuration for the first peer, or the name of why there is none.
     pub(crate) fn config(&self, alloc: Global) -> Result<Result<Config, &'static str>, AllocError>
-        ensures made { IfOk result (λ made. IfOk made (λ config. IsMadeOf (settings_of self.now) config)) }
-        ensures good { IfOk result (λ made. OnOk made (go_fault (settings_of self.now) ≡ None)) }
+        ensures made { IfOk result (λ made. IfOk made (λ config.
+            IsConfiguredFor (settings_of self.now) (first_told (settings_of self.now).peers) config)) }
+        ensures good { IfOk result (λ made. OnOk made (node_told_fault (settings_of self.now) ≡ None)) }
+        ensures peer { IfOk result (λ made. OnOk made (config_fault (settings_of self.now).host
+            (first_told (settings_of self.now).peers) ≡ None)) }
         ensures fault { IfOk result (λ made. IfErr made (λ name. go_fault (settings_of self.now) ≡ Some name.now)) }
     {
         match self.node(alloc)? {
@@ -176,18 +209,21 @@ impl Draft {
         }
     }
 
-    /// The configuration of a node, or the name of why there is none.
+    /// The configuration of a node for the first peer, or the name of why there is none.
     fn config_of(
         &self,
         alloc: Global,
         node: Node,
     ) -> Result<Result<Config, &'static str>, AllocError>
         requires { IsNodeOf (settings_of self.now) node }
-        ensures made { IfOk result (λ made. IfOk made (λ config. IsMadeOf (settings_of self.now) config)) }
-        ensures good { IfOk result (λ made. OnOk made (peer_fault (settings_of self.now) ≡ None)) }
-        ensures fault { IfOk result (λ made. IfErr made (λ name. peer_fault (settings_of self.now) ≡ Some name.now)) }
+        ensures made { IfOk result (λ made. IfOk made (λ config.
+            IsConfiguredFor (settings_of self.now) (first_told (settings_of self.now).peers) config)) }
+        ensures peer { IfOk result (λ made. OnOk made (config_fault (settings_of self.now).host
+            (first_told (settings_of self.now).peers) ≡ None)) }
+        ensures fault { IfOk result (λ made. IfErr made (λ name. peers_fault (settings_of self.now).host []
+            (hosts_told (settings_of self.now).peers) ≡ Some name.now)) }
     {
-        let peer = Vec::from_slice(alloc, self.peer.as_slice())?;
+        let peer = Vec::from_slice(alloc, self.first_peer())?;
         match Config::new(alloc, node, peer, self.first_id) {
             Ok(config) => Ok(Ok(config)),
             Err(fault) => Ok(Err(config_fault_name(fault)?)),
@@ -269,7 +305,7 @@ fn node_fault_name(fault: NodeFault) -> &'static str
 }
 
 /// The name of why there is no configuration. Want of memory has none, and is answered as such.
-fn config_fault_name(fault: ConfigFault) -> Result<&'static str, AllocError>
+pub(crate) fn config_fault_name(fault: ConfigFault) -> Result<&'static str, AllocError>
     ensures name { IfOk result (λ name. name.now ≡ config_fault_name fault) }
     ensures known { OnOk result (fault ≢ ConfigFault.NoMemory) }
 {

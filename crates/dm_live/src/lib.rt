@@ -3,6 +3,7 @@
 
 mod answer;
 mod answer_lines;
+mod begun;
 mod draft;
 mod fault;
 mod input;
@@ -10,11 +11,13 @@ pub mod laws;
 mod live;
 mod node_answer;
 mod node_answer_lines;
+mod node_line;
 mod node_order_line;
 mod order_line;
 mod order_name;
 mod order_words;
 mod output;
+mod peers;
 mod program;
 mod sender_lines;
 mod serve;

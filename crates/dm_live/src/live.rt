@@ -1,23 +1,22 @@
 //! A run of the program, line by line.
-ghost use Rattle.std.specs.Prelude.{◌≡◌, ◌++◌, ◌∷◌, [], ℕ, List, true, false, Some, None, IfOk, IfSome, IfNone};
-ghost use Rattle.std.specs.Prelude.{OnOk, OnSome, codes};
+ghost use Rattle.std.specs.Prelude.{◌≡◌, ◌++◌, ℕ, List, true, false, OnOk};
 ghost use Rattle.std.specs.String.{string_bytes};
 ghost use Rattle.dm_session.specs.Acquaintances.{nobody};
 ghost use Rattle.dm_session.specs.Seen.{session_of};
-ghost use Rattle.dm_live.specs.Beginnings.{go_fault, IsMadeOf, Begins};
 ghost use Rattle.dm_live.specs.Drafts.{settings_of};
 ghost use Rattle.dm_live.specs.Meetings.{met_with};
-ghost use Rattle.dm_live.specs.Served.{Drafting, with_dot, fault_answer, IsGo};
+ghost use Rattle.dm_live.specs.Served.{Drafting, IsGo};
 ghost use Rattle.dm_live.specs.Served.{AnswersSetting, AnswersOrder, AnswersLine};
 ghost use Rattle.dm_live.specs.Settings.{no_settings};
 ghost use Rattle.dm_live.specs.Stages.{stage_of};
 
 use crate::answer::answer_met;
 use crate::answer_lines::push_fault;
+use crate::begun::{Begun, begin};
 use crate::draft::Draft;
+use crate::node_line::answer_node_line;
 use crate::order_line::read_order;
 use crate::sender_lines::{is_sender, push_sender};
-use dm_peer::Config;
 use dm_session::{Acquaintance, Session};
 use dm_text::Words;
 use std::alloc::{AllocError, Global};
@@ -26,7 +25,7 @@ use std::alloc::{AllocError, Global};
 #[derive(Drop)]
 pub(crate) struct Live {
     draft: Draft,
-    session: Option<Session>,
+    begun: Begun,
     known: Acquaintance,
 }
 
@@ -37,7 +36,7 @@ impl Live {
     {
         Live {
             draft: Draft::new(alloc),
-            session: None,
+            begun: Begun::Nothing,
             known: Acquaintance::new(alloc),
         }
     }
@@ -54,24 +53,28 @@ impl Live {
             × AnswersLine number line.now (stage_of self.old) (stage_of self.new) answer
             × (string_bytes text.new ≡ string_bytes text.old ++ answer)) }
     {
-        if let Some(session) = &mut self.session {
-            return answer_told(alloc, session, &mut self.known, number, line, text);
+        match &mut self.begun {
+            Begun::OnePeer(session) => {
+                return answer_told(alloc, session, &mut self.known, number, line, text);
+            }
+            Begun::Node(session) => return answer_node_line(alloc, session, number, line, text),
+            Begun::Nothing => {}
         }
         if is_go(line) {
             let begun = begin(alloc, &self.draft, number, text)?;
-            self.put_session(alloc, begun);
+            self.put_begun(alloc, begun);
             return Ok(());
         }
         answer_setting(&mut self.draft, number, line, text)
     }
 
     /// Goes on with this session, which met nobody yet. It takes no memory.
-    fn put_session(&mut self, alloc: Global, session: Option<Session>)
+    fn put_begun(&mut self, alloc: Global, begun: Begun)
         ensures draft { self.new.draft ≡ self.old.draft }
-        ensures session { self.new.session ≡ session }
+        ensures begun { self.new.begun ≡ begun }
         ensures known { self.new.known ≡ nobody }
     {
-        self.session = session;
+        self.begun = begun;
         self.known = Acquaintance::new(alloc);
     }
 }
@@ -86,45 +89,6 @@ fn is_go(line: &[u8]) -> bool
         Some(b"go") => left.next().is_none(),
         _ => false,
     }
-}
-
-/// The session that the configuration begins, None where it makes none; and appends which of the two.
-fn begin(
-    alloc: Global,
-    draft: &Draft,
-    number: u64,
-    text: &mut String,
-) -> Result<Option<Session>, AllocError>
-    ensures good { IfOk result (λ begun. OnSome begun (go_fault (settings_of draft.now) ≡ None)) }
-    ensures begins { IfOk result (λ begun. IfSome begun (λ session.
-        Begins (settings_of draft.now) (session_of session))) }
-    ensures ready { IfOk result (λ begun. OnSome begun
-        (string_bytes text.new ≡ string_bytes text.old ++ with_dot (codes "ready" ++ 10 ∷ []))) }
-    ensures refused { IfOk result (λ begun. IfNone begun ((name : List ℕ)
-        × (go_fault (settings_of draft.now) ≡ Some name)
-        × (string_bytes text.new ≡ string_bytes text.old ++ fault_answer number name))) }
-{
-    match draft.config(alloc)? {
-        Ok(config) => {
-            let session = new_session(alloc, draft, config);
-            match text.push_str("ready\n.\n") {
-                Ok(()) => Ok(Some(session)),
-                Err(error) => Err(error),
-            }
-        }
-        Err(name) => {
-            push_fault(text, number, name)?;
-            Ok(None)
-        }
-    }
-}
-
-/// The session of a configuration that the draft made.
-fn new_session(alloc: Global, draft: &Draft, config: Config) -> Session
-    requires { IsMadeOf (settings_of draft.now) config }
-    ensures { Begins (settings_of draft.now) (session_of result) }
-{
-    Session::new(alloc, config, draft.first_max(), draft.most())
 }
 
 /// Goes on with a line that doesn't end the configuration, and answers a bad one.

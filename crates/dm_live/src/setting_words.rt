@@ -9,6 +9,7 @@ ghost use Rattle.dm_live.specs.Settings.{TellsAddress};
 
 use dm_text::read_number;
 use dm_value::Ip;
+use dm_wire::Octets;
 use std::alloc::AllocError;
 use std::net::IpAddr;
 use std::str;
@@ -20,6 +21,16 @@ pub(crate) fn put_name(name: &mut Vec<u8>, word: &[u8]) -> Result<bool, AllocErr
 {
     name.clear();
     name.extend_from_slice(word)?;
+    Ok(true)
+}
+
+/// Any word is a name, which stands behind those said before.
+pub(crate) fn push_name(list: &mut Vec<Octets>, word: &[u8]) -> Result<bool, AllocError>
+    ensures put { OnOk result (list.new.items ≡ list.old.items ++ word.now ∷ []) }
+    ensures good { IfOk result (λ good. good ≡ true) }
+{
+    let name = Octets::from_slice(*list.allocator(), word)?;
+    list.push(name)?;
     Ok(true)
 }
 

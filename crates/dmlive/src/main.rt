@@ -1,6 +1,6 @@
-//! The program `dmlive`: one peer with its connections, told by the lines of standard input, each answered at once on
-//! standard output. What comes of the lines is dm_live's; here are only the command line, which has no words, the
-//! standard streams and the status.
+//! The program `dmlive`: one peer, or a node of several neighbours, with its connections, told by the lines of standard
+//! input, each answered at once on standard output. What comes of the lines is dm_live's; here are only the command
+//! line, which has no words, the standard streams and the status.
 #![tactic(auto)]
 
 ghost use Rattle.std.specs.Prelude.{◌≡◌, ◌≢◌, [], drop, IfErr, OnOk};

@@ -1,0 +1,89 @@
+//! The neighbours that a configuration tells.
+ghost use Rattle.std.specs.Prelude.{◌≡◌, [], None, Some, IfOk, IfErr, OnOk};
+ghost use Rattle.dm_node.specs.Holding.{IsKnown};
+ghost use Rattle.dm_peer.specs.Hosts.{config_fault};
+ghost use Rattle.dm_node_session.specs.NodeSeen.{node_session_of};
+ghost use Rattle.dm_live.specs.Beginnings.{IsConfiguredFor, BeginsForHosts, peers_fault, first_told};
+ghost use Rattle.dm_live.specs.Drafts.{settings_of};
+ghost use Rattle.dm_live.specs.Joining.{AddsLike, RefusesHost};
+
+use crate::draft::{Draft, config_fault_name};
+use dm_node_session::{AddFault, NodeSession};
+use dm_peer::Config;
+use dm_wire::Octets;
+use std::alloc::{AllocError, Global};
+
+/// Adds a closed neighbour of the template's node for the host, or answers the name of why it can't be had.
+fn add_peer(
+    alloc: Global,
+    template: &Config,
+    host: &[u8],
+    session: &mut NodeSession,
+) -> Result<Result<(), &'static str>, AllocError>
+    ensures added { IfOk result (λ added. OnOk added (AddsLike template.now host.now (node_session_of session.old)
+        (node_session_of session.new))) }
+    ensures fit { IfOk result (λ added. OnOk added (config_fault template.now.node.host host.now ≡ None)) }
+    ensures new { IfOk result (λ added. OnOk added (IsKnown (node_session_of session.old).peers host.now → ⊥)) }
+    ensures fault { IfOk result (λ added. IfErr added (λ name.
+        RefusesHost template.now.node.host (node_session_of session.old).peers host.now name.now)) }
+{
+    let config = match template.for_host(alloc, host) {
+        Ok(config) => config,
+        Err(fault) => return Ok(Err(config_fault_name(fault)?)),
+    };
+    match session.add(config) {
+        Ok(_) => Ok(Ok(())),
+        Err(AddFault::Known) => Ok(Err("Known")),
+        Err(AddFault::NoMemory) => Err(AllocError),
+    }
+}
+
+/// Adds a closed neighbour for each host, in order, or answers the name of why the first can't be had that can't.
+fn add_peers(
+    alloc: Global,
+    draft: &Draft,
+    template: &Config,
+    session: &mut NodeSession,
+) -> Result<Result<(), &'static str>, AllocError>
+    requires made { IsConfiguredFor (settings_of draft.now) (first_told (settings_of draft.now).peers) template.now }
+    requires none { BeginsForHosts (settings_of draft.now) [] (node_session_of session.old) }
+    ensures begun { IfOk result (λ added. OnOk added (BeginsForHosts (settings_of draft.now)
+        (settings_of draft.now).peers (node_session_of session.new))) }
+    ensures good { IfOk result (λ added. OnOk added (peers_fault (settings_of draft.now).host []
+        (settings_of draft.now).peers ≡ None)) }
+    ensures fault { IfOk result (λ added. IfErr added (λ name. peers_fault (settings_of draft.now).host []
+        (settings_of draft.now).peers ≡ Some name.now)) }
+{
+    let mut rest = draft.peers();
+    'host: while let Some((host, more)) = rest.split_first() {
+        if let Err(name) = add_peer(alloc, template, host.as_slice(), session)? {
+            return Ok(Err(name));
+        }
+        rest = more;
+    }
+    Ok(Ok(()))
+}
+
+/// The session of the node with the neighbours that the draft tells, or the name of why the first can't be had that
+/// can't.
+pub(crate) fn node_session(
+    alloc: Global,
+    draft: &Draft,
+    template: &Config,
+) -> Result<Result<NodeSession, &'static str>, AllocError>
+    requires made { IsConfiguredFor (settings_of draft.now) (first_told (settings_of draft.now).peers) template.now }
+    ensures begun { IfOk result (λ made. IfOk made (λ session. BeginsForHosts (settings_of draft.now)
+        (settings_of draft.now).peers (node_session_of session))) }
+    ensures good { IfOk result (λ made. OnOk made (peers_fault (settings_of draft.now).host []
+        (settings_of draft.now).peers ≡ None)) }
+    ensures fault { IfOk result (λ made. IfErr made (λ name. peers_fault (settings_of draft.now).host []
+        (settings_of draft.now).peers ≡ Some name.now)) }
+{
+    let node = template.node().clone()?;
+    let mut session = NodeSession::new(alloc, node, draft.first_max(), draft.most());
+    match add_peers(alloc, draft, template, &mut session) {
+        Ok(Ok(())) => Ok(Ok(session)),
+        Ok(Err(name)) => Ok(Err(name)),
+        Err(error) => Err(error),
+    }
+}
