@@ -1,4 +1,4 @@
-/* driver: sockets and clocks for a Diameter peer, the program dmlive, which runs as its child over two pipes. */
+/* driver: sockets and clocks for Diameter peers, the program dmlive, which runs as its child over two pipes. */
 #define _GNU_SOURCE
 #include <errno.h>
 #include <fcntl.h>
@@ -33,8 +33,20 @@ static const int64_t NEVER = INT64_MAX;
 /* octets from..to of what lies at `at`; none of the first `seen` of them is a LF */
 struct buffer { char *at; size_t from, to, room, seen; };
 
-/* A connection. Its number is never used again, as its descriptor may be. At `until` its clock is over. */
+/* A neighbour, in the order of the lines `peer`: where it is called, if it is; how its peer stands, and on which number
+   it is open; when its clock is over; and the lines of standard input for it that wait for an open connection. */
+struct neighbour {
+    char host[256], port[32], state[160];
+    bool is_closed, is_open;
+    uint64_t open_number;
+    int64_t due;
+    struct buffer waiting;
+};
+
+/* A connection, of a neighbour or of nobody yet. Its number is never used again, as its descriptor may be. At `until`
+   its clock is over. */
 struct link {
+    struct neighbour *of;
     uint64_t number;
     int fd;
     bool connecting, heard, closing, finished, ended, dead;
@@ -44,19 +56,18 @@ struct link {
 };
 
 static struct link **links;
+static struct neighbour *neighbours;
 static struct pollfd *polls;
-static size_t link_count, link_room, poll_room;
+static size_t link_count, link_room, poll_room, neighbour_count;
 static int listeners[MOST_LISTENERS], listener_count;
-static char connect_host[256], connect_port[32];
-static int64_t watchdog = 30000, reconnect = 30000, timeout = 30000, due, end_at = INT64_MAX, written_at;
+static int64_t watchdog = 30000, reconnect = 30000, timeout = 30000, end_at = INT64_MAX, written_at;
 static uint64_t queue_most = 32 << 20;
 static size_t batch_most, link_most = MOST_LINKS;
 static int to_peer, from_peer, output_to = 1, orders_out, verbose;
 static pid_t peer_process;
 static struct buffer input, output, answers, orders;
-static char state[160] = "Closed";
-static bool is_closed = true, is_open, input_ended, line_waits, line_skipped;
-static uint64_t last_number, open_number, handed_up, handed_up_most = UINT64_MAX;
+static bool input_ended, line_waits, line_skipped;
+static uint64_t last_number, handed_up, handed_up_most = UINT64_MAX;
 static volatile sig_atomic_t signalled;
 
 static void fail(const char *what) {
@@ -217,14 +228,15 @@ static void connect_next(struct link *link) {
     link->until = link->fd < 0 ? 0 : now() + CONNECT_TIME;
 }
 
-static void begin_connect(uint64_t number) {
+static void begin_connect(uint64_t number, struct neighbour *to) {
     struct addrinfo hints = { .ai_socktype = SOCK_STREAM };
     struct link *link = add_link(number, -1);
     link->connecting = link->heard = true;
-    int fault = getaddrinfo(connect_host, connect_port, &hints, &link->addresses);
+    link->of = to;
+    int fault = getaddrinfo(to->host, to->port, &hints, &link->addresses);
     if (fault) {
         link->addresses = NULL;
-        fprintf(stderr, "driver: connect %s %s: %s\n", connect_host, connect_port, gai_strerror(fault));
+        fprintf(stderr, "driver: connect %s %s: %s\n", to->host, to->port, gai_strerror(fault));
     }
     link->next_address = link->addresses;
     connect_next(link);
@@ -281,31 +293,36 @@ static char *next_answer(size_t *length) {
 }
 
 /* sets the clock of the state anew */
-static void set_due(void) {
-    if (is_open) due = now() + about(watchdog, watchdog < 6000 ? watchdog / 3 : 2000);
-    else if (!is_closed) due = now() + timeout;
-    else due = reconnect && *connect_host ? now() + about(reconnect, reconnect / 6) : NEVER;
+static void set_due(struct neighbour *it) {
+    if (it->is_open) it->due = now() + about(watchdog, watchdog < 6000 ? watchdog / 3 : 2000);
+    else if (!it->is_closed) it->due = now() + timeout;
+    else it->due = reconnect && *it->host ? now() + about(reconnect, reconnect / 6) : NEVER;
 }
 
-static void set_state(const char *line) {
-    if (!strcmp(line, state)) return;
-    snprintf(state, sizeof state, "%s", line);
-    is_closed = !strcmp(state, "Closed");
-    is_open = begins(state, "I-Open") || begins(state, "R-Open");
-    char *held = is_open ? strstr(state, *state == 'I' ? " i" : " r") : NULL;
-    open_number = held ? strtoull(held + 2, NULL, 10) : 0;
-    set_due();
+static void set_state(struct neighbour *it, const char *state) {
+    if (!strcmp(state, it->state)) return;
+    snprintf(it->state, sizeof it->state, "%s", state);
+    it->is_closed = !strcmp(state, "Closed");
+    it->is_open = begins(state, "I-Open") || begins(state, "R-Open");
+    char *held = it->is_open ? strstr(it->state, *state == 'I' ? " i" : " r") : NULL;
+    it->open_number = held ? strtoull(held + 2, NULL, 10) : 0;
+    set_due(it);
 }
 
-static void hear(uint64_t number) {
+/* a whole message came; nobody's is a stranger's */
+static void hear(struct neighbour *it, uint64_t number) {
     struct link *link = find(number);
-    if (is_open && number == open_number) set_due();
+    if (it && it->is_open && number == it->open_number) set_due(it);
     if (!link || link->heard) return;
+    link->of = it;
     link->heard = true;
     link->until = NEVER;
 }
 
-static void hand_up(const char *hexadecimal, size_t length) {
+/* of several neighbours, with the number of the one that it came from */
+static void hand_up(const struct neighbour *from, const char *hexadecimal, size_t length) {
+    char number[32];
+    if (neighbour_count > 1) put(&output, number, (size_t)sprintf(number, "%zu ", from - neighbours));
     put(&output, hexadecimal, length);
     put(&output, "\n", 1);
     handed_up++;
@@ -339,10 +356,23 @@ static void obey_send(uint64_t number, const char *hexadecimal, size_t length) {
     queue(link, hexadecimal, length);
 }
 
+/* The neighbour of which the lines of an answer are, of several the one that it named last. */
+static struct neighbour *concerned;
+
+static void set_concerned(uint64_t number) { concerned = number < neighbour_count ? &neighbours[number] : NULL; }
+
+static void begin_answer(void) { concerned = neighbour_count == 1 ? neighbours : NULL; }
+
+static void obey_state(const char *words) {
+    char *state = (char *)words;
+    if (neighbour_count > 1) set_concerned(strtoull(words, &state, 10)), state++;
+    if (concerned) set_state(concerned, state);
+}
+
 static void obey_other(const char *line, uint64_t number) {
     if (begins(line, "close ")) close_link(find(number));
-    else if (begins(line, "connect ")) begin_connect(number);
-    else if (begins(line, "state ")) set_state(line + 6);
+    else if (begins(line, "connect ") && concerned) begin_connect(number, concerned);
+    else if (begins(line, "state ")) obey_state(line + 6);
     else if (strcmp(line, "ignored")) fprintf(stderr, "driver: dmlive: %s\n", line);
 }
 
@@ -351,8 +381,9 @@ static void obey_line(const char *line, size_t length) {
     char *behind = NULL;
     uint64_t number = word && *line != 'u' ? strtoull(word + 1, &behind, 10) : 0;
     if (begins(line, "send ")) obey_send(number, behind + 1, length - (behind + 1 - line));
-    else if (begins(line, "arrived ")) hear(number);
-    else if (begins(line, "up ")) hand_up(line + 3, length - 3);
+    else if (begins(line, "arrived ")) hear(concerned, number);
+    else if (begins(line, "up ") && concerned) hand_up(concerned, line + 3, length - 3);
+    else if (begins(line, "neighbour ")) set_concerned(number);
     else obey_other(line, number);
 }
 
@@ -366,7 +397,7 @@ static void exchange(void) {
     while (orders_out > 0) {
         size_t length;
         char *line = next_answer(&length);
-        if (!strcmp(line, ".")) orders_out--;
+        if (!strcmp(line, ".")) orders_out--, begin_answer();
         else say(" ", line, length), obey_line(line, length);
         take(&answers, length + 1);
     }
@@ -389,20 +420,34 @@ static void put_order(const char *words, const char *rest, size_t length) {
     end_order(start);
 }
 
-static void tell(const char *order) {
-    put_order(order, "", 0);
-    exchange();
-}
-
 static void put_order_of(const char *order, uint64_t number) {
     char words[64];
     snprintf(words, sizeof words, "%s %llu", order, (unsigned long long)number);
     put_order(words, "", 0);
 }
 
+/* one order more waits, for a neighbour, with what is behind its number */
+static void put_order_for(const struct neighbour *to, const char *order, const char *rest, size_t length) {
+    char words[64];
+    int width = snprintf(words, sizeof words, neighbour_count > 1 ? "%s %zu" : "%s", order, to - neighbours);
+    if (length) words[width++] = ' ', words[width] = 0;
+    put_order(words, rest, length);
+}
+
 static void tell_of(const char *order, uint64_t number) {
     put_order_of(order, number);
     exchange();
+}
+
+static void tell_for(const struct neighbour *to, const char *order, const char *rest) {
+    put_order_for(to, order, rest, strlen(rest));
+    exchange();
+}
+
+static void tell_start(const struct neighbour *to) {
+    char number[32];
+    snprintf(number, sizeof number, "%llu", (unsigned long long)++last_number);
+    tell_for(to, "start", number);
 }
 
 static void tell_octets(uint64_t number, const uint8_t *octets, size_t length) {
@@ -476,8 +521,8 @@ static void serve_link(struct link *link, short events) {
 
 /* Standard input */
 
-static bool can_submit(void) {
-    struct link *link = is_open ? find(open_number) : NULL;
+static bool can_submit(const struct neighbour *to) {
+    struct link *link = to->is_open ? find(to->open_number) : NULL;
     return link && held(&link->out) < MOST_WAITING;
 }
 
@@ -507,25 +552,86 @@ static char *input_line(size_t *length) {
     return line;
 }
 
+/* the neighbour that a line of standard input names by its number, of several, and what stands behind that; NULL where
+   it names none */
+static struct neighbour *named(const char **line) {
+    char *behind;
+    if (neighbour_count == 1) return neighbours;
+    uint64_t number = strtoull(*line, &behind, 10);
+    if (**line < '0' || **line > '9' || number >= neighbour_count || (*behind && *behind != ' ')) return NULL;
+    *line = behind + (*behind == ' ');
+    return &neighbours[number];
+}
+
+/* The order that a line is: `start`, `stop` or `sender`, told at once; NULL where it is none. */
+static const char *order_of(const char *line) {
+    static const char *const names[] = { "start", "stop", "sender" };
+    for (size_t i = 0; i < sizeof names / sizeof *names; i++)
+        if (begins(line, names[i]) && (!line[strlen(names[i])] || line[strlen(names[i])] == ' ')) return names[i];
+    return NULL;
+}
+
+/* Tells the order of a line; false where it is none. */
+static bool tell_line(const char *line) {
+    const char *order = order_of(line), *rest = order ? line + strlen(order) : NULL;
+    if (!order) return false;
+    rest += *rest == ' ';
+    struct neighbour *to = named(&rest);
+    bool is_start = *order == 's' && order[2] == 'a';
+    if (to && is_start && !*rest) tell_start(to);
+    else if (to && !is_start) tell_for(to, order, rest);
+    else if (is_start && neighbour_count == 1) return false;
+    else fprintf(stderr, "driver: %s: which neighbour?\n", line);
+    return true;
+}
+
+/* Submits a message, or keeps it until its neighbour's connection is open: of several, since one that isn't must not
+   keep the others waiting. False where it is to wait in standard input. */
+static bool submit_line(const char *line, size_t length) {
+    const char *rest = line;
+    struct neighbour *to = named(&rest);
+    length -= (size_t)(rest - line);
+    if (!to) fprintf(stderr, "driver: a line for no neighbour is skipped\n");
+    else if (!held(&to->waiting) && can_submit(to)) put_order_for(to, "submit", rest, length);
+    else if (neighbour_count == 1 || held(&to->waiting) >= MOST_WAITING) return false;
+    else put(&to->waiting, rest, length), put(&to->waiting, "\n", 1);
+    return true;
+}
+
 /* Takes the first line that waits; false where none waits, or it is to wait on. Submits go to dmlive many at once. */
 static bool take_line(void) {
     size_t length;
     char *line = input_line(&length);
     if (!(line_waits = line)) return false;
-    bool is_start = !strcmp(line, "start"), order = is_start || begins(line, "stop ") || !strcmp(line, "sender");
+    bool order = order_of(line);
     if (order || held(&orders) + length > batch_most) exchange();
-    if (!order && length && !can_submit()) {
+    if (length && !tell_line(line) && !submit_line(line, length)) {
         line[length] = '\n';
         return false;
     }
-    if (is_start) tell_of("start", ++last_number);
-    else if (order) tell(line);
-    else if (length) put_order("submit ", line, length);
     take(&input, length + 1);
     return true;
 }
 
+/* submits what waited for a neighbour's open connection */
+static void take_waiting(struct neighbour *to) {
+    size_t length;
+    for (char *line; can_submit(to) && (line = whole_line(&to->waiting, &length)); take(&to->waiting, length + 1)) {
+        put_order_for(to, "submit", line, length);
+        if (held(&orders) > batch_most) exchange();
+    }
+    exchange();
+}
+
+static bool something_waits(void) {
+    for (size_t i = 0; i < neighbour_count; i++)
+        if (held(&neighbours[i].waiting)) return true;
+    return false;
+}
+
 static void take_input(void) {
+    for (size_t i = 0; i < neighbour_count; i++)
+        if (held(&neighbours[i].waiting)) take_waiting(&neighbours[i]);
     if (!take_line()) return;
     while (take_line()) {}
     exchange();
@@ -547,29 +653,32 @@ static bool someone_waits(void) {
 }
 
 /* A Start waits for accepted connections: against a stack without election, two that cross are both lost. */
-static void expire_state(void) {
-    set_due();
-    if (is_open) tell("tick");
-    else if (!is_closed) tell("timeout");
-    else if (someone_waits()) due = now() + LOOK_AGAIN;
-    else tell_of("start", ++last_number);
+static void expire_state(struct neighbour *it) {
+    set_due(it);
+    if (it->is_open) tell_for(it, "tick", "");
+    else if (!it->is_closed) tell_for(it, "timeout", "");
+    else if (someone_waits()) it->due = now() + LOOK_AGAIN;
+    else tell_start(it);
 }
 
 static void run_clocks(void) {
     int64_t at = now();
     for (size_t i = 0; i < link_count; i++)
         if (!links[i]->dead && links[i]->until <= at) expire(links[i]);
-    if (due <= at) expire_state();
+    for (size_t i = 0; i < neighbour_count; i++)
+        if (neighbours[i].due <= at) expire_state(&neighbours[i]);
     if (end_at > at) return;
     for (size_t i = 0; i < link_count; i++) drop(links[i]);
-    due = NEVER;
+    for (size_t i = 0; i < neighbour_count; i++) neighbours[i].due = NEVER;
     end_at = held(&output) && at - written_at < END_TIME ? written_at + END_TIME : NEVER;
     if (end_at == NEVER) take(&output, held(&output));
 }
 
 /* how long nothing is to be done if nothing happens */
 static struct timespec patience(void) {
-    int64_t first = due < end_at ? due : end_at, at = now();
+    int64_t first = end_at, at = now();
+    for (size_t i = 0; i < neighbour_count; i++)
+        if (neighbours[i].due < first) first = neighbours[i].due;
     for (size_t i = 0; i < link_count; i++)
         if (links[i]->until < first) first = links[i]->until;
     int64_t left = first <= at ? 0 : first - at < 60000 ? first - at : 60000;
@@ -608,8 +717,19 @@ static bool set_number(uint64_t *number, const char *word) {
     return !*end && *word >= '0' && *word <= '9';
 }
 
-/* a line of the driver's own: 1, a bad one -1, one of dmlive's 0 */
+/* the neighbour of this number, which is there from now on */
+static struct neighbour *set_neighbour(size_t number) {
+    while (neighbour_count <= number) {
+        neighbours = realloc(neighbours, (neighbour_count + 1) * sizeof *neighbours);
+        if (!neighbours) fail("driver: memory");
+        neighbours[neighbour_count++] = (struct neighbour){ .state = "Closed", .is_closed = true, .due = NEVER };
+    }
+    return &neighbours[number];
+}
+
+/* a line of the driver's own: 1, a bad one -1, one of dmlive's 0; a `connect` is of the last `peer` */
 static int own_line(const char *line) {
+    static size_t peer_lines;
     char name[16], first[256], second[32], more;
     int words = sscanf(line, " %15s %255s %31s %c", name, first, second, &more);
     if (words < 1) return 0;
@@ -618,9 +738,11 @@ static int own_line(const char *line) {
     if (!strcmp(name, "reconnect")) return words == 2 && set_time(&reconnect, first, 0) ? 1 : -1;
     if (!strcmp(name, "queue")) return words == 2 && set_number(&queue_most, first) ? 1 : -1;
     if (!strcmp(name, "listen")) return words == 3 && add_listener(first, second) ? 1 : -1;
+    if (!strcmp(name, "peer")) set_neighbour(peer_lines++);
     if (strcmp(name, "connect")) return 0;
     if (words != 3) return -1;
-    strcpy(connect_host, first), strcpy(connect_port, second);
+    struct neighbour *to = set_neighbour(peer_lines ? peer_lines - 1 : 0);
+    strcpy(to->host, first), strcpy(to->port, second);
     return 1;
 }
 
@@ -655,6 +777,8 @@ static void configure(const char *path) {
         bad_configuration(path, number > 2 && number <= count ? line_of[number - 1] : line_number, name);
     take(&answers, length + 1);
     take(&answers, (next_answer(&length), length + 1));
+    set_neighbour(0);
+    begin_answer();
 }
 
 static void start_peer(const char *program) {
@@ -686,20 +810,23 @@ static void open_output(void) {
 
 /* The whole */
 
-/* With a connection open a DPR goes out, and its DPA is waited for, also one that is awaited already; else all is closed
-   at once. What was handed up is written while somebody reads it. */
+static bool is_parting(const struct neighbour *it) { return it && (it->is_open || begins(it->state, "Closing")); }
+
+/* Where a neighbour's connection is open a DPR goes out, and its DPA is waited for, also one that is awaited already;
+   all others are closed at once. What was handed up is written while somebody reads it. */
 static void begin_end(void) {
     for (int i = 0; i < listener_count; i++) close(listeners[i]);
     listener_count = 0;
-    *connect_host = 0;
     input_ended = true;
     end_at = now() + END_TIME;
     written_at = now();
-    bool is_parting = is_open || begins(state, "Closing");
-    if (!is_parting) due = NEVER;
-    if (is_open) tell("stop 0");
+    for (size_t i = 0; i < neighbour_count; i++) {
+        *neighbours[i].host = 0;
+        if (!is_parting(&neighbours[i])) neighbours[i].due = NEVER;
+        if (neighbours[i].is_open) tell_for(&neighbours[i], "stop", "0");
+    }
     for (size_t i = 0; i < link_count; i++)
-        if (!is_parting || !links[i]->heard) close_link(links[i]);
+        if (!is_parting(links[i]->of) || !links[i]->heard) close_link(links[i]);
 }
 
 static void on_signal(int signal) {
@@ -744,14 +871,15 @@ static void serve(const sigset_t *unblocked) {
     take_input();
     run_clocks();
     free_dead();
-    if (input_ended && !line_waits && handed_up >= handed_up_most) ask_end();
+    if (input_ended && !line_waits && !something_waits() && handed_up >= handed_up_most) ask_end();
 }
 
 static const char HELP[] =
     "usage: driver [-v] [-n COUNT] [-p PROGRAM] CONFIGURATION\n"
     "  Runs the Diameter peer dmlive over TCP. What is handed up goes to standard output, a message a line, in\n"
     "  hexadecimal; such lines of standard input are submitted (`start` calls, `stop C` disconnects for cause C,\n"
-    "  `sender` asks who the other side is, which standard error says).\n"
+    "  `sender` asks who the other side is, which standard error says). With several lines `peer` the number of the\n"
+    "  neighbour stands in front of each message, and behind `start` and `stop`; `sender` asks nobody then.\n"
     "  SIGTERM disconnects and ends it.\n"
     "  -v, --verbose          a line on standard error for each event; twice: long ones whole\n"
     "  -n, --count COUNT      ends when standard input has ended and so many messages were handed up\n"
@@ -794,7 +922,8 @@ int main(int count, char **words) {
     open_output();
     start_peer(program);
     configure(words[optind]);
-    due = reconnect && *connect_host ? 0 : NEVER;
+    for (size_t i = 0; i < neighbour_count; i++)
+        neighbours[i].due = reconnect && *neighbours[i].host ? 0 : NEVER;
     bool ending = false;
     while (!ending || ((link_count || held(&output)) && signalled < 2)) {
         serve(&unblocked);

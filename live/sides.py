@@ -173,21 +173,23 @@ class Ours(Side):
         threading.Thread(target=self.take, daemon=True).start()
 
     def take(self):
+        """Of several neighbours the number of one stands in front of what it handed up, and of the answer to that."""
         for line in self.process.stdout:
-            octets = bytes.fromhex(line.decode())
+            *front, digits = line.decode().split()
+            octets = bytes.fromhex(digits)
             with self.came:
-                self.handed.append(octets)
+                self.handed.append((front, octets))
                 self.came.notify_all()
             if self.answers and octets[4] & 0x80:
-                self.order(aca(octets, self.host).hex())
+                self.order(" ".join([*front, aca(octets, self.host).hex()]))
 
-    def up(self, test, seconds=5):
-        """The first message handed up that passes the test."""
-        end, at = time.monotonic() + seconds, 0
+    def up(self, test, seconds=5, neighbour=None):
+        """The first message handed up that passes the test, of this neighbour, where one is given."""
+        end, at, wanted = time.monotonic() + seconds, 0, [] if neighbour is None else [str(neighbour)]
         with self.came:
             while True:
-                for octets in self.handed[at:]:
-                    if test(octets):
+                for front, octets in self.handed[at:]:
+                    if front == wanted and test(octets):
                         return octets
                 at = len(self.handed)
                 if time.monotonic() >= end:
@@ -245,14 +247,14 @@ class FreeDiameter(Side):
 
 
 class Otp(Side):
-    """A node of Erlang/OTP's diameter, b.example, in the other network."""
+    """A node of Erlang/OTP's diameter in the other network: b.example, unless told otherwise."""
     name = "OTP"
 
-    def __init__(self, folder, call=None, known=("any",), relay=True):
-        words = ["main", "b.example", FAR + ":3868", "%s:%d" % (NEAR, call) if call else "none", known[0]]
+    def __init__(self, folder, call=None, known=("any",), relay=True, host="b.example", port=3868):
+        words = ["main", host, "%s:%d" % (FAR, port), "%s:%d" % (NEAR, call) if call else "none", known[0]]
         erl = ["erl", "-noshell", "-pa", folder, "-run", "otp_peer"]
         super().__init__(["ip", "netns", "exec", "other", *erl, *words], folder)
-        listening(FAR, 3868)
+        listening(FAR, port)
 
     def stop(self):
         self.order("stop")
@@ -287,7 +289,7 @@ def vendor_application(folder):
 
 def prepare(folder, parts):
     subprocess.run([os.path.join(HERE, "build")], check=True)
-    if "otp" in parts:
+    if {"otp", "node"} & {*parts}:
         subprocess.run(["erlc", "-o", folder, os.path.join(HERE, "otp_peer.erl")], check=True)
     subprocess.run(["openssl", "req", "-x509", "-newkey", "rsa:2048", "-nodes", "-days", "2", "-subj", "/CN=b.example",
                     "-keyout", "key.pem", "-out", "cert.pem"], cwd=folder, check=True, stderr=subprocess.DEVNULL)
