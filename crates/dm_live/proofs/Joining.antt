@@ -18,7 +18,7 @@ use Rattle.dm_peer.specs.After.{fresh_standing}
 use Rattle.dm_peer.specs.Hosts.{config_fault}
 use Rattle.dm_live.specs.Beginnings.{config_fault_name, hosts_told, first_told, is_named_among, peer_fault, peers_fault}
 use Rattle.dm_live.specs.Beginnings.{node_told_fault, go_fault, is_several, IsNodeOf, IsConfiguredFor, IsNewFor}
-use Rattle.dm_live.specs.Beginnings.{AreNewFor}
+use Rattle.dm_live.specs.Beginnings.{AreNewFor, compares_hosts}
 use Rattle.dm_live.specs.Beginnings.{BeginsForHosts}
 use Rattle.dm_live.specs.Joining.{AddsLike, RefusesHost}
 use Rattle.dm_live.specs.Settings.{Settings}
@@ -131,8 +131,9 @@ begun_more s first before template host t u made so adds =
     let Node : Node → Type 0 = λ v. IsNodeOf s v in
     let Begun : NodeSession → Type 0 = λ v. BeginsForHosts s (before ++ host ∷ []) v in
     let id : adds.config.first_id ≡ s.first_id = adds.first_id ∙ made.first_id in
+    let compares : adds.config.compares ≡ compares_hosts s = adds.compares ∙ made.compares in
     let new : IsNewFor s host (new_peer adds.config adds.config.first_id) = record {
-      config = record { node = subst Node (sym adds.node) made.node; peer = adds.peer; first_id = id };
+      config = record { node = subst Node (sym adds.node) made.node; peer = adds.peer; first_id = id; compares = compares };
       standing = ap fresh_standing id;
     } in
     let more : Begun (with_node_peers (with_new t.peers adds.config) t) = record {

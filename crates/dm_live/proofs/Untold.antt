@@ -17,6 +17,7 @@ short names.Supports = omega arith
 short names.Firmware = omega arith
 short names.State = omega arith
 short names.Peer = omega arith
+short names.Compare = omega arith
 short names.First = omega arith
 short names.Early = omega arith
 short names.Max = omega arith

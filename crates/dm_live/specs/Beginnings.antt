@@ -111,11 +111,16 @@ pub record IsNodeOf (s : Settings) (n : Node) : Type 0 where
   pub acct : n.acct ≡ s.acct
   pub extras : AreExtrasOf s n.extras
 
+-- the host that a CEA names is compared with the peer's (own)
+abbrev pub compares_hosts : Settings → Bool
+compares_hosts s = not (nat_eq s.compare 0)
+
 -- the configuration that they make for a peer of this host; its dictionary is the base one, as of each configuration
 pub record IsConfiguredFor (s : Settings) (host : List ℕ) (c : Config) : Type 0 where
   pub node : IsNodeOf s c.node
   pub peer : c.peer ≡ host
   pub first_id : c.first_id ≡ s.first_id
+  pub compares : c.compares ≡ compares_hosts s
 
 -- the session that the settings begin, where they tell one peer: it is closed, without connections
 pub record Begins (s : Settings) (t : Session) : Type 0 where

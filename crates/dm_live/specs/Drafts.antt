@@ -18,6 +18,7 @@ settings_of d =
       firmware = d.firmware;
       state_id = d.state_id;
       peers = d.peers.items;
+      compare = d.compare;
       first_id = d.first_id;
       first_max = d.first_max;
       most = d.most;

@@ -15,6 +15,7 @@ pub record AddsLike (template : Config) (host : List ℕ) (s t : NodeSession) : 
   pub node : config.node ≡ template.node
   pub peer : config.peer ≡ host
   pub first_id : config.first_id ≡ template.first_id
+  pub compares : config.compares ≡ template.compares
   pub added : t ≡ with_node_peers (with_new s.peers config) s
 
 -- a node of this host can't have it as a peer, or one of its neighbours has it

@@ -11,8 +11,9 @@ use Rattle.dm_value.specs.Printed.{ip_words}
 use Rattle.dm_live.specs.declared.setting_name.SettingName.{SettingName}
 use Rattle.dm_live.specs.declared.setting_name.SettingName.TheVariants as names
 
--- a node, what it says beyond what it must, the hosts of its peers, the number of the first request to each, and the
--- greatest Message Lengths before the capabilities exchange and behind it
+-- a node, what it says beyond what it must, the hosts of its peers, whether those that CEAs name are compared with them
+-- (unless it is 0), the number of the first request to each, and the greatest Message Lengths before the capabilities
+-- exchange and behind it
 pub record Settings : Type 0 where
   pub host : List ℕ
   pub realm : List ℕ
@@ -26,6 +27,7 @@ pub record Settings : Type 0 where
   pub firmware : Option ℕ
   pub state_id : Option ℕ
   pub peers : List (List ℕ)
+  pub compare : ℕ
   pub first_id : ℕ
   pub first_max : ℕ
   pub most : ℕ
@@ -46,6 +48,7 @@ no_settings =
       firmware = None;
       state_id = None;
       peers = [];
+      compare = 0;
       first_id = 1;
       first_max = 16777212;
       most = 16777212;
@@ -64,6 +67,7 @@ setting_word names.Supports = codes "supports"
 setting_word names.Firmware = codes "firmware"
 setting_word names.State = codes "state"
 setting_word names.Peer = codes "peer"
+setting_word names.Compare = codes "compare"
 setting_word names.First = codes "first"
 setting_word names.Early = codes "early"
 setting_word names.Max = codes "max"
@@ -87,6 +91,7 @@ Sets names.Supports word s t = (n : ℕ) × TellsNumber n word × (t ≡ record 
 Sets names.Firmware word s t = (n : ℕ) × TellsNumber n word × (t ≡ record s { firmware = Some n })
 Sets names.State word s t = (n : ℕ) × TellsNumber n word × (t ≡ record s { state_id = Some n })
 Sets names.Peer word s t = t ≡ record s { peers = s.peers ++ word ∷ [] }
+Sets names.Compare word s t = (n : ℕ) × TellsNumber n word × (t ≡ record s { compare = n })
 Sets names.First word s t = (n : ℕ) × TellsNumber n word × (t ≡ record s { first_id = n })
 Sets names.Early word s t = (n : ℕ) × TellsNumber n word × (t ≡ record s { first_max = n })
 Sets names.Max word s t = (n : ℕ) × TellsNumber n word × (t ≡ record s { most = n })

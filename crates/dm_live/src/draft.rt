@@ -8,7 +8,7 @@ ghost use Rattle.dm_base.specs.Refusals.{are_extras_long};
 ghost use Rattle.dm_peer.specs.Hosts.{config_fault};
 ghost use Rattle.dm_live.specs.Beginnings.{own_fault, node_told_fault, peers_fault, go_fault, hosts_told, first_told};
 ghost use Rattle.dm_live.specs.Beginnings.{is_several, has_extras, IsOwnOf, IsNodeOf, IsConfiguredFor};
-ghost use Rattle.dm_live.specs.Beginnings.{node_fault_name, config_fault_name};
+ghost use Rattle.dm_live.specs.Beginnings.{node_fault_name, config_fault_name, compares_hosts};
 ghost use Rattle.dm_live.specs.Drafts.{settings_of};
 ghost use Rattle.dm_live.specs.Settings.{Settings, no_settings, Sets, setting_word, specific_word};
 ghost use Rattle.dm_live.specs.Settings.{TellsOne, TellsSpecific, TellsSetting};
@@ -43,6 +43,7 @@ pub(crate) struct Draft {
     firmware: Option<u32>,
     state_id: Option<u32>,
     peers: Vec<Octets>,
+    compare: u32,
     first_id: u32,
     first_max: u32,
     most: u32,
@@ -66,6 +67,7 @@ impl Draft {
             firmware: None,
             state_id: None,
             peers: Vec::new(alloc),
+            compare: 0,
             first_id: 1,
             first_max: LONGEST,
             most: LONGEST,
@@ -160,6 +162,7 @@ impl Draft {
             SettingName::Firmware => Ok(say_number(&mut self.firmware, word)),
             SettingName::State => Ok(say_number(&mut self.state_id, word)),
             SettingName::Peer => push_name(&mut self.peers, word),
+            SettingName::Compare => Ok(put_number(&mut self.compare, word)),
             SettingName::First => Ok(put_number(&mut self.first_id, word)),
             SettingName::Early => Ok(put_number(&mut self.first_max, word)),
             SettingName::Max => Ok(put_number(&mut self.most, word)),
@@ -225,8 +228,22 @@ impl Draft {
     {
         let peer = Vec::from_slice(alloc, self.first_peer())?;
         match Config::new(alloc, node, peer, self.first_id) {
-            Ok(config) => Ok(Ok(config)),
+            Ok(config) => Ok(Ok(self.comparing_if_told(config))),
             Err(fault) => Ok(Err(config_fault_name(fault)?)),
+        }
+    }
+
+    /// The configuration, which compares the host that a CEA names where the lines say so.
+    fn comparing_if_told(&self, config: Config) -> Config
+        ensures node { result.node ≡ config.node }
+        ensures peer { result.peer ≡ config.peer }
+        ensures first_id { result.first_id ≡ config.first_id }
+        ensures compares { config.compares ≡ false → result.compares ≡ compares_hosts (settings_of self.now) }
+    {
+        if self.compare != 0 {
+            config.comparing()
+        } else {
+            config
         }
     }
 

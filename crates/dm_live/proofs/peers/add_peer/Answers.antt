@@ -8,5 +8,6 @@ returns-in-Ok-add-clause-added c =
       node = made.node;
       peer = made.peer;
       first_id = made.first_id;
+      compares = made.compares;
       added = c.in-Ok-add.ensures.added;
     }
