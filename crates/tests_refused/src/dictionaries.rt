@@ -281,15 +281,15 @@ fn messages_checked(rt: HostRuntime) {
 /// A dictionary of a command of 300 entries, each of which one AVP may fill.
 fn long_rule(rt: &(impl Abort + AllocGlobal)) -> Dictionary {
     let mut text = String::new(rt.alloc());
-    for place in 0..300u32 {
-        let code = 80000u32.wrapping_add(place);
+    for place in 0..300u16 {
+        let code = 80000 + place as u32;
         let line = format!(in rt.alloc(); "@ A{place} {code} Unsigned32\n").expect(rt, "memory");
         text.push_str(line.as_str()).expect(rt, "memory");
         drop(line);
     }
     let title = "< Ask > ::= < Diameter Header: 300, REQ >";
     text.push_str(title).expect(rt, "memory");
-    for place in 0..300u32 {
+    for place in 0..300u16 {
         let entry = format!(in rt.alloc(); " [ A{place} ]").expect(rt, "memory");
         text.push_str(entry.as_str()).expect(rt, "memory");
         drop(entry);

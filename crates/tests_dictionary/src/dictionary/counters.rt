@@ -71,7 +71,8 @@ fn many_avps(rt: HostRuntime) {
     }
 }
 
-fn push_definition(rt: &(impl Abort + AllocGlobal), text: &mut String, place: u16) {
+/// The definition of the AVP that an entry names.
+pub(super) fn push_definition(rt: &(impl Abort + AllocGlobal), text: &mut String, place: u16) {
     let code = 80000 + place as u32;
     let line = format!(in rt.alloc(); "@ A{place} {code} Unsigned32\n").expect(rt, "memory");
     text.push_str(line.as_str()).expect(rt, "memory");

@@ -1,21 +1,14 @@
 //! Rules of more entries than are counted in one walk without memory: all calls say the same of a message.
+use super::counters::push_definition;
 use dm_dict::{Dictionary, Failed, Judged, Verdict};
 use dm_wire::{Avp, AvpList, Header, Message, MessageRef, Octets};
 use std::process::Abort;
 
-/// The AVP Code of an entry.
-fn code_at(place: u32) -> u32 {
-    80000u32.wrapping_add(place)
-}
-
 /// A dictionary of a command of so many entries, each of which wants one AVP.
-fn long_rule(rt: &(impl Abort + AllocGlobal), size: u32) -> String {
+fn long_rule(rt: &(impl Abort + AllocGlobal), size: u16) -> String {
     let mut text = String::new(rt.alloc());
     for place in 0..size {
-        let code = code_at(place);
-        let line = format!(in rt.alloc(); "@ A{place} {code} Unsigned32\n").expect(rt, "memory");
-        text.push_str(line.as_str()).expect(rt, "memory");
-        drop(line);
+        push_definition(rt, &mut text, place);
     }
     text.push_str("< Q > ::= < Diameter Header: 300, REQ >")
         .expect(rt, "memory");
@@ -28,14 +21,14 @@ fn long_rule(rt: &(impl Abort + AllocGlobal), size: u32) -> String {
 }
 
 /// One AVP more of the entry at the place.
-fn push_avp(rt: &(impl Abort + AllocGlobal), avps: &mut Vec<Avp>, place: u32) {
+fn push_avp(rt: &(impl Abort + AllocGlobal), avps: &mut Vec<Avp>, place: u16) {
     let data = Octets::from_slice(rt.alloc(), &[0; 4]).expect(rt, "memory");
-    let avp = Avp::new(code_at(place), None, true, data);
+    let avp = Avp::new(80000 + place as u32, None, true, data);
     avps.push(avp).expect(rt, "memory");
 }
 
 /// A request with one AVP of each entry but that at the place, and so many of that one.
-fn request(rt: &(impl Abort + AllocGlobal), size: u32, at: u32, count: u32) -> Message {
+fn request(rt: &(impl Abort + AllocGlobal), size: u16, at: u16, count: u32) -> Message {
     let mut avps = Vec::new(rt.alloc());
     for place in 0..size {
         for _ in 0..if place == at { count } else { 1 } {
@@ -144,13 +137,13 @@ fn assert_of_message(
 fn assert_rows(
     rt: &(impl Abort + AllocGlobal),
     dictionary: &Dictionary,
-    size: u32,
-    rows: &[(u32, u32, Option<u32>)],
+    size: u16,
+    rows: &[(u16, u32, Option<u32>)],
 ) {
     for (at, count, code) in rows {
         let message = request(rt, size, *at, *count);
         let want = match code {
-            Some(code) => Some((*code, code_at(*at))),
+            Some(code) => Some((*code, 80000 + *at as u32)),
             None => None,
         };
         assert_of_message(rt, dictionary, &message, want);
@@ -160,8 +153,8 @@ fn assert_rows(
 
 fn assert_under_rule_of(
     rt: &(impl Abort + AllocGlobal),
-    size: u32,
-    rows: &[(u32, u32, Option<u32>)],
+    size: u16,
+    rows: &[(u16, u32, Option<u32>)],
 ) {
     let text = long_rule(rt, size);
     let empty = Dictionary::empty(rt.alloc());
@@ -174,7 +167,7 @@ fn assert_under_rule_of(
 }
 
 /// An entry, how many AVPs it has, and the Result-Code of what is wrong with that.
-const ROWS_OF_300: &[(u32, u32, Option<u32>)] = &[
+const ROWS_OF_300: &[(u16, u32, Option<u32>)] = &[
     (299, 1, None),
     (299, 2, Some(5009)),
     (299, 0, Some(5005)),
@@ -184,7 +177,7 @@ const ROWS_OF_300: &[(u32, u32, Option<u32>)] = &[
     (0, 0, Some(5005)),
 ];
 
-const ROWS_OF_1000: &[(u32, u32, Option<u32>)] = &[
+const ROWS_OF_1000: &[(u16, u32, Option<u32>)] = &[
     (999, 1, None),
     (999, 2, Some(5009)),
     (999, 0, Some(5005)),
