@@ -89,11 +89,11 @@ def named_contracts(top):
 
 
 def long_lines(top, paths):
-    """Lines over the width, but for those that are one text, as a message in hexadecimal is."""
+    """Lines over the width, but for those that are one text or its octets, as a message in hexadecimal is."""
     found = []
     for path in paths:
         for number, line in enumerate(read(f"{top}/{path}").split("\n"), 1):
-            if len(line) > WIDTH and not re.match(r'\s*"[^"]*"[,;]?$', line):
+            if len(line) > WIDTH and not re.match(r'\s*b?"(?:[^"\\]|\\.)*"[,;]?$', line):
                 found.append(f"{path}:{number}")
     return found
 

@@ -9,23 +9,23 @@ abbrev pub secure_from : Bool → List ℕ → Bool
 secure_from named ids = if named then lists_id ids 0 else are_secure ids
 
 -- an AVP that names none changes nothing
-pub none_named : (named : Bool) (one rest : List ℕ) → [] ≡ one
+pub no_id : (named : Bool) (one rest : List ℕ) → [] ≡ one
     → secure_from named (one ++ rest) ≡ secure_from named rest
-none_named named one rest e = rw (← e) refl
+no_id named one rest e = rw (← e) refl
 
 -- another id leaves it to those behind it
-pub other_named : (named : Bool) (id : ℕ) (one rest : List ℕ) → id ∷ [] ≡ one → nat_eq id 0 ≡ false
+pub other : (named : Bool) (id : ℕ) (one rest : List ℕ) → id ∷ [] ≡ one → nat_eq id 0 ≡ false
     → secure_from named (one ++ rest) ≡ lists_id rest 0
-other_named true id one rest e h = rw (← e, h) refl
-other_named false id one rest e h =
+other true id one rest e h = rw (← e, h) refl
+other false id one rest e h =
     let some : nat_eq (suc (length rest)) 0 ≡ false = ne_eqb (suc (length rest)) 0 (λ k. omega arith) in
     rw (← e, some, h) refl
 
 -- 0 decides
-pub zero_named : (named : Bool) (id : ℕ) (one rest : List ℕ) → id ∷ [] ≡ one → id ≡ 0
+pub zero : (named : Bool) (id : ℕ) (one rest : List ℕ) → id ∷ [] ≡ one → id ≡ 0
     → true ≡ secure_from named (one ++ rest)
-zero_named true id one rest e h = rw (← e, h) refl
-zero_named false id one rest e h =
+zero true id one rest e h = rw (← e, h) refl
+zero false id one rest e h =
     let some : nat_eq (suc (length rest)) 0 ≡ false = ne_eqb (suc (length rest)) 0 (λ k. omega arith) in
     rw (← e, h, some) refl
 

@@ -24,11 +24,11 @@ short s h =
     let (_, few) = and_parts (is_visible_text s) (nat_le (length s) max_name_len) h in
     leb-true (length s) max_name_len few
 
-pub short_host : (n : Node) → length n.host ≤ max_name_len
-short_host n = short n.host n.fit_host
+pub host : (n : Node) → length n.host ≤ max_name_len
+host n = short n.host n.fit_host
 
-pub short_realm : (n : Node) → length n.realm ≤ max_name_len
-short_realm n = short n.realm n.fit_realm
+pub realm : (n : Node) → length n.realm ≤ max_name_len
+realm n = short n.realm n.fit_realm
 
 -- three lists, appended in turn
 appended : (x y z o0 o1 o2 o3 : List ℕ) → o1 ≡ o0 ++ x → o2 ≡ o1 ++ y → o3 ≡ o2 ++ z

@@ -83,7 +83,7 @@ fn list_meets(auth: &[u32], acct: &[u32], specific: &[u32], avps: AvpsRef<'_>) -
 }
 
 /// Whether AVPs name no Inband-Security-Id, or NO_INBAND_SECURITY among them.
-#[tactic(auto, using(crate::proofs::Securing::none_named, crate::proofs::Securing::other_named, crate::proofs::Securing::zero_named))]
+#[tactic(auto, using(crate::proofs::Securing::no_id, crate::proofs::Securing::other, crate::proofs::Securing::zero))]
 fn list_secure(avps: AvpsRef<'_>) -> bool
     ensures { (l : List Avp) → Lists avps.entry l → result ≡ are_secure (flat_map security_ids l) }
 {

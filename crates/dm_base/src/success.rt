@@ -18,7 +18,7 @@ use dm_wire::{Header, WireFault, header_octets, put_avp};
 use std::alloc::Global;
 
 /// The octets that Result-Code, Origin-Host and Origin-Realm take.
-#[tactic(auto, using(crate::proofs::Written::list_sized, crate::proofs::Written::short_host, crate::proofs::Written::short_realm))]
+#[tactic(auto, using(crate::proofs::Written::list_sized, crate::proofs::Written::host, crate::proofs::Written::realm))]
 fn list_size(node: &Node) -> usize
     ensures size { result ≡ length (canonical_list (result_avp success ∷ origin node.now [])) }
     ensures small { result ≤ 540 }
@@ -53,7 +53,7 @@ fn put_state(out: &mut Vec<u8>, state: Option<u32>) -> Result<(), WireFault>
 }
 
 /// Result-Code with DIAMETER_SUCCESS, Origin-Host and Origin-Realm, appended.
-#[tactic(auto, using(crate::proofs::Written::short_host, crate::proofs::Written::short_realm))]
+#[tactic(auto, using(crate::proofs::Written::host, crate::proofs::Written::realm))]
 fn put_list(out: &mut Vec<u8>, node: &Node) -> Result<(), WireFault>
     ensures put { OnOk result (out.new.items ≡ out.old.items
         ++ canonical_list (result_avp success ∷ origin node.now [])) }

@@ -39,17 +39,17 @@ pub front_none : (o : Option Intake) → None ≡ o → IfSome o IsToldOut
 front_none o e = subst (λ v. IfSome v IsToldOut) e tt
 
 -- the whole message with which a piece begins, on a connection that is there
-pub whole_there : (o : Option Intake) (i : Intake) (piece : List ℕ) (size : ℕ) → Some i ≡ o → size ≤ length piece →
+pub whole : (o : Option Intake) (i : Intake) (piece : List ℕ) (size : ℕ) → Some i ≡ o → size ≤ length piece →
     IsWholeIn i piece (take size piece) (drop size piece) → IsWholeAt o piece size
-whole_there o i piece size e within front =
+whole o i piece size e within front =
     record { intake = i; there = sym e; within = within; front = front }
 
-pub not_whole_there : (o : Option Intake) (i : Intake) (piece : List ℕ) → Some i ≡ o → IsNotWhole i piece →
+pub not_whole : (o : Option Intake) (i : Intake) (piece : List ℕ) → Some i ≡ o → IsNotWhole i piece →
     IfSome o (λ j. IsNotWhole j piece)
-not_whole_there o i piece e none = subst (λ v. IfSome v (λ j. IsNotWhole j piece)) e none
+not_whole o i piece e none = subst (λ v. IfSome v (λ j. IsNotWhole j piece)) e none
 
-pub whole_none : (o : Option Intake) (piece : List ℕ) → None ≡ o → IfSome o (λ j. IsNotWhole j piece)
-whole_none o piece e = subst (λ v. IfSome v (λ j. IsNotWhole j piece)) e tt
+pub nowhere : (o : Option Intake) (piece : List ℕ) → None ≡ o → IfSome o (λ j. IsNotWhole j piece)
+nowhere o piece e = subst (λ v. IfSome v (λ j. IsNotWhole j piece)) e tt
 
 -- what one action closes, and then others
 pub left_on : (a : Action) (rest : List Action) (f : Intakes) →

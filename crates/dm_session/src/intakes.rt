@@ -50,7 +50,7 @@ impl Intakes {
         }
     }
 
-    #[tactic(auto, using(crate::proofs::Steps::whole_there, crate::proofs::Steps::not_whole_there, crate::proofs::Steps::whole_none))]
+    #[tactic(auto, using(crate::proofs::Steps::whole, crate::proofs::Steps::not_whole, crate::proofs::Steps::nowhere))]
     /// How many octets of the piece the whole message takes with which it begins, where the connection is there and
     /// nothing is kept of it. It never answers want of memory.
     pub fn whole_in(&self, conn: Conn, piece: &[u8]) -> Option<usize>
