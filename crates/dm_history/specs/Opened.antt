@@ -4,6 +4,7 @@ use Rattle.dm_wire.specs.declared.message.Message.{Message}
 use Rattle.dm_wire.specs.Whole.{message_in}
 use Rattle.dm_base.specs.declared.node.Node.{Node}
 use Rattle.dm_base.specs.Built.{built_cer, built_cea}
+use Rattle.dm_base.specs.Codes.{success}
 use Rattle.dm_machine.specs.declared.connection.Conn.{Conn}
 use Rattle.dm_machine.specs.Connection.{Hold, OpenAsI, OpenAsR, hold_of}
 use Rattle.dm_peer.specs.declared.actions.Action.{Action}
@@ -47,7 +48,7 @@ pub record WasSent (c : Conn) (m : Message) (x : Happened) : Type 0 where
 
 -- the CEA that accepts the CER was sent on the connection, on which the CER had come first, then or before
 pub record IsAccepted (n : Node) (c : Conn) (cer : Message) (x : Happened) (past : List Happened) : Type 0 where
-  pub answered : WasSent c (built_cea n cer.header 2001 None) x
+  pub answered : WasSent c (built_cea n cer.header success None) x
   pub heard : Once (λ y earlier. CameFirst c cer y earlier) (x ∷ past)
 
 -- at the connection's Ack the CER with the number was sent on it

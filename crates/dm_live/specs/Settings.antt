@@ -8,6 +8,7 @@ use Rattle.dm_text.specs.Words.{words}
 use Rattle.dm_text.specs.Numbers.{TellsNumber}
 use Rattle.dm_value.specs.declared.address.Ip.{Ip}
 use Rattle.dm_value.specs.Printed.{ip_words}
+use Rattle.dm_wire.specs.Codes.{max_message_len}
 use Rattle.dm_live.specs.declared.setting_name.SettingName.{SettingName}
 use Rattle.dm_live.specs.declared.setting_name.SettingName.TheVariants as names
 
@@ -50,8 +51,8 @@ no_settings =
       peers = [];
       compare = 0;
       first_id = 1;
-      first_max = 16777212;
-      most = 16777212;
+      first_max = max_message_len;
+      most = max_message_len;
     }
 
 -- the first word of a line

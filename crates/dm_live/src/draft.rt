@@ -23,10 +23,8 @@ use dm_peer::{Config, ConfigFault};
 use dm_text::Words;
 use dm_value::Ip;
 use dm_wire::Octets;
+use dm_wire::codes::limits::MAX_MESSAGE_LEN;
 use std::alloc::{AllocError, Global};
-
-/// The longest message that is taken where no line tells another: a Message Length of 24 bits in whole words.
-const LONGEST: u32 = 16_777_212;
 
 /// What the lines so far say.
 #[derive(Drop)]
@@ -69,8 +67,8 @@ impl Draft {
             peers: Vec::new(alloc),
             compare: 0,
             first_id: 1,
-            first_max: LONGEST,
-            most: LONGEST,
+            first_max: MAX_MESSAGE_LEN,
+            most: MAX_MESSAGE_LEN,
         }
     }
 

@@ -5,6 +5,7 @@ use Rattle.dm_peer.specs.declared.actions.Action as declared_action
 use Rattle.dm_peer.specs.declared.peer.Peer.{Peer}
 use Rattle.dm_peer.specs.Acts.{Moved, acts}
 use Rattle.dm_peer.specs.Events.{PeerEvent, Submit}
+use Rattle.dm_wire.specs.Codes.{max_message_len}
 use Rattle.dm_wire.specs.Octets.{AreOctets}
 use Rattle.dm_two_peers.specs.Peers.{Action, Send}
 use Rattle.dm_octet_peers.specs.Octets.{as_actions}
@@ -17,7 +18,7 @@ submitted_in _ = []
 -- what is sent are frames for the greatest Message Length
 abbrev pub SendFrames : List (Action (List ℕ)) → Type 0
 SendFrames [] = ⊤
-SendFrames (Send c s ∷ more) = IsFrame 16777212 s × SendFrames more
+SendFrames (Send c s ∷ more) = IsFrame max_message_len s × SendFrames more
 SendFrames (_ ∷ more) = SendFrames more
 
 -- whatever a peer is told, the numbers of a list that is submitted being octets

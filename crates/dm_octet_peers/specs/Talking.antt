@@ -1,7 +1,7 @@
 -- Two peers over octets that are configured for each other, as the laws of clean runs see them.
 use Rattle.std.specs.Prelude.{◌≡◌, ℕ, Bool, true, false, not, ◌&&◌, ◌||◌, is_none, None, List, IsTrue}
 use Rattle.dm_wire.specs.declared.message.Header.{Header}
-use Rattle.dm_base.specs.Codes.{capabilities_exchange}
+use Rattle.dm_base.specs.Codes.{capabilities_exchange, success}
 use Rattle.dm_base.specs.Built.{request_header, answer_header, built_cer, built_cea}
 use Rattle.dm_base.specs.Common.{are_common}
 use Rattle.dm_base.specs.Fit.{is_number}
@@ -43,7 +43,7 @@ abbrev pub cer_octets : Config → ℕ → List ℕ
 cer_octets c n = octets_of (built_cer c.node n)
 
 abbrev pub cea_octets : Config → ℕ → List ℕ
-cea_octets c n = octets_of (built_cea c.node (request_header capabilities_exchange n) 2001 None)
+cea_octets c n = octets_of (built_cea c.node (request_header capabilities_exchange n) success None)
 
 -- the peers of a world are configured for each other, each stands so, and none is in Wait-Returns but one that loses
 pub record ArePeers (w : World Peer (List ℕ)) : Type 0 where

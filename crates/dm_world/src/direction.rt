@@ -11,11 +11,13 @@ ghost use Rattle.dm_world.specs.Fed.{holding, octets_to_come};
 ghost use Rattle.dm_world.specs.Next.{next_kind};
 ghost use Rattle.dm_world.specs.Ways.{with_message, with_disconnect, with_taken, as_mark};
 ghost use Rattle.dm_world.specs.Ways.{with_disconnect_delivered};
+ghost use Rattle.dm_wire.specs.Codes.{max_message_len};
 
 use dm_dict::NoMemory;
 use dm_framer::laws::whole_frames;
 use dm_framer::{FrameFault, Framer};
 use dm_wire::Octets;
+use dm_wire::codes::limits::MAX_MESSAGE_LEN;
 use std::alloc::{AllocError, Global};
 use std::collections::VecDeque;
 use std::marker::Model;
@@ -41,9 +43,6 @@ pub(crate) enum Next {
     /// Nothing.
     Nothing,
 }
-
-/// The greatest Message Length: a multiple of 4 that three octets hold (RFC 6733, 3).
-const GREATEST: u32 = 16777212;
 
 /// One direction of a link: the messages as they were sent, and a framer with the octets of the front one that were
 /// delivered, so many.
@@ -78,13 +77,13 @@ impl Model for Direction {
 pub(crate) fn empty_framer(alloc: Global) -> Framer
     ensures { result ≡ holding [] }
 {
-    Framer::new(alloc, GREATEST)
+    Framer::new(alloc, MAX_MESSAGE_LEN)
 }
 
 /// The message that a framer hands out which is fed the rest of it, behind the first octets that it holds. The framer
 /// that is handed in stays as it is.
 fn frame_out(framer: &Framer, message: &[u8], taken: usize) -> Result<Handed, FrameFault>
-    requires frame { IsFrame 16777212 message.now }
+    requires frame { IsFrame max_message_len message.now }
     requires within { taken ≤ length message.now }
     requires held { framer.now ≡ holding (take taken message.now) }
     ensures message { IfOk result (λ handed. handed.message.items ≡ message.now) }
@@ -150,7 +149,7 @@ impl Direction {
     /// Puts a message in behind the others. Where the disconnect is in, it goes nowhere.
     pub(crate) fn put(&mut self, message: Octets)
         requires room { 0 < self.old.room }
-        requires frame { IsFrame 16777212 message }
+        requires frame { IsFrame max_message_len message }
         ensures put { self.new.direction ≡ with_message message self.old.direction }
         ensures room { self.old.room ≤ self.new.room + 1 }
     {

@@ -12,6 +12,7 @@ ghost use Rattle.dm_world.specs.Fed.{holding};
 ghost use Rattle.dm_world.specs.Next.{next_to, octets_to_come_to, is_past_loss};
 ghost use Rattle.dm_world.specs.Seen.{as_side, as_end, as_link, out_room, restart_link};
 ghost use Rattle.dm_world.specs.Telling.{FramerFits, concern_in};
+ghost use Rattle.dm_wire.specs.Codes.{max_message_len};
 
 use crate::Side;
 use crate::direction::{Direction, Next};
@@ -95,7 +96,7 @@ impl Link {
     /// The side sends a message.
     pub(crate) fn say(&mut self, side: Side, message: Octets)
         requires room { 0 < out_room (as_side side) self.old }
-        requires frame { IsFrame 16777212 message }
+        requires frame { IsFrame max_message_len message }
         ensures said { as_link self.new ≡ by_side (as_side side) (with_sent message) (as_link self.old) }
         ensures room { out_room (as_side side) self.old ≤ out_room (as_side side) self.new + 1 }
     {

@@ -10,6 +10,7 @@ ghost use Rattle.dm_two_peers.specs.Worlds.{change_at};
 ghost use Rattle.dm_world.specs.Agreeing.{is_coming_at};
 ghost use Rattle.dm_world.specs.Rooms.{HasRoom};
 ghost use Rattle.dm_world.specs.Seen.{as_side, as_links, restart_link};
+ghost use Rattle.dm_wire.specs.Codes.{max_message_len};
 
 use crate::Side;
 use crate::direction::Mark;
@@ -39,7 +40,7 @@ pub(crate) fn reserve(
 /// The side sends a message on the link, if there is one.
 pub(crate) fn say(links: &mut Vec<Link>, side: Side, index: usize, message: Octets)
     requires room { HasRoom (as_side side) links.old.items 1 index }
-    requires frame { IsFrame 16777212 message }
+    requires frame { IsFrame max_message_len message }
     ensures said { as_links links.new.items
         ≡ change_at index (by_side (as_side side) (with_sent message)) (as_links links.old.items) }
     ensures room { (n c : ℕ) → HasRoom (as_side side) links.old.items (n + 1) c →
