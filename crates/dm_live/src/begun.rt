@@ -76,10 +76,7 @@ fn begin_one(
         × (string_bytes text.new ≡ string_bytes text.old ++ answer)) }
 {
     let session = new_session(alloc, draft, config);
-    match text.push_str("ready\n.\n") {
-        Ok(()) => Ok(Begun::OnePeer(session)),
-        Err(error) => Err(error),
-    }
+    text.push_str("ready\n.\n").and(Ok(Begun::OnePeer(session)))
 }
 
 /// The session of the node, or nothing, where a peer can't be had; and appends which of the two.
@@ -96,11 +93,10 @@ fn begin_node(
     ensures { IfOk result (λ begun. (answer : List ℕ) × IsBegun number (settings_of draft.now) begun answer
         × (string_bytes text.new ≡ string_bytes text.old ++ answer)) }
 {
-    match node_session(alloc, draft, &config)? {
-        Ok(session) => match text.push_str("ready\n.\n") {
-            Ok(()) => Ok(Begun::Node(session)),
-            Err(error) => Err(error),
-        },
+    let made = node_session(alloc, draft, &config);
+    drop(config);
+    match made? {
+        Ok(session) => text.push_str("ready\n.\n").and(Ok(Begun::Node(session))),
         Err(name) => begin_nothing(number, name, text),
     }
 }

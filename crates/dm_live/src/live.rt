@@ -20,6 +20,7 @@ use crate::sender_lines::{is_sender, push_sender};
 use dm_session::{Acquaintance, Session};
 use dm_text::Words;
 use std::alloc::{AllocError, Global};
+use std::mem;
 
 /// What the configuration says so far, and the session behind its `go`, with whom it met.
 #[derive(Drop)]
@@ -74,8 +75,8 @@ impl Live {
         ensures begun { self.new.begun ≡ begun }
         ensures known { self.new.known ≡ nobody }
     {
-        self.begun = begun;
-        self.known = Acquaintance::new(alloc);
+        drop(mem::replace(&mut self.begun, begun));
+        drop(mem::replace(&mut self.known, Acquaintance::new(alloc)));
     }
 }
 

@@ -83,7 +83,13 @@ pub(crate) fn node_session(
     let mut session = NodeSession::new(alloc, node, draft.first_max(), draft.most());
     match add_peers(alloc, draft, template, &mut session) {
         Ok(Ok(())) => Ok(Ok(session)),
-        Ok(Err(name)) => Ok(Err(name)),
-        Err(error) => Err(error),
+        Ok(Err(name)) => {
+            drop(session);
+            Ok(Err(name))
+        }
+        Err(error) => {
+            drop(session);
+            Err(error)
+        }
     }
 }

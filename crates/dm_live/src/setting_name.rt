@@ -1,7 +1,10 @@
 //! The first words of configuration lines.
-ghost use Rattle.std.specs.Prelude.{◌≡◌, Bool, IfSome, IfNone};
+ghost use Rattle.std.specs.Prelude.{◌≡◌, ◌∷◌, [], Bool, IfSome, IfNone};
 ghost use Rattle.dm_live.specs.declared.setting_name.SettingName.{SettingName};
-ghost use Rattle.dm_live.specs.Settings.{setting_word, specific_word};
+ghost use Rattle.dm_live.specs.declared.setting_name.SettingName.TheVariants.{Host, Realm, Address, Vendor, Product};
+ghost use Rattle.dm_live.specs.declared.setting_name.SettingName.TheVariants.{Auth, Acct, Supports, Firmware, State};
+ghost use Rattle.dm_live.specs.declared.setting_name.SettingName.TheVariants.{Peer, Compare, First, Early, Max};
+ghost use Rattle.dm_live.specs.Settings.{setting_word, specific_word, IsNoneOf};
 
 /// What a line of the configuration is about.
 #[derive(Clone, Copy, Drop)]
@@ -23,10 +26,10 @@ pub enum SettingName {
     Max,
 }
 
-/// What is called by this word.
-pub(crate) fn read_setting(word: &[u8]) -> Option<SettingName>
+/// What a word tells of the node itself.
+fn read_own(word: &[u8]) -> Option<SettingName>
     ensures told { IfSome result (λ name. word.now ≡ setting_word name) }
-    ensures none { IfNone result ((name : SettingName) → word.now ≡ setting_word name → ⊥) }
+    ensures none { IfNone result (IsNoneOf word.now (Host ∷ Realm ∷ Address ∷ Vendor ∷ Product ∷ [])) }
 {
     match word {
         b"host" => Some(SettingName::Host),
@@ -34,11 +37,31 @@ pub(crate) fn read_setting(word: &[u8]) -> Option<SettingName>
         b"address" => Some(SettingName::Address),
         b"vendor" => Some(SettingName::Vendor),
         b"product" => Some(SettingName::Product),
+        _ => None,
+    }
+}
+
+/// What a word tells of what the node says beyond that.
+fn read_said(word: &[u8]) -> Option<SettingName>
+    ensures told { IfSome result (λ name. word.now ≡ setting_word name) }
+    ensures none { IfNone result (IsNoneOf word.now (Auth ∷ Acct ∷ Supports ∷ Firmware ∷ State ∷ [])) }
+{
+    match word {
         b"auth" => Some(SettingName::Auth),
         b"acct" => Some(SettingName::Acct),
         b"supports" => Some(SettingName::Supports),
         b"firmware" => Some(SettingName::Firmware),
         b"state" => Some(SettingName::State),
+        _ => None,
+    }
+}
+
+/// What a word tells of peers and their messages.
+fn read_of_peers(word: &[u8]) -> Option<SettingName>
+    ensures told { IfSome result (λ name. word.now ≡ setting_word name) }
+    ensures none { IfNone result (IsNoneOf word.now (Peer ∷ Compare ∷ First ∷ Early ∷ Max ∷ [])) }
+{
+    match word {
         b"peer" => Some(SettingName::Peer),
         b"compare" => Some(SettingName::Compare),
         b"first" => Some(SettingName::First),
@@ -46,6 +69,14 @@ pub(crate) fn read_setting(word: &[u8]) -> Option<SettingName>
         b"max" => Some(SettingName::Max),
         _ => None,
     }
+}
+
+/// What is called by this word.
+pub(crate) fn read_setting(word: &[u8]) -> Option<SettingName>
+    ensures told { IfSome result (λ name. word.now ≡ setting_word name) }
+    ensures none { IfNone result ((name : SettingName) → word.now ≡ setting_word name → ⊥) }
+{
+    read_own(word).or(read_said(word)).or(read_of_peers(word))
 }
 
 /// Whether the word tells that an application of a vendor follows, and whether that is one of accounting.
