@@ -1,7 +1,6 @@
 //! The text of definitions (RFC 6733, 3.2).
 ghost use Rattle.std.specs.Prelude.{◌≡◌, ◌++◌, ◌∷◌, [], OnOk};
 ghost use Rattle.std.specs.List.{flat_map, list_all};
-ghost use Rattle.std.specs.Fmt.{decimal};
 ghost use Rattle.dm_dict_text.specs.Printed.{type_name, spaced, spaced_number, spaced_option, decimal_option};
 ghost use Rattle.dm_dict_text.specs.Printed.{opening_bracket, closing_bracket, entry_text, rule_text};
 ghost use Rattle.dm_dict_text.specs.Printed.{vendor_line, listed_value_text, next_value, value_list_text};
@@ -12,8 +11,8 @@ ghost use Rattle.dm_tables.specs.Tables.{defined};
 
 use dm_grammar::Form;
 use dm_tables::{AvpDef, CommandDef, Entry, EnumValue, Rule, Tables, VendorDef};
+use dm_text::push_decimal;
 use dm_value::{AvpType, NoMemory};
-use std::alloc::Global;
 
 /// The name of a type.
 fn type_word(kind: AvpType) -> &'static [u8]
@@ -54,36 +53,30 @@ fn put(text: &mut Vec<u8>, piece: &[u8]) -> Result<(), NoMemory>
     Ok(())
 }
 
-fn put_decimal(alloc: Global, text: &mut Vec<u8>, number: u32) -> Result<(), NoMemory>
-    ensures { OnOk result (text.new.items ≡ text.old.items ++ decimal number) }
-{
-    let digits = format!(in alloc; "{number}")?;
-    put(text, digits.as_bytes())
-}
-
-fn put_number(alloc: Global, text: &mut Vec<u8>, number: u32) -> Result<(), NoMemory>
+fn put_number(text: &mut Vec<u8>, number: u32) -> Result<(), NoMemory>
     ensures { OnOk result (text.new.items ≡ text.old.items ++ spaced_number number) }
 {
     put(text, b" ")?;
-    put_decimal(alloc, text, number)
+    push_decimal(text, number as u64)?;
+    Ok(())
 }
 
-fn put_option(alloc: Global, text: &mut Vec<u8>, number: Option<u32>) -> Result<(), NoMemory>
+fn put_option(text: &mut Vec<u8>, number: Option<u32>) -> Result<(), NoMemory>
     ensures { OnOk result (text.new.items ≡ text.old.items ++ spaced_option number) }
 {
     match number {
-        Some(number) => put_number(alloc, text, number),
+        Some(number) => put_number(text, number),
         None => Ok(()),
     }
 }
 
-fn put_bound(alloc: Global, text: &mut Vec<u8>, number: Option<u32>) -> Result<(), NoMemory>
+fn put_bound(text: &mut Vec<u8>, number: Option<u32>) -> Result<(), NoMemory>
     ensures { OnOk result (text.new.items ≡ text.old.items ++ decimal_option number) }
 {
-    match number {
-        Some(number) => put_decimal(alloc, text, number),
-        None => Ok(()),
+    if let Some(number) = number {
+        push_decimal(text, number as u64)?;
     }
+    Ok(())
 }
 
 fn put_flag(text: &mut Vec<u8>, flag: bool, word: &[u8]) -> Result<(), NoMemory>
@@ -92,33 +85,33 @@ fn put_flag(text: &mut Vec<u8>, flag: bool, word: &[u8]) -> Result<(), NoMemory>
     if flag { put(text, word) } else { Ok(()) }
 }
 
-fn put_entry(alloc: Global, text: &mut Vec<u8>, entry: &Entry) -> Result<(), NoMemory>
+fn put_entry(text: &mut Vec<u8>, entry: &Entry) -> Result<(), NoMemory>
     ensures { OnOk result (text.new.items ≡ text.old.items ++ entry_text entry.now) }
 {
     let (open, close) = brackets(entry.form);
-    put_number(alloc, text, entry.min)?;
+    put_number(text, entry.min)?;
     put(text, b"*")?;
-    put_bound(alloc, text, entry.max)?;
+    put_bound(text, entry.max)?;
     put(text, open)?;
     put(text, entry.name.as_slice())?;
     put(text, close)
 }
 
-fn put_entries(alloc: Global, text: &mut Vec<u8>, entries: &[Entry]) -> Result<(), NoMemory>
+fn put_entries(text: &mut Vec<u8>, entries: &[Entry]) -> Result<(), NoMemory>
     ensures { OnOk result (text.new.items ≡ text.old.items ++ rule_text entries.now) }
 {
     for entry in entries {
-        put_entry(alloc, text, entry)?;
+        put_entry(text, entry)?;
     }
     Ok(())
 }
 
 /// What stands behind the numbers of a head: its end, the rule and the end of the line.
-fn put_rule(alloc: Global, text: &mut Vec<u8>, rule: &Rule) -> Result<(), NoMemory>
+fn put_rule(text: &mut Vec<u8>, rule: &Rule) -> Result<(), NoMemory>
     ensures { OnOk result (text.new.items ≡ text.old.items ++ rule_end rule.now) }
 {
     put(text, b" >")?;
-    put_entries(alloc, text, rule.as_slice())?;
+    put_entries(text, rule.as_slice())?;
     put(text, b"\n")
 }
 
@@ -129,87 +122,87 @@ fn put_kind(text: &mut Vec<u8>, kind: AvpType) -> Result<(), NoMemory>
     put(text, type_word(kind))
 }
 
-fn put_value(alloc: Global, text: &mut Vec<u8>, value: &EnumValue) -> Result<(), NoMemory>
+fn put_value(text: &mut Vec<u8>, value: &EnumValue) -> Result<(), NoMemory>
     ensures { OnOk result (text.new.items ≡ text.old.items ++ listed_value_text value.now) }
 {
     put(text, b" ")?;
     put(text, value.name.as_slice())?;
-    put_number(alloc, text, value.number.unsigned_abs())
+    put_number(text, value.number.unsigned_abs())
 }
 
-fn put_next_value(alloc: Global, text: &mut Vec<u8>, value: &EnumValue) -> Result<(), NoMemory>
+fn put_next_value(text: &mut Vec<u8>, value: &EnumValue) -> Result<(), NoMemory>
     ensures { OnOk result (text.new.items ≡ text.old.items ++ next_value value.now) }
 {
     put(text, b",")?;
-    put_value(alloc, text, value)
+    put_value(text, value)
 }
 
-fn put_more_values(alloc: Global, text: &mut Vec<u8>, values: &[EnumValue]) -> Result<(), NoMemory>
+fn put_more_values(text: &mut Vec<u8>, values: &[EnumValue]) -> Result<(), NoMemory>
     ensures { OnOk result (text.new.items ≡ text.old.items ++ flat_map next_value values.now) }
 {
     for value in values {
-        put_next_value(alloc, text, value)?;
+        put_next_value(text, value)?;
     }
     Ok(())
 }
 
 /// A list of values, where there is one.
-fn put_list(alloc: Global, text: &mut Vec<u8>, values: &[EnumValue]) -> Result<(), NoMemory>
+fn put_list(text: &mut Vec<u8>, values: &[EnumValue]) -> Result<(), NoMemory>
     ensures { OnOk result (text.new.items ≡ text.old.items ++ value_list_text values.now) }
 {
     match values {
         [] => Ok(()),
         [first, more @ ..] => {
             put(text, b" {")?;
-            put_value(alloc, text, first)?;
-            put_more_values(alloc, text, more)?;
+            put_value(text, first)?;
+            put_more_values(text, more)?;
             put(text, b" }")
         }
     }
 }
 
 /// What stands behind the code of an AVP that isn't Grouped.
-fn put_plain_end(alloc: Global, text: &mut Vec<u8>, avp: &AvpDef) -> Result<(), NoMemory>
+fn put_plain_end(text: &mut Vec<u8>, avp: &AvpDef) -> Result<(), NoMemory>
     ensures { OnOk result (text.new.items ≡ text.old.items ++ plain_end avp.now) }
 {
     put_kind(text, avp.kind)?;
-    put_option(alloc, text, avp.vendor)?;
-    put_list(alloc, text, avp.values.as_slice())?;
+    put_option(text, avp.vendor)?;
+    put_list(text, avp.values.as_slice())?;
     put(text, b"\n")
 }
 
-fn put_plain(alloc: Global, text: &mut Vec<u8>, avp: &AvpDef) -> Result<(), NoMemory>
+fn put_plain(text: &mut Vec<u8>, avp: &AvpDef) -> Result<(), NoMemory>
     ensures { OnOk result (text.new.items ≡ text.old.items ++ plain_line avp.now) }
 {
     put(text, b"@ ")?;
     put(text, avp.name.as_slice())?;
-    put_number(alloc, text, avp.code)?;
-    put_plain_end(alloc, text, avp)
+    put_number(text, avp.code)?;
+    put_plain_end(text, avp)
 }
 
-fn put_group_head(alloc: Global, text: &mut Vec<u8>, avp: &AvpDef) -> Result<(), NoMemory>
+fn put_group_head(text: &mut Vec<u8>, avp: &AvpDef) -> Result<(), NoMemory>
     ensures { OnOk result (text.new.items ≡ text.old.items ++ group_head_text avp.now) }
 {
     put(text, b" > ::= < AVP Header:")?;
-    put_number(alloc, text, avp.code)?;
-    put_option(alloc, text, avp.vendor)
+    put_number(text, avp.code)?;
+    put_option(text, avp.vendor)
 }
 
-fn put_group(alloc: Global, text: &mut Vec<u8>, avp: &AvpDef) -> Result<(), NoMemory>
+fn put_group(text: &mut Vec<u8>, avp: &AvpDef) -> Result<(), NoMemory>
     ensures { OnOk result (text.new.items ≡ text.old.items ++ group_line avp.now) }
 {
     put(text, b"< ")?;
     put(text, avp.name.as_slice())?;
-    put_group_head(alloc, text, avp)?;
-    put_rule(alloc, text, &avp.rule)
+    put_group_head(text, avp)?;
+    put_rule(text, &avp.rule)
 }
 
-fn put_avp(alloc: Global, text: &mut Vec<u8>, avp: &AvpDef) -> Result<(), NoMemory>
+fn put_avp(text: &mut Vec<u8>, avp: &AvpDef) -> Result<(), NoMemory>
     ensures { OnOk result (text.new.items ≡ text.old.items ++ avp_line avp.now) }
 {
     match avp.kind {
-        AvpType::Grouped => put_group(alloc, text, avp),
-        _ => put_plain(alloc, text, avp),
+        AvpType::Grouped => put_group(text, avp),
+        _ => put_plain(text, avp),
     }
 }
 
@@ -221,59 +214,59 @@ fn put_flags(text: &mut Vec<u8>, command: &CommandDef) -> Result<(), NoMemory>
     put_flag(text, command.err, b", ERR")
 }
 
-fn put_command_head(alloc: Global, text: &mut Vec<u8>, command: &CommandDef) -> Result<(), NoMemory>
+fn put_command_head(text: &mut Vec<u8>, command: &CommandDef) -> Result<(), NoMemory>
     ensures { OnOk result (text.new.items ≡ text.old.items ++ command_head_text command.now) }
 {
     put(text, b" > ::= < Diameter Header:")?;
-    put_number(alloc, text, command.code)?;
+    put_number(text, command.code)?;
     put_flags(text, command)?;
-    put_number(alloc, text, command.application)
+    put_number(text, command.application)
 }
 
-fn put_command(alloc: Global, text: &mut Vec<u8>, command: &CommandDef) -> Result<(), NoMemory>
+fn put_command(text: &mut Vec<u8>, command: &CommandDef) -> Result<(), NoMemory>
     ensures { OnOk result (text.new.items ≡ text.old.items ++ command_line command.now) }
 {
     put(text, b"< ")?;
     put(text, command.name.as_slice())?;
-    put_command_head(alloc, text, command)?;
-    put_rule(alloc, text, &command.rule)
+    put_command_head(text, command)?;
+    put_rule(text, &command.rule)
 }
 
 /// Puts the line of each AVP behind the text.
-fn put_avps(alloc: Global, text: &mut Vec<u8>, avps: &[AvpDef]) -> Result<(), NoMemory>
+fn put_avps(text: &mut Vec<u8>, avps: &[AvpDef]) -> Result<(), NoMemory>
     ensures { OnOk result (text.new.items ≡ text.old.items ++ flat_map avp_line avps.now) }
 {
     for avp in avps {
-        put_avp(alloc, text, avp)?;
+        put_avp(text, avp)?;
     }
     Ok(())
 }
 
 /// Puts the line of each command behind the text.
-fn put_commands(alloc: Global, text: &mut Vec<u8>, commands: &[CommandDef]) -> Result<(), NoMemory>
+fn put_commands(text: &mut Vec<u8>, commands: &[CommandDef]) -> Result<(), NoMemory>
     ensures { OnOk result (text.new.items ≡ text.old.items ++ flat_map command_line commands.now) }
 {
     for command in commands {
-        put_command(alloc, text, command)?;
+        put_command(text, command)?;
     }
     Ok(())
 }
 
-fn put_vendor(alloc: Global, text: &mut Vec<u8>, vendor: &VendorDef) -> Result<(), NoMemory>
+fn put_vendor(text: &mut Vec<u8>, vendor: &VendorDef) -> Result<(), NoMemory>
     ensures { OnOk result (text.new.items ≡ text.old.items ++ vendor_line vendor.now) }
 {
     put(text, b"@ vendor ")?;
     put(text, vendor.name.as_slice())?;
-    put_number(alloc, text, vendor.number)?;
+    put_number(text, vendor.number)?;
     put(text, b"\n")
 }
 
 /// Puts the line of each vendor behind the text.
-fn put_vendors(alloc: Global, text: &mut Vec<u8>, vendors: &[VendorDef]) -> Result<(), NoMemory>
+fn put_vendors(text: &mut Vec<u8>, vendors: &[VendorDef]) -> Result<(), NoMemory>
     ensures { OnOk result (text.new.items ≡ text.old.items ++ flat_map vendor_line vendors.now) }
 {
     for vendor in vendors {
-        put_vendor(alloc, text, vendor)?;
+        put_vendor(text, vendor)?;
     }
     Ok(())
 }
@@ -312,11 +305,11 @@ fn put_version(text: &mut Vec<u8>, tables: &Tables) -> Result<(), NoMemory>
 }
 
 /// Puts the text of all definitions behind the text.
-pub fn put_tables(alloc: Global, text: &mut Vec<u8>, tables: &Tables) -> Result<(), NoMemory>
+pub fn put_tables(text: &mut Vec<u8>, tables: &Tables) -> Result<(), NoMemory>
     ensures { OnOk result (text.new.items ≡ text.old.items ++ printed (defined tables.now)) }
 {
     put_version(text, tables)?;
-    put_vendors(alloc, text, tables.vendors.items.as_slice())?;
-    put_avps(alloc, text, tables.avps.as_slice())?;
-    put_commands(alloc, text, tables.commands.as_slice())
+    put_vendors(text, tables.vendors.items.as_slice())?;
+    put_avps(text, tables.avps.as_slice())?;
+    put_commands(text, tables.commands.as_slice())
 }

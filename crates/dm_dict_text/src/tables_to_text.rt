@@ -21,6 +21,6 @@ pub fn print_tables(alloc: Global, tables: &Tables) -> Result<Vec<u8>, NoMemory>
 {
     let mut text = Vec::new(alloc);
     words_law();
-    put_tables(alloc, &mut text, tables)?;
+    put_tables(&mut text, tables)?;
     Ok(text)
 }
