@@ -8,8 +8,14 @@ use Rattle.hex.specs.Hex.{hex_digit_value, digit_or_error, value_at, pair_value,
 use Rattle.hex.specs.declared.error.FromHexError.{FromHexError}
 use Rattle.hex.specs.declared.error.FromHexError.TheVariants.{InvalidHexCharacter}
 use Rattle.hex.proofs.HexLemmas.{decode_of-even}
-use Rattle.hex.proofs.Pairs.{prepend, decode_step, decode_err, decode_done, decode_start}
+use Rattle.hex.proofs.Pairs.{prepend, decode_step, decode_err, decode_done}
 use Rattle.dm_text.specs.Hexadecimal.{digit_worth, word_octets}
+use Rattle.dm_text.specs.SideBySide.{read_behind, ReadUpTo}
+
+-- two words for the same
+pub prepended : (front : List ℕ) (r : Result (List ℕ) FromHexError) → prepend front r ≡ read_behind front r
+prepended front (Ok rest) = refl
+prepended front (Err e) = refl
 
 -- the worst digit is worth so much: where that is a digit's, these octets are read so far, and else none are
 pub record DecodedSoFar (word octets : List ℕ) (i worst : ℕ) : Type 0 where
@@ -36,7 +42,7 @@ digit_fails c i = by (hex_digit_value c) refl where
   by None is more = refl
 
 -- two digits are an octet
-pair_reads : (a b i high low octet : ℕ) → high ≡ digit_worth a → low ≡ digit_worth b → high ≤ 15 → low ≤ 15
+pub pair_reads : (a b i high low octet : ℕ) → high ≡ digit_worth a → low ≡ digit_worth b → high ≤ 15 → low ≤ 15
     → octet ≡ high % 16 * 16 + low % 16 → pair_value a b i ≡ Ok octet
 pair_reads a b i high low octet is also few fewer whole =
     let first = digit_reads a i (rw (sym is) few) in
@@ -45,7 +51,7 @@ pair_reads a b i high low octet is also few fewer whole =
     rw (first, second, sum) refl
 
 -- one of the two is no digit
-pair_fails : (a b i high low : ℕ) → high ≡ digit_worth a → low ≡ digit_worth b → (15 < high) ⊎ (15 < low)
+pub pair_fails : (a b i high low : ℕ) → high ≡ digit_worth a → low ≡ digit_worth b → (15 < high) ⊎ (15 < low)
     → (e : FromHexError) × (pair_value a b i ≡ Err e)
 pair_fails a b i high low is also (inl more) = (InvalidHexCharacter a i, rw (digit_fails a i (rw (sym is) more)) refl)
 pair_fails a b i high low is also (inr more) = by (value_at a i) where
@@ -54,9 +60,9 @@ pair_fails a b i high low is also (inr more) = by (value_at a i) where
   by (Ok h) = (InvalidHexCharacter b (i + 1), rw (digit_fails b (i + 1) (rw (sym also) more)) refl)
   by (Err e) = (e, refl)
 
-pub decoded_none : (word octets : List ℕ) → DecodedSoFar word octets 0 0
-decoded_none word octets =
-    record { good = λ _. decode_start word octets; bad = λ more. absurd (omega (arith, more)) }
+pub decoded_up_to : (word octets : List ℕ) (i : ℕ) → ReadUpTo word octets i → DecodedSoFar word octets i 0
+decoded_up_to word octets i read =
+    record { good = λ _. read ∙ sym (prepended (take i octets) _); bad = λ more. absurd (omega (arith, more)) }
 
 pub decoded_more : (word octets : List ℕ) (i worst next high low octet : ℕ) → DecodedSoFar word octets i worst
     → 2 * i + 1 < length word → i < length octets → high ≡ digit_worth (slice_index word (2 * i))

@@ -3,6 +3,8 @@ pub mod Decoded
 pub mod Digits
 mod Firsts
 pub mod Numerals
+mod Runs
+mod Splats
 pub mod Splits
 pub mod Telling
 pub mod Texts

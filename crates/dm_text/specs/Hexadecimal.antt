@@ -1,7 +1,7 @@
 -- The octets that hexadecimal digits stand for.
-use Rattle.std.specs.Prelude.{ℕ, not, nat_eq, filter, Option, unwrap_or, List}
+use Rattle.std.specs.Prelude.{ℕ, ◌/◌, ◌%◌, not, nat_eq, filter, slice_index, Option, unwrap_or, List, [], ◌∷◌}
 use Rattle.std.specs.Result.{result_ok}
-use Rattle.hex.specs.Hex.{decode_of, hex_digit_value}
+use Rattle.hex.specs.Hex.{decode_of, hex_digit_value, lower_digits}
 
 -- the value of a digit in either case; 255 where the octet is none
 abbrev pub digit_worth : ℕ → ℕ
@@ -18,3 +18,7 @@ without_spaces line = filter (λ b. not (nat_eq b 32)) line
 -- the octets that a line stands for, spaces aside
 abbrev pub line_octets : List ℕ → Option (List ℕ)
 line_octets line = word_octets (without_spaces line)
+
+-- the two digits of an octet, in lower case
+abbrev pub digit_pair : ℕ → List ℕ
+digit_pair octet = slice_index lower_digits (octet / 16) ∷ slice_index lower_digits (octet % 16) ∷ []

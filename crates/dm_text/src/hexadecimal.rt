@@ -1,14 +1,18 @@
 //! Octets in hexadecimal.
-ghost use Rattle.std.specs.Prelude.{◌≡◌, ◌≤◌, ◌*◌, true, Some, None, length, max, if◌then◌else◌, OnOk, IfOk};
+ghost use Rattle.std.specs.Prelude.{◌≡◌, ◌≤◌, ◌+◌, ◌*◌, ◌++◌, true, false, Some, None, length, max, if◌then◌else◌};
+ghost use Rattle.std.specs.Prelude.{OnOk, IfOk, IfSome};
 ghost use Rattle.std.specs.Fmt.{WritesOnOk};
 ghost use Rattle.std.specs.Option.{option_map};
 ghost use Rattle.hex.specs.Hex.{encode_lower};
 ghost use Rattle.dm_text.specs.Hexadecimal.{without_spaces, word_octets, line_octets};
+ghost use Rattle.dm_text.specs.SideBySide.{ReadUpTo};
 ghost use Rattle.dm_text.specs.declared.hexadecimal.TheConstants.{OCTETS_AT_ONCE as octets_at_once};
 
-use crate::digit::{digit_of, digit_worth};
+use crate::digit::{digit_worth, digits_of};
+use crate::lanes::{are_good, joined, worths_of};
 use memchr::memchr;
 use std::alloc::{AllocError, Global};
+use std::simd::prelude::*;
 use std::{fmt, str};
 
 /// How many octets are turned into digits at once.
@@ -28,14 +32,53 @@ pub fn read_hex_word(alloc: Global, word: &[u8]) -> Result<Option<Vec<u8>>, Allo
     if good { Ok(Some(octets)) } else { Ok(None) }
 }
 
-/// Reads two digits for each octet of the room. False where a digit is bad: the loop goes on then, so that it has no
-/// branch.
+/// Puts the octets that a word stands for in place of what `octets` holds. False where a digit is bad or their number
+/// is odd.
+pub(crate) fn fill_octets(word: &[u8], octets: &mut Vec<u8>) -> Result<bool, AllocError>
+    ensures { IfOk result (λ good. word_octets word.now ≡ (if good then Some octets.new.items else None)) }
+{
+    if word.len() % 2 != 0 {
+        return Ok(false);
+    }
+    octets.resize(word.len() / 2, 0)?;
+    Ok(read_digits(word, octets.as_mut_slice()))
+}
+
+/// Reads two digits for each octet of the room. False where a digit is bad.
 fn read_digits(word: &[u8], octets: &mut [u8]) -> bool
     requires { length word.now ≡ 2 * length octets.old }
     ensures { word_octets word.now ≡ (if result then Some octets.new else None) }
 {
+    let runs = octets.len() / 8;
+    read_runs(word, octets, runs) && read_few(word, octets, 8 * runs)
+}
+
+/// Reads the digits of so many runs of eight octets. False where a digit is bad.
+fn read_runs(word: &[u8], octets: &mut [u8], runs: usize) -> bool
+    requires twice { length word.now ≡ 2 * length octets.old }
+    requires within { 8 * runs ≤ length octets.old }
+    ensures good { result ≡ true → ReadUpTo word.now octets.new (8 * runs) }
+    ensures bad { result ≡ false → word_octets word.now ≡ None }
+{
+    'runs: for k in 0..runs {
+        let worths = worths_of(u8x16::from_slice(&word[16 * k..]));
+        if !are_good(worths) {
+            return false;
+        }
+        joined(worths).copy_to_slice(&mut octets[8 * k..]);
+    }
+    true
+}
+
+/// Reads the digits of the octets from here on. False where a digit is bad.
+fn read_few(word: &[u8], octets: &mut [u8], from: usize) -> bool
+    requires twice { length word.now ≡ 2 * length octets.old }
+    requires within { from ≤ length octets.old }
+    requires read { ReadUpTo word.now octets.old from }
+    ensures { word_octets word.now ≡ (if result then Some octets.new else None) }
+{
     let mut worst = 0;
-    'octets: for i in 0..octets.len() {
+    'octets: for i in from..octets.len() {
         let high = digit_worth(word[2 * i]);
         let low = digit_worth(word[2 * i + 1]);
         worst = larger(worst, larger(high, low));
@@ -70,7 +113,7 @@ pub fn read_hex_line(
 }
 
 /// Whether no octet of the line is a space.
-fn has_no_space(line: &[u8]) -> bool
+pub(crate) fn has_no_space(line: &[u8]) -> bool
     ensures { result ≡ true → without_spaces line.now ≡ line.now }
 {
     match memchr(b' ', line) {
@@ -80,7 +123,7 @@ fn has_no_space(line: &[u8]) -> bool
 }
 
 /// Puts the line into `digits` with its spaces taken out.
-fn take_out_spaces(line: &[u8], digits: &mut Vec<u8>) -> Result<(), AllocError>
+pub(crate) fn take_out_spaces(line: &[u8], digits: &mut Vec<u8>) -> Result<(), AllocError>
     ensures { OnOk result (digits.new.items ≡ without_spaces line.now) }
 {
     digits.clear();
@@ -121,15 +164,33 @@ fn write_digits<W: fmt::Write>(f: &mut fmt::Formatter<W>, octets: &[u8]) -> fmt:
     f.write_str(str::from_utf8(room).map_err(|_| fmt::Error)?)
 }
 
+/// Appends the octets in lower case hexadecimal.
+pub fn push_hexadecimal(text: &mut Vec<u8>, octets: &[u8]) -> Result<(), AllocError>
+    ensures { OnOk result (text.new.items ≡ text.old.items ++ encode_lower octets.now) }
+{
+    let start = text.len();
+    let Some(end) = digits_end(start, octets.len()) else {
+        return Err(AllocError);
+    };
+    text.resize(end, 0)?;
+    put_digits(octets, &mut text.as_mut_slice()[start..]);
+    Ok(())
+}
+
+/// Where the digits of so many octets end; None where no number has that many.
+fn digits_end(start: usize, octets: usize) -> Option<usize>
+    ensures { IfSome result (λ end. end ≡ start + 2 * octets) }
+{
+    octets.checked_mul(2)?.checked_add(start)
+}
+
 /// Puts two digits for each octet in the room.
 fn put_digits(octets: &[u8], room: &mut [u8])
     requires { length room.old ≡ 2 * length octets.now }
     ensures { room.new ≡ encode_lower octets.now }
 {
     'octets: for i in 0..octets.len() {
-        let octet = octets[i];
-        let high = digit_of(octet / 16);
-        let low = digit_of(octet % 16);
+        let [high, low] = digits_of(octets[i]);
         room[2 * i] = high;
         room[2 * i + 1] = low;
     }

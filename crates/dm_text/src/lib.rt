@@ -4,15 +4,18 @@
 mod decimal;
 mod digit;
 mod hexadecimal;
+mod lanes;
 pub mod laws;
 mod line;
+mod line_room;
 mod number;
 mod refusal;
 mod word;
 
 pub use crate::decimal::push_decimal;
-pub use crate::hexadecimal::{Hexadecimal, read_hex_line, read_hex_word};
+pub use crate::hexadecimal::{Hexadecimal, push_hexadecimal, read_hex_line, read_hex_word};
 pub use crate::line::{Lines, is_skipped, line_feed, trim};
+pub use crate::line_room::LineRoom;
 pub use crate::number::{read_long_number, read_number};
 pub use crate::refusal::push_syntax_fault;
 pub use crate::word::Words;

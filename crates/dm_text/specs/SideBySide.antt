@@ -1,0 +1,24 @@
+-- Digits that are read side by side.
+use Rattle.std.specs.Prelude.{◌≡◌, ℕ, ◌+◌, ◌*◌, nat_le, map, take, drop, List, [], ◌∷◌, ◌++◌, Result, Ok, Err}
+use Rattle.std.specs.Simd.Lanes.{mask_l}
+use Rattle.hex.specs.Hex.{decode_pairs}
+use Rattle.hex.specs.declared.error.FromHexError.{FromHexError}
+
+-- a bit for each value that is no digit's
+abbrev pub bad_lanes : List ℕ → ℕ
+bad_lanes worths = mask_l (map (nat_le 16) worths)
+
+-- the values two by two, each two an octet
+abbrev pub paired : List ℕ → List ℕ
+paired [] = []
+paired (high ∷ []) = []
+paired (high ∷ low ∷ worths) = (high * 16 + low) ∷ paired worths
+
+-- what is read, behind these octets
+abbrev pub read_behind : List ℕ → Result (List ℕ) FromHexError → Result (List ℕ) FromHexError
+read_behind front (Ok rest) = Ok (front ++ rest)
+read_behind front (Err e) = Err e
+
+-- so many octets are read, and the digits from there on are left
+abbrev pub ReadUpTo : List ℕ → List ℕ → ℕ → Type 0
+ReadUpTo word octets i = decode_pairs 0 word ≡ read_behind (take i octets) (decode_pairs (2 * i) (drop (2 * i) word))
