@@ -3,7 +3,6 @@ use Rattle.std.specs.Prelude.{◌≡◌, ◌≢◌, ℕ, Bool, Option, Some, Non
 use Rattle.dm_wire.specs.declared.avp.Avp.{Avp}
 use Rattle.dm_wire.specs.declared.message.Header.{Header}
 use Rattle.dm_wire.specs.declared.message.Message.{Message}
-use Rattle.std.specs.String.{string_bytes}
 use Rattle.dm_tool.specs.declared.building.Building.{Building}
 use Rattle.dm_tool.specs.Messages.{TellsHeader, TellsAvp, TellsAll}
 use Rattle.dm_tool.specs.Build.{BuildsMessages}
@@ -21,7 +20,7 @@ BuiltSoFar lines last avps text good =
 
 -- the lines stand so in what build holds
 abbrev pub HoldsBehind : List (List ℕ) → Building → Type 0
-HoldsBehind lines b = BuiltSoFar lines b.last b.avps.items (string_bytes b.text) b.good
+HoldsBehind lines b = BuiltSoFar lines b.last b.avps.items b.text.items b.good
 
 -- the line begins no message, and is no AVP of the last one
 abbrev pub GoesOnNowhere : Option Header → List ℕ → Type 0

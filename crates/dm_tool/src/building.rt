@@ -1,7 +1,6 @@
 //! Messages that are built line by line.
 ghost use Rattle.std.specs.Prelude.{◌≡◌, ◌++◌, ◌∷◌, [], ◌⊎◌, ◌&&◌, ◌≢◌, ℕ, Bool, true, false, None, List};
 ghost use Rattle.std.specs.Prelude.{IfOk, IfErr, OnOk};
-ghost use Rattle.std.specs.String.{string_bytes};
 ghost use Rattle.dm_wire.specs.declared.avp.Avp.{Avp};
 ghost use Rattle.dm_wire.specs.declared.message.Message.{Message};
 ghost use Rattle.dm_text.specs.Lines.{content, trimmed, is_skipped};
@@ -13,7 +12,7 @@ use crate::avp_line::read_avp;
 use crate::fault::ToolFault;
 use crate::header_line::read_header;
 use crate::text::push_fault;
-use dm_text::{Hexadecimal, is_skipped, trim};
+use dm_text::{is_skipped, push_hexadecimal, trim};
 use dm_wire::{Avp, AvpList, Header, Message};
 use std::alloc::Global;
 use std::mem;
@@ -22,7 +21,7 @@ use std::mem;
 /// go on with the last.
 #[derive(Drop)]
 pub struct Building {
-    text: String,
+    text: Vec<u8>,
     good: bool,
     last: Option<Header>,
     avps: Vec<Avp>,
@@ -34,7 +33,7 @@ impl Building {
         ensures { HoldsBehind [] result }
     {
         Building {
-            text: String::new(alloc),
+            text: Vec::new(alloc),
             good: true,
             last: None,
             avps: Vec::new(alloc),
@@ -43,9 +42,9 @@ impl Building {
 
     /// The text for the messages before the last.
     pub fn into_text(self) -> Vec<u8>
-        ensures { result.items ≡ string_bytes self.text }
+        ensures { result.items ≡ self.text.items }
     {
-        self.text.into_bytes()
+        self.text
     }
 
     /// The text for all messages, and whether all are good.
@@ -55,7 +54,7 @@ impl Building {
         ensures fault { IfErr result (λ e. e ≡ ToolFault.Memory) }
     {
         self.end_message(alloc)?;
-        Ok((self.text.into_bytes(), self.good))
+        Ok((self.text, self.good))
     }
 
     /// Goes on with a line. False, and nothing is changed, where the line is out of place.
@@ -105,7 +104,7 @@ impl Building {
     /// Puts the last message into the text, where there is one.
     fn end_message(&mut self, alloc: Global) -> Result<(), ToolFault>
         ensures built { OnOk result ((more : List ℕ) × (fine : Bool)
-            × (string_bytes self.new.text ≡ string_bytes self.old.text ++ more)
+            × (self.new.text.items ≡ self.old.text.items ++ more)
             × (self.new.good ≡ (self.old.good && fine))
             × BuildsMessages (last_message self.old.last self.old.avps.items) more fine) }
         ensures emptied { OnOk result (self.new.avps.items ≡ []) }
@@ -128,19 +127,20 @@ impl Building {
 
 /// Appends the octets of a message in hexadecimal, or its fault.
 #[tactic(auto, unfolding(crate::specs::Text::fault_text))]
-fn push_octets_line(alloc: Global, text: &mut String, message: &Message) -> Result<bool, ToolFault>
-    ensures built { IfOk result (λ good. (more : List ℕ) × (string_bytes text.new ≡ string_bytes text.old ++ more)
+fn push_octets_line(alloc: Global, text: &mut Vec<u8>, message: &Message) -> Result<bool, ToolFault>
+    ensures built { IfOk result (λ good. (more : List ℕ) × (text.new.items ≡ text.old.items ++ more)
         × (BuildsOctets message.now more good ⊎ BuildsTooLong message.now more good)) }
     ensures fault { IfErr result (λ e. e ≡ ToolFault.Memory) }
 {
     match message.encode(alloc) {
         Ok(octets) => {
-            writeln!(text, "{}", Hexadecimal(octets.as_slice()))?;
+            push_hexadecimal(text, octets.as_slice())?;
+            text.push(b'\n')?;
             Ok(true)
         }
         Err(fault) => {
             push_fault(text, fault)?;
-            text.push_str("\n")?;
+            text.push(b'\n')?;
             Ok(false)
         }
     }

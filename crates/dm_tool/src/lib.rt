@@ -14,6 +14,7 @@ mod input;
 pub mod laws;
 mod messages;
 mod output;
+mod printed;
 mod program;
 mod run;
 mod source;

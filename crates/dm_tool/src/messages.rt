@@ -1,6 +1,5 @@
 //! Messages in hexadecimal, one a line, and what is printed for each.
 ghost use Rattle.std.specs.Prelude.{◌≡◌, ◌≢◌, ◌++◌, ◌∷◌, ◌⊎◌, [], false, ℕ, List, IfOk, IfErr};
-ghost use Rattle.std.specs.String.{string_bytes};
 ghost use Rattle.dm_tool.specs.HexLines.{PrintsMessage, PrintsFault, PrintsLine, PrintsAll};
 ghost use Rattle.dm_wire.specs.declared.fault.WireFault.TheVariants as wire;
 ghost use Rattle.dm_tool.specs.Check.{check_answer};
@@ -12,7 +11,7 @@ use crate::fault::ToolFault;
 use crate::text::{push_fault, push_message_text};
 use crate::verdict::push_judged;
 use dm_dict::Dictionary;
-use dm_text::{Lines, is_skipped, read_hex_line, trim};
+use dm_text::{LineRoom, Lines, is_skipped, trim};
 use dm_wire::{MessageRef, WireFault};
 use std::alloc::Global;
 
@@ -34,35 +33,35 @@ pub fn messages_text(
     ensures printed { IfOk result (λ printed. PrintsAll (answer_of task.entry) input.now printed.0.items printed.1) }
     ensures fault { IfErr result (λ e. e ≡ ToolFault.Memory) }
 {
-    let mut text = String::new(alloc);
-    let mut digits = Vec::new(alloc);
+    let mut text = Vec::new(alloc);
+    let mut room = LineRoom::new(alloc);
     let mut good = true;
     for line in Lines::new(input) {
         let line = trim(line);
         if !is_skipped(line) {
-            let fine = print_line(alloc, task, line, &mut digits, &mut text)?;
+            let fine = print_line(alloc, task, line, &mut room, &mut text)?;
             good = good && fine;
         }
     }
-    Ok((text.into_bytes(), good))
+    Ok((text, good))
 }
 
-/// Appends the text for a line. `digits` is room that is used again from line to line.
+/// Appends the text for a line. The room is used again from line to line.
 fn print_line(
     alloc: Global,
     task: Task<'_>,
     line: &[u8],
-    digits: &mut Vec<u8>,
-    text: &mut String,
+    room: &mut LineRoom,
+    text: &mut Vec<u8>,
 ) -> Result<bool, ToolFault>
-    ensures printed { IfOk result (λ good. (more : List ℕ) × (string_bytes text.new ≡ string_bytes text.old ++ more)
+    ensures printed { IfOk result (λ good. (more : List ℕ) × (text.new.items ≡ text.old.items ++ more)
         × PrintsLine (answer_of task.entry) line.now more good) }
     ensures fault { IfErr result (λ e. e ≡ ToolFault.Memory) }
 {
-    match read_hex_line(alloc, line, digits)? {
-        Some(octets) => print_octets(alloc, task, octets.as_slice(), text),
+    match room.read(line)? {
+        Some(octets) => print_octets(alloc, task, octets, text),
         None => {
-            text.push_str("fault hex\n")?;
+            text.extend_from_slice(b"fault hex\n")?;
             Ok(false)
         }
     }
@@ -73,9 +72,9 @@ fn print_octets(
     alloc: Global,
     task: Task<'_>,
     octets: &[u8],
-    text: &mut String,
+    text: &mut Vec<u8>,
 ) -> Result<bool, ToolFault>
-    ensures printed { IfOk result (λ good. (more : List ℕ) × (string_bytes text.new ≡ string_bytes text.old ++ more)
+    ensures printed { IfOk result (λ good. (more : List ℕ) × (text.new.items ≡ text.old.items ++ more)
         × (PrintsMessage (answer_of task.entry) octets.now more good ⊎ PrintsFault octets.now more good)) }
     ensures fault { IfErr result (λ e. e ≡ ToolFault.Memory) }
 {
@@ -86,8 +85,8 @@ fn print_octets(
 }
 
 /// Appends the text of the message that the octets spell, or of their fault. Of the message nothing is copied.
-fn show_octets(octets: &[u8], text: &mut String) -> Result<bool, ToolFault>
-    ensures printed { IfOk result (λ good. (more : List ℕ) × (string_bytes text.new ≡ string_bytes text.old ++ more)
+fn show_octets(octets: &[u8], text: &mut Vec<u8>) -> Result<bool, ToolFault>
+    ensures printed { IfOk result (λ good. (more : List ℕ) × (text.new.items ≡ text.old.items ++ more)
         × (PrintsMessage show_answer octets.now more good ⊎ PrintsFault octets.now more good)) }
     ensures fault { IfErr result (λ e. e ≡ ToolFault.Memory) }
 {
@@ -105,9 +104,9 @@ fn check_octets(
     alloc: Global,
     dictionary: &Dictionary,
     octets: &[u8],
-    text: &mut String,
+    text: &mut Vec<u8>,
 ) -> Result<bool, ToolFault>
-    ensures printed { IfOk result (λ good. (more : List ℕ) × (string_bytes text.new ≡ string_bytes text.old ++ more)
+    ensures printed { IfOk result (λ good. (more : List ℕ) × (text.new.items ≡ text.old.items ++ more)
         × (PrintsMessage (check_answer dictionary.now) octets.now more good ⊎ PrintsFault octets.now more good)) }
     ensures fault { IfErr result (λ e. e ≡ ToolFault.Memory) }
 {
@@ -121,13 +120,13 @@ fn check_octets(
 }
 
 /// Appends the line for a fault of octets, which aren't good.
-fn print_fault(text: &mut String, fault: WireFault) -> Result<bool, ToolFault>
-    ensures words { IfOk result (λ good. string_bytes text.new ≡ string_bytes text.old ++ fault_text fault ++ 10 ∷ []) }
+fn print_fault(text: &mut Vec<u8>, fault: WireFault) -> Result<bool, ToolFault>
+    ensures words { IfOk result (λ good. text.new.items ≡ text.old.items ++ fault_text fault ++ 10 ∷ []) }
     ensures known { IfOk result (λ good. fault ≢ wire.NoMemory) }
     ensures bad { IfOk result (λ good. good ≡ false) }
     ensures fault { IfErr result (λ e. e ≡ ToolFault.Memory) }
 {
     push_fault(text, fault)?;
-    text.push_str("\n")?;
+    text.push(b'\n')?;
     Ok(false)
 }

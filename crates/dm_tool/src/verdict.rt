@@ -1,19 +1,23 @@
 //! Verdicts and faults of dictionaries as text.
-ghost use Rattle.std.specs.Prelude.{◌≡◌, ◌≢◌, ◌++◌, OnOk, IfOk, IfErr};
+ghost use Rattle.std.specs.Prelude.{◌≡◌, ◌≢◌, ◌++◌, ◌∷◌, [], option_map, OnOk, IfOk, IfErr};
 ghost use Rattle.std.specs.String.{string_bytes};
 ghost use Rattle.dm_dict_text.specs.declared.fault.DictFault.TheVariants as dict;
 ghost use Rattle.dm_dict.specs.Judgement.{shown, verdict_of};
-ghost use Rattle.dm_tool.specs.Check.{is_good_verdict, verdict_line, dictionary_fault_text};
+ghost use Rattle.dm_wire.specs.Borrowed.{avp_of};
+ghost use Rattle.dm_tool.specs.Check.{is_good_verdict, verdict_text, verdict_line, dictionary_fault_text};
 
 use crate::fault::ToolFault;
+use crate::printed::push_avp;
 use dm_dict::{DictFault, Failed, Judged, Verdict};
+use dm_text::push_decimal;
+use dm_wire::{Avp, AvpRef};
 use std::alloc::{AllocError, Global};
 
 /// Appends the line for what was found, and tells whether it is good. An AVP of the message isn't copied: only the
 /// example of one that it lacks is made.
-pub fn push_judged(alloc: Global, text: &mut String, judged: Judged<'_>) -> Result<bool, ToolFault>
-    ensures line { OnOk result (string_bytes text.new
-        ≡ string_bytes text.old ++ (verdict_line (verdict_of (shown judged.entry))).0) }
+pub fn push_judged(alloc: Global, text: &mut Vec<u8>, judged: Judged<'_>) -> Result<bool, ToolFault>
+    ensures line { OnOk result (text.new.items
+        ≡ text.old.items ++ (verdict_line (verdict_of (shown judged.entry))).0) }
     ensures good { IfOk result (λ good. good ≡ is_good_verdict (verdict_of (shown judged.entry))) }
     ensures fault { IfErr result (λ e. e ≡ ToolFault.Memory) }
 {
@@ -22,7 +26,7 @@ pub fn push_judged(alloc: Global, text: &mut String, judged: Judged<'_>) -> Resu
             code,
             failed: Failed::Found(avp),
         } => {
-            writeln!(text, "bad {code} {avp}")?;
+            push_bad(text, code, Some(avp))?;
             Ok(false)
         }
         _ => {
@@ -35,12 +39,30 @@ pub fn push_judged(alloc: Global, text: &mut String, judged: Judged<'_>) -> Resu
 }
 
 /// Appends the line for a verdict, and tells whether it is good.
-fn push_verdict(text: &mut String, verdict: &Verdict) -> Result<bool, AllocError>
-    ensures line { OnOk result (string_bytes text.new ≡ string_bytes text.old ++ (verdict_line verdict.now).0) }
+fn push_verdict(text: &mut Vec<u8>, verdict: &Verdict) -> Result<bool, AllocError>
+    ensures line { OnOk result (text.new.items ≡ text.old.items ++ (verdict_line verdict.now).0) }
     ensures good { IfOk result (λ good. good ≡ is_good_verdict verdict.now) }
 {
-    writeln!(text, "{verdict}")?;
+    match verdict {
+        Verdict::Good => text.extend_from_slice(b"good\n")?,
+        Verdict::Bad { code, failed } => push_bad(text, *code, failed.as_ref().map(Avp::borrowed))?,
+    }
     Ok(matches!(verdict, Verdict::Good))
+}
+
+/// Appends the line for a fault: its Result-Code and the failed AVP, where there is one.
+fn push_bad(text: &mut Vec<u8>, code: u32, failed: Option<AvpRef<'_>>) -> Result<(), AllocError>
+    ensures { OnOk result (text.new.items
+        ≡ text.old.items ++ verdict_text (Verdict.Bad code (option_map avp_of failed.entry)) ++ 10 ∷ []) }
+{
+    text.extend_from_slice(b"bad ")?;
+    push_decimal(text, u64::from(code))?;
+    if let Some(avp) = failed {
+        text.push(b' ')?;
+        push_avp(text, avp)?;
+    }
+    text.push(b'\n')?;
+    Ok(())
 }
 
 /// Appends the words for a fault of a dictionary. Want of memory has no words, and is answered as such.

@@ -1,6 +1,5 @@
 use Rattle.std.proofs.Common.{◌+◌, codes, ◌++◌, ◌∷◌, [], ℕ, List, length-append, ap, sym, ◌∙◌, subst, arith}
 use Rattle.std.specs.Fmt.{decimal}
-use Rattle.std.specs.String.{string_bytes}
 use Rattle.dm_text.specs.Lines.{content}
 use Rattle.dm_tool.specs.Progress.{BuiltSoFar}
 use Rattle.dm_tool.proofs.Refusals.{line_counts, lines-next, built_up_to}
@@ -25,7 +24,7 @@ returns-then-not-branch-clause-built c =
     let refused = c.in_ok-take_line.ensures.refused c.if-not-branch.true in
     let kept = c.in_ok-take_line.ensures.kept c.if-not-branch.true in
     built_up_to c.args.input.now c.in-Some.line.now c.loop-line.line-iterator c.next.new.self
-    (string_bytes c.loop-line.building.text) c.push_syntax_fault.new.text.items c.loop-line.building.good
+    c.loop-line.building.text.items c.push_syntax_fault.new.text.items c.loop-line.building.good
     c.loop-line.building.last
     c.loop-line.building.avps.items
     c.loop-line.invariant.0
@@ -33,14 +32,14 @@ returns-then-not-branch-clause-built c =
     (ap (λ n. n + 1) c.loop-line.invariant.2)
     (c.in_ok-push_syntax_fault.ensures
     ∙ ap (λ t. t ++ codes "fault syntax " ++ decimal (c.loop-line.before + 1) ++ 10 ∷ [])
-    (c.into_text-text.ensures ∙ ap (λ b. string_bytes b.text) kept))
+    (c.into_text-text.ensures ∙ ap (λ b. b.text.items) kept))
 
 pub loop-line-preserved : goal.loop-line-preserved
 loop-line-preserved c =
     let Lines : List
     (List ℕ) →
     Type 0 = λ v. BuiltSoFar v c.take_line.new.self.last c.take_line.new.self.avps.items
-    (string_bytes c.take_line.new.self.text)
+    c.take_line.new.self.text.items
     c.take_line.new.self.good in (
       c.loop-line.invariant.0 ++ c.in-Some.line.now ∷ [],
       lines-next c.args.input.now c.in-Some.line.now c.loop-line.line-iterator c.next.new.self c.loop-line.invariant.0

@@ -1,5 +1,4 @@
 use Rattle.std.proofs.Common.{◌≡◌, ◌&&◌, List, [], ℕ, ap, sym, ◌∙◌, subst, true, false}
-use Rattle.std.specs.String.{string_bytes}
 use Rattle.dm_text.specs.Lines.{trimmed, is_skipped, content_lines}
 use Rattle.dm_tool.specs.HexLines.{PrintsLine, PrintsLines}
 use Rattle.dm_tool.specs.Tasks.{answer_of}
@@ -14,7 +13,7 @@ loop-line-preserved-then-good c =
     ∙ sym c.is_skipped.ensures ∙ c.if-not-is_skipped.true in
     prints-next (answer_of c.args.task) (content_lines c.args.input.now) (content_lines c.loop-line.line-iterator)
     (content_lines c.next.new.self)
-    (trimmed c.in-Some.line.now) (string_bytes c.loop-line.text) shown.0 _ c.loop-line.good
+    (trimmed c.in-Some.line.now) c.loop-line.text.items shown.0 _ c.loop-line.good
     c.in_ok-fine.fine c.in_ok-fine.fine
     (content-line c.loop-line.line-iterator c.next.new.self c.in-Some.line.now c.in-Some.ensures.steps skipped)
     (subst Line c.trim-line.ensures shown.2) shown.1
@@ -28,7 +27,7 @@ loop-line-preserved-else-good c =
     ∙ sym c.is_skipped.ensures ∙ c.if-not-is_skipped.true in
     prints-next (answer_of c.args.task) (content_lines c.args.input.now) (content_lines c.loop-line.line-iterator)
     (content_lines c.next.new.self)
-    (trimmed c.in-Some.line.now) (string_bytes c.loop-line.text) shown.0 _ c.loop-line.good
+    (trimmed c.in-Some.line.now) c.loop-line.text.items shown.0 _ c.loop-line.good
     c.in_ok-fine.fine c.loop-line.good
     (content-line c.loop-line.line-iterator c.next.new.self c.in-Some.line.now c.in-Some.ensures.steps skipped)
     (subst Line c.trim-line.ensures shown.2) shown.1
@@ -36,7 +35,5 @@ loop-line-preserved-else-good c =
 
 pub returns-clause-printed : goal.returns-clause-printed
 returns-clause-printed c =
-    let Text : List ℕ → Type 0 = λ t. PrintsLines (answer_of c.args.task) (content_lines c.args.input.now) t c.loop-line.good in
-    subst Text (sym (ap (λ v. v.items) c.into_bytes.ensures.value)) (prints-all (answer_of c.args.task) _ _ _
-    (c.loop-line.invariant [] true
-    (prints-none (answer_of c.args.task) c.loop-line.line-iterator c.in-None.ensures.steps.0)))
+    prints-all (answer_of c.args.task) _ _ _ (c.loop-line.invariant [] true
+    (prints-none (answer_of c.args.task) c.loop-line.line-iterator c.in-None.ensures.steps.0))

@@ -1,5 +1,4 @@
 use Rattle.std.proofs.Common.{◌++◌, ◌&&◌, ℕ, List, Bool}
-use Rattle.std.specs.String.{string_bytes}
 use Rattle.dm_text.specs.Lines.{content_lines}
 use Rattle.dm_tool.specs.HexLines.{PrintsLines}
 use Rattle.dm_tool.specs.Tasks.{answer_of}
@@ -9,4 +8,4 @@ use Rattle.dm_tool.proofs.messages.messages_text.Given as goal
 abbrev pub invariant-loop-line : goal.invariant-loop-line
 invariant-loop-line l =
     (more : List ℕ) (fine : Bool) → PrintsLines (answer_of l.fn.task) (content_lines l.line-iterator) more fine
-    → PrintsLines (answer_of l.fn.task) (content_lines l.input) (string_bytes l.text ++ more) (l.good && fine)
+    → PrintsLines (answer_of l.fn.task) (content_lines l.input) (l.text.items ++ more) (l.good && fine)

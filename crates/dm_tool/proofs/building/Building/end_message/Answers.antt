@@ -1,5 +1,4 @@
 use Rattle.std.proofs.Common.{ap, sym, ◌∙◌, true, [], append-nil}
-use Rattle.std.specs.String.{string_bytes}
 use Rattle.dm_tool.proofs.Buildings.{built_last, built_none}
 use mathlib.Core.Bool.{and-true}
 use Rattle.dm_tool.proofs.building.Building.end_message.Goals as goal
@@ -11,7 +10,7 @@ returns-clause-built c = elim c.match-self.branch [
       let built = w.in_ok-fine.ensures.built in (
         built.0,
         w.in_ok-fine.fine,
-        ap (λ s. string_bytes s.text) w.self-is ∙ built.1,
+        ap (λ s. s.text.items) w.self-is ∙ built.1,
         ap (λ s. s.good) w.self-is,
         built_last c.args.self.now.last w.in-Some.header c.args.self.now.avps.items w.from_vec.result built.0
             w.in_ok-fine.fine w.in-Some.is (w.from_vec.ensures ∙ ap (λ v. v.items) w.replace-avps.ensures.value)
@@ -20,7 +19,7 @@ returns-clause-built c = elim c.match-self.branch [
   | in_default w ↦ (
     [],
     true,
-    ap (λ s. string_bytes s.text) w.self-is ∙ sym (append-nil (string_bytes c.args.self.now.text)),
+    ap (λ s. s.text.items) w.self-is ∙ sym (append-nil c.args.self.now.text.items),
     ap (λ s. s.good) w.self-is ∙ sym (and-true c.args.self.now.good),
     built_none c.args.self.now.last c.args.self.now.avps.items w.in_default.is,
   )
