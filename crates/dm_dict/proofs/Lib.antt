@@ -20,4 +20,5 @@ pub mod Valued
 pub mod ReadOutcomes
 pub mod Located
 pub mod NoFaults
+pub mod GoodBut
 pub mod Paths

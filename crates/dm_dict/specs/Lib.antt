@@ -14,6 +14,7 @@ pub mod Located
 pub mod Locating
 pub mod Marks
 pub mod Numbers
+pub mod Passed
 pub mod Printed
 pub mod Rules
 pub mod Seats

@@ -1,5 +1,5 @@
 //! The first fault of AVPs under a rule, groups and all (RFC 6733, 4.1, 4.4 and 7.1.5).
-ghost use Rattle.std.specs.Prelude.{◌≡◌, ℕ, false, List, slice_get, slice_index};
+ghost use Rattle.std.specs.Prelude.{◌≡◌, false, List, slice_get};
 ghost use Rattle.std.specs.Option.{option_and_then};
 ghost use Rattle.dm_wire.specs.declared.avp.Avp.{Avp};
 ghost use Rattle.dm_dict.specs.Apart.{IsFit};
@@ -8,6 +8,7 @@ ghost use Rattle.dm_wire.specs.Borrowed.{avp_of, Lists};
 ghost use Rattle.dm_dict.specs.Faults.{is_failed_avp, is_left_out, avp_faults, group_faults, list_faults, first};
 ghost use Rattle.dm_dict.specs.Found.{finds_missing};
 ghost use Rattle.dm_dict.specs.Judgement.{shown};
+ghost use Rattle.dm_dict.specs.Passed.{IsGoodBut};
 ghost use Rattle.dm_dict.specs.Rules.{definition};
 
 use crate::codes::{
@@ -136,12 +137,15 @@ fn judge_group<'a>(
     judge_list(dictionary, rule, list, depth - 1, alloc)
 }
 
-/// The first fault of a list of AVPs under the rule, by these counters, all zero, for the first of its entries.
+/// The first fault of a list of AVPs under the rule, of which those before these are good and counted, by these counters
+/// for the first of its entries.
 #[cycle(judge)]
-fn judge_counted<'a>(
+#[inline(never)]
+pub(crate) fn judge_counted<'a>(
     dictionary: &Linked,
     rule: LinkedRule<'_>,
     list: AvpsRef<'a>,
+    from: AvpsRef<'a>,
     depth: u32,
     alloc: Option<Global>,
     counts: &mut [u16],
@@ -149,12 +153,13 @@ fn judge_counted<'a>(
     requires linked { IsLinked dictionary.now }
     requires fit { IsFit dictionary.now.tables.avps.items }
     requires rule { IsRule dictionary.now.tables.avps.items rule }
-    requires zero { (i : ℕ) → slice_index counts.old i ≡ 0 }
+    requires good { (l : List Avp) → Lists list l → (m : List Avp) × Lists from m
+        × IsGoodBut depth dictionary.now.tables.avps.items rule.entries.now l m counts.old }
     ensures fault { (l : List Avp) → Lists list.entry l
         → shown result ≡ first (list_faults depth dictionary.now.tables.avps.items rule.entry.entries.now l) }
     ensures missing { finds_missing result ≡ false }
 {
-    let mut left = list;
+    let mut left = from;
     while let Some((avp, rest)) = left.split_first() {
         let (place, at) = look_up(&dictionary.tables, rule, avp);
         let allowed = allows(rule.entries, at);
@@ -186,13 +191,13 @@ fn judge_many<'a>(
     ensures missing { finds_missing result ≡ false }
 {
     let mut counts = many_counts();
-    judge_counted(dictionary, rule, list, depth, alloc, &mut counts)
+    judge_counted(dictionary, rule, list, list, depth, alloc, &mut counts)
 }
 
 /// The first fault of a list of AVPs under the rule, where so many groups may stand inside each other; by a counter for
 /// each entry of a long rule where there is memory for that.
 #[cycle(judge)]
-pub(crate) fn judge_list<'a>(
+fn judge_list<'a>(
     dictionary: &Linked,
     rule: LinkedRule<'_>,
     list: AvpsRef<'a>,
@@ -210,7 +215,7 @@ pub(crate) fn judge_list<'a>(
         return judge_many(dictionary, rule, list, depth, alloc);
     };
     let room = counts.as_mut_slice();
-    let judged = judge_counted(dictionary, rule, list, depth, alloc, room);
+    let judged = judge_counted(dictionary, rule, list, list, depth, alloc, room);
     drop(counts);
     judged
 }

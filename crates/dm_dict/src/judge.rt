@@ -12,11 +12,10 @@ ghost use Rattle.dm_dict.specs.Limits.{group_limit};
 ghost use Rattle.dm_dict.specs.Linked.{IsLinked, IsRule};
 ghost use Rattle.dm_dict.specs.Links.{rule_links};
 
-use crate::avps::judge_list;
 use crate::codes::{COMMAND_UNSUPPORTED, INVALID_HDR_BITS};
 use crate::judged::{Failed, Judged};
 use crate::linked::{Linked, LinkedCommand, LinkedRule};
-use crate::passing::passes_list;
+use crate::message_avps::judge_avps;
 use dm_wire::laws::members_spell;
 use dm_wire::{AvpsRef, Header};
 use std::alloc::Global;
@@ -36,27 +35,6 @@ pub(crate) fn command_for<'d>(dictionary: &'d Linked, header: &Header) -> Option
     let error_answer = !header.request && header.error;
     let code = if error_answer { 0 } else { header.command };
     dictionary.command(code, header.request, error_answer)
-}
-
-/// The first fault of the AVPs of a message under its rule. Most messages have none, as one pass sees; another tells a
-/// fault.
-fn judge_avps<'a>(
-    dictionary: &Linked,
-    rule: LinkedRule<'_>,
-    list: AvpsRef<'a>,
-    alloc: Option<Global>,
-) -> Judged<'a>
-    requires linked { IsLinked dictionary.now }
-    requires fit { IsFit dictionary.now.tables.avps.items }
-    requires rule { IsRule dictionary.now.tables.avps.items rule }
-    ensures fault { (l : List Avp) → Lists list.entry l
-        → shown result ≡ first (list_faults group_limit dictionary.now.tables.avps.items rule.entry.entries.now l) }
-    ensures missing { finds_missing result ≡ false }
-{
-    if passes_list(dictionary, rule, list, GROUPS, alloc) {
-        return Judged::Good;
-    }
-    judge_list(dictionary, rule, list, GROUPS, alloc)
 }
 
 /// The first fault of a message of this header and these AVPs, whose AVPs are counted in memory under a long rule,

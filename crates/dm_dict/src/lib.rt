@@ -19,6 +19,7 @@ mod links;
 mod listing_entries;
 mod locating;
 mod marks;
+mod message_avps;
 mod message_faults;
 mod numbers;
 mod opening;

@@ -2,9 +2,10 @@
 use Rattle.std.proofs.Common.{◌≡◌, Some, find, sym, ◌∙◌, ap, arith}
 use Rattle.dm_tables.specs.Definitions.{is_coded}
 use Rattle.dm_wire.specs.Borrowed.{avp_of}
-use Rattle.dm_dict.specs.Faults.{avp_faults, group_faults}
-use Rattle.dm_dict.specs.Rules.{definition, entry_for, allows}
-use Rattle.dm_dict.proofs.Chains.{good_member, looked_up, counted_step}
+use Rattle.dm_dict.specs.Faults.{group_faults}
+use Rattle.dm_dict.specs.Rules.{allows}
+use Rattle.dm_dict.proofs.Chains.{looked_up}
+use Rattle.dm_dict.proofs.GoodBut.{none_passed, one_passed}
 use Rattle.dm_dict.proofs.avps.+judge.Goals as goal
 
 pub judge_avp-judge_group-requires : goal.judge_avp-judge_group-requires
@@ -38,11 +39,30 @@ judge_counted-loop-avp-preserved t c =
     let allowed = c.allows-allowed.ensures ∙ ap allows c.look_up-place.ensures.entry in
     let good = looked_up G _ _ a _ _ allowed c.in-Good.ensures.fault in
     λ all h.
-    let (m, listed, chain, counted) = c.loop-avp.invariant all h in
+    let (m, listed, before) = c.loop-avp.invariant all h in
     let (k, is, behind) = c.in-Some.ensures.parts m listed in (
       k,
       behind,
-      good_member (λ x. avp_faults G (allows (entry_for rule (definition avps x))) x (definition avps x)) _ _ a m k
-          chain is good,
-      counted_step avps rule all m k a 0 _ _ _ c.count_one.ensures.size counted is c.count_one.ensures.counted c.look_up-place.ensures.counts,
+      one_passed c.args.depth avps rule all m k a _ _ _ before is good c.count_one.ensures.size
+          c.count_one.ensures.counted c.look_up-place.ensures.counts,
     )
+
+pub judge_many-judge_counted-requires : goal.judge_many-judge_counted-requires
+judge_many-judge_counted-requires t c = (
+  omega arith,
+  (
+    c.requires.linked,
+    (
+      c.requires.fit,
+      (
+        c.requires.rule,
+        λ l h. (
+          l,
+          h,
+          none_passed c.args.depth c.args.dictionary.now.tables.avps.items c.args.rule.entries.now l _
+              c.many_counts-counts.ensures,
+        ),
+      ),
+    ),
+  ),
+)

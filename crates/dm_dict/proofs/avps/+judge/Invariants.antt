@@ -1,9 +1,7 @@
-use Rattle.std.proofs.Common.{◌≡◌, ◌+◌, ◌*◌, List, ◌++◌, flat_map}
+use Rattle.std.proofs.Common.{◌+◌, ◌*◌, List}
 use Rattle.dm_wire.specs.declared.avp.Avp.{Avp}
 use Rattle.dm_wire.specs.Borrowed.{Lists, size_of}
-use Rattle.dm_dict.specs.Counters.{IsCountedBut}
-use Rattle.dm_dict.specs.Faults.{avp_faults, entry_faults, group_faults, list_faults, first}
-use Rattle.dm_dict.specs.Rules.{definition, entry_for, allows}
+use Rattle.dm_dict.specs.Passed.{IsGoodBut}
 use Rattle.dm_dict.proofs.avps.+judge.Given as goal
 
 abbrev pub decreases-judge_list : goal.decreases-judge_list
@@ -24,12 +22,7 @@ decreases-judge_group l = 5 * l.depth
 abbrev pub invariant-judge_counted-loop-avp : goal.invariant-judge_counted-loop-avp
 invariant-judge_counted-loop-avp l =
     (all : List Avp) → Lists l.list all → (m : List Avp) × Lists l.left m
-    × (first (list_faults l.depth l.dictionary.tables.avps.items l.rule.entries.now all)
-    ≡ first (flat_map
-    (λ a. avp_faults (group_faults l.depth l.dictionary.tables.avps.items)
-    (allows (entry_for l.rule.entries.now (definition l.dictionary.tables.avps.items a))) a (definition l.dictionary.tables.avps.items a)) m
-    ++ flat_map (entry_faults l.dictionary.tables.avps.items l.rule.entries.now all) l.rule.entries.now))
-    × IsCountedBut l.dictionary.tables.avps.items l.rule.entries.now all m 0 l.counts
+    × IsGoodBut l.depth l.dictionary.tables.avps.items l.rule.entries.now all m l.counts
 
 abbrev pub decreases-judge_counted-loop-avp : goal.decreases-judge_counted-loop-avp
 decreases-judge_counted-loop-avp l = size_of l.left

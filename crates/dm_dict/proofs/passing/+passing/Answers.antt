@@ -1,6 +1,12 @@
--- A group has the rule of its definition.
-use Rattle.std.proofs.Common.{◌≡◌, Some, find, sym, ◌∙◌, arith}
+-- A group has the rule of its definition, and its octets are passed one AVP after the other.
+use Rattle.std.proofs.Common.{◌≡◌, Some, [], ◌∷◌, find, take, refl, sym, ◌∙◌, ap, arith, eqb-true}
+use Rattle.std.proofs.lemmas.List.{take-append-drop, take_rest, nil_from_length}
+use Rattle.dm_wire.specs.Borrowed.{avp_of}
 use Rattle.dm_tables.specs.Definitions.{is_coded}
+use Rattle.dm_dict.specs.Faults.{group_faults}
+use Rattle.dm_dict.specs.Rules.{allows}
+use Rattle.dm_dict.proofs.Chains.{looked_up}
+use Rattle.dm_dict.proofs.GoodBut.{none_passed, one_passed, all_passed}
 use Rattle.dm_dict.proofs.passing.+passing.Goals as goal
 
 pub passes_avp-passes_group-requires : goal.passes_avp-passes_group-requires
@@ -24,3 +30,36 @@ passes_avp-passes_group-requires t c =
         ),
       ),
     )
+
+pub pass_each-loop-avp-init : goal.pass_each-loop-avp-init
+pass_each-loop-avp-init t c = (
+  λ m. m,
+  λ m h. h,
+  λ m. none_passed c.args.depth c.args.dictionary.now.tables.avps.items c.args.rule.entries.now m _ c.requires.zero,
+)
+
+pub pass_each-loop-avp-preserved : goal.pass_each-loop-avp-preserved
+pass_each-loop-avp-preserved t c =
+    let avps = c.args.dictionary.now.tables.avps.items in
+    let rule = c.args.rule.entries.now in
+    let s = c.loop-avp.left.now in
+    let n = c.in-Some.size in
+    let a = avp_of c.in-Some.avp in
+    let allowed = ap allows c.look_up_marked-place.ensures.entry in
+    let good = looked_up (group_faults c.args.depth avps) _ _ a _ _ allowed
+    (c.passes_avp.ensures c.if-not-passes_avp.false) in
+    let (all, spelled, before) = c.loop-avp.invariant in (
+      λ m. all (a ∷ m),
+      λ m h. spelled (a ∷ m)
+          (take n s, _, rw (take_rest s n) (sym (take-append-drop n s)), c.in-Some.ensures.found, h),
+      λ m. one_passed c.args.depth avps rule (all (a ∷ m)) (a ∷ m) m a _ _ _ (before (a ∷ m)) refl good
+          c.count_one.ensures.size c.count_one.ensures.counted c.look_up_marked-place.ensures.counts,
+    )
+
+pub pass_each-returns : goal.pass_each-returns
+pass_each-returns t c = λ done.
+    let s = c.loop-avp.left.now in
+    let none = nil_from_length s (eqb-true _ 0 (sym c.is_empty.ensures ∙ done)) in
+    let (all, spelled, before) = c.loop-avp.invariant in
+    let (good, counted) = all_passed c.args.depth _ _ (all []) _ (before []) in
+    (all [], spelled [] none, good, counted)

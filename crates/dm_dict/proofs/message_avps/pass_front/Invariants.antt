@@ -1,0 +1,14 @@
+use Rattle.std.proofs.Common.{List}
+use Rattle.dm_wire.specs.declared.avp.Avp.{Avp}
+use Rattle.dm_wire.specs.Borrowed.{Lists, size_of}
+use Rattle.dm_dict.specs.Limits.{group_limit}
+use Rattle.dm_dict.specs.Passed.{IsGoodBut}
+use Rattle.dm_dict.proofs.message_avps.pass_front.Given as goal
+
+abbrev pub invariant-loop-avp : goal.invariant-loop-avp
+invariant-loop-avp l =
+    (all : List Avp) → Lists l.list all → (m : List Avp) × Lists l.left m
+    × IsGoodBut group_limit l.dictionary.tables.avps.items l.rule.entries.now all m l.counts
+
+abbrev pub decreases-loop-avp : goal.decreases-loop-avp
+decreases-loop-avp l = size_of l.left

@@ -1,0 +1,19 @@
+-- AVPs of a list that were judged, up to those that are left.
+use Rattle.std.specs.Prelude.{◌≡◌, ℕ, List, ◌++◌, flat_map}
+use Rattle.dm_wire.specs.declared.avp.Avp.{Avp}
+use Rattle.dm_tables.specs.declared.rule.Entry.{Entry}
+use Rattle.dm_tables.specs.declared.def.AvpDef.{AvpDef}
+use Rattle.dm_dict.specs.Counters.{IsCountedBut}
+use Rattle.dm_dict.specs.Faults.{Fault, avp_faults, entry_faults, group_faults, list_faults, first}
+use Rattle.dm_dict.specs.Rules.{definition, entry_for, allows}
+
+-- what is wrong with each AVP of m under the rule
+abbrev pub each_faults : ℕ → List AvpDef → List Entry → List Avp → List Fault
+each_faults n avps rule m =
+    flat_map (λ a. avp_faults (group_faults n avps) (allows (entry_for rule (definition avps a))) a (definition avps a)) m
+
+-- nothing is wrong with the AVPs of l but for those of m, at its end, and those are counted
+abbrev pub IsGoodBut : ℕ → List AvpDef → List Entry → List Avp → List Avp → List ℕ → Type 0
+IsGoodBut n avps rule l m numbers =
+    (first (list_faults n avps rule l) ≡ first (each_faults n avps rule m ++ flat_map (entry_faults avps rule l) rule))
+    × IsCountedBut avps rule l m 0 numbers
