@@ -1,6 +1,8 @@
 -- The limits of judging (own).
 use Rattle.std.specs.Prelude.{ℕ, suc}
--- how many further entries of a rule are counted in one walk, as the code has it
+-- how many entries of a rule are counted on the stack while its AVPs are judged, and how many further ones in one walk,
+-- as the code has it
+pub use Rattle.dm_dict.specs.declared.counts.TheConstants.{MANY_ENTRIES as many_entries}
 pub use Rattle.dm_dict.specs.declared.counts.TheConstants.{WINDOW as window}
 
 -- how many groups may stand inside each other

@@ -1,6 +1,7 @@
 //! Whether a list has as many AVPs as the entries of a rule want: those that have counters, and those behind them, a
 //! window of entries at a time (RFC 6733, 3.2 and 7.1.5).
-ghost use Rattle.std.specs.Prelude.{◌≡◌, ◌+◌, ◌<◌, ◌≤◌, ◌⊎◌, true, false, List, length, drop, slice_index_or, flat_map};
+ghost use Rattle.std.specs.Prelude.{◌≡◌, ◌+◌, ◌<◌, ◌≤◌, ◌⊎◌, ℕ, true, false, List, length, drop, slice_index};
+ghost use Rattle.std.specs.Prelude.{slice_index_or, flat_map};
 ghost use Rattle.std.specs.Option.{option_or};
 ghost use Rattle.dm_wire.specs.declared.avp.Avp.{Avp};
 ghost use Rattle.dm_tables.specs.declared.def.AvpDef.{AvpDef};
@@ -13,9 +14,9 @@ ghost use Rattle.dm_dict.specs.Counters.{IsCounted, is_bounded};
 ghost use Rattle.dm_dict.specs.Faults.{entry_faults, first};
 ghost use Rattle.dm_dict.specs.Found.{finds_missing};
 ghost use Rattle.dm_dict.specs.Judgement.{shown};
-ghost use Rattle.dm_dict.specs.Limits.{window};
+ghost use Rattle.dm_dict.specs.Limits.{many_entries, window};
 
-use crate::counts::{WINDOW, count_from, window_counts};
+use crate::counts::{MANY_ENTRIES, WINDOW, count_from, many_counts, window_counts};
 use crate::entries::judge_entry;
 use crate::judged::Judged;
 use crate::linked::LinkedRule;
@@ -92,7 +93,32 @@ fn judge_window<'a>(
     Judged::Good
 }
 
-/// The first fault of a window of entries from `from` on, for which all AVPs are looked up once more.
+/// The first fault of the entries from `from` on that have these counters, all zero, for which all AVPs are looked up once
+/// more.
+fn judge_recounted<'a>(
+    tables: &Tables,
+    rule: LinkedRule<'_>,
+    from: usize,
+    counts: &mut [u16],
+    list: AvpsRef<'a>,
+) -> Judged<'a>
+    requires tables { IsTables tables.now }
+    requires fit { IsFit tables.now.avps.items }
+    requires rule { IsRule tables.now.avps.items rule }
+    requires within { from ≤ length rule.entries.now }
+    requires zero { (i : ℕ) → slice_index counts.old i ≡ 0 }
+    ensures fault { (l : List Avp) → Lists list.entry l
+        → first (flat_map (entry_faults tables.now.avps.items rule.entry.entries.now l)
+        (drop from rule.entry.entries.now))
+        ≡ option_or (shown result) (first (flat_map (entry_faults tables.now.avps.items rule.entry.entries.now l)
+        (drop (from + length counts.old) rule.entry.entries.now))) }
+    ensures missing { finds_missing result ≡ false }
+{
+    count_from(tables, rule, from, list, counts);
+    judge_window(tables, rule, from, counts, list)
+}
+
+/// The first fault of a window of entries from `from` on.
 // (A function of its own in the machine's code too, for the room that its counters take of the stack.)
 #[inline(never)]
 fn judge_next<'a>(
@@ -113,8 +139,30 @@ fn judge_next<'a>(
     ensures missing { finds_missing result ≡ false }
 {
     let mut counts = window_counts();
-    count_from(tables, rule, from, list, &mut counts);
-    judge_window(tables, rule, from, &counts, list)
+    judge_recounted(tables, rule, from, &mut counts, list)
+}
+
+/// The first fault of the last entries, those from `from` on, where they are no more than these counters.
+// (So a rule that is little longer than is counted at first has no whole window cleared.)
+#[inline(never)]
+fn judge_last<'a>(
+    tables: &Tables,
+    rule: LinkedRule<'_>,
+    from: usize,
+    list: AvpsRef<'a>,
+) -> Judged<'a>
+    requires tables { IsTables tables.now }
+    requires fit { IsFit tables.now.avps.items }
+    requires rule { IsRule tables.now.avps.items rule }
+    requires within { from ≤ length rule.entries.now }
+    requires last { length rule.entries.now ≤ from + many_entries }
+    ensures fault { (l : List Avp) → Lists list.entry l
+        → shown result ≡ first (flat_map (entry_faults tables.now.avps.items rule.entry.entries.now l)
+        (drop from rule.entry.entries.now)) }
+    ensures missing { finds_missing result ≡ false }
+{
+    let mut counts = many_counts();
+    judge_recounted(tables, rule, from, &mut counts, list)
 }
 
 /// The first fault of the entries from `start` on. Each window of them begins at an entry that has a bound.
@@ -134,14 +182,18 @@ fn judge_further<'a>(
 {
     let size = rule.entries.as_slice().len();
     let mut from = next_bounded(rule.entries, start);
-    while from < size {
+    while from < size && size - from > MANY_ENTRIES {
         match judge_next(tables, rule, from, list) {
             Judged::Good => {}
             Judged::Bad { code, failed } => return Judged::Bad { code, failed },
         }
         from = next_bounded(rule.entries, window_end(size, from, WINDOW));
     }
-    Judged::Good
+    if from < size {
+        judge_last(tables, rule, from, list)
+    } else {
+        Judged::Good
+    }
 }
 
 /// The first fault of the entries of the rule, of which the first ones have these counters.
