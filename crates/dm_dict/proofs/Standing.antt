@@ -46,6 +46,31 @@ spot p j (e ∷ es) (suc i) d h a = by (p e) refl (spot p (j + 1) es i d (omega 
   by true t ih = let none = none_at p es i d (omega arith) (a.0 t) in rw (t, none) (grind arith)
   by false t ih = let same : j + 1 + i ≡ j + suc i = omega arith in rw t (rw same at ih)
 
+-- what is found stands among them
+stands_behind : {A : Type 0} (p : A → Bool) (j : ℕ) (es : List A)
+    → IfSome (position_from p j es) (λ i. i < j + length es)
+stands_behind p j [] = tt
+stands_behind p j (e ∷ es) = by (p e) refl (stands_behind p (j + 1) es) where
+  further : (o : Option ℕ) → IfSome o (λ i. i < j + 1 + length es) → IfSome o (λ i. i < j + length (e ∷ es))
+  further None h = tt
+  further (Some i) h = omega (arith, h)
+
+  by : (b : Bool) → p e ≡ b → IfSome (position_from p (j + 1) es) (λ i. i < j + 1 + length es)
+      → IfSome (position_from p j (e ∷ es)) (λ i. i < j + length (e ∷ es))
+  by true t ih = rw t (omega arith)
+  by false t ih = rw t (further (position_from p (j + 1) es) ih)
+
+pub stands_within : {A : Type 0} (p : A → Bool) (es : List A)
+    → IfSome (position_from p 0 es) (λ i. i < length es)
+stands_within p es =
+    let same : 0 + length es ≡ length es = omega arith in rw same at (stands_behind p 0 es)
+
+-- so does the first of two that is found
+pub one_within : (o q : Option ℕ) (n : ℕ) → IfSome o (λ i. i < n) → IfSome q (λ i. i < n)
+    → IfSome (option_or o q) (λ i. i < n)
+one_within None q n h k = k
+one_within (Some i) q n h k = h
+
 -- something is found where an entry passes
 pub is_found : {A : Type 0} (p : A → Bool) (j : ℕ) (es : List A) → is_some (position_from p j es) ≡ list_any p es
 is_found p j [] = refl

@@ -10,7 +10,8 @@ use Rattle.dm_dict.specs.Rules.{definition, entry_for, allows}
 -- what is wrong with each AVP of m under the rule
 abbrev pub each_faults : ℕ → List AvpDef → List Entry → List Avp → List Fault
 each_faults n avps rule m =
-    flat_map (λ a. avp_faults (group_faults n avps) (allows (entry_for rule (definition avps a))) a (definition avps a)) m
+    flat_map
+    (λ a. avp_faults (group_faults n avps) (allows (entry_for rule (definition avps a))) a (definition avps a)) m
 
 -- nothing is wrong with the AVPs of l but for those of m, at its end, and those are counted
 abbrev pub IsGoodBut : ℕ → List AvpDef → List Entry → List Avp → List Avp → List ℕ → Type 0

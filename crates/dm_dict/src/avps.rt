@@ -137,8 +137,8 @@ fn judge_group<'a>(
     judge_list(dictionary, rule, list, depth - 1, alloc)
 }
 
-/// The first fault of a list of AVPs under the rule, of which those before these are good and counted, by these counters
-/// for the first of its entries.
+/// The first fault of a list of AVPs under the rule, of which those before these are good and counted, by
+/// these counters for the first of its entries.
 #[cycle(judge)]
 #[inline(never)]
 pub(crate) fn judge_counted<'a>(

@@ -1,15 +1,18 @@
 //! What is wrong with the data of an AVP that is no group (RFC 6733, 7.1.5).
-ghost use Rattle.std.specs.Prelude.{◌≡◌, ◌≢◌, false, nat_eq, List, IfSome};
+ghost use Rattle.std.specs.Prelude.{◌≡◌, ◌≢◌, [], true, false, nat_eq, None, List, IfSome};
+ghost use Rattle.std.specs.List.{list_all};
 ghost use Rattle.dm_wire.specs.declared.avp.Avp.{Avp};
-ghost use Rattle.dm_value.specs.declared.avp_type.AvpType.TheVariants.{Grouped};
+ghost use Rattle.dm_value.specs.declared.avp_type.AvpType.TheVariants.{Address, DiameterIdentity, Grouped};
+ghost use Rattle.dm_value.specs.Flaws.{flaw, is_visible};
 ghost use Rattle.dm_dict.specs.Codes.{missing_avp};
 ghost use Rattle.dm_dict.specs.Faults.{Fault as AFault, data_faults};
 ghost use Rattle.dm_dict.specs.Listing.{coded};
 
 use crate::avps::is_left_out;
 use crate::codes::{INVALID_AVP_LENGTH, INVALID_AVP_VALUE};
+use byteorder::{BigEndian, ByteOrder};
 use dm_tables::AvpDef;
-use dm_value::{ValueFault, value_fault};
+use dm_value::{AvpType, ValueFault, value_fault};
 
 /// The Result-Code for data of this definition that is no group's, where something is wrong with it.
 pub(crate) fn data_fault(def: &AvpDef, octets: &[u8]) -> Option<u32>
@@ -23,5 +26,80 @@ pub(crate) fn data_fault(def: &AvpDef, octets: &[u8]) -> Option<u32>
         Some(ValueFault::WrongValue) => Some(INVALID_AVP_VALUE),
         _ if is_left_out(def, octets) => Some(INVALID_AVP_VALUE),
         _ => None,
+    }
+}
+
+/// Whether octets are an Address (RFC 6733, 4.3.1): family 1 wants 4 octets more, family 2 wants 16.
+#[inline(always)]
+fn passes_address(octets: &[u8]) -> bool
+    ensures { result ≡ true → flaw Address octets.now ≡ None }
+{
+    if octets.len() < 2 {
+        return false;
+    }
+    match BigEndian::read_u16(octets) {
+        1 => octets.len() == 6,
+        2 => octets.len() == 18,
+        _ => true,
+    }
+}
+
+/// Whether an octet is ASCII, no space and no control.
+#[inline(always)]
+fn is_printing(octet: u8) -> bool
+    ensures { result ≡ is_visible octet }
+{
+    octet >= 0x21 && octet <= 0x7e
+}
+
+/// Whether all octets are, one at a time.
+#[inline(always)]
+fn each_visible(octets: &[u8]) -> bool
+    ensures { result ≡ list_all is_visible octets.now }
+{
+    octets.iter().all(|octet| is_printing(*octet))
+}
+
+/// The same, four at a time.
+#[inline(always)]
+fn are_visible(octets: &[u8]) -> bool
+    ensures { result ≡ list_all is_visible octets.now }
+{
+    let mut left = octets;
+    while let [first, second, third, fourth, rest @ ..] = left {
+        if !is_printing(*first)
+            || !is_printing(*second)
+            || !is_printing(*third)
+            || !is_printing(*fourth)
+        {
+            return false;
+        }
+        left = rest;
+    }
+    each_visible(left)
+}
+
+/// Whether octets are a DiameterIdentity (4.3.1).
+#[inline(always)]
+fn passes_identity(octets: &[u8]) -> bool
+    ensures { result ≡ true → flaw DiameterIdentity octets.now ≡ None }
+{
+    octets.len() >= 1 && are_visible(octets)
+}
+
+/// Whether nothing is wrong with data of this definition that is no group's. Of the commonest types it is seen at once.
+#[inline(always)]
+pub(crate) fn passes_data(def: &AvpDef, octets: &[u8]) -> bool
+    requires { def.now.kind ≢ Grouped }
+    ensures { (a : Avp) (group : List AFault) → a.bytes ≡ octets.now → result ≡ true
+        → data_faults def.now.kind def.now.values group a ≡ [] }
+{
+    match def.kind {
+        AvpType::OctetString => true,
+        AvpType::Integer32 | AvpType::Unsigned32 | AvpType::Time => octets.len() == 4,
+        AvpType::Address => passes_address(octets),
+        AvpType::DiameterIdentity => passes_identity(octets),
+        AvpType::Enumerated => data_fault(def, octets).is_none(),
+        _ => value_fault(def.kind, octets).is_none(),
     }
 }

@@ -1,8 +1,10 @@
 //! Tables with the links of their rules, so that an AVP's place under a rule is found by its code (RFC 6733, 3.2
 //! and 4.1).
-ghost use Rattle.std.specs.Prelude.{◌≡◌, ◌++◌, [], find, map, option_map, slice_get, IfOk, IfSome, OnOk};
+ghost use Rattle.std.specs.Prelude.{◌≡◌, ◌<◌, ◌++◌, [], Some, find, length, map, option_map, slice_get};
+ghost use Rattle.std.specs.Prelude.{IfOk, IfSome, OnOk};
 ghost use Rattle.std.specs.List.{position_from};
 ghost use Rattle.std.specs.Option.{option_and_then};
+ghost use Rattle.dm_tables.specs.declared.def.AvpDef.{AvpDef};
 ghost use Rattle.dm_tables.specs.Definitions.{nothing_defined, is_coded, is_headed};
 ghost use Rattle.dm_tables.specs.Tables.{defined, IsTables, IsDictionary};
 ghost use Rattle.dm_dict.specs.Links.{rule_links};
@@ -121,6 +123,26 @@ impl Linked {
             return None;
         }
         self.tables.place_by_code(code, vendor)
+    }
+
+    /// The definition of an AVP at the place, where there is one.
+    #[inline(always)]
+    pub(crate) fn def_at(&self, place: usize) -> &AvpDef
+        requires { place < length self.now.tables.avps.items }
+        ensures { Some result.now ≡ slice_get self.now.tables.avps.items place }
+    {
+        &self.tables.avps.as_slice()[place]
+    }
+
+    /// The links of the rule of the AVP at the place, where there is one.
+    #[inline(always)]
+    pub(crate) fn links_at(&self, place: usize) -> &Links
+        requires linked { IsLinked self.now }
+        requires within { place < length self.now.tables.avps.items }
+        ensures { (def : AvpDef) → Some def ≡ slice_get self.now.tables.avps.items place
+            → result.now ≡ rule_links self.now.tables.avps.items def.rule }
+    {
+        &self.avps[place]
     }
 
     /// The definition of an AVP at the place, with the links of its rule.

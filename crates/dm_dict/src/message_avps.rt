@@ -1,5 +1,5 @@
-//! The first fault of a message's AVPs under its rule: they are judged from the first on that doesn't pass (RFC 6733, 4.1
-//! and 7.1.5).
+//! The first fault of a message's AVPs under its rule: they are judged from the first on that doesn't pass (RFC 6733,
+//! 4.1 and 7.1.5).
 ghost use Rattle.std.specs.Prelude.{◌≡◌, ℕ, false, List, slice_index};
 ghost use Rattle.dm_wire.specs.declared.avp.Avp.{Avp};
 ghost use Rattle.dm_dict.specs.Apart.{IsFit};
@@ -76,26 +76,8 @@ fn judge_each<'a>(
     judge_counted(dictionary, rule, list, left, GROUPS, alloc, counts)
 }
 
-/// The same under a rule of few entries.
-#[inline(never)]
-fn judge_by_few<'a>(
-    dictionary: &Linked,
-    rule: LinkedRule<'_>,
-    list: AvpsRef<'a>,
-    alloc: Option<Global>,
-) -> Judged<'a>
-    requires linked { IsLinked dictionary.now }
-    requires fit { IsFit dictionary.now.tables.avps.items }
-    requires rule { IsRule dictionary.now.tables.avps.items rule }
-    ensures fault { (l : List Avp) → Lists list.entry l
-        → shown result ≡ first (list_faults group_limit dictionary.now.tables.avps.items rule.entry.entries.now l) }
-    ensures missing { finds_missing result ≡ false }
-{
-    let mut counts = few_counts();
-    judge_each(dictionary, rule, list, alloc, &mut counts)
-}
-
-/// The same under a rule of any length, by counters on the stack.
+/// The same under a rule of many entries, by counters on the stack.
+// (A function of its own in the machine's code too, as the next one: its locals would be zeroed at its caller's entry.)
 #[inline(never)]
 fn judge_by_many<'a>(
     dictionary: &Linked,
@@ -114,8 +96,32 @@ fn judge_by_many<'a>(
     judge_each(dictionary, rule, list, alloc, &mut counts)
 }
 
-/// The first fault of the AVPs of a message under its rule; by a counter for each entry of a long rule where there is
-/// memory for that.
+/// The same under a rule of any length; by a counter for each entry of a long one where there is memory for that.
+#[inline(never)]
+fn judge_by_any<'a>(
+    dictionary: &Linked,
+    rule: LinkedRule<'_>,
+    list: AvpsRef<'a>,
+    alloc: Option<Global>,
+) -> Judged<'a>
+    requires linked { IsLinked dictionary.now }
+    requires fit { IsFit dictionary.now.tables.avps.items }
+    requires rule { IsRule dictionary.now.tables.avps.items rule }
+    ensures fault { (l : List Avp) → Lists list.entry l
+        → shown result ≡ first (list_faults group_limit dictionary.now.tables.avps.items rule.entry.entries.now l) }
+    ensures missing { finds_missing result ≡ false }
+{
+    let Some(mut counts) = counts_for(alloc, rule.entries) else {
+        return judge_by_many(dictionary, rule, list, alloc);
+    };
+    let room = counts.as_mut_slice();
+    let judged = judge_each(dictionary, rule, list, alloc, room);
+    drop(counts);
+    judged
+}
+
+/// The first fault of the AVPs of a message under its rule.
+#[inline(always)]
 pub(crate) fn judge_avps<'a>(
     dictionary: &Linked,
     rule: LinkedRule<'_>,
@@ -129,14 +135,9 @@ pub(crate) fn judge_avps<'a>(
         → shown result ≡ first (list_faults group_limit dictionary.now.tables.avps.items rule.entry.entries.now l) }
     ensures missing { finds_missing result ≡ false }
 {
-    if rule.entries.as_slice().len() <= FEW_ENTRIES {
-        return judge_by_few(dictionary, rule, list, alloc);
+    if rule.entries.as_slice().len() > FEW_ENTRIES {
+        return judge_by_any(dictionary, rule, list, alloc);
     }
-    let Some(mut counts) = counts_for(alloc, rule.entries) else {
-        return judge_by_many(dictionary, rule, list, alloc);
-    };
-    let room = counts.as_mut_slice();
-    let judged = judge_each(dictionary, rule, list, alloc, room);
-    drop(counts);
-    judged
+    let mut counts = few_counts();
+    judge_each(dictionary, rule, list, alloc, &mut counts)
 }

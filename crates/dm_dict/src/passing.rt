@@ -1,42 +1,26 @@
-//! Whether nothing is wrong with an AVP, groups and all, by one pass that keeps no fault (RFC 6733, 4.1, 4.4 and 7.1.5).
-ghost use Rattle.std.specs.Prelude.{◌≡◌, ◌≢◌, [], ℕ, true, None, List, slice_get, slice_index, flat_map};
+//! Whether nothing is wrong with an AVP, groups and all, by one pass that keeps no fault (RFC 6733, 4.1, 4.4 and
+//! 7.1.5).
+ghost use Rattle.std.specs.Prelude.{◌≡◌, ◌<◌, ℕ, true, None, List, length, IfSome, slice_get, slice_index, flat_map};
 ghost use Rattle.std.specs.Option.{option_and_then};
 ghost use Rattle.dm_wire.specs.declared.avp.Avp.{Avp};
 ghost use Rattle.dm_wire.specs.Borrowed.{avp_of};
 ghost use Rattle.dm_wire.specs.Spelling.{SpellsList};
-ghost use Rattle.dm_value.specs.declared.avp_type.AvpType.TheVariants.{Grouped};
 ghost use Rattle.dm_dict.specs.Apart.{IsFit};
 ghost use Rattle.dm_dict.specs.Counters.{IsCounted};
-ghost use Rattle.dm_dict.specs.Faults.{Fault as AFault, avp_faults, data_faults, entry_faults, group_faults};
-ghost use Rattle.dm_dict.specs.Faults.{list_faults, first};
+ghost use Rattle.dm_dict.specs.Faults.{avp_faults, entry_faults, group_faults, list_faults, first};
 ghost use Rattle.dm_dict.specs.Linked.{IsLinked, IsRule};
 ghost use Rattle.dm_dict.specs.Rules.{definition, allows};
 
 use crate::avps::is_failed_avp;
 use crate::counts::{FEW_ENTRIES, MANY_ENTRIES, count_one, few_counts, many_counts};
-use crate::data::data_fault;
+use crate::data::passes_data;
 use crate::entries::are_kept;
-use crate::linked::{Linked, LinkedAvp, LinkedRule};
-use crate::rules::{allows, look_up_marked};
-use dm_tables::{AvpDef, Rule};
-use dm_value::{AvpType, value_fault};
+use crate::linked::{Linked, LinkedRule};
+use crate::rules::{allows_at, look_up_marked};
+use dm_tables::Rule;
+use dm_value::AvpType;
 use dm_wire::laws::spelled_are_members;
 use dm_wire::{AvpRef, first_avp};
-
-/// Whether nothing is wrong with data of this definition that is no group's. Of the commonest types it is seen at once.
-#[inline(always)]
-fn passes_data(def: &AvpDef, octets: &[u8]) -> bool
-    requires { def.now.kind ≢ Grouped }
-    ensures { (a : Avp) (group : List AFault) → a.bytes ≡ octets.now → result ≡ true
-        → data_faults def.now.kind def.now.values group a ≡ [] }
-{
-    match def.kind {
-        AvpType::OctetString => true,
-        AvpType::Integer32 | AvpType::Unsigned32 | AvpType::Time => octets.len() == 4,
-        AvpType::Enumerated => data_fault(def, octets).is_none(),
-        _ => value_fault(def.kind, octets).is_none(),
-    }
-}
 
 /// Whether nothing is wrong with an AVP, whose definition has this place and which stands there under the rule, inside
 /// which so many groups may stand. Where it isn't seen the answer is no.
@@ -54,17 +38,24 @@ pub(crate) fn passes_avp(
     requires fit { IsFit dictionary.now.tables.avps.items }
     requires def { option_and_then (slice_get dictionary.now.tables.avps.items) place
         ≡ definition dictionary.now.tables.avps.items (avp_of avp) }
+    requires within { IfSome place (λ i. i < length dictionary.now.tables.avps.items) }
+    requires inside { IfSome at (λ i. i < length rule.now) }
     ensures { result ≡ true → None ≡ first (avp_faults (group_faults depth dictionary.now.tables.avps.items)
         (allows (option_and_then (slice_get rule.now) at))
         (avp_of avp.entry) (definition dictionary.now.tables.avps.items (avp_of avp.entry))) }
 {
-    let Some(LinkedAvp { def, links }) = dictionary.avp_at(place) else {
+    let Some(place) = place else {
         return !avp.mandatory;
     };
-    if !allows(rule, at) {
+    let Some(at) = at else {
+        return false;
+    };
+    if !allows_at(rule, at) {
         return false;
     }
+    let def = dictionary.def_at(place);
     if let AvpType::Grouped = def.kind {
+        let links = dictionary.links_at(place);
         let rule = LinkedRule {
             entries: &def.rule,
             links,
@@ -74,8 +65,8 @@ pub(crate) fn passes_avp(
     passes_data(def, avp.bytes) || is_failed_avp(avp)
 }
 
-/// Whether nothing is wrong with a Grouped AVP of this rule and these octets, where so many groups may stand inside each
-/// other.
+/// Whether nothing is wrong with a Grouped AVP of this rule and these octets, where so many groups may stand inside
+/// each other.
 #[cycle(passing)]
 fn passes_group(dictionary: &Linked, rule: LinkedRule<'_>, octets: &[u8], depth: u32) -> bool
     requires linked { IsLinked dictionary.now }
@@ -121,8 +112,8 @@ fn pass_each(
     left.is_empty()
 }
 
-/// Whether the octets are AVPs and nothing is wrong with them under the rule, by these counters, all zero, where there is
-/// one for each of its entries.
+/// Whether the octets are AVPs and nothing is wrong with them under the rule, by these counters, all zero, where there
+/// is one for each of its entries.
 #[cycle(passing)]
 #[inline(always)]
 fn passes_counted(
@@ -172,8 +163,8 @@ fn passes_many(dictionary: &Linked, rule: LinkedRule<'_>, octets: &[u8], depth: 
     passes_counted(dictionary, rule, octets, depth, &mut counts)
 }
 
-/// Whether the octets are AVPs and nothing is wrong with them under the rule, where so many groups may stand inside each
-/// other. Under a rule of more entries than are counted on the stack it isn't seen, and the answer is no.
+/// Whether the octets are AVPs and nothing is wrong with them under the rule, where so many groups may stand inside
+/// each other. Under a rule of more entries than are counted on the stack it isn't seen, and the answer is no.
 #[cycle(passing)]
 fn passes_members(dictionary: &Linked, rule: LinkedRule<'_>, octets: &[u8], depth: u32) -> bool
     requires linked { IsLinked dictionary.now }

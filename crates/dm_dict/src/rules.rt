@@ -1,5 +1,5 @@
 //! Under which entry of a rule an AVP stands (RFC 6733, 3.2).
-ghost use Rattle.std.specs.Prelude.{◌≡◌, ◌<◌, ℕ, length, slice_get, slice_index_or};
+ghost use Rattle.std.specs.Prelude.{◌≡◌, ◌<◌, ℕ, length, slice_get, slice_index_or, IfSome};
 ghost use Rattle.std.specs.List.{position_from};
 ghost use Rattle.std.specs.Option.{option_and_then};
 ghost use Rattle.dm_tables.specs.Definitions.{is_coded};
@@ -14,12 +14,21 @@ use crate::linked::{Linked, LinkedRule};
 use dm_tables::{Rule, Tables};
 use dm_wire::AvpRef;
 
+/// Whether an AVP may stand under the entry at the place: its max isn't 0.
+#[inline(always)]
+pub(crate) fn allows_at(rule: &Rule, at: usize) -> bool
+    requires { at < length rule.now }
+    ensures { result ≡ allows (slice_get rule.now at) }
+{
+    rule.as_slice()[at].max != Some(0)
+}
+
 /// Whether an AVP may stand under the entry: there is one, and its max isn't 0.
 pub(crate) fn allows(rule: &Rule, at: Option<usize>) -> bool
     ensures { result ≡ allows (option_and_then (slice_get rule.now) at) }
 {
     match at {
-        Some(at) if at < rule.as_slice().len() => rule.as_slice()[at].max != Some(0),
+        Some(at) if at < rule.as_slice().len() => allows_at(rule, at),
         _ => false,
     }
 }
@@ -44,6 +53,8 @@ fn stand(
     ensures counts { (i : ℕ) (e : Entry) → i < length rule.entry.entries.now
         → e ≡ slice_index_or rule.entry.entries.now i e
         → is_at result.1 i ≡ counts rule.entry.entries.now e (definition tables.now.avps.items (avp_of avp.entry)) }
+    ensures within { IfSome result.0 (λ i. i < length tables.now.avps.items) }
+    ensures inside { IfSome result.1 (λ i. i < length rule.entry.entries.now) }
 {
     let entry = rule.links.place(place);
     (place, entry)
@@ -89,6 +100,8 @@ pub(crate) fn look_up_marked(
         → e ≡ slice_index_or rule.entry.entries.now i e
         → is_at result.1 i ≡ counts rule.entry.entries.now e
         (definition dictionary.now.tables.avps.items (avp_of avp.entry)) }
+    ensures within { IfSome result.0 (λ i. i < length dictionary.now.tables.avps.items) }
+    ensures inside { IfSome result.1 (λ i. i < length rule.entry.entries.now) }
 {
     let place = dictionary.place_by_code(avp.code, avp.vendor);
     stand(&dictionary.tables, rule, place, avp)

@@ -93,8 +93,8 @@ fn judge_window<'a>(
     Judged::Good
 }
 
-/// The first fault of the entries from `from` on that have these counters, all zero, for which all AVPs are looked up once
-/// more.
+/// The first fault of the entries from `from` on that have these counters, all zero, for which all AVPs are looked up
+/// once more.
 fn judge_recounted<'a>(
     tables: &Tables,
     rule: LinkedRule<'_>,

@@ -12,11 +12,11 @@ use Rattle.dm_dict.proofs.passing.+passing.Goals as goal
 pub passes_avp-passes_group-requires : goal.passes_avp-passes_group-requires
 passes_avp-passes_group-requires t c =
     let fit = c.requires.fit in
-    let def = c.in-Some.field-0.def.now in
+    let def = c.def_at-def.result.now in
     let code = c.args.avp.code in
     let vendor = c.args.avp.vendor in
     let found : find (is_coded code vendor) c.args.dictionary.now.tables.avps.items ≡ Some
-    def = sym (c.in-Some.ensures.def ∙ c.requires.def) in (
+    def = sym (c.def_at-def.ensures ∙ (rw c.in-Some.is at c.requires.def)) in (
       omega arith,
       (
         c.requires.linked,
@@ -25,7 +25,7 @@ passes_avp-passes_group-requires t c =
           record {
             apart = fit.apart code vendor def found;
             closed = fit.closed code vendor def found;
-            linked = c.in-Some.ensures.links;
+            linked = c.links_at-links.ensures def c.def_at-def.ensures;
           },
         ),
       ),

@@ -1,11 +1,11 @@
 -- The place of the link is the place of the name.
-use Rattle.std.proofs.Common.{◌≡◌, ◌∙◌, refl, ap, slice_get}
+use Rattle.std.proofs.Common.{◌≡◌, ◌∙◌, refl, ap, length, slice_get}
 use Rattle.std.specs.List.{position_from}
 use Rattle.std.specs.Option.{option_and_then}
 use Rattle.dm_wire.specs.Borrowed.{avp_of}
 use Rattle.dm_tables.specs.Definitions.{is_coded}
 use Rattle.dm_dict.specs.Rules.{definition, names, stands_for_any, is_at}
-use Rattle.dm_dict.proofs.Standing.{found, place_of, entry_at_place, counts_at_place}
+use Rattle.dm_dict.proofs.Standing.{found, place_of, entry_at_place, counts_at_place, stands_within, one_within}
 use Rattle.dm_dict.proofs.Linking.{linked_place, own_names}
 use Rattle.dm_dict.proofs.rules.stand.Goals as goal
 
@@ -38,3 +38,14 @@ returns-clause-counts c = λ i e within at.
     counts_at_place rule f (position_from (names f) 0 rule) (position_from stands_for_any 0 rule)
     c.requires.rule.apart
     (own_names c.args.tables.now.avps.items c.args.avp.code c.args.avp.vendor c.requires.fit) refl refl i e within at
+
+pub returns-clause-within : goal.returns-clause-within
+returns-clause-within c =
+    rw c.requires.def (stands_within (is_coded c.args.avp.code c.args.avp.vendor) c.args.tables.now.avps.items)
+
+pub returns-clause-inside : goal.returns-clause-inside
+returns-clause-inside c =
+    let rule = c.args.rule.entries.now in
+    let f = definition c.args.tables.now.avps.items (avp_of c.args.avp) in
+    rw (place_is c) (one_within (position_from (names f) 0 rule) (position_from stands_for_any 0 rule) (length rule)
+    (stands_within (names f) rule) (stands_within stands_for_any rule))
