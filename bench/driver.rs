@@ -23,7 +23,15 @@ extern "C" {
     fn ours_encode(octets: *const u8, len: usize, times: u32) -> usize;
     fn ours_frame(octets: *const u8, len: usize, size: usize, times: u32) -> usize;
     #[cfg(on)]
-    fn ours_on(first: *const u8, len: usize, octets: *const u8, octets_len: usize, times: u32) -> usize;
+    fn ours_on(
+        first: *const u8,
+        len: usize,
+        octets: *const u8,
+        octets_len: usize,
+        submits: bool,
+        ticks: u32,
+        times: u32,
+    ) -> usize;
     #[cfg(session)]
     fn ours_hand(first: *const u8, len: usize, octets: *const u8, octets_len: usize, size: usize, times: u32) -> usize;
     #[cfg(session)]
@@ -222,9 +230,14 @@ fn ours(operation: &str, text: &str, octets: &[u8], times: u32, size: usize) -> 
             "encode" => ours_encode(at, len, times),
             "frame" => ours_frame(at, len, size, times),
             #[cfg(on)]
-            "on" => {
+            "on" | "submit" | "tick" | "ticks" => {
                 let first = capabilities(1);
-                ours_on(first.as_ptr(), first.len(), at, len, times)
+                let ticks = match operation {
+                    "tick" => 1,
+                    "ticks" => 2,
+                    _ => 0,
+                };
+                ours_on(first.as_ptr(), first.len(), at, len, operation == "submit", ticks, times)
             }
             #[cfg(session)]
             "hand" => {
