@@ -33,7 +33,7 @@ pub record Heard : Type 0 where
 
 -- what the code's parts of a message, which lie in its octets, stand for
 abbrev pub heard_of : HeardRef → Heard
-heard_of r = record { header = r.header; word = r.word; failure = shown r.judged }
+heard_of r = record { header = r.header.now; word = r.word; failure = shown r.judged }
 
 abbrev pub good : Header → Word → Heard
 good h word = record { header = h; word = word; failure = None }

@@ -1,5 +1,5 @@
 //! What commands ask for: the octets of the messages that a peer sends (RFC 6733, 5.3 to 5.6).
-ghost use Rattle.std.specs.Prelude.{◌≡◌, ◌≤◌, ◌+◌, ◌++◌, IfOk, OnOk, OnErr, IsTrue, Some, length};
+ghost use Rattle.std.specs.Prelude.{◌≡◌, ◌<◌, ◌≤◌, ◌+◌, ◌++◌, ◌∷◌, [], IfOk, OnOk, OnErr, IsTrue, Some, length};
 ghost use Rattle.std.specs.List.{list_any};
 ghost use Rattle.arrayvec.specs.ArrayVec.{array_vec_len};
 ghost use Rattle.dm_dict.specs.Judgement.{shown};
@@ -17,9 +17,7 @@ ghost use Rattle.dm_peer.specs.Sent.{
 };
 
 use crate::reading::HeardRef;
-use crate::sending::{
-    Sending, refusal, send_cea, send_cer, send_dpr, send_dwr, send_success, sent,
-};
+use crate::sending::{refusal, send, send_cea, send_cer, send_dpr, send_dwr, send_success};
 use crate::{Action, Actions, Event, Peer};
 use dm_base::{Cause, Node};
 use dm_dict::{Failed, Judged, NoMemory, Verdict};
@@ -33,7 +31,7 @@ fn header_of(heard: Option<&HeardRef<'_>>) -> Header
     ensures { result ≡ header_of (heard_by heard.entry) }
 {
     match heard {
-        Some(heard) => heard.header,
+        Some(heard) => *heard.header,
         None => Header {
             request: false,
             proxiable: false,
@@ -65,18 +63,24 @@ fn fault_in<'a>(heard: Option<&HeardRef<'a>>) -> Judged<'a>
 }
 
 /// The answer that refuses what was heard is to be sent.
-fn send_refusal(alloc: Global, conn: Conn, node: &Node, heard: Option<&HeardRef<'_>>) -> Sending
-    ensures { IfOk result (λ action. action
-        ≡ sent conn (refusal node.now (header_of (heard_by heard.entry))
-        (fault_in (heard_by heard.entry)))) }
+#[inline(never)]
+fn send_refusal(
+    alloc: Global,
+    conn: Conn,
+    node: &Node,
+    heard: Option<&HeardRef<'_>>,
+    actions: &mut Actions,
+) -> Result<(), NoMemory>
+    requires { array_vec_len actions.old < 4 }
+    ensures { OnOk result (actions.new.items ≡ actions.old.items
+        ++ sent conn (refusal node.now (header_of (heard_by heard.entry)) (fault_in (heard_by heard.entry))) ∷ []) }
 {
     let to = header_of(heard);
     match fault_in(heard).verdict(alloc)? {
-        Verdict::Bad { code, failed } => sent(
-            alloc,
-            conn,
-            refusal(alloc, node, &to, code, failed.as_ref())?,
-        ),
+        Verdict::Bad { code, failed } => {
+            let message = refusal(alloc, node, &to, code, failed.as_ref())?;
+            send(alloc, conn, message, actions)
+        }
         Verdict::Good => unreachable!(),
     }
 }
@@ -112,16 +116,19 @@ fn cause_in(event: Event<'_>) -> Cause
     }
 }
 
-/// What a command asks for; or want of memory, which only what is sent or handed up takes.
-fn action_of(
+/// Appends what a command asks for; or want of memory, which only what is sent or handed up takes.
+#[inline(always)]
+fn put_action(
     alloc: Global,
     peer: &Peer,
     event: Event<'_>,
     heard: Option<&HeardRef<'_>>,
     command: Command,
-) -> Sending
-    ensures found { IfOk result (λ action. action
-        ≡ action_of peer.now (event_told event.entry) (heard_by heard.entry) command) }
+    actions: &mut Actions,
+) -> Result<(), NoMemory>
+    requires { array_vec_len actions.old < 4 }
+    ensures found { OnOk result (actions.new.items ≡ actions.old.items
+        ++ action_of peer.now (event_told event.entry) (heard_by heard.entry) command ∷ []) }
     ensures memory { OnErr result (IsTrue (takes_memory
         (action_of peer.now (event_told event.entry) (heard_by heard.entry) command))) }
 {
@@ -129,21 +136,23 @@ fn action_of(
     let standing = peer.standing.get();
     let next = standing.next;
     match command {
-        Command::Connect(conn) => Ok(Action::Connect(conn)),
-        Command::Close(conn) => Ok(Action::Close(conn)),
-        Command::SendCer(conn) => send_cer(alloc, conn, node, next),
-        Command::SendDwr(conn) => send_dwr(alloc, conn, node, next),
-        Command::SendDpr(conn) => send_dpr(alloc, conn, node, next, cause_in(event)),
+        Command::Connect(conn) => actions.push(Action::Connect(conn)),
+        Command::Close(conn) => actions.push(Action::Close(conn)),
+        Command::SendCer(conn) => send_cer(alloc, conn, node, next, actions)?,
+        Command::SendDwr(conn) => send_dwr(alloc, conn, node, next, actions)?,
+        Command::SendDpr(conn) => send_dpr(alloc, conn, node, next, cause_in(event), actions)?,
         Command::SendCea(conn) => {
-            send_cea(alloc, conn, node, &cer_answered(standing.waiting, heard))
+            let to = cer_answered(standing.waiting, heard);
+            send_cea(alloc, conn, node, &to, actions)?
         }
         Command::SendDwa(conn) | Command::SendDpa(conn) => {
-            send_success(alloc, conn, node, &header_of(heard))
+            send_success(alloc, conn, node, &header_of(heard), actions)?
         }
-        Command::SendRefusal(conn) => send_refusal(alloc, conn, node, heard),
-        Command::SendSubmit(conn) => Ok(Action::Send(conn, copied(alloc, event)?)),
-        Command::Up => Ok(Action::Up(copied(alloc, event)?)),
+        Command::SendRefusal(conn) => send_refusal(alloc, conn, node, heard, actions)?,
+        Command::SendSubmit(conn) => actions.push(Action::Send(conn, copied(alloc, event)?)),
+        Command::Up => actions.push(Action::Up(copied(alloc, event)?)),
     }
+    Ok(())
 }
 
 /// Appends what the commands ask for, in order; or want of memory, which only what is sent or handed up takes.
@@ -163,7 +172,7 @@ pub(crate) fn put_actions(
 {
     let mut left = commands;
     while let [command, rest @ ..] = left {
-        actions.push(action_of(alloc, peer, event, heard, *command)?);
+        put_action(alloc, peer, event, heard, *command, actions)?;
         left = rest;
     }
     Ok(())

@@ -1,42 +1,55 @@
 //! What every event keeps of a peer, and what it sends: spellings, and to a stranger no more than an answer.
-ghost use Rattle.std.specs.Prelude.{◌≡◌, ℕ, IfErr, OnOk, List, [], All};
+ghost use Rattle.std.specs.Prelude.{◌≡◌, ℕ, IfErr, OnOk, OnErr, List, [], All};
 ghost use Rattle.dm_machine.specs.declared.connection.Conn.{Conn};
 ghost use Rattle.dm_peer.specs.Acts.{Moved, acts, standing_at, IsRefused};
 ghost use Rattle.dm_peer.specs.Events.{Arrived, event_told};
-ghost use Rattle.dm_peer.specs.Kept.{IsKept};
 ghost use Rattle.dm_peer.specs.Spelled.{SendsSpelling};
 ghost use Rattle.dm_peer.specs.Strangers.{AreStrange, TurnsAway};
 
 use crate::events::brings_octets;
 use crate::laws::{each_event_keeps_settled, each_send_is_spelled, strangers_change_nothing};
-use crate::standing::Standing;
+use crate::standing::{Kept, Standing};
 use crate::steps::answer;
 use crate::{Actions, Event, Peer, PeerFault};
 use std::alloc::Global;
 
+/// The standing that an event leaves with these actions, as every peer has it.
+#[inline(always)]
+pub(crate) fn kept_after(
+    peer: &Peer,
+    event: Event<'_>,
+    actions: &Actions,
+    standing: Standing,
+) -> Kept
+    requires { acts peer.now (event_told event) ≡ Moved actions.now.items (standing_at peer.now standing) }
+    ensures { result ≡ standing }
+{
+    each_event_keeps_settled();
+    each_send_is_spelled();
+    brings_octets(event);
+    let _kept = peer.standing.get();
+    Kept::new(standing)
+}
+
 /// What the event comes to at a peer that holds what every peer does.
 pub(crate) fn kept_answer(
     alloc: Global,
-    peer: &Peer,
+    peer: &mut Peer,
     event: Event<'_>,
-    standing: &mut Standing,
     actions: &mut Actions,
 ) -> Result<(), PeerFault>
-    requires stands { standing.old ≡ peer.now.standing }
     requires none { actions.old.items ≡ [] }
-    ensures moved { OnOk result (acts peer.now (event_told event.entry)
-        ≡ Moved actions.new.items (standing_at peer.now standing.new)) }
-    ensures refused { IfErr result (IsRefused (acts peer.now (event_told event.entry))) }
-    ensures kept { OnOk result (IsKept (standing_at peer.now standing.new)) }
+    ensures moved { OnOk result (acts peer.old (event_told event.entry) ≡ Moved actions.new.items peer.new) }
+    ensures refused { IfErr result (IsRefused (acts peer.old (event_told event.entry))) }
+    ensures unchanged { OnErr result (peer.new ≡ peer.old) }
     ensures spelled { OnOk result (All SendsSpelling actions.new.items) }
     ensures stranger { (conn : Conn) (octets : List ℕ) → event_told event.entry ≡ Arrived conn octets
-        → AreStrange peer.now conn octets
-        → OnOk result (TurnsAway conn actions.new.items × (standing_at peer.now standing.new ≡ peer.now)) }
+        → AreStrange peer.old conn octets
+        → OnOk result (TurnsAway conn actions.new.items × (peer.new ≡ peer.old)) }
 {
-    each_event_keeps_settled();
     each_send_is_spelled();
     strangers_change_nothing();
     brings_octets(event);
     let _kept = peer.standing.get();
-    answer(alloc, peer, event, standing, actions)
+    answer(alloc, peer, event, actions)
 }

@@ -11,6 +11,7 @@ mod events;
 mod fault;
 mod keeping;
 pub mod laws;
+mod leaving;
 mod message;
 mod peer;
 mod reading;

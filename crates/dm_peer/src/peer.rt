@@ -82,10 +82,8 @@ impl Peer {
         silent_takes_none();
         refusals_go_by_rule();
         let _shaped = self.state();
-        let mut standing = *self.standing.get();
         let mut actions = ArrayVec::new();
-        kept_answer(alloc, self, event, &mut standing, &mut actions)?;
-        self.standing = Kept::new(standing);
+        kept_answer(alloc, self, event, &mut actions)?;
         Ok(actions)
     }
 

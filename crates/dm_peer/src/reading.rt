@@ -33,7 +33,7 @@ use dm_wire::{Header, MessageRef};
 /// (RFC 6733, 7.1 and 7.5).
 #[derive(Clone, Copy, Debug)]
 pub(crate) struct HeardRef<'a> {
-    pub(crate) header: Header,
+    pub(crate) header: &'a Header,
     pub(crate) word: Word,
     pub(crate) judged: Judged<'a>,
 }
@@ -69,8 +69,9 @@ fn refusal_of_caps(config: &Config, caps: &CapsRef<'_>) -> Option<u32>
 }
 
 /// A message that isn't refused.
-fn good<'a>(header: Header, word: Word) -> HeardRef<'a>
-    ensures { heard_of result ≡ good header word }
+#[inline(always)]
+fn good<'a>(header: &'a Header, word: Word) -> HeardRef<'a>
+    ensures { heard_of result ≡ good header.now word }
 {
     HeardRef {
         header,
@@ -80,9 +81,11 @@ fn good<'a>(header: Header, word: Word) -> HeardRef<'a>
 }
 
 /// A CER that passes its check.
-fn heard_caps<'a>(config: &Config, header: Header, caps: &CapsRef<'_>) -> HeardRef<'a>
+// (It is rare, and in a function of its own in the machine's code too.)
+#[inline(never)]
+fn heard_caps<'a>(config: &Config, header: &'a Header, caps: &CapsRef<'_>) -> HeardRef<'a>
     ensures { (theirs : Caps) → ShowsCaps caps.now theirs
-        → heard_of result ≡ heard_caps header (refusal_of_caps config.now theirs) }
+        → heard_of result ≡ heard_caps header.now (refusal_of_caps config.now theirs) }
 {
     match refusal_of_caps(config, caps) {
         None => good(header, Word::Cer),
@@ -127,6 +130,7 @@ fn is_other_sender(config: &Config, message: &MessageRef<'_>) -> bool
 }
 
 /// The word of a CEA of this Result-Code.
+#[inline(never)]
 fn word_of_cea(config: &Config, message: &MessageRef<'_>, code: u32) -> Word
     ensures { (l : List Avp) → SpellsList l message.now.rest.now
         → result ≡ word_of_cea config.now (record { header = message.now.header; avps = l }) code }
@@ -139,14 +143,15 @@ fn word_of_cea(config: &Config, message: &MessageRef<'_>, code: u32) -> Word
 }
 
 /// A message of this kind.
-fn said_by_kind<'a>(config: &Config, message: &MessageRef<'_>, kind: &KindRef<'_>) -> HeardRef<'a>
-    ensures { (l : List Avp) → SpellsList l message.now.rest.now → (k : Kind) → ShowsKind kind.now k
+#[inline(always)]
+fn said_by_kind<'a>(config: &Config, message: &'a MessageRef<'_>, kind: KindRef<'_>) -> HeardRef<'a>
+    ensures { (l : List Avp) → SpellsList l message.now.rest.now → (k : Kind) → ShowsKind kind.entry k
         → heard_of result ≡ said_by_kind config.now (record { header = message.now.header; avps = l }) k }
 {
-    let header = message.header;
+    let header = &message.header;
     match kind {
-        KindRef::Cer(caps) => heard_caps(config, header, caps),
-        KindRef::Cea(code) => good(header, word_of_cea(config, message, *code)),
+        KindRef::Cer(caps) => heard_caps(config, header, &caps),
+        KindRef::Cea(code) => good(header, word_of_cea(config, message, code)),
         KindRef::Dwr => good(header, Word::Dwr),
         KindRef::Dwa => good(header, Word::Dwa),
         KindRef::Dpr(_) => good(header, Word::Dpr),
@@ -157,14 +162,15 @@ fn said_by_kind<'a>(config: &Config, message: &MessageRef<'_>, kind: &KindRef<'_
 
 /// What the message says to a peer of this configuration. It never answers want of memory.
 #[tactic(auto, unfolding(crate::specs::Said::kind_under))]
-pub(crate) fn hear<'a>(config: &Config, message: &MessageRef<'a>) -> HeardRef<'a>
+#[inline(always)]
+pub(crate) fn hear<'a>(config: &Config, message: &'a MessageRef<'a>) -> HeardRef<'a>
     ensures { (l : List Avp) → SpellsList l message.now.rest.now
         → heard_of result ≡ heard_in config.now (record { header = message.now.header; avps = l }) }
 {
     match view(config.dictionary.get(), message) {
-        Ok(kind) => said_by_kind(config, message, &kind),
+        Ok(kind) => said_by_kind(config, message, kind),
         Err(judged) => HeardRef {
-            header: message.header,
+            header: &message.header,
             word: word_of_bad(&message.header),
             judged,
         },

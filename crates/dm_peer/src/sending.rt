@@ -1,12 +1,14 @@
 //! The messages that a peer sends, as octets (RFC 6733, 5.3 to 5.6).
-ghost use Rattle.std.specs.Prelude.{◌≡◌, IfOk, None};
+ghost use Rattle.std.specs.Prelude.{◌≡◌, ◌<◌, ◌++◌, ◌∷◌, [], IfOk, OnOk, None};
 ghost use Rattle.std.specs.Option.{option_copied};
+ghost use Rattle.arrayvec.specs.ArrayVec.{array_vec_len};
 ghost use Rattle.dm_base.specs.Codes.{success};
 ghost use Rattle.dm_base.specs.Built.{built_cer, built_cea, built_dwr, built_dpr, built_answer};
+ghost use Rattle.dm_peer.specs.Octets.{octets_of};
 ghost use Rattle.dm_peer.specs.Sent.{sent, is_protocol_error, refusal};
 
-use crate::Action;
 use crate::message::sent_octets;
+use crate::{Action, Actions};
 use dm_base::codes::SUCCESS;
 use dm_base::{
     BaseCommand, Cause, Node, cea, cer, dpa, dpr, dwa, dwr, error_answer, success_octets,
@@ -16,54 +18,110 @@ use dm_machine::Conn;
 use dm_wire::{Avp, Header, Message, Octets};
 use std::alloc::Global;
 
-/// An action to send, or want of memory.
-pub(crate) type Sending = Result<Action, NoMemory>;
-
-/// The message is to be sent.
-pub(crate) fn sent(alloc: Global, conn: Conn, message: Message) -> Sending
-    ensures { IfOk result (λ action. action ≡ sent conn message) }
+/// The message is to be sent: the action is appended. Or want of memory.
+pub(crate) fn send(
+    alloc: Global,
+    conn: Conn,
+    message: Message,
+    actions: &mut Actions,
+) -> Result<(), NoMemory>
+    requires { array_vec_len actions.old < 4 }
+    ensures { OnOk result (actions.new.items ≡ actions.old.items ++ sent conn message ∷ []) }
 {
     let octets = sent_octets(alloc, &message)?;
-    Ok(Action::Send(conn, octets))
+    actions.push(Action::Send(conn, octets));
+    Ok(())
 }
 
 /// A CER with the next number is to be sent.
-pub(crate) fn send_cer(alloc: Global, conn: Conn, node: &Node, next: u32) -> Sending
-    ensures { IfOk result (λ action. action ≡ sent conn (built_cer node.now next)) }
+#[inline(never)]
+pub(crate) fn send_cer(
+    alloc: Global,
+    conn: Conn,
+    node: &Node,
+    next: u32,
+    actions: &mut Actions,
+) -> Result<(), NoMemory>
+    requires { array_vec_len actions.old < 4 }
+    ensures { OnOk result (actions.new.items ≡ actions.old.items ++ sent conn (built_cer node.now next) ∷ []) }
 {
-    sent(alloc, conn, cer(alloc, node, next)?)
+    send(alloc, conn, cer(alloc, node, next)?, actions)
 }
 
 /// A DWR with the next number is to be sent.
-pub(crate) fn send_dwr(alloc: Global, conn: Conn, node: &Node, next: u32) -> Sending
-    ensures { IfOk result (λ action. action ≡ sent conn (built_dwr node.now next)) }
+#[inline(never)]
+pub(crate) fn send_dwr(
+    alloc: Global,
+    conn: Conn,
+    node: &Node,
+    next: u32,
+    actions: &mut Actions,
+) -> Result<(), NoMemory>
+    requires { array_vec_len actions.old < 4 }
+    ensures { OnOk result (actions.new.items ≡ actions.old.items ++ sent conn (built_dwr node.now next) ∷ []) }
 {
-    sent(alloc, conn, dwr(alloc, node, next)?)
+    send(alloc, conn, dwr(alloc, node, next)?, actions)
 }
 
 /// A DPR with the next number is to be sent.
-pub(crate) fn send_dpr(alloc: Global, conn: Conn, node: &Node, next: u32, cause: Cause) -> Sending
-    ensures { IfOk result (λ action. action ≡ sent conn (built_dpr node.now next cause)) }
+#[inline(never)]
+pub(crate) fn send_dpr(
+    alloc: Global,
+    conn: Conn,
+    node: &Node,
+    next: u32,
+    cause: Cause,
+    actions: &mut Actions,
+) -> Result<(), NoMemory>
+    requires { array_vec_len actions.old < 4 }
+    ensures { OnOk result (actions.new.items ≡ actions.old.items ++ sent conn (built_dpr node.now next cause) ∷ []) }
 {
-    sent(alloc, conn, dpr(alloc, node, next, cause)?)
+    send(alloc, conn, dpr(alloc, node, next, cause)?, actions)
 }
 
 /// A CEA of success is to be sent.
-pub(crate) fn send_cea(alloc: Global, conn: Conn, node: &Node, to: &Header) -> Sending
-    ensures { IfOk result (λ action. action ≡ sent conn (built_cea node.now to.now success None)) }
+#[inline(never)]
+pub(crate) fn send_cea(
+    alloc: Global,
+    conn: Conn,
+    node: &Node,
+    to: &Header,
+    actions: &mut Actions,
+) -> Result<(), NoMemory>
+    requires { array_vec_len actions.old < 4 }
+    ensures { OnOk result (actions.new.items
+        ≡ actions.old.items ++ sent conn (built_cea node.now to.now success None) ∷ []) }
 {
-    sent(alloc, conn, cea(alloc, node, to, SUCCESS, None)?)
+    send(alloc, conn, cea(alloc, node, to, SUCCESS, None)?, actions)
+}
+
+/// The octets of a DWA or DPA of success.
+#[tactic(auto, unfolding(crate::specs::Octets::octets_of))]
+#[inline(always)]
+fn success_answer(alloc: Global, node: &Node, to: &Header) -> Result<Octets, NoMemory>
+    ensures { IfOk result (λ octets. octets ≡ octets_of (built_answer node.now to.now success None)) }
+{
+    match success_octets(alloc, node, to) {
+        Ok(octets) => Ok(Octets::from_vec(octets)),
+        Err(_) => Err(NoMemory),
+    }
 }
 
 /// A DWA or DPA of success is to be sent.
-#[tactic(auto, unfolding(crate::specs::Octets::octets_of))]
-pub(crate) fn send_success(alloc: Global, conn: Conn, node: &Node, to: &Header) -> Sending
-    ensures { IfOk result (λ action. action ≡ sent conn (built_answer node.now to.now success None)) }
+pub(crate) fn send_success(
+    alloc: Global,
+    conn: Conn,
+    node: &Node,
+    to: &Header,
+    actions: &mut Actions,
+) -> Result<(), NoMemory>
+    requires { array_vec_len actions.old < 4 }
+    ensures { OnOk result (actions.new.items
+        ≡ actions.old.items ++ sent conn (built_answer node.now to.now success None) ∷ []) }
 {
-    match success_octets(alloc, node, to) {
-        Ok(octets) => Ok(Action::Send(conn, Octets::from_vec(octets))),
-        Err(_) => Err(NoMemory),
-    }
+    let answer = success_answer(alloc, node, to)?;
+    actions.push(Action::Send(conn, answer));
+    Ok(())
 }
 
 /// Whether the Result-Code is that of a protocol error (RFC 6733, 7.1.3).

@@ -1,5 +1,5 @@
 //! What an event comes to: the octets that it brings are read, and the state machine takes one step.
-ghost use Rattle.std.specs.Prelude.{◌≡◌, ◌&&◌, IfOk, IfErr, OnOk, List, [], Some, None};
+ghost use Rattle.std.specs.Prelude.{◌≡◌, ◌&&◌, IfOk, IfErr, OnOk, OnErr, List, [], Some};
 ghost use Rattle.dm_wire.specs.declared.avp.Avp.{Avp};
 ghost use Rattle.dm_wire.specs.Spelling.{SpellsList};
 ghost use Rattle.dm_wire.specs.Whole.{message_in};
@@ -14,7 +14,6 @@ ghost use Rattle.dm_peer.specs.Acts.{
   heard_outcome,
   turned,
   input_of,
-  standing_at,
   IsRefused,
   can_submit,
 };
@@ -26,10 +25,10 @@ ghost use Rattle.dm_peer.specs.Lent.{heard_by};
 
 use crate::answer::put_actions;
 use crate::arrivals::{Footing, is_dropped, is_unread, stood_on};
-use crate::commands::{request_in, standing_after, word_heard};
+use crate::commands::{request_in, word_heard};
+use crate::leaving::settle;
 use crate::message::read_message;
 use crate::reading::{HeardRef, hear};
-use crate::standing::Standing;
 use crate::{Actions, Config, Event, Peer, PeerFault};
 use dm_base::is_base_command;
 use dm_machine::laws::each_state_decides;
@@ -85,86 +84,75 @@ fn input_of(event: Event<'_>, heard: Option<&HeardRef<'_>>) -> Input
     }
 }
 
-/// One step at the event, after what was heard.
+/// One step at the event, after what was heard, by which the event goes.
 fn steps(
     alloc: Global,
-    peer: &Peer,
+    peer: &mut Peer,
     event: Event<'_>,
     heard: Option<&HeardRef<'_>>,
-    standing: &mut Standing,
     actions: &mut Actions,
 ) -> Result<(), PeerFault>
-    requires stands { standing.old ≡ peer.now.standing }
+    requires goes { acts peer.old (event_told event) ≡ steps peer.old (event_told event) (heard_by heard) }
     requires none { actions.old.items ≡ [] }
-    ensures moved { OnOk result (steps peer.now (event_told event.entry) (heard_by heard.entry)
-        ≡ Moved actions.new.items (standing_at peer.now standing.new)) }
-    ensures refused { IfErr result (IsRefused
-        (steps peer.now (event_told event.entry) (heard_by heard.entry))) }
+    ensures moved { OnOk result (acts peer.old (event_told event.entry) ≡ Moved actions.new.items peer.new) }
+    ensures refused { IfErr result (IsRefused (acts peer.old (event_told event.entry))) }
+    ensures unchanged { OnErr result (peer.new ≡ peer.old) }
 {
-    let before = peer.standing.get();
-    let (core, commands) = turned(&before.core, input_of(event, heard), &peer.config)?;
+    let input = input_of(event, heard);
+    let (core, commands) = turned(&peer.standing.get().core, input, &peer.config)?;
     put_actions(alloc, peer, event, heard, commands.as_slice(), actions)?;
     let sent = request_in(commands.as_slice());
-    *standing = standing_after(before, heard, sent, core);
+    settle(peer, event, heard, sent, core, actions);
     Ok(())
 }
 
 /// A message that came on the connection.
 fn heard(
     alloc: Global,
-    peer: &Peer,
+    peer: &mut Peer,
     event: Event<'_>,
     conn: Conn,
     footing: Footing,
     message: &MessageRef<'_>,
-    standing: &mut Standing,
     actions: &mut Actions,
 ) -> Result<(), PeerFault>
-    requires footing { footing ≡ footing_of (hold_of peer.now.standing.core conn) }
-    requires stands { standing.old ≡ peer.now.standing }
+    requires footing { footing ≡ footing_of (hold_of peer.old.standing.core conn) }
+    requires goes { (l : List Avp) × SpellsList l message.now.rest.now × (acts peer.old (event_told event)
+        ≡ heard_outcome peer.old (event_told event) conn (Some (record { header = message.now.header; avps = l }))) }
     requires none { actions.old.items ≡ [] }
-    ensures moved { (l : List Avp) → SpellsList l message.now.rest.now
-        → OnOk result (
-        heard_outcome peer.now (event_told event.entry) conn (Some (record { header = message.now.header; avps = l }))
-        ≡ Moved actions.new.items (standing_at peer.now standing.new)) }
-    ensures refused { (l : List Avp) → SpellsList l message.now.rest.now
-        → IfErr result (IsRefused
-        (heard_outcome peer.now (event_told event.entry) conn
-        (Some (record { header = message.now.header; avps = l })))) }
+    ensures moved { OnOk result (acts peer.old (event_told event.entry) ≡ Moved actions.new.items peer.new) }
+    ensures refused { IfErr result (IsRefused (acts peer.old (event_told event.entry))) }
+    ensures unchanged { OnErr result (peer.new ≡ peer.old) }
 {
-    if is_dropped(&standing.awaited, footing, &message.header) {
+    if is_dropped(&peer.standing.get().awaited, footing, &message.header) {
         return Ok(());
     }
     let heard = hear(&peer.config, message);
-    steps(alloc, peer, event, Some(&heard), standing, actions)
+    steps(alloc, peer, event, Some(&heard), actions)
 }
 
 /// Octets that came on the connection.
 fn arrived(
     alloc: Global,
-    peer: &Peer,
+    peer: &mut Peer,
     conn: Conn,
     octets: &[u8],
-    standing: &mut Standing,
     actions: &mut Actions,
 ) -> Result<(), PeerFault>
-    requires stands { standing.old ≡ peer.now.standing }
     requires none { actions.old.items ≡ [] }
-    ensures moved { OnOk result (acts peer.now (Arrived conn octets.now)
-        ≡ Moved actions.new.items (standing_at peer.now standing.new)) }
-    ensures refused { IfErr result (IsRefused (acts peer.now (Arrived conn octets.now))) }
+    ensures moved { OnOk result (acts peer.old (Arrived conn octets.now) ≡ Moved actions.new.items peer.new) }
+    ensures refused { IfErr result (IsRefused (acts peer.old (Arrived conn octets.now))) }
+    ensures unchanged { OnErr result (peer.new ≡ peer.old) }
 {
     let event = Event::Arrived(conn, octets);
     let core = &peer.standing.get().core;
     let footing = stood_on(core, conn);
     if is_unread(core.state(), footing) {
-        return steps(alloc, peer, event, None, standing, actions);
+        return steps(alloc, peer, event, None, actions);
     }
     match read_message(octets) {
-        Some(message) => heard(
-            alloc, peer, event, conn, footing, &message, standing, actions,
-        ),
-        None => steps(alloc, peer, event, None, standing, actions),
+        Some(message) => heard(alloc, peer, event, conn, footing, &message, actions),
+        None => steps(alloc, peer, event, None, actions),
     }
 }
 
@@ -181,16 +169,14 @@ fn can_submit(octets: &[u8]) -> bool
 /// Octets that the user submits.
 fn submitted(
     alloc: Global,
-    peer: &Peer,
+    peer: &mut Peer,
     octets: &[u8],
-    standing: &mut Standing,
     actions: &mut Actions,
 ) -> Result<(), PeerFault>
-    requires stands { standing.old ≡ peer.now.standing }
     requires none { actions.old.items ≡ [] }
-    ensures moved { OnOk result (acts peer.now (Submit octets.now)
-        ≡ Moved actions.new.items (standing_at peer.now standing.new)) }
-    ensures refused { IfErr result (IsRefused (acts peer.now (Submit octets.now))) }
+    ensures moved { OnOk result (acts peer.old (Submit octets.now) ≡ Moved actions.new.items peer.new) }
+    ensures refused { IfErr result (IsRefused (acts peer.old (Submit octets.now))) }
+    ensures unchanged { OnErr result (peer.new ≡ peer.old) }
 {
     if !peer.is_open() {
         return Err(PeerFault::NotOpen);
@@ -198,27 +184,25 @@ fn submitted(
     if !can_submit(octets) {
         return Err(PeerFault::BadSubmit);
     }
-    steps(alloc, peer, Event::Submit(octets), None, standing, actions)
+    steps(alloc, peer, Event::Submit(octets), None, actions)
 }
 
-/// What the event comes to: the standing becomes the next one, and the actions are put in. Behind a refusal neither is
-/// of use.
+/// What the event comes to: the peer becomes the next one, and the actions are put in. Behind a refusal these are of
+/// no use.
 pub(crate) fn answer(
     alloc: Global,
-    peer: &Peer,
+    peer: &mut Peer,
     event: Event<'_>,
-    standing: &mut Standing,
     actions: &mut Actions,
 ) -> Result<(), PeerFault>
-    requires stands { standing.old ≡ peer.now.standing }
     requires none { actions.old.items ≡ [] }
-    ensures moved { OnOk result (acts peer.now (event_told event.entry)
-        ≡ Moved actions.new.items (standing_at peer.now standing.new)) }
-    ensures refused { IfErr result (IsRefused (acts peer.now (event_told event.entry))) }
+    ensures moved { OnOk result (acts peer.old (event_told event.entry) ≡ Moved actions.new.items peer.new) }
+    ensures refused { IfErr result (IsRefused (acts peer.old (event_told event.entry))) }
+    ensures unchanged { OnErr result (peer.new ≡ peer.old) }
 {
     match event {
-        Event::Arrived(conn, octets) => arrived(alloc, peer, conn, octets, standing, actions),
-        Event::Submit(octets) => submitted(alloc, peer, octets, standing, actions),
-        other => steps(alloc, peer, other, None, standing, actions),
+        Event::Arrived(conn, octets) => arrived(alloc, peer, conn, octets, actions),
+        Event::Submit(octets) => submitted(alloc, peer, octets, actions),
+        other => steps(alloc, peer, other, None, actions),
     }
 }

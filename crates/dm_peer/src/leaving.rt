@@ -1,0 +1,188 @@
+//! Where a step leaves a peer: its numbers, and what it waits for.
+ghost use Rattle.std.specs.Prelude.{◌≡◌, Option};
+ghost use Rattle.dm_machine.specs.Awaiting.{awaits_cea, awaits_dwa, awaits_dpa, holds_cer, number_after, waiting_after};
+ghost use Rattle.dm_peer.specs.Acts.{Moved, acts, standing_at};
+ghost use Rattle.dm_peer.specs.After.{next_after, is_cer, is_dwr, is_dpr, dwa_left, standing_after};
+ghost use Rattle.dm_peer.specs.Events.{event_told};
+ghost use Rattle.dm_peer.specs.Lent.{heard_by};
+ghost use Rattle.dm_peer.specs.Said.{Heard, word_heard};
+
+use crate::commands::{Request, header_heard, is_open, word_heard};
+use crate::keeping::kept_after;
+use crate::reading::HeardRef;
+use crate::standing::{Awaited, Standing};
+use crate::{Actions, Event, Peer};
+use dm_machine::{Core, State, Word};
+use dm_wire::Header;
+
+/// The next number after a request or none.
+fn next_after(sent: Option<Request>, next: u32) -> u32
+    ensures { result ≡ next_after sent next }
+{
+    match sent {
+        Some(_) => next.wrapping_add(1),
+        None => next,
+    }
+}
+
+/// The number that awaits an answer: a new one where the request is sent, none where no answer is awaited.
+fn number_after(awaits: bool, sends: bool, next: u32, old: Option<u32>) -> Option<u32>
+    ensures { result ≡ number_after awaits sends next old }
+{
+    if !awaits {
+        return None;
+    }
+    if sends { Some(next) } else { old }
+}
+
+fn cea_after(sent: Option<Request>, state: State, standing: &Standing) -> Option<u32>
+    ensures { result ≡ number_after (awaits_cea state) (is_cer sent) standing.now.next standing.now.awaited.cea }
+{
+    let awaits = match state {
+        State::WaitICea | State::WaitReturns => true,
+        _ => false,
+    };
+    let sends = match sent {
+        Some(Request::Cer) => true,
+        _ => false,
+    };
+    number_after(awaits, sends, standing.next, standing.awaited.cea)
+}
+
+/// The DWR's number, which a good DWA in an open state takes away.
+fn dwa_left(before: State, word: Word, old: Option<u32>) -> Option<u32>
+    ensures { (h : Option Heard) → word_heard h ≡ word → result ≡ dwa_left before h old }
+{
+    match word {
+        Word::Dwa => if is_open(before) { None } else { old },
+        _ => old,
+    }
+}
+
+/// Whether the request is a DWR.
+fn is_dwr(sent: Option<Request>) -> bool
+    ensures { result ≡ is_dwr sent }
+{
+    match sent {
+        Some(Request::Dwr) => true,
+        _ => false,
+    }
+}
+
+fn dwa_after(sent: Option<Request>, state: State, next: u32, left: Option<u32>) -> Option<u32>
+    ensures { result ≡ number_after (awaits_dwa state) (is_dwr sent) next left }
+{
+    let awaits = match state {
+        State::ROpen | State::IOpen | State::Closing => true,
+        _ => false,
+    };
+    number_after(awaits, is_dwr(sent), next, left)
+}
+
+fn dpa_after(sent: Option<Request>, state: State, standing: &Standing) -> Option<u32>
+    ensures { result ≡ number_after (awaits_dpa state) (is_dpr sent) standing.now.next standing.now.awaited.dpa }
+{
+    let awaits = match state {
+        State::Closing => true,
+        _ => false,
+    };
+    let sends = match sent {
+        Some(Request::Dpr) => true,
+        _ => false,
+    };
+    number_after(awaits, sends, standing.next, standing.awaited.dpa)
+}
+
+/// Whether a CER waits for its CEA in the state.
+fn holds_cer(state: State) -> bool
+    ensures { result ≡ holds_cer state }
+{
+    match state {
+        State::WaitConnAckElect | State::WaitReturns => true,
+        _ => false,
+    }
+}
+
+/// The header that waits: kept on entering the states in which it does, and while they last.
+fn waiting_after(
+    before: State,
+    heard: Option<Header>,
+    after: State,
+    old: Option<Header>,
+) -> Option<Header>
+    ensures { result ≡ waiting_after before heard after old }
+{
+    if !holds_cer(after) {
+        return None;
+    }
+    if holds_cer(before) { old } else { heard }
+}
+
+/// Where the peer stands after a step that sends this request or none, and leads to this core.
+#[inline(never)]
+fn standing_anywhere(
+    standing: &Standing,
+    heard: Option<&HeardRef<'_>>,
+    sent: Option<Request>,
+    core: Core,
+) -> Standing
+    ensures { result ≡ standing_after standing.now (heard_by heard.entry) sent core }
+{
+    let (before, after) = (standing.core.state(), core.state());
+    let left = dwa_left(before, word_heard(heard), standing.awaited.dwa);
+    Standing {
+        core,
+        next: next_after(sent, standing.next),
+        waiting: waiting_after(before, header_heard(heard), after, standing.waiting),
+        awaited: Awaited {
+            cea: cea_after(sent, after, standing),
+            dwa: dwa_after(sent, after, standing.next, left),
+            dpa: dpa_after(sent, after, standing),
+        },
+    }
+}
+
+/// Leaves the peer, which was told the event and asks for these actions, where it stands after the step. It most often
+/// leads to an open state, where little is awaited.
+#[inline(always)]
+pub(crate) fn settle(
+    peer: &mut Peer,
+    event: Event<'_>,
+    heard: Option<&HeardRef<'_>>,
+    sent: Option<Request>,
+    core: Core,
+    actions: &Actions,
+)
+    requires { acts peer.old (event_told event) ≡ Moved actions.now.items
+        (standing_at peer.old (standing_after peer.old.standing (heard_by heard) sent core)) }
+    ensures { peer.new ≡ standing_at peer.old (standing_after peer.old.standing (heard_by heard.entry) sent core) }
+{
+    let standing = peer.standing.get();
+    let after = match core.state() {
+        State::ROpen | State::IOpen => {
+            let left = dwa_left(
+                standing.core.state(),
+                word_heard(heard),
+                standing.awaited.dwa,
+            );
+            Standing {
+                core,
+                next: next_after(sent, standing.next),
+                waiting: None,
+                awaited: Awaited {
+                    cea: None,
+                    dwa: number_after(true, is_dwr(sent), standing.next, left),
+                    dpa: None,
+                },
+            }
+        }
+        _ => {
+            let after = standing_anywhere(standing, heard, sent, core);
+            let kept = kept_after(peer, event, actions, after);
+            peer.standing = kept;
+            return;
+        }
+    };
+    let kept = kept_after(peer, event, actions, after);
+    peer.standing = kept;
+}
