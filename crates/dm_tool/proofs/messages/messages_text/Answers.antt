@@ -1,6 +1,6 @@
 use Rattle.std.proofs.Common.{◌≡◌, ◌&&◌, List, [], ℕ, ap, sym, ◌∙◌, subst, true, false}
 use Rattle.dm_text.specs.Lines.{trimmed, is_skipped, content_lines}
-use Rattle.dm_tool.specs.HexLines.{PrintsLine, PrintsLines}
+use Rattle.dm_tool.specs.HexLines.{PrintsLine}
 use Rattle.dm_tool.specs.Tasks.{answer_of}
 use Rattle.dm_tool.proofs.Shown.{content-line, prints-next, prints-none, prints-all}
 use Rattle.dm_tool.proofs.messages.messages_text.Goals as goal

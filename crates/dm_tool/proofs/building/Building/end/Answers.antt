@@ -1,4 +1,3 @@
-use Rattle.std.proofs.Common.{ap, ◌∙◌}
 use Rattle.dm_tool.proofs.Buildings.{stands-end}
 use Rattle.dm_tool.proofs.building.Building.end.Goals as goal
 
