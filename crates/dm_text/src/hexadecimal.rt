@@ -1,6 +1,6 @@
 //! Octets in hexadecimal.
 ghost use Rattle.std.specs.Prelude.{◌≡◌, ◌≤◌, ◌+◌, ◌*◌, ◌++◌, true, false, Some, None, length, max, if◌then◌else◌};
-ghost use Rattle.std.specs.Prelude.{OnOk, IfOk, IfSome};
+ghost use Rattle.std.specs.Prelude.{◌^◌, OnOk, IfOk, IfSome, IfNone};
 ghost use Rattle.std.specs.Fmt.{WritesOnOk};
 ghost use Rattle.std.specs.Option.{option_map};
 ghost use Rattle.hex.specs.Hex.{encode_lower};
@@ -179,7 +179,8 @@ pub fn push_hexadecimal(text: &mut Vec<u8>, octets: &[u8]) -> Result<(), AllocEr
 
 /// Where the digits of so many octets end; None where no number has that many.
 fn digits_end(start: usize, octets: usize) -> Option<usize>
-    ensures { IfSome result (λ end. end ≡ start + 2 * octets) }
+    ensures end { IfSome result (λ end. end ≡ start + 2 * octets) }
+    ensures none { IfNone result (2 ^ 64 ≤ start + 2 * octets) }
 {
     octets.checked_mul(2)?.checked_add(start)
 }
