@@ -144,10 +144,10 @@ def is_there(name, words, paths):
 
 
 def names_that_are_gone(top):
-    """Names in a page's code spans that the repository hasn't."""
+    """Names in a page's code spans that the repository hasn't. docs/PERF.md tells what was before, and isn't asked."""
     found, words = [], known_words(top)
     paths = files(top, "README.md", "docs", "crates", "tools", "bench", "live", "dictionaries", ".ci")
-    for path in pages(top):
+    for path in [it for it in pages(top) if it != "docs/PERF.md"]:
         for number, line in enumerate(read(f"{top}/{path}").split("\n"), 1):
             for name in re.findall(r"(?<!`)`([^`]+)`(?!`)", line):
                 name = re.sub(r"\(.*\)$|^&", "", name)
