@@ -1,11 +1,14 @@
+mod Ascii
 pub mod Contents
 pub mod Decoded
 pub mod Digits
 mod Firsts
 pub mod Numerals
+mod Places
 mod Runs
 mod Splats
 pub mod Splits
 pub mod Telling
 pub mod Texts
 pub mod Wordings
+mod Turns

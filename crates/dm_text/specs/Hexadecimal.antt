@@ -22,3 +22,10 @@ line_octets line = word_octets (without_spaces line)
 -- the two digits of an octet, in lower case
 abbrev pub digit_pair : ℕ → List ℕ
 digit_pair octet = slice_index lower_digits (octet / 16) ∷ slice_index lower_digits (octet % 16) ∷ []
+
+-- the digit of an octet's upper half, in lower case, and that of its lower half
+abbrev pub high_digit : ℕ → ℕ
+high_digit octet = slice_index lower_digits (octet / 16)
+
+abbrev pub low_digit : ℕ → ℕ
+low_digit octet = slice_index lower_digits (octet % 16)

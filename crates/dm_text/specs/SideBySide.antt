@@ -1,7 +1,7 @@
 -- Digits that are read side by side.
 use Rattle.std.specs.Prelude.{◌≡◌, ℕ, ◌+◌, ◌*◌, nat_le, map, take, drop, List, [], ◌∷◌, ◌++◌, Result, Ok, Err}
 use Rattle.std.specs.Simd.Lanes.{mask_l}
-use Rattle.hex.specs.Hex.{decode_pairs}
+use Rattle.hex.specs.Hex.{decode_pairs, encode_lower}
 use Rattle.hex.specs.declared.error.FromHexError.{FromHexError}
 
 -- a bit for each value that is no digit's
@@ -22,3 +22,13 @@ read_behind front (Err e) = Err e
 -- so many octets are read, and the digits from there on are left
 abbrev pub ReadUpTo : List ℕ → List ℕ → ℕ → Type 0
 ReadUpTo word octets i = decode_pairs 0 word ≡ read_behind (take i octets) (decode_pairs (2 * i) (drop (2 * i) word))
+
+-- one of the first, one of the second, and so on
+abbrev pub by_turns : List ℕ → List ℕ → List ℕ
+by_turns [] ys = []
+by_turns (x ∷ xs) [] = []
+by_turns (x ∷ xs) (y ∷ ys) = x ∷ y ∷ by_turns xs ys
+
+-- the digits of so many octets are put, and those of the others are left
+abbrev pub PutUpTo : List ℕ → List ℕ → ℕ → Type 0
+PutUpTo octets room i = take (2 * i) room ++ encode_lower (drop i octets) ≡ encode_lower octets

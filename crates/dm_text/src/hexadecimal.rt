@@ -3,13 +3,14 @@ ghost use Rattle.std.specs.Prelude.{◌≡◌, ◌≤◌, ◌+◌, ◌*◌, ◌+
 ghost use Rattle.std.specs.Prelude.{◌^◌, OnOk, IfOk, IfSome, IfNone};
 ghost use Rattle.std.specs.Fmt.{WritesOnOk};
 ghost use Rattle.std.specs.Option.{option_map};
+ghost use Rattle.std.specs.String.{string_bytes};
 ghost use Rattle.hex.specs.Hex.{encode_lower};
 ghost use Rattle.dm_text.specs.Hexadecimal.{without_spaces, word_octets, line_octets};
-ghost use Rattle.dm_text.specs.SideBySide.{ReadUpTo};
+ghost use Rattle.dm_text.specs.SideBySide.{PutUpTo, ReadUpTo};
 ghost use Rattle.dm_text.specs.declared.hexadecimal.TheConstants.{OCTETS_AT_ONCE as octets_at_once};
 
 use crate::digit::{digit_worth, digits_of};
-use crate::lanes::{are_good, joined, worths_of};
+use crate::lanes::{are_good, by_turns, high_digits, joined, low_digits, worths_of};
 use memchr::memchr;
 use std::alloc::{AllocError, Global};
 use std::simd::prelude::*;
@@ -161,7 +162,8 @@ fn write_digits<W: fmt::Write>(f: &mut fmt::Formatter<W>, octets: &[u8]) -> fmt:
     let mut digits = [0; 2 * OCTETS_AT_ONCE];
     let room = &mut digits[..2 * octets.len()];
     put_digits(octets, room);
-    f.write_str(str::from_utf8(room).map_err(|_| fmt::Error)?)
+    // Digits are ASCII.
+    f.write_str(unsafe { str::from_utf8_unchecked(room) })
 }
 
 /// Appends the octets in lower case hexadecimal.
@@ -177,6 +179,31 @@ pub fn push_hexadecimal(text: &mut Vec<u8>, octets: &[u8]) -> Result<(), AllocEr
     Ok(())
 }
 
+/// Appends the octets in lower case hexadecimal to text.
+pub fn put_hexadecimal(text: &mut String, octets: &[u8]) -> Result<(), AllocError>
+    ensures { OnOk result (string_bytes text.new ≡ string_bytes text.old ++ encode_lower octets.now) }
+{
+    let mut rest = octets;
+    while !rest.is_empty() {
+        let (some, left) = rest.split_at(rest.len().min(OCTETS_AT_ONCE));
+        put_some(text, some)?;
+        rest = left;
+    }
+    Ok(())
+}
+
+/// Appends so many octets at most.
+fn put_some(text: &mut String, octets: &[u8]) -> Result<(), AllocError>
+    requires { length octets.now ≤ octets_at_once }
+    ensures { OnOk result (string_bytes text.new ≡ string_bytes text.old ++ encode_lower octets.now) }
+{
+    let mut digits = [0; 2 * OCTETS_AT_ONCE];
+    let room = &mut digits[..2 * octets.len()];
+    put_digits(octets, room);
+    // Digits are ASCII.
+    text.push_str(unsafe { str::from_utf8_unchecked(room) })
+}
+
 /// Where the digits of so many octets end; None where no number has that many.
 fn digits_end(start: usize, octets: usize) -> Option<usize>
     ensures end { IfSome result (λ end. end ≡ start + 2 * octets) }
@@ -190,7 +217,33 @@ fn put_digits(octets: &[u8], room: &mut [u8])
     requires { length room.old ≡ 2 * length octets.now }
     ensures { room.new ≡ encode_lower octets.now }
 {
-    'octets: for i in 0..octets.len() {
+    let runs = octets.len() / 16;
+    put_runs(octets, room, runs);
+    put_few(octets, room, 16 * runs);
+}
+
+/// Puts the digits of so many runs of sixteen octets.
+fn put_runs(octets: &[u8], room: &mut [u8], runs: usize)
+    requires twice { length room.old ≡ 2 * length octets.now }
+    requires within { 16 * runs ≤ length octets.now }
+    ensures { PutUpTo octets.now room.new (16 * runs) }
+{
+    'runs: for k in 0..runs {
+        let run = u8x16::from_slice(&octets[16 * k..]);
+        let (front, back) = by_turns(high_digits(run), low_digits(run));
+        front.copy_to_slice(&mut room[32 * k..]);
+        back.copy_to_slice(&mut room[32 * k + 16..]);
+    }
+}
+
+/// Puts the digits of the octets from here on.
+fn put_few(octets: &[u8], room: &mut [u8], from: usize)
+    requires twice { length room.old ≡ 2 * length octets.now }
+    requires within { from ≤ length octets.now }
+    requires put { PutUpTo octets.now room.old from }
+    ensures { room.new ≡ encode_lower octets.now }
+{
+    'octets: for i in from..octets.len() {
         let [high, low] = digits_of(octets[i]);
         room[2 * i] = high;
         room[2 * i + 1] = low;

@@ -1,7 +1,7 @@
 //! Hexadecimal digits, sixteen at once: each in a lane of its own.
-ghost use Rattle.std.specs.Prelude.{◌≡◌, ◌==◌, map};
-ghost use Rattle.dm_text.specs.Hexadecimal.{digit_worth};
-ghost use Rattle.dm_text.specs.SideBySide.{bad_lanes, paired};
+ghost use Rattle.std.specs.Prelude.{◌≡◌, ◌==◌, ◌++◌, map};
+ghost use Rattle.dm_text.specs.Hexadecimal.{digit_worth, high_digit, low_digit};
+ghost use Rattle.dm_text.specs.SideBySide.{bad_lanes, by_turns, paired};
 
 use std::simd::prelude::*;
 
@@ -37,4 +37,32 @@ pub(crate) fn joined(worths: u8x16) -> u8x8
     let highs: u8x8 = worths.swizzle([0, 2, 4, 6, 8, 10, 12, 14]);
     let lows: u8x8 = worths.swizzle([1, 3, 5, 7, 9, 11, 13, 15]);
     highs * u8x8::splat(16) + lows
+}
+
+/// The digit of each octet's upper half, in lower case.
+#[inline(always)]
+pub(crate) fn high_digits(octets: u8x16) -> u8x16
+    ensures { result ≡ map high_digit octets }
+{
+    let halves = octets >> u8x16::splat(4);
+    let is_number = halves.simd_lt(u8x16::splat(10));
+    halves + is_number.select(u8x16::splat(48), u8x16::splat(87))
+}
+
+/// The digit of each octet's lower half, in lower case.
+#[inline(always)]
+pub(crate) fn low_digits(octets: u8x16) -> u8x16
+    ensures { result ≡ map low_digit octets }
+{
+    let halves = octets & u8x16::splat(15);
+    let is_number = halves.simd_lt(u8x16::splat(10));
+    halves + is_number.select(u8x16::splat(48), u8x16::splat(87))
+}
+
+/// The lanes by turns, one of the first, one of the second: those that come of the first eight of each, and the others.
+#[inline(always)]
+pub(crate) fn by_turns(firsts: u8x16, seconds: u8x16) -> (u8x16, u8x16)
+    ensures { result.0 ++ result.1 ≡ by_turns firsts seconds }
+{
+    firsts.interleave(seconds)
 }

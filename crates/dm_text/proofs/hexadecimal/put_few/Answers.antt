@@ -1,7 +1,7 @@
 use Rattle.std.proofs.Common.{slice_index, ap, arith}
 use Rattle.hex.specs.Hex.{lower_digits}
 use Rattle.hex.proofs.Pairs.{encode_step, encode_done}
-use Rattle.dm_text.proofs.hexadecimal.put_digits.Goals as goal
+use Rattle.dm_text.proofs.hexadecimal.put_few.Goals as goal
 
 pub octets-preserved : goal.octets-preserved
 octets-preserved c =

@@ -1,7 +1,0 @@
-use Rattle.std.proofs.Common.{◌≡◌, ◌*◌, ◌++◌, take, drop}
-use Rattle.hex.specs.Hex.{encode_lower}
-use Rattle.dm_text.proofs.hexadecimal.put_digits.Given as goal
-
--- the digits so far, and then those of the octets that are left
-abbrev pub invariant-octets : goal.invariant-octets
-invariant-octets l = take (2 * l.i) l.room ++ encode_lower (drop l.i l.octets) ≡ encode_lower l.octets
