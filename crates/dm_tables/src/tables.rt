@@ -53,6 +53,16 @@ pub fn member_at<T>(members: &[T], place: Option<usize>) -> Option<&T>
     }
 }
 
+/// The guess at a code's lowest bits, where an AVP of this place has them too: the first one stays, since the AVPs of
+/// most messages are defined first.
+fn first_guess(guess: u16, place: usize) -> u16 {
+    if guess == u16::MAX {
+        u16::try_from(place).unwrap_or(u16::MAX)
+    } else {
+        guess
+    }
+}
+
 impl Tables {
     ghost use Rattle.dm_tables.specs.Tables.{defined, guessed, IsIndexed, IsTables};
     ghost use Rattle.dm_tables.specs.Definitions.{nothing_defined};
@@ -94,7 +104,8 @@ impl Tables {
         let place = self.avps.as_slice().len();
         let code = (avp.code, avp.vendor);
         let noted = note_name(alloc, &mut self.names, avp.name.as_slice(), place);
-        self.guesses[(avp.code % 512) as usize] = u16::try_from(place).unwrap_or(u16::MAX);
+        let bits = (avp.code % 512) as usize;
+        self.guesses[bits] = first_guess(self.guesses[bits], place);
         self.avps.push(avp)?;
         self.codes.insert(code, place)?;
         noted
