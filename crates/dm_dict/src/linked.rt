@@ -52,6 +52,7 @@ fn link_avps(alloc: Global, tables: &Tables, links: &mut Vec<Links>) -> Result<(
     requires { IsTables tables.now }
     ensures { OnOk result (links.new.items ≡ links.old.items ++ avp_links (defined tables.now)) }
 {
+    links.reserve(tables.avps.as_slice().len())?;
     for def in tables.avps.as_slice() {
         links.push(Links::of_rule(alloc, tables, &def.rule)?)?;
     }
@@ -63,6 +64,7 @@ fn link_commands(alloc: Global, tables: &Tables, links: &mut Vec<Links>) -> Resu
     requires { IsTables tables.now }
     ensures { OnOk result (links.new.items ≡ links.old.items ++ command_links (defined tables.now)) }
 {
+    links.reserve(tables.commands.as_slice().len())?;
     for def in tables.commands.as_slice() {
         links.push(Links::of_rule(alloc, tables, &def.rule)?)?;
     }

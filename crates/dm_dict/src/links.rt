@@ -69,6 +69,7 @@ fn places(alloc: Global, links: &[Option<usize>]) -> Result<IndexMap<usize, usiz
         → get_by (nat_eq k) places ≡ position_from (option_eq nat_eq (Some k)) 0 links.now) }
 {
     let mut places = IndexMap::new(alloc);
+    places.reserve(links.len())?;
     for (place, link) in links.iter().enumerate() {
         note_place(&mut places, link, place)?;
     }

@@ -10,7 +10,7 @@ ghost use Rattle.dm_dict_text.specs.Faults.{StopsAtFirst, rule_entry_faults, wit
 use crate::DictFault;
 use crate::bounds::bounds;
 use dm_grammar::{EntryItem, Form};
-use dm_tables::{Entry, Rule};
+use dm_tables::{Entry, NoMemory, Rule};
 use dm_wire::Octets;
 use indexmap::IndexSet;
 use std::alloc::Global;
@@ -93,6 +93,16 @@ impl<'a> Entries<'a> {
         Ok(())
     }
 
+    /// Room for so many entries more.
+    fn reserve(&mut self, count: usize) -> Result<(), NoMemory>
+        ensures entries { self.new.entries.items ≡ self.old.entries.items }
+        ensures noted { IsNoted self.old → IsNoted self.new }
+    {
+        self.entries.reserve(count)?;
+        self.names.reserve(count)?;
+        Ok(())
+    }
+
     /// The entries of the items, in order, where there are none.
     fn add_all(&mut self, alloc: Global, items: &[EntryItem<'a>]) -> Result<(), DictFault>
         requires empty { self.old.entries.items ≡ [] }
@@ -106,6 +116,18 @@ impl<'a> Entries<'a> {
         }
         Ok(())
     }
+
+    /// The same, with room for them.
+    fn fill(&mut self, alloc: Global, items: &[EntryItem<'a>]) -> Result<(), DictFault>
+        requires empty { self.old.entries.items ≡ [] }
+        requires noted { IsNoted self.old }
+        ensures added { OnOk result (self.new.entries.items ≡ fold with_entry [] (map view_entry items.now)) }
+        ensures good { OnOk result (rule_faults (map view_entry items.now) ≡ []) }
+        ensures fault { IfErr result (StopsAtFirst (rule_faults (map view_entry items.now))) }
+    {
+        self.reserve(items.len())?;
+        self.add_all(alloc, items)
+    }
 }
 
 /// The entries of the items.
@@ -115,7 +137,7 @@ fn entries_of(alloc: Global, items: &[EntryItem<'_>]) -> Result<Vec<Entry>, Dict
     ensures fault { IfErr result (StopsAtFirst (rule_faults (map view_entry items.now))) }
 {
     let mut rule = Entries::new(alloc);
-    let done = rule.add_all(alloc, items);
+    let done = rule.fill(alloc, items);
     let Entries { entries, .. } = rule;
     done.and(Ok(entries))
 }

@@ -18,6 +18,20 @@ use dm_tables::Tables;
 use indexmap::IndexSet;
 use std::alloc::Global;
 
+/// How many AVPs and commands the old tables and the items define.
+fn counted(old: &Tables, items: &[Item<'_>]) -> (usize, usize) {
+    let mut avps = old.avps.as_slice().len();
+    let mut commands = old.commands.as_slice().len();
+    for item in items {
+        match item {
+            Item::Vendor(_) => {}
+            Item::Avp(_) | Item::Group(_) => avps = avps.saturating_add(1),
+            Item::Command(_) => commands = commands.saturating_add(1),
+        }
+    }
+    (avps, commands)
+}
+
 /// Adds the definitions of the old tables and those of the items to tables without any; the names of strays
 /// are put into a set without any.
 fn add_items<'a>(
@@ -38,6 +52,8 @@ fn add_items<'a>(
     ensures dictionary { OnOk result (IsDictionary tables.new) }
     ensures fault { IfErr result (StopsAtFirst (all_faults (defined old.now) (map view_item items.now))) }
 {
+    let (avps, commands) = counted(old, items);
+    tables.reserve(avps, commands)?;
     tables.add_all(alloc, old)?;
     define_all(alloc, tables, strays, items)?;
     let vendors = old.vendors.items.as_slice().len();

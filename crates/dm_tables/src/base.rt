@@ -28,7 +28,7 @@ fn entry_of_row(alloc: Global, row: &EntryRow) -> Result<Entry, NoMemory>
 fn rule_of_rows(alloc: Global, rows: &[EntryRow]) -> Result<Rule, NoMemory>
     ensures { IfOk result (λ rule. rule ≡ map row_entry rows.now) }
 {
-    let mut entries = Vec::new(alloc);
+    let mut entries = Vec::with_capacity(alloc, rows.len())?;
     for row in rows {
         entries.push(entry_of_row(alloc, row)?)?;
     }
@@ -120,12 +120,23 @@ fn add_base(alloc: Global, tables: &mut Tables) -> Result<(), NoMemory>
     Ok(())
 }
 
+/// The same, with room for them.
+fn fill_base(alloc: Global, tables: &mut Tables) -> Result<(), NoMemory>
+    requires tables { IsTables tables.old }
+    requires empty { defined tables.old ≡ nothing_defined }
+    ensures base { OnOk result (defined tables.new ≡ base_definitions) }
+    ensures dictionary { OnOk result (IsDictionary tables.new) }
+{
+    tables.reserve(AVPS.len(), COMMANDS.len())?;
+    add_base(alloc, tables)
+}
+
 /// The tables of the base dictionary.
 pub fn base_tables(alloc: Global) -> Result<Tables, NoMemory>
     ensures base { IfOk result (λ tables. defined tables ≡ base_definitions) }
     ensures dictionary { IfOk result IsDictionary }
 {
     let mut tables = Tables::new(alloc);
-    let done = add_base(alloc, &mut tables);
+    let done = fill_base(alloc, &mut tables);
     done.and(Ok(tables))
 }

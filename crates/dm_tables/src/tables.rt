@@ -84,6 +84,20 @@ impl Tables {
         }
     }
 
+    /// Room for so many AVPs and commands more, so that none is moved while they are added.
+    pub fn reserve(&mut self, avps: usize, commands: usize) -> Result<(), NoMemory>
+        ensures same { defined self.new ≡ defined self.old }
+        ensures tables { IsTables self.old → IsTables self.new }
+    {
+        self.avps.reserve(avps)?;
+        self.names.reserve(avps)?;
+        self.codes.reserve(avps)?;
+        self.commands.reserve(commands)?;
+        self.titles.reserve(commands)?;
+        self.heads.reserve(commands)?;
+        Ok(())
+    }
+
     /// One vendor more, behind the others. After want of memory the tables are of no use.
     pub fn add_vendor(&mut self, alloc: Global, vendor: VendorDef) -> Result<(), NoMemory>
         requires tables { IsTables self.old }
