@@ -4,6 +4,7 @@ pub mod Endings
 pub mod Entries
 pub mod EntryWalks
 pub mod Exits
+mod Feeds
 pub mod FirstVersion
 pub mod HeadWalks
 pub mod Heads

@@ -22,6 +22,9 @@ goes_on c = is_ascii_alphanumeric c || nat_eq c 45
 abbrev pub is_space : ℕ → Bool
 is_space c = nat_eq c 32 || nat_eq c 9 || nat_eq c 13
 
+abbrev pub is_line_feed : ℕ → Bool
+is_line_feed c = nat_eq c 10
+
 abbrev pub not_line_end : ℕ → Bool
 not_line_end c = not (nat_eq c 10)
 

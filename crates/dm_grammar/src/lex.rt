@@ -1,14 +1,15 @@
 //! The text's octets to its tokens.
 
-ghost use Rattle.std.specs.Prelude.{◌≡◌, ◌≤◌, ◌<◌, ◌+◌, length, drop, IfSome, IfOk, map};
-ghost use Rattle.std.specs.List.{prefix_len};
-ghost use Rattle.dm_grammar.specs.Symbols.{begins_word, goes_on, is_space, not_line_end};
+ghost use Rattle.std.specs.Prelude.{◌≡◌, ◌≤◌, ◌<◌, ◌+◌, ◌*◌, length, take, drop, IfSome, IfOk, map};
+ghost use Rattle.std.specs.List.{count_by, prefix_len};
+ghost use Rattle.dm_grammar.specs.Symbols.{begins_word, goes_on, is_line_feed, is_space, not_line_end};
 ghost use Rattle.dm_grammar.specs.Tokens.{lexeme_of, last_line, tokens, Sees};
 ghost use Rattle.dm_grammar.specs.Views.{view_word};
 
 use crate::symbol::{Symbol, mark_of, symbol_of_word};
 use crate::token::Token;
 use std::alloc::{AllocError, Global};
+use std::simd::prelude::*;
 
 fn begins_word(octet: u8) -> bool
     ensures { result ≡ begins_word octet }
@@ -119,7 +120,39 @@ pub(crate) fn last_line(text: &[u8]) -> usize
     ensures { result ≡ last_line text.now }
 {
     match text.split_last() {
-        Some((_, front)) => front.iter().filter(|octet| **octet == b'\n').count() + 1,
+        Some((_, front)) => line_feeds(front) + 1,
         None => 1,
     }
+}
+
+/// How many octets are line feeds.
+fn line_feeds(text: &[u8]) -> usize
+    ensures value { result ≡ count_by is_line_feed text.now }
+    ensures within { result ≤ length text.now }
+{
+    let runs = text.len() / 16;
+    line_feeds_in_runs(text, runs) + line_feeds_in_few(&text[16 * runs..])
+}
+
+/// How many of the octets of so many runs of sixteen are line feeds.
+fn line_feeds_in_runs(text: &[u8], runs: usize) -> usize
+    requires { 16 * runs ≤ length text.now }
+    ensures value { result ≡ count_by is_line_feed (take (16 * runs) text.now) }
+    ensures within { result ≤ 16 * runs }
+{
+    let mut count = 0;
+    'runs: for k in 0..runs {
+        let run = u8x16::from_slice(&text[16 * k..]);
+        let feeds = run.simd_eq(u8x16::splat(b'\n')).to_bitmask();
+        count += feeds.count_ones() as usize;
+    }
+    count
+}
+
+/// How many of a few octets are line feeds.
+fn line_feeds_in_few(text: &[u8]) -> usize
+    ensures value { result ≡ count_by is_line_feed text.now }
+    ensures within { result ≤ length text.now }
+{
+    text.iter().filter(|octet| **octet == b'\n').count()
 }
