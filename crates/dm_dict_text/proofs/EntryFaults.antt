@@ -1,5 +1,6 @@
 -- The faults of an entry, and what is known where it has none.
-use Rattle.std.proofs.Common.{◌≡◌, ℕ, Bool, true, false, ◌||◌, nat_eq, List, [], ◌∷◌, map, refl, sym, ap, ◌∙◌, inr}
+use Rattle.std.proofs.Common.{◌≡◌, ℕ, Bool, true, false, ◌||◌, nat_eq, List, [], ◌∷◌, ◌++◌, cond, map, refl, sym, ap, ◌∙◌, inr}
+use Rattle.std.proofs.lemmas.List.{map-append}
 use Rattle.std.specs.List.{list_any}
 use Rattle.std.specs.Cmp.Lexicographic.{pointwise}
 use Rattle.dm_grammar.specs.Items as written
@@ -37,3 +38,13 @@ pub no_entry_fault : (before : List Entry) (e : written.EntryParts) → bound_fa
     → is_repeated before e.name.text ≡ false → is_late before (form_number e.form) ≡ false
     → rule_entry_faults before e ≡ []
 no_entry_fault before e none h g = none_both (bound_faults e) (place_faults before e) none (rw (h, g) refl)
+
+-- one name more is kept, which none of the entries has
+pub more_names : {A : Type 0} (shown : A → List ℕ) (ks new : List A) (es : List Entry) (k : A)
+    → map shown ks ≡ map (λ e. e.name) es → is_repeated es (shown k) ≡ false
+    → new ≡ cond (list_any (λ x. pointwise nat_eq (shown k) (shown x)) ks) ks (ks ++ k ∷ [])
+    → map shown new ≡ map (λ e. e.name) es ++ shown k ∷ []
+more_names shown ks new es k same fresh is =
+    let none = repeated shown ks es (shown k) same ∙ fresh in
+    ap (map shown) (is ∙ ap (λ b. cond b ks (ks ++ k ∷ [])) none) ∙ map-append shown ks (k ∷ [])
+    ∙ ap (λ l. l ++ shown k ∷ []) same

@@ -1,9 +1,8 @@
 //! The rule of an item of a dictionary text (RFC 6733, 3.2).
-ghost use Rattle.std.specs.Prelude.{◌≡◌, [], false, map, fold, nat_eq, OnOk, IfOk, IfErr};
-ghost use Rattle.std.specs.Cmp.Lexicographic.{pointwise};
-ghost use Rattle.indexmap.specs.IndexSet.{contains_by};
+ghost use Rattle.std.specs.Prelude.{◌≡◌, ◌++◌, [], ◌∷◌, true, false, map, fold, OnOk, IfOk, IfErr};
 ghost use Rattle.dm_grammar.specs.Views.{view_entry};
 ghost use Rattle.dm_tables.specs.Forms.{form_number};
+ghost use Rattle.dm_tables.specs.Sound.{is_repeated};
 ghost use Rattle.dm_dict_text.specs.Meaning.{min_of, max_of};
 ghost use Rattle.dm_dict_text.specs.Faults.{StopsAtFirst, rule_entry_faults, with_entry, rule_faults};
 
@@ -26,27 +25,67 @@ fn rank(form: Form) -> u8
     }
 }
 
-/// The entries of a rule so far, their names, and the form that was reached.
+/// The most entries among which a name is looked for one by one.
+const SHORT_RULE: usize = 16;
+
+/// The entries of a rule so far, the names of a long one, and the form that was reached.
 #[derive(Drop)]
 struct Entries<'a> {
     entries: Vec<Entry>,
+    is_long: bool,
     names: IndexSet<&'a [u8]>,
     reached: Form,
+}
+
+/// Whether one of the entries has the name.
+fn is_named_among(entries: &[Entry], name: &[u8]) -> bool
+    ensures { result ≡ is_repeated entries.now name.now }
+{
+    entries.iter().any(|entry| entry.name.as_slice() == name)
 }
 
 impl<'a> Entries<'a> {
     ghost use Rattle.dm_dict_text.specs.Entries.{IsNoted};
 
-    /// No entries. It never answers want of memory.
-    fn new(alloc: Global) -> Entries<'a>
+    /// No entries, of a rule that will have so many. It never answers want of memory.
+    fn new(alloc: Global, count: usize) -> Entries<'a>
         ensures empty { result.entries.items ≡ [] }
         ensures noted { IsNoted result }
     {
         Entries {
             entries: Vec::new(alloc),
+            is_long: count > SHORT_RULE,
             names: IndexSet::new(alloc),
             reached: Form::Fixed,
         }
+    }
+
+    /// Whether an entry has the name.
+    fn has(&self, name: &[u8]) -> bool
+        requires { IsNoted self.now }
+        ensures { result ≡ is_repeated self.now.entries.items name.now }
+    {
+        if self.is_long {
+            self.names.contains(name)
+        } else {
+            is_named_among(self.entries.as_slice(), name)
+        }
+    }
+
+    /// Notes the name of a further entry of a long rule.
+    fn note(&mut self, name: &'a [u8]) -> Result<(), NoMemory>
+        requires noted { IsNoted self.old }
+        requires new { is_repeated self.old.entries.items name.now ≡ false }
+        ensures entries { self.new.entries.items ≡ self.old.entries.items }
+        ensures reached { self.new.reached ≡ self.old.reached }
+        ensures long { self.new.is_long ≡ self.old.is_long }
+        ensures names { OnOk result (self.new.is_long ≡ true → map (λ k. k.now) self.new.names.keys
+            ≡ map (λ e. e.name) self.old.entries.items ++ name.now ∷ []) }
+    {
+        if self.is_long {
+            self.names.insert(name)?;
+        }
+        Ok(())
     }
 
     /// The numbers of an entry that may stand behind the others.
@@ -55,13 +94,12 @@ impl<'a> Entries<'a> {
         ensures min { IfOk result (λ b. b.0 ≡ min_of (view_entry item.now).form (view_entry item.now).qualifier) }
         ensures max { IfOk result (λ b. b.1 ≡ max_of (view_entry item.now).qualifier) }
         ensures good { IfOk result (λ _. rule_entry_faults self.now.entries.items (view_entry item.now) ≡ []) }
-        ensures new { IfOk result (λ _.
-            contains_by (λ k. pointwise nat_eq item.now.name.text.now k.now) self.now.names ≡ false) }
+        ensures new { IfOk result (λ _. is_repeated self.now.entries.items item.now.name.text.now ≡ false) }
         ensures fault { IfErr result (StopsAtFirst (rule_entry_faults self.now.entries.items (view_entry item.now))) }
     {
         let range = bounds(item)?;
         let word = item.name;
-        if self.names.contains(word.text) {
+        if self.has(word.text) {
             return Err(DictFault::Duplicate(word.line));
         }
         if rank(item.form) < rank(self.reached) {
@@ -81,7 +119,7 @@ impl<'a> Entries<'a> {
         let (min, max) = self.check(item)?;
         let form = item.form;
         let word = item.name.text;
-        self.names.insert(word)?;
+        self.note(word)?;
         let name = Octets::from_slice(alloc, word)?;
         self.entries.push(Entry {
             form,
@@ -99,7 +137,9 @@ impl<'a> Entries<'a> {
         ensures noted { IsNoted self.old → IsNoted self.new }
     {
         self.entries.reserve(count)?;
-        self.names.reserve(count)?;
+        if self.is_long {
+            self.names.reserve(count)?;
+        }
         Ok(())
     }
 
@@ -136,7 +176,7 @@ fn entries_of(alloc: Global, items: &[EntryItem<'_>]) -> Result<Vec<Entry>, Dict
     ensures good { IfOk result (λ _. rule_faults (map view_entry items.now) ≡ []) }
     ensures fault { IfErr result (StopsAtFirst (rule_faults (map view_entry items.now))) }
 {
-    let mut rule = Entries::new(alloc);
+    let mut rule = Entries::new(alloc, items.len());
     let done = rule.fill(alloc, items);
     let Entries { entries, .. } = rule;
     done.and(Ok(entries))

@@ -2,27 +2,24 @@ use Rattle.std.proofs.Common.{◌∙◌, sym, nat_lt}
 use Rattle.std.proofs.lemmas.Bool.{lt-ltb, le-ltb}
 use Rattle.dm_grammar.specs.Views.{view_entry}
 use Rattle.dm_tables.specs.Forms.{form_number}
-use Rattle.dm_dict_text.proofs.EntryFaults.{repeated, duplicate_stops, order_stops, no_entry_fault}
+use Rattle.dm_dict_text.proofs.EntryFaults.{duplicate_stops, order_stops, no_entry_fault}
 use Rattle.dm_dict_text.proofs.entries.Entries.check.Goals as goal
 
-pub returns-then-contains-clause-fault : goal.returns-then-contains-clause-fault
-returns-then-contains-clause-fault c =
+pub returns-then-has-clause-fault : goal.returns-then-has-clause-fault
+returns-then-has-clause-fault c =
     duplicate_stops c.args.self.now.entries.items (view_entry c.args.item.now) c.in_ok-range.ensures.good
-    (sym (repeated (λ k. k.now) c.args.self.now.names.keys c.args.self.now.entries.items c.args.item.now.name.text.now
-    c.requires.names) ∙ sym c.contains.ensures ∙ c.if-contains.true)
+    (sym c.has.ensures ∙ c.if-has.true)
 
 pub returns-then-rank-clause-fault : goal.returns-then-rank-clause-fault
 returns-then-rank-clause-fault c =
     order_stops c.args.self.now.entries.items (view_entry c.args.item.now) c.in_ok-range.ensures.good
-    (sym (repeated (λ k. k.now) c.args.self.now.names.keys c.args.self.now.entries.items c.args.item.now.name.text.now
-    c.requires.names) ∙ sym c.contains.ensures ∙ c.if-contains.false)
+    (sym c.has.ensures ∙ c.if-has.false)
     (c.requires.reached (form_number c.args.item.now.form) ∙
     (λ i. nat_lt (sym c.rank.ensures i) (sym c.rank-2.ensures i)) ∙ lt-ltb _ _ c.if-rank.true)
 
 pub returns-clause-good : goal.returns-clause-good
 returns-clause-good c =
     no_entry_fault c.args.self.now.entries.items (view_entry c.args.item.now) c.in_ok-range.ensures.good
-    (sym (repeated (λ k. k.now) c.args.self.now.names.keys c.args.self.now.entries.items c.args.item.now.name.text.now
-    c.requires.names) ∙ sym c.contains.ensures ∙ c.if-contains.false)
+    (sym c.has.ensures ∙ c.if-has.false)
     (c.requires.reached (form_number c.args.item.now.form) ∙
     (λ i. nat_lt (sym c.rank.ensures i) (sym c.rank-2.ensures i)) ∙ le-ltb _ _ c.if-rank.false)
