@@ -1,16 +1,19 @@
 //! The lines of an answer.
-ghost use Rattle.std.specs.Prelude.{◌≡◌, ◌≢◌, ◌++◌, OnOk};
+ghost use Rattle.std.specs.Prelude.{◌≡◌, ◌≢◌, ◌∷◌, ◌++◌, [], OnOk, codes};
+ghost use Rattle.std.specs.Fmt.{decimal};
 ghost use Rattle.std.specs.String.{string_bytes};
+ghost use Rattle.hex.specs.Hex.{encode_lower};
 ghost use Rattle.dm_machine.specs.Printed.{state_text};
 ghost use Rattle.dm_session.specs.Orders.{as_turn};
 ghost use Rattle.dm_live.specs.AnswerLines.{action_line, action_lines, arrival_line, turn_lines, refusal_line};
 ghost use Rattle.dm_live.specs.Served.{fault_answer};
 ghost use Rattle.dm_live.specs.AnswerLines.{held_words, standing_words, state_line};
 
+use crate::line_ends::{end_with_number, end_with_octets};
 use dm_machine::Conn;
 use dm_peer::{Action, Peer, PeerFault};
 use dm_session::Turn;
-use dm_text::Hexadecimal;
+use dm_text::put_decimal;
 use std::alloc::AllocError;
 
 /// Appends the line of an action.
@@ -19,23 +22,29 @@ fn push_action(text: &mut String, action: &Action) -> Result<(), AllocError>
     ensures { OnOk result (string_bytes text.new ≡ string_bytes text.old ++ action_line action.now) }
 {
     match action {
-        Action::Connect(conn) => writeln!(text, "connect {}", conn.0)?,
-        Action::Send(conn, octets) => {
-            writeln!(text, "send {} {}", conn.0, Hexadecimal(octets.as_slice()))?
-        }
-        Action::Close(conn) => writeln!(text, "close {}", conn.0)?,
-        Action::Up(octets) => writeln!(text, "up {}", Hexadecimal(octets.as_slice()))?,
+        Action::Connect(conn) => end_with_number(text, "connect ", conn.0),
+        Action::Send(conn, octets) => push_message(text, *conn, octets.as_slice()),
+        Action::Close(conn) => end_with_number(text, "close ", conn.0),
+        Action::Up(octets) => end_with_octets(text, "up ", octets.as_slice()),
     }
-    Ok(())
+}
+
+/// Appends the line of a message that is sent.
+fn push_message(text: &mut String, conn: Conn, message: &[u8]) -> Result<(), AllocError>
+    ensures { OnOk result (string_bytes text.new ≡ string_bytes text.old
+        ++ codes "send " ++ decimal conn.0 ++ codes " " ++ encode_lower message.now ++ 10 ∷ []) }
+{
+    text.push_str("send ")?;
+    put_decimal(text, conn.0)?;
+    end_with_octets(text, " ", message)
 }
 
 /// Appends the lines of actions, in order.
 pub fn push_actions(text: &mut String, actions: &[Action]) -> Result<(), AllocError>
     ensures { OnOk result (string_bytes text.new ≡ string_bytes text.old ++ action_lines actions.now) }
 {
-    if let [action, rest @ ..] = actions {
+    for action in actions {
         push_action(text, action)?;
-        push_actions(text, rest)?;
     }
     Ok(())
 }
@@ -45,10 +54,10 @@ pub fn push_actions(text: &mut String, actions: &[Action]) -> Result<(), AllocEr
 pub(crate) fn push_arrival(text: &mut String, arrived: Option<Conn>) -> Result<(), AllocError>
     ensures { OnOk result (string_bytes text.new ≡ string_bytes text.old ++ arrival_line arrived) }
 {
-    if let Some(conn) = arrived {
-        writeln!(text, "arrived {}", conn.0)?;
+    match arrived {
+        Some(conn) => end_with_number(text, "arrived ", conn.0),
+        None => Ok(()),
     }
-    Ok(())
 }
 
 /// Appends the lines of a message that was told, or of a fault.
@@ -77,8 +86,11 @@ pub fn push_refusal(text: &mut String, fault: PeerFault) -> Result<(), AllocErro
 pub(crate) fn push_fault(text: &mut String, number: u64, name: &str) -> Result<(), AllocError>
     ensures { OnOk result (string_bytes text.new ≡ string_bytes text.old ++ fault_answer number name.now) }
 {
-    writeln!(text, "fault {} {}", number, name)?;
-    text.push_str(".\n")
+    text.push_str("fault ")?;
+    put_decimal(text, number)?;
+    text.push_str(" ")?;
+    text.push_str(name)?;
+    text.push_str("\n.\n")
 }
 
 /// Appends the connection, where one is held, behind its letter.
@@ -87,7 +99,8 @@ fn push_held(text: &mut String, letter: &str, held: Option<Conn>) -> Result<(), 
     ensures { OnOk result (string_bytes text.new ≡ string_bytes text.old ++ held_words letter.now held) }
 {
     if let Some(conn) = held {
-        write!(text, "{letter}{}", conn.0)?;
+        text.push_str(letter)?;
+        put_decimal(text, conn.0)?;
     }
     Ok(())
 }

@@ -8,6 +8,7 @@ mod draft;
 mod fault;
 mod input;
 pub mod laws;
+mod line_ends;
 mod live;
 mod node_answer;
 mod node_answer_lines;

@@ -11,7 +11,9 @@ ghost use Rattle.dm_live.specs.NodeAnswers.{states_behind};
 ghost use Rattle.dm_live.specs.NodeOrderLines.{node_asked};
 
 use crate::answer_lines::{push_actions, push_arrival, push_refusal, push_standing};
+use crate::line_ends::end_with_number;
 use dm_node_session::{EventFault, Neighbours, NodeActions, NodeOrder, NodeTurn, Peer};
+use dm_text::put_decimal;
 use std::alloc::AllocError;
 
 /// Appends which neighbour an event concerned, where it concerned one.
@@ -19,10 +21,10 @@ use std::alloc::AllocError;
 pub(crate) fn push_neighbour(text: &mut String, index: Option<usize>) -> Result<(), AllocError>
     ensures { OnOk result (string_bytes text.new ≡ string_bytes text.old ++ neighbour_line index) }
 {
-    if let Some(index) = index {
-        writeln!(text, "neighbour {index}")?;
+    match index {
+        Some(index) => end_with_number(text, "neighbour ", index as u64),
+        None => Ok(()),
     }
-    Ok(())
 }
 
 /// Appends the lines of what an event asked for.
@@ -76,7 +78,9 @@ fn push_peer_state(text: &mut String, index: usize, peer: &Peer) -> Result<(), A
     ensures { OnOk result (string_bytes text.new
         ≡ string_bytes text.old ++ neighbour_state_line index (Some peer.now)) }
 {
-    write!(text, "state {index} ")?;
+    text.push_str("state ")?;
+    put_decimal(text, index as u64)?;
+    text.push_str(" ")?;
     push_standing(text, peer)
 }
 

@@ -11,10 +11,11 @@ ghost use Rattle.dm_live.specs.SenderLines.{IsSender, octets_line, number_line, 
 ghost use Rattle.dm_live.specs.SenderLines.{name_lines, version_lines, ability_lines};
 ghost use Rattle.dm_live.specs.SenderLines.{exchange_lines, anew_line, sender_lines};
 
-use crate::order_words::word_alone;
+use crate::line_ends::{end_with_number, end_with_octets};
+use crate::order_words::is_nothing;
 use dm_base::SenderRef;
 use dm_session::Acquaintance;
-use dm_text::{Hexadecimal, Words};
+use dm_text::Words;
 use std::alloc::{AllocError, Global};
 
 /// Whether the line asks who the other side is.
@@ -23,8 +24,8 @@ pub(crate) fn is_sender(line: &[u8]) -> bool
     ensures none { result ≡ false → IsSender line.now → ⊥ }
 {
     let mut left = Words::new(line);
-    match word_alone(&mut left) {
-        Some(word) => word == b"sender".as_slice(),
+    match left.next() {
+        Some(word) => word == b"sender".as_slice() && is_nothing(&mut left),
         None => false,
     }
 }
@@ -34,8 +35,8 @@ pub(crate) fn is_sender(line: &[u8]) -> bool
 fn push_octets(text: &mut String, name: &str, octets: &[u8]) -> Result<(), AllocError>
     ensures { OnOk result (string_bytes text.new ≡ string_bytes text.old ++ octets_line name.now octets.now) }
 {
-    writeln!(text, "{name} {}", Hexadecimal(octets))?;
-    Ok(())
+    text.push_str(name)?;
+    end_with_octets(text, " ", octets)
 }
 
 /// Appends a name and a number.
@@ -43,8 +44,8 @@ fn push_octets(text: &mut String, name: &str, octets: &[u8]) -> Result<(), Alloc
 fn push_number(text: &mut String, name: &str, number: u32) -> Result<(), AllocError>
     ensures { OnOk result (string_bytes text.new ≡ string_bytes text.old ++ number_line name.now number) }
 {
-    writeln!(text, "{name} {number}")?;
-    Ok(())
+    text.push_str(name)?;
+    end_with_number(text, " ", u64::from(number))
 }
 
 /// Appends the name and the number, where there is one.

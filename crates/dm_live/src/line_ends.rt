@@ -1,0 +1,31 @@
+//! The ends of lines that are answered: words, and a number or octets behind them.
+ghost use Rattle.std.specs.Prelude.{◌≡◌, ◌∷◌, ◌++◌, [], OnOk};
+ghost use Rattle.std.specs.Fmt.{decimal};
+ghost use Rattle.std.specs.String.{string_bytes};
+ghost use Rattle.hex.specs.Hex.{encode_lower};
+
+use dm_text::{put_decimal, put_hexadecimal};
+use std::alloc::AllocError;
+
+/// Appends words, a number, and the end of the line.
+pub(crate) fn end_with_number(text: &mut String, words: &str, number: u64) -> Result<(), AllocError>
+    ensures { OnOk result (string_bytes text.new ≡ string_bytes text.old ++ words.now ++ decimal number ++ 10 ∷ []) }
+{
+    text.push_str(words)?;
+    put_decimal(text, number)?;
+    text.push_str("\n")
+}
+
+/// Appends words, octets in hexadecimal, and the end of the line.
+pub(crate) fn end_with_octets(
+    text: &mut String,
+    words: &str,
+    octets: &[u8],
+) -> Result<(), AllocError>
+    ensures { OnOk result (string_bytes text.new
+        ≡ string_bytes text.old ++ words.now ++ encode_lower octets.now ++ 10 ∷ []) }
+{
+    text.push_str(words)?;
+    put_hexadecimal(text, octets)?;
+    text.push_str("\n")
+}
