@@ -1,19 +1,19 @@
 //! AVPs, a line for each, groups and all (RFC 6733, 4.1 and 4.4).
-ghost use Rattle.std.specs.Prelude.{◌≡◌, ◌++◌, ◌+◌, ◌<◌, ◌^◌, List, OnOk};
+ghost use Rattle.std.specs.Prelude.{◌≡◌, ◌++◌, ◌∷◌, ◌+◌, ◌<◌, ◌^◌, List, [], OnOk};
 ghost use Rattle.std.specs.Option.{option_copied};
 ghost use Rattle.std.specs.String.{string_bytes};
 ghost use Rattle.dm_wire.specs.declared.avp.Avp.{Avp};
 ghost use Rattle.dm_wire.specs.Borrowed.{avp_of, Lists};
+ghost use Rattle.dm_wire.specs.Printed.{avp_marks, data_text, vendor_text};
 ghost use Rattle.dm_dict.specs.Rules.{definition};
 ghost use Rattle.dm_view.specs.Words.{indented};
 ghost use Rattle.dm_view.specs.View.{avp_name, front_view, avp_view, avps_view, group_view};
 
 use crate::data::put_data;
-use crate::words::put_indent;
+use crate::words::{put_indent, put_number, put_octets_behind, put_octets_name};
 use dm_dict::{AvpDef, AvpType, Dictionary};
-use dm_value::Name;
-use dm_wire::{AvpFront, AvpRef, AvpsRef, Data, spells_avps};
-use std::alloc::{AllocError, Global};
+use dm_wire::{AvpRef, AvpsRef, spells_avps};
+use std::alloc::AllocError;
 
 /// How many groups inside each other are shown by their members.
 pub(crate) const GROUPS_SHOWN: u32 = 8;
@@ -23,13 +23,39 @@ pub(crate) fn put_name(text: &mut String, def: Option<&AvpDef>) -> Result<(), Al
     ensures { OnOk result (string_bytes text.new ≡ string_bytes text.old ++ avp_name (option_copied def.entry)) }
 {
     match def {
-        Some(def) => write!(text, "{}", Name(&def.name)),
+        Some(def) => put_octets_name(text, def.name.as_slice()),
         None => text.push_str("?"),
     }
 }
 
+/// Appends a vendor behind a `/`, where there is one.
+fn put_vendor(text: &mut String, vendor: Option<u32>) -> Result<(), AllocError>
+    ensures { OnOk result (string_bytes text.new ≡ string_bytes text.old ++ vendor_text vendor) }
+{
+    match vendor {
+        Some(vendor) => put_number(text, "/", vendor),
+        None => Ok(()),
+    }
+}
+
+/// The letters of an AVP's flags, each where its flag is set, else `-`, and a space before them.
+fn spaced_letters(vendor: bool, mandatory: bool, protected: bool) -> &'static str
+    ensures { result.now ≡ 32 ∷ avp_marks vendor mandatory protected }
+{
+    match (vendor, mandatory, protected) {
+        (false, false, false) => " ---",
+        (false, false, true) => " --P",
+        (false, true, false) => " -M-",
+        (false, true, true) => " -MP",
+        (true, false, false) => " V--",
+        (true, false, true) => " V-P",
+        (true, true, false) => " VM-",
+        (true, true, true) => " VMP",
+    }
+}
+
 /// Appends the front of an AVP's line: name, code, vendor and flags.
-#[tactic(auto, unfolding(crate::specs::View::front_view))]
+#[tactic(auto, unfolding(crate::specs::View::front_view, dm_wire::specs::Printed::avp_front_text))]
 pub(crate) fn put_front(
     text: &mut String,
     def: Option<&AvpDef>,
@@ -39,13 +65,23 @@ pub(crate) fn put_front(
         ≡ string_bytes text.old ++ front_view (option_copied def.entry) (avp_of avp.entry)) }
 {
     put_name(text, def)?;
-    write!(text, " {}", AvpFront(avp))
+    put_number(text, " ", avp.code)?;
+    put_vendor(text, avp.vendor)?;
+    text.push_str(spaced_letters(avp.vendor.is_some(), avp.mandatory, avp.protected))
+}
+
+/// Appends words, data in hexadecimal, and the end of the line.
+fn put_data_line(text: &mut String, words: &str, octets: &[u8]) -> Result<(), AllocError>
+    ensures { OnOk result (string_bytes text.new
+        ≡ string_bytes text.old ++ words.now ++ data_text octets.now ++ 10 ∷ []) }
+{
+    put_octets_behind(text, words, octets)?;
+    text.push_str("\n")
 }
 
 /// Appends an AVP at this level, inside which so many groups may stand.
 #[cycle(viewing)]
 fn put_avp(
-    alloc: Global,
     text: &mut String,
     dictionary: &Dictionary,
     avp: AvpRef<'_>,
@@ -61,19 +97,18 @@ fn put_avp(
     put_indent(text, level)?;
     put_front(text, def, avp)?;
     let Some(def) = def else {
-        return writeln!(text, " {}", Data(avp.bytes));
+        return put_data_line(text, " ", avp.bytes);
     };
     if let AvpType::Grouped = def.kind {
-        return put_group(alloc, text, dictionary, avp.bytes, depth, level + 1);
+        return put_group(text, dictionary, avp.bytes, depth, level + 1);
     }
-    put_data(alloc, text, def, avp.bytes)?;
+    put_data(text, def, avp.bytes)?;
     text.push_str("\n")
 }
 
 /// Appends the members of a group at this level, where so many groups may stand inside each other.
 #[cycle(viewing)]
 fn put_group(
-    alloc: Global,
     text: &mut String,
     dictionary: &Dictionary,
     octets: &[u8],
@@ -85,20 +120,19 @@ fn put_group(
         ++ group_view depth level dictionary.now.avps octets.now) }
 {
     if depth == 0 {
-        return writeln!(text, " too deep {}", Data(octets));
+        return put_data_line(text, " too deep ", octets);
     }
     if !spells_avps(octets) {
-        return writeln!(text, " wrong length {}", Data(octets));
+        return put_data_line(text, " wrong length ", octets);
     }
     text.push_str("\n")?;
     let members = AvpsRef::Spelled(octets);
-    put_avps(alloc, text, dictionary, members, depth - 1, level)
+    put_avps(text, dictionary, members, depth - 1, level)
 }
 
 /// Appends AVPs at this level, where so many groups may stand inside each other.
 #[cycle(viewing)]
 pub(crate) fn put_avps(
-    alloc: Global,
     text: &mut String,
     dictionary: &Dictionary,
     list: AvpsRef<'_>,
@@ -111,7 +145,7 @@ pub(crate) fn put_avps(
 {
     let mut left = list;
     while let Some((avp, rest)) = left.split_first() {
-        put_avp(alloc, text, dictionary, avp, depth, level)?;
+        put_avp(text, dictionary, avp, depth, level)?;
         left = rest;
     }
     Ok(())

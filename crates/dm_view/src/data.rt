@@ -1,16 +1,27 @@
 //! The data of an AVP that is no group, by its type (RFC 6733, 4.2 and 4.3).
-ghost use Rattle.std.specs.Prelude.{◌≡◌, ◌++◌, codes, OnOk};
+ghost use Rattle.std.specs.Prelude.{◌≡◌, ◌≢◌, ◌++◌, None, length, codes, OnOk};
+ghost use Rattle.std.specs.Fmt.{decimal};
+ghost use Rattle.std.specs.Net.Text.{ipv4_text};
 ghost use Rattle.std.specs.Option.{option_copied};
 ghost use Rattle.std.specs.String.{string_bytes};
+ghost use Rattle.hex.specs.Hex.{encode_lower};
 ghost use Rattle.dm_wire.specs.Printed.{data_text};
-ghost use Rattle.dm_value.specs.ValueIn.{value_in};
+ghost use Rattle.dm_value.specs.Flaws.{flaw};
+ghost use Rattle.dm_value.specs.Printed.{address_text, name_text, time_text};
+ghost use Rattle.dm_value.specs.ValueIn.{value_in, address_in};
+ghost use Rattle.dm_view.specs.Words.{quoted};
 ghost use Rattle.dm_view.specs.View.{listed_text, value_view, flaw_words, data_view};
 
-use crate::words::Quoted;
-use dm_dict::{AvpDef, Value, ValueFault, Values, read_value, value_fault};
-use dm_value::Name;
-use dm_wire::{Data, Octets};
-use std::alloc::{AllocError, Global};
+use crate::described_data::of_16;
+use crate::words::{
+    put_number, put_octets, put_octets_behind, put_octets_name, put_quoted, put_signed,
+};
+use byteorder::{BigEndian, ByteOrder};
+use dm_dict::{AvpDef, AvpType, Ip, ValueFault, unix_seconds, utc_date, value_fault};
+use dm_text::{put_decimal, put_hexadecimal};
+use dm_wire::Octets;
+use std::alloc::AllocError;
+use std::str;
 
 /// Appends a value of an Enumerated: its name where it is listed, and its number.
 fn put_listed(text: &mut String, name: Option<&Octets>, number: i32) -> Result<(), AllocError>
@@ -18,40 +29,101 @@ fn put_listed(text: &mut String, name: Option<&Octets>, number: i32) -> Result<(
         ≡ string_bytes text.old ++ listed_text (option_copied name.entry) number) }
 {
     match name {
-        Some(name) => write!(text, "{} ({number})", Name(name)),
-        None => write!(text, "{number}"),
+        Some(name) => {
+            put_octets_name(text, name.as_slice())?;
+            text.push_str(" (")?;
+            put_signed(text, i64::from(number))?;
+            text.push_str(")")
+        }
+        None => put_signed(text, i64::from(number)),
     }
 }
 
-/// Appends a value.
-fn put_value(text: &mut String, values: &Values, value: &Value) -> Result<(), AllocError>
-    ensures { OnOk result (string_bytes text.new ≡ string_bytes text.old ++ value_view values.now value.now) }
+/// Appends an IP address of family 1.
+fn put_ipv4(text: &mut String, octets: &[u8]) -> Result<(), AllocError>
+    requires { length octets.now ≡ 4 }
+    ensures { OnOk result (string_bytes text.new ≡ string_bytes text.old ++ ipv4_text octets.now) }
 {
-    match value {
-        Value::Bytes(octets) => write!(text, "{}", Data(octets.as_slice())),
-        Value::Text(words) => write!(text, "{}", Quoted(words.as_str())),
-        Value::Enumerated(number) => put_listed(text, values.name(*number), *number),
-        _ => write!(text, "{value}"),
+    put_decimal(text, u64::from(octets[0]))?;
+    text.push_str(".")?;
+    put_decimal(text, u64::from(octets[1]))?;
+    text.push_str(".")?;
+    put_decimal(text, u64::from(octets[2]))?;
+    text.push_str(".")?;
+    put_decimal(text, u64::from(octets[3]))
+}
+
+/// Appends an address of a family that is no IP.
+fn put_other(text: &mut String, family: u16, octets: &[u8]) -> Result<(), AllocError>
+    ensures { OnOk result (string_bytes text.new ≡ string_bytes text.old
+        ++ codes "family " ++ decimal family ++ codes " " ++ encode_lower octets.now) }
+{
+    put_number(text, "family ", u32::from(family))?;
+    text.push_str(" ")?;
+    put_hexadecimal(text, octets)
+}
+
+/// Appends an IP address as std writes it, another one as `family 3 0102`.
+pub(crate) fn put_address(text: &mut String, octets: &[u8]) -> Result<(), AllocError>
+    requires { flaw AvpType.Address octets.now ≡ None }
+    ensures { OnOk result (string_bytes text.new ≡ string_bytes text.old ++ address_text (address_in octets.now)) }
+{
+    let (front, rest) = octets.split_at(2);
+    match BigEndian::read_u16(front) {
+        1 => put_ipv4(text, rest),
+        2 => write!(text, "{}", Ip::V6(of_16(rest))),
+        family => put_other(text, family, rest),
     }
+}
+
+/// Appends the seconds since 1970, and the date and time of day.
+fn put_time(text: &mut String, seconds: u32) -> Result<(), AllocError>
+    ensures { OnOk result (string_bytes text.new ≡ string_bytes text.old ++ time_text seconds) }
+{
+    put_signed(text, unix_seconds(seconds))?;
+    write!(text, " {}", utc_date(seconds))
+}
+
+/// Appends a text between `"`, or in hexadecimal where a control or a `"` stands in it.
+fn put_words(text: &mut String, octets: &[u8]) -> Result<(), AllocError>
+    requires { flaw AvpType.UTF8String octets.now ≡ None }
+    ensures { OnOk result (string_bytes text.new ≡ string_bytes text.old ++ quoted octets.now) }
+{
+    put_quoted(text, octets)
+}
+
+/// Appends an identity, which is visible ASCII.
+fn put_identity(text: &mut String, octets: &[u8]) -> Result<(), AllocError>
+    requires { flaw AvpType.DiameterIdentity octets.now ≡ None }
+    ensures { OnOk result (string_bytes text.new ≡ string_bytes text.old ++ name_text octets.now) }
+{
+    // Visible octets are ASCII.
+    text.push_str(unsafe { str::from_utf8_unchecked(octets) })
 }
 
 /// Appends the value of data with which nothing is wrong.
-fn put_meant(
-    alloc: Global,
-    text: &mut String,
-    def: &AvpDef,
-    octets: &[u8],
-) -> Result<(), AllocError>
+fn put_meant(text: &mut String, def: &AvpDef, octets: &[u8]) -> Result<(), AllocError>
+    requires kind { def.now.kind ≢ AvpType.Grouped }
+    requires sound { flaw def.now.kind octets.now ≡ None }
     ensures { OnOk result (string_bytes text.new
         ≡ string_bytes text.old ++ value_view def.now.values (value_in def.now.kind octets.now)) }
 {
-    match read_value(alloc, def.kind, octets) {
-        Ok(value) => {
-            let done = put_value(text, &def.values, &value);
-            drop(value);
-            done
+    match def.kind {
+        AvpType::OctetString => put_octets(text, octets),
+        AvpType::Integer32 => put_signed(text, i64::from(BigEndian::read_i32(octets))),
+        AvpType::Integer64 => put_signed(text, BigEndian::read_i64(octets)),
+        AvpType::Unsigned32 => put_decimal(text, u64::from(BigEndian::read_u32(octets))),
+        AvpType::Unsigned64 => put_decimal(text, BigEndian::read_u64(octets)),
+        AvpType::Address => put_address(text, octets),
+        AvpType::Time => put_time(text, BigEndian::read_u32(octets)),
+        AvpType::UTF8String => put_words(text, octets),
+        AvpType::DiameterIdentity => put_identity(text, octets),
+        AvpType::DiameterURI => put_octets_name(text, octets),
+        AvpType::Enumerated => {
+            let number = BigEndian::read_i32(octets);
+            put_listed(text, def.values.name(number), number)
         }
-        Err(_) => Err(AllocError),
+        AvpType::Grouped => unreachable!(),
     }
 }
 
@@ -72,25 +144,22 @@ fn put_flaw(text: &mut String, fault: ValueFault, octets: &[u8]) -> Result<(), A
     ensures { OnOk result (string_bytes text.new
         ≡ string_bytes text.old ++ codes " " ++ flaw_words fault ++ codes " " ++ data_text octets.now) }
 {
-    let words = flaw_words(fault);
-    write!(text, " {words} {}", Data(octets))
+    text.push_str(" ")?;
+    text.push_str(flaw_words(fault))?;
+    put_octets_behind(text, " ", octets)
 }
 
 /// Appends the data of an AVP of this definition.
 #[tactic(auto, unfolding(crate::specs::View::data_view))]
-pub(crate) fn put_data(
-    alloc: Global,
-    text: &mut String,
-    def: &AvpDef,
-    octets: &[u8],
-) -> Result<(), AllocError>
+pub(crate) fn put_data(text: &mut String, def: &AvpDef, octets: &[u8]) -> Result<(), AllocError>
+    requires { def.now.kind ≢ AvpType.Grouped }
     ensures { OnOk result (string_bytes text.new ≡ string_bytes text.old ++ data_view def.now octets.now) }
 {
     match value_fault(def.kind, octets) {
         Some(fault) => put_flaw(text, fault, octets),
         None => {
             text.push_str(" ")?;
-            put_meant(alloc, text, def, octets)
+            put_meant(text, def, octets)
         }
     }
 }

@@ -127,7 +127,7 @@ fn of_4(octets: &[u8]) -> [u8; 4]
 }
 
 /// The octets of an address of family 2.
-fn of_16(octets: &[u8]) -> [u8; 16]
+pub(crate) fn of_16(octets: &[u8]) -> [u8; 16]
     requires { length octets.now ≡ 16 }
     ensures { result ≡ octets.now }
 {

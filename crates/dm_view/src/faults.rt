@@ -1,5 +1,5 @@
 //! All that is wrong with a message, a line for each fault (RFC 6733, 7).
-ghost use Rattle.std.specs.Prelude.{◌≡◌, ◌++◌, List, map, option_map, flat_map, OnOk, IfOk};
+ghost use Rattle.std.specs.Prelude.{◌≡◌, ◌++◌, List, codes, map, option_map, flat_map, OnOk, IfOk};
 ghost use Rattle.std.specs.Option.{option_copied};
 ghost use Rattle.std.specs.String.{string_bytes};
 ghost use Rattle.dm_wire.specs.declared.avp.Avp.{Avp};
@@ -9,14 +9,17 @@ ghost use Rattle.dm_dict.specs.Judgement.{failed_of};
 ghost use Rattle.dm_dict.specs.Located.{located_faults};
 ghost use Rattle.dm_dict.specs.Locating.{told_at};
 ghost use Rattle.dm_view.specs.Check.{step_text, without_data, failed_length, front_words};
+ghost use Rattle.dm_view.specs.Results.{result_text};
 ghost use Rattle.dm_view.specs.Check.{failed_view, fault_line, verdict_words, are_none, check_view};
 
 use crate::avps::{put_front, put_name};
 use crate::header::put_header;
 use crate::reasons::{Reason, ReasonBehind};
-use crate::results::ResultName;
+use crate::results::result_name;
+use crate::words::put_number;
 use dm_dict::codes::MISSING_AVP;
 use dm_dict::{AvpDef, Dictionary, Failed, LocatedFault, NoMemory, Step};
+use dm_text::put_decimal;
 use dm_wire::{AvpRef, MessageRef};
 use std::alloc::{AllocError, Global};
 
@@ -27,8 +30,9 @@ fn put_step(text: &mut String, dictionary: &Dictionary, step: &Step) -> Result<(
 {
     text.push_str(" ")?;
     put_name(text, dictionary.avp_by_code(step.code, step.vendor))?;
-    write!(text, "[{}] /", step.nth)?;
-    Ok(())
+    text.push_str("[")?;
+    put_decimal(text, step.nth as u64)?;
+    text.push_str("] /")
 }
 
 /// Appends the groups round an AVP, the outermost first.
@@ -112,6 +116,15 @@ fn put_failed(
     put_words(text, def, code, length, avp)
 }
 
+/// Appends a Result-Code with its name, two spaces before it.
+fn put_result(text: &mut String, code: u32) -> Result<(), AllocError>
+    ensures { OnOk result (string_bytes text.new ≡ string_bytes text.old ++ (codes "  " ++ result_text code)) }
+{
+    put_number(text, "  ", code)?;
+    text.push_str(" ")?;
+    text.push_str(result_name(code))
+}
+
 /// Appends the line of a fault.
 fn put_fault(
     text: &mut String,
@@ -122,7 +135,7 @@ fn put_fault(
         ≡ string_bytes text.old ++ fault_line dictionary.now.avps (told_at fault.now)) }
 {
     let (code, failed) = (fault.fault.code, fault.fault.failed);
-    write!(text, "  {}", ResultName(code))?;
+    put_result(text, code)?;
     put_path(text, dictionary, fault.path.as_slice())?;
     let length = failed_length(failed);
     put_failed(text, dictionary, code, length, front_of(failed))?;

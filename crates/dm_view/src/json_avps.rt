@@ -13,7 +13,7 @@ use crate::json_text::JsonText;
 use crate::json_words::{put_flaw, put_name, put_octets, put_vendor, put_word};
 use dm_dict::{AvpDef, AvpType, Dictionary};
 use dm_wire::{AvpRef, AvpsRef, spells_avps};
-use std::alloc::{AllocError, Global};
+use std::alloc::AllocError;
 
 /// Appends the flags of an AVP in words.
 fn put_flags(json: &mut JsonText, avp: AvpRef<'_>) -> Result<(), AllocError>
@@ -29,7 +29,6 @@ fn put_flags(json: &mut JsonText, avp: AvpRef<'_>) -> Result<(), AllocError>
 
 /// Appends name, code, vendor and flags of an AVP.
 pub(crate) fn put_front(
-    alloc: Global,
     json: &mut JsonText,
     def: Option<&AvpDef>,
     avp: AvpRef<'_>,
@@ -38,7 +37,7 @@ pub(crate) fn put_front(
         ≡ json.old ++ members_tokens (front_members (option_copied def.entry) (avp_of avp.entry) more)) }
 {
     json.key("name")?;
-    put_name(alloc, json, def.map(|def| &def.name))?;
+    put_name(json, def.map(|def| &def.name))?;
     json.number_member("code", avp.code)?;
     put_vendor(json, avp.vendor)?;
     json.key("flags")?;
@@ -48,7 +47,6 @@ pub(crate) fn put_front(
 /// Appends an AVP, inside which so many groups may stand.
 #[cycle(telling)]
 fn put_avp(
-    alloc: Global,
     json: &mut JsonText,
     dictionary: &Dictionary,
     avp: AvpRef<'_>,
@@ -59,16 +57,15 @@ fn put_avp(
 {
     let def = dictionary.avp_by_code(avp.code, avp.vendor);
     json.begin_object()?;
-    put_front(alloc, json, def, avp)?;
+    put_front(json, def, avp)?;
     json.key("value")?;
-    put_behind(alloc, json, dictionary, def, avp.bytes, depth)?;
+    put_behind(json, dictionary, def, avp.bytes, depth)?;
     json.end_object()
 }
 
 /// Appends the data of an AVP, inside which so many groups may stand.
 #[cycle(telling)]
 fn put_behind(
-    alloc: Global,
     json: &mut JsonText,
     dictionary: &Dictionary,
     def: Option<&AvpDef>,
@@ -79,18 +76,17 @@ fn put_behind(
         (option_copied def.entry) octets.now)) }
 {
     let Some(def) = def else {
-        return put_octets(alloc, json, octets);
+        return put_octets(json, octets);
     };
     if let AvpType::Grouped = def.kind {
-        return put_group(alloc, json, dictionary, octets, depth);
+        return put_group(json, dictionary, octets, depth);
     }
-    put_data(alloc, json, def, octets)
+    put_data(json, def, octets)
 }
 
 /// Appends the members of a group, where so many groups may stand inside each other.
 #[cycle(telling)]
 fn put_group(
-    alloc: Global,
     json: &mut JsonText,
     dictionary: &Dictionary,
     octets: &[u8],
@@ -99,20 +95,19 @@ fn put_group(
     ensures { OnOk result (json.new ≡ json.old ++ json_tokens (group_json depth dictionary.now.avps octets.now)) }
 {
     if depth == 0 {
-        return put_flaw(alloc, json, "too deep", octets);
+        return put_flaw(json, "too deep", octets);
     }
     if !spells_avps(octets) {
-        return put_flaw(alloc, json, "wrong length", octets);
+        return put_flaw(json, "wrong length", octets);
     }
     json.begin_array()?;
     let members = AvpsRef::Spelled(octets);
-    put_avps(alloc, json, dictionary, members, depth - 1)
+    put_avps(json, dictionary, members, depth - 1)
 }
 
 /// Appends AVPs, where so many groups may stand inside each other, and the end of their array.
 #[cycle(telling)]
 pub(crate) fn put_avps(
-    alloc: Global,
     json: &mut JsonText,
     dictionary: &Dictionary,
     list: AvpsRef<'_>,
@@ -123,7 +118,7 @@ pub(crate) fn put_avps(
 {
     let mut left = list;
     while let Some((avp, rest)) = left.split_first() {
-        put_avp(alloc, json, dictionary, avp, depth)?;
+        put_avp(json, dictionary, avp, depth)?;
         left = rest;
     }
     json.end_array()

@@ -56,7 +56,7 @@ fn put_failed_avp(
 {
     json.key("avp")?;
     json.begin_object()?;
-    put_front(alloc, json, def, avp)?;
+    put_front(json, def, avp)?;
     json.end_object()?;
     let words = failed_words(alloc, code, def, length)?;
     json.text_member("reason", words.as_str())?;
@@ -98,7 +98,7 @@ fn put_fault(
     json.text_member("name", result_name(code))?;
     json.key("path")?;
     json.begin_array()?;
-    put_path(alloc, json, dictionary, fault.path.as_slice())?;
+    put_path(json, dictionary, fault.path.as_slice())?;
     let length = failed_length(failed);
     put_failed(alloc, json, dictionary, code, length, front_of(failed))?;
     Ok(())

@@ -12,16 +12,12 @@ use dm_wire::Header;
 use std::alloc::{AllocError, Global};
 
 /// Appends the name of a command, where it has a definition.
-fn put_command(
-    alloc: Global,
-    json: &mut JsonText,
-    def: Option<&CommandDef>,
-) -> Result<(), AllocError>
+fn put_command(json: &mut JsonText, def: Option<&CommandDef>) -> Result<(), AllocError>
     ensures { OnOk result (json.new ≡ json.old ++ json_tokens (command_json (option_copied def.entry))) }
 {
     match def {
-        Some(def) => put_name(alloc, json, Some(&def.name)),
-        None => put_name(alloc, json, None),
+        Some(def) => put_name(json, Some(&def.name)),
+        None => put_name(json, None),
     }
 }
 
@@ -70,7 +66,7 @@ pub fn put_json_header(
     let def = dictionary.command(header.command, header.request, false);
     json.begin_object()?;
     json.key("command")?;
-    put_command(alloc, json, def)?;
+    put_command(json, def)?;
     json.number_member("code", header.command)?;
     json.key("flags")?;
     put_flags(json, header)?;

@@ -34,6 +34,6 @@ pub fn put_json_message(
     json.key("avps")?;
     json.begin_array()?;
     let list = AvpsRef::Spelled(message.rest);
-    put_avps(alloc, json, dictionary, list, GROUPS_SHOWN)?;
+    put_avps(json, dictionary, list, GROUPS_SHOWN)?;
     Ok(())
 }

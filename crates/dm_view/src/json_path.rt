@@ -6,21 +6,16 @@ ghost use Rattle.dm_view.specs.JsonCheck.{step_json, path_items};
 use crate::json_text::JsonText;
 use crate::json_words::{put_name, put_vendor};
 use dm_dict::{Dictionary, Step};
-use std::alloc::{AllocError, Global};
+use std::alloc::AllocError;
 
 /// Appends a group round an AVP: its name, code and vendor, and which of these it is in its list.
-fn put_step(
-    alloc: Global,
-    json: &mut JsonText,
-    dictionary: &Dictionary,
-    step: &Step,
-) -> Result<(), AllocError>
+fn put_step(json: &mut JsonText, dictionary: &Dictionary, step: &Step) -> Result<(), AllocError>
     ensures { OnOk result (json.new ≡ json.old ++ json_tokens (step_json dictionary.now.avps step.now)) }
 {
     let def = dictionary.avp_by_code(step.code, step.vendor);
     json.begin_object()?;
     json.key("name")?;
-    put_name(alloc, json, def.map(|def| &def.name))?;
+    put_name(json, def.map(|def| &def.name))?;
     json.number_member("code", step.code)?;
     put_vendor(json, step.vendor)?;
     json.key("nth")?;
@@ -30,7 +25,6 @@ fn put_step(
 
 /// Appends the groups round an AVP, the outermost first, and the end of their array.
 pub(crate) fn put_path(
-    alloc: Global,
     json: &mut JsonText,
     dictionary: &Dictionary,
     path: &[Step],
@@ -39,7 +33,7 @@ pub(crate) fn put_path(
 {
     let mut left = path;
     while let [step, rest @ ..] = left {
-        put_step(alloc, json, dictionary, step)?;
+        put_step(json, dictionary, step)?;
         left = rest;
     }
     json.end_array()

@@ -1,19 +1,31 @@
 //! A text in JSON, a token at a time (RFC 8259).
-ghost use Rattle.std.specs.Prelude.{◌≡◌, ◌++◌, ◌∷◌, [], OnOk};
+ghost use Rattle.std.specs.Prelude.{◌≡◌, ◌++◌, ◌∷◌, [], None, OnOk};
 ghost use Rattle.std.specs.Fmt.{decimal, signed_decimal};
 ghost use Rattle.std.specs.String.{string_bytes};
+ghost use Rattle.hex.specs.Hex.{encode_lower};
 ghost use Rattle.json.specs.Print.{print};
 ghost use Rattle.json.specs.Token.{begin_object, end_object, begin_array, end_array, key, string, number, null};
+ghost use Rattle.dm_value.specs.declared.avp_type.AvpType.TheVariants.{Address};
+ghost use Rattle.dm_value.specs.Dates.{from_1900, utc_at, utc_text};
+ghost use Rattle.dm_value.specs.Flaws.{flaw};
+ghost use Rattle.dm_value.specs.Printed.{address_text};
+ghost use Rattle.dm_value.specs.ValueIn.{address_in};
 
+use crate::data::put_address;
+use dm_dict::utc_date;
+use dm_text::put_hexadecimal;
 use json::Writer;
 use std::alloc::{AllocError, Global};
 use std::marker::Model;
 use std::str;
 
 /// A text in JSON, as far as it is written: its tokens. The commas and colons between them are the writer's.
+///
+/// `room` is used again for each text that isn't at hand; what it holds doesn't matter.
 #[derive(Drop)]
 pub struct JsonText {
     writer: Writer,
+    room: String,
 }
 
 impl Model for JsonText {
@@ -36,6 +48,7 @@ impl JsonText {
     {
         JsonText {
             writer: Writer::new(Vec::new(alloc)),
+            room: String::new(alloc),
         }
     }
 
@@ -81,6 +94,34 @@ impl JsonText {
         self.writer.string(text)
     }
 
+    /// Octets in hexadecimal, as a text.
+    pub(crate) fn hexadecimal(&mut self, octets: &[u8]) -> Result<(), AllocError>
+        ensures { OnOk result (self.new ≡ self.old ++ string (encode_lower octets.now) ∷ []) }
+    {
+        self.room.clear();
+        put_hexadecimal(&mut self.room, octets)?;
+        self.writer.string(self.room.as_str())
+    }
+
+    /// An address as text.
+    pub(crate) fn address(&mut self, octets: &[u8]) -> Result<(), AllocError>
+        requires { flaw Address octets.now ≡ None }
+        ensures { OnOk result (self.new ≡ self.old ++ string (address_text (address_in octets.now)) ∷ []) }
+    {
+        self.room.clear();
+        put_address(&mut self.room, octets)?;
+        self.writer.string(self.room.as_str())
+    }
+
+    /// The date and time of day of a time, as text.
+    pub(crate) fn date(&mut self, time: u32) -> Result<(), AllocError>
+        ensures { OnOk result (self.new ≡ self.old ++ string (utc_text (utc_at (from_1900 time))) ∷ []) }
+    {
+        self.room.clear();
+        write!(self.room, "{}", utc_date(time))?;
+        self.writer.string(self.room.as_str())
+    }
+
     /// A number from 0 on.
     pub fn number(&mut self, value: u64) -> Result<(), AllocError>
         ensures { OnOk result (self.new ≡ self.old ++ number (decimal value) ∷ []) }
@@ -122,13 +163,11 @@ impl JsonText {
     pub fn put_line(self, text: &mut String) -> Result<(), AllocError>
         ensures { OnOk result (string_bytes text.new ≡ string_bytes text.old ++ print self ++ 10 ∷ []) }
     {
-        let octets = self.writer.into_inner();
-        match str::from_utf8(octets.as_slice()) {
-            Ok(line) => {
-                text.push_str(line)?;
-                text.push_str("\n")
-            }
-            Err(_) => unreachable!(),
-        }
+        let JsonText { writer, room } = self;
+        drop(room);
+        let octets = writer.into_inner();
+        // What is written is text.
+        text.push_str(unsafe { str::from_utf8_unchecked(octets.as_slice()) })?;
+        text.push_str("\n")
     }
 }

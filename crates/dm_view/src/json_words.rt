@@ -8,64 +8,51 @@ ghost use Rattle.dm_view.specs.JsonWords.{octets_member, octets_json, text_json,
 
 use crate::json_text::JsonText;
 use dm_wire::Octets;
-use std::alloc::{AllocError, Global};
+use std::alloc::AllocError;
 use std::str;
 
 /// Appends the member that is octets in hexadecimal, and the end of its object.
-fn put_digits(alloc: Global, json: &mut JsonText, octets: &[u8]) -> Result<(), AllocError>
+fn put_digits(json: &mut JsonText, octets: &[u8]) -> Result<(), AllocError>
     ensures { OnOk result (json.new ≡ json.old ++ members_tokens (octets_member octets.now)) }
 {
-    let digits = hex::encode(alloc, octets)?;
-    json.text_member("octets", digits.as_str())?;
+    json.key("octets")?;
+    json.hexadecimal(octets)?;
     json.end_object()
 }
 
 /// Appends octets in hexadecimal.
-pub(crate) fn put_octets(
-    alloc: Global,
-    json: &mut JsonText,
-    octets: &[u8],
-) -> Result<(), AllocError>
+pub(crate) fn put_octets(json: &mut JsonText, octets: &[u8]) -> Result<(), AllocError>
     ensures { OnOk result (json.new ≡ json.old ++ json_tokens (octets_json octets.now)) }
 {
     json.begin_object()?;
-    put_digits(alloc, json, octets)
+    put_digits(json, octets)
 }
 
 /// Appends what is wrong with octets, and the octets.
-pub(crate) fn put_flaw(
-    alloc: Global,
-    json: &mut JsonText,
-    words: &str,
-    octets: &[u8],
-) -> Result<(), AllocError>
+pub(crate) fn put_flaw(json: &mut JsonText, words: &str, octets: &[u8]) -> Result<(), AllocError>
     ensures { OnOk result (json.new ≡ json.old ++ json_tokens (flaw_json words.now octets.now)) }
 {
     json.begin_object()?;
     json.text_member("flaw", words)?;
-    put_digits(alloc, json, octets)
+    put_digits(json, octets)
 }
 
 /// Appends octets that are UTF-8 as a text, others in hexadecimal.
-pub(crate) fn put_text(alloc: Global, json: &mut JsonText, octets: &[u8]) -> Result<(), AllocError>
+pub(crate) fn put_text(json: &mut JsonText, octets: &[u8]) -> Result<(), AllocError>
     ensures { OnOk result (json.new ≡ json.old ++ json_tokens (text_json octets.now)) }
 {
     match str::from_utf8(octets) {
         Ok(text) => json.string(text),
-        Err(_) => put_octets(alloc, json, octets),
+        Err(_) => put_octets(json, octets),
     }
 }
 
 /// Appends the name of a definition, where there is one.
-pub(crate) fn put_name(
-    alloc: Global,
-    json: &mut JsonText,
-    name: Option<&Octets>,
-) -> Result<(), AllocError>
+pub(crate) fn put_name(json: &mut JsonText, name: Option<&Octets>) -> Result<(), AllocError>
     ensures { OnOk result (json.new ≡ json.old ++ json_tokens (name_json (option_copied name.entry))) }
 {
     match name {
-        Some(name) => put_text(alloc, json, name.as_slice()),
+        Some(name) => put_text(json, name.as_slice()),
         None => json.null(),
     }
 }

@@ -1,12 +1,16 @@
-//! Texts and indents.
-ghost use Rattle.std.specs.Prelude.{◌≡◌, ◌++◌, Some, OnOk};
+//! Texts, names, octets, numbers and indents.
+ghost use Rattle.std.specs.Prelude.{◌≡◌, ◌++◌, Some, true, OnOk};
+ghost use Rattle.std.specs.Fmt.{decimal, signed_decimal};
 ghost use Rattle.std.specs.List.{list_all};
+ghost use Rattle.std.specs.Str.{IsUtf8};
 ghost use Rattle.std.specs.String.{string_bytes};
+ghost use Rattle.dm_wire.specs.Printed.{data_text};
+ghost use Rattle.dm_value.specs.Printed.{name_text};
 ghost use Rattle.dm_view.specs.Words.{is_plain_octet, quoted, indented};
 
-use dm_text::Hexadecimal;
+use dm_text::{Hexadecimal, put_decimal, put_hexadecimal};
 use std::alloc::AllocError;
-use std::fmt;
+use std::{fmt, str};
 
 /// A text between `"`, or in hexadecimal where a control or a `"` stands in it.
 #[derive(Clone, Copy)]
@@ -32,6 +36,71 @@ fn are_plain(octets: &[u8]) -> bool
     octets
         .iter()
         .all(|octet| *octet >= 32 && *octet != 127 && *octet != 34)
+}
+
+/// Appends octets that are text between `"`, or in hexadecimal where a control or a `"` stands in them.
+#[tactic(auto, unfolding(crate::specs::Words::quoted))]
+pub(crate) fn put_quoted(text: &mut String, octets: &[u8]) -> Result<(), AllocError>
+    requires { IsUtf8 octets.now }
+    ensures { OnOk result (string_bytes text.new ≡ string_bytes text.old ++ quoted octets.now) }
+{
+    if are_plain(octets) {
+        text.push_str("\"")?;
+        text.push_str(unsafe { str::from_utf8_unchecked(octets) })?;
+        text.push_str("\"")
+    } else {
+        put_hexadecimal(text, octets)
+    }
+}
+
+/// Appends a name as it is where it is UTF-8, else in hexadecimal.
+pub(crate) fn put_octets_name(text: &mut String, octets: &[u8]) -> Result<(), AllocError>
+    ensures { OnOk result (string_bytes text.new ≡ string_bytes text.old ++ name_text octets.now) }
+{
+    match str::from_utf8(octets) {
+        Ok(name) => text.push_str(name),
+        Err(_) => put_hexadecimal(text, octets),
+    }
+}
+
+/// Appends octets in hexadecimal, `-` where there are none.
+pub(crate) fn put_octets(text: &mut String, octets: &[u8]) -> Result<(), AllocError>
+    ensures { OnOk result (string_bytes text.new ≡ string_bytes text.old ++ data_text octets.now) }
+{
+    match octets {
+        [] => text.push_str("-"),
+        [_, ..] => put_hexadecimal(text, octets),
+    }
+}
+
+/// Appends words, and octets in hexadecimal, `-` where there are none.
+pub(crate) fn put_octets_behind(
+    text: &mut String,
+    words: &str,
+    octets: &[u8],
+) -> Result<(), AllocError>
+    ensures { OnOk result (string_bytes text.new ≡ string_bytes text.old ++ words.now ++ data_text octets.now) }
+{
+    text.push_str(words)?;
+    put_octets(text, octets)
+}
+
+/// Appends words, and a number in decimal.
+pub(crate) fn put_number(text: &mut String, words: &str, number: u32) -> Result<(), AllocError>
+    ensures { OnOk result (string_bytes text.new ≡ string_bytes text.old ++ words.now ++ decimal number) }
+{
+    text.push_str(words)?;
+    put_decimal(text, u64::from(number))
+}
+
+/// Appends a number in decimal, behind `-` where it is below 0.
+pub(crate) fn put_signed(text: &mut String, number: i64) -> Result<(), AllocError>
+    ensures { OnOk result (string_bytes text.new ≡ string_bytes text.old ++ signed_decimal number) }
+{
+    if number < 0 {
+        text.push_str("-")?;
+    }
+    put_decimal(text, number.unsigned_abs())
 }
 
 /// Appends two spaces for each level.

@@ -1,11 +1,30 @@
-//! A line that is bad for a reason that it needs no message for.
-ghost use Rattle.std.specs.Prelude.{◌≡◌, ◌++◌, OnOk};
+//! The number before what is said, and a line that is bad for a reason that it needs no message for.
+ghost use Rattle.std.specs.Prelude.{◌≡◌, ◌++◌, ◌∷◌, [], codes, OnOk};
+ghost use Rattle.std.specs.Fmt.{decimal};
 ghost use Rattle.std.specs.String.{string_bytes};
-ghost use Rattle.dm_view_lines.specs.Said.{bad_said};
+ghost use Rattle.dm_view_lines.specs.Said.{bad_said, numbered};
 
 use crate::json_parts::put_error_line;
 use crate::said::Task;
+use dm_text::put_decimal;
 use std::alloc::{AllocError, Global};
+
+/// Appends the number that stands before what is said.
+pub(crate) fn put_numbering(text: &mut String, number: u64) -> Result<(), AllocError>
+    ensures { OnOk result (string_bytes text.new ≡ string_bytes text.old ++ (decimal number ++ codes ": ")) }
+{
+    put_decimal(text, number)?;
+    text.push_str(": ")
+}
+
+/// Appends a line of words behind their number.
+fn put_words(text: &mut String, number: u64, words: &str) -> Result<(), AllocError>
+    ensures { OnOk result (string_bytes text.new ≡ string_bytes text.old ++ numbered number (words.now ++ 10 ∷ [])) }
+{
+    put_numbering(text, number)?;
+    text.push_str(words)?;
+    text.push_str("\n")
+}
 
 /// Appends why the line or the message of this number is bad.
 pub(crate) fn put_bad_line(
@@ -18,7 +37,7 @@ pub(crate) fn put_bad_line(
     ensures { OnOk result (string_bytes text.new ≡ string_bytes text.old ++ bad_said task number words.now) }
 {
     match task {
-        Task::Show | Task::Check => writeln!(text, "{number}: {words}"),
+        Task::Show | Task::Check => put_words(text, number, words),
         Task::ShowJson => put_error_line(alloc, text, "number", number, false, words),
         Task::CheckJson => put_error_line(alloc, text, "number", number, true, words),
     }

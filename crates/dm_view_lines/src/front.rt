@@ -8,6 +8,7 @@ ghost use Rattle.dm_view_lines.specs.Before.{avps_before};
 ghost use Rattle.dm_view_lines.specs.Reasons.{refusal_sentence};
 ghost use Rattle.dm_view_lines.specs.Said.{numbered, front_shown, front_checked, before_refusal};
 
+use crate::bad::put_numbering;
 use crate::header::header_of;
 use crate::reasons::put_refusal;
 use dm_dict::Dictionary;
@@ -96,7 +97,7 @@ pub(crate) fn put_shown_refusal(
     ensures { OnOk result (string_bytes text.new ≡ string_bytes text.old ++ numbered number
         (before_refusal (front_shown dictionary.now) octets.now fault ++ refusal_sentence fault ++ 10 ∷ [])) }
 {
-    write!(text, "{number}: ")?;
+    put_numbering(text, number)?;
     put_front_shown(alloc, text, dictionary, octets, fault)?;
     put_refusal(text, fault)?;
     Ok(())
@@ -114,7 +115,7 @@ pub(crate) fn put_checked_refusal(
     ensures { OnOk result (string_bytes text.new ≡ string_bytes text.old ++ numbered number
         (before_refusal (front_checked dictionary.now) octets.now fault ++ refusal_sentence fault ++ 10 ∷ [])) }
 {
-    write!(text, "{number}: ")?;
+    put_numbering(text, number)?;
     put_front_checked(text, dictionary, octets, fault)?;
     put_refusal(text, fault)?;
     Ok(())

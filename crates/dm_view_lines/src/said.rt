@@ -9,6 +9,7 @@ ghost use Rattle.dm_view.specs.View.{message_view};
 ghost use Rattle.dm_dict.specs.Located.{located_faults};
 ghost use Rattle.dm_view_lines.specs.Said.{numbered, message_answer, refused_said, SaysOctets};
 
+use crate::bad::put_numbering;
 use crate::front::{put_checked_refusal, put_shown_refusal};
 use crate::json_front::{put_json_checked_refusal, put_json_shown_refusal};
 use crate::json_said::{put_json_checked, put_json_shown};
@@ -89,7 +90,7 @@ fn put_shown(
         ≡ string_bytes text.old
         ++ numbered number (message_view dictionary.now (record { header = message.now.header; avps = l }))) }
 {
-    write!(text, "{number}: ")?;
+    put_numbering(text, number)?;
     put_message(alloc, text, dictionary, message)?;
     Ok(())
 }
@@ -108,7 +109,7 @@ fn put_checked(
     ensures good { (l : List Avp) → SpellsList l message.now.rest.now → IfOk result (λ good.
         good ≡ are_none (located_faults dictionary.now (record { header = message.now.header; avps = l }))) }
 {
-    write!(text, "{number}: ")?;
+    put_numbering(text, number)?;
     let good = put_check(alloc, text, dictionary, message)?;
     Ok(good)
 }

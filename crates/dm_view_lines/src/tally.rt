@@ -6,6 +6,7 @@ ghost use Rattle.dm_view_lines.specs.Lines.{counts_line};
 
 use crate::json_parts::put_json_tally;
 use crate::said::Task;
+use dm_text::put_decimal;
 use std::alloc::{AllocError, Global};
 
 /// How many lines were good and bad.
@@ -46,7 +47,10 @@ impl Tally {
 fn put_tally(text: &mut String, tally: Tally) -> Result<(), AllocError>
     ensures { OnOk result (string_bytes text.new ≡ string_bytes text.old ++ tally_line tally) }
 {
-    writeln!(text, "{} good, {} bad", tally.good, tally.bad)
+    put_decimal(text, tally.good)?;
+    text.push_str(" good, ")?;
+    put_decimal(text, tally.bad)?;
+    text.push_str(" bad\n")
 }
 
 /// Appends what ends the text of a task: of a check how many lines were good and bad.

@@ -12,11 +12,11 @@ returns c =
     let avps = c.args.dictionary.now.avps in
     let f = told_at c.args.fault.now in
     let text = string_bytes c.args.text.now in
-    let code : string_bytes c.write.new.self ≡ text ++ (codes "  " ++ result_text f.fault.code)
-    = c.in_ok-write.ensures.bytes in
-    let groups : string_bytes c.put_path.new.text ≡ string_bytes c.write.new.self ++ flat_map (step_text avps) f.path
+    let code : string_bytes c.put_result.new.text ≡ text ++ (codes "  " ++ result_text f.fault.code)
+    = c.in_ok-put_result.ensures in
+    let groups : string_bytes c.put_path.new.text ≡ string_bytes c.put_result.new.text ++ flat_map (step_text avps) f.path
     = c.in_ok-put_path.ensures
-    ∙ ap (λ p. string_bytes c.write.new.self ++ flat_map (step_text avps) p) c.as_slice.ensures in
+    ∙ ap (λ p. string_bytes c.put_result.new.text ++ flat_map (step_text avps) p) c.as_slice.ensures in
     let failed : string_bytes c.put_failed.new.text ≡ string_bytes c.put_path.new.text
     ++ failed_view avps f.fault.code (failed_length f.fault.failed) (option_map without_data f.fault.failed)
     = c.in_ok-put_failed.ensures
