@@ -130,6 +130,36 @@ impl Config {
         }
     }
 
+    /// A configuration of these parts with the dictionary of this one, whatever node this one is of: but for the parts
+    /// it takes no memory. It doesn't compare hosts, whether this one does or not. `first_id` is the number of the
+    /// first request.
+    ///
+    /// Refuses in the order and with the faults of [`new`](Config::new), and drops the parts then.
+    pub fn for_node(&self, node: Node, peer: Vec<u8>, first_id: u32) -> Result<Config, ConfigFault>
+        ensures fault { IfErr result (λ f. (f ≡ config_faults.NoMemory)
+            ⊎ (config_fault node.host peer.items ≡ Some f)) }
+        ensures refuses { (f : ConfigFault) → config_fault node.host peer.items ≡ Some f → result ≡ Err f }
+        ensures node { IfOk result (λ config. config.node ≡ node) }
+        ensures peer { IfOk result (λ config. config.peer ≡ peer.items) }
+        ensures first_id { IfOk result (λ config. config.first_id ≡ first_id) }
+        ensures dictionary { IfOk result (λ config. config.dictionary ≡ base_definitions) }
+        ensures compares { IfOk result (λ config. config.compares ≡ false) }
+    {
+        if let Some(fault) = fault_of(node.host(), peer.as_slice()) {
+            return Err(fault);
+        }
+        let Ok(dictionary) = self.dictionary.clone() else {
+            return Err(ConfigFault::NoMemory);
+        };
+        Ok(Config {
+            peer: Octets::from_vec(peer),
+            node,
+            first_id,
+            dictionary,
+            compares: false,
+        })
+    }
+
     /// The same for a host that can be its peer, or want of memory.
     fn copied(&self, alloc: Global, host: &[u8]) -> Result<Config, AllocError>
         requires name { is_name host.now ≡ true }

@@ -46,3 +46,26 @@ pub fn config(alloc: Global, own: HostLine<'_>, other: HostLine<'_>) -> Result<C
         },
     }
 }
+
+/// The configuration of the other peer for the first one, whose dictionary it has.
+pub fn config_beside(
+    alloc: Global,
+    first: &Config,
+    own: HostLine<'_>,
+    other: HostLine<'_>,
+) -> Result<Config, AllocError>
+    requires own { is_name own.host.now ≡ true }
+    requires other { is_name other.host.now ≡ true }
+    requires differ { lower own.host.now ≡ lower other.host.now → ⊥ }
+    ensures { IfOk result (IsConfigOf (line_host own.entry) (line_host other.entry)) }
+{
+    let node = node(alloc, own)?;
+    let peer = Vec::from_slice(alloc, other.host)?;
+    match first.for_node(node, peer, 1) {
+        Ok(config) => Ok(config),
+        Err(fault) => match fault {
+            ConfigFault::NoMemory => Err(AllocError),
+            ConfigFault::BadHost | ConfigFault::SameHost => unreachable!(),
+        },
+    }
+}

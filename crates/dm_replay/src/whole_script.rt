@@ -7,7 +7,7 @@ ghost use Rattle.dm_replay.specs.declared.fault.ScriptFault.{ScriptFault};
 ghost use Rattle.dm_replay.specs.declared.script.Script.{Script};
 ghost use Rattle.dm_replay.specs.ReadScript.{IsConfigOf, IsReading};
 
-use crate::configs::config;
+use crate::configs::{config, config_beside};
 use crate::fault::ScriptFault;
 use crate::happening_list::HappeningList;
 use crate::laws::one_replay;
@@ -56,7 +56,7 @@ fn script_of(alloc: Global, lines: ScriptLines<'_>) -> Result<Script, AllocError
     ensures list { IfOk result (λ s. s.list ≡ lines.entry.list.items) }
 {
     let left = config(alloc, lines.left, lines.right)?;
-    let right = config(alloc, lines.right, lines.left)?;
+    let right = config_beside(alloc, &left, lines.right, lines.left)?;
     Ok(Script {
         left,
         right,

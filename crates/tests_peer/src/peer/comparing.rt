@@ -1,6 +1,6 @@
 //! The host that a CEA names, where it is compared with the peer's and where it isn't.
 use super::octets::{CEA_1, CEA_OF_3000, CEA_OF_A};
-use super::{Case, Done, I, R, Told, check, config, does, way_to};
+use super::{Case, Done, I, R, Told, check, config, does, node, way_to};
 use dm_peer::{Peer, State};
 use std::process::Abort;
 
@@ -110,6 +110,28 @@ fn configurations_for_others_compare(rt: HostRuntime) {
         &rt,
         &mut peer,
         &(Told::Hears(I, CEA_OF_C), FAILED, State::Closed),
+    );
+    drop(peer);
+    drop(compares);
+    assert!(&rt; done);
+}
+
+/// A configuration of another node that is made of one that compares hosts compares none.
+#[test]
+fn configurations_of_other_nodes(rt: HostRuntime) {
+    let compares = config(&rt, b"b.example", b"c.example", 4)
+        .expect(&rt, "a configuration")
+        .comparing();
+    let name = Vec::from_slice(rt.alloc(), b"b.example").expect(&rt, "memory");
+    let other = compares
+        .for_node(node(&rt, b"a.example", 4), name, 1)
+        .expect(&rt, "a configuration");
+    let mut peer = Peer::new(other);
+    check(&rt, &mut peer, way_to(State::WaitICea));
+    let done = does(
+        &rt,
+        &mut peer,
+        &(Told::Hears(I, CEA_OF_C), &[], State::IOpen),
     );
     drop(peer);
     drop(compares);
