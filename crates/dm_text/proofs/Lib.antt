@@ -3,6 +3,7 @@ pub mod Contents
 pub mod Decoded
 pub mod Digits
 mod Firsts
+mod Lookups
 pub mod Numerals
 mod Places
 mod Runs

@@ -5,6 +5,9 @@ ghost use Rattle.dm_text.specs.SideBySide.{bad_lanes, by_turns, paired};
 
 use std::simd::prelude::*;
 
+/// The sixteen digits, in lower case.
+const DIGITS: [u8; 16] = *b"0123456789abcdef";
+
 /// The value of each digit in either case; 255 where the octet is none.
 #[inline(always)]
 pub(crate) fn worths_of(digits: u8x16) -> u8x16
@@ -44,9 +47,7 @@ pub(crate) fn joined(worths: u8x16) -> u8x8
 pub(crate) fn high_digits(octets: u8x16) -> u8x16
     ensures { result ≡ map high_digit octets }
 {
-    let halves = octets >> u8x16::splat(4);
-    let is_number = halves.simd_lt(u8x16::splat(10));
-    halves + is_number.select(u8x16::splat(48), u8x16::splat(87))
+    u8x16::from_array(DIGITS).swizzle_dyn(octets >> u8x16::splat(4))
 }
 
 /// The digit of each octet's lower half, in lower case.
@@ -54,9 +55,7 @@ pub(crate) fn high_digits(octets: u8x16) -> u8x16
 pub(crate) fn low_digits(octets: u8x16) -> u8x16
     ensures { result ≡ map low_digit octets }
 {
-    let halves = octets & u8x16::splat(15);
-    let is_number = halves.simd_lt(u8x16::splat(10));
-    halves + is_number.select(u8x16::splat(48), u8x16::splat(87))
+    u8x16::from_array(DIGITS).swizzle_dyn(octets & u8x16::splat(15))
 }
 
 /// The lanes by turns, one of the first, one of the second: those that come of the first eight of each, and the others.

@@ -1,16 +1,17 @@
--- Each lane is computed from its octet, and what is computed is the octet's digit.
-use Rattle.std.proofs.Common.{◌∙◌, ltb, replicate, refl, w8}
-use Rattle.std.proofs.lemmas.Simd.{tops_compared, zip2_splat, zip2_of_maps, splat_is_map}
+-- Each half is a place in the table, and what stands there is its digit.
+use Rattle.std.proofs.Common.{◌∙◌, ◌/◌, refl, arith}
+use Rattle.std.proofs.lemmas.Simd.{zip2_splat}
 use Rattle.dm_text.specs.Hexadecimal.{high_digit}
-use Rattle.dm_text.proofs.Splats.{chosen, same_of_octets}
+use Rattle.dm_text.specs.declared.lanes.TheConstants.{DIGITS}
+use Rattle.dm_text.proofs.Lookups.{down, highs_ok, looked_up}
+use Rattle.dm_text.proofs.Splats.{same_of_octets}
 use Rattle.dm_text.proofs.lanes.high_digits.Goals as goal
+
+pub swizzle : goal.swizzle
+swizzle c = highs_ok c.args.octets c.fits-octets
 
 pub returns : goal.returns
 returns c =
     let octets = c.args.octets in
-    let (long, fits) = c.fits-octets in
-    let halves = zip2_splat _ octets 16 4 long in
-    let are_numbers = tops_compared w8 ltb _ (replicate 16 10) ∙ zip2_of_maps ltb _ _ octets halves
-    (splat_is_map octets 16 10 long) in
-    let offsets = chosen _ _ _ octets are_numbers (splat_is_map octets 16 48 long) (splat_is_map octets 16 87 long) in
-    zip2_of_maps _ _ _ octets halves offsets ∙ same_of_octets _ high_digit refl octets fits
+    looked_up DIGITS (λ x. x / 16) octets _ c.fits-octets (zip2_splat down octets 16 4 c.fits-octets.0) (λ x h. omega (arith, h))
+    ∙ same_of_octets _ high_digit refl octets c.fits-octets.1
