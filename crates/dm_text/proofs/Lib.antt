@@ -4,8 +4,10 @@ pub mod Decoded
 pub mod Digits
 mod Firsts
 mod Lookups
+mod Marks
 pub mod Numerals
 mod Places
+mod Read
 mod Runs
 mod Splats
 pub mod Splits

@@ -1,16 +1,11 @@
 -- Digits that are read sixteen at once.
-use Rattle.std.proofs.Common.{◌≡◌, ◌<◌, ◌≤◌, ◌*◌, ◌+◌, ◌%◌, inl, inr, ℕ, Bool, true, false, None, Result, Ok, Err, List, [], ◌∷◌, ◌++◌}
-use Rattle.std.proofs.Common.{zero, suc, nat_eq, length, take, drop, map, cond, leb, append_assoc, refl, sym, arith, ap, ◌∙◌}
+use Rattle.std.proofs.Common.{◌≡◌, ◌<◌, ◌≤◌, ◌*◌, ◌+◌, ◌%◌, inl, inr, ℕ, Bool, true, false, Result, Ok, Err, List, [], ◌∷◌, ◌++◌}
+use Rattle.std.proofs.Common.{length, take, map, cond, leb, append_assoc, refl, sym, arith, ap, ◌∙◌}
 use Rattle.std.proofs.lemmas.Bool.{leb-true, leb-false}
-use Rattle.std.proofs.lemmas.List.{length-map}
-use Rattle.std.proofs.lemmas.Simd.{length-chunk, chunk-drop, take_more_put_chunk}
-use Rattle.std.specs.Simd.Lanes.{chunk, put_chunk}
-use Rattle.std.specs.Result.{result_ok}
 use Rattle.hex.specs.Hex.{decode_pairs}
 use Rattle.hex.specs.declared.error.FromHexError.{FromHexError}
-use Rattle.hex.proofs.HexLemmas.{decode_of-even}
 use Rattle.hex.proofs.Pairs.{cons_byte, decode_pairs-ok_pair, decode_pairs-err_pair, decode_start}
-use Rattle.dm_text.specs.Hexadecimal.{digit_worth, word_octets}
+use Rattle.dm_text.specs.Hexadecimal.{digit_worth}
 use Rattle.dm_text.specs.SideBySide.{bad_lanes, paired, read_behind, ReadUpTo}
 use Rattle.dm_text.proofs.Decoded.{pair_reads, pair_fails, prepended}
 
@@ -28,7 +23,7 @@ read_behind-twice front more (Ok rest) = ap Ok (sym (append_assoc front more res
 read_behind-twice front more (Err e) = refl
 
 -- no bit is set, so the first value is a digit's
-first_good : (worth lanes : ℕ) → cond (leb 16 worth) 1 0 + 2 * lanes ≡ 0 → (worth ≤ 15) × (lanes ≡ 0)
+pub first_good : (worth lanes : ℕ) → cond (leb 16 worth) 1 0 + 2 * lanes ≡ 0 → (worth ≤ 15) × (lanes ≡ 0)
 first_good worth lanes = by (leb 16 worth) refl where
   by : (b : Bool) → leb 16 worth ≡ b → cond b 1 0 + 2 * lanes ≡ 0 → (worth ≤ 15) × (lanes ≡ 0)
   by true is none = absurd (omega (arith, none))
@@ -85,47 +80,10 @@ bad_run (a ∷ b ∷ digits) rest i even bad =
                 ∙ ap (cons_byte v) no.1,
           )
 
-length-paired : (worths : List ℕ) → length worths % 2 ≡ 0 → 2 * length (paired worths) ≡ length worths
+pub length-paired : (worths : List ℕ) → length worths % 2 ≡ 0 → 2 * length (paired worths) ≡ length worths
 length-paired [] even = refl
 length-paired (a ∷ []) even = absurd (omega (arith, even))
 length-paired (a ∷ b ∷ worths) even = let more = length-paired worths (omega (arith, even)) in omega (arith, more)
 
 pub read_none : (word octets : List ℕ) → ReadUpTo word octets 0
 read_none word octets = decode_start word octets ∙ prepended (take 0 octets) _
-
--- one run more is read
-pub read_run : (word octets : List ℕ) (i j next : ℕ) → j ≡ 2 * i → next ≡ i + 8 → j + 16 ≤ length word
-    → next ≤ length octets → bad_lanes (map digit_worth (chunk j 16 word)) ≡ 0 → ReadUpTo word octets i
-    → ReadUpTo word (put_chunk i octets (paired (map digit_worth (chunk j 16 word)))) next
-read_run word octets i j next twice is within room good read =
-    let run = chunk j 16 word in
-    let octet_run = paired (map digit_worth run) in
-    let long = length-chunk j 16 word within in
-    let worths = length-map run digit_worth in
-    let eight = length-paired (map digit_worth run) (omega (arith, long, worths)) in
-    let Left : ℕ → Result (List ℕ) FromHexError = λ k. decode_pairs k (drop k word) in
-    let after : j + length run ≡ 2 * next = omega (arith, long, twice, is) in
-    let behind_it : j + 16 ≡ 2 * next = omega (arith, twice, is) in
-    read ∙ ap (λ k. read_behind (take i octets) (Left k)) (sym twice)
-    ∙ ap (λ s. read_behind (take i octets) (decode_pairs j s)) (chunk-drop j 16 word)
-    ∙ ap (read_behind (take i octets)) (good_run run (drop (j + 16) word) j (omega (arith, long)) good)
-    ∙ ap (λ k. read_behind (take i octets) (read_behind octet_run (decode_pairs k (drop (j + 16) word)))) after
-    ∙ ap (λ k. read_behind (take i octets) (read_behind octet_run (decode_pairs (2 * next) (drop k word)))) behind_it
-    ∙ read_behind-twice (take i octets) octet_run _
-    ∙ ap (λ f. read_behind f (Left (2 * next)))
-    (sym (take_more_put_chunk i octets octet_run next (omega (arith, eight, worths, long, is)) room))
-
--- a digit of the run is bad
-pub no_run : (word octets : List ℕ) (i j : ℕ) → j ≡ 2 * i → j + 16 ≤ length word → length word % 2 ≡ 0
-    → 0 < bad_lanes (map digit_worth (chunk j 16 word)) → ReadUpTo word octets i → word_octets word ≡ None
-no_run word octets i j twice within even bad read =
-    let long = length-chunk j 16 word within in
-    let no = bad_run (chunk j 16 word) (drop (j + 16) word) j (omega (arith, long)) bad in
-    ap result_ok (decode_of-even word even ∙ read
-    ∙ ap (λ k. read_behind (take i octets) (decode_pairs k (drop k word))) (sym twice)
-    ∙ ap (λ s. read_behind (take i octets) (decode_pairs j s)) (chunk-drop j 16 word)
-    ∙ ap (read_behind (take i octets)) no.1)
-
-pub some_bad : (lanes : ℕ) → nat_eq lanes 0 ≡ false → 0 < lanes
-some_bad zero is = absurd (cc)
-some_bad (suc n) is = omega arith

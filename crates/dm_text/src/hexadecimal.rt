@@ -1,16 +1,16 @@
 //! Octets in hexadecimal.
-ghost use Rattle.std.specs.Prelude.{◌≡◌, ◌≤◌, ◌+◌, ◌*◌, ◌++◌, true, false, Some, None, length, max, if◌then◌else◌};
+ghost use Rattle.std.specs.Prelude.{◌≡◌, ◌≤◌, ◌+◌, ◌*◌, ◌++◌, ℕ, true, Some, None, length, max, if◌then◌else◌};
 ghost use Rattle.std.specs.Prelude.{◌^◌, OnOk, IfOk, IfSome, IfNone};
 ghost use Rattle.std.specs.Fmt.{WritesOnOk};
 ghost use Rattle.std.specs.Option.{option_map};
 ghost use Rattle.std.specs.String.{string_bytes};
 ghost use Rattle.hex.specs.Hex.{encode_lower};
 ghost use Rattle.dm_text.specs.Hexadecimal.{without_spaces, word_octets, line_octets};
-ghost use Rattle.dm_text.specs.SideBySide.{PutUpTo, ReadUpTo};
+ghost use Rattle.dm_text.specs.SideBySide.{bad_marks, AreRead, HasBadDigit, PutUpTo};
 ghost use Rattle.dm_text.specs.declared.hexadecimal.TheConstants.{OCTETS_AT_ONCE as octets_at_once};
 
 use crate::digit::{digit_worth, digits_of};
-use crate::lanes::{are_good, by_turns, high_digits, joined, low_digits, worths_of};
+use crate::lanes::{are_good, by_turns, high_digits, joined, low_digits, lower_of, marks_of};
 use memchr::memchr;
 use std::alloc::{AllocError, Global};
 use std::simd::prelude::*;
@@ -50,36 +50,81 @@ fn read_digits(word: &[u8], octets: &mut [u8]) -> bool
     requires { length word.now ≡ 2 * length octets.old }
     ensures { word_octets word.now ≡ (if result then Some octets.new else None) }
 {
-    let runs = octets.len() / 8;
-    read_runs(word, octets, runs) && read_few(word, octets, 8 * runs)
-}
-
-/// Reads the digits of so many runs of eight octets. False where a digit is bad.
-fn read_runs(word: &[u8], octets: &mut [u8], runs: usize) -> bool
-    requires twice { length word.now ≡ 2 * length octets.old }
-    requires within { 8 * runs ≤ length octets.old }
-    ensures good { result ≡ true → ReadUpTo word.now octets.new (8 * runs) }
-    ensures bad { result ≡ false → word_octets word.now ≡ None }
-{
-    'runs: for k in 0..runs {
-        let worths = worths_of(u8x16::from_slice(&word[16 * k..]));
-        if !are_good(worths) {
-            return false;
-        }
-        joined(worths).copy_to_slice(&mut octets[8 * k..]);
+    if octets.len() >= 16 {
+        read_many(word, octets)
+    } else if octets.len() >= 8 {
+        read_ends(word, octets)
+    } else {
+        read_few(word, octets)
     }
-    true
 }
 
-/// Reads the digits of the octets from here on. False where a digit is bad.
-fn read_few(word: &[u8], octets: &mut [u8], from: usize) -> bool
+/// Reads the digits of sixteen octets at least. False where a digit is bad.
+fn read_many(word: &[u8], octets: &mut [u8]) -> bool
     requires twice { length word.now ≡ 2 * length octets.old }
-    requires within { from ≤ length octets.old }
-    requires read { ReadUpTo word.now octets.old from }
+    requires many { 16 ≤ length octets.old }
+    ensures { word_octets word.now ≡ (if result then Some octets.new else None) }
+{
+    let runs = (octets.len() - 1) / 16;
+    let last = octets.len() - 16;
+    let lowest = read_runs(word, octets, runs);
+    are_good(lower_of(lowest, read_run(word, octets, last)))
+}
+
+/// Reads the digits of so many runs of sixteen octets. Gives marks that are good where each digit is.
+fn read_runs(word: &[u8], octets: &mut [u8], runs: usize) -> u8x16
+    requires twice { length word.now ≡ 2 * length octets.old }
+    requires within { 16 * runs ≤ length octets.old }
+    ensures good { bad_marks result ≡ 0 → AreRead word.now octets.new (16 * runs) }
+    ensures bad { ¬ (bad_marks result ≡ 0) → HasBadDigit word.now }
+{
+    let mut lowest = u8x16::splat(255);
+    'runs: for k in 0..runs {
+        lowest = lower_of(lowest, read_run(word, octets, 16 * k));
+    }
+    lowest
+}
+
+/// Reads the digits of sixteen octets from here on, which may have been read. Gives marks that are good where each
+/// digit is.
+#[inline(always)]
+fn read_run(word: &[u8], octets: &mut [u8], from: usize) -> u8x16
+    requires twice { length word.now ≡ 2 * length octets.old }
+    requires within { from + 16 ≤ length octets.old }
+    ensures good { bad_marks result ≡ 0 → (i : ℕ) → from ≤ i → AreRead word.now octets.old i →
+        AreRead word.now octets.new (from + 16) }
+    ensures bad { ¬ (bad_marks result ≡ 0) → HasBadDigit word.now }
+{
+    let front = marks_of(u8x16::from_slice(&word[2 * from..]));
+    let back = marks_of(u8x16::from_slice(&word[2 * from + 16..]));
+    joined(front, back).copy_to_slice(&mut octets[from..]);
+    lower_of(front, back)
+}
+
+/// Reads the digits of the first eight octets and of the last eight, which may have some in common. False where a digit
+/// is bad.
+fn read_ends(word: &[u8], octets: &mut [u8]) -> bool
+    requires twice { length word.now ≡ 2 * length octets.old }
+    requires many { 8 ≤ length octets.old }
+    requires few { length octets.old ≤ 16 }
+    ensures { word_octets word.now ≡ (if result then Some octets.new else None) }
+{
+    let last = octets.len() - 8;
+    let front = marks_of(u8x16::from_slice(word));
+    let back = marks_of(u8x16::from_slice(&word[2 * last..]));
+    let read = joined(front, back);
+    read.extract::<0, 8>().copy_to_slice(octets);
+    read.extract::<8, 8>().copy_to_slice(&mut octets[last..]);
+    are_good(lower_of(front, back))
+}
+
+/// Reads the digits one by one. False where a digit is bad.
+fn read_few(word: &[u8], octets: &mut [u8]) -> bool
+    requires { length word.now ≡ 2 * length octets.old }
     ensures { word_octets word.now ≡ (if result then Some octets.new else None) }
 {
     let mut worst = 0;
-    'octets: for i in from..octets.len() {
+    'octets: for i in 0..octets.len() {
         let high = digit_worth(word[2 * i]);
         let low = digit_worth(word[2 * i + 1]);
         worst = larger(worst, larger(high, low));

@@ -1,45 +1,57 @@
 //! Hexadecimal digits, sixteen at once: each in a lane of its own.
 ghost use Rattle.std.specs.Prelude.{◌≡◌, ◌==◌, ◌++◌, map};
 ghost use Rattle.dm_text.specs.Hexadecimal.{digit_worth, high_digit, low_digit};
-ghost use Rattle.dm_text.specs.SideBySide.{bad_lanes, by_turns, paired};
+ghost use Rattle.dm_text.specs.SideBySide.{bad_marks, by_turns, paired, worth_of_mark};
 
 use std::simd::prelude::*;
 
 /// The sixteen digits, in lower case.
 const DIGITS: [u8; 16] = *b"0123456789abcdef";
 
-/// The value of each digit in either case; 255 where the octet is none.
+/// A mark for each digit: 240 and its value in either case; less than 240 where the octet is none.
 #[inline(always)]
-pub(crate) fn worths_of(digits: u8x16) -> u8x16
-    ensures { result ≡ map digit_worth digits }
+pub(crate) fn marks_of(digits: u8x16) -> u8x16
+    ensures { map worth_of_mark result ≡ map digit_worth digits }
 {
-    let numbers = digits - u8x16::splat(b'0');
-    let letters = (digits | u8x16::splat(0x20)) - u8x16::splat(b'a');
-    let is_number = numbers.simd_lt(u8x16::splat(10));
-    let is_letter = letters.simd_lt(u8x16::splat(6));
-    is_number.select(
-        numbers,
-        is_letter.select(letters + u8x16::splat(10), u8x16::splat(255)),
-    )
+    let numbers = (digits + u8x16::splat(198)).saturating_sub(u8x16::splat(6));
+    let letters = ((digits - u8x16::splat(1)) & u8x16::splat(0xdf)) + u8x16::splat(186);
+    numbers.simd_max(letters)
 }
 
-/// Whether each of the values is a digit's.
+/// Whether each of the marks is a digit's.
 #[inline(always)]
-pub(crate) fn are_good(worths: u8x16) -> bool
-    ensures { result ≡ (bad_lanes worths == 0) }
+pub(crate) fn are_good(marks: u8x16) -> bool
+    ensures { result ≡ (bad_marks marks == 0) }
 {
-    worths.simd_ge(u8x16::splat(16)).to_bitmask() == 0
+    marks.simd_lt(u8x16::splat(240)).to_bitmask() == 0
 }
 
-/// The octets that digits of these values stand for, two by two.
+/// The lower mark of each lane: a digit's where both are.
 #[inline(always)]
-pub(crate) fn joined(worths: u8x16) -> u8x8
-    requires { bad_lanes worths ≡ 0 }
-    ensures { result ≡ paired worths }
+pub(crate) fn lower_of(marks: u8x16, others: u8x16) -> u8x16
+    ensures both { bad_marks result ≡ 0 → (bad_marks marks ≡ 0) × (bad_marks others ≡ 0) }
+    ensures each { bad_marks marks ≡ 0 → bad_marks others ≡ 0 → bad_marks result ≡ 0 }
 {
-    let highs: u8x8 = worths.swizzle([0, 2, 4, 6, 8, 10, 12, 14]);
-    let lows: u8x8 = worths.swizzle([1, 3, 5, 7, 9, 11, 13, 15]);
-    highs * u8x8::splat(16) + lows
+    marks.simd_min(others)
+}
+
+/// The octets that thirty-two digits with these marks stand for, two by two. Marks that are no digit's give any.
+#[inline(always)]
+pub(crate) fn joined(front: u8x16, back: u8x16) -> u8x16
+    ensures { bad_marks front ≡ 0 → bad_marks back ≡ 0 →
+        result ≡ paired (map worth_of_mark front ++ map worth_of_mark back) }
+{
+    let front: u8x16 = front.swizzle([0, 2, 4, 6, 8, 10, 12, 14, 1, 3, 5, 7, 9, 11, 13, 15]);
+    let back: u8x16 = back.swizzle([0, 2, 4, 6, 8, 10, 12, 14, 1, 3, 5, 7, 9, 11, 13, 15]);
+    let highs: u8x16 = front.shuffle(
+        back,
+        [0, 1, 2, 3, 4, 5, 6, 7, 16, 17, 18, 19, 20, 21, 22, 23],
+    );
+    let lows: u8x16 = front.shuffle(
+        back,
+        [8, 9, 10, 11, 12, 13, 14, 15, 24, 25, 26, 27, 28, 29, 30, 31],
+    );
+    highs * u8x16::splat(16) + lows + u8x16::splat(16)
 }
 
 /// The digit of each octet's upper half, in lower case.

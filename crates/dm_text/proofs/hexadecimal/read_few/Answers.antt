@@ -1,9 +1,10 @@
 use Rattle.std.proofs.Common.{◌∙◌, ap, refl, arith, max}
 use Rattle.dm_text.proofs.Decoded.{decoded_up_to, decoded_more, decoded_all}
+use Rattle.dm_text.proofs.Runs.{read_none}
 use Rattle.dm_text.proofs.hexadecimal.read_few.Goals as goal
 
 pub octets-init : goal.octets-init
-octets-init c = decoded_up_to c.args.word.now c.args.octets.now c.args.from c.requires.read
+octets-init c = decoded_up_to c.args.word.now c.args.octets.now 0 (read_none c.args.word.now c.args.octets.now)
 
 pub octets-preserved : goal.octets-preserved
 octets-preserved c =
