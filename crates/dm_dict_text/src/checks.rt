@@ -1,6 +1,9 @@
 //! Whether the name and the numbers of an item are good and new.
-ghost use Rattle.std.specs.Prelude.{◌≡◌, [], Some, option_map, unwrap_or, OnOk, IfOk, IfErr};
+ghost use Rattle.std.specs.Prelude.{◌≡◌, [], Some, map, nat_eq, option_map, unwrap_or, OnOk, IfOk, IfErr};
+ghost use Rattle.std.specs.List.{list_any};
+ghost use Rattle.std.specs.Cmp.Lexicographic.{pointwise};
 ghost use Rattle.dm_grammar.specs.Views.{view_word, view_vendor, view_reference_option, view_option, view_command};
+ghost use Rattle.dm_tables.specs.Guesses.{AreGuessed};
 ghost use Rattle.dm_tables.specs.Tables.{defined, IsIndexed, IsTables};
 ghost use Rattle.dm_dict_text.specs.Making.{making};
 ghost use Rattle.dm_dict_text.specs.Meaning.{number, vendor_of};
@@ -10,7 +13,7 @@ ghost use Rattle.dm_dict_text.specs.Faults.{reference_faults, name_faults, code_
 use crate::DictFault;
 use crate::number::{number, optional_number};
 use dm_grammar::{CommandItem, Token, VendorItem, VendorWord};
-use dm_tables::Tables;
+use dm_tables::{NameGuesses, Tables};
 use indexmap::IndexSet;
 
 /// The greatest Command Code (RFC 6733, 3).
@@ -34,26 +37,41 @@ pub fn check_vendor(tables: &Tables, item: &VendorItem<'_>) -> Result<u32, DictF
     Ok(number)
 }
 
+/// Whether a stray has the name. Mostly there is none.
+fn is_stray(strays: &IndexSet<&[u8]>, name: &[u8]) -> bool
+    ensures { result ≡ list_any (pointwise nat_eq name.now) (map (λ k. k.now) strays.now.keys) }
+{
+    !strays.is_empty() && strays.contains(name)
+}
+
 /// Whether an AVP has the name, a stray too.
-pub fn is_defined(tables: &Tables, strays: &IndexSet<&[u8]>, name: &[u8]) -> bool
-    requires { IsIndexed tables.now }
+pub fn is_defined(
+    tables: &Tables,
+    guesses: &NameGuesses,
+    strays: &IndexSet<&[u8]>,
+    name: &[u8],
+) -> bool
+    requires tables { IsTables tables.now }
+    requires guesses { AreGuessed tables.now.avps.items guesses.now.places.items }
     ensures { result ≡ is_defined (making tables.now strays.now) name.now }
 {
-    tables.has_name(name) || strays.contains(name)
+    tables.has_name_by_guess(guesses, name) || is_stray(strays, name)
 }
 
 /// The name of an AVP, which must not be AVP.
 pub fn check_name(
     tables: &Tables,
+    guesses: &NameGuesses,
     strays: &IndexSet<&[u8]>,
     word: Token<'_>,
 ) -> Result<(), DictFault>
-    requires { IsIndexed tables.now }
+    requires tables { IsTables tables.now }
+    requires guesses { AreGuessed tables.now.avps.items guesses.now.places.items }
     ensures good { OnOk result (name_faults (making tables.now strays.now) (view_word word.entry) ≡ []) }
     ensures fault { IfErr result (λ f. first_dict_fault
         (name_faults (making tables.now strays.now) (view_word word.entry)) ≡ Some f) }
 {
-    if word.text == b"AVP".as_slice() || is_defined(tables, strays, word.text) {
+    if word.text == b"AVP".as_slice() || is_defined(tables, guesses, strays, word.text) {
         Err(DictFault::Duplicate(word.line))
     } else {
         Ok(())

@@ -6,6 +6,7 @@ ghost use Rattle.std.specs.Cmp.Lexicographic.{pointwise};
 ghost use Rattle.dm_grammar.specs.Views.{view_vendor, view_avp, view_group, view_command, view_item};
 ghost use Rattle.dm_dict_text.specs.declared.fault.DictFault.TheVariants as faults;
 ghost use Rattle.dm_tables.specs.Definitions.{with_vendor, with_command};
+ghost use Rattle.dm_tables.specs.Guesses.{AreGuessed};
 ghost use Rattle.dm_tables.specs.Sound.{is_sound_avp};
 ghost use Rattle.dm_tables.specs.Tables.{defined, IsTables};
 ghost use Rattle.dm_dict_text.specs.Making.{making};
@@ -22,7 +23,7 @@ use crate::entries::rule;
 use crate::kind::type_named;
 use crate::list::list;
 use dm_grammar::{AvpItem, CommandItem, GroupItem, Item, VendorItem};
-use dm_tables::{AvpDef, CommandDef, Rule, Tables, Values, VendorDef};
+use dm_tables::{AvpDef, CommandDef, NameGuesses, Rule, Tables, Values, VendorDef};
 use dm_value::AvpType;
 use dm_wire::Octets;
 use indexmap::IndexSet;
@@ -52,21 +53,26 @@ fn define_vendor(alloc: Global, tables: &mut Tables, item: &VendorItem<'_>) -> R
 fn place<'a>(
     alloc: Global,
     tables: &mut Tables,
+    guesses: &mut NameGuesses,
     strays: &mut IndexSet<&'a [u8]>,
     name: &'a [u8],
     vendor: Option<Option<u32>>,
     avp: AvpDef,
 ) -> Result<(), DictFault>
     requires tables { IsTables tables.old }
+    requires guesses { AreGuessed tables.old.avps.items guesses.old.places.items }
+    requires named { avp.name ≡ name.now }
     requires new { list_any (pointwise nat_eq name.now) (making tables.old strays.old).strays ≡ false }
     requires sound { (v : Option ℕ) → vendor ≡ Some v → is_sound_avp tables.old.avps.items avp ≡ true }
     ensures added { OnOk result (making tables.new strays.new
         ≡ placed (making tables.old strays.old) name.now (λ _. avp) vendor) }
     ensures tables { OnOk result (IsTables tables.new) }
+    ensures guesses { OnOk result (AreGuessed tables.new.avps.items guesses.new.places.items) }
     ensures fault { IfErr result (λ f. f ≡ faults.NoMemory) }
 {
     match vendor {
         Some(_) => {
+            guesses.note(name, tables.avps.as_slice().len());
             tables.add_avp(alloc, avp)?;
         }
         None => {
@@ -82,18 +88,21 @@ fn place<'a>(
 fn define_avp<'a>(
     alloc: Global,
     tables: &mut Tables,
+    guesses: &mut NameGuesses,
     strays: &mut IndexSet<&'a [u8]>,
     item: &AvpItem<'a>,
 ) -> Result<(), DictFault>
     requires tables { IsTables tables.old }
+    requires guesses { AreGuessed tables.old.avps.items guesses.old.places.items }
     requires worded { is_worded_avp (view_avp item.now) ≡ true }
     ensures good { OnOk result (avp_item_faults (making tables.old strays.old) (view_avp item.now) ≡ []) }
     ensures added { OnOk result (making tables.new strays.new
         ≡ with_item (making tables.old strays.old) (AvpIs (view_avp item.now))) }
     ensures tables { OnOk result (IsTables tables.new) }
+    ensures guesses { OnOk result (AreGuessed tables.new.avps.items guesses.new.places.items) }
     ensures fault { IfErr result (StopsAtFirst (avp_item_faults (making tables.old strays.old) (view_avp item.now))) }
 {
-    check_name(tables, strays, item.name)?;
+    check_name(tables, guesses, strays, item.name)?;
     let (code, vendor) = check_code(tables, item.code, item.vendor)?;
     let name = Octets::from_slice(alloc, item.name.text)?;
     let values = list(alloc, item.values.as_slice())?;
@@ -105,26 +114,29 @@ fn define_avp<'a>(
         rule: Rule::empty(alloc),
         values,
     };
-    place(alloc, tables, strays, item.name.text, vendor, avp)
+    place(alloc, tables, guesses, strays, item.name.text, vendor, avp)
 }
 
 /// Defines a Grouped AVP, or notes its name among the strays where its vendor isn't known.
 fn define_group<'a>(
     alloc: Global,
     tables: &mut Tables,
+    guesses: &mut NameGuesses,
     strays: &mut IndexSet<&'a [u8]>,
     item: &GroupItem<'a>,
 ) -> Result<(), DictFault>
     requires tables { IsTables tables.old }
+    requires guesses { AreGuessed tables.old.avps.items guesses.old.places.items }
     requires worded { is_worded_group (view_group item.now) ≡ true }
     ensures good { OnOk result (group_item_faults (making tables.old strays.old) (view_group item.now) ≡ []) }
     ensures added { OnOk result (making tables.new strays.new
         ≡ with_item (making tables.old strays.old) (GroupIs (view_group item.now))) }
     ensures tables { OnOk result (IsTables tables.new) }
+    ensures guesses { OnOk result (AreGuessed tables.new.avps.items guesses.new.places.items) }
     ensures fault { IfErr result (StopsAtFirst
         (group_item_faults (making tables.old strays.old) (view_group item.now))) }
 {
-    check_name(tables, strays, item.name)?;
+    check_name(tables, guesses, strays, item.name)?;
     let (code, vendor) = check_code(tables, item.code, item.vendor)?;
     let name = Octets::from_slice(alloc, item.name.text)?;
     let rule = rule(alloc, item.rule.as_slice())?;
@@ -136,7 +148,7 @@ fn define_group<'a>(
         rule,
         values: Values::empty(alloc),
     };
-    place(alloc, tables, strays, item.name.text, vendor, avp)
+    place(alloc, tables, guesses, strays, item.name.text, vendor, avp)
 }
 
 /// Defines a command.
@@ -173,21 +185,24 @@ fn define_command(
 fn define<'a>(
     alloc: Global,
     tables: &mut Tables,
+    guesses: &mut NameGuesses,
     strays: &mut IndexSet<&'a [u8]>,
     item: &Item<'a>,
 ) -> Result<(), DictFault>
     requires tables { IsTables tables.old }
+    requires guesses { AreGuessed tables.old.avps.items guesses.old.places.items }
     requires worded { is_worded (view_item item.now) ≡ true }
     ensures good { OnOk result (item_faults (making tables.old strays.old) (view_item item.now) ≡ []) }
     ensures added { OnOk result (making tables.new strays.new
         ≡ with_item (making tables.old strays.old) (view_item item.now)) }
     ensures tables { OnOk result (IsTables tables.new) }
+    ensures guesses { OnOk result (AreGuessed tables.new.avps.items guesses.new.places.items) }
     ensures fault { IfErr result (StopsAtFirst (item_faults (making tables.old strays.old) (view_item item.now))) }
 {
     match item {
         Item::Vendor(item) => define_vendor(alloc, tables, item),
-        Item::Avp(item) => define_avp(alloc, tables, strays, item),
-        Item::Group(item) => define_group(alloc, tables, strays, item),
+        Item::Avp(item) => define_avp(alloc, tables, guesses, strays, item),
+        Item::Group(item) => define_group(alloc, tables, guesses, strays, item),
         Item::Command(item) => define_command(alloc, tables, item),
     }
 }
@@ -196,20 +211,23 @@ fn define<'a>(
 pub fn define_all<'a>(
     alloc: Global,
     tables: &mut Tables,
+    guesses: &mut NameGuesses,
     strays: &mut IndexSet<&'a [u8]>,
     items: &[Item<'a>],
 ) -> Result<(), DictFault>
     requires tables { IsTables tables.old }
+    requires guesses { AreGuessed tables.old.avps.items guesses.old.places.items }
     requires worded { list_all is_worded (map view_item items.now) ≡ true }
     ensures good { OnOk result (items_faults (making tables.old strays.old) (map view_item items.now) ≡ []) }
     ensures added { OnOk result (making tables.new strays.new
         ≡ with_items (making tables.old strays.old) (map view_item items.now)) }
     ensures tables { OnOk result (IsTables tables.new) }
+    ensures guesses { OnOk result (AreGuessed tables.new.avps.items guesses.new.places.items) }
     ensures fault { IfErr result (StopsAtFirst
         (items_faults (making tables.old strays.old) (map view_item items.now))) }
 {
     for item in items {
-        define(alloc, tables, strays, item)?;
+        define(alloc, tables, guesses, strays, item)?;
     }
     Ok(())
 }

@@ -1,13 +1,16 @@
 //! The list of values of an item of a dictionary text (own).
-ghost use Rattle.std.specs.Prelude.{◌≡◌, ◌≤◌, pos, unsigned_abs, [], map, fold, OnOk, IfOk, IfErr};
+ghost use Rattle.std.specs.Prelude.{◌≡◌, ◌≤◌, pos, unsigned_abs, [], ◌∷◌, ◌++◌, true, false, map, fold, OnOk, IfOk, IfErr};
+ghost use Rattle.std.specs.List.{list_any};
 ghost use Rattle.dm_grammar.specs.Views.{view_word, view_value};
+ghost use Rattle.dm_tables.specs.Listed.{has_number};
+ghost use Rattle.dm_tables.specs.Sound.{is_value};
 ghost use Rattle.dm_dict_text.specs.Meaning.{number};
 ghost use Rattle.dm_dict_text.specs.Faults.{StopsAtFirst, listed_value_faults, with_value, value_list_faults};
 
 use crate::DictFault;
 use crate::number::number;
 use dm_grammar::ValueItem;
-use dm_tables::{EnumValue, Values, is_noted, note_number};
+use dm_tables::{EnumValue, NoMemory, Values, is_noted, note_number};
 use dm_wire::Octets;
 use indexmap::IndexSet;
 use std::alloc::Global;
@@ -23,27 +26,89 @@ fn signed(number: u32) -> i32
     number as i32
 }
 
-/// The values of a list so far, their names and their numbers.
+/// The most values among which a name or a number is looked for one by one.
+const SHORT_LIST: usize = 64;
+
+/// The values of a list so far, and the names and the numbers of a long one.
 #[derive(Drop)]
 struct Listing<'a> {
     values: Vec<EnumValue>,
+    is_long: bool,
     names: IndexSet<&'a [u8]>,
     numbers: IndexSet<i32>,
+}
+
+/// Whether one of the values has the name.
+fn is_named_among(values: &[EnumValue], name: &[u8]) -> bool
+    ensures { result ≡ list_any (is_value name.now) values.now }
+{
+    values.iter().any(|value| value.name.as_slice() == name)
+}
+
+/// Whether one of the values has the number.
+fn is_numbered_among(values: &[EnumValue], number: &i32) -> bool
+    ensures { result ≡ list_any (has_number number.now) values.now }
+{
+    values.iter().any(|value| *number == value.number)
 }
 
 impl<'a> Listing<'a> {
     ghost use Rattle.dm_dict_text.specs.Listing.{IsListing};
 
-    /// No values. It never answers want of memory.
-    fn new(alloc: Global) -> Listing<'a>
+    /// No values, of a list that will have so many. It never answers want of memory.
+    fn new(alloc: Global, count: usize) -> Listing<'a>
         ensures empty { result.values.items ≡ [] }
         ensures listing { IsListing result }
     {
         Listing {
             values: Vec::new(alloc),
+            is_long: count > SHORT_LIST,
             names: IndexSet::new(alloc),
             numbers: IndexSet::new(alloc),
         }
+    }
+
+    /// Whether a value has the name.
+    fn has_name(&self, name: &[u8]) -> bool
+        requires { IsListing self.now }
+        ensures { result ≡ list_any (is_value name.now) self.now.values.items }
+    {
+        if self.is_long {
+            self.names.contains(name)
+        } else {
+            is_named_among(self.values.as_slice(), name)
+        }
+    }
+
+    /// Whether a value has the number.
+    fn has_number(&self, number: &i32) -> bool
+        requires { IsListing self.now }
+        ensures { result ≡ list_any (has_number number.now) self.now.values.items }
+    {
+        if self.is_long {
+            is_noted(&self.numbers, number)
+        } else {
+            is_numbered_among(self.values.as_slice(), number)
+        }
+    }
+
+    /// Notes the name and the number of a further value of a long list.
+    fn note(&mut self, name: &'a [u8], number: &i32) -> Result<(), NoMemory>
+        requires listing { IsListing self.old }
+        requires name { list_any (is_value name.now) self.old.values.items ≡ false }
+        requires number { list_any (has_number number.now) self.old.values.items ≡ false }
+        ensures values { self.new.values.items ≡ self.old.values.items }
+        ensures long { self.new.is_long ≡ self.old.is_long }
+        ensures names { OnOk result (self.new.is_long ≡ true → map (λ k. k.now) self.new.names.keys
+            ≡ map (λ v. v.name) self.old.values.items ++ name.now ∷ []) }
+        ensures numbers { OnOk result (self.new.is_long ≡ true → self.new.numbers.keys
+            ≡ map (λ v. v.number) self.old.values.items ++ number.now ∷ []) }
+    {
+        if self.is_long {
+            self.names.insert(name)?;
+            note_number(&mut self.numbers, number)?;
+        }
+        Ok(())
     }
 
     /// The number of a value that may stand behind the others.
@@ -54,11 +119,11 @@ impl<'a> Listing<'a> {
         ensures good { IfOk result (λ _. listed_value_faults self.now.values.items (view_value item.now) ≡ []) }
         ensures fault { IfErr result (StopsAtFirst (listed_value_faults self.now.values.items (view_value item.now))) }
     {
-        if self.names.contains(item.name.text) {
+        if self.has_name(item.name.text) {
             return Err(DictFault::Duplicate(item.name.line));
         }
         let number = signed(number(item.number, VALUE_LIMIT)?);
-        if is_noted(&self.numbers, &number) {
+        if self.has_number(&number) {
             return Err(DictFault::Duplicate(item.number.line));
         }
         Ok(number)
@@ -74,8 +139,7 @@ impl<'a> Listing<'a> {
     {
         let number = self.check(item)?;
         let word = item.name.text;
-        self.names.insert(word)?;
-        note_number(&mut self.numbers, &number)?;
+        self.note(word, &number)?;
         let name = Octets::from_slice(alloc, word)?;
         self.values.push(EnumValue { name, number })?;
         Ok(())
@@ -102,7 +166,7 @@ fn values_of(alloc: Global, items: &[ValueItem<'_>]) -> Result<Vec<EnumValue>, D
     ensures good { IfOk result (λ _. value_list_faults (map view_value items.now) ≡ []) }
     ensures fault { IfErr result (StopsAtFirst (value_list_faults (map view_value items.now))) }
 {
-    let mut listing = Listing::new(alloc);
+    let mut listing = Listing::new(alloc, items.len());
     let done = listing.add_all(alloc, items);
     let Listing { values, .. } = listing;
     done.and(Ok(values))
@@ -114,6 +178,9 @@ pub fn list(alloc: Global, items: &[ValueItem<'_>]) -> Result<Values, DictFault>
     ensures good { IfOk result (λ _. value_list_faults (map view_value items.now) ≡ []) }
     ensures fault { IfErr result (StopsAtFirst (value_list_faults (map view_value items.now))) }
 {
+    if items.is_empty() {
+        return Ok(Values::empty(alloc));
+    }
     let values = values_of(alloc, items)?;
     Ok(Values::new(alloc, values)?)
 }

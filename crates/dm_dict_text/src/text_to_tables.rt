@@ -1,9 +1,10 @@
 //! A text read into tables (RFC 6733, 3.2).
-ghost use Rattle.std.specs.Prelude.{◌≡◌, ◌⊎◌, [], map, true, OnOk, IfOk, IfErr};
+ghost use Rattle.std.specs.Prelude.{◌≡◌, ◌≤◌, ◌+◌, ◌⊎◌, [], length, map, true, OnOk, IfOk, IfErr};
 ghost use Rattle.std.specs.List.{list_all};
 ghost use Rattle.dm_grammar.specs.Views.{view_item};
 ghost use Rattle.dm_dict_text.specs.declared.fault.DictFault.TheVariants as faults;
 ghost use Rattle.dm_tables.specs.Definitions.{nothing_defined};
+ghost use Rattle.dm_tables.specs.Guesses.{AreGuessed};
 ghost use Rattle.dm_tables.specs.Tables.{defined, IsTables, IsDictionary};
 ghost use Rattle.dm_dict_text.specs.Worded.{is_worded};
 ghost use Rattle.dm_dict_text.specs.Meaning.{with_no_strays, with_items};
@@ -14,12 +15,15 @@ use crate::DictFault;
 use crate::define::define_all;
 use crate::unknown::first_unknown;
 use dm_grammar::{Item, read_items};
-use dm_tables::Tables;
+use dm_tables::{NameGuesses, NoMemory, Tables};
 use indexmap::IndexSet;
 use std::alloc::Global;
 
 /// How many AVPs and commands the old tables and the items define.
-fn counted(old: &Tables, items: &[Item<'_>]) -> (usize, usize) {
+fn counted(old: &Tables, items: &[Item<'_>]) -> (usize, usize)
+    ensures avps { result.0 ≤ length old.now.avps.items + length items.now }
+    ensures commands { result.1 ≤ length old.now.commands.items + length items.now }
+{
     let mut avps = old.avps.as_slice().len();
     let mut commands = old.commands.as_slice().len();
     for item in items {
@@ -30,6 +34,59 @@ fn counted(old: &Tables, items: &[Item<'_>]) -> (usize, usize) {
         }
     }
     (avps, commands)
+}
+
+/// Adds the definitions of the items to copies of those of the old tables; the names of strays are put into a set
+/// without any.
+fn add_behind<'a>(
+    alloc: Global,
+    tables: &mut Tables,
+    guesses: &mut NameGuesses,
+    strays: &mut IndexSet<&'a [u8]>,
+    old: &Tables,
+    items: &[Item<'a>],
+) -> Result<(), DictFault>
+    requires tables { IsTables tables.old }
+    requires copy { defined tables.old ≡ defined old.now }
+    requires guesses { AreGuessed tables.old.avps.items guesses.old.places.items }
+    requires none { strays.old.keys ≡ [] }
+    requires old { IsDictionary old.now }
+    requires worded { list_all is_worded (map view_item items.now) ≡ true }
+    ensures good { OnOk result (all_faults (defined old.now) (map view_item items.now) ≡ []) }
+    ensures added { OnOk result (defined tables.new
+        ≡ (with_items (with_no_strays (defined old.now)) (map view_item items.now)).definitions) }
+    ensures dictionary { OnOk result (IsDictionary tables.new) }
+    ensures fault { IfErr result (StopsAtFirst (all_faults (defined old.now) (map view_item items.now))) }
+{
+    define_all(alloc, tables, guesses, strays, items)?;
+    let vendors = old.vendors.items.as_slice().len();
+    match first_unknown(tables, guesses, strays, vendors, items) {
+        Some(fault) => Err(fault),
+        None => Ok(()),
+    }
+}
+
+/// Copies of the definitions of the old tables, in tables without any, with room for so many in all; and the guesses of
+/// their names.
+fn copy_old(
+    alloc: Global,
+    tables: &mut Tables,
+    old: &Tables,
+    avps: usize,
+    commands: usize,
+) -> Result<NameGuesses, NoMemory>
+    requires tables { IsTables tables.old }
+    requires empty { defined tables.old ≡ nothing_defined }
+    requires old { IsDictionary old.now }
+    ensures tables { OnOk result (IsTables tables.new) }
+    ensures copy { OnOk result (defined tables.new ≡ defined old.now) }
+    ensures guesses { IfOk result (λ guesses. AreGuessed tables.new.avps.items guesses.places.items) }
+{
+    tables.reserve(avps, commands)?;
+    tables.add_all(alloc, old)?;
+    let mut guesses = NameGuesses::new(alloc, avps)?;
+    guesses.note_all(tables.avps.as_slice());
+    Ok(guesses)
 }
 
 /// Adds the definitions of the old tables and those of the items to tables without any; the names of strays
@@ -53,14 +110,10 @@ fn add_items<'a>(
     ensures fault { IfErr result (StopsAtFirst (all_faults (defined old.now) (map view_item items.now))) }
 {
     let (avps, commands) = counted(old, items);
-    tables.reserve(avps, commands)?;
-    tables.add_all(alloc, old)?;
-    define_all(alloc, tables, strays, items)?;
-    let vendors = old.vendors.items.as_slice().len();
-    match first_unknown(tables, strays, vendors, items) {
-        Some(fault) => Err(fault),
-        None => Ok(()),
-    }
+    let mut guesses = copy_old(alloc, tables, old, avps, commands)?;
+    let done = add_behind(alloc, tables, &mut guesses, strays, old, items);
+    drop(guesses);
+    done
 }
 
 /// The definitions of the old tables, followed by those of the items.

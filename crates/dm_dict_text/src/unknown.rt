@@ -1,7 +1,8 @@
 //! The names of a dictionary text that nothing defines (RFC 6733, 3.2).
 ghost use Rattle.std.specs.Prelude.{◌≡◌, ◌≤◌, ◌+◌, length, map, take, fold};
 ghost use Rattle.dm_grammar.specs.Views.{view_word, view_reference_option, view_entry, view_item};
-ghost use Rattle.dm_tables.specs.Tables.{IsIndexed};
+ghost use Rattle.dm_tables.specs.Guesses.{AreGuessed};
+ghost use Rattle.dm_tables.specs.Tables.{IsTables};
 ghost use Rattle.dm_dict_text.specs.Making.{making};
 ghost use Rattle.dm_tables.specs.Vendored.{IsVendored};
 ghost use Rattle.dm_dict_text.specs.Meaning.{vendor_count};
@@ -12,20 +13,22 @@ use crate::DictFault;
 use crate::checks::is_defined;
 use crate::kind::type_named;
 use dm_grammar::{EntryItem, Item, Token, VendorWord};
-use dm_tables::{Tables, VendorDef, Vendors};
+use dm_tables::{NameGuesses, Tables, VendorDef, Vendors};
 use indexmap::IndexSet;
 
 /// The fault of an entry that names no AVP.
 fn unknown_entry(
     tables: &Tables,
+    guesses: &NameGuesses,
     strays: &IndexSet<&[u8]>,
     entry: &EntryItem<'_>,
 ) -> Option<DictFault>
-    requires { IsIndexed tables.now }
+    requires tables { IsTables tables.now }
+    requires guesses { AreGuessed tables.now.avps.items guesses.now.places.items }
     ensures { result ≡ first_dict_fault (entry_unknown (making tables.now strays.now) (view_entry entry.now)) }
 {
     let word = entry.name;
-    if word.text == b"AVP".as_slice() || is_defined(tables, strays, word.text) {
+    if word.text == b"AVP".as_slice() || is_defined(tables, guesses, strays, word.text) {
         None
     } else {
         Some(DictFault::UnknownName(word.line))
@@ -35,14 +38,16 @@ fn unknown_entry(
 /// The first fault of entries that name no AVP.
 fn unknown_in_rule(
     tables: &Tables,
+    guesses: &NameGuesses,
     strays: &IndexSet<&[u8]>,
     rule: &[EntryItem<'_>],
 ) -> Option<DictFault>
-    requires { IsIndexed tables.now }
+    requires tables { IsTables tables.now }
+    requires guesses { AreGuessed tables.now.avps.items guesses.now.places.items }
     ensures { result ≡ first_dict_fault (rule_unknown (making tables.now strays.now) (map view_entry rule.now)) }
 {
     for entry in rule {
-        let fault = unknown_entry(tables, strays, entry);
+        let fault = unknown_entry(tables, guesses, strays, entry);
         if fault.is_some() {
             return fault;
         }
@@ -83,11 +88,13 @@ fn unknown_kind(word: Token<'_>) -> Option<DictFault>
 /// first vendors, so many.
 fn unknown_in_item(
     tables: &Tables,
+    guesses: &NameGuesses,
     strays: &IndexSet<&[u8]>,
     first: usize,
     item: &Item<'_>,
 ) -> Option<DictFault>
-    requires { IsIndexed tables.now }
+    requires tables { IsTables tables.now }
+    requires guesses { AreGuessed tables.now.avps.items guesses.now.places.items }
     ensures { result ≡ first_dict_fault (unknown (making tables.now strays.now)
         (take first tables.now.vendors.items.items) (view_item item.now)) }
 {
@@ -97,9 +104,9 @@ fn unknown_in_item(
             unknown_kind(avp.kind).or(unknown_vendor(&tables.vendors, first, avp.vendor))
         }
         Item::Group(group) => unknown_vendor(&tables.vendors, first, group.vendor).or(
-            unknown_in_rule(tables, strays, group.rule.as_slice()),
+            unknown_in_rule(tables, guesses, strays, group.rule.as_slice()),
         ),
-        Item::Command(command) => unknown_in_rule(tables, strays, command.rule.as_slice()),
+        Item::Command(command) => unknown_in_rule(tables, guesses, strays, command.rule.as_slice()),
     }
 }
 
@@ -118,11 +125,13 @@ fn behind(vendors: &[VendorDef], before: usize, item: &Item<'_>) -> usize
 /// vendors, so many, and the others are theirs.
 pub fn first_unknown(
     tables: &Tables,
+    guesses: &NameGuesses,
     strays: &IndexSet<&[u8]>,
     first: usize,
     items: &[Item<'_>],
 ) -> Option<DictFault>
-    requires indexed { IsIndexed tables.now }
+    requires tables { IsTables tables.now }
+    requires guesses { AreGuessed tables.now.avps.items guesses.now.places.items }
     requires within { first ≤ length tables.now.vendors.items.items }
     requires theirs { fold vendors_with (take first tables.now.vendors.items.items) (map view_item items.now)
         ≡ tables.now.vendors.items.items }
@@ -131,7 +140,7 @@ pub fn first_unknown(
 {
     let mut seen = first;
     for item in items {
-        let fault = unknown_in_item(tables, strays, seen, item);
+        let fault = unknown_in_item(tables, guesses, strays, seen, item);
         if fault.is_some() {
             return fault;
         }

@@ -6,3 +6,4 @@ pub mod Only
 pub mod BaseSound
 pub mod Found
 pub mod Numbers
+pub mod Guessed

@@ -15,7 +15,7 @@ use Rattle.dm_tables.specs.Numbered.{with_place}
 use Rattle.dm_tables.proofs.Places.{goes_last}
 
 -- the place of one behind the others
-place_last : {D : Type 0} (p : D → Bool) (i : ℕ) (ds : List D) (d : D)
+pub place_last : {D : Type 0} (p : D → Bool) (i : ℕ) (ds : List D) (d : D)
     → position_from p i (ds ++ d ∷ []) ≡ option_or (position_from p i ds) (cond (p d) (Some (i + length ds)) None)
 place_last p i [] d = rw (add-zero i) refl
 place_last p i (e ∷ ds) d = by (p e) (place_last p (i + 1) ds d)

@@ -81,6 +81,13 @@ coded_place avps code vendor k d h b t =
     let from_zero : 0 + k ≡ k = omega arith in
     only_place (is_coded code vendor) avps 0 k d b t (one_coded avps code vendor h) ∙ ap Some from_zero
 
+-- the place of a definition that has the name is what it finds
+pub named_place : (avps : List AvpDef) (name : List ℕ) (k : ℕ) (d : AvpDef) → each_after is_sound_avp [] avps ≡ true
+    → k < length avps → is_named name (get_or avps k d) ≡ true → position_from (is_named name) 0 avps ≡ Some k
+named_place avps name k d h b t =
+    let from_zero : 0 + k ≡ k = omega arith in
+    only_place (is_named name) avps 0 k d b t (one_named avps name h) ∙ ap Some from_zero
+
 pub one_headed : (commands : List CommandDef) (code : ℕ) (request err : Bool)
     → each_after is_sound_command [] commands ≡ true
     → filter (is_headed code request err) commands ≡ option_to_list (find (is_headed code request err) commands)

@@ -9,6 +9,7 @@ pub mod Sound
 pub mod SoundParts
 pub mod OneOfEach
 pub mod Positions
+pub mod Guesses
 pub mod Vendored
 pub mod Tables
 pub mod Rows

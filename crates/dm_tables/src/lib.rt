@@ -5,6 +5,7 @@
 mod base;
 mod def;
 pub mod laws;
+mod name_guesses;
 mod rows;
 mod rule;
 mod tables;
@@ -15,6 +16,7 @@ pub use base::base_tables;
 pub use def::{AvpDef, CommandDef, VendorDef};
 pub use dm_grammar::Form;
 pub use dm_value::{AvpType, NoMemory};
+pub use name_guesses::NameGuesses;
 pub use rule::{Entry, Rule};
 pub use tables::Tables;
 pub use values::{EnumValue, Values, is_noted, note_number};

@@ -7,9 +7,11 @@ ghost use Rattle.indexmap.specs.IndexMap.{insert_entry};
 ghost use Rattle.dm_tables.specs.Definitions.{is_named, is_coded, is_titled, is_headed};
 ghost use Rattle.dm_tables.specs.Definitions.{with_vendor, with_avp, with_command};
 ghost use Rattle.dm_tables.specs.Sound.{each_after, is_sound_vendor, is_sound_avp, is_sound_command};
+ghost use Rattle.dm_tables.specs.Guesses.{first_guess, AreGuessed};
 
+use crate::name_guesses::NO_GUESS;
 use crate::vendors::Vendors;
-use crate::{AvpDef, CommandDef, NoMemory, VendorDef};
+use crate::{AvpDef, CommandDef, NameGuesses, NoMemory, VendorDef};
 use indexmap::IndexMap;
 use std::alloc::Global;
 
@@ -55,7 +57,9 @@ pub fn member_at<T>(members: &[T], place: Option<usize>) -> Option<&T>
 
 /// The guess at a code's lowest bits, where an AVP of this place has them too: the first one stays, since the AVPs of
 /// most messages are defined first.
-fn first_guess(guess: u16, place: usize) -> u16 {
+fn first_guess(guess: u16, place: usize) -> u16
+    ensures { result ≡ first_guess guess place }
+{
     if guess == u16::MAX {
         u16::try_from(place).unwrap_or(u16::MAX)
     } else {
@@ -207,6 +211,38 @@ impl Tables {
         self.names.get(name).copied()
     }
 
+    /// The place of the AVP of a name, where it stands as guessed.
+    fn guessed_by_name(&self, guess: u16, name: &[u8]) -> Option<usize>
+        requires { IsTables self.now }
+        ensures { IfSome result (λ place.
+            position_from (is_named name.now) 0 self.now.avps.items ≡ Some place) }
+    {
+        let avps = self.avps.as_slice();
+        let place = usize::from(guess);
+        if place < avps.len() && name == avps[place].name.as_slice() {
+            Some(place)
+        } else {
+            None
+        }
+    }
+
+    /// The place of the AVP of a name, by guesses that are these AVPs'. It is that of `place_by_name`, and mostly known
+    /// without the index.
+    pub fn place_by_guess(&self, guesses: &NameGuesses, name: &[u8]) -> Option<usize>
+        requires tables { IsTables self.now }
+        requires guesses { AreGuessed self.now.avps.items guesses.now.places.items }
+        ensures { result ≡ position_from (is_named name.now) 0 self.now.avps.items }
+    {
+        let guess = guesses.guess(name);
+        if guess == NO_GUESS {
+            return None;
+        }
+        match self.guessed_by_name(guess, name) {
+            Some(place) => Some(place),
+            None => self.place_by_name(name),
+        }
+    }
+
     /// The place of the AVP of a code and vendor, by their index.
     fn indexed_place(&self, code: u32, vendor: Option<u32>) -> Option<usize>
         requires { IsIndexed self.now }
@@ -296,6 +332,15 @@ impl Tables {
         ensures { result ≡ list_any (is_named name.now) self.now.avps.items }
     {
         self.avp_by_name(name).is_some()
+    }
+
+    /// Whether there is an AVP of the name, by guesses that are these AVPs'.
+    pub fn has_name_by_guess(&self, guesses: &NameGuesses, name: &[u8]) -> bool
+        requires tables { IsTables self.now }
+        requires guesses { AreGuessed self.now.avps.items guesses.now.places.items }
+        ensures { result ≡ list_any (is_named name.now) self.now.avps.items }
+    {
+        self.place_by_guess(guesses, name).is_some()
     }
 
     /// Whether there is an AVP of the code and vendor.

@@ -1,11 +1,12 @@
 //! The values that an Enumerated AVP lists (RFC 6733, 4.3.1).
-ghost use Rattle.std.specs.Prelude.{◌≡◌, [], ℤ, IfOk, OnOk, find};
+ghost use Rattle.std.specs.Prelude.{◌≡◌, ◌<◌, [], ℤ, length, IfOk, OnOk, find};
 ghost use Rattle.std.specs.List.{list_any, position_from};
 ghost use Rattle.std.specs.Map.{lookup};
 ghost use Rattle.std.specs.Option.{option_copied, option_map};
 ghost use Rattle.std.specs.Ordering.{int_eq};
 ghost use Rattle.indexmap.specs.IndexSet.{insert_key};
 ghost use Rattle.dm_tables.specs.Listed.{has_number, is_unlisted};
+ghost use Rattle.dm_tables.specs.Limits.{short_list};
 ghost use Rattle.dm_tables.specs.Numbered.{with_place};
 
 use crate::NoMemory;
@@ -41,6 +42,7 @@ impl Clone for EnumValue {
 #[derive(Debug, Drop)]
 pub struct Values {
     items: Vec<EnumValue>,
+    /// The places of the numbers of a long list.
     places: IndexMap<i32, usize>,
 }
 
@@ -56,6 +58,9 @@ impl Model for Values {
 
     ghost invariant = { IsNumbered };
 }
+
+/// The most values among which a number is sooner found one by one than by its hash.
+const SHORT_LIST: usize = 8;
 
 /// Puts a number behind the others, if it isn't there.
 pub fn note_number(numbers: &mut IndexSet<i32>, number: &i32) -> Result<(), AllocError>
@@ -101,6 +106,32 @@ fn places_of(alloc: Global, values: &[EnumValue]) -> Result<IndexMap<i32, usize>
     Ok(places)
 }
 
+/// Where the first value of each number of a long list stands. Those of a short one aren't wanted.
+fn index(alloc: Global, values: &[EnumValue]) -> Result<IndexMap<i32, usize>, AllocError>
+    ensures { IfOk result (λ places. short_list < length values.now → (n : ℤ)
+        → lookup (int_eq n) places.entries ≡ position_from (has_number n) 0 values.now) }
+{
+    if values.len() <= SHORT_LIST {
+        Ok(IndexMap::new(alloc))
+    } else {
+        places_of(alloc, values)
+    }
+}
+
+/// The first of the values that has the number, one after the other.
+fn value_among<'a>(values: &'a [EnumValue], number: &i32) -> Option<&'a EnumValue>
+    ensures { option_copied result ≡ find (has_number number.now) values.now }
+{
+    values.iter().find(|value| *number == value.number)
+}
+
+/// Whether one of the values has the number, one after the other.
+fn is_listed_among(values: &[EnumValue], number: &i32) -> bool
+    ensures { result ≡ list_any (has_number number.now) values.now }
+{
+    values.iter().any(|value| *number == value.number)
+}
+
 impl Values {
     /// No values. It never answers want of memory.
     pub fn empty(alloc: Global) -> Values
@@ -117,7 +148,7 @@ impl Values {
     pub fn new(alloc: Global, values: Vec<EnumValue>) -> Result<Values, NoMemory>
         ensures { IfOk result (λ list. list ≡ values.items) }
     {
-        let places = places_of(alloc, values.as_slice())?;
+        let places = index(alloc, values.as_slice())?;
         Ok(Values {
             items: values,
             places,
@@ -135,6 +166,18 @@ impl Values {
     fn lists(&self, number: &i32) -> bool
         ensures { result ≡ list_any (has_number number.now) self.now }
     {
+        if self.items.len() <= SHORT_LIST {
+            is_listed_among(self.items.as_slice(), number)
+        } else {
+            self.is_indexed(number)
+        }
+    }
+
+    /// The same of a long list, by the index.
+    fn is_indexed(&self, number: &i32) -> bool
+        requires { short_list < length self.now }
+        ensures { result ≡ list_any (has_number number.now) self.now }
+    {
         self.places.contains_key(number)
     }
 
@@ -149,6 +192,18 @@ impl Values {
     /// The first value of the number. It never answers want of memory, and takes no longer for a
     /// longer list.
     fn first_of(&self, number: &i32) -> Option<&EnumValue>
+        ensures { option_copied result ≡ find (has_number number.now) self.now }
+    {
+        if self.items.len() <= SHORT_LIST {
+            value_among(self.items.as_slice(), number)
+        } else {
+            self.first_indexed(number)
+        }
+    }
+
+    /// The same of a long list, by the index.
+    fn first_indexed(&self, number: &i32) -> Option<&EnumValue>
+        requires { short_list < length self.now }
         ensures { option_copied result ≡ find (has_number number.now) self.now }
     {
         let place = self.places.get(number).copied();
@@ -172,7 +227,7 @@ impl Clone for Values {
 
     fn clone(&self) -> Result<Values, AllocError> {
         let items = self.items.clone()?;
-        let places = places_of(*self.items.allocator(), items.as_slice())?;
+        let places = index(*self.items.allocator(), items.as_slice())?;
         Ok(Values { items, places })
     }
 }

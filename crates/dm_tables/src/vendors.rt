@@ -10,12 +10,32 @@ use crate::{NoMemory, VendorDef};
 use indexmap::{IndexMap, IndexSet};
 use std::alloc::Global;
 
+/// The most vendors among which a name is sooner found one by one than by its hash.
+const FEW_VENDORS: usize = 16;
+
 /// Vendors in order, where each stands among them by its name, and their numbers.
 #[derive(Debug, Drop)]
 pub struct Vendors {
     pub items: Vec<VendorDef>,
     pub names: IndexMap<Vec<u8>, usize>,
     pub numbers: IndexSet<u32>,
+}
+
+/// The first of the vendors that has the name, one after the other.
+fn vendor_among<'a>(vendors: &'a [VendorDef], name: &[u8]) -> Option<&'a VendorDef>
+    ensures { option_copied result ≡ find (is_vendor name.now) vendors.now }
+{
+    vendors.iter().find(|vendor| vendor.name.as_slice() == name)
+}
+
+/// Whether one of the first of the vendors, so many, has the name, one after the other.
+fn is_vendor_among(vendors: &[VendorDef], first: usize, name: &[u8]) -> bool
+    ensures { result ≡ list_any (is_vendor name.now) (take first vendors.now) }
+{
+    vendors
+        .iter()
+        .take(first)
+        .any(|vendor| vendor.name.as_slice() == name)
 }
 
 impl Vendors {
@@ -52,6 +72,18 @@ impl Vendors {
         requires { IsVendored self.now }
         ensures { option_copied result ≡ find (is_vendor name.now) self.now.items.items }
     {
+        if self.items.len() <= FEW_VENDORS {
+            vendor_among(self.items.as_slice(), name)
+        } else {
+            self.indexed_by_name(name)
+        }
+    }
+
+    /// The vendor of a name, by the index.
+    fn indexed_by_name(&self, name: &[u8]) -> Option<&VendorDef>
+        requires { IsVendored self.now }
+        ensures { option_copied result ≡ find (is_vendor name.now) self.now.items.items }
+    {
         let place = self.names.get(name).copied();
         member_at(self.items.as_slice(), place)
     }
@@ -77,6 +109,18 @@ impl Vendors {
 
     /// Whether one of the first vendors, so many, has the name.
     pub fn has_name_among(&self, first: usize, name: &[u8]) -> bool
+        requires { IsVendored self.now }
+        ensures { result ≡ list_any (is_vendor name.now) (take first self.now.items.items) }
+    {
+        if self.items.len() <= FEW_VENDORS {
+            is_vendor_among(self.items.as_slice(), first, name)
+        } else {
+            self.is_indexed_among(first, name)
+        }
+    }
+
+    /// The same, by the index.
+    fn is_indexed_among(&self, first: usize, name: &[u8]) -> bool
         requires { IsVendored self.now }
         ensures { result ≡ list_any (is_vendor name.now) (take first self.now.items.items) }
     {

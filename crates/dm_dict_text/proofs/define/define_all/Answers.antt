@@ -25,6 +25,7 @@ define-requires-clause-worded c =
 pub loop-item-preserved : goal.loop-item-preserved
 loop-item-preserved c = record {
   tables = c.in_ok-define.ensures.tables;
+  guesses = c.in_ok-define.ensures.guesses;
   worded = (next_passes is_worded view_item c.args.items.now c.loop-item.item-index _ c.item-item.result
       c.loop-item-test.true c.item-item.is c.loop-item.invariant.worded).1;
   along = along_next item_faults with_item view_item _ (making c.loop-item.tables c.loop-item.strays)
