@@ -1,5 +1,5 @@
 //! Octets in hexadecimal.
-ghost use Rattle.std.specs.Prelude.{◌≡◌, ◌≤◌, ◌+◌, ◌*◌, ◌++◌, ℕ, true, Some, None, length, max, if◌then◌else◌};
+ghost use Rattle.std.specs.Prelude.{◌≡◌, ◌≤◌, ◌+◌, ◌*◌, ◌++◌, ℕ, true, false, Some, None, length, max, if◌then◌else◌};
 ghost use Rattle.std.specs.Prelude.{◌^◌, OnOk, IfOk, IfSome, IfNone};
 ghost use Rattle.std.specs.Fmt.{WritesOnOk};
 ghost use Rattle.std.specs.Option.{option_map};
@@ -67,22 +67,25 @@ fn read_many(word: &[u8], octets: &mut [u8]) -> bool
 {
     let runs = (octets.len() - 1) / 16;
     let last = octets.len() - 16;
-    let lowest = read_runs(word, octets, runs);
-    are_good(lower_of(lowest, read_run(word, octets, last)))
+    if !read_runs(word, octets, runs) {
+        return false;
+    }
+    are_good(read_run(word, octets, last))
 }
 
-/// Reads the digits of so many runs of sixteen octets. Gives marks that are good where each digit is.
-fn read_runs(word: &[u8], octets: &mut [u8], runs: usize) -> u8x16
+/// Reads the digits of so many runs of sixteen octets. False where a digit is bad; what is behind its run isn't read.
+fn read_runs(word: &[u8], octets: &mut [u8], runs: usize) -> bool
     requires twice { length word.now ≡ 2 * length octets.old }
     requires within { 16 * runs ≤ length octets.old }
-    ensures good { bad_marks result ≡ 0 → AreRead word.now octets.new (16 * runs) }
-    ensures bad { ¬ (bad_marks result ≡ 0) → HasBadDigit word.now }
+    ensures good { result ≡ true → AreRead word.now octets.new (16 * runs) }
+    ensures bad { result ≡ false → HasBadDigit word.now }
 {
-    let mut lowest = u8x16::splat(255);
     'runs: for k in 0..runs {
-        lowest = lower_of(lowest, read_run(word, octets, 16 * k));
+        if !are_good(read_run(word, octets, 16 * k)) {
+            return false;
+        }
     }
-    lowest
+    true
 }
 
 /// Reads the digits of sixteen octets from here on, which may have been read. Gives marks that are good where each
