@@ -27,4 +27,5 @@ pub mod Titles
 pub mod Values
 pub mod Vendors
 pub mod Walks
+mod WordRuns
 pub mod Words

@@ -1,7 +1,8 @@
 //! The text's octets to its tokens.
 
-ghost use Rattle.std.specs.Prelude.{◌≡◌, ◌≤◌, ◌<◌, ◌+◌, ◌*◌, length, take, drop, IfSome, IfOk, map};
+ghost use Rattle.std.specs.Prelude.{◌≡◌, ◌≤◌, ◌<◌, ◌+◌, ◌*◌, length, take, drop, not, IfSome, IfOk, map};
 ghost use Rattle.std.specs.List.{count_by, prefix_len};
+ghost use Rattle.std.specs.Simd.Lanes.{mask_l};
 ghost use Rattle.dm_grammar.specs.Symbols.{begins_word, goes_on, is_line_feed, is_space, not_line_end};
 ghost use Rattle.dm_grammar.specs.Tokens.{lexeme_of, last_line, tokens, Sees};
 ghost use Rattle.dm_grammar.specs.Views.{view_word};
@@ -31,6 +32,47 @@ fn is_space(octet: u8) -> bool
 
 /// How many octets of a word the text begins with.
 fn word_len(text: &[u8]) -> usize
+    ensures { result ≡ prefix_len goes_on text.now }
+{
+    let mut n = 0;
+    while text.len() - n >= 16 {
+        let run = word_run(u8x16::from_slice(&text[n..]));
+        n += run;
+        if run < 16 {
+            return n;
+        }
+    }
+    n + word_len_of_few(&text[n..])
+}
+
+/// How many of sixteen octets stand before the first that is none of a word's.
+#[inline(always)]
+fn word_run(octets: u8x16) -> usize
+    ensures value { result ≡ prefix_len goes_on octets }
+    ensures within { result ≤ 16 }
+{
+    let ends = word_ends(octets);
+    if ends == 0 {
+        16
+    } else {
+        ends.trailing_zeros() as usize
+    }
+}
+
+/// A bit for each octet that is none of a word's.
+#[inline(always)]
+fn word_ends(octets: u8x16) -> u64
+    ensures { result ≡ mask_l (map (λ c. not (goes_on c)) octets) }
+{
+    let numbers = (octets - u8x16::splat(b'0')).simd_lt(u8x16::splat(10));
+    let letters = ((octets | u8x16::splat(0x20)) - u8x16::splat(b'a')).simd_lt(u8x16::splat(26));
+    let none = u8x16::splat(0);
+    let others = letters.select(none, octets ^ u8x16::splat(b'-'));
+    numbers.select(none, others).simd_gt(none).to_bitmask()
+}
+
+/// How many octets of a word a few octets begin with.
+fn word_len_of_few(text: &[u8]) -> usize
     ensures { result ≡ prefix_len goes_on text.now }
 {
     let mut n = 0;

@@ -1,4 +1,4 @@
-use Rattle.std.proofs.Common.{◌*◌, ◌/◌, ◌+◌, ◌≡◌, ◌∙◌, ◌-◌, ◌≤◌, length, take, drop, ap, arith}
+use Rattle.std.proofs.Common.{◌*◌, ◌/◌, ◌+◌, ◌∙◌, ◌-◌, length, take, drop, ap, arith}
 use Rattle.std.proofs.lemmas.List.{length-drop, take_all}
 use Rattle.std.specs.List.{count_by}
 use Rattle.dm_grammar.specs.Symbols.{is_line_feed}
