@@ -1,5 +1,5 @@
 -- A peer takes no connection but the one that its event names.
-use Rattle.std.proofs.Common.{◌≡◌, ℕ, zero, suc, Bool, true, false, not, ◌&&◌, ◌==◌, List, [], Option, Some, IsTrue, Result, Ok, Err, IfOk, IfErr, OnErr, refl, sym, ap, subst, ◌∙◌, inl, inr, ◌⊎◌, arith}
+use Rattle.std.proofs.Common.{◌≡◌, ℕ, zero, suc, Bool, true, false, not, ◌&&◌, ◌==◌, List, [], Option, Some, IsTrue, Result, Ok, Err, IfOk, IfErr, OnOk, OnErr, refl, sym, ap, subst, ◌∙◌, inl, inr, ◌⊎◌, arith}
 use Rattle.std.proofs.Math.ListN.{set}
 use Rattle.std.proofs.lemmas.List.{length-set}
 use Rattle.dm_base.specs.Before.{lower}
@@ -193,8 +193,13 @@ pub if_err : {A E : Type 0} {P Q : E → Type 0} (r : Result A E) → ((e : E) �
 if_err (Ok a) f h = tt
 if_err (Err e) f h = f e h
 
-pub moved_or_same : {A E : Type 0} (items : A → List Action) (x y : Peer) (e : PeerEvent) (r : Result A E) →
-    IfOk r (λ a. acts x e ≡ Moved (items a) y) → OnErr r (y ≡ x) →
+-- the same where what is done is put in
+pub if_done : {A E : Type 0} {P Q : Type 0} (r : Result A E) → (P → Q) → OnOk r P → OnOk r Q
+if_done (Ok a) f h = f h
+if_done (Err e) f h = tt
+
+pub done_or_same : {A E : Type 0} (actions : List Action) (x y : Peer) (e : PeerEvent) (r : Result A E) →
+    OnOk r (acts x e ≡ Moved actions y) → OnErr r (y ≡ x) →
     ((actions : List Action) × (acts x e ≡ Moved actions y)) ⊎ (y ≡ x)
-moved_or_same items x y e (Ok a) ok err = inl (items a, ok)
-moved_or_same items x y e (Err f) ok err = inr err
+done_or_same actions x y e (Ok a) ok err = inl (actions, ok)
+done_or_same actions x y e (Err f) ok err = inr err

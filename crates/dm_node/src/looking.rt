@@ -32,6 +32,16 @@ fn holds_it(peer: &Option<Peer>, conn: Conn) -> bool
     }
 }
 
+/// Whether the neighbour of the number holds the connection.
+pub(crate) fn is_held_at(peers: &[Option<Peer>], index: usize, conn: Conn) -> bool
+    ensures { result ≡ holds_at peers.now conn index }
+{
+    match peer_at(peers, index) {
+        Some(peer) => peer.holds(conn),
+        None => false,
+    }
+}
+
 /// The neighbour that holds the connection, looked for one by one.
 pub(crate) fn first_holder(peers: &[Option<Peer>], conn: Conn) -> Option<usize>
     ensures there { IfSome result (λ i. IsSome (peer_at peers.now i)) }

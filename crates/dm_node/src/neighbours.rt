@@ -2,7 +2,7 @@
 use crate::looking::peer_at;
 use crate::roster::Roster;
 use crate::routing::whose;
-use crate::telling::{tell_nobody, tell_one};
+use crate::telling::{tell_nobody, tell_nobody_into, tell_one, tell_one_into};
 use crate::{AddFault, EventFault, NodeActions, NodeEvent};
 use dm_base::Node;
 use dm_peer::{Config, Conn, Peer, State};
@@ -180,6 +180,46 @@ impl Neighbours {
         match whose(&self.roster, event) {
             Ok(Some(index)) => tell_one(alloc, &mut self.roster, index, event),
             Ok(None) => tell_nobody(alloc, &self.node, event),
+            Err(fault) => Err(fault),
+        }
+    }
+
+    /// What the node does at the event, as [`on`](Neighbours::on) does it, put into `answer`, whose actions are none
+    /// before. Behind an `Err` what is in it is of no use.
+    ///
+    /// # Errors
+    /// Those of `on`. The neighbours are as they were after each.
+    #[inline(always)]
+    pub fn on_into(
+        &mut self,
+        alloc: Global,
+        event: NodeEvent<'_>,
+        answer: &mut NodeActions,
+    ) -> Result<(), EventFault>
+        requires none { answer.old.actions.items ≡ [] }
+        ensures concerned { OnOk result (IfSome answer.new.neighbour (Concerns self.old.peers event.entry)) }
+        ensures told { OnOk result (IfSome answer.new.neighbour (λ i.
+            PeerIsTold self.old.peers self.new.peers i (told_of event.entry) answer.new.actions.items)) }
+        ensures nobody { OnOk result (IfNone answer.new.neighbour
+            ((i : ℕ) → Concerns self.old.peers event.entry i → ⊥)) }
+        ensures strange { OnOk result (IfNone answer.new.neighbour ((self.new.peers ≡ self.old.peers)
+            × (answer.new.actions.items ≡ strange self.old.node event.entry))) }
+        ensures misdirected { (f : EventFault) → IsMisdirected self.old.peers event.entry f → result ≡ Err f }
+        ensures refused { IfErr result (IsRefusedHere self.old.peers event.entry) }
+        ensures ruled { IfErr result (IsByRule self.old.peers event.entry) }
+        ensures refuses { (i : ℕ) (f : PeerFault) → IsDirected self.old.peers event.entry
+            → Concerns self.old.peers event.entry i → IsRuledOut self.old.peers i (told_of event.entry) f
+            → result ≡ Err (of_peer f) }
+        ensures silent { (i : ℕ) → Concerns self.old.peers event.entry i
+            → TakesNoMemory self.old.peers i (told_of event.entry)
+            → IfErr result (IsDeclinedHere self.old.peers event.entry) }
+        ensures unchanged { OnErr result (self.new.peers ≡ self.old.peers) }
+        ensures node { self.new.node ≡ self.old.node }
+        ensures spelled { OnOk result (All SendsSpelling answer.new.actions.items) }
+    {
+        match whose(&self.roster, event) {
+            Ok(Some(index)) => tell_one_into(alloc, &mut self.roster, index, event, answer),
+            Ok(None) => tell_nobody_into(alloc, &self.node, event, answer),
             Err(fault) => Err(fault),
         }
     }

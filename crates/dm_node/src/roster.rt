@@ -16,19 +16,35 @@ use crate::adding::{make_room, push, put};
 use crate::counting::{one_less, one_more};
 use crate::emptying::{set_back_at, set_back_each, take_at};
 use crate::hosts::Hosts;
+use crate::looking::is_held_at;
 use crate::owners::{Owners, holding_at};
 use dm_dict::NoMemory;
 use dm_peer::{Config, Conn, Peer};
 use std::alloc::Global;
+use std::fmt::{self, Debug, Formatter, Write};
 
 /// A peer for each neighbour, in order of adding, and the numbers of the neighbours by what they are asked for.
-#[derive(Debug, Drop)]
+#[derive(Drop)]
 pub(crate) struct Roster {
     pub(crate) peers: Vec<Option<Peer>>,
     pub(crate) owners: Owners,
     pub(crate) hosts: Hosts,
     /// How many neighbours there are.
     pub(crate) present: usize,
+    /// The number of the neighbour that was told an event last. Who looks for a holder asks it first.
+    pub(crate) last: usize,
+}
+
+impl Debug for Roster {
+    /// All but the number by which the look-up begins.
+    fn fmt<W: Write>(&self, f: &mut Formatter<W>) -> fmt::Result {
+        f.debug_struct("Roster")
+            .field("peers", &self.peers)
+            .field("owners", &self.owners)
+            .field("hosts", &self.hosts)
+            .field("present", &self.present)
+            .finish()
+    }
 }
 
 impl Roster {
@@ -42,16 +58,21 @@ impl Roster {
             owners: Owners::new(alloc),
             hosts: Hosts::new(alloc),
             present: 0,
+            last: 0,
         }
     }
 
     /// The neighbour that holds the connection.
+    #[tactic(auto, using(crate::proofs::Owned::holder_there))]
     pub(crate) fn holder(&self, conn: Conn) -> Option<usize>
         requires { IsRoster self.now }
         ensures there { IfSome result (λ i. IsSome (peer_at self.now.peers.items i)) }
         ensures found { IfSome result (λ i. holds_at self.now.peers.items conn i ≡ true) }
         ensures none { IfNone result ((j : ℕ) → holds_at self.now.peers.items conn j ≡ false) }
     {
+        if is_held_at(&self.peers, self.last, conn) {
+            return Some(self.last);
+        }
         self.owners.holder(&self.peers, conn)
     }
 

@@ -58,6 +58,7 @@ fn numbered(peers: &[Option<Peer>], index: usize) -> Result<Option<usize>, Event
 }
 
 /// Whose the event is: of one neighbour, or of none.
+#[inline(always)]
 pub(crate) fn whose(roster: &Roster, event: NodeEvent<'_>) -> Result<Option<usize>, EventFault>
     requires { IsRoster roster.now }
     ensures there { IfOk result (λ o. IfSome o (λ i. IsSome (peer_at roster.now.peers.items i))) }

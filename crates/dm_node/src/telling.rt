@@ -1,5 +1,5 @@
 //! One neighbour of many is told an event.
-ghost use Rattle.std.specs.Prelude.{◌≡◌, ◌⊎◌, ℕ, true, None, Some, Err, IsSome, IfOk, IfErr, OnErr, All};
+ghost use Rattle.std.specs.Prelude.{◌≡◌, ◌⊎◌, ℕ, true, None, Some, Err, IsSome, IfOk, IfErr, OnOk, OnErr, All, []};
 ghost use Rattle.dm_machine.specs.declared.connection.Conn.{Conn};
 ghost use Rattle.dm_node.specs.Declining.{IsRuledOut, TakesNoMemory, IsDeclined, IsByRule, IsDeclinedHere};
 ghost use Rattle.dm_node.specs.Holding.{peer_at, holds_at, AreApart, AreUnlike};
@@ -28,19 +28,23 @@ use dm_peer::laws::each_event_is_one_step;
 use dm_peer::{Actions, Event, Peer, PeerFault};
 use std::alloc::Global;
 
-/// Tells the neighbour of this number the event. No other holds the connection that it names.
+/// Tells the neighbour of this number the event, and puts what it does into `actions`, which are none before. No other
+/// holds the connection that it names.
+#[inline(always)]
 fn tell(
     alloc: Global,
     peers: &mut Vec<Option<Peer>>,
     index: usize,
     event: Event<'_>,
-) -> Result<Actions, PeerFault>
+    actions: &mut Actions,
+) -> Result<(), PeerFault>
     requires there { IsSome (peer_at peers.old.items index) }
     requires only { (j : ℕ) (c : Conn) → conn_of (event_told event) ≡ Some c → holds_at peers.old.items c j ≡ true
         → j ≡ index }
-    ensures told { IfOk result (λ actions.
-        PeerIsTold peers.old.items peers.new.items index (event_told event.entry) actions.items) }
-    ensures spelled { IfOk result (λ actions. All SendsSpelling actions.items) }
+    requires none { actions.old.items ≡ [] }
+    ensures told { OnOk result (
+        PeerIsTold peers.old.items peers.new.items index (event_told event.entry) actions.new.items) }
+    ensures spelled { OnOk result (All SendsSpelling actions.new.items) }
     ensures refused { IfErr result (IsRefusedBy peers.old.items index (event_told event.entry)) }
     ensures ruled { IfErr result (λ f. (f ≡ peer_faults.NoMemory)
         ⊎ IsRuledOut peers.old.items index (event_told event.entry) f) }
@@ -58,9 +62,50 @@ fn tell(
     match &mut peers[index] {
         Some(peer) => {
             let _state = peer.state();
-            peer.on(alloc, event)
+            peer.on_into(alloc, event, actions)
         }
         None => unreachable!(),
+    }
+}
+
+/// Tells the neighbour of this number the event, which concerns it and nobody else, and puts what it does into `answer`,
+/// whose actions are none before.
+#[inline(always)]
+pub(crate) fn tell_one_into(
+    alloc: Global,
+    roster: &mut Roster,
+    index: usize,
+    event: NodeEvent<'_>,
+    answer: &mut NodeActions,
+) -> Result<(), EventFault>
+    requires roster { IsRoster roster.old }
+    requires there { IsSome (peer_at roster.old.peers.items index) }
+    requires concerned { Concerns roster.old.peers.items event index }
+    requires alone { IsAlone roster.old.peers.items (told_of event) index }
+    requires none { answer.old.actions.items ≡ [] }
+    ensures neighbour { OnOk result (answer.new.neighbour ≡ Some index) }
+    ensures told { OnOk result (PeerIsTold roster.old.peers.items roster.new.peers.items index (told_of event.entry)
+        answer.new.actions.items) }
+    ensures spelled { OnOk result (All SendsSpelling answer.new.actions.items) }
+    ensures refused { IfErr result (IsRefusedHere roster.old.peers.items event.entry) }
+    ensures ruled { IfErr result (IsByRule roster.old.peers.items event.entry) }
+    ensures refuses { (f : PeerFault) → IsRuledOut roster.old.peers.items index (told_of event.entry) f
+        → result ≡ Err (faults.Peer f) }
+    ensures silent { TakesNoMemory roster.old.peers.items index (told_of event.entry)
+        → IfErr result (IsDeclinedHere roster.old.peers.items event.entry) }
+    ensures unchanged { OnErr result (roster.new.peers.items ≡ roster.old.peers.items) }
+    ensures roster { IsRoster roster.new }
+{
+    let before = holding_at(&roster.peers, index);
+    let told = told_of(event);
+    match tell(alloc, &mut roster.peers, index, told, &mut answer.actions) {
+        Ok(()) => {
+            roster.owners.settle(&roster.peers, before, index);
+            roster.last = index;
+            answer.neighbour = Some(index);
+            Ok(())
+        }
+        Err(fault) => Err(EventFault::Peer(fault)),
     }
 }
 
@@ -88,16 +133,13 @@ pub(crate) fn tell_one(
     ensures unchanged { OnErr result (roster.new.peers.items ≡ roster.old.peers.items) }
     ensures roster { IsRoster roster.new }
 {
-    let before = holding_at(&roster.peers, index);
-    match tell(alloc, &mut roster.peers, index, told_of(event)) {
-        Ok(actions) => {
-            roster.owners.settle(&roster.peers, before, index);
-            Ok(NodeActions {
-                neighbour: Some(index),
-                actions,
-            })
-        }
-        Err(fault) => Err(EventFault::Peer(fault)),
+    let mut answer = NodeActions {
+        neighbour: None,
+        actions: ArrayVec::new(),
+    };
+    match tell_one_into(alloc, roster, index, event, &mut answer) {
+        Ok(()) => Ok(answer),
+        Err(fault) => Err(fault),
     }
 }
 
@@ -130,5 +172,27 @@ pub(crate) fn tell_nobody(
             actions,
         }),
         Err(_) => Err(EventFault::Peer(PeerFault::NoMemory)),
+    }
+}
+
+/// What the node does at an event that concerns no neighbour, put into `answer`.
+#[inline(never)]
+pub(crate) fn tell_nobody_into(
+    alloc: Global,
+    node: &Node,
+    event: NodeEvent<'_>,
+    answer: &mut NodeActions,
+) -> Result<(), EventFault>
+    ensures nobody { OnOk result (answer.new.neighbour ≡ None) }
+    ensures done { OnOk result (answer.new.actions.items ≡ strange node.now event.entry) }
+    ensures spelled { OnOk result (All SendsSpelling answer.new.actions.items) }
+    ensures memory { IfErr result (λ f. (f ≡ faults.Peer peer_faults.NoMemory) × IsStrangeCer event.entry) }
+{
+    match tell_nobody(alloc, node, event) {
+        Ok(told) => {
+            *answer = told;
+            Ok(())
+        }
+        Err(fault) => Err(fault),
     }
 }

@@ -1,5 +1,5 @@
 //! Peers: one event is one step.
-ghost use Rattle.std.specs.Prelude.{◌≡◌, ℕ, ◌<◌, ◌^◌, ◌⊎◌, IfOk, IfErr, OnErr, IsTrue, true, Some, Err, List, All};
+ghost use Rattle.std.specs.Prelude.{◌≡◌, ℕ, ◌<◌, ◌^◌, ◌⊎◌, IfOk, IfErr, OnOk, OnErr, IsTrue, true, [], Some, Err, List, All};
 ghost use Rattle.dm_machine.specs.Moves as moves;
 ghost use Rattle.dm_machine.specs.Node.{held_as, is_shaped};
 ghost use Rattle.dm_machine.specs.declared.connection.Conn.{Conn};
@@ -60,6 +60,7 @@ impl Peer {
     /// `NotClosed` for a Start outside Closed, `NotOpen` for a Stop or Submit outside R-Open and I-Open, `BadSubmit`
     /// for octets that are no message, or one of command 257, 280 or 282, and `NoMemory`, which comes only where
     /// something is sent or handed up. The peer is as it was after each.
+    #[inline(always)]
     pub fn on(&mut self, alloc: Global, event: Event<'_>) -> Result<Actions, PeerFault>
         ensures acts { IfOk result (λ actions. acts self.old (event_told event.entry) ≡ Moved actions.items self.new) }
         ensures refused { IfErr result (IsRefused (acts self.old (event_told event.entry))) }
@@ -85,6 +86,39 @@ impl Peer {
         let mut actions = ArrayVec::new();
         kept_answer(alloc, self, event, &mut actions)?;
         Ok(actions)
+    }
+
+    /// What the peer does at the event, as [`on`](Peer::on) does it, put into `actions`, which are none before. Behind an
+    /// `Err` what is in them is of no use.
+    ///
+    /// # Errors
+    /// Those of `on`. The peer is as it was after each.
+    #[inline(always)]
+    pub fn on_into(
+        &mut self,
+        alloc: Global,
+        event: Event<'_>,
+        actions: &mut Actions,
+    ) -> Result<(), PeerFault>
+        requires none { actions.old.items ≡ [] }
+        ensures acts { OnOk result (acts self.old (event_told event.entry) ≡ Moved actions.new.items self.new) }
+        ensures refused { IfErr result (IsRefused (acts self.old (event_told event.entry))) }
+        ensures unchanged { OnErr result (self.new ≡ self.old) }
+        ensures ruled { IfErr result (λ f. (f ≡ NoMemory)
+            ⊎ (refusal_of self.old.standing.core.state (event_told event.entry) ≡ Some f)) }
+        ensures refuses { (f : PeerFault) → refusal_of self.old.standing.core.state (event_told event.entry) ≡ Some f
+            → result ≡ Err f }
+        ensures silent { is_silent self.old (event_told event.entry) ≡ true
+            → IfErr result (λ f. acts self.old (event_told event.entry) ≡ Refused f) }
+        ensures spelled { OnOk result (All SendsSpelling actions.new.items) }
+        ensures stranger { (conn : Conn) (octets : List ℕ) → event_told event.entry ≡ Arrived conn octets
+            → AreStrange self.old conn octets
+            → OnOk result (TurnsAway conn actions.new.items × (self.new ≡ self.old)) }
+    {
+        silent_takes_none();
+        refusals_go_by_rule();
+        let _shaped = self.state();
+        kept_answer(alloc, self, event, actions)
     }
 
     /// The configuration. It never answers want of memory.

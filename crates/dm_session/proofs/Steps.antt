@@ -1,5 +1,5 @@
 -- One step of the code on the connections that are there.
-use Rattle.std.proofs.Common.{◌≡◌, ◌≤◌, ◌-◌, ℕ, Bool, true, false, cond, ◌||◌, nat_eq, Option, None, Some, IfSome, is_some, true≢false, List, [], ◌∷◌, length, take, drop, get_or, refl, sym, ap, ◌∙◌, subst, arith}
+use Rattle.std.proofs.Common.{◌≡◌, ◌≤◌, ◌-◌, ℕ, Bool, true, false, cond, ◌||◌, nat_eq, Option, None, Some, IfSome, is_some, true≢false, List, [], ◌∷◌, length, take, drop, get_or, option_map, refl, sym, ap, ◌∙◌, subst, arith}
 use Rattle.std.proofs.lemmas.List.{take_rest}
 use Rattle.std.proofs.lemmas.Bool.{eqb-true}
 use Rattle.std.proofs.Math.Path.{fun_ext}
@@ -9,7 +9,7 @@ use Rattle.dm_peer.specs.declared.actions.Action.TheVariants as action
 use Rattle.dm_session.specs.declared.intake.Front.{Front}
 use Rattle.dm_session.specs.declared.intake.Front.TheVariants.{Nothing, Message, Fault}
 use Rattle.dm_session.specs.Fronts.{IsFront, IsFrontAt}
-use Rattle.dm_session.specs.Intakes.{Intake, Intakes, IsToldOut, actions_close, is_close_of, left_by, taken_down, is_there, with_intake, new_intake}
+use Rattle.dm_session.specs.Intakes.{Intake, Intakes, IsToldOut, actions_close, is_close_of, left_by, taken_down, is_there, with_intake, new_intake, raised_at, with_max}
 use Rattle.dm_session.specs.Hearing.{IsWholeIn, IsNotWhole, IsWholeAt}
 use Rattle.dm_session.specs.Sessions.{Session, with_intakes}
 use Rattle.dm_peer.specs.Events as event
@@ -67,6 +67,19 @@ pub cut_first : (list : List Action) (a : Action) → 1 ≤ length list → a �
     → list ≡ a ∷ take (length list - 1) (drop 1 list)
 cut_first [] a some is = absurd (omega (arith, some))
 cut_first (b ∷ list) a some is = ap (λ v. v ∷ list) (sym is) ∙ ap (λ v. a ∷ v) (sym (take_rest (b ∷ list) 1))
+
+raised_before_at : (c d max : ℕ) (i : Intake) (f : Intakes) → f c ≡ Some i → i.max ≡ max → (b : Bool) → nat_eq c d ≡ b
+    → cond b (option_map (with_max max) (f d)) (f d) ≡ f d
+raised_before_at c d max i f there is true e =
+    let at : f d ≡ Some i = ap f (sym (eqb-true c d e)) ∙ there in
+    subst (λ o. option_map (with_max max) o ≡ o) (sym at)
+    (ap (λ m. Some (with_max m i)) (sym is))
+raised_before_at c d max i f there is false e = refl
+
+-- a connection that takes messages up to the maximum already
+pub raised_before : (c : Conn) (max : ℕ) (i : Intake) (f : Intakes) → f c.0 ≡ Some i → i.max ≡ max
+    → raised_at max (Some c) f ≡ f
+raised_before c max i f there is = fun_ext (λ d. raised_before_at c.0 d max i f there is (nat_eq c.0 d) refl)
 
 none_of : (o : Option Intake) → is_some o ≡ false → o ≡ None
 none_of None e = refl

@@ -111,6 +111,13 @@ impl Intake {
         self.is_broken = true;
     }
 
+    /// The greatest Message Length. It never answers want of memory.
+    pub(crate) fn max(&self) -> u32
+        ensures { result ≡ self.now.max }
+    {
+        self.framer.max()
+    }
+
     /// Sets the greatest Message Length. It never answers want of memory.
     pub(crate) fn set_max(&mut self, max: u32)
         ensures { self.new ≡ with_max max self.old }

@@ -1,5 +1,6 @@
 //! The connections that are there, by number.
-ghost use Rattle.std.specs.Prelude.{◌≡◌, ◌∷◌, [], ℕ, List, Some, IfSome, IfNone, cond, OnOk, OnErr};
+ghost use Rattle.std.specs.Prelude.{◌≡◌, ◌∷◌, [], ℕ, true, List, Some, IfSome, IfNone, cond, OnOk, OnErr};
+ghost use Rattle.std.specs.Option.{option_copied};
 ghost use Rattle.dm_session.specs.Intakes.{none_there, is_there, opened, taken_down, changed, raised_at, left_by};
 ghost use Rattle.dm_session.specs.Intakes.{fed_intake, broken_intake, with_intake, Intake as OneIntake, IsFirst};
 ghost use Rattle.dm_session.specs.Fronts.{IsFrontAt};
@@ -19,6 +20,8 @@ use std::alloc::{AllocError, Global};
 #[derive(Drop)]
 pub struct Intakes {
     map: IndexMap<u64, Intake>,
+    /// Where the connection stood of which something was told last. Who looks one up looks there first.
+    last: usize,
 }
 
 impl Intakes {
@@ -28,6 +31,17 @@ impl Intakes {
     {
         Intakes {
             map: IndexMap::new(alloc),
+            last: 0,
+        }
+    }
+
+    /// What came on the connection, where it is there.
+    fn get(&self, conn: Conn) -> Option<&Intake>
+        ensures { option_copied result ≡ intakes_of self.now conn.0 }
+    {
+        match self.map.get_index(self.last) {
+            Some((number, intake)) if *number == conn.0 => Some(intake),
+            _ => self.map.get(&conn.0),
         }
     }
 
@@ -35,7 +49,7 @@ impl Intakes {
     pub fn has(&self, conn: Conn) -> bool
         ensures { result ≡ is_there conn.0 (intakes_of self.now) }
     {
-        self.map.get(&conn.0).is_some()
+        self.get(conn).is_some()
     }
 
     #[tactic(auto, using(crate::proofs::Steps::front_there, crate::proofs::Steps::front_none))]
@@ -44,7 +58,7 @@ impl Intakes {
     pub fn front(&self, conn: Conn) -> Front<'_>
         ensures { IsFrontAt (intakes_of self.now conn.0) result }
     {
-        match self.map.get(&conn.0) {
+        match self.get(conn) {
             Some(intake) => intake.front(),
             None => Front::Nothing,
         }
@@ -57,7 +71,7 @@ impl Intakes {
         ensures whole { IfSome result (λ size. IsWholeAt (intakes_of self.now conn.0) piece.now size) }
         ensures none { IfNone result (IfSome (intakes_of self.now conn.0) (λ i. IsNotWhole i piece.now)) }
     {
-        match self.map.get(&conn.0) {
+        match self.get(conn) {
             Some(intake) => intake.whole_in(piece),
             None => None,
         }
@@ -123,13 +137,40 @@ impl Intakes {
         }
     }
 
+    /// Whether the connection is there and takes messages of at most `max` octets already. Where it stands is noted.
+    fn is_raised(&mut self, conn: Conn, max: u32) -> bool
+        ensures raised { result ≡ true → (i : OneIntake) × (intakes_of self.old conn.0 ≡ Some i) × (i.max ≡ max) }
+        ensures same { intakes_of self.new ≡ intakes_of self.old }
+    {
+        match self.map.get_index(self.last) {
+            Some((number, intake)) if *number == conn.0 => intake.max() == max,
+            _ => match self.map.get_full(&conn.0) {
+                Some((index, _, intake)) => {
+                    let is_raised = intake.max() == max;
+                    self.last = index;
+                    is_raised
+                }
+                None => false,
+            },
+        }
+    }
+
+    /// The connection, where it is there, takes messages of at most `max` octets.
+    fn set_max(&mut self, conn: Conn, max: u32)
+        ensures { intakes_of self.new ≡ raised_at max (Some conn) (intakes_of self.old) }
+    {
+        if let Some(intake) = self.map.get_mut(&conn.0) {
+            intake.set_max(max);
+        }
+    }
+
     /// The connection, if it is one and there, takes messages of at most `max` octets. It never answers want of memory.
     pub fn raise(&mut self, conn: Option<Conn>, max: u32)
         ensures { intakes_of self.new ≡ raised_at max conn (intakes_of self.old) }
     {
         if let Some(conn) = conn {
-            if let Some(intake) = self.map.get_mut(&conn.0) {
-                intake.set_max(max);
+            if !self.is_raised(conn, max) {
+                self.set_max(conn, max);
             }
         }
     }

@@ -1,18 +1,17 @@
-use Rattle.std.proofs.Common.{Err, sym, ap, subst}
-use Rattle.dm_peer.specs.Events.{PeerEvent}
-use Rattle.dm_node.specs.Declining.{IsRuledOut}
-use Rattle.dm_node.specs.declared.fault.EventFault.TheVariants as faults
-use Rattle.dm_node.proofs.Declined.{not_done, same_fault}
+use Rattle.std.proofs.Common.{◌≡◌, Result, Ok, Err, sym, ap, ◌∙◌}
+use Rattle.dm_node.specs.declared.fault.EventFault.{EventFault}
 use Rattle.dm_node.proofs.telling.tell_one.Goals as goal
+
+not_done : {A P : Type 0} (a : A) (f : EventFault) (r : Result A EventFault) → r ≡ Ok a → r ≡ Err f → P
+not_done a f r is refused = let clash : Ok a ≡ Err f = sym is ∙ refused in absurd (cc)
+
+same_fault : {A : Type 0} (g f : EventFault) (r : Result A EventFault) → r ≡ Err g → r ≡ Err f → g ≡ f
+same_fault {A} g f r is refused = let same : ◌≡◌ {A = Result A EventFault} (Err g) (Err f) = sym is ∙ refused in cc
 
 pub returns-in-Ok-clause-refuses : goal.returns-in-Ok-clause-refuses
 returns-in-Ok-clause-refuses c = λ f out.
-    not_done c.in-Ok.actions f c.tell.result c.in-Ok.is
-    (c.tell.ensures.refuses f
-    (subst (λ (e : PeerEvent). IsRuledOut c.args.roster.now.peers.items c.args.index e f) (sym c.told_of.ensures) out))
+    not_done _ _ c.tell_one_into.result c.in-Ok.is (c.tell_one_into.ensures.refuses f out)
 
 pub returns-in-Err-clause-refuses : goal.returns-in-Err-clause-refuses
 returns-in-Err-clause-refuses c = λ f out.
-    ap (λ g. Err (faults.Peer g)) (same_fault c.in-Err.fault f c.tell.result c.in-Err.is
-    (c.tell.ensures.refuses f
-    (subst (λ (e : PeerEvent). IsRuledOut c.args.roster.now.peers.items c.args.index e f) (sym c.told_of.ensures) out)))
+    ap Err (same_fault c.in-Err.fault _ c.tell_one_into.result c.in-Err.is (c.tell_one_into.ensures.refuses f out))

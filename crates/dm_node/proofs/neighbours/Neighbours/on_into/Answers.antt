@@ -1,0 +1,39 @@
+use Rattle.std.proofs.Common.{IfErr, sym, subst}
+use Rattle.dm_node.specs.Declining.{IsRuledOut, TakesNoMemory, IsByRule, IsDeclinedHere}
+use Rattle.dm_node.specs.Neighbourhoods.{Neighbourhood}
+use Rattle.dm_node.specs.Telling.{Concerns, IsRefusedHere, told_of}
+use Rattle.dm_node.proofs.Concerned.{one_there}
+use Rattle.dm_node.proofs.neighbours.Neighbours.on_into.Goals as goal
+
+pub returns-in-Ok-Some-clause-refused : goal.returns-in-Ok-Some-clause-refused
+returns-in-Ok-Some-clause-refused c =
+    subst (λ (n : Neighbourhood). IfErr c.tell_one_into.result (IsRefusedHere n.peers c.args.event)) c.self.view_is
+    c.tell_one_into.ensures.refused
+
+pub returns-in-Ok-Some-clause-ruled : goal.returns-in-Ok-Some-clause-ruled
+returns-in-Ok-Some-clause-ruled c =
+    subst (λ (n : Neighbourhood). IfErr c.tell_one_into.result (IsByRule n.peers c.args.event)) c.self.view_is
+    c.tell_one_into.ensures.ruled
+
+pub returns-in-Ok-Some-clause-refuses : goal.returns-in-Ok-Some-clause-refuses
+returns-in-Ok-Some-clause-refuses c = λ i f directed concerned out.
+    let ps = c.self.inside.roster.peers.items in
+    let there : Concerns ps c.args.event i =
+    subst (λ (n : Neighbourhood). Concerns n.peers c.args.event i) (sym c.self.view_is) concerned in
+    let is = one_there ps c.args.event c.in-Ok-Some.field-0 i c.in-Ok-Some.index
+    (record { apart = c.self.invariant.apart; unlike = c.self.invariant.unlike }) c.in-Ok-Some.field-0-is
+    c.in-Ok-Some.ensures.concerned there in
+    c.tell_one_into.ensures.refuses f (subst (λ k. IsRuledOut ps k (told_of c.args.event) f) is
+    (subst (λ (n : Neighbourhood). IsRuledOut n.peers i (told_of c.args.event) f) (sym c.self.view_is) out))
+
+pub returns-in-Ok-Some-clause-silent : goal.returns-in-Ok-Some-clause-silent
+returns-in-Ok-Some-clause-silent c = λ i concerned takes.
+    let ps = c.self.inside.roster.peers.items in
+    let there : Concerns ps c.args.event i =
+    subst (λ (n : Neighbourhood). Concerns n.peers c.args.event i) (sym c.self.view_is) concerned in
+    let is = one_there ps c.args.event c.in-Ok-Some.field-0 i c.in-Ok-Some.index
+    (record { apart = c.self.invariant.apart; unlike = c.self.invariant.unlike }) c.in-Ok-Some.field-0-is
+    c.in-Ok-Some.ensures.concerned there in
+    subst (λ (n : Neighbourhood). IfErr c.tell_one_into.result (IsDeclinedHere n.peers c.args.event)) c.self.view_is
+    (c.tell_one_into.ensures.silent (subst (λ k. TakesNoMemory ps k (told_of c.args.event)) is
+    (subst (λ (n : Neighbourhood). TakesNoMemory n.peers i (told_of c.args.event)) (sym c.self.view_is) takes)))
