@@ -22,3 +22,4 @@ pub mod Located
 pub mod NoFaults
 pub mod GoodBut
 pub mod Paths
+pub mod KeptLinks

@@ -162,7 +162,7 @@ linked_open old new avps vendors commands names codes titles heads links rules m
         };
         closed = ap is_closed whole ∙ closed_open (defined old.tables) h.dictionary.closed;
       };
-      avps = ap (λ v. v.items) links ∙ h.avps ∙
+      avps = links ∙ h.avps ∙
           sym (ap avp_links whole ∙ avp_links_same old.tables.avps.items old.tables.avps.items);
       commands = ap (λ v. v.items) rules ∙ h.commands ∙
           sym (ap command_links whole ∙ command_links_same old.tables.avps.items old.tables.commands.items);

@@ -16,6 +16,7 @@ pub mod Marks
 pub mod Numbers
 pub mod Passed
 pub mod Printed
+pub mod RuleLinks
 pub mod Rules
 pub mod Seats
 pub mod Tallies

@@ -20,7 +20,7 @@ command_links d = map (λ c. rule_links d.avps c.rule) d.commands
 -- the tables are a dictionary's, and the links and the marks are theirs
 pub record IsLinked (t : Linked) : Type 0 where
   pub dictionary : IsDictionary t.tables
-  pub avps : t.avps.items ≡ avp_links (defined t.tables)
+  pub avps : t.avps ≡ avp_links (defined t.tables)
   pub commands : t.commands.items ≡ command_links (defined t.tables)
   pub marks : AreMarked t.tables.avps.items t.marks
 

@@ -28,6 +28,7 @@ mod path;
 mod places;
 mod printing;
 mod put;
+mod rule_links;
 mod rules;
 mod seats;
 mod tallies;

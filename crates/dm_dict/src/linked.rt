@@ -6,6 +6,7 @@ ghost use Rattle.std.specs.List.{position_from};
 ghost use Rattle.std.specs.Option.{option_and_then};
 ghost use Rattle.dm_tables.specs.declared.def.AvpDef.{AvpDef};
 ghost use Rattle.dm_tables.specs.Definitions.{nothing_defined, is_coded, is_headed};
+ghost use Rattle.dm_tables.specs.Guesses.{AreGuessed};
 ghost use Rattle.dm_tables.specs.Tables.{defined, IsTables, IsDictionary};
 ghost use Rattle.dm_dict.specs.Links.{rule_links};
 ghost use Rattle.dm_dict.specs.Marks.{AreMarked};
@@ -13,7 +14,8 @@ ghost use Rattle.dm_dict.specs.Linked.{IsLinked, avp_links, command_links};
 
 use crate::links::Links;
 use crate::marks::marks_of;
-use dm_tables::{AvpDef, CommandDef, Rule, Tables};
+use crate::rule_links::RuleLinks;
+use dm_tables::{AvpDef, CommandDef, NameGuesses, Rule, Tables};
 use dm_value::NoMemory;
 use std::alloc::Global;
 
@@ -21,7 +23,7 @@ use std::alloc::Global;
 #[derive(Debug, Drop)]
 pub(crate) struct Linked {
     pub(crate) tables: Tables,
-    pub(crate) avps: Vec<Links>,
+    pub(crate) avps: RuleLinks,
     pub(crate) commands: Vec<Links>,
     pub(crate) marks: [u8; 512],
 }
@@ -48,25 +50,37 @@ pub(crate) struct LinkedCommand<'d> {
 }
 
 /// The links of each AVP's rule, behind the others.
-fn link_avps(alloc: Global, tables: &Tables, links: &mut Vec<Links>) -> Result<(), NoMemory>
-    requires { IsTables tables.now }
-    ensures { OnOk result (links.new.items ≡ links.old.items ++ avp_links (defined tables.now)) }
+fn link_avps(
+    alloc: Global,
+    tables: &Tables,
+    guesses: &NameGuesses,
+    links: &mut RuleLinks,
+) -> Result<(), NoMemory>
+    requires tables { IsTables tables.now }
+    requires guesses { AreGuessed tables.now.avps.items guesses.now.places.items }
+    ensures { OnOk result (links.new ≡ links.old ++ avp_links (defined tables.now)) }
 {
-    links.reserve(tables.avps.as_slice().len())?;
+    links.reserve(tables.avps.as_slice())?;
     for def in tables.avps.as_slice() {
-        links.push(Links::of_rule(alloc, tables, &def.rule)?)?;
+        links.push(alloc, tables, guesses, &def.rule)?;
     }
     Ok(())
 }
 
 /// The links of each command's rule, behind the others.
-fn link_commands(alloc: Global, tables: &Tables, links: &mut Vec<Links>) -> Result<(), NoMemory>
-    requires { IsTables tables.now }
+fn link_commands(
+    alloc: Global,
+    tables: &Tables,
+    guesses: &NameGuesses,
+    links: &mut Vec<Links>,
+) -> Result<(), NoMemory>
+    requires tables { IsTables tables.now }
+    requires guesses { AreGuessed tables.now.avps.items guesses.now.places.items }
     ensures { OnOk result (links.new.items ≡ links.old.items ++ command_links (defined tables.now)) }
 {
     links.reserve(tables.commands.as_slice().len())?;
     for def in tables.commands.as_slice() {
-        links.push(Links::of_rule(alloc, tables, &def.rule)?)?;
+        links.push(Links::of_rule(alloc, tables, guesses, &def.rule)?)?;
     }
     Ok(())
 }
@@ -79,7 +93,7 @@ impl Linked {
     {
         Linked {
             tables: Tables::new(alloc),
-            avps: Vec::new(alloc),
+            avps: RuleLinks::new(alloc),
             commands: Vec::new(alloc),
             marks: [0; 512],
         }
@@ -94,7 +108,7 @@ impl Linked {
         let marks = marks_of(tables.avps.as_slice());
         let mut linked = Linked {
             tables,
-            avps: Vec::new(alloc),
+            avps: RuleLinks::new(alloc),
             commands: Vec::new(alloc),
             marks,
         };
@@ -105,14 +119,30 @@ impl Linked {
     /// Links the tables, where there are no links.
     fn link(&mut self, alloc: Global) -> Result<(), NoMemory>
         requires dictionary { IsDictionary self.old.tables }
-        requires avps { self.old.avps.items ≡ [] }
+        requires avps { self.old.avps ≡ [] }
         requires commands { self.old.commands.items ≡ [] }
         requires marks { AreMarked self.old.tables.avps.items self.old.marks }
         ensures same { OnOk result (self.new.tables ≡ self.old.tables) }
         ensures linked { OnOk result (IsLinked self.new) }
     {
-        link_avps(alloc, &self.tables, &mut self.avps)?;
-        link_commands(alloc, &self.tables, &mut self.commands)
+        let guesses = NameGuesses::of_avps(alloc, self.tables.avps.as_slice())?;
+        let done = self.link_by(alloc, &guesses);
+        drop(guesses);
+        done
+    }
+
+    /// The same, by guesses of the names.
+    fn link_by(&mut self, alloc: Global, guesses: &NameGuesses) -> Result<(), NoMemory>
+        requires dictionary { IsDictionary self.old.tables }
+        requires guesses { AreGuessed self.old.tables.avps.items guesses.now.places.items }
+        requires avps { self.old.avps ≡ [] }
+        requires commands { self.old.commands.items ≡ [] }
+        requires marks { AreMarked self.old.tables.avps.items self.old.marks }
+        ensures same { OnOk result (self.new.tables ≡ self.old.tables) }
+        ensures linked { OnOk result (IsLinked self.new) }
+    {
+        link_avps(alloc, &self.tables, guesses, &mut self.avps)?;
+        link_commands(alloc, &self.tables, guesses, &mut self.commands)
     }
 
     /// The place of the AVP of a code and vendor. Where no definition's code has its lowest bits, it is known at once.
@@ -144,7 +174,7 @@ impl Linked {
         ensures { (def : AvpDef) → Some def ≡ slice_get self.now.tables.avps.items place
             → result.now ≡ rule_links self.now.tables.avps.items def.rule }
     {
-        &self.avps[place]
+        self.avps.at(place)
     }
 
     /// The definition of an AVP at the place, with the links of its rule.
@@ -156,9 +186,9 @@ impl Linked {
             ≡ rule_links self.now.tables.avps.items avp.def.now.rule) }
     {
         match place {
-            Some(place) if place < self.avps.len() => Some(LinkedAvp {
+            Some(place) if place < self.tables.avps.as_slice().len() => Some(LinkedAvp {
                 def: &self.tables.avps.as_slice()[place],
-                links: &self.avps[place],
+                links: self.avps.at(place),
             }),
             _ => None,
         }

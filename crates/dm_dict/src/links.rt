@@ -1,14 +1,15 @@
 //! The links of a rule: which definition each of its entries names (RFC 6733, 3.2).
-ghost use Rattle.std.specs.Prelude.{◌≡◌, ◌<◌, ℕ, Some, None, if◌then◌else◌, nat_eq, length, map, IfOk, OnOk};
+ghost use Rattle.std.specs.Prelude.{◌≡◌, ◌<◌, [], ℕ, Some, None, if◌then◌else◌, nat_eq, length, map, IfOk, OnOk};
 ghost use Rattle.std.specs.List.{position_from};
 ghost use Rattle.std.specs.Option.{option_eq, option_or};
 ghost use Rattle.indexmap.specs.IndexMap.{get_by};
+ghost use Rattle.dm_tables.specs.Guesses.{AreGuessed};
 ghost use Rattle.dm_tables.specs.Tables.{IsTables};
 ghost use Rattle.dm_dict.specs.Links.{rule_links};
 ghost use Rattle.dm_dict.specs.Limits.{short_rule};
 
 use crate::seats::{CROWDED, seats_of};
-use dm_tables::{Rule, Tables};
+use dm_tables::{NameGuesses, Rule, Tables};
 use dm_value::NoMemory;
 use indexmap::IndexMap;
 use std::alloc::Global;
@@ -102,19 +103,37 @@ fn place_among(links: &[Option<usize>], link: Option<usize>) -> Option<usize>
 }
 
 /// The links of the entries of a rule, in order.
-fn links_to(alloc: Global, tables: &Tables, rule: &Rule) -> Result<Vec<Option<usize>>, NoMemory>
-    requires { IsTables tables.now }
+fn links_to(
+    alloc: Global,
+    tables: &Tables,
+    guesses: &NameGuesses,
+    rule: &Rule,
+) -> Result<Vec<Option<usize>>, NoMemory>
+    requires tables { IsTables tables.now }
+    requires guesses { AreGuessed tables.now.avps.items guesses.now.places.items }
     ensures { IfOk result (λ links. links.items ≡ rule_links tables.now.avps.items rule.now) }
 {
     let entries = rule.as_slice();
     let mut links = Vec::with_capacity(alloc, entries.len())?;
     for entry in entries {
-        links.push(tables.place_by_name(entry.name.as_slice()))?;
+        links.push(tables.place_by_guess(guesses, entry.name.as_slice()))?;
     }
     Ok(links)
 }
 
 impl Links {
+    /// The links of no entries. It never answers want of memory.
+    pub(crate) fn empty(alloc: Global) -> Links
+        ensures { result ≡ [] }
+    {
+        Links {
+            items: Vec::new(alloc),
+            any: None,
+            places: IndexMap::new(alloc),
+            seats: seats_of(&[]),
+        }
+    }
+
     /// The links of the `Vec`, which is moved and not copied.
     fn new(alloc: Global, items: Vec<Option<usize>>) -> Result<Links, NoMemory>
         ensures { IfOk result (λ links. links ≡ items.items) }
@@ -131,11 +150,17 @@ impl Links {
     }
 
     /// The links of the entries of a rule.
-    pub(crate) fn of_rule(alloc: Global, tables: &Tables, rule: &Rule) -> Result<Links, NoMemory>
-        requires { IsTables tables.now }
+    pub(crate) fn of_rule(
+        alloc: Global,
+        tables: &Tables,
+        guesses: &NameGuesses,
+        rule: &Rule,
+    ) -> Result<Links, NoMemory>
+        requires tables { IsTables tables.now }
+        requires guesses { AreGuessed tables.now.avps.items guesses.now.places.items }
         ensures { IfOk result (λ links. links ≡ rule_links tables.now.avps.items rule.now) }
     {
-        let items = links_to(alloc, tables, rule)?;
+        let items = links_to(alloc, tables, guesses, rule)?;
         Links::new(alloc, items)
     }
 

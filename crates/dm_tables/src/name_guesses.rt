@@ -43,12 +43,12 @@ fn first_place(guess: u16, place: usize) -> u16
     }
 }
 
-/// How many slots the names of so many AVPs have: two for each, as far as they are few.
+/// How many slots the names of so many AVPs have: eight for each, so that few share one, as far as the AVPs are few.
 fn slots_for(avps: usize) -> usize
-    ensures enough { min (2 * avps) 65536 ≤ result }
+    ensures enough { min (8 * avps) 65536 ≤ result }
     ensures few { result < 131072 }
 {
-    avps.saturating_mul(2).min(MOST_SLOTS).next_power_of_two()
+    avps.saturating_mul(8).min(MOST_SLOTS).next_power_of_two()
 }
 
 impl NameGuesses {

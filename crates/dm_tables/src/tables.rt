@@ -211,6 +211,16 @@ impl Tables {
         self.names.get(name).copied()
     }
 
+    /// The same as `place_by_name`.
+    // (A function of its own in the machine's code too: it is seldom called.)
+    #[inline(never)]
+    fn searched_by_name(&self, name: &[u8]) -> Option<usize>
+        requires { IsIndexed self.now }
+        ensures { result ≡ position_from (is_named name.now) 0 self.now.avps.items }
+    {
+        self.place_by_name(name)
+    }
+
     /// The place of the AVP of a name, where it stands as guessed.
     fn guessed_by_name(&self, guess: u16, name: &[u8]) -> Option<usize>
         requires { IsTables self.now }
@@ -239,7 +249,7 @@ impl Tables {
         }
         match self.guessed_by_name(guess, name) {
             Some(place) => Some(place),
-            None => self.place_by_name(name),
+            None => self.searched_by_name(name),
         }
     }
 

@@ -1,0 +1,119 @@
+//! The links of the AVPs' rules, of which most have no entries (RFC 6733, 3.2).
+ghost use Rattle.std.specs.Prelude.{◌≡◌, ◌<◌, ◌≤◌, ◌++◌, [], ◌∷◌, Some, length, slice_get, OnOk};
+ghost use Rattle.dm_tables.specs.Guesses.{AreGuessed};
+ghost use Rattle.dm_tables.specs.Tables.{IsTables};
+ghost use Rattle.dm_dict.specs.Links.{rule_links};
+
+use crate::links::Links;
+use dm_tables::{AvpDef, NameGuesses, Rule, Tables};
+use dm_value::NoMemory;
+use std::alloc::Global;
+use std::marker::Model;
+
+/// The links of rules, in order. Those of all rules without entries are kept once.
+///
+/// A contract sees it as the list of the links of each rule.
+#[derive(Debug, Drop)]
+pub(crate) struct RuleLinks {
+    /// The links of a rule without entries.
+    none: Links,
+    /// The links of each rule with entries.
+    kept: Vec<Links>,
+    /// Where each rule's links are: 0 for none, else behind so many that are kept.
+    places: Vec<usize>,
+}
+
+impl Model for RuleLinks {
+    ghost use Rattle.std.specs.Prelude.{◌∷◌, List, Option, ℕ};
+
+    ghost Value = { List (List (Option ℕ)) };
+
+    ghost use Rattle.dm_dict.specs.RuleLinks.{shown_links, IsKept};
+
+    ghost view = { λ links. shown_links (links.none ∷ links.kept.items) links.places.items };
+
+    ghost invariant = { IsKept };
+}
+
+/// How many of the AVPs have rules with entries.
+fn count_groups(avps: &[AvpDef]) -> usize
+    ensures { result ≤ length avps.now }
+{
+    let mut count: usize = 0;
+    for avp in avps {
+        if !avp.rule.as_slice().is_empty() {
+            count = count.saturating_add(1);
+        }
+    }
+    count
+}
+
+impl RuleLinks {
+    /// The links of no rules. It never answers want of memory.
+    pub(crate) fn new(alloc: Global) -> RuleLinks
+        ensures { result ≡ [] }
+    {
+        RuleLinks {
+            none: Links::empty(alloc),
+            kept: Vec::new(alloc),
+            places: Vec::new(alloc),
+        }
+    }
+
+    /// Room for the links of these AVPs' rules more.
+    pub(crate) fn reserve(&mut self, avps: &[AvpDef]) -> Result<(), NoMemory>
+        ensures { self.new ≡ self.old }
+    {
+        self.kept.reserve(count_groups(avps))?;
+        self.places.reserve(avps.len())?;
+        Ok(())
+    }
+
+    /// The links of a rule without entries, behind the others.
+    fn push_none(&mut self) -> Result<(), NoMemory>
+        ensures { OnOk result (self.new ≡ self.old ++ [] ∷ []) }
+    {
+        self.places.push(0)?;
+        Ok(())
+    }
+
+    /// Links behind the others.
+    fn keep(&mut self, links: Links) -> Result<(), NoMemory>
+        ensures { OnOk result (self.new ≡ self.old ++ links ∷ []) }
+    {
+        self.kept.push(links)?;
+        self.places.push(self.kept.len())?;
+        Ok(())
+    }
+
+    /// The links of one rule more, behind the others.
+    pub(crate) fn push(
+        &mut self,
+        alloc: Global,
+        tables: &Tables,
+        guesses: &NameGuesses,
+        rule: &Rule,
+    ) -> Result<(), NoMemory>
+        requires tables { IsTables tables.now }
+        requires guesses { AreGuessed tables.now.avps.items guesses.now.places.items }
+        ensures { OnOk result (self.new ≡ self.old ++ rule_links tables.now.avps.items rule.now ∷ []) }
+    {
+        if rule.as_slice().is_empty() {
+            self.push_none()
+        } else {
+            self.keep(Links::of_rule(alloc, tables, guesses, rule)?)
+        }
+    }
+
+    /// The links of the rule at the place.
+    #[inline(always)]
+    pub(crate) fn at(&self, place: usize) -> &Links
+        requires { place < length self.now }
+        ensures { Some result.now ≡ slice_get self.now place }
+    {
+        match self.places[place] {
+            0 => &self.none,
+            behind => &self.kept[behind - 1],
+        }
+    }
+}
