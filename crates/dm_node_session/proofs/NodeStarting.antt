@@ -1,5 +1,5 @@
 -- Orders of a node's session: a Start, an end, and why they are refused.
-use Rattle.std.proofs.Common.{◌≡◌, inl, inr, ◌⊎◌, ℕ, Bool, true, false, cond, nat_eq, true≢false, is_some, Option, None, Some, List, refl, sym, ap, ◌∙◌, subst}
+use Rattle.std.proofs.Common.{◌≡◌, inl, inr, ◌⊎◌, ℕ, Bool, true, false, cond, nat_eq, true≢false, is_some, Option, None, Some, Result, Ok, Err, IfErr, List, refl, sym, ap, ◌∙◌, subst}
 use Rattle.std.proofs.Math.Path.{fun_ext}
 use Rattle.std.proofs.lemmas.Bool.{eqb-true}
 use Rattle.dm_base.specs.declared.node.Node.{Node}
@@ -109,3 +109,8 @@ pub never_held : (o : NodeOrder) (s : NodeSession) (f : EventFault) → AllHeldA
     (f ≡ fault.Peer NoMemory) ⊎ NodeRefuses o s f → f ≡ fault.Held → ⊥
 never_held o s f there (inl memory) is = absurd (cc (sym memory ∙ is))
 never_held o s f there (inr refuses) is = never o s there (subst (NodeRefuses o s) is refuses)
+
+pub unheld : {A : Type 0} (o : NodeOrder) (s : NodeSession) (r : Result A EventFault) → AllHeldAreThere s.peers s.intakes →
+    IfErr r (λ f. (f ≡ fault.Peer NoMemory) ⊎ NodeRefuses o s f) → IfErr r (λ f. f ≡ fault.Held → ⊥)
+unheld o s (Ok a) there refused = tt
+unheld o s (Err f) there refused = never_held o s f there refused

@@ -14,6 +14,7 @@ ghost use Rattle.dm_node_session.specs.NodeSeen.{node_session_of};
 ghost use Rattle.dm_node_session.specs.NodeTelling.{neighbour_named};
 ghost use Rattle.dm_node_session.specs.NodeTurns.{as_answer};
 
+use crate::telling::{no_actions, tell_neighbours};
 use crate::{NodeOrder, NodeSession};
 use dm_machine::Conn;
 use dm_node::laws::neighbours_are_apart;
@@ -47,10 +48,7 @@ impl NodeSession {
         ensures unheld { IfErr result (λ fault. fault ≡ faults.Held → ⊥) }
         ensures unchanged { OnErr result (node_session_of self.new ≡ node_session_of self.old) }
     {
-        match self.drive(alloc, order) {
-            Ok(asks) => Ok(asks),
-            Err(fault) => Err(fault),
-        }
+        self.drive(alloc, order)
     }
 
     /// Takes an order.
@@ -108,8 +106,12 @@ impl NodeSession {
             ⊎ NodeRefusesOnce (neighbour_named event.entry) (told_of event.entry) (node_session_of self.old) fault) }
         ensures unchanged { OnErr result (node_session_of self.new ≡ node_session_of self.old) }
     {
-        match self.tell(alloc, event) {
-            Ok(answer) => Ok(Some(answer)),
+        let mut answer = no_actions();
+        match tell_neighbours(alloc, &mut self.neighbours, event, &mut answer) {
+            Ok(()) => {
+                self.settle(&answer);
+                Ok(Some(answer))
+            }
             Err(fault) => Err(fault),
         }
     }

@@ -6,7 +6,7 @@ ghost use Rattle.dm_node_session.specs.NodeTurns.{as_node_turn};
 
 use crate::NodeSession;
 use crate::node_turn::{HeardNodeTurn, NodeTurn};
-use crate::telling::tell_neighbours;
+use crate::telling::{no_actions, tell_neighbours};
 use dm_machine::Conn;
 use dm_node::NodeEvent;
 use std::alloc::{AllocError, Global};
@@ -34,8 +34,9 @@ impl NodeSession {
         match self.intakes.whole_in(conn, piece) {
             Some(len) => {
                 let event = NodeEvent::Arrived(conn, &piece[..len]);
-                match tell_neighbours(alloc, &mut self.neighbours, event) {
-                    Ok(answer) => {
+                let mut answer = no_actions();
+                match tell_neighbours(alloc, &mut self.neighbours, event, &mut answer) {
+                    Ok(()) => {
                         self.settle(&answer);
                         let turn = NodeTurn::of_message(conn, answer);
                         Ok(Some(HeardNodeTurn { turn, len }))

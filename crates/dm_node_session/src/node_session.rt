@@ -4,10 +4,10 @@ ghost use Rattle.dm_session.specs.Held.{intakes_of};
 ghost use Rattle.dm_node_session.specs.NodeHeld.{AllHeldAreThere, AreKept};
 
 use crate::node_turn::NodeTurn;
-use crate::telling::{raise_for, tell_neighbours};
+use crate::telling::{no_actions, raise_for, tell_neighbours};
 use dm_base::Node;
 use dm_machine::Conn;
-use dm_node::{EventFault, Neighbours, NodeActions, NodeEvent};
+use dm_node::{Neighbours, NodeActions, NodeEvent};
 use dm_session::laws::what_is_there_stays;
 use dm_session::{Front, Intakes};
 use std::alloc::{AllocError, Global};
@@ -101,31 +101,9 @@ impl NodeSession {
         self.intakes.feed(conn, piece)
     }
 
-    /// Tells the node an event, which names no connection that isn't there.
-    pub(crate) fn tell(
-        &mut self,
-        alloc: Global,
-        event: NodeEvent<'_>,
-    ) -> Result<NodeActions, EventFault>
-        requires { NamesThere (told_of event) (node_session_of self.old).intakes }
-        ensures told { IfOk result (λ answer. NodeTells (neighbour_named event.entry) (told_of event.entry)
-            (node_session_of self.old) (as_answer answer) (node_session_of self.new)) }
-        ensures refused { IfErr result (λ fault. (fault ≡ faults.Peer peer_faults.NoMemory)
-            ⊎ NodeDeclines (neighbour_named event.entry) (told_of event.entry) (node_session_of self.old).peers
-            fault) }
-        ensures unchanged { OnErr result (node_session_of self.new ≡ node_session_of self.old) }
-    {
-        match tell_neighbours(alloc, &mut self.neighbours, event) {
-            Ok(answer) => {
-                self.settle(&answer);
-                Ok(answer)
-            }
-            Err(fault) => Err(fault),
-        }
-    }
-
     /// What the answer closes, which nobody holds, is no more there, and what the neighbour that it is of holds takes
     /// longer messages where that is open.
+    #[inline(always)]
     pub(crate) fn settle(&mut self, answer: &NodeActions)
         requires { (c : Conn) → actions_close answer.now.actions.items c.0 ≡ true
             → IsFree (node_session_of self.old).peers c }
@@ -152,8 +130,10 @@ impl NodeSession {
         ensures memory { OnErr result (TakesMemoryAt conn [] (node_session_of self.old).peers) }
     {
         what_is_there_stays();
-        match tell_neighbours(alloc, &mut self.neighbours, NodeEvent::Arrived(conn, &[])) {
-            Ok(answer) => {
+        let event = NodeEvent::Arrived(conn, &[]);
+        let mut answer = no_actions();
+        match tell_neighbours(alloc, &mut self.neighbours, event, &mut answer) {
+            Ok(()) => {
                 self.intakes.break_off(alloc, conn);
                 self.settle(&answer);
                 Ok(NodeTurn {
@@ -183,8 +163,9 @@ impl NodeSession {
             Front::Nothing => Ok(None),
             Front::Message(message) => {
                 let event = NodeEvent::Arrived(conn, message);
-                match tell_neighbours(alloc, &mut self.neighbours, event) {
-                    Ok(answer) => {
+                let mut answer = no_actions();
+                match tell_neighbours(alloc, &mut self.neighbours, event, &mut answer) {
+                    Ok(()) => {
                         self.intakes.skip(conn);
                         self.settle(&answer);
                         Ok(Some(NodeTurn::of_message(conn, answer)))

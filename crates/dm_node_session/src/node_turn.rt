@@ -25,6 +25,7 @@ pub struct HeardNodeTurn {
 
 impl NodeTurn {
     /// The turn of a whole message that came on the connection.
+    #[inline(always)]
     pub(crate) fn of_message(conn: Conn, answer: NodeActions) -> NodeTurn
         ensures { as_node_turn result ≡ record { arrived = Some conn; answer = as_answer answer } }
     {

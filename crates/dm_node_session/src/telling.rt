@@ -1,5 +1,5 @@
 //! The neighbours of a node are told an event.
-ghost use Rattle.std.specs.Prelude.{◌≡◌, ◌⊎◌, ℕ, true, List, None, Some, IfOk, IfErr, IfSome, OnErr};
+ghost use Rattle.std.specs.Prelude.{◌≡◌, ◌⊎◌, ℕ, true, List, [], None, Some, IfErr, IfSome, OnOk, OnErr};
 ghost use Rattle.dm_machine.specs.declared.connection.Conn.{Conn};
 ghost use Rattle.dm_node.specs.Holding.{peer_at};
 ghost use Rattle.dm_node.specs.Telling.{IsFree, told_of};
@@ -15,6 +15,7 @@ ghost use Rattle.dm_node_session.specs.NodeHeld.{AllHeldAreThere, AreKept};
 ghost use Rattle.dm_node_session.specs.NodeSessions.{NodeMoves, TakesMemoryAt, concerned_in, raised_for};
 ghost use Rattle.dm_node_session.specs.NodeTelling.{neighbour_named, NodeDeclines};
 
+use arrayvec::ArrayVec;
 use dm_machine::laws::each_opening_has_its_message;
 use dm_node::laws::neighbours_are_apart;
 use dm_node::{EventFault, Neighbours, NodeActions, NodeEvent};
@@ -36,16 +37,30 @@ pub(crate) fn look_at(neighbours: &Neighbours, index: Option<usize>)
     }
 }
 
-/// Tells the neighbours the event.
+/// Nothing is asked for, and of no neighbour.
+#[inline(always)]
+pub(crate) fn no_actions() -> NodeActions
+    ensures { result.actions.items ≡ [] }
+{
+    NodeActions {
+        neighbour: None,
+        actions: ArrayVec::new(),
+    }
+}
+
+/// Tells the neighbours the event, and puts what it comes to into `answer`, whose actions are none before.
+#[inline(always)]
 pub(crate) fn tell_neighbours(
     alloc: Global,
     neighbours: &mut Neighbours,
     event: NodeEvent<'_>,
-) -> Result<NodeActions, EventFault>
+    answer: &mut NodeActions,
+) -> Result<(), EventFault>
     requires kept { AreKept neighbours.old.peers }
-    ensures moved { IfOk result (λ answer. NodeMoves (neighbour_named event.entry) (told_of event.entry)
-        neighbours.old.node neighbours.old.peers answer.neighbour answer.actions.items neighbours.new.peers) }
-    ensures closed { IfOk result (λ answer. (c : Conn) → actions_close answer.actions.items c.0 ≡ true
+    requires none { answer.old.actions.items ≡ [] }
+    ensures moved { OnOk result (NodeMoves (neighbour_named event.entry) (told_of event.entry) neighbours.old.node
+        neighbours.old.peers answer.new.neighbour answer.new.actions.items neighbours.new.peers) }
+    ensures closed { OnOk result ((c : Conn) → actions_close answer.new.actions.items c.0 ≡ true
         → IsFree neighbours.new.peers c) }
     ensures held { (f : AllIntakes) → AllHeldAreThere neighbours.old.peers f → NamesThere (told_of event.entry) f
         → AllHeldAreThere neighbours.new.peers f }
@@ -62,10 +77,10 @@ pub(crate) fn tell_neighbours(
     each_opening_has_its_message();
     refusals_go_by_rule();
     neighbours_are_apart(neighbours);
-    match neighbours.on(alloc, event) {
-        Ok(answer) => {
+    match neighbours.on_into(alloc, event, answer) {
+        Ok(()) => {
             look_at(neighbours, answer.neighbour);
-            Ok(answer)
+            Ok(())
         }
         Err(fault) => Err(fault),
     }

@@ -9,8 +9,8 @@ use Rattle.dm_node_session.proofs.telling.tell_neighbours.Goals as goal
 
 pub returns-in-Ok-clause-moved : goal.returns-in-Ok-clause-moved
 returns-in-Ok-clause-moved c =
-    moved c.args.neighbours.now.node c.args.neighbours.now.peers c.on.new.self.peers c.args.event
-    c.in-Ok.answer.neighbour c.in-Ok.answer.actions.items c.in-Ok.ensures.concerned c.in-Ok.ensures.told
+    moved c.args.neighbours.now.node c.args.neighbours.now.peers c.on_into.new.self.peers c.args.event
+    c.on_into.new.answer.neighbour c.on_into.new.answer.actions.items c.in-Ok.ensures.concerned c.in-Ok.ensures.told
     c.in-Ok.ensures.nobody c.in-Ok.ensures.strange
 
 pub returns-in-Ok-clause-closed : goal.returns-in-Ok-clause-closed
@@ -18,28 +18,28 @@ returns-in-Ok-clause-closed c =
     closed_moved c.each_event_names_what_it_takes.ensures.closed
     (closes_its_own c.each_event_is_one_step.ensures c.each_opening_has_its_message.ensures.closed)
     (neighbour_named c.args.event) (told_of c.args.event) c.args.neighbours.now.node c.args.neighbours.now.peers
-    c.on.new.self.peers c.in-Ok.answer.neighbour c.in-Ok.answer.actions.items c.requires.kept
+    c.on_into.new.self.peers c.on_into.new.answer.neighbour c.on_into.new.answer.actions.items c.requires.kept
     c.neighbours_are_apart.ensures.apart
-    (moved c.args.neighbours.now.node c.args.neighbours.now.peers c.on.new.self.peers c.args.event
-    c.in-Ok.answer.neighbour c.in-Ok.answer.actions.items c.in-Ok.ensures.concerned c.in-Ok.ensures.told
+    (moved c.args.neighbours.now.node c.args.neighbours.now.peers c.on_into.new.self.peers c.args.event
+    c.on_into.new.answer.neighbour c.on_into.new.answer.actions.items c.in-Ok.ensures.concerned c.in-Ok.ensures.told
     c.in-Ok.ensures.nobody c.in-Ok.ensures.strange)
 
 pub returns-in-Ok-clause-held : goal.returns-in-Ok-clause-held
 returns-in-Ok-clause-held c =
     held_moved c.each_event_names_what_it_takes.ensures.others
     (neighbour_named c.args.event) (told_of c.args.event) c.args.neighbours.now.node c.args.neighbours.now.peers
-    c.on.new.self.peers c.in-Ok.answer.neighbour c.in-Ok.answer.actions.items c.requires.kept
-    (moved c.args.neighbours.now.node c.args.neighbours.now.peers c.on.new.self.peers c.args.event
-    c.in-Ok.answer.neighbour c.in-Ok.answer.actions.items c.in-Ok.ensures.concerned c.in-Ok.ensures.told
+    c.on_into.new.self.peers c.on_into.new.answer.neighbour c.on_into.new.answer.actions.items c.requires.kept
+    (moved c.args.neighbours.now.node c.args.neighbours.now.peers c.on_into.new.self.peers c.args.event
+    c.on_into.new.answer.neighbour c.on_into.new.answer.actions.items c.in-Ok.ensures.concerned c.in-Ok.ensures.told
     c.in-Ok.ensures.nobody c.in-Ok.ensures.strange)
 
 pub returns-in-Ok-clause-kept : goal.returns-in-Ok-clause-kept
 returns-in-Ok-clause-kept c =
     kept_moved (neighbour_named c.args.event) (told_of c.args.event) c.args.neighbours.now.node
-    c.args.neighbours.now.peers c.on.new.self.peers c.in-Ok.answer.neighbour c.in-Ok.answer.actions.items
+    c.args.neighbours.now.peers c.on_into.new.self.peers c.on_into.new.answer.neighbour c.on_into.new.answer.actions.items
     c.requires.kept
-    (moved c.args.neighbours.now.node c.args.neighbours.now.peers c.on.new.self.peers c.args.event
-    c.in-Ok.answer.neighbour c.in-Ok.answer.actions.items c.in-Ok.ensures.concerned c.in-Ok.ensures.told
+    (moved c.args.neighbours.now.node c.args.neighbours.now.peers c.on_into.new.self.peers c.args.event
+    c.on_into.new.answer.neighbour c.on_into.new.answer.actions.items c.in-Ok.ensures.concerned c.in-Ok.ensures.told
     c.in-Ok.ensures.nobody c.in-Ok.ensures.strange) c.look_at.ensures
 
 pub returns-in-Err-clause-kept : goal.returns-in-Err-clause-kept

@@ -12,7 +12,7 @@ pub returns-in-Ok-clause-heard : goal.returns-in-Ok-clause-heard
 returns-in-Ok-clause-heard c =
     let old = node_session_of c.args.self.now in
     let qs = c.tell_neighbours.new.neighbours.peers in
-    let answer = c.in-Ok.answer in
+    let answer = c.tell_neighbours.new.answer in
     subst (λ turn. NodeHearsWhole c.args.conn c.args.piece.now old turn c.in-Some.len
     (node_session_of c.settle.new.self)) (sym c.of_message-turn.ensures)
     (heard_where_it_lies c.args.conn c.args.piece.now old (node_session_of c.settle.new.self) (as_answer answer) qs

@@ -14,7 +14,7 @@ returns-in-Ok-clause-turn c =
     let old = node_session_of c.args.self.now in
     let qs = c.tell_neighbours.new.neighbours.peers in
     let gone = c.skip.ensures at.0 c.in-Message.message.now at.1 at.2 at.3 in
-    let told : NodeTellsMessage c.args.conn old (as_answer c.in-Ok.answer) (node_session_of c.settle.new.self) =
+    let told : NodeTellsMessage c.args.conn old (as_answer c.tell_neighbours.new.answer) (node_session_of c.settle.new.self) =
     record {
       intake = at.0;
       message = c.in-Message.message.now;
@@ -25,8 +25,8 @@ returns-in-Ok-clause-turn c =
         peers = qs;
         moved = c.in-Ok.ensures.moved;
         left = c.settle.ensures ∙
-            settled_as old c.tell_neighbours.new.neighbours.node qs c.in-Ok.answer.neighbour
-            c.in-Ok.answer.actions.items _ _ c.tell_neighbours.ensures.node gone;
+            settled_as old c.tell_neighbours.new.neighbours.node qs c.tell_neighbours.new.answer.neighbour
+            c.tell_neighbours.new.answer.actions.items _ _ c.tell_neighbours.ensures.node gone;
       };
     } in
     subst (λ turn. NodeTellsNext c.args.conn old turn (node_session_of c.settle.new.self))

@@ -11,7 +11,7 @@ pub returns-in-Ok-clause-told : goal.returns-in-Ok-clause-told
 returns-in-Ok-clause-told c =
     let at = c.requires in
     let old = node_session_of c.args.self.now in
-    let answer = c.in-Ok.answer in
+    let answer = c.tell_neighbours.new.answer in
     let qs = c.tell_neighbours.new.neighbours.peers in
     let gone = c.break_off.ensures at.0 at.1 in
     record {

@@ -1,6 +1,6 @@
 -- What is held behind the event is there.
 use Rattle.dm_session.specs.Held.{intakes_of}
-use Rattle.dm_node_session.proofs.node_session.NodeSession.tell.Goals as goal
+use Rattle.dm_node_session.proofs.node_session.NodeSession.tell_once.Goals as goal
 
 pub invariant_of-self : goal.invariant_of-self
 invariant_of-self c =
