@@ -5,6 +5,7 @@ ghost use Rattle.std.specs.Option.{option_map};
 ghost use Rattle.dm_view_lines.specs.Digits.{without_mark, begins_comment, without_prefix};
 ghost use Rattle.dm_view_lines.specs.Digits.{digits_of_words, line_digits, octets_of_line};
 
+use crate::one_word::is_one_word;
 use dm_text::read_hex_word;
 use memchr::{memchr2, memchr3};
 use std::alloc::{AllocError, Global};
@@ -15,6 +16,20 @@ use std::alloc::{AllocError, Global};
 /// Spaces, tabs and `:` may stand between digits, `0x` before those of a word, a byte order mark at the front, and a
 /// comment behind `;` or `#`. `digits` is room that is used again from line to line; what it holds doesn't matter.
 pub fn read_line(
+    alloc: Global,
+    line: &[u8],
+    digits: &mut Vec<u8>,
+) -> Result<Option<Vec<u8>>, AllocError>
+    ensures { IfOk result (λ octets. option_map (λ v. v.items) octets ≡ octets_of_line line.now) }
+{
+    if is_one_word(line) {
+        return read_hex_word(alloc, line);
+    }
+    read_words(alloc, line, digits)
+}
+
+/// The octets that the words of a line stand for.
+fn read_words(
     alloc: Global,
     line: &[u8],
     digits: &mut Vec<u8>,
