@@ -2,6 +2,7 @@ pub mod Ends
 pub mod Firsts
 pub mod Known
 pub mod OneSaid
+pub mod OneWords
 pub mod Pieces
 pub mod SomeSaid
 pub mod Steps

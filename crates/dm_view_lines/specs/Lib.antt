@@ -6,6 +6,7 @@ pub mod Frames
 pub mod Json
 pub mod Lines
 pub mod OneText
+pub mod OneWord
 pub mod Reasons
 pub mod Run
 pub mod Said

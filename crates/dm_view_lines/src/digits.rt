@@ -1,13 +1,18 @@
 //! The octets that a line stands for.
-ghost use Rattle.std.specs.Prelude.{◌≡◌, ◌<◌, ◌≤◌, ◌++◌, length, false, IfOk, OnOk};
+ghost use Rattle.std.specs.Prelude.{◌≡◌, ◌<◌, ◌≤◌, ◌++◌, length, Some, false, IfOk, IfSome, OnOk};
 ghost use Rattle.std.specs.List.{before_first};
 ghost use Rattle.std.specs.Option.{option_map};
-ghost use Rattle.dm_view_lines.specs.Digits.{without_mark, begins_comment, without_prefix};
+ghost use Rattle.dm_view_lines.specs.Digits.{without_mark, begins_comment, is_between, without_prefix};
+ghost use Rattle.memchr.specs.Find.{IsFirstByte};
 ghost use Rattle.dm_view_lines.specs.Digits.{digits_of_words, line_digits, octets_of_line};
 
+use crate::one_word::is_one_word;
 use dm_text::read_hex_word;
 use memchr::{memchr2, memchr3};
 use std::alloc::{AllocError, Global};
+
+/// So many octets are looked at one by one.
+const NEAR: usize = 4;
 
 /// The octets that a line stands for: hexadecimal digits in either case. `None` where a digit is bad or their number is
 /// odd.
@@ -15,6 +20,20 @@ use std::alloc::{AllocError, Global};
 /// Spaces, tabs and `:` may stand between digits, `0x` before those of a word, a byte order mark at the front, and a
 /// comment behind `;` or `#`. `digits` is room that is used again from line to line; what it holds doesn't matter.
 pub fn read_line(
+    alloc: Global,
+    line: &[u8],
+    digits: &mut Vec<u8>,
+) -> Result<Option<Vec<u8>>, AllocError>
+    ensures { IfOk result (λ octets. option_map (λ v. v.items) octets ≡ octets_of_line line.now) }
+{
+    if is_one_word(line) {
+        return read_hex_word(alloc, line);
+    }
+    read_words(alloc, line, digits)
+}
+
+/// The octets that the words of a line stand for.
+fn read_words(
     alloc: Global,
     line: &[u8],
     digits: &mut Vec<u8>,
@@ -67,6 +86,30 @@ fn first_word(words: &[u8]) -> (&[u8], &[u8])
     }
 }
 
+/// The first word, as first_word tells it. Words of two digits are the most where there are several, so a few octets
+/// are looked at one by one before the others are searched.
+fn next_word(words: &[u8]) -> (&[u8], &[u8])
+    ensures digits { digits_of_words words.now ≡ without_prefix result.0.now ++ digits_of_words result.1.now }
+    ensures less { 0 < length words.now → length result.1.now < length words.now }
+{
+    match near_gap(words) {
+        Some(at) => (&words[..at], &words[at + 1..]),
+        None => first_word(words),
+    }
+}
+
+/// Where the first space, tab or `:` stands, where that is among the first few octets.
+fn near_gap(words: &[u8]) -> Option<usize>
+    ensures { IfSome result (λ at. IsFirstByte is_between words.now (Some at)) }
+{
+    'few: for at in 0..words.len().min(NEAR) {
+        if matches!(words[at], b' ' | b'\t' | b':') {
+            return Some(at);
+        }
+    }
+    None
+}
+
 /// A word without `0x` at its front.
 fn without_prefix(word: &[u8]) -> &[u8]
     ensures { result.now ≡ without_prefix word.now }
@@ -90,7 +133,7 @@ fn take_digits(words: &[u8], digits: &mut Vec<u8>) -> Result<(), AllocError>
     digits.clear();
     let mut left = words;
     'words: while !left.is_empty() {
-        let (word, rest) = first_word(left);
+        let (word, rest) = next_word(left);
         digits.extend_from_slice(without_prefix(word))?;
         left = rest;
     }

@@ -14,6 +14,7 @@ mod json_parts;
 mod json_said;
 pub mod laws;
 mod lines;
+mod one_word;
 mod payload;
 mod reasons;
 mod run;

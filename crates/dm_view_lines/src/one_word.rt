@@ -1,0 +1,85 @@
+//! Whether a line is one word of digits and nothing else, told sixteen octets at once.
+ghost use Rattle.std.specs.Prelude.{◌≡◌, ◌≤◌, ◌*◌, true, false, length, map, nat_lt};
+ghost use Rattle.dm_text.specs.Hexadecimal.{word_octets};
+ghost use Rattle.dm_view_lines.specs.Digits.{octets_of_line, without_mark, without_prefix};
+ghost use Rattle.dm_view_lines.specs.OneWord.{low_marks, may_end, NoneEnds};
+
+use std::simd::prelude::*;
+
+/// Whether a line is one word for sure: of sixteen octets or more, with nothing in front of its digits, and no octet
+/// that may stand between words or begin a comment. Other lines have to be looked at again.
+pub(crate) fn is_one_word(line: &[u8]) -> bool
+    ensures { result ≡ true → octets_of_line line.now ≡ word_octets line.now }
+{
+    if line.len() < 16 {
+        return false;
+    }
+    if has_front(line) {
+        return false;
+    }
+    none_ends(line)
+}
+
+/// Whether a byte order mark or `0x` may stand in front.
+fn has_front(line: &[u8]) -> bool
+    ensures mark { result ≡ false → without_mark line.now ≡ line.now }
+    ensures prefix { result ≡ false → without_prefix line.now ≡ line.now }
+{
+    match line {
+        [a, b, ..] => *a == 0xef || (*b == b'x' || *b == b'X'),
+        _ => false,
+    }
+}
+
+/// Whether no octet of the line may end a word.
+fn none_ends(line: &[u8]) -> bool
+    requires { 16 ≤ length line.now }
+    ensures { result ≡ true → NoneEnds line.now (length line.now) }
+{
+    let last = marks_of(u8x16::from_slice(&line[line.len() - 16..]));
+    let first = marks_of(u8x16::from_slice(line));
+    if !are_high(lower_of(first, last)) {
+        return false;
+    }
+    let lowest = marks_of_runs(line, (line.len() - 1) / 16);
+    are_high(lower_of(lowest, last))
+}
+
+/// The lowest mark of each lane in so many runs of sixteen octets.
+fn marks_of_runs(line: &[u8], runs: usize) -> u8x16
+    requires { 16 * runs ≤ length line.now }
+    ensures { low_marks result ≡ 0 → NoneEnds line.now (16 * runs) }
+{
+    let mut lowest = u8x16::splat(255);
+    'runs: for k in 0..runs {
+        let marks = marks_of(u8x16::from_slice(&line[16 * k..]));
+        lowest = lower_of(lowest, marks);
+    }
+    lowest
+}
+
+/// A mark for each octet: less than 128 where it may end a word.
+#[inline(always)]
+fn marks_of(octets: u8x16) -> u8x16
+    ensures { map (λ mark. nat_lt mark 128) result ≡ map may_end octets }
+{
+    let numbers = (octets + u8x16::splat(198)).saturating_sub(u8x16::splat(118));
+    numbers.simd_max(octets + octets)
+}
+
+/// The lower mark of each lane.
+#[inline(always)]
+fn lower_of(marks: u8x16, others: u8x16) -> u8x16
+    ensures first { low_marks result ≡ 0 → low_marks marks ≡ 0 }
+    ensures second { low_marks result ≡ 0 → low_marks others ≡ 0 }
+{
+    marks.simd_min(others)
+}
+
+/// Whether no mark is low.
+#[inline(always)]
+fn are_high(marks: u8x16) -> bool
+    ensures { result ≡ true → low_marks marks ≡ 0 }
+{
+    marks.simd_lt(u8x16::splat(128)).to_bitmask() == 0
+}
