@@ -112,7 +112,7 @@ impl NodeSession {
                 self.settle(&answer);
                 Ok(Some(answer))
             }
-            Err(fault) => Err(fault),
+            Err(fault) => return Err(fault),
         }
     }
 

@@ -41,10 +41,11 @@ impl NodeSession {
                         let turn = NodeTurn::of_message(conn, answer);
                         Ok(Some(HeardNodeTurn { turn, len }))
                     }
-                    Err(_) => Err(AllocError),
+                    // (A return makes the answer where it goes to, and not beside it first.)
+                    Err(_) => return Err(AllocError),
                 }
             }
-            None => Ok(None),
+            None => return Ok(None),
         }
     }
 }

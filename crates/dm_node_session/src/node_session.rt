@@ -160,7 +160,8 @@ impl NodeSession {
     {
         what_is_there_stays();
         match self.intakes.front(conn) {
-            Front::Nothing => Ok(None),
+            // (A return makes the answer where it goes to, and not beside it first.)
+            Front::Nothing => return Ok(None),
             Front::Message(message) => {
                 let event = NodeEvent::Arrived(conn, message);
                 let mut answer = no_actions();
@@ -170,12 +171,12 @@ impl NodeSession {
                         self.settle(&answer);
                         Ok(Some(NodeTurn::of_message(conn, answer)))
                     }
-                    Err(_) => Err(AllocError),
+                    Err(_) => return Err(AllocError),
                 }
             }
             Front::Fault => match self.tell_fault(alloc, conn) {
-                Ok(turn) => Ok(Some(turn)),
-                Err(error) => Err(error),
+                Ok(turn) => return Ok(Some(turn)),
+                Err(error) => return Err(error),
             },
         }
     }

@@ -8,8 +8,8 @@ use Rattle.dm_node_session.proofs.NodeHeard.{heard_where_it_lies}
 use Rattle.dm_node_session.proofs.NodeStaying.{arrived_there, settled_as}
 use Rattle.dm_node_session.proofs.node_session.NodeSession.hear.Goals as goal
 
-pub returns-in-Ok-clause-heard : goal.returns-in-Ok-clause-heard
-returns-in-Ok-clause-heard c =
+pub returns-clause-heard : goal.returns-clause-heard
+returns-clause-heard c =
     let old = node_session_of c.args.self.now in
     let qs = c.tell_neighbours.new.neighbours.peers in
     let answer = c.tell_neighbours.new.answer in

@@ -8,8 +8,8 @@ use Rattle.dm_node_session.specs.NodeTurns.{as_answer}
 use Rattle.dm_node_session.proofs.NodeStaying.{held_with, arrived_there, settled_as}
 use Rattle.dm_node_session.proofs.node_session.NodeSession.next.Goals as goal
 
-pub returns-in-Ok-clause-turn : goal.returns-in-Ok-clause-turn
-returns-in-Ok-clause-turn c =
+pub returns-clause-turn : goal.returns-clause-turn
+returns-clause-turn c =
     let at = c.in-Message.ensures in
     let old = node_session_of c.args.self.now in
     let qs = c.tell_neighbours.new.neighbours.peers in
