@@ -7,7 +7,7 @@ abbrev pub shown_links : List (List (Option ℕ)) → List ℕ → List (List (O
 shown_links all places = map (λ i. slice_index_or all i []) places
 
 -- the first have no entries, and something is kept at each place
-pub record IsKept (links : Inside) : Type 0 where
+pub record AreRulesKept (links : Inside) : Type 0 where
   pub none : links.none ≡ []
   pub within : (i : ℕ) → i < length links.places.items
       → slice_index links.places.items i < length (links.none ∷ links.kept.items)

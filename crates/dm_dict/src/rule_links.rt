@@ -8,12 +8,13 @@ use crate::links::Links;
 use dm_tables::{AvpDef, NameGuesses, Rule, Tables};
 use dm_value::NoMemory;
 use std::alloc::Global;
+use std::fmt::{self, Debug, Formatter, Write};
 use std::marker::Model;
 
 /// The links of rules, in order. Those of all rules without entries are kept once.
 ///
 /// A contract sees it as the list of the links of each rule.
-#[derive(Debug, Drop)]
+#[derive(Drop)]
 pub(crate) struct RuleLinks {
     /// The links of a rule without entries.
     none: Links,
@@ -28,11 +29,22 @@ impl Model for RuleLinks {
 
     ghost Value = { List (List (Option ℕ)) };
 
-    ghost use Rattle.dm_dict.specs.RuleLinks.{shown_links, IsKept};
+    ghost use Rattle.dm_dict.specs.RuleLinks.{shown_links, AreRulesKept};
 
     ghost view = { λ links. shown_links (links.none ∷ links.kept.items) links.places.items };
 
-    ghost invariant = { IsKept };
+    ghost invariant = { AreRulesKept };
+}
+
+impl Debug for RuleLinks {
+    /// The links of each rule, as a list.
+    fn fmt<W: Write>(&self, f: &mut Formatter<W>) -> fmt::Result {
+        let mut list = f.debug_list();
+        for place in 0..self.places.len() {
+            let _ = list.entry(self.at(place));
+        }
+        list.finish()
+    }
 }
 
 /// How many of the AVPs have rules with entries.

@@ -1,5 +1,6 @@
 //! The list of values of an item of a dictionary text (own).
-ghost use Rattle.std.specs.Prelude.{◌≡◌, ◌≤◌, pos, unsigned_abs, [], ◌∷◌, ◌++◌, true, false, map, fold, OnOk, IfOk, IfErr};
+ghost use Rattle.std.specs.Prelude.{◌≡◌, ◌≤◌, pos, unsigned_abs, [], ◌∷◌, ◌++◌, true, false, map, fold};
+ghost use Rattle.std.specs.Prelude.{OnOk, IfOk, IfErr};
 ghost use Rattle.std.specs.List.{list_any};
 ghost use Rattle.dm_grammar.specs.Views.{view_word, view_value};
 ghost use Rattle.dm_tables.specs.Listed.{has_number};

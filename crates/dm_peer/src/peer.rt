@@ -1,5 +1,6 @@
 //! Peers: one event is one step.
-ghost use Rattle.std.specs.Prelude.{◌≡◌, ℕ, ◌<◌, ◌^◌, ◌⊎◌, IfOk, IfErr, OnOk, OnErr, IsTrue, true, [], Some, Err, List, All};
+ghost use Rattle.std.specs.Prelude.{◌≡◌, ℕ, ◌<◌, ◌^◌, ◌⊎◌, IfOk, IfErr, OnOk, OnErr, IsTrue, true};
+ghost use Rattle.std.specs.Prelude.{[], Some, Err, List, All};
 ghost use Rattle.dm_machine.specs.Moves as moves;
 ghost use Rattle.dm_machine.specs.Node.{held_as, is_shaped};
 ghost use Rattle.dm_machine.specs.declared.connection.Conn.{Conn};
@@ -88,8 +89,8 @@ impl Peer {
         Ok(actions)
     }
 
-    /// What the peer does at the event, as [`on`](Peer::on) does it, put into `actions`, which are none before. Behind an
-    /// `Err` what is in them is of no use.
+    /// What the peer does at the event, as [`on`](Peer::on) does it, put into `actions`, which are none before. Behind
+    /// an `Err` what is in them is of no use.
     ///
     /// # Errors
     /// Those of `on`. The peer is as it was after each.

@@ -7,7 +7,7 @@ use Rattle.std.specs.Cmp.Lexicographic.{same_text}
 use Rattle.std.specs.List.{position_from}
 use Rattle.dm_tables.specs.declared.def.AvpDef.{AvpDef}
 use Rattle.dm_tables.specs.Definitions.{is_named}
-use Rattle.dm_tables.specs.Guesses.{slot_of, first_place, with_guess, AreGuessed}
+use Rattle.dm_tables.specs.Guesses.{slot_of, kept_place, with_guess, AreGuessed}
 use Rattle.dm_tables.proofs.Numbers.{place_last}
 
 beyond : (ns : List ℕ) (i : ℕ) → length ns ≤ i → get_or ns i 0 ≡ 0
@@ -16,7 +16,7 @@ beyond (n ∷ ns) zero h = absurd (omega arith)
 beyond (n ∷ ns) (suc i) h = beyond ns i (omega arith)
 
 -- behind an AVP of a slot something is guessed for it
-some_guess : (guess place : ℕ) → first_place guess place ≡ 65535 → ⊥
+some_guess : (guess place : ℕ) → kept_place guess place ≡ 65535 → ⊥
 some_guess guess place = by (nat_eq guess 65535) refl where
   by : (b : Bool) → nat_eq guess 65535 ≡ b → (if b then min place 65534 else guess) ≡ 65535 → ⊥
   by true t e = let low : min place 65534 ≤ 65534 = omega arith in omega arith
@@ -29,10 +29,10 @@ kept_size guesses slot value false = refl
 
 -- of a slot that an AVP takes something is guessed
 taken : (guesses : List ℕ) (slot place : ℕ) (b : Bool) → nat_lt slot (length guesses) ≡ b
-    → get_or (if b then set guesses slot (first_place (get_or guesses slot 0) place) else guesses) slot 0 ≡ 65535 → ⊥
+    → get_or (if b then set guesses slot (kept_place (get_or guesses slot 0) place) else guesses) slot 0 ≡ 65535 → ⊥
 taken guesses slot place true t e =
     let low : slot < length guesses = grind (arith, t) in
-    let here = get_or-set_same guesses slot (first_place (get_or guesses slot 0) place) 0 low in
+    let here = get_or-set_same guesses slot (kept_place (get_or guesses slot 0) place) 0 low in
     some_guess (get_or guesses slot 0) place (sym here ∙ e)
 taken guesses slot place false t e =
     let high : length guesses ≤ slot = grind (arith, t) in
@@ -57,7 +57,7 @@ guessed_step avps d guesses name place named before = λ other none.
     slot = slot_of (length guesses) name
 
     value : ℕ
-    value = first_place (get_or guesses slot 0) place
+    value = kept_place (get_or guesses slot 0) place
 
     by : (other : List ℕ) → get_or (with_guess guesses name place) (slot_of (length guesses) other) 0 ≡ 65535 → (b : Bool)
         → nat_eq slot (slot_of (length guesses) other) ≡ b → position_from (is_named other) 0 (avps ++ d ∷ []) ≡ None

@@ -1,5 +1,6 @@
 -- Guesses where definitions stand, by their names or codes.
-use Rattle.std.specs.Prelude.{◌≡◌, ◌-◌, ℕ, nat_eq, nat_lt, min, if◌then◌else◌, List, length, set, slice_index, None, bit_and}
+use Rattle.std.specs.Prelude.{◌≡◌, ◌-◌, ℕ, nat_eq, nat_lt, min, if◌then◌else◌, List, length, set, slice_index}
+use Rattle.std.specs.Prelude.{None, bit_and}
 use Rattle.std.specs.Hash.FoldHasher as folding
 use Rattle.std.specs.List.{position_from}
 use Rattle.dm_tables.specs.declared.def.AvpDef.{AvpDef}
@@ -7,27 +8,27 @@ use Rattle.dm_tables.specs.Definitions.{is_named}
 use Rattle.dm_tables.specs.Limits.{no_guess, last_guess}
 
 -- the guess at a code's lowest bits, where an AVP of this place has them too: the first one stays
-abbrev pub first_guess : ℕ → ℕ → ℕ
-first_guess guess place = if nat_eq guess no_guess then min place no_guess else guess
+abbrev pub kept_guess : ℕ → ℕ → ℕ
+kept_guess guess place = if nat_eq guess no_guess then min place no_guess else guess
 
--- the guess of a name's slot, where an AVP of this place has it too: the first one stays, and a late place is guessed as
--- the last one that is
-abbrev pub first_place : ℕ → ℕ → ℕ
-first_place guess place = if nat_eq guess no_guess then min place last_guess else guess
+-- the guess of a name's slot, where an AVP of this place has it too: the first one stays, and a late place is guessed
+-- as the last one that is
+abbrev pub kept_place : ℕ → ℕ → ℕ
+kept_place guess place = if nat_eq guess no_guess then min place last_guess else guess
 
 -- a hash of all octets of a name
-abbrev pub hash_of : List ℕ → ℕ
-hash_of name = folding.finish (folding.write folding.initial name)
+abbrev pub name_hash : List ℕ → ℕ
+name_hash name = folding.finish (folding.write folding.initial name)
 
 -- the slot of a name among so many
 abbrev pub slot_of : ℕ → List ℕ → ℕ
-slot_of slots name = bit_and (hash_of name) (slots - 1)
+slot_of slots name = bit_and (name_hash name) (slots - 1)
 
 -- the guesses behind the AVP of a name at a place
 abbrev pub with_guess : List ℕ → List ℕ → ℕ → List ℕ
 with_guess guesses name place =
     let slot = slot_of (length guesses) name in
-    if nat_lt slot (length guesses) then set guesses slot (first_place (slice_index guesses slot) place) else guesses
+    if nat_lt slot (length guesses) then set guesses slot (kept_place (slice_index guesses slot) place) else guesses
 
 -- a name for whose slot nothing is guessed is no AVP's
 abbrev pub AreGuessed : List AvpDef → List ℕ → Type 0

@@ -1,7 +1,7 @@
 //! Guesses where the AVP of a name stands (RFC 6733, 3.2).
 ghost use Rattle.std.specs.Prelude.{◌≡◌, ◌≤◌, ◌<◌, ◌*◌, ◌++◌, [], ◌∷◌, length, min, slice_index, List, IfOk};
 ghost use Rattle.dm_tables.specs.declared.def.AvpDef.{AvpDef};
-ghost use Rattle.dm_tables.specs.Guesses.{hash_of, slot_of, first_place, with_guess, AreGuessed};
+ghost use Rattle.dm_tables.specs.Guesses.{name_hash, slot_of, kept_place, with_guess, AreGuessed};
 
 use crate::{AvpDef, NoMemory};
 use std::alloc::Global;
@@ -25,7 +25,7 @@ const MOST_SLOTS: usize = 65536;
 
 /// A hash of the name, which takes all of its octets at once.
 fn hash_of(name: &[u8]) -> u64
-    ensures { result ≡ hash_of name.now }
+    ensures { result ≡ name_hash name.now }
 {
     let mut hasher = FoldHasher::default();
     hasher.write(name);
@@ -34,7 +34,7 @@ fn hash_of(name: &[u8]) -> u64
 
 /// The guess of a slot behind the AVP at the place: the first one stays.
 fn first_place(guess: u16, place: usize) -> u16
-    ensures { result ≡ first_place guess place }
+    ensures { result ≡ kept_place guess place }
 {
     if guess == NO_GUESS {
         place.min(LAST_GUESS) as u16
@@ -43,12 +43,17 @@ fn first_place(guess: u16, place: usize) -> u16
     }
 }
 
-/// How many slots the names of so many AVPs have: eight for each, so that few share one, as far as the AVPs are few.
+/// How many slots the names of so many AVPs have: eight for each, so that few share one, as far as the AVPs are few;
+/// none for none, which takes no memory.
 fn slots_for(avps: usize) -> usize
     ensures enough { min (8 * avps) 65536 ≤ result }
     ensures few { result < 131072 }
 {
-    avps.saturating_mul(8).min(MOST_SLOTS).next_power_of_two()
+    if avps == 0 {
+        0
+    } else {
+        avps.saturating_mul(8).min(MOST_SLOTS).next_power_of_two()
+    }
 }
 
 impl NameGuesses {

@@ -7,7 +7,7 @@ ghost use Rattle.indexmap.specs.IndexMap.{insert_entry};
 ghost use Rattle.dm_tables.specs.Definitions.{is_named, is_coded, is_titled, is_headed};
 ghost use Rattle.dm_tables.specs.Definitions.{with_vendor, with_avp, with_command};
 ghost use Rattle.dm_tables.specs.Sound.{each_after, is_sound_vendor, is_sound_avp, is_sound_command};
-ghost use Rattle.dm_tables.specs.Guesses.{first_guess, AreGuessed};
+ghost use Rattle.dm_tables.specs.Guesses.{kept_guess, AreGuessed};
 
 use crate::name_guesses::NO_GUESS;
 use crate::vendors::Vendors;
@@ -58,7 +58,7 @@ pub fn member_at<T>(members: &[T], place: Option<usize>) -> Option<&T>
 /// The guess at a code's lowest bits, where an AVP of this place has them too: the first one stays, since the AVPs of
 /// most messages are defined first.
 fn first_guess(guess: u16, place: usize) -> u16
-    ensures { result ≡ first_guess guess place }
+    ensures { result ≡ kept_guess guess place }
 {
     if guess == u16::MAX {
         u16::try_from(place).unwrap_or(u16::MAX)

@@ -14,6 +14,7 @@ use crate::tables::member_at;
 use dm_wire::Octets;
 use indexmap::{IndexMap, IndexSet};
 use std::alloc::{AllocError, Global};
+use std::fmt::{self, Debug, Formatter, Write};
 use std::marker::Model;
 
 /// A value that an Enumerated AVP lists.
@@ -39,7 +40,7 @@ impl Clone for EnumValue {
 /// The values that an Enumerated AVP lists, in order, and where the first of each number stands among them.
 ///
 /// A contract sees it as the list of the values.
-#[derive(Debug, Drop)]
+#[derive(Drop)]
 pub struct Values {
     items: Vec<EnumValue>,
     /// The places of the numbers of a long list.
@@ -57,6 +58,36 @@ impl Model for Values {
     ghost view = { λ values. values.items.items };
 
     ghost invariant = { IsNumbered };
+}
+
+/// Where the first value of each number stands in a short list, shown as the index of a long one is.
+#[derive(Clone, Copy)]
+struct PlacesShown<'a>(&'a [EnumValue]);
+
+impl Debug for PlacesShown<'_> {
+    fn fmt<W: Write>(&self, f: &mut Formatter<W>) -> fmt::Result {
+        let mut map = f.debug_map();
+        for (place, value) in self.0.iter().enumerate() {
+            if !is_listed_among(&self.0[..place], &value.number) {
+                let _ = map.entry(&value.number, &place);
+            }
+        }
+        map.finish()
+    }
+}
+
+impl Debug for Values {
+    /// The values, and where the first of each number stands among them.
+    fn fmt<W: Write>(&self, f: &mut Formatter<W>) -> fmt::Result {
+        let mut shown = f.debug_struct("Values");
+        let _ = shown.field("items", &self.items);
+        if self.items.len() <= SHORT_LIST {
+            let _ = shown.field("places", &PlacesShown(self.items.as_slice()));
+        } else {
+            let _ = shown.field("places", &self.places);
+        }
+        shown.finish()
+    }
 }
 
 /// The most values among which a number is sooner found one by one than by its hash.

@@ -1,5 +1,6 @@
 -- Digits that are read side by side.
-use Rattle.std.specs.Prelude.{◌≡◌, ◌<◌, ℕ, ◌+◌, ◌*◌, ◌%◌, cond, nat_le, nat_lt, map, take, drop, List, [], ◌∷◌, ◌++◌, Result, Ok, Err}
+use Rattle.std.specs.Prelude.{◌≡◌, ◌<◌, ℕ, ◌+◌, ◌*◌, ◌%◌, cond, nat_le, nat_lt, map, take, drop}
+use Rattle.std.specs.Prelude.{List, [], ◌∷◌, ◌++◌, Result, Ok, Err}
 use Rattle.std.specs.Simd.Lanes.{mask_l}
 use Rattle.dm_text.specs.Hexadecimal.{digit_worth}
 use Rattle.hex.specs.Hex.{decode_pairs, encode_lower}
