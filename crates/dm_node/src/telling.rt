@@ -68,8 +68,8 @@ fn tell(
     }
 }
 
-/// Tells the neighbour of this number the event, which concerns it and nobody else, and puts what it does into `answer`,
-/// whose actions are none before.
+/// Tells the neighbour of this number the event, which concerns it and nobody else, and puts what it does into
+/// `answer`, whose actions are none before.
 #[inline(always)]
 pub(crate) fn tell_one_into(
     alloc: Global,

@@ -40,7 +40,8 @@ pub(crate) fn look_at(neighbours: &Neighbours, index: Option<usize>)
 /// Nothing is asked for, and of no neighbour.
 #[inline(always)]
 pub(crate) fn no_actions() -> NodeActions
-    ensures { result.actions.items ≡ [] }
+    ensures nobody { result.neighbour ≡ None }
+    ensures none { result.actions.items ≡ [] }
 {
     NodeActions {
         neighbour: None,

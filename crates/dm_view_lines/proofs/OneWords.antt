@@ -10,7 +10,7 @@ use Rattle.std.specs.Simd.Lanes.{Each1, chunk, mask_l, sel_l, top, zip2}
 use Rattle.memchr.specs.Find.{IsFirstByte}
 use Rattle.dm_text.specs.Hexadecimal.{word_octets}
 use Rattle.dm_view_lines.specs.Digits.{begins_comment, digits_of_words, is_between, octets_of_line, without_mark, without_prefix}
-use Rattle.dm_view_lines.specs.OneWord.{low_marks, may_end, NoneEnds}
+use Rattle.dm_view_lines.specs.OneWord.{low_marks, ends_digits, NoneEnds}
 use Rattle.dm_view_lines.proofs.Firsts.{found_none, parts_none}
 
 -- a choice between lanes that are computed from the same
@@ -68,21 +68,21 @@ lower_both (x ∷ xs) (y ∷ ys) long none =
 
 -- those of a run behind, or within, so many
 pub none_in_run : (line marks : List ℕ) (i n : ℕ) → i + 16 ≤ length line → i ≤ n
-    → map (λ mark. nat_lt mark 128) marks ≡ map may_end (chunk i 16 line) → low_marks marks ≡ 0
+    → map (λ mark. nat_lt mark 128) marks ≡ map ends_digits (chunk i 16 line) → low_marks marks ≡ 0
     → NoneEnds line n → NoneEnds line (i + 16)
 none_in_run line marks i n within le is none before k below = elim (cases_lt k n) [
   | inl less ↦ before k less
   | inr more ↦
-      none_from_empty_mask may_end line i 16 0 within (ap mask_l (sym is) ∙ none) k (omega (arith, more, le)) below
+      none_from_empty_mask ends_digits line i 16 0 within (ap mask_l (sym is) ∙ none) k (omega (arith, more, le)) below
 ]
 
-no_comment : (b : ℕ) → may_end b ≡ false → begins_comment b ≡ false
+no_comment : (b : ℕ) → ends_digits b ≡ false → begins_comment b ≡ false
 no_comment b is = grind (arith, is)
 
-no_gap : (b : ℕ) → may_end b ≡ false → is_between b ≡ false
+no_gap : (b : ℕ) → ends_digits b ≡ false → is_between b ≡ false
 no_gap b is = grind (arith, is)
 
-none_found : (p : ℕ → Bool) (line : List ℕ) → ((b : ℕ) → may_end b ≡ false → p b ≡ false) → NoneEnds line (length line)
+none_found : (p : ℕ → Bool) (line : List ℕ) → ((b : ℕ) → ends_digits b ≡ false → p b ≡ false) → NoneEnds line (length line)
     → IsFirstByte p line None
 none_found p line of none = λ k from below found. absurd (cc (sym found ∙ of (get_or line k 0) (none k below)))
 

@@ -2,7 +2,7 @@
 ghost use Rattle.std.specs.Prelude.{◌≡◌, ◌≤◌, ◌*◌, true, false, length, map, nat_lt};
 ghost use Rattle.dm_text.specs.Hexadecimal.{word_octets};
 ghost use Rattle.dm_view_lines.specs.Digits.{octets_of_line, without_mark, without_prefix};
-ghost use Rattle.dm_view_lines.specs.OneWord.{low_marks, may_end, NoneEnds};
+ghost use Rattle.dm_view_lines.specs.OneWord.{low_marks, ends_digits, NoneEnds};
 
 use std::simd::prelude::*;
 
@@ -61,7 +61,7 @@ fn marks_of_runs(line: &[u8], runs: usize) -> u8x16
 /// A mark for each octet: less than 128 where it may end a word.
 #[inline(always)]
 fn marks_of(octets: u8x16) -> u8x16
-    ensures { map (λ mark. nat_lt mark 128) result ≡ map may_end octets }
+    ensures { map (λ mark. nat_lt mark 128) result ≡ map ends_digits octets }
 {
     let numbers = (octets + u8x16::splat(198)).saturating_sub(u8x16::splat(118));
     numbers.simd_max(octets + octets)

@@ -1,7 +1,7 @@
 -- Each lane is computed from its octet, and what is computed tells of each octet whether it may end a word.
 use Rattle.std.proofs.Common.{◌+◌, ◌-◌, ◌∙◌, ◌%◌, ◌^◌, ℕ, cond, ap, ltb, map, nat_lt, refl}
 use Rattle.std.proofs.lemmas.Simd.{map-map, splat_is_map, zip2_of_maps, zip2_splat}
-use Rattle.dm_view_lines.specs.OneWord.{may_end}
+use Rattle.dm_view_lines.specs.OneWord.{ends_digits}
 use Rattle.dm_view_lines.proofs.OneWords.{bits_of_maps, chosen, told_of_octets, with_itself}
 use Rattle.dm_view_lines.proofs.one_word.marks_of.Goals as goal
 
@@ -32,4 +32,4 @@ returns c =
     let doubles = with_itself sum octets in
     let are_lower = bits_of_maps number _ octets numbers doubles in
     ap (map (λ m. nat_lt m 128)) (chosen _ _ _ octets are_lower doubles numbers)
-    ∙ map-map (λ m. nat_lt m 128) mark octets ∙ told_of_octets (λ c. nat_lt (mark c) 128) may_end refl octets fits
+    ∙ map-map (λ m. nat_lt m 128) mark octets ∙ told_of_octets (λ c. nat_lt (mark c) 128) ends_digits refl octets fits
