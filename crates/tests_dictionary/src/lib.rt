@@ -8,3 +8,5 @@
 mod definitions;
 #[cfg(test)]
 mod dictionary;
+#[cfg(test)]
+mod shown;
