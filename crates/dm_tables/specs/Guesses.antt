@@ -1,4 +1,4 @@
--- Guesses where definitions stand, by their names or codes.
+-- Guesses where definitions stand, by their names.
 use Rattle.std.specs.Prelude.{◌≡◌, ◌-◌, ℕ, nat_eq, nat_lt, min, if◌then◌else◌, List, length, set, slice_index}
 use Rattle.std.specs.Prelude.{None, bit_and}
 use Rattle.std.specs.Hash.FoldHasher as folding
@@ -6,10 +6,6 @@ use Rattle.std.specs.List.{position_from}
 use Rattle.dm_tables.specs.declared.def.AvpDef.{AvpDef}
 use Rattle.dm_tables.specs.Definitions.{is_named}
 use Rattle.dm_tables.specs.Limits.{no_guess, last_guess}
-
--- the guess at a code's lowest bits, where an AVP of this place has them too: the first one stays
-abbrev pub kept_guess : ℕ → ℕ → ℕ
-kept_guess guess place = if nat_eq guess no_guess then min place no_guess else guess
 
 -- the guess of a name's slot, where an AVP of this place has it too: the first one stays, and a late place is guessed
 -- as the last one that is

@@ -7,7 +7,7 @@ ghost use Rattle.indexmap.specs.IndexMap.{insert_entry};
 ghost use Rattle.dm_tables.specs.Definitions.{is_named, is_coded, is_titled, is_headed};
 ghost use Rattle.dm_tables.specs.Definitions.{with_vendor, with_avp, with_command};
 ghost use Rattle.dm_tables.specs.Sound.{each_after, is_sound_vendor, is_sound_avp, is_sound_command};
-ghost use Rattle.dm_tables.specs.Guesses.{kept_guess, AreGuessed};
+ghost use Rattle.dm_tables.specs.Guesses.{AreGuessed};
 
 use crate::name_guesses::NO_GUESS;
 use crate::vendors::Vendors;
@@ -55,20 +55,8 @@ pub fn member_at<T>(members: &[T], place: Option<usize>) -> Option<&T>
     }
 }
 
-/// The guess at a code's lowest bits, where an AVP of this place has them too: the first one stays, since the AVPs of
-/// most messages are defined first.
-fn first_guess(guess: u16, place: usize) -> u16
-    ensures { result ≡ kept_guess guess place }
-{
-    if guess == u16::MAX {
-        u16::try_from(place).unwrap_or(u16::MAX)
-    } else {
-        guess
-    }
-}
-
 impl Tables {
-    ghost use Rattle.dm_tables.specs.Tables.{defined, guessed, IsIndexed, IsTables};
+    ghost use Rattle.dm_tables.specs.Tables.{defined, guess_at, guessed, IsIndexed, IsTables};
     ghost use Rattle.dm_tables.specs.Definitions.{nothing_defined};
 
     /// No definitions. It never answers want of memory.
@@ -122,8 +110,7 @@ impl Tables {
         let place = self.avps.as_slice().len();
         let code = (avp.code, avp.vendor);
         let noted = note_name(alloc, &mut self.names, avp.name.as_slice(), place);
-        let bits = (avp.code % 512) as usize;
-        self.guesses[bits] = first_guess(self.guesses[bits], place);
+        self.guesses[(avp.code % 512) as usize] = u16::try_from(place).unwrap_or(u16::MAX);
         self.avps.push(avp)?;
         self.codes.insert(code, place)?;
         noted
@@ -268,8 +255,20 @@ impl Tables {
         ensures found { IfSome result (λ place.
             position_from (is_coded code vendor) 0 self.now.avps.items ≡ Some place) }
     {
-        let avps = self.avps.as_slice();
         let place = usize::from(self.guesses[(code % 512) as usize]);
+        self.place_if_coded(place, code, vendor)
+    }
+
+    /// The place, where the AVP that stands there has the code and vendor.
+    #[inline(always)]
+    pub fn place_if_coded(&self, place: usize, code: u32, vendor: Option<u32>) -> Option<usize>
+        requires { IsTables self.now }
+        ensures value { result ≡ guess_at code vendor place (slice_get self.now.avps.items place) }
+        // It is where they are found.
+        ensures found { IfSome result (λ place.
+            position_from (is_coded code vendor) 0 self.now.avps.items ≡ Some place) }
+    {
+        let avps = self.avps.as_slice();
         if place >= avps.len() {
             return None;
         }

@@ -6,12 +6,12 @@ use Rattle.dm_tables.specs.Tables.{defined}
 use Rattle.dm_tables.specs.Sound.{each_after, is_sound_avp}
 use Rattle.dm_tables.proofs.Only.{coded_place}
 use Rattle.dm_tables.specs.SoundParts.{sound_parts}
-use Rattle.dm_tables.proofs.tables.Tables.guessed_place.Goals as goal
+use Rattle.dm_tables.proofs.tables.Tables.place_if_coded.Goals as goal
 
 pub returns-then-eq-clause-found : goal.returns-then-eq-clause-found
 returns-then-eq-clause-found c =
     let avps = c.args.self.now.avps.items in
-    let place = c.from-place.result in
+    let place = c.args.place in
     let d = c.index-avps-place.result in
     let parts = sound_parts (defined c.args.self.now) c.requires.sound in
     let sound : each_after is_sound_avp [] avps ≡ true = parts.avps in
