@@ -32,3 +32,7 @@ seat_slots = 128
 -- the marks of the codes of a dictionary
 abbrev pub mark_slots : ℕ
 mark_slots = 512
+
+-- the last place of a definition that a mark tells
+abbrev pub last_marked : ℕ
+last_marked = 65534

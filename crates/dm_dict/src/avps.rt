@@ -17,7 +17,7 @@ use crate::codes::{
 use crate::counts::{count_one, counts_for, many_counts};
 use crate::judged::{Failed, Judged};
 use crate::linked::{Linked, LinkedAvp, LinkedRule};
-use crate::rules::{allows, look_up};
+use crate::rules::{allows, look_up_marked};
 use crate::windows::judge_entries;
 use byteorder::{BigEndian, ByteOrder};
 use dm_tables::AvpDef;
@@ -161,7 +161,7 @@ pub(crate) fn judge_counted<'a>(
 {
     let mut left = from;
     while let Some((avp, rest)) = left.split_first() {
-        let (place, at) = look_up(&dictionary.tables, rule, avp);
+        let (place, at) = look_up_marked(dictionary, rule, avp);
         let allowed = allows(rule.entries, at);
         match judge_avp(dictionary, place, allowed, avp, depth, alloc) {
             Judged::Good => {}

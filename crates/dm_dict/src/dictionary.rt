@@ -143,7 +143,7 @@ impl Dictionary {
         ensures one { filter (is_coded code vendor) self.now.avps ≡ option_to_list (option_copied result) }
     {
         one_of_each();
-        self.linked.tables.avp_by_code(code, vendor)
+        self.linked.avp_by_code(code, vendor)
     }
 
     /// The command of the Command Code, for a request or an answer, with or without the E bit (3.1). It never answers

@@ -3,7 +3,7 @@
 ghost use Rattle.std.specs.Prelude.{◌≡◌, ◌<◌, ◌++◌, [], Some, find, length, map, option_map, slice_get};
 ghost use Rattle.std.specs.Prelude.{IfOk, IfSome, OnOk};
 ghost use Rattle.std.specs.List.{position_from};
-ghost use Rattle.std.specs.Option.{option_and_then};
+ghost use Rattle.std.specs.Option.{option_and_then, option_copied};
 ghost use Rattle.dm_tables.specs.declared.def.AvpDef.{AvpDef};
 ghost use Rattle.dm_tables.specs.Definitions.{nothing_defined, is_coded, is_headed};
 ghost use Rattle.dm_tables.specs.Guesses.{AreGuessed};
@@ -18,14 +18,41 @@ use crate::rule_links::RuleLinks;
 use dm_tables::{AvpDef, CommandDef, NameGuesses, Rule, Tables};
 use dm_value::NoMemory;
 use std::alloc::Global;
+use std::fmt::{self, Debug, Formatter, Write};
 
 /// Tables, the links of each AVP's rule and of each command's, in the same order, and the marks of the AVPs' codes.
-#[derive(Debug, Drop)]
+#[derive(Drop)]
 pub(crate) struct Linked {
     pub(crate) tables: Tables,
     pub(crate) avps: RuleLinks,
     pub(crate) commands: Vec<Links>,
-    pub(crate) marks: [u8; 512],
+    pub(crate) marks: [u16; 512],
+}
+
+/// Marks, shown as 1 where there is one.
+#[derive(Clone, Copy)]
+struct MarksShown<'a>(&'a [u16]);
+
+impl Debug for MarksShown<'_> {
+    fn fmt<W: Write>(&self, f: &mut Formatter<W>) -> fmt::Result {
+        let mut list = f.debug_list();
+        for mark in self.0 {
+            let _ = list.entry(&u8::from(*mark != 0));
+        }
+        list.finish()
+    }
+}
+
+impl Debug for Linked {
+    /// The tables, the links, and which lowest bits of codes are marked.
+    fn fmt<W: Write>(&self, f: &mut Formatter<W>) -> fmt::Result {
+        f.debug_struct("Linked")
+            .field("tables", &self.tables)
+            .field("avps", &self.avps)
+            .field("commands", &self.commands)
+            .field("marks", &MarksShown(&self.marks))
+            .finish()
+    }
 }
 
 /// A rule with its links.
@@ -145,7 +172,8 @@ impl Linked {
         link_commands(alloc, &self.tables, guesses, &mut self.commands)
     }
 
-    /// The place of the AVP of a code and vendor. Where no definition's code has its lowest bits, it is known at once.
+    /// The place of the AVP of a code and vendor. Where no definition's code has its lowest bits, or the first one that
+    /// has them is it, it is known at once.
     #[inline(always)]
     pub(crate) fn place_by_code(&self, code: u32, vendor: Option<u32>) -> Option<usize>
         requires { IsLinked self.now }
@@ -154,7 +182,31 @@ impl Linked {
         if self.marks[(code % 512) as usize] == 0 {
             return None;
         }
-        self.tables.place_by_code(code, vendor)
+        let first = usize::from(self.marks[(code % 512) as usize]) - 1;
+        match self.tables.place_if_coded(first, code, vendor) {
+            Some(place) => Some(place),
+            None => self.tables.place_by_code(code, vendor),
+        }
+    }
+
+    /// The AVP of a code and vendor.
+    pub(crate) fn avp_by_code(&self, code: u32, vendor: Option<u32>) -> Option<&AvpDef>
+        requires { IsLinked self.now }
+        ensures { option_copied result ≡ find (is_coded code vendor) self.now.tables.avps.items }
+    {
+        self.avp_if_there(self.place_by_code(code, vendor))
+    }
+
+    /// The AVP at the place, where there is one.
+    fn avp_if_there(&self, place: Option<usize>) -> Option<&AvpDef>
+        ensures { option_copied result ≡ option_and_then (slice_get self.now.tables.avps.items) place }
+    {
+        match place {
+            Some(place) if place < self.tables.avps.as_slice().len() => {
+                Some(&self.tables.avps.as_slice()[place])
+            }
+            _ => None,
+        }
     }
 
     /// The definition of an AVP at the place, where there is one.

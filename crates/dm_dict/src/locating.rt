@@ -21,7 +21,7 @@ use crate::linked::{Linked, LinkedAvp, LinkedRule};
 use crate::listing_entries::list_entries;
 use crate::numbers::number;
 use crate::path::{Path, Step};
-use crate::rules::{allows, look_up};
+use crate::rules::{allows, look_up_marked};
 use dm_tables::{AvpDef, Tables};
 use dm_value::{AvpType, NoMemory};
 use dm_wire::{AvpRef, AvpsRef, spells_avps};
@@ -204,7 +204,7 @@ fn locate_avps<'a>(
 {
     let mut left = list;
     while let Some((avp, rest)) = left.split_first() {
-        let (place, entry) = look_up(&dictionary.tables, rule, avp);
+        let (place, entry) = look_up_marked(dictionary, rule, avp);
         let allowed = allows(rule.entries, entry);
         let nth = number(numbers, path, dictionary, place, avp)?;
         locate_avp(

@@ -10,3 +10,5 @@ mod definitions;
 mod dictionary;
 #[cfg(test)]
 mod shown;
+#[cfg(test)]
+mod shown_whole;

@@ -1,4 +1,5 @@
-//! What Debug shows of a list of values and of a dictionary's links: written out, it shows what the derived one did.
+//! What Debug shows of a list of values, and of a dictionary's links and marks: written out, it shows what the derived
+//! one did.
 
 use dm_dict::Dictionary;
 use dm_tables::EnumValue;
@@ -94,4 +95,25 @@ fn each_rule_has_its_links_shown(rt: HostRuntime) {
     // 29 AVPs, of which four are groups, and seven commands.
     assert!(rt; count_in_base(&rt, "Links {") == 36);
     assert!(rt; count_in_base(&rt, NO_LINKS) == 25);
+}
+
+/// For each code below 512 whether the dictionary defines it without a vendor, as 1 or 0.
+fn marked(dictionary: &Dictionary) -> [u8; 512] {
+    let mut marks = [0; 512];
+    let mut code = 0;
+    for mark in marks.iter_mut() {
+        *mark = u8::from(dictionary.avp_by_code(code, None).is_some());
+        code += 1;
+    }
+    marks
+}
+
+#[test]
+fn marks_of_codes_are_shown_as_ones(rt: HostRuntime) {
+    let base = Dictionary::base(rt.alloc()).expect(&rt, "the base dictionary");
+    let marks = marked(&base);
+    let text = format!(in rt.alloc(); "{base:?}").expect(&rt, "the text");
+    drop(base);
+    let derived = format!(in rt.alloc(); ", marks: {marks:?} }} }}").expect(&rt, "the marks");
+    assert!(rt; text.as_str().ends_with(derived.as_str()));
 }

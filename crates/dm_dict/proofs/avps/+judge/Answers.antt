@@ -36,7 +36,7 @@ judge_counted-loop-avp-preserved t c =
     let rule = c.args.rule.entries.now in
     let a = avp_of c.in-Some.avp in
     let G = group_faults c.args.depth avps in
-    let allowed = c.allows-allowed.ensures ∙ ap allows c.look_up-place.ensures.entry in
+    let allowed = c.allows-allowed.ensures ∙ ap allows c.look_up_marked-place.ensures.entry in
     let good = looked_up G _ _ a _ _ allowed c.in-Good.ensures.fault in
     λ all h.
     let (m, listed, before) = c.loop-avp.invariant all h in
@@ -44,7 +44,7 @@ judge_counted-loop-avp-preserved t c =
       k,
       behind,
       one_passed c.args.depth avps rule all m k a _ _ _ before is good c.count_one.ensures.size
-          c.count_one.ensures.counted c.look_up-place.ensures.counts,
+          c.count_one.ensures.counted c.look_up_marked-place.ensures.counts,
     )
 
 pub judge_many-judge_counted-requires : goal.judge_many-judge_counted-requires
