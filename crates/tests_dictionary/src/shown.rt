@@ -100,10 +100,8 @@ fn each_rule_has_its_links_shown(rt: HostRuntime) {
 /// For each code below 512 whether the dictionary defines it without a vendor, as 1 or 0.
 fn marked(dictionary: &Dictionary) -> [u8; 512] {
     let mut marks = [0; 512];
-    let mut code = 0;
-    for mark in marks.iter_mut() {
-        *mark = u8::from(dictionary.avp_by_code(code, None).is_some());
-        code += 1;
+    for (code, mark) in marks.iter_mut().enumerate() {
+        *mark = u8::from(dictionary.avp_by_code(code as u32, None).is_some());
     }
     marks
 }

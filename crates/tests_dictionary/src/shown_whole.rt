@@ -64,7 +64,7 @@ fn shown(rt: &(impl Abort + AllocGlobal), text: &str) -> u64 {
 
 /// One definition more: an AVP without a rule, one of a vendor, or a group of the two before it.
 fn push_definition(rt: &(impl Abort + AllocGlobal), text: &mut String, place: u32) {
-    let code = 400 + place * 131 % 3001;
+    let code = 400 + place.wrapping_mul(131) % 3001;
     let one = place.saturating_sub(1);
     let other = place.saturating_sub(2);
     let item = match place % 3 {
