@@ -112,6 +112,7 @@ impl NodeSession {
                 self.settle(&answer);
                 Ok(Some(answer))
             }
+            // (As the value of the match the fault would be made beside the result, and moved there.)
             Err(fault) => return Err(fault),
         }
     }
