@@ -12,7 +12,7 @@ use memchr::{memchr2, memchr3};
 use std::alloc::{AllocError, Global};
 
 /// So many octets are looked at one by one.
-const NEAR: usize = 4;
+const NEAR: usize = 5;
 
 /// The octets that a line stands for: hexadecimal digits in either case. `None` where a digit is bad or their number is
 /// odd.
@@ -86,8 +86,8 @@ fn first_word(words: &[u8]) -> (&[u8], &[u8])
     }
 }
 
-/// The first word, as first_word tells it. Words of two digits are the most where there are several, so a few octets
-/// are looked at one by one before the others are searched.
+/// The first word, as first_word tells it. Words of two or four digits are the most where there are several, so a few
+/// octets are looked at one by one before the others are searched.
 fn next_word(words: &[u8]) -> (&[u8], &[u8])
     ensures digits { digits_of_words words.now ≡ without_prefix result.0.now ++ digits_of_words result.1.now }
     ensures less { 0 < length words.now → length result.1.now < length words.now }
