@@ -74,3 +74,47 @@ fn assert_neighbours(rt: &(impl Abort + AllocGlobal)) {
 fn neighbours_are_told_apart(rt: HostRuntime) {
     assert_neighbours(&rt);
 }
+
+/// The sum of the octets of both forms that Debug shows of the neighbours, in their order.
+fn sum_shown(rt: &(impl Abort + AllocGlobal), neighbours: &Neighbours) -> u64 {
+    let text = format!(in rt.alloc(); "{neighbours:?}\n{neighbours:#?}").expect(rt, "the text");
+    let mut sum: u64 = 0xcbf2_9ce4_8422_2325;
+    for octet in text.as_bytes() {
+        sum = (sum ^ u64::from(*octet)).wrapping_mul(0x0000_0100_0000_01b3);
+    }
+    sum
+}
+
+/// What is shown while b.example calls, c.example is called and refuses, and a stranger is told off.
+fn assert_shown(rt: &(impl Abort + AllocGlobal), neighbours: &mut Neighbours) {
+    let known = octets_of(rt, CER_OF_B);
+    let strange = octets_of(rt, CER);
+    assert!(rt; does(rt, neighbours, NodeEvent::Start(1, Conn(3)), Some(1), 1));
+    assert!(rt; sum_shown(rt, neighbours) == 0xfed0_f857_129b_c37d);
+    let called = NodeEvent::Arrived(Conn(9), known.as_slice());
+    assert!(rt; does(rt, neighbours, called, Some(0), 1));
+    assert!(rt; sum_shown(rt, neighbours) == 0xf8f2_c8d9_229a_249b);
+    let called = NodeEvent::Arrived(Conn(5), strange.as_slice());
+    assert!(rt; does(rt, neighbours, called, None, 2));
+    assert!(rt; sum_shown(rt, neighbours) == 0xf8f2_c8d9_229a_249b);
+    assert!(rt; does(rt, neighbours, NodeEvent::Nack(Conn(3)), Some(1), 0));
+    assert!(rt; sum_shown(rt, neighbours) == 0x77f6_b379_5161_24a9);
+}
+
+/// What is shown as b.example and c.example are added.
+fn assert_shown_with_each(rt: &(impl Abort + AllocGlobal), neighbours: &mut Neighbours) {
+    assert!(rt; sum_shown(rt, neighbours) == 0x5354_ed2f_80bb_28d1);
+    add(rt, neighbours, b"b.example");
+    assert!(rt; sum_shown(rt, neighbours) == 0x6451_225c_d092_cedd);
+    add(rt, neighbours, b"c.example");
+    assert!(rt; sum_shown(rt, neighbours) == 0xe827_b129_405f_9bc7);
+}
+
+/// Which neighbour was told last isn't shown: the sums are those of what Debug showed when all of it was derived.
+#[test]
+fn what_is_asked_first_is_not_shown(rt: HostRuntime) {
+    let mut neighbours = Neighbours::new(rt.alloc(), node(&rt, b"a.example", 4));
+    assert_shown_with_each(&rt, &mut neighbours);
+    assert_shown(&rt, &mut neighbours);
+    drop(neighbours);
+}
