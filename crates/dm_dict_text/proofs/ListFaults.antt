@@ -14,7 +14,7 @@ use Rattle.dm_tables.specs.Sound.{is_value}
 use Rattle.dm_dict_text.specs.Meaning.{number}
 use Rattle.dm_dict_text.specs.Faults.{StopsAtFirst, fault_if, range_faults, listed_value_faults}
 use Rattle.dm_tables.specs.Limits.{listed_limit}
-use Rattle.dm_dict_text.proofs.Along.{stops_left, stops_right, none_both, none_left, none_right}
+use Rattle.dm_dict_text.proofs.Along.{stops_left, stops_right, none_both}
 use Rattle.dm_dict_text.proofs.EntryFaults.{any-map}
 
 -- the names and numbers that are kept tell whether one stands there already
@@ -59,19 +59,6 @@ module _ (before : List EnumValue) (v : written.ValueParts) where
   no_value_fault h none g =
       none_both (twice ++ range_faults listed_limit v.number) taken
       (none_both twice (range_faults listed_limit v.number) (rw h refl) none) (rw g refl)
-
-no_fault : (b : Bool) (f : DictFault) → fault_if b f ≡ [] → b ≡ false
-no_fault true f e = absurd cc
-no_fault false f e = refl
-
--- a value without fault has a name and a number of its own
-pub value_new : (before : List EnumValue) (v : written.ValueParts) → listed_value_faults before v ≡ []
-    → (list_any (is_value v.name.text) before ≡ false) × (list_any (has_number (pos (number v.number))) before ≡ false)
-value_new before v e =
-    let front = none_left (twice before v ++ range_faults listed_limit v.number) (taken before v) e in (
-      no_fault _ _ (none_left (twice before v) (range_faults listed_limit v.number) front),
-      no_fault _ _ (none_right (twice before v ++ range_faults listed_limit v.number) (taken before v) e),
-    )
 
 -- a key that is new goes last
 pub key_last : {K : Type 0} (same : K → K → Bool) (ks : List K) (k : K) → list_any (same k) ks ≡ false

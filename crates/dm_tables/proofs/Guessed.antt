@@ -1,8 +1,7 @@
 -- The guesses of names, one definition at a time.
-use Rattle.std.proofs.Common.{◌≡◌, ◌≢◌, ◌<◌, ◌≤◌, ◌+◌, ℕ, zero, suc, Bool, true, false, nat_eq, nat_lt, min, if◌then◌else◌, None, List, [], ◌∷◌, ◌++◌, length, set, get_or, take, refl, sym, ◌∙◌, ap, add-one, arith}
+use Rattle.std.proofs.Common.{◌≡◌, ◌≢◌, ◌<◌, ◌≤◌, ℕ, zero, suc, Bool, true, false, nat_eq, nat_lt, min, if◌then◌else◌, None, List, [], ◌∷◌, ◌++◌, length, set, get_or, refl, sym, ◌∙◌, ap, arith}
 use Rattle.std.proofs.lemmas.Bool.{eqb-true, eq-eqb}
 use Rattle.std.proofs.lemmas.List.{get_or-set_same, get_or-set_other, length-set}
-use Rattle.std.proofs.Math.Seq.{take-suc}
 use Rattle.std.specs.Cmp.Lexicographic.{same_text}
 use Rattle.std.specs.List.{position_from}
 use Rattle.dm_tables.specs.declared.def.AvpDef.{AvpDef}
@@ -79,10 +78,3 @@ guessed_step avps d guesses name place named before = λ other none.
             let slots : slot ≡ slot_of (length guesses) other = ap (slot_of (length guesses)) (sym (same ∙ named)) in
             let equal = eq-eqb slot (slot_of (length guesses) other) slots in
             cc
-
--- the same of the first of some definitions
-pub guessed_next : (avps : List AvpDef) (i : ℕ) (d x : AvpDef) (guesses : List ℕ) → i < length avps → d ≡ get_or avps i x
-    → AreGuessed (take i avps ++ d ∷ []) guesses → AreGuessed (take (i + 1) avps) guesses
-guessed_next avps i d x guesses h at guessed =
-    let more : take (i + 1) avps ≡ take i avps ++ get_or avps i x ∷ [] = rw (add-one i) (take-suc avps i x h) in
-    rw (more, ← at) guessed

@@ -1,6 +1,6 @@
--- Digits that are read sixteen at once.
+-- Digits that are read in runs.
 use Rattle.std.proofs.Common.{◌≡◌, ◌<◌, ◌≤◌, ◌*◌, ◌+◌, ◌%◌, inl, inr, ℕ, Bool, true, false, Result, Ok, Err, List, [], ◌∷◌, ◌++◌}
-use Rattle.std.proofs.Common.{length, take, map, cond, leb, append_assoc, refl, sym, arith, ap, ◌∙◌}
+use Rattle.std.proofs.Common.{length, take, map, cond, leb, refl, arith, ap, ◌∙◌}
 use Rattle.std.proofs.lemmas.Bool.{leb-true, leb-false}
 use Rattle.hex.specs.Hex.{decode_pairs}
 use Rattle.hex.specs.declared.error.FromHexError.{FromHexError}
@@ -16,11 +16,6 @@ read_behind-nil (Err e) = refl
 cons-read_behind : (v : ℕ) (front : List ℕ) (r : Result (List ℕ) FromHexError) → cons_byte v (read_behind front r) ≡ read_behind (v ∷ front) r
 cons-read_behind v front (Ok rest) = refl
 cons-read_behind v front (Err e) = refl
-
-read_behind-twice : (front more : List ℕ) (r : Result (List ℕ) FromHexError)
-    → read_behind front (read_behind more r) ≡ read_behind (front ++ more) r
-read_behind-twice front more (Ok rest) = ap Ok (sym (append_assoc front more rest))
-read_behind-twice front more (Err e) = refl
 
 -- no bit is set, so the first value is a digit's
 pub first_good : (worth lanes : ℕ) → cond (leb 16 worth) 1 0 + 2 * lanes ≡ 0 → (worth ≤ 15) × (lanes ≡ 0)

@@ -1,17 +1,8 @@
 -- Lanes that are compared with a splat.
-use Rattle.std.proofs.Common.{◌≡◌, ◌≤◌, ◌^◌, ◌%◌, ℕ, Bool, List, [], ◌∷◌, cond, leb, length, get_or, map, replicate, ap, sym, ◌∙◌, refl, arith, w8, Fits}
+use Rattle.std.proofs.Common.{◌≡◌, ℕ, Bool, List, [], ◌∷◌, cond, get_or, map, ap, sym, ◌∙◌, refl, arith, w8, Fits}
 use Rattle.std.specs.List.{range_with_len}
-use Rattle.std.specs.Simd.Lanes.{Each1, zip2, sel_l, mask_l, top}
-use Rattle.std.proofs.lemmas.Simd.{tops_compared, zip2_splat_left, mask_l-mod}
-use Rattle.std.proofs.lemmas.List.{length-map}
+use Rattle.std.specs.Simd.Lanes.{Each1, sel_l}
 use Rattle.std.proofs.lemmas.List.FromFn.{get_or-map-range_with_len}
-
--- a bit for each lane that is at least x
-pub splat_mask : (x n : ℕ) (v : List ℕ) → length v ≡ n → n ≤ 64
-    → mask_l (map (top 7) (zip2 (λ a b. cond (leb a b) 255 0) (replicate n x) v)) % 2 ^ 64 ≡ mask_l (map (leb x) v)
-splat_mask x n v long small =
-    ap (λ ms. mask_l ms % 2 ^ 64) (tops_compared w8 leb (replicate n x) v ∙ zip2_splat_left leb x n v long)
-    ∙ mask_l-mod (map (leb x) v) 64 (omega (arith, length-map v (leb x)))
 
 -- a choice between lanes that are computed from the same
 pub chosen : {A B : Type 0} (p : A → Bool) (f g : A → B) (v : List A) {ms : List Bool} {xs ys : List B} → ms ≡ map p v
