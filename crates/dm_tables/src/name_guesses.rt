@@ -43,8 +43,8 @@ fn first_place(guess: u16, place: usize) -> u16
     }
 }
 
-/// How many slots the names of so many AVPs have: eight for each, so that few share one, as far as the AVPs are few;
-/// none for none, which takes no memory.
+/// How many slots the names of so many AVPs have: eight or more for each, so that few share one, as far as the AVPs are
+/// few; none for none, which takes no memory.
 fn slots_for(avps: usize) -> usize
     ensures enough { min (8 * avps) 65536 ≤ result }
     ensures few { result < 131072 }

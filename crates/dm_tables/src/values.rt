@@ -37,7 +37,8 @@ impl Clone for EnumValue {
     }
 }
 
-/// The values that an Enumerated AVP lists, in order, and where the first of each number stands among them.
+/// The values that an Enumerated AVP lists, in order, and of a list of more than eight where the first of each number
+/// stands among them.
 ///
 /// A contract sees it as the list of the values.
 #[derive(Drop)]
@@ -213,7 +214,7 @@ impl Values {
     }
 
     /// Whether there is a list and the number isn't in it. It never answers want of memory, and takes no
-    /// longer for a longer list.
+    /// longer for a longer list than for one of eight.
     pub fn leaves_out(&self, number: i32) -> bool
         ensures { result ≡ is_unlisted self.now number }
     {
@@ -221,7 +222,7 @@ impl Values {
     }
 
     /// The first value of the number. It never answers want of memory, and takes no longer for a
-    /// longer list.
+    /// longer list than for one of eight.
     fn first_of(&self, number: &i32) -> Option<&EnumValue>
         ensures { option_copied result ≡ find (has_number number.now) self.now }
     {
@@ -242,7 +243,7 @@ impl Values {
     }
 
     /// The name of the first value of the number. It never answers want of memory, and takes no longer for a
-    /// longer list.
+    /// longer list than for one of eight.
     pub fn name(&self, number: i32) -> Option<&Octets>
         ensures { option_copied result ≡ option_map (λ v. v.name) (find (has_number number) self.now) }
     {
