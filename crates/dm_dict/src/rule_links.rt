@@ -20,7 +20,7 @@ pub(crate) struct RuleLinks {
     none: Links,
     /// The links of each rule with entries.
     kept: Vec<Links>,
-    /// Where each rule's links are: 0 for none, else behind so many that are kept.
+    /// Where each rule's links are: 0 for none, else one more than their place among those that are kept.
     places: Vec<usize>,
 }
 
