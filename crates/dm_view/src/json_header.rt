@@ -52,7 +52,7 @@ fn put_identifiers(json: &mut JsonText, header: &Header) -> Result<(), AllocErro
     Ok(())
 }
 
-/// Appends a header: the command's name, code, flags in words, application and identifiers.
+/// Appends a header: the command's name, code, flags in words, application and identifiers. `alloc` gives no room.
 #[tactic(auto, unfolding(crate::specs::JsonView::header_json))]
 pub fn put_json_header(
     alloc: Global,
