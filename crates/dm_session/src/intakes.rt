@@ -20,7 +20,7 @@ use std::alloc::{AllocError, Global};
 #[derive(Drop)]
 pub struct Intakes {
     map: IndexMap<u64, Intake>,
-    /// Where the connection stood of which something was told last. Who looks one up looks there first.
+    /// Where the connection stood whose limit was asked for last. Who looks one up looks there first.
     last: usize,
 }
 
