@@ -26,7 +26,7 @@ fn rank(form: Form) -> u8
 }
 
 /// The most entries among which a name is looked for one by one.
-const SHORT_RULE: usize = 64;
+const SHORT_RULE: usize = 32;
 
 /// The entries of a rule so far, the names of a long one, and the form that was reached.
 #[derive(Drop)]

@@ -28,7 +28,7 @@ fn signed(number: u32) -> i32
 }
 
 /// The most values among which a name or a number is looked for one by one.
-const SHORT_LIST: usize = 64;
+const SHORT_LIST: usize = 32;
 
 /// The values of a list so far, and the names and the numbers of a long one.
 #[derive(Drop)]

@@ -227,16 +227,9 @@ pub fn push_hexadecimal(text: &mut Vec<u8>, octets: &[u8]) -> Result<(), AllocEr
     Ok(())
 }
 
-/// Appends the octets in lower case hexadecimal to text.
+/// Appends the octets in lower case hexadecimal to text, so many at once: its room grows as it does for a piece after
+/// the other.
 pub fn put_hexadecimal(text: &mut String, octets: &[u8]) -> Result<(), AllocError>
-    ensures { OnOk result (string_bytes text.new ≡ string_bytes text.old ++ encode_lower octets.now) }
-{
-    text.reserve(octets.len().saturating_mul(2))?;
-    put_by_runs(text, octets)
-}
-
-/// Appends the octets, so many at once.
-fn put_by_runs(text: &mut String, octets: &[u8]) -> Result<(), AllocError>
     ensures { OnOk result (string_bytes text.new ≡ string_bytes text.old ++ encode_lower octets.now) }
 {
     let mut rest = octets;

@@ -1,7 +1,7 @@
 use Rattle.std.proofs.Common.{◌≡◌, ◌++◌, List, ℕ, length}
 use Rattle.std.specs.String.{string_bytes}
 use Rattle.hex.specs.Hex.{encode_lower}
-use Rattle.dm_text.proofs.hexadecimal.put_by_runs.Given as goal
+use Rattle.dm_text.proofs.hexadecimal.put_hexadecimal.Given as goal
 
 -- the octets that were passed are put
 abbrev pub invariant-loop-rest : goal.invariant-loop-rest

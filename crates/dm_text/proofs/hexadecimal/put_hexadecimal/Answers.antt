@@ -2,7 +2,7 @@ use Rattle.std.proofs.Common.{◌++◌, [], sym, ap, ◌∙◌, refl, append_ass
 use Rattle.std.specs.String.{string_bytes}
 use Rattle.hex.specs.Hex.{encode_lower, lower_digits}
 use Rattle.dm_text.proofs.Digits.{encode_with-append, encode_with-nil, more_passed, all_passed}
-use Rattle.dm_text.proofs.hexadecimal.put_by_runs.Goals as goal
+use Rattle.dm_text.proofs.hexadecimal.put_hexadecimal.Goals as goal
 
 pub loop-rest-init : goal.loop-rest-init
 loop-rest-init c =
