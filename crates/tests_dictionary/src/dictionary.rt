@@ -15,6 +15,7 @@ mod rows;
 mod rules;
 mod second_version;
 mod texts;
+mod thresholds;
 mod types;
 mod values;
 mod verdicts;

@@ -22,11 +22,7 @@ struct Values {
 fn listed(alloc: Global, count: u32, different: u32) -> Result<Vec<EnumValue>, AllocError> {
     let mut values = Vec::new(alloc);
     for place in 0..count {
-        let number = if place < different {
-            place
-        } else {
-            place - different
-        };
+        let number = place % different.max(1);
         values.push(EnumValue {
             name: Octets::from_slice(alloc, b"VALUE")?,
             number: i32::try_from(number).unwrap_or(0),

@@ -58,6 +58,14 @@ pub fn assert_faults_over_empty(
     drop(empty);
 }
 
+/// The fault of a text over the empty dictionary, or none.
+pub fn fault_over_empty(alloc: Global, text: &[u8]) -> Option<DictFault> {
+    let empty = Dictionary::empty(alloc);
+    let fault = fault_of(alloc, text, &empty);
+    drop(empty);
+    fault
+}
+
 /// How the text over the empty dictionary is printed.
 fn printed(rt: &(impl Abort + AllocGlobal), text: &[u8]) -> Vec<u8> {
     let empty = Dictionary::empty(rt.alloc());
