@@ -10,4 +10,6 @@ mod node_lines;
 #[cfg(test)]
 mod nodes;
 #[cfg(test)]
+mod room;
+#[cfg(test)]
 mod session;
