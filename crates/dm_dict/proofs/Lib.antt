@@ -1,8 +1,10 @@
+pub mod Ascii
 pub mod Chains
 pub mod Exemplified
 pub mod Fitting
 pub mod FoundAt
 pub mod Good
+pub mod Lanes
 pub mod Kept
 pub mod Linking
 pub mod Listed

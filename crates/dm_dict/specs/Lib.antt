@@ -6,6 +6,7 @@ pub mod Faults
 pub mod Found
 pub mod Judgement
 pub mod Keeping
+pub mod Lanes
 pub mod Limits
 pub mod Linked
 pub mod Links

@@ -1,14 +1,14 @@
 //! What is wrong with the data of an AVP that is no group (RFC 6733, 7.1.5).
 ghost use Rattle.std.specs.Prelude.{◌≡◌, ◌≢◌, [], true, false, nat_eq, None, List, IfSome};
-ghost use Rattle.std.specs.List.{list_all};
 ghost use Rattle.dm_wire.specs.declared.avp.Avp.{Avp};
-ghost use Rattle.dm_value.specs.declared.avp_type.AvpType.TheVariants.{Address, DiameterIdentity, Grouped};
-ghost use Rattle.dm_value.specs.Flaws.{flaw, is_visible};
+ghost use Rattle.dm_value.specs.declared.avp_type.AvpType.TheVariants.{Address, DiameterIdentity, Grouped, UTF8String};
+ghost use Rattle.dm_value.specs.Flaws.{flaw};
 ghost use Rattle.dm_dict.specs.Codes.{missing_avp};
 ghost use Rattle.dm_dict.specs.Faults.{Fault as AFault, data_faults};
 ghost use Rattle.dm_dict.specs.Listing.{coded};
 
 use crate::avps::is_left_out;
+use crate::between::are_between;
 use crate::codes::{INVALID_AVP_LENGTH, INVALID_AVP_VALUE};
 use byteorder::{BigEndian, ByteOrder};
 use dm_tables::AvpDef;
@@ -44,47 +44,20 @@ fn passes_address(octets: &[u8]) -> bool
     }
 }
 
-/// Whether an octet is ASCII, no space and no control.
-#[inline(always)]
-fn is_printing(octet: u8) -> bool
-    ensures { result ≡ is_visible octet }
-{
-    octet >= 0x21 && octet <= 0x7e
-}
-
-/// Whether all octets are, one at a time.
-#[inline(always)]
-fn each_visible(octets: &[u8]) -> bool
-    ensures { result ≡ list_all is_visible octets.now }
-{
-    octets.iter().all(|octet| is_printing(*octet))
-}
-
-/// The same, four at a time.
-#[inline(always)]
-fn are_visible(octets: &[u8]) -> bool
-    ensures { result ≡ list_all is_visible octets.now }
-{
-    let mut left = octets;
-    while let [first, second, third, fourth, rest @ ..] = left {
-        if !is_printing(*first)
-            || !is_printing(*second)
-            || !is_printing(*third)
-            || !is_printing(*fourth)
-        {
-            return false;
-        }
-        left = rest;
-    }
-    each_visible(left)
-}
-
 /// Whether octets are a DiameterIdentity (4.3.1).
 #[inline(always)]
 fn passes_identity(octets: &[u8]) -> bool
     ensures { result ≡ true → flaw DiameterIdentity octets.now ≡ None }
 {
-    octets.len() >= 1 && are_visible(octets)
+    octets.len() >= 1 && are_between(octets, 0x21, 0x7e)
+}
+
+/// Whether octets are UTF-8. Of ASCII it is seen sixteen octets at once.
+#[inline(always)]
+fn passes_text(octets: &[u8]) -> bool
+    ensures { result ≡ true → flaw UTF8String octets.now ≡ None }
+{
+    are_between(octets, 0, 0x7f) || value_fault(AvpType::UTF8String, octets).is_none()
 }
 
 /// Whether nothing is wrong with data of this definition that is no group's. Of the commonest types it is seen at once.
@@ -97,7 +70,9 @@ pub(crate) fn passes_data(def: &AvpDef, octets: &[u8]) -> bool
     match def.kind {
         AvpType::OctetString => true,
         AvpType::Integer32 | AvpType::Unsigned32 | AvpType::Time => octets.len() == 4,
+        AvpType::Integer64 | AvpType::Unsigned64 => octets.len() == 8,
         AvpType::Address => passes_address(octets),
+        AvpType::UTF8String => passes_text(octets),
         AvpType::DiameterIdentity => passes_identity(octets),
         AvpType::Enumerated => data_fault(def, octets).is_none(),
         _ => value_fault(def.kind, octets).is_none(),

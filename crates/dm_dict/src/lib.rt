@@ -3,6 +3,7 @@
 #![tactic(auto)]
 
 mod avps;
+mod between;
 pub mod codes;
 mod counts;
 mod data;
