@@ -278,22 +278,62 @@ fn messages_checked(rt: HostRuntime) {
     drop(base);
 }
 
-/// A dictionary of a command of 300 entries, each of which one AVP may fill.
-fn long_rule(rt: &(impl Abort + AllocGlobal)) -> Dictionary {
-    let mut text = String::new(rt.alloc());
-    for place in 0..300u16 {
+/// Appends a piece with the number of each place.
+fn push_each(
+    rt: &(impl Abort + AllocGlobal),
+    text: &mut String,
+    size: u16,
+    front: &str,
+    middle: &str,
+    back: &str,
+) {
+    for place in 0..size {
         let code = 80000 + place as u32;
-        let line = format!(in rt.alloc(); "@ A{place} {code} Unsigned32\n").expect(rt, "memory");
+        let line = if middle.is_empty() {
+            format!(in rt.alloc(); "{front}{place}{back}").expect(rt, "memory")
+        } else {
+            format!(in rt.alloc(); "{front}{place}{middle}{code}{back}").expect(rt, "memory")
+        };
         text.push_str(line.as_str()).expect(rt, "memory");
         drop(line);
     }
+}
+
+/// The text of a command of so many entries, each of which one AVP may fill.
+fn rule_text(rt: &(impl Abort + AllocGlobal), size: u16) -> String {
+    let mut text = String::new(rt.alloc());
+    push_each(rt, &mut text, size, "@ A", " ", " Unsigned32\n");
     let title = "< Ask > ::= < Diameter Header: 300, REQ >";
     text.push_str(title).expect(rt, "memory");
-    for place in 0..300u16 {
-        let entry = format!(in rt.alloc(); " [ A{place} ]").expect(rt, "memory");
-        text.push_str(entry.as_str()).expect(rt, "memory");
-        drop(entry);
-    }
+    push_each(rt, &mut text, size, " [ A", "", " ]");
+    text
+}
+
+/// The text of an AVP that lists so many values and one.
+fn list_text(rt: &(impl Abort + AllocGlobal), size: u16) -> String {
+    let mut text = String::new(rt.alloc());
+    text.push_str("@ 2 @ List 5000 Enumerated { FIRST 0")
+        .expect(rt, "memory");
+    push_each(rt, &mut text, size, ", V", " ", "");
+    text.push_str(" }").expect(rt, "memory");
+    text
+}
+
+/// Each growth of a long rule and of a long list is refused, those of what is kept of their names and numbers too.
+#[test]
+fn long_rules_and_lists_read(rt: HostRuntime) {
+    let rule = rule_text(&rt, 66);
+    let list = list_text(&rt, 66);
+    let empty = Dictionary::empty(rt.alloc());
+    check_texts(&rt, &[rule.as_bytes(), list.as_bytes()], &empty);
+    drop(empty);
+    drop(list);
+    drop(rule);
+}
+
+/// A dictionary of a command of 300 entries, each of which one AVP may fill.
+fn long_rule(rt: &(impl Abort + AllocGlobal)) -> Dictionary {
+    let text = rule_text(rt, 300);
     let empty = Dictionary::empty(rt.alloc());
     let read = Dictionary::read(rt.alloc(), text.as_bytes(), &empty);
     drop(empty);
