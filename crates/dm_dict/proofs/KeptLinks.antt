@@ -1,26 +1,27 @@
 -- The links of rules, each kept at a place, one rule more.
-use Rattle.std.proofs.Common.{◌≡◌, ◌<◌, ℕ, zero, suc, Option, List, [], ◌∷◌, ◌++◌, length, get_or, refl, ap, ◌∙◌, arith}
+use Rattle.std.proofs.Common.{◌≡◌, ◌<◌, ℕ, zero, suc, List, [], ◌∷◌, ◌++◌, length, get_or, refl, ap, ◌∙◌, arith}
 use Rattle.std.proofs.lemmas.List.{map-append, get_or_append_left}
+use Rattle.dm_dict.specs.Links.{LinkedEntries, no_links}
 use Rattle.dm_dict.specs.RuleLinks.{shown_links}
 
 -- what is kept behind the others doesn't change what they show
-pub shown_more : (all : List (List (Option ℕ))) (l : List (Option ℕ)) (places : List ℕ)
+pub shown_more : (all : List LinkedEntries) (l : LinkedEntries) (places : List ℕ)
     → ((i : ℕ) → i < length places → get_or places i 0 < length all)
     → shown_links (all ++ l ∷ []) places ≡ shown_links all places
 shown_more all l [] within = refl
 shown_more all l (p ∷ places) within =
-    let here : get_or (all ++ l ∷ []) p [] ≡ get_or all p [] =
-    get_or_append_left all (l ∷ []) [] p (within zero (omega arith)) in
+    let here : get_or (all ++ l ∷ []) p no_links ≡ get_or all p no_links =
+    get_or_append_left all (l ∷ []) no_links p (within zero (omega arith)) in
     let rest = shown_more all l places (λ i h. within (suc i) (omega (arith, h))) in
     (λ i. here i ∷ rest i)
 
 -- one place more
-pub shown_push : (all : List (List (Option ℕ))) (places : List ℕ) (p : ℕ) (l : List (Option ℕ)) → get_or all p [] ≡ l
+pub shown_push : (all : List LinkedEntries) (places : List ℕ) (p : ℕ) (l : LinkedEntries) → get_or all p no_links ≡ l
     → shown_links all (places ++ p ∷ []) ≡ shown_links all places ++ l ∷ []
 shown_push all places p l e =
-    map-append (λ i. get_or all i []) places (p ∷ []) ∙ ap (λ x. shown_links all places ++ x ∷ []) e
+    map-append (λ i. get_or all i no_links) places (p ∷ []) ∙ ap (λ x. shown_links all places ++ x ∷ []) e
 
 -- the last that is kept
-pub last_kept : (all : List (List (Option ℕ))) (l : List (Option ℕ)) → get_or (all ++ l ∷ []) (length all) [] ≡ l
+pub last_kept : (all : List LinkedEntries) (l : LinkedEntries) → get_or (all ++ l ∷ []) (length all) no_links ≡ l
 last_kept [] l = refl
 last_kept (k ∷ all) l = last_kept all l

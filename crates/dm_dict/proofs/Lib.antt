@@ -1,7 +1,9 @@
 pub mod Ascii
+pub mod Bounded
 pub mod Chains
 pub mod Exemplified
 pub mod Fitting
+pub mod Filled
 pub mod FoundAt
 pub mod Good
 pub mod Lanes
@@ -15,10 +17,12 @@ pub mod OpenFaults
 pub mod OpenTables
 pub mod Placed
 pub mod Seated
+pub mod Sixteens
 pub mod Standing
 pub mod Tallied
 pub mod Texts
 pub mod Valued
+pub mod Within
 pub mod ReadOutcomes
 pub mod Located
 pub mod NoFaults

@@ -10,7 +10,7 @@ use Rattle.dm_tables.specs.Definitions.{is_named, is_coded}
 use Rattle.dm_tables.specs.Sound.{is_any, is_entry_known, knows_rule}
 use Rattle.dm_dict.specs.Rules.{is_called, names, stands_for_any}
 use Rattle.dm_dict.specs.Apart.{IsFit, IsOwnName}
-use Rattle.dm_dict.specs.Links.{entry_link, rule_links}
+use Rattle.dm_dict.specs.Links.{entry_link, entry_links}
 use Rattle.dm_dict.proofs.Standing.{is_found, is_seen, found, none_named, place_of}
 
 -- the first place among what g gives
@@ -113,7 +113,7 @@ unlinked_any avps unnamed e known = by (stands_for_any e) refl where
 -- the place of the link to a definition is that of its name
 pub name_place : (avps : List AvpDef) (rule : List Entry) (i : ℕ) (d : AvpDef) → slice_get avps i ≡ Some d
     → position_from (is_named d.name) 0 avps ≡ Some i
-    → position_from (option_eq nat_eq (Some i)) 0 (rule_links avps rule) ≡ position_from (names (Some d)) 0 rule
+    → position_from (option_eq nat_eq (Some i)) 0 (entry_links avps rule) ≡ position_from (names (Some d)) 0 rule
 name_place avps rule i d at placed =
     position_map (option_eq nat_eq (Some i)) (entry_link avps) 0 rule ∙
     position_same (λ e. true) (λ e. option_eq nat_eq (Some i) (entry_link avps e)) (names (Some d))
@@ -126,7 +126,7 @@ name_place avps rule i d at placed =
 -- the place of the entry without a link is that of `AVP`
 pub any_place : (avps : List AvpDef) (rule : List Entry) → list_any (is_named (codes "AVP")) avps ≡ false
     → knows_rule avps rule ≡ true
-    → position_from (option_eq nat_eq None) 0 (rule_links avps rule) ≡ position_from stands_for_any 0 rule
+    → position_from (option_eq nat_eq None) 0 (entry_links avps rule) ≡ position_from stands_for_any 0 rule
 any_place avps rule unnamed closed =
     position_map (option_eq nat_eq None) (entry_link avps) 0 rule ∙
     position_same (is_entry_known avps) (λ e. option_eq nat_eq None (entry_link avps e)) stands_for_any
@@ -134,7 +134,7 @@ any_place avps rule unnamed closed =
 
 -- the place of the link of what is found, else of the entry without one, is the place of the AVP
 pub linked_place : (avps : List AvpDef) (rule : List Entry) (links : List (Option ℕ)) (p : AvpDef → Bool)
-    (o : Option ℕ) → IsFit avps → knows_rule avps rule ≡ true → links ≡ rule_links avps rule
+    (o : Option ℕ) → IsFit avps → knows_rule avps rule ≡ true → links ≡ entry_links avps rule
     → o ≡ position_from p 0 avps
     → option_or (position_from (option_eq nat_eq o) 0 links) (position_from (option_eq nat_eq None) 0 links) ≡
     place_of rule (find p avps)

@@ -16,6 +16,7 @@ use Rattle.dm_tables.specs.Sound.{each_after, is_sound, is_closed, is_sound_vend
 use Rattle.dm_tables.specs.Sound.{is_any, knows_rule, is_enumerated}
 use Rattle.dm_tables.specs.Tables.{defined, code_key}
 use Rattle.dm_dict.specs.Linked.{IsLinked, avp_links, command_links}
+use Rattle.dm_dict.specs.Bounds.{rule_bounds}
 use Rattle.dm_dict.specs.Links.{rule_links}
 use Rattle.dm_dict.specs.declared.linked.Linked.{Linked}
 use Rattle.dm_dict.specs.WithoutLists.{without_list, without_lists}
@@ -101,7 +102,10 @@ closed_open : (d : Definitions) → is_closed d ≡ true → is_closed (without_
 closed_open d h = (λ i. closed_avps d.avps d.avps i && closed_commands d.avps d.commands i) ∙ h
 
 links_same : (avps : List AvpDef) (rule : List Entry) → rule_links (map without_list avps) rule ≡ rule_links avps rule
-links_same avps rule = λ i. map (λ e. place_same (is_named e.name) (λ g. refl) 0 avps i) rule
+links_same avps rule = λ i. record {
+  links = map (λ e. place_same (is_named e.name) (λ g. refl) 0 avps i) rule;
+  bounds = rule_bounds rule;
+}
 
 avp_links_same : (all avps : List AvpDef)
     → map (λ a. rule_links (map without_list all) a.rule) (map without_list avps)

@@ -1,4 +1,5 @@
 pub mod Apart
+pub mod Bounds
 pub mod Codes
 pub mod Counters
 pub mod Examples

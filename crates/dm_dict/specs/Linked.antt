@@ -1,5 +1,5 @@
 -- Tables with the links of their rules.
-use Rattle.std.specs.Prelude.{◌≡◌, ℕ, true, Option, List, map}
+use Rattle.std.specs.Prelude.{◌≡◌, true, List, map}
 use Rattle.dm_tables.specs.declared.def.AvpDef.{AvpDef}
 use Rattle.dm_tables.specs.Definitions.{Definitions}
 use Rattle.dm_tables.specs.Tables.{defined, IsDictionary}
@@ -7,14 +7,14 @@ use Rattle.dm_tables.specs.Sound.{knows_rule}
 use Rattle.dm_dict.specs.declared.linked.Linked.{Linked}
 use Rattle.dm_dict.specs.declared.linked.LinkedRule.{LinkedRule}
 use Rattle.dm_dict.specs.Apart.{IsApart}
-use Rattle.dm_dict.specs.Links.{rule_links}
+use Rattle.dm_dict.specs.Links.{LinkedEntries, rule_links}
 use Rattle.dm_dict.specs.Marks.{AreMarked}
 
 -- the links of each AVP's rule, and of each command's, in order
-abbrev pub avp_links : Definitions → List (List (Option ℕ))
+abbrev pub avp_links : Definitions → List LinkedEntries
 avp_links d = map (λ a. rule_links d.avps a.rule) d.avps
 
-abbrev pub command_links : Definitions → List (List (Option ℕ))
+abbrev pub command_links : Definitions → List LinkedEntries
 command_links d = map (λ c. rule_links d.avps c.rule) d.commands
 
 -- the tables are a dictionary's, and the links and the marks are theirs

@@ -1,11 +1,12 @@
--- The links of the entries of a rule: which definition each names (RFC 6733, 3.2).
-use Rattle.std.specs.Prelude.{◌≡◌, ◌<◌, ℕ, nat_eq, Option, None, Some, List, length, map}
+-- The links of the entries of a rule: which definition each names, and their bounds (RFC 6733, 3.2).
+use Rattle.std.specs.Prelude.{◌≡◌, ◌<◌, ℕ, nat_eq, Option, None, Some, List, [], length, map}
 use Rattle.std.specs.List.{position_from}
 use Rattle.std.specs.Option.{option_eq}
 use Rattle.indexmap.specs.IndexMap.{get_by}
 use Rattle.dm_tables.specs.declared.rule.Entry.{Entry}
 use Rattle.dm_tables.specs.declared.def.AvpDef.{AvpDef}
 use Rattle.dm_tables.specs.Definitions.{is_named}
+use Rattle.dm_dict.specs.Bounds.{LaneBounds, rule_bounds}
 use Rattle.dm_dict.specs.declared.links.Links.TheInside.{Inside}
 use Rattle.dm_dict.specs.Limits.{short_rule}
 use Rattle.dm_dict.specs.Seats.{IsSeated}
@@ -15,8 +16,21 @@ abbrev pub entry_link : List AvpDef → Entry → Option ℕ
 entry_link avps e = position_from (is_named e.name) 0 avps
 
 -- the links of the entries of a rule, in order
-abbrev pub rule_links : List AvpDef → List Entry → List (Option ℕ)
-rule_links avps rule = map (entry_link avps) rule
+abbrev pub entry_links : List AvpDef → List Entry → List (Option ℕ)
+entry_links avps rule = map (entry_link avps) rule
+
+-- links with bounds
+pub record LinkedEntries : Type 0 where
+  pub links : List (Option ℕ)
+  pub bounds : LaneBounds
+
+-- those of the entries of a rule
+abbrev pub rule_links : List AvpDef → List Entry → LinkedEntries
+rule_links avps rule = record { links = entry_links avps rule; bounds = rule_bounds rule }
+
+-- and of no entries
+abbrev pub no_links : LinkedEntries
+no_links = record { links = []; bounds = rule_bounds [] }
 
 -- the place of the first entry without a link, an index of the first place of each link where the rule is long, and the
 -- seats

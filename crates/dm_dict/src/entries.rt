@@ -12,6 +12,7 @@ ghost use Rattle.dm_dict.specs.Faults.{example, entry_faults, first};
 ghost use Rattle.dm_dict.specs.Found.{is_found, finds_missing};
 ghost use Rattle.dm_dict.specs.Judgement.{failed_of, shown};
 ghost use Rattle.dm_dict.specs.Rules.{count, counted_avps};
+ghost use Rattle.dm_dict.specs.Bounds.{rule_bounds};
 ghost use Rattle.dm_dict.specs.Counters.{IsCounted};
 ghost use Rattle.dm_dict.specs.Limits.{counter_limit};
 
@@ -154,7 +155,7 @@ fn is_kept(entry: &Entry, counter: u16) -> bool
 }
 
 /// Whether the counters alone show that no entry of the rule has a fault.
-pub(crate) fn are_kept(rule: &Rule, counts: &[u16]) -> bool
+fn are_kept(rule: &Rule, counts: &[u16]) -> bool
     requires room { length rule.now ≤ length counts.now }
     ensures { (avps : List AvpDef) (l : List Avp) → IsCounted avps rule.now l 0 counts.now → result ≡ true
         → None ≡ first (flat_map (entry_faults avps rule.now l) rule.now) }
@@ -165,6 +166,22 @@ pub(crate) fn are_kept(rule: &Rule, counts: &[u16]) -> bool
         }
     }
     true
+}
+
+/// Whether the counters, where there are enough, alone show that no entry of the rule has a fault: by its bounds, eight
+/// beside each other, where there is a counter for each of them.
+#[inline(always)]
+pub(crate) fn keep_bounds(rule: LinkedRule<'_>, counts: &[u16]) -> bool
+    requires bounds { rule.links.now.bounds ≡ rule_bounds rule.entries.now }
+    ensures { (avps : List AvpDef) (l : List Avp) → IsCounted avps rule.entry.entries.now l 0 counts.now → result ≡ true
+        → None ≡ first (flat_map (entry_faults avps rule.entry.entries.now l) rule.entry.entries.now) }
+{
+    let bounds = rule.links.bounds();
+    if bounds.len() <= counts.len() {
+        bounds.hold(counts)
+    } else {
+        rule.entries.as_slice().len() <= counts.len() && are_kept(rule.entries, counts)
+    }
 }
 
 /// The first fault of the entry at the place, which has this counter.

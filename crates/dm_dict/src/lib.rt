@@ -4,6 +4,7 @@
 
 mod avps;
 mod between;
+mod bounds;
 pub mod codes;
 mod counts;
 mod data;

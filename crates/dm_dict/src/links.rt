@@ -1,25 +1,27 @@
-//! The links of a rule: which definition each of its entries names (RFC 6733, 3.2).
-ghost use Rattle.std.specs.Prelude.{◌≡◌, ◌<◌, [], ℕ, Some, None, if◌then◌else◌, nat_eq, length, map, IfOk, OnOk};
+//! The links of a rule: which definition each of its entries names, and the entries' bounds (RFC 6733, 3.2).
+ghost use Rattle.std.specs.Prelude.{◌≡◌, ◌<◌, ℕ, Some, None, if◌then◌else◌, nat_eq, length, map, IfOk, OnOk};
 ghost use Rattle.std.specs.List.{position_from};
 ghost use Rattle.std.specs.Option.{option_eq, option_or};
 ghost use Rattle.indexmap.specs.IndexMap.{get_by};
 ghost use Rattle.dm_tables.specs.Guesses.{AreGuessed};
 ghost use Rattle.dm_tables.specs.Tables.{IsTables};
-ghost use Rattle.dm_dict.specs.Links.{rule_links};
+ghost use Rattle.dm_dict.specs.Links.{entry_links, no_links, rule_links};
 ghost use Rattle.dm_dict.specs.Limits.{short_rule};
 
+use crate::bounds::Bounds;
 use crate::seats::{CROWDED, seats_of};
 use dm_tables::{NameGuesses, Rule, Tables};
 use dm_value::NoMemory;
 use indexmap::IndexMap;
 use std::alloc::Global;
+use std::fmt::{self, Debug, Formatter, Write};
 use std::marker::Model;
 
 /// For each entry of a rule, in order, the place of the definition that has its name among the AVPs. The entry
-/// `AVP` has none.
+/// `AVP` has none. With them the bounds of the entries.
 ///
-/// A contract sees it as the list of the links.
-#[derive(Debug, Drop)]
+/// A contract sees it as the list of the links and the bounds.
+#[derive(Drop)]
 pub(crate) struct Links {
     items: Vec<Option<usize>>,
     /// The place of the first entry without a link.
@@ -28,18 +30,29 @@ pub(crate) struct Links {
     places: IndexMap<usize, usize>,
     /// At which entry a link may stand, by its lowest bits.
     seats: [u8; 128],
+    bounds: Bounds,
 }
 
 impl Model for Links {
-    ghost use Rattle.std.specs.Prelude.{List, Option, ℕ};
+    ghost use Rattle.dm_dict.specs.Links.{LinkedEntries, IsPlaced};
 
-    ghost Value = { List (Option ℕ) };
+    ghost Value = { LinkedEntries };
 
-    ghost use Rattle.dm_dict.specs.Links.{IsPlaced};
-
-    ghost view = { λ links. links.items.items };
+    ghost view = { λ links. record { links = links.items.items; bounds = links.bounds } };
 
     ghost invariant = { IsPlaced };
+}
+
+impl Debug for Links {
+    /// The links and what finds them.
+    fn fmt<W: Write>(&self, f: &mut Formatter<W>) -> fmt::Result {
+        f.debug_struct("Links")
+            .field("items", &self.items)
+            .field("any", &self.any)
+            .field("places", &self.places)
+            .field("seats", &self.seats)
+            .finish()
+    }
 }
 
 /// The most entries among which a link is sooner found one by one than by its hash.
@@ -111,7 +124,7 @@ fn links_to(
 ) -> Result<Vec<Option<usize>>, NoMemory>
     requires tables { IsTables tables.now }
     requires guesses { AreGuessed tables.now.avps.items guesses.now.places.items }
-    ensures { IfOk result (λ links. links.items ≡ rule_links tables.now.avps.items rule.now) }
+    ensures { IfOk result (λ links. links.items ≡ entry_links tables.now.avps.items rule.now) }
 {
     let entries = rule.as_slice();
     let mut links = Vec::with_capacity(alloc, entries.len())?;
@@ -124,19 +137,20 @@ fn links_to(
 impl Links {
     /// The links of no entries. It never answers want of memory.
     pub(crate) fn empty(alloc: Global) -> Links
-        ensures { result ≡ [] }
+        ensures { result ≡ no_links }
     {
         Links {
             items: Vec::new(alloc),
             any: None,
             places: IndexMap::new(alloc),
             seats: seats_of(&[]),
+            bounds: Bounds::empty(alloc),
         }
     }
 
-    /// The links of the `Vec`, which is moved and not copied.
-    fn new(alloc: Global, items: Vec<Option<usize>>) -> Result<Links, NoMemory>
-        ensures { IfOk result (λ links. links ≡ items.items) }
+    /// The links of the `Vec`, which is moved and not copied, with these bounds.
+    fn new(alloc: Global, items: Vec<Option<usize>>, bounds: Bounds) -> Result<Links, NoMemory>
+        ensures { IfOk result (λ linked. linked ≡ record { links = items.items; bounds = bounds }) }
     {
         let places = index(alloc, items.as_slice())?;
         let any = place_among(items.as_slice(), None);
@@ -146,6 +160,7 @@ impl Links {
             any,
             places,
             seats,
+            bounds,
         })
     }
 
@@ -161,12 +176,21 @@ impl Links {
         ensures { IfOk result (λ links. links ≡ rule_links tables.now.avps.items rule.now) }
     {
         let items = links_to(alloc, tables, guesses, rule)?;
-        Links::new(alloc, items)
+        let bounds = Bounds::of_rule(alloc, rule)?;
+        Links::new(alloc, items, bounds)
+    }
+
+    /// The bounds of the entries.
+    #[inline(always)]
+    pub(crate) fn bounds(&self) -> &Bounds
+        ensures { result.now ≡ self.now.bounds }
+    {
+        &self.bounds
     }
 
     /// The place of the first entry that has the link.
     fn place_of(&self, definition: usize) -> Option<usize>
-        ensures { result ≡ position_from (option_eq nat_eq (Some definition)) 0 self.now }
+        ensures { result ≡ position_from (option_eq nat_eq (Some definition)) 0 self.now.links }
     {
         if self.items.len() <= SHORT_RULE {
             place_among(self.items.as_slice(), Some(definition))
@@ -178,8 +202,8 @@ impl Links {
     /// The same as `place`, without a seat.
     #[inline(never)]
     fn searched(&self, definition: usize) -> Option<usize>
-        ensures { result ≡ option_or (position_from (option_eq nat_eq (Some definition)) 0 self.now)
-            (position_from (option_eq nat_eq None) 0 self.now) }
+        ensures { result ≡ option_or (position_from (option_eq nat_eq (Some definition)) 0 self.now.links)
+            (position_from (option_eq nat_eq None) 0 self.now.links) }
     {
         self.place_of(definition).or(self.any)
     }
@@ -187,8 +211,8 @@ impl Links {
     /// The place of the first entry that has the link, else of the first that has none.
     #[inline(always)]
     pub(crate) fn place(&self, link: Option<usize>) -> Option<usize>
-        ensures { result ≡ option_or (position_from (option_eq nat_eq link) 0 self.now)
-            (position_from (option_eq nat_eq None) 0 self.now) }
+        ensures { result ≡ option_or (position_from (option_eq nat_eq link) 0 self.now.links)
+            (position_from (option_eq nat_eq None) 0 self.now.links) }
     {
         let Some(definition) = link else {
             return self.any;

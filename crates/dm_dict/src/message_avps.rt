@@ -13,7 +13,7 @@ ghost use Rattle.dm_dict.specs.Passed.{IsGoodBut};
 
 use crate::avps::judge_counted;
 use crate::counts::{FEW_ENTRIES, count_one, counts_for, few_counts, many_counts};
-use crate::entries::are_kept;
+use crate::entries::keep_bounds;
 use crate::judge::GROUPS;
 use crate::judged::Judged;
 use crate::linked::{Linked, LinkedRule};
@@ -67,10 +67,7 @@ fn judge_each<'a>(
     ensures missing { finds_missing result ≡ false }
 {
     let left = pass_front(dictionary, rule, list, counts);
-    if left.split_first().is_none()
-        && rule.entries.as_slice().len() <= counts.len()
-        && are_kept(rule.entries, counts)
-    {
+    if left.split_first().is_none() && keep_bounds(rule, counts) {
         return Judged::Good;
     }
     judge_counted(dictionary, rule, list, left, GROUPS, alloc, counts)

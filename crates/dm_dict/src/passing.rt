@@ -14,7 +14,7 @@ ghost use Rattle.dm_dict.specs.Rules.{definition, allows};
 use crate::avps::is_failed_avp;
 use crate::counts::{FEW_ENTRIES, MANY_ENTRIES, count_one, few_counts, many_counts};
 use crate::data::passes_data;
-use crate::entries::are_kept;
+use crate::entries::keep_bounds;
 use crate::linked::{Linked, LinkedRule};
 use crate::rules::{allows_at, look_up_marked};
 use dm_tables::Rule;
@@ -130,9 +130,7 @@ fn passes_counted(
     ensures { result ≡ true → (l : List Avp) × SpellsList l octets.now
         × (None ≡ first (list_faults depth dictionary.now.tables.avps.items rule.entry.entries.now l)) }
 {
-    pass_each(dictionary, rule, octets, depth, counts)
-        && rule.entries.as_slice().len() <= counts.len()
-        && are_kept(rule.entries, counts)
+    pass_each(dictionary, rule, octets, depth, counts) && keep_bounds(rule, counts)
 }
 
 /// The same under a rule of few entries.

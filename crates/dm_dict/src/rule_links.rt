@@ -2,7 +2,7 @@
 ghost use Rattle.std.specs.Prelude.{◌≡◌, ◌<◌, ◌≤◌, ◌++◌, [], ◌∷◌, Some, length, slice_get, OnOk};
 ghost use Rattle.dm_tables.specs.Guesses.{AreGuessed};
 ghost use Rattle.dm_tables.specs.Tables.{IsTables};
-ghost use Rattle.dm_dict.specs.Links.{rule_links};
+ghost use Rattle.dm_dict.specs.Links.{no_links, rule_links};
 
 use crate::links::Links;
 use dm_tables::{AvpDef, NameGuesses, Rule, Tables};
@@ -25,9 +25,10 @@ pub(crate) struct RuleLinks {
 }
 
 impl Model for RuleLinks {
-    ghost use Rattle.std.specs.Prelude.{◌∷◌, List, Option, ℕ};
+    ghost use Rattle.std.specs.Prelude.{◌∷◌, List};
+    ghost use Rattle.dm_dict.specs.Links.{LinkedEntries};
 
-    ghost Value = { List (List (Option ℕ)) };
+    ghost Value = { List LinkedEntries };
 
     ghost use Rattle.dm_dict.specs.RuleLinks.{shown_links, AreRulesKept};
 
@@ -83,7 +84,7 @@ impl RuleLinks {
 
     /// The links of a rule without entries, behind the others.
     fn push_none(&mut self) -> Result<(), NoMemory>
-        ensures { OnOk result (self.new ≡ self.old ++ [] ∷ []) }
+        ensures { OnOk result (self.new ≡ self.old ++ no_links ∷ []) }
     {
         self.places.push(0)?;
         Ok(())

@@ -14,9 +14,9 @@ place_is : (c : goal.After-place-entry) → c.place-entry.result ≡ place_of c.
 place_is c =
     let rule = c.requires.rule in
     c.place-entry.ensures ∙
-    linked_place c.args.tables.now.avps.items c.args.rule.entries.now c.args.rule.links.now
+    linked_place c.args.tables.now.avps.items c.args.rule.entries.now c.args.rule.links.now.links
     (is_coded c.args.avp.code c.args.avp.vendor) c.args.place c.requires.fit rule.closed
-    rule.linked c.requires.def
+    (ap (λ linked. linked.links) rule.linked) c.requires.def
 
 pub returns-clause-def : goal.returns-clause-def
 returns-clause-def c =

@@ -1,0 +1,153 @@
+//! The bounds of the entries of a rule as counters of two octets tell them, eight beside each other (RFC 6733, 3.2).
+ghost use Rattle.std.specs.Prelude.{◌≡◌, ◌≤◌, ◌*◌, ◌++◌, ◌%◌, [], true, length, replicate, IfOk};
+ghost use Rattle.dm_dict.specs.Lanes.{are_none, AreUnder};
+ghost use Rattle.dm_dict.specs.Bounds.{filled, least_kept, most_kept, padding, rule_bounds, AreWithin, WithinTo};
+
+use dm_tables::{Entry, Rule};
+use dm_value::NoMemory;
+use std::alloc::Global;
+use std::marker::Model;
+use std::simd::prelude::*;
+
+/// For each entry of a rule, in order, the least and the greatest counter that keeps it, and behind the last as many
+/// that a counter of 0 keeps as make eights.
+///
+/// A contract sees it as the two lists.
+#[derive(Drop)]
+pub(crate) struct Bounds {
+    /// The least ones, and then as many greatest.
+    lanes: Vec<u16>,
+}
+
+impl Model for Bounds {
+    ghost use Rattle.dm_dict.specs.Bounds.{LaneBounds, AreEights, shown_bounds};
+
+    ghost Value = { LaneBounds };
+
+    ghost view = { λ bounds. shown_bounds bounds.lanes.items };
+
+    ghost invariant = { AreEights };
+}
+
+/// The least counter that keeps an entry.
+fn least_kept(entry: &Entry) -> u16
+    ensures { result ≡ least_kept entry.now }
+{
+    entry.min.min(u16::MAX as u32) as u16
+}
+
+/// The greatest counter that does: none, where the least can't be told, since no counter is 0 and that too.
+fn most_kept(entry: &Entry) -> u16
+    ensures { result ≡ most_kept entry.now }
+{
+    if entry.min > u16::MAX as u32 {
+        return 0;
+    }
+    match entry.max {
+        None | Some(0) => u16::MAX,
+        Some(max) => max.min(u16::MAX as u32 - 1) as u16,
+    }
+}
+
+/// How many more make eights.
+fn padding(size: usize) -> usize
+    ensures { result ≡ padding size }
+{
+    (8 - size % 8) % 8
+}
+
+/// Puts the bounds of the entries into lanes that are 0, the least ones from the first lane on and the greatest from
+/// the one in the middle.
+fn fill(lanes: &mut [u16], entries: &[Entry], room: usize)
+    requires room { length entries.now ≤ room }
+    requires both { lanes.old ≡ replicate (2 * room) 0 }
+    ensures { lanes.new ≡ filled least_kept entries.now room ++ filled most_kept entries.now room }
+{
+    for (at, entry) in entries.iter().enumerate() {
+        lanes[at] = least_kept(entry);
+        lanes[room + at] = most_kept(entry);
+    }
+}
+
+/// How far lanes go past those beside them: 0 in each that doesn't.
+#[inline(always)]
+fn past(lanes: u16x8, others: u16x8) -> u16x8
+    ensures { are_none result ≡ true → AreUnder lanes others }
+{
+    lanes.saturating_sub(others)
+}
+
+/// What is told of both.
+#[inline(always)]
+fn either_of(marks: u16x8, others: u16x8) -> u16x8
+    ensures first { are_none result ≡ true → are_none marks ≡ true }
+    ensures second { are_none result ≡ true → are_none others ≡ true }
+{
+    marks | others
+}
+
+/// Whether each lane is 0.
+#[inline(always)]
+fn are_none(marks: u16x8) -> bool
+    ensures { result ≡ true → are_none marks ≡ true }
+{
+    marks.simd_gt(u16x8::splat(0)).to_bitmask() == 0
+}
+
+/// How far eights of counters lie outside of their bounds: 0 in each lane where none does.
+#[inline(always)]
+fn outside_of(mins: &[u16], maxs: &[u16], counts: &[u16]) -> u16x8
+    requires eights { length mins.now % 8 ≡ 0 }
+    requires same { length maxs.now ≡ length mins.now }
+    requires counted { length mins.now ≤ length counts.now }
+    ensures { are_none result ≡ true → WithinTo (length mins.now) mins.now maxs.now counts.now }
+{
+    let mut outside = u16x8::splat(0);
+    'eights: for k in 0..mins.len() / 8 {
+        let counters = u16x8::from_slice(&counts[8 * k..]);
+        let under = past(u16x8::from_slice(&mins[8 * k..]), counters);
+        let over = past(counters, u16x8::from_slice(&maxs[8 * k..]));
+        outside = either_of(outside, either_of(under, over));
+    }
+    outside
+}
+
+impl Bounds {
+    /// The bounds of no entries. It never answers want of memory.
+    pub(crate) fn empty(alloc: Global) -> Bounds
+        ensures { result ≡ rule_bounds [] }
+    {
+        Bounds {
+            lanes: Vec::new(alloc),
+        }
+    }
+
+    /// The bounds of the entries of a rule, or want of memory for them.
+    pub(crate) fn of_rule(alloc: Global, rule: &Rule) -> Result<Bounds, NoMemory>
+        ensures { IfOk result (λ bounds. bounds ≡ rule_bounds rule.now) }
+    {
+        let entries = rule.as_slice();
+        let room = entries.len() + padding(entries.len());
+        let mut lanes = vec![in alloc; 0; 2 * room]?;
+        fill(lanes.as_mut_slice(), entries, room);
+        Ok(Bounds { lanes })
+    }
+
+    /// How many bounds there are.
+    #[inline(always)]
+    pub(crate) fn len(&self) -> usize
+        ensures { result ≡ length self.now.mins }
+    {
+        self.lanes.len() / 2
+    }
+
+    /// Whether each counter lies within its bounds.
+    #[inline(always)]
+    pub(crate) fn hold(&self, counts: &[u16]) -> bool
+        requires { length self.now.mins ≤ length counts.now }
+        ensures { result ≡ true → AreWithin self.now counts.now }
+    {
+        let (mins, maxs) = self.lanes.as_slice().split_at(self.lanes.len() / 2);
+        are_none(outside_of(mins, maxs, counts))
+    }
+}
