@@ -2,11 +2,12 @@
 use crate::awkward::Awkward;
 use crate::chance::Chance;
 use crate::digest::Digest;
+use crate::judging::{check, judge, list_faults};
 use crate::messages::Samples;
 use anyhow::Result;
 use dm_base::{KindRef, view};
-use dm_dict::{Dictionary, Failed, Fault, Judged, Verdict};
-use dm_wire::{Avp, AvpRef, Framer, Message, MessageBuf, MessageRef};
+use dm_dict::Dictionary;
+use dm_wire::{Framer, Message, MessageBuf, MessageRef};
 use std::alloc::Global;
 
 /// After so many messages comes an awkward one.
@@ -123,10 +124,10 @@ impl Job<'_> {
     /// Most messages are judged where they lie; of the others each is told in one further way.
     fn tell(&mut self, framer: &mut Framer, way: u32, octets: &[u8]) {
         match way {
-            0..32 => self.judge(octets),
-            32..36 => self.list_faults(octets),
+            0..32 => judge(self.dictionary, octets, self.digest),
+            32..36 => list_faults(self.alloc, self.dictionary, octets, self.digest),
             36..40 => self.view(octets),
-            40..48 => self.decode(octets),
+            40..48 => check(self.alloc, self.dictionary, octets, self.digest),
             48..56 => self.build_again(octets),
             56..63 => self.hold(octets),
             _ => self.drip(framer, octets),
@@ -135,30 +136,9 @@ impl Job<'_> {
 
     fn tell_awkward(&mut self, number: u32, octets: &[u8]) {
         match number / 5 % 3 {
-            0 => self.judge(octets),
-            1 => self.list_faults(octets),
-            _ => self.decode(octets),
-        }
-    }
-
-    fn judge(&mut self, octets: &[u8]) {
-        match MessageRef::read(octets) {
-            Ok(message) => {
-                let judged = self.dictionary.judge(&message);
-                self.add_judged(judged);
-            }
-            Err(fault) => self.add_code(fault.result_code()),
-        }
-    }
-
-    /// All that is wrong with a message.
-    fn list_faults(&mut self, octets: &[u8]) {
-        match MessageRef::read(octets) {
-            Ok(message) => match self.dictionary.faults_in(self.alloc, &message) {
-                Ok(faults) => self.add_faults(faults.as_slice()),
-                Err(_) => self.digest.add(1),
-            },
-            Err(fault) => self.add_code(fault.result_code()),
+            0 => judge(self.dictionary, octets, self.digest),
+            1 => list_faults(self.alloc, self.dictionary, octets, self.digest),
+            _ => check(self.alloc, self.dictionary, octets, self.digest),
         }
     }
 
@@ -166,24 +146,9 @@ impl Job<'_> {
         match MessageRef::read(octets) {
             Ok(message) => match view(self.dictionary, &message) {
                 Ok(kind) => self.add_kind(kind),
-                Err(judged) => self.add_judged(judged),
+                Err(judged) => self.digest.add_judged(judged),
             },
-            Err(fault) => self.add_code(fault.result_code()),
-        }
-    }
-
-    /// A copy of the message is checked.
-    fn decode(&mut self, octets: &[u8]) {
-        match Message::decode(self.alloc, octets) {
-            Ok(message) => {
-                let verdict = self.dictionary.check(self.alloc, &message);
-                match verdict {
-                    Ok(verdict) => self.add_verdict(&verdict),
-                    Err(_) => self.digest.add(2),
-                }
-                self.add_avps(message.avps.as_slice());
-            }
-            Err(fault) => self.add_code(fault.result_code()),
+            Err(fault) => self.digest.add_code(fault.result_code()),
         }
     }
 
@@ -195,10 +160,10 @@ impl Job<'_> {
                 let answer = Message::new(header, message.avps);
                 match answer.encode(self.alloc) {
                     Ok(encoded) => self.digest.add_octets(encoded.as_slice()),
-                    Err(fault) => self.add_code(fault.result_code()),
+                    Err(fault) => self.digest.add_code(fault.result_code()),
                 }
             }
-            Err(fault) => self.add_code(fault.result_code()),
+            Err(fault) => self.digest.add_code(fault.result_code()),
         }
     }
 
@@ -212,11 +177,11 @@ impl Job<'_> {
             Ok(message) => {
                 for index in 0..message.len() {
                     if let Some(avp) = message.get(index) {
-                        self.add_avp(avp);
+                        self.digest.add_avp(avp);
                     }
                 }
             }
-            Err(fault) => self.add_code(fault.result_code()),
+            Err(fault) => self.digest.add_code(fault.result_code()),
         }
     }
 
@@ -235,69 +200,11 @@ impl Job<'_> {
         }
     }
 
-    fn add_code(&mut self, code: Option<u32>) {
-        self.digest.add(u64::from(code.unwrap_or(0)));
-    }
-
-    fn add_judged(&mut self, judged: Judged<'_>) {
-        match judged {
-            Judged::Good => self.digest.add(6),
-            Judged::Bad { code, failed } => {
-                self.digest.add(u64::from(code));
-                self.add_failed(failed);
-            }
-        }
-    }
-
-    fn add_failed(&mut self, failed: Failed<'_>) {
-        match failed {
-            Failed::Nothing => self.digest.add(7),
-            Failed::Found(avp) => self.add_avp(avp),
-            Failed::Example { code, zeros, .. } => {
-                self.digest.add(u64::from(code));
-                self.digest.add(u64::from(zeros));
-            }
-        }
-    }
-
-    fn add_faults(&mut self, faults: &[Fault<'_>]) {
-        for fault in faults {
-            self.digest.add(u64::from(fault.code));
-            self.add_failed(fault.failed);
-        }
-    }
-
-    fn add_verdict(&mut self, verdict: &Verdict) {
-        match verdict {
-            Verdict::Good => self.digest.add(8),
-            Verdict::Bad { code, failed } => {
-                self.digest.add(u64::from(*code));
-                if let Some(avp) = failed {
-                    self.add_avp(avp.borrowed());
-                }
-            }
-        }
-    }
-
     fn add_kind(&mut self, kind: KindRef<'_>) {
         match kind {
             KindRef::Dwr => self.digest.add(9),
             KindRef::Dwa { .. } => self.digest.add(10),
             _ => self.digest.add(11),
         }
-    }
-
-    fn add_avps(&mut self, avps: &[Avp]) {
-        for avp in avps {
-            self.add_avp(avp.borrowed());
-        }
-    }
-
-    /// An AVP's code, and of its data the length and the first octet.
-    fn add_avp(&mut self, avp: AvpRef<'_>) {
-        let first = avp.bytes.first().copied().unwrap_or(0);
-        let length = avp.bytes.len() as u64;
-        let front = u64::from(avp.code) ^ (u64::from(first) << 40);
-        self.digest.add(front ^ length.rotate_left(50));
     }
 }

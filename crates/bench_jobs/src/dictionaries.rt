@@ -19,7 +19,7 @@ const CONFIGS: u32 = 12;
 const LOOK_UPS: u32 = 32;
 
 /// The words of names.
-const WORDS: [&[u8]; 32] = [
+pub const WORDS: [&[u8]; 32] = [
     b"Access",
     b"Bearer",
     b"Charging",
@@ -164,7 +164,8 @@ fn look_up(dictionary: &Dictionary, sheet: &Sheet, chance: &mut Chance, digest: 
     }
 }
 
-fn tell_fault(fault: DictFault, digest: &mut Digest) -> Result<()> {
+/// Adds which fault a text has, and where.
+pub fn tell_fault(fault: DictFault, digest: &mut Digest) -> Result<()> {
     let (kind, line) = match fault {
         DictFault::Syntax(line) => (1, line),
         DictFault::Range(line) => (2, line),

@@ -121,6 +121,19 @@ impl Draft {
         self.close(at)
     }
 
+    /// The header of an AVP of a vendor, and where it begins.
+    pub fn open_of(&mut self, code: u32, vendor: u32) -> Result<usize> {
+        let at = self.open(code, 0xc0)?;
+        self.octets.extend_from_slice(&vendor.to_be_bytes())?;
+        Ok(at)
+    }
+
+    /// Data of the AVP that is open.
+    pub fn data(&mut self, data: &[u8]) -> Result<()> {
+        self.octets.extend_from_slice(data)?;
+        Ok(())
+    }
+
     /// An AVP of a vendor.
     pub fn vendor(&mut self, code: u32, vendor: u32, flags: u8, number: u32) -> Result<()> {
         let at = self.open(code, flags)?;

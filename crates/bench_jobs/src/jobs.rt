@@ -1,11 +1,12 @@
 //! The jobs by name.
 use crate::chance::Chance;
 use crate::digest::Digest;
-use crate::{codec, dictionaries, live, node, replay, view};
+use crate::{check, codec, dictionaries, live, node, replay, view};
 use anyhow::{Result, bail};
 use std::alloc::Global;
 
-/// The jobs that `each` runs, in this order.
+/// The jobs that `each` runs, in this order. The job `check` is none of them: what `each` prints is older than it, and
+/// stays the same.
 const JOBS: [&str; 6] = ["node", "codec", "view", "replay", "dictionary", "live"];
 
 /// Runs the job of this name, and answers the digest of its results.
@@ -39,6 +40,7 @@ fn run_one(
         "replay" => replay::run(alloc, &mut chance, amount, digest),
         "dictionary" => dictionaries::run(alloc, text, &mut chance, amount, digest),
         "live" => live::run(alloc, &mut chance, amount, digest),
+        "check" => check::run(alloc, text, &mut chance, amount, digest),
         _ => bail!("there is no such job"),
     }
 }

@@ -3,22 +3,29 @@
 //!
 //! Its words are a job, a seed and an amount, `node 7 1000`, and standard input is the text of a dictionary. The job
 //! makes its own inputs by the seed, hands each to the libraries once, and the program prints a digest of all that came
-//! of them. The job `each` runs all of them.
+//! of them. The job `each` runs the first six of them; `check` runs by itself.
 #![tactic(auto)]
 
 mod awkward;
+mod base_messages;
+mod captures;
 mod chance;
+mod check;
 mod codec;
 mod decimal;
 mod dictionaries;
 mod digest;
 mod draft;
 mod jobs;
+mod judging;
 mod live;
 mod messages;
 mod node;
+mod outcomes;
 mod replay;
+mod thresholds;
 mod view;
+mod wide;
 
 use anyhow::{Context, Result, bail};
 use std::env;

@@ -205,7 +205,8 @@ fn service(draft: &mut Draft, is_request: bool, chance: &mut Chance) -> Result<(
     draft.close(group)
 }
 
-fn credit_request(alloc: Global, chance: &mut Chance) -> Result<Sample> {
+/// A Credit-Control-Request by chance.
+pub fn credit_request(alloc: Global, chance: &mut Chance) -> Result<Sample> {
     let mut draft = Draft::new(alloc);
     let made = fill_credit_request(&mut draft, chance);
     let sample = Sample::of(draft, true);
@@ -247,7 +248,8 @@ fn fill_credit_request(draft: &mut Draft, chance: &mut Chance) -> Result<()> {
     draft.end()
 }
 
-fn credit_answer(alloc: Global, chance: &mut Chance) -> Result<Sample> {
+/// A Credit-Control-Answer by chance.
+pub fn credit_answer(alloc: Global, chance: &mut Chance) -> Result<Sample> {
     let mut draft = Draft::new(alloc);
     let made = fill_credit_answer(&mut draft, chance);
     let sample = Sample::of(draft, true);
@@ -271,7 +273,8 @@ fn fill_credit_answer(draft: &mut Draft, chance: &mut Chance) -> Result<()> {
     draft.end()
 }
 
-fn watchdog(alloc: Global, chance: &mut Chance, is_request: bool) -> Result<Sample> {
+/// A Device-Watchdog-Request by chance, or the answer.
+pub fn watchdog(alloc: Global, chance: &mut Chance, is_request: bool) -> Result<Sample> {
     let mut draft = Draft::new(alloc);
     let made = fill_watchdog(&mut draft, chance, is_request);
     let sample = Sample::of(draft, false);

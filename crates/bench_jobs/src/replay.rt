@@ -81,6 +81,35 @@ fn run_with(
     Ok(())
 }
 
+/// Replays one script of about so many happenings.
+pub fn run_one(
+    alloc: Global,
+    chance: &mut Chance,
+    happenings: u32,
+    digest: &mut Digest,
+) -> Result<()> {
+    let mut submits = Submits::new(alloc);
+    let done = run_one_with(alloc, &mut submits, chance, happenings, digest);
+    drop(submits);
+    done
+}
+
+fn run_one_with(
+    alloc: Global,
+    submits: &mut Submits,
+    chance: &mut Chance,
+    happenings: u32,
+    digest: &mut Digest,
+) -> Result<()> {
+    let samples = Samples::new(alloc, chance)?;
+    let filled = submits.fill(alloc, &samples, chance);
+    drop(samples);
+    filled?;
+    let mut script = Script::new(alloc);
+    script.write(happenings, submits, chance)?;
+    replay_one(alloc, &script, digest)
+}
+
 fn replay_one(alloc: Global, script: &Script, digest: &mut Digest) -> Result<()> {
     let (text, good) = replay_text(alloc, script.text.as_slice())?;
     digest.add_octets(text.as_slice());
