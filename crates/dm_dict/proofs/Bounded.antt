@@ -5,7 +5,7 @@ use Rattle.std.proofs.lemmas.List.{get_or_append_left, get_or-map, length-map}
 use Rattle.dm_wire.specs.declared.avp.Avp.{Avp}
 use Rattle.dm_tables.specs.declared.rule.Entry.{Entry}
 use Rattle.dm_tables.specs.declared.def.AvpDef.{AvpDef}
-use Rattle.dm_dict.specs.Bounds.{AreWithin, LaneBounds, least_kept, most_kept, most_under, padded, padding, rule_bounds}
+use Rattle.dm_dict.specs.Bounds.{AreWithin, LaneBounds, least_bound, greatest_bound, most_under, in_eights, short_of_eights, rule_bounds}
 use Rattle.dm_dict.specs.Counters.{IsCounted}
 use Rattle.dm_dict.specs.Faults.{Fault, entry_faults, excess_faults, first}
 use Rattle.dm_dict.specs.Rules.{count, counted_avps}
@@ -31,7 +31,7 @@ few_enough (Some (suc max)) m number is few =
 
 -- one entry
 kept_entry : (avps : List AvpDef) (rule : List Entry) (l : List Avp) (e : Entry) (number : ℕ)
-    → number ≡ min (count avps rule l e) 65535 → least_kept e ≤ number → number ≤ most_kept e
+    → number ≡ min (count avps rule l e) 65535 → least_bound e ≤ number → number ≤ greatest_bound e
     → None ≡ first (entry_faults avps rule l e)
 kept_entry avps rule l e number is enough few = by (nat_lt 65535 e.min) refl where
   by : (b : Bool) → nat_lt 65535 e.min ≡ b → None ≡ first (entry_faults avps rule l e)
@@ -48,7 +48,7 @@ kept_entry avps rule l e number is enough few = by (nat_lt 65535 e.min) refl whe
 
 -- the lane of an entry
 lane_at : (f : Entry → ℕ) (rule : List Entry) (i : ℕ) (e : Entry) → i < length rule → e ≡ get_or rule i e
-    → get_or (padded (map f rule)) i 0 ≡ f e
+    → get_or (in_eights (map f rule)) i 0 ≡ f e
 lane_at f rule i e below at =
     let inside : i < length (map f rule) = omega (arith, below, length-map rule f) in
     get_or_append_left (map f rule) _ 0 i inside ∙ get_or-map f rule i e 0 below ∙ ap f (sym at)
@@ -60,11 +60,11 @@ kept_within avps rule l bounds numbers is room within counted =
     let shown : AreWithin (rule_bounds rule) numbers = rw is at within in
     let long : length (rule_bounds rule).mins ≤ length numbers = rw is at room in
     all_good (entry_faults avps rule l) rule (λ i e below at.
-    let size = length-map rule least_kept in
-    let more = length-append (map least_kept rule) (replicate (padding (length (map least_kept rule))) 0) in
+    let size = length-map rule least_bound in
+    let more = length-append (map least_bound rule) (replicate (short_of_eights (length (map least_bound rule))) 0) in
     let lane : i < length (rule_bounds rule).mins = omega (arith, below, size, more) in
     let there : 0 + i ≡ i = omega arith in
     let counter = counted i e (omega (arith, lane, long)) (rw there below) (rw there at) in
     let (low, high) = shown i lane in
-    kept_entry avps rule l e (get_or numbers i 0) counter (rw (lane_at least_kept rule i e below at) at low)
-    (rw (lane_at most_kept rule i e below at) at high))
+    kept_entry avps rule l e (get_or numbers i 0) counter (rw (lane_at least_bound rule i e below at) at low)
+    (rw (lane_at greatest_bound rule i e below at) at high))

@@ -8,7 +8,7 @@ use Rattle.std.proofs.lemmas.Simd.{tops_compared, zip2_of_maps}
 use Rattle.std.specs.Int.{is_in_range}
 use Rattle.std.specs.List.{list_all}
 use Rattle.std.specs.Simd.Lanes.{Each1, chunk, mask_l, sel_l, top, zip2}
-use Rattle.dm_dict.specs.Lanes.{are_none}
+use Rattle.dm_dict.specs.Lanes.{is_unmarked}
 
 -- a choice between lanes that are computed from the same
 pub chosen : {A B : Type 0} (p : A → Bool) (f g : A → B) (v : List A) {ms : List Bool} {xs ys : List B} → ms ≡ map p v
@@ -29,7 +29,7 @@ bit_none : (m k : ℕ) → nat_eq (cond (ltb 0 m) 1 0 + 2 * k) 0 ≡ (nat_eq m 0
 bit_none m k = grind (arith, nat_tests)
 
 -- no bit is set just where no mark is
-pub no_bits : (marks : List ℕ) → nat_eq (mask_l (map (λ m. ltb 0 m) marks)) 0 ≡ are_none marks
+pub no_bits : (marks : List ℕ) → nat_eq (mask_l (map (λ m. ltb 0 m) marks)) 0 ≡ is_unmarked marks
 no_bits [] = refl
 no_bits (m ∷ marks) = rw (bit_none m (mask_l (map (λ m. ltb 0 m) marks)), no_bits marks) refl
 
@@ -47,13 +47,13 @@ crossed false b c d = refl
 
 -- the higher marks are none just where all are none
 pub higher_are_none : (xs ys : List ℕ) → length xs ≡ length ys
-    → are_none (higher_lanes xs ys) ≡ (are_none xs && are_none ys)
+    → is_unmarked (higher_lanes xs ys) ≡ (is_unmarked xs && is_unmarked ys)
 higher_are_none [] [] long = refl
 higher_are_none [] (y ∷ ys) long = absurd (omega (arith, long))
 higher_are_none (x ∷ xs) [] long = absurd (omega (arith, long))
 higher_are_none (x ∷ xs) (y ∷ ys) long =
     rw (higher_none x y, higher_are_none xs ys (omega (arith, long)))
-    (crossed (nat_eq x 0) (nat_eq y 0) (are_none xs) (are_none ys))
+    (crossed (nat_eq x 0) (nat_eq y 0) (is_unmarked xs) (is_unmarked ys))
 
 -- ---- octets of a range
 

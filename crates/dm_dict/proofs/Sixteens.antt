@@ -4,7 +4,7 @@ use Rattle.std.proofs.lemmas.Bool.{and_parts, cases_lt}
 use Rattle.std.proofs.lemmas.Bool.Decides.{nat_tests}
 use Rattle.std.proofs.lemmas.Nat.{le_or_l, le_or_r}
 use Rattle.std.specs.Simd.Lanes.{Each1, sel_l, zip2}
-use Rattle.dm_dict.specs.Lanes.{are_none, AreUnder}
+use Rattle.dm_dict.specs.Lanes.{is_unmarked, AreUnder}
 
 abbrev pub less : ℕ → ℕ → ℕ
 less a b = (a + (65536 - b)) % 65536
@@ -20,7 +20,7 @@ past_one a b small fits none = elim (cases_lt a b) [
 
 -- what goes past nothing is under it
 pub past_none : (xs ys : List ℕ) → length xs ≡ length ys → Each1 (Fits w16) xs → Each1 (Fits w16) ys
-    → are_none (zip2 less (sel_l (zip2 ltb xs ys) ys xs) ys) ≡ true → AreUnder xs ys
+    → is_unmarked (zip2 less (sel_l (zip2 ltb xs ys) ys xs) ys) ≡ true → AreUnder xs ys
 past_none [] ys long fits fit none i below = absurd (omega (arith, below))
 past_none (x ∷ xs) [] long fits fit none i below = absurd (omega (arith, long))
 past_none (x ∷ xs) (y ∷ ys) long fits fit none zero below =
@@ -38,8 +38,8 @@ either_one a b none =
     (grind (arith, nat_tests, is, left), grind (arith, nat_tests, is, right))
 
 -- where neither is anything both are nothing
-pub either_none : (xs ys : List ℕ) → length xs ≡ length ys → are_none (zip2 bit_or xs ys) ≡ true
-    → (are_none xs ≡ true) × (are_none ys ≡ true)
+pub either_none : (xs ys : List ℕ) → length xs ≡ length ys → is_unmarked (zip2 bit_or xs ys) ≡ true
+    → (is_unmarked xs ≡ true) × (is_unmarked ys ≡ true)
 either_none [] [] long none = (refl, refl)
 either_none [] (y ∷ ys) long none = absurd (omega (arith, long))
 either_none (x ∷ xs) [] long none = absurd (omega (arith, long))

@@ -1,29 +1,29 @@
 -- The bounds of the entries of a rule, as a counter that stops at 65535 tells them.
-use Rattle.std.specs.Prelude.{◌≡◌, ◌<◌, ◌≤◌, ◌-◌, ◌/◌, ◌%◌, ◌++◌, ℕ, min, nat_lt, nat_eq, Option, None, Some, List, length, map}
-use Rattle.std.specs.Prelude.{drop, replicate, slice_index, take, if◌then◌else◌}
+use Rattle.std.specs.Prelude.{◌≡◌, ◌<◌, ◌≤◌, ◌-◌, ◌/◌, ◌%◌, ◌++◌, ℕ, min, nat_lt, nat_eq, Option, None, Some}
+use Rattle.std.specs.Prelude.{List, length, map, drop, replicate, slice_index, take, if◌then◌else◌}
 use Rattle.dm_tables.specs.declared.rule.Entry.{Entry}
 use Rattle.dm_dict.specs.Limits.{counter_limit}
 use Rattle.dm_dict.specs.declared.bounds.Bounds.TheInside.{Inside}
 
 -- the least counter that keeps an entry, and the greatest: a counter that stopped tells of no maximum
-abbrev pub least_kept : Entry → ℕ
-least_kept e = min e.min counter_limit
+abbrev pub least_bound : Entry → ℕ
+least_bound e = min e.min counter_limit
 
 abbrev pub most_under : Option ℕ → ℕ
 most_under None = counter_limit
 most_under (Some max) = if nat_eq max 0 then counter_limit else min max (counter_limit - 1)
 
 -- none is as small, where no counter tells of so great a minimum
-abbrev pub most_kept : Entry → ℕ
-most_kept e = if nat_lt counter_limit e.min then 0 else most_under e.max
+abbrev pub greatest_bound : Entry → ℕ
+greatest_bound e = if nat_lt counter_limit e.min then 0 else most_under e.max
 
 -- how many more make eights
-abbrev pub padding : ℕ → ℕ
-padding size = (8 - size % 8) % 8
+abbrev pub short_of_eights : ℕ → ℕ
+short_of_eights size = (8 - size % 8) % 8
 
 -- as many more of 0
-abbrev pub padded : List ℕ → List ℕ
-padded lanes = lanes ++ replicate (padding (length lanes)) 0
+abbrev pub in_eights : List ℕ → List ℕ
+in_eights lanes = lanes ++ replicate (short_of_eights (length lanes)) 0
 
 pub record LaneBounds : Type 0 where
   pub mins : List ℕ
@@ -31,11 +31,11 @@ pub record LaneBounds : Type 0 where
 
 -- the bounds of the entries of a rule
 abbrev pub rule_bounds : List Entry → LaneBounds
-rule_bounds rule = record { mins = padded (map least_kept rule); maxs = padded (map most_kept rule) }
+rule_bounds rule = record { mins = in_eights (map least_bound rule); maxs = in_eights (map greatest_bound rule) }
 
 -- what is told of the entries, in so many lanes
-abbrev pub filled : (Entry → ℕ) → List Entry → ℕ → List ℕ
-filled f rule room = map f rule ++ replicate (room - length rule) 0
+abbrev pub in_lanes : (Entry → ℕ) → List Entry → ℕ → List ℕ
+in_lanes f rule room = map f rule ++ replicate (room - length rule) 0
 
 -- lanes of which half are the least ones
 abbrev pub shown_bounds : List ℕ → LaneBounds

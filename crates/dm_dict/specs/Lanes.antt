@@ -2,8 +2,8 @@
 use Rattle.std.specs.Prelude.{◌<◌, ◌≤◌, ℕ, Bool, nat_eq, List, length, slice_index}
 use Rattle.std.specs.List.{list_all}
 
-abbrev pub are_none : List ℕ → Bool
-are_none marks = list_all (λ mark. nat_eq mark 0) marks
+abbrev pub is_unmarked : List ℕ → Bool
+is_unmarked marks = list_all (λ mark. nat_eq mark 0) marks
 
 -- each lane is no more than the one beside it
 abbrev pub AreUnder : List ℕ → List ℕ → Type 0

@@ -2,7 +2,7 @@
 ghost use Rattle.std.specs.Prelude.{◌≡◌, ◌≤◌, ◌-◌, ◌&&◌, true, length, drop, take};
 ghost use Rattle.std.specs.Int.{is_in_range};
 ghost use Rattle.std.specs.List.{list_all};
-ghost use Rattle.dm_dict.specs.Lanes.{are_none};
+ghost use Rattle.dm_dict.specs.Lanes.{is_unmarked};
 
 use std::simd::prelude::*;
 
@@ -45,7 +45,7 @@ fn few_between(octets: &[u8], least: u8, most: u8) -> bool
 #[inline(always)]
 fn marks_of(octets: u8x16, least: u8, most: u8) -> u8x16
     requires { least ≤ most }
-    ensures { are_none result ≡ list_all (is_in_range least most) octets }
+    ensures { is_unmarked result ≡ list_all (is_in_range least most) octets }
 {
     (octets - u8x16::splat(least)).saturating_sub(u8x16::splat(most - least))
 }
@@ -53,7 +53,7 @@ fn marks_of(octets: u8x16, least: u8, most: u8) -> u8x16
 /// The higher mark of each lane.
 #[inline(always)]
 fn higher_of(marks: u8x16, others: u8x16) -> u8x16
-    ensures { are_none result ≡ (are_none marks && are_none others) }
+    ensures { is_unmarked result ≡ (is_unmarked marks && is_unmarked others) }
 {
     marks.simd_max(others)
 }
@@ -61,7 +61,7 @@ fn higher_of(marks: u8x16, others: u8x16) -> u8x16
 /// Whether all marks are 0.
 #[inline(always)]
 fn are_none(marks: u8x16) -> bool
-    ensures { result ≡ are_none marks }
+    ensures { result ≡ is_unmarked marks }
 {
     marks.simd_gt(u8x16::splat(0)).to_bitmask() == 0
 }

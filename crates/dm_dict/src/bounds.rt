@@ -1,7 +1,8 @@
 //! The bounds of the entries of a rule as counters of two octets tell them, eight beside each other (RFC 6733, 3.2).
 ghost use Rattle.std.specs.Prelude.{◌≡◌, ◌≤◌, ◌*◌, ◌++◌, ◌%◌, [], true, length, replicate, IfOk};
-ghost use Rattle.dm_dict.specs.Lanes.{are_none, AreUnder};
-ghost use Rattle.dm_dict.specs.Bounds.{filled, least_kept, most_kept, padding, rule_bounds, AreWithin, WithinTo};
+ghost use Rattle.dm_dict.specs.Lanes.{is_unmarked, AreUnder};
+ghost use Rattle.dm_dict.specs.Bounds.{in_lanes, least_bound, greatest_bound, short_of_eights, rule_bounds};
+ghost use Rattle.dm_dict.specs.Bounds.{AreWithin, WithinTo};
 
 use dm_tables::{Entry, Rule};
 use dm_value::NoMemory;
@@ -31,14 +32,14 @@ impl Model for Bounds {
 
 /// The least counter that keeps an entry.
 fn least_kept(entry: &Entry) -> u16
-    ensures { result ≡ least_kept entry.now }
+    ensures { result ≡ least_bound entry.now }
 {
     entry.min.min(u16::MAX as u32) as u16
 }
 
 /// The greatest counter that does: none, where the least can't be told, since no counter is 0 and that too.
 fn most_kept(entry: &Entry) -> u16
-    ensures { result ≡ most_kept entry.now }
+    ensures { result ≡ greatest_bound entry.now }
 {
     if entry.min > u16::MAX as u32 {
         return 0;
@@ -51,7 +52,7 @@ fn most_kept(entry: &Entry) -> u16
 
 /// How many more make eights.
 fn padding(size: usize) -> usize
-    ensures { result ≡ padding size }
+    ensures { result ≡ short_of_eights size }
 {
     (8 - size % 8) % 8
 }
@@ -61,7 +62,7 @@ fn padding(size: usize) -> usize
 fn fill(lanes: &mut [u16], entries: &[Entry], room: usize)
     requires room { length entries.now ≤ room }
     requires both { lanes.old ≡ replicate (2 * room) 0 }
-    ensures { lanes.new ≡ filled least_kept entries.now room ++ filled most_kept entries.now room }
+    ensures { lanes.new ≡ in_lanes least_bound entries.now room ++ in_lanes greatest_bound entries.now room }
 {
     for (at, entry) in entries.iter().enumerate() {
         lanes[at] = least_kept(entry);
@@ -72,7 +73,7 @@ fn fill(lanes: &mut [u16], entries: &[Entry], room: usize)
 /// How far lanes go past those beside them: 0 in each that doesn't.
 #[inline(always)]
 fn past(lanes: u16x8, others: u16x8) -> u16x8
-    ensures { are_none result ≡ true → AreUnder lanes others }
+    ensures { is_unmarked result ≡ true → AreUnder lanes others }
 {
     lanes.saturating_sub(others)
 }
@@ -80,8 +81,8 @@ fn past(lanes: u16x8, others: u16x8) -> u16x8
 /// What is told of both.
 #[inline(always)]
 fn either_of(marks: u16x8, others: u16x8) -> u16x8
-    ensures first { are_none result ≡ true → are_none marks ≡ true }
-    ensures second { are_none result ≡ true → are_none others ≡ true }
+    ensures first { is_unmarked result ≡ true → is_unmarked marks ≡ true }
+    ensures second { is_unmarked result ≡ true → is_unmarked others ≡ true }
 {
     marks | others
 }
@@ -89,7 +90,7 @@ fn either_of(marks: u16x8, others: u16x8) -> u16x8
 /// Whether each lane is 0.
 #[inline(always)]
 fn are_none(marks: u16x8) -> bool
-    ensures { result ≡ true → are_none marks ≡ true }
+    ensures { result ≡ true → is_unmarked marks ≡ true }
 {
     marks.simd_gt(u16x8::splat(0)).to_bitmask() == 0
 }
@@ -100,7 +101,7 @@ fn outside_of(mins: &[u16], maxs: &[u16], counts: &[u16]) -> u16x8
     requires eights { length mins.now % 8 ≡ 0 }
     requires same { length maxs.now ≡ length mins.now }
     requires counted { length mins.now ≤ length counts.now }
-    ensures { are_none result ≡ true → WithinTo (length mins.now) mins.now maxs.now counts.now }
+    ensures { is_unmarked result ≡ true → WithinTo (length mins.now) mins.now maxs.now counts.now }
 {
     let mut outside = u16x8::splat(0);
     'eights: for k in 0..mins.len() / 8 {

@@ -1,7 +1,7 @@
 use Rattle.std.proofs.Common.{◌∙◌, ap, ltb, sym, w8}
 use Rattle.std.proofs.lemmas.Simd.{tops_compared}
 use Rattle.std.specs.Simd.Lanes.{sel_l}
-use Rattle.dm_dict.specs.Lanes.{are_none}
+use Rattle.dm_dict.specs.Lanes.{is_unmarked}
 use Rattle.dm_dict.proofs.Lanes.{higher_are_none}
 use Rattle.dm_dict.proofs.between.higher_of.Goals as goal
 
@@ -9,5 +9,5 @@ pub returns : goal.returns
 returns c =
     let xs = c.args.marks in
     let ys = c.args.others in
-    ap (λ ms. are_none (sel_l ms ys xs)) (tops_compared w8 ltb xs ys)
+    ap (λ ms. is_unmarked (sel_l ms ys xs)) (tops_compared w8 ltb xs ys)
     ∙ higher_are_none xs ys (c.fits-marks.0 ∙ sym c.fits-others.0)

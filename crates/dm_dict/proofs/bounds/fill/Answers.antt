@@ -1,6 +1,6 @@
 -- The bounds of one entry more.
 use Rattle.std.proofs.Common.{arith}
-use Rattle.dm_dict.specs.Bounds.{least_kept, most_kept}
+use Rattle.dm_dict.specs.Bounds.{least_bound, greatest_bound}
 use Rattle.dm_dict.proofs.Filled.{both_more}
 use Rattle.dm_dict.proofs.bounds.fill.Goals as goal
 
@@ -9,5 +9,5 @@ loop-at-preserved c =
     let at = c.loop-at.at in
     let entry = c.index-entries-at.result in
     rw (c.least_kept.ensures, c.most_kept.ensures, c.loop-at.invariant)
-    (both_more least_kept most_kept c.args.entries.now at c.args.room entry (omega arith) c.requires.room
+    (both_more least_bound greatest_bound c.args.entries.now at c.args.room entry (omega arith) c.requires.room
     c.index-entries-at.is)

@@ -1,7 +1,7 @@
 use Rattle.std.proofs.Common.{◌≡◌, ◌++◌}
-use Rattle.dm_dict.specs.Bounds.{least_kept, most_kept}
+use Rattle.dm_dict.specs.Bounds.{least_bound, greatest_bound}
 use Rattle.dm_dict.proofs.Filled.{told}
 use Rattle.dm_dict.proofs.bounds.fill.Given as goal
 
 abbrev pub invariant-loop-at : goal.invariant-loop-at
-invariant-loop-at l = l.lanes ≡ told least_kept l.entries l.at l.room ++ told most_kept l.entries l.at l.room
+invariant-loop-at l = l.lanes ≡ told least_bound l.entries l.at l.room ++ told greatest_bound l.entries l.at l.room
