@@ -12,6 +12,9 @@ use std::alloc::Global;
 /// How many messages an input has.
 const MESSAGES: u32 = 20;
 
+/// How many lines of messages are made, to be copied: as many in each style.
+const LINES: u32 = 280;
+
 const SMALL: &[u8; 16] = b"0123456789abcdef";
 
 const CAPITALS: &[u8; 16] = b"0123456789ABCDEF";
@@ -91,25 +94,27 @@ pub struct Given<'g> {
 /// The room that each input uses again.
 #[derive(Drop)]
 struct Room {
-    octets: Vec<u8>,
     input: Vec<u8>,
     output: Vec<u8>,
 }
 
 /// So many inputs are shown or checked.
 pub fn run(given: &Given<'_>, chance: &mut Chance, amount: u32, digest: &mut Digest) -> Result<()> {
+    let mut lines = Vec::new(given.alloc);
+    let filled = fill_lines(given, chance, &mut lines);
     let mut room = Room {
-        octets: Vec::new(given.alloc),
         input: Vec::new(given.alloc),
         output: Vec::new(given.alloc),
     };
-    let done = rounds(given, chance, amount, &mut room, digest);
+    let done = rounds(given, lines.as_slice(), chance, amount, &mut room, digest);
     drop(room);
-    done
+    drop(lines);
+    filled.and(done)
 }
 
 fn rounds(
     given: &Given<'_>,
+    lines: &[Vec<u8>],
     chance: &mut Chance,
     amount: u32,
     room: &mut Room,
@@ -118,12 +123,24 @@ fn rounds(
     for round in 0..amount {
         room.input.clear();
         room.output.clear();
-        for number in 0..MESSAGES {
-            put_message(given, chance, number, room)?;
-        }
+        put_lines(lines, chance, &mut room.input)?;
         let is_good = view(given, round, room)?;
         digest.add(u64::from(is_good));
         digest.add_octets(room.output.as_slice());
+    }
+    Ok(())
+}
+
+/// Appends messages, and behind some a line that says nothing.
+fn put_lines(lines: &[Vec<u8>], chance: &mut Chance, input: &mut Vec<u8>) -> Result<()> {
+    for _ in 0..MESSAGES {
+        if let Some(line) = lines.get(chance.index(lines.len())) {
+            input.extend_from_slice(line.as_slice())?;
+        }
+        if chance.is_one_of(3) {
+            let which = chance.index(OTHERS.len());
+            input.extend_from_slice(OTHERS.get(which).copied().unwrap_or(b"\n"))?;
+        }
     }
     Ok(())
 }
@@ -158,47 +175,56 @@ fn view(given: &Given<'_>, round: u32, room: &mut Room) -> Result<bool> {
     Ok(said?)
 }
 
-/// Appends a message in a style by chance, and seldom a line that says nothing or is no hexadecimal.
-fn put_message(given: &Given<'_>, chance: &mut Chance, number: u32, room: &mut Room) -> Result<()> {
-    if let Some(sample) = given.samples.get(chance.index(given.samples.len())) {
-        sample.copy(number, &mut room.octets)?;
-        if chance.is_one_of(25) {
-            sample.damage(chance, &mut room.octets);
+/// Makes lines of messages in each style. Some messages are damaged, and some lines are no hexadecimal.
+fn fill_lines(given: &Given<'_>, chance: &mut Chance, lines: &mut Vec<Vec<u8>>) -> Result<()> {
+    let mut octets = Vec::new(given.alloc);
+    for number in 0..LINES {
+        if let Some(sample) = given.samples.get(chance.index(given.samples.len())) {
+            sample.copy(number, &mut octets)?;
+            if chance.is_one_of(25) {
+                sample.damage(chance, &mut octets);
+            }
         }
-    }
-    let style = style_of(chance.below(STYLES));
-    let begin = room.input.len();
-    put_words(&mut room.input, style, room.octets.as_slice())?;
-    if chance.is_one_of(200) {
-        let length = room.input.len().saturating_sub(begin);
-        let at = begin.saturating_add(chance.index(length));
-        put(&mut room.input, at, b"g");
-    }
-    room.input.extend_from_slice(style.behind)?;
-    room.input.push(b'\n')?;
-    if chance.is_one_of(3) {
-        let which = chance.index(OTHERS.len());
-        room.input
-            .extend_from_slice(OTHERS.get(which).copied().unwrap_or(b"\n"))?;
+        let style = style_of(number % STYLES);
+        lines.push(line_of(given.alloc, style, octets.as_slice(), chance)?)?;
     }
     Ok(())
 }
 
+fn line_of(alloc: Global, style: Style, octets: &[u8], chance: &mut Chance) -> Result<Vec<u8>> {
+    let mut line = Vec::new(alloc);
+    put_words(alloc, &mut line, style, octets)?;
+    if chance.is_one_of(60) {
+        let at = chance.index(line.len());
+        put(&mut line, at, b"g");
+    }
+    line.extend_from_slice(style.behind)?;
+    line.push(b'\n')?;
+    Ok(line)
+}
+
 /// Appends octets in words of hexadecimal.
-fn put_words(text: &mut Vec<u8>, style: Style, octets: &[u8]) -> Result<()> {
-    let digits = style.digits;
-    let mut place = 0usize;
-    for octet in octets {
-        for half in [*octet >> 4, *octet & 15] {
-            if place.checked_rem(style.word) == Some(0) {
-                if place > 0 {
-                    text.extend_from_slice(style.between)?;
-                }
-                text.extend_from_slice(style.front)?;
-            }
-            text.push(digits.get(usize::from(half)).copied().unwrap_or(b'0'))?;
-            place = place.wrapping_add(1);
+fn put_words(alloc: Global, text: &mut Vec<u8>, style: Style, octets: &[u8]) -> Result<()> {
+    let mut digits = Vec::new(alloc);
+    put_digits(&mut digits, style.digits, octets)?;
+    let mut is_first = true;
+    for word in digits.chunks(style.word.max(1)) {
+        if !is_first {
+            text.extend_from_slice(style.between)?;
         }
+        text.extend_from_slice(style.front)?;
+        text.extend_from_slice(word)?;
+        is_first = false;
+    }
+    Ok(())
+}
+
+/// Appends the digits of octets.
+fn put_digits(text: &mut Vec<u8>, digits: &[u8; 16], octets: &[u8]) -> Result<()> {
+    for octet in octets {
+        let high = digits.get(usize::from(*octet >> 4)).copied();
+        let low = digits.get(usize::from(*octet & 15)).copied();
+        text.extend_from_slice(&[high.unwrap_or(b'0'), low.unwrap_or(b'0')])?;
     }
     Ok(())
 }
