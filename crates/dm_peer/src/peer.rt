@@ -61,7 +61,6 @@ impl Peer {
     /// `NotClosed` for a Start outside Closed, `NotOpen` for a Stop or Submit outside R-Open and I-Open, `BadSubmit`
     /// for octets that are no message, or one of command 257, 280 or 282, and `NoMemory`, which comes only where
     /// something is sent or handed up. The peer is as it was after each.
-    #[inline(always)]
     pub fn on(&mut self, alloc: Global, event: Event<'_>) -> Result<Actions, PeerFault>
         ensures acts { IfOk result (λ actions. acts self.old (event_told event.entry) ≡ Moved actions.items self.new) }
         ensures refused { IfErr result (IsRefused (acts self.old (event_told event.entry))) }
@@ -81,11 +80,8 @@ impl Peer {
             → AreStrange self.old conn octets
             → IfOk result (λ actions. TurnsAway conn actions.items × (self.new ≡ self.old)) }
     {
-        silent_takes_none();
-        refusals_go_by_rule();
-        let _shaped = self.state();
         let mut actions = ArrayVec::new();
-        kept_answer(alloc, self, event, &mut actions)?;
+        self.on_into(alloc, event, &mut actions)?;
         Ok(actions)
     }
 

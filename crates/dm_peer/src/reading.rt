@@ -4,6 +4,7 @@ ghost use Rattle.dm_wire.specs.declared.avp.Avp.{Avp};
 ghost use Rattle.dm_wire.specs.Spelling.{SpellsList};
 ghost use Rattle.dm_base.specs.declared.kind.Caps.{Caps};
 ghost use Rattle.dm_base.specs.declared.kind.Kind.{Kind};
+ghost use Rattle.dm_machine.specs.declared.inputs.Word.{Word};
 ghost use Rattle.dm_base.specs.Shown.{ShowsCaps, ShowsKind};
 ghost use Rattle.dm_peer.specs.Said.{
   good,
@@ -70,7 +71,7 @@ fn refusal_of_caps(config: &Config, caps: &CapsRef<'_>) -> Option<u32>
 
 /// A message that isn't refused.
 #[inline(always)]
-fn good<'a>(header: &'a Header, word: Word) -> HeardRef<'a>
+pub(crate) fn good<'a>(header: &'a Header, word: Word) -> HeardRef<'a>
     ensures { heard_of result ≡ good header.now word }
 {
     HeardRef {
@@ -142,37 +143,42 @@ fn word_of_cea(config: &Config, message: &MessageRef<'_>, code: u32) -> Word
     }
 }
 
-/// A message of this kind.
+/// A message of this kind, put into `heard`, which says of its header that it is good.
 #[inline(always)]
-fn said_by_kind<'a>(config: &Config, message: &'a MessageRef<'_>, kind: KindRef<'_>) -> HeardRef<'a>
+fn said_by_kind<'a>(
+    config: &Config,
+    message: &'a MessageRef<'_>,
+    kind: KindRef<'_>,
+    heard: &mut HeardRef<'a>,
+)
+    requires good { (w : Word) × (heard_of heard.old ≡ good message.now.header w) }
     ensures { (l : List Avp) → SpellsList l message.now.rest.now → (k : Kind) → ShowsKind kind.entry k
-        → heard_of result ≡ said_by_kind config.now (record { header = message.now.header; avps = l }) k }
+        → heard_of heard.new ≡ said_by_kind config.now (record { header = message.now.header; avps = l }) k }
 {
-    let header = &message.header;
     match kind {
-        KindRef::Cer(caps) => heard_caps(config, header, &caps),
-        KindRef::Cea(code) => good(header, word_of_cea(config, message, code)),
-        KindRef::Dwr => good(header, Word::Dwr),
-        KindRef::Dwa => good(header, Word::Dwa),
-        KindRef::Dpr(_) => good(header, Word::Dpr),
-        KindRef::Dpa => good(header, Word::Dpa),
-        KindRef::Other => good(header, Word::Other),
+        KindRef::Cer(caps) => *heard = heard_caps(config, &message.header, &caps),
+        KindRef::Cea(code) => heard.word = word_of_cea(config, message, code),
+        KindRef::Dwr => heard.word = Word::Dwr,
+        KindRef::Dwa => heard.word = Word::Dwa,
+        KindRef::Dpr(_) => heard.word = Word::Dpr,
+        KindRef::Dpa => heard.word = Word::Dpa,
+        KindRef::Other => heard.word = Word::Other,
     }
 }
 
-/// What the message says to a peer of this configuration. It never answers want of memory.
+/// What the message says to a peer of this configuration, put into `heard`. It never answers want of memory.
 #[tactic(auto, unfolding(crate::specs::Said::kind_under))]
 #[inline(always)]
-pub(crate) fn hear<'a>(config: &Config, message: &'a MessageRef<'a>) -> HeardRef<'a>
+pub(crate) fn hear<'a>(config: &Config, message: &'a MessageRef<'a>, heard: &mut HeardRef<'a>)
+    requires good { (w : Word) × (heard_of heard.old ≡ good message.now.header w) }
     ensures { (l : List Avp) → SpellsList l message.now.rest.now
-        → heard_of result ≡ heard_in config.now (record { header = message.now.header; avps = l }) }
+        → heard_of heard.new ≡ heard_in config.now (record { header = message.now.header; avps = l }) }
 {
     match view(config.dictionary.get(), message) {
-        Ok(kind) => said_by_kind(config, message, kind),
-        Err(judged) => HeardRef {
-            header: &message.header,
-            word: word_of_bad(&message.header),
-            judged,
-        },
+        Ok(kind) => said_by_kind(config, message, kind, heard),
+        Err(judged) => {
+            heard.word = word_of_bad(&message.header);
+            heard.judged = judged;
+        }
     }
 }

@@ -28,12 +28,13 @@ use crate::arrivals::{Footing, is_dropped, is_unread, stood_on};
 use crate::commands::{request_in, word_heard};
 use crate::leaving::settle;
 use crate::message::read_message;
-use crate::reading::{HeardRef, hear};
+use crate::reading::{HeardRef, good, hear};
 use crate::{Actions, Config, Event, Peer, PeerFault};
 use dm_base::is_base_command;
 use dm_machine::laws::each_state_decides;
-use dm_machine::{Commands, Conn, Core, Input, State, step};
+use dm_machine::{Commands, Conn, Core, Input, State, Word, step};
 use dm_wire::MessageRef;
+use dm_wire::laws::{message_in_spells, no_message_refused};
 use std::alloc::Global;
 
 /// Whether the state can hold an election.
@@ -127,7 +128,8 @@ fn heard(
     if is_dropped(&peer.standing.get().awaited, footing, &message.header) {
         return Ok(());
     }
-    let heard = hear(&peer.config, message);
+    let mut heard = good(&message.header, Word::Other);
+    hear(&peer.config, message, &mut heard);
     steps(alloc, peer, event, Some(&heard), actions)
 }
 
@@ -144,15 +146,18 @@ fn arrived(
     ensures refused { IfErr result (IsRefused (acts peer.old (Arrived conn octets.now))) }
     ensures unchanged { OnErr result (peer.new ≡ peer.old) }
 {
-    let event = Event::Arrived(conn, octets);
     let core = &peer.standing.get().core;
     let footing = stood_on(core, conn);
     if is_unread(core.state(), footing) {
-        return steps(alloc, peer, event, None, actions);
+        return steps(alloc, peer, Event::Arrived(conn, octets), None, actions);
     }
-    match read_message(octets) {
-        Some(message) => heard(alloc, peer, event, conn, footing, &message, actions),
-        None => steps(alloc, peer, event, None, actions),
+    message_in_spells();
+    no_message_refused();
+    let event = Event::Arrived(conn, octets);
+    // (It is told where it is read, and isn't moved.)
+    match &MessageRef::read(octets) {
+        Ok(message) => heard(alloc, peer, event, conn, footing, message, actions),
+        Err(_) => steps(alloc, peer, event, None, actions),
     }
 }
 

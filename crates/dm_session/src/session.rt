@@ -5,6 +5,7 @@ use crate::acquaintance::exchange_in;
 use crate::intake::Front;
 use crate::intakes::Intakes;
 use crate::turn::{HeardTurn, Turn};
+use arrayvec::ArrayVec;
 use dm_framer::laws::one_front;
 use dm_machine::Conn;
 use dm_peer::laws::{each_event_names_what_it_takes, every_peer_is_kept, refusals_go_by_rule};
@@ -216,8 +217,12 @@ impl Session {
         each_event_names_what_it_takes();
         every_peer_is_kept(&self.peer);
         let _state = self.peer.state();
-        match self.peer.on(alloc, Event::Arrived(conn, &piece[..len])) {
-            Ok(actions) => {
+        let mut actions = ArrayVec::new();
+        match self
+            .peer
+            .on_into(alloc, Event::Arrived(conn, &piece[..len]), &mut actions)
+        {
+            Ok(()) => {
                 self.settle(actions.as_slice());
                 Ok(HeardTurn {
                     turn: Turn::of_message(conn, actions),
@@ -245,14 +250,20 @@ impl Session {
         let _state = self.peer.state();
         match self.intakes.front(conn) {
             Front::Nothing => Ok(None),
-            Front::Message(message) => match self.peer.on(alloc, Event::Arrived(conn, message)) {
-                Ok(actions) => {
-                    self.intakes.skip(conn);
-                    self.settle(actions.as_slice());
-                    Ok(Some(Turn::of_message(conn, actions)))
+            Front::Message(message) => {
+                let mut actions = ArrayVec::new();
+                match self
+                    .peer
+                    .on_into(alloc, Event::Arrived(conn, message), &mut actions)
+                {
+                    Ok(()) => {
+                        self.intakes.skip(conn);
+                        self.settle(actions.as_slice());
+                        Ok(Some(Turn::of_message(conn, actions)))
+                    }
+                    Err(_) => Err(AllocError),
                 }
-                Err(_) => Err(AllocError),
-            },
+            }
             Front::Fault => match self.peer.on(alloc, Event::Arrived(conn, &[])) {
                 Ok(actions) => {
                     self.intakes.break_off(alloc, conn);

@@ -25,6 +25,7 @@ pub struct HeardTurn {
 
 impl Turn {
     /// The turn of a whole message that came on the connection.
+    #[inline(always)]
     pub(crate) fn of_message(conn: Conn, actions: Actions) -> Turn
         ensures { as_turn result ≡ record { arrived = Some conn; actions = actions.items } }
     {

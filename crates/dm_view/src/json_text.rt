@@ -99,6 +99,7 @@ impl JsonText {
         ensures { OnOk result (self.new ≡ self.old ++ string (encode_lower octets.now) ∷ []) }
     {
         self.room.clear();
+        self.room.reserve(octets.len().saturating_mul(2))?;
         put_hexadecimal(&mut self.room, octets)?;
         self.writer.string(self.room.as_str())
     }

@@ -5,6 +5,8 @@
 #![tactic(auto)]
 
 #[cfg(test)]
+mod digits;
+#[cfg(test)]
 mod program;
 #[cfg(test)]
 mod replay;

@@ -17,4 +17,4 @@ steps-requires-clause-goes c =
     cc (c.is_dropped.ensures, c.if-is_dropped.ensures, c.requires.footing) in
     goes.2
     ∙ ap (λ b. if b then Moved [] p else steps p e (Some (heard_in p.config m))) stays
-    ∙ ap (λ h. steps p e (Some h)) (sym (c.hear-heard.ensures goes.0 goes.1))
+    ∙ ap (λ h. steps p e (Some h)) (sym (c.hear.ensures goes.0 goes.1))

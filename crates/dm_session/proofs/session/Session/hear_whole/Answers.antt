@@ -17,7 +17,7 @@ returns-in-Ok-clause-heard c =
     (session_of c.settle.new.self))
     (sym c.of_message.ensures)
     (heard_where_it_lies c.args.conn c.args.piece.now (session_of c.args.self.now) (session_of c.settle.new.self)
-    c.in-Ok.actions.items c.on.new.self c.args.len c.requires c.in-Ok.ensures.acts left)
+    c.on_into.new.actions.items c.on_into.new.self c.args.len c.requires c.in-Ok.ensures.acts left)
 
 pub invariant_of-self : goal.invariant_of-self
 invariant_of-self c =
@@ -25,16 +25,16 @@ invariant_of-self c =
     let old = intakes_of c.args.self.now.intakes in
     let at = c.requires in
     record {
-      held = held_told (λ actions. actions.items) c.on.result c.each_event_names_what_it_takes.ensures.others
-          c.args.self.now.peer c.on.new.self (event.Arrived c.args.conn octets) old c.every_peer_is_kept.ensures
-          c.on.ensures.acts c.on.ensures.unchanged c.args.self.now.held
+      held = held_told (λ _. c.on_into.new.actions.items) c.on_into.result c.each_event_names_what_it_takes.ensures.others
+          c.args.self.now.peer c.on_into.new.self (event.Arrived c.args.conn octets) old c.every_peer_is_kept.ensures
+          c.on_into.ensures.acts c.on_into.ensures.unchanged c.args.self.now.held
           (arrived_there c.args.conn octets at.intake old at.there);
     }
 
 pub settle-requires : goal.settle-requires
 settle-requires c = λ d closing.
-    closed_unheld c.each_event_names_what_it_takes.ensures.closed c.args.self.now.peer c.on.new.self
-    (event.Arrived c.args.conn (take c.args.len c.args.piece.now)) c.in-Ok.actions.items c.every_peer_is_kept.ensures
+    closed_unheld c.each_event_names_what_it_takes.ensures.closed c.args.self.now.peer c.on_into.new.self
+    (event.Arrived c.args.conn (take c.args.len c.args.piece.now)) c.on_into.new.actions.items c.every_peer_is_kept.ensures
     c.in-Ok.ensures.acts d (ap (λ l. actions_close l d.0) (sym c.as_slice.ensures.value) ∙ closing)
 
 pub returns-in-Err-clause-memory : goal.returns-in-Err-clause-memory

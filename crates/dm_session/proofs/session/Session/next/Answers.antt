@@ -13,7 +13,7 @@ returns-in-Ok-clause-turn c =
     let at = c.in-Message.ensures in
     let gone = c.skip.ensures at.0 c.in-Message.message.now at.1 at.2 at.3 in
     let left = rw (c.as_slice.ensures.value) at c.settle.ensures in
-    let told : TellsMessage c.args.conn (session_of c.args.self.now) c.in-Ok.actions.items
+    let told : TellsMessage c.args.conn (session_of c.args.self.now) c.on_into.new.actions.items
     (session_of c.settle.new.self) =
     record {
       intake = at.0;
@@ -22,10 +22,10 @@ returns-in-Ok-clause-turn c =
       there = at.2;
       first = at.3;
       told = record {
-        next = c.on.new.self;
+        next = c.on_into.new.self;
         acted = c.in-Ok.ensures.acts;
         left = left ∙
-            ap (λ f. settled c.on.new.self c.in-Ok.actions.items (with_intakes f (session_of c.args.self.now))) gone;
+            ap (λ f. settled c.on_into.new.self c.on_into.new.actions.items (with_intakes f (session_of c.args.self.now))) gone;
       };
     } in
     subst (λ turn. TellsNext c.args.conn (session_of c.args.self.now) turn (session_of c.settle.new.self))
@@ -41,10 +41,10 @@ returns-in-Ok-on-clause-turn c =
       there = at.1;
       faulty = at.2;
       told = record {
-        next = c.on-in-Fault.new.self;
+        next = c.on.new.self;
         acted = c.in-Ok-on.ensures.acts;
         left = left ∙
-            ap (λ f. settled c.on-in-Fault.new.self c.in-Ok-on.actions.items
+            ap (λ f. settled c.on.new.self c.in-Ok-on.actions.items
             (with_intakes f (session_of c.args.self.now))) gone;
       };
     }
@@ -55,18 +55,18 @@ invariant_of-self-in-Ok c =
     let message = c.in-Message.message.now in
     let old = intakes_of c.args.self.now.intakes in
     let gone = c.skip.ensures at.0 message at.1 at.2 at.3 in
-    let held = held_after c.each_event_names_what_it_takes.ensures.others c.args.self.now.peer c.on.new.self
-    (event.Arrived c.args.conn message) c.in-Ok.actions.items old c.every_peer_is_kept.ensures c.in-Ok.ensures.acts
+    let held = held_after c.each_event_names_what_it_takes.ensures.others c.args.self.now.peer c.on_into.new.self
+    (event.Arrived c.args.conn message) c.on_into.new.actions.items old c.every_peer_is_kept.ensures c.in-Ok.ensures.acts
     c.args.self.now.held (arrived_there c.args.conn message at.0 old at.2) in
     record {
-      held = subst (HeldAreThere c.on.new.self) (sym gone)
-          (held_with c.on.new.self c.args.conn.0 (record at.0 { octets = at.1 }) old held);
+      held = subst (HeldAreThere c.on_into.new.self) (sym gone)
+          (held_with c.on_into.new.self c.args.conn.0 (record at.0 { octets = at.1 }) old held);
     }
 
 pub settle-requires : goal.settle-requires
 settle-requires c = λ d closing.
-    closed_unheld c.each_event_names_what_it_takes.ensures.closed c.args.self.now.peer c.on.new.self
-    (event.Arrived c.args.conn c.in-Message.message.now) c.in-Ok.actions.items c.every_peer_is_kept.ensures
+    closed_unheld c.each_event_names_what_it_takes.ensures.closed c.args.self.now.peer c.on_into.new.self
+    (event.Arrived c.args.conn c.in-Message.message.now) c.on_into.new.actions.items c.every_peer_is_kept.ensures
     c.in-Ok.ensures.acts d (ap (λ l. actions_close l d.0) (sym c.as_slice.ensures.value) ∙ closing)
 
 pub invariant_of-self-in-Ok-on : goal.invariant_of-self-in-Ok-on
@@ -74,17 +74,17 @@ invariant_of-self-in-Ok-on c =
     let at = c.in-Fault.ensures in
     let old = intakes_of c.args.self.now.intakes in
     let gone = c.break_off.ensures at.0 at.1 in
-    let held = held_after c.each_event_names_what_it_takes.ensures.others c.args.self.now.peer c.on-in-Fault.new.self
+    let held = held_after c.each_event_names_what_it_takes.ensures.others c.args.self.now.peer c.on.new.self
     (event.Arrived c.args.conn []) c.in-Ok-on.actions.items old c.every_peer_is_kept.ensures c.in-Ok-on.ensures.acts
     c.args.self.now.held (arrived_there c.args.conn [] at.0 old at.1) in
     record {
-      held = subst (HeldAreThere c.on-in-Fault.new.self) (sym gone)
-          (held_with c.on-in-Fault.new.self c.args.conn.0 (broken_intake at.0) old held);
+      held = subst (HeldAreThere c.on.new.self) (sym gone)
+          (held_with c.on.new.self c.args.conn.0 (broken_intake at.0) old held);
     }
 
 pub settle-requires-in-Ok-on : goal.settle-requires-in-Ok-on
 settle-requires-in-Ok-on c = λ d closing.
-    closed_unheld c.each_event_names_what_it_takes.ensures.closed c.args.self.now.peer c.on-in-Fault.new.self
+    closed_unheld c.each_event_names_what_it_takes.ensures.closed c.args.self.now.peer c.on.new.self
     (event.Arrived c.args.conn []) c.in-Ok-on.actions.items c.every_peer_is_kept.ensures c.in-Ok-on.ensures.acts d
     (ap (λ l. actions_close l d.0) (sym c.as_slice-in-Ok-on.ensures.value) ∙ closing)
 
