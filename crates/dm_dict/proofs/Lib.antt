@@ -4,9 +4,11 @@ pub mod Chains
 pub mod Exemplified
 pub mod Fitting
 pub mod Filled
+pub mod Firsts
 pub mod FoundAt
 pub mod Good
 pub mod Lanes
+pub mod Headed
 pub mod Kept
 pub mod Linking
 pub mod Listed

@@ -29,6 +29,10 @@ any_command = 0
 abbrev pub seat_slots : ℕ
 seat_slots = 128
 
+-- the slots by which commands are guessed
+abbrev pub head_slots : ℕ
+head_slots = 64
+
 -- the marks of the codes of a dictionary
 abbrev pub mark_slots : ℕ
 mark_slots = 512

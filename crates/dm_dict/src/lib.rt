@@ -6,6 +6,7 @@ mod avps;
 mod between;
 mod bounds;
 pub mod codes;
+mod command_guesses;
 mod counts;
 mod data;
 mod dictionary;

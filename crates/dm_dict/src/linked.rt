@@ -1,6 +1,6 @@
 //! Tables with the links of their rules, so that an AVP's place under a rule is found by its code (RFC 6733, 3.2
 //! and 4.1).
-ghost use Rattle.std.specs.Prelude.{◌≡◌, ◌<◌, ◌++◌, [], Some, find, length, map, option_map, slice_get};
+ghost use Rattle.std.specs.Prelude.{◌≡◌, ◌<◌, ◌++◌, [], true, Some, find, length, map, option_map, slice_get};
 ghost use Rattle.std.specs.Prelude.{IfOk, IfSome, OnOk};
 ghost use Rattle.std.specs.List.{position_from};
 ghost use Rattle.std.specs.Option.{option_and_then, option_copied};
@@ -12,6 +12,7 @@ ghost use Rattle.dm_dict.specs.Links.{rule_links};
 ghost use Rattle.dm_dict.specs.Marks.{AreMarked};
 ghost use Rattle.dm_dict.specs.Linked.{IsLinked, avp_links, command_links};
 
+use crate::command_guesses::{head_guesses, head_slot, is_headed};
 use crate::links::Links;
 use crate::marks::marks_of;
 use crate::rule_links::RuleLinks;
@@ -27,6 +28,8 @@ pub(crate) struct Linked {
     pub(crate) avps: RuleLinks,
     pub(crate) commands: Vec<Links>,
     pub(crate) marks: [u16; 512],
+    /// Where commands may stand, by their codes.
+    heads: [u16; 64],
 }
 
 /// Marks, shown as 1 where there is one.
@@ -123,6 +126,7 @@ impl Linked {
             avps: RuleLinks::new(alloc),
             commands: Vec::new(alloc),
             marks: [0; 512],
+            heads: head_guesses(&[]),
         }
     }
 
@@ -133,11 +137,13 @@ impl Linked {
         ensures linked { IfOk result IsLinked }
     {
         let marks = marks_of(tables.avps.as_slice());
+        let heads = head_guesses(tables.commands.as_slice());
         let mut linked = Linked {
             tables,
             avps: RuleLinks::new(alloc),
             commands: Vec::new(alloc),
             marks,
+            heads,
         };
         let done = linked.link(alloc);
         done.and(Ok(linked))
@@ -246,6 +252,34 @@ impl Linked {
         }
     }
 
+    /// Whether the command at the place, if there is one, has the code with REQ and ERR.
+    #[inline(always)]
+    fn is_headed_at(&self, place: usize, code: u32, request: bool, err: bool) -> bool
+        requires { IsLinked self.now }
+        ensures { result ≡ true
+            → Some place ≡ position_from (is_headed code request err) 0 self.now.tables.commands.items }
+    {
+        let commands = self.tables.commands.as_slice();
+        if place >= commands.len() {
+            return false;
+        }
+        is_headed(&commands[place], code, request, err)
+    }
+
+    /// The place of the command of a code with REQ and ERR. Where it is the one that is guessed it's known at once.
+    #[inline(always)]
+    fn command_place(&self, code: u32, request: bool, err: bool) -> Option<usize>
+        requires { IsLinked self.now }
+        ensures { result ≡ position_from (is_headed code request err) 0 self.now.tables.commands.items }
+    {
+        let place = usize::from(self.heads[head_slot(code, request)]);
+        if self.is_headed_at(place, code, request, err) {
+            Some(place)
+        } else {
+            self.tables.command_place(code, request, err)
+        }
+    }
+
     /// The command of a code with REQ and ERR, with the links of its rule.
     pub(crate) fn command(&self, code: u32, request: bool, err: bool) -> Option<LinkedCommand<'_>>
         requires { IsLinked self.now }
@@ -254,7 +288,7 @@ impl Linked {
         ensures links { IfSome result (λ command. command.links.now
             ≡ rule_links self.now.tables.avps.items command.def.now.rule) }
     {
-        self.command_at(self.tables.command_place(code, request, err))
+        self.command_at(self.command_place(code, request, err))
     }
 
     /// The definition of a command at the place, with the links of its rule.

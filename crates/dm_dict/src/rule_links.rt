@@ -1,8 +1,9 @@
 //! The links of the AVPs' rules, of which most have no entries (RFC 6733, 3.2).
-ghost use Rattle.std.specs.Prelude.{◌≡◌, ◌<◌, ◌≤◌, ◌++◌, [], ◌∷◌, Some, length, slice_get, OnOk};
+ghost use Rattle.std.specs.Prelude.{◌≡◌, ◌<◌, ◌≤◌, ◌++◌, [], ◌∷◌, Some, length, slice_get, OnErr, OnOk};
 ghost use Rattle.dm_tables.specs.Guesses.{AreGuessed};
 ghost use Rattle.dm_tables.specs.Tables.{IsTables};
 ghost use Rattle.dm_dict.specs.Links.{no_links, rule_links};
+ghost use Rattle.dm_dict.specs.RuleLinks.{begun};
 
 use crate::links::Links;
 use dm_tables::{AvpDef, NameGuesses, Rule, Tables};
@@ -16,23 +17,21 @@ use std::marker::Model;
 /// A contract sees it as the list of the links of each rule.
 #[derive(Drop)]
 pub(crate) struct RuleLinks {
-    /// The links of a rule without entries.
-    none: Links,
-    /// The links of each rule with entries.
+    /// The links of a rule without entries, where there is a rule, and then those of each rule with entries.
     kept: Vec<Links>,
-    /// Where each rule's links are: 0 for none, else one more than their place among those that are kept.
+    /// Where each rule's links are among those that are kept.
     places: Vec<usize>,
 }
 
 impl Model for RuleLinks {
-    ghost use Rattle.std.specs.Prelude.{◌∷◌, List};
+    ghost use Rattle.std.specs.Prelude.{List};
     ghost use Rattle.dm_dict.specs.Links.{LinkedEntries};
 
     ghost Value = { List LinkedEntries };
 
     ghost use Rattle.dm_dict.specs.RuleLinks.{shown_links, AreRulesKept};
 
-    ghost view = { λ links. shown_links (links.none ∷ links.kept.items) links.places.items };
+    ghost view = { λ links. shown_links links.kept.items links.places.items };
 
     ghost invariant = { AreRulesKept };
 }
@@ -61,13 +60,23 @@ fn count_groups(avps: &[AvpDef]) -> usize
     count
 }
 
+/// The links of a rule without entries, where nothing is kept.
+fn begin(alloc: Global, kept: &mut Vec<Links>) -> Result<(), NoMemory>
+    ensures begun { OnOk result (kept.new.items ≡ begun kept.old.items) }
+    ensures same { OnErr result (kept.new.items ≡ kept.old.items) }
+{
+    if kept.is_empty() {
+        kept.push(Links::empty(alloc))?;
+    }
+    Ok(())
+}
+
 impl RuleLinks {
     /// The links of no rules. It never answers want of memory.
     pub(crate) fn new(alloc: Global) -> RuleLinks
         ensures { result ≡ [] }
     {
         RuleLinks {
-            none: Links::empty(alloc),
             kept: Vec::new(alloc),
             places: Vec::new(alloc),
         }
@@ -77,25 +86,27 @@ impl RuleLinks {
     pub(crate) fn reserve(&mut self, avps: &[AvpDef]) -> Result<(), NoMemory>
         ensures { self.new ≡ self.old }
     {
-        self.kept.reserve(count_groups(avps))?;
+        self.kept.reserve(count_groups(avps).saturating_add(1))?;
         self.places.reserve(avps.len())?;
         Ok(())
     }
 
     /// The links of a rule without entries, behind the others.
-    fn push_none(&mut self) -> Result<(), NoMemory>
+    fn push_none(&mut self, alloc: Global) -> Result<(), NoMemory>
         ensures { OnOk result (self.new ≡ self.old ++ no_links ∷ []) }
     {
+        begin(alloc, &mut self.kept)?;
         self.places.push(0)?;
         Ok(())
     }
 
     /// Links behind the others.
-    fn keep(&mut self, links: Links) -> Result<(), NoMemory>
+    fn keep(&mut self, alloc: Global, links: Links) -> Result<(), NoMemory>
         ensures { OnOk result (self.new ≡ self.old ++ links ∷ []) }
     {
+        begin(alloc, &mut self.kept)?;
         self.kept.push(links)?;
-        self.places.push(self.kept.len())?;
+        self.places.push(self.kept.len() - 1)?;
         Ok(())
     }
 
@@ -112,9 +123,10 @@ impl RuleLinks {
         ensures { OnOk result (self.new ≡ self.old ++ rule_links tables.now.avps.items rule.now ∷ []) }
     {
         if rule.as_slice().is_empty() {
-            self.push_none()
+            self.push_none(alloc)
         } else {
-            self.keep(Links::of_rule(alloc, tables, guesses, rule)?)
+            let links = Links::of_rule(alloc, tables, guesses, rule)?;
+            self.keep(alloc, links)
         }
     }
 
@@ -124,9 +136,6 @@ impl RuleLinks {
         requires { place < length self.now }
         ensures { Some result.now ≡ slice_get self.now place }
     {
-        match self.places[place] {
-            0 => &self.none,
-            behind => &self.kept[behind - 1],
-        }
+        &self.kept[self.places[place]]
     }
 }

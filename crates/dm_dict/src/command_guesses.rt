@@ -1,0 +1,44 @@
+//! Guesses where a command stands, by its code and its REQ (RFC 6733, 3.1).
+ghost use Rattle.std.specs.Prelude.{◌≡◌, ◌<◌};
+ghost use Rattle.dm_tables.specs.Definitions.{is_headed};
+ghost use Rattle.dm_dict.specs.Limits.{head_slots};
+
+use dm_tables::CommandDef;
+
+/// A slot for which nothing is guessed, and the place of no command.
+const NONE: u16 = u16::MAX;
+
+/// The slot of a code with REQ.
+#[inline(always)]
+pub(crate) fn head_slot(code: u32, request: bool) -> usize
+    ensures { result < head_slots }
+{
+    (code % 32) as usize * 2 + usize::from(request)
+}
+
+/// Whether the command has the code with REQ and ERR.
+#[inline(always)]
+pub(crate) fn is_headed(command: &CommandDef, code: u32, request: bool, err: bool) -> bool
+    ensures { result ≡ is_headed code request err command.now }
+{
+    code == command.code && request == command.request && err == command.err
+}
+
+/// The guess of a slot behind the command at the place, which has it: the first one stays.
+fn first_guess(guess: u16, place: usize) -> u16 {
+    if guess == NONE {
+        place.min(NONE as usize) as u16
+    } else {
+        guess
+    }
+}
+
+/// For each slot the place of the first of the commands that has it.
+pub(crate) fn head_guesses(commands: &[CommandDef]) -> [u16; 64] {
+    let mut guesses = [NONE; 64];
+    for (place, command) in commands.iter().enumerate() {
+        let slot = head_slot(command.code, command.request);
+        guesses[slot] = first_guess(guesses[slot], place);
+    }
+    guesses
+}
