@@ -35,6 +35,13 @@ pub struct Peer {
     pub(crate) standing: Kept,
 }
 
+/// Lets go what a refused event put in.
+// (It is rare, and in a function of its own in the machine's code too.)
+#[inline(never)]
+fn let_go(actions: Actions) {
+    drop(actions);
+}
+
 impl Peer {
     /// A closed peer of the configuration. It never answers want of memory.
     pub fn new(config: Config) -> Peer
@@ -81,7 +88,10 @@ impl Peer {
             → IfOk result (λ actions. TurnsAway conn actions.items × (self.new ≡ self.old)) }
     {
         let mut actions = ArrayVec::new();
-        self.on_into(alloc, event, &mut actions)?;
+        if let Err(fault) = self.on_into(alloc, event, &mut actions) {
+            let_go(actions);
+            return Err(fault);
+        }
         Ok(actions)
     }
 
@@ -90,6 +100,7 @@ impl Peer {
     ///
     /// # Errors
     /// Those of `on`. The peer is as it was after each.
+    // (It is a call of what fills the list, and no more: in its caller it takes no further one.)
     #[inline(always)]
     pub fn on_into(
         &mut self,
