@@ -10,6 +10,7 @@ import tempfile
 import threading
 import time
 
+import kit
 import verdicts
 from edits import asked_as, changes_of, every_function, function_of, functions_of, in_turn, joined, rounds_of, texts_of
 
@@ -25,13 +26,6 @@ def files_in(folder):
     names = sorted(os.listdir(folder)) if os.path.isdir(folder) else []
     good = [it for it in names if re.fullmatch(FILE, it) and os.path.isfile(f"{folder}/{it}")]
     return [f"{folder}/{it}" for it in good], [it for it in names if it not in good and not it.endswith(".md")]
-
-
-def is_refusal(rt, kind):
-    """Returns whether this is what rt's must_fail gives of an edit that is refused: one of its words, where it has such
-    (what a limit of the prover stops is refused too, as rt counts it), or else the truth value."""
-    words = [getattr(rt, it) for it in ("REFUSED", "AT_LIMIT") if hasattr(rt, it)]
-    return kind in words if words else kind is True
 
 
 def last_line(said):
@@ -191,7 +185,7 @@ class Planted:
         self.run.write_log(what.replace("/", ", "), said)
         self.report.say(f"{what}: tried alone, {time.time() - begun:.0f} s, because: {why[:150]}")
         told = told.partition(f"{edit.name}: ")[2]
-        if not is_refusal(self.rt, kind):
+        if not kit.is_refusal(self.rt, kind):
             self.report.fails(what, told)
             return
         is_by_names = "(only because" in told
