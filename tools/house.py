@@ -161,6 +161,14 @@ def crates_left_out(top):
     return [it for it in crates(top) if not re.search(rf"\b{it}\b", text)]
 
 
+def tools_left_out(top):
+    """What stands in tools/ and isn't named in its page; a folder is named with its `/`."""
+    page = f"{top}/tools/README.md"
+    text = read(page) if os.path.isfile(page) else ""
+    found = sorted({re.sub(r"/.*", "/", os.path.relpath(it, "tools")) for it in files(top, "tools")})
+    return [it for it in found if it != "README.md" and f"`{it}`" not in text]
+
+
 def edits(top):
     """Returns the edits that must be refused, of both folders of the crates."""
     folders = [f"crates/{it}/{kind}" for it in crates(top) for kind in ("must-fail", "planted")]
@@ -183,5 +191,6 @@ COUNTS = {
     "long-lines-of-definitions": long_lines_of_definitions,
     "names-in-pages-that-are-gone": names_that_are_gone,
     "crates-that-readme-leaves-out": crates_left_out,
+    "tools-that-their-page-leaves-out": tools_left_out,
     "must-fail-edits-that-no-page-names": must_fail_unnamed,
 }
