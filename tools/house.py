@@ -161,6 +161,27 @@ def crates_left_out(top):
     return [it for it in crates(top) if not re.search(rf"\b{it}\b", text)]
 
 
+def tools_left_out(top):
+    """What stands in tools/ and isn't named in its page; a folder is named with its `/`."""
+    page = f"{top}/tools/README.md"
+    text = read(page) if os.path.isfile(page) else ""
+    found = sorted({re.sub(r"/.*", "/", os.path.relpath(it, "tools")) for it in files(top, "tools")})
+    return [it for it in found if it != "README.md" and f"`{it}`" not in text]
+
+
+def edits(top):
+    """Returns the edits that must be refused, of both folders of the crates."""
+    folders = [f"crates/{it}/{kind}" for it in crates(top) for kind in ("must-fail", "planted")]
+    return files(top, *folders, endings=[".edit"])
+
+
+def must_fail_unnamed(top):
+    """Edits that `rt ci` tries over the whole crate, and which docs/GATE.md doesn't name among the wrong bodies."""
+    named = {*re.findall(r"`([\w-]+)`", read(f"{top}/docs/GATE.md"))}
+    found = [it for it in edits(top) if "/must-fail/" in it]
+    return [it for it in found if os.path.basename(it)[: -len(".edit")] not in named]
+
+
 COUNTS = {
     "names-in-several-crates": names_in_several,
     "names-by-case-alone": names_by_case,
@@ -170,4 +191,6 @@ COUNTS = {
     "long-lines-of-definitions": long_lines_of_definitions,
     "names-in-pages-that-are-gone": names_that_are_gone,
     "crates-that-readme-leaves-out": crates_left_out,
+    "tools-that-their-page-leaves-out": tools_left_out,
+    "must-fail-edits-that-no-page-names": must_fail_unnamed,
 }

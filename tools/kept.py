@@ -14,21 +14,18 @@ they alone are others, nothing is proved and no test is run for it. Then come, e
                             stand as recorded
 
 It trusts what is kept, tries no must-fail edit, and doesn't run the tests of the tools: it is no verdict on the
-repository. Of the toolchain's code it uses rtlib's crates_below, lock, guarded, fmt, Crate.test_whole and Crate.run, and
-rt's run, need, processors and free.
+repository. (kit.py has what is used of the toolchain's code.)
 """
 import contextlib
 import copy
-import importlib.machinery
-import importlib.util
 import os
 import resource
-import shutil
 import subprocess
 import sys
 import threading
 import time
 
+import kit
 import tried
 from lanes import Lanes
 
@@ -37,17 +34,6 @@ PROGRAMS = ["dmpeer", "dmview", "dmlive"]
 REFUSED = [*PROGRAMS, "tests_refused", "tests_refused_peer"]
 # How long a program may run.
 SECONDS = 60
-
-
-def load_rt():
-    """Returns the toolchain's rt as a module."""
-    found = shutil.which("rt")
-    if not found:
-        sys.exit("gate: there is no rt on the path: put the toolchain's bin/ there")
-    loader = importlib.machinery.SourceFileLoader("rt", os.path.realpath(found))
-    rt = importlib.util.module_from_spec(importlib.util.spec_from_loader("rt", loader))
-    loader.exec_module(rt)
-    return rt
 
 
 def sums_of(crate):
@@ -111,10 +97,10 @@ class Kept:
 
     def __init__(self, top, names, counted, run):
         self.top, self.counted, self.run = top, counted, run
-        self.rt = load_rt()
+        self.rt = kit.load("gate")
         # (its first call sets a signal's handler, which only the main thread may)
         self.rt.rtlib.guarded()
-        self.crates = self.rt.rtlib.crates_below(top)
+        self.crates = kit.crates_of(self.rt, top, "gate")
         unknown = {*names} - {it.name for it in self.crates}
         if unknown:
             sys.exit(f"gate: crates.txt names no crate {' '.join(sorted(unknown))}")

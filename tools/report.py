@@ -3,6 +3,9 @@ import collections
 import re
 import threading
 
+# How the line begins that names the crates that have no line of the record, or one of other texts. tools/gate ends with
+# it.
+UNRECORDED = "planted: crates that don't stand as recorded: "
 # An edit that was refused: its crate and file, what it changes (or the function that refused it, where it changes no
 # body), the line that refused it, and whether it turns a definition: then all that is seen is that a written proof no
 # longer fits, which a definition that is turned and true would show too.
@@ -17,6 +20,8 @@ class Report:
         self.laws = {}
         # (by the crate that isn't tried, how many of its edits were refused at the very same texts)
         self.standing = {}
+        # (the crates that have no line of the record, or one of other texts)
+        self.unrecorded = []
 
     def say(self, text):
         with self.lock:
@@ -33,6 +38,12 @@ class Report:
     def stands(self, crate, edits):
         self.standing[crate] = edits
         self.say(f"{crate}: {edits} edits, refused at this very text")
+
+    def differs(self, crate):
+        self.unrecorded.append(crate)
+
+    def tried_of(self, crate):
+        return sum(it.startswith(f"{crate}/") for it in [*(row.edit for row in self.passed), *self.failed])
 
     def refused_of(self, crate):
         return sum(it.edit.startswith(f"{crate}/") for it in self.passed)
@@ -64,6 +75,8 @@ class Report:
         for head, names in lists.items():
             if names:
                 print(f"planted: {head}: {' '.join(sorted(names))}")
+        names = [f"{it} ({self.tried_of(it)} edits tried)" for it in sorted(self.unrecorded)]
+        print(f"{UNRECORDED}{', '.join(names) or 'none'}")
         print(f"planted: {sum(self.standing.values())} edits stand as recorded, in {len(self.standing)} crates")
         print(f"{len(self.passed)} passed, {len(self.failed)} failed", flush=True)
         return 1 if self.failed else 0

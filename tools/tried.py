@@ -4,12 +4,16 @@ A line has a crate, a toolchain, a digest (SHA-256) and how many edits were refu
 toolchain under which its edits were tried, so that machines with different ones keep each other's. The digest is of all
 that the verdict on the crate's edits depends on, and of nothing else:
 
-  - the crate's src, specs and proofs, its edits, its lines of tools/planted_laws, and what crates.txt says of it
+  - the crate's src, specs and proofs without the lines that are comments, its edits, its lines of tools/planted_laws,
+    and what crates.txt says of it
   - of each library of the repository below it what it states: see stated_in
-  - tools/planted and what it imports, and the toolchain's identity
+  - the code that decides on a verdict (DECIDING), without comments and docstrings, the number RULES, and the
+    toolchain's identity
 
 It doesn't depend on the folder: a library that is built twice is the same, octet for octet, in what is read here.
 """
+import ast
+import collections
 import functools
 import hashlib
 import os
@@ -21,6 +25,11 @@ HEAD = """# By crate and toolchain: the texts at which all its planted edits wer
 # Written by tools/planted --record.
 """
 LINE = re.compile(r"(\w+) (\S+) ([0-9a-f]{64}) ([0-9]+)")
+# The code that decides what is said of an edit; what else tools/planted imports says when it is tried, and prints it.
+DECIDING = "edits.py", "trying.py", "verdicts.py"
+# To be counted up where a fault elsewhere had crates recorded that should not have been.
+RULES = 1
+COMMENT = {".rt": b"//", ".antt": b"--"}
 
 
 def sum_of(given):
@@ -66,7 +75,7 @@ def shown_by(name, modules):
 @functools.lru_cache(maxsize=None)
 def stated_in(library, is_linked, is_cited):
     """Returns the sum of what a built library states to those above it, which is all that their proofs rest on: its
-    public items without their bodies, its definitions, the contracts, and which types may cross threads.
+    public items without their bodies, its definitions, the contracts, and which types may cross threads; no comment.
 
     A program reads all items, also without bodies: it links them. Where a text above names the library's proofs, which
     none should, they count too."""
@@ -74,25 +83,82 @@ def stated_in(library, is_linked, is_cited):
     parts += ["lang/src"] * is_linked + ["lang/antt/proofs.antt", "lang/antt/proofs"] * is_cited
     shown = shown_by(library.name, modules_in(f"{library.rlib}/lang/antt/made.json"))
     told = [it for it in read(f"{library.rlib}/format").split(b"\n") if it.startswith(b"crosses ")]
-    return sum_of([files_below(library.rlib, *parts), sorted(shown.items()), sorted(told)])
+    texts = {file: without_comments(file, text) for file, text in files_below(library.rlib, *parts).items()}
+    return sum_of([texts, sorted(shown.items()), sorted(told)])
 
 
-def own_tools(start="planted"):
-    """Returns the texts of a tool and of what it imports of this folder, by their names."""
-    found, left = {}, [start]
-    while left:
-        name = left.pop()
-        if name not in found:
-            found[name] = read(os.path.join(TOOLS, name))
-            imported = re.findall(rb"(?m)^(?:from|import) (\w+)", found[name])
-            left += [f"{it.decode()}.py" for it in imported if os.path.isfile(os.path.join(TOOLS, f"{it.decode()}.py"))]
-    return found
+def without_comments(file, text):
+    """Returns a text without the lines that are a comment and nothing else; the whole text where such a line might
+    stand within a block comment, or within a string of several lines."""
+    begins = COMMENT.get(os.path.splitext(file)[1])
+    lines = text.split(b"\n")
+    left = [it for it in lines if begins and not it.lstrip().startswith(begins)]
+    if file.endswith(".rt"):
+        quotes = (re.sub(rb"""\\.|'"'""", b"", it).count(b'"') for it in left)
+        is_plain = not re.search(rb'/\*|r#+"', text) and not any(it % 2 for it in quotes)
+    else:
+        is_plain = begins and b"{-" not in text
+    return b"\n".join(left) if is_plain else text
+
+
+def asked_in(edit):
+    """Returns the lines of an edit's text that say what it changes, and its old texts with their files."""
+    lines = [it for it in edit.split(b"\n") if it.startswith((b"file: ", b"old: ", b"new:"))]
+    olds, file = [], ""
+    for it in lines:
+        if it.startswith(b"file: "):
+            file = it[len(b"file: ") :].strip().decode("utf-8", "replace")
+        elif it.startswith(b"old: "):
+            olds.append((file, it[len(b"old: ") :]))
+    return lines, olds
+
+
+def deciding_in(texts, edits):
+    """Returns what decides in these texts of a crate and in its edits: no comment, as far as each old text of an edit
+    stands just once in its file and in no comment there."""
+    olds, asked = collections.defaultdict(list), {}
+    for name, edit in edits.items():
+        asked[name], pairs = asked_in(edit)
+        for file, old in pairs:
+            olds[file].append(old)
+    found = {}
+    for file, text in texts.items():
+        plain = without_comments(file, text)
+        is_plain = all(text.count(old) == plain.count(old) == 1 for old in olds[file])
+        found[file] = plain if is_plain else text
+    return found, asked
+
+
+def shape_of(code):
+    """Returns what a piece of Python's syntax says, without its place and without empty parts, which not all versions
+    of Python have."""
+    if isinstance(code, list):
+        return [shape_of(it) for it in code]
+    if not isinstance(code, ast.AST):
+        return repr(code)
+    parts = [(name, it) for name, it in ast.iter_fields(code) if it is not None and it != []]
+    return type(code).__name__, [(name, shape_of(it)) for name, it in parts]
+
+
+def code_of(text):
+    """Returns what a Python text does, without its comments and docstrings."""
+    tree = ast.parse(text)
+    holders = [it for it in ast.walk(tree) if isinstance(it, (ast.Module, ast.ClassDef, ast.FunctionDef))]
+    for it in holders:
+        if ast.get_docstring(it, clean=False) is not None:
+            del it.body[0]
+    return shape_of(tree)
+
+
+def rules():
+    """Returns what decides on a verdict once the prover has spoken."""
+    return RULES, [(it, code_of(read(os.path.join(TOOLS, it)))) for it in DECIDING]
 
 
 def digest_of(crate, laws, toolchain):
     """Returns the digest for a crate, over libraries below it that are built."""
     texts, below = files_below(crate.folder, "src", "specs", "proofs"), sorted(crate.below(), key=lambda it: it.name)
-    edits = files_below(crate.folder, "planted")
+    edits = {it: text for it, text in files_below(crate.folder, "planted").items() if it.endswith(".edit")}
     cited = [*texts.values(), *(text for it in below for text in files_below(it.folder, "specs").values())]
     stated = []
     for it in below:
@@ -100,7 +166,7 @@ def digest_of(crate, laws, toolchain):
         stated.append((it.name, stated_in(it, crate.is_program, is_cited)))
     lines = sorted((edit, law) for edit, law in laws.items() if edit.startswith(f"{crate.name}/"))
     said = sorted((word, repr(it)) for word, it in crate.said.items())
-    return sum_of([toolchain, sorted(own_tools().items()), said, texts, edits, lines, stated])
+    return sum_of([toolchain, rules(), said, *deciding_in(texts, edits), lines, stated])
 
 
 class Record:
