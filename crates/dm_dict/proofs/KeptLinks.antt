@@ -2,7 +2,7 @@
 use Rattle.std.proofs.Common.{◌≡◌, ◌<◌, ℕ, zero, suc, List, [], ◌∷◌, ◌++◌, length, get_or, refl, ap, ◌∙◌, arith}
 use Rattle.std.proofs.lemmas.List.{map-append, get_or_append_left}
 use Rattle.dm_dict.specs.Links.{LinkedEntries, no_links}
-use Rattle.dm_dict.specs.RuleLinks.{begun, shown_links}
+use Rattle.dm_dict.specs.RuleLinks.{begun_links, shown_links}
 
 -- what is kept behind the others doesn't change what they show
 pub shown_more : (all : List LinkedEntries) (l : LinkedEntries) (places : List ℕ)
@@ -29,22 +29,22 @@ last_kept (k ∷ all) l = last_kept all l
 -- what is kept first of all is shown by none
 pub shown_begun : (kept : List LinkedEntries) (places : List ℕ)
     → ((i : ℕ) → i < length places → get_or places i 0 < length kept)
-    → shown_links (begun kept) places ≡ shown_links kept places
+    → shown_links (begun_links kept) places ≡ shown_links kept places
 shown_begun [] [] within = refl
 shown_begun [] (p ∷ places) within = let below = within zero (omega arith) in absurd (omega (arith, below))
 shown_begun (k ∷ kept) places within = refl
 
 pub within_begun : (kept : List LinkedEntries) (places : List ℕ)
     → ((i : ℕ) → i < length places → get_or places i 0 < length kept)
-    → (i : ℕ) → i < length places → get_or places i 0 < length (begun kept)
+    → (i : ℕ) → i < length places → get_or places i 0 < length (begun_links kept)
 within_begun [] places within i here = let below = within i here in absurd (omega (arith, below))
 within_begun (k ∷ kept) places within i here = within i here
 
 pub first_begun : (kept : List LinkedEntries) → get_or kept 0 no_links ≡ no_links
-    → get_or (begun kept) 0 no_links ≡ no_links
+    → get_or (begun_links kept) 0 no_links ≡ no_links
 first_begun [] is = refl
 first_begun (k ∷ kept) is = is
 
-pub some_begun : (kept : List LinkedEntries) → 0 < length (begun kept)
+pub some_begun : (kept : List LinkedEntries) → 0 < length (begun_links kept)
 some_begun [] = omega arith
 some_begun (k ∷ kept) = omega arith

@@ -18,6 +18,7 @@ pub mod Numbered
 pub mod OpenFaults
 pub mod OpenTables
 pub mod Placed
+pub mod Rowed
 pub mod Seated
 pub mod Sixteens
 pub mod Standing

@@ -10,11 +10,15 @@ use Rattle.dm_tables.specs.Definitions.{is_named, is_coded}
 use Rattle.dm_tables.specs.Sound.{is_any, is_entry_known, knows_rule}
 use Rattle.dm_dict.specs.Rules.{is_called, names, stands_for_any}
 use Rattle.dm_dict.specs.Apart.{IsFit, IsOwnName}
-use Rattle.dm_dict.specs.Links.{entry_link, entry_links}
+use Rattle.dm_dict.specs.Links.{entry_link}
 use Rattle.dm_dict.proofs.Standing.{is_found, is_seen, found, none_named, place_of}
 
+-- the links of the entries of a rule, in order
+abbrev pub entry_links : List AvpDef → List Entry → List (Option ℕ)
+entry_links avps rule = map (entry_link avps) rule
+
 -- the first place among what g gives
-position_map : {A B : Type 0} (p : B → Bool) (g : A → B) (j : ℕ) (xs : List A)
+pub position_map : {A B : Type 0} (p : B → Bool) (g : A → B) (j : ℕ) (xs : List A)
     → position_from p j (map g xs) ≡ position_from (λ x. p (g x)) j xs
 position_map p g j [] = refl
 position_map p g j (x ∷ xs) = by (p (g x)) refl (position_map p g (j + 1) xs) where
@@ -25,7 +29,7 @@ position_map p g j (x ∷ xs) = by (p (g x)) refl (position_map p g (j + 1) xs) 
   by false t ih = rw t ih
 
 -- two tests that tell the same of each member that the third lets pass
-position_same : {A : Type 0} (ok p q : A → Bool) → ((x : A) → ok x ≡ true → p x ≡ q x) → (j : ℕ) (xs : List A)
+pub position_same : {A : Type 0} (ok p q : A → Bool) → ((x : A) → ok x ≡ true → p x ≡ q x) → (j : ℕ) (xs : List A)
     → list_all ok xs ≡ true → position_from p j xs ≡ position_from q j xs
 position_same ok p q same j [] h = refl
 position_same ok p q same j (x ∷ xs) h =
@@ -38,7 +42,7 @@ position_same ok p q same j (x ∷ xs) h =
     by false t e ih = rw (e, t) ih
 
 -- what stands at the first place passes
-passes_at : {A : Type 0} (p : A → Bool) (xs : List A) (i : ℕ) (x : A) → position_from p 0 xs ≡ Some i
+pub passes_at : {A : Type 0} (p : A → Bool) (xs : List A) (i : ℕ) (x : A) → position_from p 0 xs ≡ Some i
     → slice_get xs i ≡ Some x → p x ≡ true
 passes_at p xs i x h g =
     let seen : Some x ≡ find p xs = sym g ∙ (rw h at (found p xs)) in

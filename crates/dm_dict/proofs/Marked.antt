@@ -9,7 +9,7 @@ use Rattle.dm_tables.specs.declared.def.AvpDef.{AvpDef}
 use Rattle.dm_tables.specs.Definitions.{is_coded}
 use Rattle.dm_dict.specs.Marks.{kept_mark, AreMarked}
 use Rattle.dm_dict.proofs.Noting.{position_push}
-use Rattle.dm_dict.proofs.Seated.{other_link}
+use Rattle.dm_dict.proofs.Seated.{other_code}
 
 -- a definition has a mark
 pub some_mark : (mark place : ℕ) → 0 < kept_mark mark place
@@ -38,6 +38,6 @@ marked_step avps i d x marks mark h at size some before = λ code vendor unmarke
         (let same : nat_eq (d.code % 512) (code % 512) ≡ true = eq-eqb (d.code % 512) (code % 512) (sym e) in cc) in
         let kept : get_or marks (code % 512) 0 ≡ 0 =
         sym (get_or-set_other marks (d.code % 512) (code % 512) mark 0 apart) ∙ unmarked in
-        let other = other_link 512 d.code code t in
+        let other = other_code 512 d.code code t in
         let push = position_push (is_coded code vendor) 0 avps i x h in
         push ∙ rw (← at, before code vendor kept, other) refl

@@ -4,7 +4,7 @@ use Rattle.dm_tables.specs.declared.values.EnumValue.{EnumValue}
 use Rattle.std.proofs.Common.{◌≡◌, ◌<◌, ◌≤◌, ℕ, zero, suc, ◌+◌, arith, length, take, drop, get_or, set, Bool, true}
 use Rattle.std.proofs.Common.{false, ◌&&◌, ◌||◌, List, [], ◌∷◌, ◌++◌, map, refl, sym, ◌∙◌, ap}
 use Rattle.dm_tables.specs.SoundParts.{avp_sound_parts}
-use Rattle.std.specs.Prelude.{if◌then◌else◌, Some}
+use Rattle.std.specs.Prelude.{if◌then◌else◌, Option, None, Some, slice_get}
 use Rattle.std.specs.List.{position_from, list_any, list_all}
 use Rattle.std.proofs.lemmas.Bool.{and_parts}
 use Rattle.dm_tables.specs.declared.rule.Entry.{Entry}
@@ -17,7 +17,8 @@ use Rattle.dm_tables.specs.Sound.{is_any, knows_rule, is_enumerated}
 use Rattle.dm_tables.specs.Tables.{defined, code_key}
 use Rattle.dm_dict.specs.Linked.{IsLinked, avp_links, command_links}
 use Rattle.dm_dict.specs.Bounds.{rule_bounds}
-use Rattle.dm_dict.specs.Links.{rule_links}
+use Rattle.dm_dict.specs.Links.{entry_link, entry_row, rule_links}
+use Rattle.dm_dict.specs.Rows.{linked_row, placed_row}
 use Rattle.dm_dict.specs.declared.linked.Linked.{Linked}
 use Rattle.dm_dict.specs.WithoutLists.{without_list, without_lists}
 
@@ -101,11 +102,25 @@ closed_commands avps commands = λ i. list_all (λ c. known_same avps c.rule i) 
 closed_open : (d : Definitions) → is_closed d ≡ true → is_closed (without_lists d) ≡ true
 closed_open d h = (λ i. closed_avps d.avps d.avps i && closed_commands d.avps d.commands i) ∙ h
 
+placed_same : (avps : List AvpDef) (e : Entry) (k j : ℕ)
+    → placed_row e k (slice_get (map without_list avps) j) ≡ placed_row e k (slice_get avps j)
+placed_same [] e k j = refl
+placed_same (f ∷ avps) e k zero = refl
+placed_same (f ∷ avps) e k (suc j) = placed_same avps e k j
+
+linked_same : (avps : List AvpDef) (e : Entry) (link : Option ℕ)
+    → linked_row (map without_list avps) e link ≡ linked_row avps e link
+linked_same avps e None = refl
+linked_same avps e (Some k) = placed_same avps e k k
+
+row_same : (avps : List AvpDef) (e : Entry) → entry_row (map without_list avps) e ≡ entry_row avps e
+row_same avps e =
+    let link : entry_link (map without_list avps) e ≡ entry_link avps e =
+    place_same (is_named e.name) (λ g. refl) 0 avps in
+    linked_same avps e (entry_link (map without_list avps) e) ∙ ap (linked_row avps e) link
+
 links_same : (avps : List AvpDef) (rule : List Entry) → rule_links (map without_list avps) rule ≡ rule_links avps rule
-links_same avps rule = λ i. record {
-  links = map (λ e. place_same (is_named e.name) (λ g. refl) 0 avps i) rule;
-  bounds = rule_bounds rule;
-}
+links_same avps rule = λ i. record { rows = map (λ e. row_same avps e i) rule; bounds = rule_bounds rule }
 
 avp_links_same : (all avps : List AvpDef)
     → map (λ a. rule_links (map without_list all) a.rule) (map without_list avps)

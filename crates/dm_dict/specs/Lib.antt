@@ -18,6 +18,7 @@ pub mod Marks
 pub mod Numbers
 pub mod Passed
 pub mod Printed
+pub mod Rows
 pub mod RuleLinks
 pub mod Rules
 pub mod Seats

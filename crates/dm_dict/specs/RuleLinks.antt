@@ -8,9 +8,9 @@ abbrev pub shown_links : List LinkedEntries → List ℕ → List LinkedEntries
 shown_links all places = map (λ i. slice_index_or all i no_links) places
 
 -- what is kept where something is: first of all the links of no entries
-abbrev pub begun : List LinkedEntries → List LinkedEntries
-begun [] = no_links ∷ []
-begun (links ∷ kept) = links ∷ kept
+abbrev pub begun_links : List LinkedEntries → List LinkedEntries
+begun_links [] = no_links ∷ []
+begun_links (links ∷ kept) = links ∷ kept
 
 -- the first have no entries, and something is kept at each place
 pub record AreRulesKept (links : Inside) : Type 0 where

@@ -1,11 +1,12 @@
--- Seats: at which entry of a rule the definition at a place may stand, by the lowest bits of that place.
-use Rattle.std.specs.Prelude.{◌≡◌, ◌<◌, ◌%◌, ℕ, nat_eq, nat_lt, ◌&&◌, Option, None, Some, List, length, take}
+-- Seats: which entry of a rule may name the AVPs of a code, by the code's lowest bits.
+use Rattle.std.specs.Prelude.{◌≡◌, ◌<◌, ◌%◌, ℕ, nat_eq, nat_lt, ◌&&◌, true, Option, None, Some, List, length, take}
 use Rattle.std.specs.Prelude.{slice_index, slice_index_or, if◌then◌else◌}
 use Rattle.std.specs.List.{position_from}
-use Rattle.std.specs.Option.{option_eq}
+use Rattle.dm_dict.specs.declared.rows.Row.{Row}
 use Rattle.dm_dict.specs.Limits.{seat_slots}
+use Rattle.dm_dict.specs.Rows.{is_row_of}
 
--- the seat of a slot whose bits no link has
+-- the seat of a slot whose bits no linked entry's code has
 abbrev pub empty_seat : ℕ
 empty_seat = 255
 
@@ -13,25 +14,26 @@ empty_seat = 255
 abbrev pub crowded : ℕ
 crowded = 254
 
--- the seat of a slot behind the entry at a place: the first link of a slot takes it, a second one crowds it
-abbrev pub seat_with : Option ℕ → ℕ → ℕ → ℕ → ℕ
-seat_with None place slot seat = seat
-seat_with (Some k) place slot seat =
-    if nat_eq (k % seat_slots) slot then (if nat_eq seat empty_seat && nat_lt place crowded then place else crowded)
-    else seat
+-- the seat of a slot behind the entry at a place: the first linked entry of a slot takes it, a second one crowds it
+abbrev pub seat_with : Row → ℕ → ℕ → ℕ → ℕ
+seat_with row place slot seat =
+    if row.linked && nat_eq (row.code % seat_slots) slot
+    then (if nat_eq seat empty_seat && nat_lt place crowded then place else crowded) else seat
 
--- where the definition at k stands among the first n links: nowhere, where its seat is empty; at the seat or nowhere,
--- where it isn't crowded
-pub record IsSeat (links : List (Option ℕ)) (n k seat : ℕ) : Type 0 where
-  pub none : seat ≡ empty_seat → position_from (option_eq nat_eq (Some k)) 0 (take n links) ≡ None
+-- which of the first n entries names the AVPs of a code and vendor: none, where its seat is empty; the one at the
+-- seat, which is linked, or none, where it isn't crowded
+pub record IsSeat (rows : List Row) (n code : ℕ) (vendor : Option ℕ) (seat : ℕ) : Type 0 where
+  pub none : crowded < seat → position_from (is_row_of code vendor) 0 (take n rows) ≡ None
   pub within : seat < crowded → seat < n
-  pub one : seat < crowded → position_from (option_eq nat_eq (Some k)) 0 (take n links)
-      ≡ (if option_eq nat_eq (Some k) (slice_index_or links seat None) then Some seat else None)
+  pub linked : seat < crowded → (row : Row) → row ≡ slice_index_or rows seat row → row.linked ≡ true
+  pub one : seat < crowded → (row : Row) → row ≡ slice_index_or rows seat row
+      → position_from (is_row_of code vendor) 0 (take n rows) ≡ (if is_row_of code vendor row then Some seat else None)
 
--- so it is for each definition, among the first n links
-abbrev pub IsSeatedTo : List (Option ℕ) → ℕ → List ℕ → Type 0
-IsSeatedTo links n seats = (k : ℕ) → IsSeat links n k (slice_index seats (k % seat_slots))
+-- so it is for each code and vendor, among the first n entries
+abbrev pub IsSeatedTo : List Row → ℕ → List ℕ → Type 0
+IsSeatedTo rows n seats =
+    (code : ℕ) (vendor : Option ℕ) → IsSeat rows n code vendor (slice_index seats (code % seat_slots))
 
 -- and among all
-abbrev pub IsSeated : List (Option ℕ) → List ℕ → Type 0
-IsSeated links seats = IsSeatedTo links (length links) seats
+abbrev pub IsSeated : List Row → List ℕ → Type 0
+IsSeated rows seats = IsSeatedTo rows (length rows) seats

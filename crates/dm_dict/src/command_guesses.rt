@@ -18,7 +18,7 @@ pub(crate) fn head_slot(code: u32, request: bool) -> usize
 
 /// Whether the command has the code with REQ and ERR.
 #[inline(always)]
-pub(crate) fn is_headed(command: &CommandDef, code: u32, request: bool, err: bool) -> bool
+pub(crate) fn has_head(command: &CommandDef, code: u32, request: bool, err: bool) -> bool
     ensures { result ≡ is_headed code request err command.now }
 {
     code == command.code && request == command.request && err == command.err

@@ -60,14 +60,16 @@ fn passes_text(octets: &[u8]) -> bool
     are_between(octets, 0, 0x7f) || value_fault(AvpType::UTF8String, octets).is_none()
 }
 
-/// Whether nothing is wrong with data of this definition that is no group's. Of the commonest types it is seen at once.
+/// Whether nothing is wrong with data of this definition, whose type this is, that is no group's. Of the commonest
+/// types it is seen at once.
 #[inline(always)]
-pub(crate) fn passes_data(def: &AvpDef, octets: &[u8]) -> bool
-    requires { def.now.kind ≢ Grouped }
+pub(crate) fn passes_data(kind: AvpType, def: &AvpDef, octets: &[u8]) -> bool
+    requires kind { kind ≡ def.now.kind }
+    requires other { kind ≢ Grouped }
     ensures { (a : Avp) (group : List AFault) → a.bytes ≡ octets.now → result ≡ true
         → data_faults def.now.kind def.now.values group a ≡ [] }
 {
-    match def.kind {
+    match kind {
         AvpType::OctetString => true,
         AvpType::Integer32 | AvpType::Unsigned32 | AvpType::Time => octets.len() == 4,
         AvpType::Integer64 | AvpType::Unsigned64 => octets.len() == 8,
@@ -75,6 +77,6 @@ pub(crate) fn passes_data(def: &AvpDef, octets: &[u8]) -> bool
         AvpType::UTF8String => passes_text(octets),
         AvpType::DiameterIdentity => passes_identity(octets),
         AvpType::Enumerated => data_fault(def, octets).is_none(),
-        _ => value_fault(def.kind, octets).is_none(),
+        _ => value_fault(kind, octets).is_none(),
     }
 }

@@ -31,6 +31,7 @@ mod path;
 mod places;
 mod printing;
 mod put;
+mod rows;
 mod rule_links;
 mod rules;
 mod seats;

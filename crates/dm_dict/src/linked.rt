@@ -12,7 +12,7 @@ ghost use Rattle.dm_dict.specs.Links.{rule_links};
 ghost use Rattle.dm_dict.specs.Marks.{AreMarked};
 ghost use Rattle.dm_dict.specs.Linked.{IsLinked, avp_links, command_links};
 
-use crate::command_guesses::{head_guesses, head_slot, is_headed};
+use crate::command_guesses::{has_head, head_guesses, head_slot};
 use crate::links::Links;
 use crate::marks::marks_of;
 use crate::rule_links::RuleLinks;
@@ -263,7 +263,7 @@ impl Linked {
         if place >= commands.len() {
             return false;
         }
-        is_headed(&commands[place], code, request, err)
+        has_head(&commands[place], code, request, err)
     }
 
     /// The place of the command of a code with REQ and ERR. Where it is the one that is guessed it's known at once.

@@ -1,14 +1,17 @@
 //! The links of a rule: which definition each of its entries names, and the entries' bounds (RFC 6733, 3.2).
-ghost use Rattle.std.specs.Prelude.{◌≡◌, ◌<◌, ℕ, Some, None, if◌then◌else◌, nat_eq, length, map, IfOk, OnOk};
+ghost use Rattle.std.specs.Prelude.{◌≡◌, ◌<◌, ℕ, true, Some, None, if◌then◌else◌, nat_eq, length, slice_get};
+ghost use Rattle.std.specs.Prelude.{IfOk, IfSome, OnOk};
 ghost use Rattle.std.specs.List.{position_from};
 ghost use Rattle.std.specs.Option.{option_eq, option_or};
 ghost use Rattle.indexmap.specs.IndexMap.{get_by};
 ghost use Rattle.dm_tables.specs.Guesses.{AreGuessed};
 ghost use Rattle.dm_tables.specs.Tables.{IsTables};
-ghost use Rattle.dm_dict.specs.Links.{entry_links, no_links, rule_links};
+ghost use Rattle.dm_dict.specs.Links.{no_links, rule_links};
 ghost use Rattle.dm_dict.specs.Limits.{short_rule};
+ghost use Rattle.dm_dict.specs.Rows.{has_link, is_row_of};
 
 use crate::bounds::Bounds;
+use crate::rows::{Row, rows_of};
 use crate::seats::{CROWDED, seats_of};
 use dm_tables::{NameGuesses, Rule, Tables};
 use dm_value::NoMemory;
@@ -17,19 +20,18 @@ use std::alloc::Global;
 use std::fmt::{self, Debug, Formatter, Write};
 use std::marker::Model;
 
-/// For each entry of a rule, in order, the place of the definition that has its name among the AVPs. The entry
-/// `AVP` has none. With them the bounds of the entries.
+/// The rows of the entries of a rule, in order, with their bounds.
 ///
-/// A contract sees it as the list of the links and the bounds.
+/// A contract sees it as the list of the rows and the bounds.
 #[derive(Drop)]
 pub(crate) struct Links {
-    items: Vec<Option<usize>>,
+    items: Vec<Row>,
     /// The place of the first entry without a link.
     any: Option<usize>,
     /// The places of the links of a long rule.
     places: IndexMap<usize, usize>,
-    /// At which entry a link may stand, by its lowest bits.
-    seats: [u8; 128],
+    /// Which entry may name the AVPs of a code, by the code's lowest bits.
+    seats: [u8; 256],
     bounds: Bounds,
 }
 
@@ -38,19 +40,50 @@ impl Model for Links {
 
     ghost Value = { LinkedEntries };
 
-    ghost view = { λ links. record { links = links.items.items; bounds = links.bounds } };
+    ghost view = { λ links. record { rows = links.items.items; bounds = links.bounds } };
 
     ghost invariant = { IsPlaced };
+}
+
+/// The links of rows, shown as a list.
+#[derive(Clone, Copy)]
+struct LinksShown<'a>(&'a [Row]);
+
+impl Debug for LinksShown<'_> {
+    fn fmt<W: Write>(&self, f: &mut Formatter<W>) -> fmt::Result {
+        let mut list = f.debug_list();
+        for row in self.0 {
+            let _ = list.entry(&row.link());
+        }
+        list.finish()
+    }
+}
+
+/// The entries that have a link, by its lowest bits, as they are shown: 255 where there is none, 254 where there are
+/// several.
+fn seats_shown(rows: &[Row]) -> [u8; 128] {
+    let mut seats = [255; 128];
+    for (at, row) in rows.iter().enumerate() {
+        if row.linked {
+            let slot = row.place % 128;
+            seats[slot] = if seats[slot] == 255 && at < 254 {
+                at as u8
+            } else {
+                254
+            };
+        }
+    }
+    seats
 }
 
 impl Debug for Links {
     /// The links and what finds them.
     fn fmt<W: Write>(&self, f: &mut Formatter<W>) -> fmt::Result {
         f.debug_struct("Links")
-            .field("items", &self.items)
+            .field("items", &LinksShown(self.items.as_slice()))
             .field("any", &self.any)
             .field("places", &self.places)
-            .field("seats", &self.seats)
+            .field("seats", &seats_shown(self.items.as_slice()))
             .finish()
     }
 }
@@ -61,77 +94,58 @@ const SHORT_RULE: usize = 16;
 /// The link has the place, unless it has one.
 fn note_place(
     places: &mut IndexMap<usize, usize>,
-    link: &Option<usize>,
+    link: Option<usize>,
     place: usize,
 ) -> Result<(), NoMemory>
     ensures { OnOk result ((k : ℕ) → get_by (nat_eq k) places.new
-        ≡ option_or (get_by (nat_eq k) places.old) (if option_eq nat_eq (Some k) link.now then Some place else None)) }
+        ≡ option_or (get_by (nat_eq k) places.old) (if option_eq nat_eq (Some k) link then Some place else None)) }
 {
     let Some(link) = link else {
         return Ok(());
     };
-    if let Some(_) = places.get(link) {
+    if let Some(_) = places.get(&link) {
         return Ok(());
     }
-    places.insert(*link, place)?;
+    places.insert(link, place)?;
     Ok(())
 }
 
-/// The places of the links: of each the first.
-fn places(alloc: Global, links: &[Option<usize>]) -> Result<IndexMap<usize, usize>, NoMemory>
+/// The places of the links of the rows: of each the first.
+fn places(alloc: Global, rows: &[Row]) -> Result<IndexMap<usize, usize>, NoMemory>
     ensures { IfOk result (λ places. (k : ℕ)
-        → get_by (nat_eq k) places ≡ position_from (option_eq nat_eq (Some k)) 0 links.now) }
+        → get_by (nat_eq k) places ≡ position_from (has_link (Some k)) 0 rows.now) }
 {
     let mut places = IndexMap::new(alloc);
-    places.reserve(links.len())?;
-    for (place, link) in links.iter().enumerate() {
-        note_place(&mut places, link, place)?;
+    places.reserve(rows.len())?;
+    for (place, row) in rows.iter().enumerate() {
+        note_place(&mut places, row.link(), place)?;
     }
     Ok(places)
 }
 
 /// The places of the links of a long rule. Those of a short one aren't wanted.
-fn index(alloc: Global, links: &[Option<usize>]) -> Result<IndexMap<usize, usize>, NoMemory>
-    ensures { IfOk result (λ places. short_rule < length links.now → (k : ℕ)
-        → get_by (nat_eq k) places ≡ position_from (option_eq nat_eq (Some k)) 0 links.now) }
+fn index(alloc: Global, rows: &[Row]) -> Result<IndexMap<usize, usize>, NoMemory>
+    ensures { IfOk result (λ places. short_rule < length rows.now → (k : ℕ)
+        → get_by (nat_eq k) places ≡ position_from (has_link (Some k)) 0 rows.now) }
 {
-    if links.len() <= SHORT_RULE {
+    if rows.len() <= SHORT_RULE {
         Ok(IndexMap::new(alloc))
     } else {
-        places(alloc, links)
+        places(alloc, rows)
     }
 }
 
-/// The place of the first of the links that is this one, one after the other.
+/// The place of the first of the rows that has this link, one after the other.
 #[inline(always)]
-fn place_among(links: &[Option<usize>], link: Option<usize>) -> Option<usize>
-    ensures { result ≡ position_from (option_eq nat_eq link) 0 links.now }
+fn place_among(rows: &[Row], link: Option<usize>) -> Option<usize>
+    ensures { result ≡ position_from (has_link link) 0 rows.now }
 {
-    for (place, other) in links.iter().enumerate() {
-        if link == *other {
+    for (place, row) in rows.iter().enumerate() {
+        if link == row.link() {
             return Some(place);
         }
     }
     None
-}
-
-/// The links of the entries of a rule, in order.
-fn links_to(
-    alloc: Global,
-    tables: &Tables,
-    guesses: &NameGuesses,
-    rule: &Rule,
-) -> Result<Vec<Option<usize>>, NoMemory>
-    requires tables { IsTables tables.now }
-    requires guesses { AreGuessed tables.now.avps.items guesses.now.places.items }
-    ensures { IfOk result (λ links. links.items ≡ entry_links tables.now.avps.items rule.now) }
-{
-    let entries = rule.as_slice();
-    let mut links = Vec::with_capacity(alloc, entries.len())?;
-    for entry in entries {
-        links.push(tables.place_by_guess(guesses, entry.name.as_slice()))?;
-    }
-    Ok(links)
 }
 
 impl Links {
@@ -148,9 +162,9 @@ impl Links {
         }
     }
 
-    /// The links of the `Vec`, which is moved and not copied, with these bounds.
-    fn new(alloc: Global, items: Vec<Option<usize>>, bounds: Bounds) -> Result<Links, NoMemory>
-        ensures { IfOk result (λ linked. linked ≡ record { links = items.items; bounds = bounds }) }
+    /// The links of the rows of the `Vec`, which is moved and not copied, with these bounds.
+    fn new(alloc: Global, items: Vec<Row>, bounds: Bounds) -> Result<Links, NoMemory>
+        ensures { IfOk result (λ linked. linked ≡ record { rows = items.items; bounds = bounds }) }
     {
         let places = index(alloc, items.as_slice())?;
         let any = place_among(items.as_slice(), None);
@@ -175,7 +189,7 @@ impl Links {
         requires guesses { AreGuessed tables.now.avps.items guesses.now.places.items }
         ensures { IfOk result (λ links. links ≡ rule_links tables.now.avps.items rule.now) }
     {
-        let items = links_to(alloc, tables, guesses, rule)?;
+        let items = rows_of(alloc, tables, guesses, rule)?;
         let bounds = Bounds::of_rule(alloc, rule)?;
         Links::new(alloc, items, bounds)
     }
@@ -190,7 +204,7 @@ impl Links {
 
     /// The place of the first entry that has the link.
     fn place_of(&self, definition: usize) -> Option<usize>
-        ensures { result ≡ position_from (option_eq nat_eq (Some definition)) 0 self.now.links }
+        ensures { result ≡ position_from (has_link (Some definition)) 0 self.now.rows }
     {
         if self.items.len() <= SHORT_RULE {
             place_among(self.items.as_slice(), Some(definition))
@@ -202,28 +216,54 @@ impl Links {
     /// The same as `place`, without a seat.
     #[inline(never)]
     fn searched(&self, definition: usize) -> Option<usize>
-        ensures { result ≡ option_or (position_from (option_eq nat_eq (Some definition)) 0 self.now.links)
-            (position_from (option_eq nat_eq None) 0 self.now.links) }
+        ensures { result ≡ option_or (position_from (has_link (Some definition)) 0 self.now.rows)
+            (position_from (has_link None) 0 self.now.rows) }
     {
         self.place_of(definition).or(self.any)
     }
 
-    /// The place of the first entry that has the link, else of the first that has none.
+    /// The entry at the code's seat and its row, if it names the AVPs of this code and vendor.
     #[inline(always)]
-    pub(crate) fn place(&self, link: Option<usize>) -> Option<usize>
-        ensures { result ≡ option_or (position_from (option_eq nat_eq link) 0 self.now.links)
-            (position_from (option_eq nat_eq None) 0 self.now.links) }
+    pub(crate) fn row(&self, code: u32, vendor: Option<u32>) -> Option<(usize, Row)>
+        ensures place { IfSome result (λ found. Some found.0 ≡ position_from (is_row_of code vendor) 0 self.now.rows) }
+        ensures row { IfSome result (λ found. Some found.1 ≡ slice_get self.now.rows found.0) }
+        ensures own { IfSome result (λ found. is_row_of code vendor found.1 ≡ true) }
+    {
+        let seat = self.seats[(code % 256) as usize];
+        if seat >= CROWDED {
+            return None;
+        }
+        let row = self.items[usize::from(seat)];
+        if code == row.code && vendor == row.vendor {
+            Some((usize::from(seat), row))
+        } else {
+            None
+        }
+    }
+
+    /// The place of the first entry that has the link, to the definition of this code and vendor, else of the first
+    /// that has none.
+    #[inline(always)]
+    pub(crate) fn place(&self, code: u32, vendor: Option<u32>, link: Option<usize>) -> Option<usize>
+        ensures { ((k : ℕ) → link ≡ Some k
+            → position_from (is_row_of code vendor) 0 self.now.rows ≡ position_from (has_link (Some k)) 0 self.now.rows)
+            → result ≡ option_or (position_from (has_link link) 0 self.now.rows)
+            (position_from (has_link None) 0 self.now.rows) }
     {
         let Some(definition) = link else {
             return self.any;
         };
-        let seat = self.seats[definition % 128];
-        if seat < CROWDED && self.items[usize::from(seat)] == Some(definition) {
-            return Some(usize::from(seat));
+        let seat = self.seats[(code % 256) as usize];
+        if seat > CROWDED {
+            return self.any;
         }
         if seat == CROWDED {
             return self.searched(definition);
         }
-        self.any
+        if self.items[usize::from(seat)].is_for(code, vendor) {
+            Some(usize::from(seat))
+        } else {
+            self.any
+        }
     }
 }

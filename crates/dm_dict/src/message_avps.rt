@@ -12,13 +12,12 @@ ghost use Rattle.dm_dict.specs.Limits.{group_limit};
 ghost use Rattle.dm_dict.specs.Passed.{IsGoodBut};
 
 use crate::avps::judge_counted;
-use crate::counts::{FEW_ENTRIES, count_one, counts_for, few_counts, many_counts};
+use crate::counts::{FEW_ENTRIES, counts_for, few_counts, many_counts};
 use crate::entries::keep_bounds;
 use crate::judge::GROUPS;
 use crate::judged::Judged;
 use crate::linked::{Linked, LinkedRule};
-use crate::passing::passes_avp;
-use crate::rules::look_up_marked;
+use crate::passing::pass_next;
 use dm_wire::AvpsRef;
 use std::alloc::Global;
 
@@ -39,11 +38,9 @@ fn pass_front<'a>(
 {
     let mut left = list;
     while let Some((avp, rest)) = left.split_first() {
-        let (place, at) = look_up_marked(dictionary, rule, avp);
-        if !passes_avp(dictionary, rule.entries, place, at, avp, GROUPS) {
+        if !pass_next(dictionary, rule, avp, GROUPS, counts) {
             return left;
         }
-        count_one(counts, 0, at);
         left = rest;
     }
     left

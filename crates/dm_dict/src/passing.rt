@@ -1,6 +1,7 @@
 //! Whether nothing is wrong with an AVP, groups and all, by one pass that keeps no fault (RFC 6733, 4.1, 4.4 and
 //! 7.1.5).
-ghost use Rattle.std.specs.Prelude.{◌≡◌, ◌<◌, ℕ, true, None, List, length, IfSome, slice_get, slice_index, flat_map};
+ghost use Rattle.std.specs.Prelude.{◌≡◌, ◌<◌, ◌∷◌, ℕ, true, false, None, Some, List, length, flat_map};
+ghost use Rattle.std.specs.Prelude.{IfSome, slice_get, slice_index};
 ghost use Rattle.std.specs.Option.{option_and_then};
 ghost use Rattle.dm_wire.specs.declared.avp.Avp.{Avp};
 ghost use Rattle.dm_wire.specs.Borrowed.{avp_of};
@@ -9,14 +10,19 @@ ghost use Rattle.dm_dict.specs.Apart.{IsFit};
 ghost use Rattle.dm_dict.specs.Counters.{IsCounted};
 ghost use Rattle.dm_dict.specs.Faults.{avp_faults, entry_faults, group_faults, list_faults, first};
 ghost use Rattle.dm_dict.specs.Linked.{IsLinked, IsRule};
+ghost use Rattle.dm_dict.specs.Passed.{IsGoodBut};
+ghost use Rattle.dm_dict.specs.Rows.{StandsAt};
 ghost use Rattle.dm_dict.specs.Rules.{definition, allows};
+ghost use Rattle.dm_tables.specs.declared.def.AvpDef.{AvpDef};
+ghost use Rattle.dm_tables.specs.declared.rule.Entry.{Entry};
 
 use crate::avps::is_failed_avp;
 use crate::counts::{FEW_ENTRIES, MANY_ENTRIES, count_one, few_counts, many_counts};
 use crate::data::passes_data;
 use crate::entries::keep_bounds;
 use crate::linked::{Linked, LinkedRule};
-use crate::rules::{allows_at, look_up_marked};
+use crate::rows::Row;
+use crate::rules::{allows_at, look_up_marked, row_for};
 use dm_tables::Rule;
 use dm_value::AvpType;
 use dm_wire::laws::spelled_are_members;
@@ -26,7 +32,7 @@ use dm_wire::{AvpRef, first_avp};
 /// which so many groups may stand. Where it isn't seen the answer is no.
 #[cycle(passing)]
 #[inline(always)]
-pub(crate) fn passes_avp(
+fn passes_avp(
     dictionary: &Linked,
     rule: &Rule,
     place: Option<usize>,
@@ -53,8 +59,32 @@ pub(crate) fn passes_avp(
     if !allows_at(rule, at) {
         return false;
     }
+    let kind = dictionary.def_at(place).kind;
+    passes_defined(dictionary, kind, place, avp, depth)
+}
+
+/// Whether nothing is wrong with an AVP that may stand where it stands, whose definition is of this type and has this
+/// place.
+#[cycle(passing)]
+#[inline(always)]
+fn passes_defined(
+    dictionary: &Linked,
+    kind: AvpType,
+    place: usize,
+    avp: AvpRef<'_>,
+    depth: u32,
+) -> bool
+    requires linked { IsLinked dictionary.now }
+    requires fit { IsFit dictionary.now.tables.avps.items }
+    requires def { slice_get dictionary.now.tables.avps.items place
+        ≡ definition dictionary.now.tables.avps.items (avp_of avp) }
+    requires within { place < length dictionary.now.tables.avps.items }
+    requires kind { (d : AvpDef) → slice_get dictionary.now.tables.avps.items place ≡ Some d → kind ≡ d.kind }
+    ensures { result ≡ true → None ≡ first (avp_faults (group_faults depth dictionary.now.tables.avps.items) true
+        (avp_of avp.entry) (definition dictionary.now.tables.avps.items (avp_of avp.entry))) }
+{
     let def = dictionary.def_at(place);
-    if let AvpType::Grouped = def.kind {
+    if let AvpType::Grouped = kind {
         let links = dictionary.links_at(place);
         let rule = LinkedRule {
             entries: &def.rule,
@@ -62,7 +92,93 @@ pub(crate) fn passes_avp(
         };
         return is_failed_avp(avp) || passes_group(dictionary, rule, avp.bytes, depth);
     }
-    passes_data(def, avp.bytes) || is_failed_avp(avp)
+    passes_data(kind, def, avp.bytes) || is_failed_avp(avp)
+}
+
+/// Whether nothing is wrong with an AVP that stands under the rule at this entry, which has this row. If so it is
+/// counted.
+#[cycle(passing)]
+#[inline(always)]
+fn pass_row(
+    dictionary: &Linked,
+    at: usize,
+    row: Row,
+    avp: AvpRef<'_>,
+    depth: u32,
+    counts: &mut [u16],
+) -> bool
+    requires linked { IsLinked dictionary.now }
+    requires fit { IsFit dictionary.now.tables.avps.items }
+    requires def { slice_get dictionary.now.tables.avps.items row.place
+        ≡ definition dictionary.now.tables.avps.items (avp_of avp) }
+    requires within { row.place < length dictionary.now.tables.avps.items }
+    requires kind { (d : AvpDef) → slice_get dictionary.now.tables.avps.items row.place ≡ Some d → row.kind ≡ d.kind }
+    ensures passed { (rule : List Entry) (l m k : List Avp)
+        → StandsAt dictionary.now.tables.avps.items rule (avp_of avp.entry) at row
+        → IsGoodBut depth dictionary.now.tables.avps.items rule l m counts.old → m ≡ avp_of avp.entry ∷ k
+        → result ≡ true → IsGoodBut depth dictionary.now.tables.avps.items rule l k counts.new }
+    ensures same { result ≡ false → counts.new ≡ counts.old }
+{
+    if !row.allowed {
+        return false;
+    }
+    if !passes_defined(dictionary, row.kind, row.place, avp, depth) {
+        return false;
+    }
+    count_one(counts, 0, Some(at));
+    true
+}
+
+/// The same of an AVP that stands under the rule where it is looked up.
+#[cycle(passing)]
+#[inline(always)]
+fn pass_found(
+    dictionary: &Linked,
+    rule: LinkedRule<'_>,
+    avp: AvpRef<'_>,
+    depth: u32,
+    counts: &mut [u16],
+) -> bool
+    requires linked { IsLinked dictionary.now }
+    requires fit { IsFit dictionary.now.tables.avps.items }
+    requires rule { IsRule dictionary.now.tables.avps.items rule }
+    ensures passed { (l m k : List Avp)
+        → IsGoodBut depth dictionary.now.tables.avps.items rule.entry.entries.now l m counts.old
+        → m ≡ avp_of avp.entry ∷ k → result ≡ true
+        → IsGoodBut depth dictionary.now.tables.avps.items rule.entry.entries.now l k counts.new }
+    ensures same { result ≡ false → counts.new ≡ counts.old }
+{
+    let (place, at) = look_up_marked(dictionary, rule, avp);
+    if !passes_avp(dictionary, rule.entries, place, at, avp, depth) {
+        return false;
+    }
+    count_one(counts, 0, at);
+    true
+}
+
+/// The same, by its row first.
+#[cycle(passing)]
+#[inline(always)]
+pub(crate) fn pass_next(
+    dictionary: &Linked,
+    rule: LinkedRule<'_>,
+    avp: AvpRef<'_>,
+    depth: u32,
+    counts: &mut [u16],
+) -> bool
+    requires linked { IsLinked dictionary.now }
+    requires fit { IsFit dictionary.now.tables.avps.items }
+    requires rule { IsRule dictionary.now.tables.avps.items rule }
+    ensures passed { (l m k : List Avp)
+        → IsGoodBut depth dictionary.now.tables.avps.items rule.entry.entries.now l m counts.old
+        → m ≡ avp_of avp.entry ∷ k → result ≡ true
+        → IsGoodBut depth dictionary.now.tables.avps.items rule.entry.entries.now l k counts.new }
+    ensures same { result ≡ false → counts.new ≡ counts.old }
+{
+    match row_for(dictionary, rule, avp) {
+        Some((at, row)) => pass_row(dictionary, at, row, avp, depth, counts),
+        None => pass_found(dictionary, rule, avp, depth, counts),
+    }
 }
 
 /// Whether nothing is wrong with a Grouped AVP of this rule and these octets, where so many groups may stand inside
@@ -102,11 +218,9 @@ fn pass_each(
 {
     let mut left = octets;
     while let Some((avp, size)) = first_avp(left) {
-        let (place, at) = look_up_marked(dictionary, rule, avp);
-        if !passes_avp(dictionary, rule.entries, place, at, avp, depth) {
+        if !pass_next(dictionary, rule, avp, depth, counts) {
             return false;
         }
-        count_one(counts, 0, at);
         left = &left[size..];
     }
     left.is_empty()

@@ -3,7 +3,7 @@ ghost use Rattle.std.specs.Prelude.{◌≡◌, ◌<◌, ◌≤◌, ◌++◌, [],
 ghost use Rattle.dm_tables.specs.Guesses.{AreGuessed};
 ghost use Rattle.dm_tables.specs.Tables.{IsTables};
 ghost use Rattle.dm_dict.specs.Links.{no_links, rule_links};
-ghost use Rattle.dm_dict.specs.RuleLinks.{begun};
+ghost use Rattle.dm_dict.specs.RuleLinks.{begun_links};
 
 use crate::links::Links;
 use dm_tables::{AvpDef, NameGuesses, Rule, Tables};
@@ -62,7 +62,7 @@ fn count_groups(avps: &[AvpDef]) -> usize
 
 /// The links of a rule without entries, where nothing is kept.
 fn begin(alloc: Global, kept: &mut Vec<Links>) -> Result<(), NoMemory>
-    ensures begun { OnOk result (kept.new.items ≡ begun kept.old.items) }
+    ensures begun { OnOk result (kept.new.items ≡ begun_links kept.old.items) }
     ensures same { OnErr result (kept.new.items ≡ kept.old.items) }
 {
     if kept.is_empty() {

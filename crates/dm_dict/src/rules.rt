@@ -8,9 +8,11 @@ ghost use Rattle.dm_tables.specs.Tables.{IsTables};
 ghost use Rattle.dm_dict.specs.Rules.{definition, is_at, counts, entry_for, allows};
 ghost use Rattle.dm_dict.specs.Apart.{IsFit};
 ghost use Rattle.dm_dict.specs.Linked.{IsLinked, IsRule};
+ghost use Rattle.dm_dict.specs.Rows.{StandsAt};
 ghost use Rattle.dm_wire.specs.Borrowed.{avp_of};
 
 use crate::linked::{Linked, LinkedRule};
+use crate::rows::Row;
 use dm_tables::{Rule, Tables};
 use dm_wire::AvpRef;
 
@@ -56,7 +58,7 @@ fn stand(
     ensures within { IfSome result.0 (λ i. i < length tables.now.avps.items) }
     ensures inside { IfSome result.1 (λ i. i < length rule.entry.entries.now) }
 {
-    let entry = rule.links.place(place);
+    let entry = rule.links.place(avp.code, avp.vendor, place);
     (place, entry)
 }
 
@@ -105,6 +107,25 @@ pub(crate) fn look_up_marked(
 {
     let place = dictionary.place_by_code(avp.code, avp.vendor);
     stand(&dictionary.tables, rule, place, avp)
+}
+
+/// The entry under which the AVP stands, with its row, where it is the one at the seat of its code.
+#[inline(always)]
+pub(crate) fn row_for(
+    dictionary: &Linked,
+    rule: LinkedRule<'_>,
+    avp: AvpRef<'_>,
+) -> Option<(usize, Row)>
+    requires linked { IsLinked dictionary.now }
+    requires fit { IsFit dictionary.now.tables.avps.items }
+    requires rule { IsRule dictionary.now.tables.avps.items rule }
+    ensures { IfSome result (λ found. StandsAt dictionary.now.tables.avps.items rule.entry.entries.now
+        (avp_of avp.entry) found.0 found.1) }
+{
+    match rule.links.row(avp.code, avp.vendor) {
+        Some((at, row)) => Some((at, row)),
+        None => None,
+    }
 }
 
 /// Whether the entry at the place counts the AVP.

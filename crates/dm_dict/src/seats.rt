@@ -1,27 +1,29 @@
-//! At which entry of a rule a definition stands, by the lowest bits of its place among the AVPs (RFC 6733, 3.2).
+//! Which entry of a rule names the AVPs of a code, by the code's lowest bits (RFC 6733, 3.2).
 ghost use Rattle.std.specs.Prelude.{◌≡◌, ◌<◌, ℕ, slice_index};
 ghost use Rattle.dm_dict.specs.Limits.{seat_slots};
 ghost use Rattle.dm_dict.specs.Seats.{empty_seat, seat_with, IsSeated};
 
-/// The seat of a slot whose bits no link has.
+use crate::rows::Row;
+
+/// The seat of a slot whose bits no linked entry's code has.
 const EMPTY: u8 = 255;
 
-/// The seat of a slot whose bits several links may have.
+/// The seat of a slot whose bits several may have.
 pub(crate) const CROWDED: u8 = 254;
 
-fn no_seats() -> [u8; 128]
+fn no_seats() -> [u8; 256]
     ensures { (i : ℕ) → i < seat_slots → slice_index result i ≡ empty_seat }
 {
-    [EMPTY; 128]
+    [EMPTY; 256]
 }
 
-/// The link of the entry at the place takes its slot, which is crowded where there is another.
-fn note_seat(seats: &mut [u8; 128], link: &Option<usize>, place: usize)
+/// The entry at the place takes the slot of its code, if it is linked; the slot is crowded where there is another.
+fn note_seat(seats: &mut [u8; 256], row: &Row, place: usize)
     ensures { (i : ℕ) → i < seat_slots
-        → slice_index seats.new i ≡ seat_with link.now place i (slice_index seats.old i) }
+        → slice_index seats.new i ≡ seat_with row.now place i (slice_index seats.old i) }
 {
-    if let Some(definition) = link {
-        let slot = *definition % 128;
+    if row.linked {
+        let slot = (row.code % 256) as usize;
         seats[slot] = if seats[slot] == EMPTY && place < 254 {
             place as u8
         } else {
@@ -30,13 +32,13 @@ fn note_seat(seats: &mut [u8; 128], link: &Option<usize>, place: usize)
     }
 }
 
-/// The seats of the links of a rule.
-pub(crate) fn seats_of(links: &[Option<usize>]) -> [u8; 128]
-    ensures { IsSeated links.now result }
+/// The seats of the entries of a rule that have these rows.
+pub(crate) fn seats_of(rows: &[Row]) -> [u8; 256]
+    ensures { IsSeated rows.now result }
 {
     let mut seats = no_seats();
-    for (place, link) in links.iter().enumerate() {
-        note_seat(&mut seats, link, place);
+    for (place, row) in rows.iter().enumerate() {
+        note_seat(&mut seats, row, place);
     }
     seats
 }

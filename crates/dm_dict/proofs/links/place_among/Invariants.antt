@@ -1,9 +1,8 @@
-use Rattle.std.proofs.Common.{◌≡◌, nat_eq, drop}
+use Rattle.std.proofs.Common.{◌≡◌, drop}
 use Rattle.std.specs.List.{position_from}
-use Rattle.std.specs.Option.{option_eq}
+use Rattle.dm_dict.specs.Rows.{has_link}
 use Rattle.dm_dict.proofs.links.place_among.Given as goal
 
 abbrev pub invariant-loop-place : goal.invariant-loop-place
 invariant-loop-place l =
-    position_from (option_eq nat_eq l.link) 0 l.links ≡
-    position_from (option_eq nat_eq l.link) l.place (drop l.place l.links)
+    position_from (has_link l.link) 0 l.rows ≡ position_from (has_link l.link) l.place (drop l.place l.rows)

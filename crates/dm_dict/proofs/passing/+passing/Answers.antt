@@ -1,5 +1,5 @@
 -- A group has the rule of its definition, and its octets are passed one AVP after the other.
-use Rattle.std.proofs.Common.{◌≡◌, Some, [], ◌∷◌, find, take, refl, sym, ◌∙◌, ap, arith, eqb-true}
+use Rattle.std.proofs.Common.{◌≡◌, Bool, true, false, not, Some, [], ◌∷◌, find, take, refl, sym, ◌∙◌, ap, arith, eqb-true}
 use Rattle.std.proofs.lemmas.List.{take-append-drop, take_rest, nil_from_length}
 use Rattle.dm_wire.specs.Borrowed.{avp_of}
 use Rattle.dm_tables.specs.Definitions.{is_coded}
@@ -9,14 +9,14 @@ use Rattle.dm_dict.proofs.Chains.{looked_up}
 use Rattle.dm_dict.proofs.GoodBut.{none_passed, one_passed, all_passed}
 use Rattle.dm_dict.proofs.passing.+passing.Goals as goal
 
-pub passes_avp-passes_group-requires : goal.passes_avp-passes_group-requires
-passes_avp-passes_group-requires t c =
+pub passes_defined-passes_group-requires : goal.passes_defined-passes_group-requires
+passes_defined-passes_group-requires t c =
     let fit = c.requires.fit in
     let def = c.def_at-def.result.now in
     let code = c.args.avp.code in
     let vendor = c.args.avp.vendor in
     let found : find (is_coded code vendor) c.args.dictionary.now.tables.avps.items ≡ Some
-    def = sym (c.def_at-def.ensures ∙ (rw c.in-Some.is at c.requires.def)) in (
+    def = sym (c.def_at-def.ensures ∙ c.requires.def) in (
       omega arith,
       (
         c.requires.linked,
@@ -38,22 +38,40 @@ pass_each-loop-avp-init t c = (
   λ m. none_passed c.args.depth c.args.dictionary.now.tables.avps.items c.args.rule.entries.now m _ c.requires.zero,
 )
 
-pub pass_each-loop-avp-preserved : goal.pass_each-loop-avp-preserved
-pass_each-loop-avp-preserved t c =
+is_open : (b : Bool) → not b ≡ false → true ≡ b
+is_open true e = refl
+is_open false e = absurd (cc)
+
+pub pass_row-returns-clause-passed : goal.pass_row-returns-clause-passed
+pass_row-returns-clause-passed t c = λ rule l m k stands before is yes.
+    let avps = c.args.dictionary.now.tables.avps.items in
+    let a = avp_of c.args.avp in
+    let good = looked_up (group_faults c.args.depth avps) _ _ a _ _ (is_open c.args.row.allowed c.if-not-row.false ∙ stands.allowed)
+    (c.passes_defined.ensures c.if-not-passes_defined.false) in
+    one_passed c.args.depth avps rule l m k a _ _ (Some c.args.at) before is good c.count_one.ensures.size
+    c.count_one.ensures.counted stands.counts
+
+pub pass_found-returns-clause-passed : goal.pass_found-returns-clause-passed
+pass_found-returns-clause-passed t c = λ l m k before is yes.
     let avps = c.args.dictionary.now.tables.avps.items in
     let rule = c.args.rule.entries.now in
-    let s = c.loop-avp.left.now in
-    let n = c.in-Some.size in
-    let a = avp_of c.in-Some.avp in
+    let a = avp_of c.args.avp in
     let allowed = ap allows c.look_up_marked-place.ensures.entry in
     let good = looked_up (group_faults c.args.depth avps) _ _ a _ _ allowed
     (c.passes_avp.ensures c.if-not-passes_avp.false) in
+    one_passed c.args.depth avps rule l m k a _ _ _ before is good c.count_one.ensures.size c.count_one.ensures.counted
+    c.look_up_marked-place.ensures.counts
+
+pub pass_each-loop-avp-preserved : goal.pass_each-loop-avp-preserved
+pass_each-loop-avp-preserved t c =
+    let s = c.loop-avp.left.now in
+    let n = c.in-Some.size in
+    let a = avp_of c.in-Some.avp in
     let (all, spelled, before) = c.loop-avp.invariant in (
       λ m. all (a ∷ m),
       λ m h. spelled (a ∷ m)
           (take n s, _, rw (take_rest s n) (sym (take-append-drop n s)), c.in-Some.ensures.found, h),
-      λ m. one_passed c.args.depth avps rule (all (a ∷ m)) (a ∷ m) m a _ _ _ (before (a ∷ m)) refl good
-          c.count_one.ensures.size c.count_one.ensures.counted c.look_up_marked-place.ensures.counts,
+      λ m. c.pass_next.ensures.passed (all (a ∷ m)) (a ∷ m) m (before (a ∷ m)) refl c.if-not-pass_next.false,
     )
 
 pub pass_each-returns : goal.pass_each-returns

@@ -1,14 +1,14 @@
 -- The links that are kept last are shown last.
 use Rattle.std.proofs.Common.{◌≡◌, ◌-◌, ◌∙◌, ◌++◌, ◌∷◌, [], ap, arith, get_or, length, length-append, rules}
 use Rattle.dm_dict.specs.Links.{no_links}
-use Rattle.dm_dict.specs.RuleLinks.{begun}
+use Rattle.dm_dict.specs.RuleLinks.{begun_links}
 use Rattle.dm_dict.proofs.KeptLinks.{shown_begun, shown_more, shown_push, last_kept, within_begun}
 use Rattle.dm_dict.proofs.rule_links.RuleLinks.keep.Goals as goal
 
 pub returns : goal.returns
 returns c =
     let kept = c.self.inside.kept.items in
-    let all = begun kept in
+    let all = begun_links kept in
     let places = c.self.inside.places.items in
     let links = c.args.links in
     let place = c.len.result - 1 in

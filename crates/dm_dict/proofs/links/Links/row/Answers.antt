@@ -1,0 +1,41 @@
+-- The entry at the seat.
+use Rattle.std.proofs.Common.{rules, ◌≡◌, true, nat_eq, refl, sym, length, arith}
+use Rattle.std.proofs.lemmas.Option.{slice_get_read}
+use Rattle.dm_dict.proofs.Seated.{seated_at, seat_within}
+use Rattle.dm_dict.specs.Rows.{is_row_of}
+use Rattle.dm_dict.proofs.links.Links.row.Goals as goal
+
+pub index-requires : goal.index-requires
+index-requires c =
+    let below =
+    seat_within c.self.inside.items.items c.self.inside.seats c.args.code c.args.vendor c.from.result
+    c.self.invariant.seats c.from.ensures (omega (arith, c.from.ensures, c.if-seat-ge-CROWDED.false)) in
+    search rules
+
+named : (c : goal.After-from-then-eq) → is_row_of c.args.code c.args.vendor c.index.result.now ≡ true
+named c =
+    let (linked, at) = seated_at c.self.inside.items.items c.self.inside.seats c.args.code c.args.vendor c.from.result
+    c.index.result.now c.self.invariant.seats c.from.ensures
+    (omega (arith, c.from.ensures, c.if-seat-ge-CROWDED.false)) c.index.ensures in
+    let code : nat_eq c.args.code c.index.result.now.code ≡ true = grind (arith, c.if-code-row.true) in
+    let vendor = c.if-eq.ensures in
+    rw (linked, code, ← vendor) refl
+
+pub returns-then-eq-clause-place : goal.returns-then-eq-clause-place
+returns-then-eq-clause-place c =
+    let (linked, at) = seated_at c.self.inside.items.items c.self.inside.seats c.args.code c.args.vendor
+    c.from-then-eq.result c.index.result.now c.self.invariant.seats c.from-then-eq.ensures
+    (omega (arith, c.from-then-eq.ensures, c.if-seat-ge-CROWDED.false))
+    (rw (c.from-then-eq.ensures, ← c.from.ensures) c.index.ensures) in
+    rw (← c.self.view_is) (sym (rw (named c) at at))
+
+pub returns-then-eq-clause-row : goal.returns-then-eq-clause-row
+returns-then-eq-clause-row c =
+    let rows = c.self.inside.items.items in
+    rw (← c.self.view_is) (sym (slice_get_read rows (length rows) c.from-then-eq.result c.index.result.now refl
+    (seat_within rows c.self.inside.seats c.args.code c.args.vendor c.from-then-eq.result c.self.invariant.seats
+    c.from-then-eq.ensures (omega (arith, c.from-then-eq.ensures, c.if-seat-ge-CROWDED.false)))
+    (rw (c.from-then-eq.ensures, ← c.from.ensures) c.index.ensures)))
+
+pub returns-then-eq-clause-own : goal.returns-then-eq-clause-own
+returns-then-eq-clause-own c = named c
