@@ -13,7 +13,7 @@ use Rattle.dm_tables.specs.SoundParts.{avp_sound_parts}
 use Rattle.dm_dict.specs.declared.rows.Row.{Row}
 use Rattle.dm_dict.specs.Apart.{IsApart, IsFit}
 use Rattle.dm_dict.specs.Links.{entry_link, entry_row, rule_rows}
-use Rattle.dm_dict.specs.Rows.{StandsAt, has_link, is_row_of, placed_row, row_link}
+use Rattle.dm_dict.specs.Rows.{StandsAt, has_link, names_avps, placed_row, row_link}
 use Rattle.dm_dict.specs.Rules.{allows, definition, entry_for, names, stands_for_any}
 use Rattle.dm_dict.proofs.Firsts.{first_place}
 use Rattle.dm_dict.proofs.Linking.{entry_links, name_place, own_names, passes_at, position_map, position_same}
@@ -100,7 +100,7 @@ links_to (Some k) link = option_eq nat_eq (Some k) link
 
 -- the entry that names the AVPs of a code and vendor has the link to their definition
 coded_link : (d : Definitions) (code : ℕ) (vendor : Option ℕ) → is_sound d ≡ true → (e : Entry)
-    → is_row_of code vendor (entry_row d.avps e) ≡
+    → names_avps code vendor (entry_row d.avps e) ≡
     links_to (position_from (is_coded code vendor) 0 d.avps) (entry_link d.avps e)
 coded_link d code vendor sound e = by (entry_link d.avps e) refl where
   place : Option ℕ
@@ -128,7 +128,7 @@ coded_link d code vendor sound e = by (entry_link d.avps e) refl where
       rw (coded_at d code vendor j f sound at is, own) refl
   coded j f at false is = other j f at is place refl
 
-  by : (o : Option ℕ) → entry_link d.avps e ≡ o → is_row_of code vendor (entry_row d.avps e) ≡ links_to place o
+  by : (o : Option ℕ) → entry_link d.avps e ≡ o → names_avps code vendor (entry_row d.avps e) ≡ links_to place o
   by None link = rw link (unlinked place)
   by (Some j) link =
       let (f, at, is) = linked_to d.avps e j link in
@@ -137,11 +137,11 @@ coded_link d code vendor sound e = by (entry_link d.avps e) refl where
 -- so it stands where the link stands
 pub coded_row : (d : Definitions) (rule : List Entry) (code : ℕ) (vendor : Option ℕ) (k : ℕ) → is_sound d ≡ true
     → Some k ≡ position_from (is_coded code vendor) 0 d.avps
-    → position_from (is_row_of code vendor) 0 (rule_rows d.avps rule) ≡
+    → position_from (names_avps code vendor) 0 (rule_rows d.avps rule) ≡
     position_from (has_link (Some k)) 0 (rule_rows d.avps rule)
 coded_row d rule code vendor k sound place =
-    position_map (is_row_of code vendor) (entry_row d.avps) 0 rule ∙
-    position_same (λ e. true) (λ e. is_row_of code vendor (entry_row d.avps e))
+    position_map (names_avps code vendor) (entry_row d.avps) 0 rule ∙
+    position_same (λ e. true) (λ e. names_avps code vendor (entry_row d.avps e))
     (λ e. has_link (Some k) (entry_row d.avps e))
     (λ e h. coded_link d code vendor sound e ∙ ap (λ o. links_to o (entry_link d.avps e)) (sym place) ∙
     ap (option_eq nat_eq (Some k)) (sym (link_of d.avps e))) 0 rule (all_true rule) ∙
@@ -161,8 +161,8 @@ same_kind d x e = let same : d ≡ x = cc in ap (λ f. f.kind) same
 -- an AVP of the code and vendor of a row stands at its entry
 pub stands_at : (d : Definitions) (rule : List Entry) (a : Avp) (at : ℕ) (row : Row) → is_sound d ≡ true
     → IsFit d.avps → IsApart rule
-    → Some at ≡ position_from (is_row_of a.code a.vendor) 0 (rule_rows d.avps rule)
-    → Some row ≡ slice_get (rule_rows d.avps rule) at → is_row_of a.code a.vendor row ≡ true
+    → Some at ≡ position_from (names_avps a.code a.vendor) 0 (rule_rows d.avps rule)
+    → Some row ≡ slice_get (rule_rows d.avps rule) at → names_avps a.code a.vendor row ≡ true
     → StandsAt d.avps rule a at row
 stands_at d rule a at row sound fit apart place here of =
     let (e, entry, is) = mapped (entry_row d.avps) rule at row (sym here) in
@@ -171,7 +171,7 @@ stands_at d rule a at row sound fit apart place here of =
     by : (e : Entry) → slice_get rule at ≡ Some e → entry_row d.avps e ≡ row → (o : Option ℕ)
         → entry_link d.avps e ≡ o → StandsAt d.avps rule a at row
     by e entry is None link =
-        let none : is_row_of a.code a.vendor row ≡ false = rw (← is, link) refl in
+        let none : names_avps a.code a.vendor row ≡ false = rw (← is, link) refl in
         absurd (cc)
     by e entry is (Some j) link =
         let (f, there_is, row_is) = linked_to d.avps e j link in

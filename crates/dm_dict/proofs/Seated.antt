@@ -5,7 +5,7 @@ use Rattle.std.proofs.lemmas.List.{get_or_default, take_all}
 use Rattle.std.specs.List.{position_from}
 use Rattle.std.specs.Option.{option_or}
 use Rattle.dm_dict.specs.declared.rows.Row.{Row}
-use Rattle.dm_dict.specs.Rows.{has_link, is_row_of}
+use Rattle.dm_dict.specs.Rows.{has_link, names_avps}
 use Rattle.dm_dict.specs.Seats.{seat_with, IsSeat, IsSeated}
 use Rattle.dm_dict.proofs.Noting.{position_push}
 
@@ -21,9 +21,9 @@ other_code n d k h = by (nat_eq k d) refl where
 
 -- an entry that isn't linked, or whose code has other bits, doesn't name the AVPs of a code
 not_of : (code : ℕ) (vendor : Option ℕ) (row : Row) → row.linked && nat_eq (row.code % 256) (code % 256) ≡ false
-    → is_row_of code vendor row ≡ false
+    → names_avps code vendor row ≡ false
 not_of code vendor row h = by row.linked refl where
-  by : (b : Bool) → row.linked ≡ b → is_row_of code vendor row ≡ false
+  by : (b : Bool) → row.linked ≡ b → names_avps code vendor row ≡ false
   by false t = rw t refl
   by true t =
       let bits : nat_eq (row.code % 256) (code % 256) ≡ false = rw t at h in
@@ -35,14 +35,14 @@ left_out None = refl
 left_out (Some k) = refl
 
 -- an entry more that doesn't name them
-passed : (rows : List Row) (n code : ℕ) (vendor : Option ℕ) (seat : ℕ) (row : Row) → is_row_of code vendor row ≡ false
-    → position_from (is_row_of code vendor) 0 (take (n + 1) rows) ≡
-    option_or (position_from (is_row_of code vendor) 0 (take n rows)) (if is_row_of code vendor row then Some n else None)
+passed : (rows : List Row) (n code : ℕ) (vendor : Option ℕ) (seat : ℕ) (row : Row) → names_avps code vendor row ≡ false
+    → position_from (names_avps code vendor) 0 (take (n + 1) rows) ≡
+    option_or (position_from (names_avps code vendor) 0 (take n rows)) (if names_avps code vendor row then Some n else None)
     → IsSeat rows n code vendor seat → IsSeat rows (n + 1) code vendor seat
 passed rows n code vendor seat row other push h =
-    let same : position_from (is_row_of code vendor) 0 (take (n + 1) rows) ≡
-    position_from (is_row_of code vendor) 0 (take n rows) =
-    push ∙ (rw other (left_out (position_from (is_row_of code vendor) 0 (take n rows)))) in
+    let same : position_from (names_avps code vendor) 0 (take (n + 1) rows) ≡
+    position_from (names_avps code vendor) 0 (take n rows) =
+    push ∙ (rw other (left_out (position_from (names_avps code vendor) 0 (take n rows)))) in
     record {
       none = λ e. same ∙ h.none e;
       within = λ e. let low = h.within e in omega arith;
@@ -62,9 +62,9 @@ crowd rows n code vendor = record {
 -- the first linked entry of its slot
 seated_first : (rows : List Row) (n code : ℕ) (vendor : Option ℕ) (row : Row) → n < length rows
     → n < 254 → row ≡ get_or rows n row → row.linked ≡ true
-    → position_from (is_row_of code vendor) 0 (take (n + 1) rows) ≡
-    option_or (position_from (is_row_of code vendor) 0 (take n rows)) (if is_row_of code vendor row then Some n else None)
-    → position_from (is_row_of code vendor) 0 (take n rows) ≡ None → IsSeat rows (n + 1) code vendor n
+    → position_from (names_avps code vendor) 0 (take (n + 1) rows) ≡
+    option_or (position_from (names_avps code vendor) 0 (take n rows)) (if names_avps code vendor row then Some n else None)
+    → position_from (names_avps code vendor) 0 (take n rows) ≡ None → IsSeat rows (n + 1) code vendor n
 seated_first rows n code vendor row h low at linked push none = record {
   none = λ e. absurd (omega arith);
   within = λ e. omega arith;
@@ -84,11 +84,11 @@ seated_step rows n code vendor old new row d h place known is =
     at : row ≡ get_or rows n row
     at = place ∙ get_or_default rows n d row h
 
-    push : position_from (is_row_of code vendor) 0 (take (n + 1) rows) ≡
-        option_or (position_from (is_row_of code vendor) 0 (take n rows)) (if is_row_of code vendor row then Some n else None)
+    push : position_from (names_avps code vendor) 0 (take (n + 1) rows) ≡
+        option_or (position_from (names_avps code vendor) 0 (take n rows)) (if names_avps code vendor row then Some n else None)
     push =
         let zero_on : 0 + n ≡ n = omega arith in
-        rw (← at, zero_on) at (position_push (is_row_of code vendor) 0 rows n row h)
+        rw (← at, zero_on) at (position_push (names_avps code vendor) 0 rows n row h)
 
     free : (b : Bool) → (nat_eq old 255 && nat_lt n 254) ≡ b → row.linked ≡ true
         → new ≡ (if nat_eq old 255 && nat_lt n 254 then n else 254) → IsSeat rows (n + 1) code vendor new
@@ -118,7 +118,7 @@ seat_within rows seats code vendor seat all is low = rw is ((all code vendor).wi
 pub seated_at : (rows : List Row) (seats : List ℕ) (code : ℕ) (vendor : Option ℕ) (seat : ℕ) (row : Row)
     → IsSeated rows seats → seat ≡ slice_index seats (code % 256) → seat < 254 → row ≡ get_or rows seat row
     → (row.linked ≡ true)
-    × (position_from (is_row_of code vendor) 0 rows ≡ (if is_row_of code vendor row then Some seat else None))
+    × (position_from (names_avps code vendor) 0 rows ≡ (if names_avps code vendor row then Some seat else None))
 seated_at rows seats code vendor seat row all is low here =
     let whole : take (length rows) rows ≡ rows = take_all (length rows) rows (omega arith) in
     let known = all code vendor in
@@ -127,7 +127,7 @@ seated_at rows seats code vendor seat row all is low here =
 
 -- where the seat is empty none names them
 pub nowhere : (rows : List Row) (seats : List ℕ) (code : ℕ) (vendor : Option ℕ) → IsSeated rows seats
-    → 254 < slice_index seats (code % 256) → position_from (is_row_of code vendor) 0 rows ≡ None
+    → 254 < slice_index seats (code % 256) → position_from (names_avps code vendor) 0 rows ≡ None
 nowhere rows seats code vendor all empty =
     let whole : take (length rows) rows ≡ rows = take_all (length rows) rows (omega arith) in
     rw whole at ((all code vendor).none empty)
@@ -135,18 +135,18 @@ nowhere rows seats code vendor all empty =
 -- where the entry that names the AVPs of a code and vendor is the first that has their definition's link
 abbrev pub NamesLinked : List Row → ℕ → Option ℕ → Option ℕ → Type 0
 NamesLinked rows code vendor link =
-    (k : ℕ) → link ≡ Some k → position_from (is_row_of code vendor) 0 rows ≡ position_from (has_link (Some k)) 0 rows
+    (k : ℕ) → link ≡ Some k → position_from (names_avps code vendor) 0 rows ≡ position_from (has_link (Some k)) 0 rows
 
 -- the link stands at the entry that names them, and else at the one without a link
 pub stands_there : (rows : List Row) (code : ℕ) (vendor : Option ℕ) (link : Option ℕ) (k seat : ℕ) → link ≡ Some k
-    → position_from (is_row_of code vendor) 0 rows ≡ Some seat → NamesLinked rows code vendor link
+    → position_from (names_avps code vendor) 0 rows ≡ Some seat → NamesLinked rows code vendor link
     → Some seat ≡ option_or (position_from (has_link link) 0 rows) (position_from (has_link None) 0 rows)
 stands_there rows code vendor link k seat is at same =
     let here : position_from (has_link link) 0 rows ≡ Some seat = rw is (sym (same k is) ∙ at) in
     rw here refl
 
 pub stands_else : (rows : List Row) (code : ℕ) (vendor : Option ℕ) (link : Option ℕ) (k : ℕ) (any : Option ℕ)
-    → link ≡ Some k → position_from (is_row_of code vendor) 0 rows ≡ None → any ≡ position_from (has_link None) 0 rows
+    → link ≡ Some k → position_from (names_avps code vendor) 0 rows ≡ None → any ≡ position_from (has_link None) 0 rows
     → NamesLinked rows code vendor link
     → any ≡ option_or (position_from (has_link link) 0 rows) (position_from (has_link None) 0 rows)
 stands_else rows code vendor link k any is none here same =

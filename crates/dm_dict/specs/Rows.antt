@@ -32,8 +32,8 @@ abbrev pub has_link : Option ℕ → Row → Bool
 has_link link row = option_eq nat_eq link (row_link row)
 
 -- the entry of the row names the AVPs of this code and vendor
-abbrev pub is_row_of : ℕ → Option ℕ → Row → Bool
-is_row_of code vendor row = row.linked && (nat_eq code row.code && option_eq nat_eq vendor row.vendor)
+abbrev pub names_avps : ℕ → Option ℕ → Row → Bool
+names_avps code vendor row = row.linked && (nat_eq code row.code && option_eq nat_eq vendor row.vendor)
 
 -- an AVP has the definition of the row, and stands under the rule at this entry
 pub record StandsAt (avps : List AvpDef) (rule : List Entry) (a : Avp) (at : ℕ) (row : Row) : Type 0 where

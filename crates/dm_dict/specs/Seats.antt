@@ -4,7 +4,7 @@ use Rattle.std.specs.Prelude.{slice_index, slice_index_or, if◌then◌else◌}
 use Rattle.std.specs.List.{position_from}
 use Rattle.dm_dict.specs.declared.rows.Row.{Row}
 use Rattle.dm_dict.specs.Limits.{seat_slots}
-use Rattle.dm_dict.specs.Rows.{is_row_of}
+use Rattle.dm_dict.specs.Rows.{names_avps}
 
 -- the seat of a slot whose bits no linked entry's code has
 abbrev pub empty_seat : ℕ
@@ -23,11 +23,12 @@ seat_with row place slot seat =
 -- which of the first n entries names the AVPs of a code and vendor: none, where its seat is empty; the one at the
 -- seat, which is linked, or none, where it isn't crowded
 pub record IsSeat (rows : List Row) (n code : ℕ) (vendor : Option ℕ) (seat : ℕ) : Type 0 where
-  pub none : crowded < seat → position_from (is_row_of code vendor) 0 (take n rows) ≡ None
+  pub none : crowded < seat → position_from (names_avps code vendor) 0 (take n rows) ≡ None
   pub within : seat < crowded → seat < n
   pub linked : seat < crowded → (row : Row) → row ≡ slice_index_or rows seat row → row.linked ≡ true
   pub one : seat < crowded → (row : Row) → row ≡ slice_index_or rows seat row
-      → position_from (is_row_of code vendor) 0 (take n rows) ≡ (if is_row_of code vendor row then Some seat else None)
+      → position_from (names_avps code vendor) 0 (take n rows)
+      ≡ (if names_avps code vendor row then Some seat else None)
 
 -- so it is for each code and vendor, among the first n entries
 abbrev pub IsSeatedTo : List Row → ℕ → List ℕ → Type 0

@@ -23,8 +23,10 @@ pub(crate) const FEW_ENTRIES: usize = 32;
 /// The most entries of a rule that are counted on the stack while its AVPs are judged.
 pub(crate) const MANY_ENTRIES: usize = 256;
 
-/// How many further entries of a rule are counted on the stack in one walk.
-pub(crate) const WINDOW: usize = 4096;
+/// How many further entries of a rule are counted on the stack in one walk, and how many where no more are left.
+pub(crate) const WINDOW: usize = 65536;
+
+pub(crate) const SHORT_WINDOW: usize = 4096;
 
 pub(crate) fn few_counts() -> [u16; FEW_ENTRIES]
     ensures { (i : ℕ) → slice_index result i ≡ 0 }
@@ -42,6 +44,12 @@ pub(crate) fn window_counts() -> [u16; WINDOW]
     ensures { (i : ℕ) → slice_index result i ≡ 0 }
 {
     [0; WINDOW]
+}
+
+pub(crate) fn short_window_counts() -> [u16; SHORT_WINDOW]
+    ensures { (i : ℕ) → slice_index result i ≡ 0 }
+{
+    [0; SHORT_WINDOW]
 }
 
 /// A counter for each entry of a rule that has more of them than are counted on the stack, if there is memory for that.

@@ -8,7 +8,7 @@ ghost use Rattle.dm_tables.specs.Guesses.{AreGuessed};
 ghost use Rattle.dm_tables.specs.Tables.{IsTables};
 ghost use Rattle.dm_dict.specs.Links.{no_links, rule_links};
 ghost use Rattle.dm_dict.specs.Limits.{short_rule};
-ghost use Rattle.dm_dict.specs.Rows.{has_link, is_row_of};
+ghost use Rattle.dm_dict.specs.Rows.{has_link, names_avps};
 
 use crate::bounds::Bounds;
 use crate::rows::{Row, rows_of};
@@ -225,9 +225,9 @@ impl Links {
     /// The entry at the code's seat and its row, if it names the AVPs of this code and vendor.
     #[inline(always)]
     pub(crate) fn row(&self, code: u32, vendor: Option<u32>) -> Option<(usize, Row)>
-        ensures place { IfSome result (λ found. Some found.0 ≡ position_from (is_row_of code vendor) 0 self.now.rows) }
+        ensures place { IfSome result (λ found. Some found.0 ≡ position_from (names_avps code vendor) 0 self.now.rows) }
         ensures row { IfSome result (λ found. Some found.1 ≡ slice_get self.now.rows found.0) }
-        ensures own { IfSome result (λ found. is_row_of code vendor found.1 ≡ true) }
+        ensures own { IfSome result (λ found. names_avps code vendor found.1 ≡ true) }
     {
         let seat = self.seats[(code % 256) as usize];
         if seat >= CROWDED {
@@ -246,7 +246,8 @@ impl Links {
     #[inline(always)]
     pub(crate) fn place(&self, code: u32, vendor: Option<u32>, link: Option<usize>) -> Option<usize>
         ensures { ((k : ℕ) → link ≡ Some k
-            → position_from (is_row_of code vendor) 0 self.now.rows ≡ position_from (has_link (Some k)) 0 self.now.rows)
+            → position_from (names_avps code vendor) 0 self.now.rows
+            ≡ position_from (has_link (Some k)) 0 self.now.rows)
             → result ≡ option_or (position_from (has_link link) 0 self.now.rows)
             (position_from (has_link None) 0 self.now.rows) }
     {
@@ -260,7 +261,7 @@ impl Links {
         if seat == CROWDED {
             return self.searched(definition);
         }
-        if self.items[usize::from(seat)].is_for(code, vendor) {
+        if self.items[usize::from(seat)].is_of(code, vendor) {
             Some(usize::from(seat))
         } else {
             self.any

@@ -1,7 +1,7 @@
 //! Whether nothing is wrong with an AVP, groups and all, by one pass that keeps no fault (RFC 6733, 4.1, 4.4 and
 //! 7.1.5).
-ghost use Rattle.std.specs.Prelude.{◌≡◌, ◌<◌, ◌∷◌, ℕ, true, false, None, Some, List, length, flat_map};
-ghost use Rattle.std.specs.Prelude.{IfSome, slice_get, slice_index};
+ghost use Rattle.std.specs.Prelude.{◌≡◌, ◌<◌, ◌∷◌, ℕ, true, false, None, Some, List, length, IfSome};
+ghost use Rattle.std.specs.Prelude.{slice_get, slice_index, flat_map};
 ghost use Rattle.std.specs.Option.{option_and_then};
 ghost use Rattle.dm_wire.specs.declared.avp.Avp.{Avp};
 ghost use Rattle.dm_wire.specs.Borrowed.{avp_of};

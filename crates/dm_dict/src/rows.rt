@@ -3,7 +3,7 @@ ghost use Rattle.std.specs.Prelude.{◌≡◌, IfOk};
 ghost use Rattle.dm_tables.specs.Guesses.{AreGuessed};
 ghost use Rattle.dm_tables.specs.Tables.{IsTables};
 ghost use Rattle.dm_dict.specs.Links.{rule_rows};
-ghost use Rattle.dm_dict.specs.Rows.{is_row_of, linked_row, row_link};
+ghost use Rattle.dm_dict.specs.Rows.{names_avps, linked_row, row_link};
 
 use dm_tables::{AvpDef, Entry, NameGuesses, Rule, Tables};
 use dm_value::{AvpType, NoMemory};
@@ -36,8 +36,8 @@ impl Row {
 
     /// Whether the AVPs of this code and vendor are those that the entry names.
     #[inline(always)]
-    pub(crate) fn is_for(&self, code: u32, vendor: Option<u32>) -> bool
-        ensures { result ≡ is_row_of code vendor self.now }
+    pub(crate) fn is_of(&self, code: u32, vendor: Option<u32>) -> bool
+        ensures { result ≡ names_avps code vendor self.now }
     {
         self.linked && code == self.code && vendor == self.vendor
     }

@@ -14,9 +14,11 @@ ghost use Rattle.dm_dict.specs.Counters.{IsCounted, is_bounded};
 ghost use Rattle.dm_dict.specs.Faults.{entry_faults, first};
 ghost use Rattle.dm_dict.specs.Found.{finds_missing};
 ghost use Rattle.dm_dict.specs.Judgement.{shown};
-ghost use Rattle.dm_dict.specs.Limits.{many_entries, window};
+ghost use Rattle.dm_dict.specs.Limits.{many_entries, short_window, window};
 
-use crate::counts::{MANY_ENTRIES, WINDOW, count_from, many_counts, window_counts};
+use crate::counts::{
+    MANY_ENTRIES, SHORT_WINDOW, WINDOW, count_from, many_counts, short_window_counts, window_counts,
+};
 use crate::entries::judge_entry;
 use crate::judged::Judged;
 use crate::linked::LinkedRule;
@@ -119,7 +121,7 @@ fn judge_recounted<'a>(
 }
 
 /// The first fault of a window of entries from `from` on.
-// (A function of its own in the machine's code too, for the room that its counters take of the stack.)
+// (A function of its own in the machine's code too, as the next two: its counters are cleared at each call.)
 #[inline(never)]
 fn judge_next<'a>(
     tables: &Tables,
@@ -142,8 +144,30 @@ fn judge_next<'a>(
     judge_recounted(tables, rule, from, &mut counts, list)
 }
 
-/// The first fault of the last entries, those from `from` on, where they are no more than these counters.
-// (So a rule that is little longer than is counted at first has no whole window cleared.)
+/// The first fault of the last entries, those from `from` on, where they are no more than a short window.
+// (So a rule of some thousand entries has no whole window cleared.)
+#[inline(never)]
+fn judge_short<'a>(
+    tables: &Tables,
+    rule: LinkedRule<'_>,
+    from: usize,
+    list: AvpsRef<'a>,
+) -> Judged<'a>
+    requires tables { IsTables tables.now }
+    requires fit { IsFit tables.now.avps.items }
+    requires rule { IsRule tables.now.avps.items rule }
+    requires within { from ≤ length rule.entries.now }
+    requires last { length rule.entries.now ≤ from + short_window }
+    ensures fault { (l : List Avp) → Lists list.entry l
+        → shown result ≡ first (flat_map (entry_faults tables.now.avps.items rule.entry.entries.now l)
+        (drop from rule.entry.entries.now)) }
+    ensures missing { finds_missing result ≡ false }
+{
+    let mut counts = short_window_counts();
+    judge_recounted(tables, rule, from, &mut counts, list)
+}
+
+/// The same where they are no more than are counted at first.
 #[inline(never)]
 fn judge_last<'a>(
     tables: &Tables,
@@ -165,6 +189,31 @@ fn judge_last<'a>(
     judge_recounted(tables, rule, from, &mut counts, list)
 }
 
+/// The first fault of the last entries, those from `from` on, where they are no more than a short window: by no more
+/// counters than are wanted.
+fn judge_rest<'a>(
+    tables: &Tables,
+    rule: LinkedRule<'_>,
+    from: usize,
+    list: AvpsRef<'a>,
+) -> Judged<'a>
+    requires tables { IsTables tables.now }
+    requires fit { IsFit tables.now.avps.items }
+    requires rule { IsRule tables.now.avps.items rule }
+    requires within { from ≤ length rule.entries.now }
+    requires last { length rule.entries.now ≤ from + short_window }
+    ensures fault { (l : List Avp) → Lists list.entry l
+        → shown result ≡ first (flat_map (entry_faults tables.now.avps.items rule.entry.entries.now l)
+        (drop from rule.entry.entries.now)) }
+    ensures missing { finds_missing result ≡ false }
+{
+    if rule.entries.as_slice().len() - from > MANY_ENTRIES {
+        judge_short(tables, rule, from, list)
+    } else {
+        judge_last(tables, rule, from, list)
+    }
+}
+
 /// The first fault of the entries from `start` on. Each window of them begins at an entry that has a bound.
 fn judge_further<'a>(
     tables: &Tables,
@@ -182,7 +231,7 @@ fn judge_further<'a>(
 {
     let size = rule.entries.as_slice().len();
     let mut from = next_bounded(rule.entries, start);
-    while from < size && size - from > MANY_ENTRIES {
+    while from < size && size - from > SHORT_WINDOW {
         match judge_next(tables, rule, from, list) {
             Judged::Good => {}
             Judged::Bad { code, failed } => return Judged::Bad { code, failed },
@@ -190,7 +239,7 @@ fn judge_further<'a>(
         from = next_bounded(rule.entries, window_end(size, from, WINDOW));
     }
     if from < size {
-        judge_last(tables, rule, from, list)
+        judge_rest(tables, rule, from, list)
     } else {
         Judged::Good
     }

@@ -9,4 +9,4 @@ zero_at (suc n) zero = refl
 zero_at (suc n) (suc i) = zero_at n i
 
 pub returns : goal.returns
-returns c = λ i. zero_at 4096 i
+returns c = λ i. zero_at 65536 i

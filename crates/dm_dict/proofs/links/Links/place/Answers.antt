@@ -1,7 +1,7 @@
 -- The entry at the seat, if it names the AVPs, else the one without a link.
 use Rattle.std.proofs.Common.{rules, ◌≡◌, ◌<◌, ◌∙◌, false, Some, None, sym, arith}
 use Rattle.std.specs.List.{position_from}
-use Rattle.dm_dict.specs.Rows.{is_row_of}
+use Rattle.dm_dict.specs.Rows.{names_avps}
 use Rattle.dm_dict.proofs.Seated.{nowhere, seat_within, seated_at, stands_else, stands_there}
 use Rattle.dm_dict.proofs.links.Links.place.Goals as goal
 
@@ -22,26 +22,26 @@ index-requires c =
     c.self.invariant.seats c.from.ensures (low c) in
     search rules
 
-pub returns-then-is_for : goal.returns-then-is_for
-returns-then-is_for c =
+pub returns-then-is_of : goal.returns-then-is_of
+returns-then-is_of c =
     let rows = c.self.inside.items.items in
-    let (linked, at) = seated_at rows c.self.inside.seats c.args.code c.args.vendor c.from-then-is_for.result
-    c.index.result.now c.self.invariant.seats c.from-then-is_for.ensures
-    (omega (arith, c.from-then-is_for.ensures, c.if-seat-gt-CROWDED.false, c.if-seat.false))
-    (rw (c.from-then-is_for.ensures, ← c.from.ensures) c.index.ensures) in
-    let named = c.if-is_for.ensures in
-    let here : position_from (is_row_of c.args.code c.args.vendor) 0 rows ≡ Some c.from-then-is_for.result =
+    let (linked, at) = seated_at rows c.self.inside.seats c.args.code c.args.vendor c.from-then-is_of.result
+    c.index.result.now c.self.invariant.seats c.from-then-is_of.ensures
+    (omega (arith, c.from-then-is_of.ensures, c.if-seat-gt-CROWDED.false, c.if-seat.false))
+    (rw (c.from-then-is_of.ensures, ← c.from.ensures) c.index.ensures) in
+    let named = c.if-is_of.ensures in
+    let here : position_from (names_avps c.args.code c.args.vendor) 0 rows ≡ Some c.from-then-is_of.result =
     rw (← named) at at in
     rw (← c.self.view_is) (stands_there rows c.args.code c.args.vendor c.args.link c.in-Some.definition
-    c.from-then-is_for.result c.in-Some.is here)
+    c.from-then-is_of.result c.in-Some.is here)
 
-pub returns-else-is_for : goal.returns-else-is_for
-returns-else-is_for c =
+pub returns-else-is_of : goal.returns-else-is_of
+returns-else-is_of c =
     let rows = c.self.inside.items.items in
     let (linked, at) = seated_at rows c.self.inside.seats c.args.code c.args.vendor c.from.result c.index.result.now
     c.self.invariant.seats c.from.ensures (omega (arith, c.from.ensures, c.if-seat-gt-CROWDED.false, c.if-seat.false))
     c.index.ensures in
-    let other : is_row_of c.args.code c.args.vendor c.index.result.now ≡ false = sym c.is_for.ensures ∙ c.if-is_for.false in
-    let none : position_from (is_row_of c.args.code c.args.vendor) 0 rows ≡ None = rw other at at in
+    let other : names_avps c.args.code c.args.vendor c.index.result.now ≡ false = sym c.is_of.ensures ∙ c.if-is_of.false in
+    let none : position_from (names_avps c.args.code c.args.vendor) 0 rows ≡ None = rw other at at in
     rw (← c.self.view_is) (stands_else rows c.args.code c.args.vendor c.args.link c.in-Some.definition
     c.self.inside.any c.in-Some.is none c.self.invariant.any)

@@ -2,7 +2,7 @@
 use Rattle.std.proofs.Common.{rules, ◌≡◌, true, nat_eq, refl, sym, length, arith}
 use Rattle.std.proofs.lemmas.Option.{slice_get_read}
 use Rattle.dm_dict.proofs.Seated.{seated_at, seat_within}
-use Rattle.dm_dict.specs.Rows.{is_row_of}
+use Rattle.dm_dict.specs.Rows.{names_avps}
 use Rattle.dm_dict.proofs.links.Links.row.Goals as goal
 
 pub index-requires : goal.index-requires
@@ -12,7 +12,7 @@ index-requires c =
     c.self.invariant.seats c.from.ensures (omega (arith, c.from.ensures, c.if-seat-ge-CROWDED.false)) in
     search rules
 
-named : (c : goal.After-from-then-eq) → is_row_of c.args.code c.args.vendor c.index.result.now ≡ true
+named : (c : goal.After-from-then-eq) → names_avps c.args.code c.args.vendor c.index.result.now ≡ true
 named c =
     let (linked, at) = seated_at c.self.inside.items.items c.self.inside.seats c.args.code c.args.vendor c.from.result
     c.index.result.now c.self.invariant.seats c.from.ensures
