@@ -4,6 +4,7 @@ use Rattle.std.specs.Prelude.{ℕ, suc}
 -- as the code has it
 pub use Rattle.dm_dict.specs.declared.counts.TheConstants.{MANY_ENTRIES as many_entries}
 pub use Rattle.dm_dict.specs.declared.counts.TheConstants.{WINDOW as window}
+pub use Rattle.dm_dict.specs.declared.counts.TheConstants.{MIDDLE_WINDOW as middle_window}
 pub use Rattle.dm_dict.specs.declared.counts.TheConstants.{SHORT_WINDOW as short_window}
 
 -- how many groups may stand inside each other

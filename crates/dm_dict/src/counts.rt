@@ -26,6 +26,8 @@ pub(crate) const MANY_ENTRIES: usize = 256;
 /// How many further entries of a rule are counted on the stack in one walk, and how many where no more are left.
 pub(crate) const WINDOW: usize = 65536;
 
+pub(crate) const MIDDLE_WINDOW: usize = 16384;
+
 pub(crate) const SHORT_WINDOW: usize = 4096;
 
 pub(crate) fn few_counts() -> [u16; FEW_ENTRIES]
@@ -44,6 +46,12 @@ pub(crate) fn window_counts() -> [u16; WINDOW]
     ensures { (i : ℕ) → slice_index result i ≡ 0 }
 {
     [0; WINDOW]
+}
+
+pub(crate) fn middle_window_counts() -> [u16; MIDDLE_WINDOW]
+    ensures { (i : ℕ) → slice_index result i ≡ 0 }
+{
+    [0; MIDDLE_WINDOW]
 }
 
 pub(crate) fn short_window_counts() -> [u16; SHORT_WINDOW]

@@ -14,10 +14,11 @@ ghost use Rattle.dm_dict.specs.Counters.{IsCounted, is_bounded};
 ghost use Rattle.dm_dict.specs.Faults.{entry_faults, first};
 ghost use Rattle.dm_dict.specs.Found.{finds_missing};
 ghost use Rattle.dm_dict.specs.Judgement.{shown};
-ghost use Rattle.dm_dict.specs.Limits.{many_entries, short_window, window};
+ghost use Rattle.dm_dict.specs.Limits.{many_entries, middle_window, short_window, window};
 
 use crate::counts::{
-    MANY_ENTRIES, SHORT_WINDOW, WINDOW, count_from, many_counts, short_window_counts, window_counts,
+    MANY_ENTRIES, MIDDLE_WINDOW, SHORT_WINDOW, WINDOW, count_from, many_counts,
+    middle_window_counts, short_window_counts, window_counts,
 };
 use crate::entries::judge_entry;
 use crate::judged::Judged;
@@ -121,7 +122,7 @@ fn judge_recounted<'a>(
 }
 
 /// The first fault of a window of entries from `from` on.
-// (A function of its own in the machine's code too, as the next two: its counters are cleared at each call.)
+// (A function of its own in the machine's code too, as the next three: its counters are cleared at each call.)
 #[inline(never)]
 fn judge_next<'a>(
     tables: &Tables,
@@ -144,8 +145,30 @@ fn judge_next<'a>(
     judge_recounted(tables, rule, from, &mut counts, list)
 }
 
-/// The first fault of the last entries, those from `from` on, where they are no more than a short window.
-// (So a rule of some thousand entries has no whole window cleared.)
+/// The first fault of the last entries, those from `from` on, where they are no more than a middle window.
+// (So a rule has no more counters cleared than four times its entries.)
+#[inline(never)]
+fn judge_middle<'a>(
+    tables: &Tables,
+    rule: LinkedRule<'_>,
+    from: usize,
+    list: AvpsRef<'a>,
+) -> Judged<'a>
+    requires tables { IsTables tables.now }
+    requires fit { IsFit tables.now.avps.items }
+    requires rule { IsRule tables.now.avps.items rule }
+    requires within { from ≤ length rule.entries.now }
+    requires last { length rule.entries.now ≤ from + middle_window }
+    ensures fault { (l : List Avp) → Lists list.entry l
+        → shown result ≡ first (flat_map (entry_faults tables.now.avps.items rule.entry.entries.now l)
+        (drop from rule.entry.entries.now)) }
+    ensures missing { finds_missing result ≡ false }
+{
+    let mut counts = middle_window_counts();
+    judge_recounted(tables, rule, from, &mut counts, list)
+}
+
+/// The same where they are no more than a short window.
 #[inline(never)]
 fn judge_short<'a>(
     tables: &Tables,
@@ -189,8 +212,8 @@ fn judge_last<'a>(
     judge_recounted(tables, rule, from, &mut counts, list)
 }
 
-/// The first fault of the last entries, those from `from` on, where they are no more than a short window: by no more
-/// counters than are wanted.
+/// The first fault of the last entries, those from `from` on, where they are no more than a middle window: by the fewest
+/// counters that do.
 fn judge_rest<'a>(
     tables: &Tables,
     rule: LinkedRule<'_>,
@@ -201,13 +224,16 @@ fn judge_rest<'a>(
     requires fit { IsFit tables.now.avps.items }
     requires rule { IsRule tables.now.avps.items rule }
     requires within { from ≤ length rule.entries.now }
-    requires last { length rule.entries.now ≤ from + short_window }
+    requires last { length rule.entries.now ≤ from + middle_window }
     ensures fault { (l : List Avp) → Lists list.entry l
         → shown result ≡ first (flat_map (entry_faults tables.now.avps.items rule.entry.entries.now l)
         (drop from rule.entry.entries.now)) }
     ensures missing { finds_missing result ≡ false }
 {
-    if rule.entries.as_slice().len() - from > MANY_ENTRIES {
+    let left = rule.entries.as_slice().len() - from;
+    if left > SHORT_WINDOW {
+        judge_middle(tables, rule, from, list)
+    } else if left > MANY_ENTRIES {
         judge_short(tables, rule, from, list)
     } else {
         judge_last(tables, rule, from, list)
@@ -231,7 +257,7 @@ fn judge_further<'a>(
 {
     let size = rule.entries.as_slice().len();
     let mut from = next_bounded(rule.entries, start);
-    while from < size && size - from > SHORT_WINDOW {
+    while from < size && size - from > MIDDLE_WINDOW {
         match judge_next(tables, rule, from, list) {
             Judged::Good => {}
             Judged::Bad { code, failed } => return Judged::Bad { code, failed },
