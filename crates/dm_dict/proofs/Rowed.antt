@@ -162,9 +162,9 @@ same_kind d x e = let same : d ≡ x = cc in ap (λ f. f.kind) same
 pub stands_at : (d : Definitions) (rule : List Entry) (a : Avp) (at : ℕ) (row : Row) → is_sound d ≡ true
     → IsFit d.avps → IsApart rule
     → Some at ≡ position_from (names_avps a.code a.vendor) 0 (rule_rows d.avps rule)
-    → Some row ≡ slice_get (rule_rows d.avps rule) at → names_avps a.code a.vendor row ≡ true
+    → Some row ≡ slice_get (rule_rows d.avps rule) at → names_avps a.code a.vendor row ≡ true → row.allowed ≡ true
     → StandsAt d.avps rule a at row
-stands_at d rule a at row sound fit apart place here of =
+stands_at d rule a at row sound fit apart place here of allowing =
     let (e, entry, is) = mapped (entry_row d.avps) rule at row (sym here) in
     by e entry is (entry_link d.avps e) refl
   where
@@ -191,7 +191,7 @@ stands_at d rule a at row sound fit apart place here of =
           def = at_def;
           within = slice_get_within d.avps j f there_is;
           kind = λ x seen. same_kind f x (sym there_is ∙ seen);
-          allowed = rw defined (ap allows (sym entry ∙ stands));
+          allowed = rw defined (sym (rw whole at allowing) ∙ ap allows (sym entry ∙ stands));
           counts = λ i x below seen. rw defined
               (counts_at_place rule (Some f) (Some at) any apart own named refl i x below seen);
         })

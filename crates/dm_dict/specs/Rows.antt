@@ -40,6 +40,6 @@ pub record StandsAt (avps : List AvpDef) (rule : List Entry) (a : Avp) (at : ℕ
   pub def : slice_get avps row.place ≡ definition avps a
   pub within : row.place < length avps
   pub kind : (d : AvpDef) → slice_get avps row.place ≡ Some d → row.kind ≡ d.kind
-  pub allowed : row.allowed ≡ allows (entry_for rule (definition avps a))
+  pub allowed : true ≡ allows (entry_for rule (definition avps a))
   pub counts : (i : ℕ) (e : Entry) → i < length rule → e ≡ slice_index_or rule i e
       → nat_eq at i ≡ counts rule e (definition avps a)

@@ -14,18 +14,19 @@ empty_seat = 255
 abbrev pub crowded : ℕ
 crowded = 254
 
--- the seat of a slot behind the entry at a place: the first linked entry of a slot takes it, a second one crowds it
+-- the seat of a slot behind the entry at a place: the first linked entry of a slot takes it, if AVPs may stand there;
+-- another one crowds it
 abbrev pub seat_with : Row → ℕ → ℕ → ℕ → ℕ
 seat_with row place slot seat =
     if row.linked && nat_eq (row.code % seat_slots) slot
-    then (if nat_eq seat empty_seat && nat_lt place crowded then place else crowded) else seat
+    then (if (nat_eq seat empty_seat && nat_lt place crowded) && row.allowed then place else crowded) else seat
 
 -- which of the first n entries names the AVPs of a code and vendor: none, where its seat is empty; the one at the
--- seat, which is linked, or none, where it isn't crowded
+-- seat, which is linked and allows AVPs, or none, where it isn't crowded
 pub record IsSeat (rows : List Row) (n code : ℕ) (vendor : Option ℕ) (seat : ℕ) : Type 0 where
   pub none : crowded < seat → position_from (names_avps code vendor) 0 (take n rows) ≡ None
   pub within : seat < crowded → seat < n
-  pub linked : seat < crowded → (row : Row) → row ≡ slice_index_or rows seat row → row.linked ≡ true
+  pub allowing : seat < crowded → (row : Row) → row ≡ slice_index_or rows seat row → (row.linked && row.allowed) ≡ true
   pub one : seat < crowded → (row : Row) → row ≡ slice_index_or rows seat row
       → position_from (names_avps code vendor) 0 (take n rows)
       ≡ (if names_avps code vendor row then Some seat else None)

@@ -1,7 +1,9 @@
 //! What is wrong with the data of an AVP that is no group (RFC 6733, 7.1.5).
 ghost use Rattle.std.specs.Prelude.{◌≡◌, ◌≢◌, [], true, false, nat_eq, None, List, IfSome};
 ghost use Rattle.dm_wire.specs.declared.avp.Avp.{Avp};
-ghost use Rattle.dm_value.specs.declared.avp_type.AvpType.TheVariants.{Address, DiameterIdentity, Grouped, UTF8String};
+ghost use Rattle.dm_value.specs.declared.avp_type.AvpType.TheVariants.{Address, DiameterIdentity};
+ghost use Rattle.dm_value.specs.declared.avp_type.AvpType.TheVariants.{Enumerated, Grouped, UTF8String};
+ghost use Rattle.dm_tables.specs.declared.values.EnumValue.{EnumValue};
 ghost use Rattle.dm_value.specs.Flaws.{flaw};
 ghost use Rattle.dm_dict.specs.Codes.{missing_avp};
 ghost use Rattle.dm_dict.specs.Faults.{Fault as AFault, data_faults};
@@ -60,14 +62,14 @@ fn passes_text(octets: &[u8]) -> bool
     are_between(octets, 0, 0x7f) || value_fault(AvpType::UTF8String, octets).is_none()
 }
 
-/// Whether nothing is wrong with data of this definition, whose type this is, that is no group's. Of the commonest
-/// types it is seen at once.
+/// Whether nothing is wrong with data of this type, which isn't Grouped or Enumerated. Of the commonest types it is
+/// seen at once.
 #[inline(always)]
-pub(crate) fn passes_data(kind: AvpType, def: &AvpDef, octets: &[u8]) -> bool
-    requires kind { kind ≡ def.now.kind }
-    requires other { kind ≢ Grouped }
-    ensures { (a : Avp) (group : List AFault) → a.bytes ≡ octets.now → result ≡ true
-        → data_faults def.now.kind def.now.values group a ≡ [] }
+pub(crate) fn passes_data(kind: AvpType, octets: &[u8]) -> bool
+    requires group { kind ≢ Grouped }
+    requires listed { kind ≢ Enumerated }
+    ensures { (a : Avp) (values : List EnumValue) (group : List AFault) → a.bytes ≡ octets.now → result ≡ true
+        → data_faults kind values group a ≡ [] }
 {
     match kind {
         AvpType::OctetString => true,
@@ -76,7 +78,6 @@ pub(crate) fn passes_data(kind: AvpType, def: &AvpDef, octets: &[u8]) -> bool
         AvpType::Address => passes_address(octets),
         AvpType::UTF8String => passes_text(octets),
         AvpType::DiameterIdentity => passes_identity(octets),
-        AvpType::Enumerated => data_fault(def, octets).is_none(),
         _ => value_fault(kind, octets).is_none(),
     }
 }

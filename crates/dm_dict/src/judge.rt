@@ -39,6 +39,7 @@ pub(crate) fn command_for<'d>(dictionary: &'d Linked, header: &Header) -> Option
 
 /// The first fault of a message of this header and these AVPs, whose AVPs are counted in memory under a long rule,
 /// where it is given and there is some. It never answers want of memory.
+#[inline(always)]
 pub(crate) fn judge_message<'a>(
     dictionary: &Linked,
     header: &Header,

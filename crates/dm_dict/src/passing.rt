@@ -1,6 +1,6 @@
 //! Whether nothing is wrong with an AVP, groups and all, by one pass that keeps no fault (RFC 6733, 4.1, 4.4 and
 //! 7.1.5).
-ghost use Rattle.std.specs.Prelude.{◌≡◌, ◌<◌, ◌∷◌, ℕ, true, false, None, Some, List, length, IfSome};
+ghost use Rattle.std.specs.Prelude.{◌≡◌, ◌≢◌, ◌<◌, ◌∷◌, [], ℕ, true, false, None, Some, List, length, IfSome};
 ghost use Rattle.std.specs.Prelude.{slice_get, slice_index, flat_map};
 ghost use Rattle.std.specs.Option.{option_and_then};
 ghost use Rattle.dm_wire.specs.declared.avp.Avp.{Avp};
@@ -8,7 +8,9 @@ ghost use Rattle.dm_wire.specs.Borrowed.{avp_of};
 ghost use Rattle.dm_wire.specs.Spelling.{SpellsList};
 ghost use Rattle.dm_dict.specs.Apart.{IsFit};
 ghost use Rattle.dm_dict.specs.Counters.{IsCounted};
-ghost use Rattle.dm_dict.specs.Faults.{avp_faults, entry_faults, group_faults, list_faults, first};
+ghost use Rattle.dm_dict.specs.Faults.{Fault as AFault, avp_faults, data_faults, entry_faults, group_faults};
+ghost use Rattle.dm_dict.specs.Faults.{list_faults, first};
+ghost use Rattle.dm_value.specs.declared.avp_type.AvpType.TheVariants.{Grouped};
 ghost use Rattle.dm_dict.specs.Linked.{IsLinked, IsRule};
 ghost use Rattle.dm_dict.specs.Passed.{IsGoodBut};
 ghost use Rattle.dm_dict.specs.Rows.{StandsAt};
@@ -18,7 +20,7 @@ ghost use Rattle.dm_tables.specs.declared.rule.Entry.{Entry};
 
 use crate::avps::is_failed_avp;
 use crate::counts::{FEW_ENTRIES, MANY_ENTRIES, count_one, few_counts, many_counts};
-use crate::data::passes_data;
+use crate::data::{data_fault, passes_data};
 use crate::entries::keep_bounds;
 use crate::linked::{Linked, LinkedRule};
 use crate::rows::Row;
@@ -63,6 +65,18 @@ fn passes_avp(
     passes_defined(dictionary, kind, place, avp, depth)
 }
 
+/// Whether nothing is wrong with octets of the definition at the place, which is no group's.
+// (A function of its own in the machine's code too: a definition is looked at where it has a list alone.)
+#[inline(never)]
+fn passes_listed(dictionary: &Linked, place: usize, octets: &[u8]) -> bool
+    requires within { place < length dictionary.now.tables.avps.items }
+    requires kind { (d : AvpDef) → slice_get dictionary.now.tables.avps.items place ≡ Some d → d.kind ≢ Grouped }
+    ensures { (d : AvpDef) (a : Avp) (group : List AFault) → slice_get dictionary.now.tables.avps.items place ≡ Some d
+        → a.bytes ≡ octets.now → result ≡ true → data_faults d.kind d.values group a ≡ [] }
+{
+    data_fault(dictionary.def_at(place), octets).is_none()
+}
+
 /// Whether nothing is wrong with an AVP that may stand where it stands, whose definition is of this type and has this
 /// place.
 #[cycle(passing)]
@@ -90,9 +104,12 @@ fn passes_defined(
             entries: &def.rule,
             links,
         };
-        return is_failed_avp(avp) || passes_group(dictionary, rule, avp.bytes, depth);
+        return passes_group(dictionary, rule, avp.bytes, depth) || is_failed_avp(avp);
     }
-    passes_data(kind, def, avp.bytes) || is_failed_avp(avp)
+    if let AvpType::Enumerated = kind {
+        return passes_listed(dictionary, place, avp.bytes) || is_failed_avp(avp);
+    }
+    passes_data(kind, avp.bytes) || is_failed_avp(avp)
 }
 
 /// Whether nothing is wrong with an AVP that stands under the rule at this entry, which has this row. If so it is
@@ -119,9 +136,6 @@ fn pass_row(
         → result ≡ true → IsGoodBut depth dictionary.now.tables.avps.items rule l k counts.new }
     ensures same { result ≡ false → counts.new ≡ counts.old }
 {
-    if !row.allowed {
-        return false;
-    }
     if !passes_defined(dictionary, row.kind, row.place, avp, depth) {
         return false;
     }

@@ -1,5 +1,5 @@
 //! What is to be known of the AVPs that the entries of a rule name (RFC 6733, 3.2).
-ghost use Rattle.std.specs.Prelude.{◌≡◌, IfOk};
+ghost use Rattle.std.specs.Prelude.{◌≡◌, ◌++◌, ◌∷◌, [], IfOk, OnOk};
 ghost use Rattle.dm_tables.specs.Guesses.{AreGuessed};
 ghost use Rattle.dm_tables.specs.Tables.{IsTables};
 ghost use Rattle.dm_dict.specs.Links.{rule_rows};
@@ -43,28 +43,34 @@ impl Row {
     }
 }
 
-/// The row of an entry that has the link.
-fn row_of(avps: &[AvpDef], entry: &Entry, link: Option<usize>) -> Row
-    ensures { result ≡ linked_row avps.now entry.now link }
+/// The row of an entry that has the link, behind the others.
+fn push_row(
+    rows: &mut Vec<Row>,
+    avps: &[AvpDef],
+    entry: &Entry,
+    link: Option<usize>,
+) -> Result<(), NoMemory>
+    ensures { OnOk result (rows.new.items ≡ rows.old.items ++ linked_row avps.now entry.now link ∷ []) }
 {
     match link {
-        Some(place) if place < avps.len() => Row {
+        Some(place) if place < avps.len() => rows.push(Row {
             place,
             code: avps[place].code,
             vendor: avps[place].vendor,
             kind: avps[place].kind,
             linked: true,
             allowed: entry.max != Some(0),
-        },
-        _ => Row {
+        })?,
+        _ => rows.push(Row {
             place: 0,
             code: 0,
             vendor: None,
             kind: AvpType::OctetString,
             linked: false,
             allowed: false,
-        },
+        })?,
     }
+    Ok(())
 }
 
 /// The rows of the entries of a rule, in order.
@@ -82,7 +88,7 @@ pub(crate) fn rows_of(
     let mut rows = Vec::with_capacity(alloc, entries.len())?;
     for entry in entries {
         let link = tables.place_by_guess(guesses, entry.name.as_slice());
-        rows.push(row_of(tables.avps.as_slice(), entry, link))?;
+        push_row(&mut rows, tables.avps.as_slice(), entry, link)?;
     }
     Ok(rows)
 }

@@ -1,5 +1,5 @@
 -- A group has the rule of its definition, and its octets are passed one AVP after the other.
-use Rattle.std.proofs.Common.{◌≡◌, Bool, true, false, not, Some, [], ◌∷◌, find, take, refl, sym, ◌∙◌, ap, arith, eqb-true}
+use Rattle.std.proofs.Common.{◌≡◌, Some, [], ◌∷◌, find, take, refl, sym, ◌∙◌, ap, arith, eqb-true}
 use Rattle.std.proofs.lemmas.List.{take-append-drop, take_rest, nil_from_length}
 use Rattle.dm_wire.specs.Borrowed.{avp_of}
 use Rattle.dm_tables.specs.Definitions.{is_coded}
@@ -38,15 +38,11 @@ pass_each-loop-avp-init t c = (
   λ m. none_passed c.args.depth c.args.dictionary.now.tables.avps.items c.args.rule.entries.now m _ c.requires.zero,
 )
 
-is_open : (b : Bool) → not b ≡ false → true ≡ b
-is_open true e = refl
-is_open false e = absurd (cc)
-
 pub pass_row-returns-clause-passed : goal.pass_row-returns-clause-passed
 pass_row-returns-clause-passed t c = λ rule l m k stands before is yes.
     let avps = c.args.dictionary.now.tables.avps.items in
     let a = avp_of c.args.avp in
-    let good = looked_up (group_faults c.args.depth avps) _ _ a _ _ (is_open c.args.row.allowed c.if-not-row.false ∙ stands.allowed)
+    let good = looked_up (group_faults c.args.depth avps) _ _ a _ _ stands.allowed
     (c.passes_defined.ensures c.if-not-passes_defined.false) in
     one_passed c.args.depth avps rule l m k a _ _ (Some c.args.at) before is good c.count_one.ensures.size
     c.count_one.ensures.counted stands.counts

@@ -11,4 +11,4 @@ returns-in-Some c =
     let rows = ap (λ linked. linked.rows) rule.linked in
     stands_at (defined c.args.dictionary.now.tables) c.args.rule.entries.now (avp_of c.args.avp) c.in-Some.at c.in-Some.row
     c.requires.linked.dictionary.tables.sound c.requires.fit rule.apart (rw rows at c.in-Some.ensures.place)
-    (rw rows at c.in-Some.ensures.row) c.in-Some.ensures.own
+    (rw rows at c.in-Some.ensures.row) c.in-Some.ensures.own c.in-Some.ensures.allowed

@@ -1,5 +1,6 @@
 -- The entry at the seat.
 use Rattle.std.proofs.Common.{rules, ◌≡◌, true, nat_eq, refl, sym, length, arith}
+use Rattle.std.proofs.lemmas.Bool.{and_parts}
 use Rattle.std.proofs.lemmas.Option.{slice_get_read}
 use Rattle.dm_dict.proofs.Seated.{seated_at, seat_within}
 use Rattle.dm_dict.specs.Rows.{names_avps}
@@ -12,11 +13,16 @@ index-requires c =
     c.self.invariant.seats c.from.ensures (omega (arith, c.from.ensures, c.if-seat-ge-CROWDED.false)) in
     search rules
 
-named : (c : goal.After-from-then-eq) → names_avps c.args.code c.args.vendor c.index.result.now ≡ true
-named c =
-    let (linked, at) = seated_at c.self.inside.items.items c.self.inside.seats c.args.code c.args.vendor c.from.result
+both : (c : goal.After-from-then-eq) → (c.index.result.now.linked ≡ true) × (c.index.result.now.allowed ≡ true)
+both c =
+    let (allowing, at) = seated_at c.self.inside.items.items c.self.inside.seats c.args.code c.args.vendor c.from.result
     c.index.result.now c.self.invariant.seats c.from.ensures
     (omega (arith, c.from.ensures, c.if-seat-ge-CROWDED.false)) c.index.ensures in
+    and_parts c.index.result.now.linked c.index.result.now.allowed allowing
+
+named : (c : goal.After-from-then-eq) → names_avps c.args.code c.args.vendor c.index.result.now ≡ true
+named c =
+    let (linked, allowed) = both c in
     let code : nat_eq c.args.code c.index.result.now.code ≡ true = grind (arith, c.if-code-row.true) in
     let vendor = c.if-eq.ensures in
     rw (linked, code, ← vendor) refl
@@ -39,3 +45,6 @@ returns-then-eq-clause-row c =
 
 pub returns-then-eq-clause-own : goal.returns-then-eq-clause-own
 returns-then-eq-clause-own c = named c
+
+pub returns-then-eq-clause-allowed : goal.returns-then-eq-clause-allowed
+returns-then-eq-clause-allowed c = (both c).1
