@@ -212,8 +212,8 @@ fn judge_last<'a>(
     judge_recounted(tables, rule, from, &mut counts, list)
 }
 
-/// The first fault of the last entries, those from `from` on, where they are no more than a middle window: by the fewest
-/// counters that do.
+/// The first fault of the last entries, those from `from` on, where they are no more than a middle window: by the
+/// fewest counters that do.
 fn judge_rest<'a>(
     tables: &Tables,
     rule: LinkedRule<'_>,
