@@ -29,7 +29,7 @@ any_command = 0
 
 -- the slots of the seats of a rule
 abbrev pub seat_slots : ℕ
-seat_slots = 128
+seat_slots = 256
 
 -- the slots by which commands are guessed
 abbrev pub head_slots : ℕ
