@@ -202,6 +202,13 @@ fn assert_last_wanted(rt: &(impl Abort + AllocGlobal), size: u32) {
 }
 
 #[test]
+fn the_last_entry_counts_its_own_avp_beside_the_end_of_each_window(rt: HostRuntime) {
+    for size in [512, 513, 16_640, 16_641] {
+        assert_last_wanted(&rt, size);
+    }
+}
+
+#[test]
 fn the_last_of_65793_entries_counts_its_own_avp(rt: HostRuntime) {
     assert_last_wanted(&rt, 65_792);
     assert_last_wanted(&rt, 65_793);
