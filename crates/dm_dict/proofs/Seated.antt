@@ -20,14 +20,14 @@ other_code n d k h = by (nat_eq k d) refl where
       absurd (cc)
 
 -- an entry that isn't linked, or whose code has other bits, doesn't name the AVPs of a code
-not_of : (code : ℕ) (vendor : Option ℕ) (row : Row) → row.linked && nat_eq (row.code % 256) (code % 256) ≡ false
+not_of : (code : ℕ) (vendor : Option ℕ) (row : Row) → row.linked && nat_eq (row.code % 128) (code % 128) ≡ false
     → names_avps code vendor row ≡ false
 not_of code vendor row h = by row.linked refl where
   by : (b : Bool) → row.linked ≡ b → names_avps code vendor row ≡ false
   by false t = rw t refl
   by true t =
-      let bits : nat_eq (row.code % 256) (code % 256) ≡ false = rw t at h in
-      let other : nat_eq code row.code ≡ false = other_code 256 row.code code bits in
+      let bits : nat_eq (row.code % 128) (code % 128) ≡ false = rw t at h in
+      let other : nat_eq code row.code ≡ false = other_code 128 row.code code bits in
       rw (t, other) refl
 
 left_out : (o : Option ℕ) → option_or o None ≡ o
@@ -76,10 +76,10 @@ seated_first rows n code vendor row h low at allowing push none = record {
 
 -- one entry more
 pub seated_step : (rows : List Row) (n code : ℕ) (vendor : Option ℕ) (old new : ℕ) (row d : Row) → n < length rows
-    → row ≡ get_or rows n d → IsSeat rows n code vendor old → new ≡ seat_with row n (code % 256) old
+    → row ≡ get_or rows n d → IsSeat rows n code vendor old → new ≡ seat_with row n (code % 128) old
     → IsSeat rows (n + 1) code vendor new
 seated_step rows n code vendor old new row d h place known is =
-    slot (row.linked && nat_eq (row.code % 256) (code % 256)) refl
+    slot (row.linked && nat_eq (row.code % 128) (code % 128)) refl
   where
     at : row ≡ get_or rows n row
     at = place ∙ get_or_default rows n d row h
@@ -103,22 +103,22 @@ seated_step rows n code vendor old new row d h place known is =
         rw seat (seated_first rows n code vendor row h low_is at allowing push none)
     free false t linked e = let seat : new ≡ 254 = e ∙ rw t refl in rw seat (crowd rows (n + 1) code vendor)
 
-    slot : (b : Bool) → row.linked && nat_eq (row.code % 256) (code % 256) ≡ b → IsSeat rows (n + 1) code vendor new
+    slot : (b : Bool) → row.linked && nat_eq (row.code % 128) (code % 128) ≡ b → IsSeat rows (n + 1) code vendor new
     slot false t =
         let same : new ≡ old = is ∙ rw t refl in
         rw same (passed rows n code vendor old row (not_of code vendor row t) push known)
     slot true t =
-        let (linked, bits) = and_parts row.linked (nat_eq (row.code % 256) (code % 256)) t in
+        let (linked, bits) = and_parts row.linked (nat_eq (row.code % 128) (code % 128)) t in
         free ((nat_eq old 255 && nat_lt n 254) && row.allowed) refl linked (is ∙ rw t refl)
 
 -- a seat that is neither empty nor crowded is that of an entry
 pub seat_within : (rows : List Row) (seats : List ℕ) (code : ℕ) (vendor : Option ℕ) (seat : ℕ) → IsSeated rows seats
-    → seat ≡ slice_index seats (code % 256) → seat < 254 → seat < length rows
+    → seat ≡ slice_index seats (code % 128) → seat < 254 → seat < length rows
 seat_within rows seats code vendor seat all is low = rw is ((all code vendor).within (rw is at low))
 
 -- which is linked and allows AVPs, and names those of the code and vendor or no entry does
 pub seated_at : (rows : List Row) (seats : List ℕ) (code : ℕ) (vendor : Option ℕ) (seat : ℕ) (row : Row)
-    → IsSeated rows seats → seat ≡ slice_index seats (code % 256) → seat < 254 → row ≡ get_or rows seat row
+    → IsSeated rows seats → seat ≡ slice_index seats (code % 128) → seat < 254 → row ≡ get_or rows seat row
     → (row.linked && row.allowed ≡ true)
     × (position_from (names_avps code vendor) 0 rows ≡ (if names_avps code vendor row then Some seat else None))
 seated_at rows seats code vendor seat row all is low here =
@@ -129,7 +129,7 @@ seated_at rows seats code vendor seat row all is low here =
 
 -- where the seat is empty none names them
 pub nowhere : (rows : List Row) (seats : List ℕ) (code : ℕ) (vendor : Option ℕ) → IsSeated rows seats
-    → 254 < slice_index seats (code % 256) → position_from (names_avps code vendor) 0 rows ≡ None
+    → 254 < slice_index seats (code % 128) → position_from (names_avps code vendor) 0 rows ≡ None
 nowhere rows seats code vendor all empty =
     let whole : take (length rows) rows ≡ rows = take_all (length rows) rows (omega arith) in
     rw whole at ((all code vendor).none empty)

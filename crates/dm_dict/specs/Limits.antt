@@ -5,7 +5,6 @@ use Rattle.std.specs.Prelude.{ℕ, suc}
 pub use Rattle.dm_dict.specs.declared.counts.TheConstants.{MANY_ENTRIES as many_entries}
 pub use Rattle.dm_dict.specs.declared.counts.TheConstants.{WINDOW as window}
 pub use Rattle.dm_dict.specs.declared.counts.TheConstants.{MIDDLE_WINDOW as middle_window}
-pub use Rattle.dm_dict.specs.declared.counts.TheConstants.{SHORT_WINDOW as short_window}
 
 -- how many groups may stand inside each other
 abbrev pub group_limit : ℕ
@@ -29,7 +28,7 @@ any_command = 0
 
 -- the slots of the seats of a rule
 abbrev pub seat_slots : ℕ
-seat_slots = 256
+seat_slots = 128
 
 -- the slots by which commands are guessed
 abbrev pub head_slots : ℕ

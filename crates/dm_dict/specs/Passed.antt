@@ -1,5 +1,5 @@
 -- AVPs of a list that were judged, up to those that are left.
-use Rattle.std.specs.Prelude.{◌≡◌, ℕ, List, ◌++◌, flat_map}
+use Rattle.std.specs.Prelude.{◌≡◌, ◌∷◌, ℕ, List, ◌++◌, flat_map}
 use Rattle.dm_wire.specs.declared.avp.Avp.{Avp}
 use Rattle.dm_tables.specs.declared.rule.Entry.{Entry}
 use Rattle.dm_tables.specs.declared.def.AvpDef.{AvpDef}
@@ -18,3 +18,8 @@ abbrev pub IsGoodBut : ℕ → List AvpDef → List Entry → List Avp → List 
 IsGoodBut n avps rule l m numbers =
     (first (list_faults n avps rule l) ≡ first (each_faults n avps rule m ++ flat_map (entry_faults avps rule l) rule))
     × IsCountedBut avps rule l m 0 numbers
+
+-- a is passed by the counters that come of these, wherever it is the first of the AVPs that are left
+abbrev pub PassesNext : ℕ → List AvpDef → List Entry → Avp → List ℕ → List ℕ → Type 0
+PassesNext n avps rule a old new =
+    (l m k : List Avp) → IsGoodBut n avps rule l m old → m ≡ a ∷ k → IsGoodBut n avps rule l k new

@@ -14,7 +14,7 @@ ghost use Rattle.dm_dict.specs.Rules.{definition};
 use crate::codes::{
     AVP_NOT_ALLOWED, AVP_UNSUPPORTED, FAILED_AVP, INVALID_AVP_LENGTH, INVALID_AVP_VALUE,
 };
-use crate::counts::{count_one, counts_for, many_counts};
+use crate::counts::{MANY_ENTRIES, count_one, counters, counts_for};
 use crate::judged::{Failed, Judged};
 use crate::linked::{Linked, LinkedAvp, LinkedRule};
 use crate::rules::{allows, look_up_marked};
@@ -190,7 +190,7 @@ fn judge_many<'a>(
         → shown result ≡ first (list_faults depth dictionary.now.tables.avps.items rule.entry.entries.now l) }
     ensures missing { finds_missing result ≡ false }
 {
-    let mut counts = many_counts();
+    let mut counts = counters::<MANY_ENTRIES>();
     judge_counted(dictionary, rule, list, list, depth, alloc, &mut counts)
 }
 

@@ -1,6 +1,6 @@
 //! How many AVPs the entries of a rule count, by counters for entries one behind the other, each up to 65535
 //! (RFC 6733, 3.2).
-ghost use Rattle.std.specs.Prelude.{◌≡◌, ◌+◌, ◌<◌, ℕ, List, length, min, slice_index, IfSome};
+ghost use Rattle.std.specs.Prelude.{◌≡◌, ◌+◌, ◌<◌, ◌≤◌, ℕ, List, length, min, slice_index, IfSome};
 ghost use Rattle.std.specs.Prelude.{if◌then◌else◌};
 ghost use Rattle.dm_wire.specs.declared.avp.Avp.{Avp};
 ghost use Rattle.dm_tables.specs.Tables.{IsTables};
@@ -9,7 +9,7 @@ ghost use Rattle.dm_dict.specs.Linked.{IsRule};
 ghost use Rattle.dm_wire.specs.Borrowed.{Lists};
 ghost use Rattle.dm_dict.specs.Counters.{IsCounted};
 ghost use Rattle.dm_dict.specs.Rules.{is_at};
-ghost use Rattle.dm_dict.specs.Limits.{counter_limit};
+ghost use Rattle.dm_dict.specs.Limits.{counter_limit, window};
 
 use crate::linked::LinkedRule;
 use crate::rules::look_up;
@@ -30,34 +30,13 @@ pub(crate) const MIDDLE_WINDOW: usize = 16384;
 
 pub(crate) const SHORT_WINDOW: usize = 4096;
 
-pub(crate) fn few_counts() -> [u16; FEW_ENTRIES]
+/// So many counters, all zero.
+#[inline(always)]
+pub(crate) fn counters<const SIZE: usize>() -> [u16; SIZE]
+    requires { SIZE ≤ window }
     ensures { (i : ℕ) → slice_index result i ≡ 0 }
 {
-    [0; FEW_ENTRIES]
-}
-
-pub(crate) fn many_counts() -> [u16; MANY_ENTRIES]
-    ensures { (i : ℕ) → slice_index result i ≡ 0 }
-{
-    [0; MANY_ENTRIES]
-}
-
-pub(crate) fn window_counts() -> [u16; WINDOW]
-    ensures { (i : ℕ) → slice_index result i ≡ 0 }
-{
-    [0; WINDOW]
-}
-
-pub(crate) fn middle_window_counts() -> [u16; MIDDLE_WINDOW]
-    ensures { (i : ℕ) → slice_index result i ≡ 0 }
-{
-    [0; MIDDLE_WINDOW]
-}
-
-pub(crate) fn short_window_counts() -> [u16; SHORT_WINDOW]
-    ensures { (i : ℕ) → slice_index result i ≡ 0 }
-{
-    [0; SHORT_WINDOW]
+    [0; SIZE]
 }
 
 /// A counter for each entry of a rule that has more of them than are counted on the stack, if there is memory for that.

@@ -31,7 +31,7 @@ pub(crate) struct Links {
     /// The places of the links of a long rule.
     places: IndexMap<usize, usize>,
     /// Which entry may name the AVPs of a code, by the code's lowest bits.
-    seats: [u8; 256],
+    seats: [u8; 128],
     bounds: Bounds,
 }
 
@@ -230,7 +230,7 @@ impl Links {
         ensures own { IfSome result (λ found. names_avps code vendor found.1 ≡ true) }
         ensures allowed { IfSome result (λ found. found.1.allowed ≡ true) }
     {
-        let seat = self.seats[(code % 256) as usize];
+        let seat = self.seats[(code % 128) as usize];
         if seat >= CROWDED {
             return None;
         }
@@ -255,7 +255,7 @@ impl Links {
         let Some(definition) = link else {
             return self.any;
         };
-        let seat = self.seats[(code % 256) as usize];
+        let seat = self.seats[(code % 128) as usize];
         if seat > CROWDED {
             return self.any;
         }

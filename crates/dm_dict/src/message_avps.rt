@@ -12,7 +12,7 @@ ghost use Rattle.dm_dict.specs.Limits.{group_limit};
 ghost use Rattle.dm_dict.specs.Passed.{IsGoodBut};
 
 use crate::avps::judge_counted;
-use crate::counts::{FEW_ENTRIES, counts_for, few_counts, many_counts};
+use crate::counts::{FEW_ENTRIES, MANY_ENTRIES, counters, counts_for};
 use crate::entries::keep_bounds;
 use crate::judge::GROUPS;
 use crate::judged::Judged;
@@ -86,7 +86,7 @@ fn judge_by_many<'a>(
         → shown result ≡ first (list_faults group_limit dictionary.now.tables.avps.items rule.entry.entries.now l) }
     ensures missing { finds_missing result ≡ false }
 {
-    let mut counts = many_counts();
+    let mut counts = counters::<MANY_ENTRIES>();
     judge_each(dictionary, rule, list, alloc, &mut counts)
 }
 
@@ -132,6 +132,6 @@ pub(crate) fn judge_avps<'a>(
     if rule.entries.as_slice().len() > FEW_ENTRIES {
         return judge_by_any(dictionary, rule, list, alloc);
     }
-    let mut counts = few_counts();
+    let mut counts = counters::<FEW_ENTRIES>();
     judge_each(dictionary, rule, list, alloc, &mut counts)
 }

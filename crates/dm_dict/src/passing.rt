@@ -1,6 +1,6 @@
 //! Whether nothing is wrong with an AVP, groups and all, by one pass that keeps no fault (RFC 6733, 4.1, 4.4 and
 //! 7.1.5).
-ghost use Rattle.std.specs.Prelude.{◌≡◌, ◌≢◌, ◌<◌, ◌∷◌, [], ℕ, true, false, None, Some, List, length, IfSome};
+ghost use Rattle.std.specs.Prelude.{◌≡◌, ◌<◌, [], ℕ, true, false, None, Some, List, length, IfSome};
 ghost use Rattle.std.specs.Prelude.{slice_get, slice_index, flat_map};
 ghost use Rattle.std.specs.Option.{option_and_then};
 ghost use Rattle.dm_wire.specs.declared.avp.Avp.{Avp};
@@ -10,21 +10,22 @@ ghost use Rattle.dm_dict.specs.Apart.{IsFit};
 ghost use Rattle.dm_dict.specs.Counters.{IsCounted};
 ghost use Rattle.dm_dict.specs.Faults.{Fault as AFault, avp_faults, data_faults, entry_faults, group_faults};
 ghost use Rattle.dm_dict.specs.Faults.{list_faults, first};
-ghost use Rattle.dm_value.specs.declared.avp_type.AvpType.TheVariants.{Grouped};
+ghost use Rattle.dm_value.specs.declared.avp_type.AvpType.TheVariants.{Enumerated};
 ghost use Rattle.dm_dict.specs.Linked.{IsLinked, IsRule};
-ghost use Rattle.dm_dict.specs.Passed.{IsGoodBut};
+ghost use Rattle.dm_dict.specs.Passed.{PassesNext};
 ghost use Rattle.dm_dict.specs.Rows.{StandsAt};
 ghost use Rattle.dm_dict.specs.Rules.{definition, allows};
 ghost use Rattle.dm_tables.specs.declared.def.AvpDef.{AvpDef};
 ghost use Rattle.dm_tables.specs.declared.rule.Entry.{Entry};
 
 use crate::avps::is_failed_avp;
-use crate::counts::{FEW_ENTRIES, MANY_ENTRIES, count_one, few_counts, many_counts};
-use crate::data::{data_fault, passes_data};
+use crate::counts::{FEW_ENTRIES, MANY_ENTRIES, count_one, counters};
+use crate::data::passes_data;
 use crate::entries::keep_bounds;
 use crate::linked::{Linked, LinkedRule};
 use crate::rows::Row;
 use crate::rules::{allows_at, look_up_marked, row_for};
+use byteorder::{BigEndian, ByteOrder};
 use dm_tables::Rule;
 use dm_value::AvpType;
 use dm_wire::laws::spelled_are_members;
@@ -65,16 +66,17 @@ fn passes_avp(
     passes_defined(dictionary, kind, place, avp, depth)
 }
 
-/// Whether nothing is wrong with octets of the definition at the place, which is no group's.
+/// Whether nothing is wrong with octets of the definition at the place, which is that of an Enumerated.
 // (A function of its own in the machine's code too: a definition is looked at where it has a list alone.)
 #[inline(never)]
 fn passes_listed(dictionary: &Linked, place: usize, octets: &[u8]) -> bool
     requires within { place < length dictionary.now.tables.avps.items }
-    requires kind { (d : AvpDef) → slice_get dictionary.now.tables.avps.items place ≡ Some d → d.kind ≢ Grouped }
+    requires kind { (d : AvpDef) → slice_get dictionary.now.tables.avps.items place ≡ Some d → d.kind ≡ Enumerated }
     ensures { (d : AvpDef) (a : Avp) (group : List AFault) → slice_get dictionary.now.tables.avps.items place ≡ Some d
         → a.bytes ≡ octets.now → result ≡ true → data_faults d.kind d.values group a ≡ [] }
 {
-    data_fault(dictionary.def_at(place), octets).is_none()
+    let def = dictionary.def_at(place);
+    octets.len() == 4 && !def.values.leaves_out(BigEndian::read_i32(octets))
 }
 
 /// Whether nothing is wrong with an AVP that may stand where it stands, whose definition is of this type and has this
@@ -130,10 +132,9 @@ fn pass_row(
         ≡ definition dictionary.now.tables.avps.items (avp_of avp) }
     requires within { row.place < length dictionary.now.tables.avps.items }
     requires kind { (d : AvpDef) → slice_get dictionary.now.tables.avps.items row.place ≡ Some d → row.kind ≡ d.kind }
-    ensures passed { (rule : List Entry) (l m k : List Avp)
+    ensures passed { result ≡ true → (rule : List Entry)
         → StandsAt dictionary.now.tables.avps.items rule (avp_of avp.entry) at row
-        → IsGoodBut depth dictionary.now.tables.avps.items rule l m counts.old → m ≡ avp_of avp.entry ∷ k
-        → result ≡ true → IsGoodBut depth dictionary.now.tables.avps.items rule l k counts.new }
+        → PassesNext depth dictionary.now.tables.avps.items rule (avp_of avp.entry) counts.old counts.new }
     ensures same { result ≡ false → counts.new ≡ counts.old }
 {
     if !passes_defined(dictionary, row.kind, row.place, avp, depth) {
@@ -156,10 +157,8 @@ fn pass_found(
     requires linked { IsLinked dictionary.now }
     requires fit { IsFit dictionary.now.tables.avps.items }
     requires rule { IsRule dictionary.now.tables.avps.items rule }
-    ensures passed { (l m k : List Avp)
-        → IsGoodBut depth dictionary.now.tables.avps.items rule.entry.entries.now l m counts.old
-        → m ≡ avp_of avp.entry ∷ k → result ≡ true
-        → IsGoodBut depth dictionary.now.tables.avps.items rule.entry.entries.now l k counts.new }
+    ensures passed { result ≡ true → PassesNext depth dictionary.now.tables.avps.items rule.entry.entries.now
+        (avp_of avp.entry) counts.old counts.new }
     ensures same { result ≡ false → counts.new ≡ counts.old }
 {
     let (place, at) = look_up_marked(dictionary, rule, avp);
@@ -183,10 +182,8 @@ pub(crate) fn pass_next(
     requires linked { IsLinked dictionary.now }
     requires fit { IsFit dictionary.now.tables.avps.items }
     requires rule { IsRule dictionary.now.tables.avps.items rule }
-    ensures passed { (l m k : List Avp)
-        → IsGoodBut depth dictionary.now.tables.avps.items rule.entry.entries.now l m counts.old
-        → m ≡ avp_of avp.entry ∷ k → result ≡ true
-        → IsGoodBut depth dictionary.now.tables.avps.items rule.entry.entries.now l k counts.new }
+    ensures passed { result ≡ true → PassesNext depth dictionary.now.tables.avps.items rule.entry.entries.now
+        (avp_of avp.entry) counts.old counts.new }
     ensures same { result ≡ false → counts.new ≡ counts.old }
 {
     match row_for(dictionary, rule, avp) {
@@ -270,7 +267,7 @@ fn passes_few(dictionary: &Linked, rule: LinkedRule<'_>, octets: &[u8], depth: u
     ensures { result ≡ true → (l : List Avp) × SpellsList l octets.now
         × (None ≡ first (list_faults depth dictionary.now.tables.avps.items rule.entry.entries.now l)) }
 {
-    let mut counts = few_counts();
+    let mut counts = counters::<FEW_ENTRIES>();
     passes_counted(dictionary, rule, octets, depth, &mut counts)
 }
 
@@ -285,7 +282,7 @@ fn passes_many(dictionary: &Linked, rule: LinkedRule<'_>, octets: &[u8], depth: 
     ensures { result ≡ true → (l : List Avp) × SpellsList l octets.now
         × (None ≡ first (list_faults depth dictionary.now.tables.avps.items rule.entry.entries.now l)) }
 {
-    let mut counts = many_counts();
+    let mut counts = counters::<MANY_ENTRIES>();
     passes_counted(dictionary, rule, octets, depth, &mut counts)
 }
 

@@ -11,20 +11,20 @@ const EMPTY: u8 = 255;
 /// The seat of a slot whose bits several may have.
 pub(crate) const CROWDED: u8 = 254;
 
-fn no_seats() -> [u8; 256]
+fn no_seats() -> [u8; 128]
     ensures { (i : ℕ) → i < seat_slots → slice_index result i ≡ empty_seat }
 {
-    [EMPTY; 256]
+    [EMPTY; 128]
 }
 
 /// The entry at the place takes the slot of its code, if it is linked; the slot is crowded where there is another, and
 /// where no AVP may stand there.
-fn note_seat(seats: &mut [u8; 256], row: &Row, place: usize)
+fn note_seat(seats: &mut [u8; 128], row: &Row, place: usize)
     ensures { (i : ℕ) → i < seat_slots
         → slice_index seats.new i ≡ seat_with row.now place i (slice_index seats.old i) }
 {
     if row.linked {
-        let slot = (row.code % 256) as usize;
+        let slot = (row.code % 128) as usize;
         seats[slot] = if seats[slot] == EMPTY && place < 254 && row.allowed {
             place as u8
         } else {
@@ -34,7 +34,7 @@ fn note_seat(seats: &mut [u8; 256], row: &Row, place: usize)
 }
 
 /// The seats of the entries of a rule that have these rows.
-pub(crate) fn seats_of(rows: &[Row]) -> [u8; 256]
+pub(crate) fn seats_of(rows: &[Row]) -> [u8; 128]
     ensures { IsSeated rows.now result }
 {
     let mut seats = no_seats();

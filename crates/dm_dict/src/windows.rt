@@ -14,12 +14,9 @@ ghost use Rattle.dm_dict.specs.Counters.{IsCounted, is_bounded};
 ghost use Rattle.dm_dict.specs.Faults.{entry_faults, first};
 ghost use Rattle.dm_dict.specs.Found.{finds_missing};
 ghost use Rattle.dm_dict.specs.Judgement.{shown};
-ghost use Rattle.dm_dict.specs.Limits.{many_entries, middle_window, short_window, window};
+ghost use Rattle.dm_dict.specs.Limits.{middle_window, window};
 
-use crate::counts::{
-    MANY_ENTRIES, MIDDLE_WINDOW, SHORT_WINDOW, WINDOW, count_from, many_counts,
-    middle_window_counts, short_window_counts, window_counts,
-};
+use crate::counts::{MANY_ENTRIES, MIDDLE_WINDOW, SHORT_WINDOW, WINDOW, count_from, counters};
 use crate::entries::judge_entry;
 use crate::judged::Judged;
 use crate::linked::LinkedRule;
@@ -121,10 +118,10 @@ fn judge_recounted<'a>(
     judge_window(tables, rule, from, counts, list)
 }
 
-/// The first fault of a window of entries from `from` on.
-// (A function of its own in the machine's code too, as the next three: its counters are cleared at each call.)
+/// The first fault of a window of so many entries from `from` on.
+// (A function of its own in the machine's code too: its counters are cleared at each call.)
 #[inline(never)]
-fn judge_next<'a>(
+fn judge_next<'a, const SIZE: usize>(
     tables: &Tables,
     rule: LinkedRule<'_>,
     from: usize,
@@ -133,22 +130,22 @@ fn judge_next<'a>(
     requires tables { IsTables tables.now }
     requires fit { IsFit tables.now.avps.items }
     requires rule { IsRule tables.now.avps.items rule }
+    requires size { SIZE ≤ window }
     requires within { from ≤ length rule.entries.now }
     ensures fault { (l : List Avp) → Lists list.entry l
         → first (flat_map (entry_faults tables.now.avps.items rule.entry.entries.now l)
         (drop from rule.entry.entries.now))
         ≡ option_or (shown result) (first (flat_map (entry_faults tables.now.avps.items rule.entry.entries.now l)
-        (drop (from + window) rule.entry.entries.now))) }
+        (drop (from + SIZE) rule.entry.entries.now))) }
     ensures missing { finds_missing result ≡ false }
 {
-    let mut counts = window_counts();
+    let mut counts = counters::<SIZE>();
     judge_recounted(tables, rule, from, &mut counts, list)
 }
 
-/// The first fault of the last entries, those from `from` on, where they are no more than a middle window.
-// (So a rule has no more counters cleared than four times its entries.)
-#[inline(never)]
-fn judge_middle<'a>(
+/// The first fault of the last entries, those from `from` on, where they are no more than so many.
+#[inline(always)]
+fn judge_last<'a, const SIZE: usize>(
     tables: &Tables,
     rule: LinkedRule<'_>,
     from: usize,
@@ -157,63 +154,19 @@ fn judge_middle<'a>(
     requires tables { IsTables tables.now }
     requires fit { IsFit tables.now.avps.items }
     requires rule { IsRule tables.now.avps.items rule }
+    requires size { SIZE ≤ window }
     requires within { from ≤ length rule.entries.now }
-    requires last { length rule.entries.now ≤ from + middle_window }
+    requires last { length rule.entries.now ≤ from + SIZE }
     ensures fault { (l : List Avp) → Lists list.entry l
         → shown result ≡ first (flat_map (entry_faults tables.now.avps.items rule.entry.entries.now l)
         (drop from rule.entry.entries.now)) }
     ensures missing { finds_missing result ≡ false }
 {
-    let mut counts = middle_window_counts();
-    judge_recounted(tables, rule, from, &mut counts, list)
-}
-
-/// The same where they are no more than a short window.
-#[inline(never)]
-fn judge_short<'a>(
-    tables: &Tables,
-    rule: LinkedRule<'_>,
-    from: usize,
-    list: AvpsRef<'a>,
-) -> Judged<'a>
-    requires tables { IsTables tables.now }
-    requires fit { IsFit tables.now.avps.items }
-    requires rule { IsRule tables.now.avps.items rule }
-    requires within { from ≤ length rule.entries.now }
-    requires last { length rule.entries.now ≤ from + short_window }
-    ensures fault { (l : List Avp) → Lists list.entry l
-        → shown result ≡ first (flat_map (entry_faults tables.now.avps.items rule.entry.entries.now l)
-        (drop from rule.entry.entries.now)) }
-    ensures missing { finds_missing result ≡ false }
-{
-    let mut counts = short_window_counts();
-    judge_recounted(tables, rule, from, &mut counts, list)
-}
-
-/// The same where they are no more than are counted at first.
-#[inline(never)]
-fn judge_last<'a>(
-    tables: &Tables,
-    rule: LinkedRule<'_>,
-    from: usize,
-    list: AvpsRef<'a>,
-) -> Judged<'a>
-    requires tables { IsTables tables.now }
-    requires fit { IsFit tables.now.avps.items }
-    requires rule { IsRule tables.now.avps.items rule }
-    requires within { from ≤ length rule.entries.now }
-    requires last { length rule.entries.now ≤ from + many_entries }
-    ensures fault { (l : List Avp) → Lists list.entry l
-        → shown result ≡ first (flat_map (entry_faults tables.now.avps.items rule.entry.entries.now l)
-        (drop from rule.entry.entries.now)) }
-    ensures missing { finds_missing result ≡ false }
-{
-    let mut counts = many_counts();
-    judge_recounted(tables, rule, from, &mut counts, list)
+    judge_next::<SIZE>(tables, rule, from, list)
 }
 
 /// The first fault of the last entries, those from `from` on, where they are no more than a middle window: by the
-/// fewest counters that do.
+/// fewest counters that do. (So a rule has no more counters cleared than four times its entries.)
 fn judge_rest<'a>(
     tables: &Tables,
     rule: LinkedRule<'_>,
@@ -232,11 +185,11 @@ fn judge_rest<'a>(
 {
     let left = rule.entries.as_slice().len() - from;
     if left > SHORT_WINDOW {
-        judge_middle(tables, rule, from, list)
+        judge_last::<MIDDLE_WINDOW>(tables, rule, from, list)
     } else if left > MANY_ENTRIES {
-        judge_short(tables, rule, from, list)
+        judge_last::<SHORT_WINDOW>(tables, rule, from, list)
     } else {
-        judge_last(tables, rule, from, list)
+        judge_last::<MANY_ENTRIES>(tables, rule, from, list)
     }
 }
 
@@ -258,7 +211,7 @@ fn judge_further<'a>(
     let size = rule.entries.as_slice().len();
     let mut from = next_bounded(rule.entries, start);
     while from < size && size - from > MIDDLE_WINDOW {
-        match judge_next(tables, rule, from, list) {
+        match judge_next::<WINDOW>(tables, rule, from, list) {
             Judged::Good => {}
             Judged::Bad { code, failed } => return Judged::Bad { code, failed },
         }

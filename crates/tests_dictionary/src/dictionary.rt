@@ -1,7 +1,6 @@
 //! Tests of dictionaries, by subject.
 mod answers;
 mod applications;
-mod by_hand;
 mod counters;
 mod edges;
 mod examples;
@@ -9,20 +8,14 @@ mod failed;
 mod faults;
 mod groups;
 mod judged;
-mod late_definitions;
 mod listed;
 mod long_rules;
-mod many_bounds;
-mod many_entries;
 mod printed;
 mod rows;
 mod rules;
-mod seated_types;
 mod second_version;
-mod shared_seats;
 mod texts;
 mod thresholds;
-mod told;
 mod types;
 mod values;
 mod verdicts;

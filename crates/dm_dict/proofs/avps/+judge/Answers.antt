@@ -60,7 +60,7 @@ judge_many-judge_counted-requires t c = (
           l,
           h,
           none_passed c.args.depth c.args.dictionary.now.tables.avps.items c.args.rule.entries.now l _
-              c.many_counts-counts.ensures,
+              c.counters-counts.ensures,
         ),
       ),
     ),

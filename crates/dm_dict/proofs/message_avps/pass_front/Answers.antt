@@ -14,4 +14,4 @@ pub loop-avp-preserved : goal.loop-avp-preserved
 loop-avp-preserved c = λ all h.
     let (m, listed, before) = c.loop-avp.invariant all h in
     let (k, is, behind) = c.in-Some.ensures.parts m listed in
-    (k, behind, c.pass_next.ensures.passed all m k before is c.if-not-pass_next.false)
+    (k, behind, c.pass_next.ensures.passed c.if-not-pass_next.false all m k before is)

@@ -39,7 +39,7 @@ pass_each-loop-avp-init t c = (
 )
 
 pub pass_row-returns-clause-passed : goal.pass_row-returns-clause-passed
-pass_row-returns-clause-passed t c = λ rule l m k stands before is yes.
+pass_row-returns-clause-passed t c = λ yes rule stands l m k before is.
     let avps = c.args.dictionary.now.tables.avps.items in
     let a = avp_of c.args.avp in
     let good = looked_up (group_faults c.args.depth avps) _ _ a _ _ stands.allowed
@@ -48,7 +48,7 @@ pass_row-returns-clause-passed t c = λ rule l m k stands before is yes.
     c.count_one.ensures.counted stands.counts
 
 pub pass_found-returns-clause-passed : goal.pass_found-returns-clause-passed
-pass_found-returns-clause-passed t c = λ l m k before is yes.
+pass_found-returns-clause-passed t c = λ yes l m k before is.
     let avps = c.args.dictionary.now.tables.avps.items in
     let rule = c.args.rule.entries.now in
     let a = avp_of c.args.avp in
@@ -67,7 +67,7 @@ pass_each-loop-avp-preserved t c =
       λ m. all (a ∷ m),
       λ m h. spelled (a ∷ m)
           (take n s, _, rw (take_rest s n) (sym (take-append-drop n s)), c.in-Some.ensures.found, h),
-      λ m. c.pass_next.ensures.passed (all (a ∷ m)) (a ∷ m) m (before (a ∷ m)) refl c.if-not-pass_next.false,
+      λ m. c.pass_next.ensures.passed c.if-not-pass_next.false (all (a ∷ m)) (a ∷ m) m (before (a ∷ m)) refl,
     )
 
 pub pass_each-returns : goal.pass_each-returns

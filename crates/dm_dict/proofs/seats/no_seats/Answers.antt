@@ -9,4 +9,4 @@ empty_at (suc n) zero h = refl
 empty_at (suc n) (suc i) h = empty_at n i (omega arith)
 
 pub returns : goal.returns
-returns c = λ i h. empty_at 256 i h
+returns c = λ i h. empty_at 128 i h

@@ -7,7 +7,7 @@ use Rattle.dm_dict.proofs.seats.seats_of.Goals as goal
 pub loop-place-preserved : goal.loop-place-preserved
 loop-place-preserved c = λ code vendor.
     seated_step c.args.rows.now c.loop-place.place code vendor _ _ _ _ c.loop-place-test.true refl
-    (c.loop-place.invariant code vendor) (c.note_seat.ensures (code % 256) (mod_below code 256 (omega arith)))
+    (c.loop-place.invariant code vendor) (c.note_seat.ensures (code % 128) (mod_below code 128 (omega arith)))
 
 pub returns : goal.returns
 returns c =

@@ -1,5 +1,5 @@
 -- Behind the last entries there are none.
-use Rattle.std.proofs.Common.{rules, ◌≡◌, ◌≤◌, ◌+◌, Option, None, Some, length, refl, sym, arith}
+use Rattle.std.proofs.Common.{◌≡◌, ◌+◌, Option, None, Some, refl, sym}
 use Rattle.std.specs.Option.{option_or}
 use Rattle.std.proofs.lemmas.List.{drop_all}
 use Rattle.dm_dict.specs.Faults.{Fault}
@@ -10,9 +10,6 @@ or_none None = refl
 or_none (Some f) = refl
 
 pub returns-clause-fault : goal.returns-clause-fault
-returns-clause-fault c = λ l h.
-    let rule = c.args.rule.entries.now in
-    let counters : length c.many_counts-counts.result ≡ 256 = search rules in
-    let past : length rule ≤ c.args.from + length c.many_counts-counts.result = omega (arith, counters, c.requires.last) in
-    let none = drop_all (c.args.from + length c.many_counts-counts.result) rule past in
-    sym (rw (none, or_none _) at (c.judge_recounted.ensures.fault l h))
+returns-clause-fault g c = λ l h.
+    let none = drop_all (c.args.from + g.row.SIZE) c.args.rule.entries.now c.requires.last in
+    sym (rw (none, or_none _) at (c.judge_next.ensures.fault l h))

@@ -1,6 +1,5 @@
 //! What all calls say of one message: `check`, `faults` and `located` of it, and `judge`, `faults_in` and `located_in`
 //! of its octets. They must say the same, and what is wanted.
-use super::rows::verdict_text;
 use dm_dict::{Dictionary, Failed, Fault, Judged, LocatedFault};
 use dm_wire::{Avp, AvpList, AvpRef, Header, Message, MessageRef, Octets};
 use std::process::Abort;
@@ -8,20 +7,20 @@ use std::process::Abort;
 /// AVPs one behind the other: the first one's code, how far it is from each one's to the next one's, how many they are,
 /// and the vendor of all.
 #[derive(Clone, Copy)]
-pub(super) struct Run {
-    pub(super) first: u32,
-    pub(super) step: u32,
-    pub(super) count: u32,
-    pub(super) vendor: Option<u32>,
+pub struct Run {
+    pub first: u32,
+    pub step: u32,
+    pub count: u32,
+    pub vendor: Option<u32>,
 }
 
 /// The code of the nth.
-pub(super) fn code_of(run: &Run, nth: u32) -> u32 {
+pub fn code_of(run: &Run, nth: u32) -> u32 {
     run.first.wrapping_add(run.step.wrapping_mul(nth))
 }
 
 /// The nth of them alone.
-pub(super) fn one_of(run: &Run, nth: u32) -> Run {
+pub fn one_of(run: &Run, nth: u32) -> Run {
     Run {
         first: code_of(run, nth),
         count: 1,
@@ -30,7 +29,7 @@ pub(super) fn one_of(run: &Run, nth: u32) -> Run {
 }
 
 /// AVPs without a vendor.
-pub(super) fn codes(first: u32, step: u32, count: u32) -> Run {
+pub fn codes(first: u32, step: u32, count: u32) -> Run {
     Run {
         first,
         step,
@@ -40,7 +39,7 @@ pub(super) fn codes(first: u32, step: u32, count: u32) -> Run {
 }
 
 /// The same in the contrary order.
-pub(super) fn reversed(run: &Run) -> Run {
+pub fn reversed(run: &Run) -> Run {
     Run {
         first: code_of(run, run.count.wrapping_sub(1)),
         step: run.step.wrapping_neg(),
@@ -64,12 +63,7 @@ const GROUP_HEAD: &str = "\n< Group > ::= < AVP Header: 7000 >";
 const GROUPED_RULE: &str = "\n< Grouped > ::= < Diameter Header: 301, REQ > { Group }";
 
 /// The definitions of these AVPs, each named after its code, and its vendor where it has one.
-pub(super) fn push_definitions(
-    rt: &(impl Abort + AllocGlobal),
-    text: &mut String,
-    run: &Run,
-    kind: &str,
-) {
+pub fn push_definitions(rt: &(impl Abort + AllocGlobal), text: &mut String, run: &Run, kind: &str) {
     for nth in 0..run.count {
         let code = code_of(run, nth);
         let line = match run.vendor {
@@ -83,7 +77,7 @@ pub(super) fn push_definitions(
 }
 
 /// The entries of these AVPs, with this before each name and this behind it.
-pub(super) fn push_entries(
+pub fn push_entries(
     rt: &(impl Abort + AllocGlobal),
     text: &mut String,
     run: &Run,
@@ -127,11 +121,7 @@ fn read(rt: &(impl Abort + AllocGlobal), text: &str) -> Dictionary {
 
 /// The dictionary of these definitions, of a command and a group whose rules both have these entries, and of a command
 /// that wants the group.
-pub(super) fn ruled(
-    rt: &(impl Abort + AllocGlobal),
-    definitions: &str,
-    entries: &str,
-) -> Dictionary {
+pub fn ruled(rt: &(impl Abort + AllocGlobal), definitions: &str, entries: &str) -> Dictionary {
     let text = text_of(rt, definitions, entries);
     let dictionary = read(rt, text.as_str());
     drop(text);
@@ -154,23 +144,18 @@ fn request_of(command: u32, avps: Vec<Avp>) -> Message {
 }
 
 /// The request whose rule has the entries.
-pub(super) fn plain_request(avps: Vec<Avp>) -> Message {
+pub fn plain_request(avps: Vec<Avp>) -> Message {
     request_of(PLAIN, avps)
 }
 
 /// An AVP with M.
-pub(super) fn marked(
-    rt: &(impl Abort + AllocGlobal),
-    code: u32,
-    vendor: Option<u32>,
-    data: &[u8],
-) -> Avp {
+pub fn marked(rt: &(impl Abort + AllocGlobal), code: u32, vendor: Option<u32>, data: &[u8]) -> Avp {
     let data = Octets::from_slice(rt.alloc(), data).expect(rt, "memory");
     Avp::new(code, vendor, true, data)
 }
 
 /// One AVP more, with M.
-pub(super) fn push_avp(
+pub fn push_avp(
     rt: &(impl Abort + AllocGlobal),
     avps: &mut Vec<Avp>,
     code: u32,
@@ -213,19 +198,19 @@ fn in_group(rt: &(impl Abort + AllocGlobal), message: &Message) -> Message {
 
 /// What is said of a message: its first fault in words, or that it is good, and how many faults it has.
 #[derive(Clone, Copy)]
-pub(super) struct Said<'a> {
-    pub(super) words: &'a str,
-    pub(super) faults: usize,
+pub struct Said<'a> {
+    pub words: &'a str,
+    pub faults: usize,
 }
 
 /// Nothing is wrong.
-pub(super) const GOOD: Said<'static> = Said {
+pub const GOOD: Said<'static> = Said {
     words: "good",
     faults: 0,
 };
 
 /// The AVP as a verdict tells it: its code, its vendor where it has one, M, and data of four octets.
-pub(super) fn words_of(
+pub fn words_of(
     rt: &(impl Abort + AllocGlobal),
     result_code: u32,
     avp: &Run,
@@ -244,7 +229,7 @@ pub(super) fn words_of(
 /// Whether this is told in these words.
 fn is_told(rt: &(impl Abort + AllocGlobal), judged: Judged<'_>, words: &str) -> bool {
     let verdict = judged.verdict(rt.alloc()).expect(rt, "memory");
-    let told = verdict_text(rt, &verdict);
+    let told = verdict.to_string(rt.alloc()).expect(rt, "memory");
     told.as_str() == words
 }
 
@@ -335,7 +320,7 @@ fn assert_checked(
     said: Said<'_>,
 ) {
     let verdict = dictionary.check(rt.alloc(), message).expect(rt, "memory");
-    let told = verdict_text(rt, &verdict);
+    let told = verdict.to_string(rt.alloc()).expect(rt, "memory");
     assert_eq!(rt; told.as_str(), said.words);
 }
 
@@ -359,7 +344,7 @@ fn assert_each_says(
 }
 
 /// All calls say this of the message, and of the group of its AVPs.
-pub(super) fn assert_both(
+pub fn assert_both(
     rt: &(impl Abort + AllocGlobal),
     dictionary: &Dictionary,
     message: &Message,
@@ -372,7 +357,7 @@ pub(super) fn assert_both(
 }
 
 /// All calls say this of the request of these AVPs, and of the group of them; the data of each is its place.
-pub(super) fn assert_said(
+pub fn assert_said(
     rt: &(impl Abort + AllocGlobal),
     dictionary: &Dictionary,
     runs: &[Run],
@@ -384,7 +369,7 @@ pub(super) fn assert_said(
 }
 
 /// All calls say this of the request of one AVP, and of the group of it.
-pub(super) fn assert_said_of_one(
+pub fn assert_said_of_one(
     rt: &(impl Abort + AllocGlobal),
     dictionary: &Dictionary,
     avp: Avp,
@@ -396,7 +381,7 @@ pub(super) fn assert_said_of_one(
 }
 
 /// All calls say this of the request of so many AVPs without data, and of the group of them.
-pub(super) fn assert_said_of_empty(
+pub fn assert_said_of_empty(
     rt: &(impl Abort + AllocGlobal),
     dictionary: &Dictionary,
     code: u32,
@@ -414,7 +399,7 @@ pub(super) fn assert_said_of_empty(
 
 /// All calls say of the request of these AVPs, and of the group of them, that this is wrong first: by this Result-Code
 /// the AVP of this number, which is the first of this run (0 of one that is missing). There are so many faults.
-pub(super) fn assert_bad(
+pub fn assert_bad(
     rt: &(impl Abort + AllocGlobal),
     dictionary: &Dictionary,
     runs: &[Run],
@@ -442,7 +427,7 @@ fn deep_request(rt: &(impl Abort + AllocGlobal), runs: &[Run], depth: u32) -> Me
 }
 
 /// All calls say this of the request of these AVPs inside so many groups.
-pub(super) fn assert_said_deep(
+pub fn assert_said_deep(
     rt: &(impl Abort + AllocGlobal),
     dictionary: &Dictionary,
     runs: &[Run],

@@ -1,6 +1,6 @@
 //! AVPs whose codes share their lowest bits, and AVPs of one code and several vendors (RFC 6733, 4.1): each is known by
 //! its whole code and its vendor, and judged by its own entry.
-use super::told::{
+use crate::told::{
     GOOD, Run, assert_bad, assert_said, one_of, push_definitions, push_entries, ruled,
 };
 use dm_dict::Dictionary;

@@ -1,5 +1,5 @@
 //! Definitions behind more than two octets number: each is found at its place, and none that stands 65,536 before it.
-use super::told::{
+use crate::told::{
     GOOD, Run, Said, assert_bad, assert_said, assert_said_of_one, codes, marked, one_of,
     push_definitions, push_entries, ruled,
 };

@@ -1,6 +1,6 @@
 //! Bounds of entries at the ends of the counters' range, with as many AVPs and those beside (RFC 6733, 3.2): what
 //! decides is the number of the AVPs, whatever counts them.
-use super::told::{
+use crate::told::{
     Said, assert_said, assert_said_of_empty, codes, push_definitions, push_entries, ruled,
 };
 use dm_dict::Dictionary;

@@ -1,5 +1,5 @@
 //! Rules and requests that are made by chance: all calls say what is counted by hand (RFC 6733, 3.2, 4.1 and 7.1.5).
-use super::told::{
+use crate::told::{
     GOOD, Run, Said, assert_both, plain_request, push_avp, push_definitions, push_entries, ruled,
     words_of,
 };

@@ -1,6 +1,6 @@
 //! Rules of as many entries as are looked up or counted in one way, and of more: each AVP is found at its entry and
 //! counted there (RFC 6733, 3.2), in whatever order they come.
-use super::told::{
+use crate::told::{
     GOOD, Run, Said, assert_bad, assert_said, assert_said_deep, code_of, codes, one_of,
     push_definitions, push_entries, reversed, ruled, words_of,
 };

@@ -1,6 +1,6 @@
 //! AVPs of each type whose codes share their lowest bits, and of one code and two vendors: the data of each are judged
 //! by its own type (RFC 6733, 4.2 to 4.4, 7.5).
-use super::told::{
+use crate::told::{
     GOOD, Said, assert_said_of_one, codes, marked, push_definitions, push_entries, ruled,
 };
 use dm_dict::Dictionary;

@@ -1,7 +1,7 @@
 -- All are zero.
 use Rattle.std.proofs.Common.{◌≡◌, ℕ, zero, suc, get_or, refl}
 use Rattle.std.proofs.Math.ListN.{replicate}
-use Rattle.dm_dict.proofs.counts.many_counts.Goals as goal
+use Rattle.dm_dict.proofs.counts.counters.Goals as goal
 
 zero_at : (n i : ℕ) → get_or {A = ℕ} (replicate n 0) i 0 ≡ 0
 zero_at zero i = refl
@@ -9,4 +9,4 @@ zero_at (suc n) zero = refl
 zero_at (suc n) (suc i) = zero_at n i
 
 pub returns : goal.returns
-returns c = λ i. zero_at 256 i
+returns g c = λ i. zero_at g.row.SIZE i
