@@ -144,7 +144,7 @@ fn put_checked(
 {
     put_json_verdict(json, faults.is_empty())?;
     json.key("header")?;
-    put_json_header(alloc, json, dictionary, &message.header)?;
+    put_json_header(json, dictionary, &message.header)?;
     json.key("faults")?;
     json.begin_array()?;
     put_faults(alloc, json, dictionary, faults)?;

@@ -9,7 +9,7 @@ use crate::json_text::JsonText;
 use crate::json_words::{put_name, put_word};
 use dm_dict::{CommandDef, Dictionary};
 use dm_wire::Header;
-use std::alloc::{AllocError, Global};
+use std::alloc::AllocError;
 
 /// Appends the name of a command, where it has a definition.
 fn put_command(json: &mut JsonText, def: Option<&CommandDef>) -> Result<(), AllocError>
@@ -52,10 +52,9 @@ fn put_identifiers(json: &mut JsonText, header: &Header) -> Result<(), AllocErro
     Ok(())
 }
 
-/// Appends a header: the command's name, code, flags in words, application and identifiers. `alloc` gives no room.
+/// Appends a header: the command's name, code, flags in words, application and identifiers.
 #[tactic(auto, unfolding(crate::specs::JsonView::header_json))]
 pub fn put_json_header(
-    alloc: Global,
     json: &mut JsonText,
     dictionary: &Dictionary,
     header: &Header,

@@ -13,13 +13,12 @@ use crate::json_text::JsonText;
 use dm_dict::Dictionary;
 use dm_wire::laws::spelled_are_members;
 use dm_wire::{AvpsRef, MessageRef};
-use std::alloc::{AllocError, Global};
+use std::alloc::AllocError;
 
 /// Appends what a message says by the dictionary, as members of an object that is open: its header and its AVPs.
 ///
 /// Where memory is wanted, what is appended is of no use.
 pub fn put_json_message(
-    alloc: Global,
     json: &mut JsonText,
     dictionary: &Dictionary,
     message: &MessageRef<'_>,
@@ -30,7 +29,7 @@ pub fn put_json_message(
 {
     spelled_are_members();
     json.key("header")?;
-    put_json_header(alloc, json, dictionary, &message.header)?;
+    put_json_header(json, dictionary, &message.header)?;
     json.key("avps")?;
     json.begin_array()?;
     let list = AvpsRef::Spelled(message.rest);

@@ -15,7 +15,7 @@ use dm_dict::Dictionary;
 use dm_view::{put_header, put_message};
 use dm_wire::laws::spelled_are_members;
 use dm_wire::{MessageRef, WireFault};
-use std::alloc::{AllocError, Global};
+use std::alloc::AllocError;
 
 /// The message up to the first bad AVP, which begins at this octet.
 pub(crate) fn front_of(octets: &[u8], offset: usize) -> MessageRef<'_>
@@ -34,7 +34,6 @@ pub(crate) fn front_of(octets: &[u8], offset: usize) -> MessageRef<'_>
 
 /// Appends what is shown before the refusal of octets.
 fn put_front_shown(
-    alloc: Global,
     text: &mut String,
     dictionary: &Dictionary,
     octets: &[u8],
@@ -46,7 +45,7 @@ fn put_front_shown(
 {
     match fault {
         WireFault::AvpLength(offset) => {
-            put_message(alloc, text, dictionary, &front_of(octets, offset))?;
+            put_message(text, dictionary, &front_of(octets, offset))?;
             text.push_str("  ")?;
             Ok(())
         }
@@ -86,7 +85,6 @@ fn put_front_checked(
 
 /// Appends what is shown of octets with this number that are no message.
 pub(crate) fn put_shown_refusal(
-    alloc: Global,
     text: &mut String,
     dictionary: &Dictionary,
     number: u64,
@@ -98,7 +96,7 @@ pub(crate) fn put_shown_refusal(
         (before_refusal (front_shown dictionary.now) octets.now fault ++ refusal_sentence fault ++ 10 ∷ [])) }
 {
     put_numbering(text, number)?;
-    put_front_shown(alloc, text, dictionary, octets, fault)?;
+    put_front_shown(text, dictionary, octets, fault)?;
     put_refusal(text, fault)?;
     Ok(())
 }

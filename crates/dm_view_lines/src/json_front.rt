@@ -18,7 +18,6 @@ use std::alloc::{AllocError, Global};
 
 /// Appends the message up to a bad AVP, as members of an object that is open.
 fn put_shown_before(
-    alloc: Global,
     json: &mut JsonText,
     dictionary: &Dictionary,
     octets: &[u8],
@@ -30,7 +29,7 @@ fn put_shown_before(
 {
     match fault {
         WireFault::AvpLength(offset) => {
-            put_json_message(alloc, json, dictionary, &front_of(octets, offset))
+            put_json_message(json, dictionary, &front_of(octets, offset))
         }
         WireFault::TooShort
         | WireFault::Version
@@ -42,7 +41,6 @@ fn put_shown_before(
 
 /// Appends the header of a message with a bad AVP, as a member of an object that is open.
 fn put_checked_before(
-    alloc: Global,
     json: &mut JsonText,
     dictionary: &Dictionary,
     octets: &[u8],
@@ -55,7 +53,7 @@ fn put_checked_before(
     match fault {
         WireFault::AvpLength(offset) => {
             json.key("header")?;
-            put_json_header(alloc, json, dictionary, &front_of(octets, offset).header)
+            put_json_header(json, dictionary, &front_of(octets, offset).header)
         }
         WireFault::TooShort
         | WireFault::Version
@@ -87,7 +85,7 @@ fn put_shown_object(
         (shown_before dictionary.now octets.now fault (error_member (refusal_sentence fault)))))) }
 {
     put_number(json, "number", number)?;
-    put_shown_before(alloc, json, dictionary, octets, fault)?;
+    put_shown_before(json, dictionary, octets, fault)?;
     put_reason(alloc, json, fault)?;
     Ok(())
 }
@@ -125,7 +123,7 @@ fn put_checked_object(
 {
     put_number(json, "number", number)?;
     put_bad(json, true)?;
-    put_checked_before(alloc, json, dictionary, octets, fault)?;
+    put_checked_before(json, dictionary, octets, fault)?;
     put_reason(alloc, json, fault)?;
     Ok(())
 }

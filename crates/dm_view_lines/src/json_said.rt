@@ -20,7 +20,6 @@ use std::alloc::{AllocError, Global};
 
 /// Appends the object that shows a message with this number.
 fn put_shown_object(
-    alloc: Global,
     json: &mut JsonText,
     dictionary: &Dictionary,
     number: u64,
@@ -31,7 +30,7 @@ fn put_shown_object(
         (message_members dictionary.now (record { header = message.now.header; avps = l }) no_members)))) }
 {
     put_number(json, "number", number)?;
-    put_json_message(alloc, json, dictionary, message)?;
+    put_json_message(json, dictionary, message)?;
     json.end_object()?;
     Ok(())
 }
@@ -50,7 +49,7 @@ pub(crate) fn put_json_shown(
     ensures good { IfOk result (λ good. good ≡ true) }
 {
     let mut json = JsonText::new(alloc);
-    put_shown_object(alloc, &mut json, dictionary, number, message)?;
+    put_shown_object(&mut json, dictionary, number, message)?;
     json.put_line(text)?;
     Ok(true)
 }

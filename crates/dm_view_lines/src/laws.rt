@@ -1,4 +1,5 @@
 //! Laws of what is said. A law calls those that it stands on, and its contract is the law.
+ghost use Rattle.dm_view_lines.specs.Joined.{JoinedSaid};
 ghost use Rattle.dm_view_lines.specs.OneText.{OneSaid, SomeSaid};
 
 /// Under one dictionary one text at most is said of an input, and it is either good or not. The law stands for users.
@@ -16,3 +17,9 @@ pub fn some_text()
 {
     dm_wire::laws::message_or_fault();
 }
+
+/// What is said of two inputs, the first of which ends with a line's end, is what is said of each, numbers going on.
+/// The law stands for users.
+pub fn joined_texts()
+    ensures { JoinedSaid }
+{}

@@ -16,7 +16,7 @@ use std::alloc::Global;
 
 /// Appends what is said of the line of this number, and tells whether it is good; `None` where it says nothing.
 /// `digits` is room that is used again from line to line.
-fn put_line(
+pub(crate) fn put_line(
     alloc: Global,
     text: &mut String,
     dictionary: &Dictionary,

@@ -61,7 +61,7 @@ fn put_piece(
 
 /// Adds the octets of the line of this number, as `put_piece` does, and tells where the stream stops at it: where it is
 /// no hexadecimal nothing is added.
-fn put_line(
+pub(crate) fn put_line(
     alloc: Global,
     text: &mut String,
     dictionary: &Dictionary,
@@ -148,7 +148,7 @@ fn put_stream(
 }
 
 /// That a stream ends in the middle of a message, where so many octets are left.
-fn part_of(held: usize) -> Option<Stop>
+pub(crate) fn part_of(held: usize) -> Option<Stop>
     ensures { (rest : List ℕ) → held ≡ length rest → result ≡ stop_of rest None None }
 {
     if held == 0 {

@@ -69,7 +69,7 @@ fn put_answer(
 {
     match task {
         Task::Show => {
-            put_shown(alloc, text, dictionary, number, message)?;
+            put_shown(text, dictionary, number, message)?;
             Ok(true)
         }
         Task::Check => put_checked(alloc, text, dictionary, number, message),
@@ -80,7 +80,6 @@ fn put_answer(
 
 /// Appends what a message with this number says.
 fn put_shown(
-    alloc: Global,
     text: &mut String,
     dictionary: &Dictionary,
     number: u64,
@@ -91,7 +90,7 @@ fn put_shown(
         ++ numbered number (message_view dictionary.now (record { header = message.now.header; avps = l }))) }
 {
     put_numbering(text, number)?;
-    put_message(alloc, text, dictionary, message)?;
+    put_message(text, dictionary, message)?;
     Ok(())
 }
 
@@ -129,7 +128,7 @@ fn put_refused(
         ≡ string_bytes text.old ++ refused_said task dictionary.now number octets.now fault) }
 {
     match task {
-        Task::Show => put_shown_refusal(alloc, text, dictionary, number, octets, fault),
+        Task::Show => put_shown_refusal(text, dictionary, number, octets, fault),
         Task::Check => put_checked_refusal(text, dictionary, number, octets, fault),
         Task::ShowJson => put_json_shown_refusal(alloc, text, dictionary, number, octets, fault),
         Task::CheckJson => {

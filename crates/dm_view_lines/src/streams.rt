@@ -29,7 +29,7 @@ pub fn read_file<R: Read + Drop>(reader: R, input: &mut Vec<u8>) -> io::Result<(
 }
 
 /// Whether no line lacks its line feed.
-fn is_ended(input: &[u8]) -> bool
+pub(crate) fn is_ended(input: &[u8]) -> bool
     ensures { result ≡ is_ended input.now }
 {
     match input {

@@ -4,11 +4,13 @@ ghost use Rattle.dm_dict_text.specs.declared.fault.DictFault.TheVariants as faul
 ghost use Rattle.dm_dict_text.specs.Outcome.{Defines, IsFirstFault};
 ghost use Rattle.dm_tables.specs.Base.{base_definitions};
 
-use crate::input::{VERSION, read_dictionaries, read_files};
-use anyhow::{Error, Result};
+use crate::input::VERSION;
+use anyhow::{Context, Error, Result};
 use dm_dict::{DictFault, Dictionary};
 use dm_text::{Lines, Words};
+use dm_view_lines::read_file;
 use std::alloc::Global;
+use std::fs::File;
 use std::{fs, io, str};
 
 /// The base dictionary and behind it what the text defines; or the first fault of the text, or want of memory.
@@ -23,15 +25,39 @@ fn dictionary_over(alloc: Global, text: &[u8]) -> Result<Dictionary, DictFault>
     read
 }
 
-/// The dictionary of the files named.
-pub fn dictionary_of(rt: &HostRuntime, names: &[&str]) -> Result<Dictionary> {
+/// The dictionary of the files of these names: the base one where none is named.
+pub fn dictionary_of(rt: &HostRuntime, names: &[&str], files: Vec<File>) -> Result<Dictionary> {
+    if names.is_empty() {
+        drop(files);
+        return Dictionary::base(rt.alloc()).context("dmview: dictionary");
+    }
     let mut text = Vec::new(rt.alloc());
-    let done = read_dictionaries(rt, names, &mut text);
+    let mut ends = Vec::new(rt.alloc());
+    let done = read_texts(names, files, &mut text, &mut ends);
     done?;
     match dictionary_over(rt.alloc(), text.as_slice()) {
         Ok(dictionary) => Ok(dictionary),
-        Err(fault) => Err(told(rt, names, text.as_slice(), fault)),
+        Err(fault) => Err(told(rt, names, text.as_slice(), ends.as_slice(), fault)),
     }
+}
+
+/// Appends the texts of the files as one text of version 2, whose version stands before the first line, and where each
+/// ends.
+fn read_texts(
+    names: &[&str],
+    files: Vec<File>,
+    text: &mut Vec<u8>,
+    ends: &mut Vec<usize>,
+) -> Result<()> {
+    text.extend_from_slice(VERSION)?;
+    let mut at: usize = 0;
+    for file in files {
+        let name = names.get(at).copied().unwrap_or("?");
+        read_file(file, text).context(format_args!("dmview: {name}"))?;
+        ends.extend_from_slice(&[text.len()])?;
+        at = at.saturating_add(1);
+    }
+    Ok(())
 }
 
 /// The line of a fault, counted through all files, and what is wrong with it.
@@ -54,9 +80,9 @@ fn words_of(fault: DictFault) -> (usize, &'static str)
 
 /// What is said of a fault: the file and the line there, what is wrong, and the file beside it that has a name of that
 /// line which is nowhere defined.
-fn told(rt: &HostRuntime, names: &[&str], text: &[u8], fault: DictFault) -> Error {
+fn told(rt: &HostRuntime, names: &[&str], text: &[u8], ends: &[usize], fault: DictFault) -> Error {
     let (line, words) = words_of(fault);
-    let Some((name, number)) = place_of(rt, names, line) else {
+    let Some((name, number)) = place_of(names, text, ends, line) else {
         return Error::msg(format_args!("dmview: dictionary: {words}"));
     };
     if let DictFault::UnknownName(_) = fault {
@@ -68,26 +94,29 @@ fn told(rt: &HostRuntime, names: &[&str], text: &[u8], fault: DictFault) -> Erro
 }
 
 /// The file of a line that is counted through all files, and its number there.
-fn place_of<'a>(rt: &HostRuntime, names: &[&'a str], line: usize) -> Option<(&'a str, usize)> {
+fn place_of<'a>(
+    names: &[&'a str],
+    text: &[u8],
+    ends: &[usize],
+    line: usize,
+) -> Option<(&'a str, usize)> {
     let mut left = line;
-    for name in names {
-        let count = count_lines(rt, name);
+    let mut start: usize = 0;
+    for (name, end) in names.iter().zip(ends) {
+        let count = count_lines(text.get(start..*end).unwrap_or(&[]));
         if left <= count {
             return Some((*name, left));
         }
         left -= count;
+        start = *end;
     }
     None
 }
 
-/// How many lines a file has, none where it can't be read.
-fn count_lines(rt: &HostRuntime, name: &str) -> usize {
-    let mut text = Vec::new(rt.alloc());
-    if read_files(rt, &[name], &mut text).is_err() {
-        return 0;
-    }
+/// How many lines a text has.
+fn count_lines(text: &[u8]) -> usize {
     let mut count: usize = 0;
-    for _ in Lines::new(text.as_slice()) {
+    for _ in Lines::new(text) {
         count = count.saturating_add(1);
     }
     count
@@ -139,7 +168,10 @@ fn name_text(word: &[u8]) -> &str {
 /// Whether a file can be read and defines the name.
 fn is_defined_in(rt: &HostRuntime, path: &str, word: &[u8]) -> bool {
     let mut text = Vec::new(rt.alloc());
-    match read_files(rt, &[path], &mut text) {
+    let Ok(file) = File::open(rt, path) else {
+        return false;
+    };
+    match read_file(file, &mut text) {
         Ok(()) => defines(text.as_slice(), word),
         Err(_) => false,
     }

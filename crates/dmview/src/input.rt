@@ -1,31 +1,41 @@
 //! The files of a run.
 use anyhow::{Context, Result};
-use dm_view_lines::read_file;
+use dm_view_lines::Inputs;
+use std::alloc::AllocError;
 use std::fs::File;
+use std::io::Read;
 
 /// The version of the texts of dictionaries.
 pub const VERSION: &[u8] = b"@ 2 ";
 
-/// Appends the octets of the files, one after the other.
-pub fn read_files(rt: &HostRuntime, names: &[&str], octets: &mut Vec<u8>) -> Result<()> {
+/// Opens a file. A directory is refused, as a read of it would be.
+fn open_file(rt: &HostRuntime, name: &str) -> Result<File> {
+    let mut file = File::open(rt, name).context(format_args!("dmview: {name}"))?;
+    let mut none = [0u8; 0];
+    let tried = file.read(&mut none);
+    tried.context(format_args!("dmview: {name}"))?;
+    Ok(file)
+}
+
+/// Opens the texts of dictionaries, so that one that isn't there is told before anything is read.
+pub fn open_texts(rt: &HostRuntime, names: &[&str]) -> Result<Vec<File>> {
+    let mut files = Vec::new(rt.alloc());
     for name in names {
-        let file = File::open(rt, *name).context(format_args!("dmview: {name}"))?;
-        read_file(file, octets).context(format_args!("dmview: {name}"))?;
+        let file = open_file(rt, name)?;
+        files
+            .push(file)
+            .map_err(AllocError::from)
+            .context("dmview")?;
     }
-    Ok(())
+    Ok(files)
 }
 
-/// Appends the octets of the files that are named, or of standard input where none is.
-pub fn read_input(rt: &HostRuntime, names: Option<&[&str]>, octets: &mut Vec<u8>) -> Result<()> {
-    match names {
-        Some(names) => read_files(rt, names, octets),
-        None => read_file(rt.stdin(), octets).context("dmview: standard input"),
+/// Opens the files that are said, one after the other.
+pub fn open_inputs(rt: &HostRuntime, names: &[&str]) -> Result<Inputs<File>> {
+    let mut inputs = Inputs::new(rt.alloc());
+    for name in names {
+        let file = open_file(rt, name)?;
+        inputs.push(file).context("dmview")?;
     }
-}
-
-/// Appends the texts of the dictionaries as one text of version 2. The version stands before the first line of the
-/// first file.
-pub fn read_dictionaries(rt: &HostRuntime, names: &[&str], text: &mut Vec<u8>) -> Result<()> {
-    text.extend_from_slice(VERSION)?;
-    read_files(rt, names, text)
+    Ok(inputs)
 }

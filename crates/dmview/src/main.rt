@@ -13,29 +13,57 @@ mod style;
 
 use crate::command::command_line;
 use crate::dictionary::dictionary_of;
-use crate::input::read_input;
+use crate::input::{open_inputs, open_texts};
 use crate::style::{Style, write_said};
-use anyhow::{Context, Result};
-use clap::ArgMatches;
-use clap::error::ErrorKind;
+use anyhow::{Context, Error, Result};
+use clap::{ArgMatches, error};
 use dm_dict::Dictionary;
-use dm_view_lines::Task;
+use dm_view_lines::{Inputs, RunFault, Task};
 use std::env;
-use std::io::{IsTerminal, Write};
+use std::io::{BufReader, ErrorKind, IsTerminal, Read, Write};
 use std::process::ExitCode;
 
-/// Reads the input, and writes what is said of it. True where nothing is bad.
-fn say(
+/// How many octets are read at once, at most.
+const READ_AT_ONCE: usize = 65_536;
+
+/// Why a run stopped, in words, and where it was read. Nothing is said where nobody reads on.
+fn told(fault: RunFault, name: &str) -> Result<u8> {
+    match fault {
+        RunFault::Write(error) => {
+            if error.kind() == ErrorKind::BrokenPipe {
+                return Ok(3);
+            }
+            Err(Error::msg(format_args!("dmview: {error}")))
+        }
+        RunFault::Memory => Err(Error::msg("dmview: no memory is left")),
+        other => Err(Error::msg(format_args!("dmview: {name}: {other}"))),
+    }
+}
+
+/// Writes what is said of the inputs as they are read, and tells the status. They have these names.
+fn say<R: Read + Drop>(
     rt: &HostRuntime,
     dictionary: &Dictionary,
     style: Style,
-    names: Option<&[&str]>,
-) -> Result<bool> {
-    let mut input = Vec::new(rt.alloc());
-    let done = read_input(rt, names, &mut input);
-    done?;
+    inputs: Inputs<R>,
+    names: &[&str],
+) -> Result<u8> {
     let mut output = rt.stdout();
-    write_said(rt.alloc(), dictionary, style, input.as_slice(), &mut output).context("dmview")
+    let mut reader = BufReader::with_capacity(rt.alloc(), READ_AT_ONCE, inputs).context("dmview")?;
+    let said = write_said(rt.alloc(), dictionary, style, &mut reader, &mut output);
+    let at = reader.get_ref().at();
+    drop(reader);
+    match said {
+        Ok(good) => Ok(status_of(good)),
+        Err(fault) => told(fault, names.get(at).copied().unwrap_or("standard input")),
+    }
+}
+
+/// Writes what is said of standard input, and tells the status.
+fn say_standard(rt: &HostRuntime, dictionary: &Dictionary, style: Style) -> Result<u8> {
+    let mut inputs = Inputs::new(rt.alloc());
+    inputs.push(rt.stdin()).context("dmview")?;
+    say(rt, dictionary, style, inputs, &[])
 }
 
 /// Whether colours are wanted.
@@ -60,25 +88,33 @@ fn task_of(is_check: bool, is_json: bool) -> Task
     }
 }
 
-/// Reads the dictionaries and the input, and prints what is said of it. True where nothing was bad.
-fn run(rt: &HostRuntime, is_check: bool, matches: &ArgMatches<'_>) -> Result<bool> {
+/// Opens the files, reads the dictionaries, and writes what is said of the input. It tells the status.
+fn run(rt: &HostRuntime, is_check: bool, matches: &ArgMatches<'_>) -> Result<u8> {
     let coloured = is_coloured(rt, matches.get_str("color"));
     let names = matches.get_strs("dict").unwrap_or(&[]);
-    let dictionary = dictionary_of(rt, names)?;
+    let texts = open_texts(rt, names)?;
+    let files = matches.get_strs("file").unwrap_or(&[]);
+    let inputs = open_inputs(rt, files)?;
+    let dictionary = dictionary_of(rt, names, texts)?;
     let style = Style {
         task: task_of(is_check, matches.get_flag("json")),
         is_stream: matches.get_flag("stream"),
         coloured,
     };
-    let good = say(rt, &dictionary, style, matches.get_strs("file"));
+    let status = if files.is_empty() {
+        drop(inputs);
+        say_standard(rt, &dictionary, style)
+    } else {
+        say(rt, &dictionary, style, inputs, files)
+    };
     drop(dictionary);
-    good
+    status
 }
 
 /// Says why the words are refused, or what they ask for, and tells the status.
 fn refused(rt: &HostRuntime, error: &clap::Error) -> Result<u8> {
     error.print(rt).context("dmview")?;
-    if error.kind() == ErrorKind::OutOfMemory {
+    if error.kind() == error::ErrorKind::OutOfMemory {
         return Ok(3);
     }
     Ok(error.exit_code() as u8)
@@ -103,12 +139,11 @@ fn run_words(rt: &HostRuntime) -> Result<u8> {
         Ok(matches) => matches,
         Err(error) => return refused(rt, &error),
     };
-    let good = match matches.subcommand() {
-        Some(("check", inner)) => run(rt, true, inner)?,
-        Some((_, inner)) => run(rt, false, inner)?,
-        None => false,
-    };
-    Ok(status_of(good))
+    match matches.subcommand() {
+        Some(("check", inner)) => run(rt, true, inner),
+        Some((_, inner)) => run(rt, false, inner),
+        None => Ok(status_of(false)),
+    }
 }
 
 fn main(rt: HostRuntime) -> ExitCode {

@@ -1,12 +1,13 @@
 //! How a run is written.
-ghost use Rattle.std.specs.Prelude.{◌≡◌, ℕ, true, false, List, IfOk};
+ghost use Rattle.std.specs.Prelude.{◌≡◌, ℕ, true, false, List, IfOk, IfSome};
 ghost use Rattle.std.specs.Io.KnownBytes.{Appends};
 ghost use Rattle.dm_view_lines.specs.Colours.{SaysStyled, SaysStreamStyled};
+ghost use Rattle.dm_view_lines.specs.Streams.{ended};
 
 use dm_dict::Dictionary;
-use dm_view_lines::{LinesFault, Task, write_lines, write_stream};
+use dm_view_lines::{RunFault, Task, say_lines, say_stream};
 use std::alloc::Global;
-use std::io::Write;
+use std::io::{BufRead, Write};
 
 /// How a run is written: the task, whether its lines are one stream, and whether with colours.
 #[derive(Clone, Copy)]
@@ -16,20 +17,21 @@ pub struct Style {
     pub coloured: bool,
 }
 
-/// Writes what is said of an input: of each of its lines, or of the stream that they are. True where nothing is bad.
-pub fn write_said<W: Write>(
+/// Writes what is said of an input as it is read: of each of its lines, or of the stream that they are. True where
+/// nothing is bad.
+pub fn write_said<R: BufRead, W: Write>(
     alloc: Global,
     dictionary: &Dictionary,
     style: Style,
-    input: &[u8],
+    reader: &mut R,
     writer: &mut W,
-) -> Result<bool, LinesFault>
-    ensures lines { style.is_stream ≡ false → IfOk result (λ good. (text : List ℕ)
-        × SaysStyled style.coloured style.task dictionary.now input.now text good
-        × Appends (W.contents writer.old) (W.contents writer.new) text) }
-    ensures stream { style.is_stream ≡ true → IfOk result (λ good. (text : List ℕ)
-        × SaysStreamStyled style.coloured style.task dictionary.now input.now text good
-        × Appends (W.contents writer.old) (W.contents writer.new) text) }
+) -> Result<bool, RunFault>
+    ensures lines { style.is_stream ≡ false → IfOk result (λ good. IfSome (R.remaining reader.old) (λ octets.
+        (text : List ℕ) × SaysStyled style.coloured style.task dictionary.now (ended octets) text good
+        × Appends (W.contents writer.old) (W.contents writer.new) text)) }
+    ensures stream { style.is_stream ≡ true → IfOk result (λ good. IfSome (R.remaining reader.old) (λ octets.
+        (text : List ℕ) × SaysStreamStyled style.coloured style.task dictionary.now (ended octets) text good
+        × Appends (W.contents writer.old) (W.contents writer.new) text)) }
 {
     let Style {
         task,
@@ -37,8 +39,8 @@ pub fn write_said<W: Write>(
         coloured,
     } = style;
     if is_stream {
-        write_stream(alloc, dictionary, task, coloured, input, writer)
+        say_stream(alloc, dictionary, task, coloured, reader, writer)
     } else {
-        write_lines(alloc, dictionary, task, coloured, input, writer)
+        say_lines(alloc, dictionary, task, coloured, reader, writer)
     }
 }

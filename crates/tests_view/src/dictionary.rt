@@ -1,7 +1,8 @@
 //! The dictionary of the tests, and what is said of lines under it.
 use dm_dict::Dictionary;
-use dm_view_lines::{Task, lines_text, stream_text};
+use dm_view_lines::{Task, lines_text, say_lines, say_stream, stream_text};
 use std::alloc::Global;
+use std::io::BufReader;
 use std::process::Abort;
 
 /// An AVP of each type, one of a vendor, and two commands.
@@ -32,6 +33,54 @@ pub fn dictionary(rt: &(impl Abort + AllocGlobal)) -> Dictionary {
     read.expect(rt, "a dictionary")
 }
 
+/// The sizes of the pieces in which an input is read.
+const PIECES: [usize; 3] = [1, 7, 65_536];
+
+/// Writes what is said of an input that is read in pieces of this size: of its lines, or of the stream that they are.
+fn read_said(
+    alloc: Global,
+    dictionary: &Dictionary,
+    task: Task,
+    is_stream: bool,
+    input: &str,
+    size: usize,
+    text: &mut Vec<u8>,
+) -> Option<bool> {
+    let Ok(mut reader) = BufReader::with_capacity(alloc, size, input.as_bytes()) else {
+        return None;
+    };
+    let said = if is_stream {
+        say_stream(alloc, dictionary, task, false, &mut reader, text)
+    } else {
+        say_lines(alloc, dictionary, task, false, &mut reader, text)
+    };
+    drop(reader);
+    said.ok()
+}
+
+/// Whether this is said of an input, in whatever pieces it is read, and whether nothing of it is bad.
+fn says_read(
+    alloc: Global,
+    dictionary: &Dictionary,
+    task: Task,
+    is_stream: bool,
+    input: &str,
+    want: &str,
+) -> Option<bool> {
+    let mut good = true;
+    for size in PIECES {
+        let mut text = Vec::new(alloc);
+        let read = read_said(alloc, dictionary, task, is_stream, input, size, &mut text);
+        let same = text.as_slice() == want.as_bytes();
+        drop(text);
+        match read {
+            Some(fine) if same => good = good && fine,
+            _ => return None,
+        }
+    }
+    Some(good)
+}
+
 /// Whether this is said of the input, and whether none of its lines is bad.
 fn says(
     alloc: Global,
@@ -57,6 +106,10 @@ pub fn assert_said(rt: &(impl Abort + AllocGlobal), task: Task, rows: &[(&str, &
         assert!(rt;
             says(rt.alloc(), &dictionary, task, input, want) == Some(*good),
             "of {input}"
+        );
+        assert!(rt;
+            says_read(rt.alloc(), &dictionary, task, false, input, want) == Some(*good),
+            "in pieces, of {input}"
         );
     }
     drop(dictionary);
@@ -87,6 +140,10 @@ pub fn assert_streamed(rt: &(impl Abort + AllocGlobal), task: Task, rows: &[(&st
         assert!(rt;
             says_stream(rt.alloc(), &dictionary, task, input, want) == Some(*good),
             "of {input}"
+        );
+        assert!(rt;
+            says_read(rt.alloc(), &dictionary, task, true, input, want) == Some(*good),
+            "in pieces, of {input}"
         );
     }
     drop(dictionary);

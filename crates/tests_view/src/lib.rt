@@ -1,5 +1,5 @@
 //! Tests of what is said of lines: every type of value, vendors, groups inside each other, each reason of a fault, what
-//! may stand in a line, lines as one stream, the same in JSON, and AVPs each on one line.
+//! may stand in a line, lines as one stream, the same in JSON, AVPs each on one line, and several readers as one.
 //!
 //! What is checked in a test are its steps, and not the values that it compares: so it is one call of a helper, which
 //! has one way out, and owns at most one dictionary.
@@ -9,6 +9,8 @@
 mod described;
 #[cfg(test)]
 mod dictionary;
+#[cfg(test)]
+mod inputs;
 #[cfg(test)]
 mod json_said;
 #[cfg(test)]
