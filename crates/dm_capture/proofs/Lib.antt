@@ -1,0 +1,11 @@
+pub mod Fields
+pub mod Faults
+pub mod Files
+pub mod Handing
+pub mod Listed
+pub mod One
+pub mod Parts
+pub mod Readings
+pub mod Runs
+pub mod Seconds
+pub mod Taken

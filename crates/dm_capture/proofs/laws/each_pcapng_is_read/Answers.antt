@@ -1,0 +1,6 @@
+-- The law as it is proved for files.
+use Rattle.dm_capture.proofs.Files.{each_pcapng_is_read}
+use Rattle.dm_capture.proofs.laws.each_pcapng_is_read.Goals as goal
+
+pub returns : goal.returns
+returns c = each_pcapng_is_read

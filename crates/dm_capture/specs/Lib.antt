@@ -1,0 +1,13 @@
+pub mod Blocks
+pub mod Captures
+pub mod Contents
+pub mod Files
+pub mod Interfaces
+pub mod Items
+pub mod Laws
+pub mod Numbers
+pub mod Options
+pub mod Packets
+pub mod Pcap
+pub mod Sections
+pub mod Times

@@ -1,0 +1,77 @@
+//! Descriptions of interfaces.
+ghost use Rattle.std.specs.Prelude.{◌≡◌, ◌≤◌, length, IfOk, IfErr, slice_get};
+ghost use Rattle.dm_capture.specs.Interfaces.{IsInterface, HasInterfaceFault, IsResolution, IsOffset};
+
+use crate::fault::FaultKind;
+use crate::options::option_value;
+use crate::order::{Order, u16_at, u32_at, u64_of};
+use crate::time::{Resolution, resolution_at};
+
+/// The octets of a description without options.
+const LEAST_LEN: usize = 20;
+
+/// The option that says into how many units a second is cut.
+const TIME_RESOLUTION: u16 = 9;
+
+/// The option that says how many seconds are added to a time.
+const TIME_OFFSET: u16 = 14;
+
+/// What the description of an interface says.
+#[derive(Clone, Copy, Debug)]
+pub(crate) struct Interface {
+    pub(crate) link: u16,
+    /// The most octets that are captured of a packet; 0 is no limit.
+    pub(crate) limit: u32,
+    pub(crate) resolution: Resolution,
+    /// Seconds that are added to a time, as two's complement.
+    pub(crate) offset: u64,
+}
+
+/// What a block says that is an interface's description.
+pub(crate) fn interface_of(order: Order, block: &[u8]) -> Result<Interface, FaultKind>
+    requires { 12 ≤ length block.now }
+    ensures interface { IfOk result (IsInterface order block.now) }
+    ensures fault { IfErr result (HasInterfaceFault block.now) }
+{
+    if block.len() < LEAST_LEN {
+        return Err(FaultKind::WrongLength);
+    }
+    let options = &block[16..block.len() - 4];
+    Ok(Interface {
+        link: u16_at(order, block, 8),
+        limit: u32_at(order, block, 12),
+        resolution: resolution_said(order, options),
+        offset: offset_said(order, options),
+    })
+}
+
+/// The resolution that the options say: microseconds where they don't.
+fn resolution_said(order: Order, options: &[u8]) -> Resolution
+    ensures { IsResolution order options.now result }
+{
+    match option_value(order, options, TIME_RESOLUTION, 1) {
+        Some(value) => resolution_at(value[0]),
+        None => Resolution::Decimal(6),
+    }
+}
+
+/// The offset that the options say: none where they don't.
+fn offset_said(order: Order, options: &[u8]) -> u64
+    ensures { IsOffset order options.now result }
+{
+    match option_value(order, options, TIME_OFFSET, 8) {
+        Some(value) => u64_of(order, value),
+        None => 0,
+    }
+}
+
+/// The interface with a number, if it was described.
+pub(crate) fn interface_at(interfaces: &[Interface], number: usize) -> Option<Interface>
+    ensures { result ≡ slice_get interfaces.now number }
+{
+    if number < interfaces.len() {
+        Some(interfaces[number])
+    } else {
+        None
+    }
+}

@@ -1,0 +1,32 @@
+//! Laws of how a capture is read. Each function is a law: it does nothing, and its contract is the law.
+ghost use Rattle.dm_capture.specs.Laws.{LaterChangesNothing, EachPcapIsRead, EachPcapngIsRead, ItemOrFault};
+ghost use Rattle.dm_capture.specs.Laws.{ItemOrPart, RunsJoin, OneItem, OneReading};
+
+/// One header, record or block stands at the front of what is left, a part of one, or a fault.
+pub fn one_front()
+    ensures item { OneItem }
+    ensures part { ItemOrPart }
+    ensures fault { ItemOrFault }
+{}
+
+/// What is read of a capture is read in one way.
+pub fn one_reading()
+    ensures { OneReading }
+{}
+
+/// What was read stays so, whatever comes behind it, and reading goes on from there. So it doesn't matter into which
+/// pieces the file was cut.
+pub fn pieces_join()
+    ensures stays { LaterChangesNothing }
+    ensures joins { RunsJoin }
+{}
+
+/// Each pcap file is read to its end, and its packets are those that its records spell.
+pub fn each_pcap_is_read()
+    ensures { EachPcapIsRead }
+{}
+
+/// Each pcapng file is read to its end, and its packets are those that its blocks spell.
+pub fn each_pcapng_is_read()
+    ensures { EachPcapngIsRead }
+{}

@@ -1,0 +1,23 @@
+//! Packets out of the octets of a capture file: pcap, with microseconds or nanoseconds, and pcapng, each in either
+//! order of octets.
+#![tactic(auto)]
+
+mod block;
+mod buffer;
+mod fault;
+mod front;
+mod interface;
+pub mod laws;
+mod options;
+mod order;
+mod packet;
+mod packet_block;
+mod pcap;
+mod reader;
+mod section;
+mod time;
+
+pub use fault::{CaptureFault, FaultKind};
+pub use packet::Packet;
+pub use reader::CaptureReader;
+pub use time::{Resolution, Time};

@@ -1,0 +1,167 @@
+//! Sections of a pcapng file: their headers, and the blocks in them.
+ghost use Rattle.std.specs.Prelude.{◌≡◌, ◌≢◌, ◌<◌, ◌≤◌, length, take, Some, IfOk, IfErr, IfSome, IfNone, nat_eq};
+ghost use Rattle.dm_capture.specs.Numbers.{ordered_number};
+ghost use Rattle.dm_capture.specs.Blocks.{section_type, IsBlockPart};
+ghost use Rattle.dm_capture.specs.Sections.{section_order, IsSectionHeader, HasSectionFault, IsSectionPart};
+ghost use Rattle.dm_capture.specs.Contents.{BlockHolds, HasContentFault, IsBlockItem, HasBlockFault};
+ghost use Rattle.dm_capture.specs.Contents.{IsSectionItem, IsSectionItemPart, HasSectionItemFault};
+
+use crate::block::whole_block;
+use crate::fault::FaultKind;
+use crate::front::{Found, Holds};
+use crate::interface::{Interface, interface_of};
+use crate::order::{Order, u16_at, u32_at};
+use crate::packet_block::{simple_packet, timed_packet};
+
+/// The type of a section's header: the same in either order.
+const SECTION: u32 = 0x0a0d_0d0a;
+
+/// The number that tells the order of a section's octets.
+const ORDER: u32 = 0x1a2b_3c4d;
+
+/// The least octets of a section's header.
+const SECTION_LEN: usize = 28;
+
+const INTERFACE: u32 = 1;
+
+const PACKET: u32 = 2;
+
+const SIMPLE_PACKET: u32 = 3;
+
+const ENHANCED_PACKET: u32 = 6;
+
+/// Whether a section's header stands at the front.
+pub(crate) fn is_section(octets: &[u8]) -> bool
+    requires { 4 ≤ length octets.now }
+    ensures { result ≡ nat_eq (ordered_number Order.Big 4 octets.now) section_type }
+{
+    u32_at(Order::Big, octets, 0) == SECTION
+}
+
+/// The order of a section's octets.
+fn order_at(octets: &[u8]) -> Option<Order>
+    requires { 12 ≤ length octets.now }
+    ensures { result ≡ section_order octets.now }
+{
+    if u32_at(Order::Big, octets, 8) == ORDER {
+        Some(Order::Big)
+    } else if u32_at(Order::Little, octets, 8) == ORDER {
+        Some(Order::Little)
+    } else {
+        None
+    }
+}
+
+/// The section's header at the front, which begins with a section's type.
+pub(crate) fn section_at(octets: &[u8]) -> Result<Option<Found>, FaultKind>
+    requires least { 4 ≤ length octets.now }
+    requires section { ordered_number Order.Big 4 octets.now ≡ section_type }
+    ensures within { IfOk result (λ found. IfSome found (λ f. (0 < f.size) × (f.size ≤ length octets.now))) }
+    ensures item { IfOk result (λ found. IfSome found (λ f. IsSectionHeader (take f.size octets.now) f.holds)) }
+    ensures part { IfOk result (λ found. IfNone found (IsSectionPart octets.now)) }
+    ensures fault { IfErr result (HasSectionFault octets.now) }
+{
+    if octets.len() < 12 {
+        return Ok(None);
+    }
+    match order_at(octets) {
+        Some(order) => ordered_section(order, octets),
+        None => Err(FaultKind::NoCapture),
+    }
+}
+
+/// The section's header at the front, whose order is known.
+fn ordered_section(order: Order, octets: &[u8]) -> Result<Option<Found>, FaultKind>
+    requires least { 12 ≤ length octets.now }
+    requires section { ordered_number Order.Big 4 octets.now ≡ section_type }
+    requires ordered { section_order octets.now ≡ Some order }
+    ensures within { IfOk result (λ found. IfSome found (λ f. (0 < f.size) × (f.size ≤ length octets.now))) }
+    ensures item { IfOk result (λ found. IfSome found (λ f. IsSectionHeader (take f.size octets.now) f.holds)) }
+    ensures part { IfOk result (λ found. IfNone found (IsSectionPart octets.now)) }
+    ensures fault { IfErr result (HasSectionFault octets.now) }
+{
+    match whole_block(order, octets) {
+        Ok(Some(size)) => {
+            if size < SECTION_LEN {
+                return Err(FaultKind::WrongLength);
+            }
+            if u16_at(order, octets, 12) != 1 {
+                return Err(FaultKind::OtherVersion);
+            }
+            Ok(Some(Found {
+                size,
+                holds: Holds::Section(order),
+            }))
+        }
+        Ok(None) => Ok(None),
+        Err(fault) => Err(fault),
+    }
+}
+
+/// The block at the front of what is left in a section.
+pub(crate) fn block_at(
+    order: Order,
+    interfaces: &[Interface],
+    octets: &[u8],
+) -> Result<Option<Found>, FaultKind>
+    ensures within { IfOk result (λ found. IfSome found (λ f. (0 < f.size) × (f.size ≤ length octets.now))) }
+    ensures item { IfOk result (λ found. IfSome found (λ f.
+        IsSectionItem order interfaces.now (take f.size octets.now) f.holds)) }
+    ensures part { IfOk result (λ found. IfNone found (IsSectionItemPart order octets.now)) }
+    ensures fault { IfErr result (HasSectionItemFault order interfaces.now octets.now) }
+{
+    if octets.len() < 8 {
+        return Ok(None);
+    }
+    if is_section(octets) {
+        return section_at(octets);
+    }
+    other_block(order, interfaces, octets)
+}
+
+/// The block at the front of what is left in a section, which is no section's header.
+fn other_block(
+    order: Order,
+    interfaces: &[Interface],
+    octets: &[u8],
+) -> Result<Option<Found>, FaultKind>
+    requires least { 8 ≤ length octets.now }
+    requires other { ordered_number Order.Big 4 octets.now ≢ section_type }
+    ensures within { IfOk result (λ found. IfSome found (λ f. (0 < f.size) × (f.size ≤ length octets.now))) }
+    ensures item { IfOk result (λ found. IfSome found (λ f.
+        IsBlockItem order interfaces.now (take f.size octets.now) f.holds)) }
+    ensures part { IfOk result (λ found. IfNone found (IsBlockPart order octets.now)) }
+    ensures fault { IfErr result (HasBlockFault order interfaces.now octets.now) }
+{
+    match whole_block(order, octets) {
+        Ok(Some(size)) => match block_holds(order, interfaces, &octets[..size]) {
+            Ok(holds) => Ok(Some(Found { size, holds })),
+            Err(fault) => Err(fault),
+        },
+        Ok(None) => Ok(None),
+        Err(fault) => Err(fault),
+    }
+}
+
+/// What a whole block says.
+fn block_holds(order: Order, interfaces: &[Interface], block: &[u8]) -> Result<Holds, FaultKind>
+    requires { 12 ≤ length block.now }
+    ensures holds { IfOk result (BlockHolds order interfaces.now block.now) }
+    ensures fault { IfErr result (HasContentFault order interfaces.now block.now) }
+{
+    match u32_at(order, block, 0) {
+        INTERFACE => match interface_of(order, block) {
+            Ok(interface) => Ok(Holds::Description(interface)),
+            Err(fault) => Err(fault),
+        },
+        PACKET | ENHANCED_PACKET => match timed_packet(order, interfaces, block) {
+            Ok(record) => Ok(Holds::PacketRecord(record)),
+            Err(fault) => Err(fault),
+        },
+        SIMPLE_PACKET => match simple_packet(order, interfaces, block) {
+            Ok(record) => Ok(Holds::PacketRecord(record)),
+            Err(fault) => Err(fault),
+        },
+        _ => Ok(Holds::Other),
+    }
+}

@@ -1,0 +1,7 @@
+//! Tests of capture files: their packets, and what is wrong with them.
+#![tactic(auto)]
+
+#[cfg(test)]
+mod captures;
+#[cfg(test)]
+mod told;
