@@ -18,9 +18,10 @@ import tempfile
 from datetime import datetime, timezone
 
 sys.dont_write_bytecode = True
+import folders
 from recorded import Table
 
-TOP = os.path.dirname(os.path.dirname(os.path.realpath(__file__)))
+TOP = os.path.dirname(folders.TOOLS)
 TEXTS = f"{TOP}/dictionaries"
 NAMES = """session.avps nas.avps digest.avps credit.avps eap.avps sip.avps mobile-ipv4.avps overload.avps nas.commands
 credit.commands eap.commands sip.commands mobile-ipv4.commands""".split()

@@ -108,7 +108,7 @@ def load(who):
     loader.exec_module(rt)
     lost = lacking(rt)
     if lost:
-        sys.exit(f"{who}: tools/kit.py doesn't fit this toolchain: {' | '.join(lost)}")
+        sys.exit(f"{who}: tools/proving/kit.py doesn't fit this toolchain: {' | '.join(lost)}")
     keep_what_is_said(rt)
     return rt
 
@@ -118,7 +118,7 @@ def crates_of(rt, top, who):
     crates = rt.rtlib.crates_below(top)
     lost = [it for it in OF_A_CRATE if crates and not hasattr(crates[0], it)]
     if lost:
-        sys.exit(f"{who}: tools/kit.py doesn't fit this toolchain: a crate has no {' and no '.join(lost)}")
+        sys.exit(f"{who}: tools/proving/kit.py doesn't fit this toolchain: a crate has no {' and no '.join(lost)}")
     return crates
 
 

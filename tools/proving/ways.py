@@ -1,7 +1,7 @@
 """How long the way is that lies behind each crate, in seconds as they were measured."""
 import os
 
-TOOLS = os.path.dirname(os.path.realpath(__file__))
+TOOLS = os.path.dirname(os.path.dirname(os.path.realpath(__file__)))
 
 
 def seconds_measured():

@@ -19,7 +19,8 @@ import hashlib
 import os
 import re
 
-TOOLS = os.path.dirname(os.path.realpath(__file__))
+PLANTING = os.path.dirname(os.path.realpath(__file__))
+TOOLS = os.path.dirname(PLANTING)
 FILE = os.path.join(TOOLS, "planted_tried")
 HEAD = """# By crate and toolchain: the texts at which all its planted edits were refused, and how many.
 # Written by tools/planted --record.
@@ -152,7 +153,7 @@ def code_of(text):
 
 def rules():
     """Returns what decides on a verdict once the prover has spoken."""
-    return RULES, [(it, code_of(read(os.path.join(TOOLS, it)))) for it in DECIDING]
+    return RULES, [(it, code_of(read(os.path.join(PLANTING, it)))) for it in DECIDING]
 
 
 def digest_of(crate, laws, toolchain):
