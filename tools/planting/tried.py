@@ -6,7 +6,8 @@ that the verdict on the crate's edits depends on, and of nothing else:
 
   - the crate's src, specs and proofs without the lines that are comments, its edits, its lines of tools/planted_laws,
     and what crates.txt says of it
-  - of each library of the repository below it what it states: see stated_in
+  - of each library of the repository below it what it states (see stated_in), and those of its modules of definitions
+    that this or the crate's own texts name, or that such a module names
   - the code that decides on a verdict (DECIDING), without comments and docstrings, the number RULES, and the
     toolchain's identity
 
@@ -18,6 +19,7 @@ import functools
 import hashlib
 import os
 import re
+import typing
 
 PLANTING = os.path.dirname(os.path.realpath(__file__))
 TOOLS = os.path.dirname(PLANTING)
@@ -31,6 +33,9 @@ DECIDING = "edits.py", "trying.py", "verdicts.py"
 # To be counted up where a fault elsewhere had crates recorded that should not have been.
 RULES = 1
 COMMENT = {".rt": b"//", ".antt": b"--"}
+# A module of definitions where it is named: its library, if that is said, and the module with what follows it.
+NAMED = re.compile(rb"(?:\bRattle[.-](\w+)\.|(?<![\w.]))(specs\b(?:\.\w+)*)")
+LISTED = re.compile(rb"\s*(pub )?mod \w+\s*")
 
 
 def sum_of(given):
@@ -73,19 +78,59 @@ def shown_by(name, modules):
     return shown or modules
 
 
+class Stated(typing.NamedTuple):
+    """What a built library states to those above it: the sum of what counts always, the modules of definitions that are
+    named there, and the texts of its own ones by their names."""
+
+    sum: str
+    named: frozenset
+    definitions: dict
+
+
 @functools.lru_cache(maxsize=None)
 def stated_in(library, is_linked, is_cited):
-    """Returns the sum of what a built library states to those above it, which is all that their proofs rest on: its
-    public items without their bodies, its definitions, the contracts, and which types may cross threads; no comment.
+    """Returns what a built library states to those above it, which is all that their proofs rest on: its public items
+    without their bodies, the contracts, which types may cross threads, and its definitions; no comment.
 
     A program reads all items, also without bodies: it links them. Where a text above names the library's proofs, which
     none should, they count too."""
-    parts = ["interface", "lang/antt/specs.antt", "lang/antt/specs"]
-    parts += ["lang/src"] * is_linked + ["lang/antt/proofs.antt", "lang/antt/proofs"] * is_cited
+    parts = ["interface"] + ["lang/src"] * is_linked + ["lang/antt/proofs.antt", "lang/antt/proofs"] * is_cited
     shown = shown_by(library.name, modules_in(f"{library.rlib}/lang/antt/made.json"))
     told = [it for it in read(f"{library.rlib}/format").split(b"\n") if it.startswith(b"crosses ")]
     texts = {file: without_comments(file, text) for file, text in files_below(library.rlib, *parts).items()}
-    return sum_of([texts, sorted(shown.items()), sorted(told)])
+    named = names_in([*texts.values(), *(it.encode() for it in shown.values())])
+    return Stated(sum_of([texts, sorted(shown.items()), sorted(told)]), named, definitions_in(library))
+
+
+def definitions_in(library):
+    """Returns the texts of a library's modules of definitions, by their names. What a module above lists of those below
+    it says nothing of them, and doesn't count."""
+    found = {}
+    for file, text in files_below(f"{library.rlib}/lang/antt", "specs.antt", "specs").items():
+        name = os.path.splitext(file)[0].replace("/", ".")
+        found[name] = b"\n".join(it for it in without_comments(file, text).split(b"\n") if not LISTED.fullmatch(it))
+    return found
+
+
+def names_in(texts):
+    """Returns the modules of definitions that these texts name, each with its library; with none, where it isn't said."""
+    return frozenset(it for text in texts for it in NAMED.findall(text) if it != (b"", b"specs"))
+
+
+def is_named(name, module, named):
+    """Returns whether one of these names is of this module of a library, of one above it or of something in it."""
+    found = [f"{it.decode()}." for library, it in named if library.decode() in (name, "")]
+    return any(it.startswith(f"{module}.") or f"{module}.".startswith(it) for it in found)
+
+
+def definitions_of(stated, named):
+    """Returns the definitions that libraries have in modules with these names, and in those that such modules name."""
+    left = {(name, module): text for name, it in stated.items() for module, text in it.definitions.items()}
+    found = {}
+    while new := {key: left.pop(key) for key in [*left] if is_named(*key, named)}:
+        found.update(new)
+        named = names_in(new.values())
+    return sorted(found.items())
 
 
 def without_comments(file, text):
@@ -161,13 +206,15 @@ def digest_of(crate, laws, toolchain):
     texts, below = files_below(crate.folder, "src", "specs", "proofs"), sorted(crate.below(), key=lambda it: it.name)
     edits = {it: text for it, text in files_below(crate.folder, "planted").items() if it.endswith(".edit")}
     cited = [*texts.values(), *(text for it in below for text in files_below(it.folder, "specs").values())]
-    stated = []
+    stated = {}
     for it in below:
         is_cited = any(f"Rattle.{it.name}.proofs".encode() in text for text in cited)
-        stated.append((it.name, stated_in(it, crate.is_program, is_cited)))
+        stated[it.name] = stated_in(it, crate.is_program, is_cited)
+    named = names_in([*texts.values(), *edits.values()]).union(*(it.named for it in stated.values()))
+    told = [(name, it.sum) for name, it in stated.items()], definitions_of(stated, named)
     lines = sorted((edit, law) for edit, law in laws.items() if edit.startswith(f"{crate.name}/"))
     said = sorted((word, repr(it)) for word, it in crate.said.items())
-    return sum_of([toolchain, rules(), said, *deciding_in(texts, edits), lines, stated])
+    return sum_of([toolchain, rules(), said, *deciding_in(texts, edits), lines, told])
 
 
 class Record:
