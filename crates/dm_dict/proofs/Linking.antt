@@ -41,19 +41,18 @@ position_same ok p q same j (x ∷ xs) h =
     by true t e ih = rw (e, t) refl
     by false t e ih = rw (e, t) ih
 
+-- what is found passes
+pub found_one : {A : Type 0} (p : A → Bool) (xs : List A) (x : A) → find p xs ≡ Some x → p x ≡ true
+found_one p [] x h = absurd (cc)
+found_one p (y ∷ ys) x h = by (p y) refl (found_one p ys x) where
+  by : (b : Bool) → p y ≡ b → (find p ys ≡ Some x → p x ≡ true) → p x ≡ true
+  by true t rest = let same : y ≡ x = (let g = rw t at h in cc) in ap p (sym same) ∙ t
+  by false t rest = rest (rw t at h)
+
 -- what stands at the first place passes
 pub passes_at : {A : Type 0} (p : A → Bool) (xs : List A) (i : ℕ) (x : A) → position_from p 0 xs ≡ Some i
     → slice_get xs i ≡ Some x → p x ≡ true
-passes_at p xs i x h g =
-    let seen : Some x ≡ find p xs = sym g ∙ (rw h at (found p xs)) in
-    passes p xs x (sym seen)
-  where
-    passes : {A : Type 0} (p : A → Bool) (xs : List A) (x : A) → find p xs ≡ Some x → p x ≡ true
-    passes p [] x h = absurd (cc)
-    passes p (y ∷ ys) x h = by (p y) refl (passes p ys x) where
-      by : (b : Bool) → p y ≡ b → (find p ys ≡ Some x → p x ≡ true) → p x ≡ true
-      by true t rest = let same : y ≡ x = (let g = rw t at h in cc) in ap p (sym same) ∙ t
-      by false t rest = rest (rw t at h)
+passes_at p xs i x h g = found_one p xs x (sym (sym g ∙ (rw h at (found p xs))))
 
 -- an entry has the link to a definition just where it has its name
 linked_named : (avps : List AvpDef) (i : ℕ) (d : AvpDef) → slice_get avps i ≡ Some d

@@ -1,7 +1,7 @@
 //! Tables with the links of their rules, so that an AVP's place under a rule is found by its code (RFC 6733, 3.2
 //! and 4.1).
-ghost use Rattle.std.specs.Prelude.{◌≡◌, ◌<◌, ◌++◌, [], true, Some, find, length, map, option_map, slice_get};
-ghost use Rattle.std.specs.Prelude.{IfOk, IfSome, OnOk};
+ghost use Rattle.std.specs.Prelude.{◌≡◌, ◌<◌, ◌++◌, ◌%◌, [], ℕ, true, nat_eq, Option, None, Some, find, length};
+ghost use Rattle.std.specs.Prelude.{map, option_map, slice_get, slice_index, IfOk, IfSome, OnOk};
 ghost use Rattle.std.specs.List.{position_from};
 ghost use Rattle.std.specs.Option.{option_and_then, option_copied};
 ghost use Rattle.dm_tables.specs.declared.def.AvpDef.{AvpDef};
@@ -178,6 +178,17 @@ impl Linked {
         link_commands(alloc, &self.tables, guesses, &mut self.commands)
     }
 
+    /// Whether no definition's code has the lowest bits of this one, so that it has no definition.
+    #[inline(always)]
+    pub(crate) fn is_unmarked(&self, code: u32) -> bool
+        requires { IsLinked self.now }
+        ensures mark { result ≡ nat_eq (slice_index self.now.marks (code % 512)) 0 }
+        ensures none { result ≡ true → (vendor : Option ℕ)
+            → None ≡ position_from (is_coded code vendor) 0 self.now.tables.avps.items }
+    {
+        self.marks[(code % 512) as usize] == 0
+    }
+
     /// The place of the AVP of a code and vendor. Where no definition's code has its lowest bits, or the first one that
     /// has them is it, it is known at once.
     #[inline(always)]
@@ -185,7 +196,7 @@ impl Linked {
         requires { IsLinked self.now }
         ensures { result ≡ position_from (is_coded code vendor) 0 self.now.tables.avps.items }
     {
-        if self.marks[(code % 512) as usize] == 0 {
+        if self.is_unmarked(code) {
             return None;
         }
         let first = usize::from(self.marks[(code % 512) as usize]) - 1;

@@ -1,15 +1,15 @@
 //! The first fault of a message's AVPs under its rule: they are judged from the first on that doesn't pass (RFC 6733,
 //! 4.1 and 7.1.5).
-ghost use Rattle.std.specs.Prelude.{◌≡◌, ℕ, false, List, slice_index};
+ghost use Rattle.std.specs.Prelude.{◌≡◌, ◌<◌, ◌≤◌, ℕ, false, List, slice_index, IfSome, IfNone};
 ghost use Rattle.dm_wire.specs.declared.avp.Avp.{Avp};
 ghost use Rattle.dm_dict.specs.Apart.{IsFit};
 ghost use Rattle.dm_dict.specs.Linked.{IsLinked, IsRule};
-ghost use Rattle.dm_wire.specs.Borrowed.{Lists};
+ghost use Rattle.dm_wire.specs.Borrowed.{Lists, size_of};
 ghost use Rattle.dm_dict.specs.Faults.{list_faults, first};
 ghost use Rattle.dm_dict.specs.Found.{finds_missing};
 ghost use Rattle.dm_dict.specs.Judgement.{shown};
 ghost use Rattle.dm_dict.specs.Limits.{group_limit};
-ghost use Rattle.dm_dict.specs.Passed.{IsGoodBut};
+ghost use Rattle.dm_dict.specs.Passed.{IsGoodBut, PassesList};
 
 use crate::avps::judge_counted;
 use crate::counts::{FEW_ENTRIES, MANY_ENTRIES, counters, counts_for};
@@ -17,9 +17,97 @@ use crate::entries::keep_bounds;
 use crate::judge::GROUPS;
 use crate::judged::Judged;
 use crate::linked::{Linked, LinkedRule};
-use crate::passing::pass_next;
+use crate::passing::{pass_found, pass_row, pass_unknown};
+use crate::rules::row_for;
 use dm_wire::AvpsRef;
 use std::alloc::Global;
+
+/// The AVPs from the first on that isn't passed over, since it has no definition and wants none; those before it are
+/// counted.
+#[inline(always)]
+fn pass_over<'a>(
+    dictionary: &Linked,
+    rule: LinkedRule<'_>,
+    list: AvpsRef<'a>,
+    counts: &mut [u16],
+) -> AvpsRef<'a>
+    requires linked { IsLinked dictionary.now }
+    requires fit { IsFit dictionary.now.tables.avps.items }
+    requires rule { IsRule dictionary.now.tables.avps.items rule }
+    ensures passed { PassesList group_limit dictionary.now.tables.avps.items rule.entry.entries.now
+        list.entry result counts.old counts.new }
+    ensures less { size_of result ≤ size_of list.entry }
+{
+    let mut behind = list;
+    while let Some((avp, rest)) = behind.split_first() {
+        if !pass_unknown(dictionary, rule, avp, counts) {
+            return behind;
+        }
+        behind = rest;
+    }
+    behind
+}
+
+/// The AVPs from the first on that isn't seen to be good by its row; those before it are counted.
+// (A loop of its own, so that what it works with stays in the processor's registers.)
+#[inline(always)]
+fn pass_rows<'a>(
+    dictionary: &Linked,
+    rule: LinkedRule<'_>,
+    list: AvpsRef<'a>,
+    counts: &mut [u16],
+) -> AvpsRef<'a>
+    requires linked { IsLinked dictionary.now }
+    requires fit { IsFit dictionary.now.tables.avps.items }
+    requires rule { IsRule dictionary.now.tables.avps.items rule }
+    ensures passed { PassesList group_limit dictionary.now.tables.avps.items rule.entry.entries.now
+        list.entry result counts.old counts.new }
+    ensures less { size_of result ≤ size_of list.entry }
+{
+    let mut left = list;
+    while let Some((avp, rest)) = left.split_first() {
+        let Some((at, row)) = row_for(dictionary, rule, avp) else {
+            return left;
+        };
+        if !pass_row(dictionary, at, row, avp, GROUPS, counts) {
+            return left;
+        }
+        left = rest;
+    }
+    left
+}
+
+/// The AVPs behind the first, where it has no row and is seen to be good, and behind those that are passed over with
+/// it; they are counted.
+#[inline(always)]
+fn pass_other<'a>(
+    dictionary: &Linked,
+    rule: LinkedRule<'_>,
+    list: AvpsRef<'a>,
+    counts: &mut [u16],
+) -> Option<AvpsRef<'a>>
+    requires linked { IsLinked dictionary.now }
+    requires fit { IsFit dictionary.now.tables.avps.items }
+    requires rule { IsRule dictionary.now.tables.avps.items rule }
+    ensures passed { IfSome result (λ left. PassesList group_limit dictionary.now.tables.avps.items
+        rule.entry.entries.now list.entry left counts.old counts.new) }
+    ensures less { IfSome result (λ left. size_of left < size_of list.entry) }
+    ensures same { IfNone result (counts.new ≡ counts.old) }
+{
+    let Some((avp, rest)) = list.split_first() else {
+        return None;
+    };
+    if pass_unknown(dictionary, rule, avp, counts) {
+        return Some(pass_over(dictionary, rule, rest, counts));
+    }
+    if row_for(dictionary, rule, avp).is_none()
+        && pass_found(dictionary, rule, avp, GROUPS, counts)
+    {
+        Some(rest)
+    } else {
+        None
+    }
+}
 
 /// The AVPs of a message from the first on that isn't seen to be good under the rule; those before it are counted.
 #[inline(always)]
@@ -37,13 +125,13 @@ fn pass_front<'a>(
         × IsGoodBut group_limit dictionary.now.tables.avps.items rule.entry.entries.now l m counts.new }
 {
     let mut left = list;
-    while let Some((avp, rest)) = left.split_first() {
-        if !pass_next(dictionary, rule, avp, GROUPS, counts) {
-            return left;
-        }
+    'others: loop {
+        let from = pass_rows(dictionary, rule, left, counts);
+        let Some(rest) = pass_other(dictionary, rule, from, counts) else {
+            return from;
+        };
         left = rest;
     }
-    left
 }
 
 /// The first fault of AVPs under the rule, by these counters, all zero, for the first of its entries.

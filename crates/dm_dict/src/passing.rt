@@ -1,6 +1,6 @@
 //! Whether nothing is wrong with an AVP, groups and all, by one pass that keeps no fault (RFC 6733, 4.1, 4.4 and
 //! 7.1.5).
-ghost use Rattle.std.specs.Prelude.{◌≡◌, ◌<◌, [], ℕ, true, false, None, Some, List, length, IfSome};
+ghost use Rattle.std.specs.Prelude.{◌≡◌, ◌<◌, ◌≤◌, [], ℕ, true, false, None, Some, List, length, IfSome};
 ghost use Rattle.std.specs.Prelude.{slice_get, slice_index, flat_map};
 ghost use Rattle.std.specs.Option.{option_and_then};
 ghost use Rattle.dm_wire.specs.declared.avp.Avp.{Avp};
@@ -12,19 +12,19 @@ ghost use Rattle.dm_dict.specs.Faults.{Fault as AFault, avp_faults, data_faults,
 ghost use Rattle.dm_dict.specs.Faults.{list_faults, first};
 ghost use Rattle.dm_value.specs.declared.avp_type.AvpType.TheVariants.{Enumerated};
 ghost use Rattle.dm_dict.specs.Linked.{IsLinked, IsRule};
-ghost use Rattle.dm_dict.specs.Passed.{PassesNext};
+ghost use Rattle.dm_dict.specs.Passed.{PassesNext, PassesOctets};
 ghost use Rattle.dm_dict.specs.Rows.{StandsAt};
 ghost use Rattle.dm_dict.specs.Rules.{definition, allows};
 ghost use Rattle.dm_tables.specs.declared.def.AvpDef.{AvpDef};
 ghost use Rattle.dm_tables.specs.declared.rule.Entry.{Entry};
 
-use crate::avps::is_failed_avp;
+use crate::codes::FAILED_AVP;
 use crate::counts::{FEW_ENTRIES, MANY_ENTRIES, count_one, counters};
 use crate::data::passes_data;
 use crate::entries::keep_bounds;
 use crate::linked::{Linked, LinkedRule};
 use crate::rows::Row;
-use crate::rules::{allows_at, look_up_marked, row_for};
+use crate::rules::{allows_at, look_up_marked, row_for, stand};
 use byteorder::{BigEndian, ByteOrder};
 use dm_tables::Rule;
 use dm_value::AvpType;
@@ -79,6 +79,19 @@ fn passes_listed(dictionary: &Linked, place: usize, octets: &[u8]) -> bool
     octets.len() == 4 && !def.values.leaves_out(BigEndian::read_i32(octets))
 }
 
+/// Whether the definition at the place is that of Failed-AVP, whose data isn't read, so that nothing is wrong with it.
+// (A function of its own in the machine's code too: it's wanted where something else is wrong.)
+#[inline(never)]
+fn is_failed_at(dictionary: &Linked, place: usize) -> bool
+    requires { place < length dictionary.now.tables.avps.items }
+    ensures { (groups : List Entry → Avp → List AFault) (a : Avp) → slice_get dictionary.now.tables.avps.items place
+        ≡ definition dictionary.now.tables.avps.items a → result ≡ true
+        → None ≡ first (avp_faults groups true a (definition dictionary.now.tables.avps.items a)) }
+{
+    let def = dictionary.def_at(place);
+    def.code == FAILED_AVP && def.vendor == None
+}
+
 /// Whether nothing is wrong with an AVP that may stand where it stands, whose definition is of this type and has this
 /// place.
 #[cycle(passing)]
@@ -99,26 +112,23 @@ fn passes_defined(
     ensures { result ≡ true → None ≡ first (avp_faults (group_faults depth dictionary.now.tables.avps.items) true
         (avp_of avp.entry) (definition dictionary.now.tables.avps.items (avp_of avp.entry))) }
 {
-    let def = dictionary.def_at(place);
     if let AvpType::Grouped = kind {
-        let links = dictionary.links_at(place);
         let rule = LinkedRule {
-            entries: &def.rule,
-            links,
+            entries: &dictionary.def_at(place).rule,
+            links: dictionary.links_at(place),
         };
-        return passes_group(dictionary, rule, avp.bytes, depth) || is_failed_avp(avp);
+        return passes_group(dictionary, rule, avp.bytes, depth) || is_failed_at(dictionary, place);
     }
     if let AvpType::Enumerated = kind {
-        return passes_listed(dictionary, place, avp.bytes) || is_failed_avp(avp);
+        return passes_listed(dictionary, place, avp.bytes) || is_failed_at(dictionary, place);
     }
-    passes_data(kind, avp.bytes) || is_failed_avp(avp)
+    passes_data(kind, avp.bytes) || is_failed_at(dictionary, place)
 }
 
 /// Whether nothing is wrong with an AVP that stands under the rule at this entry, which has this row. If so it is
 /// counted.
-#[cycle(passing)]
 #[inline(always)]
-fn pass_row(
+pub(crate) fn pass_row(
     dictionary: &Linked,
     at: usize,
     row: Row,
@@ -137,17 +147,41 @@ fn pass_row(
         → PassesNext depth dictionary.now.tables.avps.items rule (avp_of avp.entry) counts.old counts.new }
     ensures same { result ≡ false → counts.new ≡ counts.old }
 {
-    if !passes_defined(dictionary, row.kind, row.place, avp, depth) {
+    let Row { kind, place, .. } = row;
+    if !passes_defined(dictionary, kind, place, avp, depth) {
         return false;
     }
     count_one(counts, 0, Some(at));
     true
 }
 
+/// The same of an AVP that has no definition, as the marks tell at once, and wants none: it isn't mandatory.
+#[inline(always)]
+pub(crate) fn pass_unknown(
+    dictionary: &Linked,
+    rule: LinkedRule<'_>,
+    avp: AvpRef<'_>,
+    counts: &mut [u16],
+) -> bool
+    requires linked { IsLinked dictionary.now }
+    requires fit { IsFit dictionary.now.tables.avps.items }
+    requires rule { IsRule dictionary.now.tables.avps.items rule }
+    ensures passed { result ≡ true → (depth : ℕ) → PassesNext depth dictionary.now.tables.avps.items
+        rule.entry.entries.now (avp_of avp.entry) counts.old counts.new }
+    ensures same { result ≡ false → counts.new ≡ counts.old }
+{
+    if avp.mandatory || !dictionary.is_unmarked(avp.code) {
+        return false;
+    }
+    let (_, any) = stand(&dictionary.tables, rule, None, avp);
+    count_one(counts, 0, any);
+    true
+}
+
 /// The same of an AVP that stands under the rule where it is looked up.
 #[cycle(passing)]
 #[inline(always)]
-fn pass_found(
+pub(crate) fn pass_found(
     dictionary: &Linked,
     rule: LinkedRule<'_>,
     avp: AvpRef<'_>,
@@ -161,35 +195,55 @@ fn pass_found(
         (avp_of avp.entry) counts.old counts.new }
     ensures same { result ≡ false → counts.new ≡ counts.old }
 {
+    let AvpRef {
+        code,
+        vendor,
+        mandatory,
+        protected,
+        bytes,
+    } = avp;
+    pass_parts(
+        dictionary, rule, code, vendor, mandatory, protected, bytes, depth, counts,
+    )
+}
+
+/// The same of an AVP of these parts.
+// (A function of its own in the machine's code too, to which nothing is handed by its place in memory: few AVPs have no
+// row, and the others' loop neither writes theirs down nor keeps registers for these.)
+#[cycle(passing)]
+#[inline(never)]
+fn pass_parts(
+    dictionary: &Linked,
+    rule: LinkedRule<'_>,
+    code: u32,
+    vendor: Option<u32>,
+    mandatory: bool,
+    protected: bool,
+    bytes: &[u8],
+    depth: u32,
+    counts: &mut [u16],
+) -> bool
+    requires linked { IsLinked dictionary.now }
+    requires fit { IsFit dictionary.now.tables.avps.items }
+    requires rule { IsRule dictionary.now.tables.avps.items rule }
+    ensures passed { result ≡ true → PassesNext depth dictionary.now.tables.avps.items rule.entry.entries.now
+        (record { code = code; vendor = vendor; mandatory = mandatory; protected = protected; bytes = bytes.entry.now })
+        counts.old counts.new }
+    ensures same { result ≡ false → counts.new ≡ counts.old }
+{
+    let avp = AvpRef {
+        code,
+        vendor,
+        mandatory,
+        protected,
+        bytes,
+    };
     let (place, at) = look_up_marked(dictionary, rule, avp);
     if !passes_avp(dictionary, rule.entries, place, at, avp, depth) {
         return false;
     }
     count_one(counts, 0, at);
     true
-}
-
-/// The same, by its row first.
-#[cycle(passing)]
-#[inline(always)]
-pub(crate) fn pass_next(
-    dictionary: &Linked,
-    rule: LinkedRule<'_>,
-    avp: AvpRef<'_>,
-    depth: u32,
-    counts: &mut [u16],
-) -> bool
-    requires linked { IsLinked dictionary.now }
-    requires fit { IsFit dictionary.now.tables.avps.items }
-    requires rule { IsRule dictionary.now.tables.avps.items rule }
-    ensures passed { result ≡ true → PassesNext depth dictionary.now.tables.avps.items rule.entry.entries.now
-        (avp_of avp.entry) counts.old counts.new }
-    ensures same { result ≡ false → counts.new ≡ counts.old }
-{
-    match row_for(dictionary, rule, avp) {
-        Some((at, row)) => pass_row(dictionary, at, row, avp, depth, counts),
-        None => pass_found(dictionary, rule, avp, depth, counts),
-    }
 }
 
 /// Whether nothing is wrong with a Grouped AVP of this rule and these octets, where so many groups may stand inside
@@ -204,6 +258,69 @@ fn passes_group(dictionary: &Linked, rule: LinkedRule<'_>, octets: &[u8], depth:
 {
     spelled_are_members();
     depth > 0 && passes_members(dictionary, rule, octets, depth - 1)
+}
+
+/// The octets of AVPs from the first on that has no row, if those before it are seen to be good by theirs; these are
+/// counted.
+// (A loop of its own, so that what it works with stays in the processor's registers.)
+#[cycle(passing)]
+#[inline(always)]
+fn pass_rows<'a>(
+    dictionary: &Linked,
+    rule: LinkedRule<'_>,
+    octets: &'a [u8],
+    depth: u32,
+    counts: &mut [u16],
+) -> Option<&'a [u8]>
+    requires linked { IsLinked dictionary.now }
+    requires fit { IsFit dictionary.now.tables.avps.items }
+    requires rule { IsRule dictionary.now.tables.avps.items rule }
+    ensures passed { IfSome result (λ left. PassesOctets depth dictionary.now.tables.avps.items
+        rule.entry.entries.now octets.now left.now counts.old counts.new) }
+    ensures less { IfSome result (λ left. length left.now ≤ length octets.now) }
+{
+    let mut left = octets;
+    while let Some((avp, size)) = first_avp(left) {
+        let Some((entry, row)) = row_for(dictionary, rule, avp) else {
+            return Some(left);
+        };
+        count_one(counts, 0, Some(entry));
+        if !passes_defined(dictionary, row.kind, row.place, avp, depth) {
+            return None;
+        }
+        left = &left[size..];
+    }
+    Some(left)
+}
+
+/// The octets behind the first AVP, which has no row, if it is seen to be good; it is counted.
+#[cycle(passing)]
+#[inline(always)]
+fn pass_other<'a>(
+    dictionary: &Linked,
+    rule: LinkedRule<'_>,
+    octets: &'a [u8],
+    depth: u32,
+    counts: &mut [u16],
+) -> Option<&'a [u8]>
+    requires linked { IsLinked dictionary.now }
+    requires fit { IsFit dictionary.now.tables.avps.items }
+    requires rule { IsRule dictionary.now.tables.avps.items rule }
+    ensures passed { IfSome result (λ left. PassesOctets depth dictionary.now.tables.avps.items
+        rule.entry.entries.now octets.now left.now counts.old counts.new) }
+    ensures less { IfSome result (λ left. length left.now < length octets.now) }
+{
+    let Some((avp, size)) = first_avp(octets) else {
+        return None;
+    };
+    if pass_unknown(dictionary, rule, avp, counts) {
+        return Some(&octets[size..]);
+    }
+    if pass_found(dictionary, rule, avp, depth, counts) {
+        Some(&octets[size..])
+    } else {
+        None
+    }
 }
 
 /// Whether the octets are AVPs, one after the other, and nothing is wrong with each of them under the rule; they are
@@ -228,13 +345,16 @@ fn pass_each(
         × IsCounted dictionary.now.tables.avps.items rule.entry.entries.now l 0 counts.new }
 {
     let mut left = octets;
-    while let Some((avp, size)) = first_avp(left) {
-        if !pass_next(dictionary, rule, avp, depth, counts) {
-            return false;
+    while let Some(behind) = pass_rows(dictionary, rule, left, depth, counts) {
+        if behind.is_empty() {
+            return true;
         }
-        left = &left[size..];
+        let Some(rest) = pass_other(dictionary, rule, behind, depth, counts) else {
+            return false;
+        };
+        left = rest;
     }
-    left.is_empty()
+    false
 }
 
 /// Whether the octets are AVPs and nothing is wrong with them under the rule, by these counters, all zero, where there

@@ -38,7 +38,7 @@ pub(crate) fn allows(rule: &Rule, at: Option<usize>) -> bool
 /// The place of the AVP's definition, and where under the rule the AVP stands: at the entry that is linked to its
 /// definition, else at `AVP`. An AVP without definition stands at `AVP`.
 #[inline(always)]
-fn stand(
+pub(crate) fn stand(
     tables: &Tables,
     rule: LinkedRule<'_>,
     place: Option<usize>,

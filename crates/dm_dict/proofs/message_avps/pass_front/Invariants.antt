@@ -5,10 +5,10 @@ use Rattle.dm_dict.specs.Limits.{group_limit}
 use Rattle.dm_dict.specs.Passed.{IsGoodBut}
 use Rattle.dm_dict.proofs.message_avps.pass_front.Given as goal
 
-abbrev pub invariant-loop-avp : goal.invariant-loop-avp
-invariant-loop-avp l =
+abbrev pub invariant-others : goal.invariant-others
+invariant-others l =
     (all : List Avp) → Lists l.list all → (m : List Avp) × Lists l.left m
     × IsGoodBut group_limit l.dictionary.tables.avps.items l.rule.entries.now all m l.counts
 
-abbrev pub decreases-loop-avp : goal.decreases-loop-avp
-decreases-loop-avp l = size_of l.left
+abbrev pub decreases-others : goal.decreases-others
+decreases-others l = size_of l.left

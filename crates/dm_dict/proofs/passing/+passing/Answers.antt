@@ -1,6 +1,7 @@
 -- A group has the rule of its definition, and its octets are passed one AVP after the other.
 use Rattle.std.proofs.Common.{◌≡◌, Some, [], ◌∷◌, find, take, refl, sym, ◌∙◌, ap, arith, eqb-true}
 use Rattle.std.proofs.lemmas.List.{take-append-drop, take_rest, nil_from_length}
+use Rattle.dm_wire.specs.declared.avp.Avp.{Avp}
 use Rattle.dm_wire.specs.Borrowed.{avp_of}
 use Rattle.dm_tables.specs.Definitions.{is_coded}
 use Rattle.dm_dict.specs.Faults.{group_faults}
@@ -9,14 +10,29 @@ use Rattle.dm_dict.proofs.Chains.{looked_up}
 use Rattle.dm_dict.proofs.GoodBut.{none_passed, one_passed, all_passed}
 use Rattle.dm_dict.proofs.passing.+passing.Goals as goal
 
+pub passes_defined-returns-else-passes_group : goal.passes_defined-returns-else-passes_group
+passes_defined-returns-else-passes_group t c =
+    let groups = group_faults c.args.depth c.args.dictionary.now.tables.avps.items in
+    c.is_failed_at.ensures groups (avp_of c.args.avp) c.requires.def
+
+pub passes_defined-returns-else-passes_listed : goal.passes_defined-returns-else-passes_listed
+passes_defined-returns-else-passes_listed t c =
+    let groups = group_faults c.args.depth c.args.dictionary.now.tables.avps.items in
+    c.is_failed_at-else-passes_listed.ensures groups (avp_of c.args.avp) c.requires.def
+
+pub passes_defined-returns-else-passes_data : goal.passes_defined-returns-else-passes_data
+passes_defined-returns-else-passes_data t c =
+    let groups = group_faults c.args.depth c.args.dictionary.now.tables.avps.items in
+    c.is_failed_at-else-passes_data.ensures groups (avp_of c.args.avp) c.requires.def
+
 pub passes_defined-passes_group-requires : goal.passes_defined-passes_group-requires
 passes_defined-passes_group-requires t c =
     let fit = c.requires.fit in
-    let def = c.def_at-def.result.now in
+    let def = c.def_at.result.now in
     let code = c.args.avp.code in
     let vendor = c.args.avp.vendor in
     let found : find (is_coded code vendor) c.args.dictionary.now.tables.avps.items ≡ Some
-    def = sym (c.def_at-def.ensures ∙ c.requires.def) in (
+    def = sym (c.def_at.ensures ∙ c.requires.def) in (
       omega arith,
       (
         c.requires.linked,
@@ -25,55 +41,97 @@ passes_defined-passes_group-requires t c =
           record {
             apart = fit.apart code vendor def found;
             closed = fit.closed code vendor def found;
-            linked = c.links_at-links.ensures def c.def_at-def.ensures;
+            linked = c.links_at.ensures def c.def_at.ensures;
           },
         ),
       ),
     )
 
-pub pass_each-loop-avp-init : goal.pass_each-loop-avp-init
-pass_each-loop-avp-init t c = (
-  λ m. m,
-  λ m h. h,
-  λ m. none_passed c.args.depth c.args.dictionary.now.tables.avps.items c.args.rule.entries.now m _ c.requires.zero,
-)
-
-pub pass_row-returns-clause-passed : goal.pass_row-returns-clause-passed
-pass_row-returns-clause-passed t c = λ yes rule stands l m k before is.
-    let avps = c.args.dictionary.now.tables.avps.items in
-    let a = avp_of c.args.avp in
-    let good = looked_up (group_faults c.args.depth avps) _ _ a _ _ stands.allowed
-    (c.passes_defined.ensures c.if-not-passes_defined.false) in
-    one_passed c.args.depth avps rule l m k a _ _ (Some c.args.at) before is good c.count_one.ensures.size
-    c.count_one.ensures.counted stands.counts
-
-pub pass_found-returns-clause-passed : goal.pass_found-returns-clause-passed
-pass_found-returns-clause-passed t c = λ yes l m k before is.
+pub pass_parts-returns-clause-passed : goal.pass_parts-returns-clause-passed
+pass_parts-returns-clause-passed t c = λ yes l m k before is.
     let avps = c.args.dictionary.now.tables.avps.items in
     let rule = c.args.rule.entries.now in
-    let a = avp_of c.args.avp in
+    let a : Avp = record {
+      code = c.args.code;
+      vendor = c.args.vendor;
+      mandatory = c.args.mandatory;
+      protected = c.args.protected;
+      bytes = c.args.bytes.now;
+    } in
     let allowed = ap allows c.look_up_marked-place.ensures.entry in
     let good = looked_up (group_faults c.args.depth avps) _ _ a _ _ allowed
     (c.passes_avp.ensures c.if-not-passes_avp.false) in
     one_passed c.args.depth avps rule l m k a _ _ _ before is good c.count_one.ensures.size c.count_one.ensures.counted
     c.look_up_marked-place.ensures.counts
 
-pub pass_each-loop-avp-preserved : goal.pass_each-loop-avp-preserved
-pass_each-loop-avp-preserved t c =
+pub pass_rows-loop-avp-init : goal.pass_rows-loop-avp-init
+pass_rows-loop-avp-init t c = ((λ m. m, λ m h. h, λ l m good. good), omega arith)
+
+pub pass_rows-loop-avp-preserved : goal.pass_rows-loop-avp-preserved
+pass_rows-loop-avp-preserved t c =
+    let avps = c.args.dictionary.now.tables.avps.items in
+    let rule = c.args.rule.entries.now in
     let s = c.loop-avp.left.now in
     let n = c.in-Some.size in
     let a = avp_of c.in-Some.avp in
-    let (all, spelled, before) = c.loop-avp.invariant in (
-      λ m. all (a ∷ m),
-      λ m h. spelled (a ∷ m)
-          (take n s, _, rw (take_rest s n) (sym (take-append-drop n s)), c.in-Some.ensures.found, h),
-      λ m. c.pass_next.ensures.passed c.if-not-pass_next.false (all (a ∷ m)) (a ∷ m) m (before (a ∷ m)) refl,
+    let stands = c.in-Some-row_for.ensures in
+    let good = looked_up (group_faults c.args.depth avps) _ _ a _ _ stands.allowed
+    (c.passes_defined.ensures c.if-not-passes_defined.false) in
+    let ((all, spelled, passed), within) = c.loop-avp.invariant in (
+      (
+        λ m. all (a ∷ m),
+        λ m h. spelled (a ∷ m)
+            (take n s, _, rw (take_rest s n) (sym (take-append-drop n s)), c.in-Some.ensures.found, h),
+        λ l m before. one_passed c.args.depth avps rule l (a ∷ m) m a _ _ (Some c.in-Some-row_for.entry)
+            (passed l (a ∷ m) before) refl good c.count_one.ensures.size c.count_one.ensures.counted stands.counts,
+      ),
+      omega arith,
     )
 
-pub pass_each-returns : goal.pass_each-returns
-pass_each-returns t c = λ done.
-    let s = c.loop-avp.left.now in
-    let none = nil_from_length s (eqb-true _ 0 (sym c.is_empty.ensures ∙ done)) in
-    let (all, spelled, before) = c.loop-avp.invariant in
-    let (good, counted) = all_passed c.args.depth _ _ (all []) _ (before []) in
-    (all [], spelled [] none, good, counted)
+pub pass_other-returns-then-pass_unknown-clause-passed : goal.pass_other-returns-then-pass_unknown-clause-passed
+pass_other-returns-then-pass_unknown-clause-passed t c =
+    let s = c.args.octets.now in
+    let n = c.in-Some.size in
+    let a = avp_of c.in-Some.avp in (
+      λ m. a ∷ m,
+      λ m h. (take n s, _, rw (take_rest s n) (sym (take-append-drop n s)), c.in-Some.ensures.found, h),
+      λ l m before. c.pass_unknown.ensures.passed c.if-pass_unknown.true c.args.depth l (a ∷ m) m before refl,
+    )
+
+pub pass_other-returns-then-pass_found-clause-passed : goal.pass_other-returns-then-pass_found-clause-passed
+pass_other-returns-then-pass_found-clause-passed t c =
+    let s = c.args.octets.now in
+    let n = c.in-Some.size in
+    let a = avp_of c.in-Some.avp in (
+      λ m. a ∷ m,
+      λ m h. (take n s, _, rw (take_rest s n) (sym (take-append-drop n s)), c.in-Some.ensures.found, h),
+      λ l m before. c.pass_found.ensures.passed c.if-pass_found.true l (a ∷ m) m
+          (rw (c.pass_unknown.ensures.same c.if-pass_unknown.false) before) refl,
+    )
+
+pub pass_each-loop-behind-init : goal.pass_each-loop-behind-init
+pass_each-loop-behind-init t c = (
+  λ m. m,
+  λ m h. h,
+  λ m. none_passed c.args.depth c.args.dictionary.now.tables.avps.items c.args.rule.entries.now m _ c.requires.zero,
+)
+
+pub pass_each-loop-behind-preserved : goal.pass_each-loop-behind-preserved
+pass_each-loop-behind-preserved t c =
+    let (all, spelled, before) = c.loop-behind.invariant in
+    let (rows, behind, passed) = c.in-Some.ensures.passed in
+    let (other, rest, more) = c.in-Some-pass_other.ensures.passed in (
+      λ m. all (rows (other m)),
+      λ m h. spelled (rows (other m)) (behind (other m) (rest m h)),
+      λ m. more (all (rows (other m))) m
+          (passed (all (rows (other m))) (other m) (before (rows (other m)))),
+    )
+
+pub pass_each-returns-then-is_empty : goal.pass_each-returns-then-is_empty
+pass_each-returns-then-is_empty t c = λ done.
+    let none = nil_from_length c.in-Some.behind.now (eqb-true _ 0 (sym c.is_empty.ensures ∙ c.if-is_empty.true)) in
+    let (all, spelled, before) = c.loop-behind.invariant in
+    let (rows, behind, passed) = c.in-Some.ensures.passed in
+    let l = all (rows []) in
+    let (good, counted) = all_passed c.args.depth _ _ l _ (passed l [] (before (rows []))) in
+    (l, spelled (rows []) (behind [] none), good, counted)
