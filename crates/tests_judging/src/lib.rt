@@ -19,3 +19,5 @@ mod seated_types;
 mod shared_seats;
 #[cfg(test)]
 mod told;
+#[cfg(test)]
+mod unknown_runs;
