@@ -35,6 +35,10 @@ RULES = 1
 COMMENT = {".rt": b"//", ".antt": b"--"}
 # A module of definitions where it is named: its library, if that is said, and the module with what follows it.
 NAMED = re.compile(rb"(?:\bRattle[.-](\w+)\.|(?<![\w.]))(specs\b(?:\.\w+)*)")
+# In what the prover made of a library, a line that imports names from a module: the module and the names.
+IMPORT = re.compile(r'\{"Read":\{"bytes":"(Rattle[^"{]*)\{([^"}]*)\}","column":\d+\}\},?')
+# There too, the functions of a type.
+FUNCTIONS = re.compile(r'"functions":\[([^\]]*)\]')
 LISTED = re.compile(rb"\s*(pub )?mod \w+\s*")
 
 
@@ -87,6 +91,25 @@ class Stated(typing.NamedTuple):
     definitions: dict
 
 
+def without_private(name, text, shown):
+    """Returns what the prover made of a type, of its functions with those alone that are shown."""
+    def those(found):
+        return ",".join(it for it in found[1].split(",") if name + "/" + it.strip('"') in shown)
+    return FUNCTIONS.sub(those, text)
+
+
+def without_idle_imports(text):
+    """Returns what the prover made of a file's items, of the names that the file imports with those alone that stand in
+    it, in order."""
+    rest, found = IMPORT.sub("", text), []
+    for module, names in IMPORT.findall(text):
+        for name in names.split(", "):
+            parts = name.split(" as ")[-1].split("◌")
+            if all(it in rest for it in parts):
+                found.append(f"{module}{name}")
+    return rest + "\n".join(sorted({*found}))
+
+
 @functools.lru_cache(maxsize=None)
 def stated_in(library, is_linked, is_cited):
     """Returns what a built library states to those above it, which is all that their proofs rest on: its public items
@@ -95,7 +118,8 @@ def stated_in(library, is_linked, is_cited):
     A program reads all items, also without bodies: it links them. Where a text above names the library's proofs, which
     none should, they count too."""
     parts = ["interface"] + ["lang/src"] * is_linked + ["lang/antt/proofs.antt", "lang/antt/proofs"] * is_cited
-    shown = shown_by(library.name, modules_in(f"{library.rlib}/lang/antt/made.json"))
+    made = shown_by(library.name, modules_in(f"{library.rlib}/lang/antt/made.json"))
+    shown = {name: without_idle_imports(without_private(name, text, made)) for name, text in made.items()}
     told = [it for it in read(f"{library.rlib}/format").split(b"\n") if it.startswith(b"crosses ")]
     texts = {file: without_comments(file, text) for file, text in files_below(library.rlib, *parts).items()}
     named = names_in([*texts.values(), *(it.encode() for it in shown.values())])
