@@ -34,7 +34,7 @@ pub fn dictionary(rt: &(impl Abort + AllocGlobal)) -> Dictionary {
 }
 
 /// The sizes of the pieces in which an input is read.
-const PIECES: [usize; 3] = [1, 7, 65_536];
+pub const PIECES: [usize; 3] = [1, 7, 65_536];
 
 /// Writes what is said of an input that is read in pieces of this size: of its lines, or of the stream that they are.
 fn read_said(
