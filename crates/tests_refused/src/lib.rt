@@ -10,6 +10,8 @@ mod dictionaries;
 #[cfg(test)]
 mod each;
 #[cfg(test)]
+mod lines;
+#[cfg(test)]
 mod messages;
 #[cfg(test)]
 mod quiet;
