@@ -24,8 +24,8 @@ fn readers_end_their_lines(rt: HostRuntime) {
     drop(inputs);
 }
 
-/// What is said, what each reader gives, which of them fails behind that, what is written, how the run ends, and how many
-/// readers were read to their ends.
+/// What is said, what each reader gives, which of them fails behind that, what is written, how the run ends, and how
+/// many readers were read to their ends.
 type Row = (
     Way,
     &'static [&'static str],
@@ -78,8 +78,8 @@ const ROWS: [Row; 8] = [
     ),
 ];
 
-/// How the run ends, and how many readers were read to their ends, in pieces of this size. `None` where something else is
-/// written.
+/// How the run ends, and how many readers were read to their ends, in pieces of this size. `None` where something else
+/// is written.
 fn said(alloc: Global, dictionary: &Dictionary, row: Row, size: usize) -> Option<(End, usize)> {
     let (way, texts, broken, want, ..) = row;
     let mut inputs = Inputs::new(alloc);

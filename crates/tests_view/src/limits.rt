@@ -34,8 +34,8 @@ impl Read for Floods<'_> {
     }
 }
 
-/// What is said, what stands before the octets `#`, how many they are, and what stands behind them; what is written, and
-/// how the run ends.
+/// What is said, what stands before the octets `#`, how many they are, and what stands behind them; what is written,
+/// and how the run ends.
 type Flood = (Way, &'static str, usize, &'static str, &'static str, End);
 
 /// A message, and its line's end.
