@@ -4,10 +4,11 @@ use dm_dict::Dictionary;
 use dm_refusal::{End, Subject, answered, refuse, repeated, was_refused};
 use dm_view_lines::{RunFault, Task, say_lines, say_stream};
 use std::alloc::Global;
+use std::cell::Cell;
 use std::io::BufReader;
 
 /// What is said, whether of one stream, in colours or without, of what input, what is written, and the size of the
-/// pieces in which it is read.
+/// pieces in which it is read; how much was written when an earlier request was refused.
 #[derive(Clone, Copy)]
 struct Row<'a> {
     dictionary: &'a Dictionary,
@@ -17,6 +18,7 @@ struct Row<'a> {
     input: &'a str,
     text: &'a str,
     size: usize,
+    written: &'a Cell<usize>,
 }
 
 /// Writes what is said of the input, in pieces, with the nth request refused from the first read on.
@@ -56,15 +58,16 @@ fn is_front(written: &[u8], text: &str) -> bool {
     }
 }
 
-/// How the run ends when its nth request is refused: what was said of the lines before is written. There is room for
-/// what is written.
+/// How the run ends when its nth request is refused: what was said of the lines before is written, at a later request
+/// no less. There is room for what is written.
 fn end_of(alloc: Global, row: &Row<'_>, nth: u32) -> End {
     let Ok(mut text) = Vec::with_capacity(alloc, 4096) else {
         return End::Alone;
     };
     let (first, refused) = said(alloc, row, nth, &mut text);
-    let front = is_front(text.as_slice(), row.text);
+    let front = is_front(text.as_slice(), row.text) && text.len() >= row.written.get();
     let whole = text.as_slice() == row.text.as_bytes();
+    row.written.set(text.len());
     drop(text);
     match first {
         Ok(_) => answered(refused, whole),
@@ -84,7 +87,7 @@ const LINES: &str = "\
 01000038800001180000000000000001000000010000010840000011612e6578616d706c65000000000001284000000f6578616d706c6500
 xyz
 # nothing
-0x01000038 80000118 00000000 00000001 00000001 00000108 40000011 612e6578 616d706c 65000000 00000128 4000000f 6578616d 706c6500";
+0x01000038 80000118 000000000000000100000001 0000010840000011612e6578616d706c65000000 000001284000000f6578616d706c6500";
 
 const SHOWN: &str = "\
 1: DWR 280 request, application 0, hop-by-hop 1 (0x00000001), end-to-end 1 (0x00000001)
@@ -96,12 +99,8 @@ const SHOWN: &str = "\
   Origin-Realm 296 -M- example
 ";
 
-const CHECKED: &str = "\
-{\"number\":1,\"verdict\":\"good\",\"header\":{\"command\":\"DWR\",\"code\":280,\"flags\":[\"request\"],\"application\":0,\"hop_by_hop\":1,\"end_to_end\":1},\"faults\":[]}
-{\"number\":2,\"verdict\":\"bad\",\"error\":\"no hexadecimal\"}
-{\"number\":4,\"verdict\":\"good\",\"header\":{\"command\":\"DWR\",\"code\":280,\"flags\":[\"request\"],\"application\":0,\"hop_by_hop\":1,\"end_to_end\":1},\"faults\":[]}
-{\"good\":2,\"bad\":1}
-";
+const CHECKED: &str =
+    "{\"number\":1,\"verdict\":\"good\",\"header\":{\"command\":\"DWR\",\"code\":280,\"flags\":[\"request\"],\"application\":0,\"hop_by_hop\":1,\"end_to_end\":1},\"faults\":[]}\n{\"number\":2,\"verdict\":\"bad\",\"error\":\"no hexadecimal\"}\n{\"number\":4,\"verdict\":\"good\",\"header\":{\"command\":\"DWR\",\"code\":280,\"flags\":[\"request\"],\"application\":0,\"hop_by_hop\":1,\"end_to_end\":1},\"faults\":[]}\n{\"good\":2,\"bad\":1}\n";
 
 /// Two watchdogs in three lines, and the front of a third one.
 const STREAM: &str = "\
@@ -125,6 +124,7 @@ fn lines_are_said(rt: HostRuntime) {
         (Task::Check, true, STREAM, STREAMED),
     ] {
         for size in [1usize, 50, 65_536] {
+            let written = Cell::new(0usize);
             let row = Row {
                 dictionary: &dictionary,
                 task,
@@ -133,6 +133,7 @@ fn lines_are_said(rt: HostRuntime) {
                 input,
                 text,
                 size,
+                written: &written,
             };
             each(&rt, &row, "what is said of lines");
         }
