@@ -8,4 +8,5 @@ pub mod Parts
 pub mod Readings
 pub mod Runs
 pub mod Seconds
+pub mod Streaming
 pub mod Taken

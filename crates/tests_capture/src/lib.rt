@@ -4,4 +4,6 @@
 #[cfg(test)]
 mod captures;
 #[cfg(test)]
+mod readers;
+#[cfg(test)]
 mod told;
