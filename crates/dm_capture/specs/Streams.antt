@@ -31,7 +31,8 @@ StopsThere fault left before new more =
 
 -- what a call for the next packet answers, where a reader gives the octets, and what it leaves: the packet of the items
 -- passed, behind what was taken from the reader; none where neither holds any more; a fault; or the reader failed
-abbrev pub HandsFrom : Progress → Option (List ℕ) → Progress → Option (List ℕ) → Result (Option Packet) StreamFault → Type 0
+abbrev pub HandsFrom : Progress → Option (List ℕ) → Progress → Option (List ℕ) →
+    Result (Option Packet) StreamFault → Type 0
 HandsFrom old left new more (Ok (Some packet)) =
     (taken : List ℕ) × (items : List HeldItem) × Consumes left more taken ×
     ItemsLead (with_piece old taken) items new × (packets_of old.packets items ≡ captured_of packet ∷ [])
