@@ -1,3 +1,4 @@
+pub mod Alone
 pub mod Fields
 pub mod Faults
 pub mod Files
