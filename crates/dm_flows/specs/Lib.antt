@@ -1,0 +1,4 @@
+pub mod Ips
+pub mod Laws
+pub mod Links
+pub mod Tcps

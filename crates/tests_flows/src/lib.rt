@@ -1,0 +1,7 @@
+//! Tests of packets: the segments in them, or what they are instead; and of octets by number.
+#![tactic(auto)]
+
+#[cfg(test)]
+mod segments;
+#[cfg(test)]
+mod told;
