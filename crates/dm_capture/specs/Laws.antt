@@ -35,8 +35,8 @@ PartOrFault =
     → IsPart layout s → HasFrontFault layout interfaces s fault → ⊥
 
 -- and one fault at most does
-abbrev pub OneFault : Type 0
-OneFault =
+abbrev pub OneFrontFault : Type 0
+OneFrontFault =
     (layout : Layout) (interfaces : List Interface) (s : List ℕ) (fault other : FaultKind)
     → HasFrontFault layout interfaces s fault → HasFrontFault layout interfaces s other → fault ≡ other
 

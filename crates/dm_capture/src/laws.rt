@@ -1,6 +1,6 @@
 //! Laws of how a capture is read. Each function is a law: it does nothing, and its contract is the law.
 ghost use Rattle.dm_capture.specs.Laws.{LaterChangesNothing, EachPcapIsRead, EachPcapngIsRead, ItemOrFault};
-ghost use Rattle.dm_capture.specs.Laws.{ItemOrPart, PartOrFault, OneFault, RunsJoin, OneItem, OneReading};
+ghost use Rattle.dm_capture.specs.Laws.{ItemOrPart, PartOrFault, OneFrontFault, RunsJoin, OneItem, OneReading};
 
 /// One header, record or block stands at the front of what is left, a part of one, or one fault.
 pub fn one_front()
@@ -8,7 +8,7 @@ pub fn one_front()
     ensures part { ItemOrPart }
     ensures fault { ItemOrFault }
     ensures either { PartOrFault }
-    ensures one { OneFault }
+    ensures one { OneFrontFault }
 {}
 
 /// What is read of a capture is read in one way.
