@@ -12,8 +12,11 @@ mod link;
 mod network;
 mod passed;
 mod segment;
+mod slots;
 mod tags;
+mod window;
 
 pub use address::{Address, Endpoint};
 pub use passed::Passed;
 pub use segment::{Segment, segment_of};
+pub use window::{WINDOW, Window, WindowFault};

@@ -5,3 +5,5 @@
 mod segments;
 #[cfg(test)]
 mod told;
+#[cfg(test)]
+mod windows;
