@@ -6,4 +6,5 @@ pub mod OneSegment
 pub mod OneStream
 pub mod Passing
 pub mod SlotLists
+pub mod Straight
 pub mod Upper

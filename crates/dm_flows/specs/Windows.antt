@@ -1,5 +1,5 @@
 -- One direction of a connection: octets by number (RFC 9293, 3.4).
-use Rattle.std.specs.Prelude.{◌≡◌, ℕ, zero, suc, ◌+◌, ◌-◌, ◌%◌, ◌^◌, ◌<◌, nat_lt, nat_le}
+use Rattle.std.specs.Prelude.{◌≡◌, ◌⊎◌, ℕ, zero, suc, ◌+◌, ◌-◌, ◌%◌, ◌^◌, ◌<◌, nat_lt, nat_le}
 use Rattle.std.specs.Prelude.{Option, None, Some, if◌then◌else◌}
 use Rattle.std.specs.Prelude.{List, ◌++◌, map, length, drop, slice_get, slice_index_or}
 
@@ -70,3 +70,20 @@ pub record HandsOctets (old : WindowState) (front : List ℕ) (new : WindowState
 -- behind what stood in the output
 abbrev pub HandsTo : WindowState → List ℕ → WindowState → List ℕ → Type 0
 HandsTo old before new after = (front : List ℕ) × HandsOctets old front new × (after ≡ before ++ front)
+
+-- octets were handed out that never waited
+pub record HandsStraight (old : WindowState) (front : List ℕ) (new : WindowState) : Type 0 where
+  pub held : new.held ≡ old.held
+  pub next : new.next ≡ sequence_behind old.next (length front)
+
+-- octets came and were taken, and then octets were handed out
+pub record TakesThrough (old : WindowState) (sequence : ℕ) (octets before : List ℕ) (new : WindowState)
+    (after : List ℕ) : Type 0 where
+  pub mid : WindowState
+  pub takes : TakesOctets old sequence octets mid
+  pub hands : HandsTo mid before new after
+
+-- what is left where memory is wanted: all as it was, or octets that were taken and handed out up to some
+abbrev pub LeavesThrough : WindowState → ℕ → List ℕ → List ℕ → WindowState → List ℕ → Type 0
+LeavesThrough old sequence octets before new after =
+    ((new ≡ old) × (after ≡ before)) ⊎ TakesThrough old sequence octets before new after

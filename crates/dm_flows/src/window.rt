@@ -1,6 +1,7 @@
 //! One direction of a connection: octets by number, handed out in order (RFC 9293, 3.4).
-ghost use Rattle.std.specs.Prelude.{◌≡◌, ◌≤◌, ◌++◌, ℕ, [], None, IfErr, OnOk, OnErr};
+ghost use Rattle.std.specs.Prelude.{◌≡◌, ◌≤◌, ◌++◌, ℕ, [], length, None, IfErr, OnOk, OnErr};
 ghost use Rattle.dm_flows.specs.Windows.{slot, place_ahead, passed_of, arrival_from, TakesOctets, IsTooFar, HandsTo};
+ghost use Rattle.dm_flows.specs.Windows.{HandsStraight, TakesThrough, LeavesThrough};
 
 use crate::slots::{behind, fill_slots, grow_slots};
 use std::alloc::{AllocError, Global};
@@ -128,6 +129,57 @@ impl Window {
             let _ = self.slots.pop_front();
             self.next = self.next.wrapping_add(1);
         }
+        Ok(())
+    }
+    /// Takes octets and hands out what is whole then, as `take` and `hand_out` do. Where nothing waits and the octets
+    /// begin at the next number they go straight to the output.
+    ///
+    /// `TooFar` changes nothing. Where memory is wanted nothing changed, or the octets were taken, and those that are
+    /// whole appended up to some.
+    pub fn take_through(
+        &mut self,
+        sequence: u32,
+        octets: &[u8],
+        output: &mut Vec<u8>,
+    ) -> Result<(), WindowFault>
+        ensures through { OnOk result
+            (TakesThrough self.old sequence octets.now output.old.items self.new output.new.items) }
+        ensures all { OnOk result (slot self.new.held 0 ≡ None) }
+        ensures left { OnErr result
+            (LeavesThrough self.old sequence octets.now output.old.items self.new output.new.items) }
+        ensures far { IfErr result (λ fault. fault ≡ WindowFault.TooFar → (self.new ≡ self.old)
+            × (output.new.items ≡ output.old.items)
+            × IsTooFar (arrival_from self.old.next sequence octets.now)) }
+    {
+        if self.slots.is_empty() && self.next == sequence && octets.len() <= WINDOW {
+            return self.pass(octets, output);
+        }
+        match self.take(sequence, octets) {
+            Ok(()) => match self.hand_out(output) {
+                Ok(()) => Ok(()),
+                Err(_) => Err(WindowFault::NoMemory),
+            },
+            Err(fault) => Err(fault),
+        }
+    }
+
+    /// Hands on octets that begin at the next number, where nothing waits.
+    fn pass(&mut self, octets: &[u8], output: &mut Vec<u8>) -> Result<(), WindowFault>
+        requires none { self.old.held ≡ [] }
+        requires most { length octets.now ≤ 1048576 }
+        ensures passed { OnOk result (HandsStraight self.old octets.now self.new) }
+        ensures put { OnOk result (output.new.items ≡ output.old.items ++ octets.now) }
+        ensures err { OnErr result (self.new ≡ self.old) }
+        ensures kept { OnErr result (output.new.items ≡ output.old.items) }
+        ensures memory { IfErr result (λ fault. fault ≡ WindowFault.NoMemory) }
+    {
+        if octets.is_empty() {
+            return Ok(());
+        }
+        if output.extend_from_slice(octets).is_err() {
+            return Err(WindowFault::NoMemory);
+        }
+        self.next = self.next.wrapping_add(octets.len() as u32);
         Ok(())
     }
 }
