@@ -12,7 +12,7 @@ use Rattle.dm_capture.specs.declared.front.Layout.TheVariants.{Start, Pcap, Pcap
 use Rattle.dm_capture.specs.declared.front.Holds.{Holds}
 use Rattle.dm_capture.specs.declared.front.Holds.TheVariants.{Form, Section, Description, PacketRecord, Other}
 use Rattle.dm_capture.specs.declared.fault.FaultKind.{FaultKind}
-use Rattle.dm_capture.specs.declared.fault.FaultKind.TheVariants.{NoCapture, OtherVersion, WrongLength, RecordTooLong, LengthsDiffer, UnknownInterface, CutRecord, OutOfMemory}
+use Rattle.dm_capture.specs.declared.fault.FaultKind.TheVariants.{NoCapture, OtherVersion, WrongLength, RecordTooLong, LengthsDiffer, UnknownInterface, TooManyInterfaces, CutRecord, OutOfMemory}
 use Rattle.dm_capture.specs.Numbers.{ordered_number}
 use Rattle.dm_capture.specs.Blocks.{block_type, block_size, IsBlock, HasLengthFault}
 use Rattle.dm_capture.specs.Interfaces.{HasInterfaceFault, IsInterface}
@@ -27,7 +27,7 @@ use Rattle.dm_capture.proofs.One.InSection.{a_section, a_block}
 use Rattle.dm_capture.proofs.One.IsStanding.{a_record}
 use Rattle.dm_capture.proofs.Parts.{kind_behind, order_behind}
 
-none_some : {X : Type 0} (x : X) → None ≡ Some x → ⊥
+pub none_some : {X : Type 0} (x : X) → None ≡ Some x → ⊥
 none_some x e = cc
 
 size_behind : (order : Order) (s x : List ℕ) → IsBlock order s → block_size order (s ++ x) ≡ length s
@@ -44,7 +44,7 @@ again_behind order s x is =
     number_behind order 4 (length s - 4) s x (omega (arith, is.fits.least)) ∙ is.again in
     subst P (sym (size_behind order s x is)) at_length
 
-length_fault : (order : Order) (s x : List ℕ) (fault : FaultKind) → IsBlock order s →
+pub length_fault : (order : Order) (s x : List ℕ) (fault : FaultKind) → IsBlock order s →
     HasLengthFault order (s ++ x) fault → ⊥
 length_fault order s x NoCapture is h = h
 length_fault order s x OtherVersion is h = h
@@ -55,6 +55,7 @@ length_fault order s x RecordTooLong is (has, low, four, above) =
     omega (arith, size_behind order s x is, above, is.fits.most)
 length_fault order s x LengthsDiffer is (has, within, fits, other) = other (again_behind order s x is)
 length_fault order s x UnknownInterface is h = h
+length_fault order s x TooManyInterfaces is h = h
 length_fault order s x CutRecord is h = h
 length_fault order s x OutOfMemory is h = h
 
@@ -67,10 +68,11 @@ section_content order s WrongLength is h = omega (arith, h, is.least)
 section_content order s RecordTooLong is h = h
 section_content order s LengthsDiffer is h = h
 section_content order s UnknownInterface is h = h
+section_content order s TooManyInterfaces is h = h
 section_content order s CutRecord is h = h
 section_content order s OutOfMemory is h = h
 
-abbrev OrderedFault : List ℕ → FaultKind → Order → Type 0
+abbrev pub OrderedFault : List ℕ → FaultKind → Order → Type 0
 OrderedFault s fault order =
     HasLengthFault order s fault ⊎
     (IsBlock order (take (block_size order s) s) ×
@@ -100,20 +102,23 @@ section_or_fault order s x WrongLength is h = other_order order s x WrongLength 
 section_or_fault order s x RecordTooLong is h = other_order order s x RecordTooLong is h
 section_or_fault order s x LengthsDiffer is h = other_order order s x LengthsDiffer is h
 section_or_fault order s x UnknownInterface is h = other_order order s x UnknownInterface is h
+section_or_fault order s x TooManyInterfaces is h = other_order order s x TooManyInterfaces is h
 section_or_fault order s x CutRecord is h = other_order order s x CutRecord is h
 section_or_fault order s x OutOfMemory is h = other_order order s x OutOfMemory is h
 
 -- an interface's description
-interface_or_fault : (order : Order) (s : List ℕ) (interface : Interface) (fault : FaultKind) →
-    IsInterface order s interface → HasInterfaceFault s fault → ⊥
-interface_or_fault order s interface NoCapture is h = h
-interface_or_fault order s interface OtherVersion is h = h
-interface_or_fault order s interface WrongLength is h = omega (arith, h, is.least)
-interface_or_fault order s interface RecordTooLong is h = h
-interface_or_fault order s interface LengthsDiffer is h = h
-interface_or_fault order s interface UnknownInterface is h = h
-interface_or_fault order s interface CutRecord is h = h
-interface_or_fault order s interface OutOfMemory is h = h
+interface_or_fault : (order : Order) (interfaces : List Interface) (s : List ℕ) (interface : Interface)
+    (fault : FaultKind) → length interfaces < 65536 → IsInterface order s interface →
+    HasInterfaceFault interfaces s fault → ⊥
+interface_or_fault order interfaces s interface NoCapture few is h = h
+interface_or_fault order interfaces s interface OtherVersion few is h = h
+interface_or_fault order interfaces s interface WrongLength few is h = omega (arith, h, is.least)
+interface_or_fault order interfaces s interface RecordTooLong few is h = h
+interface_or_fault order interfaces s interface LengthsDiffer few is h = h
+interface_or_fault order interfaces s interface UnknownInterface few is h = h
+interface_or_fault order interfaces s interface TooManyInterfaces few is h = omega (arith, few, h.1)
+interface_or_fault order interfaces s interface CutRecord few is h = h
+interface_or_fault order interfaces s interface OutOfMemory few is h = h
 
 -- an enhanced or obsolete packet block
 captured_or_fault : (order : Order) (interface : Interface) (s : List ℕ) (stands : Record) (fault : FaultKind) →
@@ -124,6 +129,7 @@ captured_or_fault order interface s stands WrongLength is h = omega (arith, h, i
 captured_or_fault order interface s stands RecordTooLong is (has, above) = omega (arith, above, is.most)
 captured_or_fault order interface s stands LengthsDiffer is h = h
 captured_or_fault order interface s stands UnknownInterface is h = h
+captured_or_fault order interface s stands TooManyInterfaces is h = h
 captured_or_fault order interface s stands CutRecord is h = h
 captured_or_fault order interface s stands OutOfMemory is h = h
 
@@ -144,6 +150,7 @@ timed_or_fault order interfaces s stands WrongLength is h = timed_at order inter
 timed_or_fault order interfaces s stands RecordTooLong is h = timed_at order interfaces s stands RecordTooLong is h
 timed_or_fault order interfaces s stands LengthsDiffer is h = timed_at order interfaces s stands LengthsDiffer is h
 timed_or_fault order interfaces s stands UnknownInterface (i, at, is) (has, none) = none_some i (sym none ∙ at)
+timed_or_fault order interfaces s stands TooManyInterfaces is h = timed_at order interfaces s stands TooManyInterfaces is h
 timed_or_fault order interfaces s stands CutRecord is h = timed_at order interfaces s stands CutRecord is h
 timed_or_fault order interfaces s stands OutOfMemory is h = timed_at order interfaces s stands OutOfMemory is h
 
@@ -156,6 +163,7 @@ simple_length order interface s stands WrongLength is h = omega (arith, h, is.wi
 simple_length order interface s stands RecordTooLong is (has, above) = omega (arith, above, is.most)
 simple_length order interface s stands LengthsDiffer is h = h
 simple_length order interface s stands UnknownInterface is h = h
+simple_length order interface s stands TooManyInterfaces is h = h
 simple_length order interface s stands CutRecord is h = h
 simple_length order interface s stands OutOfMemory is h = h
 
@@ -178,6 +186,7 @@ simple_or_fault order interfaces s stands WrongLength is h = simple_at order int
 simple_or_fault order interfaces s stands RecordTooLong is h = simple_at order interfaces s stands RecordTooLong is h
 simple_or_fault order interfaces s stands LengthsDiffer is h = simple_at order interfaces s stands LengthsDiffer is h
 simple_or_fault order interfaces s stands UnknownInterface (i, at, is) (has, none) = none_some i (sym none ∙ at)
+simple_or_fault order interfaces s stands TooManyInterfaces is h = simple_at order interfaces s stands TooManyInterfaces is h
 simple_or_fault order interfaces s stands CutRecord is h = simple_at order interfaces s stands CutRecord is h
 simple_or_fault order interfaces s stands OutOfMemory is h = simple_at order interfaces s stands OutOfMemory is h
 
@@ -187,7 +196,7 @@ said_or_fault : (order : Order) (interfaces : List Interface) (s : List ℕ) (ho
 said_or_fault order interfaces s (Form f) fault h k = absurd h
 said_or_fault order interfaces s (Section o) fault h k = absurd h
 said_or_fault order interfaces s (Description i) fault h (inl (one, k)) =
-    interface_or_fault order s i fault h.1 k
+    interface_or_fault order interfaces s i fault h.1 h.2 k
 said_or_fault order interfaces s (Description i) fault h (inr (inl (timed, k))) =
     not_timed (block_type order s) 1 timed h.0 (λ e. omega (arith, e)) (λ e. omega (arith, e))
 said_or_fault order interfaces s (Description i) fault h (inr (inr (three, k))) = omega (arith, three, h.0)
@@ -240,6 +249,7 @@ header_or_fault form s x WrongLength is h = h
 header_or_fault form s x RecordTooLong is h = h
 header_or_fault form s x LengthsDiffer is h = h
 header_or_fault form s x UnknownInterface is h = h
+header_or_fault form s x TooManyInterfaces is h = h
 header_or_fault form s x CutRecord is h = h
 header_or_fault form s x OutOfMemory is h = h
 
@@ -267,6 +277,7 @@ record_or_fault form s x holds RecordTooLong (a_record stands at is) (has, above
     omega (arith, number_behind form.order 4 8 s x (omega (arith, is.size)), above, is.most)
 record_or_fault form s x holds LengthsDiffer is h = h
 record_or_fault form s x holds UnknownInterface is h = h
+record_or_fault form s x holds TooManyInterfaces is h = h
 record_or_fault form s x holds CutRecord is h = h
 record_or_fault form s x holds OutOfMemory is h = h
 

@@ -1,3 +1,4 @@
+pub mod Alone
 pub mod Fields
 pub mod Faults
 pub mod Files
@@ -8,4 +9,5 @@ pub mod Parts
 pub mod Readings
 pub mod Runs
 pub mod Seconds
+pub mod Streaming
 pub mod Taken

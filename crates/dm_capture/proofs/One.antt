@@ -195,7 +195,7 @@ one_said order interfaces s (Section o) g h k = absurd h
 one_said order interfaces s (Description i) (Form f) h k = absurd k
 one_said order interfaces s (Description i) (Section o) h k = absurd k
 one_said order interfaces s (Description i) (Description j) h k =
-    ap (λ l. Description l) (same_interface order s i j h.1 k.1)
+    ap (λ l. Description l) (same_interface order s i j h.2 k.2)
 one_said order interfaces s (Description i) (PacketRecord q) h k =
     absurd (described_packet order interfaces s q h.0 k)
 one_said order interfaces s (Description i) Other h k = absurd (k.no_interface h.0)

@@ -25,7 +25,8 @@ pub record IsOtherType (n : ℕ) : Type 0 where
 
 -- what a block of a section says, but for a section's header
 abbrev pub BlockHolds : Order → List Interface → List ℕ → Holds → Type 0
-BlockHolds order interfaces s (Description interface) = (block_type order s ≡ 1) × IsInterface order s interface
+BlockHolds order interfaces s (Description interface) =
+    (block_type order s ≡ 1) × (length interfaces < 65536) × IsInterface order s interface
 BlockHolds order interfaces s (PacketRecord stands) =
     (IsTimedType (block_type order s) × IsTimedBlock order interfaces s stands) ⊎
     ((block_type order s ≡ 3) × IsSimpleBlock order interfaces s stands)
@@ -35,7 +36,7 @@ BlockHolds order interfaces s _ = ⊥
 -- what is wrong with it
 abbrev pub HasContentFault : Order → List Interface → List ℕ → FaultKind → Type 0
 HasContentFault order interfaces s fault =
-    ((block_type order s ≡ 1) × HasInterfaceFault s fault) ⊎
+    ((block_type order s ≡ 1) × HasInterfaceFault interfaces s fault) ⊎
     (IsTimedType (block_type order s) × HasTimedFault order interfaces s fault) ⊎
     ((block_type order s ≡ 3) × HasSimpleFault order interfaces s fault)
 

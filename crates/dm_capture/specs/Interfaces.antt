@@ -5,7 +5,7 @@ use Rattle.dm_capture.specs.declared.time.Resolution.{Resolution}
 use Rattle.dm_capture.specs.declared.time.Resolution.TheVariants.{Decimal}
 use Rattle.dm_capture.specs.declared.interface.Interface.{Interface}
 use Rattle.dm_capture.specs.declared.fault.FaultKind.{FaultKind}
-use Rattle.dm_capture.specs.declared.fault.FaultKind.TheVariants.{WrongLength}
+use Rattle.dm_capture.specs.declared.fault.FaultKind.TheVariants.{WrongLength, TooManyInterfaces}
 use Rattle.dm_capture.specs.Numbers.{ordered_number}
 use Rattle.dm_capture.specs.Options.{BlockOption, AreOptions, first_value}
 use Rattle.dm_capture.specs.Times.{resolution_of}
@@ -35,6 +35,8 @@ pub record IsInterface (order : Order) (s : List ℕ) (interface : Interface) : 
   pub resolution : IsResolution order (options_from 16 s) interface.resolution
   pub offset : IsOffset order (options_from 16 s) interface.offset
 
-abbrev pub HasInterfaceFault : List ℕ → FaultKind → Type 0
-HasInterfaceFault s WrongLength = length s < 20
-HasInterfaceFault s _ = ⊥
+-- why it says none, in a section that describes these interfaces before it
+abbrev pub HasInterfaceFault : List Interface → List ℕ → FaultKind → Type 0
+HasInterfaceFault interfaces s WrongLength = length s < 20
+HasInterfaceFault interfaces s TooManyInterfaces = (20 ≤ length s) × (65536 ≤ length interfaces)
+HasInterfaceFault interfaces s _ = ⊥

@@ -28,6 +28,18 @@ ItemOrFault =
     (layout : Layout) (interfaces : List Interface) (s rest : List ℕ) (holds : Holds) (fault : FaultKind)
     → IsItem layout interfaces s holds → HasFrontFault layout interfaces (s ++ rest) fault → ⊥
 
+-- where a part of an item stands no fault does
+abbrev pub PartOrFault : Type 0
+PartOrFault =
+    (layout : Layout) (interfaces : List Interface) (s : List ℕ) (fault : FaultKind)
+    → IsPart layout s → HasFrontFault layout interfaces s fault → ⊥
+
+-- and one fault at most does
+abbrev pub OneFrontFault : Type 0
+OneFrontFault =
+    (layout : Layout) (interfaces : List Interface) (s : List ℕ) (fault other : FaultKind)
+    → HasFrontFault layout interfaces s fault → HasFrontFault layout interfaces s other → fault ≡ other
+
 -- a part of an item is left, or a fault
 abbrev pub IsStopped : Progress → Type 0
 IsStopped end =

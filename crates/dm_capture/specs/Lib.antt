@@ -10,4 +10,5 @@ pub mod Options
 pub mod Packets
 pub mod Pcap
 pub mod Sections
+pub mod Streams
 pub mod Times

@@ -25,6 +25,9 @@ pub enum FaultKind {
     /// A packet names an interface that its section doesn't describe before it.
     #[error("interface not described")]
     UnknownInterface,
+    /// A section describes more than 65,536 interfaces.
+    #[error("too many interfaces")]
+    TooManyInterfaces,
     /// The file ends inside a record.
     #[error("file ends inside a record")]
     CutRecord,

@@ -1,5 +1,5 @@
 //! Descriptions of interfaces.
-ghost use Rattle.std.specs.Prelude.{◌≡◌, ◌≤◌, length, IfOk, IfErr, slice_get};
+ghost use Rattle.std.specs.Prelude.{◌≡◌, ◌<◌, ◌≤◌, length, IfOk, IfErr, OnOk, slice_get};
 ghost use Rattle.dm_capture.specs.Interfaces.{IsInterface, HasInterfaceFault, IsResolution, IsOffset};
 
 use crate::fault::FaultKind;
@@ -9,6 +9,9 @@ use crate::time::{Resolution, resolution_at};
 
 /// The octets of a description without options.
 const LEAST_LEN: usize = 20;
+
+/// The most interfaces that a section describes.
+const MOST_INTERFACES: usize = 65_536;
 
 /// The option that says into how many units a second is cut.
 const TIME_RESOLUTION: u16 = 9;
@@ -27,14 +30,22 @@ pub(crate) struct Interface {
     pub(crate) offset: u64,
 }
 
-/// What a block says that is an interface's description.
-pub(crate) fn interface_of(order: Order, block: &[u8]) -> Result<Interface, FaultKind>
+/// What a block says that is an interface's description, in a section that describes these before it.
+pub(crate) fn interface_of(
+    order: Order,
+    interfaces: &[Interface],
+    block: &[u8],
+) -> Result<Interface, FaultKind>
     requires { 12 ≤ length block.now }
     ensures interface { IfOk result (IsInterface order block.now) }
-    ensures fault { IfErr result (HasInterfaceFault block.now) }
+    ensures few { OnOk result (length interfaces.now < 65536) }
+    ensures fault { IfErr result (HasInterfaceFault interfaces.now block.now) }
 {
     if block.len() < LEAST_LEN {
         return Err(FaultKind::WrongLength);
+    }
+    if MOST_INTERFACES <= interfaces.len() {
+        return Err(FaultKind::TooManyInterfaces);
     }
     let options = &block[16..block.len() - 4];
     Ok(Interface {

@@ -1,12 +1,14 @@
 //! Laws of how a capture is read. Each function is a law: it does nothing, and its contract is the law.
 ghost use Rattle.dm_capture.specs.Laws.{LaterChangesNothing, EachPcapIsRead, EachPcapngIsRead, ItemOrFault};
-ghost use Rattle.dm_capture.specs.Laws.{ItemOrPart, RunsJoin, OneItem, OneReading};
+ghost use Rattle.dm_capture.specs.Laws.{ItemOrPart, PartOrFault, OneFrontFault, RunsJoin, OneItem, OneReading};
 
-/// One header, record or block stands at the front of what is left, a part of one, or a fault.
+/// One header, record or block stands at the front of what is left, a part of one, or one fault.
 pub fn one_front()
     ensures item { OneItem }
     ensures part { ItemOrPart }
     ensures fault { ItemOrFault }
+    ensures either { PartOrFault }
+    ensures one { OneFrontFault }
 {}
 
 /// What is read of a capture is read in one way.

@@ -15,9 +15,11 @@ mod packet_block;
 mod pcap;
 mod reader;
 mod section;
+mod stream;
 mod time;
 
 pub use fault::{CaptureFault, FaultKind};
 pub use packet::Packet;
 pub use reader::CaptureReader;
+pub use stream::{StreamFault, next_packet};
 pub use time::{Resolution, Time};

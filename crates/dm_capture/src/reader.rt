@@ -121,8 +121,15 @@ impl CaptureReader {
         fault
     }
 
+    /// The fault that is kept.
+    pub(crate) fn kept_fault(&self) -> Option<CaptureFault>
+        ensures { result ≡ self.now.fault }
+    {
+        self.fault
+    }
+
     /// A fault of what stands at the front.
-    fn fault_here(&self, kind: FaultKind) -> CaptureFault
+    pub(crate) fn fault_here(&self, kind: FaultKind) -> CaptureFault
         ensures { result ≡ record { offset = self.now.offset; kind = kind } }
     {
         CaptureFault {

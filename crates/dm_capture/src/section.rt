@@ -150,7 +150,7 @@ fn block_holds(order: Order, interfaces: &[Interface], block: &[u8]) -> Result<H
     ensures fault { IfErr result (HasContentFault order interfaces.now block.now) }
 {
     match u32_at(order, block, 0) {
-        INTERFACE => match interface_of(order, block) {
+        INTERFACE => match interface_of(order, interfaces, block) {
             Ok(interface) => Ok(Holds::Description(interface)),
             Err(fault) => Err(fault),
         },

@@ -4,4 +4,8 @@
 #[cfg(test)]
 mod captures;
 #[cfg(test)]
+mod interfaces;
+#[cfg(test)]
+mod readers;
+#[cfg(test)]
 mod told;

@@ -1,6 +1,7 @@
 //! What is told of a capture: a line for each packet, and how it ends.
-use dm_capture::{CaptureFault, CaptureReader, Packet, Time};
+use dm_capture::{CaptureFault, CaptureReader, Packet, StreamFault, Time, next_packet};
 use std::alloc::{AllocError, Global};
+use std::io::{BufRead, BufReader};
 use std::process::Abort;
 
 /// Appends a packet's line: its number, link, time, original length and octets.
@@ -68,6 +69,41 @@ fn told(alloc: Global, octets: &[u8], piece: usize) -> Result<String, AllocError
     Ok(text)
 }
 
+/// What is told of a capture that a reader gives: the packets, a line for each time that it fails, and the end.
+pub fn read_told<R: BufRead>(alloc: Global, reader: &mut R) -> Result<String, AllocError> {
+    let mut text = String::new(alloc);
+    let mut capture = CaptureReader::new(alloc);
+    for _ in 0..1000 {
+        match next_packet(reader, &mut capture) {
+            Ok(Some(packet)) => put_packet(alloc, &mut text, &packet)?,
+            Ok(None) => {
+                text.push_str("whole\n")?;
+                break;
+            }
+            Err(StreamFault::Unreadable) => text.push_str("unreadable\n")?,
+            Err(StreamFault::Capture(fault)) => {
+                put_fault(alloc, &mut text, fault)?;
+                break;
+            }
+        }
+    }
+    drop(capture);
+    Ok(text)
+}
+
+/// Whether this is told of a capture that is read in pieces of so many octets.
+fn is_read_told(alloc: Global, octets: &[u8], piece: usize, want: &str) -> Option<bool> {
+    let Ok(mut reader) = BufReader::with_capacity(alloc, piece, octets) else {
+        return None;
+    };
+    let text = read_told(alloc, &mut reader);
+    drop(reader);
+    match text {
+        Ok(text) => Some(text.as_str() == want),
+        Err(_) => None,
+    }
+}
+
 /// Of the capture that the hexadecimal digits are this is told, however it is fed.
 pub fn assert_told(rt: &(impl Abort + AllocGlobal), digits: &str, want: &str) {
     let octets = hex::decode(rt.alloc(), digits).expect(rt, "octets");
@@ -75,6 +111,8 @@ pub fn assert_told(rt: &(impl Abort + AllocGlobal), digits: &str, want: &str) {
         let text = told(rt.alloc(), &octets, piece).expect(rt, "memory");
         assert!(rt; text.as_str() == want, "in pieces of {piece}: {text}");
         drop(text);
+        let read = is_read_told(rt.alloc(), &octets, piece, want);
+        assert!(rt; read == Some(true), "read in pieces of {piece}");
     }
     drop(octets);
 }

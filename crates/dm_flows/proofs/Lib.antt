@@ -1,0 +1,10 @@
+pub mod Handing
+pub mod InOrder
+pub mod OneIp
+pub mod OneLink
+pub mod OneSegment
+pub mod OneStream
+pub mod Passing
+pub mod SlotLists
+pub mod Straight
+pub mod Upper

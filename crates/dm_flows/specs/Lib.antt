@@ -1,0 +1,6 @@
+pub mod Ips
+pub mod Laws
+pub mod Links
+pub mod Order
+pub mod Tcps
+pub mod Windows

@@ -1,0 +1,90 @@
+//! IP packets of version 6 (RFC 8200, 3).
+ghost use Rattle.std.specs.Prelude.{◌≡◌, ◌≤◌, length, if◌then◌else◌, IfOk, IfErr};
+ghost use Rattle.dm_flows.specs.Ips.{IsIpv6, HasIpv6Fault, carried_of, ipv6_size, ipv6_rest, ipv6_whole};
+ghost use Rattle.dm_flows.specs.Ips.{ipv6_carried};
+
+use crate::address::Address;
+use crate::carried::{Carried, front_of};
+use crate::extensions::{Astray, Upper, pass_extensions};
+use crate::passed::Passed;
+use byteorder::{BigEndian, ByteOrder};
+
+/// The octets of a header.
+const HEADER_LEN: usize = 40;
+
+/// What the packet carries behind its extension headers.
+///
+/// ```text
+///  0                   1                   2                   3
+///  0 1 2 3 4 5 6 7 8 9 0 1 2 3 4 5 6 7 8 9 0 1 2 3 4 5 6 7 8 9 0 1
+/// |Version| Traffic Class |           Flow Label                  |
+/// |         Payload Length        |  Next Header  |   Hop Limit   |
+/// |                       Source Address, 16 octets               |
+/// |                    Destination Address, 16 octets             |
+/// ```
+pub(crate) fn carried_by_ipv6(octets: &[u8]) -> Result<Carried<'_>, Passed>
+    ensures carried { IfOk result (λ carried. IsIpv6 octets.now (carried_of carried)) }
+    ensures fault { IfErr result (HasIpv6Fault octets.now) }
+{
+    if octets.len() < HEADER_LEN {
+        return Err(Passed::Cut);
+    }
+    if octets[0] / 16 != 6 {
+        return Err(Passed::Bad);
+    }
+    match pass_extensions(octets[6], captured_rest(octets)) {
+        Ok(upper) => Ok(upper_carried(octets, upper)),
+        Err(Astray::Fragmented) => Err(Passed::Fragment),
+        Err(Astray::Ends) => Err(cut_or_bad(octets)),
+    }
+}
+
+/// The octets behind the header, as the Payload Length says.
+fn payload_len(octets: &[u8]) -> usize
+    requires { 40 ≤ length octets.now }
+    ensures { result ≡ ipv6_size octets.now }
+{
+    BigEndian::read_u16(&octets[4..]) as usize
+}
+
+/// What was captured of them.
+fn captured_rest(octets: &[u8]) -> &[u8]
+    requires { 40 ≤ length octets.now }
+    ensures { result.now ≡ ipv6_rest octets.now }
+{
+    front_of(&octets[HEADER_LEN..], payload_len(octets))
+}
+
+/// Whether that is all.
+fn is_whole(octets: &[u8]) -> bool
+    requires { 40 ≤ length octets.now }
+    ensures { result ≡ ipv6_whole octets.now }
+{
+    payload_len(octets) <= octets.len() - HEADER_LEN
+}
+
+/// What extension headers that end in the middle of one say of the packet.
+fn cut_or_bad(octets: &[u8]) -> Passed
+    requires { 40 ≤ length octets.now }
+    ensures { result ≡ (if ipv6_whole octets.now then Passed.Bad else Passed.Cut) }
+{
+    if is_whole(octets) {
+        Passed::Bad
+    } else {
+        Passed::Cut
+    }
+}
+
+/// What a packet carries whose extension headers lead to this protocol.
+fn upper_carried<'a>(octets: &[u8], upper: Upper<'a>) -> Carried<'a>
+    requires { 40 ≤ length octets.now }
+    ensures { carried_of result ≡ ipv6_carried octets.now upper.entry.protocol upper.entry.payload.now }
+{
+    Carried {
+        source: Address::V6(BigEndian::read_u128(&octets[8..])),
+        destination: Address::V6(BigEndian::read_u128(&octets[24..])),
+        protocol: upper.protocol,
+        payload: upper.payload,
+        whole: is_whole(octets),
+    }
+}

@@ -1,0 +1,22 @@
+//! TCP segments out of captured packets: what stands in front of them on links and in IP packets.
+#![tactic(auto)]
+
+mod address;
+mod carried;
+mod extensions;
+mod ip;
+mod ipv4;
+mod ipv6;
+pub mod laws;
+mod link;
+mod network;
+mod passed;
+mod segment;
+mod slots;
+mod tags;
+mod window;
+
+pub use address::{Address, Endpoint};
+pub use passed::Passed;
+pub use segment::{Segment, segment_of};
+pub use window::{WINDOW, Window, WindowFault};

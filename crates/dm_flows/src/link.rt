@@ -1,0 +1,153 @@
+//! What stands in front of an IP packet on a link.
+ghost use Rattle.std.specs.Prelude.{◌≡◌, ◌≤◌, length, drop, IfOk, IfErr};
+ghost use Rattle.dm_flows.specs.Links.{link_kind, HoldsIp, HasLinkFault, IsTyped, IsNoneTyped};
+ghost use Rattle.dm_flows.specs.Links.{IsBehind, IsNoneBehind};
+
+use crate::network::{
+    IpOctets, Network, by_ethertype, by_host_family, by_network_family, by_version,
+};
+use crate::passed::Passed;
+use crate::tags::pass_tags;
+use byteorder::{BigEndian, ByteOrder};
+
+/// The types of links that are read.
+#[derive(Clone, Copy, Debug)]
+pub(crate) enum LinkKind {
+    Ethernet,
+    /// Linux cooked capture.
+    Cooked,
+    /// Linux cooked capture, version 2.
+    CookedSecond,
+    /// BSD loopback, in the order of octets of the host that captured.
+    HostLoopback,
+    /// BSD loopback, in network byte order.
+    Loopback,
+    /// IP of either version.
+    RawIp,
+    RawIpv4,
+    RawIpv6,
+    Unknown,
+}
+
+/// The type of link with a number of the registry.
+fn kind_of(link: u16) -> LinkKind
+    ensures { result ≡ link_kind link }
+{
+    match link {
+        1 => LinkKind::Ethernet,
+        113 => LinkKind::Cooked,
+        276 => LinkKind::CookedSecond,
+        0 => LinkKind::HostLoopback,
+        108 => LinkKind::Loopback,
+        101 => LinkKind::RawIp,
+        228 => LinkKind::RawIpv4,
+        229 => LinkKind::RawIpv6,
+        _ => LinkKind::Unknown,
+    }
+}
+
+/// The IP packet behind so many octets and an EtherType.
+fn typed(front: usize, octets: &[u8]) -> Result<IpOctets<'_>, Passed>
+    ensures found { IfOk result (λ ip. IsTyped front octets.now ip.network ip.octets.now) }
+    ensures none { IfErr result (IsNoneTyped front octets.now) }
+{
+    if octets.len() < front {
+        return Err(Passed::Cut);
+    }
+    let Some(found) = pass_tags(&octets[front..]) else {
+        return Err(Passed::Cut);
+    };
+    match by_ethertype(found.kind) {
+        Some(network) => Ok(IpOctets {
+            network,
+            octets: found.octets,
+        }),
+        None => Err(Passed::NotIp),
+    }
+}
+
+/// The IP packet behind a header of so many octets, which names its version or doesn't.
+fn named(size: usize, network: Option<Network>, octets: &[u8]) -> Result<IpOctets<'_>, Passed>
+    requires { size ≤ length octets.now }
+    ensures found { IfOk result (λ ip. IsBehind size network octets.now ip.network ip.octets.now) }
+    ensures none { IfErr result (IsNoneBehind size network octets.now) }
+{
+    match network {
+        Some(network) => Ok(IpOctets {
+            network,
+            octets: &octets[size..],
+        }),
+        None => Err(Passed::NotIp),
+    }
+}
+
+/// The IP packet behind a Linux cooked header of version 2.
+fn cooked_second(octets: &[u8]) -> Result<IpOctets<'_>, Passed>
+    ensures found { IfOk result (λ ip. HoldsIp LinkKind.CookedSecond octets.now ip.network ip.octets.now) }
+    ensures none { IfErr result (HasLinkFault LinkKind.CookedSecond octets.now) }
+{
+    if octets.len() < 20 {
+        return Err(Passed::Cut);
+    }
+    named(20, by_ethertype(BigEndian::read_u16(octets)), octets)
+}
+
+/// The IP packet behind the family of addresses, in either order of octets.
+fn host_loopback(octets: &[u8]) -> Result<IpOctets<'_>, Passed>
+    ensures found { IfOk result (λ ip. HoldsIp LinkKind.HostLoopback octets.now ip.network ip.octets.now) }
+    ensures none { IfErr result (HasLinkFault LinkKind.HostLoopback octets.now) }
+{
+    if octets.len() < 4 {
+        return Err(Passed::Cut);
+    }
+    named(4, by_host_family(octets), octets)
+}
+
+/// The IP packet behind the family of addresses, in network byte order.
+fn loopback(octets: &[u8]) -> Result<IpOctets<'_>, Passed>
+    ensures found { IfOk result (λ ip. HoldsIp LinkKind.Loopback octets.now ip.network ip.octets.now) }
+    ensures none { IfErr result (HasLinkFault LinkKind.Loopback octets.now) }
+{
+    if octets.len() < 4 {
+        return Err(Passed::Cut);
+    }
+    named(4, by_network_family(octets), octets)
+}
+
+/// The IP packet itself.
+fn raw_ip(octets: &[u8]) -> Result<IpOctets<'_>, Passed>
+    ensures found { IfOk result (λ ip. HoldsIp LinkKind.RawIp octets.now ip.network ip.octets.now) }
+    ensures none { IfErr result (HasLinkFault LinkKind.RawIp octets.now) }
+{
+    if octets.is_empty() {
+        return Err(Passed::Cut);
+    }
+    match by_version(octets[0]) {
+        Some(network) => Ok(IpOctets { network, octets }),
+        None => Err(Passed::NotIp),
+    }
+}
+
+/// The IP packet that a packet of this type of link holds.
+pub(crate) fn ip_of_link(link: u16, octets: &[u8]) -> Result<IpOctets<'_>, Passed>
+    ensures found { IfOk result (λ ip. HoldsIp (link_kind link) octets.now ip.network ip.octets.now) }
+    ensures none { IfErr result (HasLinkFault (link_kind link) octets.now) }
+{
+    match kind_of(link) {
+        LinkKind::Ethernet => typed(12, octets),
+        LinkKind::Cooked => typed(14, octets),
+        LinkKind::CookedSecond => cooked_second(octets),
+        LinkKind::HostLoopback => host_loopback(octets),
+        LinkKind::Loopback => loopback(octets),
+        LinkKind::RawIp => raw_ip(octets),
+        LinkKind::RawIpv4 => Ok(IpOctets {
+            network: Network::Ipv4,
+            octets,
+        }),
+        LinkKind::RawIpv6 => Ok(IpOctets {
+            network: Network::Ipv6,
+            octets,
+        }),
+        LinkKind::Unknown => Err(Passed::OtherLink),
+    }
+}

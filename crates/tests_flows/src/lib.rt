@@ -1,0 +1,9 @@
+//! Tests of packets: the segments in them, or what they are instead; and of octets by number.
+#![tactic(auto)]
+
+#[cfg(test)]
+mod segments;
+#[cfg(test)]
+mod told;
+#[cfg(test)]
+mod windows;
