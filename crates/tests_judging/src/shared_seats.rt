@@ -235,10 +235,10 @@ fn assert_family(rt: &(impl Abort + AllocGlobal), step: u32, part: u32, vendor: 
     assert_told_apart(rt, &[Family { step, part, vendor }]);
 }
 
-/// A thousand AVPs whose codes share 8, 9, 16 and 20 bits, and 200 that share 24.
+/// A thousand AVPs whose codes share 6 to 9, 16 and 20 bits, and 200 that share 24: seats go by the lowest 7.
 #[test]
 fn codes_that_share_their_lowest_bits_are_told_apart(rt: HostRuntime) {
-    for step in [256, 512, 65_536, 1_048_576] {
+    for step in [64, 128, 256, 512, 65_536, 1_048_576] {
         assert_family(&rt, step, 50, None);
     }
     assert_family(&rt, 16_777_216, 10, None);
