@@ -4,4 +4,4 @@ import sys
 
 sys.dont_write_bytecode = True
 TOOLS = os.path.dirname(os.path.realpath(__file__))
-sys.path += [f"{TOOLS}/{it}" for it in ("proving", "planting", "dictionaries", "reading")]
+sys.path += [f"{TOOLS}/{it}" for it in ("proving", "planting", "dictionaries", "reading", "comparing")]
