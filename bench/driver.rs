@@ -3,6 +3,7 @@
 //!
 //! driver WHO OPERATION INPUT TIMES [SIZE]
 //! driver agree INPUT TIMES
+//! driver mix DICTIONARY MESSAGES TIMES
 //! driver node|alone alive|credit|tick TIMES NEIGHBOURS
 //! driver node add|added|opened 1 NEIGHBOURS
 
@@ -22,6 +23,8 @@ extern "C" {
     fn ours_list(text: *const u8, len: usize, octets: *const u8, octets_len: usize, located: bool, times: u32) -> usize;
     fn ours_encode(octets: *const u8, len: usize, times: u32) -> usize;
     fn ours_frame(octets: *const u8, len: usize, size: usize, times: u32) -> usize;
+    #[cfg(mix)]
+    fn ours_mix(text: *const u8, len: usize, octets: *const u8, octets_len: usize, times: u32) -> usize;
     #[cfg(on)]
     fn ours_on(
         first: *const u8,
@@ -254,6 +257,14 @@ fn ours(operation: &str, text: &str, octets: &[u8], times: u32, size: usize) -> 
     }
 }
 
+/// Judges the messages of a file, one behind the other, by the dictionary of another file.
+#[cfg(mix)]
+fn mix(dictionary: &str, messages: &str, times: u32) -> usize {
+    let (text, octets) = (std::fs::read(dictionary).unwrap(), std::fs::read(messages).unwrap());
+    // It takes two slices of octets, and only reads.
+    unsafe { ours_mix(text.as_ptr(), text.len(), octets.as_ptr(), octets.len(), times) }
+}
+
 /// The host of a neighbour, of 15 octets.
 #[cfg(node)]
 fn host_of(number: usize) -> Vec<u8> {
@@ -353,6 +364,10 @@ fn main() {
     let words: Vec<String> = std::env::args().skip(1).collect();
     if words[0] == "agree" {
         return agree(&input(&words[1], 0), words[2].parse().unwrap());
+    }
+    #[cfg(mix)]
+    if words[0] == "mix" {
+        return println!("{}", mix(&words[1], &words[2], words[3].parse().unwrap()));
     }
     #[cfg(node)]
     if ["node", "alone"].contains(&words[0].as_str()) {
