@@ -1,3 +1,4 @@
+pub mod Headers
 pub mod Ips
 pub mod Laws
 pub mod Links

@@ -4,6 +4,7 @@
 mod address;
 mod carried;
 mod extensions;
+mod header;
 mod ip;
 mod ipv4;
 mod ipv6;
@@ -17,6 +18,7 @@ mod tags;
 mod window;
 
 pub use address::{Address, Endpoint};
+pub use header::{begins_with_exchange, begins_with_header};
 pub use passed::Passed;
 pub use segment::{Segment, segment_of};
 pub use window::{WINDOW, Window, WindowFault};
