@@ -1,3 +1,4 @@
+pub mod FlowParts
 pub mod Handing
 pub mod InOrder
 pub mod OneIp

@@ -1,3 +1,4 @@
+pub mod Flows
 pub mod Headers
 pub mod Ips
 pub mod Laws

@@ -3,7 +3,9 @@
 
 mod address;
 mod carried;
+mod closing;
 mod extensions;
+mod flow;
 mod header;
 mod ip;
 mod ipv4;
@@ -18,6 +20,8 @@ mod tags;
 mod window;
 
 pub use address::{Address, Endpoint};
+pub use closing::Closing;
+pub use flow::Flow;
 pub use header::{begins_with_exchange, begins_with_header};
 pub use passed::Passed;
 pub use segment::{Segment, segment_of};

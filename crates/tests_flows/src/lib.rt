@@ -2,6 +2,8 @@
 #![tactic(auto)]
 
 #[cfg(test)]
+mod flow;
+#[cfg(test)]
 mod segments;
 #[cfg(test)]
 mod told;
