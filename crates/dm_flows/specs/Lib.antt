@@ -1,3 +1,4 @@
+pub mod Connections
 pub mod Flows
 pub mod Headers
 pub mod Ips

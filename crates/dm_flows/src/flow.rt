@@ -83,7 +83,7 @@ fn within(closing: Closing, number: u32, octets: &[u8]) -> &[u8]
 }
 
 /// The sequence number behind so many octets.
-fn number_behind(number: u32, octets: usize) -> u32
+pub(crate) fn number_behind(number: u32, octets: usize) -> u32
     ensures { result ≡ sequence_behind number octets }
 {
     number.wrapping_add((octets % ALL_NUMBERS) as u32)

@@ -4,6 +4,8 @@
 mod address;
 mod carried;
 mod closing;
+mod connection;
+mod control;
 mod extensions;
 mod flow;
 mod header;
@@ -21,6 +23,7 @@ mod window;
 
 pub use address::{Address, Endpoint};
 pub use closing::Closing;
+pub use connection::Connection;
 pub use flow::Flow;
 pub use header::{begins_with_exchange, begins_with_header};
 pub use passed::Passed;

@@ -1,4 +1,5 @@
 //! One direction of a connection: messages out of its segments.
+use crate::messages::{letter_of, stream_of};
 use dm_flows::Flow;
 use std::alloc::{AllocError, Global};
 use std::process::Abort;
@@ -9,33 +10,19 @@ enum Step {
     Syn(u32),
     Fin(u32),
     Reset,
-    /// Octets with a sequence number: those of [`stream_of`] from a place to another one.
+    /// Octets with a sequence number: those of ten messages from a place to another one.
     Octets(u32, usize, usize),
 }
 
 use Step::{Fin, Octets, Reset, Syn};
-
-/// The octets of a message, which says only which one it is.
-const MESSAGE: usize = 20;
-
-/// Messages one behind the other, each with its Hop-by-Hop Identifier.
-fn stream_of(alloc: Global, messages: u8) -> Result<Vec<u8>, AllocError> {
-    let mut stream = Vec::new(alloc);
-    for id in 0..messages {
-        let message = [1, 0, 0, 20, 128, 0, 1, 24, 0, 0, 0, 0, 0, 0, 0, id, 0, 0, 0, 9];
-        stream.extend_from_slice(&message)?;
-    }
-    Ok(stream)
-}
 
 /// Appends a letter for each message that is handed out.
 fn put_messages(flow: &mut Flow, text: &mut String) -> Result<(), AllocError> {
     for _ in 0..100 {
         match flow.next()? {
             Some(message) => {
-                let id = if message.len() == MESSAGE { message[15] } else { 25 };
+                text.push(letter_of(&message))?;
                 drop(message);
-                text.push(char::from(b'a' + id % 26))?;
             }
             None => return Ok(()),
         }

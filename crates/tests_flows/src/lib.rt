@@ -2,7 +2,11 @@
 #![tactic(auto)]
 
 #[cfg(test)]
+mod connection;
+#[cfg(test)]
 mod flow;
+#[cfg(test)]
+mod messages;
 #[cfg(test)]
 mod segments;
 #[cfg(test)]
