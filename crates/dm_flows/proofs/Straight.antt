@@ -29,7 +29,7 @@ same_place next octets fits =
     chosen (nat_lt (ahead next next) (2 ^ 31)) 0 (ahead next next) test in
     ap (λ n. placed n (drop (passed_of next next) octets)) at ∙ ap (λ n. placed 0 (drop n octets)) passed
 
-octet_there : (octets : List ℕ) (k : ℕ) → octet_of (placed 0 octets) k ≡ slice_get octets k
+pub octet_there : (octets : List ℕ) (k : ℕ) → octet_of (placed 0 octets) k ≡ slice_get octets k
 octet_there octets k =
     chosen (nat_le 0 k) (slice_get octets (k - 0)) None (le-leb 0 k (omega arith)) ∙
     ap (λ n. slice_get octets n) (back k)

@@ -105,14 +105,14 @@ sent_by_first c = record { own = c.forth; other = c.back }
 abbrev pub sent_by_second : ConnectionState → BothFlows
 sent_by_second c = record { own = c.back; other = c.forth }
 
-pub record AreSameEnds (old new : ConnectionState) : Type 0 where
+pub record HaveSameEnds (old new : ConnectionState) : Type 0 where
   pub first : new.first ≡ old.first
   pub second : new.second ≡ old.second
 
 -- a segment came, from the first end or from the second one
 abbrev pub BySender : ConnectionState → Endpoint → ConnectionState → (BothFlows → BothFlows → Type 0) → Type 0
 BySender old source new P =
-    AreSameEnds old new ×
+    HaveSameEnds old new ×
     (((source ≡ old.first) × P (sent_by_first old) (sent_by_first new))
     ⊎ ((source ≢ old.first) × P (sent_by_second old) (sent_by_second new)))
 

@@ -1,4 +1,6 @@
+pub mod Accounts
 pub mod Connections
+pub mod FlowOrder
 pub mod Flows
 pub mod Headers
 pub mod Ips
