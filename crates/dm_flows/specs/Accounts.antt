@@ -4,7 +4,7 @@ use Rattle.std.specs.Prelude.{List, [], ◌∷◌, ◌++◌, length}
 use Rattle.std.specs.List.{concat}
 use Rattle.dm_flows.specs.declared.closing.Closing.{Closing}
 use Rattle.dm_flows.specs.Flows.{FlowState, new_flow, with_more_passed, known_waiting, begun_by_syn, begun_unseen}
-use Rattle.dm_flows.specs.Flows.{GoesOn, BeginsAnew, HandsMessage, HandsNoMessage}
+use Rattle.dm_flows.specs.Flows.{FlowTakes, BeginsAnew, HandsMessage, HandsNoMessage}
 use Rattle.dm_flows.specs.Windows.{WindowState, slot, arrival_from}
 
 -- of octets, of which the first goes into this slot, how many find theirs filled
@@ -43,7 +43,7 @@ pub record Brings (old new : Account) (octets repetitions : ℕ) : Type 0 where
 pub record BringsOctets (old new : Account) : Type 0 where
   pub number : ℕ
   pub octets : List ℕ
-  pub goes : GoesOn old.flow number octets new.flow
+  pub goes : FlowTakes old.flow number octets new.flow
   pub brings : Brings old new (length octets) (repeated_in old.flow.window number octets)
 
 -- octets came where it isn't known

@@ -4,7 +4,8 @@ use Rattle.std.specs.Prelude.{Option, None, Some, is_some, is_none, length}
 use Rattle.dm_flows.specs.declared.address.Endpoint.{Endpoint}
 use Rattle.dm_flows.specs.declared.closing.Closing.{Closing}
 use Rattle.dm_flows.specs.declared.closing.Closing.TheVariants.{Open, Reset}
-use Rattle.dm_flows.specs.Flows.{FlowState, new_flow, more_passed, begun_by_syn, begun_unseen, closing_by_fin, TakesPayload, LeavesPayload}
+use Rattle.dm_flows.specs.Flows.{FlowState, new_flow, more_passed, begun_by_syn, begun_unseen, closing_by_fin}
+use Rattle.dm_flows.specs.Flows.{TakesPayload, LeavesPayload}
 use Rattle.dm_flows.specs.Tcps.{SeenSegment}
 use Rattle.dm_flows.specs.Windows.{sequence_behind}
 

@@ -2,7 +2,7 @@
 use Rattle.std.specs.Prelude.{◌≡◌, ◌⊎◌, ℕ, ◌+◌, ◌%◌, ◌^◌, ◌<◌, ◌≤◌, None, Some}
 use Rattle.std.specs.Prelude.{List, [], ◌∷◌, ◌++◌, length}
 use Rattle.std.specs.List.{concat}
-use Rattle.dm_flows.specs.Flows.{FlowState, GoesOn, HandsMessage}
+use Rattle.dm_flows.specs.Flows.{FlowState, FlowTakes, HandsMessage}
 use Rattle.dm_flows.specs.Order.{IsFrontOf, IsStreamOf, arrival_at}
 use Rattle.dm_flows.specs.Windows.{WindowState, Arrival, slot, sequence_behind}
 
@@ -29,7 +29,7 @@ pub record BeginsStream (base : ℕ) (front : List ℕ) (p : FlowPassage) : Type
 pub record StreamGoesOn (base : ℕ) (old new : FlowPassage) : Type 0 where
   pub sequence : ℕ
   pub octets : List ℕ
-  pub goes : GoesOn old.flow sequence octets new.flow
+  pub goes : FlowTakes old.flow sequence octets new.flow
   pub fits : sequence < 2 ^ 32
   pub arrivals : new.arrivals
       ≡ old.arrivals ++ arrival_at (base + length (ordered_octets old)) sequence octets ∷ []

@@ -6,7 +6,8 @@ use Rattle.dm_framer.specs.Frames.{IsFrame, HasFault, IsPartial}
 use Rattle.dm_flows.specs.declared.closing.Closing.{Closing}
 use Rattle.dm_flows.specs.declared.closing.Closing.TheVariants.{Open, Fin, Reset}
 use Rattle.dm_flows.specs.Headers.{BeginsWithHeader}
-use Rattle.dm_flows.specs.Windows.{WindowState, known_octets, place_ahead, arrival_from, sequence_behind, IsTooFar, TakesThrough}
+use Rattle.dm_flows.specs.Windows.{WindowState, known_octets, place_ahead, arrival_from, sequence_behind}
+use Rattle.dm_flows.specs.Windows.{IsTooFar, TakesThrough}
 
 -- the number of its SYN, where one was seen; what ended it; what waits, where its place in the stream is known; the
 -- octets in order that weren't handed out yet; how many octets were passed over; and the greatest Message Length
@@ -66,7 +67,7 @@ octets_within (Fin last) number s = take (place_ahead number last) s
 octets_within Reset number s = []
 
 -- octets came in a stream whose place is known
-pub record GoesOn (old : FlowState) (number : ℕ) (s : List ℕ) (new : FlowState) : Type 0 where
+pub record FlowTakes (old : FlowState) (number : ℕ) (s : List ℕ) (new : FlowState) : Type 0 where
   pub before : WindowState
   pub after : WindowState
   pub known : old.window ≡ Some before
@@ -93,7 +94,7 @@ IsAstrayAt (Some window) number s = IsTooFar (arrival_from window.next number s)
 -- octets before the end came
 abbrev pub TakesWithin : FlowState → ℕ → List ℕ → FlowState → Type 0
 TakesWithin old number s new =
-    ((IsAstrayAt old.window number s → ⊥) × GoesOn old number s new)
+    ((IsAstrayAt old.window number s → ⊥) × FlowTakes old number s new)
     ⊎ (IsAstrayAt old.window number s × BeginsAnew old number s new)
 
 -- octets came: those behind the end are passed over
@@ -105,7 +106,7 @@ pub record TakesPayload (old : FlowState) (number : ℕ) (s : List ℕ) (new : F
 -- what is left where memory is wanted: all as it was, or octets that were taken, and put in order up to some
 abbrev pub LeavesPayload : FlowState → ℕ → List ℕ → FlowState → Type 0
 LeavesPayload old number s new =
-    (new ≡ old) ⊎ GoesOn old number (octets_within old.closing number s) new
+    (new ≡ old) ⊎ FlowTakes old number (octets_within old.closing number s) new
 
 -- the next message is handed out
 pub record HandsMessage (old : FlowState) (message : List ℕ) (new : FlowState) : Type 0 where

@@ -1,7 +1,7 @@
 //! What the control bits of a segment do to both directions of its connection (RFC 9293, 3.5 and 3.6).
 ghost use Rattle.std.specs.Prelude.{◌≡◌, length, OnOk, OnErr};
-ghost use Rattle.dm_flows.specs.Connections.{BothFlows, is_unended, is_same_syn, is_answering_syn, after_syn, after_rst};
-ghost use Rattle.dm_flows.specs.Connections.{after_any_syn, after_any_fin, controlled, first_number, fin_number};
+ghost use Rattle.dm_flows.specs.Connections.{is_unended, is_same_syn, is_answering_syn, after_syn};
+ghost use Rattle.dm_flows.specs.Connections.{controlled, first_number};
 ghost use Rattle.dm_flows.specs.Connections.{HearsSegment, LeavesSegment};
 ghost use Rattle.dm_flows.specs.Tcps.{segment_seen};
 ghost use Rattle.dm_flows.specs.Windows.{sequence_behind};
@@ -11,7 +11,7 @@ use crate::flow::{Flow, number_behind};
 use crate::segment::Segment;
 use std::alloc::AllocError;
 
-fn is_unended(closing: Closing) -> bool
+fn is_open(closing: Closing) -> bool
     ensures { result ≡ is_unended closing }
 {
     match closing {
@@ -21,11 +21,11 @@ fn is_unended(closing: Closing) -> bool
 }
 
 /// Whether a SYN with this number is that of the connection, sent again.
-fn is_same_syn(own: &Flow, number: u32) -> bool
+fn repeats_syn(own: &Flow, number: u32) -> bool
     ensures { result ≡ is_same_syn own.now number }
 {
     match own.syn() {
-        Some(syn) => is_unended(own.closing()) && syn == number,
+        Some(syn) => is_open(own.closing()) && syn == number,
         None => false,
     }
 }
@@ -34,7 +34,7 @@ fn is_same_syn(own: &Flow, number: u32) -> bool
 fn is_answer(own: &Flow, other: &Flow) -> bool
     ensures { result ≡ is_answering_syn (record { own = own.now; other = other.now }) }
 {
-    is_unended(own.closing()) && own.syn().is_none() && other.syn().is_some()
+    is_open(own.closing()) && own.syn().is_none() && other.syn().is_some()
 }
 
 /// A SYN came.
@@ -42,7 +42,7 @@ fn begin(own: &mut Flow, other: &mut Flow, number: u32)
     ensures { record { own = own.new; other = other.new }
         ≡ after_syn number (record { own = own.old; other = other.old }) }
 {
-    if is_same_syn(own, number) {
+    if repeats_syn(own, number) {
         return;
     }
     if !is_answer(own, other) {
@@ -52,7 +52,7 @@ fn begin(own: &mut Flow, other: &mut Flow, number: u32)
 }
 
 /// The number of the first octet.
-fn first_number(segment: Segment<'_>) -> u32
+fn number_of_first(segment: Segment<'_>) -> u32
     ensures { result ≡ first_number (segment_seen segment.entry) }
 {
     if segment.syn {
@@ -76,7 +76,8 @@ fn control(own: &mut Flow, other: &mut Flow, segment: Segment<'_>)
         begin(own, other, segment.sequence);
     }
     if segment.fin {
-        own.finish(number_behind(first_number(segment), segment.payload.len()));
+        let last = number_behind(number_of_first(segment), segment.payload.len());
+        own.finish(last);
     }
 }
 
@@ -88,5 +89,5 @@ pub(crate) fn hear(own: &mut Flow, other: &mut Flow, segment: Segment<'_>) -> Re
         (segment_seen segment.entry) (record { own = own.new; other = other.new })) }
 {
     control(own, other, segment);
-    own.take(first_number(segment), segment.payload)
+    own.take(number_of_first(segment), segment.payload)
 }

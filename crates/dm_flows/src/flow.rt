@@ -1,8 +1,10 @@
 //! One direction of a connection: Diameter messages out of its segments.
-ghost use Rattle.std.specs.Prelude.{◌≡◌, ◌≤◌, ◌⊎◌, ◌++◌, [], None, true, false, Ok, length, OnOk, OnErr, IfOk, IfSome, IfNone};
-ghost use Rattle.dm_flows.specs.Flows.{more_passed, with_more_passed, known_waiting, stream_left, begun_by_syn, begun_by_header};
-ghost use Rattle.dm_flows.specs.Flows.{new_flow, begun_unseen, closing_by_fin, octets_within, IsAstrayAt, GoesOn};
-ghost use Rattle.dm_flows.specs.Flows.{BeginsAnew, TakesWithin, TakesPayload, LeavesPayload, HandsMessage, HandsNoMessage};
+ghost use Rattle.std.specs.Prelude.{◌≡◌, ◌≤◌, ◌⊎◌, ◌++◌, [], None, true, false, Ok, length};
+ghost use Rattle.std.specs.Prelude.{OnOk, OnErr, IfOk, IfSome, IfNone};
+ghost use Rattle.dm_flows.specs.Flows.{more_passed, known_waiting, stream_left, begun_by_syn, begun_by_header};
+ghost use Rattle.dm_flows.specs.Flows.{new_flow, begun_unseen, closing_by_fin, octets_within, IsAstrayAt, FlowTakes};
+ghost use Rattle.dm_flows.specs.Flows.{BeginsAnew, TakesWithin, TakesPayload, LeavesPayload};
+ghost use Rattle.dm_flows.specs.Flows.{HandsMessage, HandsNoMessage};
 ghost use Rattle.dm_flows.specs.Windows.{place_ahead, sequence_behind};
 
 use crate::carried::front_of;
@@ -226,7 +228,7 @@ impl Flow {
     /// Takes octets that are before the end.
     fn take_within(&mut self, number: u32, octets: &[u8]) -> Result<(), AllocError>
         ensures taken { OnOk result (TakesWithin self.old number octets.now self.new) }
-        ensures left { OnErr result ((self.new ≡ self.old) ⊎ GoesOn self.old number octets.now self.new) }
+        ensures left { OnErr result ((self.new ≡ self.old) ⊎ FlowTakes self.old number octets.now self.new) }
     {
         match self.go_on(number, octets) {
             Ok(true) => Ok(()),
@@ -238,9 +240,9 @@ impl Flow {
     /// Takes octets where the place in the stream is known and they aren't too far ahead; else it answers false.
     fn go_on(&mut self, number: u32, octets: &[u8]) -> Result<bool, AllocError>
         ensures on { result ≡ Ok true → (IsAstrayAt self.old.window number octets.now → ⊥)
-            × GoesOn self.old number octets.now self.new }
+            × FlowTakes self.old number octets.now self.new }
         ensures astray { result ≡ Ok false → IsAstrayAt self.old.window number octets.now × (self.new ≡ self.old) }
-        ensures left { OnErr result ((self.new ≡ self.old) ⊎ GoesOn self.old number octets.now self.new) }
+        ensures left { OnErr result ((self.new ≡ self.old) ⊎ FlowTakes self.old number octets.now self.new) }
     {
         let Some(window) = &mut self.window else {
             return Ok(false);

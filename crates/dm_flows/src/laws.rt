@@ -35,8 +35,8 @@ pub fn each_octet_is_somewhere()
 {}
 
 /// What is handed out of a direction, as long as its stream isn't left, is a front of that stream: message by message,
-/// of each number the octet that came first, without a gap, and nothing twice. Where the next octet is missing it is the
-/// whole stream.
+/// of each number the octet that came first, without a gap, and nothing twice. Where the next octet is missing it is
+/// the whole stream.
 pub fn messages_in_order()
     ensures front { EachStreamIsInOrder }
     ensures whole { EachStreamIsWhole }

@@ -1,7 +1,7 @@
 //! One direction of a connection: octets by number, handed out in order (RFC 9293, 3.4).
 ghost use Rattle.std.specs.Prelude.{◌≡◌, ◌≤◌, ◌++◌, ℕ, [], length, None, IfErr, OnOk, OnErr};
-ghost use Rattle.dm_flows.specs.Windows.{slot, known_octets, place_ahead, passed_of, arrival_from, TakesOctets, IsTooFar, HandsTo};
-ghost use Rattle.dm_flows.specs.Windows.{HandsStraight, TakesThrough, LeavesThrough};
+ghost use Rattle.dm_flows.specs.Windows.{slot, known_octets, place_ahead, passed_of, arrival_from, IsTooFar};
+ghost use Rattle.dm_flows.specs.Windows.{TakesOctets, HandsTo, HandsStraight, TakesThrough, LeavesThrough};
 
 use crate::slots::{behind, count_slots, fill_slots, grow_slots};
 use std::alloc::{AllocError, Global};
