@@ -35,11 +35,11 @@ le_false m n h = lt-leb m n h
 chosen : {X : Type 0} (b : Bool) (x y : X) → b ≡ true → (if b then x else y) ≡ x
 chosen b x y e = ap (λ t. if t then x else y) e
 
-left_out : {X : Type 0} (b : Bool) (x y : X) → b ≡ false → (if b then x else y) ≡ y
+pub left_out : {X : Type 0} (b : Bool) (x y : X) → b ≡ false → (if b then x else y) ≡ y
 left_out b x y e = ap (λ t. if t then x else y) e
 
 -- ahead of a number by so many
-octet_ahead : (n a k : ℕ) (s : List ℕ) →
+pub octet_ahead : (n a k : ℕ) (s : List ℕ) →
     octet_of (record { at = a; octets = s }) k ≡ octet_of (record { at = n + a; octets = s }) (n + k)
 octet_ahead n a k s = by (cases_lt k a)
   where
@@ -91,14 +91,14 @@ arrival_same n sequence k s least = by (cases_lt (ahead (n % 2 ^ 32) sequence) (
         (n - ahead sequence (n % 2 ^ 32)) test))
 
 -- what every passage keeps
-record IsSound (base : ℕ) (p : Passage) : Type 0 where
+pub record IsSound (base : ℕ) (p : Passage) : Type 0 where
   pub least : 2 ^ 32 ≤ p.number
   pub number : p.number ≡ base + length p.handed
   pub next : p.waits.next ≡ p.number % 2 ^ 32
   pub handed : IsFrontOf base p.arrivals p.handed
   pub held : (k : ℕ) → slot p.waits.held k ≡ first_came p.arrivals (p.number + k)
 
-sound_begun : (base : ℕ) → 2 ^ 32 ≤ base → IsSound base (begun_passage base)
+pub sound_begun : (base : ℕ) → 2 ^ 32 ≤ base → IsSound base (begun_passage base)
 sound_begun base least = record {
   least = least;
   number = omega arith;
@@ -114,7 +114,7 @@ arrives_first : (old new : Passage) (a : Arrives old new) (k : ℕ) →
 arrives_first old new a k =
     ap (λ l. first_came l k) a.arrivals ∙ first_more old.arrivals (arrival_at old.number a.sequence a.octets) k
 
-sound_arrives : (base : ℕ) (old new : Passage) → IsSound base old → Arrives old new → IsSound base new
+pub sound_arrives : (base : ℕ) (old new : Passage) → IsSound base old → Arrives old new → IsSound base new
 sound_arrives base old new so a = record {
   least = subst (λ (n : ℕ). 2 ^ 32 ≤ n) (sym a.number) so.least;
   number = a.number ∙ so.number ∙ ap (λ l. base + length l) (sym a.handed);
@@ -157,7 +157,7 @@ number_more : (a b : ℕ) → sequence_behind (a % 2 ^ 32) b ≡ (a + b) % 2 ^ 3
 number_more a zero = ap (λ n. n % 2 ^ 32) (sym (add-zero a))
 number_more a (suc b) = omega arith
 
-sound_departs : (base : ℕ) (old new : Passage) → IsSound base old → Departs old new → IsSound base new
+pub sound_departs : (base : ℕ) (old new : Passage) → IsSound base old → Departs old new → IsSound base new
 sound_departs base old new so d =
     let size : length new.handed ≡ length old.handed + length d.front =
     ap (λ l. length l) d.handed ∙ length-append old.handed d.front in
@@ -192,19 +192,23 @@ pub each_in_order : (base : ℕ) (later : List Passage) (now : Passage) → 2 ^ 
 each_in_order base later now least h =
     (sound_passage base (begun_passage base) later now (sound_begun base least) h).handed
 
+-- where the next octet is missing it is the whole stream
+pub whole_of : (base : ℕ) (now : Passage) → IsSound base now → slot now.waits.held 0 ≡ None →
+    IsStreamOf base now.arrivals now.handed
+whole_of base now so none k within = by (cases_lt k (length now.handed))
+  where
+    by : (k < length now.handed) ⊎ (length now.handed ≤ k) →
+        first_came now.arrivals (base + k) ≡ slice_get now.handed k
+    by (inl before) = so.handed k before
+    by (inr all) =
+        let at : base + k ≡ now.number + 0 = omega (arith, so.number) in
+        ap (λ n. first_came now.arrivals n) at ∙ sym (so.held 0) ∙ none ∙ sym (get_past now.handed k all)
+
 pub each_whole : (base : ℕ) (later : List Passage) (now : Passage) → 2 ^ 32 ≤ base →
     HappenInTurn (begun_passage base) later now →
     slot now.waits.held 0 ≡ None → IsStreamOf base now.arrivals now.handed
-each_whole base later now least h none k within =
-    let so = sound_passage base (begun_passage base) later now (sound_begun base least) h in
-    by so (cases_lt k (length now.handed))
-  where
-    by : IsSound base now → (k < length now.handed) ⊎ (length now.handed ≤ k) →
-        first_came now.arrivals (base + k) ≡ slice_get now.handed k
-    by so (inl before) = so.handed k before
-    by so (inr all) =
-        let at : base + k ≡ now.number + 0 = omega (arith, so.number) in
-        ap (λ n. first_came now.arrivals n) at ∙ sym (so.held 0) ∙ none ∙ sym (get_past now.handed k all)
+each_whole base later now least h none =
+    whole_of base now (sound_passage base (begun_passage base) later now (sound_begun base least) h) none
 
 -- numbers are found by their sequence numbers
 ahead_found : (n m : ℕ) → n ≤ m → m < n + 2 ^ 31 → ahead (n % 2 ^ 32) (m % 2 ^ 32) ≡ m - n

@@ -1,3 +1,7 @@
+pub mod Accounting
+pub mod Counting
+pub mod FlowInOrder
+pub mod FlowParts
 pub mod Handing
 pub mod InOrder
 pub mod OneIp

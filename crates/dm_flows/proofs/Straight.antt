@@ -1,7 +1,7 @@
 -- Octets in order, where nothing waits.
-use Rattle.std.proofs.Common.{◌≡◌, ◌<◌, ℕ, zero, suc, ◌+◌, ◌-◌, ◌%◌, ◌^◌, Bool, true, nat_lt, nat_le, if◌then◌else◌, None, Some, Result, Ok, Err, OnOk, List, [], ◌∷◌, ◌++◌, map, length, drop, slice_get, refl, sym, ◌∙◌, ap, arith, append-nil}
+use Rattle.std.proofs.Common.{◌≡◌, ◌<◌, ◌≤◌, ℕ, zero, suc, ◌+◌, ◌-◌, ◌%◌, ◌^◌, Bool, true, nat_lt, nat_le, if◌then◌else◌, None, Some, Result, Ok, Err, OnOk, List, [], ◌∷◌, ◌++◌, map, length, drop, slice_get, refl, sym, ◌∙◌, ap, subst, arith, append-nil}
 use Rattle.std.proofs.lemmas.Bool.{lt-ltb, le-leb}
-use Rattle.dm_flows.specs.Windows.{WindowState, Arrival, octet_of, first_known, slot, ahead, place_ahead, passed_of, arrival_from, sequence_behind, HandsStraight, TakesThrough}
+use Rattle.dm_flows.specs.Windows.{WindowState, Arrival, octet_of, first_known, slot, ahead, place_ahead, passed_of, arrival_from, sequence_behind, IsTooFar, HandsStraight, TakesThrough}
 
 pub sequence_some : (a n : ℕ) → 0 < n → (a + n) % 2 ^ 32 ≡ sequence_behind a n
 sequence_some a zero some = absurd (omega arith)
@@ -29,7 +29,7 @@ same_place next octets fits =
     chosen (nat_lt (ahead next next) (2 ^ 31)) 0 (ahead next next) test in
     ap (λ n. placed n (drop (passed_of next next) octets)) at ∙ ap (λ n. placed 0 (drop n octets)) passed
 
-octet_there : (octets : List ℕ) (k : ℕ) → octet_of (placed 0 octets) k ≡ slice_get octets k
+pub octet_there : (octets : List ℕ) (k : ℕ) → octet_of (placed 0 octets) k ≡ slice_get octets k
 octet_there octets k =
     chosen (nat_le 0 k) (slice_get octets (k - 0)) None (le-leb 0 k (omega arith)) ∙
     ap (λ n. slice_get octets n) (back k)
@@ -70,3 +70,17 @@ on_both (Err e) A B C a b f = tt
 pub empty_list : {X : Type 0} (xs : List X) → length xs ≡ 0 → xs ≡ []
 empty_list [] h = refl
 empty_list (x ∷ xs) h = absurd (omega arith)
+
+-- and no more of them than may be held aren't too far
+pub straight_near : (next sequence : ℕ) (octets : List ℕ) → next ≡ sequence → sequence < 2 ^ 32 →
+    length octets ≤ 1048576 → IsTooFar (arrival_from next sequence octets) → ⊥
+straight_near next sequence octets is fits most far =
+    let came : arrival_from next sequence octets ≡ placed 0 octets =
+    ap (λ n. arrival_from n sequence octets) is ∙ same_place sequence octets fits in
+    let at : IsTooFar (placed 0 octets) = subst IsTooFar came far in
+    let above = at.1 in
+    omega arith
+
+pub on_ok : {T E : Type 0} (result : Result T E) (A : Type 0) → A → OnOk result A
+on_ok (Ok x) A a = a
+on_ok (Err e) A a = tt

@@ -1,3 +1,8 @@
+pub mod Accounts
+pub mod Connections
+pub mod FlowOrder
+pub mod Flows
+pub mod Headers
 pub mod Ips
 pub mod Laws
 pub mod Links

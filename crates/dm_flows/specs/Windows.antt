@@ -1,7 +1,7 @@
 -- One direction of a connection: octets by number (RFC 9293, 3.4).
 use Rattle.std.specs.Prelude.{◌≡◌, ◌⊎◌, ℕ, zero, suc, ◌+◌, ◌-◌, ◌%◌, ◌^◌, ◌<◌, nat_lt, nat_le}
-use Rattle.std.specs.Prelude.{Option, None, Some, if◌then◌else◌}
-use Rattle.std.specs.Prelude.{List, ◌++◌, map, length, drop, slice_get, slice_index_or}
+use Rattle.std.specs.Prelude.{Option, None, Some, is_some, if◌then◌else◌}
+use Rattle.std.specs.Prelude.{List, ◌++◌, map, length, count_by, drop, slice_get, slice_index_or}
 
 -- the sequence number of the next octet that is handed out, and what came of those from it on
 pub record WindowState : Type 0 where
@@ -24,6 +24,10 @@ first_known None later = later
 -- what is held of the octet that is so many behind the next
 abbrev pub slot : List (Option ℕ) → ℕ → Option ℕ
 slot held k = slice_index_or held k None
+
+-- how many octets are held
+abbrev pub known_octets : List (Option ℕ) → ℕ
+known_octets held = count_by is_some held
 
 -- slots from a place on were filled with octets, but those that had one
 pub record IsFilled (old : List (Option ℕ)) (at : ℕ) (octets : List ℕ) (new : List (Option ℕ)) : Type 0 where

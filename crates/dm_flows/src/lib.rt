@@ -3,7 +3,12 @@
 
 mod address;
 mod carried;
+mod closing;
+mod connection;
+mod control;
 mod extensions;
+mod flow;
+mod header;
 mod ip;
 mod ipv4;
 mod ipv6;
@@ -17,6 +22,10 @@ mod tags;
 mod window;
 
 pub use address::{Address, Endpoint};
+pub use closing::Closing;
+pub use connection::Connection;
+pub use flow::Flow;
+pub use header::{begins_with_exchange, begins_with_header};
 pub use passed::Passed;
 pub use segment::{Segment, segment_of};
 pub use window::{WINDOW, Window, WindowFault};

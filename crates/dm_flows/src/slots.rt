@@ -1,6 +1,6 @@
 //! Slots of octets by number: what came of each.
 ghost use Rattle.std.specs.Prelude.{◌≡◌, ◌<◌, ◌≤◌, ◌+◌, ℕ, Some, length, max, drop, slice_set, OnOk, OnErr};
-ghost use Rattle.dm_flows.specs.Windows.{slot, first_known, IsFilled};
+ghost use Rattle.dm_flows.specs.Windows.{slot, first_known, known_octets, IsFilled};
 
 use std::alloc::AllocError;
 use std::collections::VecDeque;
@@ -14,6 +14,14 @@ pub(crate) fn behind(octets: &[u8], passed: usize) -> &[u8]
     } else {
         &octets[passed..]
     }
+}
+
+/// How many slots have an octet.
+pub(crate) fn count_slots(slots: &VecDeque<Option<u8>>) -> usize
+    ensures known { result ≡ known_octets slots.now.items }
+    ensures most { result ≤ length slots.now.items }
+{
+    slots.iter().filter(|slot| slot.is_some()).count()
 }
 
 /// Makes empty slots until there are so many, or answers want of memory and changes nothing.

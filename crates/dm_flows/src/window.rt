@@ -1,9 +1,9 @@
 //! One direction of a connection: octets by number, handed out in order (RFC 9293, 3.4).
 ghost use Rattle.std.specs.Prelude.{◌≡◌, ◌≤◌, ◌++◌, ℕ, [], length, None, IfErr, OnOk, OnErr};
-ghost use Rattle.dm_flows.specs.Windows.{slot, place_ahead, passed_of, arrival_from, TakesOctets, IsTooFar, HandsTo};
-ghost use Rattle.dm_flows.specs.Windows.{HandsStraight, TakesThrough, LeavesThrough};
+ghost use Rattle.dm_flows.specs.Windows.{slot, known_octets, place_ahead, passed_of, arrival_from, IsTooFar};
+ghost use Rattle.dm_flows.specs.Windows.{TakesOctets, HandsTo, HandsStraight, TakesThrough, LeavesThrough};
 
-use crate::slots::{behind, fill_slots, grow_slots};
+use crate::slots::{behind, count_slots, fill_slots, grow_slots};
 use std::alloc::{AllocError, Global};
 use std::collections::VecDeque;
 use std::marker::Model;
@@ -108,6 +108,21 @@ impl Window {
         Ok(())
     }
 
+    /// How many octets there are from the next one to the last that waits. It never answers want of memory.
+    pub fn span(&self) -> usize
+        ensures { result ≡ length self.now.held }
+    {
+        self.slots.len()
+    }
+
+    /// How many octets wait. It never answers want of memory.
+    pub fn waiting(&self) -> usize
+        ensures waiting { result ≡ known_octets self.now.held }
+        ensures most { result ≤ 1048576 }
+    {
+        count_slots(&self.slots)
+    }
+
     /// The next octet, if it came.
     fn first(&self) -> Option<u8>
         ensures { result ≡ slot self.now.held 0 }
@@ -147,6 +162,7 @@ impl Window {
         ensures all { OnOk result (slot self.new.held 0 ≡ None) }
         ensures left { OnErr result
             (LeavesThrough self.old sequence octets.now output.old.items self.new output.new.items) }
+        ensures near { OnOk result (IsTooFar (arrival_from self.old.next sequence octets.now) → ⊥) }
         ensures far { IfErr result (λ fault. fault ≡ WindowFault.TooFar → (self.new ≡ self.old)
             × (output.new.items ≡ output.old.items)
             × IsTooFar (arrival_from self.old.next sequence octets.now)) }

@@ -2,6 +2,12 @@
 #![tactic(auto)]
 
 #[cfg(test)]
+mod connection;
+#[cfg(test)]
+mod flow;
+#[cfg(test)]
+mod messages;
+#[cfg(test)]
 mod segments;
 #[cfg(test)]
 mod told;

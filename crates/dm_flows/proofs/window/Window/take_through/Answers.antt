@@ -1,7 +1,7 @@
 -- Octets in order go straight to the output.
 use Rattle.std.proofs.Common.{◌≡◌, [], length, sym, ◌∙◌, ap, arith, eqb-true}
 use Rattle.dm_flows.specs.Windows.{WindowState}
-use Rattle.dm_flows.proofs.Straight.{through_straight, on_both, empty_list}
+use Rattle.dm_flows.proofs.Straight.{through_straight, straight_near, on_both, on_ok, empty_list}
 use Rattle.dm_flows.proofs.window.Window.take_through.Goals as goal
 
 pub returns-then-octets-le-WINDOW-clause-through : goal.returns-then-octets-le-WINDOW-clause-through
@@ -16,3 +16,10 @@ returns-then-octets-le-WINDOW-clause-through c =
     (λ straight put.
     through_straight c.args.self.now c.pass.new.self c.args.sequence c.args.octets.now c.args.output.now.items
     c.pass.new.output.items none next (omega arith) straight put)
+
+pub returns-then-octets-le-WINDOW-clause-near : goal.returns-then-octets-le-WINDOW-clause-near
+returns-then-octets-le-WINDOW-clause-near c =
+    let next : c.args.self.now.next ≡ c.args.sequence =
+    sym (ap (λ (w : WindowState). w.next) c.self.view_is) ∙ c.if-self-sequence.true in
+    on_ok c.pass.result _
+    (straight_near c.args.self.now.next c.args.sequence c.args.octets.now next (omega arith) (omega arith))

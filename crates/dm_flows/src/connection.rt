@@ -1,0 +1,108 @@
+//! A connection: Diameter messages out of the segments of both ends.
+ghost use Rattle.std.specs.Prelude.{◌≡◌, ◌↔◌, IsTrue, OnOk, OnErr, IfOk, IfSome, IfNone};
+ghost use Rattle.dm_flows.specs.Connections.{new_connection, passed_in, TakesSegment, LeavesConnection};
+ghost use Rattle.dm_flows.specs.Flows.{HandsMessage, HandsNoMessage};
+ghost use Rattle.dm_flows.specs.Tcps.{segment_seen};
+
+use crate::address::{Address, Endpoint};
+use crate::control::hear;
+use crate::flow::Flow;
+use crate::segment::Segment;
+use std::alloc::{AllocError, Global};
+use std::marker::Model;
+
+/// A connection of two ends.
+#[derive(Debug, Drop)]
+pub struct Connection {
+    first: Endpoint,
+    second: Endpoint,
+    forth: Flow,
+    back: Flow,
+}
+
+impl Model for Connection {
+    ghost use Rattle.dm_flows.specs.Connections.{ConnectionState};
+
+    ghost Value = { ConnectionState };
+
+    ghost view = { λ c. record { first = c.first; second = c.second; forth = c.forth; back = c.back } };
+}
+
+/// Whether both are the same address.
+fn is_same_address(one: Address, other: Address) -> bool
+    ensures { IsTrue result ↔ one ≡ other }
+{
+    match (one, other) {
+        (Address::V4(one), Address::V4(other)) => one == other,
+        (Address::V6(one), Address::V6(other)) => one == other,
+        _ => false,
+    }
+}
+
+/// Whether both are the same end.
+pub(crate) fn is_same_end(one: Endpoint, other: Endpoint) -> bool
+    ensures { IsTrue result ↔ one ≡ other }
+{
+    one.port == other.port && is_same_address(one.address, other.address)
+}
+
+impl Connection {
+    /// A connection of which nothing came, for messages of at most `max` octets. It never answers want of memory.
+    pub fn new(alloc: Global, first: Endpoint, second: Endpoint, max: u32) -> Connection
+        ensures { result ≡ new_connection max first second }
+    {
+        Connection {
+            first,
+            second,
+            forth: Flow::new(alloc, max),
+            back: Flow::new(alloc, max),
+        }
+    }
+
+    /// How many octets were passed over in both directions, up to 2^64 - 1. It never answers want of memory.
+    pub fn passed(&self) -> u64
+        ensures { result ≡ passed_in self.now }
+    {
+        self.forth.passed().saturating_add(self.back.passed())
+    }
+
+    /// Takes a segment that came from the first end, or else from the second one.
+    ///
+    /// A SYN begins a connection: where it is that of a new one both directions begin anew, and what wasn't handed out
+    /// is passed over. A FIN ends the direction behind its octets, a RST both. Where memory is wanted the control bits
+    /// count, and the octets were taken up to some or not.
+    pub fn take(&mut self, segment: Segment<'_>) -> Result<(), AllocError>
+        ensures taken { OnOk result (TakesSegment self.old (segment_seen segment.entry) self.new) }
+        ensures left { OnErr result (LeavesConnection self.old (segment_seen segment.entry) self.new) }
+    {
+        if is_same_end(segment.source, self.first) {
+            hear(&mut self.forth, &mut self.back, segment)
+        } else {
+            hear(&mut self.back, &mut self.forth, segment)
+        }
+    }
+
+    /// Hands out the next whole message from the first end to the second; None where it isn't whole yet. Where memory
+    /// is wanted nothing changes.
+    pub fn next_forth(&mut self) -> Result<Option<Vec<u8>>, AllocError>
+        ensures message { IfOk result (λ found. IfSome found
+            (λ message. HandsMessage self.old.forth message.items self.new.forth)) }
+        ensures none { IfOk result (λ found. IfNone found (HandsNoMessage self.old.forth self.new.forth)) }
+        ensures unchanged { OnErr result (self.new ≡ self.old) }
+        ensures others { self.new ≡ record self.old { forth = self.new.forth } }
+    {
+        self.forth.next()
+    }
+
+    /// Hands out the next whole message from the second end to the first; None where it isn't whole yet. Where memory
+    /// is wanted nothing changes.
+    pub fn next_back(&mut self) -> Result<Option<Vec<u8>>, AllocError>
+        ensures message { IfOk result (λ found. IfSome found
+            (λ message. HandsMessage self.old.back message.items self.new.back)) }
+        ensures none { IfOk result (λ found. IfNone found (HandsNoMessage self.old.back self.new.back)) }
+        ensures unchanged { OnErr result (self.new ≡ self.old) }
+        ensures others { self.new ≡ record self.old { back = self.new.back } }
+    {
+        self.back.next()
+    }
+}

@@ -1,0 +1,93 @@
+//! What the control bits of a segment do to both directions of its connection (RFC 9293, 3.5 and 3.6).
+ghost use Rattle.std.specs.Prelude.{◌≡◌, length, OnOk, OnErr};
+ghost use Rattle.dm_flows.specs.Connections.{is_unended, is_same_syn, is_answering_syn, after_syn};
+ghost use Rattle.dm_flows.specs.Connections.{controlled, first_number};
+ghost use Rattle.dm_flows.specs.Connections.{HearsSegment, LeavesSegment};
+ghost use Rattle.dm_flows.specs.Tcps.{segment_seen};
+ghost use Rattle.dm_flows.specs.Windows.{sequence_behind};
+
+use crate::closing::Closing;
+use crate::flow::{Flow, number_behind};
+use crate::segment::Segment;
+use std::alloc::AllocError;
+
+fn is_open(closing: Closing) -> bool
+    ensures { result ≡ is_unended closing }
+{
+    match closing {
+        Closing::Open => true,
+        _ => false,
+    }
+}
+
+/// Whether a SYN with this number is that of the connection, sent again.
+fn repeats_syn(own: &Flow, number: u32) -> bool
+    ensures { result ≡ is_same_syn own.now number }
+{
+    match own.syn() {
+        Some(syn) => is_open(own.closing()) && syn == number,
+        None => false,
+    }
+}
+
+/// Whether a SYN of this direction answers one of the other.
+fn is_answer(own: &Flow, other: &Flow) -> bool
+    ensures { result ≡ is_answering_syn (record { own = own.now; other = other.now }) }
+{
+    is_open(own.closing()) && own.syn().is_none() && other.syn().is_some()
+}
+
+/// A SYN came.
+fn begin(own: &mut Flow, other: &mut Flow, number: u32)
+    ensures { record { own = own.new; other = other.new }
+        ≡ after_syn number (record { own = own.old; other = other.old }) }
+{
+    if repeats_syn(own, number) {
+        return;
+    }
+    if !is_answer(own, other) {
+        other.begin_unseen();
+    }
+    own.begin(number);
+}
+
+/// The number of the first octet.
+fn number_of_first(segment: Segment<'_>) -> u32
+    ensures { result ≡ first_number (segment_seen segment.entry) }
+{
+    if segment.syn {
+        segment.sequence.wrapping_add(1)
+    } else {
+        segment.sequence
+    }
+}
+
+/// What the control bits do, before the octets are taken.
+fn control(own: &mut Flow, other: &mut Flow, segment: Segment<'_>)
+    ensures { record { own = own.new; other = other.new }
+        ≡ controlled (segment_seen segment.entry) (record { own = own.old; other = other.old }) }
+{
+    if segment.rst {
+        own.reset();
+        other.reset();
+        return;
+    }
+    if segment.syn {
+        begin(own, other, segment.sequence);
+    }
+    if segment.fin {
+        let last = number_behind(number_of_first(segment), segment.payload.len());
+        own.finish(last);
+    }
+}
+
+/// Takes a segment.
+pub(crate) fn hear(own: &mut Flow, other: &mut Flow, segment: Segment<'_>) -> Result<(), AllocError>
+    ensures heard { OnOk result (HearsSegment (record { own = own.old; other = other.old })
+        (segment_seen segment.entry) (record { own = own.new; other = other.new })) }
+    ensures left { OnErr result (LeavesSegment (record { own = own.old; other = other.old })
+        (segment_seen segment.entry) (record { own = own.new; other = other.new })) }
+{
+    control(own, other, segment);
+    own.take(number_of_first(segment), segment.payload)
+}

@@ -1,0 +1,305 @@
+//! One direction of a connection: Diameter messages out of its segments.
+ghost use Rattle.std.specs.Prelude.{◌≡◌, ◌≤◌, ◌⊎◌, ◌++◌, [], None, true, false, Ok, length};
+ghost use Rattle.std.specs.Prelude.{OnOk, OnErr, IfOk, IfSome, IfNone};
+ghost use Rattle.dm_flows.specs.Flows.{more_passed, known_waiting, stream_left, begun_by_syn, begun_by_header};
+ghost use Rattle.dm_flows.specs.Flows.{new_flow, begun_unseen, closing_by_fin, octets_within, IsAstrayAt, FlowTakes};
+ghost use Rattle.dm_flows.specs.Flows.{BeginsAnew, TakesWithin, TakesPayload, LeavesPayload};
+ghost use Rattle.dm_flows.specs.Flows.{HandsMessage, HandsNoMessage};
+ghost use Rattle.dm_flows.specs.Windows.{place_ahead, sequence_behind};
+
+use crate::carried::front_of;
+use crate::closing::Closing;
+use crate::header::begins_with_header;
+use crate::window::{Window, WindowFault};
+use dm_framer::Framer;
+use std::alloc::{AllocError, Global};
+use std::marker::Model;
+
+/// Half of the sequence numbers.
+const HALF: u32 = 2_147_483_648;
+
+/// How many sequence numbers there are.
+const ALL_NUMBERS: usize = 4_294_967_296;
+
+/// One direction of a connection: segments go in, Diameter messages come out.
+///
+/// Octets are taken by number, as [`Window`] does it, where the place in the stream is known: behind a SYN, or behind a
+/// segment at whose front a header may stand. Where octets are missing past the window's limit, or what is in order is
+/// no message, the stream is left: what waits is passed over, and a stream begins anew with the next segment that has
+/// such a front.
+#[derive(Debug, Drop)]
+pub struct Flow {
+    alloc: Global,
+    syn: Option<u32>,
+    closing: Closing,
+    window: Option<Window>,
+    framer: Framer,
+    /// Octets in order behind those of the framer.
+    fresh: Vec<u8>,
+    passed: u64,
+}
+
+impl Model for Flow {
+    ghost use Rattle.std.specs.Prelude.{◌≡◌, ◌++◌, None};
+    ghost use Rattle.dm_flows.specs.Flows.{FlowState};
+
+    ghost Value = { FlowState };
+
+    ghost view = { λ f. record {
+      syn = f.syn;
+      closing = f.closing;
+      window = f.window;
+      ready = f.framer.octets ++ f.fresh.items;
+      passed = f.passed;
+      max = f.framer.max;
+    } };
+
+    ghost invariant = { λ f. f.framer.fault ≡ None };
+}
+
+/// So many octets more.
+fn more_octets(passed: u64, octets: usize) -> u64
+    ensures { result ≡ more_passed passed octets }
+{
+    passed.saturating_add(octets as u64)
+}
+
+/// How many octets there are from a sequence number up to the end.
+fn room_before(last: u32, number: u32) -> usize
+    ensures { result ≡ place_ahead number last }
+{
+    let room = last.wrapping_sub(number);
+    if room < HALF { room as usize } else { 0 }
+}
+
+/// The octets, of which the first has this number, that are before the end.
+fn within(closing: Closing, number: u32, octets: &[u8]) -> &[u8]
+    ensures within { result.now ≡ octets_within closing number octets.now }
+    ensures most { length result.now ≤ length octets.now }
+{
+    match closing {
+        Closing::Open => octets,
+        Closing::Fin(last) => front_of(octets, room_before(last, number)),
+        Closing::Reset => &octets[..0],
+    }
+}
+
+/// The sequence number behind so many octets.
+pub(crate) fn number_behind(number: u32, octets: usize) -> u32
+    ensures { result ≡ sequence_behind number octets }
+{
+    number.wrapping_add((octets % ALL_NUMBERS) as u32)
+}
+
+/// How many octets wait behind one that is missing.
+fn waiting_in(window: &Option<Window>) -> usize
+    ensures waiting { result ≡ known_waiting window.now }
+    ensures most { result ≤ 1048576 }
+{
+    match window {
+        Some(window) => window.waiting(),
+        None => 0,
+    }
+}
+
+/// Hands octets in order to the framer.
+fn settle(alloc: Global, framer: &mut Framer, fresh: &mut Vec<u8>) -> Result<(), AllocError>
+    requires { framer.old.fault ≡ None }
+    ensures fed { OnOk result (framer.new
+        ≡ record framer.old { octets = framer.old.octets ++ fresh.old.items }) }
+    ensures none { OnOk result (fresh.new.items ≡ []) }
+    ensures framer { OnErr result (framer.new ≡ framer.old) }
+    ensures fresh { OnErr result (fresh.new.items ≡ fresh.old.items) }
+{
+    if fresh.is_empty() {
+        return Ok(());
+    }
+    if framer.feed(fresh).is_err() {
+        return Err(AllocError);
+    }
+    *fresh = Vec::new(alloc);
+    Ok(())
+}
+
+impl Flow {
+    /// A direction of which nothing came, for messages of at most `max` octets. It never answers want of memory.
+    pub fn new(alloc: Global, max: u32) -> Flow
+        ensures { result ≡ new_flow max }
+    {
+        Flow {
+            alloc,
+            syn: None,
+            closing: Closing::Open,
+            window: None,
+            framer: Framer::new(alloc, max),
+            fresh: Vec::new(alloc),
+            passed: 0,
+        }
+    }
+
+    /// How many octets were passed over, up to 2^64 - 1. It never answers want of memory.
+    pub fn passed(&self) -> u64
+        ensures { result ≡ self.now.passed }
+    {
+        self.passed
+    }
+
+    /// The number of the SYN with which the connection began, where it was seen. It never answers want of memory.
+    pub fn syn(&self) -> Option<u32>
+        ensures { result ≡ self.now.syn }
+    {
+        self.syn
+    }
+
+    /// What ended the direction. It never answers want of memory.
+    pub fn closing(&self) -> Closing
+        ensures { result ≡ self.now.closing }
+    {
+        self.closing
+    }
+
+    /// Leaves the stream.
+    fn leave(&mut self)
+        ensures { self.new ≡ stream_left self.old }
+    {
+        let passed = more_octets(self.passed, waiting_in(&self.window));
+        let passed = more_octets(passed, self.framer.len());
+        self.passed = more_octets(passed, self.fresh.len());
+        self.window = None;
+        self.framer = Framer::new(self.alloc, self.framer.max());
+        self.fresh = Vec::new(self.alloc);
+    }
+
+    /// A SYN with this number begins a new connection. It never answers want of memory.
+    ///
+    /// What waits, and the messages that weren't handed out, are passed over.
+    pub fn begin(&mut self, number: u32)
+        ensures { self.new ≡ begun_by_syn self.old number }
+    {
+        self.leave();
+        self.syn = Some(number);
+        self.closing = Closing::Open;
+        self.window = Some(Window::new(self.alloc, number.wrapping_add(1)));
+    }
+
+    /// A new connection begins, of which nothing came in this direction. It never answers want of memory.
+    ///
+    /// What waits, and the messages that weren't handed out, are passed over.
+    pub fn begin_unseen(&mut self)
+        ensures { self.new ≡ begun_unseen self.old }
+    {
+        self.leave();
+        self.syn = None;
+        self.closing = Closing::Open;
+    }
+
+    /// A FIN has this number: octets are taken up to it, unless something ended the direction before. It never answers
+    /// want of memory.
+    pub fn finish(&mut self, number: u32)
+        ensures { self.new ≡ record self.old { closing = closing_by_fin self.old.closing number } }
+    {
+        if let Closing::Open = self.closing {
+            self.closing = Closing::Fin(number);
+        }
+    }
+
+    /// A RST came: no octets are taken until a new connection begins. It never answers want of memory.
+    pub fn reset(&mut self)
+        ensures { self.new ≡ record self.old { closing = Closing.Reset } }
+    {
+        self.closing = Closing::Reset;
+    }
+
+    /// Takes the octets of a segment, of which the first has this number.
+    ///
+    /// What is behind the end is passed over. The others are taken by number; where the place in the stream isn't
+    /// known, or they are too far ahead, the stream is left and begins anew with them, or they are passed over too.
+    /// Where memory is wanted nothing changed, or the octets were taken, and those in order kept up to some.
+    pub fn take(&mut self, number: u32, octets: &[u8]) -> Result<(), AllocError>
+        ensures taken { OnOk result (TakesPayload self.old number octets.now self.new) }
+        ensures left { OnErr result (LeavesPayload self.old number octets.now self.new) }
+    {
+        let inside = within(self.closing, number, octets);
+        self.take_within(number, inside)?;
+        self.passed = more_octets(self.passed, octets.len() - inside.len());
+        Ok(())
+    }
+
+    /// Takes octets that are before the end.
+    fn take_within(&mut self, number: u32, octets: &[u8]) -> Result<(), AllocError>
+        ensures taken { OnOk result (TakesWithin self.old number octets.now self.new) }
+        ensures left { OnErr result ((self.new ≡ self.old) ⊎ FlowTakes self.old number octets.now self.new) }
+    {
+        match self.go_on(number, octets) {
+            Ok(true) => Ok(()),
+            Ok(false) => self.begin_anew(number, octets),
+            Err(error) => Err(error),
+        }
+    }
+
+    /// Takes octets where the place in the stream is known and they aren't too far ahead; else it answers false.
+    fn go_on(&mut self, number: u32, octets: &[u8]) -> Result<bool, AllocError>
+        ensures on { result ≡ Ok true → (IsAstrayAt self.old.window number octets.now → ⊥)
+            × FlowTakes self.old number octets.now self.new }
+        ensures astray { result ≡ Ok false → IsAstrayAt self.old.window number octets.now × (self.new ≡ self.old) }
+        ensures left { OnErr result ((self.new ≡ self.old) ⊎ FlowTakes self.old number octets.now self.new) }
+    {
+        let Some(window) = &mut self.window else {
+            return Ok(false);
+        };
+        match window.take_through(number, octets, &mut self.fresh) {
+            Ok(()) => return Ok(true),
+            Err(WindowFault::TooFar) => return Ok(false),
+            Err(WindowFault::NoMemory) => return Err(AllocError),
+        }
+    }
+
+    /// Leaves the stream, and begins one with the octets where a header may stand in front; else they are passed over.
+    fn begin_anew(&mut self, number: u32, octets: &[u8]) -> Result<(), AllocError>
+        ensures begun { OnOk result (BeginsAnew self.old number octets.now self.new) }
+        ensures unchanged { OnErr result (self.new ≡ self.old) }
+    {
+        if !begins_with_header(octets) {
+            self.leave();
+            self.passed = more_octets(self.passed, octets.len());
+            return Ok(());
+        }
+        let front = Vec::from_slice(self.alloc, octets)?;
+        self.begin_with(number, front);
+        Ok(())
+    }
+
+    /// Leaves the stream, and begins one with these octets.
+    fn begin_with(&mut self, number: u32, front: Vec<u8>)
+        ensures { self.new ≡ begun_by_header self.old number front.items }
+    {
+        self.leave();
+        self.window = Some(Window::new(self.alloc, number_behind(number, front.len())));
+        self.fresh = front;
+    }
+
+    /// Hands out the next whole message; None where it isn't whole yet.
+    ///
+    /// Where what is in order is no message the stream is left, and None is answered. Where memory is wanted nothing
+    /// changes.
+    pub fn next(&mut self) -> Result<Option<Vec<u8>>, AllocError>
+        ensures message { IfOk result (λ found. IfSome found
+            (λ message. HandsMessage self.old message.items self.new)) }
+        ensures none { IfOk result (λ found. IfNone found (HandsNoMessage self.old self.new)) }
+        ensures unchanged { OnErr result (self.new ≡ self.old) }
+    {
+        settle(self.alloc, &mut self.framer, &mut self.fresh)?;
+        match self.framer.front() {
+            Ok(Some(message)) => {
+                let message = Vec::from_slice(self.alloc, message)?;
+                self.framer.skip();
+                Ok(Some(message))
+            }
+            Ok(None) => Ok(None),
+            Err(_) => {
+                self.leave();
+                Ok(None)
+            }
+        }
+    }
+}
