@@ -1,10 +1,13 @@
 pub mod Handing
 pub mod InOrder
+pub mod OneDataList
 pub mod OneIp
 pub mod OneLink
+pub mod OneSctp
 pub mod OneSegment
 pub mod OneStream
 pub mod Passing
+pub mod SctpChunks
 pub mod SlotLists
 pub mod Straight
 pub mod Upper

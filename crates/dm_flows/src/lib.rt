@@ -11,6 +11,9 @@ pub mod laws;
 mod link;
 mod network;
 mod passed;
+mod sctp;
+mod sctp_chunks;
+pub mod sctp_laws;
 mod segment;
 mod slots;
 mod tags;
@@ -18,5 +21,7 @@ mod window;
 
 pub use address::{Address, Endpoint};
 pub use passed::Passed;
+pub use sctp::{SctpPacket, sctp_of};
+pub use sctp_chunks::{DataChunk, DataChunks};
 pub use segment::{Segment, segment_of};
 pub use window::{WINDOW, Window, WindowFault};

@@ -2,6 +2,10 @@
 #![tactic(auto)]
 
 #[cfg(test)]
+mod sctp;
+#[cfg(test)]
+mod sctp_told;
+#[cfg(test)]
 mod segments;
 #[cfg(test)]
 mod told;
