@@ -4,11 +4,14 @@ pub mod FlowInOrder
 pub mod FlowParts
 pub mod Handing
 pub mod InOrder
+pub mod OneDataList
 pub mod OneIp
 pub mod OneLink
+pub mod OneSctp
 pub mod OneSegment
 pub mod OneStream
 pub mod Passing
+pub mod SctpChunks
 pub mod SlotLists
 pub mod Straight
 pub mod Upper

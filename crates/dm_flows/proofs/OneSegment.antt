@@ -10,10 +10,10 @@ use Rattle.dm_flows.proofs.OneLink.{one_ip, ip_or_fault, one_link_fault}
 use Rattle.dm_flows.proofs.OneIp.{one_carried, carried_or_fault, one_ip_fault}
 
 -- of one packet, whatever it is said to be
-abbrev Along : (Network → List ℕ → Type 0) → Type 0
+abbrev pub Along : (Network → List ℕ → Type 0) → Type 0
 Along P = (n m : Network) (p q : List ℕ) → (n ≡ m) × (p ≡ q) → P m q → P n p
 
-along : (P : Network → List ℕ → Type 0) → Along P
+pub along : (P : Network → List ℕ → Type 0) → Along P
 along P n m p q same h =
     subst (λ (l : List ℕ). P n l) (sym same.1) (subst (λ (k : Network). P k q) (sym same.0) h)
 
@@ -22,7 +22,7 @@ tcp_or_none s is (inl short) = omega (arith, short, is.least)
 tcp_or_none s is (inr (has, inl low)) = omega (arith, low, is.header)
 tcp_or_none s is (inr (has, inr less)) = omega (arith, less, is.fits)
 
-true_or_false : (b : Bool) → b ≡ true → b ≡ false → ⊥
+pub true_or_false : (b : Bool) → b ≡ true → b ≡ false → ⊥
 true_or_false b is not = cc
 
 segment_or_none : (carried : CarriedOctets) (segment : SeenSegment) (why : Passed) → CarriesSegment carried segment →

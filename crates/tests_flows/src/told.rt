@@ -3,7 +3,11 @@ use dm_flows::{Address, Endpoint, Passed, Segment, segment_of};
 use std::alloc::{AllocError, Global};
 use std::process::Abort;
 
-fn put_endpoint(alloc: Global, text: &mut String, end: Endpoint) -> Result<(), AllocError> {
+pub(crate) fn put_endpoint(
+    alloc: Global,
+    text: &mut String,
+    end: Endpoint,
+) -> Result<(), AllocError> {
     let line = match end.address {
         Address::V4(number) => format!(in alloc; "{number}:{}", end.port)?,
         Address::V6(number) => format!(in alloc; "{number}:{}", end.port)?,
@@ -12,7 +16,7 @@ fn put_endpoint(alloc: Global, text: &mut String, end: Endpoint) -> Result<(), A
 }
 
 /// The letter of a control bit, where it is set.
-fn letter(set: bool, letter: &str) -> &str {
+pub(crate) fn letter(set: bool, letter: &str) -> &str {
     if set { letter } else { "-" }
 }
 
@@ -48,7 +52,11 @@ fn told(alloc: Global, link: u16, digits: &str) -> Option<String> {
     }
 }
 
-fn put_passed(alloc: Global, text: &mut String, passed: Passed) -> Result<(), AllocError> {
+pub(crate) fn put_passed(
+    alloc: Global,
+    text: &mut String,
+    passed: Passed,
+) -> Result<(), AllocError> {
     text.push_str(format!(in alloc; "{passed:?}")?.as_str())
 }
 

@@ -1,0 +1,16 @@
+//! Laws of what packets hold of SCTP. Each function is a law: it does nothing, and its contract is the law.
+ghost use Rattle.dm_flows.specs.SctpLaws.{OneSctp, SctpOrReason, OneSctpReason};
+ghost use Rattle.dm_flows.specs.SctpLaws.{EachHasDataList, OneDataList};
+
+/// A packet holds one SCTP packet, or there is one reason why it holds none.
+pub fn one_answer()
+    ensures packet { OneSctp }
+    ensures either { SctpOrReason }
+    ensures reason { OneSctpReason }
+{}
+
+/// All chunks of a packet are read, and its DATA chunks are one list.
+pub fn one_list()
+    ensures some { EachHasDataList }
+    ensures one { OneDataList }
+{}
