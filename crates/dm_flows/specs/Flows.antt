@@ -1,5 +1,5 @@
 -- One direction of a connection: what comes of its segments.
-use Rattle.std.specs.Prelude.{◌≡◌, ◌⊎◌, ℕ, ◌+◌, ◌-◌, ◌%◌, ◌^◌, min, Option, None, Some}
+use Rattle.std.specs.Prelude.{◌≡◌, ◌⊎◌, ℕ, ◌+◌, ◌-◌, ◌%◌, ◌^◌, ◌<◌, min, true, Option, None, Some}
 use Rattle.std.specs.Prelude.{List, [], ◌++◌, length, take}
 use Rattle.dm_framer.specs.declared.fault.FrameFault.{FrameFault}
 use Rattle.dm_framer.specs.Frames.{IsFrame, HasFault, IsPartial}
@@ -7,7 +7,7 @@ use Rattle.dm_flows.specs.declared.closing.Closing.{Closing}
 use Rattle.dm_flows.specs.declared.closing.Closing.TheVariants.{Open, Fin, Reset}
 use Rattle.dm_flows.specs.Headers.{BeginsWithHeader}
 use Rattle.dm_flows.specs.Windows.{WindowState, known_octets, place_ahead, arrival_from, sequence_behind}
-use Rattle.dm_flows.specs.Windows.{IsTooFar, TakesThrough}
+use Rattle.dm_flows.specs.Windows.{lies_far_behind, IsTooFar, TakesThrough}
 
 -- the number of its SYN, where one was seen; what ended it; what waits, where its place in the stream is known; the
 -- octets in order that weren't handed out yet; how many octets were passed over; and the greatest Message Length
@@ -86,10 +86,12 @@ BeginsAnew old number s new =
     (BeginsWithHeader s × (new ≡ begun_by_header old number s))
     ⊎ ((BeginsWithHeader s → ⊥) × (new ≡ with_more_passed (stream_left old) (length s)))
 
--- it isn't known, or the octets are too far ahead
+-- it isn't known, or the octets are too far ahead, or too far behind to be a repetition
 abbrev pub IsAstrayAt : Option WindowState → ℕ → List ℕ → Type 0
 IsAstrayAt None number s = Unit {0}
-IsAstrayAt (Some window) number s = IsTooFar (arrival_from window.next number s)
+IsAstrayAt (Some window) number s =
+    IsTooFar (arrival_from window.next number s)
+    ⊎ ((0 < length s) × (lies_far_behind window.next number ≡ true))
 
 -- octets before the end came
 abbrev pub TakesWithin : FlowState → ℕ → List ℕ → FlowState → Type 0

@@ -1,6 +1,6 @@
 -- One direction of a connection: octets by number (RFC 9293, 3.4).
 use Rattle.std.specs.Prelude.{◌≡◌, ◌⊎◌, ℕ, zero, suc, ◌+◌, ◌-◌, ◌%◌, ◌^◌, ◌<◌, nat_lt, nat_le}
-use Rattle.std.specs.Prelude.{Option, None, Some, is_some, if◌then◌else◌}
+use Rattle.std.specs.Prelude.{Bool, Option, None, Some, is_some, if◌then◌else◌}
 use Rattle.std.specs.Prelude.{List, ◌++◌, map, length, count_by, drop, slice_get, slice_index_or}
 
 -- the sequence number of the next octet that is handed out, and what came of those from it on
@@ -45,6 +45,10 @@ place_ahead next sequence = if nat_lt (ahead next sequence) (2 ^ 31) then ahead 
 -- how many of them are before it
 abbrev pub passed_of : ℕ → ℕ → ℕ
 passed_of next sequence = if nat_lt (ahead next sequence) (2 ^ 31) then 0 else ahead sequence next
+
+-- they begin more than 1,048,576 octets before it
+abbrev pub lies_far_behind : ℕ → ℕ → Bool
+lies_far_behind next sequence = nat_lt 1048576 (passed_of next sequence)
 
 -- what came of the octets from the next one on
 abbrev pub arrival_from : ℕ → ℕ → List ℕ → Arrival

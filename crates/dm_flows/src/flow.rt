@@ -24,9 +24,9 @@ const ALL_NUMBERS: usize = 4_294_967_296;
 /// One direction of a connection: segments go in, Diameter messages come out.
 ///
 /// Octets are taken by number, as [`Window`] does it, where the place in the stream is known: behind a SYN, or behind a
-/// segment at whose front a header may stand. Where octets are missing past the window's limit, or what is in order is
-/// no message, the stream is left: what waits is passed over, and a stream begins anew with the next segment that has
-/// such a front.
+/// segment at whose front a header may stand. Where octets are further away than [`WINDOW`](crate::WINDOW), or what is
+/// in order is no message, the stream is left: what waits is passed over, and a stream begins anew with the next
+/// segment that has such a front.
 #[derive(Debug, Drop)]
 pub struct Flow {
     alloc: Global,
@@ -213,7 +213,8 @@ impl Flow {
     /// Takes the octets of a segment, of which the first has this number.
     ///
     /// What is behind the end is passed over. The others are taken by number; where the place in the stream isn't
-    /// known, or they are too far ahead, the stream is left and begins anew with them, or they are passed over too.
+    /// known, or they are too far ahead or behind, the stream is left and begins anew with them, or they are passed
+    /// over too.
     /// Where memory is wanted nothing changed, or the octets were taken, and those in order kept up to some.
     pub fn take(&mut self, number: u32, octets: &[u8]) -> Result<(), AllocError>
         ensures taken { OnOk result (TakesPayload self.old number octets.now self.new) }
@@ -237,7 +238,7 @@ impl Flow {
         }
     }
 
-    /// Takes octets where the place in the stream is known and they aren't too far ahead; else it answers false.
+    /// Takes octets where the place in the stream is known and they aren't too far away; else it answers false.
     fn go_on(&mut self, number: u32, octets: &[u8]) -> Result<bool, AllocError>
         ensures on { result ≡ Ok true → (IsAstrayAt self.old.window number octets.now → ⊥)
             × FlowTakes self.old number octets.now self.new }
@@ -247,6 +248,9 @@ impl Flow {
         let Some(window) = &mut self.window else {
             return Ok(false);
         };
+        if !octets.is_empty() && window.is_far_behind(number) {
+            return Ok(false);
+        }
         match window.take_through(number, octets, &mut self.fresh) {
             Ok(()) => return Ok(true),
             Err(WindowFault::TooFar) => return Ok(false),

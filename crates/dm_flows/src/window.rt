@@ -1,7 +1,7 @@
 //! One direction of a connection: octets by number, handed out in order (RFC 9293, 3.4).
 ghost use Rattle.std.specs.Prelude.{◌≡◌, ◌≤◌, ◌++◌, ℕ, [], length, None, IfErr, OnOk, OnErr};
-ghost use Rattle.dm_flows.specs.Windows.{slot, known_octets, place_ahead, passed_of, arrival_from, IsTooFar};
-ghost use Rattle.dm_flows.specs.Windows.{TakesOctets, HandsTo, HandsStraight, TakesThrough, LeavesThrough};
+ghost use Rattle.dm_flows.specs.Windows.{slot, known_octets, place_ahead, passed_of, lies_far_behind, arrival_from};
+ghost use Rattle.dm_flows.specs.Windows.{IsTooFar, TakesOctets, HandsTo, HandsStraight, TakesThrough, LeavesThrough};
 
 use crate::slots::{behind, count_slots, fill_slots, grow_slots};
 use std::alloc::{AllocError, Global};
@@ -106,6 +106,14 @@ impl Window {
         }
         fill_slots(&mut self.slots, place.at, fresh);
         Ok(())
+    }
+
+    /// Whether octets, of which the first has this sequence number, begin more than [`WINDOW`] octets before the next
+    /// one. It never answers want of memory.
+    pub fn is_far_behind(&self, sequence: u32) -> bool
+        ensures { result ≡ lies_far_behind self.now.next sequence }
+    {
+        WINDOW < place_near(self.next, sequence).passed
     }
 
     /// How many octets there are from the next one to the last that waits. It never answers want of memory.

@@ -115,6 +115,19 @@ fn gap_past_the_limit(rt: HostRuntime) {
 }
 
 #[test]
+fn far_behind(rt: HostRuntime) {
+    // What is further behind than could be sent again is of another stream; what is nearer is a repetition.
+    let steps = [
+        Syn(99_999_999),
+        Octets(100_000_000, 0, 30),
+        Octets(98_951_454, 40, 60),
+        Octets(98_951_453, 40, 60),
+        Octets(98_951_473, 60, 80),
+    ];
+    assert_told(&rt, &steps, "|a||c|d|10");
+}
+
+#[test]
 fn no_message(rt: HostRuntime) {
     let steps = [
         Syn(99),
