@@ -1,0 +1,7 @@
+pub mod Dates
+pub mod Digits
+pub mod Elapsed
+pub mod Ends
+pub mod Fronts
+pub mod Laws
+pub mod Times
