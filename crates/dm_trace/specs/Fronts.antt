@@ -23,4 +23,5 @@ place_text transport packet = codes " " ++ transport_word transport ++ codes " p
 
 -- when, between whom, and in which packet
 abbrev pub front_text : Clock → Seen → List ℕ
-front_text clock seen = when_text clock seen.time ++ ends_text seen.from seen.to ++ place_text seen.transport seen.packet
+front_text clock seen =
+    when_text clock seen.time ++ ends_text seen.from seen.to ++ place_text seen.transport seen.packet

@@ -80,8 +80,8 @@ fn put_clock(text: &mut String, clock: Clock, time: Time) -> Result<(), AllocErr
 ///
 /// The fraction has all digits of its resolution where that is a power of ten, and is left out where it is whole
 /// seconds; of a power of two it has nine digits, rounded down. The date is told from 1968-01-20 03:14:08 to
-/// 2104-02-26 09:42:23 UTC, as of a value of type Time (RFC 6733, 4.3.1); before and behind, the time is told as seconds
-/// since 1970 with the fraction behind them, `-5.5` for half a second after -5, without a `Z`.
+/// 2104-02-26 09:42:23 UTC, as of a value of type Time (RFC 6733, 4.3.1). Before and behind, the time is told without a
+/// `Z`, as seconds since 1970 with the fraction that counts on from them: -61505153 and a half later is `-61505153.5`.
 pub fn put_time(text: &mut String, clock: Clock, time: Option<Time>) -> Result<(), AllocError>
     ensures { OnOk result (string_bytes text.new ≡ string_bytes text.old ++ when_text clock time) }
 {
