@@ -7,6 +7,7 @@ mod connection;
 mod flow;
 #[cfg(test)]
 mod messages;
+#[cfg(test)]
 mod sctp;
 #[cfg(test)]
 mod sctp_told;
