@@ -6,6 +6,8 @@ mod connection;
 #[cfg(test)]
 mod flow;
 #[cfg(test)]
+mod headers;
+#[cfg(test)]
 mod messages;
 #[cfg(test)]
 mod sctp;
