@@ -31,7 +31,8 @@ use Rattle.dm_view_lines.specs.Colours.{styled, line_coloured}
 use Rattle.dm_view_lines.specs.Counts.{no_lines, tally_of, tallied}
 use Rattle.dm_view_lines.specs.Digits.{octets_of_line}
 use Rattle.dm_view_lines.specs.Lines.{SaysLine, SaysLines}
-use Rattle.dm_view_lines.specs.Said.{SaysOctets, numbered, before_refusal, front_shown, front_checked}
+use Rattle.dm_view_lines.specs.Fronts.{FrontText, by_number}
+use Rattle.dm_view_lines.specs.Said.{SaysFronted, SaysOctets, numbered, before_refusal, front_shown, front_checked}
 use Rattle.dm_view_lines.specs.Speakers.{CountsOneLine}
 use Rattle.dm_view_lines.specs.Streams.{HasLineEnds}
 use Rattle.dm_view_lines.specs.Turns.{SaysInTurn}
@@ -140,18 +141,27 @@ numbered-end : (n : ℕ) (s t : List ℕ) → t ≡ numbered n s → Ends s → 
 numbered-end n s t is h =
     ended_as (numbered n s) t is (ends-back (decimal n ++ codes ": ") s h)
 
+fronted-end : (words s t : List ℕ) → t ≡ words ++ s → Ends s → HasLineEnds t
+fronted-end words s t is h = ended_as (words ++ s) t is (ends-back words s h)
+
+fronted-whole : (task : Task) (d : Definitions) (front : FrontText) (s text : List ℕ) (good : Bool)
+    → SaysFronted task d front s text good → AsLines task text
+fronted-whole Show d front s text good (inl h) =
+    fronted-end front.words (message_view d h.0) text h.2 (message-ends d h.0)
+fronted-whole Check d front s text good (inl h) =
+    fronted-end front.words (check_view d h.0) text h.2 (check-ends d h.0)
+fronted-whole Show d front s text good (inr h) =
+    fronted-end front.words (before_refusal (front_shown d) s h.0 ++ refusal_sentence h.0 ++ 10 ∷ []) text h.2
+    (ends-back (before_refusal (front_shown d) s h.0 ++ refusal_sentence h.0) (10 ∷ []) feed)
+fronted-whole Check d front s text good (inr h) =
+    fronted-end front.words (before_refusal (front_checked d) s h.0 ++ refusal_sentence h.0 ++ 10 ∷ []) text h.2
+    (ends-back (before_refusal (front_checked d) s h.0 ++ refusal_sentence h.0) (10 ∷ []) feed)
+fronted-whole ShowJson d front s text good h = tt
+fronted-whole CheckJson d front s text good h = tt
+
 octets-whole : (task : Task) (d : Definitions) (n : ℕ) (s text : List ℕ) (good : Bool)
     → SaysOctets task d n s text good → AsLines task text
-octets-whole Show d n s text good (inl h) = numbered-end n (message_view d h.0) text h.2 (message-ends d h.0)
-octets-whole Check d n s text good (inl h) = numbered-end n (check_view d h.0) text h.2 (check-ends d h.0)
-octets-whole Show d n s text good (inr h) =
-    numbered-end n (before_refusal (front_shown d) s h.0 ++ refusal_sentence h.0 ++ 10 ∷ []) text h.2
-    (ends-back (before_refusal (front_shown d) s h.0 ++ refusal_sentence h.0) (10 ∷ []) feed)
-octets-whole Check d n s text good (inr h) =
-    numbered-end n (before_refusal (front_checked d) s h.0 ++ refusal_sentence h.0 ++ 10 ∷ []) text h.2
-    (ends-back (before_refusal (front_checked d) s h.0 ++ refusal_sentence h.0) (10 ∷ []) feed)
-octets-whole ShowJson d n s text good h = tt
-octets-whole CheckJson d n s text good h = tt
+octets-whole task d n s text good h = fronted-whole task d (by_number n) s text good h
 
 bad-whole : (task : Task) (d : Definitions) (n : ℕ) (text : List ℕ) (verdict : Option Bool)
     → SaysLine task d n None text verdict → AsLines task text

@@ -8,8 +8,9 @@ use Rattle.dm_view_lines.specs.declared.tally.Tally.{Tally}
 use Rattle.dm_view_lines.specs.Colours.{SaysStyled, styled}
 use Rattle.dm_view_lines.specs.Counts.{tallied, tally_of}
 use Rattle.dm_view_lines.specs.Digits.{octets_of_line}
+use Rattle.dm_view_lines.specs.Fronts.{FrontText, by_number}
 use Rattle.dm_view_lines.specs.Lines.{SaysLine, SaysEach, Says, counts_line}
-use Rattle.dm_view_lines.specs.Said.{message_answer, refused_said, SaysOctets}
+use Rattle.dm_view_lines.specs.Said.{message_answer, refused_said, SaysFronted, SaysOctets}
 
 -- what octets say is one thing
 pub record OctetLaws : Type 0 where
@@ -18,17 +19,23 @@ pub record OctetLaws : Type 0 where
   pub no_message_refused : NoMessageRefused
 
 module _ (laws : OctetLaws) where
-  one_octets : (task : Task) (d : Definitions) (n : ℕ) (s text other : List ℕ) (good fine : Bool)
-      → SaysOctets task d n s text good → SaysOctets task d n s other fine → (text ≡ other) × (good ≡ fine)
-  one_octets task d n s text other good fine (inl h) (inl k) =
-      let same = (laws.one_message h.0 k.0 s s [] [] h.1 k.1 refl).0 in
-      (h.2 ∙ ap (λ m. (message_answer task d n m).0) same ∙ sym k.2, h.3 ∙ ap (λ m. (message_answer task d n m).1) same ∙ sym k.3)
-  one_octets task d n s text other good fine (inl h) (inr k) = absurd (laws.no_message_refused h.0 s k.0 h.1 k.1)
-  one_octets task d n s text other good fine (inr h) (inl k) = absurd (laws.no_message_refused k.0 s h.0 k.1 h.1)
-  one_octets task d n s text other good fine (inr h) (inr k) = (
-    h.2 ∙ ap (refused_said task d n s) (laws.one_refusal s h.0 k.0 h.1 k.1) ∙ sym k.2,
+  one_fronted : (task : Task) (d : Definitions) (front : FrontText) (s text other : List ℕ) (good fine : Bool)
+      → SaysFronted task d front s text good → SaysFronted task d front s other fine → (text ≡ other) × (good ≡ fine)
+  one_fronted task d front s text other good fine (inl h) (inl k) =
+      let same = (laws.one_message h.0 k.0 s s [] [] h.1 k.1 refl).0 in (
+        h.2 ∙ ap (λ m. (message_answer task d front m).0) same ∙ sym k.2,
+        h.3 ∙ ap (λ m. (message_answer task d front m).1) same ∙ sym k.3,
+      )
+  one_fronted task d front s text other good fine (inl h) (inr k) = absurd (laws.no_message_refused h.0 s k.0 h.1 k.1)
+  one_fronted task d front s text other good fine (inr h) (inl k) = absurd (laws.no_message_refused k.0 s h.0 k.1 h.1)
+  one_fronted task d front s text other good fine (inr h) (inr k) = (
+    h.2 ∙ ap (refused_said task d front s) (laws.one_refusal s h.0 k.0 h.1 k.1) ∙ sym k.2,
     h.3 ∙ sym k.3,
   )
+
+  one_octets : (task : Task) (d : Definitions) (n : ℕ) (s text other : List ℕ) (good fine : Bool)
+      → SaysOctets task d n s text good → SaysOctets task d n s other fine → (text ≡ other) × (good ≡ fine)
+  one_octets task d n s text other good fine h k = one_fronted task d (by_number n) s text other good fine h k
 
   one_line : (task : Task) (d : Definitions) (n : ℕ) (octets : Option (List ℕ)) (text other : List ℕ)
       (v w : Option Bool) → SaysLine task d n octets text v → SaysLine task d n octets other w → (text ≡ other) × (v ≡ w)

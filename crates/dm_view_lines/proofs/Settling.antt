@@ -10,11 +10,11 @@ use Rattle.dm_view_lines.specs.Reads.{TellsPiece, BreaksPiece}
 use Rattle.dm_view_lines.specs.Turns.{CountsLong, Gathers, Leaves, WritesFront, FailsToWrite, Settles, TellsLines, StopsInTurn}
 
 -- what waits is written
-gathers_all : (a b c : Option (List ℕ)) (w v t : List ℕ) → Gathers a w b v t → Appends b c v → Gathers a w c [] t
+pub gathers_all : (a b c : Option (List ℕ)) (w v t : List ℕ) → Gathers a w b v t → Appends b c v → Gathers a w c [] t
 gathers_all a b c w v t h k = (h.0 ++ v, h.1 ∙ sym (append-nil (h.0 ++ v)), Appends-trans a b c h.0 v h.2 k)
 
 -- a front of it is
-gathers_front : (a b c : Option (List ℕ)) (w v t : List ℕ) → Gathers a w b v t → WritesFront b c v → WritesFront a c (w ++ t)
+pub gathers_front : (a b c : Option (List ℕ)) (w v t : List ℕ) → Gathers a w b v t → WritesFront b c v → WritesFront a c (w ++ t)
 gathers_front a b c w v t h k = (
   h.0 ++ k.0,
   k.1,

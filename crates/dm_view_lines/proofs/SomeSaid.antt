@@ -15,6 +15,7 @@ use Rattle.dm_view_lines.specs.declared.tally.Tally.{Tally}
 use Rattle.dm_view_lines.specs.Colours.{SaysStyled, styled}
 use Rattle.dm_view_lines.specs.Counts.{no_lines, tallied, tally_of}
 use Rattle.dm_view_lines.specs.Digits.{line_digits, octets_of_line}
+use Rattle.dm_view_lines.specs.Fronts.{by_number}
 use Rattle.dm_view_lines.specs.Lines.{SaysLine, SaysLines, counts_line}
 use Rattle.dm_view_lines.specs.Said.{message_answer, bad_said, refused_said, SaysOctets}
 
@@ -28,8 +29,12 @@ module _ (message_or_fault : MessageOrFault) where
   some_octets task d n s bytes = by (message_or_fault s bytes) where
     by : ((m : Message) × SpellsMessage m s) ⊎ ((f : WireFault) × Refuses s f)
         → (text : List ℕ) × (good : Bool) × SaysOctets task d n s text good
-    by (inl h) = ((message_answer task d n h.0).0, (message_answer task d n h.0).1, inl (h.0, h.1, refl, refl))
-    by (inr h) = (refused_said task d n s h.0, false, inr (h.0, h.1, refl, refl))
+    by (inl h) = (
+      (message_answer task d (by_number n) h.0).0,
+      (message_answer task d (by_number n) h.0).1,
+      inl (h.0, h.1, refl, refl),
+    )
+    by (inr h) = (refused_said task d (by_number n) s h.0, false, inr (h.0, h.1, refl, refl))
 
   some_line : (task : Task) (d : Definitions) (n : ℕ) (line : List ℕ)
       → (text : List ℕ) × (verdict : Option Bool) × SaysLine task d n (octets_of_line line) text verdict

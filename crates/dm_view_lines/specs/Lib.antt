@@ -6,6 +6,8 @@ pub mod Digits
 pub mod Ending
 pub mod Faults
 pub mod Frames
+pub mod Fronts
+pub mod Gathering
 pub mod Inputs
 pub mod Joined
 pub mod Json

@@ -1,27 +1,18 @@
-//! The number before what is said, and a line that is bad for a reason that it needs no message for.
-ghost use Rattle.std.specs.Prelude.{◌≡◌, ◌++◌, ◌∷◌, [], codes, OnOk};
-ghost use Rattle.std.specs.Fmt.{decimal};
+//! A line that is bad for a reason that it needs no message for.
+ghost use Rattle.std.specs.Prelude.{◌≡◌, ◌++◌, ◌∷◌, [], OnOk};
 ghost use Rattle.std.specs.String.{string_bytes};
 ghost use Rattle.dm_view_lines.specs.Said.{bad_said, numbered};
 
+use crate::fronted::Front;
 use crate::json_parts::put_error_line;
 use crate::said::Task;
-use dm_text::put_decimal;
 use std::alloc::{AllocError, Global};
-
-/// Appends the number that stands before what is said.
-pub(crate) fn put_numbering(text: &mut String, number: u64) -> Result<(), AllocError>
-    ensures { OnOk result (string_bytes text.new ≡ string_bytes text.old ++ (decimal number ++ codes ": ")) }
-{
-    put_decimal(text, number)?;
-    text.push_str(": ")
-}
 
 /// Appends a line of words behind their number.
 fn put_words(text: &mut String, number: u64, words: &str) -> Result<(), AllocError>
     ensures { OnOk result (string_bytes text.new ≡ string_bytes text.old ++ numbered number (words.now ++ 10 ∷ [])) }
 {
-    put_numbering(text, number)?;
+    number.put_words(text)?;
     text.push_str(words)?;
     text.push_str("\n")
 }

@@ -40,7 +40,7 @@ fn put_frame(
     let Some(number) = tally.next() else {
         return Err(NoMemory);
     };
-    let good = put_octets(alloc, text, dictionary, task, number, message)?;
+    let good = put_octets(alloc, text, dictionary, task, &number, message)?;
     Ok(tally.with(Some(good)))
 }
 

@@ -6,9 +6,9 @@ ghost use Rattle.dm_wire.specs.Spelling.{SpellsList};
 ghost use Rattle.dm_wire.specs.Whole.{header_in};
 ghost use Rattle.dm_view_lines.specs.Before.{avps_before};
 ghost use Rattle.dm_view_lines.specs.Reasons.{refusal_sentence};
-ghost use Rattle.dm_view_lines.specs.Said.{numbered, front_shown, front_checked, before_refusal};
+ghost use Rattle.dm_view_lines.specs.Said.{front_shown, front_checked, before_refusal};
 
-use crate::bad::put_numbering;
+use crate::fronted::Front;
 use crate::header::header_of;
 use crate::reasons::put_refusal;
 use dm_dict::Dictionary;
@@ -83,37 +83,37 @@ fn put_front_checked(
     }
 }
 
-/// Appends what is shown of octets with this number that are no message.
-pub(crate) fn put_shown_refusal(
+/// Appends what is shown of octets that are no message, behind this front.
+pub(crate) fn put_shown_refusal<F: Front>(
     text: &mut String,
     dictionary: &Dictionary,
-    number: u64,
+    front: &F,
     octets: &[u8],
     fault: WireFault,
 ) -> Result<(), AllocError>
     requires refused { Refuses octets.now fault }
-    ensures { OnOk result (string_bytes text.new ≡ string_bytes text.old ++ numbered number
-        (before_refusal (front_shown dictionary.now) octets.now fault ++ refusal_sentence fault ++ 10 ∷ [])) }
+    ensures { OnOk result (string_bytes text.new ≡ string_bytes text.old ++ ((F.before front.now).words
+        ++ (before_refusal (front_shown dictionary.now) octets.now fault ++ refusal_sentence fault ++ 10 ∷ []))) }
 {
-    put_numbering(text, number)?;
+    front.put_words(text)?;
     put_front_shown(text, dictionary, octets, fault)?;
     put_refusal(text, fault)?;
     Ok(())
 }
 
-/// Appends what is said under a check of octets with this number that are no message.
-pub(crate) fn put_checked_refusal(
+/// Appends what is said under a check of octets that are no message, behind this front.
+pub(crate) fn put_checked_refusal<F: Front>(
     text: &mut String,
     dictionary: &Dictionary,
-    number: u64,
+    front: &F,
     octets: &[u8],
     fault: WireFault,
 ) -> Result<(), AllocError>
     requires refused { Refuses octets.now fault }
-    ensures { OnOk result (string_bytes text.new ≡ string_bytes text.old ++ numbered number
-        (before_refusal (front_checked dictionary.now) octets.now fault ++ refusal_sentence fault ++ 10 ∷ [])) }
+    ensures { OnOk result (string_bytes text.new ≡ string_bytes text.old ++ ((F.before front.now).words
+        ++ (before_refusal (front_checked dictionary.now) octets.now fault ++ refusal_sentence fault ++ 10 ∷ []))) }
 {
-    put_numbering(text, number)?;
+    front.put_words(text)?;
     put_front_checked(text, dictionary, octets, fault)?;
     put_refusal(text, fault)?;
     Ok(())

@@ -15,14 +15,16 @@ use std::io::Write;
 const GATHERED: usize = 65_536;
 
 /// What is said of a message, how, and whether with colours for a terminal.
-#[derive(Clone, Copy)]
-pub(crate) struct Style {
+#[derive(Clone, Copy, Debug, PartialEq, Eq)]
+pub struct Style {
+    /// What is said.
     pub task: Task,
+    /// Whether with colours.
     pub coloured: bool,
 }
 
-/// Writes what waits.
-pub(crate) fn write_waiting<W: Write>(waits: &mut Vec<u8>, writer: &mut W) -> Result<(), PutFault>
+/// Writes what waits, and then nothing does. Where the writer fails a front of it was written.
+pub fn write_waiting<W: Write>(waits: &mut Vec<u8>, writer: &mut W) -> Result<(), PutFault>
     ensures written { OnOk result (Appends (W.contents writer.old) (W.contents writer.new) waits.old.items) }
     ensures none { OnOk result (waits.new.items ≡ []) }
     ensures stopped { IfErr result (λ fault.
@@ -54,8 +56,10 @@ pub(crate) fn put_styled(
     waits.extend_from_slice(made.as_slice())
 }
 
-/// Gathers a text in its style behind what waits, and writes all of it where that is enough.
-pub(crate) fn put_text<W: Write>(
+/// Gathers a text in its style behind what waits, and writes all of it where that is enough (65,536 octets).
+///
+/// Where memory is wanted nothing of the text is gathered or written. Where the writer fails a front of all was written.
+pub fn put_text<W: Write>(
     alloc: Global,
     style: Style,
     text: &[u8],

@@ -1,15 +1,15 @@
 //! Octets that are no message, and what stands before the first bad AVP, in JSON.
-ghost use Rattle.std.specs.Prelude.{◌≡◌, ◌++◌, codes, OnOk};
+ghost use Rattle.std.specs.Prelude.{◌≡◌, ◌++◌, OnOk};
 ghost use Rattle.std.specs.String.{string_bytes};
-ghost use Rattle.json.specs.Json.{object, member, Members};
+ghost use Rattle.json.specs.Json.{object, Members};
 ghost use Rattle.json.specs.Tree.{json_tokens, members_tokens};
 ghost use Rattle.dm_wire.specs.Refusal.{Refuses};
-ghost use Rattle.dm_view.specs.JsonWords.{number_json};
-ghost use Rattle.dm_view_lines.specs.Json.{numbered_json, error_member, bad_members, shown_before, checked_before};
+ghost use Rattle.dm_view_lines.specs.Json.{fronted_json, error_member, bad_members, shown_before, checked_before};
 ghost use Rattle.dm_view_lines.specs.Reasons.{refusal_sentence};
 
 use crate::front::front_of;
-use crate::json_parts::{put_bad, put_error, put_number};
+use crate::fronted::Front;
+use crate::json_parts::{put_bad, put_error};
 use crate::reasons::refusal_sentence;
 use dm_dict::Dictionary;
 use dm_view::{JsonText, put_json_header, put_json_message};
@@ -71,77 +71,79 @@ fn put_reason(alloc: Global, json: &mut JsonText, fault: WireFault) -> Result<()
     put_error(json, words.as_str())
 }
 
-/// Appends the object that shows octets with this number that are no message.
-fn put_shown_object(
+/// Appends the object that shows octets that are no message, behind this front.
+fn put_shown_object<F: Front>(
     alloc: Global,
     json: &mut JsonText,
     dictionary: &Dictionary,
-    number: u64,
+    front: &F,
     octets: &[u8],
     fault: WireFault,
 ) -> Result<(), AllocError>
     requires refused { Refuses octets.now fault }
-    ensures { OnOk result (json.new ≡ json.old ++ json_tokens (object (member (codes "number") (number_json number)
+    ensures { OnOk result (json.new ≡ json.old ++ json_tokens (object ((F.before front.now).members
         (shown_before dictionary.now octets.now fault (error_member (refusal_sentence fault)))))) }
 {
-    put_number(json, "number", number)?;
+    json.begin_object()?;
+    front.put_members(alloc, json)?;
     put_shown_before(json, dictionary, octets, fault)?;
     put_reason(alloc, json, fault)?;
     Ok(())
 }
 
-/// Appends the line that shows octets with this number that are no message.
-pub(crate) fn put_json_shown_refusal(
+/// Appends the line that shows octets that are no message, behind this front.
+pub(crate) fn put_json_shown_refusal<F: Front>(
     alloc: Global,
     text: &mut String,
     dictionary: &Dictionary,
-    number: u64,
+    front: &F,
     octets: &[u8],
     fault: WireFault,
 ) -> Result<(), AllocError>
     requires refused { Refuses octets.now fault }
-    ensures { OnOk result (string_bytes text.new ≡ string_bytes text.old ++ numbered_json number
+    ensures { OnOk result (string_bytes text.new ≡ string_bytes text.old ++ fronted_json (F.before front.now)
         (shown_before dictionary.now octets.now fault (error_member (refusal_sentence fault)))) }
 {
     let mut json = JsonText::new(alloc);
-    put_shown_object(alloc, &mut json, dictionary, number, octets, fault)?;
+    put_shown_object(alloc, &mut json, dictionary, front, octets, fault)?;
     json.put_line(text)
 }
 
-/// Appends the object that a check gives of octets with this number that are no message.
-fn put_checked_object(
+/// Appends the object that a check gives of octets that are no message, behind this front.
+fn put_checked_object<F: Front>(
     alloc: Global,
     json: &mut JsonText,
     dictionary: &Dictionary,
-    number: u64,
+    front: &F,
     octets: &[u8],
     fault: WireFault,
 ) -> Result<(), AllocError>
     requires refused { Refuses octets.now fault }
-    ensures { OnOk result (json.new ≡ json.old ++ json_tokens (object (member (codes "number") (number_json number)
+    ensures { OnOk result (json.new ≡ json.old ++ json_tokens (object ((F.before front.now).members
         (bad_members (checked_before dictionary.now octets.now fault (error_member (refusal_sentence fault))))))) }
 {
-    put_number(json, "number", number)?;
+    json.begin_object()?;
+    front.put_members(alloc, json)?;
     put_bad(json, true)?;
     put_checked_before(json, dictionary, octets, fault)?;
     put_reason(alloc, json, fault)?;
     Ok(())
 }
 
-/// Appends the line that a check gives of octets with this number that are no message.
-pub(crate) fn put_json_checked_refusal(
+/// Appends the line that a check gives of octets that are no message, behind this front.
+pub(crate) fn put_json_checked_refusal<F: Front>(
     alloc: Global,
     text: &mut String,
     dictionary: &Dictionary,
-    number: u64,
+    front: &F,
     octets: &[u8],
     fault: WireFault,
 ) -> Result<(), AllocError>
     requires refused { Refuses octets.now fault }
-    ensures { OnOk result (string_bytes text.new ≡ string_bytes text.old ++ numbered_json number
+    ensures { OnOk result (string_bytes text.new ≡ string_bytes text.old ++ fronted_json (F.before front.now)
         (bad_members (checked_before dictionary.now octets.now fault (error_member (refusal_sentence fault))))) }
 {
     let mut json = JsonText::new(alloc);
-    put_checked_object(alloc, &mut json, dictionary, number, octets, fault)?;
+    put_checked_object(alloc, &mut json, dictionary, front, octets, fault)?;
     json.put_line(text)
 }

@@ -1,4 +1,6 @@
 //! Laws of what is said. A law calls those that it stands on, and its contract is the law.
+ghost use Rattle.dm_view_lines.specs.Gathering.{GathersNothing, GathersInTurn, GathersAndWrites, GathersAndFails};
+ghost use Rattle.dm_view_lines.specs.Gathering.{LeavesNothing, LeavesInTurn};
 ghost use Rattle.dm_view_lines.specs.Joined.{JoinedSaid};
 ghost use Rattle.dm_view_lines.specs.OneText.{OneSaid, SomeSaid};
 
@@ -22,4 +24,14 @@ pub fn some_text()
 /// The law stands for users.
 pub fn joined_texts()
     ensures { JoinedSaid }
+{}
+
+/// Texts that are gathered one behind the other are gathered as one, whatever was written meanwhile.
+pub fn gathered_texts()
+    ensures nothing { GathersNothing }
+    ensures turns { GathersInTurn }
+    ensures writes { GathersAndWrites }
+    ensures fails { GathersAndFails }
+    ensures leaves_nothing { LeavesNothing }
+    ensures leaves { LeavesInTurn }
 {}

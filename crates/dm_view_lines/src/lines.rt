@@ -53,7 +53,7 @@ fn put_numbered(
     if octets.is_empty() {
         return Ok(None);
     }
-    let good = put_octets(alloc, text, dictionary, task, number, octets)?;
+    let good = put_octets(alloc, text, dictionary, task, &number, octets)?;
     Ok(Some(good))
 }
 

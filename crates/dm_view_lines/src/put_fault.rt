@@ -6,8 +6,8 @@ use std::alloc::AllocError;
 use std::io;
 
 /// Why something can't be said or written.
-#[derive(Drop)]
-pub(crate) enum PutFault {
+#[derive(Debug, Drop)]
+pub enum PutFault {
     /// No memory is left.
     Memory,
     /// The line of this number has more octets than a line may have.

@@ -7,10 +7,10 @@ ghost use Rattle.dm_wire.specs.Refusal.{Refuses};
 ghost use Rattle.dm_view.specs.Check.{are_none, check_view};
 ghost use Rattle.dm_view.specs.View.{message_view};
 ghost use Rattle.dm_dict.specs.Located.{located_faults};
-ghost use Rattle.dm_view_lines.specs.Said.{numbered, message_answer, refused_said, SaysOctets};
+ghost use Rattle.dm_view_lines.specs.Said.{message_answer, refused_said, SaysFronted};
 
-use crate::bad::put_numbering;
 use crate::front::{put_checked_refusal, put_shown_refusal};
+use crate::fronted::Front;
 use crate::json_front::{put_json_checked_refusal, put_json_shown_refusal};
 use crate::json_said::{put_json_checked, put_json_shown};
 use dm_dict::{Dictionary, NoMemory};
@@ -31,108 +31,110 @@ pub enum Task {
     CheckJson,
 }
 
-/// Appends what is said of octets with this number. True where they are a good message; one that is shown is good.
-pub(crate) fn put_octets(
+/// Appends what is said of octets behind this front. True where they are a good message; one that is shown is good.
+///
+/// Where memory is wanted, what is appended is of no use.
+pub fn put_octets<F: Front>(
     alloc: Global,
     text: &mut String,
     dictionary: &Dictionary,
     task: Task,
-    number: u64,
+    front: &F,
     octets: &[u8],
 ) -> Result<bool, NoMemory>
     ensures { IfOk result (λ good. (more : List ℕ) × (string_bytes text.new ≡ string_bytes text.old ++ more)
-        × SaysOctets task dictionary.now number octets.now more good) }
+        × SaysFronted task dictionary.now (F.before front.now) octets.now more good) }
 {
     match MessageRef::read(octets) {
-        Ok(message) => put_answer(alloc, text, dictionary, task, number, &message),
+        Ok(message) => put_answer(alloc, text, dictionary, task, front, &message),
         Err(fault) => {
-            put_refused(alloc, text, dictionary, task, number, octets, fault)?;
+            put_refused(alloc, text, dictionary, task, front, octets, fault)?;
             Ok(false)
         }
     }
 }
 
-/// Appends what is said of a message with this number, and tells whether it is good.
-fn put_answer(
+/// Appends what is said of a message behind this front, and tells whether it is good.
+fn put_answer<F: Front>(
     alloc: Global,
     text: &mut String,
     dictionary: &Dictionary,
     task: Task,
-    number: u64,
+    front: &F,
     message: &MessageRef<'_>,
 ) -> Result<bool, NoMemory>
     ensures said { (l : List Avp) → SpellsList l message.now.rest.now → OnOk result (string_bytes text.new
         ≡ string_bytes text.old
-        ++ (message_answer task dictionary.now number (record { header = message.now.header; avps = l })).0) }
+        ++ (message_answer task dictionary.now (F.before front.now) (record { header = message.now.header; avps = l })).0) }
     ensures good { (l : List Avp) → SpellsList l message.now.rest.now → IfOk result (λ good.
-        good ≡ (message_answer task dictionary.now number (record { header = message.now.header; avps = l })).1) }
+        good ≡ (message_answer task dictionary.now (F.before front.now) (record { header = message.now.header; avps = l })).1) }
 {
     match task {
         Task::Show => {
-            put_shown(text, dictionary, number, message)?;
+            put_shown(text, dictionary, front, message)?;
             Ok(true)
         }
-        Task::Check => put_checked(alloc, text, dictionary, number, message),
-        Task::ShowJson => put_json_shown(alloc, text, dictionary, number, message),
-        Task::CheckJson => put_json_checked(alloc, text, dictionary, number, message),
+        Task::Check => put_checked(alloc, text, dictionary, front, message),
+        Task::ShowJson => put_json_shown(alloc, text, dictionary, front, message),
+        Task::CheckJson => put_json_checked(alloc, text, dictionary, front, message),
     }
 }
 
-/// Appends what a message with this number says.
-fn put_shown(
+/// Appends what a message says, behind this front.
+fn put_shown<F: Front>(
     text: &mut String,
     dictionary: &Dictionary,
-    number: u64,
+    front: &F,
     message: &MessageRef<'_>,
 ) -> Result<(), AllocError>
     ensures { (l : List Avp) → SpellsList l message.now.rest.now → OnOk result (string_bytes text.new
         ≡ string_bytes text.old
-        ++ numbered number (message_view dictionary.now (record { header = message.now.header; avps = l }))) }
+        ++ ((F.before front.now).words ++ message_view dictionary.now (record { header = message.now.header; avps = l }))) }
 {
-    put_numbering(text, number)?;
+    front.put_words(text)?;
     put_message(text, dictionary, message)?;
     Ok(())
 }
 
-/// Appends all that is wrong with a message with this number, and tells whether it is good.
-fn put_checked(
+/// Appends all that is wrong with a message, behind this front, and tells whether it is good.
+fn put_checked<F: Front>(
     alloc: Global,
     text: &mut String,
     dictionary: &Dictionary,
-    number: u64,
+    front: &F,
     message: &MessageRef<'_>,
 ) -> Result<bool, NoMemory>
     ensures said { (l : List Avp) → SpellsList l message.now.rest.now → OnOk result (string_bytes text.new
         ≡ string_bytes text.old
-        ++ numbered number (check_view dictionary.now (record { header = message.now.header; avps = l }))) }
+        ++ ((F.before front.now).words ++ check_view dictionary.now (record { header = message.now.header; avps = l }))) }
     ensures good { (l : List Avp) → SpellsList l message.now.rest.now → IfOk result (λ good.
         good ≡ are_none (located_faults dictionary.now (record { header = message.now.header; avps = l }))) }
 {
-    put_numbering(text, number)?;
+    front.put_words(text)?;
     let good = put_check(alloc, text, dictionary, message)?;
     Ok(good)
 }
 
-/// Appends what is said of octets with this number that are no message.
-fn put_refused(
+/// Appends what is said of octets that are no message, behind this front.
+fn put_refused<F: Front>(
     alloc: Global,
     text: &mut String,
     dictionary: &Dictionary,
     task: Task,
-    number: u64,
+    front: &F,
     octets: &[u8],
     fault: WireFault,
 ) -> Result<(), AllocError>
     requires refused { Refuses octets.now fault }
     ensures { OnOk result (string_bytes text.new
-        ≡ string_bytes text.old ++ refused_said task dictionary.now number octets.now fault) }
+        ≡ string_bytes text.old ++ refused_said task dictionary.now (F.before front.now) octets.now fault) }
 {
     match task {
-        Task::Show => put_shown_refusal(text, dictionary, number, octets, fault),
-        Task::Check => put_checked_refusal(text, dictionary, number, octets, fault),
-        Task::ShowJson => put_json_shown_refusal(alloc, text, dictionary, number, octets, fault),
+        Task::Show => put_shown_refusal(text, dictionary, front, octets, fault),
+        Task::Check => put_checked_refusal(text, dictionary, front, octets, fault),
+        Task::ShowJson => put_json_shown_refusal(alloc, text, dictionary, front, octets, fault),
         Task::CheckJson => {
-            put_json_checked_refusal(alloc, text, dictionary, number, octets, fault)
+            put_json_checked_refusal(alloc, text, dictionary, front, octets, fault)
         }
     }
 }

@@ -18,7 +18,7 @@ pub struct Tally {
 
 impl Tally {
     /// The number behind those of the lines so far; `None` where it fits no number.
-    pub(crate) fn next(self) -> Option<u64>
+    pub fn next(self) -> Option<u64>
         ensures { IfSome result (λ number. number ≡ self.good + self.bad + 1) }
     {
         self.good.checked_add(self.bad)?.checked_add(1)
@@ -53,8 +53,9 @@ fn put_tally(text: &mut String, tally: Tally) -> Result<(), AllocError>
     text.push_str(" bad\n")
 }
 
-/// Appends what ends the text of a task: of a check how many lines were good and bad.
-pub(crate) fn put_last(
+/// Appends what ends the text of a task: of a check how many lines were good and bad. Where memory is wanted, what is
+/// appended is of no use.
+pub fn put_last(
     alloc: Global,
     text: &mut String,
     task: Task,
