@@ -1,11 +1,11 @@
 -- A connection: what comes of the segments of both its ends (RFC 9293, 3.5 and 3.6).
-use Rattle.std.specs.Prelude.{◌≡◌, ◌≢◌, ◌⊎◌, ℕ, ◌+◌, ◌%◌, ◌^◌, nat_eq, Bool, true, false, ◌&&◌, if◌then◌else◌}
-use Rattle.std.specs.Prelude.{Option, None, Some, is_some, is_none, length}
+use Rattle.std.specs.Prelude.{◌≡◌, ◌≢◌, ◌⊎◌, ℕ, ◌+◌, ◌-◌, ◌%◌, ◌^◌, min, nat_eq, Bool, true, false, ◌&&◌}
+use Rattle.std.specs.Prelude.{Option, None, Some, is_some, is_none, length, if◌then◌else◌}
 use Rattle.dm_flows.specs.declared.address.Endpoint.{Endpoint}
 use Rattle.dm_flows.specs.declared.closing.Closing.{Closing}
 use Rattle.dm_flows.specs.declared.closing.Closing.TheVariants.{Open, Reset}
 use Rattle.dm_flows.specs.Flows.{FlowState, new_flow, more_passed, begun_by_syn, begun_unseen, closing_by_fin}
-use Rattle.dm_flows.specs.Flows.{TakesPayload, LeavesPayload}
+use Rattle.dm_flows.specs.Flows.{TakesPayload, LeavesPayload, held_octets, pending_octets}
 use Rattle.dm_flows.specs.Tcps.{SeenSegment}
 use Rattle.dm_flows.specs.Windows.{sequence_behind}
 
@@ -98,6 +98,14 @@ new_connection max first second = record {
 -- how many octets were passed over, up to 2^64 - 1
 abbrev pub passed_in : ConnectionState → ℕ
 passed_in c = more_passed c.forth.passed c.back.passed
+
+-- how many octets are held in both directions, up to 2^64 - 1
+abbrev pub held_in : ConnectionState → ℕ
+held_in c = min (held_octets c.forth + held_octets c.back) (2 ^ 64 - 1)
+
+-- how many octets came in both directions that were neither handed out nor passed over, up to 2^64 - 1
+abbrev pub pending_in : ConnectionState → ℕ
+pending_in c = min (pending_octets c.forth + pending_octets c.back) (2 ^ 64 - 1)
 
 -- as the first end sends, or the second one
 abbrev pub sent_by_first : ConnectionState → BothFlows

@@ -35,6 +35,19 @@ abbrev pub known_waiting : Option WindowState → ℕ
 known_waiting None = 0
 known_waiting (Some window) = known_octets window.held
 
+-- how many octets there are from the next one to the last that waits, with those that are missing
+abbrev pub known_span : Option WindowState → ℕ
+known_span None = 0
+known_span (Some window) = length window.held
+
+-- how many octets are held: those, and those in order that weren't handed out; they are counted up to 2^64 - 1
+abbrev pub held_octets : FlowState → ℕ
+held_octets flow = min (known_span flow.window + length flow.ready) (2 ^ 64 - 1)
+
+-- how many octets came that were neither handed out nor passed over: those that wait, and those in order
+abbrev pub pending_octets : FlowState → ℕ
+pending_octets flow = min (known_waiting flow.window + length flow.ready) (2 ^ 64 - 1)
+
 -- the stream is left: what waits and what wasn't handed out is passed over
 abbrev pub stream_left : FlowState → FlowState
 stream_left flow = record flow {

@@ -1,6 +1,7 @@
 //! A connection: Diameter messages out of the segments of both ends.
 ghost use Rattle.std.specs.Prelude.{◌≡◌, ◌↔◌, IsTrue, OnOk, OnErr, IfOk, IfSome, IfNone};
-ghost use Rattle.dm_flows.specs.Connections.{new_connection, passed_in, TakesSegment, LeavesConnection};
+ghost use Rattle.dm_flows.specs.Connections.{new_connection, passed_in, held_in, pending_in};
+ghost use Rattle.dm_flows.specs.Connections.{TakesSegment, LeavesConnection};
 ghost use Rattle.dm_flows.specs.Flows.{HandsMessage, HandsNoMessage};
 ghost use Rattle.dm_flows.specs.Tcps.{segment_seen};
 
@@ -64,6 +65,22 @@ impl Connection {
         ensures { result ≡ passed_in self.now }
     {
         self.forth.passed().saturating_add(self.back.passed())
+    }
+
+    /// How many octets are held in both directions, as [`Flow::held`] counts them, up to 2^64 - 1. It takes one step,
+    /// and never answers want of memory.
+    pub fn held(&self) -> u64
+        ensures { result ≡ held_in self.now }
+    {
+        (self.forth.held() as u64).saturating_add(self.back.held() as u64)
+    }
+
+    /// How many octets came in both directions that were neither handed out nor passed over, up to 2^64 - 1. It takes a
+    /// step for each octet of both windows, and never answers want of memory.
+    pub fn pending(&self) -> u64
+        ensures { result ≡ pending_in self.now }
+    {
+        self.forth.pending().saturating_add(self.back.pending())
     }
 
     /// Takes a segment that came from the first end, or else from the second one.

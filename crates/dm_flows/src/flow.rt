@@ -2,6 +2,7 @@
 ghost use Rattle.std.specs.Prelude.{◌≡◌, ◌≤◌, ◌⊎◌, ◌++◌, [], None, true, false, Ok, length};
 ghost use Rattle.std.specs.Prelude.{OnOk, OnErr, IfOk, IfSome, IfNone};
 ghost use Rattle.dm_flows.specs.Flows.{more_passed, known_waiting, stream_left, begun_by_syn, begun_by_header};
+ghost use Rattle.dm_flows.specs.Flows.{known_span, held_octets, pending_octets};
 ghost use Rattle.dm_flows.specs.Flows.{new_flow, begun_unseen, closing_by_fin, octets_within, IsAstrayAt, FlowTakes};
 ghost use Rattle.dm_flows.specs.Flows.{BeginsAnew, TakesWithin, TakesPayload, LeavesPayload};
 ghost use Rattle.dm_flows.specs.Flows.{HandsMessage, HandsNoMessage};
@@ -102,8 +103,18 @@ fn waiting_in(window: &Option<Window>) -> usize
     }
 }
 
+/// How many octets there are from the next one to the last that waits.
+fn span_in(window: &Option<Window>) -> usize
+    ensures { result ≡ known_span window.now }
+{
+    match window {
+        Some(window) => window.span(),
+        None => 0,
+    }
+}
+
 /// Hands octets in order to the framer.
-fn settle(alloc: Global, framer: &mut Framer, fresh: &mut Vec<u8>) -> Result<(), AllocError>
+fn settle(framer: &mut Framer, fresh: &mut Vec<u8>) -> Result<(), AllocError>
     requires { framer.old.fault ≡ None }
     ensures fed { OnOk result (framer.new
         ≡ record framer.old { octets = framer.old.octets ++ fresh.old.items }) }
@@ -117,7 +128,7 @@ fn settle(alloc: Global, framer: &mut Framer, fresh: &mut Vec<u8>) -> Result<(),
     if framer.feed(fresh).is_err() {
         return Err(AllocError);
     }
-    *fresh = Vec::new(alloc);
+    fresh.clear();
     Ok(())
 }
 
@@ -142,6 +153,25 @@ impl Flow {
         ensures { result ≡ self.now.passed }
     {
         self.passed
+    }
+
+    /// How many octets are held, up to 2^64 - 1: those from the next one to the last that waits, with those that are
+    /// missing between, and those in order that weren't handed out. It takes one step, and never answers want of
+    /// memory.
+    pub fn held(&self) -> usize
+        ensures { result ≡ held_octets self.now }
+    {
+        let in_order = self.framer.len().saturating_add(self.fresh.len());
+        span_in(&self.window).saturating_add(in_order)
+    }
+
+    /// How many octets came that were neither handed out nor passed over, up to 2^64 - 1: those that wait, and those in
+    /// order. It takes a step for each octet of the window, and never answers want of memory.
+    pub fn pending(&self) -> u64
+        ensures { result ≡ pending_octets self.now }
+    {
+        let pending = more_octets(waiting_in(&self.window) as u64, self.framer.len());
+        more_octets(pending, self.fresh.len())
     }
 
     /// The number of the SYN with which the connection began, where it was seen. It never answers want of memory.
@@ -292,7 +322,7 @@ impl Flow {
         ensures none { IfOk result (λ found. IfNone found (HandsNoMessage self.old self.new)) }
         ensures unchanged { OnErr result (self.new ≡ self.old) }
     {
-        settle(self.alloc, &mut self.framer, &mut self.fresh)?;
+        settle(&mut self.framer, &mut self.fresh)?;
         match self.framer.front() {
             Ok(Some(message)) => {
                 let message = Vec::from_slice(self.alloc, message)?;
