@@ -3,6 +3,7 @@ pub mod ChunkLists
 pub mod MessageRuns
 pub mod NumberedTsns
 pub mod OneMessage
+pub mod OrderOfChunks
 pub mod Places
 pub mod Reassembling
 pub mod Reassembly

@@ -23,8 +23,8 @@ marks_in_message first count stream k = record {
   stream = stream;
 }
 
--- so many chunks from the first on, with one TSN after the other, are a user message: none is missing, and all are of one
--- stream
+-- so many chunks from the first on, with one TSN after the other, are a user message: none is missing, and all are of
+-- one stream
 pub record IsUserMessage (seen : ℕ → Option ChunkMarks) (first count : ℕ) : Type 0 where
   pub stream : ℕ
   pub some : 0 < count

@@ -1,6 +1,7 @@
 -- What is handed out of a direction, while its association isn't left, are the user messages of its chunks.
 use Rattle.std.specs.Prelude.{◌≡◌, ◌≢◌, ℕ, ◌+◌, ◌%◌, ◌^◌, ◌<◌, ◌≤◌, nat_eq, if◌then◌else◌, Option, None, Some}
 use Rattle.std.specs.Prelude.{List, [], ◌∷◌, ◌++◌, map, slice_get}
+use Rattle.std.specs.List.Sorted.{IsPermutation}
 use Rattle.std.specs.Option.{option_to_list}
 use Rattle.dm_flows.specs.Order.{number_near}
 use Rattle.dm_flows.specs.Sctps.{SeenData}
@@ -97,3 +98,22 @@ abbrev pub EachUserMessageIsHandedOut : Type 0
 EachUserMessageIsHandedOut =
     (base : ℕ) (begun : ChunkPassage) (later : List ChunkPassage) (now : ChunkPassage) → 2 ^ 32 ≤ base
     → BeginsChunks base begun → ChunksFollow begun later now → AreUserMessages base now.arrivals now.messages
+
+-- a chunk is among those that came
+abbrev pub IsAmongChunks : List NumberedChunk → NumberedChunk → Type 0
+IsAmongChunks arrivals x = (i : ℕ) × (slice_get arrivals i ≡ Some x)
+
+-- those of one number are the same chunk
+abbrev pub AgreeOnChunks : List NumberedChunk → Type 0
+AgreeOnChunks arrivals =
+    (x y : NumberedChunk) → IsAmongChunks arrivals x → IsAmongChunks arrivals y → x.number ≡ y.number
+    → x.chunk ≡ y.chunk
+
+-- whatever the order and the repetitions, the messages are the same where chunks agree
+abbrev pub OrderOfChunksChangesNothing : Type 0
+OrderOfChunksChangesNothing =
+    (base : ℕ) (arrivals others : List NumberedChunk) (messages said : List (List ℕ))
+    → ((x : NumberedChunk) → IsAmongChunks arrivals x → IsAmongChunks others x)
+    → ((x : NumberedChunk) → IsAmongChunks others x → IsAmongChunks arrivals x)
+    → AgreeOnChunks arrivals → AreUserMessages base arrivals messages → AreUserMessages base others said
+    → IsPermutation messages said

@@ -1,7 +1,7 @@
 //! Laws of user messages. Each function is a law: it does nothing, and its contract is the law.
 ghost use Rattle.dm_association.specs.ChunkAccounts.{EachChunkIsAccounted};
 ghost use Rattle.dm_association.specs.Laws.{OneUserMessage};
-ghost use Rattle.dm_association.specs.Reassembly.{EachUserMessageIsHandedOut};
+ghost use Rattle.dm_association.specs.Reassembly.{EachUserMessageIsHandedOut, OrderOfChunksChangesNothing};
 
 /// A chunk is in one user message at most, whatever came beside it.
 pub fn one_user_message()
@@ -20,4 +20,10 @@ pub fn each_octet_is_somewhere()
 /// and however often.
 pub fn each_user_message_is_handed_out()
     ensures { EachUserMessageIsHandedOut }
+{}
+
+/// The same chunks give the same messages, each as often, in whatever order they come and however often, where those
+/// with one TSN are the same chunk.
+pub fn order_changes_nothing()
+    ensures { OrderOfChunksChangesNothing }
 {}

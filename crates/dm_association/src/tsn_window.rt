@@ -1,7 +1,7 @@
 //! The TSNs of one direction of an association (RFC 9260, 3.3.1, 6.2 and 6.9).
 ghost use Rattle.std.specs.Prelude.{◌≡◌, ◌<◌, ◌≤◌, ◌+◌, true, length, IfOk, IfSome, IfNone, OnOk, OnErr};
-ghost use Rattle.dm_association.specs.TsnWindows.{begun_window, tsn_at, is_missing, waiting_octets, reach, place_within};
-ghost use Rattle.dm_association.specs.TsnWindows.{place_before, chunk_place, HasRoomAt, FinishesTsns, PutsFragment};
+ghost use Rattle.dm_association.specs.TsnWindows.{begun_window, waiting_octets, reach, place_within, place_before};
+ghost use Rattle.dm_association.specs.TsnWindows.{chunk_place, HasRoomAt, FinishesTsns, PutsFragment};
 ghost use Rattle.dm_association.specs.TsnWindows.{CompletesMessage, HoldsFragment};
 
 use crate::chunk_place::ChunkPlace;
