@@ -1,7 +1,8 @@
 //! The chunk at the front of a packet, where it begins or ends an association (RFC 9260, 3.3).
-ghost use Rattle.std.specs.Prelude.{◌≡◌, ◌↔◌, ℕ, IfSome, IfNone, IsTrue};
+ghost use Rattle.std.specs.Prelude.{◌≡◌, ◌↔◌, IfSome, IfNone, IsTrue};
 ghost use Rattle.dm_flows.specs.Sctps.{chunk_length, IsWholeChunk};
-ghost use Rattle.dm_association.specs.FrontChunks.{GivesInitialTsn, EndsAssociation};
+ghost use Rattle.dm_association.specs.declared.front_chunk.Init.{Init};
+ghost use Rattle.dm_association.specs.FrontChunks.{SaysInit, EndsAssociation};
 
 use byteorder::{BigEndian, ByteOrder};
 
@@ -35,8 +36,19 @@ fn front_len(chunks: &[u8]) -> Option<u16>
     Some(size)
 }
 
-/// The Initial TSN of the sender, where the octets behind a common header are an INIT or an INIT ACK: an association
-/// begins. It takes no memory.
+/// What an INIT or an INIT ACK says: its sender begins an association.
+#[derive(Clone, Copy, Debug, PartialEq, Eq)]
+pub struct Init {
+    /// It is an INIT ACK, and answers an INIT.
+    pub is_ack: bool,
+    /// The Verification Tag of the packets that its receiver will send.
+    pub initiate_tag: u32,
+    /// The TSN of the first DATA chunk of its sender, for [`SctpFlow::begin`](crate::SctpFlow::begin).
+    pub initial_tsn: u32,
+}
+
+/// What the INIT or INIT ACK says that the octets behind a common header are; `None` where they are none. It takes no
+/// memory.
 ///
 /// ```text
 ///  0                   1                   2                   3
@@ -47,9 +59,9 @@ fn front_len(chunks: &[u8]) -> Option<u16>
 /// |  Number of Outbound Streams   |   Number of Inbound Streams   |
 /// |                          Initial TSN                          |
 /// ```
-pub fn initial_tsn(chunks: &[u8]) -> Option<u32>
-    ensures some { IfSome result (λ tsn. GivesInitialTsn chunks.now tsn) }
-    ensures none { IfNone result ((tsn : ℕ) → GivesInitialTsn chunks.now tsn → ⊥) }
+pub fn init_of(chunks: &[u8]) -> Option<Init>
+    ensures some { IfSome result (λ init. SaysInit chunks.now init) }
+    ensures none { IfNone result ((init : Init) → SaysInit chunks.now init → ⊥) }
 {
     let Some(size) = front_len(chunks) else {
         return None;
@@ -57,7 +69,11 @@ pub fn initial_tsn(chunks: &[u8]) -> Option<u32>
     if size < INIT_LEN || (chunks[0] != INIT && chunks[0] != INIT_ACK) {
         return None;
     }
-    Some(BigEndian::read_u32(&chunks[16..]))
+    Some(Init {
+        is_ack: chunks[0] == INIT_ACK,
+        initiate_tag: BigEndian::read_u32(&chunks[4..]),
+        initial_tsn: BigEndian::read_u32(&chunks[16..]),
+    })
 }
 
 /// Whether the octets behind a common header begin with an ABORT or a SHUTDOWN COMPLETE: the association ends, in both

@@ -12,5 +12,5 @@ mod tsn_state;
 mod tsn_window;
 mod tsns;
 
-pub use front_chunk::{ends_association, initial_tsn};
+pub use front_chunk::{Init, ends_association, init_of};
 pub use sctp_flow::SctpFlow;

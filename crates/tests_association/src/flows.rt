@@ -1,6 +1,6 @@
 //! One direction of an association: messages out of its chunks.
 use dm_association::SctpFlow;
-use dm_flows::DataChunk;
+use dm_flows::{DataChunk, DataChunks};
 use std::alloc::{AllocError, Global};
 use std::process::Abort;
 
@@ -253,4 +253,30 @@ fn another_association(rt: HostRuntime) {
         Data(8, "BE", 0, 46, "i"),
     ];
     assert_told(&rt, &steps, "|||d||||i|7 0 0");
+}
+
+/// The messages of the DATA chunks that the hexadecimal digits are.
+fn told_of_packet(alloc: Global, digits: &str) -> Option<Vec<u8>> {
+    let Ok(octets) = hex::decode(alloc, digits) else {
+        return None;
+    };
+    let mut flow = SctpFlow::new(alloc);
+    let mut text = Vec::new(alloc);
+    let mut done = true;
+    for chunk in DataChunks::new(&octets) {
+        done = done && put_message(&mut flow, &mut text, chunk).is_ok();
+    }
+    drop(flow);
+    drop(octets);
+    if done { Some(text) } else { None }
+}
+
+#[test]
+fn chunks_of_a_packet(rt: HostRuntime) {
+    // A fragment, a message of another stream behind the other one, that one, and the message again.
+    let digits =
+        "0002001200000007000300040000002e616200000003001100000009000100000000002e780000000001001200000008000300040000002e636400000003001100000009000100000000002e78000000";
+    let text = told_of_packet(rt.alloc(), digits).expect(&rt, "memory");
+    assert!(rt; text.as_slice() == "xabcd".as_bytes());
+    drop(text);
 }

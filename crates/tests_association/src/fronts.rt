@@ -1,25 +1,38 @@
 //! Chunks that begin and end associations, as hexadecimal digits.
-use dm_association::{ends_association, initial_tsn};
+use dm_association::{Init, ends_association, init_of};
 use std::alloc::Global;
 use std::process::Abort;
 
-/// Octets behind a common header, the Initial TSN that they give, if any, and whether they end the association.
-const FRONTS: [(&str, Option<u32>, bool); 12] = [
+/// Octets behind a common header, what they say as an INIT or INIT ACK, if they are one, and whether they end the
+/// association.
+const FRONTS: [(&str, Option<Init>, bool); 12] = [
     // INIT, and INIT with a parameter
     (
         "010000140a0b0c0d0001a000000a000afffffffe",
-        Some(4_294_967_294),
+        Some(Init {
+            is_ack: false,
+            initiate_tag: 168_496_141,
+            initial_tsn: 4_294_967_294,
+        }),
         false,
     ),
     (
-        "010000180a0b0c0d0001a000000a000a00000007c0000004",
-        Some(7),
+        "01000018fffffffe0001a000000a000a00000007c0000004",
+        Some(Init {
+            is_ack: false,
+            initiate_tag: 4_294_967_294,
+            initial_tsn: 7,
+        }),
         false,
     ),
     // INIT ACK
     (
         "020000140a0b0c0d0001a000000a000a01020304",
-        Some(16_909_060),
+        Some(Init {
+            is_ack: true,
+            initiate_tag: 168_496_141,
+            initial_tsn: 16_909_060,
+        }),
         false,
     ),
     // SACK
@@ -39,19 +52,19 @@ const FRONTS: [(&str, Option<u32>, bool); 12] = [
 ];
 
 /// What is told of octets.
-fn told(alloc: Global, digits: &str) -> Option<(Option<u32>, bool)> {
+fn told(alloc: Global, digits: &str) -> Option<(Option<Init>, bool)> {
     let Ok(octets) = hex::decode(alloc, digits) else {
         return None;
     };
-    let told = (initial_tsn(&octets), ends_association(&octets));
+    let told = (init_of(&octets), ends_association(&octets));
     drop(octets);
     Some(told)
 }
 
-fn assert_fronts(rt: &(impl Abort + AllocGlobal), rows: &[(&str, Option<u32>, bool)]) {
-    for (digits, tsn, ends) in rows {
+fn assert_fronts(rt: &(impl Abort + AllocGlobal), rows: &[(&str, Option<Init>, bool)]) {
+    for (digits, init, ends) in rows {
         let told = told(rt.alloc(), digits).expect(rt, "octets");
-        assert!(rt; told.0 == *tsn && told.1 == *ends, "{digits}");
+        assert!(rt; told.0 == *init && told.1 == *ends, "{digits}");
     }
 }
 
