@@ -1,0 +1,12 @@
+pub mod ChunkAccounting
+pub mod ChunkLists
+pub mod MessageRuns
+pub mod NumberedTsns
+pub mod OneMessage
+pub mod OrderOfChunks
+pub mod Places
+pub mod Reassembling
+pub mod Reassembly
+pub mod TsnCounting
+pub mod TsnLists
+pub mod TsnSteps

@@ -1,0 +1,55 @@
+//! Fragments of user messages, held until the others are there (RFC 9260, 6.9).
+ghost use Rattle.std.specs.Prelude.{◌≡◌, length, IfOk};
+
+use crate::marks::ChunkMarks;
+use std::alloc::{AllocError, Global};
+use std::marker::Model;
+
+/// A fragment of a user message.
+#[derive(Drop)]
+pub(crate) struct Fragment {
+    marks: ChunkMarks,
+    octets: Vec<u8>,
+}
+
+impl Model for Fragment {
+    ghost use Rattle.dm_association.specs.Fragments.{FragmentState};
+
+    ghost Value = { FragmentState };
+
+    ghost view = { λ f. record { marks = f.marks; octets = f.octets.items } };
+}
+
+impl Fragment {
+    /// A copy of these octets.
+    pub(crate) fn new(
+        alloc: Global,
+        marks: ChunkMarks,
+        octets: &[u8],
+    ) -> Result<Fragment, AllocError>
+        ensures { IfOk result (λ fragment. fragment ≡ record { marks = marks; octets = octets.now }) }
+    {
+        match Vec::from_slice(alloc, octets) {
+            Ok(octets) => Ok(Fragment { marks, octets }),
+            Err(error) => Err(error),
+        }
+    }
+
+    pub(crate) fn marks(&self) -> ChunkMarks
+        ensures { result ≡ self.now.marks }
+    {
+        self.marks
+    }
+
+    pub(crate) fn octets(&self) -> &[u8]
+        ensures { result.now ≡ self.now.octets }
+    {
+        self.octets.as_slice()
+    }
+
+    pub(crate) fn len(&self) -> usize
+        ensures { result ≡ length self.now.octets }
+    {
+        self.octets.len()
+    }
+}

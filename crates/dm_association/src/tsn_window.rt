@@ -1,0 +1,181 @@
+//! The TSNs of one direction of an association (RFC 9260, 3.3.1, 6.2 and 6.9).
+ghost use Rattle.std.specs.Prelude.{◌≡◌, ◌<◌, ◌≤◌, ◌+◌, true, length, IfOk, IfSome, IfNone, OnOk, OnErr};
+ghost use Rattle.dm_association.specs.TsnWindows.{begun_window, waiting_octets, reach, place_within, place_before};
+ghost use Rattle.dm_association.specs.TsnWindows.{chunk_place, HasRoomAt, FinishesTsns, PutsFragment};
+ghost use Rattle.dm_association.specs.TsnWindows.{CompletesMessage, HoldsFragment};
+
+use crate::chunk_place::ChunkPlace;
+use crate::fragment::Fragment;
+use crate::marks::ChunkMarks;
+use crate::message_around::{MessageExtent, message_around};
+use crate::tsn_state::TsnState;
+use crate::tsns::{finish_all, grow_tsns, is_missing_at, message_of, pass_done, put_fragment};
+use std::alloc::{AllocError, Global};
+use std::collections::VecDeque;
+use std::marker::Model;
+
+/// The most TSNs that are kept, and how far before them one is a repetition.
+const SPAN: usize = 65_536;
+
+/// The most TSNs of which nothing came, behind the last of which something did.
+const GAP: usize = 1_024;
+
+/// The most octets that wait.
+pub(crate) const MOST_WAITING: usize = 1_048_576;
+
+/// What came of the TSNs of one direction, from the first on that isn't done.
+#[derive(Drop)]
+pub(crate) struct TsnWindow {
+    next: u32,
+    tsns: VecDeque<TsnState>,
+    waiting: usize,
+}
+
+impl Model for TsnWindow {
+    ghost use Rattle.dm_association.specs.TsnWindows.{TsnWindowState};
+
+    ghost Value = { TsnWindowState };
+
+    ghost view = { λ w. record { next = w.next; tsns = w.tsns.items } };
+
+    ghost use Rattle.dm_association.specs.TsnWindows.{IsWithinLimits};
+
+    ghost invariant = { λ w. IsWithinLimits w.tsns.items w.waiting };
+}
+
+impl TsnWindow {
+    /// Nothing came, and this TSN is the first.
+    pub(crate) fn new(alloc: Global, next: u32) -> TsnWindow
+        ensures { result ≡ begun_window next }
+    {
+        TsnWindow {
+            next,
+            tsns: VecDeque::new(alloc),
+            waiting: 0,
+        }
+    }
+
+    /// How many octets wait.
+    pub(crate) fn waiting(&self) -> usize
+        ensures waiting { result ≡ waiting_octets self.now.tsns }
+        ensures most { result ≤ 1048576 }
+    {
+        self.waiting
+    }
+
+    /// Where a chunk of so many octets belongs among the TSNs from the first on.
+    fn placed_within(&self, at: usize, size: usize) -> ChunkPlace
+        ensures { result ≡ place_within self.now at size }
+    {
+        if !is_missing_at(&self.tsns, at) {
+            return ChunkPlace::Repeated;
+        }
+        if MOST_WAITING < size || MOST_WAITING - size < self.waiting {
+            return ChunkPlace::Astray;
+        }
+        ChunkPlace::Wanted(at)
+    }
+
+    /// Where one belongs that isn't among those.
+    fn placed_before(&self, tsn: u32) -> ChunkPlace
+        ensures { result ≡ place_before self.now.next tsn }
+    {
+        if self.next.wrapping_sub(tsn) as usize <= SPAN {
+            ChunkPlace::Repeated
+        } else {
+            ChunkPlace::Astray
+        }
+    }
+
+    /// How far behind the first TSN a chunk may be.
+    fn most_ahead(&self) -> usize
+        ensures { result ≡ reach self.now.tsns }
+    {
+        SPAN.min(self.tsns.len() + GAP)
+    }
+
+    /// Where a chunk with this TSN and so many octets belongs.
+    pub(crate) fn place(&self, tsn: u32, size: usize) -> ChunkPlace
+        ensures { result ≡ chunk_place self.now tsn size }
+    {
+        let at = tsn.wrapping_sub(self.next) as usize;
+        if at < self.most_ahead() {
+            self.placed_within(at, size)
+        } else {
+            self.placed_before(tsn)
+        }
+    }
+
+    /// So many TSNs from the first on are done.
+    fn finish(&mut self, extent: MessageExtent) -> Result<(), AllocError>
+        requires { extent.first + extent.count ≤ 65536 }
+        ensures finished { OnOk result (FinishesTsns self.old extent.first extent.count self.new) }
+        ensures err { OnErr result (self.new ≡ self.old) }
+    {
+        grow_tsns(&mut self.tsns, extent.first + extent.count)?;
+        let freed = finish_all(&mut self.tsns, extent);
+        self.waiting -= freed;
+        self.next = pass_done(&mut self.tsns, self.next);
+        Ok(())
+    }
+
+    /// The TSN at a place is done, and nothing of it is kept.
+    pub(crate) fn pass(&mut self, at: usize) -> Result<(), AllocError>
+        requires { at < 65536 }
+        ensures passed { OnOk result (FinishesTsns self.old at 1 self.new) }
+        ensures err { OnErr result (self.new ≡ self.old) }
+    {
+        self.finish(MessageExtent {
+            first: at,
+            count: 1,
+        })
+    }
+
+    /// Keeps a fragment at a place.
+    fn hold(
+        &mut self,
+        alloc: Global,
+        at: usize,
+        own: ChunkMarks,
+        octets: &[u8],
+    ) -> Result<(), AllocError>
+        requires { HasRoomAt self.old at (length octets.now) }
+        ensures held { OnOk result
+            (PutsFragment self.old at (record { marks = own; octets = octets.now }) self.new) }
+        ensures err { OnErr result (self.new ≡ self.old) }
+    {
+        let fragment = Fragment::new(alloc, own, octets)?;
+        grow_tsns(&mut self.tsns, at + 1)?;
+        put_fragment(&mut self.tsns, at, fragment);
+        self.waiting += octets.len();
+        Ok(())
+    }
+
+    /// Takes a chunk at a place. A user message that is whole with it is handed out; else it waits.
+    pub(crate) fn take(
+        &mut self,
+        alloc: Global,
+        at: usize,
+        own: ChunkMarks,
+        octets: &[u8],
+    ) -> Result<Option<Vec<u8>>, AllocError>
+        requires { HasRoomAt self.old at (length octets.now) }
+        ensures message { IfOk result (λ found. IfSome found (λ message.
+            CompletesMessage self.old at (record { marks = own; octets = octets.now }) message.items self.new)) }
+        ensures none { IfOk result (λ found. IfNone found
+            (HoldsFragment self.old at (record { marks = own; octets = octets.now }) self.new)) }
+        ensures err { OnErr result (self.new ≡ self.old) }
+    {
+        match message_around(&self.tsns, at, own) {
+            Some(extent) => {
+                let message = message_of(alloc, &self.tsns, at, octets, extent)?;
+                self.finish(extent)?;
+                Ok(Some(message))
+            }
+            None => {
+                self.hold(alloc, at, own, octets)?;
+                Ok(None)
+            }
+        }
+    }
+}

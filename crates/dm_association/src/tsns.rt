@@ -1,0 +1,152 @@
+//! What came of TSNs, one after the other from the first that isn't done.
+ghost use Rattle.std.specs.Prelude.{◌≡◌, ◌<◌, ◌≤◌, ◌+◌, ◌++◌, ℕ, length, max, slice_set, IfOk, OnOk, OnErr};
+ghost use Rattle.dm_association.specs.Fragments.{user_message};
+ghost use Rattle.dm_association.specs.TsnWindows.{tsn_at, is_missing, is_tsn_done, held_marks, held_in};
+ghost use Rattle.dm_association.specs.TsnWindows.{waiting_octets, octets_with, AreDone, PassesDone};
+
+use crate::fragment::Fragment;
+use crate::marks::ChunkMarks;
+use crate::message_around::MessageExtent;
+use crate::tsn_state::TsnState;
+use std::alloc::{AllocError, Global};
+use std::collections::VecDeque;
+use std::mem;
+
+/// What is told of the fragment at a place, where one waits there.
+pub(crate) fn marks_at(tsns: &VecDeque<TsnState>, at: usize) -> Option<ChunkMarks>
+    ensures { result ≡ held_marks (tsn_at tsns.now.items at) }
+{
+    match tsns.get(at) {
+        Some(TsnState::Held(fragment)) => Some(fragment.marks()),
+        _ => None,
+    }
+}
+
+/// Whether no chunk came at a place.
+pub(crate) fn is_missing_at(tsns: &VecDeque<TsnState>, at: usize) -> bool
+    ensures { result ≡ is_missing (tsn_at tsns.now.items at) }
+{
+    match tsns.get(at) {
+        Some(TsnState::Missing) => true,
+        Some(_) => false,
+        None => true,
+    }
+}
+
+/// The octets that wait at a place.
+fn octets_at(tsns: &VecDeque<TsnState>, at: usize) -> &[u8]
+    ensures { result.now ≡ held_in (tsn_at tsns.now.items at) }
+{
+    match tsns.get(at) {
+        Some(TsnState::Held(fragment)) => fragment.octets(),
+        _ => &[],
+    }
+}
+
+/// Appends the octets that wait at a place, or those of the chunk that belongs there.
+fn put_octets(
+    message: &mut Vec<u8>,
+    tsns: &VecDeque<TsnState>,
+    place: usize,
+    octets: &[u8],
+    index: usize,
+) -> Result<(), AllocError>
+    ensures { OnOk result (message.new.items
+        ≡ message.old.items ++ octets_with tsns.now.items place octets.now index) }
+{
+    if index == place {
+        message.extend_from_slice(octets)
+    } else {
+        message.extend_from_slice(octets_at(tsns, index))
+    }
+}
+
+/// The user message that these octets complete at a place.
+pub(crate) fn message_of(
+    alloc: Global,
+    tsns: &VecDeque<TsnState>,
+    place: usize,
+    octets: &[u8],
+    extent: MessageExtent,
+) -> Result<Vec<u8>, AllocError>
+    requires { extent.first + extent.count ≤ 65536 }
+    ensures { IfOk result (λ message. message.items
+        ≡ user_message (octets_with tsns.now.items place octets.now) extent.first extent.count) }
+{
+    let mut message = Vec::new(alloc);
+    'chunks: for index in 0..extent.count {
+        put_octets(&mut message, tsns, place, octets, extent.first + index)?;
+    }
+    Ok(message)
+}
+
+/// Makes room up to so many TSNs, or answers want of memory and changes nothing.
+pub(crate) fn grow_tsns(tsns: &mut VecDeque<TsnState>, size: usize) -> Result<(), AllocError>
+    ensures same { OnOk result ((k : ℕ) → tsn_at tsns.new.items k ≡ tsn_at tsns.old.items k) }
+    ensures grown { OnOk result (length tsns.new.items ≡ max size (length tsns.old.items)) }
+    ensures waiting { OnOk result (waiting_octets tsns.new.items ≡ waiting_octets tsns.old.items) }
+    ensures err { OnErr result (tsns.new.items ≡ tsns.old.items) }
+{
+    tsns.reserve(size.saturating_sub(tsns.len()))?;
+    'missing: while tsns.len() < size {
+        tsns.push_back_reserved(TsnState::Missing);
+    }
+    Ok(())
+}
+
+/// Puts a fragment at a place.
+pub(crate) fn put_fragment(tsns: &mut VecDeque<TsnState>, at: usize, fragment: Fragment)
+    requires { at < length tsns.old.items }
+    ensures { tsns.new.items ≡ slice_set tsns.old.items at (TsnState.Held fragment) }
+{
+    drop(mem::replace(&mut tsns[at], TsnState::Held(fragment)));
+}
+
+/// The TSN at a place is done. It answers how many octets waited there.
+fn finish_one(tsns: &mut VecDeque<TsnState>, at: usize) -> usize
+    requires { at < length tsns.old.items }
+    ensures done { tsns.new.items ≡ slice_set tsns.old.items at TsnState.Done }
+    ensures freed { result ≡ length (held_in (tsn_at tsns.old.items at)) }
+{
+    let freed = octets_at(tsns, at).len();
+    drop(mem::replace(&mut tsns[at], TsnState::Done));
+    freed
+}
+
+/// So many TSNs from the first on are done. It answers how many octets waited there.
+pub(crate) fn finish_all(tsns: &mut VecDeque<TsnState>, extent: MessageExtent) -> usize
+    requires there { extent.first + extent.count ≤ length tsns.old.items }
+    requires most { waiting_octets tsns.old.items ≤ 1048576 }
+    ensures done { AreDone tsns.old.items extent.first extent.count tsns.new.items }
+    ensures freed { result + waiting_octets tsns.new.items ≡ waiting_octets tsns.old.items }
+{
+    let mut freed = 0;
+    'chunks: for index in 0..extent.count {
+        freed += finish_one(tsns, extent.first + index);
+    }
+    freed
+}
+
+fn is_front_done(tsns: &VecDeque<TsnState>) -> bool
+    ensures { result ≡ is_tsn_done (tsn_at tsns.now.items 0) }
+{
+    match tsns.front() {
+        Some(TsnState::Done) => true,
+        _ => false,
+    }
+}
+
+/// Those in front that are done are no more kept. It answers the first TSN behind them.
+pub(crate) fn pass_done(tsns: &mut VecDeque<TsnState>, from: u32) -> u32
+    ensures passes { PassesDone (record { next = from; tsns = tsns.old.items })
+        (record { next = result; tsns = tsns.new.items }) }
+    ensures waiting { waiting_octets tsns.new.items ≡ waiting_octets tsns.old.items }
+    ensures fewer { length tsns.new.items ≤ length tsns.old.items }
+{
+    let mut next = from;
+    'done: while is_front_done(tsns) {
+        let _front = tsns.pop_front();
+        next = next.wrapping_add(1);
+    }
+    next
+}
