@@ -3,7 +3,8 @@ use Rattle.std.proofs.Common.{◌≡◌, ◌&&◌, ◌∙◌, ℕ, Bool, true, f
 use Rattle.std.proofs.Common.{codes, append-nil, append_assoc}
 use Rattle.json.proofs.Printed.Tokens.{tokens-print, print_from-append}
 use Rattle.json.specs.Lex.{tokens}
-use Rattle.json.specs.Print.{begins, ends, ends_value, escape, escape_byte, separator, token_text, print_from, print, IsPrintable, ArePrintable}
+use Rattle.json.specs.Print.{begins, ends, ends_value, escape, escape_byte, separator, token_text, print_from, print}
+use Rattle.json.specs.Print.{IsPrintable, ArePrintable}
 use Rattle.json.specs.Token.{Token, key, string, number}
 use Rattle.dm_view.specs.JsonPrinted.{IsPrinted, IsPiece, flags_tokens}
 
@@ -65,7 +66,8 @@ pub of_string : (s : List ℕ) → escape s ≡ s → IsPiece true (codes "\"" +
 unfolding print_from ArePrintable
 of_string s plain = record {
   good = (tt, tt);
-  text = λ a. ap (λ l. separator a (string s) ++ l) (append-nil (token_text (string s)) ∙ ap (λ l. 34 ∷ (l ++ 34 ∷ [])) plain);
+  text = λ a. ap (λ l. separator a (string s) ++ l) (append-nil (token_text (string s))
+      ∙ ap (λ l. 34 ∷ (l ++ 34 ∷ [])) plain);
   end = λ a. refl;
 }
 
@@ -73,8 +75,8 @@ pub of_key : (s : List ℕ) → escape s ≡ s → IsPiece true (codes "\"" ++ (
 unfolding print_from ArePrintable
 of_key s plain = record {
   good = (tt, tt);
-  text = λ a. ap (λ l. separator a (key s) ++ l) (append-nil (token_text (key s)) ∙ append_assoc (34 ∷ escape s) (34 ∷ []) (58 ∷ [])
-      ∙ ap (λ l. 34 ∷ (l ++ 34 ∷ 58 ∷ [])) plain);
+  text = λ a. ap (λ l. separator a (key s) ++ l) (append-nil (token_text (key s))
+      ∙ append_assoc (34 ∷ escape s) (34 ∷ []) (58 ∷ []) ∙ ap (λ l. 34 ∷ (l ++ 34 ∷ 58 ∷ [])) plain);
   end = λ a. refl;
 }
 

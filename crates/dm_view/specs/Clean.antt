@@ -2,9 +2,9 @@
 use Rattle.std.specs.Prelude.{◌≢◌, ◌≤◌, ◌<◌, ℕ, List, get_or}
 
 -- ASCII from this octet on, no control, no `"` and no `\`
-abbrev pub IsClean : ℕ → ℕ → Type 0
-IsClean least b = (least ≤ b) × (b ≤ 126) × (b ≢ 34) × (b ≢ 92)
+abbrev pub NeedsNoEscape : ℕ → ℕ → Type 0
+NeedsNoEscape least b = (least ≤ b) × (b ≤ 126) × (b ≢ 34) × (b ≢ 92)
 
 -- all octets from here on up to there
 abbrev pub CleanBetween : ℕ → List ℕ → ℕ → ℕ → Type 0
-CleanBetween least s i j = (k : ℕ) → i ≤ k → k < j → IsClean least (get_or s k 0)
+CleanBetween least s i j = (k : ℕ) → i ≤ k → k < j → NeedsNoEscape least (get_or s k 0)

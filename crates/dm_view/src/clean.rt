@@ -1,14 +1,14 @@
 //! Octets that stand for themselves wherever a text is put, told sixteen at once.
 ghost use Rattle.std.specs.Prelude.{◌≡◌, ◌≤◌, ◌*◌, ◌+◌, true, length};
 ghost use Rattle.std.specs.List.{All};
-ghost use Rattle.dm_view.specs.Clean.{IsClean, CleanBetween};
+ghost use Rattle.dm_view.specs.Clean.{NeedsNoEscape, CleanBetween};
 
 use std::simd::prelude::*;
 
 /// Whether all octets are ASCII from this one on, none a control, a `"` or a `\`.
 pub(crate) fn are_clean(octets: &[u8], least: u8) -> bool
     requires bound { least ≤ 33 }
-    ensures { result ≡ true → All (IsClean least) octets.now }
+    ensures { result ≡ true → All (NeedsNoEscape least) octets.now }
 {
     if octets.len() >= 16 {
         are_many_clean(octets, least)

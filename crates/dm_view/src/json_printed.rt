@@ -54,6 +54,7 @@ fn roomy(alloc: Global) -> String
 }
 
 /// Whether a comma stands before what comes.
+#[inline(always)]
 fn wants_comma(after_value: bool, begun: bool) -> bool
     ensures { result ≡ (after_value && begun) }
 {
@@ -61,6 +62,7 @@ fn wants_comma(after_value: bool, begun: bool) -> bool
 }
 
 /// Appends a piece, behind a comma where it is wanted.
+#[inline(always)]
 fn put_piece(text: &mut String, comma: bool, piece: &str) -> Result<(), AllocError>
     ensures { OnOk result (string_bytes text.new
         ≡ string_bytes text.old ++ (cond comma (44 ∷ []) [] ++ piece.now)) }
@@ -72,6 +74,7 @@ fn put_piece(text: &mut String, comma: bool, piece: &str) -> Result<(), AllocErr
 }
 
 /// Appends three pieces, behind a comma where it is wanted.
+#[inline(always)]
 fn put_pieces(
     text: &mut String,
     comma: bool,
@@ -109,7 +112,8 @@ impl Printed {
         }
     }
 
-    /// Appends what some tokens are printed as.
+    /// Appends what some tokens are printed as. (So inlined, a piece that is at hand costs no call.)
+    #[inline(always)]
     pub(crate) fn put(&mut self, begun: bool, piece: &str, ended: bool) -> Result<(), AllocError>
         requires { (ts : List Token) × IsPiece begun piece.now ended ts }
         ensures { (ts : List Token) → IsPiece begun piece.now ended ts → OnOk result (self.new ≡ self.old ++ ts) }
@@ -129,6 +133,7 @@ impl Printed {
     }
 
     /// Appends what some tokens are printed as, in three pieces.
+    #[inline(always)]
     pub(crate) fn put_three(
         &mut self,
         begun: bool,

@@ -9,4 +9,6 @@ put_clean-requires c = clean_is_text 33 c.args.octets.now (c.are_clean.ensures c
 pub returns-then-are_clean : goal.returns-then-are_clean
 returns-then-are_clean c =
     let some = eqb-false _ 0 (sym c.is_empty.ensures ∙ c.if-is_empty.false) in
-    rw (clean_identity_view c.args.def.now c.args.octets.now c.requires (omega (arith, some)) (c.are_clean.ensures c.if-are_clean.true)) c.put_clean.ensures
+    let clean = c.are_clean.ensures c.if-are_clean.true in
+    let is = clean_identity_view c.args.def.now c.args.octets.now c.requires (omega (arith, some)) clean in
+    rw is c.put_clean.ensures

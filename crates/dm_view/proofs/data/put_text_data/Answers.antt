@@ -5,4 +5,7 @@ pub put_clean-requires : goal.put_clean-requires
 put_clean-requires c = clean_is_text 32 c.args.octets.now (c.are_clean.ensures c.if-are_clean.true)
 
 pub returns-then-are_clean : goal.returns-then-are_clean
-returns-then-are_clean c = rw (clean_text_view c.args.def.now c.args.octets.now c.requires (c.are_clean.ensures c.if-are_clean.true)) c.put_clean.ensures
+returns-then-are_clean c =
+    let clean = c.are_clean.ensures c.if-are_clean.true in
+    let is = clean_text_view c.args.def.now c.args.octets.now c.requires clean in
+    rw is c.put_clean.ensures

@@ -6,7 +6,12 @@ pub from_utf8_unchecked-requires : goal.from_utf8_unchecked-requires
 from_utf8_unchecked-requires c = clean_is_text 32 c.args.octets.now (c.are_clean.ensures c.if-are_clean.true)
 
 pub clean-requires : goal.clean-requires
-clean-requires c = rw c.from_utf8_unchecked.ensures (clean_is_unescaped 32 c.args.octets.now (omega arith) (c.are_clean.ensures c.if-are_clean.true))
+clean-requires c =
+    let clean = c.are_clean.ensures c.if-are_clean.true in
+    rw c.from_utf8_unchecked.ensures (clean_is_unescaped 32 c.args.octets.now (omega arith) clean)
 
 pub returns-then-are_clean : goal.returns-then-are_clean
-returns-then-are_clean c = rw (clean_text_json c.args.def.now c.args.octets.now c.requires (c.are_clean.ensures c.if-are_clean.true), ← c.from_utf8_unchecked.ensures) c.clean.ensures
+returns-then-are_clean c =
+    let clean = c.are_clean.ensures c.if-are_clean.true in
+    let is = clean_text_json c.args.def.now c.args.octets.now c.requires clean in
+    rw (is, ← c.from_utf8_unchecked.ensures) c.clean.ensures

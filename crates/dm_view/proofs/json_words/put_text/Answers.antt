@@ -7,9 +7,12 @@ pub from_utf8_unchecked-requires : goal.from_utf8_unchecked-requires
 from_utf8_unchecked-requires c = clean_is_text 32 c.args.octets.now (c.are_clean.ensures c.if-are_clean.true)
 
 pub clean-requires : goal.clean-requires
-clean-requires c = rw c.from_utf8_unchecked.ensures (clean_is_unescaped 32 c.args.octets.now (omega arith) (c.are_clean.ensures c.if-are_clean.true))
+clean-requires c =
+    let clean = c.are_clean.ensures c.if-are_clean.true in
+    rw c.from_utf8_unchecked.ensures (clean_is_unescaped 32 c.args.octets.now (omega arith) clean)
 
 pub returns-then-are_clean : goal.returns-then-are_clean
 returns-then-are_clean c =
     let octets = c.args.octets.now in
-    rw (is_utf8-from_IsUtf8 octets (clean_is_text 32 octets (c.are_clean.ensures c.if-are_clean.true)), ← c.from_utf8_unchecked.ensures) c.clean.ensures
+    let text = clean_is_text 32 octets (c.are_clean.ensures c.if-are_clean.true) in
+    rw (is_utf8-from_IsUtf8 octets text, ← c.from_utf8_unchecked.ensures) c.clean.ensures

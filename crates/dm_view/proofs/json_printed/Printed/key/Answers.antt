@@ -8,13 +8,15 @@ use Rattle.dm_view.proofs.json_printed.Printed.key.Goals as goal
 pub put_three-requires : goal.put_three-requires
 put_three-requires c =
     let name = c.args.name.now in
-    let plain : escape name ≡ name = rw c.as_bytes.ensures.value at (clean_is_unescaped 32 _ (omega arith) (c.are_clean.ensures c.if-are_clean.true)) in
+    let clean = clean_is_unescaped 32 _ (omega arith) (c.are_clean.ensures c.if-are_clean.true) in
+    let plain : escape name ≡ name = rw c.as_bytes.ensures.value at clean in
     (key name ∷ [], of_key name plain)
 
 pub returns-then-are_clean : goal.returns-then-are_clean
 returns-then-are_clean c =
     let name = c.args.name.now in
-    let plain : escape name ≡ name = rw c.as_bytes.ensures.value at (clean_is_unescaped 32 _ (omega arith) (c.are_clean.ensures c.if-are_clean.true)) in
+    let clean = clean_is_unescaped 32 _ (omega arith) (c.are_clean.ensures c.if-are_clean.true) in
+    let plain : escape name ≡ name = rw c.as_bytes.ensures.value at clean in
     c.put_three.ensures (key name ∷ []) (of_key name plain)
 
 pub from_utf8_unchecked-text-requires : goal.from_utf8_unchecked-text-requires

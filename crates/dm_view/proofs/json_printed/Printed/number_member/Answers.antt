@@ -20,4 +20,5 @@ returns c k is =
     let n = c.args.value in
     let small : n < 2 ^ 64 = omega (arith, c.ranges.value.fits) in
     c.put_three.ensures (key k ∷ number (decimal n) ∷ [])
-    (rw (c.format.ensures.text, c.from.ensures) (of_number_member c.args.name.now k (decimal n) is (IsNumber-decimal n small)))
+    (rw (c.format.ensures.text, c.from.ensures)
+    (of_number_member c.args.name.now k (decimal n) is (IsNumber-decimal n small)))

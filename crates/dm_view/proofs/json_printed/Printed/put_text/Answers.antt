@@ -8,5 +8,6 @@ pub returns : goal.returns
 returns c =
     let p = c.self.inside in
     let is : c.as_str.result.now ≡ print c.args.self.now =
-    c.as_str.ensures.value ∙ as_printed (string_bytes p.text) p.after_value c.self.invariant ∙ ap print c.self.view_is in
+    c.as_str.ensures.value ∙ as_printed (string_bytes p.text) p.after_value c.self.invariant
+    ∙ ap print c.self.view_is in
     rw (← is) (search rules)

@@ -11,7 +11,8 @@ put-requires c =
     let n = c.args.value in
     let good : IsNumber (signed_decimal n) = search (rules, IsNumber-signed_decimal) in
     let fits = c.ranges.value in
-    rw (simp to_z-of_z at c.format.ensures.text) (number (signed_decimal n) ∷ [], of_token (number (signed_decimal n)) good)
+    rw (simp to_z-of_z at c.format.ensures.text)
+    (number (signed_decimal n) ∷ [], of_token (number (signed_decimal n)) good)
 
 pub returns : goal.returns
 returns c =

@@ -7,4 +7,6 @@ pub put_three-requires : goal.put_three-requires
 put_three-requires c = (key (codes "name") ∷ string c.args.name.now ∷ [], of_name c.args.name.now c.requires)
 
 pub returns : goal.returns
-returns c = rw (← c.self.view_is) (c.put_three.ensures (key (codes "name") ∷ string c.args.name.now ∷ []) (of_name c.args.name.now c.requires))
+returns c =
+    rw (← c.self.view_is) (c.put_three.ensures (key (codes "name") ∷ string c.args.name.now ∷ [])
+    (of_name c.args.name.now c.requires))

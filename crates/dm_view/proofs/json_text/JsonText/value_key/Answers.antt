@@ -7,4 +7,6 @@ pub put-requires : goal.put-requires
 put-requires c = (key (codes "value") ∷ [], rw value_key (of_token (key (codes "value")) tt))
 
 pub returns : goal.returns
-returns c = rw (← c.self.view_is) (c.put.ensures (key (codes "value") ∷ []) (rw value_key (of_token (key (codes "value")) tt)))
+returns c =
+    rw (← c.self.view_is)
+    (c.put.ensures (key (codes "value") ∷ []) (rw value_key (of_token (key (codes "value")) tt)))
