@@ -1,1 +1,3 @@
+pub mod CleanOctets
+pub mod JsonPrinted
 pub mod Sound

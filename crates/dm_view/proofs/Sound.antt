@@ -3,8 +3,9 @@ use Rattle.std.proofs.Common.{rules, ◌≡◌, ◌<◌, ℕ, List, [], ◌∷�
 use Rattle.std.proofs.lemmas.Str.{IsUtf8-from_ascii, IsUtf8-from_is_utf8}
 use Rattle.std.proofs.lemmas.Str.Ascii.{IsAscii-from_all}
 use Rattle.std.specs.List.{All, list_all}
+use Rattle.std.specs.Bool.{MatchBool}
 use Rattle.std.specs.Prelude.{Bool, false}
-use Rattle.std.specs.Str.{IsUtf8}
+use Rattle.std.specs.Str.{IsAscii, IsNotAscii, IsUtf8}
 use Rattle.dm_value.specs.Flaws.{is_visible, tested, flaw}
 use Rattle.dm_value.specs.declared.avp_type.AvpType.TheVariants.{DiameterIdentity, UTF8String}
 
@@ -23,3 +24,8 @@ passed false s sound = grind (arith, sound)
 
 pub words_are_text : (s : List ℕ) → flaw UTF8String s ≡ None → IsUtf8 s
 words_are_text s sound = IsUtf8-from_is_utf8 s (passed _ s sound)
+
+-- octets that are told to be ASCII
+pub ascii_is_text : (told : Bool) (s : List ℕ) → MatchBool told (IsAscii s) (IsNotAscii s) → told ≡ true → IsUtf8 s
+ascii_is_text true s ascii is = IsUtf8-from_ascii s ascii
+ascii_is_text false s wide is = absurd (cc)

@@ -1,6 +1,8 @@
 pub mod Check
+pub mod Clean
 pub mod Described
 pub mod JsonCheck
+pub mod JsonPrinted
 pub mod JsonView
 pub mod JsonWords
 pub mod Reasons

@@ -4,13 +4,14 @@ ghost use Rattle.std.specs.Option.{option_copied};
 ghost use Rattle.std.specs.String.{string_bytes};
 ghost use Rattle.dm_wire.specs.declared.avp.Avp.{Avp};
 ghost use Rattle.dm_wire.specs.Borrowed.{avp_of, Lists};
-ghost use Rattle.dm_wire.specs.Printed.{avp_marks, data_text, vendor_text};
+ghost use Rattle.dm_wire.specs.Printed.{data_text};
 ghost use Rattle.dm_dict.specs.Rules.{definition};
 ghost use Rattle.dm_view.specs.Words.{indented};
 ghost use Rattle.dm_view.specs.View.{avp_name, front_view, avp_view, avps_view, group_view};
 
 use crate::data::put_data;
-use crate::words::{put_indent, put_number, put_octets_behind, put_octets_name};
+use crate::front::put_behind_name;
+use crate::words::{put_indent, put_octets_behind, put_octets_name};
 use dm_dict::{AvpDef, AvpType, Dictionary};
 use dm_wire::{AvpRef, AvpsRef, spells_avps};
 use std::alloc::AllocError;
@@ -28,34 +29,8 @@ pub(crate) fn put_name(text: &mut String, def: Option<&AvpDef>) -> Result<(), Al
     }
 }
 
-/// Appends a vendor behind a `/`, where there is one.
-fn put_vendor(text: &mut String, vendor: Option<u32>) -> Result<(), AllocError>
-    ensures { OnOk result (string_bytes text.new ≡ string_bytes text.old ++ vendor_text vendor) }
-{
-    match vendor {
-        Some(vendor) => put_number(text, "/", vendor),
-        None => Ok(()),
-    }
-}
-
-/// The letters of an AVP's flags, each where its flag is set, else `-`, and a space before them.
-fn spaced_letters(vendor: bool, mandatory: bool, protected: bool) -> &'static str
-    ensures { result.now ≡ 32 ∷ avp_marks vendor mandatory protected }
-{
-    match (vendor, mandatory, protected) {
-        (false, false, false) => " ---",
-        (false, false, true) => " --P",
-        (false, true, false) => " -M-",
-        (false, true, true) => " -MP",
-        (true, false, false) => " V--",
-        (true, false, true) => " V-P",
-        (true, true, false) => " VM-",
-        (true, true, true) => " VMP",
-    }
-}
-
 /// Appends the front of an AVP's line: name, code, vendor and flags.
-#[tactic(auto, unfolding(crate::specs::View::front_view, dm_wire::specs::Printed::avp_front_text))]
+#[tactic(auto, unfolding(crate::specs::View::front_view))]
 pub(crate) fn put_front(
     text: &mut String,
     def: Option<&AvpDef>,
@@ -65,9 +40,7 @@ pub(crate) fn put_front(
         ≡ string_bytes text.old ++ front_view (option_copied def.entry) (avp_of avp.entry)) }
 {
     put_name(text, def)?;
-    put_number(text, " ", avp.code)?;
-    put_vendor(text, avp.vendor)?;
-    text.push_str(spaced_letters(avp.vendor.is_some(), avp.mandatory, avp.protected))
+    put_behind_name(text, avp)
 }
 
 /// Appends words, data in hexadecimal, and the end of the line.

@@ -3,6 +3,7 @@ ghost use Rattle.std.specs.Prelude.{◌≡◌, ◌≢◌, ◌++◌, None, length
 ghost use Rattle.std.specs.Fmt.{decimal};
 ghost use Rattle.std.specs.Net.Text.{ipv4_text};
 ghost use Rattle.std.specs.Option.{option_copied};
+ghost use Rattle.std.specs.Str.{IsUtf8};
 ghost use Rattle.std.specs.String.{string_bytes};
 ghost use Rattle.hex.specs.Hex.{encode_lower};
 ghost use Rattle.dm_wire.specs.Printed.{data_text};
@@ -12,9 +13,11 @@ ghost use Rattle.dm_value.specs.ValueIn.{value_in, address_in};
 ghost use Rattle.dm_view.specs.Words.{quoted};
 ghost use Rattle.dm_view.specs.View.{listed_text, value_view, flaw_words, data_view};
 
+use crate::clean::are_clean;
 use crate::described_data::of_16;
 use crate::words::{
     put_number, put_octets, put_octets_behind, put_octets_name, put_quoted, put_signed,
+    put_unsigned,
 };
 use byteorder::{BigEndian, ByteOrder};
 use dm_dict::{AvpDef, AvpType, Ip, ValueFault, unix_seconds, utc_date, value_fault};
@@ -112,8 +115,8 @@ fn put_meant(text: &mut String, def: &AvpDef, octets: &[u8]) -> Result<(), Alloc
         AvpType::OctetString => put_octets(text, octets),
         AvpType::Integer32 => put_signed(text, i64::from(BigEndian::read_i32(octets))),
         AvpType::Integer64 => put_signed(text, BigEndian::read_i64(octets)),
-        AvpType::Unsigned32 => put_decimal(text, u64::from(BigEndian::read_u32(octets))),
-        AvpType::Unsigned64 => put_decimal(text, BigEndian::read_u64(octets)),
+        AvpType::Unsigned32 => put_unsigned(text, u64::from(BigEndian::read_u32(octets))),
+        AvpType::Unsigned64 => put_unsigned(text, BigEndian::read_u64(octets)),
         AvpType::Address => put_address(text, octets),
         AvpType::Time => put_time(text, BigEndian::read_u32(octets)),
         AvpType::UTF8String => put_words(text, octets),
@@ -149,9 +152,46 @@ fn put_flaw(text: &mut String, fault: ValueFault, octets: &[u8]) -> Result<(), A
     put_octets_behind(text, " ", octets)
 }
 
-/// Appends the data of an AVP of this definition.
+/// Appends clean data between these words.
+fn put_clean(text: &mut String, front: &str, octets: &[u8], back: &str) -> Result<(), AllocError>
+    requires { IsUtf8 octets.now }
+    ensures { OnOk result (string_bytes text.new
+        ≡ string_bytes text.old ++ (front.now ++ (octets.now ++ back.now))) }
+{
+    let words = unsafe { str::from_utf8_unchecked(octets) };
+    text.push_str(front)?;
+    text.push_str(words)?;
+    text.push_str(back)
+}
+
+/// Appends the data of an AVP that is a text: where it is clean, it isn't judged.
+fn put_text_data(text: &mut String, def: &AvpDef, octets: &[u8]) -> Result<(), AllocError>
+    requires { def.now.kind ≡ AvpType.UTF8String }
+    ensures { OnOk result (string_bytes text.new ≡ string_bytes text.old ++ data_view def.now octets.now) }
+{
+    if are_clean(octets, b' ') {
+        return put_clean(text, " \"", octets, "\"");
+    }
+    put_judged(text, def, octets)
+}
+
+/// Appends the data of an AVP that is an identity: where it is clean, it isn't judged.
+fn put_identity_data(text: &mut String, def: &AvpDef, octets: &[u8]) -> Result<(), AllocError>
+    requires { def.now.kind ≡ AvpType.DiameterIdentity }
+    ensures { OnOk result (string_bytes text.new ≡ string_bytes text.old ++ data_view def.now octets.now) }
+{
+    if octets.is_empty() {
+        return put_judged(text, def, octets);
+    }
+    if are_clean(octets, b'!') {
+        return put_clean(text, " ", octets, "");
+    }
+    put_judged(text, def, octets)
+}
+
+/// Appends the data of an AVP of this definition, as it is judged.
 #[tactic(auto, unfolding(crate::specs::View::data_view))]
-pub(crate) fn put_data(text: &mut String, def: &AvpDef, octets: &[u8]) -> Result<(), AllocError>
+fn put_judged(text: &mut String, def: &AvpDef, octets: &[u8]) -> Result<(), AllocError>
     requires { def.now.kind ≢ AvpType.Grouped }
     ensures { OnOk result (string_bytes text.new ≡ string_bytes text.old ++ data_view def.now octets.now) }
 {
@@ -162,4 +202,18 @@ pub(crate) fn put_data(text: &mut String, def: &AvpDef, octets: &[u8]) -> Result
             put_meant(text, def, octets)
         }
     }
+}
+
+/// Appends the data of an AVP of this definition.
+pub(crate) fn put_data(text: &mut String, def: &AvpDef, octets: &[u8]) -> Result<(), AllocError>
+    requires { def.now.kind ≢ AvpType.Grouped }
+    ensures { OnOk result (string_bytes text.new ≡ string_bytes text.old ++ data_view def.now octets.now) }
+{
+    if let AvpType::UTF8String = def.kind {
+        return put_text_data(text, def, octets);
+    }
+    if let AvpType::DiameterIdentity = def.kind {
+        return put_identity_data(text, def, octets);
+    }
+    put_judged(text, def, octets)
 }

@@ -20,22 +20,40 @@ fn put_command(text: &mut String, def: Option<&CommandDef>) -> Result<(), AllocE
     }
 }
 
+/// The flags of a header in words, a space before each.
+fn spaced_words(header: &Header) -> &'static str
+    ensures { result.now ≡ flag_words header.now }
+{
+    match (
+        header.request,
+        header.proxiable,
+        header.error,
+        header.retransmit,
+    ) {
+        (false, false, false, false) => " answer",
+        (false, false, false, true) => " answer retransmitted",
+        (false, false, true, false) => " answer error",
+        (false, false, true, true) => " answer error retransmitted",
+        (false, true, false, false) => " answer proxiable",
+        (false, true, false, true) => " answer proxiable retransmitted",
+        (false, true, true, false) => " answer proxiable error",
+        (false, true, true, true) => " answer proxiable error retransmitted",
+        (true, false, false, false) => " request",
+        (true, false, false, true) => " request retransmitted",
+        (true, false, true, false) => " request error",
+        (true, false, true, true) => " request error retransmitted",
+        (true, true, false, false) => " request proxiable",
+        (true, true, false, true) => " request proxiable retransmitted",
+        (true, true, true, false) => " request proxiable error",
+        (true, true, true, true) => " request proxiable error retransmitted",
+    }
+}
+
 /// Appends the flags of a header in words, a space before each.
 fn put_flags(text: &mut String, header: &Header) -> Result<(), AllocError>
     ensures { OnOk result (string_bytes text.new ≡ string_bytes text.old ++ flag_words header.now) }
 {
-    text.push_str(if header.request {
-        " request"
-    } else {
-        " answer"
-    })?;
-    text.push_str(if header.proxiable { " proxiable" } else { "" })?;
-    text.push_str(if header.error { " error" } else { "" })?;
-    text.push_str(if header.retransmit {
-        " retransmitted"
-    } else {
-        ""
-    })
+    text.push_str(spaced_words(header))
 }
 
 /// Appends words, and a number in decimal and in hexadecimal.

@@ -1,30 +1,54 @@
 //! AVPs in JSON, groups and all (RFC 6733, 4.1 and 4.4).
-ghost use Rattle.std.specs.Prelude.{◌≡◌, ◌++◌, List, OnOk, option_map};
+ghost use Rattle.std.specs.Prelude.{◌≡◌, ◌++◌, ◌∷◌, List, OnOk, codes, option_map};
 ghost use Rattle.std.specs.Option.{option_copied};
 ghost use Rattle.json.specs.Json.{Members};
+ghost use Rattle.json.specs.Token.{key};
 ghost use Rattle.json.specs.Tree.{json_tokens, items_tokens, members_tokens};
 ghost use Rattle.dm_wire.specs.declared.avp.Avp.{Avp};
 ghost use Rattle.dm_wire.specs.Borrowed.{avp_of, Lists};
 ghost use Rattle.dm_dict.specs.Rules.{definition};
+ghost use Rattle.dm_view.specs.JsonWords.{name_json, text_json};
 ghost use Rattle.dm_view.specs.JsonView.{avp_words, front_members, avp_json, behind_json, group_json, avps_items};
 
+use crate::clean::are_clean;
 use crate::json_data::put_data;
 use crate::json_text::JsonText;
-use crate::json_words::{put_flaw, put_name, put_octets, put_vendor, put_word};
+use crate::json_words::{put_flaw, put_octets, put_text, put_vendor};
 use dm_dict::{AvpDef, AvpType, Dictionary};
 use dm_wire::{AvpRef, AvpsRef, spells_avps};
 use std::alloc::AllocError;
+use std::str;
 
-/// Appends the flags of an AVP in words.
-fn put_flags(json: &mut JsonText, avp: AvpRef<'_>) -> Result<(), AllocError>
-    ensures { OnOk result (json.new ≡ json.old ++ json_tokens (avp_words (avp_of avp.entry))) }
+/// Appends the name of a definition, as a member.
+fn put_defined_name(json: &mut JsonText, name: &[u8]) -> Result<(), AllocError>
+    ensures { OnOk result (json.new ≡ json.old ++ key (codes "name") ∷ json_tokens (text_json name.now)) }
 {
-    json.begin_array()?;
-    put_word(json, avp.vendor.is_some(), "vendor")?;
-    put_word(json, avp.mandatory, "mandatory")?;
-    put_word(json, avp.protected, "protected")?;
-    json.end_array()?;
-    Ok(())
+    if are_clean(name, b' ') {
+        return json.clean_name(unsafe { str::from_utf8_unchecked(name) });
+    }
+    json.key("name")?;
+    put_text(json, name)
+}
+
+/// Appends the name of an AVP, where it has a definition, as a member.
+fn put_name_member(json: &mut JsonText, def: Option<&AvpDef>) -> Result<(), AllocError>
+    ensures { OnOk result (json.new ≡ json.old ++ key (codes "name")
+        ∷ json_tokens (name_json (option_map (λ d. d.name) (option_copied def.entry)))) }
+{
+    match def {
+        Some(def) => put_defined_name(json, def.name.as_slice()),
+        None => {
+            json.key("name")?;
+            json.null()
+        }
+    }
+}
+
+/// Appends the flags of an AVP in words, as a member.
+fn put_flags(json: &mut JsonText, avp: AvpRef<'_>) -> Result<(), AllocError>
+    ensures { OnOk result (json.new ≡ json.old ++ key (codes "flags") ∷ json_tokens (avp_words (avp_of avp.entry))) }
+{
+    json.flags(avp.vendor.is_some(), avp.mandatory, avp.protected)
 }
 
 /// Appends name, code, vendor and flags of an AVP.
@@ -36,11 +60,9 @@ pub(crate) fn put_front(
     ensures { (more : Members) → OnOk result (json.new ++ members_tokens more
         ≡ json.old ++ members_tokens (front_members (option_copied def.entry) (avp_of avp.entry) more)) }
 {
-    json.key("name")?;
-    put_name(json, def.map(|def| &def.name))?;
-    json.number_member("code", avp.code)?;
+    put_name_member(json, def)?;
+    json.code(avp.code)?;
     put_vendor(json, avp.vendor)?;
-    json.key("flags")?;
     put_flags(json, avp)
 }
 
@@ -58,7 +80,7 @@ fn put_avp(
     let def = dictionary.avp_by_code(avp.code, avp.vendor);
     json.begin_object()?;
     put_front(json, def, avp)?;
-    json.key("value")?;
+    json.value_key()?;
     put_behind(json, dictionary, def, avp.bytes, depth)?;
     json.end_object()
 }

@@ -8,6 +8,7 @@ ghost use Rattle.dm_value.specs.ValueIn.{value_in};
 ghost use Rattle.dm_view.specs.JsonWords.{text_json};
 ghost use Rattle.dm_view.specs.JsonView.{listed_json, time_json, value_json, data_json};
 
+use crate::clean::are_clean;
 use crate::data::flaw_words;
 use crate::json_text::JsonText;
 use crate::json_words::{put_flaw, put_name, put_octets, put_text};
@@ -85,9 +86,34 @@ fn put_meant(json: &mut JsonText, def: &AvpDef, octets: &[u8]) -> Result<(), All
     }
 }
 
-/// Appends the data of an AVP of this definition.
+/// Appends the data of an AVP that is a text: where it is clean, it isn't judged.
+fn put_text_data(json: &mut JsonText, def: &AvpDef, octets: &[u8]) -> Result<(), AllocError>
+    requires { def.now.kind ≡ AvpType.UTF8String }
+    ensures { OnOk result (json.new ≡ json.old ++ json_tokens (data_json def.now octets.now)) }
+{
+    if are_clean(octets, b' ') {
+        return json.clean(unsafe { str::from_utf8_unchecked(octets) });
+    }
+    put_judged(json, def, octets)
+}
+
+/// Appends the data of an AVP that is an identity: where it is clean, it isn't judged.
+fn put_identity_data(json: &mut JsonText, def: &AvpDef, octets: &[u8]) -> Result<(), AllocError>
+    requires { def.now.kind ≡ AvpType.DiameterIdentity }
+    ensures { OnOk result (json.new ≡ json.old ++ json_tokens (data_json def.now octets.now)) }
+{
+    if octets.is_empty() {
+        return put_judged(json, def, octets);
+    }
+    if are_clean(octets, b'!') {
+        return json.clean(unsafe { str::from_utf8_unchecked(octets) });
+    }
+    put_judged(json, def, octets)
+}
+
+/// Appends the data of an AVP of this definition, as it is judged.
 #[tactic(auto, unfolding(crate::specs::JsonView::data_json))]
-pub(crate) fn put_data(json: &mut JsonText, def: &AvpDef, octets: &[u8]) -> Result<(), AllocError>
+fn put_judged(json: &mut JsonText, def: &AvpDef, octets: &[u8]) -> Result<(), AllocError>
     requires { def.now.kind ≢ AvpType.Grouped }
     ensures { OnOk result (json.new ≡ json.old ++ json_tokens (data_json def.now octets.now)) }
 {
@@ -95,4 +121,18 @@ pub(crate) fn put_data(json: &mut JsonText, def: &AvpDef, octets: &[u8]) -> Resu
         Some(fault) => put_flaw(json, flaw_words(fault), octets),
         None => put_meant(json, def, octets),
     }
+}
+
+/// Appends the data of an AVP of this definition.
+pub(crate) fn put_data(json: &mut JsonText, def: &AvpDef, octets: &[u8]) -> Result<(), AllocError>
+    requires { def.now.kind ≢ AvpType.Grouped }
+    ensures { OnOk result (json.new ≡ json.old ++ json_tokens (data_json def.now octets.now)) }
+{
+    if let AvpType::UTF8String = def.kind {
+        return put_text_data(json, def, octets);
+    }
+    if let AvpType::DiameterIdentity = def.kind {
+        return put_identity_data(json, def, octets);
+    }
+    put_judged(json, def, octets)
 }

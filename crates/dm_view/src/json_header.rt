@@ -45,9 +45,9 @@ fn put_flags(json: &mut JsonText, header: &Header) -> Result<(), AllocError>
 fn put_identifiers(json: &mut JsonText, header: &Header) -> Result<(), AllocError>
     ensures { OnOk result (json.new ≡ json.old ++ members_tokens (identifiers header.now)) }
 {
-    json.number_member("application", header.application)?;
-    json.number_member("hop_by_hop", header.hop_id)?;
-    json.number_member("end_to_end", header.end_id)?;
+    json.number_under("\"application\":", header.application)?;
+    json.number_under("\"hop_by_hop\":", header.hop_id)?;
+    json.number_under("\"end_to_end\":", header.end_id)?;
     json.end_object()?;
     Ok(())
 }

@@ -1,44 +1,60 @@
 //! A text in JSON, a token at a time (RFC 8259).
-ghost use Rattle.std.specs.Prelude.{◌≡◌, ◌++◌, ◌∷◌, [], None, OnOk};
+ghost use Rattle.std.specs.Prelude.{◌≡◌, ◌++◌, ◌∷◌, ℕ, List, [], None, codes, OnOk};
 ghost use Rattle.std.specs.Fmt.{decimal, signed_decimal};
 ghost use Rattle.std.specs.String.{string_bytes};
 ghost use Rattle.hex.specs.Hex.{encode_lower};
-ghost use Rattle.json.specs.Print.{print};
+ghost use Rattle.json.specs.Print.{escape, print, token_text};
 ghost use Rattle.json.specs.Token.{begin_object, end_object, begin_array, end_array, key, string, number, null};
 ghost use Rattle.dm_value.specs.declared.avp_type.AvpType.TheVariants.{Address};
 ghost use Rattle.dm_value.specs.Dates.{from_1900, utc_at, utc_text};
 ghost use Rattle.dm_value.specs.Flaws.{flaw};
 ghost use Rattle.dm_value.specs.Printed.{address_text};
 ghost use Rattle.dm_value.specs.ValueIn.{address_in};
+ghost use Rattle.dm_view.specs.JsonPrinted.{flags_tokens};
 
 use crate::data::put_address;
+use crate::json_printed::Printed;
 use dm_dict::utc_date;
 use dm_text::put_hexadecimal;
-use json::Writer;
 use std::alloc::{AllocError, Global};
 use std::marker::Model;
-use std::str;
 
-/// A text in JSON, as far as it is written: its tokens. The commas and colons between them are the writer's.
+/// A text in JSON, as far as it is written: its tokens. The commas and colons between them are put by themselves.
 ///
 /// `room` is used again for each text that isn't at hand; what it holds doesn't matter.
 #[derive(Drop)]
 pub struct JsonText {
-    writer: Writer,
+    printed: Printed,
     room: String,
+    alloc: Global,
 }
 
 impl Model for JsonText {
-    ghost use Rattle.std.specs.Prelude.{◌≡◌, List, []};
+    ghost use Rattle.std.specs.Prelude.{List};
     ghost use Rattle.json.specs.Token.{Token, tokens_code};
 
     ghost Value = { List Token };
 
     ghost coded = { tokens_code };
 
-    ghost view = { λ text. text.writer.tokens };
+    ghost view = { λ text. text.printed };
+}
 
-    ghost invariant = { λ text. text.writer.before ≡ [] };
+/// What the flags of an AVP are printed as.
+#[tactic(auto, unfolding(json::specs::Print::print_from, json::specs::Print::escape_byte))]
+fn flags_text(vendor: bool, mandatory: bool, protected: bool) -> &'static str
+    ensures { result.now ≡ print (flags_tokens vendor mandatory protected) }
+{
+    match (vendor, mandatory, protected) {
+        (false, false, false) => "\"flags\":[]",
+        (false, false, true) => "\"flags\":[\"protected\"]",
+        (false, true, false) => "\"flags\":[\"mandatory\"]",
+        (false, true, true) => "\"flags\":[\"mandatory\",\"protected\"]",
+        (true, false, false) => "\"flags\":[\"vendor\"]",
+        (true, false, true) => "\"flags\":[\"vendor\",\"protected\"]",
+        (true, true, false) => "\"flags\":[\"vendor\",\"mandatory\"]",
+        (true, true, true) => "\"flags\":[\"vendor\",\"mandatory\",\"protected\"]",
+    }
 }
 
 impl JsonText {
@@ -47,8 +63,9 @@ impl JsonText {
         ensures { result ≡ [] }
     {
         JsonText {
-            writer: Writer::new(Vec::new(alloc)),
+            printed: Printed::new(alloc),
             room: String::new(alloc),
+            alloc,
         }
     }
 
@@ -56,42 +73,95 @@ impl JsonText {
     pub fn begin_object(&mut self) -> Result<(), AllocError>
         ensures { OnOk result (self.new ≡ self.old ++ begin_object ∷ []) }
     {
-        self.writer.begin_object()
+        self.printed.begin_object()
     }
 
     /// Closes an object.
     pub fn end_object(&mut self) -> Result<(), AllocError>
         ensures { OnOk result (self.new ≡ self.old ++ end_object ∷ []) }
     {
-        self.writer.end_object()
+        self.printed.end_object()
     }
 
     /// Opens an array.
     pub fn begin_array(&mut self) -> Result<(), AllocError>
         ensures { OnOk result (self.new ≡ self.old ++ begin_array ∷ []) }
     {
-        self.writer.begin_array()
+        self.printed.begin_array()
     }
 
     /// Closes an array.
     pub fn end_array(&mut self) -> Result<(), AllocError>
         ensures { OnOk result (self.new ≡ self.old ++ end_array ∷ []) }
     {
-        self.writer.end_array()
+        self.printed.end_array()
     }
 
     /// The name of a member, whose value follows.
     pub fn key(&mut self, name: &str) -> Result<(), AllocError>
         ensures { OnOk result (self.new ≡ self.old ++ key name.now ∷ []) }
     {
-        self.writer.key(name)
+        self.printed.key(self.alloc, name)
     }
 
     /// A text.
     pub fn string(&mut self, text: &str) -> Result<(), AllocError>
         ensures { OnOk result (self.new ≡ self.old ++ string text.now ∷ []) }
     {
-        self.writer.string(text)
+        self.printed.string(self.alloc, text)
+    }
+
+    /// A text that needs no escapes.
+    pub(crate) fn clean(&mut self, text: &str) -> Result<(), AllocError>
+        requires { escape text.now ≡ text.now }
+        ensures { OnOk result (self.new ≡ self.old ++ string text.now ∷ []) }
+    {
+        self.printed.clean(text)
+    }
+
+    /// The name of an AVP that needs no escapes, as a member.
+    pub(crate) fn clean_name(&mut self, name: &str) -> Result<(), AllocError>
+        requires { escape name.now ≡ name.now }
+        ensures { OnOk result (self.new ≡ self.old ++ key (codes "name") ∷ string name.now ∷ []) }
+    {
+        self.printed
+            .put_three(true, "\"name\":\"", name, "\"", true)
+    }
+
+    /// A member that is a number from 0 on, behind its name between `"` and a colon.
+    pub(crate) fn number_under(&mut self, name: &str, value: u32) -> Result<(), AllocError>
+        requires { (k : List ℕ) × (name.now ≡ token_text (key k)) }
+        ensures { (k : List ℕ) → name.now ≡ token_text (key k)
+            → OnOk result (self.new ≡ self.old ++ key k ∷ number (decimal value) ∷ []) }
+    {
+        self.printed.number_member(name, value)
+    }
+
+    /// The code of an AVP, as a member.
+    pub(crate) fn code(&mut self, code: u32) -> Result<(), AllocError>
+        ensures { OnOk result (self.new ≡ self.old ++ key (codes "code") ∷ number (decimal code) ∷ []) }
+    {
+        self.printed.number_member("\"code\":", code)
+    }
+
+    /// The flags of an AVP in words, as a member.
+    pub(crate) fn flags(
+        &mut self,
+        vendor: bool,
+        mandatory: bool,
+        protected: bool,
+    ) -> Result<(), AllocError>
+        ensures { OnOk result (self.new ≡ self.old ++ flags_tokens vendor mandatory protected) }
+    {
+        self.printed
+            .put(true, flags_text(vendor, mandatory, protected), true)
+    }
+
+    /// The key of an AVP's value.
+    pub(crate) fn value_key(&mut self) -> Result<(), AllocError>
+        ensures { OnOk result (self.new ≡ self.old ++ key (codes "value") ∷ []) }
+    {
+        self.printed.put(true, "\"value\":", false)
     }
 
     /// Octets in hexadecimal, as a text.
@@ -101,7 +171,7 @@ impl JsonText {
         self.room.clear();
         self.room.reserve(octets.len().saturating_mul(2))?;
         put_hexadecimal(&mut self.room, octets)?;
-        self.writer.string(self.room.as_str())
+        self.printed.string(self.alloc, self.room.as_str())
     }
 
     /// An address as text.
@@ -111,7 +181,7 @@ impl JsonText {
     {
         self.room.clear();
         put_address(&mut self.room, octets)?;
-        self.writer.string(self.room.as_str())
+        self.printed.string(self.alloc, self.room.as_str())
     }
 
     /// The date and time of day of a time, as text.
@@ -120,28 +190,28 @@ impl JsonText {
     {
         self.room.clear();
         write!(self.room, "{}", utc_date(time))?;
-        self.writer.string(self.room.as_str())
+        self.printed.string(self.alloc, self.room.as_str())
     }
 
     /// A number from 0 on.
     pub fn number(&mut self, value: u64) -> Result<(), AllocError>
         ensures { OnOk result (self.new ≡ self.old ++ number (decimal value) ∷ []) }
     {
-        self.writer.u64(value)
+        self.printed.number(value)
     }
 
     /// A number.
     pub fn signed(&mut self, value: i64) -> Result<(), AllocError>
         ensures { OnOk result (self.new ≡ self.old ++ number (signed_decimal value) ∷ []) }
     {
-        self.writer.i64(value)
+        self.printed.signed(value)
     }
 
     /// Nothing.
     pub fn null(&mut self) -> Result<(), AllocError>
         ensures { OnOk result (self.new ≡ self.old ++ null ∷ []) }
     {
-        self.writer.null()
+        self.printed.null()
     }
 
     /// A member that is a text.
@@ -164,11 +234,9 @@ impl JsonText {
     pub fn put_line(self, text: &mut String) -> Result<(), AllocError>
         ensures { OnOk result (string_bytes text.new ≡ string_bytes text.old ++ print self ++ 10 ∷ []) }
     {
-        let JsonText { writer, room } = self;
-        drop(room);
-        let octets = writer.into_inner();
-        // What is written is text.
-        text.push_str(unsafe { str::from_utf8_unchecked(octets.as_slice()) })?;
+        let done = self.printed.put_text(text);
+        drop(self);
+        done?;
         text.push_str("\n")
     }
 }

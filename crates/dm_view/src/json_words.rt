@@ -6,6 +6,7 @@ ghost use Rattle.json.specs.Tree.{json_tokens, items_tokens, members_tokens};
 ghost use Rattle.dm_view.specs.JsonView.{flaw_json};
 ghost use Rattle.dm_view.specs.JsonWords.{octets_member, octets_json, text_json, name_json, vendor_member, word_item};
 
+use crate::clean::are_clean;
 use crate::json_text::JsonText;
 use dm_wire::Octets;
 use std::alloc::AllocError;
@@ -39,6 +40,16 @@ pub(crate) fn put_flaw(json: &mut JsonText, words: &str, octets: &[u8]) -> Resul
 
 /// Appends octets that are UTF-8 as a text, others in hexadecimal.
 pub(crate) fn put_text(json: &mut JsonText, octets: &[u8]) -> Result<(), AllocError>
+    ensures { OnOk result (json.new ≡ json.old ++ json_tokens (text_json octets.now)) }
+{
+    if are_clean(octets, b' ') {
+        return json.clean(unsafe { str::from_utf8_unchecked(octets) });
+    }
+    put_any_text(json, octets)
+}
+
+/// Appends octets that may be no text.
+fn put_any_text(json: &mut JsonText, octets: &[u8]) -> Result<(), AllocError>
     ensures { OnOk result (json.new ≡ json.old ++ json_tokens (text_json octets.now)) }
 {
     match str::from_utf8(octets) {

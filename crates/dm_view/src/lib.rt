@@ -3,10 +3,12 @@
 #![tactic(auto)]
 
 mod avps;
+mod clean;
 mod data;
 mod described;
 mod described_data;
 mod faults;
+mod front;
 mod header;
 mod json_avps;
 mod json_data;
@@ -14,6 +16,7 @@ mod json_faults;
 mod json_header;
 mod json_message;
 mod json_path;
+mod json_printed;
 mod json_text;
 mod json_words;
 mod message;

@@ -8,7 +8,8 @@ ghost use Rattle.dm_wire.specs.Printed.{data_text};
 ghost use Rattle.dm_value.specs.Printed.{name_text};
 ghost use Rattle.dm_view.specs.Words.{is_plain_octet, quoted, indented};
 
-use dm_text::{Hexadecimal, put_decimal, put_hexadecimal};
+use dm_text::{Hexadecimal, put_hexadecimal};
+use itoa::Buffer;
 use std::alloc::AllocError;
 use std::{fmt, str};
 
@@ -53,8 +54,19 @@ pub(crate) fn put_quoted(text: &mut String, octets: &[u8]) -> Result<(), AllocEr
     }
 }
 
-/// Appends a name as it is where it is UTF-8, else in hexadecimal.
+/// Appends a name as it is where it is UTF-8, else in hexadecimal. Most names are ASCII.
 pub(crate) fn put_octets_name(text: &mut String, octets: &[u8]) -> Result<(), AllocError>
+    ensures { OnOk result (string_bytes text.new ≡ string_bytes text.old ++ name_text octets.now) }
+{
+    if octets.is_ascii() {
+        // ASCII is UTF-8.
+        return text.push_str(unsafe { str::from_utf8_unchecked(octets) });
+    }
+    put_wide_name(text, octets)
+}
+
+/// Appends a name that may be no ASCII.
+fn put_wide_name(text: &mut String, octets: &[u8]) -> Result<(), AllocError>
     ensures { OnOk result (string_bytes text.new ≡ string_bytes text.old ++ name_text octets.now) }
 {
     match str::from_utf8(octets) {
@@ -85,26 +97,44 @@ pub(crate) fn put_octets_behind(
     put_octets(text, octets)
 }
 
+/// Appends a number from 0 on in decimal.
+pub(crate) fn put_unsigned(text: &mut String, number: u64) -> Result<(), AllocError>
+    ensures { OnOk result (string_bytes text.new ≡ string_bytes text.old ++ decimal number) }
+{
+    let mut digits = Buffer::new();
+    text.push_str(digits.format(number))
+}
+
 /// Appends words, and a number in decimal.
 pub(crate) fn put_number(text: &mut String, words: &str, number: u32) -> Result<(), AllocError>
     ensures { OnOk result (string_bytes text.new ≡ string_bytes text.old ++ words.now ++ decimal number) }
 {
     text.push_str(words)?;
-    put_decimal(text, u64::from(number))
+    put_unsigned(text, u64::from(number))
 }
 
 /// Appends a number in decimal, behind `-` where it is below 0.
 pub(crate) fn put_signed(text: &mut String, number: i64) -> Result<(), AllocError>
     ensures { OnOk result (string_bytes text.new ≡ string_bytes text.old ++ signed_decimal number) }
 {
-    if number < 0 {
-        text.push_str("-")?;
-    }
-    put_decimal(text, number.unsigned_abs())
+    let mut room = Buffer::new();
+    text.push_str(room.format(number))
 }
 
 /// Appends two spaces for each level.
 pub(crate) fn put_indent(text: &mut String, levels: u32) -> Result<(), AllocError>
+    ensures { OnOk result (string_bytes text.new ≡ string_bytes text.old ++ indented levels) }
+{
+    match levels {
+        1 => text.push_str("  "),
+        2 => text.push_str("    "),
+        3 => text.push_str("      "),
+        _ => put_levels(text, levels),
+    }
+}
+
+/// Appends two spaces for each of many levels.
+fn put_levels(text: &mut String, levels: u32) -> Result<(), AllocError>
     ensures { OnOk result (string_bytes text.new ≡ string_bytes text.old ++ indented levels) }
 {
     let mut left = levels;

@@ -1,19 +1,18 @@
-use Rattle.std.proofs.Common.{◌≡◌, ℕ, List, Bool, true, false, refl}
-use Rattle.std.specs.Str.{IsUtf8, is_utf8}
-use Rattle.std.proofs.lemmas.Str.{is_utf8-from_IsUtf8, IsUtf8-from_is_utf8}
+use Rattle.std.proofs.Common.{arith}
+use Rattle.std.proofs.lemmas.Str.{is_utf8-from_IsUtf8}
+use Rattle.dm_view.proofs.CleanOctets.{clean_is_text, clean_is_unescaped}
 use Rattle.dm_view.proofs.json_words.put_text.Goals as goal
 
-not_utf8 : (s : List ℕ) → (IsUtf8 s → ⊥) → is_utf8 s ≡ false
-not_utf8 s h = by (is_utf8 s) refl
-  where
-    by : (b : Bool) → is_utf8 s ≡ b → b ≡ false
-    by true is = absurd (h (IsUtf8-from_is_utf8 s is))
-    by false is = refl
+pub from_utf8_unchecked-requires : goal.from_utf8_unchecked-requires
+from_utf8_unchecked-requires c = clean_is_text 32 c.args.octets.now (c.are_clean.ensures c.if-are_clean.true)
 
-pub returns-in-Ok : goal.returns-in-Ok
-returns-in-Ok c =
-    let (same, utf8) = c.in-Ok.ensures.cases in
-    rw (is_utf8-from_IsUtf8 _ utf8, ← same) c.string.ensures
+pub clean-requires : goal.clean-requires
+clean-requires c =
+    let clean = c.are_clean.ensures c.if-are_clean.true in
+    rw c.from_utf8_unchecked.ensures (clean_is_unescaped 32 c.args.octets.now (omega arith) clean)
 
-pub returns-in-Err : goal.returns-in-Err
-returns-in-Err c = rw (not_utf8 c.args.octets.now c.in-Err.ensures.cases.0) c.put_octets.ensures
+pub returns-then-are_clean : goal.returns-then-are_clean
+returns-then-are_clean c =
+    let octets = c.args.octets.now in
+    let text = clean_is_text 32 octets (c.are_clean.ensures c.if-are_clean.true) in
+    rw (is_utf8-from_IsUtf8 octets text, ← c.from_utf8_unchecked.ensures) c.clean.ensures

@@ -1,0 +1,112 @@
+//! Octets that stand for themselves wherever a text is put, told sixteen at once.
+ghost use Rattle.std.specs.Prelude.{◌≡◌, ◌≤◌, ◌*◌, ◌+◌, true, length};
+ghost use Rattle.std.specs.List.{All};
+ghost use Rattle.dm_view.specs.Clean.{NeedsNoEscape, CleanBetween};
+
+use std::simd::prelude::*;
+
+/// Whether all octets are ASCII from this one on, none a control, a `"` or a `\`.
+pub(crate) fn are_clean(octets: &[u8], least: u8) -> bool
+    requires bound { least ≤ 33 }
+    ensures { result ≡ true → All (NeedsNoEscape least) octets.now }
+{
+    if octets.len() >= 16 {
+        are_many_clean(octets, least)
+    } else if octets.len() >= 8 {
+        are_some_clean(octets, least)
+    } else {
+        are_few_clean(octets, least)
+    }
+}
+
+/// The same of sixteen octets at least: those at the end may be looked at twice.
+fn are_many_clean(octets: &[u8], least: u8) -> bool
+    requires bound { least ≤ 33 }
+    requires many { 16 ≤ length octets.now }
+    ensures { result ≡ true → CleanBetween least octets.now 0 (length octets.now) }
+{
+    if !are_sixteen_clean(octets, octets.len() - 16, least) {
+        return false;
+    }
+    are_runs_clean(octets, (octets.len() - 1) / 16, least)
+}
+
+/// The same of so many runs of sixteen octets.
+fn are_runs_clean(octets: &[u8], runs: usize, least: u8) -> bool
+    requires bound { least ≤ 33 }
+    requires within { 16 * runs ≤ length octets.now }
+    ensures { result ≡ true → CleanBetween least octets.now 0 (16 * runs) }
+{
+    'runs: for k in 0..runs {
+        if !are_sixteen_clean(octets, 16 * k, least) {
+            return false;
+        }
+    }
+    true
+}
+
+/// The same of eight octets to sixteen.
+fn are_some_clean(octets: &[u8], least: u8) -> bool
+    requires bound { least ≤ 33 }
+    requires many { 8 ≤ length octets.now }
+    requires few { length octets.now ≤ 16 }
+    ensures { result ≡ true → CleanBetween least octets.now 0 (length octets.now) }
+{
+    if !are_eight_clean(octets, octets.len() - 8, least) {
+        return false;
+    }
+    are_eight_clean(octets, 0, least)
+}
+
+/// The same of the sixteen octets from here on.
+#[inline(always)]
+fn are_sixteen_clean(octets: &[u8], from: usize, least: u8) -> bool
+    requires bound { least ≤ 33 }
+    requires within { from + 16 ≤ length octets.now }
+    ensures { result ≡ true → CleanBetween least octets.now from (from + 16) }
+{
+    let lanes = u8x16::from_slice(&octets[from..]);
+    let moved = lanes + u8x16::splat(129);
+    let others = moved.simd_lt(u8x16::splat(least + 129)).to_bitmask();
+    if others != 0 {
+        return false;
+    }
+    let quotes = lanes.simd_eq(u8x16::splat(b'"')).to_bitmask();
+    if quotes != 0 {
+        return false;
+    }
+    lanes.simd_eq(u8x16::splat(b'\\')).to_bitmask() == 0
+}
+
+/// The same of the eight octets from here on.
+#[inline(always)]
+fn are_eight_clean(octets: &[u8], from: usize, least: u8) -> bool
+    requires bound { least ≤ 33 }
+    requires within { from + 8 ≤ length octets.now }
+    ensures { result ≡ true → CleanBetween least octets.now from (from + 8) }
+{
+    let lanes = u8x8::from_slice(&octets[from..]);
+    let moved = lanes + u8x8::splat(129);
+    let others = moved.simd_lt(u8x8::splat(least + 129)).to_bitmask();
+    if others != 0 {
+        return false;
+    }
+    let quotes = lanes.simd_eq(u8x8::splat(b'"')).to_bitmask();
+    if quotes != 0 {
+        return false;
+    }
+    lanes.simd_eq(u8x8::splat(b'\\')).to_bitmask() == 0
+}
+
+/// The same of a few octets, one by one.
+fn are_few_clean(octets: &[u8], least: u8) -> bool
+    ensures { result ≡ true → CleanBetween least octets.now 0 (length octets.now) }
+{
+    'octets: for i in 0..octets.len() {
+        let octet = octets[i];
+        if octet < least || octet > 126 || octet == b'"' || octet == b'\\' {
+            return false;
+        }
+    }
+    true
+}

@@ -1,0 +1,268 @@
+//! What tokens of JSON are printed as (RFC 8259), piece by piece.
+ghost use Rattle.std.specs.Prelude.{◌≡◌, ◌++◌, ◌∷◌, ◌&&◌, ℕ, List, [], cond, IfOk, OnOk};
+ghost use Rattle.std.specs.Fmt.{decimal, signed_decimal};
+ghost use Rattle.std.specs.Str.{IsUtf8};
+ghost use Rattle.std.specs.String.{string_bytes};
+ghost use Rattle.json.specs.Print.{escape, print, quoted, token_text};
+ghost use Rattle.json.specs.Token.{Token, begin_object, end_object, begin_array, end_array};
+ghost use Rattle.json.specs.Token.{key, string, number, null};
+ghost use Rattle.dm_view.specs.JsonPrinted.{IsPiece};
+
+use crate::clean::are_clean;
+use itoa::Buffer;
+use json::Writer;
+use std::alloc::{AllocError, Global};
+use std::marker::Model;
+use std::str;
+
+/// Room for so many octets is asked for at the start.
+const ROOM: usize = 4096;
+
+/// What some tokens are printed as, and whether the last of them ends a value.
+///
+/// Where memory is wanted, what is held is of no use.
+#[derive(Drop)]
+pub(crate) struct Printed {
+    text: String,
+    after_value: bool,
+}
+
+impl Model for Printed {
+    ghost use Rattle.std.specs.Prelude.{List};
+    ghost use Rattle.std.specs.String.{string_bytes};
+    ghost use Rattle.json.specs.Lex.{tokens};
+    ghost use Rattle.json.specs.Token.{Token, tokens_code};
+    ghost use Rattle.dm_view.specs.JsonPrinted.{IsPrinted};
+
+    ghost Value = { List Token };
+
+    ghost coded = { tokens_code };
+
+    ghost view = { λ p. tokens (string_bytes p.text) };
+
+    ghost invariant = { λ p. IsPrinted (string_bytes p.text) p.after_value };
+}
+
+/// A text without octets, with room where that is to be had.
+fn roomy(alloc: Global) -> String
+    ensures { string_bytes result ≡ [] }
+{
+    match String::with_capacity(alloc, ROOM) {
+        Ok(text) => text,
+        Err(_) => String::new(alloc),
+    }
+}
+
+/// Whether a comma stands before what comes.
+#[inline(always)]
+fn wants_comma(after_value: bool, begun: bool) -> bool
+    ensures { result ≡ (after_value && begun) }
+{
+    after_value && begun
+}
+
+/// Appends a piece, behind a comma where it is wanted.
+#[inline(always)]
+fn put_piece(text: &mut String, comma: bool, piece: &str) -> Result<(), AllocError>
+    ensures { OnOk result (string_bytes text.new
+        ≡ string_bytes text.old ++ (cond comma (44 ∷ []) [] ++ piece.now)) }
+{
+    if comma {
+        text.push_str(",")?;
+    }
+    text.push_str(piece)
+}
+
+/// Appends three pieces, behind a comma where it is wanted.
+#[inline(always)]
+fn put_pieces(
+    text: &mut String,
+    comma: bool,
+    front: &str,
+    middle: &str,
+    back: &str,
+) -> Result<(), AllocError>
+    ensures { OnOk result (string_bytes text.new
+        ≡ string_bytes text.old ++ (cond comma (44 ∷ []) [] ++ (front.now ++ (middle.now ++ back.now)))) }
+{
+    put_piece(text, comma, front)?;
+    text.push_str(middle)?;
+    text.push_str(back)
+}
+
+/// A text between `"`, with its escapes.
+#[tactic(auto, unfolding(json::specs::Print::print_from))]
+fn escaped(alloc: Global, text: &str) -> Result<Vec<u8>, AllocError>
+    ensures quoted { IfOk result (λ octets. octets.items ≡ quoted text.now) }
+    ensures text { IfOk result (λ octets. IsUtf8 octets.items) }
+{
+    let mut writer = Writer::new(Vec::new(alloc));
+    writer.string(text)?;
+    Ok(writer.into_inner())
+}
+
+impl Printed {
+    /// No tokens.
+    pub(crate) fn new(alloc: Global) -> Printed
+        ensures { result ≡ [] }
+    {
+        Printed {
+            text: roomy(alloc),
+            after_value: false,
+        }
+    }
+
+    /// Appends what some tokens are printed as. (So inlined, a piece that is at hand costs no call.)
+    #[inline(always)]
+    pub(crate) fn put(&mut self, begun: bool, piece: &str, ended: bool) -> Result<(), AllocError>
+        requires { (ts : List Token) × IsPiece begun piece.now ended ts }
+        ensures { (ts : List Token) → IsPiece begun piece.now ended ts → OnOk result (self.new ≡ self.old ++ ts) }
+    {
+        let comma = wants_comma(self.after_value, begun);
+        match put_piece(&mut self.text, comma, piece) {
+            Ok(()) => {
+                self.after_value = ended;
+                Ok(())
+            }
+            Err(error) => {
+                self.text.clear();
+                self.after_value = false;
+                Err(error)
+            }
+        }
+    }
+
+    /// Appends what some tokens are printed as, in three pieces.
+    #[inline(always)]
+    pub(crate) fn put_three(
+        &mut self,
+        begun: bool,
+        front: &str,
+        middle: &str,
+        back: &str,
+        ended: bool,
+    ) -> Result<(), AllocError>
+        requires { (ts : List Token) × IsPiece begun (front.now ++ (middle.now ++ back.now)) ended ts }
+        ensures { (ts : List Token) → IsPiece begun (front.now ++ (middle.now ++ back.now)) ended ts
+            → OnOk result (self.new ≡ self.old ++ ts) }
+    {
+        let comma = wants_comma(self.after_value, begun);
+        match put_pieces(&mut self.text, comma, front, middle, back) {
+            Ok(()) => {
+                self.after_value = ended;
+                Ok(())
+            }
+            Err(error) => {
+                self.text.clear();
+                self.after_value = false;
+                Err(error)
+            }
+        }
+    }
+
+    /// Opens an object.
+    pub(crate) fn begin_object(&mut self) -> Result<(), AllocError>
+        ensures { OnOk result (self.new ≡ self.old ++ begin_object ∷ []) }
+    {
+        self.put(true, "{", false)
+    }
+
+    /// Closes an object.
+    pub(crate) fn end_object(&mut self) -> Result<(), AllocError>
+        ensures { OnOk result (self.new ≡ self.old ++ end_object ∷ []) }
+    {
+        self.put(false, "}", true)
+    }
+
+    /// Opens an array.
+    pub(crate) fn begin_array(&mut self) -> Result<(), AllocError>
+        ensures { OnOk result (self.new ≡ self.old ++ begin_array ∷ []) }
+    {
+        self.put(true, "[", false)
+    }
+
+    /// Closes an array.
+    pub(crate) fn end_array(&mut self) -> Result<(), AllocError>
+        ensures { OnOk result (self.new ≡ self.old ++ end_array ∷ []) }
+    {
+        self.put(false, "]", true)
+    }
+
+    /// The name of a member, whose value follows.
+    pub(crate) fn key(&mut self, alloc: Global, name: &str) -> Result<(), AllocError>
+        ensures { OnOk result (self.new ≡ self.old ++ key name.now ∷ []) }
+    {
+        if are_clean(name.as_bytes(), b' ') {
+            return self.put_three(true, "\"", name, "\":", false);
+        }
+        let octets = escaped(alloc, name)?;
+        // What is written is text.
+        let text = unsafe { str::from_utf8_unchecked(octets.as_slice()) };
+        let done = self.put_three(true, "", text, ":", false);
+        drop(octets);
+        done
+    }
+
+    /// A text that needs no escapes.
+    pub(crate) fn clean(&mut self, text: &str) -> Result<(), AllocError>
+        requires { escape text.now ≡ text.now }
+        ensures { OnOk result (self.new ≡ self.old ++ string text.now ∷ []) }
+    {
+        self.put_three(true, "\"", text, "\"", true)
+    }
+
+    /// A text.
+    pub(crate) fn string(&mut self, alloc: Global, text: &str) -> Result<(), AllocError>
+        ensures { OnOk result (self.new ≡ self.old ++ string text.now ∷ []) }
+    {
+        if are_clean(text.as_bytes(), b' ') {
+            return self.clean(text);
+        }
+        let octets = escaped(alloc, text)?;
+        // What is written is text.
+        let text = unsafe { str::from_utf8_unchecked(octets.as_slice()) };
+        let done = self.put(true, text, true);
+        drop(octets);
+        done
+    }
+
+    /// A number from 0 on.
+    pub(crate) fn number(&mut self, value: u64) -> Result<(), AllocError>
+        ensures { OnOk result (self.new ≡ self.old ++ number (decimal value) ∷ []) }
+    {
+        let mut digits = Buffer::new();
+        self.put(true, digits.format(value), true)
+    }
+
+    /// A number.
+    pub(crate) fn signed(&mut self, value: i64) -> Result<(), AllocError>
+        ensures { OnOk result (self.new ≡ self.old ++ number (signed_decimal value) ∷ []) }
+    {
+        let mut digits = Buffer::new();
+        self.put(true, digits.format(value), true)
+    }
+
+    /// A member that is a number from 0 on, behind its name between `"` and a colon.
+    pub(crate) fn number_member(&mut self, name: &str, value: u32) -> Result<(), AllocError>
+        requires { (k : List ℕ) × (name.now ≡ token_text (key k)) }
+        ensures { (k : List ℕ) → name.now ≡ token_text (key k)
+            → OnOk result (self.new ≡ self.old ++ key k ∷ number (decimal value) ∷ []) }
+    {
+        let mut digits = Buffer::new();
+        self.put_three(true, name, digits.format(u64::from(value)), "", true)
+    }
+
+    /// Nothing.
+    pub(crate) fn null(&mut self) -> Result<(), AllocError>
+        ensures { OnOk result (self.new ≡ self.old ++ null ∷ []) }
+    {
+        self.put(true, "null", true)
+    }
+
+    /// Appends the text so far.
+    pub(crate) fn put_text(&self, text: &mut String) -> Result<(), AllocError>
+        ensures { OnOk result (string_bytes text.new ≡ string_bytes text.old ++ print self.now) }
+    {
+        text.push_str(self.text.as_str())
+    }
+}
