@@ -17,8 +17,8 @@ use crate::tally::{Tally, put_last};
 use std::alloc::Global;
 use std::io::Write;
 
-/// Writes a text in its style.
-fn write_end<W: Write>(
+/// Writes a text in its style. Where memory is wanted nothing of it is written, where the writer fails a front.
+pub fn write_end<W: Write>(
     alloc: Global,
     style: Style,
     text: &[u8],

@@ -58,7 +58,8 @@ pub(crate) fn put_styled(
 
 /// Gathers a text in its style behind what waits, and writes all of it where that is enough (65,536 octets).
 ///
-/// Where memory is wanted nothing of the text is gathered or written. Where the writer fails a front of all was written.
+/// Where memory is wanted nothing of the text is gathered or written. Where the writer fails a front of all was
+/// written.
 pub fn put_text<W: Write>(
     alloc: Global,
     style: Style,

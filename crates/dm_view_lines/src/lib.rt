@@ -38,6 +38,7 @@ mod turns;
 
 pub use colours::coloured_text;
 pub use digits::read_line;
+pub use ending::write_end;
 pub use fault::LinesFault;
 pub use fronted::Front;
 pub use gathered::{Style, put_text, write_waiting};

@@ -65,9 +65,11 @@ fn put_answer<F: Front>(
 ) -> Result<bool, NoMemory>
     ensures said { (l : List Avp) → SpellsList l message.now.rest.now → OnOk result (string_bytes text.new
         ≡ string_bytes text.old
-        ++ (message_answer task dictionary.now (F.before front.now) (record { header = message.now.header; avps = l })).0) }
+        ++ (message_answer task dictionary.now (F.before front.now)
+        (record { header = message.now.header; avps = l })).0) }
     ensures good { (l : List Avp) → SpellsList l message.now.rest.now → IfOk result (λ good.
-        good ≡ (message_answer task dictionary.now (F.before front.now) (record { header = message.now.header; avps = l })).1) }
+        good ≡ (message_answer task dictionary.now (F.before front.now)
+        (record { header = message.now.header; avps = l })).1) }
 {
     match task {
         Task::Show => {
@@ -89,7 +91,8 @@ fn put_shown<F: Front>(
 ) -> Result<(), AllocError>
     ensures { (l : List Avp) → SpellsList l message.now.rest.now → OnOk result (string_bytes text.new
         ≡ string_bytes text.old
-        ++ ((F.before front.now).words ++ message_view dictionary.now (record { header = message.now.header; avps = l }))) }
+        ++ ((F.before front.now).words
+        ++ message_view dictionary.now (record { header = message.now.header; avps = l }))) }
 {
     front.put_words(text)?;
     put_message(text, dictionary, message)?;
@@ -106,7 +109,8 @@ fn put_checked<F: Front>(
 ) -> Result<bool, NoMemory>
     ensures said { (l : List Avp) → SpellsList l message.now.rest.now → OnOk result (string_bytes text.new
         ≡ string_bytes text.old
-        ++ ((F.before front.now).words ++ check_view dictionary.now (record { header = message.now.header; avps = l }))) }
+        ++ ((F.before front.now).words
+        ++ check_view dictionary.now (record { header = message.now.header; avps = l }))) }
     ensures good { (l : List Avp) → SpellsList l message.now.rest.now → IfOk result (λ good.
         good ≡ are_none (located_faults dictionary.now (record { header = message.now.header; avps = l }))) }
 {
