@@ -1,12 +1,8 @@
-//! Tests of peers: the base messages, the state table, and peers over octets.
+//! Tests of peers over octets, and of what stands on them.
 //!
 //! A test ends where memory is short. What is checked in a test are its steps, and not the values that it compares: so
 //! it is one call of a helper over a table.
 #![tactic(auto)]
 
-#[cfg(test)]
-mod base;
-#[cfg(test)]
-mod machine;
 #[cfg(test)]
 mod peer;
