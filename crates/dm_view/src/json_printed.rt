@@ -18,6 +18,9 @@ use std::str;
 /// Room for so many octets is asked for at the start.
 const ROOM: usize = 4096;
 
+/// Room for so many octets is asked for besides those of a text that has escapes.
+const ESCAPES: usize = 64;
+
 /// What some tokens are printed as, and whether the last of them ends a value.
 ///
 /// Where memory is wanted, what is held is of no use.
@@ -96,7 +99,8 @@ fn escaped(alloc: Global, text: &str) -> Result<Vec<u8>, AllocError>
     ensures quoted { IfOk result (λ octets. octets.items ≡ quoted text.now) }
     ensures text { IfOk result (λ octets. IsUtf8 octets.items) }
 {
-    let mut writer = Writer::new(Vec::new(alloc));
+    let room = Vec::with_capacity(alloc, text.len().saturating_add(ESCAPES))?;
+    let mut writer = Writer::new(room);
     writer.string(text)?;
     Ok(writer.into_inner())
 }
