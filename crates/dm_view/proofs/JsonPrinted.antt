@@ -6,7 +6,7 @@ use Rattle.json.specs.Lex.{tokens}
 use Rattle.json.specs.Print.{begins, ends, ends_value, escape, escape_byte, separator, token_text, print_from, print}
 use Rattle.json.specs.Print.{IsPrintable, ArePrintable}
 use Rattle.json.specs.Token.{Token, key, string, number}
-use Rattle.dm_view.specs.JsonPrinted.{IsPrinted, IsPiece, flags_tokens}
+use Rattle.dm_view.specs.JsonPrinted.{IsPrinted, IsPrintedAs, flags_tokens}
 
 -- the tokens are read back
 pub shown : (text : List ℕ) (after_value : Bool) (h : IsPrinted text after_value) → tokens text ≡ h.printed
@@ -36,7 +36,7 @@ ends-append c (t ∷ ts) us = ends-append (ends t) ts us
 
 -- a piece more
 module _ (old new piece : List ℕ) (after begun ended : Bool) (ts : List Token) (h : IsPrinted old after)
-    (q : IsPiece begun piece ended ts) (e : new ≡ old ++ (cond (after && begun) (44 ∷ []) [] ++ piece)) where
+    (q : IsPrintedAs begun piece ended ts) (e : new ≡ old ++ (cond (after && begun) (44 ∷ []) [] ++ piece)) where
   pub more : IsPrinted new ended
   more = record {
     printed = h.printed ++ ts;
@@ -53,7 +53,7 @@ module _ (old new piece : List ℕ) (after begun ended : Bool) (ts : List Token)
 -- ---- pieces
 
 -- the text of one token
-pub of_token : (t : Token) → IsPrintable t → IsPiece (begins t) (token_text t) (ends t) (t ∷ [])
+pub of_token : (t : Token) → IsPrintable t → IsPrintedAs (begins t) (token_text t) (ends t) (t ∷ [])
 unfolding print_from ArePrintable
 of_token t h = record {
   good = (h, tt);
@@ -62,7 +62,7 @@ of_token t h = record {
 }
 
 -- a text that needs no escapes, between its `"`
-pub of_string : (s : List ℕ) → escape s ≡ s → IsPiece true (codes "\"" ++ (s ++ codes "\"")) true (string s ∷ [])
+pub of_string : (s : List ℕ) → escape s ≡ s → IsPrintedAs true (codes "\"" ++ (s ++ codes "\"")) true (string s ∷ [])
 unfolding print_from ArePrintable
 of_string s plain = record {
   good = (tt, tt);
@@ -71,7 +71,7 @@ of_string s plain = record {
   end = λ a. refl;
 }
 
-pub of_key : (s : List ℕ) → escape s ≡ s → IsPiece true (codes "\"" ++ (s ++ codes "\":")) false (key s ∷ [])
+pub of_key : (s : List ℕ) → escape s ≡ s → IsPrintedAs true (codes "\"" ++ (s ++ codes "\":")) false (key s ∷ [])
 unfolding print_from ArePrintable
 of_key s plain = record {
   good = (tt, tt);
@@ -81,7 +81,8 @@ of_key s plain = record {
 }
 
 -- a key with its escapes
-pub of_escaped_key : (s : List ℕ) → IsPiece true (codes "" ++ (token_text (string s) ++ codes ":")) false (key s ∷ [])
+pub of_escaped_key : (s : List ℕ)
+    → IsPrintedAs true (codes "" ++ (token_text (string s) ++ codes ":")) false (key s ∷ [])
 unfolding print_from ArePrintable
 of_escaped_key s = record {
   good = (tt, tt);
@@ -91,7 +92,7 @@ of_escaped_key s = record {
 
 -- a member that is a number
 pub of_number_member : (name k n : List ℕ) → name ≡ token_text (key k) → IsPrintable (number n)
-    → IsPiece true (name ++ (n ++ codes "")) true (key k ∷ number n ∷ [])
+    → IsPrintedAs true (name ++ (n ++ codes "")) true (key k ∷ number n ∷ [])
 unfolding print_from ArePrintable
 of_number_member name k n is good = record {
   good = (tt, (good, tt));
@@ -101,7 +102,7 @@ of_number_member name k n is good = record {
 
 -- the name of an AVP, as a member
 pub of_name : (s : List ℕ) → escape s ≡ s
-    → IsPiece true (codes "\"name\":\"" ++ (s ++ codes "\"")) true (key (codes "name") ∷ string s ∷ [])
+    → IsPrintedAs true (codes "\"name\":\"" ++ (s ++ codes "\"")) true (key (codes "name") ∷ string s ∷ [])
 unfolding print_from ArePrintable escape_byte
 of_name s plain = record {
   good = (tt, (tt, tt));
@@ -133,7 +134,7 @@ end_key = refl
 
 -- flags in words
 pub of_flags : (vendor mandatory protected : Bool)
-    → IsPiece true (print (flags_tokens vendor mandatory protected)) true (flags_tokens vendor mandatory protected)
+    → IsPrintedAs true (print (flags_tokens vendor mandatory protected)) true (flags_tokens vendor mandatory protected)
 unfolding print_from ArePrintable
 of_flags false false false = record { good = (tt, (tt, (tt, tt))); text = λ a. refl; end = λ a. refl }
 of_flags false false true = record { good = (tt, (tt, (tt, (tt, tt)))); text = λ a. refl; end = λ a. refl }

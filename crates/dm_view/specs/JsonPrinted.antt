@@ -14,7 +14,7 @@ pub record IsPrinted (text : List ℕ) (after_value : Bool) : Type 0 where
   pub place : after_value ≡ ends_value printed
 
 -- what these tokens are printed as behind others: where they begin a value behind another one, a comma before it
-pub record IsPiece (begun : Bool) (piece : List ℕ) (ended : Bool) (ts : List Token) : Type 0 where
+pub record IsPrintedAs (begun : Bool) (piece : List ℕ) (ended : Bool) (ts : List Token) : Type 0 where
   pub good : ArePrintable ts
   pub text : (after_value : Bool) → print_from after_value ts ≡ cond (after_value && begun) (44 ∷ []) [] ++ piece
   pub end : (after_value : Bool) → fold (λ _ t. ends t) after_value ts ≡ ended

@@ -6,7 +6,7 @@ ghost use Rattle.std.specs.String.{string_bytes};
 ghost use Rattle.json.specs.Print.{escape, print, quoted, token_text};
 ghost use Rattle.json.specs.Token.{Token, begin_object, end_object, begin_array, end_array};
 ghost use Rattle.json.specs.Token.{key, string, number, null};
-ghost use Rattle.dm_view.specs.JsonPrinted.{IsPiece};
+ghost use Rattle.dm_view.specs.JsonPrinted.{IsPrintedAs};
 
 use crate::clean::are_clean;
 use itoa::Buffer;
@@ -17,6 +17,9 @@ use std::str;
 
 /// Room for so many octets is asked for at the start.
 const ROOM: usize = 4096;
+
+/// Room for so many octets is asked for besides those of a text that has escapes.
+const ESCAPES: usize = 64;
 
 /// What some tokens are printed as, and whether the last of them ends a value.
 ///
@@ -96,7 +99,8 @@ fn escaped(alloc: Global, text: &str) -> Result<Vec<u8>, AllocError>
     ensures quoted { IfOk result (λ octets. octets.items ≡ quoted text.now) }
     ensures text { IfOk result (λ octets. IsUtf8 octets.items) }
 {
-    let mut writer = Writer::new(Vec::new(alloc));
+    let room = Vec::with_capacity(alloc, text.len().saturating_add(ESCAPES))?;
+    let mut writer = Writer::new(room);
     writer.string(text)?;
     Ok(writer.into_inner())
 }
@@ -115,8 +119,8 @@ impl Printed {
     /// Appends what some tokens are printed as. (So inlined, a piece that is at hand costs no call.)
     #[inline(always)]
     pub(crate) fn put(&mut self, begun: bool, piece: &str, ended: bool) -> Result<(), AllocError>
-        requires { (ts : List Token) × IsPiece begun piece.now ended ts }
-        ensures { (ts : List Token) → IsPiece begun piece.now ended ts → OnOk result (self.new ≡ self.old ++ ts) }
+        requires { (ts : List Token) × IsPrintedAs begun piece.now ended ts }
+        ensures { (ts : List Token) → IsPrintedAs begun piece.now ended ts → OnOk result (self.new ≡ self.old ++ ts) }
     {
         let comma = wants_comma(self.after_value, begun);
         match put_piece(&mut self.text, comma, piece) {
@@ -142,8 +146,8 @@ impl Printed {
         back: &str,
         ended: bool,
     ) -> Result<(), AllocError>
-        requires { (ts : List Token) × IsPiece begun (front.now ++ (middle.now ++ back.now)) ended ts }
-        ensures { (ts : List Token) → IsPiece begun (front.now ++ (middle.now ++ back.now)) ended ts
+        requires { (ts : List Token) × IsPrintedAs begun (front.now ++ (middle.now ++ back.now)) ended ts }
+        ensures { (ts : List Token) → IsPrintedAs begun (front.now ++ (middle.now ++ back.now)) ended ts
             → OnOk result (self.new ≡ self.old ++ ts) }
     {
         let comma = wants_comma(self.after_value, begun);

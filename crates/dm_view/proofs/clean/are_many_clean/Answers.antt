@@ -11,4 +11,5 @@ returns c =
     let end : last + 16 ≡ length octets = omega arith in
     λ is.
     subst (CleanBetween least octets 0) end (clean_joined least octets last (16 * ((length octets - 1) / 16))
-    (last + 16) (omega arith) (c.are_runs_clean.ensures is) (c.are_sixteen_clean.ensures c.if-not-are_sixteen_clean.false))
+    (last + 16) (omega arith) (c.are_runs_clean.ensures is)
+    (c.are_sixteen_clean.ensures c.if-not-are_sixteen_clean.false))
