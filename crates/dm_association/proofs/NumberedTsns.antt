@@ -10,7 +10,7 @@ use Rattle.dm_association.specs.declared.tsn_state.TsnState.{TsnState}
 use Rattle.dm_association.specs.declared.tsn_state.TsnState.TheVariants.{Done, Held}
 use Rattle.dm_association.specs.Fragments.{FragmentState, marks_in_message, IsUserMessage, user_message}
 use Rattle.dm_association.specs.Reassembly.{NumberedMessage}
-use Rattle.dm_association.specs.TsnWindows.{TsnWindowState, tsn_at, held_marks, held_in, marks_with, octets_with, PassesFront, AreDone, PutsFragment, CompletesNone}
+use Rattle.dm_association.specs.TsnWindows.{TsnWindowState, tsn_at, held_marks, slot_octets, marks_with, octets_with, PassesFront, AreDone, PutsFragment, CompletesNone}
 use Rattle.dm_association.proofs.MessageRuns.{held_within}
 use Rattle.dm_association.proofs.Reassembly.{HasNumber, seen_with, octets_seen}
 use Rattle.dm_association.proofs.TsnCounting.{is_among, is_before, is_behind}
@@ -116,8 +116,8 @@ seen_shifted n at j tsns own =
 octets_shifted : (n at j : ℕ) (tsns : List TsnState) (own : List ℕ) →
     octets_seen (state_of n tsns) (n + at) own (n + j) ≡ octets_with tsns at own j
 octets_shifted n at j tsns own =
-    ap (λ b. if b then own else held_in (state_of n tsns (n + j))) (shifted_test n at j)
-    ∙ ap (λ s. if eqb j at then own else held_in s) (state_shifted n tsns j)
+    ap (λ b. if b then own else slot_octets (state_of n tsns (n + j))) (shifted_test n at j)
+    ∙ ap (λ s. if eqb j at then own else slot_octets s) (state_shifted n tsns j)
 
 marks_shifted : (n first count stream j : ℕ) →
     marks_in_message (n + first) count stream (n + j) ≡ marks_in_message first count stream j

@@ -8,7 +8,7 @@ use Rattle.dm_association.specs.declared.chunk_place.ChunkPlace.TheVariants.{Wan
 use Rattle.dm_association.specs.declared.tsn_state.TsnState.{TsnState}
 use Rattle.dm_association.specs.declared.tsn_state.TsnState.TheVariants.{Missing, Done, Held}
 use Rattle.dm_association.specs.SctpFlows.{place_in_flow, HasRoomInFlow}
-use Rattle.dm_association.specs.TsnWindows.{TsnWindowState, begun_window, tsn_at, is_missing, held_in, waiting_octets, reach, place_within, place_before, chunk_place, HasRoomAt}
+use Rattle.dm_association.specs.TsnWindows.{TsnWindowState, begun_window, tsn_at, is_missing, slot_octets, waiting_octets, reach, place_within, place_before, chunk_place, HasRoomAt}
 
 either : (b : Bool) (x y : ChunkPlace) (at : ℕ) → (if b then x else y) ≡ Wanted at →
     ((b ≡ true) × (x ≡ Wanted at)) ⊎ ((b ≡ false) × (y ≡ Wanted at))
@@ -79,14 +79,14 @@ room_in_flow (Some window) chunk at e = room_at window chunk.tsn (length chunk.u
 pub room_at_first : (tsn size : ℕ) → size ≤ 1048576 → HasRoomAt (begun_window tsn) 0 size
 room_at_first tsn size fits = record { missing = refl; near = omega arith; fits = omega (arith, fits) }
 
-none_missing : (state : TsnState) → is_missing state ≡ true → length (held_in state) ≡ 0
+none_missing : (state : TsnState) → is_missing state ≡ true → length (slot_octets state) ≡ 0
 none_missing Missing e = refl
 none_missing Done e = refl
 none_missing (Held fragment) e = cc
 
 -- and nothing waits there
 pub room_is_free : (w : TsnWindowState) (at size : ℕ) → HasRoomAt w at size →
-    length (held_in (tsn_at w.tsns at)) ≡ 0
+    length (slot_octets (tsn_at w.tsns at)) ≡ 0
 room_is_free w at size room = none_missing (tsn_at w.tsns at) room.missing
 
 -- it is wanted where its TSN says

@@ -9,7 +9,7 @@ use Rattle.dm_association.specs.declared.tsn_state.TsnState.TheVariants.{Missing
 use Rattle.dm_association.specs.Fragments.{FragmentState, chunk_marks, fragment_of, marks_in_message, IsUserMessage, user_message}
 use Rattle.dm_association.specs.Reassembly.{NumberedChunk, chunk_numbered, marks_read, octets_read, marks_numbered, octets_numbered, NumberedMessage, message_numbered, IsAmongMessages}
 use Rattle.dm_association.specs.SctpFlows.{is_clear_text}
-use Rattle.dm_association.specs.TsnWindows.{held_marks, held_in}
+use Rattle.dm_association.specs.TsnWindows.{held_marks, slot_octets}
 use Rattle.dm_association.proofs.ChunkLists.{get_more, get_last, get_either, map_same, same_message, same_octets}
 use Rattle.dm_association.proofs.OneMessage.{one_user_message}
 use Rattle.dm_association.proofs.TsnLists.{chosen_yes, chosen_no}
@@ -116,7 +116,7 @@ abbrev pub seen_with : (ℕ → TsnState) → ℕ → ChunkMarks → ℕ → Opt
 seen_with state a own k = if eqb k a then Some own else held_marks (state k)
 
 abbrev pub octets_seen : (ℕ → TsnState) → ℕ → List ℕ → ℕ → List ℕ
-octets_seen state a own k = if eqb k a then own else held_in (state k)
+octets_seen state a own k = if eqb k a then own else slot_octets (state k)
 
 read_held : (chunk : SeenData) (o : Option SeenData) → o ≡ Some chunk →
     is_clear_text chunk.payload_protocol ≡ true → marks_read o ≡ Some (chunk_marks chunk)
@@ -126,7 +126,7 @@ read_held chunk o is clear =
 
 -- of what waits the marks and octets are those that came
 held_came : (s : TsnState) (o : Option SeenData) (marks : ChunkMarks) → SaysChunk s o → held_marks s ≡ Some marks →
-    (marks_read o ≡ Some marks) × (octets_read o ≡ held_in s)
+    (marks_read o ≡ Some marks) × (octets_read o ≡ slot_octets s)
 held_came Missing o marks says e = cc
 held_came Done o marks says e = cc
 held_came (Held f) o marks says e =
@@ -316,7 +316,7 @@ came_whole base a state chunk old new messages so c clear m low whole k from til
     ap (λ n. marks_numbered new n) is_it.1 ∙ read_held chunk (chunk_numbered new a) c.here clear
         ∙ sym (chosen_yes (eqb k a) (Some (chunk_marks chunk)) (held_marks (state k)) is_it.0),
     ap (λ n. octets_numbered new n) is_it.1 ∙ ap octets_read c.here
-        ∙ sym (chosen_yes (eqb k a) chunk.user_data (held_in (state k)) is_it.0),
+        ∙ sym (chosen_yes (eqb k a) chunk.user_data (slot_octets (state k)) is_it.0),
   )
   | inr not_it ↦
       let there = sym (chosen_no (eqb k a) (Some (chunk_marks chunk)) (held_marks (state k)) not_it.0)
@@ -326,7 +326,7 @@ came_whole base a state chunk old new messages so c clear m low whole k from til
         other_marks base a state chunk old new c k (omega arith) not_it.1 ∙ came.0 ∙ sym there
             ∙ sym (chosen_no (eqb k a) (Some (chunk_marks chunk)) (held_marks (state k)) not_it.0),
         ap octets_read (c.others k (omega arith) not_it.1) ∙ came.1
-            ∙ sym (chosen_no (eqb k a) chunk.user_data (held_in (state k)) not_it.0),
+            ∙ sym (chosen_no (eqb k a) chunk.user_data (slot_octets (state k)) not_it.0),
       )
 ]
 

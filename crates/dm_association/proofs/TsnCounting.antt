@@ -6,21 +6,21 @@ use Rattle.std.proofs.lemmas.List.Sums.{sum_by-cons, sum_by-append}
 use Rattle.dm_association.specs.declared.tsn_state.TsnState.{TsnState}
 use Rattle.dm_association.specs.declared.tsn_state.TsnState.TheVariants.{Missing, Done, Held}
 use Rattle.dm_association.specs.Fragments.{FragmentState, user_message}
-use Rattle.dm_association.specs.TsnWindows.{TsnWindowState, tsn_at, held_in, waiting_octets, octets_with, PassesFront, AreDone, FinishesTsns, CompletesMessage, PutsFragment}
+use Rattle.dm_association.specs.TsnWindows.{TsnWindowState, tsn_at, slot_octets, waiting_octets, octets_with, PassesFront, AreDone, FinishesTsns, CompletesMessage, PutsFragment}
 use Rattle.dm_association.proofs.TsnLists.{with_tsn, with_here, with_other, chosen_yes, chosen_no}
 use Rattle.dm_association.proofs.MessageRuns.{differ, same}
 
 -- how many octets wait at a TSN
 abbrev size_of : TsnState → ℕ
-size_of state = length (held_in state)
+size_of state = length (slot_octets state)
 
 pub waiting_cons : (x : TsnState) (tsns : List TsnState) →
     waiting_octets (x ∷ tsns) ≡ size_of x + waiting_octets tsns
-waiting_cons x tsns = sum_by-cons (λ (state : TsnState). length (held_in state)) x tsns
+waiting_cons x tsns = sum_by-cons (λ (state : TsnState). length (slot_octets state)) x tsns
 
 pub waiting_both : (tsns more : List TsnState) →
     waiting_octets (tsns ++ more) ≡ waiting_octets tsns + waiting_octets more
-waiting_both tsns more = sum_by-append (λ (state : TsnState). length (held_in state)) tsns more
+waiting_both tsns more = sum_by-append (λ (state : TsnState). length (slot_octets state)) tsns more
 
 -- the same TSNs have as many
 none_waits : (g : List TsnState) → ((k : ℕ) → tsn_at g k ≡ Missing) → waiting_octets g ≡ 0
@@ -169,7 +169,7 @@ are_from old first count new h k = elim (cases_lt k first) [
 
 -- what they had was the octets that waited there
 abbrev held_at : List TsnState → ℕ → List ℕ
-held_at tsns k = held_in (tsn_at tsns k)
+held_at tsns k = slot_octets (tsn_at tsns k)
 
 from_wait : (tsns : List TsnState) (first n : ℕ) →
     waiting_octets (done_from tsns first n) + length (user_message (held_at tsns) first n) ≡ waiting_octets tsns

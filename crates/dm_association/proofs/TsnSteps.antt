@@ -4,7 +4,7 @@ use Rattle.std.proofs.lemmas.Bool.Decides.{eqb_tells, nat_tests}
 use Rattle.dm_flows.specs.Windows.{sequence_behind}
 use Rattle.dm_association.specs.declared.tsn_state.TsnState.{TsnState}
 use Rattle.dm_association.specs.declared.tsn_state.TsnState.TheVariants.{Missing, Done, Held}
-use Rattle.dm_association.specs.TsnWindows.{TsnWindowState, tsn_at, is_tsn_done, held_in, waiting_octets, PassesFront, AreDone}
+use Rattle.dm_association.specs.TsnWindows.{TsnWindowState, tsn_at, is_tsn_done, slot_octets, waiting_octets, PassesFront, AreDone}
 use Rattle.dm_association.proofs.TsnCounting.{waiting_both, missing_wait, waiting_set, is_among}
 use Rattle.dm_association.proofs.TsnLists.{at_grown, set_here, set_other, chosen_yes, chosen_no}
 
@@ -82,7 +82,7 @@ more_done old mid first n k so within = elim (eqb_tells k (first + n)) [
 ]
 
 pub finishes_more : (old mid : List TsnState) (first n freed more : ℕ) → FinishesSome old first n freed mid →
-    first + n < length mid → more ≡ length (held_in (tsn_at mid (first + n))) →
+    first + n < length mid → more ≡ length (slot_octets (tsn_at mid (first + n))) →
     FinishesSome old first (suc n) (freed + more) (slice_set mid (first + n) Done)
 finishes_more old mid first n freed more so within is =
     let sum = waiting_set mid (first + n) Done within in

@@ -36,20 +36,20 @@ abbrev pub held_marks : TsnState → Option ChunkMarks
 held_marks (Held fragment) = Some fragment.marks
 held_marks state = None
 
-abbrev pub held_in : TsnState → List ℕ
-held_in (Held fragment) = fragment.octets
-held_in state = []
+abbrev pub slot_octets : TsnState → List ℕ
+slot_octets (Held fragment) = fragment.octets
+slot_octets state = []
 
 -- how many octets wait
 abbrev pub waiting_octets : List TsnState → ℕ
-waiting_octets tsns = sum_by (λ state. length (held_in state)) tsns
+waiting_octets tsns = sum_by (λ state. length (slot_octets state)) tsns
 
 -- what waits, and among it a chunk at its place
 abbrev pub marks_with : List TsnState → ℕ → ChunkMarks → ℕ → Option ChunkMarks
 marks_with tsns at own k = if nat_eq k at then Some own else held_marks (tsn_at tsns k)
 
 abbrev pub octets_with : List TsnState → ℕ → List ℕ → ℕ → List ℕ
-octets_with tsns at own k = if nat_eq k at then own else held_in (tsn_at tsns k)
+octets_with tsns at own k = if nat_eq k at then own else slot_octets (tsn_at tsns k)
 
 -- TSNs are compared modulo 2^32. A chunk may be less than 65,536 TSNs behind the first, and less than 1,024 behind the
 -- last of which something came

@@ -1,7 +1,7 @@
 //! What came of TSNs, one after the other from the first that isn't done.
 ghost use Rattle.std.specs.Prelude.{◌≡◌, ◌<◌, ◌≤◌, ◌+◌, ◌++◌, ℕ, length, max, slice_set, IfOk, OnOk, OnErr};
 ghost use Rattle.dm_association.specs.Fragments.{user_message};
-ghost use Rattle.dm_association.specs.TsnWindows.{tsn_at, is_missing, is_tsn_done, held_marks, held_in};
+ghost use Rattle.dm_association.specs.TsnWindows.{tsn_at, is_missing, is_tsn_done, held_marks, slot_octets};
 ghost use Rattle.dm_association.specs.TsnWindows.{waiting_octets, octets_with, AreDone, PassesDone};
 
 use crate::fragment::Fragment;
@@ -35,7 +35,7 @@ pub(crate) fn is_missing_at(tsns: &VecDeque<TsnState>, at: usize) -> bool
 
 /// The octets that wait at a place.
 fn octets_at(tsns: &VecDeque<TsnState>, at: usize) -> &[u8]
-    ensures { result.now ≡ held_in (tsn_at tsns.now.items at) }
+    ensures { result.now ≡ slot_octets (tsn_at tsns.now.items at) }
 {
     match tsns.get(at) {
         Some(TsnState::Held(fragment)) => fragment.octets(),
@@ -106,7 +106,7 @@ pub(crate) fn put_fragment(tsns: &mut VecDeque<TsnState>, at: usize, fragment: F
 fn finish_one(tsns: &mut VecDeque<TsnState>, at: usize) -> usize
     requires { at < length tsns.old.items }
     ensures done { tsns.new.items ≡ slice_set tsns.old.items at TsnState.Done }
-    ensures freed { result ≡ length (held_in (tsn_at tsns.old.items at)) }
+    ensures freed { result ≡ length (slot_octets (tsn_at tsns.old.items at)) }
 {
     let freed = octets_at(tsns, at).len();
     drop(mem::replace(&mut tsns[at], TsnState::Done));

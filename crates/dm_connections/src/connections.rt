@@ -144,8 +144,9 @@ impl Connections {
         ensures put { OnOk result (self.new ≡ record self.old { held = with_fresh self.old.max ends self.old.held }) }
         ensures unchanged { OnErr result (self.new ≡ self.old) }
     {
+        // Asked for its clause: fewer than 2^63 are held.
         let _count = self.held.len();
-        let connection = ends.new_connection(self.alloc, self.max);
+        let connection = ends.connection(self.alloc, self.max);
         match self.held.put(ends, connection) {
             Ok(_) => Ok(()),
             Err(_) => Err(AllocError),
@@ -176,6 +177,7 @@ impl Connections {
             (λ before after. LeavesConnection before (segment_seen segment.entry) after)) }
         ensures max { self.new.max ≡ self.old.max }
     {
+        // Asked for its clause: fewer than 2^63 are held.
         let _count = self.held.len();
         match self.held.get_mut(&ends) {
             Some(connection) => hear_counted(connection, &mut self.octets, segment),
@@ -196,6 +198,7 @@ impl Connections {
         ensures unchanged { OnErr result (self.new ≡ self.old) }
         ensures max { self.new.max ≡ self.old.max }
     {
+        // Asked for its clause: fewer than 2^63 are held.
         let _count = self.held.len();
         match self.held.peek_mut(&ends) {
             Some(connection) => next_counted(connection, &mut self.octets, from_first),

@@ -15,7 +15,7 @@ pub struct Ends {
 
 impl Ends {
     /// A connection of these ends of which nothing came, for messages of at most `max` octets.
-    pub(crate) fn new_connection(self, alloc: Global, max: u32) -> Connection
+    pub(crate) fn connection(self, alloc: Global, max: u32) -> Connection
         ensures { result ≡ new_connection max self.first self.second }
     {
         Connection::new(alloc, self.first, self.second, max)
