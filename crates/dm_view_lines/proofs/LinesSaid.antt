@@ -31,7 +31,7 @@ use Rattle.dm_view_lines.specs.Colours.{styled, line_coloured}
 use Rattle.dm_view_lines.specs.Counts.{no_lines, tally_of, tallied}
 use Rattle.dm_view_lines.specs.Digits.{octets_of_line}
 use Rattle.dm_view_lines.specs.Lines.{SaysLine, SaysLines}
-use Rattle.dm_view_lines.specs.Fronts.{MessageFront, by_number}
+use Rattle.dm_view_lines.specs.Fronts.{SaidFront, by_number}
 use Rattle.dm_view_lines.specs.Said.{SaysFronted, SaysOctets, numbered, before_refusal, front_shown, front_checked}
 use Rattle.dm_view_lines.specs.Speakers.{CountsOneLine}
 use Rattle.dm_view_lines.specs.Streams.{HasLineEnds}
@@ -144,7 +144,7 @@ numbered-end n s t is h =
 fronted-end : (words s t : List ℕ) → t ≡ words ++ s → Ends s → HasLineEnds t
 fronted-end words s t is h = ended_as (words ++ s) t is (ends-back words s h)
 
-fronted-whole : (task : Task) (d : Definitions) (front : MessageFront) (s text : List ℕ) (good : Bool)
+fronted-whole : (task : Task) (d : Definitions) (front : SaidFront) (s text : List ℕ) (good : Bool)
     → SaysFronted task d front s text good → AsLines task text
 fronted-whole Show d front s text good (inl h) =
     fronted-end front.words (message_view d h.0) text h.2 (message-ends d h.0)

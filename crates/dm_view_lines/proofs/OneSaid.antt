@@ -8,7 +8,7 @@ use Rattle.dm_view_lines.specs.declared.tally.Tally.{Tally}
 use Rattle.dm_view_lines.specs.Colours.{SaysStyled, styled}
 use Rattle.dm_view_lines.specs.Counts.{tallied, tally_of}
 use Rattle.dm_view_lines.specs.Digits.{octets_of_line}
-use Rattle.dm_view_lines.specs.Fronts.{MessageFront, by_number}
+use Rattle.dm_view_lines.specs.Fronts.{SaidFront, by_number}
 use Rattle.dm_view_lines.specs.Lines.{SaysLine, SaysEach, Says, counts_line}
 use Rattle.dm_view_lines.specs.Said.{message_answer, refused_said, SaysFronted, SaysOctets}
 
@@ -19,7 +19,7 @@ pub record OctetLaws : Type 0 where
   pub no_message_refused : NoMessageRefused
 
 module _ (laws : OctetLaws) where
-  one_fronted : (task : Task) (d : Definitions) (front : MessageFront) (s text other : List ℕ) (good fine : Bool)
+  one_fronted : (task : Task) (d : Definitions) (front : SaidFront) (s text other : List ℕ) (good fine : Bool)
       → SaysFronted task d front s text good → SaysFronted task d front s other fine → (text ≡ other) × (good ≡ fine)
   one_fronted task d front s text other good fine (inl h) (inl k) =
       let same = (laws.one_message h.0 k.0 s s [] [] h.1 k.1 refl).0 in (

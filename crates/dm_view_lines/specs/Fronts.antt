@@ -5,10 +5,10 @@ use Rattle.json.specs.Json.{Members, member}
 use Rattle.dm_view.specs.JsonWords.{number_json}
 
 -- before its words, and in JSON as the first members of its object
-pub record MessageFront : Type 0 where
+pub record SaidFront : Type 0 where
   pub words : List ℕ
   pub members : Members → Members
 
 -- its number alone
-abbrev pub by_number : ℕ → MessageFront
+abbrev pub by_number : ℕ → SaidFront
 by_number n = record { words = decimal n ++ codes ": "; members = member (codes "number") (number_json n) }

@@ -13,13 +13,13 @@ use Rattle.dm_view.specs.JsonWords.{number_json}
 use Rattle.dm_view.specs.View.{command_of}
 use Rattle.dm_view_lines.specs.declared.tally.Tally.{Tally}
 use Rattle.dm_view_lines.specs.Before.{avps_before}
-use Rattle.dm_view_lines.specs.Fronts.{MessageFront}
+use Rattle.dm_view_lines.specs.Fronts.{SaidFront}
 
 abbrev pub json_line : Json → List ℕ
 json_line json = print (json_tokens json) ++ 10 ∷ []
 
 -- of a message, behind what stands before it
-abbrev pub fronted_json : MessageFront → Members → List ℕ
+abbrev pub fronted_json : SaidFront → Members → List ℕ
 fronted_json front more = json_line (object (front.members more))
 
 -- of a line or a message with its number

@@ -17,7 +17,7 @@ use Rattle.dm_view.specs.View.{command_of, header_view, message_view}
 use Rattle.dm_view_lines.specs.declared.said.Task.{Task}
 use Rattle.dm_view_lines.specs.declared.said.Task.TheVariants.{Show, Check, ShowJson, CheckJson}
 use Rattle.dm_view_lines.specs.Before.{avps_before}
-use Rattle.dm_view_lines.specs.Fronts.{MessageFront, by_number}
+use Rattle.dm_view_lines.specs.Fronts.{SaidFront, by_number}
 use Rattle.dm_view_lines.specs.Json.{fronted_json, numbered_json, error_member, bad_members}
 use Rattle.dm_view_lines.specs.Json.{shown_before, checked_before}
 use Rattle.dm_view_lines.specs.Reasons.{refusal_sentence}
@@ -27,14 +27,14 @@ abbrev pub numbered : ℕ → List ℕ → List ℕ
 numbered n said = decimal n ++ codes ": " ++ said
 
 -- of a message: what it says, which is good, or all that is wrong with it
-abbrev pub message_answer : Task → Definitions → MessageFront → Message → List ℕ × Bool
+abbrev pub message_answer : Task → Definitions → SaidFront → Message → List ℕ × Bool
 message_answer Show d front m = (front.words ++ message_view d m, true)
 message_answer Check d front m = (front.words ++ check_view d m, are_none (located_faults d m))
 message_answer ShowJson d front m = (fronted_json front (message_members d m no_members), true)
 message_answer CheckJson d front m =
     (fronted_json front (check_members d m no_members), are_none (located_faults d m))
 
-abbrev pub SaysMessage : Task → Definitions → MessageFront → List ℕ → List ℕ → Bool → Type 0
+abbrev pub SaysMessage : Task → Definitions → SaidFront → List ℕ → List ℕ → Bool → Type 0
 SaysMessage task d front s text good =
     (m : Message) × SpellsMessage m s × (text ≡ (message_answer task d front m).0)
     × (good ≡ (message_answer task d front m).1)
@@ -58,7 +58,7 @@ before_refusal front s (AvpLength o) = front (with_header s (avps_before s o))
 before_refusal front s f = []
 
 -- of octets that are no message: why, behind what stands before the first bad AVP, where that is why
-abbrev pub refused_said : Task → Definitions → MessageFront → List ℕ → WireFault → List ℕ
+abbrev pub refused_said : Task → Definitions → SaidFront → List ℕ → WireFault → List ℕ
 refused_said Show d front s f =
     front.words ++ (before_refusal (front_shown d) s f ++ refusal_sentence f ++ 10 ∷ [])
 refused_said Check d front s f =
@@ -67,12 +67,12 @@ refused_said ShowJson d front s f = fronted_json front (shown_before d s f (erro
 refused_said CheckJson d front s f =
     fronted_json front (bad_members (checked_before d s f (error_member (refusal_sentence f))))
 
-abbrev pub SaysRefusal : Task → Definitions → MessageFront → List ℕ → List ℕ → Bool → Type 0
+abbrev pub SaysRefusal : Task → Definitions → SaidFront → List ℕ → List ℕ → Bool → Type 0
 SaysRefusal task d front s text good =
     (f : WireFault) × Refuses s f × (text ≡ refused_said task d front s f) × (good ≡ false)
 
 -- what is said of octets behind this, and whether they are good
-abbrev pub SaysFronted : Task → Definitions → MessageFront → List ℕ → List ℕ → Bool → Type 0
+abbrev pub SaysFronted : Task → Definitions → SaidFront → List ℕ → List ℕ → Bool → Type 0
 SaysFronted task d front s text good = SaysMessage task d front s text good ⊎ SaysRefusal task d front s text good
 
 -- behind their number

@@ -3,7 +3,7 @@ ghost use Rattle.std.specs.Prelude.{◌≡◌, ◌++◌, OnOk};
 ghost use Rattle.std.specs.String.{string_bytes};
 ghost use Rattle.json.specs.Json.{Members};
 ghost use Rattle.json.specs.Tree.{members_tokens};
-ghost use Rattle.dm_view_lines.specs.Fronts.{MessageFront, by_number};
+ghost use Rattle.dm_view_lines.specs.Fronts.{SaidFront, by_number};
 
 use dm_text::put_decimal;
 use dm_view::JsonText;
@@ -12,7 +12,7 @@ use std::alloc::{AllocError, Global};
 /// What stands before what is said of a message: its number alone, as of a `u64`, or more.
 pub trait Front {
     // Before the words, and the first members of the object.
-    ghost before: { Self → MessageFront };
+    ghost before: { Self → SaidFront };
 
     /// Appends what stands before the words. Where memory is wanted, what is appended is of no use.
     fn put_words(&self, text: &mut String) -> Result<(), AllocError>
