@@ -58,8 +58,16 @@ fn is_front(written: &[u8], text: &str) -> bool {
     }
 }
 
+/// Whether what is said is JSON, which asks for room at once and can do without it.
+fn is_json(task: Task) -> bool {
+    match task {
+        Task::ShowJson | Task::CheckJson => true,
+        Task::Show | Task::Check => false,
+    }
+}
+
 /// How the run ends when its nth request is refused: what was said of the lines before is written, at a later request
-/// no less. There is room for what is written.
+/// no less; or all of it is, where JSON did without the room. There is room for what is written.
 fn end_of(alloc: Global, row: &Row<'_>, nth: u32) -> End {
     let Ok(mut text) = Vec::with_capacity(alloc, 4096) else {
         return End::Alone;
@@ -67,9 +75,13 @@ fn end_of(alloc: Global, row: &Row<'_>, nth: u32) -> End {
     let (first, refused) = said(alloc, row, nth, &mut text);
     let front = is_front(text.as_slice(), row.text) && text.len() >= row.written.get();
     let whole = text.as_slice() == row.text.as_bytes();
-    row.written.set(text.len());
+    let spared = refused && whole && is_json(row.task);
+    if !spared {
+        row.written.set(text.len());
+    }
     drop(text);
     match first {
+        Ok(_) if spared => End::Again,
         Ok(_) => answered(refused, whole),
         Err(RunFault::Memory) => repeated(refused, front),
         Err(_) => End::Fault,
