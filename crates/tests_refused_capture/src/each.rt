@@ -1,0 +1,9 @@
+//! Each request of a call refused in turn.
+use dm_refusal::{End, Subject, last};
+use std::process::Abort;
+
+/// The call ends well whichever of its requests is refused.
+pub fn each<R: Abort>(rt: &R, subject: &impl Subject<R>, name: &str) {
+    let (nth, end) = last(rt, subject);
+    assert!(rt; end == End::Whole, "{name}: {end:?} at request {nth}");
+}
