@@ -1,5 +1,5 @@
 //! Tokens and words of dictionary texts: what each text's first fault is.
-use super::texts::assert_faults_over_base;
+use crate::texts::assert_faults_over_base;
 use dm_dict::DictFault;
 
 const TOKENS_ROWS: &[(&[u8], Option<DictFault>)] = &[

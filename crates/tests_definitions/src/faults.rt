@@ -1,5 +1,5 @@
 //! Numbers of dictionary texts, and the order of their faults: what each text's first fault is.
-use super::texts::{assert_faults_over_base, assert_faults_over_empty};
+use crate::texts::{assert_faults_over_base, assert_faults_over_empty};
 use dm_dict::DictFault;
 use std::process::Abort;
 

@@ -1,6 +1,6 @@
 //! Texts and lists on both sides of the numbers of members from which on they are looked up otherwise. What stands
 //! twice is told behind the first member and behind the last.
-use super::texts::fault_over_empty;
+use crate::texts::fault_over_empty;
 use dm_dict::DictFault;
 use dm_tables::{EnumValue, Values};
 use dm_wire::Octets;
