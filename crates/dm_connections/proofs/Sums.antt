@@ -4,22 +4,23 @@ use Rattle.std.specs.Option.{option_map_or}
 use Rattle.std.specs.Map.{lookup, lookup_entry, remove_entry, set_value}
 use Rattle.lru.specs.LruCache.{promoted}
 use Rattle.lru.proofs.CallerLemmas.{Contains-lookup_entry}
-use Rattle.dm_flows.specs.Connections.{ConnectionState, held_in}
 use Rattle.dm_connections.specs.declared.ends.Ends.{Ends}
-use Rattle.dm_connections.specs.Held.{HeldConnections, held_in_all, with_fresh}
+use Rattle.dm_connections.specs.Held.{HeldByEnds, all_octets}
 
-abbrev Entry : Type 0
-Entry = Ends × ConnectionState
+abbrev Entry : Type 0 → Type 0
+Entry C = Ends × C
 
 -- one connection is another one now
-pub sum_set : (test : Ends → Bool) (held : HeldConnections) (c w : ConnectionState) → lookup test held ≡ Some c →
-    held_in_all (set_value test held w) + held_in c ≡ held_in_all held + held_in w
-sum_set test [] c w h = cc
-sum_set test (e ∷ held) c w h = by (test e.0) refl (λ there. sum_set test held c w there)
+pub sum_set : {C : Type 0} (held_in : C → ℕ) (test : Ends → Bool) (held : HeldByEnds C) (c w : C) →
+    lookup test held ≡ Some c →
+    all_octets held_in (set_value test held w) + held_in c ≡ all_octets held_in held + held_in w
+sum_set {C = C} held_in test [] c w h = cc
+sum_set {C = C} held_in test (e ∷ held) c w h = by (test e.0) refl (λ there. sum_set held_in test held c w there)
   where
     by : (b : Bool) → test e.0 ≡ b →
-        (lookup test held ≡ Some c → held_in_all (set_value test held w) + held_in c ≡ held_in_all held + held_in w) →
-        held_in_all (set_value test (e ∷ held) w) + held_in c ≡ held_in_all (e ∷ held) + held_in w
+        (lookup test held ≡ Some c →
+        all_octets held_in (set_value test held w) + held_in c ≡ all_octets held_in held + held_in w) →
+        all_octets held_in (set_value test (e ∷ held) w) + held_in c ≡ all_octets held_in (e ∷ held) + held_in w
     by true is rest =
         let there = rw is at h in
         let found : e.1 ≡ c = cc in
@@ -30,13 +31,14 @@ sum_set test (e ∷ held) c w h = by (test e.0) refl (λ there. sum_set test hel
         rw is (omega (arith, others))
 
 -- what one of them holds is a part of it
-pub sum_part : (test : Ends → Bool) (held : HeldConnections) (c : ConnectionState) → lookup test held ≡ Some c →
-    held_in c ≤ held_in_all held
-sum_part test [] c h = cc
-sum_part test (e ∷ held) c h = by (test e.0) refl (λ there. sum_part test held c there)
+pub sum_part : {C : Type 0} (held_in : C → ℕ) (test : Ends → Bool) (held : HeldByEnds C) (c : C) →
+    lookup test held ≡ Some c →
+    held_in c ≤ all_octets held_in held
+sum_part {C = C} held_in test [] c h = cc
+sum_part {C = C} held_in test (e ∷ held) c h = by (test e.0) refl (λ there. sum_part held_in test held c there)
   where
-    by : (b : Bool) → test e.0 ≡ b → (lookup test held ≡ Some c → held_in c ≤ held_in_all held) →
-        held_in c ≤ held_in_all (e ∷ held)
+    by : (b : Bool) → test e.0 ≡ b → (lookup test held ≡ Some c → held_in c ≤ all_octets held_in held) →
+        held_in c ≤ all_octets held_in (e ∷ held)
     by true is rest =
         let there = rw is at h in
         let found : e.1 ≡ c = cc in
@@ -47,36 +49,38 @@ sum_part test (e ∷ held) c h = by (test e.0) refl (λ there. sum_part test hel
         omega (arith, others)
 
 -- one goes first
-sum_removed : (test : Ends → Bool) (held : HeldConnections) (e : Entry) → lookup_entry test held ≡ Some e →
-    held_in e.1 + held_in_all (remove_entry test held) ≡ held_in_all held
-sum_removed test [] e h = cc
-sum_removed test (f ∷ held) e h = by (test f.0) refl (λ there. sum_removed test held e there)
+sum_removed : {C : Type 0} (held_in : C → ℕ) (test : Ends → Bool) (held : HeldByEnds C) (e : Entry C) →
+    lookup_entry test held ≡ Some e →
+    held_in e.1 + all_octets held_in (remove_entry test held) ≡ all_octets held_in held
+sum_removed {C = C} held_in test [] e h = cc
+sum_removed {C = C} held_in test (f ∷ held) e h = by (test f.0) refl (λ there. sum_removed held_in test held e there)
   where
     by : (b : Bool) → test f.0 ≡ b →
-        (lookup_entry test held ≡ Some e → held_in e.1 + held_in_all (remove_entry test held) ≡ held_in_all held) →
-        held_in e.1 + held_in_all (remove_entry test (f ∷ held)) ≡ held_in_all (f ∷ held)
+        (lookup_entry test held ≡ Some e →
+        held_in e.1 + all_octets held_in (remove_entry test held) ≡ all_octets held_in held) →
+        held_in e.1 + all_octets held_in (remove_entry test (f ∷ held)) ≡ all_octets held_in (f ∷ held)
     by true is rest =
         let there = rw is at h in
         let found : f ≡ e = cc in
-        let same = ap (λ (g : Entry). held_in g.1) found in
+        let same = ap (λ (g : Entry C). held_in g.1) found in
         rw is (omega (arith, same))
     by false is rest =
         let others = rest (rw is at h) in
         rw is (omega (arith, others))
 
-pub sum_promoted : (test : Ends → Bool) (held : HeldConnections) →
-    held_in_all (promoted test held) ≡ held_in_all held
-sum_promoted test held = by (lookup_entry test held) refl
+pub sum_promoted : {C : Type 0} (held_in : C → ℕ) (test : Ends → Bool) (held : HeldByEnds C) →
+    all_octets held_in (promoted test held) ≡ all_octets held_in held
+sum_promoted {C = C} held_in test held = by (lookup_entry test held) refl
   where
-    by : (o : Option Entry) → lookup_entry test held ≡ o →
-        held_in_all (option_map_or (λ e. e ∷ remove_entry test held) o held) ≡ held_in_all held
+    by : (o : Option (Entry C)) → lookup_entry test held ≡ o →
+        all_octets held_in (option_map_or (λ e. e ∷ remove_entry test held) o held) ≡ all_octets held_in held
     by None is = refl
-    by (Some e) is = sum_removed test held e is
+    by (Some e) is = sum_removed held_in test held e is
 
-found_first : (test : Ends → Bool) (held : HeldConnections) (e : Entry) → lookup_entry test held ≡ Some e →
+found_first : {C : Type 0} (test : Ends → Bool) (held : HeldByEnds C) (e : Entry C) → lookup_entry test held ≡ Some e →
     lookup test (e ∷ remove_entry test held) ≡ lookup test held
-found_first test [] e h = cc
-found_first test (f ∷ held) e h = by (test f.0) refl (λ there. found_first test held e there)
+found_first {C = C} test [] e h = cc
+found_first {C = C} test (f ∷ held) e h = by (test f.0) refl (λ there. found_first test held e there)
   where
     by : (b : Bool) → test f.0 ≡ b →
         (lookup_entry test held ≡ Some e → lookup test (e ∷ remove_entry test held) ≡ lookup test held) →
@@ -85,7 +89,7 @@ found_first test (f ∷ held) e h = by (test f.0) refl (λ there. found_first te
         let there = rw is at h in
         let found : f ≡ e = cc in
         let passes = (Contains-lookup_entry test (f ∷ held) e h).1 in
-        rw (passes, is) (ap (λ (g : Entry). Some g.1) (sym found))
+        rw (passes, is) (ap (λ (g : Entry C). Some g.1) (sym found))
     by false is rest =
         let there = rw is at h in
         let passes = (Contains-lookup_entry test held e there).1 in
@@ -94,27 +98,29 @@ found_first test (f ∷ held) e h = by (test f.0) refl (λ there. found_first te
         rw (passes, is) front
 
 -- the same connection is found there
-pub found_promoted : (test : Ends → Bool) (held : HeldConnections) →
+pub found_promoted : {C : Type 0} (test : Ends → Bool) (held : HeldByEnds C) →
     lookup test (promoted test held) ≡ lookup test held
-found_promoted test held = by (lookup_entry test held) refl
+found_promoted {C = C} test held = by (lookup_entry test held) refl
   where
-    by : (o : Option Entry) → lookup_entry test held ≡ o →
+    by : (o : Option (Entry C)) → lookup_entry test held ≡ o →
         lookup test (option_map_or (λ e. e ∷ remove_entry test held) o held) ≡ lookup test held
     by None is = refl
     by (Some e) is = found_first test held e is
 
 -- one is heard
-pub sum_heard : (test : Ends → Bool) (held : HeldConnections) (c w : ConnectionState) → lookup test held ≡ Some c →
-    held_in_all (set_value test (promoted test held) w) + held_in c ≡ held_in_all held + held_in w
-sum_heard test held c w h =
-    let set = sum_set test (promoted test held) c w (found_promoted test held ∙ h) in
-    let same = sum_promoted test held in
+pub sum_heard : {C : Type 0} (held_in : C → ℕ) (test : Ends → Bool) (held : HeldByEnds C) (c w : C) →
+    lookup test held ≡ Some c →
+    all_octets held_in (set_value test (promoted test held) w) + held_in c ≡ all_octets held_in held + held_in w
+sum_heard held_in test held c w h =
+    let set = sum_set held_in test (promoted test held) c w (found_promoted test held ∙ h) in
+    let same = sum_promoted held_in test held in
     omega (arith, set, same)
 
 -- the last one goes
-pub sum_append : (held : HeldConnections) (e : Entry) → held_in_all (held ++ e ∷ []) ≡ held_in_all held + held_in e.1
-sum_append [] e = omega arith
-sum_append (f ∷ held) e = let rest = sum_append held e in omega (arith, rest)
+pub sum_append : {C : Type 0} (held_in : C → ℕ) (held : HeldByEnds C) (e : Entry C) →
+    all_octets held_in (held ++ e ∷ []) ≡ all_octets held_in held + held_in e.1
+sum_append held_in [] e = omega arith
+sum_append held_in (f ∷ held) e = let rest = sum_append held_in held e in omega (arith, rest)
 
 last_at : {X : Type 0} (xs : List X) (n : ℕ) (x : X) → length xs ≡ suc n → slice_get xs n ≡ Some x →
     xs ≡ take n xs ++ x ∷ []
@@ -141,14 +147,6 @@ pub no_last : {X : Type 0} (xs : List X) → slice_get xs (length xs - 1) ≡ No
 no_last [] h = refl
 no_last (x ∷ xs) h = let last = last_is x xs (length (x ∷ xs) - 1) (omega arith) in let is = last.1 in cc
 
--- they hold no more than so much each
-pub sum_most : (held : HeldConnections) → held_in_all held ≤ length held * 18446744073709551615
-sum_most [] = omega arith
-sum_most (e ∷ held) = let rest = sum_most held in omega (arith, rest)
-
-pub sum_fits : (held : HeldConnections) → length held < 2 ^ 63 → held_in_all held + 2 ^ 64 ≤ 2 ^ 128
-sum_fits held few = let most = sum_most held in omega (arith, most)
-
 -- where it's among the first so many, all are
 pub all_taken : {X : Type 0} (n : ℕ) (xs : List X) → length xs ≤ n → take n xs ≡ xs
 all_taken zero [] h = refl
@@ -156,7 +154,15 @@ all_taken (suc n) [] h = refl
 all_taken zero (x ∷ xs) h = absurd (omega arith)
 all_taken (suc n) (x ∷ xs) h = ap (λ l. x ∷ l) (all_taken n xs (omega arith))
 
--- a new connection holds nothing
-pub sum_new : (max : ℕ) (ends : Ends) (held : HeldConnections) →
-    held_in_all (with_fresh max ends held) ≡ held_in_all held
-sum_new max ends held = omega arith
+-- they hold fewer than so many each
+pub sum_most : {C : Type 0} (held_in : C → ℕ) (held : HeldByEnds C) → ((c : C) → held_in c < 2 ^ 64) →
+    all_octets held_in held ≤ length held * 18446744073709551615
+sum_most held_in [] fits = omega arith
+sum_most held_in (e ∷ held) fits =
+    let rest = sum_most held_in held fits in
+    let one = fits e.1 in
+    omega (arith, rest, one)
+
+pub sum_fits : {C : Type 0} (held_in : C → ℕ) (held : HeldByEnds C) → ((c : C) → held_in c < 2 ^ 64) →
+    length held < 2 ^ 63 → all_octets held_in held + 2 ^ 64 ≤ 2 ^ 128
+sum_fits held_in held fits few = let most = sum_most held_in held fits in omega (arith, most)

@@ -1,20 +1,21 @@
 //! Which connections are looked at.
 ghost use Rattle.std.specs.Prelude.{◌≡◌, ◌↔◌, IsTrue};
 ghost use Rattle.dm_flows.specs.Tcps.{segment_seen};
-ghost use Rattle.dm_connections.specs.Choices.{has_port, Wants};
+ghost use Rattle.dm_connections.specs.Choices.{has_port, WantsBetween, Wants};
 
-use dm_flows::{Endpoint, Segment, begins_with_exchange};
+use crate::two_way::Takes;
+use dm_flows::{Connection, Endpoint, Segment};
 
-/// The port of Diameter over TCP (RFC 6733, 2.1 and 11.4).
+/// The port of Diameter over TCP and SCTP (RFC 6733, 2.1 and 11.4).
 pub const DIAMETER_PORT: u16 = 3868;
 
-/// Which connections are looked at, by a segment of theirs.
+/// Which connections are looked at, by what is sent on them.
 #[derive(Clone, Copy, Debug)]
 pub enum Choice<'a> {
     /// Those of which one end has one of these ports.
     Ports(&'a [u16]),
-    /// Those where the octets of the segment begin with the header of a Capabilities-Exchange-Request (RFC 6733,
-    /// 5.3.1).
+    /// Those where a Capabilities-Exchange-Request begins in what is sent (RFC 6733, 5.3.1), as its header tells: of a
+    /// TCP segment, where its octets begin with that.
     Any,
 }
 
@@ -25,15 +26,22 @@ fn is_at(ports: &[u16], end: Endpoint) -> bool
     ports.contains(&end.port)
 }
 
+/// Whether the connection of what is sent is looked at. It takes no memory.
+pub(crate) fn is_wanted<S: Copy, C: Takes<S>>(choice: Choice<'_>, sent: S) -> bool
+    ensures { IsTrue result ↔ WantsBetween choice.entry (C.between sent) (C.BeginsExchange sent) }
+{
+    let ends = C::ends_of(sent);
+    match choice {
+        Choice::Ports(ports) => is_at(ports, ends.first) || is_at(ports, ends.second),
+        Choice::Any => C::begins_exchange(sent),
+    }
+}
+
 impl<'a> Choice<'a> {
     /// Whether the connection of the segment is looked at. It takes no memory.
     pub fn wants(&self, segment: Segment<'_>) -> bool
         ensures { IsTrue result ↔ Wants self.now (segment_seen segment.entry) }
     {
-        match *self {
-            Choice::Ports(ports) => is_at(ports, segment.source)
-                || is_at(ports, segment.destination),
-            Choice::Any => begins_with_exchange(segment.payload),
-        }
+        is_wanted::<Segment<'_>, Connection>(*self, segment)
     }
 }

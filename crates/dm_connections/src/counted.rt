@@ -1,11 +1,7 @@
-//! A connection of which what it holds counts in a sum.
+//! What is held of two ends, where the octets of all count in a sum.
 ghost use Rattle.std.specs.Prelude.{◌≡◌, ◌+◌, ◌<◌, ◌≤◌, ◌^◌, OnOk, OnErr, IfOk, IfSome, IfNone};
-ghost use Rattle.dm_flows.specs.Connections.{held_in, TakesSegment, LeavesConnection};
-ghost use Rattle.dm_flows.specs.Flows.{HandsMessage, HandsNoMessage};
-ghost use Rattle.dm_flows.specs.Tcps.{segment_seen};
-ghost use Rattle.dm_connections.specs.Held.{one_way, with_way};
 
-use dm_flows::{Connection, Segment};
+use crate::two_way::{Takes, TwoWay};
 use std::alloc::AllocError;
 
 /// A sum of which one part was another one before.
@@ -17,60 +13,43 @@ pub(crate) fn changed_sum(sum: u128, before: u64, after: u64) -> u128
     sum - before as u128 + after as u128
 }
 
-/// The connection takes a segment.
-pub(crate) fn hear_counted(
-    connection: &mut Connection,
+/// The connection takes what one of its ends sent.
+pub(crate) fn hear_counted<S: Copy, C: Takes<S>>(
+    connection: &mut C,
     sum: &mut u128,
-    segment: Segment<'_>,
+    sent: S,
 ) -> Result<(), AllocError>
-    requires part { held_in connection.old ≤ sum.old }
+    requires part { C.held_in connection.old ≤ sum.old }
     requires fits { sum.old + 2 ^ 64 ≤ 2 ^ 128 }
-    ensures taken { OnOk result (TakesSegment connection.old (segment_seen segment.entry) connection.new) }
-    ensures left { OnErr result (LeavesConnection connection.old (segment_seen segment.entry) connection.new) }
-    ensures sum { sum.new + held_in connection.old ≡ sum.old + held_in connection.new }
+    ensures taken { OnOk result (C.TakesSent connection.old sent connection.new) }
+    ensures left { OnErr result (C.LeavesSent connection.old sent connection.new) }
+    ensures sum { sum.new + C.held_in connection.old ≡ sum.old + C.held_in connection.new }
 {
-    let before = connection.held();
-    let taken = connection.take(segment);
-    *sum = changed_sum(*sum, before, connection.held());
+    let before = connection.octets_held();
+    let taken = connection.take_sent(sent);
+    *sum = changed_sum(*sum, before, connection.octets_held());
     taken
 }
 
-/// Hands out the next message from the first end, or else from the second one.
-fn next_of(connection: &mut Connection, from_first: bool) -> Result<Option<Vec<u8>>, AllocError>
-    ensures message { IfOk result (λ found. IfSome found
-        (λ message. HandsMessage (one_way from_first connection.old) message.items
-        (one_way from_first connection.new))) }
-    ensures none { IfOk result (λ found. IfNone found
-        (HandsNoMessage (one_way from_first connection.old) (one_way from_first connection.new))) }
-    ensures unchanged { OnErr result (connection.new ≡ connection.old) }
-    ensures other { connection.new ≡ with_way from_first (one_way from_first connection.new) connection.old }
-{
-    if from_first {
-        connection.next_forth()
-    } else {
-        connection.next_back()
-    }
-}
-
-/// Hands out the next message, as `next_of` does.
-pub(crate) fn next_counted(
-    connection: &mut Connection,
+/// Hands out the next message, as [`TwoWay::next_message`] does.
+pub(crate) fn next_counted<C: TwoWay>(
+    connection: &mut C,
     sum: &mut u128,
     from_first: bool,
 ) -> Result<Option<Vec<u8>>, AllocError>
-    requires part { held_in connection.old ≤ sum.old }
+    requires part { C.held_in connection.old ≤ sum.old }
     requires fits { sum.old + 2 ^ 64 ≤ 2 ^ 128 }
     ensures message { IfOk result (λ found. IfSome found
-        (λ message. HandsMessage (one_way from_first connection.old) message.items
-        (one_way from_first connection.new))) }
+        (λ message. C.Hands (C.one_way from_first connection.old) message.items
+        (C.one_way from_first connection.new))) }
     ensures none { IfOk result (λ found. IfNone found
-        (HandsNoMessage (one_way from_first connection.old) (one_way from_first connection.new))) }
+        (C.HandsNone (C.one_way from_first connection.old) (C.one_way from_first connection.new))) }
     ensures unchanged { OnErr result (connection.new ≡ connection.old) }
-    ensures other { connection.new ≡ with_way from_first (one_way from_first connection.new) connection.old }
-    ensures sum { sum.new + held_in connection.old ≡ sum.old + held_in connection.new }
+    ensures other { connection.new ≡ C.with_way from_first (C.one_way from_first connection.new) connection.old }
+    ensures sum { sum.new + C.held_in connection.old ≡ sum.old + C.held_in connection.new }
 {
-    let held = connection.held();
-    let message = next_of(connection, from_first);
-    *sum = changed_sum(*sum, held, connection.held());
+    let held = connection.octets_held();
+    let message = connection.next_message(from_first);
+    *sum = changed_sum(*sum, held, connection.octets_held());
     message
 }

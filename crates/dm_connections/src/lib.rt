@@ -1,4 +1,5 @@
-//! TCP connections by their ends: each takes the segments of both, and the one that was idle longest can be let go.
+//! Connections by their ends: each takes what both ends send, and the one that was idle longest can be let go. TCP's
+//! are those of [`dm_flows`]; [`TwoWay`] and [`Takes`] say what others have to be.
 #![tactic(auto)]
 
 mod choice;
@@ -6,8 +7,11 @@ mod connections;
 mod counted;
 mod ends;
 mod limits;
+mod tcp;
+mod two_way;
 
 pub use choice::{Choice, DIAMETER_PORT};
 pub use connections::{Connections, LetGo};
 pub use ends::Ends;
 pub use limits::{Limits, MAX_CONNECTIONS, MAX_HELD};
+pub use two_way::{Takes, TwoWay};

@@ -1,0 +1,35 @@
+//! Packets in which a Capabilities-Exchange-Request begins.
+ghost use Rattle.std.specs.Prelude.{◌↔◌, IsTrue};
+ghost use Rattle.dm_associations.specs.Exchanges.{ChunkBeginsExchange, ChunksBeginExchange};
+ghost use Rattle.dm_flows.specs.Sctps.{data_seen};
+
+use dm_flows::sctp_laws::one_list;
+use dm_flows::{DataChunk, DataChunks, begins_with_exchange};
+
+/// The Payload Protocol Identifier of Diameter (RFC 6733, 11.5).
+const DIAMETER: u32 = 46;
+
+/// That of a user that tells none (RFC 9260, 3.3.1).
+const NO_IDENTIFIER: u32 = 0;
+
+/// Whether a user message begins with the chunk, and that with the header of a Capabilities-Exchange-Request.
+fn begins_exchange(chunk: DataChunk<'_>) -> bool
+    ensures { IsTrue result ↔ ChunkBeginsExchange (data_seen chunk.entry) }
+{
+    chunk.beginning
+        && (chunk.payload_protocol == DIAMETER || chunk.payload_protocol == NO_IDENTIFIER)
+        && begins_with_exchange(chunk.user_data)
+}
+
+/// Whether one of the DATA chunks does so.
+pub(crate) fn begin_exchange(octets: &[u8]) -> bool
+    ensures { IsTrue result ↔ ChunksBeginExchange octets.now }
+{
+    one_list();
+    'chunks: for chunk in DataChunks::new(octets) {
+        if begins_exchange(chunk) {
+            return true;
+        }
+    }
+    false
+}
