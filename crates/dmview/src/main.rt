@@ -6,25 +6,34 @@
 ghost use Rattle.std.specs.Prelude.{◌≡◌, true, false, if◌then◌else◌};
 ghost use Rattle.dm_view_lines.specs.declared.said.Task.TheVariants.{Show, Check, ShowJson, CheckJson};
 
+mod capture;
 mod command;
 mod dictionary;
 mod input;
 mod style;
 
+use crate::capture::{asks_of_capture, looks_of, ports_of};
 use crate::command::command_line;
 use crate::dictionary::dictionary_of;
-use crate::input::{open_inputs, open_texts};
-use crate::style::{Style, write_said};
+use crate::input::{Opened, first_is_capture, lines_of, open_files, open_texts};
+use crate::style::write_said;
 use anyhow::{Context, Error, Result};
 use clap::{ArgMatches, error};
 use dm_dict::Dictionary;
-use dm_view_lines::{Inputs, RunFault, Task};
+use dm_trace_view::{Looks, say_capture};
+use dm_view_lines::{Inputs, RunFault, Style, Task};
+use std::collections::VecDeque;
 use std::env;
+use std::hash::RandomState;
 use std::io::{BufReader, ErrorKind, IsTerminal, Read, Write};
 use std::process::ExitCode;
 
 /// How many octets are read at once, at most.
 const READ_AT_ONCE: usize = 65_536;
+
+/// What is said where the input is no capture, though an option of captures is there.
+const MISPLACED: &str =
+    "dmview: the input is no capture: --port, --any, --time, --peer, --session, --command and --bad are of captures";
 
 /// Why a run stopped, in words, and where it was read. Nothing is said where nobody reads on.
 fn told(fault: RunFault, name: &str) -> Result<u8> {
@@ -45,12 +54,20 @@ fn say<R: Read + Drop>(
     rt: &HostRuntime,
     dictionary: &Dictionary,
     style: Style,
+    is_stream: bool,
     inputs: Inputs<R>,
     names: &[&str],
 ) -> Result<u8> {
     let mut output = rt.stdout();
     let mut reader = BufReader::with_capacity(rt.alloc(), READ_AT_ONCE, inputs).context("dmview")?;
-    let said = write_said(rt.alloc(), dictionary, style, &mut reader, &mut output);
+    let said = write_said(
+        rt.alloc(),
+        dictionary,
+        style,
+        is_stream,
+        &mut reader,
+        &mut output,
+    );
     let at = reader.get_ref().at();
     drop(reader);
     match said {
@@ -60,10 +77,112 @@ fn say<R: Read + Drop>(
 }
 
 /// Writes what is said of standard input, and tells the status.
-fn say_standard(rt: &HostRuntime, dictionary: &Dictionary, style: Style) -> Result<u8> {
+fn say_standard(
+    rt: &HostRuntime,
+    dictionary: &Dictionary,
+    style: Style,
+    is_stream: bool,
+) -> Result<u8> {
     let mut inputs = Inputs::new(rt.alloc());
     inputs.push(rt.stdin()).context("dmview")?;
-    say(rt, dictionary, style, inputs, &[])
+    say(rt, dictionary, style, is_stream, inputs, &[])
+}
+
+/// Writes what is said of a capture, as it is read, and tells the status.
+fn say_packets<R: Read + Drop>(
+    rt: &HostRuntime,
+    dictionary: &Dictionary,
+    style: Style,
+    looks: Looks<'_>,
+    input: R,
+    name: &str,
+) -> Result<u8> {
+    let mut output = rt.stdout();
+    let keys = RandomState::new(rt).context("dmview")?;
+    let mut reader = BufReader::with_capacity(rt.alloc(), READ_AT_ONCE, input).context("dmview")?;
+    let said = say_capture(
+        rt.alloc(),
+        keys,
+        dictionary,
+        style,
+        looks,
+        &mut reader,
+        &mut output,
+    );
+    drop(reader);
+    match said {
+        Ok(good) => Ok(status_of(good)),
+        Err(fault) => told(fault, name),
+    }
+}
+
+/// Writes what is said of captures, each by itself, up to one that can't be read to its end, and tells the status.
+fn say_captures(
+    rt: &HostRuntime,
+    dictionary: &Dictionary,
+    style: Style,
+    looks: Looks<'_>,
+    mut files: VecDeque<Opened>,
+    names: &[&str],
+) -> Result<u8> {
+    let mut status = 0;
+    for name in names {
+        if let Some(file) = files.pop_front() {
+            status = status.max(say_packets(rt, dictionary, style, looks, file, name)?);
+        }
+        if status > 1 {
+            break;
+        }
+    }
+    Ok(status)
+}
+
+/// What the input is, and what of it is said.
+enum InputKind<'a> {
+    /// Lines, or one stream of them.
+    Lines { is_stream: bool },
+    /// Captures.
+    Captures(Looks<'a>),
+}
+
+/// Writes what is said of the files or, where none is named, of standard input, and tells the status.
+fn say_input(
+    rt: &HostRuntime,
+    dictionary: &Dictionary,
+    style: Style,
+    kind: InputKind<'_>,
+    files: VecDeque<Opened>,
+    names: &[&str],
+) -> Result<u8> {
+    match (kind, names.is_empty()) {
+        (InputKind::Lines { is_stream }, true) => say_standard(rt, dictionary, style, is_stream),
+        (InputKind::Lines { is_stream }, false) => {
+            let inputs = lines_of(rt.alloc(), files)?;
+            say(rt, dictionary, style, is_stream, inputs, names)
+        }
+        (InputKind::Captures(looks), true) => {
+            say_packets(rt, dictionary, style, looks, rt.stdin(), "standard input")
+        }
+        (InputKind::Captures(looks), false) => {
+            say_captures(rt, dictionary, style, looks, files, names)
+        }
+    }
+}
+
+/// Whether the input is captures: where that is said, or the first file begins as one and nothing else is said.
+fn are_captures(
+    rt: &HostRuntime,
+    matches: &ArgMatches<'_>,
+    files: &mut VecDeque<Opened>,
+    names: &[&str],
+) -> Result<bool> {
+    if matches.get_flag("capture") {
+        return Ok(true);
+    }
+    if matches.get_flag("hex") || matches.get_flag("stream") {
+        return Ok(false);
+    }
+    first_is_capture(rt, files, names)
 }
 
 /// Whether colours are wanted.
@@ -88,25 +207,36 @@ fn task_of(is_check: bool, is_json: bool) -> Task
     }
 }
 
+/// Says that the input is no capture, though an option of captures is there, and tells the status.
+fn misplaced(rt: &HostRuntime) -> Result<u8> {
+    writeln!(rt.stderr(), "{MISPLACED}").context("dmview")?;
+    Ok(2)
+}
+
 /// Opens the files, reads the dictionaries, and writes what is said of the input. It tells the status.
 fn run(rt: &HostRuntime, is_check: bool, matches: &ArgMatches<'_>) -> Result<u8> {
-    let coloured = is_coloured(rt, matches.get_str("color"));
-    let names = matches.get_strs("dict").unwrap_or(&[]);
-    let texts = open_texts(rt, names)?;
-    let files = matches.get_strs("file").unwrap_or(&[]);
-    let inputs = open_inputs(rt, files)?;
-    let dictionary = dictionary_of(rt, names, texts)?;
     let style = Style {
         task: task_of(is_check, matches.get_flag("json")),
-        is_stream: matches.get_flag("stream"),
-        coloured,
+        coloured: is_coloured(rt, matches.get_str("color")),
     };
-    let status = if files.is_empty() {
-        drop(inputs);
-        say_standard(rt, &dictionary, style)
+    let texts_names = matches.get_strs("dict").unwrap_or(&[]);
+    let texts = open_texts(rt, texts_names)?;
+    let names = matches.get_strs("file").unwrap_or(&[]);
+    let mut files = open_files(rt, names)?;
+    let ports = ports_of(rt.alloc(), matches)?;
+    let is_capture = are_captures(rt, matches, &mut files, names)?;
+    if !is_capture && asks_of_capture(matches) {
+        return misplaced(rt);
+    }
+    let dictionary = dictionary_of(rt, texts_names, texts)?;
+    let kind = if is_capture {
+        InputKind::Captures(looks_of(matches, ports.as_slice()))
     } else {
-        say(rt, &dictionary, style, inputs, files)
+        InputKind::Lines {
+            is_stream: matches.get_flag("stream"),
+        }
     };
+    let status = say_input(rt, &dictionary, style, kind, files, names);
     drop(dictionary);
     status
 }

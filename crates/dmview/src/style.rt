@@ -5,17 +5,9 @@ ghost use Rattle.dm_view_lines.specs.Colours.{SaysStyled, SaysStreamStyled};
 ghost use Rattle.dm_view_lines.specs.Streams.{ended};
 
 use dm_dict::Dictionary;
-use dm_view_lines::{RunFault, Task, say_lines, say_stream};
+use dm_view_lines::{RunFault, Style, say_lines, say_stream};
 use std::alloc::Global;
 use std::io::{BufRead, Write};
-
-/// How a run is written: the task, whether its lines are one stream, and whether with colours.
-#[derive(Clone, Copy)]
-pub struct Style {
-    pub task: Task,
-    pub is_stream: bool,
-    pub coloured: bool,
-}
 
 /// Writes what is said of an input as it is read: of each of its lines, or of the stream that they are. True where
 /// nothing is bad.
@@ -23,21 +15,18 @@ pub fn write_said<R: BufRead, W: Write>(
     alloc: Global,
     dictionary: &Dictionary,
     style: Style,
+    is_stream: bool,
     reader: &mut R,
     writer: &mut W,
 ) -> Result<bool, RunFault>
-    ensures lines { style.is_stream ≡ false → IfOk result (λ good. IfSome (R.remaining reader.old) (λ octets.
+    ensures lines { is_stream ≡ false → IfOk result (λ good. IfSome (R.remaining reader.old) (λ octets.
         (text : List ℕ) × SaysStyled style.coloured style.task dictionary.now (ended octets) text good
         × Appends (W.contents writer.old) (W.contents writer.new) text)) }
-    ensures stream { style.is_stream ≡ true → IfOk result (λ good. IfSome (R.remaining reader.old) (λ octets.
+    ensures stream { is_stream ≡ true → IfOk result (λ good. IfSome (R.remaining reader.old) (λ octets.
         (text : List ℕ) × SaysStreamStyled style.coloured style.task dictionary.now (ended octets) text good
         × Appends (W.contents writer.old) (W.contents writer.new) text)) }
 {
-    let Style {
-        task,
-        is_stream,
-        coloured,
-    } = style;
+    let Style { task, coloured } = style;
     if is_stream {
         say_stream(alloc, dictionary, task, coloured, reader, writer)
     } else {

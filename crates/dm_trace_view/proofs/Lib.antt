@@ -1,0 +1,9 @@
+pub mod Carrying
+pub mod Files
+pub mod Handing
+pub mod Holding
+pub mod Letting
+pub mod Pending
+pub mod Saying
+pub mod SentOn
+pub mod Whole

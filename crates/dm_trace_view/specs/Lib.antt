@@ -1,0 +1,10 @@
+pub mod Captures
+pub mod Feeds
+pub mod Filters
+pub mod Fronts
+pub mod Handed
+pub mod Packets
+pub mod Runs
+pub mod Talks
+pub mod Told
+pub mod Traces

@@ -1,0 +1,160 @@
+//! Which messages something is said of: those that say all that is asked for.
+ghost use Rattle.std.specs.Prelude.{◌≡◌, List, option_copied, not};
+ghost use Rattle.std.specs.List.{list_any};
+ghost use Rattle.dm_wire.specs.declared.avp.Avp.{Avp};
+ghost use Rattle.dm_wire.specs.Borrowed.{avp_of, Lists};
+ghost use Rattle.dm_wire.specs.Finding.{is_of};
+ghost use Rattle.dm_wire.specs.Spelling.{SpellsList};
+ghost use Rattle.dm_dict.specs.Faults.{faults, has_none};
+ghost use Rattle.dm_view.specs.View.{command_of};
+ghost use Rattle.dm_trace_view.specs.Filters.{same_host, says_asked, says_peer, tells_session, bears_name};
+ghost use Rattle.dm_trace_view.specs.Filters.{tells_command, says_all, PassesFilter};
+
+use dm_dict::{Dictionary, Judged};
+use dm_wire::codes::avps::{DESTINATION_HOST, ORIGIN_HOST, SESSION_ID};
+use dm_wire::laws::spelled_are_members;
+use dm_wire::{AvpRef, AvpsRef, Header, MessageRef};
+
+/// A command that is asked for.
+#[derive(Clone, Copy, Debug)]
+pub enum Wanted<'a> {
+    /// By its Command Code (RFC 6733, 3).
+    Code(u32),
+    /// By the name that the dictionary has for it, be it a request's or an answer's.
+    Named(&'a [u8]),
+}
+
+/// What a message has to say, so that something is said of it: all of what is asked for.
+#[derive(Clone, Copy, Debug)]
+pub struct Filter<'a> {
+    /// An Origin-Host or a Destination-Host that is this one, whatever the case of its letters (RFC 6733, 6.3 and 6.5).
+    pub host: Option<&'a [u8]>,
+    /// A Session-Id of these octets (8.8).
+    pub session: Option<&'a [u8]>,
+    /// Its command.
+    pub command: Option<Wanted<'a>>,
+    /// Whether something has to be wrong with it.
+    pub bad: bool,
+}
+
+/// What one AVP has to say.
+#[derive(Clone, Copy, Debug)]
+enum Asked<'a> {
+    Host(&'a [u8]),
+    Session(&'a [u8]),
+}
+
+/// Whether two hosts are one, `A` to `Z` taken as `a` to `z`.
+fn is_host(one: &[u8], other: &[u8]) -> bool
+    ensures { result ≡ same_host one.now other.now }
+{
+    one.eq_ignore_ascii_case(other)
+}
+
+/// Whether an AVP has this code, and no vendor.
+fn has_code(avp: AvpRef<'_>, code: u32) -> bool
+    ensures { result ≡ is_of code None (avp_of avp.entry) }
+{
+    avp.code == code && avp.vendor.is_none()
+}
+
+/// Whether an AVP says what is asked for.
+fn says(avp: AvpRef<'_>, asked: Asked<'_>) -> bool
+    ensures { result ≡ says_asked asked.entry (avp_of avp.entry) }
+{
+    match asked {
+        Asked::Host(host) => {
+            (has_code(avp, ORIGIN_HOST) || has_code(avp, DESTINATION_HOST))
+                && is_host(avp.bytes, host)
+        }
+        Asked::Session(session) => has_code(avp, SESSION_ID) && avp.bytes == session,
+    }
+}
+
+/// Whether one of the AVPs says what is asked for.
+fn one_says(list: AvpsRef<'_>, asked: Asked<'_>) -> bool
+    ensures { (l : List Avp) → Lists list.entry l → result ≡ list_any (says_asked asked.entry) l }
+{
+    let mut left = list;
+    while let Some((avp, rest)) = left.split_first() {
+        if says(avp, asked) {
+            return true;
+        }
+        left = rest;
+    }
+    false
+}
+
+/// Whether a message says what is asked for; one from which nothing is asked does.
+fn says_host(message: &MessageRef<'_>, host: Option<&[u8]>) -> bool
+    ensures { (l : List Avp) → SpellsList l message.now.rest.now → result
+        ≡ says_peer host.entry (record { header = message.now.header; avps = l }) }
+{
+    spelled_are_members();
+    match host {
+        Some(host) => one_says(AvpsRef::Spelled(message.rest), Asked::Host(host)),
+        None => true,
+    }
+}
+
+/// The same of its Session-Id.
+fn says_session(message: &MessageRef<'_>, session: Option<&[u8]>) -> bool
+    ensures { (l : List Avp) → SpellsList l message.now.rest.now → result
+        ≡ tells_session session.entry (record { header = message.now.header; avps = l }) }
+{
+    spelled_are_members();
+    match session {
+        Some(session) => one_says(AvpsRef::Spelled(message.rest), Asked::Session(session)),
+        None => true,
+    }
+}
+
+/// Whether a command has this name.
+fn is_named(dictionary: &Dictionary, header: &Header, name: &[u8]) -> bool
+    ensures { result ≡ bears_name (command_of dictionary.now header.now) name.now }
+{
+    match dictionary.command(header.command, header.request, false) {
+        Some(command) => command.name.as_slice() == name,
+        None => false,
+    }
+}
+
+/// Whether its command is the one that is asked for, or none is.
+fn says_command(dictionary: &Dictionary, header: &Header, wanted: Option<Wanted<'_>>) -> bool
+    ensures { result ≡ tells_command dictionary.now wanted.entry header.now }
+{
+    match wanted {
+        Some(Wanted::Code(code)) => header.command == code,
+        Some(Wanted::Named(name)) => is_named(dictionary, header, name),
+        None => true,
+    }
+}
+
+/// Whether something is wrong with it.
+fn is_bad(dictionary: &Dictionary, message: &MessageRef<'_>) -> bool
+    ensures { (l : List Avp) → SpellsList l message.now.rest.now → result
+        ≡ not (has_none (faults dictionary.now (record { header = message.now.header; avps = l }))) }
+{
+    !matches!(dictionary.judge(message), Judged::Good)
+}
+
+/// Whether a message says all that is asked for.
+fn passes_message(filter: Filter<'_>, dictionary: &Dictionary, message: &MessageRef<'_>) -> bool
+    ensures { (l : List Avp) → SpellsList l message.now.rest.now → result
+        ≡ says_all filter.entry dictionary.now (record { header = message.now.header; avps = l }) }
+{
+    says_host(message, filter.host)
+        && says_session(message, filter.session)
+        && says_command(dictionary, &message.header, filter.command)
+        && (!filter.bad || is_bad(dictionary, message))
+}
+
+/// Whether something is said of these octets. It never answers want of memory.
+pub(crate) fn passes(filter: Filter<'_>, dictionary: &Dictionary, octets: &[u8]) -> bool
+    ensures { PassesFilter filter.entry dictionary.now octets.now result }
+{
+    match MessageRef::read(octets) {
+        Ok(message) => passes_message(filter, dictionary, &message),
+        Err(_) => filter.host.is_none() && filter.session.is_none() && filter.command.is_none(),
+    }
+}

@@ -1,0 +1,41 @@
+//! What stands before what is said of a message that was seen.
+ghost use Rattle.std.specs.Prelude.{◌≡◌};
+
+use dm_text::put_decimal;
+use dm_trace::{Clock, Seen, put_front, put_json_front};
+use dm_view::JsonText;
+use dm_view_lines::Front;
+use std::alloc::{AllocError, Global};
+
+/// The number of a message, and when, between whom and in which packet it was seen: a line of its own, or members of
+/// its object.
+#[derive(Clone, Copy, Debug, PartialEq, Eq)]
+pub struct SeenFront {
+    /// Its place among the messages of the capture, from 1.
+    pub number: u64,
+    /// How its time is said.
+    pub clock: Clock,
+    /// When, between whom and in which packet.
+    pub seen: Seen,
+}
+
+impl Front for SeenFront {
+    ghost use Rattle.dm_trace_view.specs.Fronts.{front_seen};
+
+    ghost before = { λ front. front_seen front.number front.clock front.seen };
+
+    fn put_words(&self, text: &mut String) -> Result<(), AllocError> {
+        put_decimal(text, self.number)?;
+        text.push_str(": ")?;
+        put_front(text, self.clock, &self.seen)?;
+        text.push_str("\n")
+    }
+
+    fn put_members(&self, alloc: Global, json: &mut JsonText) -> Result<(), AllocError> {
+        let mut room = String::new(alloc);
+        json.key("number")?;
+        json.number(self.number)?;
+        put_json_front(json, &mut room, self.clock, &self.seen)?;
+        Ok(())
+    }
+}

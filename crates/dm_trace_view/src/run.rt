@@ -1,0 +1,174 @@
+//! A run over a capture: what is said of its packets is written as they come.
+ghost use Rattle.std.specs.Prelude.{◌≡◌, IfOk, IfErr, IfSome, OnOk};
+ghost use Rattle.std.specs.Io.KnownBytes.{Appends};
+ghost use Rattle.dm_view_lines.specs.Colours.{styled};
+ghost use Rattle.dm_view_lines.specs.Ending.{FailsAtEnd};
+ghost use Rattle.dm_view_lines.specs.Faults.{run_fault};
+ghost use Rattle.dm_trace_view.specs.Captures.{trace_begun, SaysCapture, StopsCapture, is_all_good, counts_behind};
+ghost use Rattle.dm_connections.specs.Held.{all_octets};
+ghost use Rattle.dm_trace_view.specs.Told.{ending_text};
+ghost use Rattle.dm_trace_view.specs.Traces.{more_of};
+
+use crate::counts::Counts;
+use crate::ending::put_ending;
+use crate::handed::Numbered;
+use crate::hearing::Reckoned;
+use crate::looks::Looks;
+use crate::packets::Output;
+use crate::pieces::say_pieces;
+use crate::trace::TraceSpeaker;
+use dm_associations::Associations;
+use dm_capture::{CaptureFault, CaptureReader};
+use dm_connections::{Connections, TwoWay};
+use dm_dict::Dictionary;
+use dm_view_lines::laws::gathered_texts;
+use dm_view_lines::{PutFault, RunFault, Style, Tally, write_end};
+use dm_wire::codes::limits::MAX_MESSAGE_LEN;
+use std::alloc::{AllocError, Global};
+use std::hash::RandomState;
+use std::io::{BufRead, Write};
+
+/// Nothing was seen yet.
+fn trace_of<'a>(
+    alloc: Global,
+    keys: RandomState,
+    looks: Looks<'a>,
+) -> Result<TraceSpeaker<'a>, AllocError>
+    ensures { IfOk result (λ speaker. speaker ≡ trace_begun looks.entry) }
+{
+    Ok(TraceSpeaker {
+        connections: Connections::new(alloc, keys, MAX_MESSAGE_LEN)?,
+        associations: Associations::new(alloc, keys, MAX_MESSAGE_LEN)?,
+        looks,
+        first: None,
+        reckoned: Reckoned {
+            numbered: Numbered {
+                messages: 0,
+                tally: Tally { good: 0, bad: 0 },
+            },
+            counts: Counts {
+                connections: 0,
+                passed: 0,
+                fragments: 0,
+                cut: 0,
+            },
+        },
+    })
+}
+
+/// Lets all connections go, and counts the octets that came and weren't handed out, behind so many.
+fn with_pending<C: TwoWay>(connections: &mut Connections<C>, counted: u64) -> u64
+    ensures { result ≡ more_of counted (all_octets C.pending_in connections.old.held) }
+{
+    let mut so_far = counted;
+    while let Some(gone) = connections.let_go() {
+        so_far = so_far.saturating_add(gone.connection.octets_pending());
+        drop(gone);
+    }
+    so_far
+}
+
+/// What was counted, with what is held at the end. Nothing is held then.
+fn counts_of(speaker: &mut TraceSpeaker<'_>) -> Counts
+    ensures { result ≡ counts_behind speaker.old }
+{
+    let counts = speaker.reckoned.counts;
+    let passed = with_pending(&mut speaker.connections, counts.passed);
+    Counts {
+        passed: with_pending(&mut speaker.associations, passed),
+        ..counts
+    }
+}
+
+/// Writes what ends the text.
+fn write_ending<W: Write>(
+    alloc: Global,
+    style: Style,
+    fault: Option<CaptureFault>,
+    counts: Counts,
+    tally: Tally,
+    writer: &mut W,
+) -> Result<(), PutFault>
+    ensures written { OnOk result (Appends (W.contents writer.old) (W.contents writer.new)
+        (styled style.coloured style.task (ending_text style.task fault counts tally))) }
+    ensures stopped { IfErr result (λ why. FailsAtEnd (run_fault why) (W.contents writer.old) (W.contents writer.new)
+        (styled style.coloured style.task (ending_text style.task fault counts tally))) }
+{
+    let mut text = String::new(alloc);
+    put_ending(alloc, &mut text, style.task, fault, counts, tally)?;
+    write_end(alloc, style, text.as_bytes(), writer)
+}
+
+/// Writes what is said of the Diameter messages of a capture (pcap or pcapng) that a reader gives, as they come, with
+/// colours for a terminal or without. True where none of them is bad, and nothing is wrong with the file.
+///
+/// The hashes of connections go by `keys`. A message of a TCP connection that is looked at is said when the packet came
+/// in which it was complete, behind its number, when and between whom it was seen. What is said is written before more
+/// is read than the reader had at hand. Where the file has a fault, or ends inside a record, what was whole before it
+/// is said, and then the fault. Where the reader fails what it gave whole is said and written; where memory is wanted
+/// what is said of a front of the packets; where the writer fails a front of that.
+pub fn say_capture<R: BufRead, W: Write>(
+    alloc: Global,
+    keys: RandomState,
+    dictionary: &Dictionary,
+    style: Style,
+    looks: Looks<'_>,
+    reader: &mut R,
+    writer: &mut W,
+) -> Result<bool, RunFault>
+    ensures written { IfOk result (λ good. IfSome (R.remaining reader.old) (λ octets.
+        SaysCapture dictionary.now style looks.entry octets good (W.contents writer.old) (W.contents writer.new))) }
+    ensures stopped { IfErr result (λ why. StopsCapture dictionary.now style looks.entry why (R.remaining reader.old)
+        (R.remaining reader.new) (W.contents writer.old) (W.contents writer.new)) }
+{
+    gathered_texts();
+    let mut speaker = match trace_of(alloc, keys, looks) {
+        Ok(speaker) => speaker,
+        Err(_) => return Err(RunFault::Memory),
+    };
+    let mut capture = CaptureReader::new(alloc);
+    let mut output = Output {
+        text: String::new(alloc),
+        waits: Vec::new(alloc),
+    };
+    let said = say_pieces(
+        alloc,
+        dictionary,
+        style,
+        &mut speaker,
+        &mut capture,
+        &mut output,
+        reader,
+        writer,
+    );
+    let tally = speaker.reckoned.numbered.tally;
+    let counts = counts_of(&mut speaker);
+    drop(speaker);
+    drop(capture);
+    drop(output);
+    match said {
+        Ok(fault) => end_capture(alloc, style, fault, counts, tally, writer),
+        Err(why) => Err(why),
+    }
+}
+
+/// Writes what ends the text, and tells whether all is good.
+fn end_capture<W: Write>(
+    alloc: Global,
+    style: Style,
+    fault: Option<CaptureFault>,
+    counts: Counts,
+    tally: Tally,
+    writer: &mut W,
+) -> Result<bool, RunFault>
+    ensures written { OnOk result (Appends (W.contents writer.old) (W.contents writer.new)
+        (styled style.coloured style.task (ending_text style.task fault counts tally))) }
+    ensures good { IfOk result (λ good. good ≡ is_all_good fault tally) }
+    ensures stopped { IfErr result (λ why. FailsAtEnd why (W.contents writer.old) (W.contents writer.new)
+        (styled style.coloured style.task (ending_text style.task fault counts tally))) }
+{
+    match write_ending(alloc, style, fault, counts, tally, writer) {
+        Ok(()) => Ok(fault.is_none() && tally.bad == 0),
+        Err(why) => Err(RunFault::from(why)),
+    }
+}

@@ -1,0 +1,37 @@
+//! How times are said.
+ghost use Rattle.std.specs.Prelude.{◌≡◌};
+ghost use Rattle.dm_trace_view.specs.Traces.{first_time_of, clock_of};
+
+use dm_capture::Time;
+use dm_trace::Clock;
+
+/// How times are said.
+#[derive(Clone, Copy, Debug, PartialEq, Eq)]
+pub enum Times {
+    /// As date and time of day, UTC.
+    Utc,
+    /// As seconds since the first packet that has a time.
+    Relative,
+}
+
+/// The first time that is known.
+pub(crate) fn first_time(first: Option<Time>, time: Option<Time>) -> Option<Time>
+    ensures { result ≡ first_time_of first time }
+{
+    match first {
+        Some(first) => Some(first),
+        None => time,
+    }
+}
+
+impl Times {
+    /// By a clock that began with the first time.
+    pub(crate) fn clock(self, first: Option<Time>) -> Clock
+        ensures { result ≡ clock_of self first }
+    {
+        match (self, first) {
+            (Times::Relative, Some(first)) => Clock::Since(first),
+            _ => Clock::Utc,
+        }
+    }
+}

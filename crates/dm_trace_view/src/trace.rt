@@ -1,0 +1,183 @@
+//! What is said of each packet, by what it carries.
+ghost use Rattle.std.specs.Prelude.{◌≡◌, ◌++◌, ℕ, List, OnOk};
+ghost use Rattle.std.specs.String.{string_bytes};
+ghost use Rattle.dm_capture.specs.Packets.{captured_of};
+ghost use Rattle.dm_flows.specs.Sctps.{sctp_seen};
+ghost use Rattle.dm_flows.specs.Tcps.{segment_seen};
+ghost use Rattle.dm_trace_view.specs.Traces.{counted_passed, hearing_of, carries_other, with_passed};
+ghost use Rattle.dm_trace_view.specs.Traces.{SaysSegment, SaysSctp, SaysOther};
+
+use crate::counts::Counts;
+use crate::heard::put_sent;
+use crate::hearing::{Hearing, Reckoned};
+use crate::looks::Looks;
+use crate::speaker::PacketSpeaker;
+use crate::times::first_time;
+use dm_associations::Associations;
+use dm_capture::{Packet, Time};
+use dm_connections::Connections;
+use dm_dict::{Dictionary, NoMemory};
+use dm_flows::{Passed, SctpPacket, Segment, sctp_of, segment_of};
+use dm_trace::Transport;
+use dm_view_lines::Task;
+use std::alloc::Global;
+
+/// Says of each packet what its connection says: those that are held, what is looked at, the first time, and what was
+/// counted.
+#[derive(Drop)]
+pub(crate) struct TraceSpeaker<'a> {
+    pub(crate) connections: Connections,
+    pub(crate) associations: Associations,
+    pub(crate) looks: Looks<'a>,
+    pub(crate) first: Option<Time>,
+    pub(crate) reckoned: Reckoned,
+}
+
+/// Counts a packet that has neither.
+fn passed_by(counts: Counts, why: Passed) -> Counts
+    ensures { result ≡ counted_passed why counts }
+{
+    match why {
+        Passed::Fragment => Counts {
+            fragments: counts.fragments.saturating_add(1),
+            ..counts
+        },
+        Passed::Cut => Counts {
+            cut: counts.cut.saturating_add(1),
+            ..counts
+        },
+        _ => counts,
+    }
+}
+
+/// Whether a packet has no segment since it carries another protocol.
+fn is_other(why: Passed) -> bool
+    ensures { result ≡ carries_other why }
+{
+    matches!(why, Passed::OtherProtocol)
+}
+
+impl<'a> TraceSpeaker<'a> {
+    /// How a packet is heard.
+    fn hearing(&self, task: Task, packet: &Packet, transport: Transport) -> Hearing<'a>
+        ensures { result ≡ hearing_of self.now task (captured_of packet.now) transport }
+    {
+        Hearing {
+            task,
+            looks: self.looks,
+            clock: self.looks.times.clock(self.first),
+            time: packet.time,
+            packet: packet.number,
+            transport,
+        }
+    }
+
+    /// Says what the connection of a segment says, where it is looked at.
+    fn put_segment(
+        &mut self,
+        alloc: Global,
+        dictionary: &Dictionary,
+        task: Task,
+        packet: &Packet,
+        segment: Segment<'_>,
+        text: &mut String,
+    ) -> Result<(), NoMemory>
+        ensures { OnOk result ((more : List ℕ) × (string_bytes text.new ≡ string_bytes text.old ++ more)
+            × SaysSegment task dictionary.now self.old (captured_of packet.now) (segment_seen segment.entry)
+            self.new more) }
+    {
+        let hearing = self.hearing(task, packet, Transport::Tcp);
+        let before = self.reckoned;
+        self.reckoned = put_sent(
+            alloc,
+            text,
+            dictionary,
+            hearing,
+            &mut self.connections,
+            segment,
+            before,
+        )?;
+        Ok(())
+    }
+
+    /// Says what the association of an SCTP packet says, where it is looked at.
+    fn put_sctp(
+        &mut self,
+        alloc: Global,
+        dictionary: &Dictionary,
+        task: Task,
+        packet: &Packet,
+        carried: SctpPacket<'_>,
+        text: &mut String,
+    ) -> Result<(), NoMemory>
+        ensures { OnOk result ((more : List ℕ) × (string_bytes text.new ≡ string_bytes text.old ++ more)
+            × SaysSctp task dictionary.now self.old (captured_of packet.now) (sctp_seen carried.entry)
+            self.new more) }
+    {
+        let hearing = self.hearing(task, packet, Transport::Sctp);
+        let before = self.reckoned;
+        self.reckoned = put_sent(
+            alloc,
+            text,
+            dictionary,
+            hearing,
+            &mut self.associations,
+            carried,
+            before,
+        )?;
+        Ok(())
+    }
+
+    /// Counts a packet that has neither.
+    fn pass(&mut self, why: Passed)
+        ensures { self.new ≡ with_passed self.old why }
+    {
+        self.reckoned.counts = passed_by(self.reckoned.counts, why);
+    }
+
+    /// Says what the association of a packet says that has no segment, where it has chunks; else it is counted.
+    fn put_other(
+        &mut self,
+        alloc: Global,
+        dictionary: &Dictionary,
+        task: Task,
+        packet: &Packet,
+        text: &mut String,
+    ) -> Result<(), NoMemory>
+        ensures { OnOk result ((more : List ℕ) × (string_bytes text.new ≡ string_bytes text.old ++ more)
+            × SaysOther task dictionary.now self.old (captured_of packet.now) self.new more) }
+    {
+        match sctp_of(packet.link, packet.octets.as_slice()) {
+            Ok(carried) => self.put_sctp(alloc, dictionary, task, packet, carried, text),
+            Err(why) => {
+                self.pass(why);
+                Ok(())
+            }
+        }
+    }
+}
+
+impl PacketSpeaker for TraceSpeaker<'_> {
+    ghost use Rattle.dm_trace_view.specs.Traces.{SaysPacket};
+
+    ghost says = { SaysPacket };
+
+    fn say_packet(
+        &mut self,
+        alloc: Global,
+        dictionary: &Dictionary,
+        task: Task,
+        packet: &Packet,
+        text: &mut String,
+    ) -> Result<(), NoMemory> {
+        self.first = first_time(self.first, packet.time);
+        match segment_of(packet.link, packet.octets.as_slice()) {
+            Ok(segment) => self.put_segment(alloc, dictionary, task, packet, segment, text),
+            Err(why) if is_other(why) => self.put_other(alloc, dictionary, task, packet, text),
+            Err(why) => {
+                self.pass(why);
+                Ok(())
+            }
+        }
+    }
+}
