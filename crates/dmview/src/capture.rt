@@ -27,8 +27,31 @@ pub fn begins_capture(alloc: Global, front: &[u8]) -> Result<bool, AllocError> {
     Ok(is_capture)
 }
 
+/// What of captures is asked for: which connections and messages, and how times are said.
+#[derive(Drop)]
+pub struct Asked {
+    ports: Vec<u16>,
+    host: Option<String>,
+    session: Option<String>,
+    command: Option<String>,
+    is_any: bool,
+    is_bad: bool,
+    is_relative: bool,
+}
+
+/// The options with a text that captures alone have.
+const TEXTS: [&str; 4] = ["time", "peer", "session", "command"];
+
+/// Whether an option is given that captures alone have.
+pub fn asks_of_capture(matches: &ArgMatches<'_>) -> bool {
+    TEXTS.iter().any(|name| matches.get_str(name).is_some())
+        || matches.get_many::<u16>("port").is_some()
+        || matches.get_flag("any")
+        || matches.get_flag("bad")
+}
+
 /// The ports that are named, or else that of Diameter.
-pub fn ports_of(alloc: Global, matches: &ArgMatches<'_>) -> Result<Vec<u16>> {
+fn ports_of(alloc: Global, matches: &ArgMatches<'_>) -> Result<Vec<u16>> {
     let mut ports = Vec::new(alloc);
     if let Some(named) = matches.get_many::<u16>("port") {
         for port in named {
@@ -48,60 +71,65 @@ pub fn ports_of(alloc: Global, matches: &ArgMatches<'_>) -> Result<Vec<u16>> {
     Ok(ports)
 }
 
-/// The options with a text that captures alone have.
-const TEXTS: [&str; 4] = ["time", "peer", "session", "command"];
-
-/// Whether an option is given that captures alone have.
-pub fn asks_of_capture(matches: &ArgMatches<'_>) -> bool {
-    TEXTS.iter().any(|name| matches.get_str(name).is_some())
-        || matches.get_many::<u16>("port").is_some()
-        || matches.get_flag("any")
-        || matches.get_flag("bad")
-}
-
-/// A command by its code, or else by its name.
-fn wanted_of(word: &str) -> Wanted<'_> {
-    match word.parse::<u32>() {
-        Ok(code) => Wanted::Code(code),
-        Err(_) => Wanted::Named(word.as_bytes()),
+/// The text of an option.
+fn text_of(alloc: Global, matches: &ArgMatches<'_>, name: &str) -> Result<Option<String>> {
+    match matches.get_str(name) {
+        Some(text) => Ok(Some(String::from_str(alloc, text).context("dmview")?)),
+        None => Ok(None),
     }
 }
 
-/// The octets of an option's text.
-fn octets_of<'a>(matches: &'a ArgMatches<'_>, name: &str) -> Option<&'a [u8]> {
-    match matches.get_str(name) {
+/// What of captures the words ask for.
+pub fn asked_of(alloc: Global, matches: &ArgMatches<'_>) -> Result<Asked> {
+    Ok(Asked {
+        ports: ports_of(alloc, matches)?,
+        host: text_of(alloc, matches, "peer")?,
+        session: text_of(alloc, matches, "session")?,
+        command: text_of(alloc, matches, "command")?,
+        is_any: matches.get_flag("any"),
+        is_bad: matches.get_flag("bad"),
+        is_relative: matches.get_str("time") == Some("relative"),
+    })
+}
+
+/// The octets of a text.
+fn octets_of(text: &Option<String>) -> Option<&[u8]> {
+    match text {
         Some(text) => Some(text.as_bytes()),
         None => None,
     }
 }
 
-/// Which messages something is said of.
-fn filter_of<'a>(matches: &'a ArgMatches<'_>) -> Filter<'a> {
-    Filter {
-        host: octets_of(matches, "peer"),
-        session: octets_of(matches, "session"),
-        command: match matches.get_str("command") {
-            Some(word) => Some(wanted_of(word)),
-            None => None,
+/// A command by its code, or else by its name.
+fn wanted_of(word: &Option<String>) -> Option<Wanted<'_>> {
+    match word {
+        Some(word) => match word.parse::<u32>() {
+            Ok(code) => Some(Wanted::Code(code)),
+            Err(_) => Some(Wanted::Named(word.as_bytes())),
         },
-        bad: matches.get_flag("bad"),
+        None => None,
     }
 }
 
 /// What of a capture is looked at, and how its times are said.
-pub fn looks_of<'a>(matches: &'a ArgMatches<'_>, ports: &'a [u16]) -> Looks<'a> {
+pub fn looks_of(asked: &Asked) -> Looks<'_> {
     Looks {
-        choice: if matches.get_flag("any") {
+        choice: if asked.is_any {
             Choice::Any
         } else {
-            Choice::Ports(ports)
+            Choice::Ports(asked.ports.as_slice())
         },
         limits: LIMITS,
-        times: if matches.get_str("time") == Some("relative") {
+        times: if asked.is_relative {
             Times::Relative
         } else {
             Times::Utc
         },
-        filter: filter_of(matches),
+        filter: Filter {
+            host: octets_of(&asked.host),
+            session: octets_of(&asked.session),
+            command: wanted_of(&asked.command),
+            bad: asked.is_bad,
+        },
     }
 }

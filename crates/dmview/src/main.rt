@@ -12,7 +12,7 @@ mod dictionary;
 mod input;
 mod style;
 
-use crate::capture::{asks_of_capture, looks_of, ports_of};
+use crate::capture::{asked_of, asks_of_capture, looks_of};
 use crate::command::command_line;
 use crate::dictionary::dictionary_of;
 use crate::input::{Opened, first_is_capture, lines_of, open_files, open_texts};
@@ -223,14 +223,14 @@ fn run(rt: &HostRuntime, is_check: bool, matches: &ArgMatches<'_>) -> Result<u8>
     let texts = open_texts(rt, texts_names)?;
     let names = matches.get_strs("file").unwrap_or(&[]);
     let mut files = open_files(rt, names)?;
-    let ports = ports_of(rt.alloc(), matches)?;
+    let asked = asked_of(rt.alloc(), matches)?;
     let is_capture = are_captures(rt, matches, &mut files, names)?;
     if !is_capture && asks_of_capture(matches) {
         return misplaced(rt);
     }
     let dictionary = dictionary_of(rt, texts_names, texts)?;
     let kind = if is_capture {
-        InputKind::Captures(looks_of(matches, ports.as_slice()))
+        InputKind::Captures(looks_of(&asked))
     } else {
         InputKind::Lines {
             is_stream: matches.get_flag("stream"),
@@ -238,6 +238,7 @@ fn run(rt: &HostRuntime, is_check: bool, matches: &ArgMatches<'_>) -> Result<u8>
     };
     let status = say_input(rt, &dictionary, style, kind, files, names);
     drop(dictionary);
+    drop(asked);
     status
 }
 
