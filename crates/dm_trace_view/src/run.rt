@@ -102,11 +102,12 @@ fn write_ending<W: Write>(
 /// Writes what is said of the Diameter messages of a capture (pcap or pcapng) that a reader gives, as they come, with
 /// colours for a terminal or without. True where none of them is bad, and nothing is wrong with the file.
 ///
-/// The hashes of connections go by `keys`. A message of a TCP connection that is looked at is said when the packet came
-/// in which it was complete, behind its number, when and between whom it was seen. What is said is written before more
-/// is read than the reader had at hand. Where the file has a fault, or ends inside a record, what was whole before it
-/// is said, and then the fault. Where the reader fails what it gave whole is said and written; where memory is wanted
-/// what is said of a front of the packets; where the writer fails a front of that.
+/// The hashes of connections go by `keys`. A message of a TCP connection or an SCTP association that is looked at is
+/// said when the packet came in which it was complete, if it passes the filter, behind its number, when and between
+/// whom it was seen. What is said is written before more is read than the reader had at hand. Where the file has a
+/// fault, or ends inside a record, what was whole before it is said, and then the fault. Where the reader fails what it
+/// gave whole is said and written; where memory is wanted what is said of a front of the packets; where the writer
+/// fails a front of that.
 pub fn say_capture<R: BufRead, W: Write>(
     alloc: Global,
     keys: RandomState,

@@ -5,7 +5,8 @@ use dm_view_lines::Inputs;
 use std::alloc::{AllocError, Global};
 use std::collections::VecDeque;
 use std::fs::File;
-use std::io::{BufRead, BufReader, Read};
+use std::io::{Chain, Read};
+use std::mem;
 
 /// The version of the texts of dictionaries.
 pub const VERSION: &[u8] = b"@ 2 ";
@@ -32,41 +33,61 @@ pub fn open_texts(rt: &HostRuntime, names: &[&str]) -> Result<Vec<File>> {
     Ok(files)
 }
 
-/// A file whose first octets can be looked at before it is read.
-pub type Opened = BufReader<File>;
-
 /// Opens the files that are said, one after the other.
-pub fn open_files(rt: &HostRuntime, names: &[&str]) -> Result<VecDeque<Opened>> {
+pub fn open_files(rt: &HostRuntime, names: &[&str]) -> Result<VecDeque<File>> {
     let mut files = VecDeque::new(rt.alloc());
     for name in names {
         let file = open_file(rt, name)?;
-        let opened = BufReader::with_capacity(rt.alloc(), FRONT_LEN, file).context("dmview")?;
         files
-            .push_back(opened)
+            .push_back(file)
             .map_err(AllocError::from)
             .context("dmview")?;
     }
     Ok(files)
 }
 
-/// The lines of all files, one after the other.
-pub fn lines_of(alloc: Global, files: VecDeque<Opened>) -> Result<Inputs<Opened>> {
+/// A file behind octets that were read of it already.
+pub type Opened = Chain<VecDeque<u8>, File>;
+
+/// A file, with these octets of its front.
+pub fn behind_front(front: VecDeque<u8>, file: File) -> Opened {
+    front.chain(file)
+}
+
+/// The lines of all files, one after the other; of the first one these octets were read.
+pub fn lines_of(
+    alloc: Global,
+    front: VecDeque<u8>,
+    files: VecDeque<File>,
+) -> Result<Inputs<Opened>> {
     let mut inputs = Inputs::new(alloc);
+    let mut front = front;
     for file in files {
-        inputs.push(file).context("dmview")?;
+        let read = mem::replace(&mut front, VecDeque::new(alloc));
+        inputs.push(behind_front(read, file)).context("dmview")?;
     }
+    drop(front);
     Ok(inputs)
 }
 
-/// Whether the first file begins as a capture.
+/// Whether the first file begins as a capture, by octets at its front, which are read and kept.
 pub fn first_is_capture(
     rt: &HostRuntime,
-    files: &mut VecDeque<Opened>,
+    files: &mut VecDeque<File>,
+    front: &mut VecDeque<u8>,
     names: &[&str],
 ) -> Result<bool> {
     let (Some(file), Some(name)) = (files.front_mut(), names.first()) else {
         return Ok(false);
     };
-    let front = file.fill_buf().context(format_args!("dmview: {name}"))?;
-    begins_capture(rt.alloc(), front).context("dmview")
+    let mut octets = Vec::new(rt.alloc());
+    let read = file.take(FRONT_LEN as u64).read_to_end(&mut octets);
+    read.context(format_args!("dmview: {name}"))?;
+    for octet in &octets {
+        front
+            .push_back(*octet)
+            .map_err(AllocError::from)
+            .context("dmview")?;
+    }
+    begins_capture(rt.alloc(), octets.as_slice()).context("dmview")
 }

@@ -15,7 +15,7 @@ mod style;
 use crate::capture::{asked_of, asks_of_capture, looks_of};
 use crate::command::command_line;
 use crate::dictionary::dictionary_of;
-use crate::input::{Opened, first_is_capture, lines_of, open_files, open_texts};
+use crate::input::{behind_front, first_is_capture, lines_of, open_files, open_texts};
 use crate::style::write_said;
 use anyhow::{Context, Error, Result};
 use clap::{ArgMatches, error};
@@ -23,10 +23,11 @@ use dm_dict::Dictionary;
 use dm_trace_view::{Looks, say_capture};
 use dm_view_lines::{Inputs, RunFault, Style, Task};
 use std::collections::VecDeque;
-use std::env;
+use std::fs::File;
 use std::hash::RandomState;
 use std::io::{BufReader, ErrorKind, IsTerminal, Read, Write};
 use std::process::ExitCode;
+use std::{env, mem};
 
 /// How many octets are read at once, at most.
 const READ_AT_ONCE: usize = 65_536;
@@ -122,13 +123,16 @@ fn say_captures(
     dictionary: &Dictionary,
     style: Style,
     looks: Looks<'_>,
-    mut files: VecDeque<Opened>,
+    mut front: VecDeque<u8>,
+    mut files: VecDeque<File>,
     names: &[&str],
 ) -> Result<u8> {
     let mut status = 0;
     for name in names {
         if let Some(file) = files.pop_front() {
-            status = status.max(say_packets(rt, dictionary, style, looks, file, name)?);
+            let read = mem::replace(&mut front, VecDeque::new(rt.alloc()));
+            let input = behind_front(read, file);
+            status = status.max(say_packets(rt, dictionary, style, looks, input, name)?);
         }
         if status > 1 {
             break;
@@ -151,20 +155,21 @@ fn say_input(
     dictionary: &Dictionary,
     style: Style,
     kind: InputKind<'_>,
-    files: VecDeque<Opened>,
+    front: VecDeque<u8>,
+    files: VecDeque<File>,
     names: &[&str],
 ) -> Result<u8> {
     match (kind, names.is_empty()) {
         (InputKind::Lines { is_stream }, true) => say_standard(rt, dictionary, style, is_stream),
         (InputKind::Lines { is_stream }, false) => {
-            let inputs = lines_of(rt.alloc(), files)?;
+            let inputs = lines_of(rt.alloc(), front, files)?;
             say(rt, dictionary, style, is_stream, inputs, names)
         }
         (InputKind::Captures(looks), true) => {
             say_packets(rt, dictionary, style, looks, rt.stdin(), "standard input")
         }
         (InputKind::Captures(looks), false) => {
-            say_captures(rt, dictionary, style, looks, files, names)
+            say_captures(rt, dictionary, style, looks, front, files, names)
         }
     }
 }
@@ -173,7 +178,8 @@ fn say_input(
 fn are_captures(
     rt: &HostRuntime,
     matches: &ArgMatches<'_>,
-    files: &mut VecDeque<Opened>,
+    files: &mut VecDeque<File>,
+    front: &mut VecDeque<u8>,
     names: &[&str],
 ) -> Result<bool> {
     if matches.get_flag("capture") {
@@ -182,7 +188,7 @@ fn are_captures(
     if matches.get_flag("hex") || matches.get_flag("stream") {
         return Ok(false);
     }
-    first_is_capture(rt, files, names)
+    first_is_capture(rt, files, front, names)
 }
 
 /// Whether colours are wanted.
@@ -224,7 +230,8 @@ fn run(rt: &HostRuntime, is_check: bool, matches: &ArgMatches<'_>) -> Result<u8>
     let names = matches.get_strs("file").unwrap_or(&[]);
     let mut files = open_files(rt, names)?;
     let asked = asked_of(rt.alloc(), matches)?;
-    let is_capture = are_captures(rt, matches, &mut files, names)?;
+    let mut front = VecDeque::new(rt.alloc());
+    let is_capture = are_captures(rt, matches, &mut files, &mut front, names)?;
     if !is_capture && asks_of_capture(matches) {
         return misplaced(rt);
     }
@@ -236,7 +243,7 @@ fn run(rt: &HostRuntime, is_check: bool, matches: &ArgMatches<'_>) -> Result<u8>
             is_stream: matches.get_flag("stream"),
         }
     };
-    let status = say_input(rt, &dictionary, style, kind, files, names);
+    let status = say_input(rt, &dictionary, style, kind, front, files, names);
     drop(dictionary);
     drop(asked);
     status
