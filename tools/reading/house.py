@@ -4,6 +4,11 @@ import os
 import re
 
 WIDTH = 120
+# How many words two pages may not have in common one after the other.
+PASSAGE = 9
+CRATES = "docs/ARCHITECTURE.md"
+# What stands in the column of a crate that uses none.
+NONE = "std alone"
 # What stands in pages and isn't a name of the repository: signs, numbers, words of commands, what is built, and names of
 # other programs.
 FOREIGN = re.compile(r"[A-Z]$|[0-9]|.*[^\w:./+-]|[-:/]|\w+://|(?:.*/)?out/|.*NAME|jiff_core$|malloc_consolidate$")
@@ -27,10 +32,15 @@ def files(top, *parts, endings=("",)):
     return found
 
 
+def uses(top):
+    """Returns the crates of the repository, in their order, each with those that it uses."""
+    rows = (line.partition(":") for line in read(f"{top}/crates.txt").split("\n"))
+    return {name.strip(): used.split() for name, _, used in rows if name.strip() and not name.startswith("#")}
+
+
 def crates(top):
     """Returns the crates of the repository, in their order."""
-    names = (line.split(":")[0].strip() for line in read(f"{top}/crates.txt").split("\n"))
-    return [it for it in names if it and not it.startswith("#")]
+    return list(uses(top))
 
 
 def sources(top, kind, ending):
@@ -112,6 +122,94 @@ def prose(text):
             yield number, line
 
 
+def passages(text):
+    """Returns the passages of a page (a paragraph, an item of a list, a cell of a table; no code), each as its words in
+    small letters without signs round them, and their lines."""
+    found, is_code, is_between = [], False, True
+    for number, line in enumerate(text.split("\n"), 1):
+        is_fence = line.strip().startswith("```")
+        is_code ^= is_fence
+        if is_fence or is_code or not line.strip() or (is_between and line.startswith("    ")):
+            is_between = True
+            continue
+        is_row = line.lstrip().startswith("|")
+        if is_between or is_row or re.match(r"\s*(?:[-*]|#+|\d+\.) ", line):
+            found.append([])
+        for at, cell in enumerate(re.split(r"(?<!\\)\|", line) if is_row else [line]):
+            if at:
+                found.append([])
+            words = (re.sub(r"^\W+|\W+$", "", it).lower() for it in cell.split())
+            found[-1] += [(it, number) for it in words if it]
+        is_between = is_row
+    return found
+
+
+def repeated(top):
+    """Passages of so many words or more that stand in a page and in one before it: where, and in which words."""
+    found, known = [], {}
+    for path in pages(top):
+        new = {}
+        for passage in passages(read(f"{top}/{path}")):
+            words, at = [it for it, _ in passage], 0
+            for start in range(len(words) - PASSAGE + 1):
+                run = tuple(words[start : start + PASSAGE])
+                new.setdefault(run, (f"{path}:{passage[start][1]}", words[start:]))
+                if start < at or run not in known:
+                    continue
+                place, others = known[run]
+                same = next((n for n, (a, b) in enumerate(zip(words[start:], others)) if a != b), None)
+                at = start + (same or min(len(words) - start, len(others)))
+                found.append(f"{path}:{passage[start][1]}: as {place}: {' '.join(words[start:at])}")
+        known = {**new, **known}
+    return found
+
+
+def rows_of_crates(text):
+    """Yields the rows of the table of crates: the line's number, the crate, the line up to its last column, and that."""
+    is_table = False
+    for number, line in enumerate(text.split("\n"), 1):
+        if line.startswith("| Crate | What it does | Stands on |"):
+            is_table = True
+        elif is_table and not line.startswith("|"):
+            return
+        elif is_table and (row := re.fullmatch(r"(\| `(\w+)` \| .* \| )([^|]*) \|", line)):
+            yield number, row[2], row[1], row[3]
+
+
+def stands_on(used):
+    return ", ".join(used) or NONE
+
+
+def with_stands_on(top):
+    """Returns the page of the crates with the column of what each stands on as crates.txt has it."""
+    text, used = read(f"{top}/{CRATES}"), uses(top)
+    lines = text.split("\n")
+    for number, crate, front, _ in rows_of_crates(text):
+        if crate in used:
+            lines[number - 1] = f"{front}{stands_on(used[crate])} |"
+    return "\n".join(lines)
+
+
+def rows_unlike(top):
+    """Rows of the table of crates that don't say what crates.txt says, and rows that are missing or above what the crate
+    uses. `tools/house --write` writes the column."""
+    found, used, above = [], uses(top), set()
+    for number, crate, _, column in rows_of_crates(read(f"{top}/{CRATES}")):
+        place = f"{CRATES}:{number}: {crate}"
+        if crate not in used or crate in above:
+            found.append(f"{place} {'has a row already' if crate in used else 'is no crate'}")
+            continue
+        above.add(crate)
+        if column != stands_on(used[crate]):
+            found.append(f"{place} stands on {stands_on(used[crate])}")
+        found += [f"{place} stands above {it}" for it in used[crate] if it in used and it not in above]
+    return found + [f"{CRATES}: {it} has no row" for it in used if it not in above]
+
+
+def lines_of_readme(top):
+    return [f"README.md:{number}" for number, _ in enumerate(read(f"{top}/README.md").splitlines(), 1)]
+
+
 def long_lines_of_pages(top):
     return [f"{path}:{number}" for path in pages(top) for number, line in prose(read(f"{top}/{path}")) if len(line) > WIDTH]
 
@@ -182,10 +280,16 @@ def must_fail_unnamed(top):
     return [it for it in found if os.path.basename(it)[: -len(".edit")] not in named]
 
 
+# Counts that may stay below their ceilings.
+ROOMY = {"lines-of-readme"}
+
 COUNTS = {
     "names-in-several-crates": names_in_several,
     "names-by-case-alone": names_by_case,
     "contracts-named-as-the-function": named_contracts,
+    "lines-of-readme": lines_of_readme,
+    "passages-in-two-pages": repeated,
+    "rows-of-crates-unlike-crates-txt": rows_unlike,
     "long-lines-of-pages": long_lines_of_pages,
     "long-lines-of-sources": long_lines_of_sources,
     "long-lines-of-definitions": long_lines_of_definitions,
