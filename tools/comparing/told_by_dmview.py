@@ -92,6 +92,9 @@ def of_counts(told, truth, count):
         yield f"it counts {told['fragments']} fragments, and not {truth.counts['fragment']}"
     if told["cut"] != truth.counts["cut"]:
         yield f"it counts {told['cut']} cut packets, and not {truth.counts['cut']}"
+    secured = sum(it.secured for it, sent in truth.directions if is_looked_at(sent))
+    if told["secured"] != secured:
+        yield f"it counts {told['secured']} octets of DTLS, and not {secured}"
     if all(sent.transport == "TCP" for _, sent in truth.directions):
         lost = sum(it.passed + it.waiting() for it, sent in truth.directions if is_looked_at(sent))
         if told["passed"] != lost:

@@ -9,6 +9,7 @@ import collections
 
 WINDOW = 1_048_576
 DIAMETER = (0, 46)
+DTLS = 47
 
 # A message that must be found: the packet (from 1 on) in which it was complete, with its time, and what it came by.
 Message = collections.namedtuple("Message", "packet time source destination transport kind octets")
@@ -29,7 +30,7 @@ class TcpDirection:
     def __init__(self, has_begin):
         # (the number of the next octet that is missing, what came behind it, and the octets of no whole message)
         self.next, self.ahead, self.rest = (0 if has_begin else None), {}, bytearray()
-        self.passed, self.others = 0, 0
+        self.passed, self.others, self.secured = 0, 0, 0
 
     def waiting(self):
         """Returns how many octets came and belong to no message yet."""
@@ -61,8 +62,9 @@ class SctpDirection:
     """One direction of an SCTP association."""
 
     def __init__(self):
-        # (the number of the first chunk that came, the chunks by their numbers, and how many are not Diameter)
-        self.first, self.chunks, self.others = None, {}, 0
+        # (the number of the first chunk that came, the chunks by their numbers, how many are not Diameter, and how many
+        # octets those over DTLS have)
+        self.first, self.chunks, self.others, self.secured = None, {}, 0, 0
 
     @property
     def passed(self):
@@ -84,6 +86,7 @@ class SctpDirection:
         # (of what is not Diameter, and of a message that was found, the numbers alone are kept)
         if chunk.payload_protocol not in DIAMETER:
             self.chunks[chunk.number], self.others = None, self.others + 1
+            self.secured += len(chunk.octets) if chunk.payload_protocol == DTLS else 0
             return
         self.chunks[chunk.number] = chunk
         begin = end = chunk.number

@@ -14,13 +14,15 @@ pub type Associations = Connections<Association>;
 impl TwoWay for Association {
     type Way = SctpWay;
 
-    ghost use Rattle.dm_associations.specs.Associations.{fresh_association, passed_by, held_by};
+    ghost use Rattle.dm_associations.specs.Associations.{fresh_association, passed_by, secured_by, held_by};
     ghost use Rattle.dm_associations.specs.Associations.{sctp_way, with_sctp_way};
     ghost use Rattle.dm_associations.specs.Ways.{HandsReady, HandsNoneReady};
 
     ghost new_of = { fresh_association };
 
     ghost passed_in = { passed_by };
+
+    ghost secured_in = { secured_by };
 
     ghost held_in = { held_by };
 
@@ -44,6 +46,10 @@ impl TwoWay for Association {
 
     fn octets_passed(&self) -> u64 {
         self.passed()
+    }
+
+    fn octets_secured(&self) -> u64 {
+        self.secured()
     }
 
     fn octets_held(&self) -> u64 {

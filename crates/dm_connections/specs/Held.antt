@@ -122,6 +122,10 @@ with_fresh max ends held = with_newest fresh_connection max ends held
 abbrev pub with_added : ℕ → Ends → HeldConnections → HeldConnections
 with_added max ends held = with_one fresh_connection max ends held
 
+-- DTLS is of SCTP (RFC 6733, 2.1)
+abbrev pub none_secured : ConnectionState → ℕ
+none_secured c = 0
+
 -- one direction: from the first end to the second, or back
 abbrev pub one_way : Bool → ConnectionState → FlowState
 one_way true c = c.forth

@@ -11,11 +11,13 @@ impl TwoWay for Connection {
 
     ghost use Rattle.dm_flows.specs.Connections.{passed_in, held_in, pending_in};
     ghost use Rattle.dm_flows.specs.Flows.{HandsMessage, HandsNoMessage};
-    ghost use Rattle.dm_connections.specs.Held.{fresh_connection, one_way, with_way};
+    ghost use Rattle.dm_connections.specs.Held.{fresh_connection, none_secured, one_way, with_way};
 
     ghost new_of = { fresh_connection };
 
     ghost passed_in = { passed_in };
+
+    ghost secured_in = { none_secured };
 
     ghost held_in = { held_in };
 
@@ -39,6 +41,10 @@ impl TwoWay for Connection {
 
     fn octets_passed(&self) -> u64 {
         self.passed()
+    }
+
+    fn octets_secured(&self) -> u64 {
+        0
     }
 
     fn octets_held(&self) -> u64 {

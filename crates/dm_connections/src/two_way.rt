@@ -15,8 +15,11 @@ pub trait TwoWay: Drop {
     // Nothing came, for messages of at most so many octets.
     ghost new_of: { ℕ → Ends → Self };
 
-    // How many octets were passed over, how many are held, and how many came and weren't handed out.
+    // How many octets were passed over, how many came that can't be read since they are secured, how many are held, and
+    // how many came and weren't handed out.
     ghost passed_in: { Self → ℕ };
+
+    ghost secured_in: { Self → ℕ };
 
     ghost held_in: { Self → ℕ };
 
@@ -39,6 +42,10 @@ pub trait TwoWay: Drop {
     /// How many octets were passed over in both directions.
     fn octets_passed(&self) -> u64
         ensures { result ≡ passed_in self.now };
+
+    /// How many octets of Diameter over DTLS came in both directions, which aren't read (RFC 6733, 2.1 and 11.5).
+    fn octets_secured(&self) -> u64
+        ensures { result ≡ secured_in self.now };
 
     /// How many octets are held in both directions.
     fn octets_held(&self) -> u64

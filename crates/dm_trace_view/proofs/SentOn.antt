@@ -1,16 +1,17 @@
 -- What is sent on a connection that takes it, and what is said then.
-use Rattle.std.proofs.Common.{◌≡◌, inl, inr, ℕ, ◌-◌, Option, Some, List, [], ◌++◌, append_assoc, append-nil, ap, sym, ◌∙◌, refl, subst}
+use Rattle.std.proofs.Common.{◌≡◌, inl, inr, ℕ, Option, Some, List, [], ◌++◌, append_assoc, append-nil, ap, sym, ◌∙◌, refl, subst}
 use Rattle.dm_connections.specs.declared.ends.Ends.{Ends}
 use Rattle.dm_connections.specs.Choices.{WantsBetween}
 use Rattle.dm_connections.specs.Held.{HeldTable, SentGoesIn, HasNoPlaceBetween, found_ends}
 use Rattle.dm_tables.specs.Definitions.{Definitions}
 use Rattle.dm_trace_view.specs.declared.counts.Counts.{Counts}
 use Rattle.dm_trace_view.specs.declared.handed.Direction.{Direction}
+use Rattle.dm_trace_view.specs.declared.heard.Unread.{Unread}
 use Rattle.dm_trace_view.specs.declared.hearing.Hearing.{Hearing}
 use Rattle.dm_trace_view.specs.declared.hearing.Reckoned.{Reckoned}
 use Rattle.dm_trace_view.specs.Handed.{SaysHanded}
 use Rattle.dm_trace_view.specs.Talks.{Talk}
-use Rattle.dm_trace_view.specs.Traces.{direction_by, counted_sent, passed_before, passed_on, passed_text, LetsGo, SaysSent}
+use Rattle.dm_trace_view.specs.Traces.{direction_by, counted_sent, unread_before, unread_since, unread_text, LetsGo, SaysSent}
 
 module _ {C W : Type 0} (talk : Talk C W) (d : Definitions) (h : Hearing) (between : Ends) (begins : Type 0)
     (P : C → C → Type 0) where
@@ -21,8 +22,8 @@ module _ {C W : Type 0} (talk : Talk C W) (d : Definitions) (h : Hearing) (betwe
     pub by_is : by ≡ between
     pub held : Option Ends
     pub held_is : held ≡ found_ends old.held by.first by.second
-    pub ago : ℕ
-    pub ago_is : ago ≡ passed_before talk.passed_in old.held held
+    pub ago : Unread
+    pub ago_is : ago ≡ unread_before talk.passed_in talk.secured_in old.held held
     pub ends : Ends
     pub heard : HeldTable C
     pub goes : SentGoesIn talk.fresh old.held old.max between (WantsBetween h.looks.choice between begins) ends heard.held
@@ -34,12 +35,12 @@ module _ {C W : Type 0} (talk : Talk C W) (d : Definitions) (h : Hearing) (betwe
     pub told : List ℕ
     pub says : (said : List ℕ) × (told ≡ text ++ said)
         × SaysHanded talk h.task d h.looks.filter direction before.numbered heard after.numbered handed said
-    pub now : ℕ
-    pub now_is : now ≡ passed_before talk.passed_in handed.held (Some ends)
+    pub now : Unread
+    pub now_is : now ≡ unread_before talk.passed_in talk.secured_in handed.held (Some ends)
     pub passed : List ℕ
-    pub passed_is : passed ≡ told ++ passed_text h by ago now
+    pub passed_is : passed ≡ told ++ unread_text h by ago now
     pub counted : Counts
-    pub counted_is : counted ≡ counted_sent held (now - ago) before.counts
+    pub counted_is : counted ≡ counted_sent held (unread_since ago now) before.counts
     pub lets : (gone : List (Ends × C)) × (others : List ℕ) × (last ≡ passed ++ others)
         × LetsGo talk.held_in talk.pending_in h.task h.packet h.looks.limits handed counted.passed gone new
         after.counts.passed others
@@ -50,29 +51,22 @@ module _ {C W : Type 0} (talk : Talk C W) (d : Definitions) (h : Hearing) (betwe
       → (more : List ℕ) × (last ≡ text ++ more) × SaysSent talk d h between begins P old before new after more
   heard old before new after text last it =
       let found = found_ends old.held between.first between.second in
-      let ago = passed_before talk.passed_in old.held found in
-      let now = passed_on talk.passed_in it.handed.held it.ends in
       let said = it.says.0 in
       let others = it.lets.1 in
-      let told = passed_text h between ago now in
+      let told = unread_text h between it.ago it.now in
       let HeldBy : Ends → Type 0 = λ k. it.held ≡ found_ends old.held k.first k.second in
       let GoingBy : Ends → Type 0 = λ k. it.direction ≡ direction_by h k it.ends in
-      let PassedBy : Ends → Type 0 = λ k. it.passed ≡ it.told ++ passed_text h k it.ago it.now in
+      let UnreadBy : Ends → Type 0 = λ k. it.passed ≡ it.told ++ unread_text h k it.ago it.now in
       let held_is = subst HeldBy it.by_is it.held_is in
       let direction_is = subst GoingBy it.by_is it.direction_is in
-      let passed_is = subst PassedBy it.by_is it.passed_is in
+      let unread_is = subst UnreadBy it.by_is it.passed_is in
       let Going : Direction → Type 0 =
       λ k. SaysHanded talk h.task d h.looks.filter k before.numbered it.heard after.numbered it.handed said in
-      let CountedAgo : ℕ → Type 0 = λ n. it.counted ≡ counted_sent it.held (it.now - n) before.counts in
+      let AgoHeld : Option Ends → Type 0 =
+      λ o. it.ago ≡ unread_before talk.passed_in talk.secured_in old.held o in
       let CountedHeld : Option Ends → Type 0 =
-      λ o. it.counted ≡ counted_sent o (it.now - passed_before talk.passed_in old.held o) before.counts in
-      let CountedNow : ℕ → Type 0 = λ n. it.counted ≡ counted_sent found (n - ago) before.counts in
-      let ToldAgo : ℕ → Type 0 = λ n. it.passed ≡ it.told ++ passed_text h between n it.now in
-      let ToldHeld : Option Ends → Type 0 =
-      λ o. it.passed ≡ it.told ++ passed_text h between (passed_before talk.passed_in old.held o) it.now in
-      let ToldNow : ℕ → Type 0 = λ n. it.passed ≡ it.told ++ passed_text h between ago n in
-      let passed_told = subst ToldNow it.now_is (subst ToldHeld held_is (subst ToldAgo it.ago_is passed_is)) in
-      let all = it.lets.2 ∙ ap (λ (v : List ℕ). v ++ others) (passed_told ∙ ap (λ (v : List ℕ). v ++ told) it.says.1) in
+      λ o. it.counted ≡ counted_sent o (unread_since it.ago it.now) before.counts in
+      let all = it.lets.2 ∙ ap (λ (v : List ℕ). v ++ others) (unread_is ∙ ap (λ (v : List ℕ). v ++ told) it.says.1) in
       let flat : ((text ++ said) ++ told) ++ others ≡ text ++ (said ++ (told ++ others)) = simp append_assoc in (
         said ++ (told ++ others),
         all ∙ flat,
@@ -84,9 +78,12 @@ module _ {C W : Type 0} (talk : Talk C W) (d : Definitions) (h : Hearing) (betwe
           handed = it.handed;
           said = said;
           says = subst Going direction_is it.says.2;
+          ago = it.ago;
+          ago_is = subst AgoHeld held_is it.ago_is;
+          now = it.now;
+          now_is = it.now_is;
           counted = it.counted;
-          counted_is = subst CountedNow it.now_is
-              (subst CountedHeld held_is (subst CountedAgo it.ago_is it.counted_is));
+          counted_is = subst CountedHeld held_is it.counted_is;
           gone = it.lets.0;
           others = others;
           lets = it.lets.3;

@@ -21,7 +21,7 @@ use Rattle.dm_trace_view.specs.Told.{ending_text}
 use Rattle.dm_trace_view.specs.Traces.{SaysPacket, more_of}
 
 abbrev pub no_counts : Counts
-no_counts = record { connections = 0; passed = 0; fragments = 0; cut = 0 }
+no_counts = record { connections = 0; passed = 0; secured = 0; fragments = 0; cut = 0 }
 
 -- before the first packet
 abbrev pub trace_begun : Looks → TraceSpeaker

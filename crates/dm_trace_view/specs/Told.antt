@@ -14,15 +14,17 @@ use Rattle.dm_view_lines.specs.declared.said.Task.TheVariants.{Show, Check, Show
 use Rattle.dm_view_lines.specs.declared.tally.Tally.{Tally}
 use Rattle.dm_trace_view.specs.declared.counts.Counts.{Counts}
 use Rattle.dm_trace_view.specs.declared.lost.Lost.{Lost}
-use Rattle.dm_trace_view.specs.declared.lost.Lost.TheVariants.{Passed, LetGo}
+use Rattle.dm_trace_view.specs.declared.lost.Lost.TheVariants.{Passed, Secured, LetGo}
 use Rattle.dm_trace_view.specs.declared.lost.LostIn.{LostIn}
 
 abbrev pub lost_words : Lost → List ℕ
 lost_words (Passed octets) = decimal octets ++ codes " octets passed over"
+lost_words (Secured octets) = codes "DTLS begins, " ++ decimal octets ++ codes " octets unread"
 lost_words (LetGo octets) = codes "connection let go, " ++ decimal octets ++ codes " octets held"
 
 abbrev pub lost_member : Lost → Members
 lost_member (Passed octets) = member (codes "passed") (number_json octets) no_members
+lost_member (Secured octets) = member (codes "secured") (number_json octets) no_members
 lost_member (LetGo octets) = member (codes "let_go") (number_json octets) no_members
 
 -- as `packet 17 10.0.0.1:41234 > 10.0.0.2:3868: 1460 octets passed over`
@@ -78,15 +80,16 @@ abbrev pub counts_words : Counts → Tally → List ℕ
 counts_words counts tally =
     decimal counts.connections ++ codes " connections, " ++ decimal (messages_in tally) ++ codes " messages, "
     ++ decimal tally.good ++ codes " good, " ++ decimal tally.bad ++ codes " bad, "
-    ++ decimal counts.passed ++ codes " octets passed over, " ++ decimal counts.fragments ++ codes " fragments, "
-    ++ decimal counts.cut ++ codes " cut packets" ++ 10 ∷ []
+    ++ decimal counts.passed ++ codes " octets passed over, " ++ decimal counts.secured ++ codes " octets of DTLS, "
+    ++ decimal counts.fragments ++ codes " fragments, " ++ decimal counts.cut ++ codes " cut packets" ++ 10 ∷ []
 
 -- what was lost
 abbrev pub lost_counts : Counts → Members
 lost_counts counts =
     member (codes "passed") (number_json counts.passed)
+    (member (codes "secured") (number_json counts.secured)
     (member (codes "fragments") (number_json counts.fragments)
-    (member (codes "cut") (number_json counts.cut) no_members))
+    (member (codes "cut") (number_json counts.cut) no_members)))
 
 abbrev pub counts_members : Counts → Tally → Members
 counts_members counts tally =

@@ -1,6 +1,6 @@
 -- What is said of the packets of a capture.
-use Rattle.std.specs.Prelude.{◌≡◌, ◌<◌, ◌⊎◌, ℕ, ◌+◌, ◌-◌, ◌^◌, min, nat_lt, Bool, true, false, Option, None, Some}
-use Rattle.std.specs.Prelude.{option_map, unwrap_or, List, [], ◌∷◌, ◌++◌, length, if◌then◌else◌}
+use Rattle.std.specs.Prelude.{◌≡◌, ◌<◌, ◌⊎◌, ℕ, ◌+◌, ◌-◌, ◌^◌, min, nat_eq, nat_lt, Bool, true, false, ◌&&◌}
+use Rattle.std.specs.Prelude.{Option, None, Some, List, [], ◌∷◌, ◌++◌, length, if◌then◌else◌}
 use Rattle.dm_associations.specs.Associations.{TakesPacket, packet_ends}
 use Rattle.dm_associations.specs.Exchanges.{ChunksBeginExchange}
 use Rattle.dm_capture.specs.declared.time.Time.{Time}
@@ -27,6 +27,7 @@ use Rattle.dm_trace.specs.declared.time.Clock.TheVariants.{Utc, Since}
 use Rattle.dm_view_lines.specs.declared.said.Task.{Task}
 use Rattle.dm_trace_view.specs.declared.counts.Counts.{Counts}
 use Rattle.dm_trace_view.specs.declared.handed.Direction.{Direction}
+use Rattle.dm_trace_view.specs.declared.heard.Unread.{Unread}
 use Rattle.dm_trace_view.specs.declared.hearing.Hearing.{Hearing}
 use Rattle.dm_trace_view.specs.declared.hearing.Reckoned.{Reckoned}
 use Rattle.dm_trace_view.specs.declared.lost.Lost.TheVariants as lost
@@ -80,13 +81,20 @@ direction_by h between ends = record {
   from_first = same_end between.first ends.first;
 }
 
--- how many octets of a connection were passed over so far
-abbrev pub passed_on : {C : Type 0} → (C → ℕ) → HeldByEnds C → Ends → ℕ
-passed_on passed_in held ends = unwrap_or (option_map passed_in (connection_of held ends)) 0
+-- how many octets of a connection were passed over so far, and how many of Diameter over DTLS came
+abbrev pub unread_in : {C : Type 0} → (C → ℕ) → (C → ℕ) → Option C → Unread
+unread_in passed_in secured_in None = record { passed = 0; secured = 0 }
+unread_in passed_in secured_in (Some c) = record { passed = passed_in c; secured = secured_in c }
 
-abbrev pub passed_before : {C : Type 0} → (C → ℕ) → HeldByEnds C → Option Ends → ℕ
-passed_before passed_in held None = 0
-passed_before passed_in held (Some ends) = passed_on passed_in held ends
+abbrev pub unread_before : {C : Type 0} → (C → ℕ) → (C → ℕ) → HeldByEnds C → Option Ends → Unread
+unread_before passed_in secured_in held None = record { passed = 0; secured = 0 }
+unread_before passed_in secured_in held (Some ends) = unread_in passed_in secured_in (connection_of held ends)
+
+abbrev pub unread_since : Unread → Unread → Unread
+unread_since before after = record {
+  passed = after.passed - before.passed;
+  secured = after.secured - before.secured;
+}
 
 -- what is told of octets that were passed over since then
 abbrev pub passed_text : Hearing → Ends → ℕ → ℕ → List ℕ
@@ -99,6 +107,22 @@ passed_text h between before after =
       lost = lost.Passed (after - before);
     })
     else []
+
+-- the first octets of Diameter over DTLS of a connection are told, and no later ones
+abbrev pub secured_text : Hearing → Ends → ℕ → ℕ → List ℕ
+secured_text h between before after =
+    if nat_eq before 0 && nat_lt 0 after
+    then lost_text h.task (record {
+      packet = h.packet;
+      from = between.first;
+      to = between.second;
+      lost = lost.Secured after;
+    })
+    else []
+
+abbrev pub unread_text : Hearing → Ends → Unread → Unread → List ℕ
+unread_text h between before after =
+    passed_text h between before.passed after.passed ++ secured_text h between before.secured after.secured
 
 -- connections that were let go, one after the other, as long as more is held than may be; each is told
 abbrev pub HoldsTooMuch : {C : Type 0} → (C → ℕ) → Limits → HeldTable C → Type 0
@@ -124,15 +148,20 @@ LetsGo {C} held_in pending_in task packet limits old passed (gone ∷ more) new 
     × (text ≡ gone_text pending_in task packet gone ++ others)
 
 -- what is sent on a connection that is looked at
-abbrev pub counted_sent : Option Ends → ℕ → Counts → Counts
-counted_sent None octets counts = record counts {
-  connections = more_of counts.connections 1;
-  passed = more_of counts.passed octets;
+abbrev pub with_unread : Unread → Counts → Counts
+with_unread unread counts = record counts {
+  passed = more_of counts.passed unread.passed;
+  secured = more_of counts.secured unread.secured;
 }
-counted_sent (Some ends) octets counts = record counts { passed = more_of counts.passed octets }
 
--- its connection takes it and hands out messages; what was passed over meanwhile is told, and the connections that are
--- let go
+abbrev pub counted_sent : Option Ends → Unread → Counts → Counts
+counted_sent None unread counts = record (with_unread unread counts) {
+  connections = more_of counts.connections 1;
+}
+counted_sent (Some ends) unread counts = with_unread unread counts
+
+-- its connection takes it and hands out messages; what was passed over meanwhile or is secured is told, and the
+-- connections that are let go
 pub record SaysHeard {C W : Type 0} (talk : Talk C W) (d : Definitions) (h : Hearing) (between : Ends) (begins : Type 0)
     (P : C → C → Type 0) (old : HeldTable C) (before : Reckoned) (new : HeldTable C) (after : Reckoned)
     (text : List ℕ) : Type 0 where
@@ -145,19 +174,19 @@ pub record SaysHeard {C W : Type 0} (talk : Talk C W) (d : Definitions) (h : Hea
   pub said : List ℕ
   pub says : SaysHanded talk h.task d h.looks.filter (direction_by h between ends) before.numbered heard after.numbered
       handed said
+  pub ago : Unread
+  pub ago_is : ago ≡ unread_before talk.passed_in talk.secured_in old.held
+      (found_ends old.held between.first between.second)
+  pub now : Unread
+  pub now_is : now ≡ unread_in talk.passed_in talk.secured_in (connection_of handed.held ends)
   pub counted : Counts
   pub counted_is : counted ≡ counted_sent (found_ends old.held between.first between.second)
-      (passed_on talk.passed_in handed.held ends
-      - passed_before talk.passed_in old.held (found_ends old.held between.first between.second)) before.counts
+      (unread_since ago now) before.counts
   pub gone : List (Ends × C)
   pub others : List ℕ
   pub lets : LetsGo talk.held_in talk.pending_in h.task h.packet h.looks.limits handed counted.passed gone new
       after.counts.passed others
-  pub text_is : text ≡ said
-      ++ (passed_text h between
-      (passed_before talk.passed_in old.held (found_ends old.held between.first between.second))
-      (passed_on talk.passed_in handed.held ends)
-      ++ others)
+  pub text_is : text ≡ said ++ (unread_text h between ago now ++ others)
   pub counts : after.counts ≡ record counted { passed = after.counts.passed }
 
 -- what is sent on no connection that is looked at

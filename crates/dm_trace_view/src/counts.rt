@@ -20,6 +20,8 @@ pub struct Counts {
     pub connections: u64,
     /// Octets of their streams that were passed over.
     pub passed: u64,
+    /// Octets of Diameter over DTLS, which aren't read.
+    pub secured: u64,
     /// Packets that are fragments of IP packets.
     pub fragments: u64,
     /// Packets that were captured in part, so that a segment isn't there whole.
@@ -50,6 +52,7 @@ fn put_counts_words(text: &mut String, counts: Counts, tally: Tally) -> Result<(
     put_count(text, tally.good, " good, ")?;
     put_count(text, tally.bad, " bad, ")?;
     put_count(text, counts.passed, " octets passed over, ")?;
+    put_count(text, counts.secured, " octets of DTLS, ")?;
     put_count(text, counts.fragments, " fragments, ")?;
     put_count(text, counts.cut, " cut packets\n")?;
     Ok(())
@@ -81,6 +84,7 @@ fn put_lost_counts(json: &mut JsonText, counts: Counts) -> Result<(), AllocError
     ensures { OnOk result (json.new ≡ json.old ++ members_tokens (lost_counts counts)) }
 {
     put_count_member(json, "passed", counts.passed)?;
+    put_count_member(json, "secured", counts.secured)?;
     put_count_member(json, "fragments", counts.fragments)?;
     put_count_member(json, "cut", counts.cut)?;
     json.end_object()?;

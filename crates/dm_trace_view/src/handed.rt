@@ -107,7 +107,8 @@ pub(crate) fn put_handed<C: TwoWay>(
     before: Numbered,
 ) -> Result<Numbered, NoMemory>
     ensures { IfOk result (λ after. (more : List ℕ) × (string_bytes text.new ≡ string_bytes text.old ++ more)
-        × SaysHanded (talk_of C.new_of C.passed_in C.held_in C.pending_in C.one_way C.with_way C.Hands C.HandsNone)
+        × SaysHanded (talk_of C.new_of C.passed_in C.secured_in C.held_in C.pending_in C.one_way C.with_way C.Hands
+        C.HandsNone)
         saying.entry.task dictionary.now saying.entry.filter direction before connections.old after connections.new
         more) }
 {

@@ -1,8 +1,9 @@
 //! What is said of what is sent on a connection: the messages that it hands out, and what is lost.
-ghost use Rattle.std.specs.Prelude.{◌≡◌, ◌++◌, ℕ, List, IfOk, OnOk};
+ghost use Rattle.std.specs.Prelude.{◌≡◌, ◌++◌, ℕ, List, IfOk, OnOk, option_copied};
 ghost use Rattle.std.specs.String.{string_bytes};
 ghost use Rattle.dm_trace_view.specs.Talks.{talk_of};
-ghost use Rattle.dm_trace_view.specs.Traces.{counted_sent, passed_before, passed_text, SaysSent};
+ghost use Rattle.dm_trace_view.specs.Traces.{counted_sent, with_unread, unread_in, unread_before, unread_since};
+ghost use Rattle.dm_trace_view.specs.Traces.{passed_text, secured_text, unread_text, SaysSent};
 
 use crate::counts::Counts;
 use crate::gone::put_gone;
@@ -13,28 +14,76 @@ use dm_connections::{Connections, Ends, Takes, TwoWay};
 use dm_dict::{Dictionary, NoMemory};
 use std::alloc::{AllocError, Global};
 
-/// Counts what is sent on a connection that is held or else new, and octets that were passed over.
-fn with_sent(counts: Counts, held: Option<Ends>, octets: u64) -> Counts
-    ensures { result ≡ counted_sent held octets counts }
+/// How many octets of a connection aren't read: those that were passed over, and those of Diameter over DTLS.
+#[derive(Clone, Copy, Debug)]
+pub(crate) struct Unread {
+    pub(crate) passed: u64,
+    pub(crate) secured: u64,
+}
+
+/// Of nothing that came.
+const NONE_UNREAD: Unread = Unread {
+    passed: 0,
+    secured: 0,
+};
+
+impl Unread {
+    /// How many more there are than were before.
+    fn since(self, before: Unread) -> Unread
+        ensures { result ≡ unread_since before self }
+    {
+        Unread {
+            passed: self.passed.saturating_sub(before.passed),
+            secured: self.secured.saturating_sub(before.secured),
+        }
+    }
+}
+
+/// Counts octets that aren't read.
+fn counted_unread(counts: Counts, unread: Unread) -> Counts
+    ensures { result ≡ with_unread unread counts }
 {
-    let passed = counts.passed.saturating_add(octets);
+    Counts {
+        passed: counts.passed.saturating_add(unread.passed),
+        secured: counts.secured.saturating_add(unread.secured),
+        ..counts
+    }
+}
+
+/// Counts what is sent on a connection that is held or else new, and octets that aren't read.
+fn with_sent(counts: Counts, held: Option<Ends>, unread: Unread) -> Counts
+    ensures { result ≡ counted_sent held unread counts }
+{
+    let counts = counted_unread(counts, unread);
     match held {
-        Some(_) => Counts { passed, ..counts },
+        Some(_) => counts,
         None => Counts {
             connections: counts.connections.saturating_add(1),
-            passed,
             ..counts
         },
     }
 }
 
-/// How many octets of a connection were passed over so far; none of one that isn't held.
-fn passed_so_far<C: TwoWay>(connections: &Connections<C>, held: Option<Ends>) -> u64
-    ensures { result ≡ passed_before C.passed_in connections.now.held held }
+/// How many octets of a connection aren't read so far; none of one that isn't there.
+fn unread_of<C: TwoWay>(connection: Option<&C>) -> Unread
+    ensures { result ≡ unread_in C.passed_in C.secured_in (option_copied connection.entry) }
+{
+    match connection {
+        Some(connection) => Unread {
+            passed: connection.octets_passed(),
+            secured: connection.octets_secured(),
+        },
+        None => NONE_UNREAD,
+    }
+}
+
+/// How many octets of a connection aren't read so far; none of one that isn't held.
+fn unread_so_far<C: TwoWay>(connections: &Connections<C>, held: Option<Ends>) -> Unread
+    ensures { result ≡ unread_before C.passed_in C.secured_in connections.now.held held }
 {
     match held {
-        Some(ends) => connections.passed(ends).unwrap_or(0),
-        None => 0,
+        Some(ends) => unread_of(connections.get(ends)),
+        None => NONE_UNREAD,
     }
 }
 
@@ -62,6 +111,47 @@ fn put_passed(
     put_lost(alloc, text, hearing.task, told)
 }
 
+/// Appends how many octets of Diameter over DTLS came, where they are the first.
+fn put_secured(
+    alloc: Global,
+    text: &mut String,
+    hearing: Hearing<'_>,
+    between: Ends,
+    before: u64,
+    after: u64,
+) -> Result<(), AllocError>
+    ensures { OnOk result (string_bytes text.new
+        ≡ string_bytes text.old ++ secured_text hearing.entry between before after) }
+{
+    if before != 0 || after == 0 {
+        return Ok(());
+    }
+    let told = LostIn {
+        packet: hearing.packet,
+        from: between.first,
+        to: between.second,
+        lost: Lost::Secured(after),
+    };
+    put_lost(alloc, text, hearing.task, told)
+}
+
+/// Appends what is told of octets that aren't read.
+fn put_unread(
+    alloc: Global,
+    text: &mut String,
+    hearing: Hearing<'_>,
+    between: Ends,
+    before: Unread,
+    after: Unread,
+) -> Result<(), AllocError>
+    ensures { OnOk result (string_bytes text.new
+        ≡ string_bytes text.old ++ unread_text hearing.entry between before after) }
+{
+    put_passed(alloc, text, hearing, between, before.passed, after.passed)?;
+    put_secured(alloc, text, hearing, between, before.secured, after.secured)?;
+    Ok(())
+}
+
 /// Says what the connection of what is sent says, where it is looked at.
 pub(crate) fn put_sent<S: Copy, C: Takes<S>>(
     alloc: Global,
@@ -73,13 +163,14 @@ pub(crate) fn put_sent<S: Copy, C: Takes<S>>(
     before: Reckoned,
 ) -> Result<Reckoned, NoMemory>
     ensures { IfOk result (λ after. (more : List ℕ) × (string_bytes text.new ≡ string_bytes text.old ++ more)
-        × SaysSent (talk_of C.new_of C.passed_in C.held_in C.pending_in C.one_way C.with_way C.Hands C.HandsNone)
+        × SaysSent (talk_of C.new_of C.passed_in C.secured_in C.held_in C.pending_in C.one_way C.with_way C.Hands
+        C.HandsNone)
         dictionary.now hearing.entry (C.between sent) (C.BeginsExchange sent) (λ from to. C.TakesSent from sent to)
         connections.old before connections.new after more) }
 {
     let between = C::ends_of(sent);
     let held = connections.find(between.first, between.second);
-    let passed = passed_so_far(connections, held);
+    let ago = unread_so_far(connections, held);
     let Some(ends) = connections.take(hearing.looks.choice, sent)? else {
         return Ok(before);
     };
@@ -94,9 +185,9 @@ pub(crate) fn put_sent<S: Copy, C: Takes<S>>(
         direction,
         before.numbered,
     )?;
-    let now = passed_so_far(connections, Some(ends));
-    put_passed(alloc, text, hearing, between, passed, now)?;
-    let counts = with_sent(before.counts, held, now.saturating_sub(passed));
+    let now = unread_so_far(connections, Some(ends));
+    put_unread(alloc, text, hearing, between, ago, now)?;
+    let counts = with_sent(before.counts, held, now.since(ago));
     let lost = put_gone(alloc, text, hearing, connections, counts.passed)?;
     Ok(Reckoned {
         numbered,

@@ -21,6 +21,8 @@ use std::alloc::{AllocError, Global};
 pub enum Lost {
     /// So many octets of the stream that no message could be made of.
     Passed(u64),
+    /// So many octets of Diameter over DTLS, which isn't read: the first ones of a connection.
+    Secured(u64),
     /// A connection that was idle longest, since too many are held, or too much; and so many octets with it.
     LetGo(u64),
 }
@@ -52,6 +54,11 @@ fn put_lost_words(text: &mut String, lost: Lost) -> Result<(), AllocError>
 {
     match lost {
         Lost::Passed(octets) => put_count(text, octets, " octets passed over"),
+        Lost::Secured(octets) => {
+            text.push_str("DTLS begins, ")?;
+            put_count(text, octets, " octets unread")?;
+            Ok(())
+        }
         Lost::LetGo(octets) => {
             text.push_str("connection let go, ")?;
             put_count(text, octets, " octets held")?;
@@ -94,6 +101,10 @@ fn put_lost_member(json: &mut JsonText, lost: Lost) -> Result<(), AllocError>
     match lost {
         Lost::Passed(octets) => {
             json.key("passed")?;
+            json.number(octets)?;
+        }
+        Lost::Secured(octets) => {
+            json.key("secured")?;
             json.number(octets)?;
         }
         Lost::LetGo(octets) => {

@@ -49,6 +49,7 @@ fn trace_of<'a>(
             counts: Counts {
                 connections: 0,
                 passed: 0,
+                secured: 0,
                 fragments: 0,
                 cut: 0,
             },

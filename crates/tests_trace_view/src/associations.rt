@@ -22,3 +22,31 @@ fn both_ends(rt: HostRuntime) {
     );
     assert_said(&rt, Task::Show, looks(AMPLE), &[], PACKETS, want);
 }
+
+/// Two packets of Diameter over DTLS (RFC 6733, 11.5) from 10.0.0.1:41000, of 4 octets each, and one back, of 8.
+const SECURED: &str = "\
+    6b03a1a400000001000000340000003445000034000000004084\
+    00000a0000010a000002a0280f1c000000aa00000000000300140000000100000000\
+    0000002f16feff006b03a1a400000002000000340000003445000034000000004084\
+    00000a0000010a000002a0280f1c000000aa00000000000300140000000200000000\
+    0000002f17feff006b03a1a400000003000000380000003845000038000000004084\
+    00000a0000020a0000010f1ca028000000bb00000000000300180000000700000000\
+    0000002f16feff0017feff00";
+
+#[test]
+fn secured_octets(rt: HostRuntime) {
+    let want = (
+        "packet 1 10.0.0.1:41000 > 10.0.0.2:3868: DTLS begins, 4 octets unread\n1 connections, 0 messages, 0 good, 0 bad, 0 octets passed over, 16 octets of DTLS, 0 fragments, 0 cut packets\n",
+        true,
+    );
+    assert_said(&rt, Task::Check, looks(AMPLE), &[], SECURED, want);
+}
+
+#[test]
+fn secured_octets_in_json(rt: HostRuntime) {
+    let want = (
+        "{\"packet\":1,\"from\":\"10.0.0.1:41000\",\"to\":\"10.0.0.2:3868\",\"secured\":4}\n{\"connections\":1,\"messages\":0,\"good\":0,\"bad\":0,\"passed\":0,\"secured\":16,\"fragments\":0,\"cut\":0}\n",
+        true,
+    );
+    assert_said(&rt, Task::CheckJson, looks(AMPLE), &[], SECURED, want);
+}

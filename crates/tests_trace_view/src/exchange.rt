@@ -54,7 +54,7 @@ fn exchange_in_json(rt: HostRuntime) {
 #[test]
 fn exchange_checked(rt: HostRuntime) {
     let want = (
-        "1: 2026-11-23T02:15:00.000004Z 10.0.0.1:41000 > 10.0.0.2:3868 tcp packet 4\ngood CER 257 request, application 0, hop-by-hop 17 (0x00000011), end-to-end 34 (0x00000022)\n2: 2026-11-23T02:15:00.000005Z 10.0.0.2:3868 > 10.0.0.1:41000 tcp packet 5\ngood CEA 257 answer, application 0, hop-by-hop 17 (0x00000011), end-to-end 34 (0x00000022)\n1 connections, 2 messages, 2 good, 0 bad, 0 octets passed over, 0 fragments, 0 cut packets\n",
+        "1: 2026-11-23T02:15:00.000004Z 10.0.0.1:41000 > 10.0.0.2:3868 tcp packet 4\ngood CER 257 request, application 0, hop-by-hop 17 (0x00000011), end-to-end 34 (0x00000022)\n2: 2026-11-23T02:15:00.000005Z 10.0.0.2:3868 > 10.0.0.1:41000 tcp packet 5\ngood CEA 257 answer, application 0, hop-by-hop 17 (0x00000011), end-to-end 34 (0x00000022)\n1 connections, 2 messages, 2 good, 0 bad, 0 octets passed over, 0 octets of DTLS, 0 fragments, 0 cut packets\n",
         true,
     );
     assert_said(&rt, Task::Check, looks(AMPLE), &ROWS, "", want);
@@ -63,7 +63,7 @@ fn exchange_checked(rt: HostRuntime) {
 #[test]
 fn exchange_checked_in_json(rt: HostRuntime) {
     let want = (
-        "{\"number\":1,\"time\":\"2026-11-23T02:15:00.000004Z\",\"from\":\"10.0.0.1:41000\",\"to\":\"10.0.0.2:3868\",\"transport\":\"tcp\",\"packet\":4,\"verdict\":\"good\",\"header\":{\"command\":\"CER\",\"code\":257,\"flags\":[\"request\"],\"application\":0,\"hop_by_hop\":17,\"end_to_end\":34},\"faults\":[]}\n{\"number\":2,\"time\":\"2026-11-23T02:15:00.000005Z\",\"from\":\"10.0.0.2:3868\",\"to\":\"10.0.0.1:41000\",\"transport\":\"tcp\",\"packet\":5,\"verdict\":\"good\",\"header\":{\"command\":\"CEA\",\"code\":257,\"flags\":[\"answer\"],\"application\":0,\"hop_by_hop\":17,\"end_to_end\":34},\"faults\":[]}\n{\"connections\":1,\"messages\":2,\"good\":2,\"bad\":0,\"passed\":0,\"fragments\":0,\"cut\":0}\n",
+        "{\"number\":1,\"time\":\"2026-11-23T02:15:00.000004Z\",\"from\":\"10.0.0.1:41000\",\"to\":\"10.0.0.2:3868\",\"transport\":\"tcp\",\"packet\":4,\"verdict\":\"good\",\"header\":{\"command\":\"CER\",\"code\":257,\"flags\":[\"request\"],\"application\":0,\"hop_by_hop\":17,\"end_to_end\":34},\"faults\":[]}\n{\"number\":2,\"time\":\"2026-11-23T02:15:00.000005Z\",\"from\":\"10.0.0.2:3868\",\"to\":\"10.0.0.1:41000\",\"transport\":\"tcp\",\"packet\":5,\"verdict\":\"good\",\"header\":{\"command\":\"CEA\",\"code\":257,\"flags\":[\"answer\"],\"application\":0,\"hop_by_hop\":17,\"end_to_end\":34},\"faults\":[]}\n{\"connections\":1,\"messages\":2,\"good\":2,\"bad\":0,\"passed\":0,\"secured\":0,\"fragments\":0,\"cut\":0}\n",
         true,
     );
     assert_said(&rt, Task::CheckJson, looks(AMPLE), &ROWS, "", want);

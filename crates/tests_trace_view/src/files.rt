@@ -47,7 +47,7 @@ fn record_too_long_in_json(rt: HostRuntime) {
 #[test]
 fn fault_checked(rt: HostRuntime) {
     let want = (
-        "octet 24: record too long\n0 connections, 0 messages, 0 good, 0 bad, 0 octets passed over, 0 fragments, 0 cut packets\n",
+        "octet 24: record too long\n0 connections, 0 messages, 0 good, 0 bad, 0 octets passed over, 0 octets of DTLS, 0 fragments, 0 cut packets\n",
         false,
     );
     assert_said(
@@ -69,12 +69,12 @@ fn fragment_and_cut_packet(rt: HostRuntime) {
         (3, 41_000, 3868, "C", 100, REQUEST),
     ];
     let want = (
-        "0 connections, 0 messages, 0 good, 0 bad, 0 octets passed over, 1 fragments, 2 cut packets\n",
+        "0 connections, 0 messages, 0 good, 0 bad, 0 octets passed over, 0 octets of DTLS, 1 fragments, 2 cut packets\n",
         true,
     );
     assert_said(&rt, Task::Check, looks(AMPLE), &rows, "", want);
     let want = (
-        "{\"connections\":0,\"messages\":0,\"good\":0,\"bad\":0,\"passed\":0,\"fragments\":1,\"cut\":2}\n",
+        "{\"connections\":0,\"messages\":0,\"good\":0,\"bad\":0,\"passed\":0,\"secured\":0,\"fragments\":1,\"cut\":2}\n",
         true,
     );
     assert_said(&rt, Task::CheckJson, looks(AMPLE), &rows, "", want);
@@ -84,7 +84,7 @@ fn fragment_and_cut_packet(rt: HostRuntime) {
 fn bad_message(rt: HostRuntime) {
     let rows = [(1, 41_000, 3868, "", 100, UNKNOWN)];
     let want = (
-        "1: 2026-11-23T02:15:00.000001Z 10.0.0.1:41000 > 10.0.0.2:3868 tcp packet 1\nbad ? 299 request, application 0, hop-by-hop 18 (0x00000012), end-to-end 35 (0x00000023)\n  3001 DIAMETER_COMMAND_UNSUPPORTED\n1 connections, 1 messages, 0 good, 1 bad, 0 octets passed over, 0 fragments, 0 cut packets\n",
+        "1: 2026-11-23T02:15:00.000001Z 10.0.0.1:41000 > 10.0.0.2:3868 tcp packet 1\nbad ? 299 request, application 0, hop-by-hop 18 (0x00000012), end-to-end 35 (0x00000023)\n  3001 DIAMETER_COMMAND_UNSUPPORTED\n1 connections, 1 messages, 0 good, 1 bad, 0 octets passed over, 0 octets of DTLS, 0 fragments, 0 cut packets\n",
         false,
     );
     assert_said(&rt, Task::Check, looks(AMPLE), &rows, "", want);
@@ -99,7 +99,7 @@ fn bad_message_in_colours(rt: HostRuntime) {
         coloured: true,
     };
     let want = (
-        "\u{1b}[1m1: 2026-11-23T02:15:00.000001Z 10.0.0.1:41000 > 10.0.0.2:3868 tcp packet 1\u{1b}[0m\n\u{1b}[1mbad ? 299 request, application 0, hop-by-hop 18 (0x00000012), end-to-end 35 (0x00000023)\u{1b}[0m\n\u{1b}[31m  3001 DIAMETER_COMMAND_UNSUPPORTED\u{1b}[0m\n\u{1b}[1m1 connections, 1 messages, 0 good, 1 bad, 0 octets passed over, 0 fragments, 0 cut packets\u{1b}[0m\n",
+        "\u{1b}[1m1: 2026-11-23T02:15:00.000001Z 10.0.0.1:41000 > 10.0.0.2:3868 tcp packet 1\u{1b}[0m\n\u{1b}[1mbad ? 299 request, application 0, hop-by-hop 18 (0x00000012), end-to-end 35 (0x00000023)\u{1b}[0m\n\u{1b}[31m  3001 DIAMETER_COMMAND_UNSUPPORTED\u{1b}[0m\n\u{1b}[1m1 connections, 1 messages, 0 good, 1 bad, 0 octets passed over, 0 octets of DTLS, 0 fragments, 0 cut packets\u{1b}[0m\n",
         false,
     );
     assert_styled(&rt, style, looks(AMPLE), &rows, "", want);

@@ -120,7 +120,7 @@ fn counted(rt: HostRuntime) {
         ..ALL
     };
     let want = (
-        "2: 2026-11-23T02:15:00.000002Z 10.0.0.1:41000 > 10.0.0.2:3868 tcp packet 2\ngood DWR 280 request, application 0, hop-by-hop 18 (0x00000012), end-to-end 35 (0x00000023)\n1 connections, 1 messages, 1 good, 0 bad, 0 octets passed over, 0 fragments, 0 cut packets\n",
+        "2: 2026-11-23T02:15:00.000002Z 10.0.0.1:41000 > 10.0.0.2:3868 tcp packet 2\ngood DWR 280 request, application 0, hop-by-hop 18 (0x00000012), end-to-end 35 (0x00000023)\n1 connections, 1 messages, 1 good, 0 bad, 0 octets passed over, 0 octets of DTLS, 0 fragments, 0 cut packets\n",
         true,
     );
     assert_said(&rt, Task::Check, by(watchdogs), &ROWS, "", want);

@@ -78,7 +78,7 @@ fn lost_octets_counted(rt: HostRuntime) {
         (4, 41_001, 3868, "", 105, FRONT),
     ];
     let want = (
-        "packet 1 10.0.0.1:41000 > 10.0.0.2:3868: 5 octets passed over\npacket 3 10.0.0.1:41001 > 10.0.0.2:3868: 5 octets passed over\npacket 3 10.0.0.1:41000 > 10.0.0.2:3868: connection let go, 20 octets held\n2 connections, 0 messages, 0 good, 0 bad, 50 octets passed over, 0 fragments, 0 cut packets\n",
+        "packet 1 10.0.0.1:41000 > 10.0.0.2:3868: 5 octets passed over\npacket 3 10.0.0.1:41001 > 10.0.0.2:3868: 5 octets passed over\npacket 3 10.0.0.1:41000 > 10.0.0.2:3868: connection let go, 20 octets held\n2 connections, 0 messages, 0 good, 0 bad, 50 octets passed over, 0 octets of DTLS, 0 fragments, 0 cut packets\n",
         true,
     );
     assert_said(&rt, Task::Check, looks(ONE_CONNECTION), &rows, "", want);
@@ -95,7 +95,7 @@ fn too_many_octets_held(rt: HostRuntime) {
         (2, 41_001, 3868, "", 100, FRONT),
     ];
     let want = (
-        "packet 2 10.0.0.1:41000 > 10.0.0.2:3868: connection let go, 20 octets held\n2 connections, 0 messages, 0 good, 0 bad, 40 octets passed over, 0 fragments, 0 cut packets\n",
+        "packet 2 10.0.0.1:41000 > 10.0.0.2:3868: connection let go, 20 octets held\n2 connections, 0 messages, 0 good, 0 bad, 40 octets passed over, 0 octets of DTLS, 0 fragments, 0 cut packets\n",
         true,
     );
     assert_said(&rt, Task::Check, looks(limits), &rows, "", want);

@@ -4,6 +4,7 @@ use Rattle.dm_trace_view.proofs.counts.put_counts_words.Goals as goal
 pub returns : goal.returns
 returns c =
     rw (
+      c.in_ok-put_count-8.ensures,
       c.in_ok-put_count-7.ensures,
       c.in_ok-put_count-6.ensures,
       c.in_ok-put_count-5.ensures,

@@ -7,8 +7,10 @@ pub returns : goal.returns
 returns c =
     let cut = member (codes "cut") (number_json c.args.counts.cut) no_members in
     let fragments = member (codes "fragments") (number_json c.args.counts.fragments) cut in
-    let first = c.in_ok-put_count_member.ensures fragments in
-    let second = c.in_ok-put_count_member-2.ensures cut in
-    let third = c.in_ok-put_count_member-3.ensures no_members in
+    let secured = member (codes "secured") (number_json c.args.counts.secured) fragments in
+    let first = c.in_ok-put_count_member.ensures secured in
+    let second = c.in_ok-put_count_member-2.ensures fragments in
+    let third = c.in_ok-put_count_member-3.ensures cut in
+    let fourth = c.in_ok-put_count_member-4.ensures no_members in
     let ended = c.in_ok-end_object.ensures in
-    rw (ended, third, second, first) refl
+    rw (ended, fourth, third, second, first) refl

@@ -6,7 +6,7 @@ use Rattle.dm_trace_view.proofs.handed.put_handed.Goals as goal
 
 pub loop-preserved : goal.loop-preserved
 loop-preserved g c =
-    let talk = talk_of g.C.TwoWay.new_of g.C.TwoWay.passed_in g.C.TwoWay.held_in g.C.TwoWay.pending_in g.C.TwoWay.one_way g.C.TwoWay.with_way g.C.TwoWay.Hands g.C.TwoWay.HandsNone in
+    let talk = talk_of g.C.TwoWay.new_of g.C.TwoWay.passed_in g.C.TwoWay.secured_in g.C.TwoWay.held_in g.C.TwoWay.pending_in g.C.TwoWay.one_way g.C.TwoWay.with_way g.C.TwoWay.Hands g.C.TwoWay.HandsNone in
     let inv = c.loop.invariant in
     let message = c.in-Some.message.items in
     let said = c.in_ok-so_far.ensures in

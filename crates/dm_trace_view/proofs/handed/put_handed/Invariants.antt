@@ -11,7 +11,7 @@ invariant-loop g l = record {
   so : List ℕ;
   text : string_bytes l.text ≡ string_bytes l.fn.text ++ so;
   said : SaysSome
-      (HandsNext (talk_of g.C.TwoWay.new_of g.C.TwoWay.passed_in g.C.TwoWay.held_in g.C.TwoWay.pending_in g.C.TwoWay.one_way g.C.TwoWay.with_way g.C.TwoWay.Hands g.C.TwoWay.HandsNone) l.fn.direction)
+      (HandsNext (talk_of g.C.TwoWay.new_of g.C.TwoWay.passed_in g.C.TwoWay.secured_in g.C.TwoWay.held_in g.C.TwoWay.pending_in g.C.TwoWay.one_way g.C.TwoWay.with_way g.C.TwoWay.Hands g.C.TwoWay.HandsNone) l.fn.direction)
       (SaysOne l.fn.saying.task l.dictionary l.fn.saying.filter l.fn.direction) l.fn.before l.fn.connections messages
       l.so_far l.connections so;
 }

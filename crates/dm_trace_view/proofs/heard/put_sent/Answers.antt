@@ -1,5 +1,6 @@
-use Rattle.std.proofs.Common.{◌≡◌, ℕ, refl, subst}
+use Rattle.std.proofs.Common.{◌≡◌, refl, subst}
 use Rattle.std.specs.String.{string_bytes}
+use Rattle.dm_trace_view.specs.declared.heard.Unread.{Unread}
 use Rattle.dm_trace_view.specs.Traces.{counted_sent}
 use Rattle.dm_trace_view.proofs.SentOn.{heard, not_heard}
 use Rattle.dm_trace_view.proofs.heard.put_sent.Goals as goal
@@ -11,14 +12,14 @@ returns-in_default g c =
 
 pub returns : goal.returns
 returns g c =
-    let Counted : ℕ → Type 0 = λ n. c.with_sent-counts.result ≡ counted_sent c.find-held.result n c.args.before.counts in
+    let Counted : Unread → Type 0 = λ n. c.with_sent-counts.result ≡ counted_sent c.find-held.result n c.args.before.counts in
     heard _ _ _ _ _ _ _ _ _ _ _ _ (record {
       by = c.ends_of-between.result;
       by_is = c.ends_of-between.ensures;
       held = c.find-held.result;
       held_is = c.find-held.ensures;
-      ago = c.passed_so_far-passed.result;
-      ago_is = c.passed_so_far-passed.ensures;
+      ago = c.unread_so_far-ago.result;
+      ago_is = c.unread_so_far-ago.ensures;
       ends = c.in-Some.ends;
       heard = c.take.new.self;
       goes = rw c.in-Some.is at c.in_ok-ends.ensures.taken;
@@ -28,12 +29,12 @@ returns g c =
       handed = c.put_handed.new.connections;
       told = string_bytes c.put_handed.new.text;
       says = rw c.saying-saying.ensures at c.in_ok-numbered.ensures;
-      now = c.passed_so_far-now.result;
-      now_is = c.passed_so_far-now.ensures;
-      passed = string_bytes c.put_passed.new.text;
-      passed_is = c.in_ok-put_passed.ensures;
+      now = c.unread_so_far-now.result;
+      now_is = c.unread_so_far-now.ensures;
+      passed = string_bytes c.put_unread.new.text;
+      passed_is = c.in_ok-put_unread.ensures;
       counted = c.with_sent-counts.result;
-      counted_is = subst Counted c.saturating_sub.ensures c.with_sent-counts.ensures;
+      counted_is = subst Counted c.since.ensures c.with_sent-counts.ensures;
       lets = c.in_ok-lost.ensures;
       counts = refl;
     })
