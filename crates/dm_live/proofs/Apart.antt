@@ -1,9 +1,9 @@
 -- The line that asks who the other side is beside the lines of orders.
 use Rattle.std.proofs.Common.{◌≡◌, ℕ, true, false, nat_eq, List, [], ◌∷◌, codes, refl, sym, ap, ◌∙◌}
-use Rattle.dm_session.specs.Orders.{Order}
+use Rattle.dm_live.specs.declared.form.Form.{Form}
 use Rattle.dm_live.specs.declared.order_name.OrderName.{OrderName}
 use Rattle.dm_live.specs.declared.order_name.OrderName.TheVariants as names
-use Rattle.dm_live.specs.OrderLines.{name_word, order_name, TellsOrder}
+use Rattle.dm_live.specs.OrderLines.{AskedOfNode, name_word, order_name, TellsOrder}
 use Rattle.dm_live.specs.SenderLines.{IsSender}
 
 abbrev first : List (List ℕ) → List ℕ
@@ -28,7 +28,7 @@ other names.Stop = refl
 other names.Submit = refl
 other names.Reset = refl
 
-pub no_order : (line : List ℕ) (o : Order) → IsSender line → TellsOrder o line → ⊥
-no_order line o is (rest, tells, more) =
-    let same : codes "sender" ≡ name_word (order_name o) = ap first (sym is ∙ tells) in
-    let never : true ≡ false = ap (λ w. nat_eq (fourth w) 100) same ∙ other (order_name o) in absurd (cc never)
+pub no_order : (form : Form) (line : List ℕ) (a : AskedOfNode) → IsSender line → TellsOrder form a line → ⊥
+no_order form line a is (rest, tells, more) =
+    let same : codes "sender" ≡ name_word (order_name a.order) = ap first (sym is ∙ tells) in
+    let never : true ≡ false = ap (λ w. nat_eq (fourth w) 100) same ∙ other (order_name a.order) in absurd (cc never)

@@ -2,7 +2,6 @@
 use Rattle.std.proofs.Common.{◌≡◌, inl, inr, ℕ, Bool, false, Result, Ok, Err, IfOk, OnOk}
 use Rattle.std.proofs.Common.{is_ok, if◌then◌else◌}
 use Rattle.std.proofs.Common.{List, ◌++◌, ◌∷◌, [], codes, ap, ◌∙◌, sym, subst, refl, append_assoc}
-use Rattle.dm_session.specs.Orders.{Order}
 use Rattle.dm_session.specs.Acquaintances.{nobody}
 use Rattle.dm_node_session.specs.declared.node_order.NodeOrder.{NodeOrder}
 use Rattle.dm_node_session.specs.NodeSessions.{NodeSession}
@@ -15,8 +14,8 @@ use Rattle.dm_live.specs.declared.live.Live.{Live}
 use Rattle.dm_live.specs.Drafts.{settings_of}
 use Rattle.dm_live.specs.Meetings.{Meeting, AnswersMet}
 use Rattle.dm_live.specs.NodeAnswers.{AnswersNode}
-use Rattle.dm_live.specs.NodeOrderLines.{AskedOfNode, node_asked, TellsNodeOrder}
-use Rattle.dm_live.specs.OrderLines.{TellsOrder}
+use Rattle.dm_live.specs.declared.form.Form.TheVariants.{Alone, Several}
+use Rattle.dm_live.specs.OrderLines.{AskedOfNode, node_asked, TellsOrder}
 use Rattle.dm_live.specs.SenderLines.{IsSender, sender_lines}
 use Rattle.dm_live.specs.Served.{Stage, Drafting, with_dot, bad_answer, IsGo, AnswersSetting, AnswersOrder, AnswersNodeOrder, AnswersLine}
 use Rattle.dm_live.specs.Settings.{Settings, TellsAddress, Sets, TellsSetting}
@@ -32,18 +31,18 @@ no_address (Ok good) name word s is none =
     let so = subst P is sets in none bad so.0 so.1
 
 -- an order's line, with the dot behind its answer
-pub told_line : {T E : Type 0} (r : Result T E) (n : ℕ) (o : Order) (line : List ℕ) (s t : Meeting)
-    (old mid new more : List ℕ) → TellsOrder o line → AnswersMet o s t more → mid ≡ old ++ more
+pub told_line : {T E : Type 0} (r : Result T E) (n : ℕ) (a : AskedOfNode) (line : List ℕ) (s t : Meeting)
+    (old mid new more : List ℕ) → TellsOrder Alone a line → AnswersMet a.order s t more → mid ≡ old ++ more
     → new ≡ (if is_ok r then mid ++ (codes "." ++ 10 ∷ []) else mid)
     → OnOk r ((answer : List ℕ) × AnswersOrder n line s t answer × (new ≡ old ++ answer))
-told_line (Err e) n o line s t old mid new more tells answers is ends = tt
-told_line (Ok v) n o line s t old mid new more tells answers is ends =
+told_line (Err e) n a line s t old mid new more tells answers is ends = tt
+told_line (Ok v) n a line s t old mid new more tells answers is ends =
     let dot : List ℕ = codes "." ++ 10 ∷ [] in
-    (with_dot more, inl (o, more, tells, answers, refl), ends ∙ ap (λ v. v ++ dot) is ∙ append_assoc old more dot)
+    (with_dot more, inl (a, more, tells, answers, refl), ends ∙ ap (λ v. v ++ dot) is ∙ append_assoc old more dot)
 
 -- a line that tells no order
 pub untold_line : {T E : Type 0} (r : Result T E) (n : ℕ) (line : List ℕ) (s : Meeting) (old new : List ℕ)
-    → (IsSender line → ⊥) → ((o : Order) → TellsOrder o line → ⊥) → OnOk r (new ≡ old ++ bad_answer n)
+    → (IsSender line → ⊥) → ((o : NodeOrder) → TellsOrder Alone (node_asked o) line → ⊥) → OnOk r (new ≡ old ++ bad_answer n)
     → OnOk r ((answer : List ℕ) × AnswersOrder n line s s answer × (new ≡ old ++ answer))
 untold_line (Err e) n line s old new other none ends = tt
 untold_line (Ok v) n line s old new other none ends = (bad_answer n, inr (inr (other, none, refl, refl)), ends)
@@ -70,13 +69,13 @@ bad_line (Ok v) n line s t old new go none kept ends = (bad_answer n, inr (go, n
 
 -- an order's line to a node, with the dot behind its answer
 pub told_node_line : {T E : Type 0} (r : Result T E) (n : ℕ) (o : NodeOrder) (a : AskedOfNode) (line : List ℕ)
-    (s t : NodeSession) (old mid new more : List ℕ) → TellsNodeOrder a line → node_asked o ≡ a → AnswersNode o s t more
+    (s t : NodeSession) (old mid new more : List ℕ) → TellsOrder Several a line → node_asked o ≡ a → AnswersNode o s t more
     → mid ≡ old ++ more → new ≡ (if is_ok r then mid ++ (codes "." ++ 10 ∷ []) else mid)
     → OnOk r ((answer : List ℕ) × AnswersNodeOrder n line s t answer × (new ≡ old ++ answer))
 told_node_line (Err e) n o a line s t old mid new more tells same answers is ends = tt
 told_node_line (Ok v) n o a line s t old mid new more tells same answers is ends =
     let dot : List ℕ = codes "." ++ 10 ∷ [] in
-    let Tells : AskedOfNode → Type 0 = λ v. TellsNodeOrder v line in (
+    let Tells : AskedOfNode → Type 0 = λ v. TellsOrder Several v line in (
       with_dot more,
       inl (o, more, subst Tells (sym same) tells, answers, refl),
       ends ∙ ap (λ v. v ++ dot) is ∙ append_assoc old more dot,
@@ -84,7 +83,7 @@ told_node_line (Ok v) n o a line s t old mid new more tells same answers is ends
 
 -- a line that tells no order to a node
 pub untold_node_line : {T E : Type 0} (r : Result T E) (n : ℕ) (line : List ℕ) (s : NodeSession) (old new : List ℕ)
-    → ((o : NodeOrder) → TellsNodeOrder (node_asked o) line → ⊥) → OnOk r (new ≡ old ++ bad_answer n)
+    → ((o : NodeOrder) → TellsOrder Several (node_asked o) line → ⊥) → OnOk r (new ≡ old ++ bad_answer n)
     → OnOk r ((answer : List ℕ) × AnswersNodeOrder n line s s answer × (new ≡ old ++ answer))
 untold_node_line (Err e) n line s old new none ends = tt
 untold_node_line (Ok v) n line s old new none ends = (bad_answer n, inr (none, refl, refl), ends)

@@ -3,7 +3,8 @@ use Rattle.std.specs.Prelude.{ℕ, List}
 use Rattle.dm_session.specs.Orders.{Order}
 use Rattle.dm_live.specs.Answers.{Answers}
 use Rattle.dm_live.specs.Meetings.{Meeting, AnswersMet}
-use Rattle.dm_live.specs.OrderLines.{TellsOrder}
+use Rattle.dm_live.specs.declared.form.Form.{Form}
+use Rattle.dm_live.specs.OrderLines.{AskedOfNode, TellsOrder}
 use Rattle.dm_live.specs.SenderLines.{IsSender}
 
 -- an order's answer, and the session behind it, are those of the session alone
@@ -13,4 +14,5 @@ KnownChangesNoAnswer =
 
 -- the line that asks who the other side is tells no order
 abbrev pub SenderIsNoOrder : Type 0
-SenderIsNoOrder = (line : List ℕ) (o : Order) → IsSender line → TellsOrder o line → ⊥
+SenderIsNoOrder =
+    (form : Form) (line : List ℕ) (a : AskedOfNode) → IsSender line → TellsOrder form a line → ⊥

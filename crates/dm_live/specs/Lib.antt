@@ -8,9 +8,7 @@ pub mod Joining
 pub mod Laws
 pub mod Meetings
 pub mod NodeAnswers
-pub mod NodeOrderLines
 pub mod OrderLines
-pub mod ReadOrders
 pub mod SenderLines
 pub mod Served
 pub mod Settings

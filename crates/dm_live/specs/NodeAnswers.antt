@@ -15,7 +15,7 @@ use Rattle.dm_node_session.specs.NodeSessions.{NodeSession, NodeAnswer, NodeTurn
 use Rattle.dm_node_session.specs.NodeStreams.{NodeTellsAlong}
 use Rattle.dm_live.specs.AnswerLines.{action_lines, arrival_line, refusal_line, standing_words}
 use Rattle.dm_live.specs.Answers.{ignored_line}
-use Rattle.dm_live.specs.NodeOrderLines.{node_asked}
+use Rattle.dm_live.specs.OrderLines.{node_asked}
 
 -- the neighbour that an event concerned, in front of the event's lines; a stranger's have no such line
 unfoldable pub neighbour_line : Option ℕ → List ℕ

@@ -1,5 +1,5 @@
--- The lines of orders.
-use Rattle.std.specs.Prelude.{◌≡◌, ℕ, Some, List, [], ◌∷◌, codes}
+-- The lines of orders, to a peer alone and to a node of several neighbours.
+use Rattle.std.specs.Prelude.{◌≡◌, ℕ, Bool, true, false, Option, None, Some, List, [], ◌∷◌, codes}
 use Rattle.dm_text.specs.Words.{words}
 use Rattle.dm_text.specs.Numbers.{TellsNumber, TellsLongNumber}
 use Rattle.dm_text.specs.Hexadecimal.{word_octets}
@@ -7,6 +7,12 @@ use Rattle.dm_base.specs.Built.{cause_number}
 use Rattle.dm_machine.specs.declared.connection.Conn.{Conn}
 use Rattle.dm_session.specs.Orders.{Order, StartOrder, AckOrder, NackOrder, Accept, Octets, GoneOrder}
 use Rattle.dm_session.specs.Orders.{TimeoutOrder, TickOrder, StopOrder, SubmitOrder, Reset}
+use Rattle.dm_node_session.specs.declared.node_order.NodeOrder.{NodeOrder}
+use Rattle.dm_node_session.specs.declared.node_order.NodeOrder.TheVariants as order
+use Rattle.dm_live.specs.declared.form.Form.{Form}
+use Rattle.dm_live.specs.declared.form.Form.TheVariants.{Alone, Several}
+use Rattle.dm_live.specs.declared.order_line.OrderLine.{OrderLine}
+use Rattle.dm_live.specs.declared.order_line.OrderLine.TheVariants as line
 use Rattle.dm_live.specs.declared.order_name.OrderName.{OrderName}
 use Rattle.dm_live.specs.declared.order_name.OrderName.TheVariants as names
 
@@ -58,6 +64,71 @@ TellsRest (StopOrder cause) rest = (number : List ℕ) × (rest ≡ number ∷ [
 TellsRest (SubmitOrder octets) rest = (digits : List ℕ) × (rest ≡ digits ∷ []) × (word_octets digits ≡ Some octets)
 TellsRest Reset rest = rest ≡ []
 
+-- an order to a node: the number of the neighbour that it names, if it names one, and what it says as an order to a
+-- peer does
+pub record AskedOfNode : Type 0 where
+  pub to : Option ℕ
+  pub order : Order
+
+abbrev pub to_neighbour : ℕ → Order → AskedOfNode
+to_neighbour n o = record { to = Some n; order = o }
+
+abbrev pub to_node : Order → AskedOfNode
+to_node o = record { to = None; order = o }
+
+abbrev pub node_asked : NodeOrder → AskedOfNode
+node_asked (order.Start n c) = to_neighbour n (StartOrder c)
+node_asked (order.Ack c) = to_node (AckOrder c)
+node_asked (order.Nack c) = to_node (NackOrder c)
+node_asked (order.Accept c) = to_node (Accept c)
+node_asked (order.Octets c piece) = to_node (Octets c piece.now)
+node_asked (order.Gone c) = to_node (GoneOrder c)
+node_asked (order.Timeout n) = to_neighbour n TimeoutOrder
+node_asked (order.Tick n) = to_neighbour n TickOrder
+node_asked (order.Stop n cause) = to_neighbour n (StopOrder cause)
+node_asked (order.Submit n octets) = to_neighbour n (SubmitOrder octets.now)
+node_asked (order.Reset n) = to_neighbour n Reset
+node_asked order.ResetAll = to_node Reset
+
+-- the order that a line told
+abbrev pub told_order : OrderLine → AskedOfNode
+told_order (line.Start n c) = to_neighbour n (StartOrder c)
+told_order (line.Ack c) = to_node (AckOrder c)
+told_order (line.Nack c) = to_node (NackOrder c)
+told_order (line.Accept c) = to_node (Accept c)
+told_order (line.Octets c piece) = to_node (Octets c piece)
+told_order (line.Gone c) = to_node (GoneOrder c)
+told_order (line.Timeout n) = to_neighbour n TimeoutOrder
+told_order (line.Tick n) = to_neighbour n TickOrder
+told_order (line.Stop n cause) = to_neighbour n (StopOrder cause)
+told_order (line.Submit n octets) = to_neighbour n (SubmitOrder octets)
+told_order (line.Reset n) = to_neighbour n Reset
+told_order line.ResetAll = to_node Reset
+
+-- words name neighbour n in front of more: by its number in decimal, where there are several; one alone is 0, and no
+-- word names it
+abbrev pub NamesNeighbour : Form → ℕ → List (List ℕ) → List (List ℕ) → Type 0
+NamesNeighbour Alone n rest more = (n ≡ 0) × (rest ≡ more)
+NamesNeighbour Several n rest more = (number : List ℕ) × (rest ≡ number ∷ more) × TellsLongNumber n number
+
+-- where there is one alone a reset is of all
+abbrev pub can_name : Form → OrderName → Bool
+can_name Alone names.Reset = false
+can_name form name = true
+
+-- what an order says behind its name: the neighbour that it names, if it names one, then what one to a peer says
+abbrev pub TellsNodeRest : Form → Option ℕ → Order → List (List ℕ) → Type 0
+TellsNodeRest form None o rest = TellsRest o rest
+TellsNodeRest form (Some n) o rest =
+    (can_name form (order_name o) ≡ true) × (more : List (List ℕ)) × NamesNeighbour form n rest more
+    × TellsRest o more
+
+-- an order of this name says this
+abbrev pub TellsNamed : Form → OrderName → AskedOfNode → List (List ℕ) → Type 0
+TellsNamed form name a rest = (order_name a.order ≡ name) × TellsNodeRest form a.to a.order rest
+
 -- the line of an order: its name, and what it says behind it
-abbrev pub TellsOrder : Order → List ℕ → Type 0
-TellsOrder o line = (rest : List (List ℕ)) × (words line ≡ name_word (order_name o) ∷ rest) × TellsRest o rest
+abbrev pub TellsOrder : Form → AskedOfNode → List ℕ → Type 0
+TellsOrder form a line =
+    (rest : List (List ℕ)) × (words line ≡ name_word (order_name a.order) ∷ rest)
+    × TellsNodeRest form a.to a.order rest

@@ -4,17 +4,16 @@ use Rattle.std.specs.Fmt.{decimal}
 use Rattle.std.specs.Io.KnownBytes.{Appends}
 use Rattle.std.specs.Str.Lines.{lines}
 use Rattle.dm_text.specs.Words.{words}
-use Rattle.dm_session.specs.Orders.{Order}
 use Rattle.dm_session.specs.Acquaintances.{nobody}
 use Rattle.dm_node_session.specs.declared.node_order.NodeOrder.{NodeOrder}
 use Rattle.dm_node_session.specs.NodeSessions.{NodeSession}
 use Rattle.dm_live.specs.declared.fault.LiveFault.{LiveFault}
 use Rattle.dm_live.specs.declared.fault.LiveFault.TheVariants.{Write}
+use Rattle.dm_live.specs.declared.form.Form.TheVariants.{Alone, Several}
 use Rattle.dm_live.specs.Beginnings.{go_fault, is_several, Begins, BeginsNode}
 use Rattle.dm_live.specs.Meetings.{Meeting, AnswersMet}
 use Rattle.dm_live.specs.NodeAnswers.{AnswersNode}
-use Rattle.dm_live.specs.NodeOrderLines.{node_asked, TellsNodeOrder}
-use Rattle.dm_live.specs.OrderLines.{TellsOrder}
+use Rattle.dm_live.specs.OrderLines.{AskedOfNode, node_asked, TellsOrder}
 use Rattle.dm_live.specs.SenderLines.{IsSender, sender_lines}
 use Rattle.dm_live.specs.Settings.{Settings, no_settings, TellsSetting}
 
@@ -79,7 +78,8 @@ SaysNothing n line s t text =
 -- an order is told and answered
 abbrev pub IsTold : List ℕ → Meeting → Meeting → List ℕ → Type 0
 IsTold line s t text =
-    (o : Order) × (answer : List ℕ) × TellsOrder o line × AnswersMet o s t answer × (text ≡ with_dot answer)
+    (a : AskedOfNode) × (answer : List ℕ) × TellsOrder Alone a line × AnswersMet a.order s t answer
+    × (text ≡ with_dot answer)
 
 -- whom the session met is answered, and nothing changes
 abbrev pub AsksSender : List ℕ → Meeting → Meeting → List ℕ → Type 0
@@ -88,18 +88,19 @@ AsksSender line s t text = IsSender line × (t ≡ s) × (text ≡ with_dot (sen
 -- a line that tells neither changes nothing
 abbrev pub TellsNone : ℕ → List ℕ → Meeting → Meeting → List ℕ → Type 0
 TellsNone n line s t text =
-    (IsSender line → ⊥) × ((o : Order) → TellsOrder o line → ⊥) × (t ≡ s) × (text ≡ bad_answer n)
+    (IsSender line → ⊥) × ((o : NodeOrder) → TellsOrder Alone (node_asked o) line → ⊥) × (t ≡ s)
+    × (text ≡ bad_answer n)
 
 -- an order to a node is told and answered
 abbrev pub IsToldNode : List ℕ → NodeSession → NodeSession → List ℕ → Type 0
 IsToldNode line s t text =
-    (o : NodeOrder) × (answer : List ℕ) × TellsNodeOrder (node_asked o) line × AnswersNode o s t answer
+    (o : NodeOrder) × (answer : List ℕ) × TellsOrder Several (node_asked o) line × AnswersNode o s t answer
     × (text ≡ with_dot answer)
 
 -- a line that tells none changes nothing
 abbrev pub TellsNoneToNode : ℕ → List ℕ → NodeSession → NodeSession → List ℕ → Type 0
 TellsNoneToNode n line s t text =
-    ((o : NodeOrder) → TellsNodeOrder (node_asked o) line → ⊥) × (t ≡ s) × (text ≡ bad_answer n)
+    ((o : NodeOrder) → TellsOrder Several (node_asked o) line → ⊥) × (t ≡ s) × (text ≡ bad_answer n)
 
 -- the line of this number before the session begins, if it doesn't begin it
 abbrev pub AnswersSetting : ℕ → List ℕ → Settings → Settings → List ℕ → Type 0

@@ -7,7 +7,7 @@ ghost use Rattle.dm_session.specs.Sessions.{Turn as OneTurn, IsOut};
 ghost use Rattle.dm_live.specs.AnswerLines.{turn_lines};
 ghost use Rattle.dm_live.specs.Answers.{ignored_line, Answers};
 ghost use Rattle.dm_live.specs.Meetings.{met_with, TakesMet, MeetsNext, MeetsOut, HearsMet, AnswersMet};
-ghost use Rattle.dm_live.specs.ReadOrders.{told_order};
+ghost use Rattle.dm_live.specs.OrderLines.{told_order};
 
 use crate::answer_lines::{push_actions, push_refusal, push_state, push_turn};
 use crate::order_line::OrderLine;
@@ -26,7 +26,7 @@ pub fn answer_order(
     text: &mut String,
 ) -> Result<(), AllocError>
     ensures { OnOk result ((more : List ℕ)
-        × Answers (told_order order.now) (session_of session.old) (session_of session.new) more
+        × Answers (told_order order.now).order (session_of session.old) (session_of session.new) more
         × (string_bytes text.new ≡ string_bytes text.old ++ more)) }
 {
     let mut known = Acquaintance::new(alloc);
@@ -45,11 +45,11 @@ pub fn answer_met(
     text: &mut String,
 ) -> Result<(), AllocError>
     ensures { OnOk result ((more : List ℕ)
-        × AnswersMet (told_order order.now) (met_with (session_of session.old) known.old)
+        × AnswersMet (told_order order.now).order (met_with (session_of session.old) known.old)
         (met_with (session_of session.new) known.new) more
         × (string_bytes text.new ≡ string_bytes text.old ++ more)) }
 {
-    take_order(alloc, session, known, order.order(), text)?;
+    take_order(alloc, session, known, order.peer_order(), text)?;
     hear_behind(alloc, session, known, order, text)?;
     push_state(text, session.peer())?;
     Ok(())
@@ -95,7 +95,7 @@ fn hear_behind(
     text: &mut String,
 ) -> Result<(), AllocError>
     ensures { OnOk result ((others : List ℕ)
-        × HearsMet (told_order order.now) (met_with (session_of session.old) known.old)
+        × HearsMet (told_order order.now).order (met_with (session_of session.old) known.old)
         (met_with (session_of session.new) known.new) others
         × (string_bytes text.new ≡ string_bytes text.old ++ others)) }
 {

@@ -14,6 +14,7 @@ use crate::answer::answer_met;
 use crate::answer_lines::push_fault;
 use crate::begun::{Begun, begin};
 use crate::draft::Draft;
+use crate::form::Form;
 use crate::node_line::answer_node_line;
 use crate::order_line::read_order;
 use crate::sender_lines::{is_sender, push_sender};
@@ -129,7 +130,7 @@ fn answer_told(
         push_sender(alloc, text, known)?;
         return text.push_str(".\n");
     }
-    match read_order(alloc, line)? {
+    match read_order(alloc, Form::Alone, line)? {
         Some(order) => {
             answer_met(alloc, session, known, &order, text)?;
             text.push_str(".\n")

@@ -6,7 +6,7 @@ ghost use Rattle.dm_node_session.specs.NodeSeen.{node_session_of};
 ghost use Rattle.dm_node_session.specs.NodeSessions.{NodeTurn as OneNodeTurn, NodeTellsNext, NodeIsOut};
 ghost use Rattle.dm_live.specs.NodeAnswers.{NodeTakesAs, NodeTellsOut, NodeHearsOut, AnswersNode};
 ghost use Rattle.dm_live.specs.NodeAnswers.{node_turn_lines, node_turns_lines, whom_asked, whom_last, refuser};
-ghost use Rattle.dm_live.specs.NodeOrderLines.{node_asked};
+ghost use Rattle.dm_live.specs.OrderLines.{node_asked};
 
 use crate::node_answer_lines::{
     push_event, push_event_refusal, push_neighbour, push_node_turn, push_states_behind, push_untold,

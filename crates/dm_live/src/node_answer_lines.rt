@@ -8,7 +8,7 @@ ghost use Rattle.dm_live.specs.Answers.{ignored_line};
 ghost use Rattle.dm_live.specs.NodeAnswers.{neighbour_line, event_lines, node_turn_lines, event_refusal_line};
 ghost use Rattle.dm_live.specs.NodeAnswers.{neighbour_state_line, neighbours_state_lines, concerned_state_line};
 ghost use Rattle.dm_live.specs.NodeAnswers.{states_behind};
-ghost use Rattle.dm_live.specs.NodeOrderLines.{node_asked};
+ghost use Rattle.dm_live.specs.OrderLines.{node_asked};
 
 use crate::answer_lines::{push_actions, push_arrival, push_refusal, push_standing};
 use crate::line_ends::end_with_number;

@@ -5,8 +5,9 @@ ghost use Rattle.dm_node_session.specs.NodeSeen.{node_session_of};
 ghost use Rattle.dm_live.specs.Served.{AnswersNodeOrder};
 
 use crate::answer_lines::push_fault;
+use crate::form::Form;
 use crate::node_answer::answer_node;
-use crate::node_order_line::read_node_order;
+use crate::order_line::read_order;
 use dm_node_session::NodeSession;
 use std::alloc::{AllocError, Global};
 
@@ -22,7 +23,7 @@ pub(crate) fn answer_node_line(
         × AnswersNodeOrder number line.now (node_session_of session.old) (node_session_of session.new) answer
         × (string_bytes text.new ≡ string_bytes text.old ++ answer)) }
 {
-    match read_node_order(alloc, line)? {
+    match read_order(alloc, Form::Several, line)? {
         Some(order) => {
             answer_node(alloc, session, order.order(), text)?;
             text.push_str(".\n")

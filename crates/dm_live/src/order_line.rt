@@ -1,109 +1,169 @@
 //! The lines of orders.
 ghost use Rattle.std.specs.Prelude.{◌≡◌, ◌≢◌, [], IfOk, IfSome, IfNone, MatchOption};
 ghost use Rattle.dm_text.specs.Words.{words};
-ghost use Rattle.dm_session.specs.Orders.{Order as AskedOrder, order_asked};
-ghost use Rattle.dm_live.specs.OrderLines.{order_name, TellsRest, TellsOrder};
-ghost use Rattle.dm_live.specs.ReadOrders.{told_order};
+ghost use Rattle.dm_node_session.specs.declared.node_order.NodeOrder.{NodeOrder as AskedNodeOrder};
+ghost use Rattle.dm_session.specs.Orders.{order_asked};
+ghost use Rattle.dm_live.specs.OrderLines.{node_asked, told_order, TellsNamed, TellsOrder};
 
+use crate::form::Form;
 use crate::order_name::{OrderName, read_name};
-use crate::order_words::{cause_alone, conn_alone, conn_and_word, is_nothing, word_alone};
+use crate::order_words::{
+    conn_alone, conn_and_word, is_nothing, neighbour_alone, neighbour_and_cause,
+    neighbour_and_conn, neighbour_and_word,
+};
 use dm_base::Cause;
 use dm_machine::Conn;
+use dm_node_session::NodeOrder;
 use dm_session::Order;
-use dm_text::{Words, read_hex_word};
+use dm_text::{Words, read_hex_word, read_long_number};
 use dm_wire::Octets;
 use std::alloc::{AllocError, Global};
 
-/// An order as a line tells it, with its octets.
+/// An order as a line tells it, with its octets. A peer is named by its number, which is 0 where it is alone.
 #[derive(Debug, Drop)]
 pub enum OrderLine {
-    Start(Conn),
+    Start(usize, Conn),
     Ack(Conn),
     Nack(Conn),
     Accept(Conn),
     Octets(Conn, Octets),
     Gone(Conn),
-    Timeout,
-    Tick,
-    Stop(Cause),
-    Submit(Octets),
-    Reset,
+    Timeout(usize),
+    Tick(usize),
+    Stop(usize, Cause),
+    Submit(usize, Octets),
+    Reset(usize),
+    ResetAll,
 }
 
 impl OrderLine {
-    /// The order for a session. It never answers want of memory.
-    pub fn order(&self) -> Order<'_>
-        ensures { order_asked result ≡ told_order self.now }
+    /// The order for a node's session. It never answers want of memory.
+    pub fn order(&self) -> NodeOrder<'_>
+        ensures { node_asked result ≡ told_order self.now }
     {
         match self {
-            OrderLine::Start(conn) => Order::Start(*conn),
+            OrderLine::Start(index, conn) => NodeOrder::Start(*index, *conn),
+            OrderLine::Ack(conn) => NodeOrder::Ack(*conn),
+            OrderLine::Nack(conn) => NodeOrder::Nack(*conn),
+            OrderLine::Accept(conn) => NodeOrder::Accept(*conn),
+            OrderLine::Octets(conn, piece) => NodeOrder::Octets(*conn, piece.as_slice()),
+            OrderLine::Gone(conn) => NodeOrder::Gone(*conn),
+            OrderLine::Timeout(index) => NodeOrder::Timeout(*index),
+            OrderLine::Tick(index) => NodeOrder::Tick(*index),
+            OrderLine::Stop(index, cause) => NodeOrder::Stop(*index, *cause),
+            OrderLine::Submit(index, octets) => NodeOrder::Submit(*index, octets.as_slice()),
+            OrderLine::Reset(index) => NodeOrder::Reset(*index),
+            OrderLine::ResetAll => NodeOrder::ResetAll,
+        }
+    }
+
+    /// The order for the session of one peer, whatever its number. It never answers want of memory.
+    pub fn peer_order(&self) -> Order<'_>
+        ensures { order_asked result ≡ (told_order self.now).order }
+    {
+        match self {
+            OrderLine::Start(_, conn) => Order::Start(*conn),
             OrderLine::Ack(conn) => Order::Ack(*conn),
             OrderLine::Nack(conn) => Order::Nack(*conn),
             OrderLine::Accept(conn) => Order::Accept(*conn),
             OrderLine::Octets(conn, piece) => Order::Octets(*conn, piece.as_slice()),
             OrderLine::Gone(conn) => Order::Gone(*conn),
-            OrderLine::Timeout => Order::Timeout,
-            OrderLine::Tick => Order::Tick,
-            OrderLine::Stop(cause) => Order::Stop(*cause),
-            OrderLine::Submit(octets) => Order::Submit(octets.as_slice()),
-            OrderLine::Reset => Order::Reset,
+            OrderLine::Timeout(_) => Order::Timeout,
+            OrderLine::Tick(_) => Order::Tick,
+            OrderLine::Stop(_, cause) => Order::Stop(*cause),
+            OrderLine::Submit(_, octets) => Order::Submit(octets.as_slice()),
+            OrderLine::Reset(_) | OrderLine::ResetAll => Order::Reset,
         }
     }
 }
 
 /// The order that a line tells; None where it tells none.
-pub fn read_order(alloc: Global, line: &[u8]) -> Result<Option<OrderLine>, AllocError>
-    ensures { IfOk result (λ read. MatchOption read ((o : AskedOrder) → TellsOrder o line.now → ⊥)
-        (λ o. TellsOrder (told_order o) line.now)) }
+pub fn read_order(alloc: Global, form: Form, line: &[u8]) -> Result<Option<OrderLine>, AllocError>
+    ensures { IfOk result (λ read. MatchOption read
+        ((o : AskedNodeOrder) → TellsOrder form (node_asked o) line.now → ⊥)
+        (λ o. TellsOrder form (told_order o) line.now)) }
 {
     let mut left = Words::new(line);
     let Some(word) = left.next() else {
         return Ok(None);
     };
     match read_name(word) {
-        Some(OrderName::Octets) => read_octets(alloc, &mut left),
-        Some(OrderName::Submit) => read_submit(alloc, &mut left),
-        Some(name) => Ok(read_rest(name, &mut left)),
+        Some(OrderName::Octets) => read_piece(alloc, form, &mut left),
+        Some(OrderName::Submit) => read_message(alloc, form, &mut left),
+        Some(OrderName::Reset) => Ok(read_reset(form, &mut left)),
+        Some(name) => Ok(read_behind(form, name, &mut left)),
         None => Ok(None),
     }
 }
 
 /// The order of this name and what stands behind that.
-fn read_rest(name: OrderName, left: &mut Words<'_>) -> Option<OrderLine>
+fn read_behind(form: Form, name: OrderName, left: &mut Words<'_>) -> Option<OrderLine>
     requires octets { name ≢ OrderName.Octets }
     requires submit { name ≢ OrderName.Submit }
-    ensures name { IfSome result (λ o. order_name (told_order o) ≡ name) }
-    ensures told { IfSome result (λ o. TellsRest (told_order o) (words left.old)) }
-    ensures none { IfNone result ((o : AskedOrder) → order_name o ≡ name → TellsRest o (words left.old) → ⊥) }
+    requires reset { name ≢ OrderName.Reset }
+    ensures told { IfSome result (λ o. TellsNamed form name (told_order o) (words left.old)) }
+    ensures none { IfNone result ((o : AskedNodeOrder)
+        → TellsNamed form name (node_asked o) (words left.old) → ⊥) }
 {
     match name {
-        OrderName::Start => Some(OrderLine::Start(conn_alone(left)?)),
+        OrderName::Start => {
+            let (index, conn) = neighbour_and_conn(form, left)?;
+            Some(OrderLine::Start(index, conn))
+        }
         OrderName::Ack => Some(OrderLine::Ack(conn_alone(left)?)),
         OrderName::Nack => Some(OrderLine::Nack(conn_alone(left)?)),
         OrderName::Accept => Some(OrderLine::Accept(conn_alone(left)?)),
         OrderName::Gone => Some(OrderLine::Gone(conn_alone(left)?)),
-        OrderName::Stop => Some(OrderLine::Stop(cause_alone(left)?)),
-        OrderName::Timeout => alone(left, OrderLine::Timeout),
-        OrderName::Tick => alone(left, OrderLine::Tick),
-        OrderName::Reset => alone(left, OrderLine::Reset),
-        OrderName::Octets | OrderName::Submit => None,
+        OrderName::Timeout => Some(OrderLine::Timeout(neighbour_alone(form, left)?)),
+        OrderName::Tick => Some(OrderLine::Tick(neighbour_alone(form, left)?)),
+        OrderName::Stop => {
+            let (index, cause) = neighbour_and_cause(form, left)?;
+            Some(OrderLine::Stop(index, cause))
+        }
+        OrderName::Octets | OrderName::Submit | OrderName::Reset => None,
     }
 }
 
-/// The order, where no word is left.
-fn alone(left: &mut Words<'_>, order: OrderLine) -> Option<OrderLine>
-    ensures told { IfSome result (λ o. (o ≡ order) × (words left.old ≡ [])) }
-    ensures none { IfNone result (words left.old ≡ [] → ⊥) }
+/// Each neighbour begins anew, the one alone too, or the one that is named.
+fn read_reset(form: Form, left: &mut Words<'_>) -> Option<OrderLine>
+    ensures told { IfSome result (λ o. TellsNamed form OrderName.Reset (told_order o) (words left.old)) }
+    ensures none { IfNone result ((o : AskedNodeOrder)
+        → TellsNamed form OrderName.Reset (node_asked o) (words left.old) → ⊥) }
 {
-    if is_nothing(left) { Some(order) } else { None }
+    match form {
+        Form::Alone if is_nothing(left) => Some(OrderLine::ResetAll),
+        Form::Alone => None,
+        Form::Several => read_several_reset(left),
+    }
+}
+
+/// The neighbour that begins anew, or each of them.
+fn read_several_reset(left: &mut Words<'_>) -> Option<OrderLine>
+    ensures told { IfSome result (λ o.
+        TellsNamed Form.Several OrderName.Reset (told_order o) (words left.old)) }
+    ensures none { IfNone result ((o : AskedNodeOrder)
+        → TellsNamed Form.Several OrderName.Reset (node_asked o) (words left.old) → ⊥) }
+{
+    let Some(word) = left.next() else {
+        return Some(OrderLine::ResetAll);
+    };
+    let index = read_long_number(word)?;
+    if left.next().is_some() {
+        return None;
+    }
+    Some(OrderLine::Reset(index as usize))
 }
 
 /// A piece of octets that came on a connection, in hexadecimal.
-fn read_octets(alloc: Global, left: &mut Words<'_>) -> Result<Option<OrderLine>, AllocError>
-    ensures name { IfOk result (λ read. IfSome read (λ o. order_name (told_order o) ≡ OrderName.Octets)) }
-    ensures told { IfOk result (λ read. IfSome read (λ o. TellsRest (told_order o) (words left.old))) }
-    ensures none { IfOk result (λ read. IfNone read ((o : AskedOrder) → order_name o ≡ OrderName.Octets
-        → TellsRest o (words left.old) → ⊥)) }
+fn read_piece(
+    alloc: Global,
+    form: Form,
+    left: &mut Words<'_>,
+) -> Result<Option<OrderLine>, AllocError>
+    ensures told { IfOk result (λ read. IfSome read (λ o.
+        TellsNamed form OrderName.Octets (told_order o) (words left.old))) }
+    ensures none { IfOk result (λ read. IfNone read ((o : AskedNodeOrder)
+        → TellsNamed form OrderName.Octets (node_asked o) (words left.old) → ⊥)) }
 {
     let Some((conn, word)) = conn_and_word(left) else {
         return Ok(None);
@@ -114,18 +174,22 @@ fn read_octets(alloc: Global, left: &mut Words<'_>) -> Result<Option<OrderLine>,
     }
 }
 
-/// A message of the user, in hexadecimal.
-fn read_submit(alloc: Global, left: &mut Words<'_>) -> Result<Option<OrderLine>, AllocError>
-    ensures name { IfOk result (λ read. IfSome read (λ o. order_name (told_order o) ≡ OrderName.Submit)) }
-    ensures told { IfOk result (λ read. IfSome read (λ o. TellsRest (told_order o) (words left.old))) }
-    ensures none { IfOk result (λ read. IfNone read ((o : AskedOrder) → order_name o ≡ OrderName.Submit
-        → TellsRest o (words left.old) → ⊥)) }
+/// A message of the user to a neighbour, in hexadecimal.
+fn read_message(
+    alloc: Global,
+    form: Form,
+    left: &mut Words<'_>,
+) -> Result<Option<OrderLine>, AllocError>
+    ensures told { IfOk result (λ read. IfSome read (λ o.
+        TellsNamed form OrderName.Submit (told_order o) (words left.old))) }
+    ensures none { IfOk result (λ read. IfNone read ((o : AskedNodeOrder)
+        → TellsNamed form OrderName.Submit (node_asked o) (words left.old) → ⊥)) }
 {
-    let Some(word) = word_alone(left) else {
+    let Some((index, word)) = neighbour_and_word(form, left) else {
         return Ok(None);
     };
     match read_hex_word(alloc, word)? {
-        Some(octets) => Ok(Some(OrderLine::Submit(Octets::from_vec(octets)))),
+        Some(octets) => Ok(Some(OrderLine::Submit(index, Octets::from_vec(octets)))),
         None => Ok(None),
     }
 }

@@ -4,8 +4,10 @@ ghost use Rattle.dm_text.specs.Words.{words};
 ghost use Rattle.dm_text.specs.Numbers.{TellsNumber, TellsLongNumber};
 ghost use Rattle.dm_base.specs.declared.kind.Cause.{Cause};
 ghost use Rattle.dm_base.specs.Built.{cause_number};
-ghost use Rattle.dm_live.specs.OrderLines.{TellsConn};
+ghost use Rattle.dm_machine.specs.declared.connection.Conn.{Conn};
+ghost use Rattle.dm_live.specs.OrderLines.{TellsConn, NamesNeighbour};
 
+use crate::form::Form;
 use dm_base::Cause;
 use dm_machine::Conn;
 use dm_text::{Words, read_long_number, read_number};
@@ -46,61 +48,58 @@ pub(crate) fn conn_and_word<'a>(left: &mut Words<'a>) -> Option<(Conn, &'a [u8])
     Some((conn, word))
 }
 
-/// The number of a neighbour alone.
-pub(crate) fn index_alone(left: &mut Words<'_>) -> Option<usize>
-    ensures told { IfSome result (λ i. (number : List ℕ) × (words left.old ≡ number ∷ [])
-        × TellsLongNumber i number) }
-    ensures none { IfNone result ((n : ℕ) (number : List ℕ) → words left.old ≡ number ∷ []
-        → TellsLongNumber n number → ⊥) }
+/// The neighbour that the next word names, where there are several; the one that is alone.
+fn next_neighbour(form: Form, left: &mut Words<'_>) -> Option<usize>
+    ensures told { IfSome result (λ i. NamesNeighbour form i (words left.old) (words left.new)) }
+    ensures none { IfNone result ((n : ℕ) (more : List (List ℕ)) → NamesNeighbour form n (words left.old) more
+        → ⊥) }
 {
-    let index = read_long_number(word_alone(left)?)?;
-    Some(index as usize)
+    match form {
+        Form::Alone => Some(0),
+        Form::Several => Some(read_long_number(left.next()?)? as usize),
+    }
 }
 
-/// The number of a neighbour that the next word tells.
-fn next_index(left: &mut Words<'_>) -> Option<usize>
-    ensures told { IfSome result (λ i. (number : List ℕ) × (words left.old ≡ number ∷ words left.new)
-        × TellsLongNumber i number) }
-    ensures none { IfNone result ((n : ℕ) (number : List ℕ) (more : List (List ℕ)) → words left.old ≡ number ∷ more
-        → TellsLongNumber n number → ⊥) }
+/// A neighbour alone.
+pub(crate) fn neighbour_alone(form: Form, left: &mut Words<'_>) -> Option<usize>
+    ensures told { IfSome result (λ i. NamesNeighbour form i (words left.old) []) }
+    ensures none { IfNone result ((n : ℕ) → NamesNeighbour form n (words left.old) [] → ⊥) }
 {
-    let index = read_long_number(left.next()?)?;
-    Some(index as usize)
+    let index = next_neighbour(form, left)?;
+    if is_nothing(left) { Some(index) } else { None }
 }
 
-/// The number of a neighbour, and a connection.
-pub(crate) fn index_and_conn(left: &mut Words<'_>) -> Option<(usize, Conn)>
-    ensures told { IfSome result (λ r. (number other : List ℕ) × (words left.old ≡ number ∷ other ∷ [])
-        × TellsLongNumber r.0 number × TellsLongNumber r.1.0 other) }
-    ensures none { IfNone result ((n m : ℕ) (number other : List ℕ) → words left.old ≡ number ∷ other ∷ []
-        → TellsLongNumber n number → TellsLongNumber m other → ⊥) }
+/// A neighbour, and a connection.
+pub(crate) fn neighbour_and_conn(form: Form, left: &mut Words<'_>) -> Option<(usize, Conn)>
+    ensures told { IfSome result (λ r. (more : List (List ℕ)) × NamesNeighbour form r.0 (words left.old) more
+        × TellsConn r.1 more) }
+    ensures none { IfNone result ((n : ℕ) (c : Conn) (more : List (List ℕ))
+        → NamesNeighbour form n (words left.old) more → TellsConn c more → ⊥) }
 {
-    let index = next_index(left)?;
+    let index = next_neighbour(form, left)?;
     let conn = conn_alone(left)?;
     Some((index, conn))
 }
 
-/// The number of a neighbour, and that of a cause.
-pub(crate) fn index_and_cause(left: &mut Words<'_>) -> Option<(usize, Cause)>
-    ensures told { IfSome result (λ r. (number other : List ℕ) × (words left.old ≡ number ∷ other ∷ [])
-        × TellsLongNumber r.0 number × TellsNumber (cause_number r.1) other) }
-    ensures none { IfNone result ((n : ℕ) (cause : Cause) (number other : List ℕ)
-        → words left.old ≡ number ∷ other ∷ [] → TellsLongNumber n number → TellsNumber (cause_number cause) other
-        → ⊥) }
+/// A neighbour, and the number of a cause.
+pub(crate) fn neighbour_and_cause(form: Form, left: &mut Words<'_>) -> Option<(usize, Cause)>
+    ensures told { IfSome result (λ r. (more : List (List ℕ)) × NamesNeighbour form r.0 (words left.old) more
+        × (number : List ℕ) × (more ≡ number ∷ []) × TellsNumber (cause_number r.1) number) }
+    ensures none { IfNone result ((n : ℕ) (cause : Cause) (number : List ℕ)
+        → NamesNeighbour form n (words left.old) (number ∷ []) → TellsNumber (cause_number cause) number → ⊥) }
 {
-    let index = next_index(left)?;
+    let index = next_neighbour(form, left)?;
     let cause = cause_alone(left)?;
     Some((index, cause))
 }
 
-/// The number of a neighbour, and one word more.
-pub(crate) fn index_and_word<'a>(left: &mut Words<'a>) -> Option<(usize, &'a [u8])>
-    ensures told { IfSome result (λ r. (number : List ℕ) × (words left.old ≡ number ∷ r.1.now ∷ [])
-        × TellsLongNumber r.0 number) }
-    ensures none { IfNone result ((n : ℕ) (number word : List ℕ) → words left.old ≡ number ∷ word ∷ []
-        → TellsLongNumber n number → ⊥) }
+/// A neighbour, and one word more.
+pub(crate) fn neighbour_and_word<'a>(form: Form, left: &mut Words<'a>) -> Option<(usize, &'a [u8])>
+    ensures told { IfSome result (λ r. NamesNeighbour form r.0 (words left.old) (r.1.now ∷ [])) }
+    ensures none { IfNone result ((n : ℕ) (word : List ℕ)
+        → NamesNeighbour form n (words left.old) (word ∷ []) → ⊥) }
 {
-    let index = next_index(left)?;
+    let index = next_neighbour(form, left)?;
     let word = word_alone(left)?;
     Some((index, word))
 }

@@ -1,7 +1,7 @@
 //! Orders in lines, answered over a session.
 
 use crate::session::session;
-use dm_live::{answer_met, answer_order, read_order};
+use dm_live::{Form, answer_met, answer_order, read_order};
 use dm_session::{Acquaintance, Session};
 use std::process::Abort;
 
@@ -15,7 +15,7 @@ const ANSWERS: &str =
 
 /// Answers the line, where it tells an order.
 fn answer(rt: &(impl Abort + AllocGlobal), session: &mut Session, line: &str, text: &mut String) {
-    if let Some(order) = read_order(rt.alloc(), line.as_bytes()).expect(rt, "memory") {
+    if let Some(order) = read_order(rt.alloc(), Form::Alone, line.as_bytes()).expect(rt, "memory") {
         answer_order(rt.alloc(), session, &order, text).expect(rt, "memory");
     }
 }
@@ -28,7 +28,7 @@ fn answer_and_know(
     line: &str,
     text: &mut String,
 ) {
-    if let Some(order) = read_order(rt.alloc(), line.as_bytes()).expect(rt, "memory") {
+    if let Some(order) = read_order(rt.alloc(), Form::Alone, line.as_bytes()).expect(rt, "memory") {
         answer_met(rt.alloc(), session, known, &order, text).expect(rt, "memory");
     }
 }

@@ -1,7 +1,7 @@
 //! Orders to a node in lines, answered over its session.
 
 use crate::nodes::three;
-use dm_live::{answer_node, read_node_order};
+use dm_live::{Form, answer_node, read_order};
 use dm_node_session::NodeSession;
 use std::process::Abort;
 
@@ -21,7 +21,9 @@ fn answer(
     line: &str,
     text: &mut String,
 ) {
-    if let Some(order) = read_node_order(rt.alloc(), line.as_bytes()).expect(rt, "memory") {
+    if let Some(order) = read_order(rt.alloc(), Form::Several, line.as_bytes()).expect(
+        rt, "memory",
+    ) {
         answer_node(rt.alloc(), session, order.order(), text).expect(rt, "memory");
     }
 }

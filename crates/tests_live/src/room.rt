@@ -1,6 +1,6 @@
 //! The room that an answer takes: that of the same text appended a piece after the other, so at most twice its octets.
 use crate::session::{CER_OF_B, session};
-use dm_live::{answer_order, read_order};
+use dm_live::{Form, answer_order, read_order};
 use dm_session::Session;
 use dm_text::Hexadecimal;
 use std::process::Abort;
@@ -22,7 +22,7 @@ fn request(rt: &(impl Abort + AllocGlobal), size: u32) -> Vec<u8> {
 
 /// Appends the answer to the line, which tells an order.
 fn answer(rt: &(impl Abort + AllocGlobal), session: &mut Session, line: &str, text: &mut String) {
-    if let Some(order) = read_order(rt.alloc(), line.as_bytes()).expect(rt, "memory") {
+    if let Some(order) = read_order(rt.alloc(), Form::Alone, line.as_bytes()).expect(rt, "memory") {
         answer_order(rt.alloc(), session, &order, text).expect(rt, "memory");
     }
 }

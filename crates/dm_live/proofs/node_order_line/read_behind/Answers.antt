@@ -1,9 +1,0 @@
-use Rattle.dm_text.specs.Words.{words}
-use Rattle.dm_live.proofs.Options.{none-anyway}
-use Rattle.dm_live.proofs.Rests.{no_node_stop}
-use Rattle.dm_live.proofs.node_order_line.read_behind.Goals as goal
-
-pub returns-in_err-index-in-Stop-clause-none : goal.returns-in_err-index-in-Stop-clause-none
-returns-in_err-index-in-Stop-clause-none c =
-    none-anyway c.from_residual-in_err-index-in-Stop.result
-    (no_node_stop c.args.name (words c.args.left.now) c.in-Stop.is c.in_err-index-in-Stop.ensures.none)
