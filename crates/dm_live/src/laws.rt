@@ -6,7 +6,8 @@ pub fn known_changes_no_answer()
     ensures { KnownChangesNoAnswer }
 {}
 
-/// The line `sender` tells no order, to a peer alone or to several, so what it asks for and an order never stand against each other.
+/// The line `sender` tells no order, to a peer alone or to several, so what it asks for and an order never stand
+/// against each other.
 pub fn sender_is_no_order()
     ensures { SenderIsNoOrder }
 {}

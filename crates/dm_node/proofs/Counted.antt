@@ -5,7 +5,7 @@ use Rattle.std.proofs.lemmas.List.Sums.{count_by-le-length, sum_by-cons, sum_by_
 use Rattle.dm_peer.specs.declared.peer.Peer.{Peer}
 use Rattle.dm_node.specs.Emptying.{set_back, without_peer, with_set_back, all_set_back}
 use Rattle.dm_node.specs.Holding.{peer_at}
-use Rattle.dm_node.specs.Unknown.{present}
+use Rattle.dm_node.specs.Strangers.{present}
 
 -- one where somebody is
 abbrev one : Option Peer → ℕ

@@ -1,17 +1,22 @@
--- A host that is no neighbour becomes one.
-use Rattle.std.proofs.Common.{◌≡◌, inl, inr, ℕ, suc, Bool, true, false, Option, None, Some, IsSome, IfSome, IfNone, List, [], ◌∷◌, ◌++◌, length, refl, sym, ap, subst, ◌∙◌}
+-- A host that is no neighbour becomes one, or is turned away.
+use Rattle.std.proofs.Common.{◌≡◌, ◌≤◌, ◌<◌, inl, inr, ◌⊎◌, ℕ, suc, Bool, true, false, Option, None, Some, IfSome, IfNone, Result, Ok, Err, IfOk, OnOk, List, [], ◌∷◌, ◌++◌, length, refl, sym, ap, subst, ◌∙◌}
 use Rattle.dm_base.specs.Before.{lower}
+use Rattle.dm_base.specs.declared.node.Node.{Node}
 use Rattle.dm_history.specs.History.{new_peer}
 use Rattle.dm_machine.specs.declared.connection.Conn.{Conn}
 use Rattle.dm_machine.specs.declared.state_name.State.TheVariants.{Closed}
 use Rattle.dm_peer.specs.Acts.{Moved, acts}
+use Rattle.dm_peer.specs.Events.{Arrived}
 use Rattle.dm_peer.specs.declared.actions.Action.{Action}
 use Rattle.dm_peer.specs.declared.config.Config.{Config}
+use Rattle.dm_peer.specs.declared.fault.ConfigFault.{ConfigFault}
 use Rattle.dm_peer.specs.declared.peer.Peer.{Peer}
+use Rattle.dm_node.specs.Calling.{Caller, caller_of, answer_to}
 use Rattle.dm_node.specs.Holding.{peer_at, holds, holds_it, holds_at, host_at, AreApart}
 use Rattle.dm_node.specs.Owning.{has, IsResettled}
-use Rattle.dm_node.specs.Telling.{conn_of, told_of, IsStrangeCer}
-use Rattle.dm_node.specs.Unknown.{IsUnknown, IsOffered, IsTakenIn}
+use Rattle.dm_node.specs.Policies.{Policy, IsMadeFor, IsUnfit, MakesFor, MakesNoneFor}
+use Rattle.dm_node.specs.Strangers.{present, IsStrangeHost, IsPermitted, IsForbidden, Joins, StaysOut, NodeMovesWith, TellsConcerned, NodeIsTold}
+use Rattle.dm_node.specs.Telling.{Concerns, IsAddressed, PeerIsTold, told_of}
 use Rattle.dm_node.specs.declared.events.NodeEvent.{NodeEvent}
 use Rattle.dm_node.specs.declared.events.NodeEvent.TheVariants as event
 use Rattle.dm_node.specs.declared.owners.Holding.{Holding}
@@ -27,10 +32,10 @@ same_count : (ps : List (Option Peer)) (x y : Option Peer) → length (ps ++ x �
 same_count [] x y = refl
 same_count (p ∷ ps) x y = ap suc (same_count ps x y)
 
-pub is_taken : (ps qs : List (Option Peer)) (i : ℕ) (e : NodeEvent) (actions : List Action) (k : Config) (y : Peer) →
-    i ≡ length ps → qs ≡ ps ++ Some y ∷ [] → (y.standing.core.state ≡ Closed → ⊥) →
-    acts (new_peer k k.first_id) (told_of e) ≡ Moved actions y → IsTakenIn ps qs i e actions k
-is_taken ps qs i e actions k y here is stays acted =
+pub is_taken : (ps qs : List (Option Peer)) (i : ℕ) (c : Conn) (octets : List ℕ) (actions : List Action) (k : Config)
+    (y : Peer) → i ≡ length ps → qs ≡ ps ++ Some y ∷ [] → (y.standing.core.state ≡ Closed → ⊥) →
+    acts (new_peer k k.first_id) (Arrived c octets) ≡ Moved actions y → Joins ps qs i c octets actions k
+is_taken ps qs i c octets actions k y here is stays acted =
     let x : Peer = new_peer k k.first_id in record {
       number = here;
       told = record {
@@ -48,51 +53,38 @@ is_taken ps qs i e actions k y here is stays acted =
     }
 
 -- nobody holds the connection on which an unknown host calls
-free_at : (ps : List (Option Peer)) (e : NodeEvent) (host : List ℕ) (c : Conn) (j : ℕ) → IsUnknown ps e host →
-    conn_of (told_of e) ≡ Some c → (b : Bool) → holds_at ps c j ≡ b → b ≡ false
-free_at ps e host c j u named false h = refl
-free_at ps (event.Arrived d octets) host c j u named true h =
-    let same : d ≡ c = cc in
-    absurd (u.nobody j (inl (subst (λ x. holds_at ps x j ≡ true) (sym same) h)))
-free_at ps (event.Start n d) host c j u named true h = let never = u.calls in absurd (cc)
-free_at ps (event.Stop n cause) host c j u named true h = let never = u.calls in absurd (cc)
-free_at ps (event.Timeout n) host c j u named true h = let never = u.calls in absurd (cc)
-free_at ps (event.Tick n) host c j u named true h = let never = u.calls in absurd (cc)
-free_at ps (event.Submit n octets) host c j u named true h = let never = u.calls in absurd (cc)
-free_at ps (event.Ack d) host c j u named true h = let never = u.calls in absurd (cc)
-free_at ps (event.Nack d) host c j u named true h = let never = u.calls in absurd (cc)
-free_at ps (event.Gone d) host c j u named true h = let never = u.calls in absurd (cc)
-
--- nor a connection that is held behind such an event
-pub free_behind : (ps : List (Option Peer)) (e : NodeEvent) (host : List ℕ) (y : Peer) → IsUnknown ps e host →
-    ((c : Conn) → (conn_of (told_of e) ≡ Some c → ⊥) → holds c y ≡ false) →
-    (c : Conn) (j : ℕ) → holds c y ≡ true → holds_at ps c j ≡ false
-free_behind ps e host y u takes c j held = by (holds_at ps c j) refl
+pub free_at : (ps : List (Option Peer)) (c : Conn) (octets : List ℕ) → ((i : ℕ) → IsAddressed ps c octets i → ⊥) →
+    (j : ℕ) → holds_at ps c j ≡ false
+free_at ps c octets nobody j = by (holds_at ps c j) refl
   where
     by : (b : Bool) → holds_at ps c j ≡ b → holds_at ps c j ≡ false
     by false q = q
+    by true q = absurd (nobody j (inl q))
+
+-- nor a connection that is held behind its octets
+pub free_behind : (ps : List (Option Peer)) (c : Conn) (octets : List ℕ) (y : Peer) →
+    ((i : ℕ) → IsAddressed ps c octets i → ⊥) →
+    ((d : Conn) → (c ≡ d → ⊥) → holds d y ≡ false) →
+    (d : Conn) (j : ℕ) → holds d y ≡ true → holds_at ps d j ≡ false
+free_behind ps c octets y nobody takes d j held = by (holds_at ps d j) refl
+  where
+    by : (b : Bool) → holds_at ps d j ≡ b → holds_at ps d j ≡ false
+    by false q = q
     by true q =
-        absurd (two_truths (holds c y) held
-        (takes c (λ named. two_truths (holds_at ps c j) q (free_at ps e host c j u named (holds_at ps c j) refl))))
+        absurd (two_truths (holds d y) held
+        (takes d (λ same. two_truths (holds_at ps d j) q (subst (λ x. holds_at ps x j ≡ false) same
+        (free_at ps c octets nobody j)))))
 
 -- nobody has the host that calls
-pub unknown_host : (ps : List (Option Peer)) (e : NodeEvent) (host : List ℕ) → IsUnknown ps e host →
+pub unknown_host : (ps : List (Option Peer)) (c : Conn) (octets host : List ℕ) → IsStrangeHost ps c octets host →
     (j : ℕ) → host_at ps j ≡ Some (lower host) → ⊥
-unknown_host ps (event.Arrived d octets) host u j has =
+unknown_host ps c octets host u j is =
     u.nobody j (inr (
-      λ i. free_at ps (event.Arrived d octets) host d i u refl (holds_at ps d i) refl,
-      (u.header, host),
+      free_at ps c octets u.nobody,
+      u.call,
       u.calls,
-      has,
+      subst (λ h. host_at ps j ≡ Some (lower h)) (sym u.named) is,
     ))
-unknown_host ps (event.Start n d) host u j has = let never = u.calls in absurd (cc)
-unknown_host ps (event.Stop n cause) host u j has = let never = u.calls in absurd (cc)
-unknown_host ps (event.Timeout n) host u j has = let never = u.calls in absurd (cc)
-unknown_host ps (event.Tick n) host u j has = let never = u.calls in absurd (cc)
-unknown_host ps (event.Submit n octets) host u j has = let never = u.calls in absurd (cc)
-unknown_host ps (event.Ack d) host u j has = let never = u.calls in absurd (cc)
-unknown_host ps (event.Nack d) host u j has = let never = u.calls in absurd (cc)
-unknown_host ps (event.Gone d) host u j has = let never = u.calls in absurd (cc)
 
 -- one more, of whose connections nobody holds any
 pub apart_admitted : (ps : List (Option Peer)) (y : Peer) →
@@ -120,11 +112,6 @@ resettled_admitted ps qs y i before here is held = record {
   others = λ j un. ap (λ l. peer_at l j) is ∙ grown_else ps (Some y) j (λ q. un (q ∙ sym here));
 }
 
--- the configuration that was offered
-pub offered_now : (makes : List ℕ → Config → Type 0) (most : ℕ) (ps : List (Option Peer)) (e : NodeEvent)
-    (o : Option Config) (k : Config) → o ≡ Some k → IfSome o (IsOffered makes most ps e) → IsOffered makes most ps e k
-offered_now makes most ps e o k is h = subst (λ (x : Option Config). IfSome x (IsOffered makes most ps e)) is h
-
 pub if_some : {A : Type 0} {P Q : A → Type 0} (o : Option A) → ((a : A) → P a → Q a) → IfSome o P → IfSome o Q
 if_some None f h = h
 if_some (Some a) f h = f a h
@@ -133,14 +120,125 @@ pub if_none : {A : Type 0} (P Q : Type 0) (o : Option A) → (P → Q) → IfNon
 if_none P Q None f h = f h
 if_none P Q (Some a) f h = h
 
--- an unknown host calls by a CER
-pub strange_cer : (ps : List (Option Peer)) (e : NodeEvent) (host : List ℕ) → IsUnknown ps e host → IsStrangeCer e
-strange_cer ps (event.Arrived d octets) host u = subst IsSome (sym u.calls) refl
-strange_cer ps (event.Start n d) host u = let never = u.calls in absurd (cc)
-strange_cer ps (event.Stop n cause) host u = let never = u.calls in absurd (cc)
-strange_cer ps (event.Timeout n) host u = let never = u.calls in absurd (cc)
-strange_cer ps (event.Tick n) host u = let never = u.calls in absurd (cc)
-strange_cer ps (event.Submit n octets) host u = let never = u.calls in absurd (cc)
-strange_cer ps (event.Ack d) host u = let never = u.calls in absurd (cc)
-strange_cer ps (event.Nack d) host u = let never = u.calls in absurd (cc)
-strange_cer ps (event.Gone d) host u = let never = u.calls in absurd (cc)
+-- what is said of an option that is known
+pub at_some : {A : Type 0} (P : A → Type 0) (o : Option A) (a : A) → o ≡ Some a → IfSome o P → P a
+at_some P o a is h = subst (λ x. IfSome x P) is h
+
+pub at_none : {A : Type 0} (P : Type 0) (o : Option A) → o ≡ None → IfNone o P → P
+at_none P o is h = subst (λ x. IfNone x P) is h
+
+-- what two clauses of a call say, together
+pub both_ok : {A E : Type 0} {P Q R : A → Type 0} (r : Result A E) → ((a : A) → P a → Q a → R a) → IfOk r P →
+    IfOk r Q → IfOk r R
+both_ok (Ok a) f h g = f a h g
+both_ok (Err e) f h g = tt
+
+pub both_done : {A E : Type 0} {P Q R : Type 0} (r : Result A E) → (P → Q → R) → OnOk r P → OnOk r Q → OnOk r R
+both_done (Ok a) f h g = f h g
+both_done (Err e) f h g = tt
+
+-- a configuration that was made fits
+pub fits_where_made : (o : Option ConfigFault) (k : Config) (r : Result Config ConfigFault) → r ≡ Ok k →
+    ((f : ConfigFault) → o ≡ Some f → r ≡ Err f) → o ≡ None
+fits_where_made None k r is refuses = refl
+fits_where_made (Some f) k r is refuses =
+    let clash : ◌≡◌ {A = Result Config ConfigFault} (Ok k) (Err f) = sym is ∙ refuses f refl in absurd (cc)
+
+-- by the host's template
+pub makes_for : (policy : Policy) (host : List ℕ) (template : Config) (o : Option Config) →
+    policy.template host ≡ Some template → IfSome o (IsMadeFor template host) → IfSome o (MakesFor policy host)
+makes_for policy host template o chosen h =
+    if_some o (λ k made. record { template = template; chosen = chosen; made = made }) h
+
+pub makes_none : (policy : Policy) (host : List ℕ) (template : Config) (o : Option Config) →
+    policy.template host ≡ Some template → IfNone o (IsUnfit template host) → IfNone o (MakesNoneFor policy host)
+makes_none policy host template o chosen h =
+    if_none (IsUnfit template host) (MakesNoneFor policy host) o
+    (subst (λ (t : Option Config). IfSome t (λ x. IsUnfit x host)) (sym chosen)) h
+
+-- what is made for who calls is permitted, wherever the octets concern nobody
+abbrev pub PermitsAnywhere : Policy → List (Option Peer) → List ℕ → Config → Type 0
+PermitsAnywhere policy ps octets k =
+    (c : Conn) → ((i : ℕ) → IsAddressed ps c octets i → ⊥) → IsPermitted policy ps c octets k
+
+pub permits : (policy : Policy) (ps : List (Option Peer)) (octets : List ℕ) (call : Caller) (o : Option Config) →
+    caller_of octets ≡ Some call → present ps < policy.most → IfSome o (MakesFor policy call.1) →
+    IfSome o (PermitsAnywhere policy ps octets)
+permits policy ps octets call o calls room h =
+    if_some o (λ k makes c nobody. record {
+      unknown = record { call = call; calls = calls; named = sym makes.made.peer; nobody = nobody };
+      made = subst (λ x. MakesFor policy x k) (sym makes.made.peer) makes;
+      room = room;
+    }) h
+
+one_caller : (o : Option Caller) (a b : Caller) → o ≡ Some a → o ≡ Some b → a ≡ b
+one_caller None a b x y = absurd (cc)
+one_caller (Some z) a b x y = cc
+
+-- and where none is made for it nobody is
+pub forbids : (policy : Policy) (ps : List (Option Peer)) (octets : List ℕ) (call : Caller) →
+    caller_of octets ≡ Some call → (policy.most ≤ present ps) ⊎ MakesNoneFor policy call.1 → (c : Conn) →
+    IsForbidden policy ps c octets
+forbids policy ps octets call calls none c host h =
+    subst (λ x. (policy.most ≤ present ps) ⊎ MakesNoneFor policy x)
+    (ap (λ (x : Caller). x.1) (one_caller (caller_of octets) call h.call calls h.calls) ∙ h.named) none
+
+pub forbids_none : (policy : Policy) (ps : List (Option Peer)) (octets : List ℕ) → caller_of octets ≡ None →
+    (c : Conn) → IsForbidden policy ps c octets
+forbids_none policy ps octets calls c host h = let never = sym h.calls ∙ calls in absurd (cc)
+
+-- what is done at octets that concern nobody
+pub welcomed : (policy : Policy) (c : Conn) (octets : List ℕ) (n : Node) (ps qs : List (Option Peer)) (who : Option ℕ)
+    (actions : List Action) (k : Config) → ((i : ℕ) → IsAddressed ps c octets i → ⊥) →
+    IsPermitted policy ps c octets k → IfSome who (λ i. Joins ps qs i c octets actions k) →
+    IfNone who (StaysOut ps qs c octets actions k) → NodeMovesWith policy c octets n ps who actions qs
+welcomed policy c octets n ps qs (Some i) actions k nobody permitted joins out = inr (k, permitted, joins)
+welcomed policy c octets n ps qs None actions k nobody permitted joins out = (nobody, inl (k, permitted, out))
+
+pub turned_off : (policy : Policy) (c : Conn) (octets : List ℕ) (n : Node) (ps : List (Option Peer)) (who : Option ℕ)
+    (actions : List Action) → ((i : ℕ) → IsAddressed ps c octets i → ⊥) → IsForbidden policy ps c octets →
+    who ≡ None → actions ≡ answer_to n c (caller_of octets) → NodeMovesWith policy c octets n ps who actions ps
+turned_off policy c octets n ps None actions nobody forbidden is answer = (nobody, inr (answer, refl, forbidden))
+turned_off policy c octets n ps (Some i) actions nobody forbidden is answer = absurd (cc)
+
+-- the one that the event concerns is told it
+concerned_told : (e : NodeEvent) (ps qs : List (Option Peer)) (i : ℕ) (who : Option ℕ) (actions : List Action) →
+    Concerns ps e i → who ≡ Some i → PeerIsTold ps qs i (told_of e) actions → TellsConcerned e ps who actions qs
+concerned_told e ps qs i who actions concerns is told =
+    subst (λ w. TellsConcerned e ps w actions qs) (sym is) (concerns, told)
+
+pub told_so : (policy : Policy) (e : NodeEvent) (n : Node) (ps qs : List (Option Peer)) (i : ℕ) (who : Option ℕ)
+    (actions : List Action) → Concerns ps e i → who ≡ Some i → PeerIsTold ps qs i (told_of e) actions →
+    NodeIsTold policy e n ps who actions qs
+told_so policy (event.Arrived c octets) n ps qs i who actions concerns is told =
+    subst (λ w. NodeMovesWith policy c octets.now n ps w actions qs) (sym is) (inl (concerns, told))
+told_so policy (event.Start m c) n ps qs i who actions concerns is told =
+    concerned_told (event.Start m c) ps qs i who actions concerns is told
+told_so policy (event.Stop m cause) n ps qs i who actions concerns is told =
+    concerned_told (event.Stop m cause) ps qs i who actions concerns is told
+told_so policy (event.Timeout m) n ps qs i who actions concerns is told =
+    concerned_told (event.Timeout m) ps qs i who actions concerns is told
+told_so policy (event.Tick m) n ps qs i who actions concerns is told =
+    concerned_told (event.Tick m) ps qs i who actions concerns is told
+told_so policy (event.Submit m octets) n ps qs i who actions concerns is told =
+    concerned_told (event.Submit m octets) ps qs i who actions concerns is told
+told_so policy (event.Ack c) n ps qs i who actions concerns is told =
+    concerned_told (event.Ack c) ps qs i who actions concerns is told
+told_so policy (event.Nack c) n ps qs i who actions concerns is told =
+    concerned_told (event.Nack c) ps qs i who actions concerns is told
+told_so policy (event.Gone c) n ps qs i who actions concerns is told =
+    concerned_told (event.Gone c) ps qs i who actions concerns is told
+
+-- an event that is no octets, and concerns nobody
+pub nothing_told : (policy : Policy) (e : NodeEvent) (n : Node) (ps : List (Option Peer)) (actions : List Action) →
+    actions ≡ [] → ((c : Conn) (octets : _) → e ≡ event.Arrived c octets → ⊥) → ((i : ℕ) → Concerns ps e i → ⊥) →
+    NodeIsTold policy e n ps None actions ps
+nothing_told policy (event.Arrived c octets) n ps actions none other nobody = absurd (other c octets refl)
+nothing_told policy (event.Start m c) n ps actions none other nobody = (nobody, none, refl)
+nothing_told policy (event.Stop m cause) n ps actions none other nobody = (nobody, none, refl)
+nothing_told policy (event.Timeout m) n ps actions none other nobody = (nobody, none, refl)
+nothing_told policy (event.Tick m) n ps actions none other nobody = (nobody, none, refl)
+nothing_told policy (event.Submit m octets) n ps actions none other nobody = (nobody, none, refl)
+nothing_told policy (event.Ack c) n ps actions none other nobody = (nobody, none, refl)
+nothing_told policy (event.Nack c) n ps actions none other nobody = (nobody, none, refl)
+nothing_told policy (event.Gone c) n ps actions none other nobody = (nobody, none, refl)

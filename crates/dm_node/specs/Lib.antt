@@ -8,7 +8,7 @@ pub mod Neighbourhoods
 pub mod NodeHistory
 pub mod OneConcerned
 pub mod Owning
+pub mod Policies
 pub mod Rosters
+pub mod Strangers
 pub mod Telling
-pub mod Templates
-pub mod Unknown

@@ -4,7 +4,7 @@ use Rattle.dm_node.specs.declared.roster.Roster.{Roster}
 use Rattle.dm_node.specs.Holding.{AreApart, AreUnlike}
 use Rattle.dm_node.specs.Naming.{AreHostsNoted}
 use Rattle.dm_node.specs.Owning.{AreOwned}
-use Rattle.dm_node.specs.Unknown.{present}
+use Rattle.dm_node.specs.Strangers.{present}
 
 -- no connection is held by two neighbours and no two have one host, each is found by what it holds and by its host, and
 -- they are counted

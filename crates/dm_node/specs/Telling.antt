@@ -1,7 +1,6 @@
 -- What an event does to the neighbours: what it does to a peer, at the one that it concerns.
-use Rattle.std.specs.Prelude.{◌≡◌, ◌⊎◌, ℕ, true, false, Option, None, Some, IsSome, List, [], length}
+use Rattle.std.specs.Prelude.{◌≡◌, ◌⊎◌, ℕ, true, false, Option, None, Some, IsSome, List, length}
 use Rattle.dm_base.specs.Before.{lower}
-use Rattle.dm_base.specs.declared.node.Node.{Node}
 use Rattle.dm_machine.specs.declared.connection.Conn.{Conn}
 use Rattle.dm_peer.specs.declared.actions.Action.{Action}
 use Rattle.dm_peer.specs.declared.fault.PeerFault.{PeerFault}
@@ -13,7 +12,7 @@ use Rattle.dm_node.specs.declared.events.NodeEvent.TheVariants as event
 use Rattle.dm_node.specs.declared.fault.EventFault.{EventFault}
 use Rattle.dm_node.specs.declared.fault.EventFault.TheVariants as fault
 use Rattle.dm_peer.specs.declared.fault.PeerFault.TheVariants.{NoMemory}
-use Rattle.dm_node.specs.Calling.{Caller, caller_of, answer_to}
+use Rattle.dm_node.specs.Calling.{Caller, caller_of}
 use Rattle.dm_node.specs.Holding.{peer_at, holds_at, host_at}
 
 -- the connection that an event names
@@ -110,8 +109,3 @@ IsRefusedHere ps e (fault.Peer f) =
     ((i : ℕ) × Concerns ps e i × IsRefusedBy ps i (told_of e) f)
     ⊎ ((f ≡ NoMemory) × ((i : ℕ) → Concerns ps e i → ⊥) × IsStrangeCer e)
 IsRefusedHere ps e f = IsMisdirected ps e f
-
--- what is done at an event that concerns no neighbour
-abbrev pub strange : Node → NodeEvent → List Action
-strange n (event.Arrived c octets) = answer_to n c (caller_of octets.now)
-strange n _ = []

@@ -14,16 +14,14 @@ mod looking;
 mod neighbours;
 mod offering;
 mod owners;
-mod policy;
 mod roster;
 mod routing;
+mod strangers;
 mod telling;
-mod template;
 mod unknown;
 mod welcoming;
 
 pub use events::{NodeActions, NodeEvent};
 pub use fault::{AddFault, EventFault};
 pub use neighbours::Neighbours;
-pub use policy::UnknownHosts;
-pub use template::Template;
+pub use strangers::{Open, Strangers};

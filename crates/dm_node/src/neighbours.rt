@@ -2,8 +2,10 @@
 use crate::looking::peer_at;
 use crate::roster::Roster;
 use crate::routing::whose;
-use crate::telling::{tell_nobody, tell_nobody_into, tell_one, tell_one_into};
-use crate::{AddFault, EventFault, NodeActions, NodeEvent};
+use crate::telling::tell_one_into;
+use crate::unknown::tell_unknown;
+use crate::{AddFault, EventFault, NodeActions, NodeEvent, Strangers};
+use arrayvec::ArrayVec;
 use dm_base::Node;
 use dm_peer::{Config, Conn, Peer, State};
 use std::alloc::Global;
@@ -43,7 +45,8 @@ impl Neighbours {
     ghost use Rattle.dm_node.specs.Declining.{IsRuledOut, TakesNoMemory, IsDirected, IsByRule, IsDeclinedHere};
     ghost use Rattle.dm_node.specs.Emptying.{without_peer, with_set_back, all_set_back};
     ghost use Rattle.dm_node.specs.Holding.{peer_at, host_at, holds_at, IsKnown};
-    ghost use Rattle.dm_node.specs.Telling.{Concerns, PeerIsTold, IsMisdirected, IsRefusedHere, strange, told_of};
+    ghost use Rattle.dm_node.specs.Strangers.{NodeIsTold};
+    ghost use Rattle.dm_node.specs.Telling.{Concerns, IsMisdirected, IsRefusedHere, told_of};
     ghost use Rattle.dm_node.specs.declared.fault.AddFault.TheVariants.{Known, NoMemory};
     ghost use Rattle.dm_node.specs.declared.fault.EventFault.{EventFault};
     ghost use Rattle.dm_node.specs.declared.fault.EventFault.TheVariants.{Peer as of_peer};
@@ -146,21 +149,27 @@ impl Neighbours {
     }
 
     /// What the node does at the event. The one neighbour that it concerns does what a peer of its own does, and
-    /// nothing happens to the others; where it concerns none, nothing happens to any. An event concerns the neighbour
-    /// that it names, or that holds the connection that it names; octets on a connection that nobody holds are a first
-    /// message, and concern the neighbour whose host's CER they are. To any other first message the connection is
-    /// closed, behind an answer 3010 (DIAMETER_UNKNOWN_PEER) to a CER.
+    /// nothing happens to the others; where it concerns none, nothing happens to any, but for what `strangers` permit.
+    /// An event concerns the neighbour that it names, or that holds the connection that it names; octets on a
+    /// connection that nobody holds are a first message, and concern the neighbour whose host's CER they are.
+    ///
+    /// Where the CER of another host comes so, for which `strangers` have a template, and there are fewer neighbours
+    /// than there may be, a neighbour of the template's configuration for this host is added and told the event; none
+    /// is added where its peer would be Closed behind it, as at a CER that it refuses. To any other first message the
+    /// connection is closed, behind an answer 3010 (DIAMETER_UNKNOWN_PEER) to a CER. A neighbour that was taken in so
+    /// stays until it is removed: whoever keeps to RFC 6733, 5.3, removes it once it is Closed.
     ///
     /// # Errors
     /// `Held` for a Start under a connection that a neighbour holds, `NoNeighbour` for a number that none has, else
     /// what the neighbour's peer refuses, and `NoMemory`. The neighbours are as they were after each.
-    pub fn on(&mut self, alloc: Global, event: NodeEvent<'_>) -> Result<NodeActions, EventFault>
-        ensures concerned { IfOk result (λ r. IfSome r.neighbour (Concerns self.old.peers event.entry)) }
-        ensures told { IfOk result (λ r. IfSome r.neighbour (λ i.
-            PeerIsTold self.old.peers self.new.peers i (told_of event.entry) r.actions.items)) }
-        ensures nobody { IfOk result (λ r. IfNone r.neighbour ((i : ℕ) → Concerns self.old.peers event.entry i → ⊥)) }
-        ensures strange { IfOk result (λ r. IfNone r.neighbour ((self.new.peers ≡ self.old.peers)
-            × (r.actions.items ≡ strange self.old.node event.entry))) }
+    pub fn on<S: Strangers>(
+        &mut self,
+        alloc: Global,
+        strangers: &S,
+        event: NodeEvent<'_>,
+    ) -> Result<NodeActions, EventFault>
+        ensures told { IfOk result (λ r. NodeIsTold (S.policy strangers.now) event.entry self.old.node self.old.peers
+            r.neighbour r.actions.items self.new.peers) }
         ensures misdirected { (f : EventFault) → IsMisdirected self.old.peers event.entry f → result ≡ Err f }
         ensures refused { IfErr result (IsRefusedHere self.old.peers event.entry) }
         // But for want of memory the rules alone refuse, and what they refuse is refused so.
@@ -177,9 +186,12 @@ impl Neighbours {
         // The octets of each Send spell a message, an answer to a stranger too.
         ensures spelled { IfOk result (λ r. All SendsSpelling r.actions.items) }
     {
-        match whose(&self.roster, event) {
-            Ok(Some(index)) => tell_one(alloc, &mut self.roster, index, event),
-            Ok(None) => tell_nobody(alloc, &self.node, event),
+        let mut answer = NodeActions {
+            neighbour: None,
+            actions: ArrayVec::new(),
+        };
+        match self.on_into(alloc, strangers, event, &mut answer) {
+            Ok(()) => Ok(answer),
             Err(fault) => Err(fault),
         }
     }
@@ -190,20 +202,16 @@ impl Neighbours {
     /// # Errors
     /// Those of `on`. The neighbours are as they were after each.
     #[inline(always)]
-    pub fn on_into(
+    pub fn on_into<S: Strangers>(
         &mut self,
         alloc: Global,
+        strangers: &S,
         event: NodeEvent<'_>,
         answer: &mut NodeActions,
     ) -> Result<(), EventFault>
         requires none { answer.old.actions.items ≡ [] }
-        ensures concerned { OnOk result (IfSome answer.new.neighbour (Concerns self.old.peers event.entry)) }
-        ensures told { OnOk result (IfSome answer.new.neighbour (λ i.
-            PeerIsTold self.old.peers self.new.peers i (told_of event.entry) answer.new.actions.items)) }
-        ensures nobody { OnOk result (IfNone answer.new.neighbour
-            ((i : ℕ) → Concerns self.old.peers event.entry i → ⊥)) }
-        ensures strange { OnOk result (IfNone answer.new.neighbour ((self.new.peers ≡ self.old.peers)
-            × (answer.new.actions.items ≡ strange self.old.node event.entry))) }
+        ensures told { OnOk result (NodeIsTold (S.policy strangers.now) event.entry self.old.node self.old.peers
+            answer.new.neighbour answer.new.actions.items self.new.peers) }
         ensures misdirected { (f : EventFault) → IsMisdirected self.old.peers event.entry f → result ≡ Err f }
         ensures refused { IfErr result (IsRefusedHere self.old.peers event.entry) }
         ensures ruled { IfErr result (IsByRule self.old.peers event.entry) }
@@ -219,7 +227,14 @@ impl Neighbours {
     {
         match whose(&self.roster, event) {
             Ok(Some(index)) => tell_one_into(alloc, &mut self.roster, index, event, answer),
-            Ok(None) => tell_nobody_into(alloc, &self.node, event, answer),
+            Ok(None) => tell_unknown(
+                alloc,
+                &self.node,
+                &mut self.roster,
+                strangers,
+                event,
+                answer,
+            ),
             Err(fault) => Err(fault),
         }
     }

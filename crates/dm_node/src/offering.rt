@@ -1,50 +1,65 @@
-//! Whether a host that is no neighbour is offered to become one.
-ghost use Rattle.std.specs.Prelude.{◌≡◌, ℕ, None, Some, IfSome, IfNone, IfOk, OnErr};
+//! Whether a host that is no neighbour may become one.
+ghost use Rattle.std.specs.Prelude.{◌≡◌, ℕ, IfSome, IfNone, IfOk, OnErr, IsSome};
+ghost use Rattle.dm_machine.specs.declared.connection.Conn.{Conn};
+ghost use Rattle.dm_node.specs.Calling.{caller_of};
+ghost use Rattle.dm_node.specs.Policies.{IsMadeFor, IsUnfit, MakesFor, MakesNoneFor};
 ghost use Rattle.dm_node.specs.Rosters.{IsRoster};
-ghost use Rattle.dm_node.specs.Telling.{Concerns, IsStrangeCer};
-ghost use Rattle.dm_node.specs.Unknown.{caller_at, IsOffered, IsTurnedAway};
-ghost use Rattle.dm_wire.specs.declared.message.Header.{Header};
+ghost use Rattle.dm_node.specs.Strangers.{IsPermitted, IsForbidden};
+ghost use Rattle.dm_node.specs.Telling.{IsAddressed};
 
+use crate::Strangers;
 use crate::calling::caller;
 use crate::roster::Roster;
-use crate::{NodeEvent, UnknownHosts};
 use dm_dict::NoMemory;
-use dm_peer::Config;
+use dm_peer::{Config, ConfigFault};
 use std::alloc::Global;
 
-/// The host whose CER the event is.
-fn calling_host<'a>(event: NodeEvent<'a>) -> Option<&'a [u8]>
-    ensures found { IfSome result (λ host. (header : Header) × (caller_at event.entry ≡ Some (header, host.now))) }
-    ensures none { IfNone result (caller_at event.entry ≡ None) }
+/// The template's configuration for the host; none where the template's node can't have it as its peer.
+fn made_for(alloc: Global, template: &Config, host: &[u8]) -> Result<Option<Config>, NoMemory>
+    ensures made { IfOk result (λ o. IfSome o (IsMadeFor template.now host.now)) }
+    ensures none { IfOk result (λ o. IfNone o (IsUnfit template.now host.now)) }
 {
-    match event {
-        NodeEvent::Arrived(_, octets) => match caller(octets) {
-            Some((_, host)) => Some(host),
-            None => None,
-        },
-        _ => None,
+    match template.for_host(alloc, host) {
+        Ok(config) => Ok(Some(config)),
+        Err(ConfigFault::NoMemory) => Err(NoMemory),
+        Err(_) => Ok(None),
     }
 }
 
-/// A configuration for the host whose CER the event is, where the policy has one and there may be one neighbour more.
-pub(crate) fn offered<U: UnknownHosts>(
+/// The configuration of the host's template for the host, where it has one that fits.
+fn made_by<S: Strangers>(
+    alloc: Global,
+    strangers: &S,
+    host: &[u8],
+) -> Result<Option<Config>, NoMemory>
+    ensures made { IfOk result (λ o. IfSome o (MakesFor (S.policy strangers.now) host.now)) }
+    ensures none { IfOk result (λ o. IfNone o (MakesNoneFor (S.policy strangers.now) host.now)) }
+{
+    match strangers.template(host) {
+        Some(template) => made_for(alloc, template, host),
+        None => Ok(None),
+    }
+}
+
+/// A configuration for the host whose CER the octets are, where they concern no neighbour and there may be one more.
+pub(crate) fn offered<S: Strangers>(
     alloc: Global,
     roster: &Roster,
-    policy: &U,
-    event: NodeEvent<'_>,
+    strangers: &S,
+    octets: &[u8],
 ) -> Result<Option<Config>, NoMemory>
-    requires roster { IsRoster roster.now }
-    requires nobody { (i : ℕ) → Concerns roster.now.peers.items event i → ⊥ }
-    ensures offered { IfOk result (λ o. IfSome o
-        (IsOffered (U.makes policy.now) (U.most policy.now) roster.now.peers.items event.entry)) }
-    ensures none { IfOk result (λ o. IfNone o
-        (IsTurnedAway (U.turns_away policy.now) (U.most policy.now) roster.now.peers.items event.entry)) }
-    ensures memory { OnErr result (IsStrangeCer event.entry) }
+    requires { IsRoster roster.now }
+    ensures offered { IfOk result (λ o. IfSome o (λ config. (c : Conn)
+        → ((i : ℕ) → IsAddressed roster.now.peers.items c octets.now i → ⊥)
+        → IsPermitted (S.policy strangers.now) roster.now.peers.items c octets.now config)) }
+    ensures none { IfOk result (λ o. IfNone o ((c : Conn)
+        → IsForbidden (S.policy strangers.now) roster.now.peers.items c octets.now)) }
+    ensures memory { OnErr result (IsSome (caller_of octets.now)) }
 {
-    match calling_host(event) {
-        Some(host) => {
-            if roster.count() < policy.most() {
-                policy.config_for(alloc, host)
+    match caller(octets) {
+        Some((_, host)) => {
+            if roster.count() < strangers.most() {
+                made_by(alloc, strangers, host)
             } else {
                 Ok(None)
             }

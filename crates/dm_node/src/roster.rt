@@ -8,7 +8,7 @@ ghost use Rattle.dm_node.specs.Adding.{with_new};
 ghost use Rattle.dm_node.specs.Emptying.{without_peer, with_set_back, all_set_back};
 ghost use Rattle.dm_node.specs.Holding.{peer_at, holds, holds_at, host_at, IsKnown};
 ghost use Rattle.dm_node.specs.Rosters.{IsRoster};
-ghost use Rattle.dm_node.specs.Unknown.{present};
+ghost use Rattle.dm_node.specs.Strangers.{present};
 ghost use Rattle.dm_node.specs.declared.fault.AddFault.TheVariants.{Known, NoMemory as no_memory};
 
 use crate::AddFault;

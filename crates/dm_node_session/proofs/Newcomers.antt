@@ -1,7 +1,5 @@
 -- A host that is no neighbour becomes one at its CER: what is held behind it, what is closed, and who is kept.
 use Rattle.std.proofs.Common.{◌≡◌, inl, inr, ◌⊎◌, ℕ, Bool, true, false, not, ◌&&◌, ◌==◌, nat_eq, IsTrue, Option, None, Some, IfSome, List, [], ◌∷◌, ◌++◌, length, refl, sym, ap, ◌∙◌, subst}
-use Rattle.std.specs.Prelude.{⊤}
-use Rattle.std.specs.Option.{IfNone}
 use Rattle.std.proofs.lemmas.Bool.{eqb-true}
 use Rattle.dm_base.specs.declared.node.Node.{Node}
 use Rattle.dm_history.specs.History.{new_peer}
@@ -11,12 +9,9 @@ use Rattle.dm_machine.specs.Moves as moves
 use Rattle.dm_machine.specs.Node.{is_shaped}
 use Rattle.dm_machine.specs.Openings.{is_hold, names_it, LeavesOthersAlone, ClosesWhatItGivesUp}
 use Rattle.dm_node.specs.Adding.{with_new}
-use Rattle.dm_node.specs.Calling.{Caller, caller_of, answer_to}
+use Rattle.dm_node.specs.Calling.{caller_of, answer_to}
 use Rattle.dm_node.specs.Holding.{peer_at, holds_it, holds_at, AreApart}
-use Rattle.dm_node.specs.Telling.{Concerns, IsAddressed, PeerIsTold, IsFree, strange, told_of}
-use Rattle.dm_node.specs.Unknown.{IsOffered, IsTurnedAway, IsTakenIn, IsLeft}
-use Rattle.dm_node.specs.declared.events.NodeEvent.{NodeEvent}
-use Rattle.dm_node.specs.declared.events.NodeEvent.TheVariants as event
+use Rattle.dm_node.specs.Telling.{IsAddressed, IsFree}
 use Rattle.dm_peer.specs.declared.actions.Action.{Action}
 use Rattle.dm_peer.specs.declared.config.Config.{Config}
 use Rattle.dm_peer.specs.declared.peer.Peer.{Peer}
@@ -31,7 +26,7 @@ use Rattle.dm_peer.specs.Steps.{EachEventIsOneStep, Follows, IsStep}
 use Rattle.dm_session.specs.Intakes.{Intakes, is_there, actions_close}
 use Rattle.dm_session.specs.Naming.{NamesThere}
 use Rattle.dm_node_session.specs.NodeHeld.{AllHeldAreThere, AreKept}
-use Rattle.dm_node_session.specs.NodePolicies.{Policy, IsStrangeHost, IsPermitted, IsForbidden, Joins, StaysOut, NodeMovesWith}
+use Rattle.dm_node_session.specs.NodePolicies.{Policy, IsPermitted, IsForbidden, Joins, StaysOut, NodeMovesWith}
 use Rattle.dm_node_session.proofs.Closing.{CameOn, ClosesItsOwn, closes_shaped}
 use Rattle.dm_node_session.proofs.NodeEmptying.{grown}
 use Rattle.dm_node_session.proofs.NodeMoving.{two_truths, unlike, held_told, kept_told, closed_told, closed_answer, free_of}
@@ -252,107 +247,3 @@ closed_with closed own laws policy c octets n ps qs (Some i) actions kept apart 
     closed_joined laws ps qs i c octets actions k joins (stranger_free ps c octets permitted.unknown.nobody) d closing
 closed_with closed own laws policy c octets n ps qs None actions kept apart m d closing =
     closed_nobody laws policy c octets n ps qs actions m.0 m.1 d closing
-
--- where the event brings octets of a connection, this holds of them
-abbrev AtArrival : (Conn → List ℕ → Type 0) → NodeEvent → Type 0
-AtArrival P (event.Arrived c octets) = P c octets.now
-AtArrival P e = ⊤
-
--- the policy of these parts
-abbrev pub policy_of : (List ℕ → Config → Type 0) → (List ℕ → Type 0) → ℕ → Policy
-policy_of makes turns_away most = record { makes = makes; turns_away = turns_away; most = most }
-
--- what the clauses of `Neighbours::on_with` come to at octets
-abbrev pub TakenOrTold :
-    (List ℕ → Config → Type 0) → ℕ → List (Option Peer) → List (Option Peer) → NodeEvent → List Action → ℕ → Type 0
-TakenOrTold makes most ps qs e actions i =
-    (Concerns ps e i × PeerIsTold ps qs i (told_of e) actions)
-    ⊎ ((k : Config) × IsOffered makes most ps e k × IsTakenIn ps qs i e actions k)
-
-abbrev pub LeftOrStrange :
-    (List ℕ → Config → Type 0) → (List ℕ → Type 0) → ℕ → Node → List (Option Peer) → List (Option Peer) → NodeEvent
-    → List Action → Type 0
-LeftOrStrange makes turns_away most n ps qs e actions =
-    ((k : Config) × IsOffered makes most ps e k × IsLeft ps qs e actions k)
-    ⊎ ((qs ≡ ps) × (actions ≡ strange n e) × IsTurnedAway turns_away most ps e)
-
-strange_host : (ps : List (Option Peer)) (c : Conn) (octets host : List ℕ) (call : Caller) → caller_of octets ≡ Some call →
-    call.1 ≡ host → ((i : ℕ) → IsAddressed ps c octets i → ⊥) → IsStrangeHost ps c octets host
-strange_host ps c octets host call calls named nobody =
-    record { call = call; calls = calls; named = named; nobody = nobody }
-
-host_is : (o : Option Caller) (call : Caller) (host : List ℕ) → o ≡ Some call → call.1 ≡ host → o ≡ Some (call.0, host)
-host_is o call host calls named = calls ∙ ap (λ h. Some (call.0, h)) named
-
-taken_or_told : (makes : List ℕ → Config → Type 0) (turns_away : List ℕ → Type 0) (most : ℕ) (n : Node)
-    (ps qs : List (Option Peer)) (e : NodeEvent) (actions : List Action) (i : ℕ) →
-    TakenOrTold makes most ps qs e actions i →
-    AtArrival (λ c octets. NodeMovesWith (policy_of makes turns_away most) c octets n ps (Some i) actions qs) e
-taken_or_told makes turns_away most n ps qs (event.Arrived c piece) actions i (inl told) = inl told
-taken_or_told makes turns_away most n ps qs (event.Arrived c piece) actions i (inr (k, offered, taken)) =
-    inr (
-      k,
-      record {
-        unknown = strange_host ps c piece.now k.peer (offered.unknown.header, k.peer) offered.unknown.calls refl
-            offered.unknown.nobody;
-        made = offered.made;
-        room = offered.room;
-      },
-      record { number = taken.number; told = taken.told; stays = taken.stays },
-    )
-taken_or_told makes turns_away most n ps qs (event.Start m d) actions i h = tt
-taken_or_told makes turns_away most n ps qs (event.Stop m cause) actions i h = tt
-taken_or_told makes turns_away most n ps qs (event.Timeout m) actions i h = tt
-taken_or_told makes turns_away most n ps qs (event.Tick m) actions i h = tt
-taken_or_told makes turns_away most n ps qs (event.Submit m piece) actions i h = tt
-taken_or_told makes turns_away most n ps qs (event.Ack d) actions i h = tt
-taken_or_told makes turns_away most n ps qs (event.Nack d) actions i h = tt
-taken_or_told makes turns_away most n ps qs (event.Gone d) actions i h = tt
-
-left_or_strange : (makes : List ℕ → Config → Type 0) (turns_away : List ℕ → Type 0) (most : ℕ) (n : Node)
-    (ps qs : List (Option Peer)) (e : NodeEvent) (actions : List Action) → ((i : ℕ) → Concerns ps e i → ⊥) →
-    LeftOrStrange makes turns_away most n ps qs e actions →
-    AtArrival (λ c octets. NodeMovesWith (policy_of makes turns_away most) c octets n ps None actions qs) e
-left_or_strange makes turns_away most n ps qs (event.Arrived c piece) actions nobody (inl (k, offered, left)) = (
-  nobody,
-  inl (
-    k,
-    record {
-      unknown = strange_host ps c piece.now k.peer (offered.unknown.header, k.peer) offered.unknown.calls refl
-          nobody;
-      made = offered.made;
-      room = offered.room;
-    },
-    record { after = left.after; acted = left.acts; closed = left.closed; same = left.same },
-  ),
-)
-left_or_strange makes turns_away most n ps qs (event.Arrived c piece) actions nobody (inr (same, answer, turned)) = (
-  nobody,
-  inr (
-    answer,
-    same,
-    λ host h. turned host (record {
-      header = h.call.0;
-      calls = host_is (caller_of piece.now) h.call host h.calls h.named;
-      nobody = h.nobody;
-    }),
-  ),
-)
-left_or_strange makes turns_away most n ps qs (event.Start m d) actions nobody h = tt
-left_or_strange makes turns_away most n ps qs (event.Stop m cause) actions nobody h = tt
-left_or_strange makes turns_away most n ps qs (event.Timeout m) actions nobody h = tt
-left_or_strange makes turns_away most n ps qs (event.Tick m) actions nobody h = tt
-left_or_strange makes turns_away most n ps qs (event.Submit m piece) actions nobody h = tt
-left_or_strange makes turns_away most n ps qs (event.Ack d) actions nobody h = tt
-left_or_strange makes turns_away most n ps qs (event.Nack d) actions nobody h = tt
-left_or_strange makes turns_away most n ps qs (event.Gone d) actions nobody h = tt
-
-pub moved_with : (makes : List ℕ → Config → Type 0) (turns_away : List ℕ → Type 0) (most : ℕ) (n : Node)
-    (ps qs : List (Option Peer)) (e : NodeEvent) (who : Option ℕ) (actions : List Action) →
-    IfSome who (TakenOrTold makes most ps qs e actions) → IfNone who ((i : ℕ) → Concerns ps e i → ⊥) →
-    IfNone who (LeftOrStrange makes turns_away most n ps qs e actions) →
-    AtArrival (λ c octets. NodeMovesWith (policy_of makes turns_away most) c octets n ps who actions qs) e
-moved_with makes turns_away most n ps qs e (Some i) actions told nobody left =
-    taken_or_told makes turns_away most n ps qs e actions i told
-moved_with makes turns_away most n ps qs e None actions told nobody left =
-    left_or_strange makes turns_away most n ps qs e actions nobody left

@@ -1,17 +1,19 @@
 -- One event of a node: what is held behind it, what it closes, and why it is refused.
-use Rattle.std.proofs.Common.{◌≡◌, inl, inr, ◌⊎◌, ℕ, Bool, true, false, nat_eq, ◌||◌, true≢false, Option, None, Some, IsSome, IfSome, IsTrue, List, refl, sym, ap, ◌∙◌, subst}
-use Rattle.std.specs.Option.{IfNone}
+use Rattle.std.proofs.Common.{◌≡◌, inl, inr, ◌⊎◌, ℕ, Bool, true, false, nat_eq, ◌||◌, true≢false, Option, None, Some, IsSome, IfSome, IsTrue, List, [], refl, sym, ap, ◌∙◌, subst}
 use Rattle.std.proofs.lemmas.Bool.{eqb-true, eq-eqb}
 use Rattle.dm_base.specs.declared.node.Node.{Node}
 use Rattle.dm_machine.specs.declared.connection.Conn.{Conn}
 use Rattle.dm_node.specs.Calling.{Caller, caller_of, answer_to}
 use Rattle.dm_node.specs.Holding.{peer_at, holds_it, holds_at, AreApart}
-use Rattle.dm_node.specs.Telling.{Concerns, IsAddressed, PeerIsTold, IsFree, IsMisdirected, IsRefusedBy, IsRefusedHere, IsStrangeCer, strange, told_of}
+use Rattle.dm_node.specs.Policies.{no_strangers}
+use Rattle.dm_node.specs.Strangers.{IsPermitted, NodeMovesWith, TellsConcerned, NodeIsTold}
+use Rattle.dm_node.specs.Telling.{Concerns, IsAddressed, PeerIsTold, IsFree, IsMisdirected, IsRefusedBy, IsRefusedHere, IsStrangeCer, told_of}
 use Rattle.dm_node.specs.declared.events.NodeEvent.{NodeEvent}
 use Rattle.dm_node.specs.declared.events.NodeEvent.TheVariants as event
 use Rattle.dm_node.specs.declared.fault.EventFault.{EventFault}
 use Rattle.dm_node.specs.declared.fault.EventFault.TheVariants as fault
 use Rattle.dm_peer.specs.declared.actions.Action.{Action}
+use Rattle.dm_peer.specs.declared.config.Config.{Config}
 use Rattle.dm_peer.specs.declared.fault.PeerFault.{PeerFault}
 use Rattle.dm_peer.specs.declared.fault.PeerFault.TheVariants.{NoMemory}
 use Rattle.dm_peer.specs.declared.peer.Peer.{Peer}
@@ -59,25 +61,41 @@ concerned ps (event.Nack c) i is = is
 concerned ps (event.Arrived c octets) i is = is
 concerned ps (event.Gone c) i is = is
 
-strange_as : (n : Node) (e : NodeEvent) → strange n e ≡ turned_off n (told_of e)
-strange_as n (event.Start m c) = refl
-strange_as n (event.Stop m cause) = refl
-strange_as n (event.Timeout m) = refl
-strange_as n (event.Tick m) = refl
-strange_as n (event.Submit m octets) = refl
-strange_as n (event.Ack c) = refl
-strange_as n (event.Nack c) = refl
-strange_as n (event.Arrived c octets) = refl
-strange_as n (event.Gone c) = refl
-
--- what the clauses of `Neighbours::on` come to
-pub moved : (n : Node) (ps qs : List (Option Peer)) (e : NodeEvent) (who : Option ℕ) (actions : List Action) →
-    IfSome who (Concerns ps e) → IfSome who (λ i. PeerIsTold ps qs i (told_of e) actions) →
-    IfNone who ((i : ℕ) → Concerns ps e i → ⊥) → IfNone who ((qs ≡ ps) × (actions ≡ strange n e)) →
+-- what an event that is no octets comes to
+moved_plain : (n : Node) (ps qs : List (Option Peer)) (e : NodeEvent) (who : Option ℕ) (actions : List Action) →
+    turned_off n (told_of e) ≡ [] → TellsConcerned e ps who actions qs →
     NodeMoves (neighbour_named e) (told_of e) n ps who actions qs
-moved n ps qs e (Some i) actions is told none stays = (is_for ps e i is, told)
-moved n ps qs e None actions is told none stays =
-    (λ i h. none i (concerned ps e i h), stays.1 ∙ strange_as n e, stays.0)
+moved_plain n ps qs e (Some i) actions none h = (is_for ps e i h.0, h.1)
+moved_plain n ps qs e None actions none h = (λ i is. h.0 i (concerned ps e i is), h.1 ∙ sym none, h.2)
+
+-- where no stranger is permitted
+none_permitted : (ps : List (Option Peer)) (c : Conn) (octets : List ℕ) (k : Config) →
+    IsPermitted no_strangers ps c octets k → ⊥
+none_permitted ps c octets k h =
+    let never : ◌≡◌ {A = Option Config} None (Some h.made.template) = h.made.chosen in absurd (cc)
+
+moved_octets : (n : Node) (ps qs : List (Option Peer)) (c : Conn) (octets : List ℕ) (who : Option ℕ)
+    (actions : List Action) → NodeMovesWith no_strangers c octets n ps who actions qs →
+    NodeMoves None (Arrived c octets) n ps who actions qs
+moved_octets n ps qs c octets (Some i) actions (inl told) = told
+moved_octets n ps qs c octets (Some i) actions (inr (k, permitted, joins)) =
+    absurd (none_permitted ps c octets k permitted)
+moved_octets n ps qs c octets None actions (nobody, inl (k, permitted, out)) =
+    absurd (none_permitted ps c octets k permitted)
+moved_octets n ps qs c octets None actions (nobody, inr (answer, same, forbidden)) = (nobody, answer, same)
+
+-- what the clause of `Neighbours::on_into` comes to
+pub moved : (n : Node) (ps qs : List (Option Peer)) (e : NodeEvent) (who : Option ℕ) (actions : List Action) →
+    NodeIsTold no_strangers e n ps who actions qs → NodeMoves (neighbour_named e) (told_of e) n ps who actions qs
+moved n ps qs (event.Arrived c octets) who actions h = moved_octets n ps qs c octets.now who actions h
+moved n ps qs (event.Start m c) who actions h = moved_plain n ps qs (event.Start m c) who actions refl h
+moved n ps qs (event.Stop m cause) who actions h = moved_plain n ps qs (event.Stop m cause) who actions refl h
+moved n ps qs (event.Timeout m) who actions h = moved_plain n ps qs (event.Timeout m) who actions refl h
+moved n ps qs (event.Tick m) who actions h = moved_plain n ps qs (event.Tick m) who actions refl h
+moved n ps qs (event.Submit m octets) who actions h = moved_plain n ps qs (event.Submit m octets) who actions refl h
+moved n ps qs (event.Ack c) who actions h = moved_plain n ps qs (event.Ack c) who actions refl h
+moved n ps qs (event.Nack c) who actions h = moved_plain n ps qs (event.Nack c) who actions refl h
+moved n ps qs (event.Gone c) who actions h = moved_plain n ps qs (event.Gone c) who actions refl h
 
 -- what is held behind it is there
 pub held_told : OthersStayUnheld → (ps qs : List (Option Peer)) (i : ℕ) (e : PeerEvent) (actions : List Action)

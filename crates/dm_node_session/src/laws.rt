@@ -14,7 +14,7 @@ ghost use Rattle.dm_node_session.specs.NodeStreams.{NodeOneTelling, NodeCutsTold
 use crate::NodeSession;
 use dm_framer::laws::one_front;
 use dm_machine::laws::each_opening_has_its_message;
-use dm_node::UnknownHosts;
+use dm_node::Strangers;
 use dm_node::laws::neighbours_are_apart;
 use dm_peer::laws::{
     each_event_is_one_step, each_event_keeps_settled, each_event_names_what_it_takes,
@@ -50,19 +50,15 @@ pub fn others_are_left_alone()
 
 /// What is told one neighbour by a policy for unknown hosts leaves the others alone, and so does a host that becomes a
 /// neighbour.
-pub fn others_are_left_alone_by<U: UnknownHosts>(policy: &U)
-    ensures { NextWithLeavesOthers (record {
-      makes = U.makes policy.now;
-      turns_away = U.turns_away policy.now;
-      most = U.most policy.now;
-    }) }
+pub fn others_are_left_alone_by<S: Strangers>(strangers: &S)
+    ensures { NextWithLeavesOthers (S.policy strangers.now) }
 {
     each_event_is_one_step();
     each_event_keeps_settled();
     each_event_names_what_it_takes();
     each_opening_has_its_message();
     what_is_there_stays();
-    let _most = policy.most();
+    let _most = strangers.most();
 }
 
 /// A node of one neighbour is a session of its peer, wherever that is told something: at an order's event, and at what
@@ -81,15 +77,11 @@ pub fn heard_alike()
 }
 
 /// The same of what is told by a policy for unknown hosts.
-pub fn heard_alike_by<U: UnknownHosts>(policy: &U)
-    ensures { NodeHeardAlikeWith (record {
-      makes = U.makes policy.now;
-      turns_away = U.turns_away policy.now;
-      most = U.most policy.now;
-    }) }
+pub fn heard_alike_by<S: Strangers>(strangers: &S)
+    ensures { NodeHeardAlikeWith (S.policy strangers.now) }
 {
     one_front();
-    let _most = policy.most();
+    let _most = strangers.most();
 }
 
 /// Whatever cuts a stream, telling the pieces is a telling of the whole.
@@ -100,15 +92,11 @@ pub fn cuts_alike()
 }
 
 /// The same of what is told by a policy for unknown hosts.
-pub fn cuts_alike_by<U: UnknownHosts>(policy: &U)
-    ensures { NodeCutsAlikeWith (record {
-      makes = U.makes policy.now;
-      turns_away = U.turns_away policy.now;
-      most = U.most policy.now;
-    }) }
+pub fn cuts_alike_by<S: Strangers>(strangers: &S)
+    ensures { NodeCutsAlikeWith (S.policy strangers.now) }
 {
     one_front();
-    let _most = policy.most();
+    let _most = strangers.most();
 }
 
 /// However a stream is cut, what is told until nothing is left is the same: the turns, in order, of which neighbour
@@ -132,12 +120,8 @@ pub fn closed_is_down()
 {}
 
 /// The same of what is told by a policy for unknown hosts.
-pub fn closed_is_down_by<U: UnknownHosts>(policy: &U)
-    ensures { NodeEndsWith (record {
-      makes = U.makes policy.now;
-      turns_away = U.turns_away policy.now;
-      most = U.most policy.now;
-    }) }
+pub fn closed_is_down_by<S: Strangers>(strangers: &S)
+    ensures { NodeEndsWith (S.policy strangers.now) }
 {
-    let _most = policy.most();
+    let _most = strangers.most();
 }

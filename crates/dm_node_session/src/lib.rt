@@ -12,7 +12,7 @@ mod node_turn;
 mod permitting;
 mod telling;
 
-pub use dm_node::{AddFault, EventFault, Neighbours, NodeActions, Template, UnknownHosts};
+pub use dm_node::{AddFault, EventFault, Neighbours, NodeActions, Open, Strangers};
 pub use dm_peer::{Action, Actions, Cause, Config, Conn, Peer, PeerFault};
 pub use node_order::NodeOrder;
 pub use node_session::NodeSession;

@@ -18,7 +18,7 @@ use crate::telling::look_at;
 use dm_machine::Conn;
 use dm_machine::laws::each_opening_has_its_message;
 use dm_node::laws::neighbours_are_apart;
-use dm_node::{Neighbours, NodeActions, NodeEvent, UnknownHosts};
+use dm_node::{Neighbours, NodeActions, NodeEvent, Strangers};
 use dm_peer::laws::{
     each_event_is_one_step, each_event_keeps_settled, each_event_names_what_it_takes,
     refusals_go_by_rule,
@@ -28,19 +28,15 @@ use dm_session::laws::what_is_there_stays;
 use std::alloc::{AllocError, Global};
 
 /// Tells the neighbours what came on the connection, by the policy.
-fn tell_with<U: UnknownHosts>(
+fn tell_with<S: Strangers>(
     alloc: Global,
     neighbours: &mut Neighbours,
-    policy: &U,
+    strangers: &S,
     conn: Conn,
     octets: &[u8],
 ) -> Result<NodeActions, AllocError>
     requires kept { AreKept neighbours.old.peers }
-    ensures moved { IfOk result (λ answer. NodeMovesWith (record {
-      makes = U.makes policy.now;
-      turns_away = U.turns_away policy.now;
-      most = U.most policy.now;
-    }) conn octets.now neighbours.old.node
+    ensures moved { IfOk result (λ answer. NodeMovesWith (S.policy strangers.now) conn octets.now neighbours.old.node
         neighbours.old.peers answer.neighbour answer.actions.items neighbours.new.peers) }
     ensures closed { IfOk result (λ answer. (c : Conn) → actions_close answer.actions.items c.0 ≡ true
         → IsFree neighbours.new.peers c) }
@@ -57,7 +53,7 @@ fn tell_with<U: UnknownHosts>(
     each_opening_has_its_message();
     refusals_go_by_rule();
     neighbours_are_apart(neighbours);
-    match neighbours.on_with(alloc, policy, NodeEvent::Arrived(conn, octets)) {
+    match neighbours.on(alloc, strangers, NodeEvent::Arrived(conn, octets)) {
         Ok(answer) => {
             look_at(neighbours, answer.neighbour);
             Ok(answer)
@@ -77,17 +73,13 @@ impl NodeSession {
     /// A neighbour that was taken in so stays until it is removed ([`remove`](NodeSession::remove)).
     ///
     /// None where there is nothing to tell. Where memory is wanted nothing changes, and it can be told again.
-    pub fn next_with<U: UnknownHosts>(
+    pub fn next_with<S: Strangers>(
         &mut self,
         alloc: Global,
-        policy: &U,
+        strangers: &S,
         conn: Conn,
     ) -> Result<Option<NodeTurn>, AllocError>
-        ensures turn { IfOk result (λ found. IfSome found (λ turn. NodeTellsNextWith (record {
-          makes = U.makes policy.now;
-          turns_away = U.turns_away policy.now;
-          most = U.most policy.now;
-        }) conn
+        ensures turn { IfOk result (λ found. IfSome found (λ turn. NodeTellsNextWith (S.policy strangers.now) conn
             (node_session_of self.old) (as_node_turn turn) (node_session_of self.new))) }
         ensures none { IfOk result (λ found. IfNone found (
             NodeIsOut conn (node_session_of self.old) × (node_session_of self.new ≡ node_session_of self.old))) }
@@ -99,7 +91,7 @@ impl NodeSession {
         match self.intakes.front(conn) {
             Front::Nothing => Ok(None),
             Front::Message(message) => {
-                match tell_with(alloc, &mut self.neighbours, policy, conn, message) {
+                match tell_with(alloc, &mut self.neighbours, strangers, conn, message) {
                     Ok(answer) => {
                         self.intakes.skip(conn);
                         self.settle(&answer);
@@ -118,18 +110,14 @@ impl NodeSession {
     /// Tells the whole message of the connection with which the piece begins, where it lies, as
     /// [`hear`](NodeSession::hear) does it, but by a policy for unknown hosts, as
     /// [`next_with`](NodeSession::next_with) does. Where memory is wanted nothing changes, and it can be told again.
-    pub fn hear_with<U: UnknownHosts>(
+    pub fn hear_with<S: Strangers>(
         &mut self,
         alloc: Global,
-        policy: &U,
+        strangers: &S,
         conn: Conn,
         piece: &[u8],
     ) -> Result<Option<HeardNodeTurn>, AllocError>
-        ensures heard { IfOk result (λ found. IfSome found (λ heard. NodeHearsWholeWith (record {
-          makes = U.makes policy.now;
-          turns_away = U.turns_away policy.now;
-          most = U.most policy.now;
-        }) conn
+        ensures heard { IfOk result (λ found. IfSome found (λ heard. NodeHearsWholeWith (S.policy strangers.now) conn
             piece.now (node_session_of self.old) (as_node_turn heard.turn) heard.len (node_session_of self.new))) }
         ensures none { IfOk result (λ found. IfNone found (NodeHearsNothing conn piece.now (node_session_of self.old)
             × (node_session_of self.new ≡ node_session_of self.old))) }
@@ -140,7 +128,7 @@ impl NodeSession {
         match self.intakes.whole_in(conn, piece) {
             Some(len) => {
                 let whole = &piece[..len];
-                match tell_with(alloc, &mut self.neighbours, policy, conn, whole) {
+                match tell_with(alloc, &mut self.neighbours, strangers, conn, whole) {
                     Ok(answer) => {
                         self.settle(&answer);
                         let turn = NodeTurn::of_message(conn, answer);

@@ -78,7 +78,7 @@ pub(crate) fn tell_neighbours(
     each_opening_has_its_message();
     refusals_go_by_rule();
     neighbours_are_apart(neighbours);
-    match neighbours.on_into(alloc, event, answer) {
+    match neighbours.on_into(alloc, &(), event, answer) {
         Ok(()) => {
             look_at(neighbours, answer.neighbour);
             Ok(())

@@ -1,7 +1,7 @@
 //! A node of three neighbours with its connections.
 
 use crate::session::{CER_OF_B, DWR_OF_B, config, node};
-use dm_node_session::{Conn, EventFault, NodeOrder, NodeSession, Template};
+use dm_node_session::{Conn, EventFault, NodeOrder, NodeSession, Open};
 use dm_peer::State;
 use std::process::Abort;
 
@@ -211,7 +211,7 @@ fn strange(rt: &(impl Abort + AllocGlobal)) -> (Option<(Option<usize>, usize)>, 
 fn turn_with(
     rt: &(impl Abort + AllocGlobal),
     session: &mut NodeSession,
-    policy: &Template,
+    policy: &Open,
     conn: Conn,
 ) -> Option<(Option<usize>, usize)> {
     match session.next_with(rt.alloc(), policy, conn) {
@@ -229,7 +229,7 @@ fn permitted(
     letter: u8,
 ) -> (Option<(Option<usize>, usize)>, Option<State>, bool) {
     let mut session = three(rt);
-    let policy = Template::new(config(rt, b"b.example"), most);
+    let policy = Open::new(config(rt, b"b.example"), most);
     let _none = asked(rt, &mut session, NodeOrder::Accept(Conn(1)));
     came(rt, &mut session, Conn(1), CER_OF_B, letter);
     let turn = turn_with(rt, &mut session, &policy, Conn(1));
@@ -247,7 +247,7 @@ fn permitted_in_place(
     letter: u8,
 ) -> (Option<(usize, Option<usize>, usize)>, Option<State>) {
     let mut session = three(rt);
-    let policy = Template::new(config(rt, b"b.example"), most);
+    let policy = Open::new(config(rt, b"b.example"), most);
     let _none = asked(rt, &mut session, NodeOrder::Accept(Conn(1)));
     let mut octets = hex::decode(rt.alloc(), CER_OF_B.as_bytes()).expect(rt, "digits");
     if let Some(octet) = octets.get_mut(28) {
@@ -278,7 +278,7 @@ fn broken(
     Option<State>,
 ) {
     let mut session = three(rt);
-    let policy = Template::new(config(rt, b"b.example"), 4);
+    let policy = Open::new(config(rt, b"b.example"), 4);
     let _none = asked(rt, &mut session, NodeOrder::Accept(Conn(1)));
     came(rt, &mut session, Conn(1), CER_OF_B, b'z');
     let _taken = turn_with(rt, &mut session, &policy, Conn(1));

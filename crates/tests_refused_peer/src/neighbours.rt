@@ -75,8 +75,8 @@ fn tell_both(
     twin: &mut Neighbours,
     event: NodeEvent<'_>,
 ) -> bool {
-    let first = one.on(alloc, event);
-    let second = twin.on(alloc, event);
+    let first = one.on(alloc, &(), event);
+    let second = twin.on(alloc, &(), event);
     is_same_answer(&first, &second) && one.state_of(0) == twin.state_of(0)
 }
 
@@ -89,14 +89,14 @@ fn tell(
     nth: u32,
 ) -> End {
     refuse(alloc, nth);
-    let first = one.on(alloc, event);
+    let first = one.on(alloc, &(), event);
     let refused = was_refused(alloc);
     if let Err(EventFault::Peer(PeerFault::NoMemory)) = first {
         let same = one.state_of(0) == twin.state_of(0);
         return repeated(refused, same && tell_both(alloc, one, twin, event));
     }
     // Where the look-up of connections can't grow, neighbours are asked one by one, and the answer is the same.
-    let second = twin.on(alloc, event);
+    let second = twin.on(alloc, &(), event);
     let right = is_same_answer(&first, &second);
     if refused {
         repeated(refused, right)

@@ -4,7 +4,7 @@ use crate::peers::{are_same, config, node};
 use crate::rows::{CER, CER_OF_B, CER_OF_C, SUBMITTED, octets};
 use dm_node_session::{
     AddFault, Config, Conn, EventFault, HeardNodeTurn, NodeActions, NodeOrder, NodeSession,
-    NodeTurn, PeerFault, Template,
+    NodeTurn, Open, PeerFault,
 };
 use dm_refusal::{End, Subject, answered, refuse, repeated, was_refused, worse};
 use std::alloc::{AllocError, Global};
@@ -18,8 +18,8 @@ fn session(rt: &(impl Abort + AllocGlobal)) -> NodeSession {
 }
 
 /// A policy that takes each host, while there are fewer than two neighbours.
-fn policy(rt: &(impl Abort + AllocGlobal)) -> Template {
-    Template::new(config(rt, b"a.example", b"d.example", 4), 2)
+fn policy(rt: &(impl Abort + AllocGlobal)) -> Open {
+    Open::new(config(rt, b"a.example", b"d.example", 4), 2)
 }
 
 /// A call of a session.
@@ -69,7 +69,7 @@ fn heard(found: Result<Option<HeardNodeTurn>, AllocError>) -> Answer {
     }
 }
 
-fn respond(alloc: Global, session: &mut NodeSession, policy: &Template, call: Call<'_>) -> Answer {
+fn respond(alloc: Global, session: &mut NodeSession, policy: &Open, call: Call<'_>) -> Answer {
     match call {
         Call::Take(order) => taken(session.take(alloc, order)),
         Call::Next(conn) => told(session.next(alloc, conn)),
@@ -114,7 +114,7 @@ fn call_both(
     alloc: Global,
     one: &mut NodeSession,
     twin: &mut NodeSession,
-    policy: &Template,
+    policy: &Open,
     call: Call<'_>,
 ) -> bool {
     let first = respond(alloc, one, policy, call);
@@ -127,7 +127,7 @@ fn call_once(
     alloc: Global,
     one: &mut NodeSession,
     twin: &mut NodeSession,
-    policy: &Template,
+    policy: &Open,
     call: Call<'_>,
     nth: u32,
 ) -> End {
@@ -198,7 +198,7 @@ fn call_all(
     alloc: Global,
     one: &mut NodeSession,
     twin: &mut NodeSession,
-    policy: &Template,
+    policy: &Open,
     run: &Run<'_>,
     nth: u32,
 ) -> End {

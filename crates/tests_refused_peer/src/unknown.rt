@@ -1,57 +1,30 @@
 //! A host that is no neighbour and becomes one, with one request for memory refused.
-ghost use Rattle.std.specs.Prelude.{◌≡◌, IfSome, IfOk};
-
 use crate::each::each;
 use crate::peers::{config, node};
 use crate::rows::CER_OF_B;
-use dm_dict::{Ip, NoMemory};
-use dm_node::{EventFault, Neighbours, NodeActions, NodeEvent, Template, UnknownHosts};
-use dm_peer::{Config, ConfigFault, Conn, Node, PeerFault, State};
+use dm_node::{EventFault, Neighbours, NodeActions, NodeEvent, Open, Strangers};
+use dm_peer::{Config, Conn, PeerFault, State};
 use dm_refusal::{End, Subject, answered, refuse, repeated, was_refused};
 use std::alloc::Global;
 use std::process::Abort;
 
-/// Permits each host but its own, by a node a.example of application 4, while there is no neighbour.
-#[derive(Clone, Copy)]
-struct Permits;
-
-/// The node of each configuration.
-fn template(alloc: Global) -> Result<Option<Node>, NoMemory> {
-    let host = Vec::from_slice(alloc, b"a.example")?;
-    let realm = Vec::from_slice(alloc, b"example")?;
-    let addresses = Vec::from_slice(alloc, &[Ip::V4([127, 0, 0, 1])])?;
-    let product = String::from_str(alloc, "dmpeer")?;
-    let auth = Vec::from_slice(alloc, &[4])?;
-    Ok(Node::new(host, realm, addresses, 0, product, auth, Vec::new(alloc)).ok())
+/// Permits each host by this template, while there is no neighbour.
+#[derive(Drop)]
+struct Permits {
+    template: Config,
 }
 
-/// A configuration of the node for the host, where there can be one.
-fn config_of(alloc: Global, node: Node, host: &[u8]) -> Result<Option<Config>, NoMemory>
-    ensures { IfOk result (λ o. IfSome o (λ config. config.peer ≡ host.now)) }
-{
-    match Config::new(alloc, node, Vec::from_slice(alloc, host)?, 1) {
-        Ok(config) => Ok(Some(config)),
-        Err(ConfigFault::NoMemory) => Err(NoMemory),
-        Err(_) => Ok(None),
-    }
-}
+impl Strangers for Permits {
+    ghost use Rattle.std.specs.Prelude.{Some};
 
-impl UnknownHosts for Permits {
-    ghost makes = { λ policy host config. config.peer ≡ host };
-
-    ghost turns_away = { λ policy host. host ≡ host };
-
-    ghost most = { λ policy. 1 };
+    ghost policy = { λ permits. record { template = λ host. Some permits.template; most = 1 } };
 
     fn most(&self) -> usize {
         1
     }
 
-    fn config_for(&self, alloc: Global, host: &[u8]) -> Result<Option<Config>, NoMemory> {
-        match template(alloc)? {
-            Some(node) => config_of(alloc, node, host),
-            None => Ok(None),
-        }
+    fn template(&self, _host: &[u8]) -> Option<&Config> {
+        Some(&self.template)
     }
 }
 
@@ -73,19 +46,19 @@ fn is_empty(neighbours: &Neighbours) -> bool {
 }
 
 /// The node is told with the nth request refused, and once more where memory was wanted.
-fn tell<U: UnknownHosts>(
+fn tell<S: Strangers>(
     alloc: Global,
     neighbours: &mut Neighbours,
-    policy: &U,
+    strangers: &S,
     event: NodeEvent<'_>,
     nth: u32,
 ) -> End {
     refuse(alloc, nth);
-    let done = neighbours.on_with(alloc, policy, event);
+    let done = neighbours.on(alloc, strangers, event);
     let refused = was_refused(alloc);
     if let Err(EventFault::Peer(PeerFault::NoMemory)) = done {
         let same = is_empty(neighbours);
-        let again = neighbours.on_with(alloc, policy, event);
+        let again = neighbours.on(alloc, strangers, event);
         return repeated(refused, same && is_taken(neighbours, &again));
     }
     let right = is_taken(neighbours, &done);
@@ -107,7 +80,10 @@ impl<R: Abort + AllocGlobal> Subject<R> for Calling<'_> {
     fn end(&self, rt: &R, nth: u32) -> End {
         let mut neighbours = Neighbours::new(rt.alloc(), node(rt, b"a.example", 4));
         let event = NodeEvent::Arrived(Conn(9), self.octets);
-        let end = tell(rt.alloc(), &mut neighbours, &Permits, event, nth);
+        let template = config(rt, b"a.example", b"c.example", 4);
+        let permits = Permits { template };
+        let end = tell(rt.alloc(), &mut neighbours, &permits, event, nth);
+        drop(permits);
         drop(neighbours);
         end
     }
@@ -122,10 +98,10 @@ struct Alike<'a> {
 impl<R: Abort + AllocGlobal> Subject<R> for Alike<'_> {
     fn end(&self, rt: &R, nth: u32) -> End {
         let mut neighbours = Neighbours::new(rt.alloc(), node(rt, b"a.example", 4));
-        let template = Template::new(config(rt, b"a.example", b"c.example", 4), 1);
+        let open = Open::new(config(rt, b"a.example", b"c.example", 4), 1);
         let event = NodeEvent::Arrived(Conn(9), self.octets);
-        let end = tell(rt.alloc(), &mut neighbours, &template, event, nth);
-        drop(template);
+        let end = tell(rt.alloc(), &mut neighbours, &open, event, nth);
+        drop(open);
         drop(neighbours);
         end
     }
@@ -136,7 +112,7 @@ fn check_calling(rt: &(impl Abort + AllocGlobal)) {
     let calling = Calling {
         octets: octets.as_slice(),
     };
-    each(rt, &calling, "on_with");
+    each(rt, &calling, "on");
 }
 
 #[test]
@@ -149,7 +125,7 @@ fn check_alike(rt: &(impl Abort + AllocGlobal)) {
     let alike = Alike {
         octets: octets.as_slice(),
     };
-    each(rt, &alike, "on_with a template");
+    each(rt, &alike, "on by a template");
 }
 
 #[test]

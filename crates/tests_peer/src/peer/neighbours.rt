@@ -19,7 +19,7 @@ fn does(
     concerned: Option<usize>,
     count: usize,
 ) -> bool {
-    let done = neighbours.on(rt.alloc(), event).expect(rt, "actions");
+    let done = neighbours.on(rt.alloc(), &(), event).expect(rt, "actions");
     done.neighbour == concerned && done.actions.len() == count
 }
 

@@ -1,7 +1,7 @@
 //! Hosts that are no neighbours, taken alike.
 use super::octets::{CER, CER_OF_B, CER_OF_WINNER};
 use super::{config, node, octets_of};
-use dm_node::{Neighbours, NodeEvent, Template};
+use dm_node::{Neighbours, NodeEvent, Open};
 use dm_peer::{Conn, State};
 use std::process::Abort;
 
@@ -31,10 +31,10 @@ fn meets(rt: &(impl Abort + AllocGlobal), neighbours: &mut Neighbours, case: &Ca
     let (most, conn, digits, concerned, count) = *case;
     let octets = octets_of(rt, digits);
     let config = config(rt, b"a.example", b"c.example", 4).expect(rt, "a configuration");
-    let template = Template::new(config, most);
+    let open = Open::new(config, most);
     let event = NodeEvent::Arrived(Conn(conn), octets.as_slice());
     let done = neighbours
-        .on_with(rt.alloc(), &template, event)
+        .on(rt.alloc(), &open, event)
         .expect(rt, "actions");
     done.neighbour == concerned && done.actions.len() == count
 }

@@ -1,81 +1,65 @@
-//! Hosts that are no neighbours, by a policy.
-ghost use Rattle.std.specs.Prelude.{◌≡◌, IfSome, IfOk};
-
+//! Hosts that are no neighbours, by a policy of one's own.
 use super::octets::{CER, CER_OF_B};
-use super::{node, octets_of};
-use dm_dict::{Ip, NoMemory};
-use dm_node::{Neighbours, NodeEvent, UnknownHosts};
-use dm_peer::{Config, ConfigFault, Conn, Node, State};
-use std::alloc::Global;
+use super::{config, node, octets_of};
+use dm_node::{Neighbours, NodeEvent, Strangers};
+use dm_peer::{Config, Conn, State};
 use std::process::Abort;
 
-/// Permits each host but its own, by a node a.example of this application, up to so many neighbours.
+/// Permits each host of so many octets at most, by this template, up to so many neighbours.
 #[derive(Drop)]
 struct Permits {
-    application: u32,
+    template: Config,
+    longest: usize,
     most: usize,
 }
 
-/// The node of each configuration.
-fn template(alloc: Global, application: u32) -> Result<Option<Node>, NoMemory> {
-    let mut addresses = Vec::new(alloc);
-    addresses.push(Ip::V4([127, 0, 0, 1]))?;
-    let host = Vec::from_slice(alloc, b"a.example")?;
-    let realm = Vec::from_slice(alloc, b"example")?;
-    let product = String::from_str(alloc, "dmpeer")?;
-    let auth = Vec::from_slice(alloc, &[application])?;
-    Ok(Node::new(host, realm, addresses, 0, product, auth, Vec::new(alloc)).ok())
-}
+impl Strangers for Permits {
+    ghost use Rattle.std.specs.Prelude.{None, Some, length, nat_le, if◌then◌else◌};
 
-/// A configuration of the node for the host, where there can be one.
-fn config_of(alloc: Global, node: Node, host: &[u8]) -> Result<Option<Config>, NoMemory>
-    ensures { IfOk result (λ o. IfSome o (λ config. config.peer ≡ host.now)) }
-{
-    match Config::new(alloc, node, Vec::from_slice(alloc, host)?, 1) {
-        Ok(config) => Ok(Some(config)),
-        Err(ConfigFault::NoMemory) => Err(NoMemory),
-        Err(_) => Ok(None),
-    }
-}
-
-impl UnknownHosts for Permits {
-    ghost makes = { λ policy host config. config.peer ≡ host };
-
-    ghost turns_away = { λ policy host. host ≡ host };
-
-    ghost most = { λ policy. policy.most };
+    ghost policy = { λ permits. record {
+      template = λ host. if nat_le (length host) permits.longest then Some permits.template else None;
+      most = permits.most;
+    } };
 
     fn most(&self) -> usize {
         self.most
     }
 
-    fn config_for(&self, alloc: Global, host: &[u8]) -> Result<Option<Config>, NoMemory> {
-        match template(alloc, self.application)? {
-            Some(node) => config_of(alloc, node, host),
-            None => Ok(None),
+    fn template(&self, host: &[u8]) -> Option<&Config> {
+        if host.len() <= self.longest {
+            Some(&self.template)
+        } else {
+            None
         }
     }
 }
 
-/// What comes of a CER on the connection: whom it concerned, how many actions are asked for, and how many neighbours
+/// What comes of a CER on the connection, by a template of this application and for hosts of so many octets at most,
+/// where there may be so many neighbours: whom it concerned, how many actions are asked for, and how many neighbours
 /// there are then.
-type Case<'a> = (u32, usize, u64, &'a str, Option<usize>, usize, usize);
+type Case<'a> = (u32, usize, usize, u64, &'a str, Option<usize>, usize, usize);
 
-/// No more than may be, its own host, a peer that refuses the caller, and one that takes it; then it is known.
+/// No more than may be, its own host, one that is too long, a peer that refuses the caller, and one that takes it.
 const CASES: &[Case<'static>] = &[
-    (4, 0, 5, CER_OF_B, None, 2, 0),
-    (4, 1, 6, CER, None, 2, 0),
-    (5, 1, 7, CER_OF_B, None, 2, 0),
-    (4, 1, 9, CER_OF_B, Some(0), 1, 1),
+    (4, 9, 0, 5, CER_OF_B, None, 2, 0),
+    (4, 9, 1, 6, CER, None, 2, 0),
+    (4, 8, 1, 8, CER_OF_B, None, 2, 0),
+    (5, 9, 1, 7, CER_OF_B, None, 2, 0),
+    (4, 9, 1, 9, CER_OF_B, Some(0), 1, 1),
 ];
 
 fn meets(rt: &(impl Abort + AllocGlobal), neighbours: &mut Neighbours, case: &Case<'_>) -> bool {
-    let (application, most, conn, digits, concerned, count, present) = *case;
+    let (application, longest, most, conn, digits, concerned, count, present) = *case;
     let octets = octets_of(rt, digits);
-    let policy = Permits { application, most };
+    let template = config(rt, b"a.example", b"c.example", application).expect(rt, "a template");
+    let policy = Permits {
+        template,
+        longest,
+        most,
+    };
     let event = NodeEvent::Arrived(Conn(conn), octets.as_slice());
     let done = neighbours
-        .on_with(rt.alloc(), &policy, event)
+        .on(rt.alloc(), &policy, event)
         .expect(rt, "actions");
     done.neighbour == concerned && done.actions.len() == count && neighbours.iter().len() == present
 }

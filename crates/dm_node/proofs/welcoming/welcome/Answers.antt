@@ -1,37 +1,29 @@
-use Rattle.std.proofs.Common.{◌≡◌, false, Some, subst}
+use Rattle.std.proofs.Common.{◌≡◌, Some, subst}
 use Rattle.dm_base.specs.Before.{lower}
-use Rattle.dm_peer.specs.Acts.{Moved, acts}
-use Rattle.dm_peer.specs.Events.{PeerEvent}
 use Rattle.dm_peer.specs.declared.config.Config.{Config}
-use Rattle.dm_history.specs.History.{new_peer}
-use Rattle.dm_machine.specs.declared.connection.Conn.{Conn}
-use Rattle.dm_node.specs.Holding.{holds, host_at}
-use Rattle.dm_node.specs.Telling.{conn_of}
+use Rattle.dm_node.specs.Holding.{host_at}
 use Rattle.dm_node.proofs.Taking.{if_ok}
 use Rattle.dm_node.proofs.Welcomed.{free_behind, unknown_host, if_some, if_none}
 use Rattle.dm_node.proofs.welcoming.welcome.Goals as goal
 
 pub keep-requires-clause-unknown : goal.keep-requires-clause-unknown
-keep-requires-clause-unknown c = λ j has.
-    unknown_host c.args.roster.now.peers.items c.args.event c.args.config.peer c.requires.unknown j
-    (subst (λ (k : Config). host_at c.args.roster.now.peers.items j ≡ Some (lower k.peer)) c.in-Ok.ensures.config has)
+keep-requires-clause-unknown c = λ j is.
+    unknown_host c.args.roster.now.peers.items c.args.conn c.args.octets.now c.args.config.peer c.requires.unknown j
+    (subst (λ (k : Config). host_at c.args.roster.now.peers.items j ≡ Some (lower k.peer)) c.in-Ok.ensures.config is)
 
 pub keep-requires-clause-free : goal.keep-requires-clause-free
 keep-requires-clause-free c =
-    free_behind c.args.roster.now.peers.items c.args.event c.args.config.peer c.in-Ok.met.peer c.requires.unknown
-    (subst (λ (e : PeerEvent). (d : Conn) → (conn_of e ≡ Some d → ⊥) → holds d c.in-Ok.met.peer ≡ false)
-    c.told_of.ensures c.in-Ok.ensures.takes)
+    free_behind c.args.roster.now.peers.items c.args.conn c.args.octets.now c.in-Ok.met.peer
+    c.requires.unknown.nobody c.in-Ok.ensures.takes
 
 pub returns-in-Ok-clause-taken : goal.returns-in-Ok-clause-taken
 returns-in-Ok-clause-taken c =
-    let acted = subst (λ (e : PeerEvent). acts (new_peer c.args.config c.args.config.first_id) e
-    ≡ Moved c.in-Ok.met.actions.items c.in-Ok.met.peer) c.told_of.ensures c.in-Ok.ensures.acts in
     if_ok c.keep.result
-    (λ r h. if_some r.neighbour (λ i taken. taken c.args.config c.args.event acted) h) c.keep.ensures.taken
+    (λ r h. if_some r.neighbour
+    (λ i taken. taken c.args.config c.args.conn c.args.octets.now c.in-Ok.ensures.acts) h) c.keep.ensures.taken
 
 pub returns-in-Ok-clause-left : goal.returns-in-Ok-clause-left
 returns-in-Ok-clause-left c =
-    let acted = subst (λ (e : PeerEvent). acts (new_peer c.args.config c.args.config.first_id) e
-    ≡ Moved c.in-Ok.met.actions.items c.in-Ok.met.peer) c.told_of.ensures c.in-Ok.ensures.acts in
     if_ok c.keep.result
-    (λ r h. if_none _ _ r.neighbour (λ left. left c.args.config c.args.event acted) h) c.keep.ensures.left
+    (λ r h. if_none _ _ r.neighbour
+    (λ left. left c.args.config c.args.conn c.args.octets.now c.in-Ok.ensures.acts) h) c.keep.ensures.left

@@ -1,6 +1,6 @@
 -- The law as it is proved for turns.
 use Rattle.dm_node_session.proofs.Closing.{closes_its_own}
-use Rattle.dm_node_session.proofs.Newcomers.{PeerLaws, policy_of}
+use Rattle.dm_node_session.proofs.Newcomers.{PeerLaws}
 use Rattle.dm_node_session.proofs.Others.{next_with_leaves_others}
 use Rattle.dm_node_session.proofs.laws.others_are_left_alone_by.Goals as goal
 
@@ -15,5 +15,4 @@ returns g c = λ d s t turn j sound after tells un.
     next_with_leaves_others c.each_event_names_what_it_takes.ensures.closed
     (closes_its_own c.each_event_is_one_step.ensures c.each_opening_has_its_message.ensures.closed) laws
     c.what_is_there_stays.ensures.closed
-    (policy_of (g.U.UnknownHosts.makes c.args.policy.now) (g.U.UnknownHosts.turns_away c.args.policy.now)
-    (g.U.UnknownHosts.most c.args.policy.now)) turn.arrived d s t turn.answer j sound after.neighbourhood.apart tells un
+    (g.S.Strangers.policy c.args.strangers.now) turn.arrived d s t turn.answer j sound after.neighbourhood.apart tells un

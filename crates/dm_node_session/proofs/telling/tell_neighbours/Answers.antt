@@ -10,8 +10,7 @@ use Rattle.dm_node_session.proofs.telling.tell_neighbours.Goals as goal
 pub returns-in-Ok-clause-moved : goal.returns-in-Ok-clause-moved
 returns-in-Ok-clause-moved c =
     moved c.args.neighbours.now.node c.args.neighbours.now.peers c.on_into.new.self.peers c.args.event
-    c.on_into.new.answer.neighbour c.on_into.new.answer.actions.items c.in-Ok.ensures.concerned c.in-Ok.ensures.told
-    c.in-Ok.ensures.nobody c.in-Ok.ensures.strange
+    c.on_into.new.answer.neighbour c.on_into.new.answer.actions.items c.in-Ok.ensures.told
 
 pub returns-in-Ok-clause-closed : goal.returns-in-Ok-clause-closed
 returns-in-Ok-clause-closed c =
@@ -21,8 +20,7 @@ returns-in-Ok-clause-closed c =
     c.on_into.new.self.peers c.on_into.new.answer.neighbour c.on_into.new.answer.actions.items c.requires.kept
     c.neighbours_are_apart.ensures.apart
     (moved c.args.neighbours.now.node c.args.neighbours.now.peers c.on_into.new.self.peers c.args.event
-    c.on_into.new.answer.neighbour c.on_into.new.answer.actions.items c.in-Ok.ensures.concerned c.in-Ok.ensures.told
-    c.in-Ok.ensures.nobody c.in-Ok.ensures.strange)
+    c.on_into.new.answer.neighbour c.on_into.new.answer.actions.items c.in-Ok.ensures.told)
 
 pub returns-in-Ok-clause-held : goal.returns-in-Ok-clause-held
 returns-in-Ok-clause-held c =
@@ -30,8 +28,7 @@ returns-in-Ok-clause-held c =
     (neighbour_named c.args.event) (told_of c.args.event) c.args.neighbours.now.node c.args.neighbours.now.peers
     c.on_into.new.self.peers c.on_into.new.answer.neighbour c.on_into.new.answer.actions.items c.requires.kept
     (moved c.args.neighbours.now.node c.args.neighbours.now.peers c.on_into.new.self.peers c.args.event
-    c.on_into.new.answer.neighbour c.on_into.new.answer.actions.items c.in-Ok.ensures.concerned c.in-Ok.ensures.told
-    c.in-Ok.ensures.nobody c.in-Ok.ensures.strange)
+    c.on_into.new.answer.neighbour c.on_into.new.answer.actions.items c.in-Ok.ensures.told)
 
 pub returns-in-Ok-clause-kept : goal.returns-in-Ok-clause-kept
 returns-in-Ok-clause-kept c =
@@ -39,8 +36,7 @@ returns-in-Ok-clause-kept c =
     c.args.neighbours.now.peers c.on_into.new.self.peers c.on_into.new.answer.neighbour c.on_into.new.answer.actions.items
     c.requires.kept
     (moved c.args.neighbours.now.node c.args.neighbours.now.peers c.on_into.new.self.peers c.args.event
-    c.on_into.new.answer.neighbour c.on_into.new.answer.actions.items c.in-Ok.ensures.concerned c.in-Ok.ensures.told
-    c.in-Ok.ensures.nobody c.in-Ok.ensures.strange) c.look_at.ensures
+    c.on_into.new.answer.neighbour c.on_into.new.answer.actions.items c.in-Ok.ensures.told) c.look_at.ensures
 
 pub returns-in-Err-clause-kept : goal.returns-in-Err-clause-kept
 returns-in-Err-clause-kept c = subst AreKept (sym c.in-Err.ensures.unchanged) c.requires.kept

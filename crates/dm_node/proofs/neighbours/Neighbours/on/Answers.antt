@@ -1,39 +1,26 @@
-use Rattle.std.proofs.Common.{IfErr, sym, subst}
-use Rattle.dm_node.specs.Declining.{IsRuledOut, TakesNoMemory, IsByRule, IsDeclinedHere}
-use Rattle.dm_node.specs.Neighbourhoods.{Neighbourhood}
-use Rattle.dm_node.specs.Telling.{Concerns, IsRefusedHere, told_of}
-use Rattle.dm_node.proofs.Concerned.{one_there}
+use Rattle.std.proofs.Common.{◌≡◌, Result, Ok, Err, sym, ap, ◌∙◌}
+use Rattle.dm_node.specs.declared.fault.EventFault.{EventFault}
 use Rattle.dm_node.proofs.neighbours.Neighbours.on.Goals as goal
 
-pub returns-in-Ok-Some-clause-refused : goal.returns-in-Ok-Some-clause-refused
-returns-in-Ok-Some-clause-refused c =
-    subst (λ (n : Neighbourhood). IfErr c.tell_one.result (IsRefusedHere n.peers c.args.event)) c.self.view_is
-    c.tell_one.ensures.refused
+not_done : {A P : Type 0} (a : A) (f : EventFault) (r : Result A EventFault) → r ≡ Ok a → r ≡ Err f → P
+not_done a f r is refused = let clash : Ok a ≡ Err f = sym is ∙ refused in absurd (cc)
 
-pub returns-in-Ok-Some-clause-ruled : goal.returns-in-Ok-Some-clause-ruled
-returns-in-Ok-Some-clause-ruled c =
-    subst (λ (n : Neighbourhood). IfErr c.tell_one.result (IsByRule n.peers c.args.event)) c.self.view_is
-    c.tell_one.ensures.ruled
+same_fault : {A : Type 0} (g f : EventFault) (r : Result A EventFault) → r ≡ Err g → r ≡ Err f → g ≡ f
+same_fault {A} g f r is refused = let same : ◌≡◌ {A = Result A EventFault} (Err g) (Err f) = sym is ∙ refused in cc
 
-pub returns-in-Ok-Some-clause-refuses : goal.returns-in-Ok-Some-clause-refuses
-returns-in-Ok-Some-clause-refuses c = λ i f directed concerned out.
-    let ps = c.self.inside.roster.peers.items in
-    let there : Concerns ps c.args.event i =
-    subst (λ (n : Neighbourhood). Concerns n.peers c.args.event i) (sym c.self.view_is) concerned in
-    let is = one_there ps c.args.event c.in-Ok-Some.field-0 i c.in-Ok-Some.index
-    (record { apart = c.self.invariant.apart; unlike = c.self.invariant.unlike }) c.in-Ok-Some.field-0-is
-    c.in-Ok-Some.ensures.concerned there in
-    c.tell_one.ensures.refuses f (subst (λ k. IsRuledOut ps k (told_of c.args.event) f) is
-    (subst (λ (n : Neighbourhood). IsRuledOut n.peers i (told_of c.args.event) f) (sym c.self.view_is) out))
+pub returns-in-Ok-clause-misdirected : goal.returns-in-Ok-clause-misdirected
+returns-in-Ok-clause-misdirected g c = λ f wrong.
+    not_done _ _ c.on_into.result c.in-Ok.is (c.on_into.ensures.misdirected f wrong)
 
-pub returns-in-Ok-Some-clause-silent : goal.returns-in-Ok-Some-clause-silent
-returns-in-Ok-Some-clause-silent c = λ i concerned takes.
-    let ps = c.self.inside.roster.peers.items in
-    let there : Concerns ps c.args.event i =
-    subst (λ (n : Neighbourhood). Concerns n.peers c.args.event i) (sym c.self.view_is) concerned in
-    let is = one_there ps c.args.event c.in-Ok-Some.field-0 i c.in-Ok-Some.index
-    (record { apart = c.self.invariant.apart; unlike = c.self.invariant.unlike }) c.in-Ok-Some.field-0-is
-    c.in-Ok-Some.ensures.concerned there in
-    subst (λ (n : Neighbourhood). IfErr c.tell_one.result (IsDeclinedHere n.peers c.args.event)) c.self.view_is
-    (c.tell_one.ensures.silent (subst (λ k. TakesNoMemory ps k (told_of c.args.event)) is
-    (subst (λ (n : Neighbourhood). TakesNoMemory n.peers i (told_of c.args.event)) (sym c.self.view_is) takes)))
+pub returns-in-Err-clause-misdirected : goal.returns-in-Err-clause-misdirected
+returns-in-Err-clause-misdirected g c = λ f wrong.
+    ap Err (same_fault c.in-Err.fault _ c.on_into.result c.in-Err.is (c.on_into.ensures.misdirected f wrong))
+
+pub returns-in-Ok-clause-refuses : goal.returns-in-Ok-clause-refuses
+returns-in-Ok-clause-refuses g c = λ i f directed concerned out.
+    not_done _ _ c.on_into.result c.in-Ok.is (c.on_into.ensures.refuses i f directed concerned out)
+
+pub returns-in-Err-clause-refuses : goal.returns-in-Err-clause-refuses
+returns-in-Err-clause-refuses g c = λ i f directed concerned out.
+    ap Err (same_fault c.in-Err.fault _ c.on_into.result c.in-Err.is
+    (c.on_into.ensures.refuses i f directed concerned out))

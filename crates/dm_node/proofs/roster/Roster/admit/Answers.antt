@@ -4,7 +4,7 @@ use Rattle.dm_peer.specs.declared.config.Config.{Config}
 use Rattle.dm_node.specs.Holding.{holds_at, AreApart, AreUnlike}
 use Rattle.dm_node.specs.Naming.{is_host, noted_number, AreHostsNoted}
 use Rattle.dm_node.specs.Owning.{AreOwned}
-use Rattle.dm_node.specs.Unknown.{present}
+use Rattle.dm_node.specs.Strangers.{present}
 use Rattle.dm_node.proofs.Counted.{room_for, counted_put}
 use Rattle.dm_node.proofs.Growing.{unlike_grown}
 use Rattle.dm_node.proofs.Named.{noted_same}

@@ -2,7 +2,7 @@ use Rattle.std.proofs.Common.{sym, ap, ◌∙◌}
 use Rattle.dm_history.specs.History.{new_peer}
 use Rattle.dm_node.proofs.Counted.{room_for, counted_put}
 use Rattle.dm_node.proofs.Rostered.{owned_put}
-use Rattle.dm_node.specs.Unknown.{present}
+use Rattle.dm_node.specs.Strangers.{present}
 use Rattle.dm_node.proofs.roster.Roster.put.Goals as goal
 
 pub one_more-self-requires : goal.one_more-self-requires

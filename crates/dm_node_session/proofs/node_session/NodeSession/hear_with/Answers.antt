@@ -4,15 +4,13 @@ use Rattle.dm_session.specs.Held.{intakes_of}
 use Rattle.dm_node_session.specs.NodeHearing.{NodeHearsWholeWith}
 use Rattle.dm_node_session.specs.NodeSeen.{node_session_of}
 use Rattle.dm_node_session.specs.NodeTurns.{as_answer}
-use Rattle.dm_node_session.proofs.Newcomers.{policy_of}
 use Rattle.dm_node_session.proofs.NodeHeard.{heard_with_where_it_lies}
 use Rattle.dm_node_session.proofs.NodeStaying.{arrived_there, settled_as}
 use Rattle.dm_node_session.proofs.node_session.NodeSession.hear_with.Goals as goal
 
 pub returns-in-Ok-clause-heard : goal.returns-in-Ok-clause-heard
 returns-in-Ok-clause-heard g c =
-    let policy = policy_of (g.U.UnknownHosts.makes c.args.policy.now) (g.U.UnknownHosts.turns_away c.args.policy.now)
-    (g.U.UnknownHosts.most c.args.policy.now) in
+    let policy = g.S.Strangers.policy c.args.strangers.now in
     let old = node_session_of c.args.self.now in
     let qs = c.tell_with.new.neighbours.peers in
     let answer = c.in-Ok.answer in

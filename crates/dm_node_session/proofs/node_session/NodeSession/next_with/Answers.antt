@@ -5,14 +5,12 @@ use Rattle.dm_node_session.specs.NodeHeld.{AllHeldAreThere}
 use Rattle.dm_node_session.specs.NodePolicies.{NodeTellsAsWith, NodeTellsMessageWith, NodeTellsNextWith}
 use Rattle.dm_node_session.specs.NodeSeen.{node_session_of}
 use Rattle.dm_node_session.specs.NodeTurns.{as_answer}
-use Rattle.dm_node_session.proofs.Newcomers.{policy_of}
 use Rattle.dm_node_session.proofs.NodeStaying.{held_with, arrived_there, settled_as}
 use Rattle.dm_node_session.proofs.node_session.NodeSession.next_with.Goals as goal
 
 pub returns-in-Ok-clause-turn : goal.returns-in-Ok-clause-turn
 returns-in-Ok-clause-turn g c =
-    let policy = policy_of (g.U.UnknownHosts.makes c.args.policy.now) (g.U.UnknownHosts.turns_away c.args.policy.now)
-    (g.U.UnknownHosts.most c.args.policy.now) in
+    let policy = g.S.Strangers.policy c.args.strangers.now in
     let at = c.in-Message.ensures in
     let old = node_session_of c.args.self.now in
     let qs = c.tell_with.new.neighbours.peers in
@@ -38,8 +36,7 @@ returns-in-Ok-clause-turn g c =
 
 pub returns-in-Ok-tell_fault-clause-turn : goal.returns-in-Ok-tell_fault-clause-turn
 returns-in-Ok-tell_fault-clause-turn g c =
-    let policy = policy_of (g.U.UnknownHosts.makes c.args.policy.now) (g.U.UnknownHosts.turns_away c.args.policy.now)
-    (g.U.UnknownHosts.most c.args.policy.now) in
+    let policy = g.S.Strangers.policy c.args.strangers.now in
     let turn = c.in-Ok-tell_fault.turn in
     subst (λ arrived. NodeTellsAsWith policy arrived c.args.conn (node_session_of c.args.self.now)
     (as_answer turn.answer) (node_session_of c.tell_fault.new.self)) (sym c.in-Ok-tell_fault.ensures.arrived)

@@ -1,0 +1,16 @@
+-- Octets are a stranger's, and any other event does nothing.
+use Rattle.std.proofs.Common.{ℕ, subst}
+use Rattle.dm_node.specs.Telling.{Concerns}
+use Rattle.dm_node.specs.declared.events.NodeEvent.{NodeEvent}
+use Rattle.dm_node.proofs.Welcomed.{nothing_told}
+use Rattle.dm_node.proofs.unknown.at_stranger.Goals as goal
+
+pub meet_stranger-requires-clause-nobody : goal.meet_stranger-requires-clause-nobody
+meet_stranger-requires-clause-nobody g c =
+    subst (λ (e : NodeEvent). (i : ℕ) → Concerns c.args.roster.now.peers.items e i → ⊥) c.in-Arrived.is
+    c.requires.nobody
+
+pub returns-in_default-clause-told : goal.returns-in_default-clause-told
+returns-in_default-clause-told g c =
+    nothing_told (g.S.Strangers.policy c.args.strangers.now) c.args.event c.args.node.now c.args.roster.now.peers.items
+    c.new.result.items c.new.ensures c.in_default.not-Arrived c.requires.nobody
