@@ -1,8 +1,8 @@
 //! Hosts that are no neighbours, taken alike.
 use super::octets::{CER, CER_OF_B, CER_OF_WINNER};
 use super::{config, node, octets_of};
-use dm_node::{Neighbours, NodeEvent, Open};
-use dm_peer::{Conn, State};
+use dm_node_session::{Conn, NodeOrder, NodeSession, Open};
+use dm_peer::State;
 use std::process::Abort;
 
 /// The CER of d.example, of application 4, with number 9.
@@ -27,33 +27,44 @@ const TAKEN: &[Case<'static>] = &[
 const TAKEN_AGAIN: &[Case<'static>] = &[(1, 13, CER_OF_B, None, 2), (2, 14, CER_OF_B, Some(2), 1)];
 
 /// Each is taken by a template of a.example for c.example.
-fn meets(rt: &(impl Abort + AllocGlobal), neighbours: &mut Neighbours, case: &Case<'_>) -> bool {
+fn meets(rt: &(impl Abort + AllocGlobal), session: &mut NodeSession, case: &Case<'_>) -> bool {
     let (most, conn, digits, concerned, count) = *case;
     let octets = octets_of(rt, digits);
     let config = config(rt, b"a.example", b"c.example", 4).expect(rt, "a configuration");
     let open = Open::new(config, most);
-    let event = NodeEvent::Arrived(Conn(conn), octets.as_slice());
-    let done = neighbours
-        .on(rt.alloc(), &open, event)
-        .expect(rt, "actions");
-    done.neighbour == concerned && done.actions.len() == count
+    let accepted = session.take(rt.alloc(), NodeOrder::Accept(Conn(conn)));
+    assert!(rt; accepted.is_ok());
+    let heard = session
+        .hear_with(rt.alloc(), &open, Conn(conn), octets.as_slice())
+        .expect(rt, "memory");
+    match heard {
+        Some(heard) => {
+            let done = &heard.turn.answer;
+            done.neighbour == concerned && done.actions.len() == count
+        }
+        None => false,
+    }
 }
 
-fn assert_cases(rt: &(impl Abort + AllocGlobal), neighbours: &mut Neighbours, cases: &[Case<'_>]) {
+fn assert_cases(rt: &(impl Abort + AllocGlobal), session: &mut NodeSession, cases: &[Case<'_>]) {
     for case in cases {
-        assert!(rt; meets(rt, neighbours, case), "at {case:?}");
+        assert!(rt; meets(rt, session, case), "at {case:?}");
     }
 }
 
 fn assert_taken(rt: &(impl Abort + AllocGlobal)) {
-    let mut neighbours = Neighbours::new(rt.alloc(), node(rt, b"a.example", 4));
-    assert_cases(rt, &mut neighbours, TAKEN);
-    assert!(rt; neighbours.iter().len() == 2 && neighbours.find(b"c.example").is_none());
-    assert!(rt; neighbours.remove(0).is_some() && neighbours.remove(0).is_none());
-    assert_cases(rt, &mut neighbours, TAKEN_AGAIN);
+    let mut session = NodeSession::new(rt.alloc(), node(rt, b"a.example", 4), 1000, 16_777_212);
+    assert_cases(rt, &mut session, TAKEN);
     assert!(rt;
-        neighbours.state_of(2) == Some(State::ROpen) && neighbours.find(b"B.example") == Some(2)
+        session.neighbours().iter().len() == 2 && session.neighbours().find(b"c.example").is_none()
     );
+    assert!(rt; session.remove(0).is_some() && session.remove(0).is_none());
+    assert_cases(rt, &mut session, TAKEN_AGAIN);
+    assert!(rt;
+        session.neighbours().state_of(2) == Some(State::ROpen)
+            && session.neighbours().find(b"B.example") == Some(2)
+    );
+    drop(session);
 }
 
 /// Any host becomes a neighbour but the own, while there may be one more.

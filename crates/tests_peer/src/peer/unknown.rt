@@ -1,8 +1,8 @@
 //! Hosts that are no neighbours, by a policy of one's own.
 use super::octets::{CER, CER_OF_B};
 use super::{config, node, octets_of};
-use dm_node::{Neighbours, NodeEvent, Strangers};
-use dm_peer::{Config, Conn, State};
+use dm_node_session::{Config, Conn, NodeOrder, NodeSession, Strangers};
+use dm_peer::State;
 use std::process::Abort;
 
 /// Permits each host of so many octets at most, by this template, up to so many neighbours.
@@ -48,7 +48,7 @@ const CASES: &[Case<'static>] = &[
     (4, 9, 1, 9, CER_OF_B, Some(0), 1, 1),
 ];
 
-fn meets(rt: &(impl Abort + AllocGlobal), neighbours: &mut Neighbours, case: &Case<'_>) -> bool {
+fn meets(rt: &(impl Abort + AllocGlobal), session: &mut NodeSession, case: &Case<'_>) -> bool {
     let (application, longest, most, conn, digits, concerned, count, present) = *case;
     let octets = octets_of(rt, digits);
     let template = config(rt, b"a.example", b"c.example", application).expect(rt, "a template");
@@ -57,21 +57,31 @@ fn meets(rt: &(impl Abort + AllocGlobal), neighbours: &mut Neighbours, case: &Ca
         longest,
         most,
     };
-    let event = NodeEvent::Arrived(Conn(conn), octets.as_slice());
-    let done = neighbours
-        .on(rt.alloc(), &policy, event)
-        .expect(rt, "actions");
-    done.neighbour == concerned && done.actions.len() == count && neighbours.iter().len() == present
+    let accepted = session.take(rt.alloc(), NodeOrder::Accept(Conn(conn)));
+    assert!(rt; accepted.is_ok());
+    let heard = session
+        .hear_with(rt.alloc(), &policy, Conn(conn), octets.as_slice())
+        .expect(rt, "memory");
+    let is_done = match heard {
+        Some(heard) => {
+            let done = &heard.turn.answer;
+            done.neighbour == concerned && done.actions.len() == count
+        }
+        None => false,
+    };
+    is_done && session.neighbours().iter().len() == present
 }
 
 fn assert_policy(rt: &(impl Abort + AllocGlobal)) {
-    let mut neighbours = Neighbours::new(rt.alloc(), node(rt, b"a.example", 4));
+    let mut session = NodeSession::new(rt.alloc(), node(rt, b"a.example", 4), 1000, 16_777_212);
     for case in CASES {
-        assert!(rt; meets(rt, &mut neighbours, case), "at {case:?}");
+        assert!(rt; meets(rt, &mut session, case), "at {case:?}");
     }
     assert!(rt;
-        neighbours.state_of(0) == Some(State::ROpen) && neighbours.find(b"B.example") == Some(0)
+        session.neighbours().state_of(0) == Some(State::ROpen)
+            && session.neighbours().find(b"B.example") == Some(0)
     );
+    drop(session);
 }
 
 /// An unknown host becomes a neighbour where the policy permits it, and there may be one more.
