@@ -1,9 +1,11 @@
 //! Neighbours of a node, with one request for memory refused. A twin, of which none is refused, is told the same.
 use crate::each::each;
-use crate::peers::{are_same, config, node};
-use crate::rows::{CER, CER_OF_B, SUBMITTED};
-use dm_node::{AddFault, EventFault, Neighbours, NodeActions, NodeEvent};
-use dm_peer::{Config, Conn, PeerFault};
+use crate::peers::{config, node};
+use crate::rows::{CER, CER_OF_B, SUBMITTED, octets};
+use crate::sessions::{Call, call_once, policy, session};
+use dm_node::{AddFault, Neighbours};
+use dm_node_session::{NodeOrder, NodeSession, Open};
+use dm_peer::{Config, Conn};
 use dm_refusal::{End, Subject, answered, refuse, repeated, was_refused, worse};
 use std::alloc::Global;
 use std::process::Abort;
@@ -54,58 +56,7 @@ impl<R: Abort + AllocGlobal> Subject<R> for Adding<'_> {
     }
 }
 
-fn is_same_answer(
-    one: &Result<NodeActions, EventFault>,
-    other: &Result<NodeActions, EventFault>,
-) -> bool {
-    match (one, other) {
-        (Ok(one), Ok(other)) => {
-            one.neighbour == other.neighbour
-                && are_same(one.actions.as_slice(), other.actions.as_slice())
-        }
-        (Err(one), Err(other)) => one == other,
-        _ => false,
-    }
-}
-
-/// Both are told with memory, and do the same.
-fn tell_both(
-    alloc: Global,
-    one: &mut Neighbours,
-    twin: &mut Neighbours,
-    event: NodeEvent<'_>,
-) -> bool {
-    let first = one.on(alloc, &(), event);
-    let second = twin.on(alloc, &(), event);
-    is_same_answer(&first, &second) && one.state_of(0) == twin.state_of(0)
-}
-
-/// The neighbours are told with the nth request refused, and once more where memory was wanted.
-fn tell(
-    alloc: Global,
-    one: &mut Neighbours,
-    twin: &mut Neighbours,
-    event: NodeEvent<'_>,
-    nth: u32,
-) -> End {
-    refuse(alloc, nth);
-    let first = one.on(alloc, &(), event);
-    let refused = was_refused(alloc);
-    if let Err(EventFault::Peer(PeerFault::NoMemory)) = first {
-        let same = one.state_of(0) == twin.state_of(0);
-        return repeated(refused, same && tell_both(alloc, one, twin, event));
-    }
-    // Where the look-up of connections can't grow, neighbours are asked one by one, and the answer is the same.
-    let second = twin.on(alloc, &(), event);
-    let right = is_same_answer(&first, &second);
-    if refused {
-        repeated(refused, right)
-    } else {
-        answered(refused, right)
-    }
-}
-
-/// A stranger's CER, that of the neighbour, and a message of an application; the one of this place with a refusal.
+/// A stranger's CER, that of the neighbour, and a message of an application; the call of this place with a refusal.
 #[derive(Clone, Copy)]
 struct Telling<'a> {
     strange: &'a [u8],
@@ -114,40 +65,46 @@ struct Telling<'a> {
     place: usize,
 }
 
+/// How many calls there are.
+const CALLS: usize = 7;
+
+/// Each connection is accepted first.
+fn calls<'a>(telling: &Telling<'a>) -> [Call<'a>; CALLS] {
+    [
+        Call::Take(NodeOrder::Start(0, Conn(1))),
+        Call::Take(NodeOrder::Accept(Conn(7))),
+        Call::Hear(Conn(7), telling.strange),
+        Call::Take(NodeOrder::Nack(Conn(1))),
+        Call::Take(NodeOrder::Accept(Conn(9))),
+        Call::Hear(Conn(9), telling.known),
+        Call::Take(NodeOrder::Submit(0, telling.message)),
+    ]
+}
+
 /// One after the other, the one of this place with the nth request refused.
 fn tell_all(
     alloc: Global,
-    one: &mut Neighbours,
-    twin: &mut Neighbours,
+    one: &mut NodeSession,
+    twin: &mut NodeSession,
+    policy: &Open,
     telling: &Telling<'_>,
     nth: u32,
 ) -> End {
-    let events = [
-        NodeEvent::Start(0, Conn(1)),
-        NodeEvent::Arrived(Conn(7), telling.strange),
-        NodeEvent::Nack(Conn(1)),
-        NodeEvent::Arrived(Conn(9), telling.known),
-        NodeEvent::Submit(0, telling.message),
-    ];
     let mut end = End::Whole;
-    for (at, event) in events.iter().enumerate() {
+    for (at, call) in calls(telling).iter().enumerate() {
         let nth = if at == telling.place { nth } else { 0 };
-        end = worse(end, tell(alloc, one, twin, *event, nth));
+        end = worse(end, call_once(alloc, one, twin, policy, *call, nth));
     }
     end
 }
 
-fn neighbours(rt: &(impl Abort + AllocGlobal)) -> Neighbours {
-    let mut neighbours = Neighbours::new(rt.alloc(), node(rt, b"a.example", 4));
-    let _number = neighbours.add(config(rt, b"a.example", b"B.example", 4));
-    neighbours
-}
-
 impl<R: Abort + AllocGlobal> Subject<R> for Telling<'_> {
     fn end(&self, rt: &R, nth: u32) -> End {
-        let mut one = neighbours(rt);
-        let mut twin = neighbours(rt);
-        let end = tell_all(rt.alloc(), &mut one, &mut twin, self, nth);
+        let mut one = session(rt);
+        let mut twin = session(rt);
+        let policy = policy(rt);
+        let end = tell_all(rt.alloc(), &mut one, &mut twin, &policy, self, nth);
+        drop(policy);
         drop(twin);
         drop(one);
         end
@@ -155,17 +112,17 @@ impl<R: Abort + AllocGlobal> Subject<R> for Telling<'_> {
 }
 
 fn check_places(rt: &(impl Abort + AllocGlobal)) {
-    let strange = hex::decode(rt.alloc(), CER.as_bytes()).expect(rt, "digits");
-    let known = hex::decode(rt.alloc(), CER_OF_B.as_bytes()).expect(rt, "digits");
-    let message = hex::decode(rt.alloc(), SUBMITTED.as_bytes()).expect(rt, "digits");
-    for place in 0..5usize {
+    let strange = octets(rt, CER);
+    let known = octets(rt, CER_OF_B);
+    let message = octets(rt, SUBMITTED);
+    for place in 0..CALLS {
         let telling = Telling {
             strange: strange.as_slice(),
             known: known.as_slice(),
             message: message.as_slice(),
             place,
         };
-        each(rt, &telling, "on");
+        each(rt, &telling, "a neighbour");
     }
 }
 

@@ -11,20 +11,20 @@ use std::alloc::{AllocError, Global};
 use std::process::Abort;
 
 /// The session of a.example with the neighbour b.example.
-fn session(rt: &(impl Abort + AllocGlobal)) -> NodeSession {
+pub fn session(rt: &(impl Abort + AllocGlobal)) -> NodeSession {
     let mut session = NodeSession::new(rt.alloc(), node(rt, b"a.example", 4), 1000, 16_777_212);
     let _number = session.add(config(rt, b"a.example", b"B.example", 4));
     session
 }
 
 /// A policy that takes each host, while there are fewer than two neighbours.
-fn policy(rt: &(impl Abort + AllocGlobal)) -> Open {
+pub fn policy(rt: &(impl Abort + AllocGlobal)) -> Open {
     Open::new(config(rt, b"a.example", b"d.example", 4), 2)
 }
 
 /// A call of a session.
 #[derive(Clone, Copy)]
-enum Call<'a> {
+pub enum Call<'a> {
     /// An order is taken.
     Take(NodeOrder<'a>),
     /// What came on a connection is told, without a policy or with one.
@@ -123,7 +123,7 @@ fn call_both(
 }
 
 /// The session is called with the nth request refused, and once more where memory was wanted.
-fn call_once(
+pub fn call_once(
     alloc: Global,
     one: &mut NodeSession,
     twin: &mut NodeSession,

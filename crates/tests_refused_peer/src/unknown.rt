@@ -2,10 +2,10 @@
 use crate::each::each;
 use crate::peers::{config, node};
 use crate::rows::CER_OF_B;
-use dm_node::{EventFault, Neighbours, NodeActions, NodeEvent, Open, Strangers};
-use dm_peer::{Config, Conn, PeerFault, State};
+use dm_node_session::{HeardNodeTurn, NodeOrder, NodeSession, Open, Strangers};
+use dm_peer::{Config, Conn, State};
 use dm_refusal::{End, Subject, answered, refuse, repeated, was_refused};
-use std::alloc::Global;
+use std::alloc::{AllocError, Global};
 use std::process::Abort;
 
 /// Permits each host by this template, while there is no neighbour.
@@ -28,46 +28,62 @@ impl Strangers for Permits {
     }
 }
 
+/// The connection on which the host calls.
+const CONN: Conn = Conn(9);
+
+/// What comes of the CER.
+type Heard = Result<Option<HeardNodeTurn>, AllocError>;
+
 /// Whether the host was taken in, and is open.
-fn is_taken(neighbours: &Neighbours, done: &Result<NodeActions, EventFault>) -> bool {
-    match done {
-        Ok(done) => {
-            done.neighbour == Some(0)
-                && done.actions.len() == 1
-                && neighbours.find(b"b.example") == Some(0)
-                && neighbours.state_of(0) == Some(State::ROpen)
+fn is_taken(session: &NodeSession, heard: &Heard) -> bool {
+    match heard {
+        Ok(Some(heard)) => {
+            heard.turn.answer.neighbour == Some(0)
+                && heard.turn.answer.actions.len() == 1
+                && session.neighbours().find(b"b.example") == Some(0)
+                && session.neighbours().state_of(0) == Some(State::ROpen)
         }
-        Err(_) => false,
+        Ok(None) | Err(_) => false,
     }
 }
 
-fn is_empty(neighbours: &Neighbours) -> bool {
-    neighbours.iter().len() == 0 && neighbours.find(b"b.example").is_none()
+fn is_empty(session: &NodeSession) -> bool {
+    session.neighbours().iter().len() == 0
+        && session.neighbours().find(b"b.example").is_none()
+        && session.has(CONN)
 }
 
-/// The node is told with the nth request refused, and once more where memory was wanted.
-fn tell<S: Strangers>(
+/// The node hears the CER with the nth request refused, and once more where memory was wanted.
+fn hear<S: Strangers>(
     alloc: Global,
-    neighbours: &mut Neighbours,
+    session: &mut NodeSession,
     strangers: &S,
-    event: NodeEvent<'_>,
+    octets: &[u8],
     nth: u32,
 ) -> End {
     refuse(alloc, nth);
-    let done = neighbours.on(alloc, strangers, event);
+    let heard = session.hear_with(alloc, strangers, CONN, octets);
     let refused = was_refused(alloc);
-    if let Err(EventFault::Peer(PeerFault::NoMemory)) = done {
-        let same = is_empty(neighbours);
-        let again = neighbours.on(alloc, strangers, event);
-        return repeated(refused, same && is_taken(neighbours, &again));
+    if heard.is_err() {
+        let same = is_empty(session);
+        let again = session.hear_with(alloc, strangers, CONN, octets);
+        return repeated(refused, same && is_taken(session, &again));
     }
-    let right = is_taken(neighbours, &done);
+    let right = is_taken(session, &heard);
     // Where the look-up of connections can't grow, the answer is the same.
     if refused {
         repeated(refused, right)
     } else {
         answered(refused, right)
     }
+}
+
+/// A node a.example without neighbours, to which somebody made the connection.
+fn called(rt: &(impl Abort + AllocGlobal)) -> NodeSession {
+    let mut session = NodeSession::new(rt.alloc(), node(rt, b"a.example", 4), 1000, 16_777_212);
+    let accepted = session.take(rt.alloc(), NodeOrder::Accept(CONN));
+    assert!(rt; accepted.is_ok());
+    session
 }
 
 /// The CER of an unknown host.
@@ -78,13 +94,12 @@ struct Calling<'a> {
 
 impl<R: Abort + AllocGlobal> Subject<R> for Calling<'_> {
     fn end(&self, rt: &R, nth: u32) -> End {
-        let mut neighbours = Neighbours::new(rt.alloc(), node(rt, b"a.example", 4));
-        let event = NodeEvent::Arrived(Conn(9), self.octets);
+        let mut session = called(rt);
         let template = config(rt, b"a.example", b"c.example", 4);
         let permits = Permits { template };
-        let end = tell(rt.alloc(), &mut neighbours, &permits, event, nth);
+        let end = hear(rt.alloc(), &mut session, &permits, self.octets, nth);
         drop(permits);
-        drop(neighbours);
+        drop(session);
         end
     }
 }
@@ -97,12 +112,11 @@ struct Alike<'a> {
 
 impl<R: Abort + AllocGlobal> Subject<R> for Alike<'_> {
     fn end(&self, rt: &R, nth: u32) -> End {
-        let mut neighbours = Neighbours::new(rt.alloc(), node(rt, b"a.example", 4));
+        let mut session = called(rt);
         let open = Open::new(config(rt, b"a.example", b"c.example", 4), 1);
-        let event = NodeEvent::Arrived(Conn(9), self.octets);
-        let end = tell(rt.alloc(), &mut neighbours, &open, event, nth);
+        let end = hear(rt.alloc(), &mut session, &open, self.octets, nth);
         drop(open);
-        drop(neighbours);
+        drop(session);
         end
     }
 }
@@ -112,7 +126,7 @@ fn check_calling(rt: &(impl Abort + AllocGlobal)) {
     let calling = Calling {
         octets: octets.as_slice(),
     };
-    each(rt, &calling, "on");
+    each(rt, &calling, "hear_with");
 }
 
 #[test]
@@ -125,7 +139,7 @@ fn check_alike(rt: &(impl Abort + AllocGlobal)) {
     let alike = Alike {
         octets: octets.as_slice(),
     };
-    each(rt, &alike, "on by a template");
+    each(rt, &alike, "hear_with by a template");
 }
 
 #[test]
