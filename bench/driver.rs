@@ -4,8 +4,9 @@
 //! driver WHO OPERATION INPUT TIMES [SIZE]
 //! driver agree INPUT TIMES
 //! driver mix DICTIONARY MESSAGES TIMES
-//! driver node|alone alive|credit|tick TIMES NEIGHBOURS
-//! driver node add|added|opened 1 NEIGHBOURS
+//! driver heard|kept|heard-by-turns|kept-by-turns|alone alive|credit|tick TIMES NEIGHBOURS
+//! driver heard|kept watchdogs TIMES NEIGHBOURS SIZE
+//! driver neighbours add|added|opened NEIGHBOURS
 
 mod base;
 mod changes;
@@ -35,7 +36,7 @@ extern "C" {
         ticks: u32,
         times: u32,
     ) -> usize;
-    #[cfg(session)]
+    #[cfg(any(session, node))]
     fn ours_hand(first: *const u8, len: usize, octets: *const u8, octets_len: usize, size: usize, times: u32) -> usize;
     #[cfg(session)]
     fn ours_session(
@@ -55,10 +56,25 @@ extern "C" {
         len: usize,
         calls: *const u8,
         calls_len: usize,
-        size: usize,
+        call: usize,
+        message: *const u8,
+        message_len: usize,
+        hears: bool,
+        ticks: bool,
+        turns: bool,
+        times: u32,
+    ) -> usize;
+    #[cfg(node)]
+    fn ours_node_stream(
+        hosts: *const u8,
+        len: usize,
+        calls: *const u8,
+        calls_len: usize,
+        call: usize,
         octets: *const u8,
         octets_len: usize,
-        ticks: bool,
+        size: usize,
+        hears: bool,
         times: u32,
     ) -> usize;
     #[cfg(node)]
@@ -242,7 +258,7 @@ fn ours(operation: &str, text: &str, octets: &[u8], times: u32, size: usize) -> 
                 };
                 ours_on(first.as_ptr(), first.len(), at, len, operation == "submit", ticks, times)
             }
-            #[cfg(session)]
+            #[cfg(any(session, node))]
             "hand" => {
                 let first = capabilities(1);
                 ours_hand(first.as_ptr(), first.len(), at, len, size, times)
@@ -285,14 +301,27 @@ fn add(hosts: &[u8]) -> usize {
     unsafe { ours_add(hosts.as_ptr(), hosts.len()) }
 }
 
-/// A node of these neighbours, which are open, is told the message of one of them, behind a Tick or not, so many times.
+/// A node of these neighbours, which are open, is told a message so many times: where it lies or kept first, behind a
+/// Tick or not, to the one in the middle or to each in turn.
 #[cfg(node)]
-fn node(hosts: &[u8], calls: &[u8], octets: &[u8], ticks: bool, times: u32) -> usize {
+fn node(hosts: &[u8], calls: &[u8], message: &[u8], who: &str, ticks: bool, times: u32) -> usize {
+    let call = calls.len() / (hosts.len() / 15);
+    let (hears, turns) = (who.starts_with("heard"), who.ends_with("turns"));
+    // As above.
+    unsafe {
+        let (at, len, calls, calls_len) = (hosts.as_ptr(), hosts.len(), calls.as_ptr(), calls.len());
+        ours_node(at, len, calls, calls_len, call, message.as_ptr(), message.len(), hears, ticks, turns, times)
+    }
+}
+
+/// A stream comes to it so many times, in pieces of this size.
+#[cfg(node)]
+fn node_stream(hosts: &[u8], calls: &[u8], octets: &[u8], size: usize, hears: bool, times: u32) -> usize {
     let call = calls.len() / (hosts.len() / 15);
     // As above.
     unsafe {
         let (at, len, calls, calls_len) = (hosts.as_ptr(), hosts.len(), calls.as_ptr(), calls.len());
-        ours_node(at, len, calls, calls_len, call, octets.as_ptr(), octets.len(), ticks, times)
+        ours_node_stream(at, len, calls, calls_len, call, octets.as_ptr(), octets.len(), size, hears, times)
     }
 }
 
@@ -324,15 +353,24 @@ fn memory(operation: impl FnOnce() -> usize) -> usize {
 
 /// What comes of a node of many neighbours, or of a peer alone.
 #[cfg(node)]
-fn of_node(who: &str, event: &str, times: u32, size: usize) -> usize {
-    let (octets, ticks) = (input(if event == "alive" { "alive" } else { "credit" }, 0), event == "tick");
-    let (hosts, calls) = neighbourhood(size);
+fn of_node(who: &str, event: &str, times: u32, neighbours: usize, size: usize) -> usize {
+    let (octets, ticks) = (input(if event == "tick" { "credit" } else { event }, 0), event == "tick");
+    let (hosts, calls) = neighbourhood(neighbours);
     match (who, event) {
-        (_, "add") => add(&hosts),
-        (_, "added") => memory(|| add(&hosts)),
-        (_, "opened") => memory(|| node(&hosts, &calls, &octets, false, 1)),
-        ("alone", _) => alone(&octets, ticks, times, size),
-        _ => node(&hosts, &calls, &octets, ticks, times),
+        ("alone", _) => alone(&octets, ticks, times, neighbours),
+        (_, "watchdogs") => node_stream(&hosts, &calls, &octets, size, who == "heard", times),
+        _ => node(&hosts, &calls, &octets, who, ticks, times),
+    }
+}
+
+/// What it takes to add so many neighbours, or to have them open.
+#[cfg(node)]
+fn of_neighbours(what: &str, neighbours: usize) -> usize {
+    let (hosts, calls) = neighbourhood(neighbours);
+    match what {
+        "add" => add(&hosts),
+        "added" => memory(|| add(&hosts)),
+        _ => memory(|| node(&hosts, &calls, &input("credit", 0), "heard", false, 1)),
     }
 }
 
@@ -370,9 +408,14 @@ fn main() {
         return println!("{}", mix(&words[1], &words[2], words[3].parse().unwrap()));
     }
     #[cfg(node)]
-    if ["node", "alone"].contains(&words[0].as_str()) {
-        let sum = of_node(&words[0], &words[1], words[2].parse().unwrap(), words[3].parse().unwrap());
-        return println!("{sum}");
+    if words[0] == "neighbours" {
+        return println!("{}", of_neighbours(&words[1], words[2].parse().unwrap()));
+    }
+    #[cfg(node)]
+    if words[0] != "ours" {
+        let [times, neighbours]: [usize; 2] = [2, 3].map(|at: usize| words[at].parse().unwrap());
+        let size = words.get(4).map_or(0, |word| word.parse().unwrap());
+        return println!("{}", of_node(&words[0], &words[1], times as u32, neighbours, size));
     }
     let times = words[3].parse().unwrap();
     let size = words.get(4).map_or(1460, |word| word.parse().unwrap());
