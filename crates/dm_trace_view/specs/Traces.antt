@@ -30,6 +30,7 @@ use Rattle.dm_trace_view.specs.declared.handed.Direction.{Direction}
 use Rattle.dm_trace_view.specs.declared.heard.Unread.{Unread}
 use Rattle.dm_trace_view.specs.declared.hearing.Hearing.{Hearing}
 use Rattle.dm_trace_view.specs.declared.hearing.Reckoned.{Reckoned}
+use Rattle.dm_trace_view.specs.declared.lost.Lost.{Lost}
 use Rattle.dm_trace_view.specs.declared.lost.Lost.TheVariants as lost
 use Rattle.dm_trace_view.specs.declared.times.Times.{Times}
 use Rattle.dm_trace_view.specs.declared.times.Times.TheVariants as times
@@ -96,29 +97,24 @@ unread_since before after = record {
   secured = after.secured - before.secured;
 }
 
+-- what was lost of what is sent between these ends
+abbrev pub lost_between : Hearing → Ends → Lost → List ℕ
+lost_between h between what = lost_text h.task (record {
+  packet = h.packet;
+  from = between.first;
+  to = between.second;
+  lost = what;
+})
+
 -- what is told of octets that were passed over since then
 abbrev pub passed_text : Hearing → Ends → ℕ → ℕ → List ℕ
 passed_text h between before after =
-    if nat_lt before after
-    then lost_text h.task (record {
-      packet = h.packet;
-      from = between.first;
-      to = between.second;
-      lost = lost.Passed (after - before);
-    })
-    else []
+    if nat_lt before after then lost_between h between (lost.Passed (after - before)) else []
 
 -- the first octets of Diameter over DTLS of a connection are told, and no later ones
 abbrev pub secured_text : Hearing → Ends → ℕ → ℕ → List ℕ
 secured_text h between before after =
-    if nat_eq before 0 && nat_lt 0 after
-    then lost_text h.task (record {
-      packet = h.packet;
-      from = between.first;
-      to = between.second;
-      lost = lost.Secured after;
-    })
-    else []
+    if nat_eq before 0 && nat_lt 0 after then lost_between h between (lost.Secured after) else []
 
 abbrev pub unread_text : Hearing → Ends → Unread → Unread → List ℕ
 unread_text h between before after =

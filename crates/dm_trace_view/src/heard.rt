@@ -3,7 +3,7 @@ ghost use Rattle.std.specs.Prelude.{◌≡◌, ◌++◌, ℕ, List, IfOk, OnOk, 
 ghost use Rattle.std.specs.String.{string_bytes};
 ghost use Rattle.dm_trace_view.specs.Talks.{talk_of};
 ghost use Rattle.dm_trace_view.specs.Traces.{counted_sent, with_unread, unread_in, unread_before, unread_since};
-ghost use Rattle.dm_trace_view.specs.Traces.{passed_text, secured_text, unread_text, SaysSent};
+ghost use Rattle.dm_trace_view.specs.Traces.{lost_between, passed_text, secured_text, unread_text, SaysSent};
 
 use crate::counts::Counts;
 use crate::gone::put_gone;
@@ -87,6 +87,25 @@ fn unread_so_far<C: TwoWay>(connections: &Connections<C>, held: Option<Ends>) ->
     }
 }
 
+/// Appends what was lost of what is sent between these ends.
+fn put_between(
+    alloc: Global,
+    text: &mut String,
+    hearing: Hearing<'_>,
+    between: Ends,
+    lost: Lost,
+) -> Result<(), AllocError>
+    ensures { OnOk result (string_bytes text.new ≡ string_bytes text.old ++ lost_between hearing.entry between lost) }
+{
+    let told = LostIn {
+        packet: hearing.packet,
+        from: between.first,
+        to: between.second,
+        lost,
+    };
+    put_lost(alloc, text, hearing.task, told)
+}
+
 /// Appends how many octets were passed over, where some were.
 fn put_passed(
     alloc: Global,
@@ -102,13 +121,7 @@ fn put_passed(
     if before >= after {
         return Ok(());
     }
-    let told = LostIn {
-        packet: hearing.packet,
-        from: between.first,
-        to: between.second,
-        lost: Lost::Passed(after - before),
-    };
-    put_lost(alloc, text, hearing.task, told)
+    put_between(alloc, text, hearing, between, Lost::Passed(after - before))
 }
 
 /// Appends how many octets of Diameter over DTLS came, where they are the first.
@@ -126,13 +139,7 @@ fn put_secured(
     if before != 0 || after == 0 {
         return Ok(());
     }
-    let told = LostIn {
-        packet: hearing.packet,
-        from: between.first,
-        to: between.second,
-        lost: Lost::Secured(after),
-    };
-    put_lost(alloc, text, hearing.task, told)
+    put_between(alloc, text, hearing, between, Lost::Secured(after))
 }
 
 /// Appends what is told of octets that aren't read.
