@@ -1,4 +1,4 @@
-//! What the README shows: a message built, and a kind told.
+//! What docs/LIBRARY.md says lies below a peer: a message built, and a kind told.
 use super::node;
 use dm_base::{KindRef, dwr, view};
 use dm_dict::Dictionary;
@@ -27,7 +27,7 @@ fn told(rt: &(impl Abort + AllocGlobal), octets: &[u8]) -> &'static str {
 }
 
 #[test]
-fn example_of_the_readme(rt: HostRuntime) {
+fn built_and_told(rt: HostRuntime) {
     let octets = built(&rt);
     assert_eq!(rt; octets.len(), 56);
     assert_eq!(rt; told(&rt, octets.as_slice()), "a watchdog request");

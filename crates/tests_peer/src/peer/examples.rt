@@ -1,4 +1,4 @@
-//! The README's example: a peer that is driven from Closed to R-Open.
+//! The example of docs/DRIVER.md: a closed peer that is told a good CER sends its CEA and is R-Open.
 
 use super::octets::{CEA_OF_A, CER_OF_B};
 use super::{octets_of, peer, spells};
