@@ -12,6 +12,13 @@ NONE = "std alone"
 # What stands in pages and isn't a name of the repository: signs, numbers, words of commands, what is built, and names of
 # other programs.
 FOREIGN = re.compile(r"[A-Z]$|[0-9]|.*[^\w:./+-]|[-:/]|\w+://|(?:.*/)?out/|.*NAME|jiff_core$|malloc_consolidate$")
+# An import of a source, of definitions or of a proof: whether it is public, whether of the proofs alone, and all that it
+# names, over several lines and with names of names.
+IMPORT = re.compile(
+    r"(?m)^[ \t]*(pub(?:\([^)]*\))? )?(ghost )?use ((?:[^{};\n]|\{[^{}]*\})*(?:\{(?:[^{}]|\{[^{}]*\})*\})?[^;\n]*);?"
+)
+# Traits of other libraries, which a file may import for their methods alone.
+TRAITS = {"BufRead", "ByteOrder", "Context", "Hasher", "IsTerminal", "Read", "Write"}
 FILE = re.compile(r"[\w.+/-]+\.(?:rt|antt|md|py|edit|c|rs|in|log)$|[\w.+-]+/[\w.+/-]*$")
 
 
@@ -206,6 +213,67 @@ def rows_unlike(top):
     return found + [f"{CRATES}: {it} has no row" for it in used if it not in above]
 
 
+def brought_in(named):
+    """Yields the names that an import of these brings in."""
+    front, brace, inner = named.strip().partition("{")
+    if not brace or front[-1:] not in (".", ":"):
+        name = re.split(r"\sas\s", named.strip())[-1]
+        yield name if "◌" in name and "." not in name else re.split(r"::|\.", name)[-1]
+        return
+    inner = inner.rpartition("}")[0]
+    for part in re.findall(r"(?:[^,{}]|\{[^{}]*\})+", inner):
+        if part.strip() == "self" and front.endswith("::"):
+            yield front[:-2].rpartition("::")[2]
+        elif part.strip():
+            yield from brought_in(part)
+
+
+def ghost_text(text):
+    """Returns what a source has for the proofs alone: clauses, ghost items, and what its tactics name."""
+    found = re.findall(r"#\[tactic[^\n]*", text)
+    for head in re.finditer(r"\b(?:requires|ensures|ghost)\b[^{;]*\{", text):
+        depth, at = 1, head.end()
+        while depth and at < len(text):
+            depth += {"{": 1, "}": -1}.get(text[at], 0)
+            at += 1
+        found.append(text[head.start() : at])
+    return "\n".join(found)
+
+
+def is_used(name, words, text):
+    """Whether a text with these words has the name, of an operator each of its parts."""
+    return all(it in words if re.match(r"\w", it) else it in text for it in name.split("◌") if it)
+
+
+def words_of(text, sign):
+    """Returns the words of a text but for those behind one dot; this sign may stand in a word."""
+    return set(re.findall(rf"(?:(?<=\.\.)|(?<![\w'.{sign}]))[\w'{sign}]+", text))
+
+
+def unused_in(path, text, traits):
+    """Yields the imports that a text doesn't use: their lines and names. A trait may be there for its methods."""
+    is_source = path.endswith(".rt")
+    text = re.sub(r"//[^\n]*" if is_source else r"(?m)(?:^|(?<=\s))--(?:\s.*)?$", "", text)
+    rest = IMPORT.sub("", text)
+    said = ghost_text(rest) if is_source else rest
+    words, ghost_words = words_of(rest, ""), words_of(said, "≢+-")
+    for it in IMPORT.finditer(text):
+        is_ghost = it[2] or not is_source
+        for name in [] if it[1] else brought_in(it[3]):
+            is_there = is_used(name, ghost_words, said) if is_ghost else name in words or name in traits
+            if not is_there and name not in ("*", "_"):
+                yield text[: it.start()].count("\n") + 1, name
+
+
+def unused_imports(top):
+    """Names that a file imports and doesn't use, but for traits, which may be wanted for their methods alone."""
+    texts = {}
+    for kind, ending in (("src", ".rt"), ("specs", ".antt"), ("proofs", ".antt")):
+        texts.update((it, read(f"{top}/{it}")) for paths in sources(top, kind, ending).values() for it in paths)
+    traits = TRAITS | {it for path in texts if path.endswith(".rt") for it in re.findall(r"\btrait (\w+)", texts[path])}
+    return [f"{path}:{line}: {name}" for path in sorted(texts) for line, name in unused_in(path, texts[path], traits)]
+
+
 def lines_of_readme(top):
     return [f"README.md:{number}" for number, _ in enumerate(read(f"{top}/README.md").splitlines(), 1)]
 
@@ -297,4 +365,5 @@ COUNTS = {
     "crates-that-readme-leaves-out": crates_left_out,
     "tools-that-their-page-leaves-out": tools_left_out,
     "must-fail-edits-that-no-page-names": must_fail_unnamed,
+    "imports-that-nothing-uses": unused_imports,
 }
