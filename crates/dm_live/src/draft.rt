@@ -1,6 +1,6 @@
 //! The configuration, line by line.
-ghost use Rattle.std.specs.Prelude.{◌≡◌, ◌≢◌, ◌∷◌, [], List, ℕ, true, false, Some, None};
-ghost use Rattle.std.specs.Prelude.{IfOk, IfErr, IfSome, IfNone, OnOk};
+ghost use Rattle.std.specs.Prelude.{◌≡◌, ◌≢◌, ◌∷◌, [], true, false, Some, None};
+ghost use Rattle.std.specs.Prelude.{IfOk, IfErr, OnOk};
 ghost use Rattle.std.specs.Result.{result_err};
 ghost use Rattle.dm_text.specs.Words.{words};
 ghost use Rattle.dm_base.specs.declared.extras_fault.ExtrasFault.TheVariants as extras_faults;
@@ -10,7 +10,7 @@ ghost use Rattle.dm_live.specs.Beginnings.{own_fault, node_told_fault, peers_fau
 ghost use Rattle.dm_live.specs.Beginnings.{is_several, has_extras, IsOwnOf, IsNodeOf, IsConfiguredFor};
 ghost use Rattle.dm_live.specs.Beginnings.{node_fault_name, config_fault_name, compares_hosts};
 ghost use Rattle.dm_live.specs.Drafts.{settings_of};
-ghost use Rattle.dm_live.specs.Settings.{Settings, no_settings, Sets, setting_word, specific_word};
+ghost use Rattle.dm_live.specs.Settings.{Settings, no_settings, Sets, specific_word};
 ghost use Rattle.dm_live.specs.Settings.{TellsOne, TellsSpecific, TellsSetting};
 
 use crate::order_words::{two_numbers, word_alone};

@@ -10,7 +10,6 @@ ghost use Rattle.dm_live.specs.Joining.{AddsLike, RefusesHost};
 use crate::draft::{Draft, config_fault_name};
 use dm_node_session::{AddFault, NodeSession};
 use dm_peer::Config;
-use dm_wire::Octets;
 use std::alloc::{AllocError, Global};
 
 /// Adds a closed neighbour of the template's node for the host, or answers the name of why it can't be had.

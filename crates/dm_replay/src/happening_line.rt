@@ -1,5 +1,5 @@
 //! The lines of happenings.
-ghost use Rattle.std.specs.Prelude.{◌≡◌, ◌≢◌, ◌∷◌, ℕ, List, IfOk, IfSome, IfNone, MatchOption};
+ghost use Rattle.std.specs.Prelude.{◌≡◌, ◌≢◌, IfOk, IfSome, IfNone, MatchOption};
 ghost use Rattle.dm_text.specs.Words.{words};
 ghost use Rattle.dm_world.specs.declared.happening.Happening.{Happening};
 ghost use Rattle.dm_replay.specs.HappeningLines.{verb_of, TellsArguments, TellsHappening};

@@ -1,8 +1,7 @@
 //! The lines of the two peers.
-ghost use Rattle.std.specs.Prelude.{◌≡◌, ◌∷◌, [], ℕ, List, codes, true, IfSome, IfNone};
+ghost use Rattle.std.specs.Prelude.{◌≡◌, ◌∷◌, [], ℕ, List, codes, IfSome, IfNone};
 ghost use Rattle.dm_text.specs.Words.{words};
 ghost use Rattle.dm_text.specs.Numbers.{TellsNumber};
-ghost use Rattle.dm_base.specs.Fit.{is_name};
 ghost use Rattle.dm_replay.specs.HappeningLines.{side_name};
 ghost use Rattle.dm_replay.specs.HostLines.{Host, TellsHost};
 

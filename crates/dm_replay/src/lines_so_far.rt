@@ -1,5 +1,5 @@
 //! A script that is read line by line.
-ghost use Rattle.std.specs.Prelude.{◌≡◌, ◌≢◌, ◌++◌, ◌∷◌, [], ℕ, Bool, true, false, List, length, IfOk};
+ghost use Rattle.std.specs.Prelude.{◌≡◌, ◌++◌, ◌∷◌, [], ℕ, true, false, List, length, IfOk};
 ghost use Rattle.dm_text.specs.Lines.{content, trimmed, is_skipped};
 ghost use Rattle.dm_world.specs.declared.happening.Happening.{Happening};
 ghost use Rattle.dm_replay.specs.HappeningLines.{TellsHappening};

@@ -1,9 +1,7 @@
 //! A script, replayed.
-ghost use Rattle.std.specs.Prelude.{◌≡◌, ◌++◌, ◌∷◌, [], true, false, codes, IfOk, OnOk, Ok, Err, Some, None};
-ghost use Rattle.std.specs.Prelude.{Option, Result};
+ghost use Rattle.std.specs.Prelude.{◌≡◌, ◌++◌, true, IfOk, OnOk, Err};
 ghost use Rattle.dm_peer.specs.Hosts.{is_same_host};
 ghost use Rattle.dm_replay.specs.declared.fault.ScriptFault.{ScriptFault};
-ghost use Rattle.dm_replay.specs.declared.script.Script.{Script};
 ghost use Rattle.dm_replay.specs.Replay.{replay_from, script_text, text_of, ReplaysText};
 
 use crate::fault::ScriptFault;

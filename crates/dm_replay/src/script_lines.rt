@@ -1,5 +1,5 @@
 //! The lines of a script.
-ghost use Rattle.std.specs.Prelude.{◌≡◌, ◌⊎◌, [], ℕ, List, IfOk, IfErr, IfSome, IfNone};
+ghost use Rattle.std.specs.Prelude.{◌≡◌, ◌⊎◌, [], ℕ, IfOk, IfErr, IfSome, IfNone};
 ghost use Rattle.dm_text.specs.Lines.{content_lines};
 ghost use Rattle.dm_replay.specs.declared.fault.ScriptFault.TheVariants.{Syntax, NoMemory};
 ghost use Rattle.dm_replay.specs.Scripts.{TellsScript, IsFirstBad};

@@ -1,5 +1,5 @@
 //! A script, read.
-ghost use Rattle.std.specs.Prelude.{◌≡◌, ◌⊎◌, true, Err, Option, Some, None, Result, Ok, IfOk, IfErr};
+ghost use Rattle.std.specs.Prelude.{◌≡◌, ◌⊎◌, true, Err, Option, Result, IfOk};
 ghost use Rattle.dm_base.specs.Before.{lower};
 ghost use Rattle.dm_base.specs.Fit.{is_name};
 ghost use Rattle.dm_replay.specs.LinesSoFar.{line_host};

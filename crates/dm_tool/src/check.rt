@@ -1,7 +1,6 @@
 //! The command check: messages in hexadecimal, one a line, judged by a dictionary.
 ghost use Rattle.std.specs.Prelude.{◌≡◌, ◌≢◌, ◌++◌, ◌∷◌, [], false, IfOk, IfErr};
 ghost use Rattle.dm_tool.specs.Check.{dictionary_fault_text, ChecksText, ChecksWithDictionary};
-ghost use Rattle.dm_tool.specs.Run.{Checks};
 ghost use Rattle.dm_tables.specs.Base.{base_definitions};
 ghost use Rattle.dm_dict_text.specs.declared.fault.DictFault.TheVariants as dict;
 

@@ -1,5 +1,5 @@
 //! Which messages something is said of: those that say all that is asked for.
-ghost use Rattle.std.specs.Prelude.{◌≡◌, List, option_copied, not};
+ghost use Rattle.std.specs.Prelude.{◌≡◌, List, not};
 ghost use Rattle.std.specs.List.{list_any};
 ghost use Rattle.dm_wire.specs.declared.avp.Avp.{Avp};
 ghost use Rattle.dm_wire.specs.Borrowed.{avp_of, Lists};

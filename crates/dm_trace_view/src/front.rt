@@ -1,5 +1,4 @@
 //! What stands before what is said of a message that was seen.
-ghost use Rattle.std.specs.Prelude.{◌≡◌};
 
 use dm_text::put_decimal;
 use dm_trace::{Clock, Seen, put_front, put_json_front};

@@ -1,5 +1,5 @@
 //! A capture that a reader gives: its packets are said as they come, and what is said is written before more is read.
-ghost use Rattle.std.specs.Prelude.{◌≡◌, [], None, Ok, Err, true, false, IfOk, IfErr, IfSome, OnOk};
+ghost use Rattle.std.specs.Prelude.{◌≡◌, [], None, Ok, Err, false, IfOk, IfErr, IfSome, OnOk};
 ghost use Rattle.dm_capture.specs.Captures.{new_progress};
 ghost use Rattle.dm_view_lines.specs.Colours.{styled};
 ghost use Rattle.dm_view_lines.specs.Turns.{Settles};

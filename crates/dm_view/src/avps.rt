@@ -6,7 +6,6 @@ ghost use Rattle.dm_wire.specs.declared.avp.Avp.{Avp};
 ghost use Rattle.dm_wire.specs.Borrowed.{avp_of, Lists};
 ghost use Rattle.dm_wire.specs.Printed.{data_text};
 ghost use Rattle.dm_dict.specs.Rules.{definition};
-ghost use Rattle.dm_view.specs.Words.{indented};
 ghost use Rattle.dm_view.specs.View.{avp_name, front_view, avp_view, avps_view, group_view};
 
 use crate::data::put_data;

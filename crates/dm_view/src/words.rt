@@ -1,5 +1,5 @@
 //! Texts, names, octets, numbers and indents.
-ghost use Rattle.std.specs.Prelude.{◌≡◌, ◌++◌, Some, true, OnOk};
+ghost use Rattle.std.specs.Prelude.{◌≡◌, ◌++◌, Some, OnOk};
 ghost use Rattle.std.specs.Fmt.{decimal, signed_decimal};
 ghost use Rattle.std.specs.List.{list_all};
 ghost use Rattle.std.specs.Str.{IsUtf8};

@@ -1,10 +1,10 @@
 //! The octets that a line stands for.
-ghost use Rattle.std.specs.Prelude.{◌≡◌, ◌<◌, ◌≤◌, ◌++◌, length, Some, false, IfOk, IfSome, OnOk};
+ghost use Rattle.std.specs.Prelude.{◌≡◌, ◌<◌, ◌++◌, length, Some, IfOk, IfSome, OnOk};
 ghost use Rattle.std.specs.List.{before_first};
 ghost use Rattle.std.specs.Option.{option_map};
 ghost use Rattle.dm_view_lines.specs.Digits.{without_mark, begins_comment, is_between, without_prefix};
 ghost use Rattle.memchr.specs.Find.{IsFirstByte};
-ghost use Rattle.dm_view_lines.specs.Digits.{digits_of_words, line_digits, octets_of_line};
+ghost use Rattle.dm_view_lines.specs.Digits.{digits_of_words, octets_of_line};
 
 use crate::one_word::is_one_word;
 use dm_text::read_hex_word;

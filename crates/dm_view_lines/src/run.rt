@@ -1,5 +1,5 @@
 //! A run: what is said of an input, written.
-ghost use Rattle.std.specs.Prelude.{◌≡◌, ◌++◌, ℕ, Bool, List, IfOk, IfErr, OnOk};
+ghost use Rattle.std.specs.Prelude.{◌≡◌, ℕ, List, IfOk, IfErr, OnOk};
 ghost use Rattle.std.specs.Io.KnownBytes.{Appends};
 ghost use Rattle.dm_view_lines.specs.Colours.{styled, SaysStyled, SaysStreamStyled};
 ghost use Rattle.dm_view_lines.specs.Run.{EndsBy};

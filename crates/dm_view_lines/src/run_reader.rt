@@ -1,5 +1,5 @@
 //! A run over a reader: what is said of its lines is written as they come.
-ghost use Rattle.std.specs.Prelude.{◌≡◌, ◌≤◌, ℕ, All, List, length, IfOk, IfErr, IfSome, OnOk};
+ghost use Rattle.std.specs.Prelude.{◌≤◌, ℕ, All, List, length, IfOk, IfErr, IfSome, OnOk};
 ghost use Rattle.std.specs.Io.KnownBytes.{Appends};
 ghost use Rattle.std.specs.Str.Lines.{lines};
 ghost use Rattle.dm_view_lines.specs.Colours.{SaysStyled, SaysStreamStyled};

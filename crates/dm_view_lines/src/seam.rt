@@ -1,6 +1,6 @@
 //! Lines that are read in pieces.
-ghost use Rattle.std.specs.Prelude.{◌≡◌, ◌≢◌, ◌≤◌, ◌++◌, ℕ, All, List, true, [], length, take, drop};
-ghost use Rattle.std.specs.Prelude.{IfOk, IfErr, OnOk, OnErr};
+ghost use Rattle.std.specs.Prelude.{◌≡◌, ◌≢◌, ◌≤◌, ◌++◌, All, true, [], length, take, drop};
+ghost use Rattle.std.specs.Prelude.{IfOk, IfErr, OnOk};
 ghost use Rattle.dm_view_lines.specs.Colours.{styled};
 ghost use Rattle.dm_view_lines.specs.Streams.{HasLineEnds, ended};
 ghost use Rattle.dm_view_lines.specs.Reads.{TellsPiece, BreaksPiece};

@@ -2,7 +2,6 @@
 use crate::texts::{assert_faults_over, assert_faults_over_empty, assert_printed};
 use dm_dict::{DictFault, Dictionary};
 use std::alloc::Global;
-use std::process::Abort;
 
 const VERSION_ROWS: &[(&[u8], Option<DictFault>)] = &[
     // The first two tokens tell the version, with or without a space between them.

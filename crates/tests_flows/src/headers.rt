@@ -1,6 +1,5 @@
 //! Octets in front of which a header may stand, and those beside them.
 use dm_flows::{begins_with_exchange, begins_with_header};
-use std::process::Abort;
 
 /// A Capabilities-Exchange-Request's header.
 const EXCHANGE: [u8; 20] = [

@@ -4,7 +4,6 @@ use crate::dictionary::dictionary;
 use dm_dict::Dictionary;
 use dm_view_lines::{Task, lines_text};
 use std::alloc::{AllocError, Global};
-use std::process::Abort;
 
 /// How many octets stand in a text beside the one that matters.
 const LENGTHS: &[usize] = &[0, 6, 7, 8, 14, 15, 16, 22, 30, 31, 32];
