@@ -1,7 +1,7 @@
 //! Messages that are awkward to judge, each of some hundred thousand octets, and the text of a dictionary that has
 //! their commands.
 use crate::chance::Chance;
-use crate::decimal::put_decimal;
+use crate::decimal::push_decimal;
 use crate::draft::Draft;
 use crate::messages::Sample;
 use anyhow::Result;
@@ -67,21 +67,21 @@ impl Awkward {
 fn fill_text(text: &mut Vec<u8>) -> Result<()> {
     for entry in 0..ENTRIES {
         text.extend_from_slice(b"@ Bench-Entry-")?;
-        put_decimal(text, entry)?;
+        push_decimal(text, entry)?;
         text.push(b' ')?;
-        put_decimal(text, FIRST + entry)?;
+        push_decimal(text, FIRST + entry)?;
         text.extend_from_slice(b" Unsigned32\n")?;
     }
     text.extend_from_slice(b"< Bench-Nested > ::= < AVP Header: ")?;
-    put_decimal(text, NESTED)?;
+    push_decimal(text, NESTED)?;
     text.extend_from_slice(
         b" >\n { Rating-Group } *[ AVP ]\n< Bench-Request > ::= < Diameter Header: ",
     )?;
-    put_decimal(text, COMMAND)?;
+    push_decimal(text, COMMAND)?;
     text.extend_from_slice(b", REQ >\n { Origin-Host }\n")?;
     for entry in 0..ENTRIES {
         text.extend_from_slice(b" [ Bench-Entry-")?;
-        put_decimal(text, entry)?;
+        push_decimal(text, entry)?;
         text.extend_from_slice(b" ]\n")?;
     }
     text.extend_from_slice(b" *[ AVP ]\n")?;

@@ -123,7 +123,7 @@ fn rounds(
     for round in 0..amount {
         room.input.clear();
         room.output.clear();
-        put_lines(lines, chance, &mut room.input)?;
+        push_lines(lines, chance, &mut room.input)?;
         let is_good = view(given, round, room)?;
         digest.add(u64::from(is_good));
         digest.add_octets(room.output.as_slice());
@@ -132,7 +132,7 @@ fn rounds(
 }
 
 /// Appends messages, and behind some a line that says nothing.
-fn put_lines(lines: &[Vec<u8>], chance: &mut Chance, input: &mut Vec<u8>) -> Result<()> {
+fn push_lines(lines: &[Vec<u8>], chance: &mut Chance, input: &mut Vec<u8>) -> Result<()> {
     for _ in 0..MESSAGES {
         if let Some(line) = lines.get(chance.index(lines.len())) {
             input.extend_from_slice(line.as_slice())?;
@@ -193,7 +193,7 @@ fn fill_lines(given: &Given<'_>, chance: &mut Chance, lines: &mut Vec<Vec<u8>>) 
 
 fn line_of(alloc: Global, style: Style, octets: &[u8], chance: &mut Chance) -> Result<Vec<u8>> {
     let mut line = Vec::new(alloc);
-    put_words(alloc, &mut line, style, octets)?;
+    push_words(alloc, &mut line, style, octets)?;
     if chance.is_one_of(60) {
         let at = chance.index(line.len());
         put(&mut line, at, b"g");
@@ -204,9 +204,9 @@ fn line_of(alloc: Global, style: Style, octets: &[u8], chance: &mut Chance) -> R
 }
 
 /// Appends octets in words of hexadecimal.
-fn put_words(alloc: Global, text: &mut Vec<u8>, style: Style, octets: &[u8]) -> Result<()> {
+fn push_words(alloc: Global, text: &mut Vec<u8>, style: Style, octets: &[u8]) -> Result<()> {
     let mut digits = Vec::new(alloc);
-    put_digits(&mut digits, style.digits, octets)?;
+    push_digits(&mut digits, style.digits, octets)?;
     let mut is_first = true;
     for word in digits.chunks(style.word.max(1)) {
         if !is_first {
@@ -220,7 +220,7 @@ fn put_words(alloc: Global, text: &mut Vec<u8>, style: Style, octets: &[u8]) -> 
 }
 
 /// Appends the digits of octets.
-fn put_digits(text: &mut Vec<u8>, digits: &[u8; 16], octets: &[u8]) -> Result<()> {
+fn push_digits(text: &mut Vec<u8>, digits: &[u8; 16], octets: &[u8]) -> Result<()> {
     for octet in octets {
         let high = digits.get(usize::from(*octet >> 4)).copied();
         let low = digits.get(usize::from(*octet & 15)).copied();

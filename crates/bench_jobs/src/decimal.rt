@@ -2,7 +2,7 @@
 use anyhow::Result;
 
 /// Appends the digits of a number.
-pub fn put_decimal(text: &mut Vec<u8>, number: u32) -> Result<()> {
+pub fn push_decimal(text: &mut Vec<u8>, number: u32) -> Result<()> {
     let mut digits = [b'0'; 10];
     let mut rest = number;
     for digit in digits.iter_mut().rev() {

@@ -1,7 +1,7 @@
 //! Dictionaries read from texts, asked and printed, and the configurations of nodes: what a program waits for when it
 //! starts. Most texts are the given one with some definitions behind it; one in so many is as large as 3GPP's.
 use crate::chance::Chance;
-use crate::decimal::put_decimal;
+use crate::decimal::push_decimal;
 use crate::digest::Digest;
 use anyhow::{Result, bail};
 use dm_base::Node;
@@ -183,7 +183,7 @@ pub fn tell_fault(fault: DictFault, digest: &mut Digest) -> Result<()> {
 fn make_config(alloc: Global, chance: &mut Chance, digest: &mut Digest) -> Result<()> {
     let node = make_node(alloc, chance)?;
     let mut peer = Vec::new(alloc);
-    put_host(&mut peer, b"peer", chance)?;
+    push_host(&mut peer, b"peer", chance)?;
     let config = Config::new(alloc, node, peer, chance.word())?;
     digest.add_octets(config.peer_host());
     digest.add_octets(config.node().host());
@@ -193,7 +193,7 @@ fn make_config(alloc: Global, chance: &mut Chance, digest: &mut Digest) -> Resul
 
 fn make_node(alloc: Global, chance: &mut Chance) -> Result<Node> {
     let mut host = Vec::new(alloc);
-    put_host(&mut host, b"node", chance)?;
+    push_host(&mut host, b"node", chance)?;
     let realm = Vec::from_slice(alloc, b"mnc001.mcc262.3gppnetwork.org")?;
     let mut addresses = Vec::new(alloc);
     addresses.push(Ip::V4(chance.word().to_be_bytes()))?;
@@ -206,9 +206,9 @@ fn make_node(alloc: Global, chance: &mut Chance) -> Result<Node> {
     Ok(Node::new(host, realm, addresses, 10415, product, auth, acct)?)
 }
 
-fn put_host(host: &mut Vec<u8>, front: &[u8], chance: &mut Chance) -> Result<()> {
+fn push_host(host: &mut Vec<u8>, front: &[u8], chance: &mut Chance) -> Result<()> {
     host.extend_from_slice(front)?;
-    put_decimal(host, chance.word())?;
+    push_decimal(host, chance.word())?;
     host.extend_from_slice(b".epc.mnc001.mcc262.3gppnetwork.org")?;
     Ok(())
 }
@@ -259,7 +259,7 @@ impl Sheet {
         self.first_command = 8_388_608 + chance.below(1_000_000);
         self.make_names(size.avps.saturating_add(size.commands), chance)?;
         self.text.extend_from_slice(b"@ vendor Operator ")?;
-        put_decimal(&mut self.text, self.vendor)?;
+        push_decimal(&mut self.text, self.vendor)?;
         self.text.push(b'\n')?;
         let group = chance.below(size.groups);
         for index in 0..size.avps {
@@ -291,7 +291,7 @@ impl Sheet {
                 self.names.extend_from_slice(word)?;
                 self.names.push(b'-')?;
             }
-            put_decimal(&mut self.names, number)?;
+            push_decimal(&mut self.names, number)?;
             self.ends.push(self.names.len())?;
         }
         Ok(())
@@ -313,7 +313,7 @@ impl Sheet {
     /// Appends octets and a number.
     fn put_number(&mut self, front: &[u8], number: u32) -> Result<()> {
         self.text.extend_from_slice(front)?;
-        put_decimal(&mut self.text, number)
+        push_decimal(&mut self.text, number)
     }
 
     fn put_avp(&mut self, index: u32, chance: &mut Chance) -> Result<()> {

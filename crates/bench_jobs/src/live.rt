@@ -106,7 +106,7 @@ impl Form {
 }
 
 /// Adds a sample to the forms.
-fn add_form(
+fn push_form(
     alloc: Global,
     forms: &mut Vec<Form>,
     sample: Option<&Sample>,
@@ -124,7 +124,7 @@ fn add_form(
 }
 
 /// Adds a decimal number and a space.
-fn add_number(line: &mut Vec<u8>, number: u32) -> Result<()> {
+fn push_number(line: &mut Vec<u8>, number: u32) -> Result<()> {
     let mut digits = [b' '; 11];
     let mut rest = number;
     let mut length = 1usize;
@@ -209,26 +209,26 @@ impl Script {
     fn add_forms(&mut self, samples: &Samples) -> Result<()> {
         let alloc = self.alloc;
         for _ in 0..KEPT {
-            add_form(
+            push_form(
                 alloc,
                 &mut self.requests,
                 samples.request(&mut self.chance),
                 true,
             )?;
-            add_form(
+            push_form(
                 alloc,
                 &mut self.answers,
                 samples.answer(&mut self.chance),
                 true,
             )?;
-            add_form(
+            push_form(
                 alloc,
                 &mut self.watchdogs,
                 samples.watchdog(&mut self.chance),
                 false,
             )?;
             let answer = samples.watchdog_answer(&mut self.chance);
-            add_form(alloc, &mut self.watchdog_answers, answer, false)?;
+            push_form(alloc, &mut self.watchdog_answers, answer, false)?;
         }
         let call = capabilities(alloc, HOST, true)?;
         self.call.spell(call.as_slice())
@@ -303,14 +303,14 @@ impl Script {
     /// Begins a line of a word and a connection.
     fn begin_line(&mut self, word: &[u8], conn: u32) -> Result<()> {
         self.input.extend_from_slice(word)?;
-        add_number(&mut self.input, conn)
+        push_number(&mut self.input, conn)
     }
 
     /// Begins a line of a word, and of the neighbour where there are several.
     fn begin_order(&mut self, word: &[u8], index: u32) -> Result<()> {
         self.input.extend_from_slice(word)?;
         if self.links.len() > 1 {
-            add_number(&mut self.input, index)?;
+            push_number(&mut self.input, index)?;
         }
         Ok(())
     }
@@ -398,7 +398,7 @@ impl Script {
             put(&mut self.input, at.saturating_add(24), &digits_of(number));
             put(&mut self.input, at.saturating_add(32), &digits_of(number));
             self.input.extend_from_slice(b"\noctets ")?;
-            add_number(&mut self.input, conn)?;
+            push_number(&mut self.input, conn)?;
             self.input.extend_from_slice(back)?;
         }
         self.end_line()

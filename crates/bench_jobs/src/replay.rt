@@ -2,7 +2,7 @@
 //! interleavings makes them. The writer of a script keeps a rough idea of where its peers stand, so that most
 //! happenings are done and some ignored.
 use crate::chance::Chance;
-use crate::decimal::put_decimal;
+use crate::decimal::push_decimal;
 use crate::digest::Digest;
 use crate::draft::{Draft, put};
 use crate::messages::Samples;
@@ -161,7 +161,7 @@ fn hex_digit(number: u8) -> u8 {
 }
 
 /// Appends octets in hexadecimal.
-fn put_hex(text: &mut Vec<u8>, octets: &[u8]) -> Result<()> {
+fn push_hex(text: &mut Vec<u8>, octets: &[u8]) -> Result<()> {
     for octet in octets {
         text.push(hex_digit(*octet >> 4))?;
         text.push(hex_digit(*octet & 15))?;
@@ -195,7 +195,7 @@ impl Submits {
             if let Some(sample) = sample {
                 sample.copy(chance.word(), &mut room)?;
                 let mut hex = Vec::new(alloc);
-                put_hex(&mut hex, room.as_slice())?;
+                push_hex(&mut hex, room.as_slice())?;
                 self.usual.push(hex)?;
             }
         }
@@ -221,7 +221,7 @@ fn large_hex(alloc: Global, blocks: u32, chance: &mut Chance) -> Result<Vec<u8>>
     let made = fill_large(&mut draft, blocks, chance);
     let (octets, _places) = draft.done();
     let mut hex = Vec::new(alloc);
-    let put = put_hex(&mut hex, octets.as_slice());
+    let put = push_hex(&mut hex, octets.as_slice());
     made.and(put).and(Ok(hex))
 }
 
@@ -308,7 +308,7 @@ impl Script {
         self.text.extend_from_slice(side.word())?;
         self.text
             .extend_from_slice(&[b' ', letter + chance.below(13) as u8])?;
-        put_decimal(&mut self.text, chance.word())?;
+        push_decimal(&mut self.text, chance.word())?;
         self.text.extend_from_slice(b".mnc001.mcc262.example")?;
         self.number(application)?;
         self.text.push(b'\n')?;
@@ -317,7 +317,7 @@ impl Script {
 
     fn number(&mut self, number: u32) -> Result<()> {
         self.text.push(b' ')?;
-        put_decimal(&mut self.text, number)
+        push_decimal(&mut self.text, number)
     }
 
     /// A happening: its verb, its link, its side and its numbers, as far as it has them.

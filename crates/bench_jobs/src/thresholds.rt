@@ -1,7 +1,7 @@
 //! Small texts on both sides of each size from which a reader may do otherwise: rules of a few entries and of many,
 //! lists of values, vendors; seldom a text of more than 8,192 AVPs. Some have a name or a number that stands twice.
 use crate::chance::Chance;
-use crate::decimal::put_decimal;
+use crate::decimal::push_decimal;
 use crate::dictionaries::{WORDS, tell_fault};
 use crate::digest::Digest;
 use anyhow::Result;
@@ -201,21 +201,21 @@ impl Page {
     /// Appends octets and a number.
     fn put_number(&mut self, front: &[u8], number: u32) -> Result<()> {
         self.text.extend_from_slice(front)?;
-        put_decimal(&mut self.text, number)
+        push_decimal(&mut self.text, number)
     }
 
     /// Appends the name of this number: the front and three digits, or words.
     fn put_name(&mut self, number: u32) -> Result<()> {
         if !self.front.is_empty() {
             self.text.extend_from_slice(self.front)?;
-            return put_decimal(&mut self.text, number.wrapping_add(100));
+            return push_decimal(&mut self.text, number.wrapping_add(100));
         }
         for bits in [number, number / 3] {
             let word = WORDS.get(bits as usize & 31).copied().unwrap_or(b"Word");
             self.text.extend_from_slice(word)?;
             self.text.push(b'-')?;
         }
-        put_decimal(&mut self.text, number)
+        push_decimal(&mut self.text, number)
     }
 
     fn put_vendors(&mut self, count: u32, faults: Faults) -> Result<()> {

@@ -115,7 +115,7 @@ fn spell(
         if let Some(sample) = samples.pick(chance) {
             sample.copy(0, &mut octets)?;
             let mut digits = Vec::new(alloc);
-            put_digits(&mut digits, octets.as_slice())?;
+            push_digits(&mut digits, octets.as_slice())?;
             spellings.push(Spelling {
                 digits,
                 has_session: sample.has_session(),
@@ -261,7 +261,7 @@ fn put_messages(
         } else {
             let at = chance.index(given.spellings.len());
             if let Some(spelling) = given.spellings.get(at) {
-                put_spelling(spelling, room.number, &mut room.input)?;
+                push_spelling(spelling, room.number, &mut room.input)?;
             }
         }
         room.input.extend_from_slice(end)?;
@@ -274,13 +274,13 @@ fn put_damaged(given: &Given<'_>, chance: &mut Chance, room: &mut Room) -> Resul
     if let Some(sample) = given.samples.pick(chance) {
         sample.copy(room.number, &mut room.octets)?;
         sample.damage(chance, &mut room.octets);
-        put_digits(&mut room.input, room.octets.as_slice())?;
+        push_digits(&mut room.input, room.octets.as_slice())?;
     }
     Ok(())
 }
 
 /// Appends a message with the number as its identifiers and in its Session-Id.
-fn put_spelling(spelling: &Spelling, number: u32, input: &mut Vec<u8>) -> Result<(), AllocError> {
+fn push_spelling(spelling: &Spelling, number: u32, input: &mut Vec<u8>) -> Result<(), AllocError> {
     let begin = input.len();
     input.extend_from_slice(spelling.digits.as_slice())?;
     let end_to_end = number.wrapping_mul(0x9e37_79b9);
@@ -309,7 +309,7 @@ fn cut_input(room: &mut Room) -> Result<(), AllocError> {
 }
 
 /// Appends octets in hexadecimal.
-fn put_digits(text: &mut Vec<u8>, octets: &[u8]) -> Result<(), AllocError> {
+fn push_digits(text: &mut Vec<u8>, octets: &[u8]) -> Result<(), AllocError> {
     for octet in octets {
         text.extend_from_slice(&[digit(*octet >> 4), digit(*octet & 15)])?;
     }

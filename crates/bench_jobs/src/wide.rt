@@ -1,7 +1,7 @@
 //! The text of a dictionary as large as 3GPP's, and messages that have its AVPs: those of four vendors, every eighth of
 //! them a group of those before it, and every 64th a group of such groups.
 use crate::chance::Chance;
-use crate::decimal::put_decimal;
+use crate::decimal::push_decimal;
 use crate::dictionaries::WORDS;
 use crate::draft::Draft;
 use crate::messages::Sample;
@@ -80,117 +80,117 @@ pub fn fill_text(text: &mut Vec<u8>) -> Result<()> {
     for (name, number) in VENDORS {
         text.extend_from_slice(b"@ vendor ")?;
         text.extend_from_slice(name)?;
-        put_number(text, b" ", number)?;
+        push_number(text, b" ", number)?;
         text.push(b'\n')?;
     }
     for index in 0..AVPS {
-        put_definition(text, index)?;
+        push_definition(text, index)?;
     }
-    put_command(text, b", REQ, PXY >\n")?;
-    put_command(text, b", PXY >\n")
+    push_command(text, b", REQ, PXY >\n")?;
+    push_command(text, b", PXY >\n")
 }
 
 /// Appends octets and a number.
-fn put_number(text: &mut Vec<u8>, front: &[u8], number: u32) -> Result<()> {
+fn push_number(text: &mut Vec<u8>, front: &[u8], number: u32) -> Result<()> {
     text.extend_from_slice(front)?;
-    put_decimal(text, number)
+    push_decimal(text, number)
 }
 
 /// Appends the name of the AVP of this index.
-fn put_name(text: &mut Vec<u8>, index: u32) -> Result<()> {
+fn push_name(text: &mut Vec<u8>, index: u32) -> Result<()> {
     for bits in [index, index / 5, index / 32] {
         let word = WORDS.get(bits as usize & 31).copied().unwrap_or(b"Word");
         text.extend_from_slice(word)?;
         text.push(b'-')?;
     }
-    put_decimal(text, index)
+    push_decimal(text, index)
 }
 
-fn put_definition(text: &mut Vec<u8>, index: u32) -> Result<()> {
+fn push_definition(text: &mut Vec<u8>, index: u32) -> Result<()> {
     match kind_of(index) {
-        Kind::Number => put_avp(text, index, b" Unsigned32 : "),
-        Kind::Text => put_avp(text, index, b" UTF8String : "),
-        Kind::Octets => put_avp(text, index, b" OctetString : "),
-        Kind::Long => put_avp(text, index, b" Unsigned64 : "),
-        Kind::Identity => put_avp(text, index, b" DiameterIdentity : "),
-        Kind::Listed => put_list(text, index),
-        Kind::Group => put_group(text, index, 0),
-        Kind::GroupOfGroups => put_group(text, index, 7),
+        Kind::Number => push_avp(text, index, b" Unsigned32 : "),
+        Kind::Text => push_avp(text, index, b" UTF8String : "),
+        Kind::Octets => push_avp(text, index, b" OctetString : "),
+        Kind::Long => push_avp(text, index, b" Unsigned64 : "),
+        Kind::Identity => push_avp(text, index, b" DiameterIdentity : "),
+        Kind::Listed => push_list(text, index),
+        Kind::Group => push_group(text, index, 0),
+        Kind::GroupOfGroups => push_group(text, index, 7),
     }
 }
 
-fn put_front(text: &mut Vec<u8>, index: u32, kind: &[u8]) -> Result<()> {
+fn push_front(text: &mut Vec<u8>, index: u32, kind: &[u8]) -> Result<()> {
     text.extend_from_slice(b"@ ")?;
-    put_name(text, index)?;
-    put_number(text, b" ", code_of(index))?;
+    push_name(text, index)?;
+    push_number(text, b" ", code_of(index))?;
     text.extend_from_slice(kind)?;
     text.extend_from_slice(vendor_of(index).0)?;
     Ok(())
 }
 
-fn put_avp(text: &mut Vec<u8>, index: u32, kind: &[u8]) -> Result<()> {
-    put_front(text, index, kind)?;
+fn push_avp(text: &mut Vec<u8>, index: u32, kind: &[u8]) -> Result<()> {
+    push_front(text, index, kind)?;
     text.push(b'\n')?;
     Ok(())
 }
 
-fn put_list(text: &mut Vec<u8>, index: u32) -> Result<()> {
-    put_front(text, index, b" Enumerated : ")?;
+fn push_list(text: &mut Vec<u8>, index: u32) -> Result<()> {
+    push_front(text, index, b" Enumerated : ")?;
     for value in 0..values_of(index) {
         let front: &[u8] = if value == 0 {
             b" { STATE-"
         } else {
             b", STATE-"
         };
-        put_number(text, front, value)?;
-        put_number(text, b" ", value)?;
+        push_number(text, front, value)?;
+        push_number(text, b" ", value)?;
     }
     text.extend_from_slice(b" }\n")?;
     Ok(())
 }
 
 /// A group of the seven AVPs before it, the first of them required, and of so many groups before these.
-fn put_group(text: &mut Vec<u8>, index: u32, groups: u32) -> Result<()> {
+fn push_group(text: &mut Vec<u8>, index: u32, groups: u32) -> Result<()> {
     text.extend_from_slice(b"< ")?;
-    put_name(text, index)?;
-    put_number(text, b" > ::= < AVP Header: ", code_of(index))?;
+    push_name(text, index)?;
+    push_number(text, b" > ::= < AVP Header: ", code_of(index))?;
     text.extend_from_slice(b" : ")?;
     text.extend_from_slice(vendor_of(index).0)?;
     text.extend_from_slice(b" >\n")?;
-    put_entry(text, b"  { ", index.wrapping_sub(7), b" }\n")?;
+    push_entry(text, b"  { ", index.wrapping_sub(7), b" }\n")?;
     for back in 1..7 {
-        put_entry(text, b"  [ ", index.wrapping_sub(back), b" ]\n")?;
+        push_entry(text, b"  [ ", index.wrapping_sub(back), b" ]\n")?;
     }
     for back in 0..groups {
         let member = index.wrapping_sub(8).wrapping_sub(back.wrapping_mul(8));
-        put_entry(text, b"  *[ ", member, b" ]\n")?;
+        push_entry(text, b"  *[ ", member, b" ]\n")?;
     }
     text.extend_from_slice(b"  *[ AVP ]\n")?;
     Ok(())
 }
 
-fn put_entry(text: &mut Vec<u8>, front: &[u8], index: u32, behind: &[u8]) -> Result<()> {
+fn push_entry(text: &mut Vec<u8>, front: &[u8], index: u32, behind: &[u8]) -> Result<()> {
     text.extend_from_slice(front)?;
-    put_name(text, index)?;
+    push_name(text, index)?;
     text.extend_from_slice(behind)?;
     Ok(())
 }
 
 /// A command whose rule has 45 entries.
-fn put_command(text: &mut Vec<u8>, flags: &[u8]) -> Result<()> {
+fn push_command(text: &mut Vec<u8>, flags: &[u8]) -> Result<()> {
     let name: &[u8] = if flags.len() > 8 {
         b"< Wide-Request"
     } else {
         b"< Wide-Answer"
     };
     text.extend_from_slice(name)?;
-    put_number(text, b" > ::= < Diameter Header: ", COMMAND)?;
+    push_number(text, b" > ::= < Diameter Header: ", COMMAND)?;
     text.extend_from_slice(flags)?;
     text.extend_from_slice(
         b"  < Session-Id >\n  { Origin-Host } { Origin-Realm }\n  [ Destination-Realm ] [ User-Name ]\n",
     )?;
     for number in 0..40u32 {
-        put_entry(
+        push_entry(
             text,
             b"  *[ ",
             number.wrapping_mul(16).wrapping_add(15),

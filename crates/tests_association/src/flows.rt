@@ -36,7 +36,7 @@ pub(crate) fn chunk_of<'a>(
 }
 
 /// Appends the message that is whole with the chunk.
-pub(crate) fn put_message(
+pub(crate) fn push_message(
     flow: &mut SctpFlow,
     text: &mut Vec<u8>,
     chunk: DataChunk<'_>,
@@ -57,7 +57,7 @@ fn take(flow: &mut SctpFlow, text: &mut Vec<u8>, step: &Step) -> Result<(), Allo
         End => flow.end(),
         Data(tsn, bits, stream, protocol, octets) => {
             let chunk = chunk_of(*tsn, bits, *stream, *protocol, octets.as_bytes());
-            put_message(flow, text, chunk)?;
+            push_message(flow, text, chunk)?;
         }
     }
     text.push(b'|')?;
@@ -264,7 +264,7 @@ fn told_of_packet(alloc: Global, digits: &str) -> Option<Vec<u8>> {
     let mut text = Vec::new(alloc);
     let mut done = true;
     for chunk in DataChunks::new(&octets) {
-        done = done && put_message(&mut flow, &mut text, chunk).is_ok();
+        done = done && push_message(&mut flow, &mut text, chunk).is_ok();
     }
     drop(flow);
     drop(octets);

@@ -25,7 +25,7 @@ pub(crate) const EXCHANGE: [u8; 20] = [
     1, 0, 0, 20, 128, 0, 1, 1, 0, 0, 0, 0, 0, 0, 0, 1, 0, 0, 0, 9,
 ];
 
-fn put_init(octets: &mut Vec<u8>, kind: u8, tag: u32, tsn: u32) -> Result<(), AllocError> {
+fn push_init(octets: &mut Vec<u8>, kind: u8, tag: u32, tsn: u32) -> Result<(), AllocError> {
     octets.extend_from_slice(&[kind, 0, 0, 20])?;
     octets.extend_from_slice(&tag.to_be_bytes())?;
     octets.extend_from_slice(&[0, 1, 0, 0, 0, 2, 0, 2])?;
@@ -41,7 +41,7 @@ fn bits_of(bits: &str) -> u8 {
     }
 }
 
-fn put_data(
+fn push_data(
     octets: &mut Vec<u8>,
     tsn: u32,
     bits: &str,
@@ -64,19 +64,19 @@ fn put_data(
 pub(crate) fn octets_of(alloc: Global, chunks: Chunks) -> Result<Vec<u8>, AllocError> {
     let mut octets = Vec::new(alloc);
     match chunks {
-        Chunks::Init(tag, tsn) => put_init(&mut octets, 1, tag, tsn)?,
-        Chunks::InitAck(tag, tsn) => put_init(&mut octets, 2, tag, tsn)?,
+        Chunks::Init(tag, tsn) => push_init(&mut octets, 1, tag, tsn)?,
+        Chunks::InitAck(tag, tsn) => push_init(&mut octets, 2, tag, tsn)?,
         Chunks::Abort(bit) => octets.extend_from_slice(&[6, bit, 0, 4])?,
         Chunks::Complete(bit) => octets.extend_from_slice(&[14, bit, 0, 4])?,
         Chunks::Data(tsn, bits, protocol, text) => {
-            put_data(&mut octets, tsn, bits, protocol, text.as_bytes())?;
+            push_data(&mut octets, tsn, bits, protocol, text.as_bytes())?;
         }
         Chunks::Two(tsn, one, other) => {
-            put_data(&mut octets, tsn, "BE", 46, one.as_bytes())?;
-            put_data(&mut octets, tsn.wrapping_add(1), "BE", 46, other.as_bytes())?;
+            push_data(&mut octets, tsn, "BE", 46, one.as_bytes())?;
+            push_data(&mut octets, tsn.wrapping_add(1), "BE", 46, other.as_bytes())?;
         }
         Chunks::Exchange(tsn, bits, protocol) => {
-            put_data(&mut octets, tsn, bits, protocol, &EXCHANGE)?;
+            push_data(&mut octets, tsn, bits, protocol, &EXCHANGE)?;
         }
     }
     Ok(octets)

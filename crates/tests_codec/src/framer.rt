@@ -12,7 +12,7 @@ const GREATEST: u32 = 16777212;
 const HEADER: [u8; 20] = [1, 0, 0, 20, 0, 0, 0, 0, 0, 0, 0, 0, 0, 0, 0, 0, 0, 0, 0, 0];
 
 /// Adds each whole message behind its number of octets.
-fn put_whole(framer: &mut Framer, told: &mut Vec<u8>) -> Result<(), FrameFault> {
+fn push_whole(framer: &mut Framer, told: &mut Vec<u8>) -> Result<(), FrameFault> {
     for _ in 0..4u8 {
         let Some(message) = framer.next()? else {
             return Ok(());
@@ -25,10 +25,10 @@ fn put_whole(framer: &mut Framer, told: &mut Vec<u8>) -> Result<(), FrameFault> 
 }
 
 /// The same after each of the pieces.
-fn put_pieces(framer: &mut Framer, pieces: &[&[u8]], told: &mut Vec<u8>) -> Result<(), FrameFault> {
+fn push_whole_by_pieces(framer: &mut Framer, pieces: &[&[u8]], told: &mut Vec<u8>) -> Result<(), FrameFault> {
     for piece in pieces {
         framer.feed(piece)?;
-        put_whole(framer, told)?;
+        push_whole(framer, told)?;
     }
     Ok(())
 }
@@ -37,7 +37,7 @@ fn put_pieces(framer: &mut Framer, pieces: &[&[u8]], told: &mut Vec<u8>) -> Resu
 fn give(alloc: Global, pieces: &[&[u8]], messages: &[u8]) -> bool {
     let mut framer = Framer::new(alloc, GREATEST);
     let mut told = Vec::new(alloc);
-    let done = put_pieces(&mut framer, pieces, &mut told);
+    let done = push_whole_by_pieces(&mut framer, pieces, &mut told);
     done.is_ok() && told.as_slice() == messages
 }
 

@@ -159,11 +159,11 @@ fn second_version_edges(rt: HostRuntime) {
 /// An AVP with a list of this many values.
 fn long_list(alloc: Global, values: usize) -> Result<String, AllocError> {
     let mut text = String::from_str(alloc, "@ 2 @ A 1 Enumerated { X 0")?;
-    let done = push_values(&mut text, values);
+    let done = put_values(&mut text, values);
     done.and(Ok(text))
 }
 
-fn push_values(text: &mut String, values: usize) -> Result<(), AllocError> {
+fn put_values(text: &mut String, values: usize) -> Result<(), AllocError> {
     for _ in 1..values {
         text.push_str(", X 0")?;
     }
@@ -200,11 +200,11 @@ fn long_lists(rt: HostRuntime) {
 /// An AVP whose code has this many digits.
 fn long_code(alloc: Global, digits: usize) -> Result<String, AllocError> {
     let mut text = String::from_str(alloc, "@ A ")?;
-    let done = push_code(&mut text, digits);
+    let done = put_code(&mut text, digits);
     done.and(Ok(text))
 }
 
-fn push_code(text: &mut String, digits: usize) -> Result<(), AllocError> {
+fn put_code(text: &mut String, digits: usize) -> Result<(), AllocError> {
     for _ in 0..digits {
         text.push('9')?;
     }

@@ -63,7 +63,7 @@ fn shown(rt: &(impl Abort + AllocGlobal), text: &str) -> u64 {
 }
 
 /// One definition more: an AVP without a rule, one of a vendor, or a group of the two before it.
-fn push_definition(rt: &(impl Abort + AllocGlobal), text: &mut String, place: u32) {
+fn put_definition(rt: &(impl Abort + AllocGlobal), text: &mut String, place: u32) {
     let code = 400 + place.wrapping_mul(131) % 3001;
     let one = place.saturating_sub(1);
     let other = place.saturating_sub(2);
@@ -85,7 +85,7 @@ fn push_definition(rt: &(impl Abort + AllocGlobal), text: &mut String, place: u3
 fn made(rt: &(impl Abort + AllocGlobal), count: u32) -> String {
     let mut text = String::from_str(rt.alloc(), "@ 2\n").expect(rt, "memory");
     for place in 0..count {
-        push_definition(rt, &mut text, place);
+        put_definition(rt, &mut text, place);
     }
     text.push_str("< Q > ::= < Diameter Header: 300, REQ > { A0 } *[ AVP ]")
         .expect(rt, "memory");

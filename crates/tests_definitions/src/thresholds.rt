@@ -24,13 +24,13 @@ fn pairs(size: u32) -> [Twice; 3] {
 }
 
 /// Appends the name of a member. All have one length and differ in their last octets.
-fn push_name(rt: &(impl Abort + AllocGlobal), text: &mut String, front: &str, member: u32) {
+fn put_name(rt: &(impl Abort + AllocGlobal), text: &mut String, front: &str, member: u32) {
     let word = format!(in rt.alloc(); "{front}Member-{member:05}").expect(rt, "memory");
     text.push_str(word.as_str()).expect(rt, "memory");
     drop(word);
 }
 
-fn push_number(rt: &(impl Abort + AllocGlobal), text: &mut String, front: &str, number: u32) {
+fn put_number(rt: &(impl Abort + AllocGlobal), text: &mut String, front: &str, number: u32) {
     let word = format!(in rt.alloc(); "{front}{number}").expect(rt, "memory");
     text.push_str(word.as_str()).expect(rt, "memory");
     drop(word);
@@ -40,14 +40,14 @@ fn push_number(rt: &(impl Abort + AllocGlobal), text: &mut String, front: &str, 
 fn rule_of(rt: &(impl Abort + AllocGlobal), size: u32, twice: Twice) -> String {
     let mut text = String::new(rt.alloc());
     for member in 0..size {
-        push_name(rt, &mut text, "@ ", member);
-        push_number(rt, &mut text, " ", 80_000 + member % 10_000);
+        put_name(rt, &mut text, "@ ", member);
+        put_number(rt, &mut text, " ", 80_000 + member % 10_000);
         text.push_str(" Time\n").expect(rt, "memory");
     }
     text.push_str("< Q > ::= < Diameter Header: 300, REQ >")
         .expect(rt, "memory");
     for place in 0..size {
-        push_name(rt, &mut text, "\n[ ", at(place, twice));
+        put_name(rt, &mut text, "\n[ ", at(place, twice));
         text.push_str(" ]").expect(rt, "memory");
     }
     text
@@ -124,8 +124,8 @@ fn text_of(
 ) -> String {
     let mut text = String::from_str(rt.alloc(), form.head).expect(rt, "memory");
     for place in 0..size {
-        push_name(rt, &mut text, form.front, at(place, name));
-        push_number(rt, &mut text, "\n", at(place, number));
+        put_name(rt, &mut text, form.front, at(place, name));
+        put_number(rt, &mut text, "\n", at(place, number));
         text.push_str(form.back).expect(rt, "memory");
     }
     text.push_str(form.tail).expect(rt, "memory");
@@ -179,7 +179,7 @@ fn avps_with_a_name_or_a_code_twice(rt: HostRuntime) {
 
 fn value(rt: &(impl Abort + AllocGlobal), place: u32, number: u32) -> EnumValue {
     let mut word = String::new(rt.alloc());
-    push_name(rt, &mut word, "", place);
+    put_name(rt, &mut word, "", place);
     let name = Octets::from_slice(rt.alloc(), word.as_bytes()).expect(rt, "memory");
     drop(word);
     let number = i32::try_from(number).unwrap_or(0);

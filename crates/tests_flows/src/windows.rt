@@ -9,14 +9,14 @@ fn handed(alloc: Global, next: u32, arrivals: &[(u32, &str)]) -> Option<Vec<u8>>
     let mut output = Vec::new(alloc);
     let mut done = true;
     for (sequence, octets) in arrivals {
-        done = done && put_handed(&mut window, &mut output, *sequence, octets);
+        done = done && push_handed(&mut window, &mut output, *sequence, octets);
     }
     drop(window);
     if done { Some(output) } else { None }
 }
 
 /// Appends what is handed out behind these octets. False where memory is wanted.
-fn put_handed(window: &mut Window, output: &mut Vec<u8>, sequence: u32, octets: &str) -> bool {
+fn push_handed(window: &mut Window, output: &mut Vec<u8>, sequence: u32, octets: &str) -> bool {
     let took = match window.take(sequence, octets.as_bytes()) {
         Ok(()) => window.hand_out(output).is_ok(),
         Err(WindowFault::TooFar) => output.push(b'!').is_ok(),

@@ -1,6 +1,6 @@
 //! Rules and requests that are made by chance: all calls say what is counted by hand (RFC 6733, 3.2, 4.1 and 7.1.5).
 use crate::told::{
-    GOOD, Run, Said, assert_both, plain_request, push_avp, push_definitions, push_entries, ruled,
+    GOOD, Run, Said, assert_both, plain_request, push_avp, put_definitions, put_entries, ruled,
     words_of,
 };
 use dm_dict::{Dictionary, Failed, Fault};
@@ -78,7 +78,7 @@ fn avp_of(made: &Made) -> Run {
 }
 
 /// The entry of a definition, if it is listed.
-fn push_entry(rt: &(impl Abort + AllocGlobal), entries: &mut String, made: &Made) {
+fn put_entry(rt: &(impl Abort + AllocGlobal), entries: &mut String, made: &Made) {
     if !made.is_listed {
         return;
     }
@@ -88,7 +88,7 @@ fn push_entry(rt: &(impl Abort + AllocGlobal), entries: &mut String, made: &Made
         Some(max) => format!(in rt.alloc(); " {min}*{max} [ "),
     };
     let front = front.expect(rt, "memory");
-    push_entries(rt, entries, &avp_of(made), front.as_str(), " ]");
+    put_entries(rt, entries, &avp_of(made), front.as_str(), " ]");
     drop(front);
 }
 
@@ -98,8 +98,8 @@ fn dictionary_of(rt: &(impl Abort + AllocGlobal), all: &[Made], any: u32) -> Dic
     let mut definitions = String::new(rt.alloc());
     let mut entries = String::new(rt.alloc());
     for made in all {
-        push_definitions(rt, &mut definitions, &avp_of(made), "Unsigned32");
-        push_entry(rt, &mut entries, made);
+        put_definitions(rt, &mut definitions, &avp_of(made), "Unsigned32");
+        put_entry(rt, &mut entries, made);
     }
     if any > 0 {
         let entry = format!(in rt.alloc(); " *{any} [ AVP ]").expect(rt, "memory");
@@ -190,7 +190,7 @@ fn barred(all: &[Made], any: u32, avp: &Avp) -> Option<u32> {
 }
 
 /// Puts the AVPs that may not stand.
-fn put_barred(
+fn push_barred(
     rt: &(impl Abort + AllocGlobal),
     wrongs: &mut Vec<Wrong>,
     all: &[Made],
@@ -254,7 +254,7 @@ fn miscounted(avps: &[Avp], made: &Made) -> Option<Wrong> {
 }
 
 /// Puts what is wrong with the numbers of AVPs.
-fn put_miscounted(
+fn push_miscounted(
     rt: &(impl Abort + AllocGlobal),
     wrongs: &mut Vec<Wrong>,
     all: &[Made],
@@ -299,8 +299,8 @@ fn first_past_any(all: &[Made], any: u32, avps: &[Avp]) -> Option<Wrong> {
 /// All that is wrong, in the order in which it is looked for.
 fn wrongs_of(rt: &(impl Abort + AllocGlobal), all: &[Made], any: u32, avps: &[Avp]) -> Vec<Wrong> {
     let mut wrongs = Vec::new(rt.alloc());
-    put_barred(rt, &mut wrongs, all, any, avps);
-    put_miscounted(rt, &mut wrongs, all, avps);
+    push_barred(rt, &mut wrongs, all, any, avps);
+    push_miscounted(rt, &mut wrongs, all, avps);
     if any > 0 {
         if let Some(wrong) = first_past_any(all, any, avps) {
             wrongs.push(wrong).expect(rt, "memory");

@@ -1,7 +1,7 @@
 //! Definitions behind more than two octets number: each is found at its place, and none that stands 65,536 before it.
 use crate::told::{
     GOOD, Run, Said, assert_bad, assert_said, assert_said_of_one, codes, marked, one_of,
-    push_definitions, push_entries, ruled,
+    put_definitions, put_entries, ruled,
 };
 use dm_dict::Dictionary;
 use std::process::Abort;
@@ -20,12 +20,12 @@ fn from(step: u32, place: u32, count: u32) -> Run {
 /// twenty.
 fn dictionary(rt: &(impl Abort + AllocGlobal), step: u32) -> Dictionary {
     let mut definitions = String::new(rt.alloc());
-    push_definitions(rt, &mut definitions, &from(step, 0, COUNT), "Unsigned32");
-    push_definitions(rt, &mut definitions, &from(step, COUNT, 20), "Unsigned64");
+    put_definitions(rt, &mut definitions, &from(step, 0, COUNT), "Unsigned32");
+    put_definitions(rt, &mut definitions, &from(step, COUNT, 20), "Unsigned64");
     let mut entries = String::new(rt.alloc());
-    push_entries(rt, &mut entries, &from(step, 65_531, 10), " { ", " }");
-    push_entries(rt, &mut entries, &from(step, 0, 10), " [ ", " ]");
-    push_entries(rt, &mut entries, &from(step, COUNT, 20), " *[ ", " ]");
+    put_entries(rt, &mut entries, &from(step, 65_531, 10), " { ", " }");
+    put_entries(rt, &mut entries, &from(step, 0, 10), " [ ", " ]");
+    put_entries(rt, &mut entries, &from(step, COUNT, 20), " *[ ", " ]");
     let dictionary = ruled(rt, definitions.as_str(), entries.as_str());
     drop(entries);
     drop(definitions);
@@ -93,7 +93,7 @@ const LAST: &str = "\
 /// The group that is defined last, of two of what is defined before it.
 fn holder(rt: &(impl Abort + AllocGlobal)) -> Dictionary {
     let mut definitions = String::new(rt.alloc());
-    push_definitions(
+    put_definitions(
         rt,
         &mut definitions,
         &codes(512_000, 512, COUNT),

@@ -1,7 +1,7 @@
 //! Bounds of entries at the ends of the counters' range, with as many AVPs and those beside (RFC 6733, 3.2): what
 //! decides is the number of the AVPs, whatever counts them.
 use crate::told::{
-    Said, assert_said, assert_said_of_empty, codes, push_definitions, push_entries, ruled,
+    Said, assert_said, assert_said_of_empty, codes, put_definitions, put_entries, ruled,
 };
 use dm_dict::Dictionary;
 use std::process::Abort;
@@ -21,12 +21,12 @@ fn rule_behind(
 ) -> Dictionary {
     let others = codes(BEFORE, 1, before);
     let mut definitions = String::new(rt.alloc());
-    push_definitions(rt, &mut definitions, &codes(COUNTED, 1, 1), kind);
-    push_definitions(rt, &mut definitions, &others, kind);
+    put_definitions(rt, &mut definitions, &codes(COUNTED, 1, 1), kind);
+    put_definitions(rt, &mut definitions, &others, kind);
     let mut entries = String::new(rt.alloc());
-    push_entries(rt, &mut entries, &others, " 0*1 < ", " >");
+    put_entries(rt, &mut entries, &others, " 0*1 < ", " >");
     entries.push_str(" ").expect(rt, "memory");
-    push_entries(rt, &mut entries, &codes(COUNTED, 1, 1), bounds, " ]");
+    put_entries(rt, &mut entries, &codes(COUNTED, 1, 1), bounds, " ]");
     let dictionary = ruled(rt, definitions.as_str(), entries.as_str());
     drop(entries);
     drop(definitions);

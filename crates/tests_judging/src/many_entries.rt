@@ -2,7 +2,7 @@
 //! counted there (RFC 6733, 3.2), in whatever order they come.
 use crate::told::{
     GOOD, Run, Said, assert_bad, assert_said, assert_said_deep, code_of, codes, one_of,
-    push_definitions, push_entries, reversed, ruled, words_of,
+    put_definitions, put_entries, reversed, ruled, words_of,
 };
 use dm_dict::Dictionary;
 use std::process::Abort;
@@ -20,15 +20,15 @@ fn rule_of(
     last: &str,
 ) -> Dictionary {
     let mut definitions = String::new(rt.alloc());
-    push_definitions(rt, &mut definitions, defined, "Unsigned32");
-    push_definitions(rt, &mut definitions, &others(listed), "Unsigned32");
+    put_definitions(rt, &mut definitions, defined, "Unsigned32");
+    put_definitions(rt, &mut definitions, &others(listed), "Unsigned32");
     let mut entries = String::new(rt.alloc());
     let (front, back) = if is_fixed {
         (" < ", " >")
     } else {
         (" { ", " }")
     };
-    push_entries(rt, &mut entries, listed, front, back);
+    put_entries(rt, &mut entries, listed, front, back);
     entries.push_str(last).expect(rt, "memory");
     let dictionary = ruled(rt, definitions.as_str(), entries.as_str());
     drop(entries);
@@ -239,9 +239,9 @@ fn an_entry_for_any_avp_counts_the_others_alone(rt: HostRuntime) {
 /// The dictionary whose rule allows one of each of these, and the group of them inside itself.
 fn nested_rule(rt: &(impl Abort + AllocGlobal), listed: &Run) -> Dictionary {
     let mut definitions = String::new(rt.alloc());
-    push_definitions(rt, &mut definitions, listed, "Unsigned32");
+    put_definitions(rt, &mut definitions, listed, "Unsigned32");
     let mut entries = String::new(rt.alloc());
-    push_entries(rt, &mut entries, listed, " [ ", " ]");
+    put_entries(rt, &mut entries, listed, " [ ", " ]");
     entries.push_str(" [ Group ]").expect(rt, "memory");
     let dictionary = ruled(rt, definitions.as_str(), entries.as_str());
     drop(entries);

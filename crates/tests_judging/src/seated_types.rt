@@ -1,7 +1,7 @@
 //! AVPs of each type whose codes share their lowest bits, and of one code and two vendors: the data of each are judged
 //! by its own type (RFC 6733, 4.2 to 4.4, 7.5).
 use crate::told::{
-    GOOD, Said, assert_said_of_one, codes, marked, push_definitions, push_entries, ruled,
+    GOOD, Said, assert_said_of_one, codes, marked, put_definitions, put_entries, ruled,
 };
 use dm_dict::Dictionary;
 use dm_wire::{Avp, Octets};
@@ -208,9 +208,9 @@ fn assert_rows(rt: &(impl Abort + AllocGlobal), dictionary: &Dictionary, rows: &
 fn dictionary_behind(rt: &(impl Abort + AllocGlobal), before: u32) -> Dictionary {
     let others = codes(99_952, 256, before);
     let mut definitions = String::from_str(rt.alloc(), DEFINITIONS).expect(rt, "memory");
-    push_definitions(rt, &mut definitions, &others, "Time");
+    put_definitions(rt, &mut definitions, &others, "Time");
     let mut entries = String::new(rt.alloc());
-    push_entries(rt, &mut entries, &others, " 0*1 < ", " >");
+    put_entries(rt, &mut entries, &others, " 0*1 < ", " >");
     entries.push_str(ENTRIES).expect(rt, "memory");
     let dictionary = ruled(rt, definitions.as_str(), entries.as_str());
     drop(entries);

@@ -1,7 +1,7 @@
 //! AVPs whose codes share their lowest bits, and AVPs of one code and several vendors (RFC 6733, 4.1): each is known by
 //! its whole code and its vendor, and judged by its own entry.
 use crate::told::{
-    GOOD, Run, assert_bad, assert_said, one_of, push_definitions, push_entries, ruled,
+    GOOD, Run, assert_bad, assert_said, one_of, put_definitions, put_entries, ruled,
 };
 use dm_dict::Dictionary;
 use std::process::Abort;
@@ -54,11 +54,11 @@ fn unlisted(family: &Family) -> Run {
 }
 
 /// Its entries behind the others.
-fn push_family(rt: &(impl Abort + AllocGlobal), entries: &mut String, family: &Family) {
-    push_entries(rt, entries, &wanted(family), " 1*1 [ ", " ]");
-    push_entries(rt, entries, &twos(family), " 2*3 [ ", " ]");
-    push_entries(rt, entries, &free(family), " [ ", " ]");
-    push_entries(rt, entries, &barred(family), " 0*0 [ ", " ]");
+fn put_family(rt: &(impl Abort + AllocGlobal), entries: &mut String, family: &Family) {
+    put_entries(rt, entries, &wanted(family), " 1*1 [ ", " ]");
+    put_entries(rt, entries, &twos(family), " 2*3 [ ", " ]");
+    put_entries(rt, entries, &free(family), " [ ", " ]");
+    put_entries(rt, entries, &barred(family), " 0*0 [ ", " ]");
 }
 
 /// The dictionary of the families, whose rule has this entry behind theirs.
@@ -67,8 +67,8 @@ fn dictionary_of(rt: &(impl Abort + AllocGlobal), families: &[Family], last: &st
     let mut entries = String::new(rt.alloc());
     for family in families {
         let all = some_of(family, 0, family.part.wrapping_mul(20));
-        push_definitions(rt, &mut definitions, &all, "Unsigned32");
-        push_family(rt, &mut entries, family);
+        put_definitions(rt, &mut definitions, &all, "Unsigned32");
+        put_family(rt, &mut entries, family);
     }
     entries.push_str(last).expect(rt, "memory");
     let dictionary = ruled(rt, definitions.as_str(), entries.as_str());

@@ -63,7 +63,7 @@ const GROUP_HEAD: &str = "\n< Group > ::= < AVP Header: 7000 >";
 const GROUPED_RULE: &str = "\n< Grouped > ::= < Diameter Header: 301, REQ > { Group }";
 
 /// The definitions of these AVPs, each named after its code, and its vendor where it has one.
-pub fn push_definitions(rt: &(impl Abort + AllocGlobal), text: &mut String, run: &Run, kind: &str) {
+pub fn put_definitions(rt: &(impl Abort + AllocGlobal), text: &mut String, run: &Run, kind: &str) {
     for nth in 0..run.count {
         let code = code_of(run, nth);
         let line = match run.vendor {
@@ -77,7 +77,7 @@ pub fn push_definitions(rt: &(impl Abort + AllocGlobal), text: &mut String, run:
 }
 
 /// The entries of these AVPs, with this before each name and this behind it.
-pub fn push_entries(
+pub fn put_entries(
     rt: &(impl Abort + AllocGlobal),
     text: &mut String,
     run: &Run,

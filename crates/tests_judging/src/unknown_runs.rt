@@ -1,6 +1,6 @@
 //! AVPs without definition, alone and in runs, before, between and behind others: each counts where `AVP` stands, up to
 //! its maximum, and one that is mandatory ends what is good.
-use crate::told::{Said, assert_both, codes, plain_request, push_definitions, ruled};
+use crate::told::{Said, assert_both, codes, plain_request, put_definitions, ruled};
 use dm_dict::Dictionary;
 use dm_wire::{Avp, Octets};
 use std::process::Abort;
@@ -11,7 +11,7 @@ type Row = (&'static [u8], &'static str, usize);
 /// Three definitions, A1000, A2000 and A3000, and a rule of these entries.
 fn dictionary(rt: &(impl Abort + AllocGlobal), entries: &str) -> Dictionary {
     let mut definitions = String::new(rt.alloc());
-    push_definitions(rt, &mut definitions, &codes(1000, 1000, 3), "Unsigned32");
+    put_definitions(rt, &mut definitions, &codes(1000, 1000, 3), "Unsigned32");
     let dictionary = ruled(rt, definitions.as_str(), entries);
     drop(definitions);
     dictionary

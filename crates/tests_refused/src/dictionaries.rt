@@ -279,7 +279,7 @@ fn messages_checked(rt: HostRuntime) {
 }
 
 /// Appends a piece with the number of each place.
-fn push_each(
+fn put_each(
     rt: &(impl Abort + AllocGlobal),
     text: &mut String,
     size: u16,
@@ -302,10 +302,10 @@ fn push_each(
 /// The text of a command of so many entries, each of which one AVP may fill.
 fn rule_text(rt: &(impl Abort + AllocGlobal), size: u16) -> String {
     let mut text = String::new(rt.alloc());
-    push_each(rt, &mut text, size, "@ A", " ", " Unsigned32\n");
+    put_each(rt, &mut text, size, "@ A", " ", " Unsigned32\n");
     let title = "< Ask > ::= < Diameter Header: 300, REQ >";
     text.push_str(title).expect(rt, "memory");
-    push_each(rt, &mut text, size, " [ A", "", " ]");
+    put_each(rt, &mut text, size, " [ A", "", " ]");
     text
 }
 
@@ -314,7 +314,7 @@ fn list_text(rt: &(impl Abort + AllocGlobal), size: u16) -> String {
     let mut text = String::new(rt.alloc());
     text.push_str("@ 2 @ List 5000 Enumerated { FIRST 0")
         .expect(rt, "memory");
-    push_each(rt, &mut text, size, ", V", " ", "");
+    put_each(rt, &mut text, size, ", V", " ", "");
     text.push_str(" }").expect(rt, "memory");
     text
 }

@@ -3,7 +3,7 @@ use super::rows::assert_over_base;
 use std::process::Abort;
 
 /// One AVP more, with M, whose data is this number.
-fn push_avp(rt: &(impl Abort + AllocGlobal), avps: &mut String, code: u32, number: usize) {
+fn put_avp(rt: &(impl Abort + AllocGlobal), avps: &mut String, code: u32, number: usize) {
     let avp = format!(in rt.alloc(); "{code:08x}4000000c{number:08x}").expect(rt, "memory");
     avps.push_str(avp.as_str()).expect(rt, "memory");
     drop(avp);
@@ -20,7 +20,7 @@ fn request_of(rt: &(impl Abort + AllocGlobal), avps: &str) -> String {
 fn request_of_many(rt: &(impl Abort + AllocGlobal), count: u32) -> String {
     let mut avps = String::new(rt.alloc());
     for number in 0..count {
-        push_avp(rt, &mut avps, 5000, number as usize);
+        put_avp(rt, &mut avps, 5000, number as usize);
     }
     let request = request_of(rt, avps.as_str());
     drop(avps);
@@ -72,14 +72,14 @@ fn many_avps(rt: HostRuntime) {
 }
 
 /// The definition of the AVP that an entry names.
-pub(super) fn push_definition(rt: &(impl Abort + AllocGlobal), text: &mut String, place: u16) {
+pub(super) fn put_definition(rt: &(impl Abort + AllocGlobal), text: &mut String, place: u16) {
     let code = 80000 + place as u32;
     let line = format!(in rt.alloc(); "@ A{place} {code} Unsigned32\n").expect(rt, "memory");
     text.push_str(line.as_str()).expect(rt, "memory");
     drop(line);
 }
 
-fn push_entry(rt: &(impl Abort + AllocGlobal), text: &mut String, place: u16) {
+fn put_entry(rt: &(impl Abort + AllocGlobal), text: &mut String, place: u16) {
     let bounds = match place {
         3 | 255 | 256 | 511 => "",
         599 => "1*1",
@@ -95,12 +95,12 @@ fn push_entry(rt: &(impl Abort + AllocGlobal), text: &mut String, place: u16) {
 fn wide_rule(rt: &(impl Abort + AllocGlobal)) -> String {
     let mut text = String::new(rt.alloc());
     for place in 0..600u16 {
-        push_definition(rt, &mut text, place);
+        put_definition(rt, &mut text, place);
     }
     text.push_str("< Q > ::= < Diameter Header: 300, REQ >")
         .expect(rt, "memory");
     for place in 0..600u16 {
-        push_entry(rt, &mut text, place);
+        put_entry(rt, &mut text, place);
     }
     text
 }
@@ -109,7 +109,7 @@ fn wide_rule(rt: &(impl Abort + AllocGlobal)) -> String {
 fn request_under(rt: &(impl Abort + AllocGlobal), places: &[u16]) -> String {
     let mut avps = String::new(rt.alloc());
     for (number, place) in places.iter().enumerate() {
-        push_avp(rt, &mut avps, 80000 + *place as u32, number);
+        put_avp(rt, &mut avps, 80000 + *place as u32, number);
     }
     let request = request_of(rt, avps.as_str());
     drop(avps);
