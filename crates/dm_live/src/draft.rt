@@ -16,7 +16,7 @@ ghost use Rattle.dm_live.specs.Settings.{TellsOne, TellsSpecific, TellsSetting};
 use crate::order_words::{two_numbers, word_alone};
 use crate::setting_name::{SettingName, read_setting, read_specific};
 use crate::setting_words::{
-    push_address, push_name, push_number, put_name, put_number, put_text, say_number,
+    push_address, push_name, push_number, set_name, set_number, set_optional_number, set_text,
 };
 use dm_base::{Extras, ExtrasFault, Node, NodeFault, VendorApplication};
 use dm_peer::{Config, ConfigFault};
@@ -149,21 +149,21 @@ impl Draft {
         ensures kept { IfOk result (λ good. good ≡ false → settings_of self.new ≡ settings_of self.old) }
     {
         match name {
-            SettingName::Host => put_name(&mut self.host, word),
-            SettingName::Realm => put_name(&mut self.realm, word),
+            SettingName::Host => set_name(&mut self.host, word),
+            SettingName::Realm => set_name(&mut self.realm, word),
             SettingName::Address => push_address(&mut self.addresses, word),
-            SettingName::Vendor => Ok(put_number(&mut self.vendor, word)),
-            SettingName::Product => put_text(&mut self.product, word),
+            SettingName::Vendor => Ok(set_number(&mut self.vendor, word)),
+            SettingName::Product => set_text(&mut self.product, word),
             SettingName::Auth => push_number(&mut self.auth, word),
             SettingName::Acct => push_number(&mut self.acct, word),
             SettingName::Supports => push_number(&mut self.vendors, word),
-            SettingName::Firmware => Ok(say_number(&mut self.firmware, word)),
-            SettingName::State => Ok(say_number(&mut self.state_id, word)),
+            SettingName::Firmware => Ok(set_optional_number(&mut self.firmware, word)),
+            SettingName::State => Ok(set_optional_number(&mut self.state_id, word)),
             SettingName::Peer => push_name(&mut self.peers, word),
-            SettingName::Compare => Ok(put_number(&mut self.compare, word)),
-            SettingName::First => Ok(put_number(&mut self.first_id, word)),
-            SettingName::Early => Ok(put_number(&mut self.first_max, word)),
-            SettingName::Max => Ok(put_number(&mut self.most, word)),
+            SettingName::Compare => Ok(set_number(&mut self.compare, word)),
+            SettingName::First => Ok(set_number(&mut self.first_id, word)),
+            SettingName::Early => Ok(set_number(&mut self.first_max, word)),
+            SettingName::Max => Ok(set_number(&mut self.most, word)),
         }
     }
 

@@ -15,7 +15,7 @@ use std::net::IpAddr;
 use std::str;
 
 /// Any word is a name.
-pub(crate) fn put_name(name: &mut Vec<u8>, word: &[u8]) -> Result<bool, AllocError>
+pub(crate) fn set_name(name: &mut Vec<u8>, word: &[u8]) -> Result<bool, AllocError>
     ensures put { OnOk result (name.new.items ≡ word.now) }
     ensures good { IfOk result (λ good. good ≡ true) }
 {
@@ -35,7 +35,7 @@ pub(crate) fn push_name(list: &mut Vec<Octets>, word: &[u8]) -> Result<bool, All
 }
 
 /// A word of UTF-8 is a text.
-pub(crate) fn put_text(text: &mut String, word: &[u8]) -> Result<bool, AllocError>
+pub(crate) fn set_text(text: &mut String, word: &[u8]) -> Result<bool, AllocError>
     ensures put { IfOk result (λ good. good ≡ true → IsUtf8 word.now × (string_bytes text.new ≡ word.now)) }
     ensures bad { IfOk result (λ good. good ≡ false → IsUtf8 word.now → ⊥) }
     ensures kept { IfOk result (λ good. good ≡ false → string_bytes text.new ≡ string_bytes text.old) }
@@ -78,7 +78,7 @@ pub(crate) fn push_address(list: &mut Vec<Ip>, word: &[u8]) -> Result<bool, Allo
 }
 
 /// A number takes the place of the one said before.
-pub(crate) fn put_number(number: &mut u32, word: &[u8]) -> bool
+pub(crate) fn set_number(number: &mut u32, word: &[u8]) -> bool
     ensures put { result ≡ true → TellsNumber number.new word.now }
     ensures bad { result ≡ false → (n : ℕ) → TellsNumber n word.now → ⊥ }
     ensures kept { result ≡ false → number.new ≡ number.old }
@@ -93,7 +93,7 @@ pub(crate) fn put_number(number: &mut u32, word: &[u8]) -> bool
 }
 
 /// A number takes the place of the one said before, if there was one.
-pub(crate) fn say_number(number: &mut Option<u32>, word: &[u8]) -> bool
+pub(crate) fn set_optional_number(number: &mut Option<u32>, word: &[u8]) -> bool
     ensures put { result ≡ true → (n : ℕ) × TellsNumber n word.now × (number.new ≡ Some n) }
     ensures bad { result ≡ false → (n : ℕ) → TellsNumber n word.now → ⊥ }
     ensures kept { result ≡ false → number.new ≡ number.old }
