@@ -7,7 +7,7 @@ ghost use Rattle.dm_dict_text.specs.declared.fault.DictFault.TheVariants as dict
 use crate::divide::divide;
 use crate::fault::ToolFault;
 use crate::messages::{Task, messages_text};
-use crate::verdict::push_dictionary_fault;
+use crate::verdict::put_dictionary_fault;
 use dm_dict::{DictFault, Dictionary};
 use std::alloc::Global;
 
@@ -58,7 +58,7 @@ fn refused(alloc: Global, fault: DictFault) -> Result<(Vec<u8>, bool), ToolFault
     ensures fault { IfErr result (λ e. e ≡ ToolFault.Memory) }
 {
     let mut text = String::new(alloc);
-    push_dictionary_fault(&mut text, fault)?;
+    put_dictionary_fault(&mut text, fault)?;
     text.push_str("\n")?;
     Ok((text.into_bytes(), false))
 }

@@ -67,7 +67,7 @@ fn push_bad(text: &mut Vec<u8>, code: u32, failed: Option<AvpRef<'_>>) -> Result
 
 /// Appends the words for a fault of a dictionary. Want of memory has no words, and is answered as such.
 #[tactic(auto, unfolding(crate::specs::Check::dictionary_fault_text))]
-pub fn push_dictionary_fault(text: &mut String, fault: DictFault) -> Result<(), ToolFault>
+pub fn put_dictionary_fault(text: &mut String, fault: DictFault) -> Result<(), ToolFault>
     ensures words { OnOk result (string_bytes text.new ≡ string_bytes text.old ++ dictionary_fault_text fault) }
     ensures known { OnOk result (fault ≢ dict.NoMemory) }
     ensures memory { IfErr result (λ e. e ≡ ToolFault.Memory) }

@@ -10,7 +10,7 @@ use dm_capture::laws::pieces_join;
 use dm_capture::{CaptureFault, CaptureReader, FaultKind, Packet};
 use dm_dict::Dictionary;
 use dm_view_lines::laws::gathered_texts;
-use dm_view_lines::{PutFault, Style, put_text};
+use dm_view_lines::{PutFault, Style, push_text};
 use std::alloc::Global;
 use std::io::Write;
 
@@ -40,7 +40,7 @@ fn put_packet<S: PacketSpeaker, W: Write>(
 {
     output.text.clear();
     speaker.say_packet(alloc, dictionary, style.task, packet, &mut output.text)?;
-    put_text(
+    push_text(
         alloc,
         style,
         output.text.as_bytes(),

@@ -34,7 +34,7 @@ pub(crate) struct TraceSpeaker<'a> {
 }
 
 /// Counts a packet that has neither.
-fn passed_by(counts: Counts, why: Passed) -> Counts
+fn count_passed(counts: Counts, why: Passed) -> Counts
     ensures { result ≡ counted_passed why counts }
 {
     match why {
@@ -132,7 +132,7 @@ impl<'a> TraceSpeaker<'a> {
     fn pass(&mut self, why: Passed)
         ensures { self.new ≡ with_passed self.old why }
     {
-        self.reckoned.counts = passed_by(self.reckoned.counts, why);
+        self.reckoned.counts = count_passed(self.reckoned.counts, why);
     }
 
     /// Says what the association of a packet says that has no segment, where it has chunks; else it is counted.

@@ -22,13 +22,13 @@ fn lines_coloured(alloc: Global, task: Task, text: &[u8]) -> Result<Vec<u8>, All
 {
     let mut coloured = Vec::new(alloc);
     for line in Lines::new(text) {
-        put_coloured(&mut coloured, task, line)?;
+        push_coloured(&mut coloured, task, line)?;
     }
     Ok(coloured)
 }
 
 /// Appends a line with its colour.
-fn put_coloured(coloured: &mut Vec<u8>, task: Task, line: &[u8]) -> Result<(), AllocError>
+fn push_coloured(coloured: &mut Vec<u8>, task: Task, line: &[u8]) -> Result<(), AllocError>
     ensures { OnOk result (coloured.new.items ≡ coloured.old.items ++ line_coloured task line.now) }
 {
     coloured.extend_from_slice(begun(task, line))?;

@@ -9,7 +9,7 @@ ghost use Rattle.dm_view_lines.specs.Frames.{stop_text, stop_verdict};
 ghost use Rattle.dm_view_lines.specs.Lines.{counts_line};
 ghost use Rattle.dm_view_lines.specs.declared.tally.Tally.{Tally};
 
-use crate::gathered::{Style, put_styled, write_waiting};
+use crate::gathered::{Style, push_styled, write_waiting};
 use crate::put_fault::PutFault;
 use crate::run_fault::RunFault;
 use crate::stop::{Stop, put_stop};
@@ -30,7 +30,7 @@ pub fn write_end<W: Write>(
         (W.contents writer.new) (styled style.coloured style.task text.now)) }
 {
     let mut waits = Vec::new(alloc);
-    put_styled(alloc, style, text, &mut waits)?;
+    push_styled(alloc, style, text, &mut waits)?;
     write_waiting(&mut waits, writer)
 }
 

@@ -40,7 +40,7 @@ pub fn write_waiting<W: Write>(waits: &mut Vec<u8>, writer: &mut W) -> Result<()
 }
 
 /// Appends a text in its style to what waits; where that fails nothing of it.
-pub(crate) fn put_styled(
+pub(crate) fn push_styled(
     alloc: Global,
     style: Style,
     text: &[u8],
@@ -60,7 +60,7 @@ pub(crate) fn put_styled(
 ///
 /// Where memory is wanted nothing of the text is gathered or written. Where the writer fails a front of all was
 /// written.
-pub fn put_text<W: Write>(
+pub fn push_text<W: Write>(
     alloc: Global,
     style: Style,
     text: &[u8],
@@ -73,7 +73,7 @@ pub fn put_text<W: Write>(
         (W.contents writer.new) waits.new.items (text_left fault (styled style.coloured style.task text.now))) }
     ensures fault { IfErr result IsOfOutput }
 {
-    put_styled(alloc, style, text, waits)?;
+    push_styled(alloc, style, text, waits)?;
     if waits.len() < GATHERED {
         return Ok(());
     }

@@ -41,7 +41,7 @@ pub use digits::read_line;
 pub use ending::write_end;
 pub use fault::LinesFault;
 pub use fronted::Front;
-pub use gathered::{Style, put_text, write_waiting};
+pub use gathered::{Style, push_text, write_waiting};
 pub use inputs::Inputs;
 pub use lines::lines_text;
 pub use payload::stream_text;

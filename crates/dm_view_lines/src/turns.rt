@@ -5,7 +5,7 @@ ghost use Rattle.dm_view_lines.specs.Colours.{styled};
 ghost use Rattle.dm_view_lines.specs.Turns.{TellsLines, StopsInTurn, CountsLong};
 ghost use Rattle.dm_view_lines.specs.declared.turns.TheConstants.{LINE_LIMIT as line_limit};
 
-use crate::gathered::{Style, put_text};
+use crate::gathered::{Style, push_text};
 use crate::put_fault::PutFault;
 use crate::speaker::Speaker;
 use dm_dict::Dictionary;
@@ -70,7 +70,7 @@ fn put_line<S: Speaker, W: Write>(
         line,
         &mut output.text,
     )?;
-    put_text(
+    push_text(
         alloc,
         style,
         output.text.as_bytes(),
