@@ -1,36 +1,19 @@
 //! The program, but for its real streams: what its command line asks for is done, and what that comes to is told.
-ghost use Rattle.std.specs.Prelude.{◌≡◌, ◌≢◌, ◌++◌, ℕ, List, true, Some, None, Err, IfSome, OnOk, OnErr};
+ghost use Rattle.std.specs.Prelude.{◌≡◌, ◌≢◌, ◌++◌, [], ℕ, List, true, false, None, Err, IfSome, IfNone, IfOk};
+ghost use Rattle.std.specs.Prelude.{IfErr, OnOk, OnErr};
 ghost use Rattle.std.specs.Io.KnownBytes.{Appends};
+ghost use Rattle.dm_io.specs.Ending.{line_of};
+ghost use Rattle.dm_io.specs.Words.{without_words};
 ghost use Rattle.dm_live.specs.Ending.{ending_of, Ran};
 
 use crate::fault::LiveFault;
-use crate::output::write_text;
 use crate::serve::serve_lines;
+use dm_io::{READ_AT_ONCE, WordsFault, end_program};
 use std::alloc::Global;
 use std::io::{BufReader, Read, Write};
 
-/// How many octets are read at once, at most.
-const READ_AT_ONCE: usize = 65536;
-
-/// Why the words of the command line are no reason to run.
-#[derive(Clone, Copy)]
-pub enum WordsFault {
-    /// There is one, and there is to be none.
-    Given,
-    /// No memory was left to read them.
-    NoMemory,
-}
-
-/// How the program ends.
-#[derive(Clone, Copy)]
-pub struct Ended {
-    /// What the run came to, None where there are words.
-    pub outcome: Option<Result<(), LiveFault>>,
-    /// The program's status.
-    pub status: u8,
-    /// Whether all that is to stand on standard error was written there. Otherwise a front of it was.
-    pub told: bool,
-}
+/// How the program ends: its outcome is None where its command line has words.
+pub type Ended = dm_io::Ended<Result<(), LiveFault>>;
 
 /// Runs the program on its three streams, where its command line has no words.
 ///
@@ -39,31 +22,64 @@ pub struct Ended {
 /// it is 3. One line on standard error says why.
 pub fn run_program<R: Read + Drop, W: Write, E: Write>(
     alloc: Global,
-    words: Result<(), WordsFault>,
+    words: Result<Vec<String>, WordsFault>,
     reader: R,
     writer: &mut W,
     errors: &mut E,
 ) -> Ended
     ensures ran { OnOk words (IfSome result.outcome (λ outcome. IfSome (R.remaining reader) (λ octets.
         Ran outcome octets (W.contents writer.old) (W.contents writer.new)))) }
-    ensures runs { OnOk words (result.outcome ≢ None) }
-    ensures given { words ≡ Err WordsFault.Given → result.outcome ≡ None }
-    ensures memory { words ≡ Err WordsFault.NoMemory → result.outcome ≡ Some (Err LiveFault.Memory) }
+    ensures runs { IfOk words (λ list. list.items ≡ [] → result.outcome ≢ None) }
+    ensures given { IfOk words (λ list. list.items ≢ [] → result.outcome ≡ None) }
+    ensures wordless { IfErr words (λ fault. result.outcome ≡ without_words (Err LiveFault.Memory) fault) }
+    ensures unwritten { IfNone result.outcome (writer.new ≡ writer.old) }
     ensures idle { OnErr words (writer.new ≡ writer.old) }
     ensures status { result.status ≡ (ending_of result.outcome).0 }
     ensures told { result.told ≡ true →
-        Appends (E.contents errors.old) (E.contents errors.new) (ending_of result.outcome).1 }
-    ensures front { (front rest : List ℕ) × ((ending_of result.outcome).1 ≡ front ++ rest)
+        Appends (E.contents errors.old) (E.contents errors.new) (line_of (ending_of result.outcome).1) }
+    ensures front { (front rest : List ℕ) × (line_of (ending_of result.outcome).1 ≡ front ++ rest)
         × Appends (E.contents errors.old) (E.contents errors.new) front }
 {
     match words {
-        Ok(()) => {
-            let outcome = run(alloc, reader, writer);
-            finish(Some(outcome), errors)
+        Ok(words) => {
+            let is_asked = has_none(words.as_slice());
+            drop(words);
+            let outcome = run_asked(alloc, is_asked, reader, writer);
+            finish(outcome, errors)
         }
-        Err(WordsFault::Given) => finish(None, errors),
+        Err(WordsFault::NotText) => finish(None, errors),
         Err(WordsFault::NoMemory) => finish(Some(Err(LiveFault::Memory)), errors),
     }
+}
+
+/// Whether there are no words.
+fn has_none(words: &[String]) -> bool
+    ensures none { result ≡ true → words.now ≡ [] }
+    ensures some { result ≡ false → words.now ≢ [] }
+{
+    match words {
+        [] => true,
+        [..] => false,
+    }
+}
+
+/// Answers the lines that the reader gives, where that is asked for.
+fn run_asked<R: Read + Drop, W: Write>(
+    alloc: Global,
+    is_asked: bool,
+    reader: R,
+    writer: &mut W,
+) -> Option<Result<(), LiveFault>>
+    ensures ran { IfSome result (λ outcome. IfSome (R.remaining reader) (λ octets.
+        Ran outcome octets (W.contents writer.old) (W.contents writer.new))) }
+    ensures runs { is_asked ≡ true → result ≢ None }
+    ensures none { is_asked ≡ false → result ≡ None }
+    ensures unwritten { IfNone result (writer.new ≡ writer.old) }
+{
+    if !is_asked {
+        return None;
+    }
+    Some(run(alloc, reader, writer))
 }
 
 /// Answers the lines that the reader gives.
@@ -82,29 +98,12 @@ fn finish<E: Write>(outcome: Option<Result<(), LiveFault>>, errors: &mut E) -> E
     ensures outcome { result.outcome ≡ outcome }
     ensures status { result.status ≡ (ending_of outcome).0 }
     ensures told { result.told ≡ true →
-        Appends (E.contents errors.old) (E.contents errors.new) (ending_of outcome).1 }
-    ensures front { (front rest : List ℕ) × ((ending_of outcome).1 ≡ front ++ rest)
+        Appends (E.contents errors.old) (E.contents errors.new) (line_of (ending_of outcome).1) }
+    ensures front { (front rest : List ℕ) × (line_of (ending_of outcome).1 ≡ front ++ rest)
         × Appends (E.contents errors.old) (E.contents errors.new) front }
 {
     let (status, words) = ending(outcome);
-    let told = tell(words, errors);
-    Ended {
-        outcome,
-        status,
-        told,
-    }
-}
-
-/// Writes the words. False where that fails.
-fn tell<E: Write>(words: &str, errors: &mut E) -> bool
-    ensures told { result ≡ true → Appends (E.contents errors.old) (E.contents errors.new) words.now }
-    ensures front { (front rest : List ℕ) × (words.now ≡ front ++ rest)
-        × Appends (E.contents errors.old) (E.contents errors.new) front }
-{
-    match write_text(errors, words.as_bytes()) {
-        Ok(()) => true,
-        Err(_) => false,
-    }
+    end_program(outcome, status, words, errors)
 }
 
 /// The status with which the program ends, and the words for standard error.
@@ -112,10 +111,10 @@ fn ending(outcome: Option<Result<(), LiveFault>>) -> (u8, &'static str)
     ensures { (result.0, result.1.now) ≡ ending_of outcome }
 {
     match outcome {
-        None => (2, "dmlive: usage\n"),
+        None => (2, "dmlive: usage"),
         Some(Ok(())) => (0, ""),
-        Some(Err(LiveFault::Read)) => (3, "dmlive: read\n"),
-        Some(Err(LiveFault::Write)) => (3, "dmlive: write\n"),
-        Some(Err(LiveFault::Memory)) => (3, "dmlive: memory\n"),
+        Some(Err(LiveFault::Read)) => (3, "dmlive: read"),
+        Some(Err(LiveFault::Write)) => (3, "dmlive: write"),
+        Some(Err(LiveFault::Memory)) => (3, "dmlive: memory"),
     }
 }

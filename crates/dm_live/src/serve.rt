@@ -7,7 +7,7 @@ ghost use Rattle.dm_live.specs.Stages.{stage_of};
 use crate::fault::LiveFault;
 use crate::input::next_line;
 use crate::live::Live;
-use crate::output::write_text;
+use dm_io::write_text;
 use std::alloc::Global;
 use std::io::{BufRead, Write};
 
@@ -51,7 +51,10 @@ fn serve_all<R: BufRead, W: Write>(
         }
         text.clear();
         live.answer_line(alloc, before + 1, line.as_slice(), &mut text)?;
-        write_text(writer, text.as_bytes())?;
+        match write_text(writer, text.as_bytes()) {
+            Ok(()) => {}
+            Err(_) => return Err(LiveFault::Write),
+        }
     }
     Err(LiveFault::Read)
 }

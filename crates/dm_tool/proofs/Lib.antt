@@ -21,4 +21,3 @@ pub mod Slashes
 pub mod SomeBuilt
 pub mod SomeShown
 pub mod Tellings
-pub mod Told

@@ -10,7 +10,6 @@ pub mod Limits
 pub mod Messages
 pub mod OnePrint
 pub mod OneText
-pub mod Program
 pub mod Progress
 pub mod Run
 pub mod Show

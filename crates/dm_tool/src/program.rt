@@ -2,40 +2,24 @@
 ghost use Rattle.std.specs.Prelude.{◌≡◌, ◌++◌, ℕ, List, true, map, IfSome, IfNone, IfOk, IfErr, OnErr};
 ghost use Rattle.std.specs.Io.KnownBytes.{Appends};
 ghost use Rattle.std.specs.String.{string_bytes};
+ghost use Rattle.dm_io.specs.Ending.{line_of};
+ghost use Rattle.dm_io.specs.Words.{without_words};
 ghost use Rattle.dm_tool.specs.declared.choice.Choice.{Choice};
 ghost use Rattle.dm_tool.specs.Choice.{words_of};
 ghost use Rattle.dm_tool.specs.Ending.{tool_ending};
 ghost use Rattle.dm_tool.specs.Limits.{HasMost};
-ghost use Rattle.dm_tool.specs.Program.{line_of, without_words};
 ghost use Rattle.dm_tool.specs.Run.{Prints, RanTool};
 
 use crate::fault::ToolFault;
-use crate::output::write_text;
 use crate::run::run_chosen;
 use crate::source::Source;
 use crate::status::ending;
+use dm_io::{WordsFault, end_program};
 use std::alloc::Global;
 use std::io::Write;
 
-/// Why the words of the command line can't be had.
-#[derive(Clone, Copy)]
-pub enum WordsFault {
-    /// One of them isn't UTF-8.
-    NotText,
-    /// No memory was left for them.
-    NoMemory,
-}
-
-/// How the program ends.
-#[derive(Clone, Copy)]
-pub struct Ended {
-    /// What the run came to, None where the words choose no command.
-    pub outcome: Option<Result<bool, ToolFault>>,
-    /// The program's status.
-    pub status: u8,
-    /// Whether all that is to stand on standard error was written there. Otherwise a front of it was.
-    pub told: bool,
-}
+/// How the program ends: its outcome is None where the words choose no command.
+pub type Ended = dm_io::Ended<Result<bool, ToolFault>>;
 
 /// Runs the program on the words of its command line, the program's name left out, and on its three streams.
 ///
@@ -56,7 +40,7 @@ pub fn run_program<S: Source, W: Write, E: Write>(
         (W.contents writer.old) (W.contents writer.new) outcome)) }
     ensures refused { IfOk words (λ list. IfNone result.outcome
         ((choice : Choice) → map string_bytes list.items ≡ words_of choice → ⊥)) }
-    ensures wordless { IfErr words (λ fault. result.outcome ≡ without_words fault) }
+    ensures wordless { IfErr words (λ fault. result.outcome ≡ without_words (Err ToolFault.Memory) fault) }
     ensures read { S.never_fails ≡ true → result.outcome ≡ Some (Err ToolFault.Read) → HasMost (S.left reader.old) }
     ensures unread { IfNone result.outcome (reader.new ≡ reader.old) }
     ensures unwritten { IfNone result.outcome (writer.new ≡ writer.old) }
@@ -88,25 +72,5 @@ fn finish<E: Write>(outcome: Option<Result<bool, ToolFault>>, errors: &mut E) ->
         × Appends (E.contents errors.old) (E.contents errors.new) front }
 {
     let (status, words) = ending(outcome);
-    let told = tell(words, errors);
-    Ended {
-        outcome,
-        status,
-        told,
-    }
-}
-
-/// Writes the words and a line feed, or nothing where there are no words. False where that fails.
-fn tell<E: Write>(words: &str, errors: &mut E) -> bool
-    ensures told { result ≡ true → Appends (E.contents errors.old) (E.contents errors.new) (line_of words.now) }
-    ensures front { (front rest : List ℕ) × (line_of words.now ≡ front ++ rest)
-        × Appends (E.contents errors.old) (E.contents errors.new) front }
-{
-    if words.is_empty() {
-        return true;
-    }
-    match write_text(errors, words.as_bytes()) {
-        Ok(()) => write_text(errors, b"\n").is_ok(),
-        Err(_) => false,
-    }
+    end_program(outcome, status, words, errors)
 }

@@ -12,8 +12,8 @@ use crate::choice::{Choice, choose};
 use crate::fault::ToolFault;
 use crate::input::read_input;
 use crate::messages::{Task, messages_text};
-use crate::output::write_text;
 use crate::source::Source;
+use dm_io::write_text;
 use dm_replay::replay_text;
 use std::alloc::Global;
 use std::io::{Read, Write};
@@ -71,8 +71,10 @@ pub fn run<S: Source, W: Write>(
 {
     let input = read_input(alloc, reader)?;
     let (text, good) = text_of(alloc, choice, input.as_slice())?;
-    write_text(writer, text.as_slice())?;
-    Ok(good)
+    match write_text(writer, text.as_slice()) {
+        Ok(()) => Ok(good),
+        Err(_) => Err(ToolFault::Write),
+    }
 }
 
 /// The text of the command for an input, and whether all of it is good.

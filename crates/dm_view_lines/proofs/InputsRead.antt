@@ -5,7 +5,7 @@ use Rattle.std.specs.Fmt.{option_append}
 use Rattle.std.specs.Io.KnownBytes.{Consumes, IsAtEnd}
 use Rattle.dm_view_lines.specs.declared.inputs.EndedReader.{EndedReader}
 use Rattle.dm_view_lines.specs.Inputs.{ended_behind, ended_remaining, all_remaining}
-use Rattle.dm_view_lines.specs.Streams.{ended, is_ended}
+use Rattle.dm_view_lines.specs.LineEnds.{ended, is_ended}
 use Rattle.dm_view_lines.proofs.Seams.{ended-front, ended-behind}
 
 ended-cons : (b : ℕ) (t : List ℕ) → ended (b ∷ t) ≡ b ∷ ended_behind b t

@@ -2,7 +2,6 @@ pub mod Ends
 pub mod Firsts
 pub mod InputsRead
 pub mod JoinedSaid
-pub mod Known
 pub mod LinesSaid
 pub mod OneSaid
 pub mod OneWords

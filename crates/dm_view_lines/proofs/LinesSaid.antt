@@ -34,7 +34,7 @@ use Rattle.dm_view_lines.specs.Lines.{SaysLine, SaysLines}
 use Rattle.dm_view_lines.specs.Fronts.{SaidFront, by_number}
 use Rattle.dm_view_lines.specs.Said.{SaysFronted, SaysOctets, numbered, before_refusal, front_shown, front_checked}
 use Rattle.dm_view_lines.specs.Speakers.{CountsOneLine}
-use Rattle.dm_view_lines.specs.Streams.{HasLineEnds}
+use Rattle.dm_view_lines.specs.LineEnds.{HasLineEnds}
 use Rattle.dm_view_lines.specs.Turns.{SaysInTurn}
 use Rattle.dm_view_lines.proofs.Seams.{whole-joins, whole-append}
 use Rattle.dm_view_lines.proofs.Steps.{added-assoc, added-none}

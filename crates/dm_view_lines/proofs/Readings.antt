@@ -12,7 +12,7 @@ use Rattle.dm_view_lines.specs.declared.put_fault.PutFault.{PutFault}
 use Rattle.dm_view_lines.specs.declared.put_fault.PutFault.TheVariants as put
 use Rattle.dm_view_lines.specs.declared.run_fault.RunFault.{RunFault}
 use Rattle.dm_view_lines.specs.Faults.{run_fault}
-use Rattle.dm_view_lines.specs.Streams.{HasLineEnds, ended}
+use Rattle.dm_view_lines.specs.LineEnds.{HasLineEnds, ended}
 use Rattle.dm_view_lines.specs.Reads.{TellsPiece, BreaksPiece, SaysRead, StopsRun}
 use Rattle.dm_view_lines.specs.Turns.{SaysInTurn, TellsLines, StopsInTurn}
 use Rattle.dm_view_lines.proofs.Seams.{NoLf, whole-joins, whole-append, lines-behind}

@@ -20,7 +20,7 @@ use Rattle.dm_view_lines.specs.Faults.{run_fault}
 use Rattle.dm_view_lines.specs.Lines.{counts_line}
 use Rattle.dm_view_lines.specs.Reads.{StopsRun}
 use Rattle.dm_view_lines.specs.Speakers.{CountsOneLine}
-use Rattle.dm_view_lines.specs.Streams.{ended}
+use Rattle.dm_view_lines.specs.LineEnds.{ended}
 use Rattle.dm_view_lines.specs.Turns.{SaysInTurn, TellsLines, StopsInTurn, CountsLong, Leaves, WritesFront, FailsToWrite}
 use Rattle.dm_view_lines.proofs.LinesSaid.{said_of, styled-join}
 use Rattle.dm_view_lines.proofs.Steps.{none-added}

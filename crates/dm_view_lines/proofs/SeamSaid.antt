@@ -6,7 +6,7 @@ use Rattle.std.proofs.lemmas.List.Elements.{All-append}
 use Rattle.memchr.specs.Find.{NoneBefore, Passes, is_byte}
 use Rattle.dm_view_lines.specs.declared.put_fault.PutFault.{PutFault}
 use Rattle.dm_view_lines.specs.declared.put_fault.PutFault.TheVariants.{Memory, TooLong, Write}
-use Rattle.dm_view_lines.specs.Streams.{HasLineEnds}
+use Rattle.dm_view_lines.specs.LineEnds.{HasLineEnds}
 use Rattle.dm_view_lines.specs.Reads.{TellsPiece, BreaksPiece}
 use Rattle.dm_view_lines.specs.Turns.{CountsLong, Gathers, Leaves, TellsLines, StopsInTurn}
 use Rattle.dm_view_lines.proofs.Seams.{NoLf, whole-joins, whole-append, whole_to}

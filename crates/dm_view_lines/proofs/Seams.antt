@@ -8,7 +8,7 @@ use Rattle.std.proofs.lemmas.List.{get_or-append-add, get_or_default}
 use Rattle.std.proofs.lemmas.List.Elements.{All-append}
 use Rattle.std.proofs.lemmas.List.Splits.{slice_split_at}
 use Rattle.memchr.specs.Find.{Nowhere, NoneBefore, Passes, is_byte}
-use Rattle.dm_view_lines.specs.Streams.{HasLineEnds, is_ended, ended}
+use Rattle.dm_view_lines.specs.LineEnds.{HasLineEnds, is_ended, ended}
 use Rattle.dm_view_lines.specs.Turns.{BeginsLong, FirstIsLong}
 
 abbrev pub NoLf : ℕ → Type 0

@@ -18,7 +18,7 @@ use Rattle.dm_view_lines.specs.Ending.{EndsStream, FailsAtEnd, SaysStreamFront, 
 use Rattle.dm_view_lines.specs.Frames.{SaysFrames, stream_of, stop_of, stop_text, stop_verdict}
 use Rattle.dm_view_lines.specs.Lines.{SaysEach, counts_line}
 use Rattle.dm_view_lines.specs.Speakers.{ReadsLine, SaysPiece, StreamGoes}
-use Rattle.dm_view_lines.specs.Streams.{ended}
+use Rattle.dm_view_lines.specs.LineEnds.{ended}
 use Rattle.dm_view_lines.specs.Turns.{SaysInTurn, TellsLines, WritesFront}
 use Rattle.dm_view_lines.proofs.LinesSaid.{AsLines, line-whole, none-whole, lines-append, styled-join, styled-none}
 use Rattle.dm_view_lines.proofs.Pieces.{frames-counted}

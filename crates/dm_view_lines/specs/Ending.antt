@@ -12,7 +12,7 @@ use Rattle.dm_view_lines.specs.declared.turns.TheConstants.{LINE_LIMIT as line_l
 use Rattle.dm_view_lines.specs.Colours.{styled, SaysStyled, SaysStreamStyled}
 use Rattle.dm_view_lines.specs.Frames.{SaysFrames, stream_of}
 use Rattle.dm_view_lines.specs.Lines.{SaysLines}
-use Rattle.dm_view_lines.specs.Streams.{HasLineEnds, ended}
+use Rattle.dm_view_lines.specs.LineEnds.{HasLineEnds, ended}
 use Rattle.dm_view_lines.specs.Turns.{WritesFront}
 
 -- what is said of lines, each by itself

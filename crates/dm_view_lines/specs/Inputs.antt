@@ -5,7 +5,7 @@ use Rattle.std.specs.Fmt.{option_append}
 use Rattle.std.specs.Io.KnownBytes.{Consumes, IsAtEnd, Keeps}
 use Rattle.dm_view_lines.specs.declared.inputs.EndedReader.{EndedReader}
 use Rattle.dm_view_lines.specs.declared.inputs.Inputs.{Inputs}
-use Rattle.dm_view_lines.specs.Streams.{ended}
+use Rattle.dm_view_lines.specs.LineEnds.{ended}
 
 -- what comes behind this octet, with a last line feed, where that lacks one
 abbrev pub ended_behind : ℕ → List ℕ → List ℕ

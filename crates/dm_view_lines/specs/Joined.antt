@@ -7,7 +7,7 @@ use Rattle.dm_view_lines.specs.declared.tally.Tally.{Tally}
 use Rattle.dm_view_lines.specs.Colours.{styled}
 use Rattle.dm_view_lines.specs.Counts.{tallied}
 use Rattle.dm_view_lines.specs.Lines.{SaysLines}
-use Rattle.dm_view_lines.specs.Streams.{HasLineEnds}
+use Rattle.dm_view_lines.specs.LineEnds.{HasLineEnds}
 
 -- Where the first one ends with a line's end, what is said of both is what is said of each, numbers going on, in
 -- colours too.

@@ -11,6 +11,7 @@ pub mod Gathering
 pub mod Inputs
 pub mod Joined
 pub mod Json
+pub mod LineEnds
 pub mod Lines
 pub mod OneText
 pub mod OneWord
@@ -19,5 +20,4 @@ pub mod Reasons
 pub mod Run
 pub mod Said
 pub mod Speakers
-pub mod Streams
 pub mod Turns

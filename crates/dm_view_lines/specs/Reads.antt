@@ -6,7 +6,7 @@ use Rattle.dm_view_lines.specs.declared.put_fault.PutFault.{PutFault}
 use Rattle.dm_view_lines.specs.declared.put_fault.PutFault.TheVariants as put
 use Rattle.dm_view_lines.specs.declared.run_fault.RunFault.{RunFault}
 use Rattle.dm_view_lines.specs.declared.run_fault.RunFault.TheVariants.{Memory, Read, TooLong, Write}
-use Rattle.dm_view_lines.specs.Streams.{HasLineEnds, ended}
+use Rattle.dm_view_lines.specs.LineEnds.{HasLineEnds, ended}
 use Rattle.dm_view_lines.specs.Turns.{SaysInTurn, TellsLines, StopsInTurn}
 
 -- of octets behind what is held of a line: the lines that they end are said, and what is left is held; or those up to

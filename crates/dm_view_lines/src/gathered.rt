@@ -7,7 +7,7 @@ ghost use Rattle.dm_view_lines.specs.Turns.{Gathers, Leaves, text_left, FailsToW
 use crate::colours::coloured_text;
 use crate::put_fault::PutFault;
 use crate::said::Task;
-use crate::streams::write_text;
+use dm_io::write_text;
 use std::alloc::{AllocError, Global};
 use std::io::Write;
 

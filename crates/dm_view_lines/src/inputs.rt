@@ -2,7 +2,7 @@
 ghost use Rattle.std.specs.Prelude.{◌≡◌, ◌≤◌, Some, [], length, option_map, IfOk, IfSome, OnOk, OnErr};
 ghost use Rattle.std.specs.Fmt.{option_append};
 ghost use Rattle.dm_view_lines.specs.Inputs.{ReadsFirstReader, inputs_remaining};
-ghost use Rattle.dm_view_lines.specs.Streams.{ended};
+ghost use Rattle.dm_view_lines.specs.LineEnds.{ended};
 
 use std::alloc::{AllocError, Global};
 use std::collections::VecDeque;

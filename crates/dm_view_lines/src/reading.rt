@@ -5,7 +5,7 @@ ghost use Rattle.std.specs.Io.KnownBytes.{Consumes, IsAtEnd};
 ghost use Rattle.std.specs.Str.Lines.{lines};
 ghost use Rattle.dm_view_lines.specs.Colours.{styled};
 ghost use Rattle.dm_view_lines.specs.Reads.{TellsPiece, BreaksPiece, StopsRun};
-ghost use Rattle.dm_view_lines.specs.Streams.{ended};
+ghost use Rattle.dm_view_lines.specs.LineEnds.{ended};
 ghost use Rattle.dm_view_lines.specs.Turns.{TellsLines, StopsInTurn, Settles};
 ghost use Rattle.dm_view_lines.specs.Came.{goes_further};
 

@@ -9,8 +9,8 @@ use crate::fault::LinesFault;
 use crate::lines::lines_text;
 use crate::payload::stream_text;
 use crate::said::Task;
-use crate::streams::write_text;
 use dm_dict::Dictionary;
+use dm_io::write_text;
 use std::alloc::Global;
 use std::io::Write;
 

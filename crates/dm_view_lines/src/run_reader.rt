@@ -4,7 +4,7 @@ ghost use Rattle.std.specs.Io.KnownBytes.{Appends};
 ghost use Rattle.std.specs.Str.Lines.{lines};
 ghost use Rattle.dm_view_lines.specs.Colours.{SaysStyled, SaysStreamStyled};
 ghost use Rattle.dm_view_lines.specs.Ending.{EndsLines, EndsStream};
-ghost use Rattle.dm_view_lines.specs.Streams.{ended};
+ghost use Rattle.dm_view_lines.specs.LineEnds.{ended};
 ghost use Rattle.dm_view_lines.specs.declared.turns.TheConstants.{LINE_LIMIT as line_limit};
 
 use crate::ending::{end_lines, end_stream};

@@ -2,15 +2,15 @@
 ghost use Rattle.std.specs.Prelude.{◌≡◌, ◌≢◌, ◌≤◌, ◌++◌, All, true, [], length, take, drop};
 ghost use Rattle.std.specs.Prelude.{IfOk, IfErr, OnOk};
 ghost use Rattle.dm_view_lines.specs.Colours.{styled};
-ghost use Rattle.dm_view_lines.specs.Streams.{HasLineEnds, ended};
+ghost use Rattle.dm_view_lines.specs.LineEnds.{HasLineEnds, ended};
 ghost use Rattle.dm_view_lines.specs.Reads.{TellsPiece, BreaksPiece};
 ghost use Rattle.dm_view_lines.specs.Turns.{TellsLines, StopsInTurn, CountsLong};
 ghost use Rattle.std.specs.Str.Lines.{lines};
 
+use crate::files::is_ended;
 use crate::gathered::Style;
 use crate::put_fault::PutFault;
 use crate::speaker::Speaker;
-use crate::streams::is_ended;
 use crate::turns::{LINE_LIMIT, Output, put_lines};
 use dm_dict::Dictionary;
 use memchr::{memchr, memrchr};

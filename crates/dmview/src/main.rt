@@ -20,6 +20,7 @@ use crate::style::write_said;
 use anyhow::{Context, Error, Result};
 use clap::{ArgMatches, error};
 use dm_dict::Dictionary;
+use dm_io::READ_AT_ONCE;
 use dm_trace_view::{Looks, say_capture};
 use dm_view_lines::{Inputs, RunFault, Style, Task};
 use std::collections::VecDeque;
@@ -28,9 +29,6 @@ use std::hash::RandomState;
 use std::io::{BufReader, ErrorKind, IsTerminal, Read, Write};
 use std::process::ExitCode;
 use std::{env, mem};
-
-/// How many octets are read at once, at most.
-const READ_AT_ONCE: usize = 65_536;
 
 /// What is said where the input is no capture, though an option of captures is there.
 const MISPLACED: &str =

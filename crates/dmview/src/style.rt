@@ -2,7 +2,7 @@
 ghost use Rattle.std.specs.Prelude.{◌≡◌, ℕ, true, false, List, IfOk, IfSome};
 ghost use Rattle.std.specs.Io.KnownBytes.{Appends};
 ghost use Rattle.dm_view_lines.specs.Colours.{SaysStyled, SaysStreamStyled};
-ghost use Rattle.dm_view_lines.specs.Streams.{ended};
+ghost use Rattle.dm_view_lines.specs.LineEnds.{ended};
 
 use dm_dict::Dictionary;
 use dm_view_lines::{RunFault, Style, say_lines, say_stream};

@@ -1,5 +1,5 @@
 use Rattle.std.proofs.Common.{inr, inl, refl}
-use Rattle.dm_live.specs.declared.fault.LiveFault.TheVariants.{Memory}
+use Rattle.dm_live.specs.declared.fault.LiveFault.TheVariants.{Memory, Write}
 use Rattle.dm_live.proofs.Serving.{handed_on, stopped, line_answered, line_unwritten, lines_answered}
 use Rattle.dm_live.proofs.serve.serve_all.Goals as goal
 
@@ -17,18 +17,17 @@ returns-in_err-answer_line-clause-stopped g c =
     handed_on _ _ Memory c.from_residual-in_err-answer_line.ensures.1
     (stopped _ _ _ _ _ _ Memory c.line.invariant (inr refl))
 
-pub returns-in_err-write_text-clause-stopped : goal.returns-in_err-write_text-clause-stopped
-returns-in_err-write_text-clause-stopped g c =
-    handed_on _ _ c.in_err-write_text.field-0.0 c.from_residual-in_err-write_text.ensures.1
-    (line_unwritten _ _ _ _ _ _ _ _ _ _ _ _ _ _ _ _ c.line.invariant c.in_ok-next_line.ensures.given
+pub returns-in-Err-clause-stopped : goal.returns-in-Err-clause-stopped
+returns-in-Err-clause-stopped g c =
+    line_unwritten _ _ _ _ _ _ _ _ _ _ _ _ _ _ _ Write c.line.invariant c.in_ok-next_line.ensures.given
     c.if-not-branch.false c.as_slice.ensures.value c.in_ok-answer_line.ensures c.clear.ensures.bytes
-    c.as_bytes.ensures.value c.in_err-write_text.ensures.front c.in_err-write_text.ensures.fault)
+    c.as_bytes.ensures.value c.in-Err.ensures.front refl
 
 pub line-preserved : goal.line-preserved
 line-preserved g c =
     line_answered _ _ _ _ _ _ _ _ _ _ _ _ _ _ _ c.line.invariant c.in_ok-next_line.ensures.given
     c.if-not-branch.false c.as_slice.ensures.value c.in_ok-answer_line.ensures c.clear.ensures.bytes
-    c.as_bytes.ensures.value c.in_ok-write_text.ensures.whole
+    c.as_bytes.ensures.value c.in-Ok.ensures.whole
 
 pub returns-clause-stopped : goal.returns-clause-stopped
 returns-clause-stopped g c = stopped _ _ _ _ _ _ _ c.line.invariant (inl refl)

@@ -1,0 +1,44 @@
+//! A text, written.
+ghost use Rattle.std.specs.Prelude.{◌≡◌, ◌++◌, ℕ, List, OnOk, OnErr};
+ghost use Rattle.std.specs.Io.KnownBytes.{Appends};
+
+use std::io;
+use std::io::{Error, ErrorKind, Write};
+
+/// The most writes beside those that a writer of one octet a write needs.
+const SPARE_WRITES: usize = 67_108_864;
+
+/// Writes the text, and lets nothing of it wait in the writer. Where that fails, a front of the text was written.
+///
+/// An interrupted write is made again, but for a writer that is interrupted without end.
+pub fn write_text<W: Write>(writer: &mut W, text: &[u8]) -> io::Result<()>
+    ensures whole { OnOk result (Appends (W.contents writer.old) (W.contents writer.new) text.now) }
+    ensures front { OnErr result ((front rest : List ℕ) × (text.now ≡ front ++ rest)
+        × Appends (W.contents writer.old) (W.contents writer.new) front) }
+{
+    write_octets(writer, text)?;
+    writer.flush()
+}
+
+fn write_octets<W: Write>(writer: &mut W, text: &[u8]) -> io::Result<()>
+    ensures whole { OnOk result (Appends (W.contents writer.old) (W.contents writer.new) text.now) }
+    ensures front { OnErr result ((front rest : List ℕ) × (text.now ≡ front ++ rest)
+        × Appends (W.contents writer.old) (W.contents writer.new) front) }
+{
+    let mut rest = text;
+    for _ in 0..text.len().saturating_add(SPARE_WRITES) {
+        if rest.is_empty() {
+            return Ok(());
+        }
+        match writer.write(rest) {
+            Ok(0) => return Err(Error::from(ErrorKind::WriteZero)),
+            Ok(count) => rest = &rest[count..],
+            Err(error) => {
+                if error.kind() != ErrorKind::Interrupted {
+                    return Err(error);
+                }
+            }
+        }
+    }
+    Err(Error::from(ErrorKind::TimedOut))
+}
