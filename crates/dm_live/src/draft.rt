@@ -13,7 +13,6 @@ ghost use Rattle.dm_live.specs.Drafts.{settings_of};
 ghost use Rattle.dm_live.specs.Settings.{Settings, no_settings, Sets, specific_word};
 ghost use Rattle.dm_live.specs.Settings.{TellsOne, TellsSpecific, TellsSetting};
 
-use crate::order_words::{two_numbers, word_alone};
 use crate::setting_name::{SettingName, read_setting, read_specific};
 use crate::setting_words::{
     push_address, push_name, push_number, set_name, set_number, set_optional_number, set_text,
@@ -24,6 +23,7 @@ use dm_text::Words;
 use dm_value::Ip;
 use dm_wire::Octets;
 use dm_wire::codes::limits::MAX_MESSAGE_LEN;
+use dm_words::{two_numbers, word_alone};
 use std::alloc::{AllocError, Global};
 
 /// What the lines so far say.

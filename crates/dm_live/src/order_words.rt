@@ -10,7 +10,8 @@ ghost use Rattle.dm_live.specs.OrderLines.{TellsConn, NamesNeighbour};
 use crate::form::Form;
 use dm_base::Cause;
 use dm_machine::Conn;
-use dm_text::{Words, read_long_number, read_number};
+use dm_text::{Words, read_long_number};
+use dm_words::{next_long_number, read_cause, word_alone};
 
 /// The number of a connection that the next word tells.
 fn next_conn(left: &mut Words<'_>) -> Option<Conn>
@@ -19,7 +20,7 @@ fn next_conn(left: &mut Words<'_>) -> Option<Conn>
     ensures none { IfNone result ((n : ℕ) (number : List ℕ) (more : List (List ℕ)) → words left.old ≡ number ∷ more
         → TellsLongNumber n number → ⊥) }
 {
-    let number = read_long_number(left.next()?)?;
+    let number = next_long_number(left)?;
     Some(Conn(number))
 }
 
@@ -102,43 +103,6 @@ pub(crate) fn neighbour_and_word<'a>(form: Form, left: &mut Words<'a>) -> Option
     let index = next_neighbour(form, left)?;
     let word = word_alone(left)?;
     Some((index, word))
-}
-
-/// Two numbers alone.
-pub(crate) fn two_numbers(left: &mut Words<'_>) -> Option<(u32, u32)>
-    ensures told { IfSome result (λ r. (first second : List ℕ) × (words left.old ≡ first ∷ second ∷ [])
-        × TellsNumber r.0 first × TellsNumber r.1 second) }
-    ensures none { IfNone result ((n m : ℕ) (first second : List ℕ) → words left.old ≡ first ∷ second ∷ []
-        → TellsNumber n first → TellsNumber m second → ⊥) }
-{
-    let first = read_number(left.next()?)?;
-    let second = read_number(word_alone(left)?)?;
-    Some((first, second))
-}
-
-/// One word alone.
-pub(crate) fn word_alone<'a>(left: &mut Words<'a>) -> Option<&'a [u8]>
-    ensures told { IfSome result (λ word. words left.old ≡ word.now ∷ []) }
-    ensures none { IfNone result ((word : List ℕ) → words left.old ≡ word ∷ [] → ⊥) }
-{
-    let word = left.next()?;
-    if left.next().is_some() {
-        return None;
-    }
-    Some(word)
-}
-
-/// The cause whose number a word tells.
-fn read_cause(word: &[u8]) -> Option<Cause>
-    ensures told { IfSome result (λ cause. TellsNumber (cause_number cause) word.now) }
-    ensures none { IfNone result ((cause : Cause) → TellsNumber (cause_number cause) word.now → ⊥) }
-{
-    match read_number(word)? {
-        0 => Some(Cause::Rebooting),
-        1 => Some(Cause::Busy),
-        2 => Some(Cause::DoNotWantToTalkToYou),
-        _ => None,
-    }
 }
 
 /// The number of a cause alone.

@@ -8,7 +8,8 @@ ghost use Rattle.dm_base.specs.Built.{cause_number};
 ghost use Rattle.dm_replay.specs.HappeningLines.{side_name};
 
 use dm_base::Cause;
-use dm_text::{Words, read_long_number, read_number};
+use dm_text::Words;
+use dm_words::{next_long_number, next_number, read_cause, two_numbers, word_alone};
 use dm_world::Side;
 
 /// The side that a word names.
@@ -23,45 +24,12 @@ pub fn read_side(word: &[u8]) -> Option<Side>
     }
 }
 
-/// The cause whose number a word tells.
-fn read_cause(word: &[u8]) -> Option<Cause>
-    ensures told { IfSome result (λ cause. TellsNumber (cause_number cause) word.now) }
-    ensures none { IfNone result ((cause : Cause) → TellsNumber (cause_number cause) word.now → ⊥) }
-{
-    match read_number(word)? {
-        0 => Some(Cause::Rebooting),
-        1 => Some(Cause::Busy),
-        2 => Some(Cause::DoNotWantToTalkToYou),
-        _ => None,
-    }
-}
-
 /// The side that the next word names.
 pub fn next_side(left: &mut Words<'_>) -> Option<Side>
     ensures told { IfSome result (λ side. words left.old ≡ side_name side ∷ words left.new) }
     ensures none { IfNone result ((side : Side) (more : List (List ℕ)) → words left.old ≡ side_name side ∷ more → ⊥) }
 {
     read_side(left.next()?)
-}
-
-/// The number of a link that the next word tells.
-fn next_link(left: &mut Words<'_>) -> Option<u64>
-    ensures told { IfSome result (λ n. (number : List ℕ) × (words left.old ≡ number ∷ words left.new)
-        × TellsLongNumber n number) }
-    ensures none { IfNone result ((n : ℕ) (number : List ℕ) (more : List (List ℕ)) → words left.old ≡ number ∷ more
-        → TellsLongNumber n number → ⊥) }
-{
-    read_long_number(left.next()?)
-}
-
-/// The number that the next word tells.
-pub fn next_number(left: &mut Words<'_>) -> Option<u32>
-    ensures told { IfSome result (λ n. (number : List ℕ) × (words left.old ≡ number ∷ words left.new)
-        × TellsNumber n number) }
-    ensures none { IfNone result ((n : ℕ) (number : List ℕ) (more : List (List ℕ)) → words left.old ≡ number ∷ more
-        → TellsNumber n number → ⊥) }
-{
-    read_number(left.next()?)
 }
 
 /// A side alone.
@@ -94,7 +62,7 @@ pub fn link_alone(left: &mut Words<'_>) -> Option<u64>
     ensures none { IfNone result ((n : ℕ) (number : List ℕ) → words left.old ≡ number ∷ []
         → TellsLongNumber n number → ⊥) }
 {
-    let link = next_link(left)?;
+    let link = next_long_number(left)?;
     if left.next().is_some() {
         return None;
     }
@@ -108,7 +76,7 @@ pub fn link_and_side(left: &mut Words<'_>) -> Option<(u64, Side)>
     ensures none { IfNone result ((n : ℕ) (side : Side) (number : List ℕ)
         → words left.old ≡ number ∷ side_name side ∷ [] → TellsLongNumber n number → ⊥) }
 {
-    let link = next_link(left)?;
+    let link = next_long_number(left)?;
     let side = side_alone(left)?;
     Some((link, side))
 }
@@ -134,24 +102,9 @@ pub fn link_side_and_number(left: &mut Words<'_>) -> Option<(u64, Side, u32)>
     ensures none { IfNone result ((m : ℕ) (side : Side) (n : ℕ) (number a : List ℕ)
         → words left.old ≡ number ∷ side_name side ∷ a ∷ [] → TellsLongNumber m number → TellsNumber n a → ⊥) }
 {
-    let link = next_link(left)?;
+    let link = next_long_number(left)?;
     let (side, number) = side_and_number(left)?;
     Some((link, side, number))
-}
-
-/// Two numbers.
-fn two_numbers(left: &mut Words<'_>) -> Option<(u32, u32)>
-    ensures told { IfSome result (λ r. (a b : List ℕ) × (words left.old ≡ a ∷ b ∷ []) × TellsNumber r.0 a
-        × TellsNumber r.1 b) }
-    ensures none { IfNone result ((n k : ℕ) (a b : List ℕ) → words left.old ≡ a ∷ b ∷ [] → TellsNumber n a
-        → TellsNumber k b → ⊥) }
-{
-    let first = next_number(left)?;
-    let second = next_number(left)?;
-    if left.next().is_some() {
-        return None;
-    }
-    Some((first, second))
 }
 
 /// A link and two numbers.
@@ -161,7 +114,7 @@ pub fn link_and_numbers(left: &mut Words<'_>) -> Option<(u64, u32, u32)>
     ensures none { IfNone result ((m n k : ℕ) (number a b : List ℕ) → words left.old ≡ number ∷ a ∷ b ∷ []
         → TellsLongNumber m number → TellsNumber n a → TellsNumber k b → ⊥) }
 {
-    let link = next_link(left)?;
+    let link = next_long_number(left)?;
     let (first, second) = two_numbers(left)?;
     Some((link, first, second))
 }
@@ -172,9 +125,6 @@ pub fn side_and_word<'a>(left: &mut Words<'a>) -> Option<(Side, &'a [u8])>
     ensures none { IfNone result ((side : Side) (word : List ℕ) → words left.old ≡ side_name side ∷ word ∷ [] → ⊥) }
 {
     let side = next_side(left)?;
-    let word = left.next()?;
-    if left.next().is_some() {
-        return None;
-    }
+    let word = word_alone(left)?;
     Some((side, word))
 }

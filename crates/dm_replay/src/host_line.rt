@@ -5,9 +5,10 @@ ghost use Rattle.dm_text.specs.Numbers.{TellsNumber};
 ghost use Rattle.dm_replay.specs.HappeningLines.{side_name};
 ghost use Rattle.dm_replay.specs.HostLines.{Host, TellsHost};
 
-use crate::arguments::{next_number, next_side};
+use crate::arguments::next_side;
 use dm_base::is_name;
 use dm_text::Words;
+use dm_words::next_number;
 use dm_world::Side;
 
 /// What a script says of a peer: its host and its application.

@@ -1,0 +1,17 @@
+//! The last word of a line.
+ghost use Rattle.std.specs.Prelude.{◌≡◌, ◌∷◌, [], ℕ, List, IfSome, IfNone};
+ghost use Rattle.dm_text.specs.Words.{words};
+
+use dm_text::Words;
+
+/// One word alone.
+pub fn word_alone<'a>(left: &mut Words<'a>) -> Option<&'a [u8]>
+    ensures told { IfSome result (λ word. words left.old ≡ word.now ∷ []) }
+    ensures none { IfNone result ((word : List ℕ) → words left.old ≡ word ∷ [] → ⊥) }
+{
+    let word = left.next()?;
+    if left.next().is_some() {
+        return None;
+    }
+    Some(word)
+}

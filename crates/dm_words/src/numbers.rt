@@ -1,0 +1,39 @@
+//! Numbers that the next words tell.
+ghost use Rattle.std.specs.Prelude.{◌≡◌, ◌∷◌, [], ℕ, List, IfSome, IfNone};
+ghost use Rattle.dm_text.specs.Words.{words};
+ghost use Rattle.dm_text.specs.Numbers.{TellsNumber, TellsLongNumber};
+
+use crate::last_word::word_alone;
+use dm_text::{Words, read_long_number, read_number};
+
+/// The number of 64 bits that the next word tells.
+pub fn next_long_number(left: &mut Words<'_>) -> Option<u64>
+    ensures told { IfSome result (λ n. (number : List ℕ) × (words left.old ≡ number ∷ words left.new)
+        × TellsLongNumber n number) }
+    ensures none { IfNone result ((n : ℕ) (number : List ℕ) (more : List (List ℕ)) → words left.old ≡ number ∷ more
+        → TellsLongNumber n number → ⊥) }
+{
+    read_long_number(left.next()?)
+}
+
+/// The number of 32 bits that the next word tells.
+pub fn next_number(left: &mut Words<'_>) -> Option<u32>
+    ensures told { IfSome result (λ n. (number : List ℕ) × (words left.old ≡ number ∷ words left.new)
+        × TellsNumber n number) }
+    ensures none { IfNone result ((n : ℕ) (number : List ℕ) (more : List (List ℕ)) → words left.old ≡ number ∷ more
+        → TellsNumber n number → ⊥) }
+{
+    read_number(left.next()?)
+}
+
+/// Two numbers of 32 bits alone.
+pub fn two_numbers(left: &mut Words<'_>) -> Option<(u32, u32)>
+    ensures told { IfSome result (λ r. (first second : List ℕ) × (words left.old ≡ first ∷ second ∷ [])
+        × TellsNumber r.0 first × TellsNumber r.1 second) }
+    ensures none { IfNone result ((n m : ℕ) (first second : List ℕ) → words left.old ≡ first ∷ second ∷ []
+        → TellsNumber n first → TellsNumber m second → ⊥) }
+{
+    let first = next_number(left)?;
+    let second = read_number(word_alone(left)?)?;
+    Some((first, second))
+}
