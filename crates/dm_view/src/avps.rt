@@ -8,8 +8,8 @@ ghost use Rattle.dm_wire.specs.Printed.{data_text};
 ghost use Rattle.dm_dict.specs.Rules.{definition};
 ghost use Rattle.dm_view.specs.View.{avp_name, front_view, avp_view, avps_view, group_view};
 
+use crate::behind_name::put_behind_name;
 use crate::data::put_data;
-use crate::front::put_behind_name;
 use crate::words::{put_indent, put_octets_behind, put_octets_name};
 use dm_dict::{AvpDef, AvpType, Dictionary};
 use dm_wire::{AvpRef, AvpsRef, spells_avps};

@@ -3,12 +3,12 @@
 #![tactic(auto)]
 
 mod avps;
+mod behind_name;
 mod clean;
 mod data;
 mod described;
 mod described_data;
 mod faults;
-mod front;
 mod header;
 mod json_avps;
 mod json_data;

@@ -11,7 +11,7 @@ ghost use Rattle.dm_view.specs.JsonCheck.{check_members};
 ghost use Rattle.dm_view.specs.JsonView.{message_members};
 ghost use Rattle.dm_view_lines.specs.Json.{fronted_json};
 
-use crate::fronted::Front;
+use crate::front::Front;
 use dm_dict::{Dictionary, NoMemory};
 use dm_view::{JsonText, put_json_check, put_json_message};
 use dm_wire::MessageRef;

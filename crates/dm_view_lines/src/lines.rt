@@ -5,7 +5,7 @@ ghost use Rattle.std.specs.String.{string_bytes};
 ghost use Rattle.dm_view_lines.specs.Digits.{octets_of_line};
 ghost use Rattle.dm_view_lines.specs.Lines.{SaysLine, SaysLines, Says};
 
-use crate::bad::put_bad_line;
+use crate::bad_line::put_bad_line;
 use crate::digits::read_line;
 use crate::said::{Task, put_octets};
 use crate::tally::{Tally, put_last};

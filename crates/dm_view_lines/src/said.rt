@@ -9,10 +9,10 @@ ghost use Rattle.dm_view.specs.View.{message_view};
 ghost use Rattle.dm_dict.specs.Located.{located_faults};
 ghost use Rattle.dm_view_lines.specs.Said.{message_answer, refused_said, SaysFronted};
 
-use crate::front::{put_checked_refusal, put_shown_refusal};
-use crate::fronted::Front;
-use crate::json_front::{put_json_checked_refusal, put_json_shown_refusal};
+use crate::front::Front;
+use crate::json_refused::{put_json_checked_refusal, put_json_shown_refusal};
 use crate::json_said::{put_json_checked, put_json_shown};
+use crate::refused::{put_checked_refusal, put_shown_refusal};
 use dm_dict::{Dictionary, NoMemory};
 use dm_view::{put_check, put_message};
 use dm_wire::{MessageRef, WireFault};

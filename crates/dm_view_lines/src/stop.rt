@@ -5,7 +5,7 @@ ghost use Rattle.dm_view_lines.specs.Counts.{tallied, tally_of};
 ghost use Rattle.dm_view_lines.specs.Frames.{stream_refusal, line_stopped, part_words, stop_line, stop_text};
 ghost use Rattle.dm_view_lines.specs.Frames.{stop_verdict};
 
-use crate::bad::put_bad_line;
+use crate::bad_line::put_bad_line;
 use crate::json_parts::put_error_line;
 use crate::reasons::refusal_sentence;
 use crate::said::Task;

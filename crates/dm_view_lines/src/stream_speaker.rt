@@ -5,10 +5,10 @@ ghost use Rattle.dm_view_lines.specs.Frames.{stop_of};
 ghost use Rattle.dm_view_lines.specs.Speakers.{ReadsLine, StreamGoes};
 
 use crate::frames::Reading;
-use crate::payload::{part_of, put_line};
 use crate::said::Task;
 use crate::speaker::Speaker;
 use crate::stop::Stop;
+use crate::stream_lines::{part_of, put_line};
 use crate::tally::Tally;
 use dm_dict::{Dictionary, NoMemory};
 use dm_framer::Framer;

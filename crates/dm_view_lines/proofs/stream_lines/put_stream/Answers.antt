@@ -3,7 +3,7 @@ use Rattle.std.specs.Str.Lines.{lines}
 use Rattle.std.specs.String.{string_bytes}
 use Rattle.dm_view_lines.proofs.Steps.{line_counts, lines-next}
 use Rattle.dm_view_lines.proofs.Streamed.{so-none, so-next, so-stop}
-use Rattle.dm_view_lines.proofs.payload.put_stream.Goals as goal
+use Rattle.dm_view_lines.proofs.stream_lines.put_stream.Goals as goal
 
 pub loop-line-init : goal.loop-line-init
 loop-line-init c =

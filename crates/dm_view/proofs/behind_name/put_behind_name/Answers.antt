@@ -8,8 +8,8 @@ use Rattle.std.specs.Str.{IsAscii}
 use Rattle.dm_wire.specs.declared.avp.Avp.{Avp}
 use Rattle.dm_wire.specs.Borrowed.{avp_of}
 use Rattle.dm_wire.specs.Printed.{avp_front_text, avp_marks, vendor_text}
-use Rattle.dm_view.proofs.front.put_behind_name.Goals as goal
-use Rattle.dm_view.proofs.front.put_behind_name.Goals.{After-fill_before-start}
+use Rattle.dm_view.proofs.behind_name.put_behind_name.Goals as goal
+use Rattle.dm_view.proofs.behind_name.put_behind_name.Goals.{After-fill_before-start}
 
 -- code, vendor and letters, one behind the other
 flat : (a : Avp) → 32 ∷ avp_front_text a

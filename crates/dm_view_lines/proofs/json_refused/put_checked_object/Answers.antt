@@ -3,7 +3,7 @@ use Rattle.json.specs.Token.{begin_object}
 use Rattle.json.specs.Tree.{members_tokens}
 use Rattle.dm_view_lines.specs.Json.{error_member, bad_members, checked_before}
 use Rattle.dm_view_lines.specs.Reasons.{refusal_sentence}
-use Rattle.dm_view_lines.proofs.json_front.put_checked_object.Goals as goal
+use Rattle.dm_view_lines.proofs.json_refused.put_checked_object.Goals as goal
 
 pub returns : goal.returns
 returns g c =

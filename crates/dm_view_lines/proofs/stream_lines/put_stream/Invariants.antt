@@ -3,7 +3,7 @@ use Rattle.std.specs.Str.Lines.{lines}
 use Rattle.std.specs.String.{string_bytes}
 use Rattle.dm_wire.specs.Codes.{max_message_len}
 use Rattle.dm_view_lines.proofs.Streamed.{SoFar}
-use Rattle.dm_view_lines.proofs.payload.put_stream.Given as goal
+use Rattle.dm_view_lines.proofs.stream_lines.put_stream.Given as goal
 
 -- The lines before, which were counted, are hexadecimal; of their octets this is said, and the rest of them is held.
 abbrev pub invariant-loop-line : goal.invariant-loop-line

@@ -2,7 +2,7 @@ use Rattle.std.proofs.Common.{◌≡◌, [], is_some, take, ap}
 use Rattle.std.specs.Prelude.{unwrap_or}
 use Rattle.std.proofs.lemmas.List.{take_rest}
 use Rattle.dm_view_lines.specs.Before.{avps_before}
-use Rattle.dm_view_lines.proofs.front.front_of.Goals as goal
+use Rattle.dm_view_lines.proofs.refused.front_of.Goals as goal
 
 pub invariant_of-result : goal.invariant_of-result
 invariant_of-result c =

@@ -3,7 +3,7 @@ ghost use Rattle.std.specs.Prelude.{◌≡◌, ◌++◌, ◌∷◌, [], OnOk};
 ghost use Rattle.std.specs.String.{string_bytes};
 ghost use Rattle.dm_view_lines.specs.Said.{bad_said, numbered};
 
-use crate::fronted::Front;
+use crate::front::Front;
 use crate::json_parts::put_error_line;
 use crate::said::Task;
 use std::alloc::{AllocError, Global};

@@ -6,7 +6,7 @@ ghost use Rattle.std.specs.Str.{IsAscii};
 ghost use Rattle.std.specs.String.{string_bytes};
 ghost use Rattle.dm_wire.specs.Borrowed.{avp_of};
 ghost use Rattle.dm_wire.specs.Printed.{flag_mark, avp_marks, avp_front_text, vendor_text};
-ghost use Rattle.dm_view.specs.declared.front.TheConstants.{LETTERS as letters, FRONT_SIZE as front_size};
+ghost use Rattle.dm_view.specs.declared.behind_name.TheConstants.{LETTERS as letters, FRONT_SIZE as front_size};
 
 use dm_wire::AvpRef;
 use itoa::write_digits;

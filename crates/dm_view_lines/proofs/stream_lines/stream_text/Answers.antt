@@ -2,7 +2,7 @@ use Rattle.std.proofs.Common.{◌≡◌, ◌+◌, [], append_assoc, ap, ◌∙�
 use Rattle.std.specs.String.{string_bytes}
 use Rattle.dm_view_lines.specs.Frames.{stop_text}
 use Rattle.dm_view_lines.proofs.Pieces.{frames-counted}
-use Rattle.dm_view_lines.proofs.payload.stream_text.Goals as goal
+use Rattle.dm_view_lines.proofs.stream_lines.stream_text.Goals as goal
 
 pub returns : goal.returns
 returns c =

@@ -7,10 +7,10 @@ ghost use Rattle.dm_wire.specs.Refusal.{Refuses};
 ghost use Rattle.dm_view_lines.specs.Json.{fronted_json, error_member, bad_members, shown_before, checked_before};
 ghost use Rattle.dm_view_lines.specs.Reasons.{refusal_sentence};
 
-use crate::front::front_of;
-use crate::fronted::Front;
+use crate::front::Front;
 use crate::json_parts::{put_bad, put_error};
 use crate::reasons::refusal_sentence;
+use crate::refused::front_of;
 use dm_dict::Dictionary;
 use dm_view::{JsonText, put_json_header, put_json_message};
 use dm_wire::WireFault;
