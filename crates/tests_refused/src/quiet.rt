@@ -60,7 +60,7 @@ fn is_found(base: &Dictionary) -> bool {
         && base.vendor_by_name(b"Acme").is_none()
 }
 
-/// The Result-Code of a message, none where it is good.
+/// The Result-Code of a message; None where it is good, and where the octets are none.
 fn code_of(base: &Dictionary, octets: &[u8]) -> Option<u32> {
     match base.judge(&MessageRef::read(octets).ok()?) {
         Judged::Good => None,
