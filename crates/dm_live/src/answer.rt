@@ -9,7 +9,7 @@ ghost use Rattle.dm_live.specs.Answers.{ignored_line, Answers};
 ghost use Rattle.dm_live.specs.Meetings.{met_with, TakesMet, MeetsNext, MeetsOut, HearsMet, AnswersMet};
 ghost use Rattle.dm_live.specs.OrderLines.{told_order};
 
-use crate::answer_lines::{push_actions, push_refusal, push_state, push_turn};
+use crate::answer_lines::{put_actions, put_refusal, put_state, put_turn};
 use crate::order_line::OrderLine;
 use dm_machine::Conn;
 use dm_session::{Acquaintance, Order, Session};
@@ -51,7 +51,7 @@ pub fn answer_met(
 {
     take_order(alloc, session, known, order.peer_order(), text)?;
     hear_behind(alloc, session, known, order, text)?;
-    push_state(text, session.peer())?;
+    put_state(text, session.peer())?;
     Ok(())
 }
 
@@ -69,15 +69,15 @@ fn take_order(
         × (string_bytes text.new ≡ string_bytes text.old ++ own)) }
 {
     match session.take_met(alloc, order, known) {
-        Ok(Some(actions)) => push_actions(text, actions.as_slice()),
-        Ok(None) => push_ignored(text, order),
-        Err(fault) => push_refusal(text, fault),
+        Ok(Some(actions)) => put_actions(text, actions.as_slice()),
+        Ok(None) => put_ignored(text, order),
+        Err(fault) => put_refusal(text, fault),
     }
 }
 
 /// Appends that an order told no event, where it is one of those that tell one.
 #[tactic(auto, unfolding(crate::specs::Answers::ignored_line))]
-fn push_ignored(text: &mut String, order: Order<'_>) -> Result<(), AllocError>
+fn put_ignored(text: &mut String, order: Order<'_>) -> Result<(), AllocError>
     ensures { OnOk result (string_bytes text.new ≡ string_bytes text.old ++ ignored_line (order_asked order.entry)) }
 {
     match order {
@@ -146,7 +146,7 @@ fn hear_next(
 {
     match session.next_met(alloc, conn, known) {
         Ok(Some(turn)) => {
-            push_turn(text, &turn)?;
+            put_turn(text, &turn)?;
             Ok(true)
         }
         Ok(None) => Ok(false),

@@ -18,19 +18,19 @@ use std::alloc::AllocError;
 
 /// Appends the line of an action.
 #[tactic(auto, unfolding(crate::specs::AnswerLines::action_line))]
-fn push_action(text: &mut String, action: &Action) -> Result<(), AllocError>
+fn put_action(text: &mut String, action: &Action) -> Result<(), AllocError>
     ensures { OnOk result (string_bytes text.new ≡ string_bytes text.old ++ action_line action.now) }
 {
     match action {
         Action::Connect(conn) => end_with_number(text, "connect ", conn.0),
-        Action::Send(conn, octets) => push_message(text, *conn, octets.as_slice()),
+        Action::Send(conn, octets) => put_message(text, *conn, octets.as_slice()),
         Action::Close(conn) => end_with_number(text, "close ", conn.0),
         Action::Up(octets) => end_with_octets(text, "up ", octets.as_slice()),
     }
 }
 
 /// Appends the line of a message that is sent.
-fn push_message(text: &mut String, conn: Conn, message: &[u8]) -> Result<(), AllocError>
+fn put_message(text: &mut String, conn: Conn, message: &[u8]) -> Result<(), AllocError>
     ensures { OnOk result (string_bytes text.new ≡ string_bytes text.old
         ++ codes "send " ++ decimal conn.0 ++ codes " " ++ encode_lower message.now ++ 10 ∷ []) }
 {
@@ -40,18 +40,18 @@ fn push_message(text: &mut String, conn: Conn, message: &[u8]) -> Result<(), All
 }
 
 /// Appends the lines of actions, in order.
-pub fn push_actions(text: &mut String, actions: &[Action]) -> Result<(), AllocError>
+pub fn put_actions(text: &mut String, actions: &[Action]) -> Result<(), AllocError>
     ensures { OnOk result (string_bytes text.new ≡ string_bytes text.old ++ action_lines actions.now) }
 {
     for action in actions {
-        push_action(text, action)?;
+        put_action(text, action)?;
     }
     Ok(())
 }
 
 /// Appends that a whole message came, where one did.
 #[tactic(auto, unfolding(crate::specs::AnswerLines::arrival_line))]
-pub(crate) fn push_arrival(text: &mut String, arrived: Option<Conn>) -> Result<(), AllocError>
+pub(crate) fn put_arrival(text: &mut String, arrived: Option<Conn>) -> Result<(), AllocError>
     ensures { OnOk result (string_bytes text.new ≡ string_bytes text.old ++ arrival_line arrived) }
 {
     match arrived {
@@ -61,16 +61,16 @@ pub(crate) fn push_arrival(text: &mut String, arrived: Option<Conn>) -> Result<(
 }
 
 /// Appends the lines of a message that was told, or of a fault.
-pub fn push_turn(text: &mut String, turn: &Turn) -> Result<(), AllocError>
+pub fn put_turn(text: &mut String, turn: &Turn) -> Result<(), AllocError>
     ensures { OnOk result (string_bytes text.new ≡ string_bytes text.old ++ turn_lines (as_turn turn.now)) }
 {
-    push_arrival(text, turn.arrived)?;
-    push_actions(text, turn.actions.as_slice())
+    put_arrival(text, turn.arrived)?;
+    put_actions(text, turn.actions.as_slice())
 }
 
 /// Appends why an order was refused. Want of memory has no words, and is answered as such.
 #[tactic(auto, unfolding(crate::specs::AnswerLines::refusal_line))]
-pub fn push_refusal(text: &mut String, fault: PeerFault) -> Result<(), AllocError>
+pub fn put_refusal(text: &mut String, fault: PeerFault) -> Result<(), AllocError>
     ensures words { OnOk result (string_bytes text.new ≡ string_bytes text.old ++ refusal_line fault) }
     ensures known { OnOk result (fault ≢ PeerFault.NoMemory) }
 {
@@ -83,7 +83,7 @@ pub fn push_refusal(text: &mut String, fault: PeerFault) -> Result<(), AllocErro
 }
 
 /// Appends that the line of this number has this fault.
-pub(crate) fn push_fault(text: &mut String, number: u64, name: &str) -> Result<(), AllocError>
+pub(crate) fn put_fault(text: &mut String, number: u64, name: &str) -> Result<(), AllocError>
     ensures { OnOk result (string_bytes text.new ≡ string_bytes text.old ++ fault_answer number name.now) }
 {
     text.push_str("fault ")?;
@@ -95,7 +95,7 @@ pub(crate) fn push_fault(text: &mut String, number: u64, name: &str) -> Result<(
 
 /// Appends the connection, where one is held, behind its letter.
 #[tactic(auto, unfolding(crate::specs::AnswerLines::held_words))]
-fn push_held(text: &mut String, letter: &str, held: Option<Conn>) -> Result<(), AllocError>
+fn put_held(text: &mut String, letter: &str, held: Option<Conn>) -> Result<(), AllocError>
     ensures { OnOk result (string_bytes text.new ≡ string_bytes text.old ++ held_words letter.now held) }
 {
     if let Some(conn) = held {
@@ -107,20 +107,20 @@ fn push_held(text: &mut String, letter: &str, held: Option<Conn>) -> Result<(), 
 
 /// Appends how the peer stands.
 #[tactic(auto, unfolding(crate::specs::AnswerLines::state_line))]
-pub fn push_state(text: &mut String, peer: &Peer) -> Result<(), AllocError>
+pub fn put_state(text: &mut String, peer: &Peer) -> Result<(), AllocError>
     ensures { OnOk result (string_bytes text.new ≡ string_bytes text.old ++ state_line peer.now) }
 {
     text.push_str("state ")?;
-    push_standing(text, peer)
+    put_standing(text, peer)
 }
 
 /// Appends the peer's state, and the connections that it holds.
-pub(crate) fn push_standing(text: &mut String, peer: &Peer) -> Result<(), AllocError>
+pub(crate) fn put_standing(text: &mut String, peer: &Peer) -> Result<(), AllocError>
     ensures { OnOk result (string_bytes text.new ≡ string_bytes text.old ++ standing_words peer.now) }
 {
     text.push_str(peer.state().name())?;
-    push_held(text, " i", peer.initiated())?;
-    push_held(text, " r", peer.accepted())?;
+    put_held(text, " i", peer.initiated())?;
+    put_held(text, " r", peer.accepted())?;
     text.push_str("\n")?;
     Ok(())
 }

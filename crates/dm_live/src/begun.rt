@@ -7,7 +7,7 @@ ghost use Rattle.dm_live.specs.Drafts.{settings_of};
 ghost use Rattle.dm_live.specs.Served.{fault_answer};
 ghost use Rattle.dm_live.specs.Stages.{IsBegun};
 
-use crate::answer_lines::push_fault;
+use crate::answer_lines::put_fault;
 use crate::draft::Draft;
 use crate::peers::node_session;
 use dm_node_session::NodeSession;
@@ -50,7 +50,7 @@ fn begin_nothing(number: u64, name: &str, text: &mut String) -> Result<Begun, Al
     ensures nothing { IfOk result (λ begun. begun ≡ Begun.Nothing) }
     ensures answer { OnOk result (string_bytes text.new ≡ string_bytes text.old ++ fault_answer number name.now) }
 {
-    push_fault(text, number, name)?;
+    put_fault(text, number, name)?;
     Ok(Begun::Nothing)
 }
 

@@ -11,13 +11,13 @@ ghost use Rattle.dm_live.specs.Settings.{no_settings};
 ghost use Rattle.dm_live.specs.Stages.{stage_of};
 
 use crate::answer::answer_met;
-use crate::answer_lines::push_fault;
+use crate::answer_lines::put_fault;
 use crate::begun::{Begun, begin};
 use crate::draft::Draft;
 use crate::form::Form;
 use crate::node_line::answer_node_line;
 use crate::order_line::read_order;
-use crate::sender_lines::{is_sender, push_sender};
+use crate::sender_lines::{is_sender, put_sender};
 use dm_session::{Acquaintance, Session};
 use dm_text::Words;
 use std::alloc::{AllocError, Global};
@@ -108,7 +108,7 @@ fn answer_setting(
     if draft.take_line(line)? {
         Ok(())
     } else {
-        push_fault(text, number, "Syntax")
+        put_fault(text, number, "Syntax")
     }
 }
 
@@ -127,7 +127,7 @@ fn answer_told(
         × (string_bytes text.new ≡ string_bytes text.old ++ answer)) }
 {
     if is_sender(line) {
-        push_sender(alloc, text, known)?;
+        put_sender(alloc, text, known)?;
         return text.push_str(".\n");
     }
     match read_order(alloc, Form::Alone, line)? {
@@ -135,6 +135,6 @@ fn answer_told(
             answer_met(alloc, session, known, &order, text)?;
             text.push_str(".\n")
         }
-        None => push_fault(text, number, "Syntax"),
+        None => put_fault(text, number, "Syntax"),
     }
 }

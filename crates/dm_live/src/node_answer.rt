@@ -9,7 +9,7 @@ ghost use Rattle.dm_live.specs.NodeAnswers.{node_turn_lines, node_turns_lines, w
 ghost use Rattle.dm_live.specs.OrderLines.{node_asked};
 
 use crate::node_answer_lines::{
-    push_event, push_event_refusal, push_neighbour, push_node_turn, push_states_behind, push_untold,
+    put_event, put_event_refusal, put_neighbour, put_node_turn, put_states_behind, put_untold,
 };
 use dm_machine::Conn;
 use dm_node_session::{EventFault, NodeOrder, NodeSession};
@@ -31,7 +31,7 @@ pub fn answer_node(
 {
     let who = take_node_order(alloc, session, order, text)?;
     let last = hear_node_behind(alloc, session, order, who, text)?;
-    push_states_behind(text, session.neighbours(), order, last)
+    put_states_behind(text, session.neighbours(), order, last)
 }
 
 /// Appends what an order comes to by itself, and answers whom it concerns.
@@ -47,17 +47,17 @@ fn take_node_order(
 {
     match session.take(alloc, order) {
         Ok(Some(answer)) => {
-            push_event(text, &answer)?;
+            put_event(text, &answer)?;
             Ok(answer.neighbour)
         }
         Ok(None) => {
-            push_untold(text, order)?;
+            put_untold(text, order)?;
             Ok(set_back_by(order))
         }
         Err(fault) => {
             let who = refused_by(order, fault);
-            push_neighbour(text, who)?;
-            push_event_refusal(text, fault)?;
+            put_neighbour(text, who)?;
+            put_event_refusal(text, fault)?;
             Ok(who)
         }
     }
@@ -161,7 +161,7 @@ fn hear_node_next(
 {
     match session.next(alloc, conn) {
         Ok(Some(turn)) => {
-            push_node_turn(text, &turn)?;
+            put_node_turn(text, &turn)?;
             *last = turn.answer.neighbour.or(*last);
             Ok(true)
         }

@@ -10,7 +10,7 @@ ghost use Rattle.dm_live.specs.NodeAnswers.{neighbour_state_line, neighbours_sta
 ghost use Rattle.dm_live.specs.NodeAnswers.{states_behind};
 ghost use Rattle.dm_live.specs.OrderLines.{node_asked};
 
-use crate::answer_lines::{push_actions, push_arrival, push_refusal, push_standing};
+use crate::answer_lines::{put_actions, put_arrival, put_refusal, put_standing};
 use crate::line_ends::end_with_number;
 use dm_node_session::{EventFault, Neighbours, NodeActions, NodeOrder, NodeTurn, Peer};
 use dm_text::put_decimal;
@@ -18,7 +18,7 @@ use std::alloc::AllocError;
 
 /// Appends which neighbour an event concerned, where it concerned one.
 #[tactic(auto, unfolding(crate::specs::NodeAnswers::neighbour_line))]
-pub(crate) fn push_neighbour(text: &mut String, index: Option<usize>) -> Result<(), AllocError>
+pub(crate) fn put_neighbour(text: &mut String, index: Option<usize>) -> Result<(), AllocError>
     ensures { OnOk result (string_bytes text.new ≡ string_bytes text.old ++ neighbour_line index) }
 {
     match index {
@@ -28,25 +28,25 @@ pub(crate) fn push_neighbour(text: &mut String, index: Option<usize>) -> Result<
 }
 
 /// Appends the lines of what an event asked for.
-pub(crate) fn push_event(text: &mut String, answer: &NodeActions) -> Result<(), AllocError>
+pub(crate) fn put_event(text: &mut String, answer: &NodeActions) -> Result<(), AllocError>
     ensures { OnOk result (string_bytes text.new ≡ string_bytes text.old ++ event_lines (as_answer answer.now)) }
 {
-    push_neighbour(text, answer.neighbour)?;
-    push_actions(text, answer.actions.as_slice())
+    put_neighbour(text, answer.neighbour)?;
+    put_actions(text, answer.actions.as_slice())
 }
 
 /// Appends the lines of a message that was told, or of a fault.
-pub(crate) fn push_node_turn(text: &mut String, turn: &NodeTurn) -> Result<(), AllocError>
+pub(crate) fn put_node_turn(text: &mut String, turn: &NodeTurn) -> Result<(), AllocError>
     ensures { OnOk result (string_bytes text.new ≡ string_bytes text.old ++ node_turn_lines (as_node_turn turn.now)) }
 {
-    push_neighbour(text, turn.answer.neighbour)?;
-    push_arrival(text, turn.arrived)?;
-    push_actions(text, turn.answer.actions.as_slice())
+    put_neighbour(text, turn.answer.neighbour)?;
+    put_arrival(text, turn.arrived)?;
+    put_actions(text, turn.answer.actions.as_slice())
 }
 
 /// Appends that an order told no event, where it is one of those that tell one.
 #[tactic(auto, unfolding(crate::specs::Answers::ignored_line))]
-pub(crate) fn push_untold(text: &mut String, order: NodeOrder<'_>) -> Result<(), AllocError>
+pub(crate) fn put_untold(text: &mut String, order: NodeOrder<'_>) -> Result<(), AllocError>
     ensures { OnOk result (string_bytes text.new
         ≡ string_bytes text.old ++ ignored_line (node_asked order.entry).order) }
 {
@@ -61,53 +61,53 @@ pub(crate) fn push_untold(text: &mut String, order: NodeOrder<'_>) -> Result<(),
 
 /// Appends why an order was refused. Want of memory has no words, and is answered as such.
 #[tactic(auto, unfolding(crate::specs::NodeAnswers::event_refusal_line))]
-pub(crate) fn push_event_refusal(text: &mut String, fault: EventFault) -> Result<(), AllocError>
+pub(crate) fn put_event_refusal(text: &mut String, fault: EventFault) -> Result<(), AllocError>
     ensures words { OnOk result (string_bytes text.new ≡ string_bytes text.old ++ event_refusal_line fault) }
     ensures known { OnOk result (fault ≢ faults.Peer peer_faults.NoMemory) }
 {
     match fault {
         EventFault::NoNeighbour => text.push_str("refused NoNeighbour\n"),
         EventFault::Held => text.push_str("refused Held\n"),
-        EventFault::Peer(fault) => push_refusal(text, fault),
+        EventFault::Peer(fault) => put_refusal(text, fault),
     }
 }
 
 /// Appends how the neighbour of the number stands.
 #[tactic(auto, unfolding(crate::specs::NodeAnswers::neighbour_state_line))]
-fn push_peer_state(text: &mut String, index: usize, peer: &Peer) -> Result<(), AllocError>
+fn put_peer_state(text: &mut String, index: usize, peer: &Peer) -> Result<(), AllocError>
     ensures { OnOk result (string_bytes text.new
         ≡ string_bytes text.old ++ neighbour_state_line index (Some peer.now)) }
 {
     text.push_str("state ")?;
     put_decimal(text, index as u64)?;
     text.push_str(" ")?;
-    push_standing(text, peer)
+    put_standing(text, peer)
 }
 
 /// Appends how the neighbour of a place stands, where one is there.
 #[tactic(auto, unfolding(crate::specs::NodeAnswers::neighbour_state_line))]
-fn push_place_state(text: &mut String, index: usize, place: &Option<Peer>) -> Result<(), AllocError>
+fn put_place_state(text: &mut String, index: usize, place: &Option<Peer>) -> Result<(), AllocError>
     ensures { OnOk result (string_bytes text.new ≡ string_bytes text.old ++ neighbour_state_line index place.now) }
 {
     match place {
-        Some(peer) => push_peer_state(text, index, peer),
+        Some(peer) => put_peer_state(text, index, peer),
         None => Ok(()),
     }
 }
 
 /// Appends how each neighbour stands, in order.
-fn push_all_states(text: &mut String, places: &[Option<Peer>]) -> Result<(), AllocError>
+fn put_all_states(text: &mut String, places: &[Option<Peer>]) -> Result<(), AllocError>
     ensures { OnOk result (string_bytes text.new ≡ string_bytes text.old ++ neighbours_state_lines 0 places.now) }
 {
     'place: for index in 0..places.len() {
-        push_place_state(text, index, &places[index])?;
+        put_place_state(text, index, &places[index])?;
     }
     Ok(())
 }
 
 /// Appends how the neighbour of the number stands, if there is one.
 #[tactic(auto, unfolding(crate::specs::NodeAnswers::neighbour_state_line))]
-fn push_state_at(
+fn put_state_at(
     text: &mut String,
     neighbours: &Neighbours,
     index: Option<usize>,
@@ -119,13 +119,13 @@ fn push_state_at(
         return Ok(());
     };
     match neighbours.peer(index) {
-        Some(peer) => push_peer_state(text, index, peer),
+        Some(peer) => put_peer_state(text, index, peer),
         None => Ok(()),
     }
 }
 
 /// Appends how each neighbour stands behind an order that concerned all, or else the one that it concerned last.
-pub(crate) fn push_states_behind(
+pub(crate) fn put_states_behind(
     text: &mut String,
     neighbours: &Neighbours,
     order: NodeOrder<'_>,
@@ -135,7 +135,7 @@ pub(crate) fn push_states_behind(
         ≡ string_bytes text.old ++ states_behind order.entry last neighbours.now.peers) }
 {
     match order {
-        NodeOrder::ResetAll => push_all_states(text, neighbours.iter().as_slice()),
-        _ => push_state_at(text, neighbours, last),
+        NodeOrder::ResetAll => put_all_states(text, neighbours.iter().as_slice()),
+        _ => put_state_at(text, neighbours, last),
     }
 }

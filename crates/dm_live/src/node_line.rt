@@ -4,7 +4,7 @@ ghost use Rattle.std.specs.String.{string_bytes};
 ghost use Rattle.dm_node_session.specs.NodeSeen.{node_session_of};
 ghost use Rattle.dm_live.specs.Served.{AnswersNodeOrder};
 
-use crate::answer_lines::push_fault;
+use crate::answer_lines::put_fault;
 use crate::form::Form;
 use crate::node_answer::answer_node;
 use crate::order_line::read_order;
@@ -28,6 +28,6 @@ pub(crate) fn answer_node_line(
             answer_node(alloc, session, order.order(), text)?;
             text.push_str(".\n")
         }
-        None => push_fault(text, number, "Syntax"),
+        None => put_fault(text, number, "Syntax"),
     }
 }

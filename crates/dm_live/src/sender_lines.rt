@@ -32,7 +32,7 @@ pub(crate) fn is_sender(line: &[u8]) -> bool
 
 /// Appends a name and octets.
 #[tactic(auto, unfolding(crate::specs::SenderLines::octets_line))]
-fn push_octets(text: &mut String, name: &str, octets: &[u8]) -> Result<(), AllocError>
+fn put_octets(text: &mut String, name: &str, octets: &[u8]) -> Result<(), AllocError>
     ensures { OnOk result (string_bytes text.new ≡ string_bytes text.old ++ octets_line name.now octets.now) }
 {
     text.push_str(name)?;
@@ -41,7 +41,7 @@ fn push_octets(text: &mut String, name: &str, octets: &[u8]) -> Result<(), Alloc
 
 /// Appends a name and a number.
 #[tactic(auto, unfolding(crate::specs::SenderLines::number_line))]
-fn push_number(text: &mut String, name: &str, number: u32) -> Result<(), AllocError>
+fn put_number(text: &mut String, name: &str, number: u32) -> Result<(), AllocError>
     ensures { OnOk result (string_bytes text.new ≡ string_bytes text.old ++ number_line name.now number) }
 {
     text.push_str(name)?;
@@ -50,39 +50,39 @@ fn push_number(text: &mut String, name: &str, number: u32) -> Result<(), AllocEr
 
 /// Appends the name and the number, where there is one.
 #[tactic(auto, unfolding(crate::specs::SenderLines::number_line_if_any, crate::specs::SenderLines::number_lines))]
-fn push_if_any(text: &mut String, name: &str, number: Option<u32>) -> Result<(), AllocError>
+fn put_if_any(text: &mut String, name: &str, number: Option<u32>) -> Result<(), AllocError>
     ensures { OnOk result (string_bytes text.new ≡ string_bytes text.old ++ number_line_if_any name.now number) }
 {
     match number {
-        Some(number) => push_number(text, name, number),
+        Some(number) => put_number(text, name, number),
         None => Ok(()),
     }
 }
 
 /// Appends the name and each number.
 #[tactic(auto, unfolding(crate::specs::SenderLines::number_lines))]
-fn push_numbers(text: &mut String, name: &str, numbers: &[u32]) -> Result<(), AllocError>
+fn put_numbers(text: &mut String, name: &str, numbers: &[u32]) -> Result<(), AllocError>
     ensures { OnOk result (string_bytes text.new ≡ string_bytes text.old ++ number_lines name.now numbers.now) }
 {
     for number in numbers {
-        push_number(text, name, *number)?;
+        put_number(text, name, *number)?;
     }
     Ok(())
 }
 
 /// Appends what the sender says in names.
 #[tactic(auto, unfolding(crate::specs::SenderLines::name_lines))]
-fn push_names(text: &mut String, sender: SenderRef<'_>) -> Result<(), AllocError>
+fn put_names(text: &mut String, sender: SenderRef<'_>) -> Result<(), AllocError>
     ensures { (l : List Avp) → HasAvps sender.entry l
         → OnOk result (string_bytes text.new ≡ string_bytes text.old ++ name_lines l) }
 {
-    push_octets(text, "host", sender.host())?;
-    push_octets(text, "realm", sender.realm())?;
-    push_octets(text, "product", sender.product())
+    put_octets(text, "host", sender.host())?;
+    put_octets(text, "realm", sender.realm())?;
+    put_octets(text, "product", sender.product())
 }
 
 /// Appends the applications that the sender says.
-fn push_applications(
+fn put_applications(
     alloc: Global,
     text: &mut String,
     sender: SenderRef<'_>,
@@ -92,7 +92,7 @@ fn push_applications(
 {
     match sender.applications(alloc) {
         Ok(ids) => {
-            let done = push_numbers(text, "application", ids.as_slice());
+            let done = put_numbers(text, "application", ids.as_slice());
             drop(ids);
             done
         }
@@ -101,13 +101,13 @@ fn push_applications(
 }
 
 /// Appends the vendors that the sender supports.
-fn push_vendors(alloc: Global, text: &mut String, sender: SenderRef<'_>) -> Result<(), AllocError>
+fn put_vendors(alloc: Global, text: &mut String, sender: SenderRef<'_>) -> Result<(), AllocError>
     ensures { (l : List Avp) → HasAvps sender.entry l → OnOk result (string_bytes text.new
         ≡ string_bytes text.old ++ number_lines (codes "supports") (numbers_told supported_vendor_id l)) }
 {
     match sender.vendors(alloc) {
         Ok(ids) => {
-            let done = push_numbers(text, "supports", ids.as_slice());
+            let done = put_numbers(text, "supports", ids.as_slice());
             drop(ids);
             done
         }
@@ -117,36 +117,36 @@ fn push_vendors(alloc: Global, text: &mut String, sender: SenderRef<'_>) -> Resu
 
 /// Appends what the sender says in numbers.
 #[tactic(auto, unfolding(crate::specs::SenderLines::version_lines))]
-fn push_version(text: &mut String, sender: SenderRef<'_>) -> Result<(), AllocError>
+fn put_version(text: &mut String, sender: SenderRef<'_>) -> Result<(), AllocError>
     ensures { (l : List Avp) → HasAvps sender.entry l
         → OnOk result (string_bytes text.new ≡ string_bytes text.old ++ version_lines l) }
 {
-    push_if_any(text, "vendor", sender.vendor())?;
-    push_if_any(text, "firmware", sender.firmware())
+    put_if_any(text, "vendor", sender.vendor())?;
+    put_if_any(text, "firmware", sender.firmware())
 }
 
 /// Appends what the sender can do, and its state.
 #[tactic(auto, unfolding(crate::specs::SenderLines::ability_lines))]
-fn push_ability(alloc: Global, text: &mut String, sender: SenderRef<'_>) -> Result<(), AllocError>
+fn put_ability(alloc: Global, text: &mut String, sender: SenderRef<'_>) -> Result<(), AllocError>
     ensures { (l : List Avp) → HasAvps sender.entry l
         → OnOk result (string_bytes text.new ≡ string_bytes text.old ++ ability_lines l) }
 {
-    push_applications(alloc, text, sender)?;
-    push_vendors(alloc, text, sender)?;
-    push_if_any(text, "origin-state", sender.state_id())
+    put_applications(alloc, text, sender)?;
+    put_vendors(alloc, text, sender)?;
+    put_if_any(text, "origin-state", sender.state_id())
 }
 
 /// Appends what is said of the sender, or that there is nobody.
 #[tactic(auto, unfolding(crate::specs::SenderLines::exchange_lines))]
-fn push_exchange(alloc: Global, text: &mut String, known: &Acquaintance) -> Result<(), AllocError>
+fn put_exchange(alloc: Global, text: &mut String, known: &Acquaintance) -> Result<(), AllocError>
     ensures { OnOk result (string_bytes text.new
         ≡ string_bytes text.old ++ exchange_lines (exchange_in known.now.octets)) }
 {
     match known.sender() {
         Some(sender) => {
-            push_names(text, sender)?;
-            push_version(text, sender)?;
-            push_ability(alloc, text, sender)
+            put_names(text, sender)?;
+            put_version(text, sender)?;
+            put_ability(alloc, text, sender)
         }
         None => text.push_str("nobody\n"),
     }
@@ -154,7 +154,7 @@ fn push_exchange(alloc: Global, text: &mut String, known: &Acquaintance) -> Resu
 
 /// Appends that the other side has begun anew, where it has.
 #[tactic(auto, unfolding(crate::specs::SenderLines::anew_line))]
-fn push_anew(text: &mut String, is_anew: bool) -> Result<(), AllocError>
+fn put_anew(text: &mut String, is_anew: bool) -> Result<(), AllocError>
     ensures { OnOk result (string_bytes text.new ≡ string_bytes text.old ++ anew_line is_anew) }
 {
     if is_anew {
@@ -164,14 +164,14 @@ fn push_anew(text: &mut String, is_anew: bool) -> Result<(), AllocError>
 }
 
 /// Appends who the other side is, or that nobody was met, and its Origin-State-Id of the time before.
-pub(crate) fn push_sender(
+pub(crate) fn put_sender(
     alloc: Global,
     text: &mut String,
     known: &Acquaintance,
 ) -> Result<(), AllocError>
     ensures { OnOk result (string_bytes text.new ≡ string_bytes text.old ++ sender_lines known.now) }
 {
-    push_exchange(alloc, text, known)?;
-    push_if_any(text, "origin-state-before", known.state_before())?;
-    push_anew(text, known.is_anew())
+    put_exchange(alloc, text, known)?;
+    put_if_any(text, "origin-state-before", known.state_before())?;
+    put_anew(text, known.is_anew())
 }

@@ -8,8 +8,8 @@ use Rattle.dm_live.specs.Meetings.{met_with}
 use Rattle.dm_live.proofs.Options.{some-holds, none-holds}
 use Rattle.dm_live.proofs.answer.hear_next.Goals as goal
 
-pub returns-in_ok-push_turn-in-Ok-Some-clause-told : goal.returns-in_ok-push_turn-in-Ok-Some-clause-told
-returns-in_ok-push_turn-in-Ok-Some-clause-told c =
+pub returns-in_ok-put_turn-in-Ok-Some-clause-told : goal.returns-in_ok-put_turn-in-Ok-Some-clause-told
+returns-in_ok-put_turn-in-Ok-Some-clause-told c =
     let s = session_of c.args.session.now in
     let t = session_of c.next_met.new.self in
     let Next : Turn → Type 0 = λ turn. TellsNext c.args.conn s (as_turn turn) t in
@@ -19,7 +19,7 @@ returns-in_ok-push_turn-in-Ok-Some-clause-told c =
     let is = c.in-Ok-Some.field-0-is in
     let next = some-holds Next field c.in-Ok-Some.turn is c.in-Ok-Some.ensures.turn in
     let met = some-holds Met field c.in-Ok-Some.turn is c.in-Ok-Some.ensures.met in
-    λ _. (as_turn c.in-Ok-Some.turn, (next, met), c.in_ok-push_turn-in-Ok-Some.ensures)
+    λ _. (as_turn c.in-Ok-Some.turn, (next, met), c.in_ok-put_turn-in-Ok-Some.ensures)
 
 pub returns-in-Ok-None-clause-out : goal.returns-in-Ok-None-clause-out
 returns-in-Ok-None-clause-out c =

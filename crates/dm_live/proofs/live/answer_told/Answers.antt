@@ -24,9 +24,9 @@ returns-in-None c =
     ((o : NodeOrder) → TellsOrder Alone (node_asked o) c.args.line.now → ⊥)
     (λ o. TellsOrder Alone (told_order o) c.args.line.now) in
     untold_line _ _ c.args.line.now (met_with (session_of c.args.session.now) c.args.known.now) _ _
-    (c.is_sender.ensures.none c.if-is_sender.false) (subst Read c.in-None.is c.in_ok-order.ensures) c.push_fault.ensures
+    (c.is_sender.ensures.none c.if-is_sender.false) (subst Read c.in-None.is c.in_ok-order.ensures) c.put_fault.ensures
 
 pub returns-then-is_sender : goal.returns-then-is_sender
 returns-then-is_sender c =
     sender_line _ c.args.number c.args.line.now (met_with (session_of c.args.session.now) c.args.known.now) _ _ _
-    (c.is_sender.ensures.told c.if-is_sender.true) c.in_ok-push_sender.ensures c.push_str.ensures.bytes
+    (c.is_sender.ensures.told c.if-is_sender.true) c.in_ok-put_sender.ensures c.push_str.ensures.bytes

@@ -6,4 +6,4 @@ returns c =
     let own = c.in_ok-who.ensures in
     let heard = c.in_ok-last.ensures in
     node_answered _ _ _ _ _ _ _ _ _ _ _ _ _ _ own.1 heard.1 heard.2 c.neighbours.ensures.peers own.2 heard.3
-    c.push_states_behind.ensures
+    c.put_states_behind.ensures

@@ -7,15 +7,15 @@ use Rattle.dm_node_session.specs.NodeTurns.{as_node_turn}
 use Rattle.dm_live.proofs.Options.{some-holds, none-holds}
 use Rattle.dm_live.proofs.node_answer.hear_node_next.Goals as goal
 
-pub returns-in_ok-push_node_turn-in-Ok-Some-clause-told :
-    goal.returns-in_ok-push_node_turn-in-Ok-Some-clause-told
-returns-in_ok-push_node_turn-in-Ok-Some-clause-told c =
+pub returns-in_ok-put_node_turn-in-Ok-Some-clause-told :
+    goal.returns-in_ok-put_node_turn-in-Ok-Some-clause-told
+returns-in_ok-put_node_turn-in-Ok-Some-clause-told c =
     let s = node_session_of c.args.session.now in
     let t = node_session_of c.next.new.self in
     let Next : NodeTurn → Type 0 = λ turn. NodeTellsNext c.args.conn s (as_node_turn turn) t in
     let turn = c.in-Ok-Some.turn in
     let next = some-holds Next c.in-Ok-Some.field-0 turn c.in-Ok-Some.field-0-is c.in-Ok-Some.ensures.turn in
-    λ _. (as_node_turn turn, next, c.or.ensures, c.in_ok-push_node_turn-in-Ok-Some.ensures)
+    λ _. (as_node_turn turn, next, c.or.ensures, c.in_ok-put_node_turn-in-Ok-Some.ensures)
 
 pub returns-in-Ok-None-clause-out : goal.returns-in-Ok-None-clause-out
 returns-in-Ok-None-clause-out c =

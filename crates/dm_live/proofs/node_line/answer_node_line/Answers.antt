@@ -23,4 +23,4 @@ returns-in-None c =
     ((o : NodeOrder) → TellsOrder Several (node_asked o) c.args.line.now → ⊥)
     (λ o. TellsOrder Several (told_order o) c.args.line.now) in
     untold_node_line _ _ c.args.line.now (node_session_of c.args.session.now) _ _
-    (subst Read c.in-None.is c.in_ok-order.ensures) c.push_fault.ensures
+    (subst Read c.in-None.is c.in_ok-order.ensures) c.put_fault.ensures

@@ -1,7 +1,7 @@
 use Rattle.std.proofs.Common.{◌≡◌, ◌++◌, drop}
 use Rattle.std.specs.String.{string_bytes}
 use Rattle.dm_live.specs.NodeAnswers.{neighbours_state_lines}
-use Rattle.dm_live.proofs.node_answer_lines.push_all_states.Given as goal
+use Rattle.dm_live.proofs.node_answer_lines.put_all_states.Given as goal
 
 -- with how the others stand it is the whole
 abbrev pub invariant-place : goal.invariant-place

@@ -1,14 +1,14 @@
 use Rattle.std.proofs.Common.{append_assoc}
 use Rattle.dm_live.specs.AnswerLines.{standing_words}
-use Rattle.dm_live.proofs.answer_lines.push_standing.Goals as goal
+use Rattle.dm_live.proofs.answer_lines.put_standing.Goals as goal
 
 pub returns : goal.returns
 unfolding standing_words
 returns c =
     rw (
       c.in_ok-push_str-2.ensures.bytes,
-      c.in_ok-push_held-2.ensures,
-      c.in_ok-push_held.ensures,
+      c.in_ok-put_held-2.ensures,
+      c.in_ok-put_held.ensures,
       c.in_ok-push_str.ensures.bytes,
       c.name.ensures,
       c.state.ensures.value,
