@@ -59,7 +59,7 @@ fn has_none(words: &[String]) -> bool
 {
     match words {
         [] => true,
-        [..] => false,
+        [_, ..] => false,
     }
 }
 
