@@ -545,7 +545,7 @@ impl Driver {
     /// no such message.
     fn hear(&mut self, conn: Conn, told: usize) -> Result<usize> {
         let piece = self.piece.get(told..).unwrap_or(b"");
-        match self.session.hear(self.alloc, conn, piece) {
+        match self.session.hear(self.alloc, &(), conn, piece) {
             Ok(Some(heard)) => {
                 let noted = self.notes.note(&heard.turn.answer);
                 let length = heard.len;
@@ -574,7 +574,7 @@ impl Driver {
 
     /// Whether something that was kept is told.
     fn tell_next(&mut self, conn: Conn) -> Result<bool> {
-        match self.session.next(self.alloc, conn) {
+        match self.session.next(self.alloc, &(), conn) {
             Ok(Some(turn)) => {
                 let noted = self.notes.note(&turn.answer);
                 drop(turn);

@@ -4,6 +4,7 @@ use Rattle.std.proofs.Common.{Result, Ok, Err, OnOk}
 use Rattle.std.proofs.lemmas.List.{flat_map_more}
 use Rattle.std.specs.Option.{option_or}
 use Rattle.dm_machine.specs.declared.connection.Conn.{Conn}
+use Rattle.dm_node.specs.Policies.{no_strangers}
 use Rattle.dm_peer.specs.declared.peer.Peer.{Peer}
 use Rattle.dm_node_session.specs.declared.node_order.NodeOrder.{NodeOrder}
 use Rattle.dm_node_session.specs.NodeSessions.{NodeSession, NodeTurn, NodeTellsNext}
@@ -13,9 +14,10 @@ use Rattle.dm_live.specs.NodeAnswers.{NodeTakesAs, NodeHearsOut, AnswersNode}
 
 -- one turn more
 pub node_along_push : (c : Conn) (s m t : NodeSession) (turns : List NodeTurn) (turn : NodeTurn)
-    → NodeTellsAlong c s turns m → NodeTellsNext c m turn t → NodeTellsAlong c s (turns ++ turn ∷ []) t
+    → NodeTellsAlong no_strangers c s turns m → NodeTellsNext no_strangers c m turn t
+    → NodeTellsAlong no_strangers c s (turns ++ turn ∷ []) t
 node_along_push c s m t [] turn along next =
-    let From : NodeSession → Type 0 = λ v. NodeTellsNext c v turn t in (t, subst From (sym along) next, refl)
+    let From : NodeSession → Type 0 = λ v. NodeTellsNext no_strangers c v turn t in (t, subst From (sym along) next, refl)
 node_along_push c s m t (first ∷ turns) turn along next =
     (along.0, along.1, node_along_push c along.0 m t turns turn along.2 next)
 

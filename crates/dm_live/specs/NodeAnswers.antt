@@ -7,6 +7,7 @@ use Rattle.dm_machine.specs.declared.connection.Conn.{Conn}
 use Rattle.dm_node.specs.declared.fault.EventFault.{EventFault}
 use Rattle.dm_node.specs.declared.fault.EventFault.TheVariants as fault
 use Rattle.dm_node.specs.Holding.{peer_at}
+use Rattle.dm_node.specs.Policies.{no_strangers}
 use Rattle.dm_peer.specs.declared.peer.Peer.{Peer}
 use Rattle.dm_node_session.specs.declared.node_order.NodeOrder.{NodeOrder}
 use Rattle.dm_node_session.specs.declared.node_order.NodeOrder.TheVariants as order
@@ -66,7 +67,7 @@ NodeTakesAs o s who t text =
 
 -- what came on connection c is told turn by turn until nothing is left to tell
 abbrev pub NodeTellsOut : Conn → NodeSession → List NodeTurn → NodeSession → Type 0
-NodeTellsOut c s turns t = NodeTellsAlong c s turns t × NodeIsOut c t
+NodeTellsOut c s turns t = NodeTellsAlong no_strangers c s turns t × NodeIsOut c t
 
 -- behind octets what came is told, behind another order nothing
 abbrev pub NodeHearsOut : NodeOrder → NodeSession → List NodeTurn → NodeSession → Type 0

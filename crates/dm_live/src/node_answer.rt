@@ -2,6 +2,7 @@
 ghost use Rattle.std.specs.Prelude.{◌≡◌, ◌++◌, ℕ, List, None, true, false, IfOk, OnOk};
 ghost use Rattle.std.specs.Option.{option_or};
 ghost use Rattle.std.specs.String.{string_bytes};
+ghost use Rattle.dm_node.specs.Policies.{no_strangers};
 ghost use Rattle.dm_node_session.specs.NodeSeen.{node_session_of};
 ghost use Rattle.dm_node_session.specs.NodeSessions.{NodeTurn as OneNodeTurn, NodeTellsNext, NodeIsOut};
 ghost use Rattle.dm_live.specs.NodeAnswers.{NodeTakesAs, NodeTellsOut, NodeHearsOut, AnswersNode};
@@ -152,14 +153,14 @@ fn hear_node_next(
     text: &mut String,
 ) -> Result<bool, AllocError>
     ensures told { IfOk result (λ more. more ≡ true → (turn : OneNodeTurn)
-        × NodeTellsNext conn (node_session_of session.old) turn (node_session_of session.new)
+        × NodeTellsNext no_strangers conn (node_session_of session.old) turn (node_session_of session.new)
         × (last.new ≡ option_or turn.answer.neighbour last.old)
         × (string_bytes text.new ≡ string_bytes text.old ++ node_turn_lines turn)) }
     ensures out { IfOk result (λ more. more ≡ false → NodeIsOut conn (node_session_of session.new)
         × (node_session_of session.new ≡ node_session_of session.old) × (last.new ≡ last.old)
         × (string_bytes text.new ≡ string_bytes text.old)) }
 {
-    match session.next(alloc, conn) {
+    match session.next(alloc, &(), conn) {
         Ok(Some(turn)) => {
             put_node_turn(text, &turn)?;
             *last = turn.answer.neighbour.or(*last);

@@ -15,7 +15,7 @@ use Rattle.dm_node.specs.Calling.{Caller, caller_of, answer_to}
 use Rattle.dm_node.specs.Holding.{peer_at, holds, holds_it, holds_at, host_at, AreApart}
 use Rattle.dm_node.specs.Owning.{has, IsResettled}
 use Rattle.dm_node.specs.Policies.{Policy, IsMadeFor, IsUnfit, MakesFor, MakesNoneFor}
-use Rattle.dm_node.specs.Strangers.{present, IsStrangeHost, IsPermitted, IsForbidden, Joins, StaysOut, NodeMovesWith, TellsConcerned, NodeIsTold}
+use Rattle.dm_node.specs.Strangers.{present, IsStrangeHost, IsPermitted, IsForbidden, Joins, StaysOut, NodeMoves, TellsConcerned, NodeIsTold}
 use Rattle.dm_node.specs.Telling.{Concerns, IsAddressed, PeerIsTold, told_of}
 use Rattle.dm_node.specs.declared.events.NodeEvent.{NodeEvent}
 use Rattle.dm_node.specs.declared.events.NodeEvent.TheVariants as event
@@ -191,13 +191,13 @@ forbids_none policy ps octets calls c host h = let never = sym h.calls ∙ calls
 pub welcomed : (policy : Policy) (c : Conn) (octets : List ℕ) (n : Node) (ps qs : List (Option Peer)) (who : Option ℕ)
     (actions : List Action) (k : Config) → ((i : ℕ) → IsAddressed ps c octets i → ⊥) →
     IsPermitted policy ps c octets k → IfSome who (λ i. Joins ps qs i c octets actions k) →
-    IfNone who (StaysOut ps qs c octets actions k) → NodeMovesWith policy c octets n ps who actions qs
+    IfNone who (StaysOut ps qs c octets actions k) → NodeMoves policy c octets n ps who actions qs
 welcomed policy c octets n ps qs (Some i) actions k nobody permitted joins out = inr (k, permitted, joins)
 welcomed policy c octets n ps qs None actions k nobody permitted joins out = (nobody, inl (k, permitted, out))
 
 pub turned_off : (policy : Policy) (c : Conn) (octets : List ℕ) (n : Node) (ps : List (Option Peer)) (who : Option ℕ)
     (actions : List Action) → ((i : ℕ) → IsAddressed ps c octets i → ⊥) → IsForbidden policy ps c octets →
-    who ≡ None → actions ≡ answer_to n c (caller_of octets) → NodeMovesWith policy c octets n ps who actions ps
+    who ≡ None → actions ≡ answer_to n c (caller_of octets) → NodeMoves policy c octets n ps who actions ps
 turned_off policy c octets n ps None actions nobody forbidden is answer = (nobody, inr (answer, refl, forbidden))
 turned_off policy c octets n ps (Some i) actions nobody forbidden is answer = absurd (cc)
 
@@ -211,7 +211,7 @@ pub told_so : (policy : Policy) (e : NodeEvent) (n : Node) (ps qs : List (Option
     (actions : List Action) → Concerns ps e i → who ≡ Some i → PeerIsTold ps qs i (told_of e) actions →
     NodeIsTold policy e n ps who actions qs
 told_so policy (event.Arrived c octets) n ps qs i who actions concerns is told =
-    subst (λ w. NodeMovesWith policy c octets.now n ps w actions qs) (sym is) (inl (concerns, told))
+    subst (λ w. NodeMoves policy c octets.now n ps w actions qs) (sym is) (inl (concerns, told))
 told_so policy (event.Start m c) n ps qs i who actions concerns is told =
     concerned_told (event.Start m c) ps qs i who actions concerns is told
 told_so policy (event.Stop m cause) n ps qs i who actions concerns is told =

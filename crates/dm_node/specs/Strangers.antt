@@ -57,12 +57,12 @@ pub record StaysOut (ps qs : List (Option Peer)) (c : Conn) (octets : List ℕ) 
 -- What octets of a connection do to a node that has a policy: the one neighbour that they concern is told them, and
 -- nothing happens to the others; or they concern nobody. Then a host that is permitted becomes a neighbour by its CER,
 -- or its peer is Closed behind it; and to all else a stranger is answered and closed, and nothing happens to anybody.
-abbrev pub NodeMovesWith :
+abbrev pub NodeMoves :
     Policy → Conn → List ℕ → Node → List (Option Peer) → Option ℕ → List Action → List (Option Peer) → Type 0
-NodeMovesWith policy c octets n ps (Some i) actions qs =
+NodeMoves policy c octets n ps (Some i) actions qs =
     (IsAddressed ps c octets i × PeerIsTold ps qs i (Arrived c octets) actions)
     ⊎ ((config : Config) × IsPermitted policy ps c octets config × Joins ps qs i c octets actions config)
-NodeMovesWith policy c octets n ps None actions qs =
+NodeMoves policy c octets n ps None actions qs =
     ((i : ℕ) → IsAddressed ps c octets i → ⊥)
     × (((config : Config) × IsPermitted policy ps c octets config × StaysOut ps qs c octets actions config)
     ⊎ ((actions ≡ answer_to n c (caller_of octets)) × (qs ≡ ps) × IsForbidden policy ps c octets))
@@ -76,5 +76,5 @@ TellsConcerned e ps None actions qs = ((i : ℕ) → Concerns ps e i → ⊥) ×
 -- What an event does to a node that has a policy, which concerns octets alone.
 abbrev pub NodeIsTold :
     Policy → NodeEvent → Node → List (Option Peer) → Option ℕ → List Action → List (Option Peer) → Type 0
-NodeIsTold policy (event.Arrived c octets) n ps who actions qs = NodeMovesWith policy c octets.now n ps who actions qs
+NodeIsTold policy (event.Arrived c octets) n ps who actions qs = NodeMoves policy c octets.now n ps who actions qs
 NodeIsTold policy e n ps who actions qs = TellsConcerned e ps who actions qs

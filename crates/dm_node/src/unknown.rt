@@ -2,7 +2,7 @@
 ghost use Rattle.std.specs.Prelude.{◌≡◌, ℕ, None, IfOk, IfErr, OnOk, OnErr, IsSome, All};
 ghost use Rattle.dm_node.specs.Calling.{caller_of, answer_to};
 ghost use Rattle.dm_node.specs.Rosters.{IsRoster};
-ghost use Rattle.dm_node.specs.Strangers.{NodeMovesWith, NodeIsTold};
+ghost use Rattle.dm_node.specs.Strangers.{NodeMoves, NodeIsTold};
 ghost use Rattle.dm_node.specs.Telling.{Concerns, IsAddressed, IsStrangeCer};
 ghost use Rattle.dm_node.specs.declared.fault.EventFault.TheVariants as faults;
 ghost use Rattle.dm_peer.specs.Spelled.{SendsSpelling};
@@ -50,7 +50,7 @@ fn meet_stranger<S: Strangers>(
 ) -> Result<NodeActions, EventFault>
     requires roster { IsRoster roster.old }
     requires nobody { (i : ℕ) → IsAddressed roster.old.peers.items conn octets.now i → ⊥ }
-    ensures moved { IfOk result (λ r. NodeMovesWith (S.policy strangers.now) conn octets.now node.now
+    ensures moved { IfOk result (λ r. NodeMoves (S.policy strangers.now) conn octets.now node.now
         roster.old.peers.items r.neighbour r.actions.items roster.new.peers.items) }
     ensures spelled { IfOk result (λ r. All SendsSpelling r.actions.items) }
     ensures memory { IfErr result (λ f. (f ≡ faults.Peer peer_faults.NoMemory) × IsSome (caller_of octets.now)) }

@@ -8,5 +8,8 @@ pub mod Alone
 pub mod NodeCuts
 pub mod NodeHeard
 pub mod Newcomers
+pub mod NodeTold
+pub mod Configured
+pub mod OneMove
 pub mod NodeOnce
 pub mod NodeEnds

@@ -11,6 +11,8 @@ use Rattle.dm_machine.specs.Openings.{is_hold, names_it, LeavesOthersAlone, Clos
 use Rattle.dm_node.specs.Adding.{with_new}
 use Rattle.dm_node.specs.Calling.{caller_of, answer_to}
 use Rattle.dm_node.specs.Holding.{peer_at, holds_it, holds_at, AreApart}
+use Rattle.dm_node.specs.Policies.{Policy}
+use Rattle.dm_node.specs.Strangers.{IsPermitted, IsForbidden, Joins, StaysOut, NodeMoves}
 use Rattle.dm_node.specs.Telling.{IsAddressed, IsFree}
 use Rattle.dm_peer.specs.declared.actions.Action.{Action}
 use Rattle.dm_peer.specs.declared.config.Config.{Config}
@@ -21,15 +23,14 @@ use Rattle.dm_peer.specs.Events.{Arrived}
 use Rattle.dm_peer.specs.Holding.{is_held, holds, OthersStayUnheld, ClosedIsUnheld}
 use Rattle.dm_peer.specs.Kept.{IsKept}
 use Rattle.dm_peer.specs.Said.{Heard}
-use Rattle.dm_peer.specs.Settled.{FreshIsSettled}
+use Rattle.dm_peer.specs.Settled.{FreshIsSettled, EachEventKeepsSettled}
 use Rattle.dm_peer.specs.Steps.{EachEventIsOneStep, Follows, IsStep}
 use Rattle.dm_session.specs.Intakes.{Intakes, is_there, actions_close}
 use Rattle.dm_session.specs.Naming.{NamesThere}
 use Rattle.dm_node_session.specs.NodeHeld.{AllHeldAreThere, AreKept}
-use Rattle.dm_node_session.specs.NodePolicies.{Policy, IsPermitted, IsForbidden, Joins, StaysOut, NodeMovesWith}
-use Rattle.dm_node_session.proofs.Closing.{CameOn, ClosesItsOwn, closes_shaped}
+use Rattle.dm_node_session.proofs.Closing.{ClosesItsOwn, closes_shaped}
 use Rattle.dm_node_session.proofs.NodeEmptying.{grown}
-use Rattle.dm_node_session.proofs.NodeMoving.{two_truths, unlike, held_told, kept_told, closed_told, closed_answer, free_of}
+use Rattle.dm_node_session.proofs.NodeMoving.{two_truths, unlike, free_of, held_told, kept_told, came_there, octets_alone, closed_told, closed_answer}
 
 -- what octets do to a peer: it takes no other connection
 not_named : (d : Conn) (s : List ℕ) (h : Option Heard) (c : Conn) → (d.0 == c.0) ≡ false →
@@ -79,6 +80,7 @@ takes_named step alone p q d octets actions shaped is c other free =
 pub record PeerLaws : Type 0 where
   pub step : EachEventIsOneStep
   pub fresh : FreshIsSettled
+  pub settled : EachEventKeepsSettled
   pub alone : LeavesOthersAlone
   pub gives_up : ClosesWhatItGivesUp
 
@@ -101,9 +103,6 @@ record ClosesAtMost (c d : Conn) (q : Peer) : Type 0 where
   pub same : c ≡ d
   pub unheld : holds d q ≡ false
 
-came_there : (c d : Conn) (octets : List ℕ) → CameOn (Arrived c octets) d → c ≡ d
-came_there c d octets (s, e) = cc e
-
 first_closes : PeerLaws → (k : Config) (q : Peer) (c d : Conn) (octets : List ℕ) (actions : List Action) →
     acts (new_peer k k.first_id) (Arrived c octets) ≡ Moved actions q → actions_close actions d.0 ≡ true → ClosesAtMost c d q
 first_closes laws k q c d octets actions is closing =
@@ -118,7 +117,7 @@ first_closes laws k q c d octets actions is closing =
     }
 
 -- whom an unknown host becomes
-last_at : (ps : List (Option Peer)) (y : Option Peer) → peer_at (ps ++ y ∷ []) (length ps) ≡ y
+pub last_at : (ps : List (Option Peer)) (y : Option Peer) → peer_at (ps ++ y ∷ []) (length ps) ≡ y
 last_at [] y = refl
 last_at (x ∷ xs) y = last_at xs y
 
@@ -126,7 +125,7 @@ one_some : (p q : Peer) → Some p ≡ Some q → p ≡ q
 one_some p q e = cc
 
 -- a new peer was told the octets
-joined : (ps qs : List (Option Peer)) (i : ℕ) (c : Conn) (octets : List ℕ) (actions : List Action) (k : Config)
+pub joined : (ps qs : List (Option Peer)) (i : ℕ) (c : Conn) (octets : List ℕ) (actions : List Action) (k : Config)
     (h : Joins ps qs i c octets actions k) →
     acts (new_peer k k.first_id) (Arrived c octets) ≡ Moved actions h.told.after
 joined ps qs i c octets actions k h =
@@ -204,26 +203,26 @@ peers_stay policy c octets n ps qs actions (inl (k, permitted, out)) = out.same
 peers_stay policy c octets n ps qs actions (inr (answer, same, forbidden)) = same
 
 -- what is held behind octets is there
-pub held_with : OthersStayUnheld → PeerLaws → (policy : Policy) (c : Conn) (octets : List ℕ) (n : Node)
+pub held_octets : OthersStayUnheld → PeerLaws → (policy : Policy) (c : Conn) (octets : List ℕ) (n : Node)
     (ps qs : List (Option Peer)) (who : Option ℕ) (actions : List Action) → AreKept ps →
-    NodeMovesWith policy c octets n ps who actions qs → (f : Intakes) → AllHeldAreThere ps f →
+    NodeMoves policy c octets n ps who actions qs → (f : Intakes) → AllHeldAreThere ps f →
     NamesThere (Arrived c octets) f → AllHeldAreThere qs f
-held_with others laws policy c octets n ps qs (Some i) actions kept (inl m) f there named =
+held_octets others laws policy c octets n ps qs (Some i) actions kept (inl m) f there named =
     held_told others ps qs i (Arrived c octets) actions f kept m.1 there named
-held_with others laws policy c octets n ps qs (Some i) actions kept (inr (k, permitted, joins)) f there named =
+held_octets others laws policy c octets n ps qs (Some i) actions kept (inr (k, permitted, joins)) f there named =
     held_joined laws ps qs i c octets actions k f joins there named
-held_with others laws policy c octets n ps qs None actions kept m f there named =
+held_octets others laws policy c octets n ps qs None actions kept m f there named =
     subst (λ l. AllHeldAreThere l f) (sym (peers_stay policy c octets n ps qs actions m.1)) there
 
 -- each neighbour is kept behind them
-pub kept_with : (policy : Policy) (c : Conn) (octets : List ℕ) (n : Node) (ps qs : List (Option Peer)) (who : Option ℕ)
-    (actions : List Action) → AreKept ps → NodeMovesWith policy c octets n ps who actions qs →
+pub kept_octets : (policy : Policy) (c : Conn) (octets : List ℕ) (n : Node) (ps qs : List (Option Peer))
+    (who : Option ℕ) (actions : List Action) → AreKept ps → NodeMoves policy c octets n ps who actions qs →
     IfSome who (λ i. IfSome (peer_at qs i) IsKept) → AreKept qs
-kept_with policy c octets n ps qs (Some i) actions kept (inl m) looked =
+kept_octets policy c octets n ps qs (Some i) actions kept (inl m) looked =
     kept_told ps qs i (Arrived c octets) actions kept m.1 looked
-kept_with policy c octets n ps qs (Some i) actions kept (inr (k, permitted, joins)) looked =
+kept_octets policy c octets n ps qs (Some i) actions kept (inr (k, permitted, joins)) looked =
     kept_joined ps qs i c octets actions k joins kept looked
-kept_with policy c octets n ps qs None actions kept m looked =
+kept_octets policy c octets n ps qs None actions kept m looked =
     subst AreKept (sym (peers_stay policy c octets n ps qs actions m.1)) kept
 
 -- what is closed nobody holds behind them
@@ -238,12 +237,13 @@ closed_nobody laws policy c octets n ps qs actions nobody (inr (answer, same, fo
     (closed_answer n c (caller_of octets) d (ap (λ l. actions_close l d.0) (sym answer) ∙ closing))
     (stranger_free ps c octets nobody))
 
-pub closed_with : ClosedIsUnheld → ClosesItsOwn → PeerLaws → (policy : Policy) (c : Conn) (octets : List ℕ) (n : Node)
+pub closed_octets : ClosedIsUnheld → ClosesItsOwn → PeerLaws → (policy : Policy) (c : Conn) (octets : List ℕ) (n : Node)
     (ps qs : List (Option Peer)) (who : Option ℕ) (actions : List Action) → AreKept ps → AreApart ps →
-    NodeMovesWith policy c octets n ps who actions qs → (d : Conn) → actions_close actions d.0 ≡ true → IsFree qs d
-closed_with closed own laws policy c octets n ps qs (Some i) actions kept apart (inl m) d closing =
-    closed_told closed own None (Arrived c octets) ps qs i actions kept apart m.0 m.1 d closing
-closed_with closed own laws policy c octets n ps qs (Some i) actions kept apart (inr (k, permitted, joins)) d closing =
-    closed_joined laws ps qs i c octets actions k joins (stranger_free ps c octets permitted.unknown.nobody) d closing
-closed_with closed own laws policy c octets n ps qs None actions kept apart m d closing =
+    NodeMoves policy c octets n ps who actions qs → (d : Conn) → actions_close actions d.0 ≡ true → IsFree qs d
+closed_octets closed own laws policy c octets n ps qs (Some i) actions kept apart (inl m) d closing =
+    closed_told closed own ps qs i (Arrived c octets) actions kept apart (octets_alone ps c octets i apart m.0) m.1 d
+    closing
+closed_octets closed own laws policy c octets n ps qs (Some i) actions kept apart (inr (k, permitted, joins)) d is =
+    closed_joined laws ps qs i c octets actions k joins (stranger_free ps c octets permitted.unknown.nobody) d is
+closed_octets closed own laws policy c octets n ps qs None actions kept apart m d closing =
     closed_nobody laws policy c octets n ps qs actions m.0 m.1 d closing

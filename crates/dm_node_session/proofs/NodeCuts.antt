@@ -7,13 +7,13 @@ use Rattle.std.specs.Option.{option_map}
 use Rattle.dm_framer.specs.Laws.{FaultStands}
 use Rattle.dm_machine.specs.Moves.{is_open}
 use Rattle.dm_machine.specs.declared.connection.Conn.{Conn}
+use Rattle.dm_node.specs.Policies.{Policy}
 use Rattle.dm_peer.specs.declared.actions.Action.{Action}
 use Rattle.dm_peer.specs.declared.peer.Peer.{Peer}
 use Rattle.dm_session.specs.Intakes.{Intake, Intakes, is_conn_number, with_intake, changed, fed_intake, broken_intake, with_max, actions_close, left_by, raised_at}
 use Rattle.dm_session.specs.Sessions.{own_of, other_of}
-use Rattle.dm_node_session.specs.NodePolicies.{Policy, NodeTellsMessageWith, NodeTellsAsWith, NodeTellsNextWith}
-use Rattle.dm_node_session.specs.NodeStreams.{TellsInTurn, NodeCutsAlike, NodeCutsAlikeWith}
-use Rattle.dm_node_session.specs.NodeSessions.{NodeSession, NodeTurn, NodeTellsNext, NodeAnswer, NodeTellsMessage, NodeTellsFault, NodeTellsAs, concerned_in, raised_for, node_fed, node_settled, with_node_intakes}
+use Rattle.dm_node_session.specs.NodeStreams.{NodeTellsAlong, NodeCutsAlike}
+use Rattle.dm_node_session.specs.NodeSessions.{NodeSession, NodeTurn, NodeAnswer, NodeTellsMessage, NodeTellsFault, NodeTellsAs, concerned_in, raised_for, node_fed, node_settled, with_node_intakes}
 
 -- what came and wasn't broken off
 abbrev with_octets : ℕ → List ℕ → Intake
@@ -139,9 +139,9 @@ there_fed c more s i there e =
     ap (λ b. cond b (option_map (fed_intake more) (s.intakes c.0)) (s.intakes c.0)) (eq-eqb c.0 c.0 refl)
     ∙ ap (option_map (fed_intake more)) there ∙ ap (λ v. Some v) (fed_whole more i e)
 
-message_fed : (c : Conn) (more : List ℕ) (s t : NodeSession) (answer : NodeAnswer) → NodeTellsMessage c s answer t →
-    NodeTellsMessage c (node_fed c more s) answer (node_fed c more t)
-message_fed c more s t answer h =
+message_fed : (policy : Policy) (c : Conn) (more : List ℕ) (s t : NodeSession) (answer : NodeAnswer) →
+    NodeTellsMessage policy c s answer t → NodeTellsMessage policy c (node_fed c more s) answer (node_fed c more t)
+message_fed policy c more s t answer h =
     let i = h.intake in
     let rest : Intake = record { octets = h.rest; max = i.max; is_broken = i.is_broken } in
     record {
@@ -163,9 +163,9 @@ message_fed c more s t answer h =
       };
     }
 
-fault_fed : FaultStands → (c : Conn) (more : List ℕ) (s t : NodeSession) (answer : NodeAnswer) →
-    NodeTellsFault c s answer t → NodeTellsFault c (node_fed c more s) answer (node_fed c more t)
-fault_fed stands c more s t answer h =
+fault_fed : FaultStands → (policy : Policy) (c : Conn) (more : List ℕ) (s t : NodeSession) (answer : NodeAnswer) →
+    NodeTellsFault policy c s answer t → NodeTellsFault policy c (node_fed c more s) answer (node_fed c more t)
+fault_fed stands policy c more s t answer h =
     let i = h.intake in
     record {
       intake = longer more i;
@@ -183,74 +183,24 @@ fault_fed stands c more s t answer h =
       };
     }
 
-pub next_fed : FaultStands → (arrived : Option Conn) (c : Conn) (more : List ℕ) (s t : NodeSession)
-    (answer : NodeAnswer) → NodeTellsAs arrived c s answer t →
-    NodeTellsAs arrived c (node_fed c more s) answer (node_fed c more t)
-next_fed stands None c more s t answer h = fault_fed stands c more s t answer h
-next_fed stands (Some d) c more s t answer h = (h.0, message_fed c more s t answer h.1)
+pub next_fed : FaultStands → (policy : Policy) (arrived : Option Conn) (c : Conn) (more : List ℕ) (s t : NodeSession)
+    (answer : NodeAnswer) → NodeTellsAs policy arrived c s answer t →
+    NodeTellsAs policy arrived c (node_fed c more s) answer (node_fed c more t)
+next_fed stands policy None c more s t answer h = fault_fed stands policy c more s t answer h
+next_fed stands policy (Some d) c more s t answer h = (h.0, message_fed policy c more s t answer h.1)
 
--- the same by a policy, which no fault concerns
-message_fed_with : (policy : Policy) (c : Conn) (more : List ℕ) (s t : NodeSession) (answer : NodeAnswer) →
-    NodeTellsMessageWith policy c s answer t →
-    NodeTellsMessageWith policy c (node_fed c more s) answer (node_fed c more t)
-message_fed_with policy c more s t answer h =
-    let i = h.intake in
-    let rest : Intake = record { octets = h.rest; max = i.max; is_broken = i.is_broken } in
-    record {
-      intake = longer more i;
-      message = h.message;
-      rest = h.rest ++ more;
-      there = there_fed c more s i h.there h.first.whole;
-      first = record {
-        whole = h.first.whole;
-        frame = h.first.frame;
-        octets = ap (λ l. l ++ more) h.first.octets ∙ append_assoc h.message h.rest more;
-      };
-      told = record {
-        peers = h.told.peers;
-        moved = h.told.moved;
-        left = ap (node_fed c more) h.told.left
-            ∙ fed_settled c more rest (longer more rest) answer.neighbour h.told.peers answer.actions s
-            (fed_whole more rest h.first.whole);
-      };
-    }
-
-pub next_fed_with : FaultStands → (policy : Policy) (arrived : Option Conn) (c : Conn) (more : List ℕ)
-    (s t : NodeSession) (answer : NodeAnswer) → NodeTellsAsWith policy arrived c s answer t →
-    NodeTellsAsWith policy arrived c (node_fed c more s) answer (node_fed c more t)
-next_fed_with stands policy None c more s t answer h = fault_fed stands c more s t answer h
-next_fed_with stands policy (Some d) c more s t answer h = (h.0, message_fed_with policy c more s t answer h.1)
-
--- turns behind which a piece may come that came before
-abbrev pub TellsFed : Conn → (NodeSession → NodeTurn → NodeSession → Type 0) → Type 0
-TellsFed c tells =
-    (more : List ℕ) (s t : NodeSession) (turn : NodeTurn) → tells s turn t →
-    tells (node_fed c more s) turn (node_fed c more t)
-
-along : (c : Conn) (tells : NodeSession → NodeTurn → NodeSession → Type 0) → TellsFed c tells → (more : List ℕ)
-    (s m t : NodeSession) (first others : List NodeTurn) → TellsInTurn tells s first m →
-    TellsInTurn tells (node_fed c more m) others t → TellsInTurn tells (node_fed c more s) (first ++ others) t
-along c tells fed more s m t [] others h k = subst (λ v. TellsInTurn tells (node_fed c more v) others t) (sym h) k
-along c tells fed more s m t (turn ∷ first) others h k = (
+along : FaultStands → (policy : Policy) (c : Conn) (more : List ℕ) (s m t : NodeSession)
+    (first others : List NodeTurn) → NodeTellsAlong policy c s first m → NodeTellsAlong policy c (node_fed c more m) others t →
+    NodeTellsAlong policy c (node_fed c more s) (first ++ others) t
+along stands policy c more s m t [] others h k =
+    subst (λ v. NodeTellsAlong policy c (node_fed c more v) others t) (sym h) k
+along stands policy c more s m t (turn ∷ first) others h k = (
   node_fed c more h.0,
-  fed more s h.0 turn h.1,
-  along c tells fed more h.0 m t first others h.2 k,
+  next_fed stands policy turn.arrived c more s h.0 turn.answer h.1,
+  along stands policy c more h.0 m t first others h.2 k,
 )
 
-cuts_in_turn : (c : Conn) (tells : NodeSession → NodeTurn → NodeSession → Type 0) → TellsFed c tells →
-    (piece more : List ℕ) (s m t : NodeSession) (first others : List NodeTurn) →
-    TellsInTurn tells (node_fed c piece s) first m → TellsInTurn tells (node_fed c more m) others t →
-    TellsInTurn tells (node_fed c (piece ++ more) s) (first ++ others) t
-cuts_in_turn c tells fed piece more s m t first others h k =
-    subst (λ v. TellsInTurn tells v (first ++ others) t) (fed_twice c piece more s)
-    (along c tells fed more (node_fed c piece s) m t first others h k)
-
 pub cuts_alike : FaultStands → NodeCutsAlike
-cuts_alike stands c =
-    cuts_in_turn c (NodeTellsNext c)
-    (λ more s t turn h. next_fed stands turn.arrived c more s t turn.answer h)
-
-pub cuts_alike_with : FaultStands → (policy : Policy) → NodeCutsAlikeWith policy
-cuts_alike_with stands policy c =
-    cuts_in_turn c (NodeTellsNextWith policy c)
-    (λ more s t turn h. next_fed_with stands policy turn.arrived c more s t turn.answer h)
+cuts_alike stands policy c piece more s m t first others h k =
+    subst (λ v. NodeTellsAlong policy c v (first ++ others) t) (fed_twice c piece more s)
+    (along stands policy c more (node_fed c piece s) m t first others h k)

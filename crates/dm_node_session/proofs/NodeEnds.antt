@@ -3,16 +3,16 @@ use Rattle.std.proofs.Common.{◌≡◌, inl, inr, ℕ, Bool, true, false, cond,
 use Rattle.std.specs.Option.{option_map}
 use Rattle.dm_machine.specs.Moves.{is_open}
 use Rattle.dm_machine.specs.declared.connection.Conn.{Conn}
+use Rattle.dm_node.specs.declared.events.NodeEvent.{NodeEvent}
+use Rattle.dm_node.specs.declared.events.NodeEvent.TheVariants as event
+use Rattle.dm_node.specs.Policies.{Policy}
 use Rattle.dm_peer.specs.declared.peer.Peer.{Peer}
-use Rattle.dm_peer.specs.Events.{PeerEvent}
-use Rattle.dm_peer.specs.Events as event
 use Rattle.dm_session.specs.Intakes.{Intake, Intakes, is_there, is_conn_number, with_intake, broken_intake, changed, taken_down, fed_intake, with_max, actions_close, left_by, raised_at}
 use Rattle.dm_session.specs.Sessions.{own_of, other_of}
 use Rattle.dm_node_session.specs.declared.node_order.NodeOrder.{NodeOrder}
 use Rattle.dm_node_session.specs.declared.node_order.NodeOrder.TheVariants as order
 use Rattle.dm_node_session.specs.NodeEnding.{IsOnConn}
 use Rattle.dm_node_session.specs.NodeOrders.{NodeTellsOnce, NodeTellsNothing, NodeTellsIfThere, NodeTellsNack, NodeTellsEnd, NodeTakes, ShutsUnheld}
-use Rattle.dm_node_session.specs.NodePolicies.{Policy, NodeTellsAsWith}
 use Rattle.dm_node_session.specs.NodeSessions.{NodeSession, NodeAnswer, NodeTellsAs, concerned_in, raised_for, node_settled, with_node_intakes}
 
 none_raised_at : (m : ℕ) (o : Option Conn) (f : Intakes) (d : ℕ) → f d ≡ None → raised_at m o f d ≡ None
@@ -45,40 +45,27 @@ with_rest c s i rest = with_node_intakes (with_intake c.0 (Some (record i { octe
 abbrev with_broken : Conn → NodeSession → Intake → NodeSession
 with_broken c s i = with_node_intakes (with_intake c.0 (Some (broken_intake i)) s.intakes) s
 
-pub close_is_last : (arrived : Option Conn) (c d : Conn) (s t : NodeSession) (answer : NodeAnswer) →
-    NodeTellsAs arrived c s answer t → actions_close answer.actions d.0 ≡ true → t.intakes d.0 ≡ None
-close_is_last None c d s t answer h is =
+pub close_is_last : (policy : Policy) (arrived : Option Conn) (c d : Conn) (s t : NodeSession) (answer : NodeAnswer) →
+    NodeTellsAs policy arrived c s answer t → actions_close answer.actions d.0 ≡ true → t.intakes d.0 ≡ None
+close_is_last policy None c d s t answer h is =
     closed_is_gone (with_broken c s h.intake) t answer h.told.peers d.0 h.told.left is
-close_is_last (Some e) c d s t answer h is =
-    closed_is_gone (with_rest c s h.1.intake h.1.rest) t answer h.1.told.peers d.0 h.1.told.left is
-
-pub close_is_last_with : (policy : Policy) (arrived : Option Conn) (c d : Conn) (s t : NodeSession)
-    (answer : NodeAnswer) → NodeTellsAsWith policy arrived c s answer t → actions_close answer.actions d.0 ≡ true →
-    t.intakes d.0 ≡ None
-close_is_last_with policy None c d s t answer h is =
-    closed_is_gone (with_broken c s h.intake) t answer h.told.peers d.0 h.told.left is
-close_is_last_with policy (Some e) c d s t answer h is =
+close_is_last policy (Some e) c d s t answer h is =
     closed_is_gone (with_rest c s h.1.intake h.1.rest) t answer h.1.told.peers d.0 h.1.told.left is
 
 some_and_none : (o : Option Intake) (i : Intake) → o ≡ None → o ≡ Some i → ⊥
 some_and_none o i none some = true≢false (ap is_some (sym some ∙ none))
 
-pub gone_tells_nothing : (arrived : Option Conn) (c : Conn) (s t : NodeSession) (answer : NodeAnswer) →
-    s.intakes c.0 ≡ None → NodeTellsAs arrived c s answer t → ⊥
-gone_tells_nothing None c s t answer none h = some_and_none (s.intakes c.0) h.intake none h.there
-gone_tells_nothing (Some e) c s t answer none h = some_and_none (s.intakes c.0) h.1.intake none h.1.there
-
-pub gone_tells_nothing_with : (policy : Policy) (arrived : Option Conn) (c : Conn) (s t : NodeSession)
-    (answer : NodeAnswer) → s.intakes c.0 ≡ None → NodeTellsAsWith policy arrived c s answer t → ⊥
-gone_tells_nothing_with policy None c s t answer none h = some_and_none (s.intakes c.0) h.intake none h.there
-gone_tells_nothing_with policy (Some e) c s t answer none h = some_and_none (s.intakes c.0) h.1.intake none h.1.there
+pub gone_tells_nothing : (policy : Policy) (arrived : Option Conn) (c : Conn) (s t : NodeSession)
+    (answer : NodeAnswer) → s.intakes c.0 ≡ None → NodeTellsAs policy arrived c s answer t → ⊥
+gone_tells_nothing policy None c s t answer none h = some_and_none (s.intakes c.0) h.intake none h.there
+gone_tells_nothing policy (Some e) c s t answer none h = some_and_none (s.intakes c.0) h.1.intake none h.1.there
 
 -- an event of a connection that isn't there
-not_there : (c d : Conn) (e : PeerEvent) (s t : NodeSession) (asks : Option NodeAnswer) → s.intakes c.0 ≡ None →
+not_there : (c d : Conn) (e : NodeEvent) (s t : NodeSession) (asks : Option NodeAnswer) → s.intakes c.0 ≡ None →
     d ≡ c → NodeTellsIfThere d e s asks t → NodeTellsNothing s asks t
 not_there c d e s t asks none same h =
     let gone : is_there d.0 s.intakes ≡ false = ap (λ v. is_there v.0 s.intakes) same ∙ ap is_some none in
-    subst (λ b. cond b (NodeTellsOnce None e s asks t) (NodeTellsNothing s asks t)) gone h
+    subst (λ b. cond b (NodeTellsOnce e s asks t) (NodeTellsNothing s asks t)) gone h
 
 none_shut : (d c : ℕ) (f : Intakes) → f c ≡ None → taken_down d f c ≡ None
 none_shut d c f h = by (nat_eq d c)
@@ -94,7 +81,7 @@ none_fed d c piece f h = by (nat_eq d c)
     by true = ap (option_map (fed_intake piece)) h
     by false = h
 
-end_not_there : (c d : Conn) (e : PeerEvent) (s t : NodeSession) (asks : Option NodeAnswer) → s.intakes c.0 ≡ None →
+end_not_there : (c d : Conn) (e : NodeEvent) (s t : NodeSession) (asks : Option NodeAnswer) → s.intakes c.0 ≡ None →
     d ≡ c → NodeTellsEnd d e s asks t → (asks ≡ None) × (t.intakes c.0 ≡ None)
 end_not_there c d e s t asks none same h =
     let nothing = not_there c d e s h.0 asks none same h.1 in (

@@ -6,14 +6,14 @@ use Rattle.std.proofs.lemmas.List.{append-nil, drop_at, length-take-le}
 use Rattle.std.specs.Option.{option_map}
 use Rattle.dm_framer.specs.Laws.{FaultStands}
 use Rattle.dm_machine.specs.declared.connection.Conn.{Conn}
+use Rattle.dm_node.specs.Policies.{Policy}
+use Rattle.dm_node.specs.Strangers.{NodeMoves}
 use Rattle.dm_peer.specs.declared.peer.Peer.{Peer}
-use Rattle.dm_peer.specs.Events.{Arrived}
 use Rattle.dm_session.specs.Hearing.{IsWholeIn, IsWholeAt}
 use Rattle.dm_session.specs.Intakes.{Intake, with_intake, fed_intake}
-use Rattle.dm_node_session.specs.NodeHearing.{NodeHearsWhole, NodeHearsWholeWith}
-use Rattle.dm_node_session.specs.NodePolicies.{Policy, NodeMovesWith, NodeTellsMessageWith, NodeTellsNextWith}
-use Rattle.dm_node_session.specs.NodeSessions.{NodeSession, NodeAnswer, NodeTurn, NodeMoves, NodeTellsMessage, NodeTellsNext, node_fed, node_settled, with_node_intakes}
-use Rattle.dm_node_session.proofs.NodeCuts.{longer, there_fed, fed_twice, next_fed, next_fed_with}
+use Rattle.dm_node_session.specs.NodeHearing.{NodeHearsWhole, NodeHeardAlike}
+use Rattle.dm_node_session.specs.NodeSessions.{NodeSession, NodeAnswer, NodeTellsMessage, NodeTellsNext, node_fed, node_settled, with_node_intakes}
+use Rattle.dm_node_session.proofs.NodeCuts.{longer, there_fed, fed_twice, next_fed}
 
 -- an intake of which all is told
 abbrev emptied : Intake → Intake
@@ -37,11 +37,11 @@ came_and_went c message s i there none =
     at d true e = ap (λ v. Some v) (was_empty i none) ∙ sym there ∙ ap s.intakes (eqb-true c.0 d e)
     at d false e = refl
 
-told_where_it_lies : (c : Conn) (message rest piece : List ℕ) (s t : NodeSession) (answer : NodeAnswer)
-    (qs : List (Option Peer)) (i : Intake) → s.intakes c.0 ≡ Some i → IsWholeIn i piece message rest →
-    NodeMoves None (Arrived c message) s.node s.peers answer.neighbour answer.actions qs →
-    t ≡ node_settled answer.neighbour qs answer.actions s → NodeTellsMessage c (node_fed c message s) answer t
-told_where_it_lies c message rest piece s t answer qs i there front moved left = record {
+told_where_it_lies : (policy : Policy) (c : Conn) (message rest piece : List ℕ) (s t : NodeSession)
+    (answer : NodeAnswer) (qs : List (Option Peer)) (i : Intake) → s.intakes c.0 ≡ Some i →
+    IsWholeIn i piece message rest → NodeMoves policy c message s.node s.peers answer.neighbour answer.actions qs →
+    t ≡ node_settled answer.neighbour qs answer.actions s → NodeTellsMessage policy c (node_fed c message s) answer t
+told_where_it_lies policy c message rest piece s t answer qs i there front moved left = record {
   intake = longer message i;
   message = message;
   rest = [];
@@ -60,12 +60,12 @@ told_where_it_lies c message rest piece s t answer qs i there front moved left =
 }
 
 -- what is heard of a piece that begins with a whole message
-pub heard_where_it_lies : (c : Conn) (piece : List ℕ) (s t : NodeSession) (answer : NodeAnswer)
+pub heard_where_it_lies : (policy : Policy) (c : Conn) (piece : List ℕ) (s t : NodeSession) (answer : NodeAnswer)
     (qs : List (Option Peer)) (size : ℕ) → IsWholeAt (s.intakes c.0) piece size →
-    NodeMoves None (Arrived c (take size piece)) s.node s.peers answer.neighbour answer.actions qs →
+    NodeMoves policy c (take size piece) s.node s.peers answer.neighbour answer.actions qs →
     t ≡ node_settled answer.neighbour qs answer.actions s →
-    NodeHearsWhole c piece s (record { arrived = Some c; answer = answer }) size t
-heard_where_it_lies c piece s t answer qs size h moved left = record {
+    NodeHearsWhole policy c piece s (record { arrived = Some c; answer = answer }) size t
+heard_where_it_lies policy c piece s t answer qs size h moved left = record {
   intake = h.intake;
   message = take size piece;
   rest = drop size piece;
@@ -75,75 +75,17 @@ heard_where_it_lies c piece s t answer qs size h moved left = record {
   arrived = refl;
   told = (
     refl,
-    told_where_it_lies c (take size piece) (drop size piece) piece s t answer qs h.intake h.there h.front moved left,
+    told_where_it_lies policy c (take size piece) (drop size piece) piece s t answer qs h.intake h.there h.front moved
+        left,
   );
 }
 
-pub heard_alike : FaultStands → (c : Conn) (piece : List ℕ) (s t : NodeSession) (turn : NodeTurn) (size : ℕ) →
-    NodeHearsWhole c piece s turn size t → NodeTellsNext c (node_fed c piece s) turn (node_fed c (drop size piece) t)
-heard_alike stands c piece s t turn size h =
+pub heard_alike : FaultStands → NodeHeardAlike
+heard_alike stands policy c piece s t turn size h =
     let rest : drop size piece ≡ h.rest =
     ap (drop size) h.front.piece_is ∙ drop_at h.message h.rest size (sym h.size_is) in
     let whole : node_fed c h.rest (node_fed c h.message s) ≡ node_fed c piece s =
     fed_twice c h.message h.rest s ∙ ap (λ l. node_fed c l s) (sym h.front.piece_is) in
-    subst (λ v. NodeTellsNext c v turn (node_fed c (drop size piece) t)) whole
-    (subst (λ l. NodeTellsNext c (node_fed c h.rest (node_fed c h.message s)) turn (node_fed c l t)) (sym rest)
-    (next_fed stands turn.arrived c h.rest (node_fed c h.message s) t turn.answer h.told))
-
--- the same by a policy
-told_with_where_it_lies : (policy : Policy) (c : Conn) (message rest piece : List ℕ) (s t : NodeSession)
-    (answer : NodeAnswer) (qs : List (Option Peer)) (i : Intake) → s.intakes c.0 ≡ Some i →
-    IsWholeIn i piece message rest →
-    NodeMovesWith policy c message s.node s.peers answer.neighbour answer.actions qs →
-    t ≡ node_settled answer.neighbour qs answer.actions s →
-    NodeTellsMessageWith policy c (node_fed c message s) answer t
-told_with_where_it_lies policy c message rest piece s t answer qs i there front moved left = record {
-  intake = longer message i;
-  message = message;
-  rest = [];
-  there = there_fed c message s i there front.whole;
-  first = record {
-    whole = front.whole;
-    frame = front.frame;
-    octets = ap (λ l. l ++ message) front.none_kept ∙ sym (append-nil message);
-  };
-  told = record {
-    peers = qs;
-    moved = moved;
-    left = left ∙ ap (node_settled answer.neighbour qs answer.actions)
-        (sym (came_and_went c message s i there front.none_kept));
-  };
-}
-
-pub heard_with_where_it_lies : (policy : Policy) (c : Conn) (piece : List ℕ) (s t : NodeSession) (answer : NodeAnswer)
-    (qs : List (Option Peer)) (size : ℕ) → IsWholeAt (s.intakes c.0) piece size →
-    NodeMovesWith policy c (take size piece) s.node s.peers answer.neighbour answer.actions qs →
-    t ≡ node_settled answer.neighbour qs answer.actions s →
-    NodeHearsWholeWith policy c piece s (record { arrived = Some c; answer = answer }) size t
-heard_with_where_it_lies policy c piece s t answer qs size h moved left = record {
-  intake = h.intake;
-  message = take size piece;
-  rest = drop size piece;
-  there = h.there;
-  front = h.front;
-  size_is = sym (length-take-le size piece h.within);
-  arrived = refl;
-  told = (
-    refl,
-    told_with_where_it_lies policy c (take size piece) (drop size piece) piece s t answer qs h.intake h.there h.front
-        moved left,
-  );
-}
-
-pub heard_alike_with : FaultStands → (policy : Policy) (c : Conn) (piece : List ℕ) (s t : NodeSession)
-    (turn : NodeTurn) (size : ℕ) → NodeHearsWholeWith policy c piece s turn size t →
-    NodeTellsNextWith policy c (node_fed c piece s) turn (node_fed c (drop size piece) t)
-heard_alike_with stands policy c piece s t turn size h =
-    let rest : drop size piece ≡ h.rest =
-    ap (drop size) h.front.piece_is ∙ drop_at h.message h.rest size (sym h.size_is) in
-    let whole : node_fed c h.rest (node_fed c h.message s) ≡ node_fed c piece s =
-    fed_twice c h.message h.rest s ∙ ap (λ l. node_fed c l s) (sym h.front.piece_is) in
-    subst (λ v. NodeTellsNextWith policy c v turn (node_fed c (drop size piece) t)) whole
-    (subst (λ l. NodeTellsNextWith policy c (node_fed c h.rest (node_fed c h.message s)) turn (node_fed c l t))
-    (sym rest)
-    (next_fed_with stands policy turn.arrived c h.rest (node_fed c h.message s) t turn.answer h.told))
+    subst (λ v. NodeTellsNext policy c v turn (node_fed c (drop size piece) t)) whole
+    (subst (λ l. NodeTellsNext policy c (node_fed c h.rest (node_fed c h.message s)) turn (node_fed c l t)) (sym rest)
+    (next_fed stands policy turn.arrived c h.rest (node_fed c h.message s) t turn.answer h.told))

@@ -1,16 +1,18 @@
 -- What came on a node's connection is told out in one way.
-use Rattle.std.proofs.Common.{◌≡◌, inl, inr, ℕ, suc, Bool, true, false, nat_eq, Option, None, Some, IfSome, unwrap_or, List, [], ◌∷◌, ◌++◌, length, refl, sym, ap, ◌∙◌, subst}
+use Rattle.std.proofs.Common.{◌≡◌, inl, inr, ℕ, Bool, true, false, nat_eq, Option, None, Some, IfSome, unwrap_or, List, [], ◌∷◌, ◌++◌, length, refl, sym, ap, ◌∙◌, subst}
 use Rattle.std.specs.List.{concat}
 use Rattle.std.proofs.lemmas.Bool.{eqb-true}
 use Rattle.dm_base.specs.declared.node.Node.{Node}
 use Rattle.dm_base.specs.Before.{lower}
 use Rattle.dm_framer.specs.Laws.{OneFront, FrameOrFault, FaultStands}
 use Rattle.dm_framer.specs.Frames.{HasFault}
+use Rattle.dm_history.specs.History.{new_peer}
 use Rattle.dm_machine.specs.declared.connection.Conn.{Conn}
-use Rattle.dm_machine.specs.Openings.{LeavesOthersAlone}
-use Rattle.dm_node.specs.Calling.{Caller, caller_of}
+use Rattle.dm_node.specs.Adding.{with_new}
 use Rattle.dm_node.specs.Holding.{peer_at, holds_it, holds_at, host_of, host_at, AreApart, AreUnlike}
 use Rattle.dm_node.specs.Neighbourhoods.{IsNeighbourhood}
+use Rattle.dm_node.specs.Policies.{Policy}
+use Rattle.dm_node.specs.Strangers.{IsPermitted, NodeMoves}
 use Rattle.dm_node.specs.Telling.{IsAddressed, PeerIsTold}
 use Rattle.dm_peer.specs.declared.actions.Action.{Action}
 use Rattle.dm_peer.specs.declared.config.Config.{Config}
@@ -18,15 +20,17 @@ use Rattle.dm_peer.specs.declared.peer.Peer.{Peer}
 use Rattle.dm_peer.specs.Acts.{Moved, acts}
 use Rattle.dm_peer.specs.Events.{PeerEvent, Arrived}
 use Rattle.dm_peer.specs.Holding.{holds}
-use Rattle.dm_peer.specs.Settled.{IsSettled, EachEventKeepsSettled, LeavesSettled}
+use Rattle.dm_peer.specs.Settled.{IsSettled, LeavesSettled}
 use Rattle.dm_peer.specs.Steps.{EachEventIsOneStep, Follows}
 use Rattle.dm_session.specs.Intakes.{Intake, IsFirst, IsFaulty, IsToldOut, with_intake, broken_intake}
 use Rattle.dm_node_session.specs.NodeLaws.{AreSoundNeighbours}
 use Rattle.dm_node_session.specs.NodeStreams.{NodeTellsAlong, NodeTellsPieces}
-use Rattle.dm_node_session.specs.NodeSessions.{NodeSession, NodeAnswer, NodeTurn, NodeMoves, NodeTells, NodeTellsMessage, NodeTellsFault, NodeTellsAs, NodeIsOut, node_fed, node_settled, with_node_intakes}
-use Rattle.dm_node_session.proofs.Newcomers.{takes_named}
+use Rattle.dm_node_session.specs.NodeSessions.{NodeSession, NodeAnswer, NodeTurn, NodeTellsOctets, NodeTellsMessage, NodeTellsFault, NodeTellsAs, NodeIsOut, node_fed, node_settled, with_node_intakes}
+use Rattle.dm_node_session.proofs.Newcomers.{PeerLaws, takes_named, last_at, stranger_free, peers_stay}
 use Rattle.dm_node_session.proofs.NodeCuts.{cuts_alike, fed_nothing}
+use Rattle.dm_node_session.proofs.NodeEmptying.{grown}
 use Rattle.dm_node_session.proofs.NodeMoving.{two_truths, unlike}
+use Rattle.dm_node_session.proofs.OneMove.{one_addressed, moves_once}
 
 -- what the laws of telling rest on
 pub record Wholly (ps : List (Option Peer)) : Type 0 where
@@ -39,74 +43,6 @@ wholly ps sound = record {
   settled = λ i p at. (sound.kept i p at).settled;
 }
 
--- octets on a connection concern one
-some_is : (o : Option Caller) (a b : Caller) → o ≡ Some a → o ≡ Some b → a ≡ b
-some_is o a b x y = ap (λ v. unwrap_or v a) (sym x ∙ y)
-
-one_addressed : (ps : List (Option Peer)) (c : Conn) (s : List ℕ) (i j : ℕ) → IsNeighbourhood ps →
-    IsAddressed ps c s i → IsAddressed ps c s j → i ≡ j
-one_addressed ps c s i j n (inl a) (inl b) = n.apart.one i j c a b
-one_addressed ps c s i j n (inl a) (inr b) = absurd (two_truths (holds_at ps c i) a (b.0 i))
-one_addressed ps c s i j n (inr a) (inl b) = absurd (two_truths (holds_at ps c j) b (a.0 j))
-one_addressed ps c s i j n (inr a) (inr b) =
-    n.unlike.one i j (lower a.1.1) a.3
-    (b.3 ∙ ap (λ (x : Caller). Some (lower x.1)) (some_is (caller_of s) b.1 a.1 b.2 a.2))
-
--- neighbours that are the same one by one are the same
-each_same : (qs rs : List (Option Peer)) → length qs ≡ length rs → ((j : ℕ) → peer_at qs j ≡ peer_at rs j) → qs ≡ rs
-each_same [] [] count same = refl
-each_same [] (r ∷ rs) count same = absurd (cc count)
-each_same (q ∷ qs) [] count same = absurd (cc count)
-each_same (q ∷ qs) (r ∷ rs) count same =
-    let first : q ≡ r = same 0 in
-    let rest : length qs ≡ length rs = cc count in
-    ap (λ x. x ∷ qs) first ∙ ap (λ l. r ∷ l) (each_same qs rs rest (λ j. same (suc j)))
-
--- one event has one outcome
-pub record SameMove (a b : NodeAnswer) (qs rs : List (Option Peer)) : Type 0 where
-  pub neighbour : a.neighbour ≡ b.neighbour
-  pub actions : a.actions ≡ b.actions
-  pub peers : qs ≡ rs
-
-one_some : (p q : Peer) → Some p ≡ Some q → p ≡ q
-one_some p q e = cc
-
-same_actions : (a b : List Action) (p q : Peer) → Moved a p ≡ Moved b q → a ≡ b
-same_actions a b p q e = cc
-
-same_after : (a b : List Action) (p q : Peer) → Moved a p ≡ Moved b q → p ≡ q
-same_after a b p q e = cc
-
-told_once : (ps qs rs : List (Option Peer)) (i : ℕ) (e : PeerEvent) (a b : List Action) → PeerIsTold ps qs i e a →
-    PeerIsTold ps rs i e b → (a ≡ b) × (qs ≡ rs)
-told_once ps qs rs i e a b h k =
-    let before : h.before ≡ k.before = one_some h.before k.before (sym h.was ∙ k.was) in
-    let moved : Moved a h.after ≡ Moved b k.after = sym h.acts ∙ ap (λ p. acts p e) before ∙ k.acts in
-    let after : h.after ≡ k.after = same_after a b h.after k.after moved in (
-      same_actions a b h.after k.after moved,
-      each_same qs rs (h.count ∙ sym k.count) (λ j. at after j (nat_eq j i) refl),
-    )
-  where
-    at : h.after ≡ k.after → (j : ℕ) (b : Bool) → nat_eq j i ≡ b → peer_at qs j ≡ peer_at rs j
-    at after j true same =
-        ap (peer_at qs) (eqb-true j i same) ∙ h.is ∙ ap Some after ∙ sym k.is
-        ∙ sym (ap (peer_at rs) (eqb-true j i same))
-    at after j false other = h.others j (unlike j i other) ∙ sym (k.others j (unlike j i other))
-
-moves_once : (c : Conn) (s : List ℕ) (n : Node) (ps qs rs : List (Option Peer)) (a b : NodeAnswer) →
-    IsNeighbourhood ps → (x y : Option ℕ) → a.neighbour ≡ x → b.neighbour ≡ y →
-    NodeMoves None (Arrived c s) n ps x a.actions qs → NodeMoves None (Arrived c s) n ps y b.actions rs →
-    SameMove a b qs rs
-moves_once c s n ps qs rs a b sound (Some i) (Some j) is also h k =
-    let same : i ≡ j = one_addressed ps c s i j sound h.0 k.0 in
-    let one = told_once ps qs rs j (Arrived c s) a.actions b.actions
-    (subst (λ m. PeerIsTold ps qs m (Arrived c s) a.actions) same h.1) k.1 in
-    record { neighbour = is ∙ ap Some same ∙ sym also; actions = one.0; peers = one.1 }
-moves_once c s n ps qs rs a b sound (Some i) None is also h k = absurd (k.0 i h.0)
-moves_once c s n ps qs rs a b sound None (Some j) is also h k = absurd (h.0 j k.0)
-moves_once c s n ps qs rs a b sound None None is also h k =
-    record { neighbour = is ∙ sym also; actions = h.1 ∙ sym k.1; peers = h.2 ∙ sym k.2 }
-
 same_answer : (a b : NodeAnswer) → a.neighbour ≡ b.neighbour → a.actions ≡ b.actions → a ≡ b
 same_answer a b neighbour actions =
     ap (λ w. of w a.actions) neighbour ∙ ap (λ l. of b.neighbour l) actions
@@ -115,12 +51,13 @@ same_answer a b neighbour actions =
     of w l = record { neighbour = w; actions = l }
 
 -- octets are told in one way
-tells_once : (c : Conn) (octets : List ℕ) (s r t u : NodeSession) (a b : NodeAnswer) → IsNeighbourhood s.peers →
-    s ≡ r → NodeTells None (Arrived c octets) s a t → NodeTells None (Arrived c octets) r b u → (a ≡ b) × (t ≡ u)
-tells_once c octets s r t u a b sound same h k =
-    let also : NodeTells None (Arrived c octets) s b u =
-    subst (λ v. NodeTells None (Arrived c octets) v b u) (sym same) k in
-    let one = moves_once c octets s.node s.peers h.peers also.peers a b sound a.neighbour b.neighbour refl refl
+tells_once : (policy : Policy) (c : Conn) (octets : List ℕ) (s r t u : NodeSession) (a b : NodeAnswer) →
+    IsNeighbourhood s.peers → s ≡ r → NodeTellsOctets policy c octets s a t → NodeTellsOctets policy c octets r b u →
+    (a ≡ b) × (t ≡ u)
+tells_once policy c octets s r t u a b sound same h k =
+    let also : NodeTellsOctets policy c octets s b u =
+    subst (λ v. NodeTellsOctets policy c octets v b u) (sym same) k in
+    let one = moves_once policy c octets s.node s.peers h.peers also.peers a b sound a.neighbour b.neighbour refl refl
     h.moved also.moved in
     let answer = same_answer a b one.neighbour one.actions in (
       answer,
@@ -139,28 +76,28 @@ with_rest c s i rest = with_node_intakes (with_intake c.0 (Some (record i { octe
 abbrev with_broken : Conn → NodeSession → Intake → NodeSession
 with_broken c s i = with_node_intakes (with_intake c.0 (Some (broken_intake i)) s.intakes) s
 
-message_once : OneFront → (c : Conn) (s t u : NodeSession) (a b : NodeAnswer) → IsNeighbourhood s.peers →
-    NodeTellsMessage c s a t → NodeTellsMessage c s b u → (a ≡ b) × (t ≡ u)
-message_once front c s t u a b sound h k =
+message_once : OneFront → (policy : Policy) (c : Conn) (s t u : NodeSession) (a b : NodeAnswer) →
+    IsNeighbourhood s.peers → NodeTellsMessage policy c s a t → NodeTellsMessage policy c s b u → (a ≡ b) × (t ≡ u)
+message_once front policy c s t u a b sound h k =
     let same = one_there (s.intakes c.0) h.intake k.intake h.there k.there in
     let first : IsFirst h.intake k.message k.rest = subst (λ i. IsFirst i k.message k.rest) (sym same) k.first in
     let one = front h.intake.max h.message k.message h.rest k.rest h.first.frame first.frame
     (sym h.first.octets ∙ first.octets) in
-    let told : NodeTells None (Arrived c h.message) (with_rest c s k.intake k.rest) b u =
-    subst (λ m. NodeTells None (Arrived c m) (with_rest c s k.intake k.rest) b u) (sym one.0) k.told in
-    tells_once c h.message (with_rest c s h.intake h.rest) (with_rest c s k.intake k.rest) t u a b sound
+    let told : NodeTellsOctets policy c h.message (with_rest c s k.intake k.rest) b u =
+    subst (λ m. NodeTellsOctets policy c m (with_rest c s k.intake k.rest) b u) (sym one.0) k.told in
+    tells_once policy c h.message (with_rest c s h.intake h.rest) (with_rest c s k.intake k.rest) t u a b sound
     (ap (with_rest c s h.intake) one.1 ∙ ap (λ i. with_rest c s i k.rest) same) h.told told
 
-fault_once : (c : Conn) (s t u : NodeSession) (a b : NodeAnswer) → IsNeighbourhood s.peers → NodeTellsFault c s a t →
-    NodeTellsFault c s b u → (a ≡ b) × (t ≡ u)
-fault_once c s t u a b sound h k =
+fault_once : (policy : Policy) (c : Conn) (s t u : NodeSession) (a b : NodeAnswer) → IsNeighbourhood s.peers →
+    NodeTellsFault policy c s a t → NodeTellsFault policy c s b u → (a ≡ b) × (t ≡ u)
+fault_once policy c s t u a b sound h k =
     let same = one_there (s.intakes c.0) h.intake k.intake h.there k.there in
-    tells_once c [] (with_broken c s h.intake) (with_broken c s k.intake) t u a b sound (ap (with_broken c s) same)
-    h.told k.told
+    tells_once policy c [] (with_broken c s h.intake) (with_broken c s k.intake) t u a b sound
+    (ap (with_broken c s) same) h.told k.told
 
-message_or_fault : FrameOrFault → (c : Conn) (s t u : NodeSession) (a b : NodeAnswer) → NodeTellsMessage c s a t →
-    NodeTellsFault c s b u → ⊥
-message_or_fault either c s t u a b h k =
+message_or_fault : FrameOrFault → (policy : Policy) (c : Conn) (s t u : NodeSession) (a b : NodeAnswer) →
+    NodeTellsMessage policy c s a t → NodeTellsFault policy c s b u → ⊥
+message_or_fault either policy c s t u a b h k =
     let same = one_there (s.intakes c.0) h.intake k.intake h.there k.there in
     let faulty : IsFaulty h.intake = subst (λ i. IsFaulty i) (sym same) k.faulty in
     either h.intake.max h.message h.rest faulty.fault.0 h.first.frame
@@ -172,42 +109,42 @@ pub record SameTurn (x y : Option Conn) (a b : NodeAnswer) (t u : NodeSession) :
   pub answer : a ≡ b
   pub left : t ≡ u
 
-next_once : OneFront → FrameOrFault → (x y : Option Conn) (c : Conn) (s t u : NodeSession) (a b : NodeAnswer) →
-    IsNeighbourhood s.peers → NodeTellsAs x c s a t → NodeTellsAs y c s b u → SameTurn x y a b t u
-next_once front either None None c s t u a b sound h k =
-    let one = fault_once c s t u a b sound h k in record { arrived = refl; answer = one.0; left = one.1 }
-next_once front either None (Some e) c s t u a b sound h k = absurd (message_or_fault either c s u t b a k.1 h)
-next_once front either (Some d) None c s t u a b sound h k = absurd (message_or_fault either c s t u a b h.1 k)
-next_once front either (Some d) (Some e) c s t u a b sound h k =
-    let one = message_once front c s t u a b sound h.1 k.1 in
+next_once : OneFront → FrameOrFault → (policy : Policy) (x y : Option Conn) (c : Conn) (s t u : NodeSession)
+    (a b : NodeAnswer) → IsNeighbourhood s.peers → NodeTellsAs policy x c s a t → NodeTellsAs policy y c s b u →
+    SameTurn x y a b t u
+next_once front either policy None None c s t u a b sound h k =
+    let one = fault_once policy c s t u a b sound h k in record { arrived = refl; answer = one.0; left = one.1 }
+next_once front either policy None (Some e) c s t u a b sound h k =
+    absurd (message_or_fault either policy c s u t b a k.1 h)
+next_once front either policy (Some d) None c s t u a b sound h k =
+    absurd (message_or_fault either policy c s t u a b h.1 k)
+next_once front either policy (Some d) (Some e) c s t u a b sound h k =
+    let one = message_once front policy c s t u a b sound h.1 k.1 in
     record { arrived = ap (λ v. Some v) (h.0 ∙ sym k.0); answer = one.0; left = one.1 }
 
 -- where all is told no turn is left
-out_tells_nothing : (x : Option Conn) (c : Conn) (s t : NodeSession) (a : NodeAnswer) → NodeIsOut c s →
-    NodeTellsAs x c s a t → ⊥
-out_tells_nothing None c s t a out h =
+out_tells_nothing : (policy : Policy) (x : Option Conn) (c : Conn) (s t : NodeSession) (a : NodeAnswer) →
+    NodeIsOut c s → NodeTellsAs policy x c s a t → ⊥
+out_tells_nothing policy None c s t a out h =
     let told : IsToldOut h.intake = subst (λ o. IfSome o IsToldOut) h.there out in
     (told h.faulty.whole).no_fault h.faulty.fault.0 h.faulty.fault.1
-out_tells_nothing (Some d) c s t a out h =
+out_tells_nothing policy (Some d) c s t a out h =
     let told : IsToldOut h.1.intake = subst (λ o. IfSome o IsToldOut) h.1.there out in
     (told h.1.first.whole).no_frame h.1.message h.1.rest h.1.first.frame h.1.first.octets
 
--- what is known of the events of a peer
-pub record StayLaws : Type 0 where
-  pub step : EachEventIsOneStep
-  pub settled : EachEventKeepsSettled
-  pub alone : LeavesOthersAlone
+one_some : (p q : Peer) → Some p ≡ Some q → p ≡ q
+one_some p q e = cc
 
-same_config : EachEventIsOneStep → (p q : Peer) (e : PeerEvent) (actions : List Action) → acts p e ≡ Moved actions q →
+config_stays : EachEventIsOneStep → (p q : Peer) (e : PeerEvent) (actions : List Action) → acts p e ≡ Moved actions q →
     q.config ≡ p.config
-same_config step p q e actions is =
+config_stays step p q e actions is =
     elim (subst (Follows p e) is (step p e)) [
       | inl s ↦ s.config
       | inr d ↦ ap (λ (x : Peer). x.config) d.same
     ]
 
 -- behind octets no connection is held by two
-apart_told : StayLaws → (c : Conn) (s : List ℕ) (ps qs : List (Option Peer)) (i : ℕ) (actions : List Action) →
+apart_told : PeerLaws → (c : Conn) (s : List ℕ) (ps qs : List (Option Peer)) (i : ℕ) (actions : List Action) →
     Wholly ps → IsAddressed ps c s i → PeerIsTold ps qs i (Arrived c s) actions → AreApart qs
 apart_told laws c s ps qs i actions sound at told = record {
   one = λ j k d h g. by j k d h g (nat_eq j i) refl (nat_eq k i) refl;
@@ -243,18 +180,18 @@ apart_told laws c s ps qs i actions sound at told = record {
         sound.neighbourhood.apart.one j k d (before j d other h) (before k d also g)
 
 -- and no two have one host
-hosts_stay : StayLaws → (e : PeerEvent) (ps qs : List (Option Peer)) (i : ℕ) (actions : List Action) →
+hosts_stay : PeerLaws → (e : PeerEvent) (ps qs : List (Option Peer)) (i : ℕ) (actions : List Action) →
     PeerIsTold ps qs i e actions → (j : ℕ) → host_at qs j ≡ host_at ps j
 hosts_stay laws e ps qs i actions told j = by (nat_eq j i) refl
   where
     by : (b : Bool) → nat_eq j i ≡ b → host_at qs j ≡ host_at ps j
     by true same =
         ap (λ k. host_at qs k) (eqb-true j i same) ∙ ap host_of told.is
-        ∙ ap (λ (k : Config). Some (lower k.peer)) (same_config laws.step told.before told.after e actions told.acts)
+        ∙ ap (λ (k : Config). Some (lower k.peer)) (config_stays laws.step told.before told.after e actions told.acts)
         ∙ sym (ap (λ k. host_at ps k) (eqb-true j i same) ∙ ap host_of told.was)
     by false other = ap host_of (told.others j (unlike j i other))
 
-unlike_told : StayLaws → (e : PeerEvent) (ps qs : List (Option Peer)) (i : ℕ) (actions : List Action) → AreUnlike ps →
+unlike_told : PeerLaws → (e : PeerEvent) (ps qs : List (Option Peer)) (i : ℕ) (actions : List Action) → AreUnlike ps →
     PeerIsTold ps qs i e actions → AreUnlike qs
 unlike_told laws e ps qs i actions apart told = record {
   one = λ j k host h g.
@@ -262,7 +199,7 @@ unlike_told laws e ps qs i actions apart told = record {
       (sym (hosts_stay laws e ps qs i actions told k) ∙ g);
 }
 
-settled_told : StayLaws → (e : PeerEvent) (ps qs : List (Option Peer)) (i : ℕ) (actions : List Action) → Wholly ps →
+settled_told : PeerLaws → (e : PeerEvent) (ps qs : List (Option Peer)) (i : ℕ) (actions : List Action) → Wholly ps →
     PeerIsTold ps qs i e actions → (j : ℕ) (p : Peer) → peer_at qs j ≡ Some p → IsSettled p
 settled_told laws e ps qs i actions sound told j p at = by (nat_eq j i) refl
   where
@@ -274,28 +211,103 @@ settled_told laws e ps qs i actions sound told j p at = by (nat_eq j i) refl
         subst IsSettled (one_some told.after p (sym told.is ∙ sym (ap (peer_at qs) (eqb-true j i same)) ∙ at)) after
     by false other = sound.settled j p (sym (told.others j (unlike j i other)) ∙ at)
 
-moved_wholly : StayLaws → (c : Conn) (s : List ℕ) (n : Node) (ps qs : List (Option Peer)) (who : Option ℕ)
-    (actions : List Action) → Wholly ps → NodeMoves None (Arrived c s) n ps who actions qs → Wholly qs
-moved_wholly laws c s n ps qs (Some i) actions sound m = record {
+wholly_told : PeerLaws → (c : Conn) (s : List ℕ) (ps qs : List (Option Peer)) (i : ℕ) (actions : List Action) →
+    Wholly ps → IsAddressed ps c s i → PeerIsTold ps qs i (Arrived c s) actions → Wholly qs
+wholly_told laws c s ps qs i actions sound at told = record {
   neighbourhood = record {
-    apart = apart_told laws c s ps qs i actions sound m.0 m.1;
-    unlike = unlike_told laws (Arrived c s) ps qs i actions sound.neighbourhood.unlike m.1;
+    apart = apart_told laws c s ps qs i actions sound at told;
+    unlike = unlike_told laws (Arrived c s) ps qs i actions sound.neighbourhood.unlike told;
   };
-  settled = settled_told laws (Arrived c s) ps qs i actions sound m.1;
+  settled = settled_told laws (Arrived c s) ps qs i actions sound told;
 }
-moved_wholly laws c s n ps qs None actions sound m = subst Wholly (sym m.2) sound
 
-told_wholly : StayLaws → (c : Conn) (octets : List ℕ) (s t : NodeSession) (a : NodeAnswer) → Wholly s.peers →
-    NodeTells None (Arrived c octets) s a t → Wholly t.peers
-told_wholly laws c octets s t a sound h =
+-- where a host is added that nobody has
+no_such_host : (policy : Policy) (ps : List (Option Peer)) (c : Conn) (octets : List ℕ) (k : Config) →
+    IsPermitted policy ps c octets k → (j : ℕ) → host_at ps j ≡ Some (lower k.peer) → ⊥
+no_such_host policy ps c octets k h j is =
+    h.unknown.nobody j (inr (
+      stranger_free ps c octets h.unknown.nobody,
+      h.unknown.call,
+      h.unknown.calls,
+      is ∙ sym (ap (λ (host : List ℕ). Some (lower host)) h.unknown.named),
+    ))
+
+wholly_added : PeerLaws → (policy : Policy) (ps : List (Option Peer)) (c : Conn) (octets : List ℕ) (k : Config) →
+    Wholly ps → IsPermitted policy ps c octets k → Wholly (with_new ps k)
+wholly_added laws policy ps c octets k sound permitted = record {
+  neighbourhood = record {
+    apart = record {
+      one = λ i j d h g.
+          elim (grown ps (Some (new_peer k k.first_id)) i) [
+            | inl a ↦ elim (grown ps (Some (new_peer k k.first_id)) j) [
+              | inl b ↦
+                  sound.neighbourhood.apart.one i j d (sym (ap (holds_it d) a) ∙ h) (sym (ap (holds_it d) b) ∙ g)
+              | inr b ↦ absurd (two_truths (holds_at (with_new ps k) d j) g (ap (holds_it d) b.1))
+            ]
+            | inr a ↦ absurd (two_truths (holds_at (with_new ps k) d i) h (ap (holds_it d) a.1))
+          ];
+    };
+    unlike = record {
+      one = λ i j host h g.
+          elim (grown ps (Some (new_peer k k.first_id)) i) [
+            | inl a ↦ elim (grown ps (Some (new_peer k k.first_id)) j) [
+              | inl b ↦ sound.neighbourhood.unlike.one i j host (sym (ap host_of a) ∙ h) (sym (ap host_of b) ∙ g)
+              | inr b ↦ absurd (unlike_it i (sym (ap host_of a) ∙ h ∙ sym g ∙ ap host_of b.1))
+            ]
+            | inr a ↦ elim (grown ps (Some (new_peer k k.first_id)) j) [
+              | inl b ↦ absurd (unlike_it j (sym (ap host_of b) ∙ g ∙ sym h ∙ ap host_of a.1))
+              | inr b ↦ a.0 ∙ sym b.0
+            ]
+          ];
+    };
+  };
+  settled = λ i p at.
+      elim (grown ps (Some (new_peer k k.first_id)) i) [
+        | inl a ↦ sound.settled i p (sym a ∙ at)
+        | inr a ↦ subst IsSettled (one_some (new_peer k k.first_id) p (sym a.1 ∙ at)) (laws.fresh k k.first_id)
+      ];
+}
+  where
+    unlike_it : (j : ℕ) → host_at ps j ≡ Some (lower k.peer) → ⊥
+    unlike_it = no_such_host policy ps c octets k permitted
+
+-- its CER concerns it then
+added_is_addressed : (policy : Policy) (ps : List (Option Peer)) (c : Conn) (octets : List ℕ) (k : Config) (i : ℕ) →
+    IsPermitted policy ps c octets k → i ≡ length ps → IsAddressed (with_new ps k) c octets i
+added_is_addressed policy ps c octets k i h here =
+    inr (
+      λ j. elim (grown ps (Some (new_peer k k.first_id)) j) [
+        | inl a ↦ ap (holds_it c) a ∙ stranger_free ps c octets h.unknown.nobody j
+        | inr a ↦ ap (holds_it c) a.1
+      ],
+      h.unknown.call,
+      h.unknown.calls,
+      ap (host_at (with_new ps k)) here ∙ ap host_of (last_at ps (Some (new_peer k k.first_id)))
+          ∙ sym (ap (λ (host : List ℕ). Some (lower host)) h.unknown.named),
+    )
+
+moved_wholly : PeerLaws → (policy : Policy) (c : Conn) (s : List ℕ) (n : Node) (ps qs : List (Option Peer))
+    (who : Option ℕ) (actions : List Action) → Wholly ps → NodeMoves policy c s n ps who actions qs → Wholly qs
+moved_wholly laws policy c s n ps qs (Some i) actions sound (inl m) =
+    wholly_told laws c s ps qs i actions sound m.0 m.1
+moved_wholly laws policy c s n ps qs (Some i) actions sound (inr (k, permitted, joins)) =
+    wholly_told laws c s (with_new ps k) qs i actions (wholly_added laws policy ps c s k sound permitted)
+    (added_is_addressed policy ps c s k i permitted joins.number) joins.told
+moved_wholly laws policy c s n ps qs None actions sound m =
+    subst Wholly (sym (peers_stay policy c s n ps qs actions m.1)) sound
+
+told_wholly : PeerLaws → (policy : Policy) (c : Conn) (octets : List ℕ) (s t : NodeSession) (a : NodeAnswer) →
+    Wholly s.peers → NodeTellsOctets policy c octets s a t → Wholly t.peers
+told_wholly laws policy c octets s t a sound h =
     subst (λ (v : NodeSession). Wholly v.peers) (sym h.left)
-    (moved_wholly laws c octets s.node s.peers h.peers a.neighbour a.actions sound h.moved)
+    (moved_wholly laws policy c octets s.node s.peers h.peers a.neighbour a.actions sound h.moved)
 
-next_wholly : StayLaws → (x : Option Conn) (c : Conn) (s t : NodeSession) (a : NodeAnswer) → Wholly s.peers →
-    NodeTellsAs x c s a t → Wholly t.peers
-next_wholly laws None c s t a sound h = told_wholly laws c [] (with_broken c s h.intake) t a sound h.told
-next_wholly laws (Some d) c s t a sound h =
-    told_wholly laws c h.1.message (with_rest c s h.1.intake h.1.rest) t a sound h.1.told
+next_wholly : PeerLaws → (policy : Policy) (x : Option Conn) (c : Conn) (s t : NodeSession) (a : NodeAnswer) →
+    Wholly s.peers → NodeTellsAs policy x c s a t → Wholly t.peers
+next_wholly laws policy None c s t a sound h =
+    told_wholly laws policy c [] (with_broken c s h.intake) t a sound h.told
+next_wholly laws policy (Some d) c s t a sound h =
+    told_wholly laws policy c h.1.message (with_rest c s h.1.intake h.1.rest) t a sound h.1.told
 
 same_turn : (turn other : NodeTurn) → turn.arrived ≡ other.arrived → turn.answer ≡ other.answer → turn ≡ other
 same_turn turn other arrived answer = ap (λ x. of x turn.answer) arrived ∙ ap (λ l. of other.arrived l) answer
@@ -303,35 +315,37 @@ same_turn turn other arrived answer = ap (λ x. of x turn.answer) arrived ∙ ap
     of : Option Conn → NodeAnswer → NodeTurn
     of x l = record { arrived = x; answer = l }
 
-pub told_out_once : OneFront → FrameOrFault → StayLaws → (c : Conn) (s t u : NodeSession)
-    (turns others : List NodeTurn) → Wholly s.peers → NodeTellsAlong c s turns t → NodeIsOut c t →
-    NodeTellsAlong c s others u → NodeIsOut c u → (turns ≡ others) × (t ≡ u)
-told_out_once front either laws c s t u [] [] sound h out k also = (refl, sym h ∙ k)
-told_out_once front either laws c s t u [] (other ∷ others) sound h out k also =
-    absurd (out_tells_nothing other.arrived c s k.0 other.answer (subst (λ v. NodeIsOut c v) (sym h) out) k.1)
-told_out_once front either laws c s t u (turn ∷ turns) [] sound h out k also =
-    absurd (out_tells_nothing turn.arrived c s h.0 turn.answer (subst (λ v. NodeIsOut c v) (sym k) also) h.1)
-told_out_once front either laws c s t u (turn ∷ turns) (other ∷ others) sound h out k also =
-    let one = next_once front either turn.arrived other.arrived c s h.0 k.0 turn.answer other.answer
+pub told_out_once : OneFront → FrameOrFault → PeerLaws → (policy : Policy) (c : Conn) (s t u : NodeSession)
+    (turns others : List NodeTurn) → Wholly s.peers → NodeTellsAlong policy c s turns t → NodeIsOut c t →
+    NodeTellsAlong policy c s others u → NodeIsOut c u → (turns ≡ others) × (t ≡ u)
+told_out_once front either laws policy c s t u [] [] sound h out k also = (refl, sym h ∙ k)
+told_out_once front either laws policy c s t u [] (other ∷ others) sound h out k also =
+    absurd (out_tells_nothing policy other.arrived c s k.0 other.answer (subst (λ v. NodeIsOut c v) (sym h) out) k.1)
+told_out_once front either laws policy c s t u (turn ∷ turns) [] sound h out k also =
+    absurd (out_tells_nothing policy turn.arrived c s h.0 turn.answer (subst (λ v. NodeIsOut c v) (sym k) also) h.1)
+told_out_once front either laws policy c s t u (turn ∷ turns) (other ∷ others) sound h out k also =
+    let one = next_once front either policy turn.arrived other.arrived c s h.0 k.0 turn.answer other.answer
     sound.neighbourhood h.1 k.1 in
-    let rest = told_out_once front either laws c k.0 t u turns others
-    (next_wholly laws other.arrived c s k.0 other.answer sound k.1)
-    (subst (λ v. NodeTellsAlong c v turns t) one.left h.2) out k.2 also in
+    let rest = told_out_once front either laws policy c k.0 t u turns others
+    (next_wholly laws policy other.arrived c s k.0 other.answer sound k.1)
+    (subst (λ v. NodeTellsAlong policy c v turns t) one.left h.2) out k.2 also in
     (ap (λ x. x ∷ turns) (same_turn turn other one.arrived one.answer) ∙ ap (λ l. other ∷ l) rest.0, rest.1)
 
 -- the pieces are a telling of the whole
-pieces_along : FaultStands → (c : Conn) (pieces : List (List ℕ)) (s t : NodeSession) (turns : List NodeTurn) →
-    NodeTellsPieces c s pieces turns t → NodeTellsAlong c (node_fed c (concat pieces) s) turns t
-pieces_along stands c [] s t turns h =
-    subst (λ l. NodeTellsAlong c (node_fed c [] s) l t) (sym h.0) (fed_nothing c s ∙ h.1)
-pieces_along stands c (piece ∷ pieces) s t turns h =
-    subst (λ l. NodeTellsAlong c (node_fed c (piece ++ concat pieces) s) l t) (sym h.3)
-    (cuts_alike stands c piece (concat pieces) s h.2 t h.0 h.1 h.4 (pieces_along stands c pieces h.2 t h.1 h.5))
+pieces_along : FaultStands → (policy : Policy) (c : Conn) (pieces : List (List ℕ)) (s t : NodeSession)
+    (turns : List NodeTurn) → NodeTellsPieces policy c s pieces turns t →
+    NodeTellsAlong policy c (node_fed c (concat pieces) s) turns t
+pieces_along stands policy c [] s t turns h =
+    subst (λ l. NodeTellsAlong policy c (node_fed c [] s) l t) (sym h.0) (fed_nothing c s ∙ h.1)
+pieces_along stands policy c (piece ∷ pieces) s t turns h =
+    subst (λ l. NodeTellsAlong policy c (node_fed c (piece ++ concat pieces) s) l t) (sym h.3)
+    (cuts_alike stands policy c piece (concat pieces) s h.2 t h.0 h.1 h.4
+    (pieces_along stands policy c pieces h.2 t h.1 h.5))
 
-pub pieces_told_out : OneFront → FrameOrFault → FaultStands → StayLaws → (c : Conn) (pieces : List (List ℕ))
-    (s t u : NodeSession) (turns whole : List NodeTurn) → Wholly s.peers → NodeTellsPieces c s pieces turns t →
-    NodeIsOut c t → NodeTellsAlong c (node_fed c (concat pieces) s) whole u → NodeIsOut c u →
-    (turns ≡ whole) × (t ≡ u)
-pieces_told_out front either stands laws c pieces s t u turns whole sound h out k also =
-    told_out_once front either laws c (node_fed c (concat pieces) s) t u turns whole sound
-    (pieces_along stands c pieces s t turns h) out k also
+pub pieces_told_out : OneFront → FrameOrFault → FaultStands → PeerLaws → (policy : Policy) (c : Conn)
+    (pieces : List (List ℕ)) (s t u : NodeSession) (turns whole : List NodeTurn) → Wholly s.peers →
+    NodeTellsPieces policy c s pieces turns t → NodeIsOut c t →
+    NodeTellsAlong policy c (node_fed c (concat pieces) s) whole u → NodeIsOut c u → (turns ≡ whole) × (t ≡ u)
+pieces_told_out front either stands laws policy c pieces s t u turns whole sound h out k also =
+    told_out_once front either laws policy c (node_fed c (concat pieces) s) t u turns whole sound
+    (pieces_along stands policy c pieces s t turns h) out k also

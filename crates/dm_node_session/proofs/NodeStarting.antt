@@ -5,22 +5,24 @@ use Rattle.std.proofs.lemmas.Bool.{eqb-true}
 use Rattle.dm_base.specs.declared.node.Node.{Node}
 use Rattle.dm_machine.specs.declared.connection.Conn.{Conn}
 use Rattle.dm_node.specs.Holding.{peer_at, holds_it, holds_at, AreApart}
+use Rattle.dm_node.specs.Policies.{no_strangers}
+use Rattle.dm_node.specs.Strangers.{NodeIsTold}
 use Rattle.dm_node.specs.Telling.{IsFree, PeerIsTold}
+use Rattle.dm_node.specs.declared.events.NodeEvent.TheVariants as event
 use Rattle.dm_node.specs.declared.fault.EventFault.{EventFault}
 use Rattle.dm_node.specs.declared.fault.EventFault.TheVariants as fault
 use Rattle.dm_peer.specs.declared.actions.Action.{Action}
 use Rattle.dm_peer.specs.declared.fault.PeerFault.TheVariants.{NoMemory}
 use Rattle.dm_peer.specs.declared.peer.Peer.{Peer}
-use Rattle.dm_peer.specs.Events.{Start, Gone}
+use Rattle.dm_peer.specs.Events.{Gone}
 use Rattle.dm_peer.specs.Holding.{GoneIsUnheld}
 use Rattle.dm_session.specs.Intakes.{Intake, Intakes, is_there, taken_down, with_intake, new_intake}
 use Rattle.dm_node_session.specs.declared.node_order.NodeOrder.{NodeOrder}
 use Rattle.dm_node_session.specs.declared.node_order.NodeOrder.TheVariants as order
 use Rattle.dm_node_session.specs.NodeHeld.{AllHeldAreThere, AreKept}
 use Rattle.dm_node_session.specs.NodeOrders.{node_opened, node_shut, NodeTellsOnce, NodeTellsNothing, NodeTellsIfThere, NodeTellsStart, NodeRefuses}
-use Rattle.dm_node_session.specs.NodeSessions.{NodeSession, NodeAnswer, NodeMoves, with_node_intakes}
-use Rattle.dm_node_session.specs.NodeTelling.{NodeDeclines}
-use Rattle.dm_node_session.proofs.NodeMoving.{two_truths, unlike}
+use Rattle.dm_node_session.specs.NodeSessions.{NodeSession, NodeAnswer, with_node_intakes}
+use Rattle.dm_node_session.proofs.NodeMoving.{two_truths, unlike, free_of}
 use Rattle.dm_node_session.proofs.NodeStaying.{none_holds}
 
 none_of : (o : Option Intake) → is_some o ≡ false → o ≡ None
@@ -43,10 +45,10 @@ shut_opened c s e =
 
 -- a Start of a connection that wasn't there
 pub started : (n : ℕ) (c : Conn) (s o t : NodeSession) (asks : Option NodeAnswer) → is_there c.0 s.intakes ≡ false →
-    o ≡ node_opened c s → NodeTellsOnce (Some n) (Start c) o asks t → NodeTellsStart n c s asks t
+    o ≡ node_opened c s → NodeTellsOnce (event.Start n c) o asks t → NodeTellsStart n c s asks t
 started n c s o t asks e is told =
-    subst (λ b. cond b (NodeTellsNothing s asks t) (NodeTellsOnce (Some n) (Start c) (node_opened c s) asks t)) (sym e)
-    (subst (λ v. NodeTellsOnce (Some n) (Start c) v asks t) is told)
+    subst (λ b. cond b (NodeTellsNothing s asks t) (NodeTellsOnce (event.Start n c) (node_opened c s) asks t)) (sym e)
+    (subst (λ v. NodeTellsOnce (event.Start n c) v asks t) is told)
 
 -- behind its end nobody holds a connection
 gone_told : GoneIsUnheld → (c : Conn) (ps qs : List (Option Peer)) (i : ℕ) (actions : List Action) → AreKept ps →
@@ -63,21 +65,19 @@ gone_told gone c ps qs i actions kept apart is told j = by (nat_eq j i) refl whe
   by false other =
       ap (holds_it c) (told.others j (unlike j i other)) ∙ free (unlike j i other) (holds_at ps c j) refl
 
-free_of : (b : Bool) → (b ≡ true → ⊥) → b ≡ false
-free_of true un = absurd (un refl)
-free_of false un = refl
-
 gone_moved : GoneIsUnheld → (c : Conn) (n : Node) (ps qs : List (Option Peer)) (who : Option ℕ)
-    (actions : List Action) → AreKept ps → AreApart ps → NodeMoves None (Gone c) n ps who actions qs → IsFree qs c
+    (actions : List Action) → AreKept ps → AreApart ps → NodeIsTold no_strangers (event.Gone c) n ps who actions qs →
+    IsFree qs c
 gone_moved gone c n ps qs (Some i) actions kept apart m = gone_told gone c ps qs i actions kept apart m.0 m.1
 gone_moved gone c n ps qs None actions kept apart m =
     subst (λ l. IsFree l c) (sym m.2) (λ j. free_of (holds_at ps c j) (m.0 j))
 
 pub gone_free : GoneIsUnheld → (c : Conn) (s t : NodeSession) (asks : Option NodeAnswer) → AreKept s.peers →
-    AreApart s.peers → AllHeldAreThere s.peers s.intakes → NodeTellsIfThere c (Gone c) s asks t → IsFree t.peers c
+    AreApart s.peers → AllHeldAreThere s.peers s.intakes → NodeTellsIfThere c (event.Gone c) s asks t →
+    IsFree t.peers c
 gone_free gone c s t asks kept apart there told = by (is_there c.0 s.intakes) refl told where
   by : (b : Bool) → is_there c.0 s.intakes ≡ b →
-      cond b (NodeTellsOnce None (Gone c) s asks t) (NodeTellsNothing s asks t) → IsFree t.peers c
+      cond b (NodeTellsOnce (event.Gone c) s asks t) (NodeTellsNothing s asks t) → IsFree t.peers c
   by true is (answer, asked, tells) =
       subst (λ (v : NodeSession). IsFree v.peers c) (sym tells.left)
       (gone_moved gone c s.node s.peers tells.peers answer.neighbour answer.actions kept apart tells.moved)
@@ -85,23 +85,17 @@ gone_free gone c s t asks kept apart there told = by (is_there c.0 s.intakes) re
       subst (λ (v : NodeSession). IsFree v.peers c) (sym nothing.1) (none_holds s.peers s.intakes c there is)
 
 -- a Start under a number that is held is never told
-started_held : (n : ℕ) (c : Conn) (s : NodeSession) → AllHeldAreThere s.peers s.intakes →
-    is_there c.0 s.intakes ≡ false → NodeDeclines (Some n) (Start c) s.peers fault.Held → ⊥
-started_held n c s there none (d, i, same, held) =
-    let is : c ≡ d = cc same in
-    two_truths (is_there c.0 s.intakes) (ap (λ x. is_there x.0 s.intakes) is ∙ there i d held) none
-
 never : (o : NodeOrder) (s : NodeSession) → AllHeldAreThere s.peers s.intakes → NodeRefuses o s fault.Held → ⊥
-never (order.Start n c) s there h = started_held n c s there h.0 h.1
-never (order.Ack c) s there h = absurd (cc h.1.2)
-never (order.Nack c) s there h = absurd (cc h.1.2)
+never (order.Start n c) s there h = two_truths (is_there c.0 s.intakes) (there h.1.0 c h.1.1) h.0
+never (order.Ack c) s there h = h.1
+never (order.Nack c) s there h = h.1
 never (order.Accept c) s there h = h
 never (order.Octets c piece) s there h = h
-never (order.Gone c) s there h = absurd (cc h.1.2)
-never (order.Timeout n) s there h = absurd (cc h.2)
-never (order.Tick n) s there h = absurd (cc h.2)
-never (order.Stop n cause) s there h = absurd (cc h.2)
-never (order.Submit n octets) s there h = absurd (cc h.2)
+never (order.Gone c) s there h = h.1
+never (order.Timeout n) s there h = h
+never (order.Tick n) s there h = h
+never (order.Stop n cause) s there h = h
+never (order.Submit n octets) s there h = h
 never (order.Reset n) s there h = h
 never order.ResetAll s there h = h
 

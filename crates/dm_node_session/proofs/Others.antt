@@ -11,21 +11,23 @@ use Rattle.dm_machine.specs.declared.state_name.State.TheVariants.{Closed, WaitC
 use Rattle.dm_machine.specs.Connection.{hold_as, hold_in}
 use Rattle.dm_machine.specs.Moves.{is_open}
 use Rattle.dm_machine.specs.Node.{is_same_role, held_as}
+use Rattle.dm_node.specs.declared.events.NodeEvent.{NodeEvent}
 use Rattle.dm_node.specs.Holding.{peer_at, holds_it, holds_at, AreApart}
+use Rattle.dm_node.specs.Policies.{Policy, no_strangers}
+use Rattle.dm_node.specs.Strangers.{NodeMoves, TellsConcerned, NodeIsTold}
 use Rattle.dm_node.specs.Telling.{IsFree}
 use Rattle.dm_peer.specs.declared.actions.Action.{Action}
 use Rattle.dm_peer.specs.declared.peer.Peer.{Peer}
-use Rattle.dm_peer.specs.Events.{PeerEvent, Arrived}
 use Rattle.dm_peer.specs.Holding.{is_held, holds, ClosedIsUnheld}
 use Rattle.dm_session.specs.Intakes.{Intake, Intakes, is_conn_number, with_intake, with_max, actions_close, left_by, raised_at}
 use Rattle.dm_session.specs.Sessions.{own_of, other_of}
 use Rattle.dm_session.specs.Staying.{ClosingKeeps}
 use Rattle.dm_node_session.specs.NodeLaws.{AreSoundNeighbours, IsLeftAlone}
-use Rattle.dm_node_session.specs.NodePolicies.{Policy, NodeMovesWith, NodeTellsWith, NodeTellsAsWith}
-use Rattle.dm_node_session.specs.NodeSessions.{NodeSession, NodeAnswer, NodeMoves, NodeTells, NodeTellsAs, concerned_in, raised_for, node_settled, with_node_intakes}
+use Rattle.dm_node_session.specs.NodeSessions.{NodeSession, NodeAnswer, NodeTells, NodeTellsOctets, NodeTellsAs, concerned_in, raised_for, node_settled, with_node_intakes}
 use Rattle.dm_node_session.proofs.Closing.{ClosesItsOwn}
-use Rattle.dm_node_session.proofs.Newcomers.{PeerLaws, peers_stay, else_at, closed_with}
-use Rattle.dm_node_session.proofs.NodeMoving.{two_truths, closed_moved}
+use Rattle.dm_node_session.proofs.Newcomers.{PeerLaws, peers_stay, else_at, closed_octets}
+use Rattle.dm_node_session.proofs.NodeMoving.{two_truths}
+use Rattle.dm_node_session.proofs.NodeTold.{by_event, closed_moved}
 
 -- a connection in a role is held
 as_is_held : (s : State) (role : Role) → is_held (hold_as s role) ≡ true
@@ -84,11 +86,28 @@ raised_elsewhere most (Some p) f c free = by (is_open p.standing.core.state)
     by false = refl
 
 -- whoever isn't told stays
-same_peer : (to : Option ℕ) (e : PeerEvent) (n : Node) (ps qs : List (Option Peer)) (who : Option ℕ)
-    (actions : List Action) (j : ℕ) → NodeMoves to e n ps who actions qs → (who ≡ Some j → ⊥) →
+same_plain : (e : NodeEvent) (ps qs : List (Option Peer)) (who : Option ℕ) (actions : List Action) (j : ℕ) →
+    TellsConcerned e ps who actions qs → (who ≡ Some j → ⊥) → peer_at qs j ≡ peer_at ps j
+same_plain e ps qs (Some i) actions j m un = m.1.others j (λ is. un (ap Some (sym is)))
+same_plain e ps qs None actions j m un = ap (λ l. peer_at l j) m.2
+
+same_octets : (policy : Policy) (c : Conn) (octets : List ℕ) (n : Node) (ps qs : List (Option Peer)) (who : Option ℕ)
+    (actions : List Action) (j : ℕ) → NodeMoves policy c octets n ps who actions qs → (who ≡ Some j → ⊥) →
     peer_at qs j ≡ peer_at ps j
-same_peer to e n ps qs (Some i) actions j m un = m.1.others j (λ is. un (ap Some (sym is)))
-same_peer to e n ps qs None actions j m un = ap (λ l. peer_at l j) m.2
+same_octets policy c octets n ps qs (Some i) actions j (inl m) un = m.1.others j (λ is. un (ap Some (sym is)))
+same_octets policy c octets n ps qs (Some i) actions j (inr (k, permitted, joins)) un =
+    else_at ps qs i j c octets actions k joins (λ is. un (ap Some (sym is)))
+same_octets policy c octets n ps qs None actions j m un =
+    ap (λ l. peer_at l j) (peers_stay policy c octets n ps qs actions m.1)
+
+same_peer : (policy : Policy) (e : NodeEvent) (n : Node) (ps qs : List (Option Peer)) (who : Option ℕ)
+    (actions : List Action) (j : ℕ) → NodeIsTold policy e n ps who actions qs → (who ≡ Some j → ⊥) →
+    peer_at qs j ≡ peer_at ps j
+same_peer policy e n ps qs who actions j m un =
+    elim (by_event policy e n ps qs who actions m) [
+      | inl came ↦ same_octets policy came.0 came.1 n ps qs who actions j came.3 un
+      | inr plain ↦ same_plain e ps qs who actions j plain.1 un
+    ]
 
 not_his : (qs : List (Option Peer)) (who : Option ℕ) (j : ℕ) (c : Conn) → AreApart qs → (who ≡ Some j → ⊥) →
     holds_at qs c j ≡ true → holds_it c (concerned_in qs who) ≡ false
@@ -124,24 +143,26 @@ settled_leaves keeps s t answer qs j left apart same closed un = record {
     there : AreApart qs
     there = subst (λ (v : NodeSession). AreApart v.peers) left apart
 
-pub event_leaves_others : ClosedIsUnheld → ClosesItsOwn → ClosingKeeps → (to : Option ℕ) (e : PeerEvent)
+pub event_leaves_others : ClosedIsUnheld → ClosesItsOwn → PeerLaws → ClosingKeeps → (e : NodeEvent)
     (s t : NodeSession) (answer : NodeAnswer) (j : ℕ) → AreSoundNeighbours s.peers → AreApart t.peers →
-    NodeTells to e s answer t → (answer.neighbour ≡ Some j → ⊥) → IsLeftAlone j s t
-event_leaves_others closed own keeps to e s t answer j sound apart tells un =
+    NodeTells e s answer t → (answer.neighbour ≡ Some j → ⊥) → IsLeftAlone j s t
+event_leaves_others closed own laws keeps e s t answer j sound apart tells un =
     settled_leaves keeps s t answer tells.peers j tells.left apart
-    (same_peer to e s.node s.peers tells.peers answer.neighbour answer.actions j tells.moved un)
-    (closed_moved closed own to e s.node s.peers tells.peers answer.neighbour answer.actions sound.kept
+    (same_peer no_strangers e s.node s.peers tells.peers answer.neighbour answer.actions j tells.moved un)
+    (closed_moved closed own laws no_strangers e s.node s.peers tells.peers answer.neighbour answer.actions sound.kept
     sound.neighbourhood.apart tells.moved) un
 
 -- whoever holds the connection on which octets come is told them
-holder_is_told : (n : Node) (ps qs : List (Option Peer)) (who : Option ℕ) (actions : List Action) (j : ℕ) (c : Conn)
-    (octets : List ℕ) → AreApart ps → NodeMoves None (Arrived c octets) n ps who actions qs → (who ≡ Some j → ⊥) →
-    holds_at ps c j ≡ true → ⊥
-holder_is_told n ps qs (Some i) actions j c octets apart m un held = elim m.0 [
+holder_is_told : (policy : Policy) (n : Node) (ps qs : List (Option Peer)) (who : Option ℕ) (actions : List Action)
+    (j : ℕ) (c : Conn) (octets : List ℕ) → AreApart ps → NodeMoves policy c octets n ps who actions qs →
+    (who ≡ Some j → ⊥) → holds_at ps c j ≡ true → ⊥
+holder_is_told policy n ps qs (Some i) actions j c octets apart (inl m) un held = elim m.0 [
   | inl own ↦ un (ap Some (apart.one i j c own held))
   | inr strange ↦ two_truths (holds_at ps c j) held (strange.0 j)
 ]
-holder_is_told n ps qs None actions j c octets apart m un held = m.0 j (inl held)
+holder_is_told policy n ps qs (Some i) actions j c octets apart (inr (k, permitted, joins)) un held =
+    permitted.unknown.nobody j (inl held)
+holder_is_told policy n ps qs None actions j c octets apart m un held = m.0 j (inl held)
 
 elsewhere : (c d : Conn) (i : Intake) (f : Intakes) → (d ≡ c → ⊥) → with_intake c.0 (Some i) f d.0 ≡ f d.0
 elsewhere c d i f un = by (nat_eq c.0 d.0) refl
@@ -160,64 +181,25 @@ taken_elsewhere c i s t j un alone = record {
       ∙ elsewhere c d i s.intakes (λ same. un (subst (λ x. holds_at s.peers x j ≡ true) same held));
 }
 
-octets_leave_others : ClosedIsUnheld → ClosesItsOwn → ClosingKeeps → (c : Conn) (octets : List ℕ) (i : Intake)
-    (s t : NodeSession) (answer : NodeAnswer) (j : ℕ) → AreSoundNeighbours s.peers → AreApart t.peers →
-    NodeTells None (Arrived c octets) (with_node_intakes (with_intake c.0 (Some i) s.intakes) s) answer t →
-    (answer.neighbour ≡ Some j → ⊥) → IsLeftAlone j s t
-octets_leave_others closed own keeps c octets i s t answer j sound apart tells un =
-    taken_elsewhere c i s t j
-    (holder_is_told s.node s.peers tells.peers answer.neighbour answer.actions j c octets sound.neighbourhood.apart
-    tells.moved un)
-    (event_leaves_others closed own keeps None (Arrived c octets)
-    (with_node_intakes (with_intake c.0 (Some i) s.intakes) s) t answer j sound apart tells un)
-
-pub next_leaves_others : ClosedIsUnheld → ClosesItsOwn → ClosingKeeps → (arrived : Option Conn) (c : Conn)
-    (s t : NodeSession) (answer : NodeAnswer) (j : ℕ) → AreSoundNeighbours s.peers → AreApart t.peers →
-    NodeTellsAs arrived c s answer t → (answer.neighbour ≡ Some j → ⊥) → IsLeftAlone j s t
-next_leaves_others closed own keeps None c s t answer j sound apart h un =
-    octets_leave_others closed own keeps c [] _ s t answer j sound apart h.told un
-next_leaves_others closed own keeps (Some d) c s t answer j sound apart h un =
-    octets_leave_others closed own keeps c h.1.message _ s t answer j sound apart h.1.told un
-
--- the same by a policy
-same_peer_with : (policy : Policy) (c : Conn) (octets : List ℕ) (n : Node) (ps qs : List (Option Peer))
-    (who : Option ℕ) (actions : List Action) (j : ℕ) → NodeMovesWith policy c octets n ps who actions qs →
-    (who ≡ Some j → ⊥) → peer_at qs j ≡ peer_at ps j
-same_peer_with policy c octets n ps qs (Some i) actions j (inl m) un = m.1.others j (λ is. un (ap Some (sym is)))
-same_peer_with policy c octets n ps qs (Some i) actions j (inr (k, permitted, joins)) un =
-    else_at ps qs i j c octets actions k joins (λ is. un (ap Some (sym is)))
-same_peer_with policy c octets n ps qs None actions j m un =
-    ap (λ l. peer_at l j) (peers_stay policy c octets n ps qs actions m.1)
-
-holder_is_told_with : (policy : Policy) (c : Conn) (octets : List ℕ) (n : Node) (ps qs : List (Option Peer))
-    (who : Option ℕ) (actions : List Action) (j : ℕ) → AreApart ps →
-    NodeMovesWith policy c octets n ps who actions qs → (who ≡ Some j → ⊥) → holds_at ps c j ≡ true → ⊥
-holder_is_told_with policy c octets n ps qs (Some i) actions j apart (inl m) un held =
-    holder_is_told n ps qs (Some i) actions j c octets apart m un held
-holder_is_told_with policy c octets n ps qs (Some i) actions j apart (inr (k, permitted, joins)) un held =
-    permitted.unknown.nobody j (inl held)
-holder_is_told_with policy c octets n ps qs None actions j apart m un held = m.0 j (inl held)
-
-message_leaves_others : ClosedIsUnheld → ClosesItsOwn → PeerLaws → ClosingKeeps → (policy : Policy) (c : Conn)
+octets_leave_others : ClosedIsUnheld → ClosesItsOwn → PeerLaws → ClosingKeeps → (policy : Policy) (c : Conn)
     (octets : List ℕ) (i : Intake) (s t : NodeSession) (answer : NodeAnswer) (j : ℕ) → AreSoundNeighbours s.peers →
     AreApart t.peers →
-    NodeTellsWith policy c octets (with_node_intakes (with_intake c.0 (Some i) s.intakes) s) answer t →
+    NodeTellsOctets policy c octets (with_node_intakes (with_intake c.0 (Some i) s.intakes) s) answer t →
     (answer.neighbour ≡ Some j → ⊥) → IsLeftAlone j s t
-message_leaves_others closed own laws keeps policy c octets i s t answer j sound apart tells un =
+octets_leave_others closed own laws keeps policy c octets i s t answer j sound apart tells un =
     taken_elsewhere c i s t j
-    (holder_is_told_with policy c octets s.node s.peers tells.peers answer.neighbour answer.actions j
+    (holder_is_told policy s.node s.peers tells.peers answer.neighbour answer.actions j c octets
     sound.neighbourhood.apart tells.moved un)
     (settled_leaves keeps (with_node_intakes (with_intake c.0 (Some i) s.intakes) s) t answer tells.peers j tells.left
-    apart
-    (same_peer_with policy c octets s.node s.peers tells.peers answer.neighbour answer.actions j tells.moved un)
-    (closed_with closed own laws policy c octets s.node s.peers tells.peers answer.neighbour answer.actions sound.kept
+    apart (same_octets policy c octets s.node s.peers tells.peers answer.neighbour answer.actions j tells.moved un)
+    (closed_octets closed own laws policy c octets s.node s.peers tells.peers answer.neighbour answer.actions sound.kept
     sound.neighbourhood.apart tells.moved) un)
 
-pub next_with_leaves_others : ClosedIsUnheld → ClosesItsOwn → PeerLaws → ClosingKeeps → (policy : Policy)
+pub next_leaves_others : ClosedIsUnheld → ClosesItsOwn → PeerLaws → ClosingKeeps → (policy : Policy)
     (arrived : Option Conn) (c : Conn) (s t : NodeSession) (answer : NodeAnswer) (j : ℕ) →
-    AreSoundNeighbours s.peers → AreApart t.peers → NodeTellsAsWith policy arrived c s answer t →
+    AreSoundNeighbours s.peers → AreApart t.peers → NodeTellsAs policy arrived c s answer t →
     (answer.neighbour ≡ Some j → ⊥) → IsLeftAlone j s t
-next_with_leaves_others closed own laws keeps policy None c s t answer j sound apart h un =
-    octets_leave_others closed own keeps c [] _ s t answer j sound apart h.told un
-next_with_leaves_others closed own laws keeps policy (Some d) c s t answer j sound apart h un =
-    message_leaves_others closed own laws keeps policy c h.1.message _ s t answer j sound apart h.1.told un
+next_leaves_others closed own laws keeps policy None c s t answer j sound apart h un =
+    octets_leave_others closed own laws keeps policy c [] _ s t answer j sound apart h.told un
+next_leaves_others closed own laws keeps policy (Some d) c s t answer j sound apart h un =
+    octets_leave_others closed own laws keeps policy c h.1.message _ s t answer j sound apart h.1.told un

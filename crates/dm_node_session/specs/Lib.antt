@@ -2,10 +2,8 @@ pub mod NodeSessions
 pub mod NodeTurns
 pub mod NodeSeen
 pub mod NodeHeld
-pub mod NodeTelling
 pub mod NodeOrders
 pub mod NodeLaws
 pub mod NodeHearing
-pub mod NodePolicies
 pub mod NodeStreams
 pub mod NodeEnding

@@ -1,17 +1,17 @@
 -- Behind a Close of a node's connection, and behind its end, nothing is told of it (RFC 6733, 5.6).
 use Rattle.std.specs.Prelude.{◌≡◌, true, Option, None}
 use Rattle.dm_machine.specs.declared.connection.Conn.{Conn}
+use Rattle.dm_node.specs.Policies.{Policy}
 use Rattle.dm_session.specs.Intakes.{actions_close}
 use Rattle.dm_node_session.specs.declared.node_order.NodeOrder.{NodeOrder}
 use Rattle.dm_node_session.specs.declared.node_order.NodeOrder.TheVariants as order
 use Rattle.dm_node_session.specs.NodeOrders.{NodeTakes}
-use Rattle.dm_node_session.specs.NodePolicies.{Policy, NodeTellsNextWith}
 use Rattle.dm_node_session.specs.NodeSessions.{NodeSession, NodeAnswer, NodeTurn, NodeTellsNext}
 
 -- behind a Close of a connection it isn't there
 abbrev pub NodeCloseIsLast : Type 0
 NodeCloseIsLast =
-    (c d : Conn) (s t : NodeSession) (turn : NodeTurn) → NodeTellsNext c s turn t
+    (policy : Policy) (c d : Conn) (s t : NodeSession) (turn : NodeTurn) → NodeTellsNext policy c s turn t
     → actions_close turn.answer.actions d.0 ≡ true → t.intakes d.0 ≡ None
 
 -- the order tells what happened on connection c
@@ -30,11 +30,5 @@ NodeGoneIsSilent =
 
 abbrev pub NodeGoneTellsNothing : Type 0
 NodeGoneTellsNothing =
-    (c : Conn) (s t : NodeSession) (turn : NodeTurn) → s.intakes c.0 ≡ None → NodeTellsNext c s turn t → ⊥
-
--- by a policy too
-pub record NodeEndsWith (policy : Policy) : Type 0 where
-  pub close : (c d : Conn) (s t : NodeSession) (turn : NodeTurn) → NodeTellsNextWith policy c s turn t
-      → actions_close turn.answer.actions d.0 ≡ true → t.intakes d.0 ≡ None
-  pub octets : (c : Conn) (s t : NodeSession) (turn : NodeTurn) → s.intakes c.0 ≡ None
-      → NodeTellsNextWith policy c s turn t → ⊥
+    (policy : Policy) (c : Conn) (s t : NodeSession) (turn : NodeTurn) → s.intakes c.0 ≡ None
+    → NodeTellsNext policy c s turn t → ⊥

@@ -1,14 +1,14 @@
 -- A whole message on a node's connection that is told where it lies, in the piece that brought it.
 use Rattle.std.specs.Prelude.{◌≡◌, ℕ, Some, IfSome, List, length, take, drop}
 use Rattle.dm_machine.specs.declared.connection.Conn.{Conn}
+use Rattle.dm_node.specs.Policies.{Policy}
 use Rattle.dm_session.specs.Hearing.{IsWholeIn, IsWholeAt, IsNotWhole}
 use Rattle.dm_session.specs.Intakes.{Intake}
-use Rattle.dm_node_session.specs.NodePolicies.{Policy, NodeTellsNextWith}
 use Rattle.dm_node_session.specs.NodeSessions.{NodeSession, NodeTurn, NodeTellsNext, TakesMemoryAt, node_fed}
 
 -- the piece begins with a whole message of connection c, of so many octets, which is told as if just it had come
-pub record NodeHearsWhole (c : Conn) (piece : List ℕ) (s : NodeSession) (turn : NodeTurn) (size : ℕ) (t : NodeSession)
-    : Type 0 where
+pub record NodeHearsWhole (policy : Policy) (c : Conn) (piece : List ℕ) (s : NodeSession) (turn : NodeTurn)
+    (size : ℕ) (t : NodeSession) : Type 0 where
   pub intake : Intake
   pub message : List ℕ
   pub rest : List ℕ
@@ -16,7 +16,7 @@ pub record NodeHearsWhole (c : Conn) (piece : List ℕ) (s : NodeSession) (turn 
   pub front : IsWholeIn intake piece message rest
   pub size_is : size ≡ length message
   pub arrived : turn.arrived ≡ Some c
-  pub told : NodeTellsNext c (node_fed c message s) turn t
+  pub told : NodeTellsNext policy c (node_fed c message s) turn t
 
 -- that message takes memory to be told
 abbrev pub NodeHearTakesMemory : Conn → List ℕ → NodeSession → Type 0
@@ -28,27 +28,9 @@ NodeHearTakesMemory c piece s =
 abbrev pub NodeHearsNothing : Conn → List ℕ → NodeSession → Type 0
 NodeHearsNothing c piece s = IfSome (s.intakes c.0) (λ i. IsNotWhole i piece)
 
--- it is told by a policy for unknown hosts
-pub record NodeHearsWholeWith (policy : Policy) (c : Conn) (piece : List ℕ) (s : NodeSession) (turn : NodeTurn)
-    (size : ℕ) (t : NodeSession) : Type 0 where
-  pub intake : Intake
-  pub message : List ℕ
-  pub rest : List ℕ
-  pub there : s.intakes c.0 ≡ Some intake
-  pub front : IsWholeIn intake piece message rest
-  pub size_is : size ≡ length message
-  pub arrived : turn.arrived ≡ Some c
-  pub told : NodeTellsNextWith policy c (node_fed c message s) turn t
-
 -- what is told where it lies is told as if the whole piece had come first
 abbrev pub NodeHeardAlike : Type 0
 NodeHeardAlike =
-    (c : Conn) (piece : List ℕ) (s t : NodeSession) (turn : NodeTurn) (size : ℕ)
-    → NodeHearsWhole c piece s turn size t → NodeTellsNext c (node_fed c piece s) turn (node_fed c (drop size piece) t)
-
--- by a policy too
-abbrev pub NodeHeardAlikeWith : Policy → Type 0
-NodeHeardAlikeWith policy =
-    (c : Conn) (piece : List ℕ) (s t : NodeSession) (turn : NodeTurn) (size : ℕ)
-    → NodeHearsWholeWith policy c piece s turn size t
-    → NodeTellsNextWith policy c (node_fed c piece s) turn (node_fed c (drop size piece) t)
+    (policy : Policy) (c : Conn) (piece : List ℕ) (s t : NodeSession) (turn : NodeTurn) (size : ℕ)
+    → NodeHearsWhole policy c piece s turn size t
+    → NodeTellsNext policy c (node_fed c piece s) turn (node_fed c (drop size piece) t)

@@ -1,13 +1,14 @@
 -- What holds of a node's session whatever comes (RFC 6733, 5.6).
 use Rattle.std.specs.Prelude.{◌≡◌, ℕ, true, Option, Some, List, [], ◌∷◌}
 use Rattle.dm_machine.specs.declared.connection.Conn.{Conn}
+use Rattle.dm_node.specs.declared.events.NodeEvent.{NodeEvent}
 use Rattle.dm_node.specs.Holding.{peer_at, holds_at}
 use Rattle.dm_node.specs.Neighbourhoods.{IsNeighbourhood}
+use Rattle.dm_node.specs.Policies.{Policy, no_strangers}
+use Rattle.dm_node.specs.Telling.{told_of}
 use Rattle.dm_peer.specs.declared.peer.Peer.{Peer}
-use Rattle.dm_peer.specs.Events.{PeerEvent}
 use Rattle.dm_session.specs.Sessions.{Session, Tells, TellsNext}
 use Rattle.dm_node_session.specs.NodeHeld.{AreKept}
-use Rattle.dm_node_session.specs.NodePolicies.{Policy, NodeTellsNextWith}
 use Rattle.dm_node_session.specs.NodeSessions.{NodeSession, NodeAnswer, NodeTurn, NodeTells, NodeTellsNext}
 
 -- what holds of the neighbours of each session: no connection is held by two, no two have one host, and each is kept
@@ -23,21 +24,14 @@ pub record IsLeftAlone (j : ℕ) (s t : NodeSession) : Type 0 where
 -- an event leaves each neighbour alone but the one that it is told
 abbrev pub EventLeavesOthers : Type 0
 EventLeavesOthers =
-    (to : Option ℕ) (e : PeerEvent) (s t : NodeSession) (answer : NodeAnswer) (j : ℕ) → AreSoundNeighbours s.peers
-    → AreSoundNeighbours t.peers → NodeTells to e s answer t → (answer.neighbour ≡ Some j → ⊥) → IsLeftAlone j s t
+    (e : NodeEvent) (s t : NodeSession) (answer : NodeAnswer) (j : ℕ) → AreSoundNeighbours s.peers
+    → AreSoundNeighbours t.peers → NodeTells e s answer t → (answer.neighbour ≡ Some j → ⊥) → IsLeftAlone j s t
 
 -- and so does what came on a connection
 abbrev pub NextLeavesOthers : Type 0
 NextLeavesOthers =
-    (c : Conn) (s t : NodeSession) (turn : NodeTurn) (j : ℕ) → AreSoundNeighbours s.peers
-    → AreSoundNeighbours t.peers → NodeTellsNext c s turn t → (turn.answer.neighbour ≡ Some j → ⊥)
-    → IsLeftAlone j s t
-
--- by a policy too
-abbrev pub NextWithLeavesOthers : Policy → Type 0
-NextWithLeavesOthers policy =
-    (c : Conn) (s t : NodeSession) (turn : NodeTurn) (j : ℕ) → AreSoundNeighbours s.peers
-    → AreSoundNeighbours t.peers → NodeTellsNextWith policy c s turn t → (turn.answer.neighbour ≡ Some j → ⊥)
+    (policy : Policy) (c : Conn) (s t : NodeSession) (turn : NodeTurn) (j : ℕ) → AreSoundNeighbours s.peers
+    → AreSoundNeighbours t.peers → NodeTellsNext policy c s turn t → (turn.answer.neighbour ≡ Some j → ⊥)
     → IsLeftAlone j s t
 
 -- the session of a node, as a session of this peer
@@ -48,14 +42,14 @@ session_with p s = record { peer = p; intakes = s.intakes; first_max = s.first_m
 -- are the same behind it. So the two differ only where the event concerns nobody.
 abbrev pub OneIsASession : Type 0
 OneIsASession =
-    (to : Option ℕ) (e : PeerEvent) (p : Peer) (s t : NodeSession) (answer : NodeAnswer) (i : ℕ)
-    → s.peers ≡ Some p ∷ [] → NodeTells to e s answer t → answer.neighbour ≡ Some i
-    → (q : Peer) × (t.peers ≡ Some q ∷ []) × Tells e (session_with p s) answer.actions (session_with q t)
+    (e : NodeEvent) (p : Peer) (s t : NodeSession) (answer : NodeAnswer) (i : ℕ)
+    → s.peers ≡ Some p ∷ [] → NodeTells e s answer t → answer.neighbour ≡ Some i
+    → (q : Peer) × (t.peers ≡ Some q ∷ []) × Tells (told_of e) (session_with p s) answer.actions (session_with q t)
 
 abbrev pub OneTellsAsASession : Type 0
 OneTellsAsASession =
     (c : Conn) (p : Peer) (s t : NodeSession) (turn : NodeTurn) (i : ℕ)
-    → s.peers ≡ Some p ∷ [] → NodeTellsNext c s turn t → turn.answer.neighbour ≡ Some i
+    → s.peers ≡ Some p ∷ [] → NodeTellsNext no_strangers c s turn t → turn.answer.neighbour ≡ Some i
     → (q : Peer) × (t.peers ≡ Some q ∷ [])
     × TellsNext c (session_with p s) (record { arrived = turn.arrived; actions = turn.answer.actions })
     (session_with q t)

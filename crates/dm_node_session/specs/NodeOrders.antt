@@ -1,34 +1,34 @@
 -- The orders of who drives a node, and what each comes to.
 use Rattle.std.specs.Prelude.{◌≡◌, ◌⊎◌, ℕ, cond, true, false, Option, None, Some, List, [], ◌∷◌, ◌++◌}
 use Rattle.dm_machine.specs.declared.connection.Conn.{Conn}
+use Rattle.dm_node.specs.declared.events.NodeEvent.{NodeEvent}
+use Rattle.dm_node.specs.declared.events.NodeEvent.TheVariants as event
 use Rattle.dm_node.specs.declared.fault.EventFault.{EventFault}
+use Rattle.dm_node.specs.Declining.{IsDeclinedHere}
 use Rattle.dm_node.specs.Emptying.{without_peer, with_set_back, all_set_back}
 use Rattle.dm_node.specs.Holding.{peer_at, holds_it, holds_at}
 use Rattle.dm_node.specs.Telling.{IsFree}
 use Rattle.dm_peer.specs.declared.actions.Action.{Action}
 use Rattle.dm_peer.specs.declared.actions.Action.TheVariants.{Close}
 use Rattle.dm_peer.specs.declared.peer.Peer.{Peer}
-use Rattle.dm_peer.specs.Events.{PeerEvent}
-use Rattle.dm_peer.specs.Events as event
 use Rattle.dm_session.specs.Intakes.{Intakes, none_there, is_there, opened, taken_down}
 use Rattle.dm_session.specs.Sessions.{own_of, other_of}
 use Rattle.dm_node_session.specs.declared.node_order.NodeOrder.{NodeOrder}
 use Rattle.dm_node_session.specs.declared.node_order.NodeOrder.TheVariants as order
 use Rattle.dm_node_session.specs.NodeSessions.{NodeSession, NodeAnswer, NodeTells, node_fed, with_node_intakes}
-use Rattle.dm_node_session.specs.NodeTelling.{NodeDeclines}
 
 -- an event is told, and this is what it asks for
-abbrev pub NodeTellsOnce : Option ℕ → PeerEvent → NodeSession → Option NodeAnswer → NodeSession → Type 0
-NodeTellsOnce to e s asks t = (answer : NodeAnswer) × (asks ≡ Some answer) × NodeTells to e s answer t
+abbrev pub NodeTellsOnce : NodeEvent → NodeSession → Option NodeAnswer → NodeSession → Type 0
+NodeTellsOnce e s asks t = (answer : NodeAnswer) × (asks ≡ Some answer) × NodeTells e s answer t
 
 -- nothing is told
 abbrev pub NodeTellsNothing : NodeSession → Option NodeAnswer → NodeSession → Type 0
 NodeTellsNothing s asks t = (asks ≡ None) × (t ≡ s)
 
 -- an event of connection c is told where that is there
-abbrev pub NodeTellsIfThere : Conn → PeerEvent → NodeSession → Option NodeAnswer → NodeSession → Type 0
+abbrev pub NodeTellsIfThere : Conn → NodeEvent → NodeSession → Option NodeAnswer → NodeSession → Type 0
 NodeTellsIfThere c e s asks t =
-    cond (is_there c.0 s.intakes) (NodeTellsOnce None e s asks t) (NodeTellsNothing s asks t)
+    cond (is_there c.0 s.intakes) (NodeTellsOnce e s asks t) (NodeTellsNothing s asks t)
 
 -- connection c is there, as it was or as a new one; it is no more there
 abbrev pub node_opened : Conn → NodeSession → NodeSession
@@ -48,14 +48,14 @@ abbrev pub NodeTellsNack : Conn → NodeSession → Option NodeAnswer → NodeSe
 NodeTellsNack c s asks t = (m : NodeSession) × NodeTellsIfThere c (event.Nack c) s asks m × ShutsUnheld c m t
 
 -- an event of connection c is told, and then that is no more there
-abbrev pub NodeTellsEnd : Conn → PeerEvent → NodeSession → Option NodeAnswer → NodeSession → Type 0
+abbrev pub NodeTellsEnd : Conn → NodeEvent → NodeSession → Option NodeAnswer → NodeSession → Type 0
 NodeTellsEnd c e s asks t = (m : NodeSession) × NodeTellsIfThere c e s asks m × (t ≡ node_shut c m)
 
 -- a number that is in use isn't started again
 abbrev pub NodeTellsStart : ℕ → Conn → NodeSession → Option NodeAnswer → NodeSession → Type 0
 NodeTellsStart n c s asks t =
     cond (is_there c.0 s.intakes) (NodeTellsNothing s asks t)
-    (NodeTellsOnce (Some n) (event.Start c) (node_opened c s) asks t)
+    (NodeTellsOnce (event.Start n c) (node_opened c s) asks t)
 
 -- what a neighbour holds is no more there
 abbrev pub left_by_peer : Option Peer → Intakes → Intakes
@@ -116,32 +116,32 @@ NodeTakes (order.Nack c) s asks t = NodeTellsNack c s asks t
 NodeTakes (order.Accept c) s asks t = NodeTellsNothing (node_opened c s) asks t
 NodeTakes (order.Octets c piece) s asks t = NodeTellsNothing (node_fed c piece.now s) asks t
 NodeTakes (order.Gone c) s asks t = NodeTellsEnd c (event.Gone c) s asks t
-NodeTakes (order.Timeout n) s asks t = NodeTellsOnce (Some n) event.Timeout s asks t
-NodeTakes (order.Tick n) s asks t = NodeTellsOnce (Some n) event.Tick s asks t
-NodeTakes (order.Stop n cause) s asks t = NodeTellsOnce (Some n) (event.Stop cause) s asks t
-NodeTakes (order.Submit n octets) s asks t = NodeTellsOnce (Some n) (event.Submit octets.now) s asks t
+NodeTakes (order.Timeout n) s asks t = NodeTellsOnce (event.Timeout n) s asks t
+NodeTakes (order.Tick n) s asks t = NodeTellsOnce (event.Tick n) s asks t
+NodeTakes (order.Stop n cause) s asks t = NodeTellsOnce (event.Stop n cause) s asks t
+NodeTakes (order.Submit n octets) s asks t = NodeTellsOnce (event.Submit n octets) s asks t
 NodeTakes (order.Reset n) s asks t = NodeTellsNothing (node_set_back n s) asks t
 NodeTakes order.ResetAll s asks t = NodeTellsNothing (node_closed s) asks t
 
--- nobody has the number, or its neighbour refuses the event
-abbrev pub NodeRefusesOnce : Option ℕ → PeerEvent → NodeSession → EventFault → Type 0
-NodeRefusesOnce to e s f = NodeDeclines to e s.peers f
+-- the event is misdirected, or the neighbour that it concerns refuses it
+abbrev pub NodeRefusesOnce : NodeEvent → NodeSession → EventFault → Type 0
+NodeRefusesOnce e s f = IsDeclinedHere s.peers e f
 
 -- the neighbour that holds connection c, which is there, refuses an event of it
-abbrev pub NodeRefusesIfThere : Conn → PeerEvent → NodeSession → EventFault → Type 0
-NodeRefusesIfThere c e s f = (is_there c.0 s.intakes ≡ true) × NodeRefusesOnce None e s f
+abbrev pub NodeRefusesIfThere : Conn → NodeEvent → NodeSession → EventFault → Type 0
+NodeRefusesIfThere c e s f = (is_there c.0 s.intakes ≡ true) × NodeRefusesOnce e s f
 
 -- Why an order is refused: where its event is. Where none is told there is nothing to refuse.
 abbrev pub NodeRefuses : NodeOrder → NodeSession → EventFault → Type 0
-NodeRefuses (order.Start n c) s f = (is_there c.0 s.intakes ≡ false) × NodeRefusesOnce (Some n) (event.Start c) s f
+NodeRefuses (order.Start n c) s f = (is_there c.0 s.intakes ≡ false) × NodeRefusesOnce (event.Start n c) s f
 NodeRefuses (order.Ack c) s f = NodeRefusesIfThere c (event.Ack c) s f
 NodeRefuses (order.Nack c) s f = NodeRefusesIfThere c (event.Nack c) s f
 NodeRefuses (order.Accept c) s f = ⊥
 NodeRefuses (order.Octets c piece) s f = ⊥
 NodeRefuses (order.Gone c) s f = NodeRefusesIfThere c (event.Gone c) s f
-NodeRefuses (order.Timeout n) s f = NodeRefusesOnce (Some n) event.Timeout s f
-NodeRefuses (order.Tick n) s f = NodeRefusesOnce (Some n) event.Tick s f
-NodeRefuses (order.Stop n cause) s f = NodeRefusesOnce (Some n) (event.Stop cause) s f
-NodeRefuses (order.Submit n octets) s f = NodeRefusesOnce (Some n) (event.Submit octets.now) s f
+NodeRefuses (order.Timeout n) s f = NodeRefusesOnce (event.Timeout n) s f
+NodeRefuses (order.Tick n) s f = NodeRefusesOnce (event.Tick n) s f
+NodeRefuses (order.Stop n cause) s f = NodeRefusesOnce (event.Stop n cause) s f
+NodeRefuses (order.Submit n octets) s f = NodeRefusesOnce (event.Submit n octets) s f
 NodeRefuses (order.Reset n) s f = ⊥
 NodeRefuses order.ResetAll s f = ⊥

@@ -1,14 +1,17 @@
 -- A node of many neighbours with its connections, and what one event of it comes to (RFC 6733, 5.6).
-use Rattle.std.specs.Prelude.{◌≡◌, ◌⊎◌, ℕ, true, Option, None, Some, IsSome, IfSome, IsTrue, List, []}
+use Rattle.std.specs.Prelude.{◌≡◌, ◌⊎◌, ℕ, Option, None, Some, IsSome, IfSome, IsTrue, List, []}
 use Rattle.dm_base.specs.declared.node.Node.{Node}
 use Rattle.dm_machine.specs.declared.connection.Conn.{Conn}
-use Rattle.dm_node.specs.Calling.{caller_of, answer_to}
-use Rattle.dm_node.specs.Holding.{peer_at, holds_at}
-use Rattle.dm_node.specs.Telling.{IsAddressed, PeerIsTold}
+use Rattle.dm_node.specs.Calling.{caller_of}
+use Rattle.dm_node.specs.Holding.{peer_at}
+use Rattle.dm_node.specs.Policies.{Policy, no_strangers}
+use Rattle.dm_node.specs.Strangers.{NodeMoves, NodeIsTold}
+use Rattle.dm_node.specs.Telling.{IsAddressed}
+use Rattle.dm_node.specs.declared.events.NodeEvent.{NodeEvent}
 use Rattle.dm_peer.specs.declared.actions.Action.{Action}
 use Rattle.dm_peer.specs.declared.peer.Peer.{Peer}
 use Rattle.dm_peer.specs.Acts.{acts, wants_memory}
-use Rattle.dm_peer.specs.Events.{PeerEvent, Ack, Nack, Arrived, Gone}
+use Rattle.dm_peer.specs.Events.{Arrived}
 use Rattle.dm_session.specs.Intakes.{Intake, Intakes, IsFirst, IsFaulty, IsToldOut, with_intake, changed, fed_intake}
 use Rattle.dm_session.specs.Intakes.{broken_intake, left_by}
 use Rattle.dm_session.specs.Sessions.{raised}
@@ -31,27 +34,6 @@ pub record NodeAnswer : Type 0 where
 pub record NodeTurn : Type 0 where
   pub arrived : Option Conn
   pub answer : NodeAnswer
-
--- Whom an event concerns: an Ack, a Nack and an end the one that holds the connection; octets the one that holds it,
--- or, where nobody does, the one whose host's CER they are; all else the neighbour that it names.
-abbrev pub IsConcerned : List (Option Peer) → Option ℕ → PeerEvent → ℕ → Type 0
-IsConcerned ps to (Ack c) i = holds_at ps c i ≡ true
-IsConcerned ps to (Nack c) i = holds_at ps c i ≡ true
-IsConcerned ps to (Gone c) i = holds_at ps c i ≡ true
-IsConcerned ps to (Arrived c s) i = IsAddressed ps c s i
-IsConcerned ps to e i = to ≡ Some i
-
--- what is done at an event that concerns nobody: a stranger's CER is answered 3010, and he is closed
-abbrev pub turned_off : Node → PeerEvent → List Action
-turned_off n (Arrived c s) = answer_to n c (caller_of s)
-turned_off n _ = []
-
--- one event of a node: the one neighbour that it concerns is told, and nothing happens to the others; or it concerns
--- nobody, and nothing happens to any
-abbrev pub NodeMoves :
-    Option ℕ → PeerEvent → Node → List (Option Peer) → Option ℕ → List Action → List (Option Peer) → Type 0
-NodeMoves to e n ps (Some i) actions qs = IsConcerned ps to e i × PeerIsTold ps qs i e actions
-NodeMoves to e n ps None actions qs = ((i : ℕ) → IsConcerned ps to e i → ⊥) × (actions ≡ turned_off n e) × (qs ≡ ps)
 
 -- the neighbour that was concerned, if one was
 abbrev pub concerned_in : List (Option Peer) → Option ℕ → Option Peer
@@ -88,38 +70,46 @@ node_settled who qs actions s =
 abbrev pub node_fed : Conn → List ℕ → NodeSession → NodeSession
 node_fed c piece s = with_node_intakes (changed c.0 (fed_intake piece) s.intakes) s
 
--- one event is told, and this is what it asks for
-pub record NodeTells (to : Option ℕ) (e : PeerEvent) (s : NodeSession) (answer : NodeAnswer) (t : NodeSession)
-    : Type 0 where
+-- The event of an order is told, and this is what it asks for. No policy concerns it, since it brings no octets.
+pub record NodeTells (e : NodeEvent) (s : NodeSession) (answer : NodeAnswer) (t : NodeSession) : Type 0 where
   pub peers : List (Option Peer)
-  pub moved : NodeMoves to e s.node s.peers answer.neighbour answer.actions peers
+  pub moved : NodeIsTold no_strangers e s.node s.peers answer.neighbour answer.actions peers
+  pub left : t ≡ node_settled answer.neighbour peers answer.actions s
+
+-- octets of connection c are told by the policy
+pub record NodeTellsOctets (policy : Policy) (c : Conn) (octets : List ℕ) (s : NodeSession) (answer : NodeAnswer)
+    (t : NodeSession) : Type 0 where
+  pub peers : List (Option Peer)
+  pub moved : NodeMoves policy c octets s.node s.peers answer.neighbour answer.actions peers
   pub left : t ≡ node_settled answer.neighbour peers answer.actions s
 
 -- the first message that came on connection c is told as it stands
-pub record NodeTellsMessage (c : Conn) (s : NodeSession) (answer : NodeAnswer) (t : NodeSession) : Type 0 where
+pub record NodeTellsMessage (policy : Policy) (c : Conn) (s : NodeSession) (answer : NodeAnswer) (t : NodeSession)
+    : Type 0 where
   pub intake : Intake
   pub message : List ℕ
   pub rest : List ℕ
   pub there : s.intakes c.0 ≡ Some intake
   pub first : IsFirst intake message rest
-  pub told : NodeTells None (Arrived c message)
+  pub told : NodeTellsOctets policy c message
       (with_node_intakes (with_intake c.0 (Some (record intake { octets = rest })) s.intakes) s) answer t
 
 -- a fault in the octets of connection c is told as octets that spell no message, and what came is thrown away
-pub record NodeTellsFault (c : Conn) (s : NodeSession) (answer : NodeAnswer) (t : NodeSession) : Type 0 where
+pub record NodeTellsFault (policy : Policy) (c : Conn) (s : NodeSession) (answer : NodeAnswer) (t : NodeSession)
+    : Type 0 where
   pub intake : Intake
   pub there : s.intakes c.0 ≡ Some intake
   pub faulty : IsFaulty intake
-  pub told : NodeTells None (Arrived c [])
+  pub told : NodeTellsOctets policy c []
       (with_node_intakes (with_intake c.0 (Some (broken_intake intake)) s.intakes) s) answer t
 
 -- one turn of what came on connection c: its next message, or a fault
-abbrev pub NodeTellsAs : Option Conn → Conn → NodeSession → NodeAnswer → NodeSession → Type 0
-NodeTellsAs None c s answer t = NodeTellsFault c s answer t
-NodeTellsAs (Some d) c s answer t = (d ≡ c) × NodeTellsMessage c s answer t
+abbrev pub NodeTellsAs : Policy → Option Conn → Conn → NodeSession → NodeAnswer → NodeSession → Type 0
+NodeTellsAs policy None c s answer t = NodeTellsFault policy c s answer t
+NodeTellsAs policy (Some d) c s answer t = (d ≡ c) × NodeTellsMessage policy c s answer t
 
-abbrev pub NodeTellsNext : Conn → NodeSession → NodeTurn → NodeSession → Type 0
-NodeTellsNext c s turn t = NodeTellsAs turn.arrived c s turn.answer t
+abbrev pub NodeTellsNext : Policy → Conn → NodeSession → NodeTurn → NodeSession → Type 0
+NodeTellsNext policy c s turn t = NodeTellsAs policy turn.arrived c s turn.answer t
 
 -- nothing is left to tell of connection c
 abbrev pub NodeIsOut : Conn → NodeSession → Type 0

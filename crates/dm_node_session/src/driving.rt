@@ -1,7 +1,6 @@
 //! What an order to a node comes to.
 ghost use Rattle.std.specs.Prelude.{◌≡◌, ◌⊎◌, IfOk, IfErr, OnErr};
 ghost use Rattle.std.specs.Option.{option_map};
-ghost use Rattle.dm_machine.specs.declared.connection.Conn.{Conn};
 ghost use Rattle.dm_node.specs.Telling.{told_of};
 ghost use Rattle.dm_node.specs.declared.fault.EventFault.TheVariants as faults;
 ghost use Rattle.dm_peer.specs.declared.fault.PeerFault.TheVariants as peer_faults;
@@ -11,7 +10,6 @@ ghost use Rattle.dm_node_session.specs.NodeOrders.{NodeTakes, NodeTellsOnce, Nod
 ghost use Rattle.dm_node_session.specs.NodeOrders.{NodeRefuses, NodeRefusesOnce, NodeRefusesIfThere, ShutsUnheld};
 ghost use Rattle.dm_node_session.specs.NodeOrders.{NodeTellsNack, NodeTellsEnd};
 ghost use Rattle.dm_node_session.specs.NodeSeen.{node_session_of};
-ghost use Rattle.dm_node_session.specs.NodeTelling.{neighbour_named};
 ghost use Rattle.dm_node_session.specs.NodeTurns.{as_answer};
 
 use crate::telling::{no_actions, tell_neighbours};
@@ -25,8 +23,8 @@ use dm_session::laws::what_is_there_stays;
 use std::alloc::Global;
 
 impl NodeSession {
-    ghost use Rattle.std.specs.Prelude.{None, Some, true, false, ℕ};
-    ghost use Rattle.dm_peer.specs.Events.{Start, Nack, Gone};
+    ghost use Rattle.std.specs.Prelude.{false};
+    ghost use Rattle.dm_node.specs.declared.events.NodeEvent.TheVariants.{Start, Nack, Gone};
     ghost use Rattle.dm_session.specs.Intakes.{is_there};
 
     /// Takes an order, and answers what it asks for, and of which neighbour; None where no event is told. What came on
@@ -93,21 +91,21 @@ impl NodeSession {
         }
     }
 
-    /// Tells an event, which names no connection that isn't there.
+    /// Tells an event of an order, which names no connection that isn't there.
     fn tell_once(
         &mut self,
         alloc: Global,
         event: NodeEvent<'_>,
     ) -> Result<Option<NodeActions>, EventFault>
         requires { NamesThere (told_of event) (node_session_of self.old).intakes }
-        ensures told { IfOk result (λ asks. NodeTellsOnce (neighbour_named event.entry) (told_of event.entry)
-            (node_session_of self.old) (option_map as_answer asks) (node_session_of self.new)) }
+        ensures told { IfOk result (λ asks. NodeTellsOnce event.entry (node_session_of self.old)
+            (option_map as_answer asks) (node_session_of self.new)) }
         ensures refused { IfErr result (λ fault. (fault ≡ faults.Peer peer_faults.NoMemory)
-            ⊎ NodeRefusesOnce (neighbour_named event.entry) (told_of event.entry) (node_session_of self.old) fault) }
+            ⊎ NodeRefusesOnce event.entry (node_session_of self.old) fault) }
         ensures unchanged { OnErr result (node_session_of self.new ≡ node_session_of self.old) }
     {
         let mut answer = no_actions();
-        match tell_neighbours(alloc, &mut self.neighbours, event, &mut answer) {
+        match tell_neighbours(alloc, &mut self.neighbours, &(), event, &mut answer) {
             Ok(()) => {
                 self.settle(&answer);
                 Ok(Some(answer))
@@ -117,19 +115,18 @@ impl NodeSession {
         }
     }
 
-    /// Tells an event of the connection, which names no other and no neighbour, where that is there.
+    /// Tells an event of the connection, which names no other, where that is there.
     fn tell_there(
         &mut self,
         alloc: Global,
         conn: Conn,
         event: NodeEvent<'_>,
     ) -> Result<Option<NodeActions>, EventFault>
-        requires conn { NamesAtMost (told_of event) conn }
-        requires unnamed { neighbour_named event ≡ None }
-        ensures told { IfOk result (λ asks. NodeTellsIfThere conn (told_of event.entry) (node_session_of self.old)
+        requires { NamesAtMost (told_of event) conn }
+        ensures told { IfOk result (λ asks. NodeTellsIfThere conn event.entry (node_session_of self.old)
             (option_map as_answer asks) (node_session_of self.new)) }
         ensures refused { IfErr result (λ fault. (fault ≡ faults.Peer peer_faults.NoMemory)
-            ⊎ NodeRefusesIfThere conn (told_of event.entry) (node_session_of self.old) fault) }
+            ⊎ NodeRefusesIfThere conn event.entry (node_session_of self.old) fault) }
         ensures unchanged { OnErr result (node_session_of self.new ≡ node_session_of self.old) }
     {
         if self.has(conn) {
@@ -196,7 +193,7 @@ impl NodeSession {
             (option_map as_answer asks) (node_session_of self.new)) }
         ensures refused { IfErr result (λ fault. (fault ≡ faults.Peer peer_faults.NoMemory)
             ⊎ ((is_there conn.0 (node_session_of self.old).intakes ≡ false)
-            × NodeRefusesOnce (Some index) (Start conn) (node_session_of self.old) fault)) }
+            × NodeRefusesOnce (Start index conn) (node_session_of self.old) fault)) }
         ensures unchanged { OnErr result (node_session_of self.new ≡ node_session_of self.old) }
     {
         what_is_there_stays();

@@ -8,34 +8,35 @@ use crate::NodeSession;
 use crate::node_turn::{HeardNodeTurn, NodeTurn};
 use crate::telling::{no_actions, tell_neighbours};
 use dm_machine::Conn;
-use dm_node::NodeEvent;
+use dm_node::{NodeEvent, Strangers};
 use std::alloc::{AllocError, Global};
 
 impl NodeSession {
-    /// Tells the whole message of the connection with which the piece begins, where it lies, to the neighbour that it
-    /// concerns; a stranger is answered and closed. None where there is nothing to tell so: the connection isn't there,
+    /// Tells the whole message of the connection with which the piece begins, where it lies, as
+    /// [`next`](NodeSession::next) tells it. None where there is nothing to tell so: the connection isn't there,
     /// something of it is kept or what comes is thrown away, or the piece begins with no whole message. The piece is
     /// then an order (`NodeOrder::Octets`), as is what is left of it behind the octets that were told. Where memory is
     /// wanted nothing changes, and it can be told again.
-    pub fn hear(
+    pub fn hear<S: Strangers>(
         &mut self,
         alloc: Global,
+        strangers: &S,
         conn: Conn,
         piece: &[u8],
     ) -> Result<Option<HeardNodeTurn>, AllocError>
-        ensures heard { IfOk result (λ found. IfSome found (λ heard. NodeHearsWhole conn piece.now
-            (node_session_of self.old) (as_node_turn heard.turn) heard.len (node_session_of self.new))) }
+        ensures heard { IfOk result (λ found. IfSome found (λ heard. NodeHearsWhole (S.policy strangers.now) conn
+            piece.now (node_session_of self.old) (as_node_turn heard.turn) heard.len (node_session_of self.new))) }
         ensures none { IfOk result (λ found. IfNone found (NodeHearsNothing conn piece.now (node_session_of self.old)
             × (node_session_of self.new ≡ node_session_of self.old))) }
         ensures unchanged { OnErr result (node_session_of self.new ≡ node_session_of self.old) }
-        // Memory is wanted only for what the message asks of its neighbour, or for the answer to a stranger's CER.
+        // Memory is wanted only for what the message asks of its neighbour, or for a stranger's CER.
         ensures memory { OnErr result (NodeHearTakesMemory conn piece.now (node_session_of self.old)) }
     {
         match self.intakes.whole_in(conn, piece) {
             Some(len) => {
                 let event = NodeEvent::Arrived(conn, &piece[..len]);
                 let mut answer = no_actions();
-                match tell_neighbours(alloc, &mut self.neighbours, event, &mut answer) {
+                match tell_neighbours(alloc, &mut self.neighbours, strangers, event, &mut answer) {
                     Ok(()) => {
                         self.settle(&answer);
                         let turn = NodeTurn::of_message(conn, answer);

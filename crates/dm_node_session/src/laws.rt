@@ -1,20 +1,16 @@
 //! Laws of a node's session. Each function is a law: it does nothing but call the laws that it stands on, and its
 //! contract is the law.
 ghost use Rattle.dm_node_session.specs.NodeEnding.{NodeCloseIsLast, NodeGoneIsSilent, NodeGoneTellsNothing};
-ghost use Rattle.dm_node_session.specs.NodeEnding.{NodeEndsWith};
-ghost use Rattle.dm_node_session.specs.NodeHearing.{NodeHeardAlike, NodeHeardAlikeWith};
+ghost use Rattle.dm_node_session.specs.NodeHearing.{NodeHeardAlike};
 ghost use Rattle.dm_node_session.specs.NodeHeld.{AllHeldAreThere};
 ghost use Rattle.dm_node_session.specs.NodeLaws.{AreSoundNeighbours, EventLeavesOthers, NextLeavesOthers};
-ghost use Rattle.dm_node_session.specs.NodeLaws.{NextWithLeavesOthers};
 ghost use Rattle.dm_node_session.specs.NodeLaws.{OneIsASession, OneTellsAsASession};
 ghost use Rattle.dm_node_session.specs.NodeSeen.{node_session_of};
-ghost use Rattle.dm_node_session.specs.NodeStreams.{NodeCutsAlike, NodeCutsAlikeWith};
-ghost use Rattle.dm_node_session.specs.NodeStreams.{NodeOneTelling, NodeCutsToldOut, NodePiecesToldOut};
+ghost use Rattle.dm_node_session.specs.NodeStreams.{NodeCutsAlike, NodeOneTelling, NodeCutsToldOut, NodePiecesToldOut};
 
 use crate::NodeSession;
 use dm_framer::laws::one_front;
 use dm_machine::laws::each_opening_has_its_message;
-use dm_node::Strangers;
 use dm_node::laws::neighbours_are_apart;
 use dm_peer::laws::{
     each_event_is_one_step, each_event_keeps_settled, each_event_names_what_it_takes,
@@ -37,28 +33,17 @@ pub fn neighbours_are_sound(session: &NodeSession)
 }
 
 /// What is told one neighbour leaves the others alone: each is what it was, and so is what came on the connections that
-/// it holds; at an order's event, and at what came on a connection.
+/// it holds; at an order's event, and at what came on a connection, whatever the policy. A host that becomes a
+/// neighbour leaves them alone too.
 pub fn others_are_left_alone()
     ensures event { EventLeavesOthers }
     ensures octets { NextLeavesOthers }
-{
-    each_event_is_one_step();
-    each_event_names_what_it_takes();
-    each_opening_has_its_message();
-    what_is_there_stays();
-}
-
-/// What is told one neighbour by a policy for unknown hosts leaves the others alone, and so does a host that becomes a
-/// neighbour.
-pub fn others_are_left_alone_by<S: Strangers>(strangers: &S)
-    ensures { NextWithLeavesOthers (S.policy strangers.now) }
 {
     each_event_is_one_step();
     each_event_keeps_settled();
     each_event_names_what_it_takes();
     each_opening_has_its_message();
     what_is_there_stays();
-    let _most = strangers.most();
 }
 
 /// A node of one neighbour is a session of its peer, wherever that is told something: at an order's event, and at what
@@ -69,38 +54,22 @@ pub fn one_neighbour_is_a_session()
     ensures octets { OneTellsAsASession }
 {}
 
-/// A message that is told where it lies is told as if the whole piece had been kept first.
+/// A message that is told where it lies is told as if the whole piece had been kept first, whatever the policy.
 pub fn heard_alike()
     ensures { NodeHeardAlike }
 {
     one_front();
 }
 
-/// The same of what is told by a policy for unknown hosts.
-pub fn heard_alike_by<S: Strangers>(strangers: &S)
-    ensures { NodeHeardAlikeWith (S.policy strangers.now) }
-{
-    one_front();
-    let _most = strangers.most();
-}
-
-/// Whatever cuts a stream, telling the pieces is a telling of the whole.
+/// Whatever cuts a stream, telling the pieces is a telling of the whole, whatever the policy.
 pub fn cuts_alike()
     ensures { NodeCutsAlike }
 {
     one_front();
 }
 
-/// The same of what is told by a policy for unknown hosts.
-pub fn cuts_alike_by<S: Strangers>(strangers: &S)
-    ensures { NodeCutsAlikeWith (S.policy strangers.now) }
-{
-    one_front();
-    let _most = strangers.most();
-}
-
 /// However a stream is cut, what is told until nothing is left is the same: the turns, in order, of which neighbour
-/// each is, and the session behind them.
+/// each is, and the session behind them. So it is by every policy, since each makes one configuration for a host.
 pub fn one_telling()
     ensures once { NodeOneTelling }
     ensures cut { NodeCutsToldOut }
@@ -112,16 +81,9 @@ pub fn one_telling()
     each_opening_has_its_message();
 }
 
-/// Nothing is told of a connection behind its Close or its end.
+/// Nothing is told of a connection behind its Close or its end, whatever the policy.
 pub fn closed_is_down()
     ensures close { NodeCloseIsLast }
     ensures order { NodeGoneIsSilent }
     ensures octets { NodeGoneTellsNothing }
 {}
-
-/// The same of what is told by a policy for unknown hosts.
-pub fn closed_is_down_by<S: Strangers>(strangers: &S)
-    ensures { NodeEndsWith (S.policy strangers.now) }
-{
-    let _most = strangers.most();
-}

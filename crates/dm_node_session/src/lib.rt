@@ -9,7 +9,6 @@ pub mod laws;
 mod node_order;
 mod node_session;
 mod node_turn;
-mod permitting;
 mod telling;
 
 pub use dm_node::{AddFault, EventFault, Neighbours, NodeActions, Open, Strangers};

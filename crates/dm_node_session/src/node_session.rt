@@ -7,7 +7,7 @@ use crate::node_turn::NodeTurn;
 use crate::telling::{no_actions, raise_for, tell_neighbours};
 use dm_base::Node;
 use dm_machine::Conn;
-use dm_node::{Neighbours, NodeActions, NodeEvent};
+use dm_node::{Neighbours, NodeActions, NodeEvent, Strangers};
 use dm_session::laws::what_is_there_stays;
 use dm_session::{Front, Intakes};
 use std::alloc::{AllocError, Global};
@@ -25,18 +25,14 @@ pub struct NodeSession {
 }
 
 impl NodeSession {
-    ghost use Rattle.std.specs.Prelude.{◌≡◌, ◌⊎◌, true, [], None, Some, IfOk, IfErr, IfSome, IfNone, OnOk, OnErr};
+    ghost use Rattle.std.specs.Prelude.{◌≡◌, true, [], None, Some, IfOk, IfSome, IfNone, OnOk, OnErr};
     ghost use Rattle.dm_machine.specs.declared.connection.Conn.{Conn};
-    ghost use Rattle.dm_node.specs.Telling.{IsFree, told_of};
-    ghost use Rattle.dm_node.specs.declared.fault.EventFault.TheVariants as faults;
-    ghost use Rattle.dm_peer.specs.declared.fault.PeerFault.TheVariants as peer_faults;
+    ghost use Rattle.dm_node.specs.Telling.{IsFree};
     ghost use Rattle.dm_session.specs.Intakes.{Intake, IsFaulty, none_there, is_there, actions_close};
-    ghost use Rattle.dm_session.specs.Naming.{NamesThere};
     ghost use Rattle.dm_node_session.specs.NodeOrders.{node_opened, node_shut};
     ghost use Rattle.dm_node_session.specs.NodeSeen.{node_session_of};
-    ghost use Rattle.dm_node_session.specs.NodeSessions.{NodeTells, NodeTellsNext, NodeIsOut, NodeNextTakesMemory};
+    ghost use Rattle.dm_node_session.specs.NodeSessions.{NodeTellsNext, NodeIsOut, NodeNextTakesMemory};
     ghost use Rattle.dm_node_session.specs.NodeSessions.{NodeTellsFault, TakesMemoryAt, node_fed, node_settled};
-    ghost use Rattle.dm_node_session.specs.NodeTelling.{neighbour_named, NodeDeclines};
     ghost use Rattle.dm_node_session.specs.NodeTurns.{as_answer, as_node_turn};
 
     /// No neighbours and no connections. The node answers strangers. A message takes at most `first_max` octets before
@@ -121,18 +117,23 @@ impl NodeSession {
     }
 
     /// Tells the fault that stands at the front of the connection's stream, and throws away what came.
-    pub(crate) fn tell_fault(&mut self, alloc: Global, conn: Conn) -> Result<NodeTurn, AllocError>
+    pub(crate) fn tell_fault<S: Strangers>(
+        &mut self,
+        alloc: Global,
+        strangers: &S,
+        conn: Conn,
+    ) -> Result<NodeTurn, AllocError>
         requires { (i : Intake) × ((node_session_of self.old).intakes conn.0 ≡ Some i) × IsFaulty i }
         ensures arrived { IfOk result (λ turn. turn.arrived ≡ None) }
-        ensures told { IfOk result (λ turn. NodeTellsFault conn (node_session_of self.old) (as_answer turn.answer)
-            (node_session_of self.new)) }
+        ensures told { IfOk result (λ turn. NodeTellsFault (S.policy strangers.now) conn (node_session_of self.old)
+            (as_answer turn.answer) (node_session_of self.new)) }
         ensures unchanged { OnErr result (node_session_of self.new ≡ node_session_of self.old) }
         ensures memory { OnErr result (TakesMemoryAt conn [] (node_session_of self.old).peers) }
     {
         what_is_there_stays();
         let event = NodeEvent::Arrived(conn, &[]);
         let mut answer = no_actions();
-        match tell_neighbours(alloc, &mut self.neighbours, event, &mut answer) {
+        match tell_neighbours(alloc, &mut self.neighbours, strangers, event, &mut answer) {
             Ok(()) => {
                 self.intakes.break_off(alloc, conn);
                 self.settle(&answer);
@@ -146,16 +147,27 @@ impl NodeSession {
     }
 
     /// Tells the next whole message that came on the connection, or the fault of its stream, to the neighbour that it
-    /// concerns; a stranger is answered and closed. None where there is nothing to tell. Where memory is wanted nothing
-    /// changes, and it can be told again.
-    pub fn next(&mut self, alloc: Global, conn: Conn) -> Result<Option<NodeTurn>, AllocError>
-        ensures turn { IfOk result (λ found. IfSome found (λ turn.
-            NodeTellsNext conn (node_session_of self.old) (as_node_turn turn) (node_session_of self.new))) }
+    /// concerns. What concerns none goes by the policy for unknown hosts (RFC 6733, 5.3): a CER of a host for which
+    /// `strangers` have a template, where there are fewer neighbours than there may be, is told to a neighbour of the
+    /// template's configuration for it, which is added behind the others and holds the connection. It is not added
+    /// where it would be Closed behind its CER, as at one that it refuses. To all else the connection is closed, behind
+    /// an answer 3010 (DIAMETER_UNKNOWN_PEER) to a CER. By `()` each stranger is turned away so.
+    ///
+    /// A neighbour that was taken in so stays until it is removed ([`remove`](NodeSession::remove)).
+    ///
+    /// None where there is nothing to tell. Where memory is wanted nothing changes, and it can be told again.
+    pub fn next<S: Strangers>(
+        &mut self,
+        alloc: Global,
+        strangers: &S,
+        conn: Conn,
+    ) -> Result<Option<NodeTurn>, AllocError>
+        ensures turn { IfOk result (λ found. IfSome found (λ turn. NodeTellsNext (S.policy strangers.now) conn
+            (node_session_of self.old) (as_node_turn turn) (node_session_of self.new))) }
         ensures none { IfOk result (λ found. IfNone found (
             NodeIsOut conn (node_session_of self.old) × (node_session_of self.new ≡ node_session_of self.old))) }
         ensures unchanged { OnErr result (node_session_of self.new ≡ node_session_of self.old) }
-        // Memory is wanted only for what the message or the fault asks of its neighbour, or for the answer to a
-        // stranger's CER.
+        // Memory is wanted only for what the message or the fault asks of its neighbour, or for a stranger's CER.
         ensures memory { OnErr result (NodeNextTakesMemory conn (node_session_of self.old)) }
     {
         what_is_there_stays();
@@ -165,7 +177,7 @@ impl NodeSession {
             Front::Message(message) => {
                 let event = NodeEvent::Arrived(conn, message);
                 let mut answer = no_actions();
-                match tell_neighbours(alloc, &mut self.neighbours, event, &mut answer) {
+                match tell_neighbours(alloc, &mut self.neighbours, strangers, event, &mut answer) {
                     Ok(()) => {
                         self.intakes.skip(conn);
                         self.settle(&answer);
@@ -174,7 +186,7 @@ impl NodeSession {
                     Err(_) => return Err(AllocError),
                 }
             }
-            Front::Fault => match self.tell_fault(alloc, conn) {
+            Front::Fault => match self.tell_fault(alloc, strangers, conn) {
                 Ok(turn) => return Ok(Some(turn)),
                 Err(error) => return Err(error),
             },

@@ -1,7 +1,9 @@
 //! The neighbours of a node are told an event.
-ghost use Rattle.std.specs.Prelude.{◌≡◌, ◌⊎◌, ℕ, true, List, [], None, Some, IfErr, IfSome, OnOk, OnErr};
+ghost use Rattle.std.specs.Prelude.{◌≡◌, ◌⊎◌, ℕ, true, List, [], None, IfErr, IfSome, OnOk, OnErr};
 ghost use Rattle.dm_machine.specs.declared.connection.Conn.{Conn};
+ghost use Rattle.dm_node.specs.Declining.{IsDeclinedHere};
 ghost use Rattle.dm_node.specs.Holding.{peer_at};
+ghost use Rattle.dm_node.specs.Strangers.{NodeIsTold};
 ghost use Rattle.dm_node.specs.Telling.{IsFree, told_of};
 ghost use Rattle.dm_node.specs.declared.fault.EventFault.TheVariants as faults;
 ghost use Rattle.dm_peer.specs.declared.fault.PeerFault.TheVariants as peer_faults;
@@ -12,16 +14,16 @@ ghost use Rattle.dm_session.specs.Intakes.{Intakes as AllIntakes, actions_close}
 ghost use Rattle.dm_session.specs.Naming.{NamesThere};
 ghost use Rattle.dm_session.specs.Sessions.{raised};
 ghost use Rattle.dm_node_session.specs.NodeHeld.{AllHeldAreThere, AreKept};
-ghost use Rattle.dm_node_session.specs.NodeSessions.{NodeMoves, TakesMemoryAt, concerned_in, raised_for};
-ghost use Rattle.dm_node_session.specs.NodeTelling.{neighbour_named, NodeDeclines};
+ghost use Rattle.dm_node_session.specs.NodeSessions.{TakesMemoryAt, concerned_in, raised_for};
 
 use arrayvec::ArrayVec;
 use dm_machine::laws::each_opening_has_its_message;
 use dm_node::laws::neighbours_are_apart;
-use dm_node::{EventFault, Neighbours, NodeActions, NodeEvent};
+use dm_node::{EventFault, Neighbours, NodeActions, NodeEvent, Strangers};
 use dm_peer::Peer;
 use dm_peer::laws::{
-    each_event_is_one_step, each_event_names_what_it_takes, every_peer_is_kept, refusals_go_by_rule,
+    each_event_is_one_step, each_event_keeps_settled, each_event_names_what_it_takes,
+    every_peer_is_kept, refusals_go_by_rule,
 };
 use dm_session::Intakes;
 use std::alloc::Global;
@@ -49,17 +51,19 @@ pub(crate) fn no_actions() -> NodeActions
     }
 }
 
-/// Tells the neighbours the event, and puts what it comes to into `answer`, whose actions are none before.
+/// Tells the neighbours the event, by the policy for hosts that are none, and puts what it comes to into `answer`,
+/// whose actions are none before.
 #[inline(always)]
-pub(crate) fn tell_neighbours(
+pub(crate) fn tell_neighbours<S: Strangers>(
     alloc: Global,
     neighbours: &mut Neighbours,
+    strangers: &S,
     event: NodeEvent<'_>,
     answer: &mut NodeActions,
 ) -> Result<(), EventFault>
     requires kept { AreKept neighbours.old.peers }
     requires none { answer.old.actions.items ≡ [] }
-    ensures moved { OnOk result (NodeMoves (neighbour_named event.entry) (told_of event.entry) neighbours.old.node
+    ensures told { OnOk result (NodeIsTold (S.policy strangers.now) event.entry neighbours.old.node
         neighbours.old.peers answer.new.neighbour answer.new.actions.items neighbours.new.peers) }
     ensures closed { OnOk result ((c : Conn) → actions_close answer.new.actions.items c.0 ≡ true
         → IsFree neighbours.new.peers c) }
@@ -68,17 +72,18 @@ pub(crate) fn tell_neighbours(
     ensures kept { AreKept neighbours.new.peers }
     ensures node { neighbours.new.node ≡ neighbours.old.node }
     ensures refused { IfErr result (λ fault. (fault ≡ faults.Peer peer_faults.NoMemory)
-        ⊎ NodeDeclines (neighbour_named event.entry) (told_of event.entry) neighbours.old.peers fault) }
+        ⊎ IsDeclinedHere neighbours.old.peers event.entry fault) }
     ensures memory { (c : Conn) (octets : List ℕ) → told_of event.entry ≡ Arrived c octets
         → OnErr result (TakesMemoryAt c octets neighbours.old.peers) }
     ensures unchanged { OnErr result (neighbours.new.peers ≡ neighbours.old.peers) }
 {
     each_event_is_one_step();
+    each_event_keeps_settled();
     each_event_names_what_it_takes();
     each_opening_has_its_message();
     refusals_go_by_rule();
     neighbours_are_apart(neighbours);
-    match neighbours.on_into(alloc, &(), event, answer) {
+    match neighbours.on_into(alloc, strangers, event, answer) {
         Ok(()) => {
             look_at(neighbours, answer.neighbour);
             Ok(())

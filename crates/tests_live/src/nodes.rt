@@ -1,7 +1,7 @@
 //! A node of three neighbours with its connections.
 
 use crate::session::{CER_OF_B, DWR_OF_B, config, node};
-use dm_node_session::{Conn, EventFault, NodeOrder, NodeSession, Open};
+use dm_node_session::{Conn, EventFault, NodeOrder, NodeSession, Open, Strangers};
 use dm_peer::State;
 use std::process::Abort;
 
@@ -34,13 +34,14 @@ fn asked(
     }
 }
 
-/// Of the next turn of the connection the neighbour, and how many actions it asks for.
+/// Of the next turn of the connection, by the policy, the neighbour, and how many actions it asks for.
 fn turn(
     rt: &(impl Abort + AllocGlobal),
     session: &mut NodeSession,
+    strangers: &impl Strangers,
     conn: Conn,
 ) -> Option<(Option<usize>, usize)> {
-    match session.next(rt.alloc(), conn) {
+    match session.next(rt.alloc(), strangers, conn) {
         Ok(Some(turn)) => Some((turn.answer.neighbour, turn.answer.actions.len())),
         Ok(None) => None,
         Err(_) => Some((None, 100)),
@@ -72,7 +73,7 @@ fn told(
     letter: u8,
 ) -> Option<(Option<usize>, usize)> {
     came(rt, session, conn, digits, letter);
-    turn(rt, session, conn)
+    turn(rt, session, &(), conn)
 }
 
 /// The host with this letter makes a connection and says who it is: what is told of it.
@@ -141,7 +142,7 @@ fn heard(rt: &(impl Abort + AllocGlobal), letter: u8) -> Option<(usize, Option<u
     if let Some(octet) = octets.get_mut(28) {
         *octet = letter;
     }
-    let told = match session.hear(rt.alloc(), Conn(1), octets.as_slice()) {
+    let told = match session.hear(rt.alloc(), &(), Conn(1), octets.as_slice()) {
         Ok(Some(heard)) => Some((
             heard.len,
             heard.turn.answer.neighbour,
@@ -180,11 +181,11 @@ fn cut(rt: &(impl Abort + AllocGlobal), at: usize) -> [Option<(Option<usize>, us
         .expect(rt, "two pieces");
     let _none = asked(rt, &mut session, NodeOrder::Accept(Conn(1)));
     let _kept = asked(rt, &mut session, NodeOrder::Octets(Conn(1), piece));
-    let first = turn(rt, &mut session, Conn(1));
-    let second = turn(rt, &mut session, Conn(1));
+    let first = turn(rt, &mut session, &(), Conn(1));
+    let second = turn(rt, &mut session, &(), Conn(1));
     let _kept = asked(rt, &mut session, NodeOrder::Octets(Conn(1), more));
-    let third = turn(rt, &mut session, Conn(1));
-    let fourth = turn(rt, &mut session, Conn(1));
+    let third = turn(rt, &mut session, &(), Conn(1));
+    let fourth = turn(rt, &mut session, &(), Conn(1));
     drop(octets);
     drop(session);
     [first, second, third, fourth]
@@ -207,20 +208,6 @@ fn strange(rt: &(impl Abort + AllocGlobal)) -> (Option<(Option<usize>, usize)>, 
     (came, is_there)
 }
 
-/// Of the next turn of the connection by the policy the neighbour, and how many actions it asks for.
-fn turn_with(
-    rt: &(impl Abort + AllocGlobal),
-    session: &mut NodeSession,
-    policy: &Open,
-    conn: Conn,
-) -> Option<(Option<usize>, usize)> {
-    match session.next_with(rt.alloc(), policy, conn) {
-        Ok(Some(turn)) => Some((turn.answer.neighbour, turn.answer.actions.len())),
-        Ok(None) => None,
-        Err(_) => Some((None, 100)),
-    }
-}
-
 /// The host with this letter calls, where each host is taken while there are fewer neighbours than so many: what it
 /// comes to, the state of the fourth neighbour, and whether the connection is there then.
 fn permitted(
@@ -232,7 +219,7 @@ fn permitted(
     let policy = Open::new(config(rt, b"b.example"), most);
     let _none = asked(rt, &mut session, NodeOrder::Accept(Conn(1)));
     came(rt, &mut session, Conn(1), CER_OF_B, letter);
-    let turn = turn_with(rt, &mut session, &policy, Conn(1));
+    let turn = turn(rt, &mut session, &policy, Conn(1));
     let state = session.neighbours().state_of(3);
     let is_there = session.has(Conn(1));
     drop(policy);
@@ -253,7 +240,7 @@ fn permitted_in_place(
     if let Some(octet) = octets.get_mut(28) {
         *octet = letter;
     }
-    let told = match session.hear_with(rt.alloc(), &policy, Conn(1), octets.as_slice()) {
+    let told = match session.hear(rt.alloc(), &policy, Conn(1), octets.as_slice()) {
         Ok(Some(heard)) => Some((
             heard.len,
             heard.turn.answer.neighbour,
@@ -281,10 +268,10 @@ fn broken(
     let policy = Open::new(config(rt, b"b.example"), 4);
     let _none = asked(rt, &mut session, NodeOrder::Accept(Conn(1)));
     came(rt, &mut session, Conn(1), CER_OF_B, b'z');
-    let _taken = turn_with(rt, &mut session, &policy, Conn(1));
+    let _taken = turn(rt, &mut session, &policy, Conn(1));
     came(rt, &mut session, Conn(1), "02000014", 0);
-    let fault = turn_with(rt, &mut session, &policy, Conn(1));
-    let behind = turn_with(rt, &mut session, &policy, Conn(1));
+    let fault = turn(rt, &mut session, &policy, Conn(1));
+    let behind = turn(rt, &mut session, &policy, Conn(1));
     let state = session.neighbours().state_of(3);
     drop(policy);
     drop(session);

@@ -27,12 +27,12 @@ pub fn policy(rt: &(impl Abort + AllocGlobal)) -> Open {
 pub enum Call<'a> {
     /// An order is taken.
     Take(NodeOrder<'a>),
-    /// What came on a connection is told, without a policy or with one.
+    /// What came on a connection is told, by no policy or by one.
     Next(Conn),
-    NextWith(Conn),
-    /// A message is told where it lies, without a policy or with one.
+    NextBy(Conn),
+    /// A message is told where it lies, by no policy or by one.
     Hear(Conn, &'a [u8]),
-    HearWith(Conn, &'a [u8]),
+    HearBy(Conn, &'a [u8]),
 }
 
 /// What a call answered.
@@ -72,10 +72,10 @@ fn heard(found: Result<Option<HeardNodeTurn>, AllocError>) -> Answer {
 fn respond(alloc: Global, session: &mut NodeSession, policy: &Open, call: Call<'_>) -> Answer {
     match call {
         Call::Take(order) => taken(session.take(alloc, order)),
-        Call::Next(conn) => told(session.next(alloc, conn)),
-        Call::NextWith(conn) => told(session.next_with(alloc, policy, conn)),
-        Call::Hear(conn, piece) => heard(session.hear(alloc, conn, piece)),
-        Call::HearWith(conn, piece) => heard(session.hear_with(alloc, policy, conn, piece)),
+        Call::Next(conn) => told(session.next(alloc, &(), conn)),
+        Call::NextBy(conn) => told(session.next(alloc, policy, conn)),
+        Call::Hear(conn, piece) => heard(session.hear(alloc, &(), conn, piece)),
+        Call::HearBy(conn, piece) => heard(session.hear(alloc, policy, conn, piece)),
     }
 }
 
@@ -167,7 +167,7 @@ const CALLS: usize = 14;
 /// The CER of the host that is permitted comes.
 fn coming<'a>(run: &Run<'a>) -> Call<'a> {
     if run.is_in_place {
-        Call::HearWith(Conn(8), run.permitted)
+        Call::HearBy(Conn(8), run.permitted)
     } else {
         Call::Take(NodeOrder::Octets(Conn(8), run.permitted))
     }
@@ -186,9 +186,9 @@ fn calls<'a>(run: &Run<'a>) -> [Call<'a>; CALLS] {
         Call::Take(NodeOrder::Submit(0, run.message)),
         Call::Take(NodeOrder::Accept(Conn(8))),
         coming(run),
-        Call::NextWith(Conn(8)),
+        Call::NextBy(Conn(8)),
         Call::Take(NodeOrder::Octets(Conn(8), run.message)),
-        Call::NextWith(Conn(8)),
+        Call::NextBy(Conn(8)),
         Call::Take(NodeOrder::Gone(Conn(9))),
     ]
 }

@@ -62,11 +62,11 @@ fn hear<S: Strangers>(
     nth: u32,
 ) -> End {
     refuse(alloc, nth);
-    let heard = session.hear_with(alloc, strangers, CONN, octets);
+    let heard = session.hear(alloc, strangers, CONN, octets);
     let refused = was_refused(alloc);
     if heard.is_err() {
         let same = is_empty(session);
-        let again = session.hear_with(alloc, strangers, CONN, octets);
+        let again = session.hear(alloc, strangers, CONN, octets);
         return repeated(refused, same && is_taken(session, &again));
     }
     let right = is_taken(session, &heard);
@@ -126,7 +126,7 @@ fn check_calling(rt: &(impl Abort + AllocGlobal)) {
     let calling = Calling {
         octets: octets.as_slice(),
     };
-    each(rt, &calling, "hear_with");
+    each(rt, &calling, "hear");
 }
 
 #[test]
@@ -139,7 +139,7 @@ fn check_alike(rt: &(impl Abort + AllocGlobal)) {
     let alike = Alike {
         octets: octets.as_slice(),
     };
-    each(rt, &alike, "hear_with by a template");
+    each(rt, &alike, "hear by a template");
 }
 
 #[test]

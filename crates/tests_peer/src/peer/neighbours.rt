@@ -44,7 +44,7 @@ fn hears(
 ) -> bool {
     let is_accepted = does(rt, session, NodeOrder::Accept(conn), None, 0);
     let heard = session
-        .hear(rt.alloc(), conn, message)
+        .hear(rt.alloc(), &(), conn, message)
         .expect(rt, "actions");
     match heard {
         Some(heard) => {

@@ -35,7 +35,7 @@ fn meets(rt: &(impl Abort + AllocGlobal), session: &mut NodeSession, case: &Case
     let accepted = session.take(rt.alloc(), NodeOrder::Accept(Conn(conn)));
     assert!(rt; accepted.is_ok());
     let heard = session
-        .hear_with(rt.alloc(), &open, Conn(conn), octets.as_slice())
+        .hear(rt.alloc(), &open, Conn(conn), octets.as_slice())
         .expect(rt, "memory");
     match heard {
         Some(heard) => {

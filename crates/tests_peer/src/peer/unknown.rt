@@ -60,7 +60,7 @@ fn meets(rt: &(impl Abort + AllocGlobal), session: &mut NodeSession, case: &Case
     let accepted = session.take(rt.alloc(), NodeOrder::Accept(Conn(conn)));
     assert!(rt; accepted.is_ok());
     let heard = session
-        .hear_with(rt.alloc(), &policy, Conn(conn), octets.as_slice())
+        .hear(rt.alloc(), &policy, Conn(conn), octets.as_slice())
         .expect(rt, "memory");
     let is_done = match heard {
         Some(heard) => {

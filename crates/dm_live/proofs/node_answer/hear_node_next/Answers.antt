@@ -1,4 +1,5 @@
 use Rattle.std.proofs.Common.{◌≡◌, refl, sym, subst}
+use Rattle.dm_node.specs.Policies.{no_strangers}
 use Rattle.dm_node_session.specs.declared.node_turn.NodeTurn.{NodeTurn}
 use Rattle.dm_node_session.specs.NodeSeen.{node_session_of}
 use Rattle.dm_node_session.specs.NodeSessions.{NodeTellsNext, NodeIsOut}
@@ -12,7 +13,7 @@ pub returns-in_ok-put_node_turn-in-Ok-Some-clause-told :
 returns-in_ok-put_node_turn-in-Ok-Some-clause-told c =
     let s = node_session_of c.args.session.now in
     let t = node_session_of c.next.new.self in
-    let Next : NodeTurn → Type 0 = λ turn. NodeTellsNext c.args.conn s (as_node_turn turn) t in
+    let Next : NodeTurn → Type 0 = λ turn. NodeTellsNext no_strangers c.args.conn s (as_node_turn turn) t in
     let turn = c.in-Ok-Some.turn in
     let next = some-holds Next c.in-Ok-Some.field-0 turn c.in-Ok-Some.field-0-is c.in-Ok-Some.ensures.turn in
     λ _. (as_node_turn turn, next, c.or.ensures, c.in_ok-put_node_turn-in-Ok-Some.ensures)

@@ -3,10 +3,10 @@ use Rattle.dm_node_session.proofs.NodeEnds.{close_is_last, gone_is_silent, gone_
 use Rattle.dm_node_session.proofs.laws.closed_is_down.Goals as goal
 
 pub returns-clause-close : goal.returns-clause-close
-returns-clause-close c = λ d e s t turn h is. close_is_last turn.arrived d e s t turn.answer h is
+returns-clause-close c = λ policy d e s t turn h is. close_is_last policy turn.arrived d e s t turn.answer h is
 
 pub returns-clause-order : goal.returns-clause-order
 returns-clause-order c = gone_is_silent
 
 pub returns-clause-octets : goal.returns-clause-octets
-returns-clause-octets c = λ d s t turn none h. gone_tells_nothing turn.arrived d s t turn.answer none h
+returns-clause-octets c = λ policy d s t turn none h. gone_tells_nothing policy turn.arrived d s t turn.answer none h

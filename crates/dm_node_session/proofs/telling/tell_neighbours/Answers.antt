@@ -1,51 +1,56 @@
--- The clauses of the event as one move, and what it leaves.
+-- What the event leaves, and why it is refused.
 use Rattle.std.proofs.Common.{sym, subst}
-use Rattle.dm_node.specs.Telling.{told_of}
 use Rattle.dm_node_session.specs.NodeHeld.{AreKept}
-use Rattle.dm_node_session.specs.NodeTelling.{neighbour_named}
 use Rattle.dm_node_session.proofs.Closing.{closes_its_own}
-use Rattle.dm_node_session.proofs.NodeMoving.{moved, held_moved, kept_moved, closed_moved, refused, memory}
+use Rattle.dm_node_session.proofs.Newcomers.{PeerLaws}
+use Rattle.dm_node_session.proofs.NodeTold.{held_moved, kept_moved, closed_moved, refused, memory}
 use Rattle.dm_node_session.proofs.telling.tell_neighbours.Goals as goal
 
-pub returns-in-Ok-clause-moved : goal.returns-in-Ok-clause-moved
-returns-in-Ok-clause-moved c =
-    moved c.args.neighbours.now.node c.args.neighbours.now.peers c.on_into.new.self.peers c.args.event
-    c.on_into.new.answer.neighbour c.on_into.new.answer.actions.items c.in-Ok.ensures.told
-
 pub returns-in-Ok-clause-closed : goal.returns-in-Ok-clause-closed
-returns-in-Ok-clause-closed c =
+returns-in-Ok-clause-closed g c =
+    let policy = g.S.Strangers.policy c.args.strangers.now in
+    let laws : PeerLaws = record {
+      step = c.each_event_is_one_step.ensures;
+      fresh = c.each_event_keeps_settled.ensures.fresh;
+      settled = c.each_event_keeps_settled.ensures.kept;
+      alone = c.each_opening_has_its_message.ensures.alone;
+      gives_up = c.each_opening_has_its_message.ensures.closed;
+    } in
     closed_moved c.each_event_names_what_it_takes.ensures.closed
-    (closes_its_own c.each_event_is_one_step.ensures c.each_opening_has_its_message.ensures.closed)
-    (neighbour_named c.args.event) (told_of c.args.event) c.args.neighbours.now.node c.args.neighbours.now.peers
-    c.on_into.new.self.peers c.on_into.new.answer.neighbour c.on_into.new.answer.actions.items c.requires.kept
-    c.neighbours_are_apart.ensures.apart
-    (moved c.args.neighbours.now.node c.args.neighbours.now.peers c.on_into.new.self.peers c.args.event
-    c.on_into.new.answer.neighbour c.on_into.new.answer.actions.items c.in-Ok.ensures.told)
+    (closes_its_own c.each_event_is_one_step.ensures c.each_opening_has_its_message.ensures.closed) laws policy
+    c.args.event c.args.neighbours.now.node c.args.neighbours.now.peers c.on_into.new.self.peers
+    c.on_into.new.answer.neighbour c.on_into.new.answer.actions.items c.requires.kept
+    c.neighbours_are_apart.ensures.apart c.in-Ok.ensures.told
 
 pub returns-in-Ok-clause-held : goal.returns-in-Ok-clause-held
-returns-in-Ok-clause-held c =
-    held_moved c.each_event_names_what_it_takes.ensures.others
-    (neighbour_named c.args.event) (told_of c.args.event) c.args.neighbours.now.node c.args.neighbours.now.peers
-    c.on_into.new.self.peers c.on_into.new.answer.neighbour c.on_into.new.answer.actions.items c.requires.kept
-    (moved c.args.neighbours.now.node c.args.neighbours.now.peers c.on_into.new.self.peers c.args.event
-    c.on_into.new.answer.neighbour c.on_into.new.answer.actions.items c.in-Ok.ensures.told)
+returns-in-Ok-clause-held g c =
+    let policy = g.S.Strangers.policy c.args.strangers.now in
+    let laws : PeerLaws = record {
+      step = c.each_event_is_one_step.ensures;
+      fresh = c.each_event_keeps_settled.ensures.fresh;
+      settled = c.each_event_keeps_settled.ensures.kept;
+      alone = c.each_opening_has_its_message.ensures.alone;
+      gives_up = c.each_opening_has_its_message.ensures.closed;
+    } in
+    held_moved c.each_event_names_what_it_takes.ensures.others laws policy c.args.event c.args.neighbours.now.node
+    c.args.neighbours.now.peers c.on_into.new.self.peers c.on_into.new.answer.neighbour
+    c.on_into.new.answer.actions.items c.requires.kept c.in-Ok.ensures.told
 
 pub returns-in-Ok-clause-kept : goal.returns-in-Ok-clause-kept
-returns-in-Ok-clause-kept c =
-    kept_moved (neighbour_named c.args.event) (told_of c.args.event) c.args.neighbours.now.node
-    c.args.neighbours.now.peers c.on_into.new.self.peers c.on_into.new.answer.neighbour c.on_into.new.answer.actions.items
-    c.requires.kept
-    (moved c.args.neighbours.now.node c.args.neighbours.now.peers c.on_into.new.self.peers c.args.event
-    c.on_into.new.answer.neighbour c.on_into.new.answer.actions.items c.in-Ok.ensures.told) c.look_at.ensures
+returns-in-Ok-clause-kept g c =
+    let policy = g.S.Strangers.policy c.args.strangers.now in
+    kept_moved policy c.args.event c.args.neighbours.now.node c.args.neighbours.now.peers c.on_into.new.self.peers
+    c.on_into.new.answer.neighbour c.on_into.new.answer.actions.items c.requires.kept c.in-Ok.ensures.told
+    c.look_at.ensures
 
 pub returns-in-Err-clause-kept : goal.returns-in-Err-clause-kept
-returns-in-Err-clause-kept c = subst AreKept (sym c.in-Err.ensures.unchanged) c.requires.kept
+returns-in-Err-clause-kept g c = subst AreKept (sym c.in-Err.ensures.unchanged) c.requires.kept
 
 pub returns-in-Err-clause-refused : goal.returns-in-Err-clause-refused
-returns-in-Err-clause-refused c =
+returns-in-Err-clause-refused g c =
     refused c.args.neighbours.now.peers c.args.event c.in-Err.fault c.in-Err.ensures.refused
 
 pub returns-in-Err-clause-memory : goal.returns-in-Err-clause-memory
-returns-in-Err-clause-memory c = λ d octets is.
+returns-in-Err-clause-memory g c = λ d octets is.
     memory c.refusals_go_by_rule.ensures c.args.neighbours.now.peers d octets c.args.event c.in-Err.fault
     c.requires.kept is c.in-Err.ensures.refused

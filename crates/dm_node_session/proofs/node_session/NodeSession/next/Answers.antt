@@ -9,12 +9,14 @@ use Rattle.dm_node_session.proofs.NodeStaying.{held_with, arrived_there, settled
 use Rattle.dm_node_session.proofs.node_session.NodeSession.next.Goals as goal
 
 pub returns-clause-turn : goal.returns-clause-turn
-returns-clause-turn c =
+returns-clause-turn g c =
+    let policy = g.S.Strangers.policy c.args.strangers.now in
     let at = c.in-Message.ensures in
     let old = node_session_of c.args.self.now in
     let qs = c.tell_neighbours.new.neighbours.peers in
     let gone = c.skip.ensures at.0 c.in-Message.message.now at.1 at.2 at.3 in
-    let told : NodeTellsMessage c.args.conn old (as_answer c.tell_neighbours.new.answer) (node_session_of c.settle.new.self) =
+    let told : NodeTellsMessage policy c.args.conn old (as_answer c.tell_neighbours.new.answer)
+    (node_session_of c.settle.new.self) =
     record {
       intake = at.0;
       message = c.in-Message.message.now;
@@ -23,23 +25,24 @@ returns-clause-turn c =
       first = at.3;
       told = record {
         peers = qs;
-        moved = c.in-Ok.ensures.moved;
+        moved = c.in-Ok.ensures.told;
         left = c.settle.ensures ∙
             settled_as old c.tell_neighbours.new.neighbours.node qs c.tell_neighbours.new.answer.neighbour
             c.tell_neighbours.new.answer.actions.items _ _ c.tell_neighbours.ensures.node gone;
       };
     } in
-    subst (λ turn. NodeTellsNext c.args.conn old turn (node_session_of c.settle.new.self))
+    subst (λ turn. NodeTellsNext policy c.args.conn old turn (node_session_of c.settle.new.self))
     (sym c.of_message.ensures) (refl, told)
 
 pub returns-in-Ok-tell_fault-clause-turn : goal.returns-in-Ok-tell_fault-clause-turn
-returns-in-Ok-tell_fault-clause-turn c =
+returns-in-Ok-tell_fault-clause-turn g c =
+    let policy = g.S.Strangers.policy c.args.strangers.now in
     let turn = c.in-Ok-tell_fault.turn in
-    subst (λ arrived. NodeTellsAs arrived c.args.conn (node_session_of c.args.self.now) (as_answer turn.answer)
+    subst (λ arrived. NodeTellsAs policy arrived c.args.conn (node_session_of c.args.self.now) (as_answer turn.answer)
     (node_session_of c.tell_fault.new.self)) (sym c.in-Ok-tell_fault.ensures.arrived) c.in-Ok-tell_fault.ensures.told
 
 pub invariant_of-self-in-Ok : goal.invariant_of-self-in-Ok
-invariant_of-self-in-Ok c =
+invariant_of-self-in-Ok g c =
     let at = c.in-Message.ensures in
     let message = c.in-Message.message.now in
     let old = intakes_of c.args.self.now.intakes in
@@ -54,7 +57,7 @@ invariant_of-self-in-Ok c =
     }
 
 pub returns-in-Err-clause-memory : goal.returns-in-Err-clause-memory
-returns-in-Err-clause-memory c =
+returns-in-Err-clause-memory g c =
     let at = c.in-Message.ensures in
     inl (
       at.0,
@@ -66,6 +69,6 @@ returns-in-Err-clause-memory c =
     )
 
 pub returns-in-Err-tell_fault-clause-memory : goal.returns-in-Err-tell_fault-clause-memory
-returns-in-Err-tell_fault-clause-memory c =
+returns-in-Err-tell_fault-clause-memory g c =
     let at = c.in-Fault.ensures in
     inr (at.0, at.1, at.2, c.in-Err-tell_fault.ensures.memory)

@@ -8,7 +8,7 @@ use Rattle.dm_node_session.proofs.NodeStaying.{held_with, arrived_there, settled
 use Rattle.dm_node_session.proofs.node_session.NodeSession.tell_fault.Goals as goal
 
 pub returns-in-Ok-clause-told : goal.returns-in-Ok-clause-told
-returns-in-Ok-clause-told c =
+returns-in-Ok-clause-told g c =
     let at = c.requires in
     let old = node_session_of c.args.self.now in
     let answer = c.tell_neighbours.new.answer in
@@ -20,7 +20,7 @@ returns-in-Ok-clause-told c =
       faulty = at.2;
       told = record {
         peers = qs;
-        moved = c.in-Ok.ensures.moved;
+        moved = c.in-Ok.ensures.told;
         left = c.settle.ensures ∙
             settled_as old c.tell_neighbours.new.neighbours.node qs answer.neighbour answer.actions.items _ _
             c.tell_neighbours.ensures.node gone;
@@ -28,7 +28,7 @@ returns-in-Ok-clause-told c =
     }
 
 pub invariant_of-self : goal.invariant_of-self
-invariant_of-self c =
+invariant_of-self g c =
     let at = c.requires in
     let old = intakes_of c.args.self.now.intakes in
     let qs = c.tell_neighbours.new.neighbours.peers in
@@ -42,4 +42,4 @@ invariant_of-self c =
     }
 
 pub returns-in-Err-clause-memory : goal.returns-in-Err-clause-memory
-returns-in-Err-clause-memory c = c.in-Err.ensures.memory c.args.conn [] refl
+returns-in-Err-clause-memory g c = c.in-Err.ensures.memory c.args.conn [] refl
