@@ -7,7 +7,8 @@ use Rattle.dm_node.specs.Calling.{Caller, caller_of}
 use Rattle.dm_node.specs.Holding.{holds_at}
 use Rattle.dm_node.specs.Neighbourhoods.{IsNeighbourhood}
 use Rattle.dm_node.specs.OneConcerned.{OneIsConcerned}
-use Rattle.dm_node.specs.Telling.{IsAddressed, Concerns}
+use Rattle.dm_node.specs.Policies.{Policy}
+use Rattle.dm_node.specs.Telling.{IsCallOf, IsAddressed, Concerns}
 use Rattle.dm_node.specs.declared.events.NodeEvent.{NodeEvent}
 use Rattle.dm_node.specs.declared.events.NodeEvent.TheVariants as event
 
@@ -24,31 +25,38 @@ some_is None a b x y = absurd (cc)
 some_is (Some z) a b x y = cc
 
 -- octets on a connection concern one
-one_addressed : (ps : List (Option Peer)) (c : Conn) (s : List ℕ) (i j : ℕ) → IsNeighbourhood ps →
-    IsAddressed ps c s i → IsAddressed ps c s j → i ≡ j
-one_addressed ps c s i j n (inl a) (inl b) = n.apart.one i j c a b
-one_addressed ps c s i j n (inl a) (inr b) = absurd (not_free ps c i a b.0)
-one_addressed ps c s i j n (inr a) (inl b) = absurd (not_free ps c j b a.0)
-one_addressed ps c s i j n (inr a) (inr b) =
-    let same = same_host b.1 a.1 (some_is (caller_of s) b.1 a.1 b.2 a.2) in
-    n.unlike.one i j (lower a.1.1) a.3 (b.3 ∙ ap Some same)
-
-pub one_is_concerned : OneIsConcerned
-one_is_concerned ps (event.Start m c) i j n a b = sym a ∙ b
-one_is_concerned ps (event.Stop m cause) i j n a b = sym a ∙ b
-one_is_concerned ps (event.Timeout m) i j n a b = sym a ∙ b
-one_is_concerned ps (event.Tick m) i j n a b = sym a ∙ b
-one_is_concerned ps (event.Submit m octets) i j n a b = sym a ∙ b
-one_is_concerned ps (event.Ack c) i j n a b = n.apart.one i j c a b
-one_is_concerned ps (event.Nack c) i j n a b = n.apart.one i j c a b
-one_is_concerned ps (event.Arrived c octets) i j n a b = one_addressed ps c octets.now i j n a b
-one_is_concerned ps (event.Gone c) i j n a b = n.apart.one i j c a b
+one_called : (ps : List (Option Peer)) (s : List ℕ) (i j : ℕ) → IsNeighbourhood ps → IsCallOf ps s i → IsCallOf ps s j →
+    i ≡ j
+one_called ps s i j n a b =
+    let same = same_host b.0 a.0 (some_is (caller_of s) b.0 a.0 b.1 a.1) in
+    n.unlike.one i j (lower a.0.1) a.2 (b.2 ∙ ap Some same)
 
 some_number : (j k : ℕ) → Some j ≡ Some k → j ≡ k
 some_number j k e = grind arith
 
+one_addressed : (policy : Policy) (ps : List (Option Peer)) (c : Conn) (s : List ℕ) (i j : ℕ) → IsNeighbourhood ps →
+    IsAddressed policy ps c s i → IsAddressed policy ps c s j → i ≡ j
+one_addressed policy ps c s i j n (inl a) (inl b) = n.apart.one i j c a b
+one_addressed policy ps c s i j n (inl a) (inr b) = absurd (not_free ps c i a b.0)
+one_addressed policy ps c s i j n (inr a) (inl b) = absurd (not_free ps c j b a.0)
+one_addressed policy ps c s i j n (inr (free, inl a)) (inr (also, inl b)) = one_called ps s i j n a b
+one_addressed policy ps c s i j n (inr (free, inl a)) (inr (also, inr b)) = absurd (b.0 i a)
+one_addressed policy ps c s i j n (inr (free, inr a)) (inr (also, inl b)) = absurd (a.0 j b)
+one_addressed policy ps c s i j n (inr (free, inr a)) (inr (also, inr b)) = some_number i j (sym a.1.0 ∙ b.1.0)
+
+pub one_is_concerned : OneIsConcerned
+one_is_concerned policy ps (event.Start m c) i j n a b = sym a ∙ b
+one_is_concerned policy ps (event.Stop m cause) i j n a b = sym a ∙ b
+one_is_concerned policy ps (event.Timeout m) i j n a b = sym a ∙ b
+one_is_concerned policy ps (event.Tick m) i j n a b = sym a ∙ b
+one_is_concerned policy ps (event.Submit m octets) i j n a b = sym a ∙ b
+one_is_concerned policy ps (event.Ack c) i j n a b = n.apart.one i j c a b
+one_is_concerned policy ps (event.Nack c) i j n a b = n.apart.one i j c a b
+one_is_concerned policy ps (event.Arrived c octets) i j n a b = one_addressed policy ps c octets.now i j n a b
+one_is_concerned policy ps (event.Gone c) i j n a b = n.apart.one i j c a b
+
 -- whom the event concerns is the one that was found
-pub one_there : (ps : List (Option Peer)) (e : NodeEvent) (o : Option ℕ) (i k : ℕ) → IsNeighbourhood ps → o ≡ Some k →
-    IfSome o (Concerns ps e) → Concerns ps e i → i ≡ k
-one_there ps e None i k n is a b = absurd (cc)
-one_there ps e (Some j) i k n is a b = one_is_concerned ps e i j n b a ∙ some_number j k is
+pub one_there : (policy : Policy) (ps : List (Option Peer)) (e : NodeEvent) (o : Option ℕ) (i k : ℕ) →
+    IsNeighbourhood ps → o ≡ Some k → IfSome o (Concerns policy ps e) → Concerns policy ps e i → i ≡ k
+one_there policy ps e None i k n is a b = absurd (cc)
+one_there policy ps e (Some j) i k n is a b = one_is_concerned policy ps e i j n b a ∙ some_number j k is

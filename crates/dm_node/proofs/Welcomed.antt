@@ -16,7 +16,7 @@ use Rattle.dm_node.specs.Holding.{peer_at, holds, holds_it, holds_at, host_at, A
 use Rattle.dm_node.specs.Owning.{has, IsResettled}
 use Rattle.dm_node.specs.Policies.{Policy, IsMadeFor, IsUnfit, MakesFor, MakesNoneFor}
 use Rattle.dm_node.specs.Strangers.{present, IsStrangeHost, IsPermitted, IsForbidden, Joins, StaysOut, NodeMoves, TellsConcerned, NodeIsTold}
-use Rattle.dm_node.specs.Telling.{Concerns, IsAddressed, PeerIsTold, told_of}
+use Rattle.dm_node.specs.Telling.{Concerns, IsAddressed, IsFree, PeerIsTold, told_of}
 use Rattle.dm_node.specs.declared.events.NodeEvent.{NodeEvent}
 use Rattle.dm_node.specs.declared.events.NodeEvent.TheVariants as event
 use Rattle.dm_node.specs.declared.owners.Holding.{Holding}
@@ -53,37 +53,33 @@ is_taken ps qs i c octets actions k y here is stays acted =
     }
 
 -- nobody holds the connection on which an unknown host calls
-pub free_at : (ps : List (Option Peer)) (c : Conn) (octets : List ℕ) → ((i : ℕ) → IsAddressed ps c octets i → ⊥) →
-    (j : ℕ) → holds_at ps c j ≡ false
-free_at ps c octets nobody j = by (holds_at ps c j) refl
+pub free_at : (policy : Policy) (ps : List (Option Peer)) (c : Conn) (octets : List ℕ) →
+    ((i : ℕ) → IsAddressed policy ps c octets i → ⊥) → IsFree ps c
+free_at policy ps c octets nobody j = by (holds_at ps c j) refl
   where
     by : (b : Bool) → holds_at ps c j ≡ b → holds_at ps c j ≡ false
     by false q = q
     by true q = absurd (nobody j (inl q))
 
 -- nor a connection that is held behind its octets
-pub free_behind : (ps : List (Option Peer)) (c : Conn) (octets : List ℕ) (y : Peer) →
-    ((i : ℕ) → IsAddressed ps c octets i → ⊥) →
+pub free_behind : (ps : List (Option Peer)) (c : Conn) (y : Peer) → IsFree ps c →
     ((d : Conn) → (c ≡ d → ⊥) → holds d y ≡ false) →
     (d : Conn) (j : ℕ) → holds d y ≡ true → holds_at ps d j ≡ false
-free_behind ps c octets y nobody takes d j held = by (holds_at ps d j) refl
+free_behind ps c y free takes d j held = by (holds_at ps d j) refl
   where
     by : (b : Bool) → holds_at ps d j ≡ b → holds_at ps d j ≡ false
     by false q = q
     by true q =
         absurd (two_truths (holds d y) held
-        (takes d (λ same. two_truths (holds_at ps d j) q (subst (λ x. holds_at ps x j ≡ false) same
-        (free_at ps c octets nobody j)))))
+        (takes d (λ same. two_truths (holds_at ps d j) q (subst (λ x. holds_at ps x j ≡ false) same (free j)))))
 
 -- nobody has the host that calls
-pub unknown_host : (ps : List (Option Peer)) (c : Conn) (octets host : List ℕ) → IsStrangeHost ps c octets host →
-    (j : ℕ) → host_at ps j ≡ Some (lower host) → ⊥
-unknown_host ps c octets host u j is =
+pub unknown_host : (policy : Policy) (ps : List (Option Peer)) (c : Conn) (octets host : List ℕ) →
+    IsStrangeHost policy ps c octets host → (j : ℕ) → host_at ps j ≡ Some (lower host) → ⊥
+unknown_host policy ps c octets host u j is =
     u.nobody j (inr (
-      free_at ps c octets u.nobody,
-      u.call,
-      u.calls,
-      subst (λ h. host_at ps j ≡ Some (lower h)) (sym u.named) is,
+      free_at policy ps c octets u.nobody,
+      inl (u.call, u.calls, subst (λ h. host_at ps j ≡ Some (lower h)) (sym u.named) is),
     ))
 
 -- one more, of whose connections nobody holds any
@@ -159,7 +155,7 @@ makes_none policy host template o chosen h =
 -- what is made for who calls is permitted, wherever the octets concern nobody
 abbrev pub PermitsAnywhere : Policy → List (Option Peer) → List ℕ → Config → Type 0
 PermitsAnywhere policy ps octets k =
-    (c : Conn) → ((i : ℕ) → IsAddressed ps c octets i → ⊥) → IsPermitted policy ps c octets k
+    (c : Conn) → ((i : ℕ) → IsAddressed policy ps c octets i → ⊥) → IsPermitted policy ps c octets k
 
 pub permits : (policy : Policy) (ps : List (Option Peer)) (octets : List ℕ) (call : Caller) (o : Option Config) →
     caller_of octets ≡ Some call → present ps < policy.most → IfSome o (MakesFor policy call.1) →
@@ -189,50 +185,51 @@ forbids_none policy ps octets calls c host h = let never = sym h.calls ∙ calls
 
 -- what is done at octets that concern nobody
 pub welcomed : (policy : Policy) (c : Conn) (octets : List ℕ) (n : Node) (ps qs : List (Option Peer)) (who : Option ℕ)
-    (actions : List Action) (k : Config) → ((i : ℕ) → IsAddressed ps c octets i → ⊥) →
+    (actions : List Action) (k : Config) → ((i : ℕ) → IsAddressed policy ps c octets i → ⊥) →
     IsPermitted policy ps c octets k → IfSome who (λ i. Joins ps qs i c octets actions k) →
     IfNone who (StaysOut ps qs c octets actions k) → NodeMoves policy c octets n ps who actions qs
 welcomed policy c octets n ps qs (Some i) actions k nobody permitted joins out = inr (k, permitted, joins)
 welcomed policy c octets n ps qs None actions k nobody permitted joins out = (nobody, inl (k, permitted, out))
 
 pub turned_off : (policy : Policy) (c : Conn) (octets : List ℕ) (n : Node) (ps : List (Option Peer)) (who : Option ℕ)
-    (actions : List Action) → ((i : ℕ) → IsAddressed ps c octets i → ⊥) → IsForbidden policy ps c octets →
+    (actions : List Action) → ((i : ℕ) → IsAddressed policy ps c octets i → ⊥) → IsForbidden policy ps c octets →
     who ≡ None → actions ≡ answer_to n c (caller_of octets) → NodeMoves policy c octets n ps who actions ps
 turned_off policy c octets n ps None actions nobody forbidden is answer = (nobody, inr (answer, refl, forbidden))
 turned_off policy c octets n ps (Some i) actions nobody forbidden is answer = absurd (cc)
 
 -- the one that the event concerns is told it
-concerned_told : (e : NodeEvent) (ps qs : List (Option Peer)) (i : ℕ) (who : Option ℕ) (actions : List Action) →
-    Concerns ps e i → who ≡ Some i → PeerIsTold ps qs i (told_of e) actions → TellsConcerned e ps who actions qs
-concerned_told e ps qs i who actions concerns is told =
-    subst (λ w. TellsConcerned e ps w actions qs) (sym is) (concerns, told)
+concerned_told : (policy : Policy) (e : NodeEvent) (ps qs : List (Option Peer)) (i : ℕ) (who : Option ℕ)
+    (actions : List Action) → Concerns policy ps e i → who ≡ Some i → PeerIsTold ps qs i (told_of e) actions →
+    TellsConcerned policy e ps who actions qs
+concerned_told policy e ps qs i who actions concerns is told =
+    subst (λ w. TellsConcerned policy e ps w actions qs) (sym is) (concerns, told)
 
 pub told_so : (policy : Policy) (e : NodeEvent) (n : Node) (ps qs : List (Option Peer)) (i : ℕ) (who : Option ℕ)
-    (actions : List Action) → Concerns ps e i → who ≡ Some i → PeerIsTold ps qs i (told_of e) actions →
+    (actions : List Action) → Concerns policy ps e i → who ≡ Some i → PeerIsTold ps qs i (told_of e) actions →
     NodeIsTold policy e n ps who actions qs
 told_so policy (event.Arrived c octets) n ps qs i who actions concerns is told =
     subst (λ w. NodeMoves policy c octets.now n ps w actions qs) (sym is) (inl (concerns, told))
 told_so policy (event.Start m c) n ps qs i who actions concerns is told =
-    concerned_told (event.Start m c) ps qs i who actions concerns is told
+    concerned_told policy (event.Start m c) ps qs i who actions concerns is told
 told_so policy (event.Stop m cause) n ps qs i who actions concerns is told =
-    concerned_told (event.Stop m cause) ps qs i who actions concerns is told
+    concerned_told policy (event.Stop m cause) ps qs i who actions concerns is told
 told_so policy (event.Timeout m) n ps qs i who actions concerns is told =
-    concerned_told (event.Timeout m) ps qs i who actions concerns is told
+    concerned_told policy (event.Timeout m) ps qs i who actions concerns is told
 told_so policy (event.Tick m) n ps qs i who actions concerns is told =
-    concerned_told (event.Tick m) ps qs i who actions concerns is told
+    concerned_told policy (event.Tick m) ps qs i who actions concerns is told
 told_so policy (event.Submit m octets) n ps qs i who actions concerns is told =
-    concerned_told (event.Submit m octets) ps qs i who actions concerns is told
+    concerned_told policy (event.Submit m octets) ps qs i who actions concerns is told
 told_so policy (event.Ack c) n ps qs i who actions concerns is told =
-    concerned_told (event.Ack c) ps qs i who actions concerns is told
+    concerned_told policy (event.Ack c) ps qs i who actions concerns is told
 told_so policy (event.Nack c) n ps qs i who actions concerns is told =
-    concerned_told (event.Nack c) ps qs i who actions concerns is told
+    concerned_told policy (event.Nack c) ps qs i who actions concerns is told
 told_so policy (event.Gone c) n ps qs i who actions concerns is told =
-    concerned_told (event.Gone c) ps qs i who actions concerns is told
+    concerned_told policy (event.Gone c) ps qs i who actions concerns is told
 
 -- an event that is no octets, and concerns nobody
 pub nothing_told : (policy : Policy) (e : NodeEvent) (n : Node) (ps : List (Option Peer)) (actions : List Action) →
-    actions ≡ [] → ((c : Conn) (octets : _) → e ≡ event.Arrived c octets → ⊥) → ((i : ℕ) → Concerns ps e i → ⊥) →
-    NodeIsTold policy e n ps None actions ps
+    actions ≡ [] → ((c : Conn) (octets : _) → e ≡ event.Arrived c octets → ⊥) →
+    ((i : ℕ) → Concerns policy ps e i → ⊥) → NodeIsTold policy e n ps None actions ps
 nothing_told policy (event.Arrived c octets) n ps actions none other nobody = absurd (other c octets refl)
 nothing_told policy (event.Start m c) n ps actions none other nobody = (nobody, none, refl)
 nothing_told policy (event.Stop m cause) n ps actions none other nobody = (nobody, none, refl)

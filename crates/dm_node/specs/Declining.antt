@@ -11,6 +11,7 @@ use Rattle.dm_node.specs.declared.events.NodeEvent.{NodeEvent}
 use Rattle.dm_node.specs.declared.fault.EventFault.{EventFault}
 use Rattle.dm_node.specs.declared.fault.EventFault.TheVariants as fault
 use Rattle.dm_node.specs.Holding.{peer_at}
+use Rattle.dm_node.specs.Policies.{Policy}
 use Rattle.dm_node.specs.Telling.{told_of, Concerns, IsMisdirected}
 
 -- the rules of the neighbour of this number refuse the event
@@ -36,11 +37,12 @@ abbrev pub IsDirected : List (Option Peer) → NodeEvent → Type 0
 IsDirected ps e = (f : EventFault) → IsMisdirected ps e f → ⊥
 
 -- but for want of memory the rules alone refuse: the event is misdirected, or the neighbour that it concerns refuses
-abbrev pub IsByRule : List (Option Peer) → NodeEvent → EventFault → Type 0
-IsByRule ps e (fault.Peer f) = (f ≡ NoMemory) ⊎ ((i : ℕ) × Concerns ps e i × IsRuledOut ps i (told_of e) f)
-IsByRule ps e f = IsMisdirected ps e f
+abbrev pub IsByRule : Policy → List (Option Peer) → NodeEvent → EventFault → Type 0
+IsByRule policy ps e (fault.Peer f) =
+    (f ≡ NoMemory) ⊎ ((i : ℕ) × Concerns policy ps e i × IsRuledOut ps i (told_of e) f)
+IsByRule policy ps e f = IsMisdirected ps e f
 
 -- so it is, and want of memory is no reason
-abbrev pub IsDeclinedHere : List (Option Peer) → NodeEvent → EventFault → Type 0
-IsDeclinedHere ps e (fault.Peer f) = (i : ℕ) × Concerns ps e i × IsDeclined ps i (told_of e) f
-IsDeclinedHere ps e f = IsMisdirected ps e f
+abbrev pub IsDeclinedHere : Policy → List (Option Peer) → NodeEvent → EventFault → Type 0
+IsDeclinedHere policy ps e (fault.Peer f) = (i : ℕ) × Concerns policy ps e i × IsDeclined ps i (told_of e) f
+IsDeclinedHere policy ps e f = IsMisdirected ps e f

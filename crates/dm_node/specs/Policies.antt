@@ -3,19 +3,24 @@ use Rattle.std.specs.Prelude.{◌≡◌, ℕ, Option, None, Some, IsSome, IfSome
 use Rattle.dm_peer.specs.Hosts.{config_fault}
 use Rattle.dm_peer.specs.declared.config.Config.{Config}
 
--- for each host the template of its configuration, none where the host is turned away; and up to how many neighbours
--- there may be
+-- for each host the template of its configuration, none where the host is turned away; up to how many neighbours there
+-- may be; and the number of the porter, the neighbour that is told whatever strangers send, if there is to be one
 pub record Policy : Type 0 where
   pub template : List ℕ → Option Config
   pub most : ℕ
+  pub porter : Option ℕ
 
 -- each host is turned away
 abbrev pub no_strangers : Policy
-no_strangers = record { template = λ host. None; most = 0 }
+no_strangers = record { template = λ host. None; most = 0; porter = None }
 
 -- each host has this template
 abbrev pub taking_each : Config → ℕ → Policy
-taking_each template most = record { template = λ host. Some template; most = most }
+taking_each template most = record { template = λ host. Some template; most = most; porter = None }
+
+-- the first neighbour is told whatever strangers send
+abbrev pub told_the_first : Policy
+told_the_first = record { template = λ host. None; most = 0; porter = Some 0 }
 
 -- the template's configuration for the host, as `Config::for_host` makes it: the template's node, which can have the
 -- host as its peer, with the same first number and the same dictionary, comparing hosts where the template does

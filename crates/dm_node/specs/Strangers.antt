@@ -21,23 +21,23 @@ abbrev pub present : List (Option Peer) → ℕ
 present ps = count_by is_some ps
 
 -- the octets of connection c are the CER of this host, and concern no neighbour
-pub record IsStrangeHost (ps : List (Option Peer)) (c : Conn) (octets host : List ℕ) : Type 0 where
+pub record IsStrangeHost (policy : Policy) (ps : List (Option Peer)) (c : Conn) (octets host : List ℕ) : Type 0 where
   pub call : Caller
   pub calls : caller_of octets ≡ Some call
   pub named : call.1 ≡ host
-  pub nobody : (i : ℕ) → IsAddressed ps c octets i → ⊥
+  pub nobody : (i : ℕ) → IsAddressed policy ps c octets i → ⊥
 
 -- the policy makes this configuration for the host whose CER they are, and there are fewer neighbours than there may be
 pub record IsPermitted (policy : Policy) (ps : List (Option Peer)) (c : Conn) (octets : List ℕ) (config : Config)
     : Type 0 where
-  pub unknown : IsStrangeHost ps c octets config.peer
+  pub unknown : IsStrangeHost policy ps c octets config.peer
   pub made : MakesFor policy config.peer config
   pub room : present ps < policy.most
 
 -- each such host is turned away: there are as many neighbours as there may be, or the policy makes none for it
 abbrev pub IsForbidden : Policy → List (Option Peer) → Conn → List ℕ → Type 0
 IsForbidden policy ps c octets =
-    (host : List ℕ) → IsStrangeHost ps c octets host → (policy.most ≤ present ps) ⊎ MakesNoneFor policy host
+    (host : List ℕ) → IsStrangeHost policy ps c octets host → (policy.most ≤ present ps) ⊎ MakesNoneFor policy host
 
 -- the host is a neighbour now, behind the others: it was added and then told the octets, and isn't Closed
 pub record Joins (ps qs : List (Option Peer)) (i : ℕ) (c : Conn) (octets : List ℕ) (actions : List Action)
@@ -60,21 +60,22 @@ pub record StaysOut (ps qs : List (Option Peer)) (c : Conn) (octets : List ℕ) 
 abbrev pub NodeMoves :
     Policy → Conn → List ℕ → Node → List (Option Peer) → Option ℕ → List Action → List (Option Peer) → Type 0
 NodeMoves policy c octets n ps (Some i) actions qs =
-    (IsAddressed ps c octets i × PeerIsTold ps qs i (Arrived c octets) actions)
+    (IsAddressed policy ps c octets i × PeerIsTold ps qs i (Arrived c octets) actions)
     ⊎ ((config : Config) × IsPermitted policy ps c octets config × Joins ps qs i c octets actions config)
 NodeMoves policy c octets n ps None actions qs =
-    ((i : ℕ) → IsAddressed ps c octets i → ⊥)
+    ((i : ℕ) → IsAddressed policy ps c octets i → ⊥)
     × (((config : Config) × IsPermitted policy ps c octets config × StaysOut ps qs c octets actions config)
     ⊎ ((actions ≡ answer_to n c (caller_of octets)) × (qs ≡ ps) × IsForbidden policy ps c octets))
 
 -- the one neighbour that the event concerns is told it, and nothing happens to the others; or it concerns nobody, and
 -- nothing is done
-abbrev pub TellsConcerned : NodeEvent → List (Option Peer) → Option ℕ → List Action → List (Option Peer) → Type 0
-TellsConcerned e ps (Some i) actions qs = Concerns ps e i × PeerIsTold ps qs i (told_of e) actions
-TellsConcerned e ps None actions qs = ((i : ℕ) → Concerns ps e i → ⊥) × (actions ≡ []) × (qs ≡ ps)
+abbrev pub TellsConcerned :
+    Policy → NodeEvent → List (Option Peer) → Option ℕ → List Action → List (Option Peer) → Type 0
+TellsConcerned policy e ps (Some i) actions qs = Concerns policy ps e i × PeerIsTold ps qs i (told_of e) actions
+TellsConcerned policy e ps None actions qs = ((i : ℕ) → Concerns policy ps e i → ⊥) × (actions ≡ []) × (qs ≡ ps)
 
 -- What an event does to a node that has a policy, which concerns octets alone.
 abbrev pub NodeIsTold :
     Policy → NodeEvent → Node → List (Option Peer) → Option ℕ → List Action → List (Option Peer) → Type 0
 NodeIsTold policy (event.Arrived c octets) n ps who actions qs = NodeMoves policy c octets.now n ps who actions qs
-NodeIsTold policy e n ps who actions qs = TellsConcerned e ps who actions qs
+NodeIsTold policy e n ps who actions qs = TellsConcerned policy e ps who actions qs

@@ -14,6 +14,7 @@ use Rattle.dm_node.specs.declared.fault.EventFault.TheVariants as fault
 use Rattle.dm_peer.specs.declared.fault.PeerFault.TheVariants.{NoMemory}
 use Rattle.dm_node.specs.Calling.{Caller, caller_of}
 use Rattle.dm_node.specs.Holding.{peer_at, holds_at, host_at}
+use Rattle.dm_node.specs.Policies.{Policy}
 
 -- the connection that an event names
 abbrev pub conn_of : PeerEvent → Option Conn
@@ -53,25 +54,39 @@ told_of (event.Nack c) = Nack c
 told_of (event.Arrived c octets) = Arrived c octets.now
 told_of (event.Gone c) = Gone c
 
--- octets on a connection concern the neighbour that holds it; where none does, the one whose host's CER they are
-abbrev pub IsAddressed : List (Option Peer) → Conn → List ℕ → ℕ → Type 0
-IsAddressed ps c s i =
-    (holds_at ps c i ≡ true)
-    ⊎ (((j : ℕ) → holds_at ps c j ≡ false)
-    × (call : Caller) × (caller_of s ≡ Some call) × (host_at ps i ≡ Some (lower call.1)))
+-- nobody holds the connection
+abbrev pub IsFree : List (Option Peer) → Conn → Type 0
+IsFree ps c = (j : ℕ) → holds_at ps c j ≡ false
+
+-- the octets are the CER of the host of the neighbour of this number
+abbrev pub IsCallOf : List (Option Peer) → List ℕ → ℕ → Type 0
+IsCallOf ps s i = (call : Caller) × (caller_of s ≡ Some call) × (host_at ps i ≡ Some (lower call.1))
+
+-- the neighbour of this number is the policy's porter, and is there
+abbrev pub IsPorter : Policy → List (Option Peer) → ℕ → Type 0
+IsPorter policy ps i = (policy.porter ≡ Some i) × IsSome (peer_at ps i)
+
+-- the first octets of a connection are for the neighbour whose host's CER they are, and where they are the CER of no
+-- neighbour's host for the porter
+abbrev pub IsFirstFor : Policy → List (Option Peer) → List ℕ → ℕ → Type 0
+IsFirstFor policy ps s i = IsCallOf ps s i ⊎ (((j : ℕ) → IsCallOf ps s j → ⊥) × IsPorter policy ps i)
+
+-- octets on a connection concern the neighbour that holds it, and where none does the one that its first octets are for
+abbrev pub IsAddressed : Policy → List (Option Peer) → Conn → List ℕ → ℕ → Type 0
+IsAddressed policy ps c s i = (holds_at ps c i ≡ true) ⊎ (IsFree ps c × IsFirstFor policy ps s i)
 
 -- the event concerns the neighbour of this number: it names it, or a connection that this one holds, or it is a first
--- message of its host
-abbrev pub Concerns : List (Option Peer) → NodeEvent → ℕ → Type 0
-Concerns ps (event.Start n c) i = n ≡ i
-Concerns ps (event.Stop n cause) i = n ≡ i
-Concerns ps (event.Timeout n) i = n ≡ i
-Concerns ps (event.Tick n) i = n ≡ i
-Concerns ps (event.Submit n octets) i = n ≡ i
-Concerns ps (event.Ack c) i = holds_at ps c i ≡ true
-Concerns ps (event.Nack c) i = holds_at ps c i ≡ true
-Concerns ps (event.Arrived c octets) i = IsAddressed ps c octets.now i
-Concerns ps (event.Gone c) i = holds_at ps c i ≡ true
+-- message of its host, or one of a stranger to the porter
+abbrev pub Concerns : Policy → List (Option Peer) → NodeEvent → ℕ → Type 0
+Concerns policy ps (event.Start n c) i = n ≡ i
+Concerns policy ps (event.Stop n cause) i = n ≡ i
+Concerns policy ps (event.Timeout n) i = n ≡ i
+Concerns policy ps (event.Tick n) i = n ≡ i
+Concerns policy ps (event.Submit n octets) i = n ≡ i
+Concerns policy ps (event.Ack c) i = holds_at ps c i ≡ true
+Concerns policy ps (event.Nack c) i = holds_at ps c i ≡ true
+Concerns policy ps (event.Arrived c octets) i = IsAddressed policy ps c octets.now i
+Concerns policy ps (event.Gone c) i = holds_at ps c i ≡ true
 
 -- no other neighbour holds the connection that the event names
 abbrev pub IsAlone : List (Option Peer) → PeerEvent → ℕ → Type 0
@@ -81,10 +96,6 @@ IsAlone ps e i = (j : ℕ) (c : Conn) → conn_of e ≡ Some c → holds_at ps c
 abbrev pub IsNobody : List (Option Peer) → ℕ → EventFault → Type 0
 IsNobody ps n fault.NoNeighbour = peer_at ps n ≡ None
 IsNobody ps n _ = ⊥
-
--- nobody holds the connection
-abbrev pub IsFree : List (Option Peer) → Conn → Type 0
-IsFree ps c = (j : ℕ) → holds_at ps c j ≡ false
 
 -- why an event is misdirected: a Start names a connection that is held, else no neighbour has its number; so of the
 -- others that name a neighbour
@@ -104,8 +115,8 @@ IsStrangeCer _ = ⊥
 
 -- why the node refuses: the event is misdirected, the neighbour that it concerns refuses, or memory is wanted for the
 -- answer to a stranger's CER
-abbrev pub IsRefusedHere : List (Option Peer) → NodeEvent → EventFault → Type 0
-IsRefusedHere ps e (fault.Peer f) =
-    ((i : ℕ) × Concerns ps e i × IsRefusedBy ps i (told_of e) f)
-    ⊎ ((f ≡ NoMemory) × ((i : ℕ) → Concerns ps e i → ⊥) × IsStrangeCer e)
-IsRefusedHere ps e f = IsMisdirected ps e f
+abbrev pub IsRefusedHere : Policy → List (Option Peer) → NodeEvent → EventFault → Type 0
+IsRefusedHere policy ps e (fault.Peer f) =
+    ((i : ℕ) × Concerns policy ps e i × IsRefusedBy ps i (told_of e) f)
+    ⊎ ((f ≡ NoMemory) × ((i : ℕ) → Concerns policy ps e i → ⊥) × IsStrangeCer e)
+IsRefusedHere policy ps e f = IsMisdirected ps e f

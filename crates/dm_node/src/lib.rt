@@ -3,6 +3,7 @@
 #![tactic(auto)]
 
 mod adding;
+mod alone;
 mod calling;
 mod counting;
 mod emptying;
@@ -21,6 +22,7 @@ mod telling;
 mod unknown;
 mod welcoming;
 
+pub use alone::Alone;
 pub use events::{NodeActions, NodeEvent};
 pub use fault::{AddFault, EventFault};
 pub use neighbours::Neighbours;

@@ -151,13 +151,15 @@ impl Neighbours {
     /// What the node does at the event. The one neighbour that it concerns does what a peer of its own does, and
     /// nothing happens to the others; where it concerns none, nothing happens to any, but for what `strangers` permit.
     /// An event concerns the neighbour that it names, or that holds the connection that it names; octets on a
-    /// connection that nobody holds are a first message, and concern the neighbour whose host's CER they are.
+    /// connection that nobody holds are a first message, and concern the neighbour whose host's CER they are, or else
+    /// the porter, where `strangers` have one and it is there.
     ///
-    /// Where the CER of another host comes so, for which `strangers` have a template, and there are fewer neighbours
-    /// than there may be, a neighbour of the template's configuration for this host is added and told the event; none
-    /// is added where its peer would be Closed behind it, as at a CER that it refuses. To any other first message the
-    /// connection is closed, behind an answer 3010 (DIAMETER_UNKNOWN_PEER) to a CER. A neighbour that was taken in so
-    /// stays until it is removed: whoever keeps to RFC 6733, 5.3, removes it once it is Closed.
+    /// Where the CER of another host comes so that no porter is told, for which `strangers` have a template, and there
+    /// are fewer neighbours than there may be, a neighbour of the template's configuration for this host is added and
+    /// told the event; none is added where its peer would be Closed behind it, as at a CER that it refuses. To any
+    /// other first message the connection is closed, behind an answer 3010 (DIAMETER_UNKNOWN_PEER) to a CER. A
+    /// neighbour that was taken in so stays until it is removed: whoever keeps to RFC 6733, 5.3, removes it once it is
+    /// Closed.
     ///
     /// # Errors
     /// `Held` for a Start under a connection that a neighbour holds, `NoNeighbour` for a number that none has, else
@@ -171,16 +173,16 @@ impl Neighbours {
         ensures told { IfOk result (λ r. NodeIsTold (S.policy strangers.now) event.entry self.old.node self.old.peers
             r.neighbour r.actions.items self.new.peers) }
         ensures misdirected { (f : EventFault) → IsMisdirected self.old.peers event.entry f → result ≡ Err f }
-        ensures refused { IfErr result (IsRefusedHere self.old.peers event.entry) }
+        ensures refused { IfErr result (IsRefusedHere (S.policy strangers.now) self.old.peers event.entry) }
         // But for want of memory the rules alone refuse, and what they refuse is refused so.
-        ensures ruled { IfErr result (IsByRule self.old.peers event.entry) }
+        ensures ruled { IfErr result (IsByRule (S.policy strangers.now) self.old.peers event.entry) }
         ensures refuses { (i : ℕ) (f : PeerFault) → IsDirected self.old.peers event.entry
-            → Concerns self.old.peers event.entry i → IsRuledOut self.old.peers i (told_of event.entry) f
-            → result ≡ Err (of_peer f) }
+            → Concerns (S.policy strangers.now) self.old.peers event.entry i
+            → IsRuledOut self.old.peers i (told_of event.entry) f → result ≡ Err (of_peer f) }
         // A Start, a Timeout, octets that aren't looked at and an answer that is dropped never want memory.
-        ensures silent { (i : ℕ) → Concerns self.old.peers event.entry i
+        ensures silent { (i : ℕ) → Concerns (S.policy strangers.now) self.old.peers event.entry i
             → TakesNoMemory self.old.peers i (told_of event.entry)
-            → IfErr result (IsDeclinedHere self.old.peers event.entry) }
+            → IfErr result (IsDeclinedHere (S.policy strangers.now) self.old.peers event.entry) }
         ensures unchanged { OnErr result (self.new.peers ≡ self.old.peers) }
         ensures node { self.new.node ≡ self.old.node }
         // The octets of each Send spell a message, an answer to a stranger too.
@@ -213,19 +215,19 @@ impl Neighbours {
         ensures told { OnOk result (NodeIsTold (S.policy strangers.now) event.entry self.old.node self.old.peers
             answer.new.neighbour answer.new.actions.items self.new.peers) }
         ensures misdirected { (f : EventFault) → IsMisdirected self.old.peers event.entry f → result ≡ Err f }
-        ensures refused { IfErr result (IsRefusedHere self.old.peers event.entry) }
-        ensures ruled { IfErr result (IsByRule self.old.peers event.entry) }
+        ensures refused { IfErr result (IsRefusedHere (S.policy strangers.now) self.old.peers event.entry) }
+        ensures ruled { IfErr result (IsByRule (S.policy strangers.now) self.old.peers event.entry) }
         ensures refuses { (i : ℕ) (f : PeerFault) → IsDirected self.old.peers event.entry
-            → Concerns self.old.peers event.entry i → IsRuledOut self.old.peers i (told_of event.entry) f
-            → result ≡ Err (of_peer f) }
-        ensures silent { (i : ℕ) → Concerns self.old.peers event.entry i
+            → Concerns (S.policy strangers.now) self.old.peers event.entry i
+            → IsRuledOut self.old.peers i (told_of event.entry) f → result ≡ Err (of_peer f) }
+        ensures silent { (i : ℕ) → Concerns (S.policy strangers.now) self.old.peers event.entry i
             → TakesNoMemory self.old.peers i (told_of event.entry)
-            → IfErr result (IsDeclinedHere self.old.peers event.entry) }
+            → IfErr result (IsDeclinedHere (S.policy strangers.now) self.old.peers event.entry) }
         ensures unchanged { OnErr result (self.new.peers ≡ self.old.peers) }
         ensures node { self.new.node ≡ self.old.node }
         ensures spelled { OnOk result (All SendsSpelling answer.new.actions.items) }
     {
-        match whose(&self.roster, event) {
+        match whose(&self.roster, strangers, event) {
             Ok(Some(index)) => tell_one_into(alloc, &mut self.roster, index, event, answer),
             Ok(None) => tell_unknown(
                 alloc,

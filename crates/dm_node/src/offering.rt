@@ -50,7 +50,7 @@ pub(crate) fn offered<S: Strangers>(
 ) -> Result<Option<Config>, NoMemory>
     requires { IsRoster roster.now }
     ensures offered { IfOk result (λ o. IfSome o (λ config. (c : Conn)
-        → ((i : ℕ) → IsAddressed roster.now.peers.items c octets.now i → ⊥)
+        → ((i : ℕ) → IsAddressed (S.policy strangers.now) roster.now.peers.items c octets.now i → ⊥)
         → IsPermitted (S.policy strangers.now) roster.now.peers.items c octets.now config)) }
     ensures none { IfOk result (λ o. IfNone o ((c : Conn)
         → IsForbidden (S.policy strangers.now) roster.now.peers.items c octets.now)) }

@@ -2,7 +2,8 @@
 ghost use Rattle.std.specs.Prelude.{◌≡◌, ℕ, true, None, Some, Err, IsSome, IfOk, IfErr, IfSome, IfNone};
 ghost use Rattle.dm_node.specs.Holding.{peer_at};
 ghost use Rattle.dm_node.specs.Rosters.{IsRoster};
-ghost use Rattle.dm_node.specs.Telling.{told_of, IsAddressed, Concerns, IsAlone, IsMisdirected};
+ghost use Rattle.dm_node.specs.Telling.{told_of, IsCallOf, IsPorter, IsFirstFor, IsAddressed};
+ghost use Rattle.dm_node.specs.Telling.{Concerns, IsAlone, IsMisdirected};
 ghost use Rattle.dm_peer.specs.Events.{event_told};
 ghost use Rattle.dm_node.specs.declared.fault.EventFault.{EventFault};
 ghost use Rattle.dm_node.specs.declared.fault.EventFault.TheVariants.{NoNeighbour};
@@ -10,7 +11,7 @@ ghost use Rattle.dm_node.specs.declared.fault.EventFault.TheVariants.{NoNeighbou
 use crate::calling::caller;
 use crate::looking::peer_at;
 use crate::roster::Roster;
-use crate::{EventFault, NodeEvent};
+use crate::{EventFault, NodeEvent, Strangers};
 use dm_peer::{Conn, Event, Peer};
 
 /// The event as its neighbour is told it.
@@ -30,19 +31,64 @@ pub(crate) fn told_of<'a>(event: NodeEvent<'a>) -> Event<'a>
     }
 }
 
-/// The neighbour that octets on a connection are for.
-fn addressed(roster: &Roster, conn: Conn, octets: &[u8]) -> Option<usize>
+/// The neighbour whose host's CER the octets are.
+fn called(roster: &Roster, octets: &[u8]) -> Option<usize>
     requires { IsRoster roster.now }
     ensures there { IfSome result (λ i. IsSome (peer_at roster.now.peers.items i)) }
-    ensures found { IfSome result (IsAddressed roster.now.peers.items conn octets.now) }
-    ensures none { IfNone result ((i : ℕ) → IsAddressed roster.now.peers.items conn octets.now i → ⊥) }
+    ensures found { IfSome result (IsCallOf roster.now.peers.items octets.now) }
+    ensures none { IfNone result ((i : ℕ) → IsCallOf roster.now.peers.items octets.now i → ⊥) }
+{
+    match caller(octets) {
+        Some((_, host)) => roster.named(host),
+        None => None,
+    }
+}
+
+/// The porter, where there is to be one and it is there.
+fn porter<S: Strangers>(peers: &[Option<Peer>], strangers: &S) -> Option<usize>
+    ensures there { IfSome result (λ i. IsSome (peer_at peers.now i)) }
+    ensures found { IfSome result (IsPorter (S.policy strangers.now) peers.now) }
+    ensures none { IfNone result ((i : ℕ) → IsPorter (S.policy strangers.now) peers.now i → ⊥) }
+{
+    match strangers.porter() {
+        Some(index) => match peer_at(peers, index) {
+            Some(_) => Some(index),
+            None => None,
+        },
+        None => None,
+    }
+}
+
+/// The neighbour that octets on a connection that nobody holds are for.
+fn first_for<S: Strangers>(roster: &Roster, strangers: &S, octets: &[u8]) -> Option<usize>
+    requires { IsRoster roster.now }
+    ensures there { IfSome result (λ i. IsSome (peer_at roster.now.peers.items i)) }
+    ensures found { IfSome result (IsFirstFor (S.policy strangers.now) roster.now.peers.items octets.now) }
+    ensures none { IfNone result ((i : ℕ)
+        → IsFirstFor (S.policy strangers.now) roster.now.peers.items octets.now i → ⊥) }
+{
+    match called(roster, octets) {
+        Some(index) => Some(index),
+        None => porter(&roster.peers, strangers),
+    }
+}
+
+/// The neighbour that octets on a connection are for.
+fn addressed<S: Strangers>(
+    roster: &Roster,
+    strangers: &S,
+    conn: Conn,
+    octets: &[u8],
+) -> Option<usize>
+    requires { IsRoster roster.now }
+    ensures there { IfSome result (λ i. IsSome (peer_at roster.now.peers.items i)) }
+    ensures found { IfSome result (IsAddressed (S.policy strangers.now) roster.now.peers.items conn octets.now) }
+    ensures none { IfNone result ((i : ℕ)
+        → IsAddressed (S.policy strangers.now) roster.now.peers.items conn octets.now i → ⊥) }
 {
     match roster.holder(conn) {
         Some(index) => Some(index),
-        None => match caller(octets) {
-            Some((_, host)) => roster.named(host),
-            None => None,
-        },
+        None => first_for(roster, strangers, octets),
     }
 }
 
@@ -59,11 +105,17 @@ fn numbered(peers: &[Option<Peer>], index: usize) -> Result<Option<usize>, Event
 
 /// Whose the event is: of one neighbour, or of none.
 #[inline(always)]
-pub(crate) fn whose(roster: &Roster, event: NodeEvent<'_>) -> Result<Option<usize>, EventFault>
+pub(crate) fn whose<S: Strangers>(
+    roster: &Roster,
+    strangers: &S,
+    event: NodeEvent<'_>,
+) -> Result<Option<usize>, EventFault>
     requires { IsRoster roster.now }
     ensures there { IfOk result (λ o. IfSome o (λ i. IsSome (peer_at roster.now.peers.items i))) }
-    ensures concerned { IfOk result (λ o. IfSome o (Concerns roster.now.peers.items event.entry)) }
-    ensures nobody { IfOk result (λ o. IfNone o ((i : ℕ) → Concerns roster.now.peers.items event.entry i → ⊥)) }
+    ensures concerned { IfOk result (λ o.
+        IfSome o (Concerns (S.policy strangers.now) roster.now.peers.items event.entry)) }
+    ensures nobody { IfOk result (λ o. IfNone o ((i : ℕ)
+        → Concerns (S.policy strangers.now) roster.now.peers.items event.entry i → ⊥)) }
     ensures alone { IfOk result (λ o. IfSome o (IsAlone roster.now.peers.items (told_of event.entry))) }
     ensures fault { IfErr result (IsMisdirected roster.now.peers.items event.entry) }
     ensures misdirected { (f : EventFault) → IsMisdirected roster.now.peers.items event.entry f → result ≡ Err f }
@@ -80,6 +132,6 @@ pub(crate) fn whose(roster: &Roster, event: NodeEvent<'_>) -> Result<Option<usiz
         NodeEvent::Ack(conn) | NodeEvent::Nack(conn) | NodeEvent::Gone(conn) => {
             Ok(roster.holder(conn))
         }
-        NodeEvent::Arrived(conn, octets) => Ok(addressed(roster, conn, octets)),
+        NodeEvent::Arrived(conn, octets) => Ok(addressed(roster, strangers, conn, octets)),
     }
 }

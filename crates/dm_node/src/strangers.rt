@@ -5,17 +5,24 @@ ghost use Rattle.std.specs.Option.{option_copied};
 use dm_peer::Config;
 
 /// Who may call that is no neighbour (RFC 6733, 5.3: local policy may permit a CER from an unknown host). `()` turns
-/// all away, and [`Open`] takes each by one template, up to a number of neighbours.
+/// all away, [`Open`] takes each by one template, up to a number of neighbours, and by [`Alone`](crate::Alone) the
+/// first neighbour is told whatever a stranger sends.
 pub trait Strangers {
     ghost use Rattle.dm_node.specs.Policies.{Policy};
 
-    // Each host's template, and up to how many neighbours there may be.
+    // Each host's template, up to how many neighbours there may be, and the porter's number.
     ghost policy: { Self → Policy };
 
     /// How many neighbours there may be, with those that were added otherwise: where there are as many, each host that
     /// is no neighbour is turned away. It never answers want of memory.
     fn most(&self) -> usize
         ensures { result ≡ (policy self.now).most };
+
+    /// The number of the porter, if there is to be one: the neighbour that is told whatever comes on a connection that
+    /// nobody holds and is no CER of a neighbour's host. Where it is there no stranger is asked about or turned away.
+    /// It never answers want of memory.
+    fn porter(&self) -> Option<usize>
+        ensures { result ≡ (policy self.now).porter };
 
     /// Of what the host's configuration is made, but for its peer, which is the host ([`Config::for_host`]); none where
     /// the host is turned away. The template's own peer isn't asked about. It never answers want of memory.
@@ -30,6 +37,10 @@ impl Strangers for () {
 
     fn most(&self) -> usize {
         0
+    }
+
+    fn porter(&self) -> Option<usize> {
+        None
     }
 
     fn template(&self, _host: &[u8]) -> Option<&Config> {
@@ -63,6 +74,10 @@ impl Strangers for Open {
 
     fn most(&self) -> usize {
         self.most
+    }
+
+    fn porter(&self) -> Option<usize> {
+        None
     }
 
     fn template(&self, _host: &[u8]) -> Option<&Config> {

@@ -4,6 +4,7 @@ ghost use Rattle.dm_machine.specs.declared.connection.Conn.{Conn};
 ghost use Rattle.dm_node.specs.Declining.{IsRuledOut, TakesNoMemory, IsDeclined, IsByRule, IsDeclinedHere};
 ghost use Rattle.dm_node.specs.Holding.{peer_at, holds_at, AreApart, AreUnlike};
 ghost use Rattle.dm_node.specs.Naming.{AreHostsNoted};
+ghost use Rattle.dm_node.specs.Policies.{Policy};
 ghost use Rattle.dm_node.specs.Rosters.{IsRoster};
 ghost use Rattle.dm_node.specs.Telling.{conn_of, told_of, Concerns, IsAlone, PeerIsTold, IsRefusedBy, IsRefusedHere};
 ghost use Rattle.dm_node.specs.Strangers.{present};
@@ -63,7 +64,7 @@ fn tell(
     }
 }
 
-/// Tells the neighbour of this number the event, which concerns it and nobody else, and puts what it does into
+/// Tells the neighbour of this number the event, whose connection nobody else holds, and puts what it does into
 /// `answer`, whose actions are none before.
 #[inline(always)]
 pub(crate) fn tell_one_into(
@@ -75,19 +76,21 @@ pub(crate) fn tell_one_into(
 ) -> Result<(), EventFault>
     requires roster { IsRoster roster.old }
     requires there { IsSome (peer_at roster.old.peers.items index) }
-    requires concerned { Concerns roster.old.peers.items event index }
     requires alone { IsAlone roster.old.peers.items (told_of event) index }
     requires none { answer.old.actions.items ≡ [] }
     ensures neighbour { OnOk result (answer.new.neighbour ≡ Some index) }
     ensures told { OnOk result (PeerIsTold roster.old.peers.items roster.new.peers.items index (told_of event.entry)
         answer.new.actions.items) }
     ensures spelled { OnOk result (All SendsSpelling answer.new.actions.items) }
-    ensures refused { IfErr result (IsRefusedHere roster.old.peers.items event.entry) }
-    ensures ruled { IfErr result (IsByRule roster.old.peers.items event.entry) }
+    ensures refused { (policy : Policy) → Concerns policy roster.old.peers.items event.entry index
+        → IfErr result (IsRefusedHere policy roster.old.peers.items event.entry) }
+    ensures ruled { (policy : Policy) → Concerns policy roster.old.peers.items event.entry index
+        → IfErr result (IsByRule policy roster.old.peers.items event.entry) }
     ensures refuses { (f : PeerFault) → IsRuledOut roster.old.peers.items index (told_of event.entry) f
         → result ≡ Err (faults.Peer f) }
-    ensures silent { TakesNoMemory roster.old.peers.items index (told_of event.entry)
-        → IfErr result (IsDeclinedHere roster.old.peers.items event.entry) }
+    ensures silent { (policy : Policy) → Concerns policy roster.old.peers.items event.entry index
+        → TakesNoMemory roster.old.peers.items index (told_of event.entry)
+        → IfErr result (IsDeclinedHere policy roster.old.peers.items event.entry) }
     ensures unchanged { OnErr result (roster.new.peers.items ≡ roster.old.peers.items) }
     ensures roster { IsRoster roster.new }
 {

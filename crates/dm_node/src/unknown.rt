@@ -49,7 +49,7 @@ fn meet_stranger<S: Strangers>(
     octets: &[u8],
 ) -> Result<NodeActions, EventFault>
     requires roster { IsRoster roster.old }
-    requires nobody { (i : ℕ) → IsAddressed roster.old.peers.items conn octets.now i → ⊥ }
+    requires nobody { (i : ℕ) → IsAddressed (S.policy strangers.now) roster.old.peers.items conn octets.now i → ⊥ }
     ensures moved { IfOk result (λ r. NodeMoves (S.policy strangers.now) conn octets.now node.now
         roster.old.peers.items r.neighbour r.actions.items roster.new.peers.items) }
     ensures spelled { IfOk result (λ r. All SendsSpelling r.actions.items) }
@@ -73,7 +73,7 @@ fn at_stranger<S: Strangers>(
     event: NodeEvent<'_>,
 ) -> Result<NodeActions, EventFault>
     requires roster { IsRoster roster.old }
-    requires nobody { (i : ℕ) → Concerns roster.old.peers.items event i → ⊥ }
+    requires nobody { (i : ℕ) → Concerns (S.policy strangers.now) roster.old.peers.items event i → ⊥ }
     ensures told { IfOk result (λ r. NodeIsTold (S.policy strangers.now) event.entry node.now
         roster.old.peers.items r.neighbour r.actions.items roster.new.peers.items) }
     ensures spelled { IfOk result (λ r. All SendsSpelling r.actions.items) }
@@ -103,7 +103,7 @@ pub(crate) fn tell_unknown<S: Strangers>(
     answer: &mut NodeActions,
 ) -> Result<(), EventFault>
     requires roster { IsRoster roster.old }
-    requires nobody { (i : ℕ) → Concerns roster.old.peers.items event i → ⊥ }
+    requires nobody { (i : ℕ) → Concerns (S.policy strangers.now) roster.old.peers.items event i → ⊥ }
     ensures told { OnOk result (NodeIsTold (S.policy strangers.now) event.entry node.now roster.old.peers.items
         answer.new.neighbour answer.new.actions.items roster.new.peers.items) }
     ensures spelled { OnOk result (All SendsSpelling answer.new.actions.items) }

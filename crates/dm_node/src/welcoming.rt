@@ -5,7 +5,8 @@ ghost use Rattle.dm_history.specs.History.{new_peer};
 ghost use Rattle.dm_machine.specs.declared.connection.Conn.{Conn};
 ghost use Rattle.dm_node.specs.Holding.{holds, holds_at, host_at};
 ghost use Rattle.dm_node.specs.Rosters.{IsRoster};
-ghost use Rattle.dm_node.specs.Strangers.{IsStrangeHost, Joins, StaysOut};
+ghost use Rattle.dm_node.specs.Strangers.{Joins, StaysOut};
+ghost use Rattle.dm_node.specs.Telling.{IsFree};
 ghost use Rattle.dm_node.specs.declared.fault.EventFault.TheVariants as faults;
 ghost use Rattle.dm_peer.specs.Acts.{Moved, acts};
 ghost use Rattle.dm_peer.specs.Events.{Arrived};
@@ -78,8 +79,8 @@ fn keep(roster: &mut Roster, met: Met) -> Result<NodeActions, EventFault>
     }
 }
 
-/// A new peer of the configuration is told the octets of the connection, which are the CER of its unknown host, and
-/// becomes a neighbour, unless it is Closed.
+/// A new peer of the configuration, whose host nobody has, is told the octets of the connection, which nobody holds,
+/// and becomes a neighbour, unless it is Closed.
 pub(crate) fn welcome(
     alloc: Global,
     roster: &mut Roster,
@@ -88,7 +89,8 @@ pub(crate) fn welcome(
     octets: &[u8],
 ) -> Result<NodeActions, EventFault>
     requires roster { IsRoster roster.old }
-    requires unknown { IsStrangeHost roster.old.peers.items conn octets.now config.peer }
+    requires unknown { (j : ℕ) → host_at roster.old.peers.items j ≡ Some (lower config.peer) → ⊥ }
+    requires free { IsFree roster.old.peers.items conn }
     ensures taken { IfOk result (λ r. IfSome r.neighbour (λ i. Joins roster.old.peers.items roster.new.peers.items i
         conn octets.now r.actions.items config)) }
     ensures left { IfOk result (λ r. IfNone r.neighbour (StaysOut roster.old.peers.items roster.new.peers.items

@@ -4,6 +4,7 @@ pub mod NodeStaying
 pub mod NodeEmptying
 pub mod NodeStarting
 pub mod Others
+pub mod Unheld
 pub mod Alone
 pub mod NodeCuts
 pub mod NodeHeard

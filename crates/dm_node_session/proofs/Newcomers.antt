@@ -165,9 +165,9 @@ kept_joined ps qs i c octets actions k h kept looked j p at = by (nat_eq j i) re
     by false other = kept j p (sym (else_at ps qs i j c octets actions k h (unlike j i other)) ∙ at)
 
 -- nobody holds a connection on which an unknown host calls
-pub stranger_free : (ps : List (Option Peer)) (c : Conn) (octets : List ℕ) → ((i : ℕ) → IsAddressed ps c octets i → ⊥) →
-    IsFree ps c
-stranger_free ps c octets nobody j = free_of (holds_at ps c j) (λ held. nobody j (inl held))
+pub stranger_free : (policy : Policy) (ps : List (Option Peer)) (c : Conn) (octets : List ℕ) →
+    ((i : ℕ) → IsAddressed policy ps c octets i → ⊥) → IsFree ps c
+stranger_free policy ps c octets nobody j = free_of (holds_at ps c j) (λ held. nobody j (inl held))
 
 closed_joined : PeerLaws → (ps qs : List (Option Peer)) (i : ℕ) (c : Conn) (octets : List ℕ) (actions : List Action)
     (k : Config) → Joins ps qs i c octets actions k → IsFree ps c → (d : Conn) → actions_close actions d.0 ≡ true →
@@ -227,23 +227,23 @@ kept_octets policy c octets n ps qs None actions kept m looked =
 
 -- what is closed nobody holds behind them
 closed_nobody : PeerLaws → (policy : Policy) (c : Conn) (octets : List ℕ) (n : Node) (ps qs : List (Option Peer))
-    (actions : List Action) → ((i : ℕ) → IsAddressed ps c octets i → ⊥) →
+    (actions : List Action) → ((i : ℕ) → IsAddressed policy ps c octets i → ⊥) →
     OutOrTurnedOff policy c octets n ps actions qs → (d : Conn) → actions_close actions d.0 ≡ true → IsFree qs d
 closed_nobody laws policy c octets n ps qs actions nobody (inl (k, permitted, out)) d closing =
-    closed_out laws ps qs c octets actions k out (stranger_free ps c octets nobody) d closing
+    closed_out laws ps qs c octets actions k out (stranger_free policy ps c octets nobody) d closing
 closed_nobody laws policy c octets n ps qs actions nobody (inr (answer, same, forbidden)) d closing =
     subst (λ l. IsFree l d) (sym same)
     (subst (λ x. IsFree ps x)
     (closed_answer n c (caller_of octets) d (ap (λ l. actions_close l d.0) (sym answer) ∙ closing))
-    (stranger_free ps c octets nobody))
+    (stranger_free policy ps c octets nobody))
 
 pub closed_octets : ClosedIsUnheld → ClosesItsOwn → PeerLaws → (policy : Policy) (c : Conn) (octets : List ℕ) (n : Node)
     (ps qs : List (Option Peer)) (who : Option ℕ) (actions : List Action) → AreKept ps → AreApart ps →
     NodeMoves policy c octets n ps who actions qs → (d : Conn) → actions_close actions d.0 ≡ true → IsFree qs d
 closed_octets closed own laws policy c octets n ps qs (Some i) actions kept apart (inl m) d closing =
-    closed_told closed own ps qs i (Arrived c octets) actions kept apart (octets_alone ps c octets i apart m.0) m.1 d
-    closing
+    closed_told closed own ps qs i (Arrived c octets) actions kept apart (octets_alone policy ps c octets i apart m.0)
+    m.1 d closing
 closed_octets closed own laws policy c octets n ps qs (Some i) actions kept apart (inr (k, permitted, joins)) d is =
-    closed_joined laws ps qs i c octets actions k joins (stranger_free ps c octets permitted.unknown.nobody) d is
+    closed_joined laws ps qs i c octets actions k joins (stranger_free policy ps c octets permitted.unknown.nobody) d is
 closed_octets closed own laws policy c octets n ps qs None actions kept apart m d closing =
     closed_nobody laws policy c octets n ps qs actions m.0 m.1 d closing

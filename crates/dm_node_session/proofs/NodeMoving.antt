@@ -5,6 +5,7 @@ use Rattle.dm_base.specs.declared.node.Node.{Node}
 use Rattle.dm_machine.specs.declared.connection.Conn.{Conn}
 use Rattle.dm_node.specs.Calling.{Caller, answer_to}
 use Rattle.dm_node.specs.Holding.{peer_at, holds_it, holds_at, AreApart}
+use Rattle.dm_node.specs.Policies.{Policy}
 use Rattle.dm_node.specs.Telling.{IsAddressed, PeerIsTold, IsFree}
 use Rattle.dm_peer.specs.declared.actions.Action.{Action}
 use Rattle.dm_peer.specs.declared.peer.Peer.{Peer}
@@ -59,9 +60,9 @@ IsHolderOf ps e i = (j : ℕ) (c : Conn) → CameOn e c → holds_at ps c j ≡ 
 pub came_there : (c d : Conn) (octets : List ℕ) → CameOn (Arrived c octets) d → c ≡ d
 came_there c d octets (s, e) = cc e
 
-pub octets_alone : (ps : List (Option Peer)) (c : Conn) (octets : List ℕ) (i : ℕ) → AreApart ps →
-    IsAddressed ps c octets i → IsHolderOf ps (Arrived c octets) i
-octets_alone ps c octets i apart is j d came held =
+pub octets_alone : (policy : Policy) (ps : List (Option Peer)) (c : Conn) (octets : List ℕ) (i : ℕ) → AreApart ps →
+    IsAddressed policy ps c octets i → IsHolderOf ps (Arrived c octets) i
+octets_alone policy ps c octets i apart is j d came held =
     let here : holds_at ps c j ≡ true = subst (λ x. holds_at ps x j ≡ true) (sym (came_there c d octets came)) held in
     elim is [
       | inl own ↦ apart.one j i c here own

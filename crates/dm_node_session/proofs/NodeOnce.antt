@@ -144,9 +144,10 @@ config_stays step p q e actions is =
     ]
 
 -- behind octets no connection is held by two
-apart_told : PeerLaws → (c : Conn) (s : List ℕ) (ps qs : List (Option Peer)) (i : ℕ) (actions : List Action) →
-    Wholly ps → IsAddressed ps c s i → PeerIsTold ps qs i (Arrived c s) actions → AreApart qs
-apart_told laws c s ps qs i actions sound at told = record {
+apart_told : PeerLaws → (policy : Policy) (c : Conn) (s : List ℕ) (ps qs : List (Option Peer)) (i : ℕ)
+    (actions : List Action) → Wholly ps → IsAddressed policy ps c s i → PeerIsTold ps qs i (Arrived c s) actions →
+    AreApart qs
+apart_told laws policy c s ps qs i actions sound at told = record {
   one = λ j k d h g. by j k d h g (nat_eq j i) refl (nat_eq k i) refl;
 }
   where
@@ -162,7 +163,7 @@ apart_told laws c s ps qs i actions sound at told = record {
         unlike j i other (sound.neighbourhood.apart.one j i d held (ap (holds_it d) told.was ∙ was))
     cross j d other held now false was true named =
         let same : c ≡ d = ap (λ m. record { 0 = m }) (eqb-true c.0 d.0 named) in
-        unlike j i other (one_addressed ps c s j i sound.neighbourhood
+        unlike j i other (one_addressed policy ps c s j i sound.neighbourhood
         (inl (subst (λ x. holds_at ps x j ≡ true) (sym same) held)) at)
     cross j d other held now false was false named =
         two_truths (holds d told.after) now
@@ -211,11 +212,12 @@ settled_told laws e ps qs i actions sound told j p at = by (nat_eq j i) refl
         subst IsSettled (one_some told.after p (sym told.is ∙ sym (ap (peer_at qs) (eqb-true j i same)) ∙ at)) after
     by false other = sound.settled j p (sym (told.others j (unlike j i other)) ∙ at)
 
-wholly_told : PeerLaws → (c : Conn) (s : List ℕ) (ps qs : List (Option Peer)) (i : ℕ) (actions : List Action) →
-    Wholly ps → IsAddressed ps c s i → PeerIsTold ps qs i (Arrived c s) actions → Wholly qs
-wholly_told laws c s ps qs i actions sound at told = record {
+wholly_told : PeerLaws → (policy : Policy) (c : Conn) (s : List ℕ) (ps qs : List (Option Peer)) (i : ℕ)
+    (actions : List Action) → Wholly ps → IsAddressed policy ps c s i → PeerIsTold ps qs i (Arrived c s) actions →
+    Wholly qs
+wholly_told laws policy c s ps qs i actions sound at told = record {
   neighbourhood = record {
-    apart = apart_told laws c s ps qs i actions sound at told;
+    apart = apart_told laws policy c s ps qs i actions sound at told;
     unlike = unlike_told laws (Arrived c s) ps qs i actions sound.neighbourhood.unlike told;
   };
   settled = settled_told laws (Arrived c s) ps qs i actions sound told;
@@ -226,10 +228,12 @@ no_such_host : (policy : Policy) (ps : List (Option Peer)) (c : Conn) (octets : 
     IsPermitted policy ps c octets k → (j : ℕ) → host_at ps j ≡ Some (lower k.peer) → ⊥
 no_such_host policy ps c octets k h j is =
     h.unknown.nobody j (inr (
-      stranger_free ps c octets h.unknown.nobody,
-      h.unknown.call,
-      h.unknown.calls,
-      is ∙ sym (ap (λ (host : List ℕ). Some (lower host)) h.unknown.named),
+      stranger_free policy ps c octets h.unknown.nobody,
+      inl (
+        h.unknown.call,
+        h.unknown.calls,
+        is ∙ sym (ap (λ (host : List ℕ). Some (lower host)) h.unknown.named),
+      ),
     ))
 
 wholly_added : PeerLaws → (policy : Policy) (ps : List (Option Peer)) (c : Conn) (octets : List ℕ) (k : Config) →
@@ -273,25 +277,27 @@ wholly_added laws policy ps c octets k sound permitted = record {
 
 -- its CER concerns it then
 added_is_addressed : (policy : Policy) (ps : List (Option Peer)) (c : Conn) (octets : List ℕ) (k : Config) (i : ℕ) →
-    IsPermitted policy ps c octets k → i ≡ length ps → IsAddressed (with_new ps k) c octets i
+    IsPermitted policy ps c octets k → i ≡ length ps → IsAddressed policy (with_new ps k) c octets i
 added_is_addressed policy ps c octets k i h here =
     inr (
       λ j. elim (grown ps (Some (new_peer k k.first_id)) j) [
-        | inl a ↦ ap (holds_it c) a ∙ stranger_free ps c octets h.unknown.nobody j
+        | inl a ↦ ap (holds_it c) a ∙ stranger_free policy ps c octets h.unknown.nobody j
         | inr a ↦ ap (holds_it c) a.1
       ],
-      h.unknown.call,
-      h.unknown.calls,
-      ap (host_at (with_new ps k)) here ∙ ap host_of (last_at ps (Some (new_peer k k.first_id)))
-          ∙ sym (ap (λ (host : List ℕ). Some (lower host)) h.unknown.named),
+      inl (
+        h.unknown.call,
+        h.unknown.calls,
+        ap (host_at (with_new ps k)) here ∙ ap host_of (last_at ps (Some (new_peer k k.first_id)))
+            ∙ sym (ap (λ (host : List ℕ). Some (lower host)) h.unknown.named),
+      ),
     )
 
 moved_wholly : PeerLaws → (policy : Policy) (c : Conn) (s : List ℕ) (n : Node) (ps qs : List (Option Peer))
     (who : Option ℕ) (actions : List Action) → Wholly ps → NodeMoves policy c s n ps who actions qs → Wholly qs
 moved_wholly laws policy c s n ps qs (Some i) actions sound (inl m) =
-    wholly_told laws c s ps qs i actions sound m.0 m.1
+    wholly_told laws policy c s ps qs i actions sound m.0 m.1
 moved_wholly laws policy c s n ps qs (Some i) actions sound (inr (k, permitted, joins)) =
-    wholly_told laws c s (with_new ps k) qs i actions (wholly_added laws policy ps c s k sound permitted)
+    wholly_told laws policy c s (with_new ps k) qs i actions (wholly_added laws policy ps c s k sound permitted)
     (added_is_addressed policy ps c s k i permitted joins.number) joins.told
 moved_wholly laws policy c s n ps qs None actions sound m =
     subst Wholly (sym (peers_stay policy c s n ps qs actions m.1)) sound

@@ -11,7 +11,7 @@ use Rattle.dm_node.specs.Holding.{peer_at, holds_at}
 use Rattle.dm_node.specs.Neighbourhoods.{IsNeighbourhood}
 use Rattle.dm_node.specs.Policies.{Policy}
 use Rattle.dm_node.specs.Strangers.{IsPermitted, Joins, NodeMoves}
-use Rattle.dm_node.specs.Telling.{IsAddressed, PeerIsTold}
+use Rattle.dm_node.specs.Telling.{IsCallOf, IsAddressed, PeerIsTold}
 use Rattle.dm_peer.specs.declared.actions.Action.{Action}
 use Rattle.dm_peer.specs.declared.config.Config.{Config}
 use Rattle.dm_peer.specs.declared.peer.Peer.{Peer}
@@ -26,14 +26,24 @@ use Rattle.dm_node_session.proofs.NodeMoving.{two_truths, unlike}
 some_is : (o : Option Caller) (a b : Caller) → o ≡ Some a → o ≡ Some b → a ≡ b
 some_is o a b x y = ap (λ v. unwrap_or v a) (sym x ∙ y)
 
-pub one_addressed : (ps : List (Option Peer)) (c : Conn) (s : List ℕ) (i j : ℕ) → IsNeighbourhood ps →
-    IsAddressed ps c s i → IsAddressed ps c s j → i ≡ j
-one_addressed ps c s i j n (inl a) (inl b) = n.apart.one i j c a b
-one_addressed ps c s i j n (inl a) (inr b) = absurd (two_truths (holds_at ps c i) a (b.0 i))
-one_addressed ps c s i j n (inr a) (inl b) = absurd (two_truths (holds_at ps c j) b (a.0 j))
-one_addressed ps c s i j n (inr a) (inr b) =
-    n.unlike.one i j (lower a.1.1) a.3
-    (b.3 ∙ ap (λ (x : Caller). Some (lower x.1)) (some_is (caller_of s) b.1 a.1 b.2 a.2))
+one_called : (ps : List (Option Peer)) (s : List ℕ) (i j : ℕ) → IsNeighbourhood ps → IsCallOf ps s i → IsCallOf ps s j →
+    i ≡ j
+one_called ps s i j n a b =
+    n.unlike.one i j (lower a.0.1) a.2
+    (b.2 ∙ ap (λ (x : Caller). Some (lower x.1)) (some_is (caller_of s) b.0 a.0 b.1 a.1))
+
+same_number : (i j : ℕ) → Some i ≡ Some j → i ≡ j
+same_number i j e = cc
+
+pub one_addressed : (policy : Policy) (ps : List (Option Peer)) (c : Conn) (s : List ℕ) (i j : ℕ) →
+    IsNeighbourhood ps → IsAddressed policy ps c s i → IsAddressed policy ps c s j → i ≡ j
+one_addressed policy ps c s i j n (inl a) (inl b) = n.apart.one i j c a b
+one_addressed policy ps c s i j n (inl a) (inr b) = absurd (two_truths (holds_at ps c i) a (b.0 i))
+one_addressed policy ps c s i j n (inr a) (inl b) = absurd (two_truths (holds_at ps c j) b (a.0 j))
+one_addressed policy ps c s i j n (inr (free, inl a)) (inr (also, inl b)) = one_called ps s i j n a b
+one_addressed policy ps c s i j n (inr (free, inl a)) (inr (also, inr b)) = absurd (b.0 i a)
+one_addressed policy ps c s i j n (inr (free, inr a)) (inr (also, inl b)) = absurd (a.0 j b)
+one_addressed policy ps c s i j n (inr (free, inr a)) (inr (also, inr b)) = same_number i j (sym a.1.0 ∙ b.1.0)
 
 -- neighbours that are the same one by one are the same
 each_same : (qs rs : List (Option Peer)) → length qs ≡ length rs → ((j : ℕ) → peer_at qs j ≡ peer_at rs j) → qs ≡ rs
@@ -125,7 +135,7 @@ pub moves_once : (policy : Policy) (c : Conn) (s : List ℕ) (n : Node) (ps qs r
     (a b : NodeAnswer) → IsNeighbourhood ps → (x y : Option ℕ) → a.neighbour ≡ x → b.neighbour ≡ y →
     NodeMoves policy c s n ps x a.actions qs → NodeMoves policy c s n ps y b.actions rs → SameMove a b qs rs
 moves_once policy c s n ps qs rs a b sound (Some i) (Some j) is also (inl h) (inl k) =
-    let same : i ≡ j = one_addressed ps c s i j sound h.0 k.0 in
+    let same : i ≡ j = one_addressed policy ps c s i j sound h.0 k.0 in
     let one = told_once ps qs rs j (Arrived c s) a.actions b.actions
     (subst (λ m. PeerIsTold ps qs m (Arrived c s) a.actions) same h.1) k.1 in
     record { neighbour = is ∙ ap Some same ∙ sym also; actions = one.0; peers = one.1 }

@@ -30,7 +30,7 @@ use Rattle.dm_node_session.proofs.NodeMoving.{two_truths}
 use Rattle.dm_node_session.proofs.NodeTold.{by_event, closed_moved}
 
 -- a connection in a role is held
-as_is_held : (s : State) (role : Role) → is_held (hold_as s role) ≡ true
+pub as_is_held : (s : State) (role : Role) → is_held (hold_as s role) ≡ true
 as_is_held ROpen role = refl
 as_is_held IOpen role = refl
 as_is_held Closing Initiated = refl
@@ -86,10 +86,10 @@ raised_elsewhere most (Some p) f c free = by (is_open p.standing.core.state)
     by false = refl
 
 -- whoever isn't told stays
-same_plain : (e : NodeEvent) (ps qs : List (Option Peer)) (who : Option ℕ) (actions : List Action) (j : ℕ) →
-    TellsConcerned e ps who actions qs → (who ≡ Some j → ⊥) → peer_at qs j ≡ peer_at ps j
-same_plain e ps qs (Some i) actions j m un = m.1.others j (λ is. un (ap Some (sym is)))
-same_plain e ps qs None actions j m un = ap (λ l. peer_at l j) m.2
+same_plain : (policy : Policy) (e : NodeEvent) (ps qs : List (Option Peer)) (who : Option ℕ) (actions : List Action)
+    (j : ℕ) → TellsConcerned policy e ps who actions qs → (who ≡ Some j → ⊥) → peer_at qs j ≡ peer_at ps j
+same_plain policy e ps qs (Some i) actions j m un = m.1.others j (λ is. un (ap Some (sym is)))
+same_plain policy e ps qs None actions j m un = ap (λ l. peer_at l j) m.2
 
 same_octets : (policy : Policy) (c : Conn) (octets : List ℕ) (n : Node) (ps qs : List (Option Peer)) (who : Option ℕ)
     (actions : List Action) (j : ℕ) → NodeMoves policy c octets n ps who actions qs → (who ≡ Some j → ⊥) →
@@ -106,7 +106,7 @@ same_peer : (policy : Policy) (e : NodeEvent) (n : Node) (ps qs : List (Option P
 same_peer policy e n ps qs who actions j m un =
     elim (by_event policy e n ps qs who actions m) [
       | inl came ↦ same_octets policy came.0 came.1 n ps qs who actions j came.3 un
-      | inr plain ↦ same_plain e ps qs who actions j plain.1 un
+      | inr plain ↦ same_plain policy e ps qs who actions j plain.1 un
     ]
 
 not_his : (qs : List (Option Peer)) (who : Option ℕ) (j : ℕ) (c : Conn) → AreApart qs → (who ≡ Some j → ⊥) →

@@ -19,9 +19,9 @@ pub record NodeHearsWhole (policy : Policy) (c : Conn) (piece : List ℕ) (s : N
   pub told : NodeTellsNext policy c (node_fed c message s) turn t
 
 -- that message takes memory to be told
-abbrev pub NodeHearTakesMemory : Conn → List ℕ → NodeSession → Type 0
-NodeHearTakesMemory c piece s =
-    (size : ℕ) × IsWholeAt (s.intakes c.0) piece size × TakesMemoryAt c (take size piece) s.peers
+abbrev pub NodeHearTakesMemory : Policy → Conn → List ℕ → NodeSession → Type 0
+NodeHearTakesMemory policy c piece s =
+    (size : ℕ) × IsWholeAt (s.intakes c.0) piece size × TakesMemoryAt policy c (take size piece) s.peers
 
 -- nothing can be told where it lies: the connection isn't there, something of it is kept or what comes is thrown away,
 -- or the piece begins with no whole message

@@ -7,6 +7,7 @@ use Rattle.dm_node.specs.declared.fault.EventFault.{EventFault}
 use Rattle.dm_node.specs.Declining.{IsDeclinedHere}
 use Rattle.dm_node.specs.Emptying.{without_peer, with_set_back, all_set_back}
 use Rattle.dm_node.specs.Holding.{peer_at, holds_it, holds_at}
+use Rattle.dm_node.specs.Policies.{no_strangers}
 use Rattle.dm_node.specs.Telling.{IsFree}
 use Rattle.dm_peer.specs.declared.actions.Action.{Action}
 use Rattle.dm_peer.specs.declared.actions.Action.TheVariants.{Close}
@@ -125,7 +126,7 @@ NodeTakes order.ResetAll s asks t = NodeTellsNothing (node_closed s) asks t
 
 -- the event is misdirected, or the neighbour that it concerns refuses it
 abbrev pub NodeRefusesOnce : NodeEvent → NodeSession → EventFault → Type 0
-NodeRefusesOnce e s f = IsDeclinedHere s.peers e f
+NodeRefusesOnce e s f = IsDeclinedHere no_strangers s.peers e f
 
 -- the neighbour that holds connection c, which is there, refuses an event of it
 abbrev pub NodeRefusesIfThere : Conn → NodeEvent → NodeSession → EventFault → Type 0

@@ -115,17 +115,17 @@ NodeTellsNext policy c s turn t = NodeTellsAs policy turn.arrived c s turn.answe
 abbrev pub NodeIsOut : Conn → NodeSession → Type 0
 NodeIsOut c s = IfSome (s.intakes c.0) IsToldOut
 
--- what is done at these octets of connection c takes memory: what the neighbour does that they concern, or the answer
--- to a stranger's CER
-abbrev pub TakesMemoryAt : Conn → List ℕ → List (Option Peer) → Type 0
-TakesMemoryAt c octets ps =
-    ((i : ℕ) × (p : Peer) × IsAddressed ps c octets i × (peer_at ps i ≡ Some p)
+-- what is done at these octets of connection c takes memory: what the neighbour does that they concern, or what a
+-- stranger's CER comes to
+abbrev pub TakesMemoryAt : Policy → Conn → List ℕ → List (Option Peer) → Type 0
+TakesMemoryAt policy c octets ps =
+    ((i : ℕ) × (p : Peer) × IsAddressed policy ps c octets i × (peer_at ps i ≡ Some p)
     × IsTrue (wants_memory (acts p (Arrived c octets))))
-    ⊎ (((i : ℕ) → IsAddressed ps c octets i → ⊥) × IsSome (caller_of octets))
+    ⊎ (((i : ℕ) → IsAddressed policy ps c octets i → ⊥) × IsSome (caller_of octets))
 
 -- the next message of connection c takes memory to be told, or the fault of its stream does
-abbrev pub NodeNextTakesMemory : Conn → NodeSession → Type 0
-NodeNextTakesMemory c s =
+abbrev pub NodeNextTakesMemory : Policy → Conn → NodeSession → Type 0
+NodeNextTakesMemory policy c s =
     ((i : Intake) × (message rest : List ℕ) × (s.intakes c.0 ≡ Some i) × IsFirst i message rest
-    × TakesMemoryAt c message s.peers)
-    ⊎ ((i : Intake) × (s.intakes c.0 ≡ Some i) × IsFaulty i × TakesMemoryAt c [] s.peers)
+    × TakesMemoryAt policy c message s.peers)
+    ⊎ ((i : Intake) × (s.intakes c.0 ≡ Some i) × IsFaulty i × TakesMemoryAt policy c [] s.peers)

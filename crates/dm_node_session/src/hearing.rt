@@ -30,7 +30,8 @@ impl NodeSession {
             × (node_session_of self.new ≡ node_session_of self.old))) }
         ensures unchanged { OnErr result (node_session_of self.new ≡ node_session_of self.old) }
         // Memory is wanted only for what the message asks of its neighbour, or for a stranger's CER.
-        ensures memory { OnErr result (NodeHearTakesMemory conn piece.now (node_session_of self.old)) }
+        ensures memory { OnErr result
+            (NodeHearTakesMemory (S.policy strangers.now) conn piece.now (node_session_of self.old)) }
     {
         match self.intakes.whole_in(conn, piece) {
             Some(len) => {

@@ -4,7 +4,7 @@ ghost use Rattle.dm_node_session.specs.NodeEnding.{NodeCloseIsLast, NodeGoneIsSi
 ghost use Rattle.dm_node_session.specs.NodeHearing.{NodeHeardAlike};
 ghost use Rattle.dm_node_session.specs.NodeHeld.{AllHeldAreThere};
 ghost use Rattle.dm_node_session.specs.NodeLaws.{AreSoundNeighbours, EventLeavesOthers, NextLeavesOthers};
-ghost use Rattle.dm_node_session.specs.NodeLaws.{OneIsASession, OneTellsAsASession};
+ghost use Rattle.dm_node_session.specs.NodeLaws.{OneDoesAsItsPeer, OneTurnsAsItsPeer, ConcernedTurnsAsItsPeer};
 ghost use Rattle.dm_node_session.specs.NodeSeen.{node_session_of};
 ghost use Rattle.dm_node_session.specs.NodeStreams.{NodeCutsAlike, NodeOneTelling, NodeCutsToldOut, NodePiecesToldOut};
 
@@ -46,12 +46,13 @@ pub fn others_are_left_alone()
     what_is_there_stays();
 }
 
-/// A node of one neighbour is a session of its peer, wherever that is told something: at an order's event, and at what
-/// came on a connection. They differ only where an event concerns nobody: at octets on a connection that the neighbour
-/// doesn't hold, which aren't its host's CER, and at what else is told of such a connection.
-pub fn one_neighbour_is_a_session()
-    ensures event { OneIsASession }
-    ensures octets { OneTellsAsASession }
+/// A node of one neighbour is its peer: at an order's event it does what that does, and with `Alone` each turn of what
+/// came is one of its peer's session, also of what a stranger sends, and of a fault. By any other policy so is each
+/// turn of the neighbour.
+pub fn one_is_its_peer()
+    ensures event { OneDoesAsItsPeer }
+    ensures octets { OneTurnsAsItsPeer }
+    ensures concerned { ConcernedTurnsAsItsPeer }
 {}
 
 /// A message that is told where it lies is told as if the whole piece had been kept first, whatever the policy.

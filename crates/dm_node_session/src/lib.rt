@@ -11,7 +11,7 @@ mod node_session;
 mod node_turn;
 mod telling;
 
-pub use dm_node::{AddFault, EventFault, Neighbours, NodeActions, Open, Strangers};
+pub use dm_node::{AddFault, Alone, EventFault, Neighbours, NodeActions, Open, Strangers};
 pub use dm_peer::{Action, Actions, Cause, Config, Conn, Peer, PeerFault};
 pub use node_order::NodeOrder;
 pub use node_session::NodeSession;

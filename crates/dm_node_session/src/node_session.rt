@@ -128,7 +128,8 @@ impl NodeSession {
         ensures told { IfOk result (λ turn. NodeTellsFault (S.policy strangers.now) conn (node_session_of self.old)
             (as_answer turn.answer) (node_session_of self.new)) }
         ensures unchanged { OnErr result (node_session_of self.new ≡ node_session_of self.old) }
-        ensures memory { OnErr result (TakesMemoryAt conn [] (node_session_of self.old).peers) }
+        ensures memory { OnErr result
+            (TakesMemoryAt (S.policy strangers.now) conn [] (node_session_of self.old).peers) }
     {
         what_is_there_stays();
         let event = NodeEvent::Arrived(conn, &[]);
@@ -147,11 +148,12 @@ impl NodeSession {
     }
 
     /// Tells the next whole message that came on the connection, or the fault of its stream, to the neighbour that it
-    /// concerns. What concerns none goes by the policy for unknown hosts (RFC 6733, 5.3): a CER of a host for which
-    /// `strangers` have a template, where there are fewer neighbours than there may be, is told to a neighbour of the
-    /// template's configuration for it, which is added behind the others and holds the connection. It is not added
-    /// where it would be Closed behind its CER, as at one that it refuses. To all else the connection is closed, behind
-    /// an answer 3010 (DIAMETER_UNKNOWN_PEER) to a CER. By `()` each stranger is turned away so.
+    /// concerns: the one that holds the connection, or whose host's CER it is, or else the porter, where `strangers`
+    /// have one and it is there. What concerns none goes by the policy for unknown hosts (RFC 6733, 5.3): a CER of a
+    /// host for which `strangers` have a template, where there are fewer neighbours than there may be, is told to a
+    /// neighbour of the template's configuration for it, which is added behind the others and holds the connection. It
+    /// is not added where it would be Closed behind its CER, as at one that it refuses. To all else the connection is
+    /// closed, behind an answer 3010 (DIAMETER_UNKNOWN_PEER) to a CER. By `()` each stranger is turned away so.
     ///
     /// A neighbour that was taken in so stays until it is removed ([`remove`](NodeSession::remove)).
     ///
@@ -168,7 +170,7 @@ impl NodeSession {
             NodeIsOut conn (node_session_of self.old) × (node_session_of self.new ≡ node_session_of self.old))) }
         ensures unchanged { OnErr result (node_session_of self.new ≡ node_session_of self.old) }
         // Memory is wanted only for what the message or the fault asks of its neighbour, or for a stranger's CER.
-        ensures memory { OnErr result (NodeNextTakesMemory conn (node_session_of self.old)) }
+        ensures memory { OnErr result (NodeNextTakesMemory (S.policy strangers.now) conn (node_session_of self.old)) }
     {
         what_is_there_stays();
         match self.intakes.front(conn) {

@@ -51,8 +51,8 @@ pub(crate) fn no_actions() -> NodeActions
     }
 }
 
-/// Tells the neighbours the event, by the policy for hosts that are none, and puts what it comes to into `answer`,
-/// whose actions are none before.
+/// Tells the neighbours the event, by the policy for strangers, and puts what it comes to into `answer`, whose actions
+/// are none before.
 #[inline(always)]
 pub(crate) fn tell_neighbours<S: Strangers>(
     alloc: Global,
@@ -72,9 +72,9 @@ pub(crate) fn tell_neighbours<S: Strangers>(
     ensures kept { AreKept neighbours.new.peers }
     ensures node { neighbours.new.node ≡ neighbours.old.node }
     ensures refused { IfErr result (λ fault. (fault ≡ faults.Peer peer_faults.NoMemory)
-        ⊎ IsDeclinedHere neighbours.old.peers event.entry fault) }
+        ⊎ IsDeclinedHere (S.policy strangers.now) neighbours.old.peers event.entry fault) }
     ensures memory { (c : Conn) (octets : List ℕ) → told_of event.entry ≡ Arrived c octets
-        → OnErr result (TakesMemoryAt c octets neighbours.old.peers) }
+        → OnErr result (TakesMemoryAt (S.policy strangers.now) c octets neighbours.old.peers) }
     ensures unchanged { OnErr result (neighbours.new.peers ≡ neighbours.old.peers) }
 {
     each_event_is_one_step();

@@ -7,6 +7,7 @@ mod histories;
 mod neighbours;
 mod octets;
 mod own_rules;
+mod porter;
 mod rows;
 mod templates;
 mod unknown;

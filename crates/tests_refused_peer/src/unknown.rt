@@ -15,12 +15,16 @@ struct Permits {
 }
 
 impl Strangers for Permits {
-    ghost use Rattle.std.specs.Prelude.{Some};
+    ghost use Rattle.std.specs.Prelude.{None, Some};
 
-    ghost policy = { λ permits. record { template = λ host. Some permits.template; most = 1 } };
+    ghost policy = { λ permits. record { template = λ host. Some permits.template; most = 1; porter = None } };
 
     fn most(&self) -> usize {
         1
+    }
+
+    fn porter(&self) -> Option<usize> {
+        None
     }
 
     fn template(&self, _host: &[u8]) -> Option<&Config> {

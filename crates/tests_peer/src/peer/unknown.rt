@@ -19,10 +19,15 @@ impl Strangers for Permits {
     ghost policy = { λ permits. record {
       template = λ host. if nat_le (length host) permits.longest then Some permits.template else None;
       most = permits.most;
+      porter = None;
     } };
 
     fn most(&self) -> usize {
         self.most
+    }
+
+    fn porter(&self) -> Option<usize> {
+        None
     }
 
     fn template(&self, host: &[u8]) -> Option<&Config> {

@@ -7,7 +7,8 @@ use Rattle.dm_node.proofs.unknown.at_stranger.Goals as goal
 
 pub meet_stranger-requires-clause-nobody : goal.meet_stranger-requires-clause-nobody
 meet_stranger-requires-clause-nobody g c =
-    subst (λ (e : NodeEvent). (i : ℕ) → Concerns c.args.roster.now.peers.items e i → ⊥) c.in-Arrived.is
+    let policy = g.S.Strangers.policy c.args.strangers.now in
+    subst (λ (e : NodeEvent). (i : ℕ) → Concerns policy c.args.roster.now.peers.items e i → ⊥) c.in-Arrived.is
     c.requires.nobody
 
 pub returns-in_default-clause-told : goal.returns-in_default-clause-told

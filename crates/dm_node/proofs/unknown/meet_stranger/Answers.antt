@@ -3,15 +3,21 @@ use Rattle.std.proofs.Common.{IsSome, refl, sym, subst}
 use Rattle.dm_machine.specs.declared.connection.Conn.{Conn}
 use Rattle.dm_node.specs.Strangers.{IsForbidden}
 use Rattle.dm_node.proofs.Taking.{if_err}
-use Rattle.dm_node.proofs.Welcomed.{PermitsAnywhere, at_some, at_none, both_ok, welcomed, turned_off}
+use Rattle.dm_node.proofs.Welcomed.{PermitsAnywhere, free_at, unknown_host, at_some, at_none, both_ok, welcomed, turned_off}
 use Rattle.dm_node.proofs.unknown.meet_stranger.Goals as goal
 
 pub welcome-requires-clause-unknown : goal.welcome-requires-clause-unknown
 welcome-requires-clause-unknown g c =
     let policy = g.S.Strangers.policy c.args.strangers.now in
     let ps = c.args.roster.now.peers.items in
-    (at_some (PermitsAnywhere policy ps c.args.octets.now) c.in-Ok-Some.field-0 c.in-Ok-Some.config
-    c.in-Ok-Some.field-0-is c.in-Ok-Some.ensures.offered c.args.conn c.requires.nobody).unknown
+    let permitted = at_some (PermitsAnywhere policy ps c.args.octets.now) c.in-Ok-Some.field-0 c.in-Ok-Some.config
+    c.in-Ok-Some.field-0-is c.in-Ok-Some.ensures.offered c.args.conn c.requires.nobody in
+    unknown_host policy ps c.args.conn c.args.octets.now c.in-Ok-Some.config.peer permitted.unknown
+
+pub welcome-requires-clause-free : goal.welcome-requires-clause-free
+welcome-requires-clause-free g c =
+    free_at (g.S.Strangers.policy c.args.strangers.now) c.args.roster.now.peers.items c.args.conn c.args.octets.now
+    c.requires.nobody
 
 pub returns-in-Ok-Some-clause-moved : goal.returns-in-Ok-Some-clause-moved
 returns-in-Ok-Some-clause-moved g c =

@@ -48,9 +48,10 @@ returns-in-Err-clause-kept g c = subst AreKept (sym c.in-Err.ensures.unchanged) 
 
 pub returns-in-Err-clause-refused : goal.returns-in-Err-clause-refused
 returns-in-Err-clause-refused g c =
-    refused c.args.neighbours.now.peers c.args.event c.in-Err.fault c.in-Err.ensures.refused
+    refused (g.S.Strangers.policy c.args.strangers.now) c.args.neighbours.now.peers c.args.event c.in-Err.fault
+    c.in-Err.ensures.refused
 
 pub returns-in-Err-clause-memory : goal.returns-in-Err-clause-memory
 returns-in-Err-clause-memory g c = λ d octets is.
-    memory c.refusals_go_by_rule.ensures c.args.neighbours.now.peers d octets c.args.event c.in-Err.fault
-    c.requires.kept is c.in-Err.ensures.refused
+    memory c.refusals_go_by_rule.ensures (g.S.Strangers.policy c.args.strangers.now) c.args.neighbours.now.peers d
+    octets c.args.event c.in-Err.fault c.requires.kept is c.in-Err.ensures.refused

@@ -9,20 +9,27 @@ use Rattle.dm_node.proofs.neighbours.Neighbours.on_into.Goals as goal
 
 pub returns-in-Ok-Some-clause-refused : goal.returns-in-Ok-Some-clause-refused
 returns-in-Ok-Some-clause-refused g c =
-    subst (λ (n : Neighbourhood). IfErr c.tell_one_into.result (IsRefusedHere n.peers c.args.event)) c.self.view_is
-    c.tell_one_into.ensures.refused
+    let policy = g.S.Strangers.policy c.args.strangers.now in
+    let concerned = at_some (Concerns policy c.self.inside.roster.peers.items c.args.event) c.in-Ok-Some.field-0
+    c.in-Ok-Some.index c.in-Ok-Some.field-0-is c.in-Ok-Some.ensures.concerned in
+    subst (λ (n : Neighbourhood). IfErr c.tell_one_into.result (IsRefusedHere policy n.peers c.args.event))
+    c.self.view_is (c.tell_one_into.ensures.refused policy concerned)
 
 pub returns-in-Ok-Some-clause-ruled : goal.returns-in-Ok-Some-clause-ruled
 returns-in-Ok-Some-clause-ruled g c =
-    subst (λ (n : Neighbourhood). IfErr c.tell_one_into.result (IsByRule n.peers c.args.event)) c.self.view_is
-    c.tell_one_into.ensures.ruled
+    let policy = g.S.Strangers.policy c.args.strangers.now in
+    let concerned = at_some (Concerns policy c.self.inside.roster.peers.items c.args.event) c.in-Ok-Some.field-0
+    c.in-Ok-Some.index c.in-Ok-Some.field-0-is c.in-Ok-Some.ensures.concerned in
+    subst (λ (n : Neighbourhood). IfErr c.tell_one_into.result (IsByRule policy n.peers c.args.event)) c.self.view_is
+    (c.tell_one_into.ensures.ruled policy concerned)
 
 pub returns-in-Ok-Some-clause-refuses : goal.returns-in-Ok-Some-clause-refuses
 returns-in-Ok-Some-clause-refuses g c = λ i f directed concerned out.
+    let policy = g.S.Strangers.policy c.args.strangers.now in
     let ps = c.self.inside.roster.peers.items in
-    let there : Concerns ps c.args.event i =
-    subst (λ (n : Neighbourhood). Concerns n.peers c.args.event i) (sym c.self.view_is) concerned in
-    let is = one_there ps c.args.event c.in-Ok-Some.field-0 i c.in-Ok-Some.index
+    let there : Concerns policy ps c.args.event i =
+    subst (λ (n : Neighbourhood). Concerns policy n.peers c.args.event i) (sym c.self.view_is) concerned in
+    let is = one_there policy ps c.args.event c.in-Ok-Some.field-0 i c.in-Ok-Some.index
     (record { apart = c.self.invariant.apart; unlike = c.self.invariant.unlike }) c.in-Ok-Some.field-0-is
     c.in-Ok-Some.ensures.concerned there in
     c.tell_one_into.ensures.refuses f (subst (λ k. IsRuledOut ps k (told_of c.args.event) f) is
@@ -30,14 +37,17 @@ returns-in-Ok-Some-clause-refuses g c = λ i f directed concerned out.
 
 pub returns-in-Ok-Some-clause-silent : goal.returns-in-Ok-Some-clause-silent
 returns-in-Ok-Some-clause-silent g c = λ i concerned takes.
+    let policy = g.S.Strangers.policy c.args.strangers.now in
     let ps = c.self.inside.roster.peers.items in
-    let there : Concerns ps c.args.event i =
-    subst (λ (n : Neighbourhood). Concerns n.peers c.args.event i) (sym c.self.view_is) concerned in
-    let is = one_there ps c.args.event c.in-Ok-Some.field-0 i c.in-Ok-Some.index
+    let there : Concerns policy ps c.args.event i =
+    subst (λ (n : Neighbourhood). Concerns policy n.peers c.args.event i) (sym c.self.view_is) concerned in
+    let is = one_there policy ps c.args.event c.in-Ok-Some.field-0 i c.in-Ok-Some.index
     (record { apart = c.self.invariant.apart; unlike = c.self.invariant.unlike }) c.in-Ok-Some.field-0-is
     c.in-Ok-Some.ensures.concerned there in
-    subst (λ (n : Neighbourhood). IfErr c.tell_one_into.result (IsDeclinedHere n.peers c.args.event)) c.self.view_is
-    (c.tell_one_into.ensures.silent (subst (λ k. TakesNoMemory ps k (told_of c.args.event)) is
+    subst (λ (n : Neighbourhood). IfErr c.tell_one_into.result (IsDeclinedHere policy n.peers c.args.event))
+    c.self.view_is
+    (c.tell_one_into.ensures.silent policy (subst (λ k. Concerns policy ps c.args.event k) is there)
+    (subst (λ k. TakesNoMemory ps k (told_of c.args.event)) is
     (subst (λ (n : Neighbourhood). TakesNoMemory n.peers i (told_of c.args.event)) (sym c.self.view_is) takes)))
 
 pub returns-in-Ok-Some-clause-told : goal.returns-in-Ok-Some-clause-told
@@ -46,8 +56,8 @@ returns-in-Ok-Some-clause-told g c =
     let policy = g.S.Strangers.policy c.args.strangers.now in
     let qs = c.tell_one_into.new.roster.peers.items in
     let answer = c.tell_one_into.new.answer in
-    let concerned = at_some (Concerns ps c.args.event) c.in-Ok-Some.field-0 c.in-Ok-Some.index c.in-Ok-Some.field-0-is
-    c.in-Ok-Some.ensures.concerned in
+    let concerned = at_some (Concerns policy ps c.args.event) c.in-Ok-Some.field-0 c.in-Ok-Some.index
+    c.in-Ok-Some.field-0-is c.in-Ok-Some.ensures.concerned in
     subst (λ (n : Neighbourhood). OnOk c.tell_one_into.result
     (NodeIsTold policy c.args.event n.node n.peers answer.neighbour answer.actions.items qs)) c.self.view_is
     (both_done c.tell_one_into.result
