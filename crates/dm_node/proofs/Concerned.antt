@@ -8,7 +8,7 @@ use Rattle.dm_node.specs.Holding.{holds_at}
 use Rattle.dm_node.specs.Neighbourhoods.{IsNeighbourhood}
 use Rattle.dm_node.specs.OneConcerned.{OneIsConcerned}
 use Rattle.dm_node.specs.Policies.{Policy}
-use Rattle.dm_node.specs.Telling.{IsCallOf, IsAddressed, Concerns}
+use Rattle.dm_node.specs.Telling.{IsCallOf, IsPorter, IsFirstFor, IsAddressed, Concerns}
 use Rattle.dm_node.specs.declared.events.NodeEvent.{NodeEvent}
 use Rattle.dm_node.specs.declared.events.NodeEvent.TheVariants as event
 
@@ -54,6 +54,12 @@ one_is_concerned policy ps (event.Ack c) i j n a b = n.apart.one i j c a b
 one_is_concerned policy ps (event.Nack c) i j n a b = n.apart.one i j c a b
 one_is_concerned policy ps (event.Arrived c octets) i j n a b = one_addressed policy ps c octets.now i j n a b
 one_is_concerned policy ps (event.Gone c) i j n a b = n.apart.one i j c a b
+
+-- where no host calls and there is no porter first octets are for nobody
+pub for_nobody : (policy : Policy) (ps : List (Option Peer)) (s : List ℕ) → ((i : ℕ) → IsCallOf ps s i → ⊥) →
+    ((i : ℕ) → IsPorter policy ps i → ⊥) → (i : ℕ) → IsFirstFor policy ps s i → ⊥
+for_nobody policy ps s uncalled none i (inl call) = uncalled i call
+for_nobody policy ps s uncalled none i (inr h) = none i h.1
 
 -- whom the event concerns is the one that was found
 pub one_there : (policy : Policy) (ps : List (Option Peer)) (e : NodeEvent) (o : Option ℕ) (i k : ℕ) →

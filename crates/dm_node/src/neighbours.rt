@@ -1,7 +1,7 @@
 //! Neighbours: a peer for each, and what each event does.
 use crate::looking::peer_at;
 use crate::roster::Roster;
-use crate::routing::whose;
+use crate::routing::{concerned, whose};
 use crate::telling::tell_one_into;
 use crate::unknown::tell_unknown;
 use crate::{AddFault, EventFault, NodeActions, NodeEvent, Strangers};
@@ -93,6 +93,17 @@ impl Neighbours {
         ensures none { IfNone result ((j : ℕ) → holds_at self.now.peers conn j ≡ false) }
     {
         self.roster.holder(conn)
+    }
+
+    /// The number of the neighbour that the event concerns: the one that it names, whether a neighbour has that number
+    /// or not; or the one that holds the connection that it names; or, where octets came on a connection that nobody
+    /// holds, the one whose host's CER they are, or else the porter, where `strangers` have one and it is there. It
+    /// never answers want of memory.
+    pub fn concerned<S: Strangers>(&self, strangers: &S, event: NodeEvent<'_>) -> Option<usize>
+        ensures found { IfSome result (Concerns (S.policy strangers.now) self.now.peers event.entry) }
+        ensures none { IfNone result ((i : ℕ) → Concerns (S.policy strangers.now) self.now.peers event.entry i → ⊥) }
+    {
+        concerned(&self.roster, strangers, event)
     }
 
     /// The neighbour of this number. It never answers want of memory.

@@ -92,6 +92,30 @@ fn addressed<S: Strangers>(
     }
 }
 
+/// The number of the neighbour that the event concerns.
+pub(crate) fn concerned<S: Strangers>(
+    roster: &Roster,
+    strangers: &S,
+    event: NodeEvent<'_>,
+) -> Option<usize>
+    requires { IsRoster roster.now }
+    ensures found { IfSome result (Concerns (S.policy strangers.now) roster.now.peers.items event.entry) }
+    ensures none { IfNone result ((i : ℕ)
+        → Concerns (S.policy strangers.now) roster.now.peers.items event.entry i → ⊥) }
+{
+    match event {
+        NodeEvent::Arrived(conn, octets) => addressed(roster, strangers, conn, octets),
+        NodeEvent::Ack(conn) => roster.holder(conn),
+        NodeEvent::Nack(conn) => roster.holder(conn),
+        NodeEvent::Gone(conn) => roster.holder(conn),
+        NodeEvent::Start(index, _) => Some(index),
+        NodeEvent::Stop(index, _) => Some(index),
+        NodeEvent::Timeout(index) => Some(index),
+        NodeEvent::Tick(index) => Some(index),
+        NodeEvent::Submit(index, _) => Some(index),
+    }
+}
+
 /// The neighbour of the number, if there is one.
 fn numbered(peers: &[Option<Peer>], index: usize) -> Result<Option<usize>, EventFault>
     ensures found { IfOk result (λ o. (o ≡ Some index) × IsSome (peer_at peers.now index)) }

@@ -5,7 +5,7 @@ use Rattle.dm_base.specs.Fit.{is_name}
 use Rattle.dm_machine.specs.declared.connection.Conn.{Conn}
 use Rattle.dm_node.specs.Calling.{Caller, caller_of}
 use Rattle.dm_node.specs.Policies.{Policy, MakesFor, IsUnfit}
-use Rattle.dm_node.specs.Strangers.{present, IsPermitted, IsForbidden}
+use Rattle.dm_node.specs.Strangers.{IsPermitted, IsForbidden}
 use Rattle.dm_peer.specs.Hosts.{is_same_host}
 use Rattle.dm_peer.specs.declared.config.Config.{Config}
 use Rattle.dm_peer.specs.declared.peer.Peer.{Peer}

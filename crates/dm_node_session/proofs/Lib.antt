@@ -5,7 +5,7 @@ pub mod NodeEmptying
 pub mod NodeStarting
 pub mod Others
 pub mod Unheld
-pub mod Alone
+pub mod OnePeer
 pub mod NodeCuts
 pub mod NodeHeard
 pub mod Newcomers
@@ -14,3 +14,4 @@ pub mod Configured
 pub mod OneMove
 pub mod NodeOnce
 pub mod NodeEnds
+pub mod NodeKnowing

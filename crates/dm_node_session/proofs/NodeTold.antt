@@ -1,5 +1,5 @@
 -- One event of a node: what is held behind it, what it closes, and why it is refused.
-use Rattle.std.proofs.Common.{◌≡◌, inl, inr, ◌⊎◌, ℕ, true, true≢false, Option, None, Some, IsSome, IfSome, IsTrue, List, [], refl, sym, ap, ◌∙◌, subst}
+use Rattle.std.proofs.Common.{◌≡◌, inl, inr, ◌⊎◌, ℕ, true, true≢false, Option, None, Some, IsSome, IfSome, IsTrue, List, refl, sym, ap, ◌∙◌, subst}
 use Rattle.dm_base.specs.declared.node.Node.{Node}
 use Rattle.dm_machine.specs.declared.connection.Conn.{Conn}
 use Rattle.dm_node.specs.Calling.{caller_of}

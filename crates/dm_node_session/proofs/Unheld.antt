@@ -10,9 +10,9 @@ use Rattle.dm_machine.specs.Connection.{hold_as, hold_in}
 use Rattle.dm_machine.specs.Moves.{is_open, machine_outcome, by_table, by_event, raises_win, then_won}
 use Rattle.dm_machine.specs.Moves as moves
 use Rattle.dm_machine.specs.Node.{Node}
-use Rattle.dm_machine.specs.Reading.{Place, OnNew, place_as, place_of, conn_named, end_event, connect_event, event_of}
+use Rattle.dm_machine.specs.Reading.{OnNew, place_as, place_of, conn_named, end_event, connect_event, event_of}
 use Rattle.dm_machine.specs.Rows.{rows, row_in}
-use Rattle.dm_machine.specs.Table.{TableEvent, IRcvConnAck, IRcvConnNack, NoEvent, Row}
+use Rattle.dm_machine.specs.Table.{IRcvConnAck, IRcvConnNack, NoEvent, Row}
 use Rattle.dm_peer.specs.Acts.{Moved, acts, input_of, outcome_of, standing_at, steps, turned}
 use Rattle.dm_peer.specs.After.{dwa_left, standing_after}
 use Rattle.dm_peer.specs.Configs.{wins}
@@ -75,7 +75,7 @@ waiting_stays true heard old is = refl
 waiting_stays false heard None is = refl
 waiting_stays false heard (Some x) is = cc
 
-dwa_stays : (open : Bool) (old : Option ℕ) → (if open && false then None else old) ≡ old
+dwa_stays : (b : Bool) (old : Option ℕ) → (if b && false then None else old) ≡ old
 dwa_stays true old = refl
 dwa_stays false old = refl
 

@@ -1,5 +1,6 @@
 pub mod NodeSessions
 pub mod NodeTurns
+pub mod NodeKnown
 pub mod NodeSeen
 pub mod NodeHeld
 pub mod NodeOrders

@@ -1,7 +1,7 @@
 //! What an order to a node comes to.
 ghost use Rattle.std.specs.Prelude.{◌≡◌, ◌⊎◌, IfOk, IfErr, OnErr};
 ghost use Rattle.std.specs.Option.{option_map};
-ghost use Rattle.dm_node.specs.Telling.{told_of};
+ghost use Rattle.dm_node.specs.Telling.{IsStrangeCer, told_of};
 ghost use Rattle.dm_node.specs.declared.fault.EventFault.TheVariants as faults;
 ghost use Rattle.dm_peer.specs.declared.fault.PeerFault.TheVariants as peer_faults;
 ghost use Rattle.dm_session.specs.Naming.{NamesThere, NamesAtMost};
@@ -9,10 +9,12 @@ ghost use Rattle.dm_node_session.specs.declared.node_order.NodeOrder.TheVariants
 ghost use Rattle.dm_node_session.specs.NodeOrders.{NodeTakes, NodeTellsOnce, NodeTellsIfThere, NodeTellsStart};
 ghost use Rattle.dm_node_session.specs.NodeOrders.{NodeRefuses, NodeRefusesOnce, NodeRefusesIfThere, ShutsUnheld};
 ghost use Rattle.dm_node_session.specs.NodeOrders.{NodeTellsNack, NodeTellsEnd};
-ghost use Rattle.dm_node_session.specs.NodeSeen.{node_session_of};
+ghost use Rattle.dm_node_session.specs.NodeKnown.{KnownAfterOrder};
+ghost use Rattle.dm_node_session.specs.NodeSeen.{node_session_of, node_known_of};
 ghost use Rattle.dm_node_session.specs.NodeTurns.{as_answer};
 
-use crate::telling::{no_actions, tell_neighbours};
+use crate::meeting::tell_event;
+use crate::telling::no_actions;
 use crate::{NodeOrder, NodeSession};
 use dm_machine::Conn;
 use dm_node::laws::neighbours_are_apart;
@@ -28,7 +30,9 @@ impl NodeSession {
     ghost use Rattle.dm_session.specs.Intakes.{is_there};
 
     /// Takes an order, and answers what it asks for, and of which neighbour; None where no event is told. What came on
-    /// a connection is told message by message by [`NodeSession::next`].
+    /// a connection is told message by message by [`NodeSession::next`]. Where the neighbour wasn't open and is open
+    /// behind the event, which ends an election (RFC 6733, 5.6.4), what is known of it is from then on the CER that
+    /// waited; else what is known stays, also where the neighbour begins anew.
     ///
     /// # Errors
     /// `NoNeighbour` for a number that no neighbour has, what the neighbour's peer refuses, and `NoMemory`; never
@@ -45,6 +49,9 @@ impl NodeSession {
             ⊎ NodeRefuses order.entry (node_session_of self.old) fault) }
         ensures unheld { IfErr result (λ fault. fault ≡ faults.Held → ⊥) }
         ensures unchanged { OnErr result (node_session_of self.new ≡ node_session_of self.old) }
+        ensures met { IfOk result (λ asks. KnownAfterOrder (option_map as_answer asks) (node_session_of self.old)
+            (node_session_of self.new) (node_known_of self.old) (node_known_of self.new)) }
+        ensures same { OnErr result (node_known_of self.new ≡ node_known_of self.old) }
     {
         self.drive(alloc, order)
     }
@@ -60,6 +67,9 @@ impl NodeSession {
         ensures refused { IfErr result (λ fault. (fault ≡ faults.Peer peer_faults.NoMemory)
             ⊎ NodeRefuses order.entry (node_session_of self.old) fault) }
         ensures unchanged { OnErr result (node_session_of self.new ≡ node_session_of self.old) }
+        ensures met { IfOk result (λ asks. KnownAfterOrder (option_map as_answer asks) (node_session_of self.old)
+            (node_session_of self.new) (node_known_of self.old) (node_known_of self.new)) }
+        ensures same { OnErr result (node_known_of self.new ≡ node_known_of self.old) }
     {
         match order {
             NodeOrder::Start(index, conn) => self.start(alloc, index, conn),
@@ -97,15 +107,26 @@ impl NodeSession {
         alloc: Global,
         event: NodeEvent<'_>,
     ) -> Result<Option<NodeActions>, EventFault>
-        requires { NamesThere (told_of event) (node_session_of self.old).intakes }
+        requires there { NamesThere (told_of event) (node_session_of self.old).intakes }
+        requires calm { IsStrangeCer event → ⊥ }
         ensures told { IfOk result (λ asks. NodeTellsOnce event.entry (node_session_of self.old)
             (option_map as_answer asks) (node_session_of self.new)) }
         ensures refused { IfErr result (λ fault. (fault ≡ faults.Peer peer_faults.NoMemory)
             ⊎ NodeRefusesOnce event.entry (node_session_of self.old) fault) }
         ensures unchanged { OnErr result (node_session_of self.new ≡ node_session_of self.old) }
+        ensures met { IfOk result (λ asks. KnownAfterOrder (option_map as_answer asks) (node_session_of self.old)
+            (node_session_of self.new) (node_known_of self.old) (node_known_of self.new)) }
+        ensures same { OnErr result (node_known_of self.new ≡ node_known_of self.old) }
     {
         let mut answer = no_actions();
-        match tell_neighbours(alloc, &mut self.neighbours, &(), event, &mut answer) {
+        match tell_event(
+            alloc,
+            &mut self.neighbours,
+            &mut self.known,
+            &(),
+            event,
+            &mut answer,
+        ) {
             Ok(()) => {
                 self.settle(&answer);
                 Ok(Some(answer))
@@ -122,12 +143,16 @@ impl NodeSession {
         conn: Conn,
         event: NodeEvent<'_>,
     ) -> Result<Option<NodeActions>, EventFault>
-        requires { NamesAtMost (told_of event) conn }
+        requires conn { NamesAtMost (told_of event) conn }
+        requires calm { IsStrangeCer event → ⊥ }
         ensures told { IfOk result (λ asks. NodeTellsIfThere conn event.entry (node_session_of self.old)
             (option_map as_answer asks) (node_session_of self.new)) }
         ensures refused { IfErr result (λ fault. (fault ≡ faults.Peer peer_faults.NoMemory)
             ⊎ NodeRefusesIfThere conn event.entry (node_session_of self.old) fault) }
         ensures unchanged { OnErr result (node_session_of self.new ≡ node_session_of self.old) }
+        ensures met { IfOk result (λ asks. KnownAfterOrder (option_map as_answer asks) (node_session_of self.old)
+            (node_session_of self.new) (node_known_of self.old) (node_known_of self.new)) }
+        ensures same { OnErr result (node_known_of self.new ≡ node_known_of self.old) }
     {
         if self.has(conn) {
             self.tell_once(alloc, event)
@@ -138,7 +163,8 @@ impl NodeSession {
 
     /// The connection is no more there, but where a neighbour holds it. It never answers want of memory.
     fn shut_unheld(&mut self, conn: Conn)
-        ensures { ShutsUnheld conn (node_session_of self.old) (node_session_of self.new) }
+        ensures shut { ShutsUnheld conn (node_session_of self.old) (node_session_of self.new) }
+        ensures known { node_known_of self.new ≡ node_known_of self.old }
     {
         match self.neighbours.holder(conn) {
             Some(_) => {}
@@ -153,6 +179,9 @@ impl NodeSession {
         ensures refused { IfErr result (λ fault. (fault ≡ faults.Peer peer_faults.NoMemory)
             ⊎ NodeRefusesIfThere conn (Nack conn) (node_session_of self.old) fault) }
         ensures unchanged { OnErr result (node_session_of self.new ≡ node_session_of self.old) }
+        ensures met { IfOk result (λ asks. KnownAfterOrder (option_map as_answer asks) (node_session_of self.old)
+            (node_session_of self.new) (node_known_of self.old) (node_known_of self.new)) }
+        ensures same { OnErr result (node_known_of self.new ≡ node_known_of self.old) }
     {
         match self.tell_there(alloc, conn, NodeEvent::Nack(conn)) {
             Ok(asks) => {
@@ -170,6 +199,9 @@ impl NodeSession {
         ensures refused { IfErr result (λ fault. (fault ≡ faults.Peer peer_faults.NoMemory)
             ⊎ NodeRefusesIfThere conn (Gone conn) (node_session_of self.old) fault) }
         ensures unchanged { OnErr result (node_session_of self.new ≡ node_session_of self.old) }
+        ensures met { IfOk result (λ asks. KnownAfterOrder (option_map as_answer asks) (node_session_of self.old)
+            (node_session_of self.new) (node_known_of self.old) (node_known_of self.new)) }
+        ensures same { OnErr result (node_known_of self.new ≡ node_known_of self.old) }
     {
         each_event_names_what_it_takes();
         neighbours_are_apart(&self.neighbours);
@@ -195,6 +227,9 @@ impl NodeSession {
             ⊎ ((is_there conn.0 (node_session_of self.old).intakes ≡ false)
             × NodeRefusesOnce (Start index conn) (node_session_of self.old) fault)) }
         ensures unchanged { OnErr result (node_session_of self.new ≡ node_session_of self.old) }
+        ensures met { IfOk result (λ asks. KnownAfterOrder (option_map as_answer asks) (node_session_of self.old)
+            (node_session_of self.new) (node_known_of self.old) (node_known_of self.new)) }
+        ensures same { OnErr result (node_known_of self.new ≡ node_known_of self.old) }
     {
         what_is_there_stays();
         if self.has(conn) {

@@ -13,10 +13,12 @@ ghost use Rattle.dm_session.specs.Sessions.{own_of, other_of};
 ghost use Rattle.dm_node_session.specs.NodeOrders.{left_by_peer, close_if_any, closes_of, closes_of_any};
 ghost use Rattle.dm_node_session.specs.NodeOrders.{node_set_back, node_closed, node_without};
 ghost use Rattle.dm_node_session.specs.NodeHeld.{AreKept};
-ghost use Rattle.dm_node_session.specs.NodeSeen.{node_session_of};
+ghost use Rattle.dm_node_session.specs.NodeKnown.{known_of, AreKnown, with_nobody, without_known};
+ghost use Rattle.dm_node_session.specs.NodeSeen.{node_session_of, node_known_of};
 ghost use Rattle.dm_node_session.specs.NodeSessions.{with_node_peers};
 
 use crate::NodeSession;
+use crate::known::Acquaintances;
 use crate::telling::look_at;
 use arrayvec::ArrayVec;
 use dm_machine::Conn;
@@ -102,8 +104,8 @@ fn closes(held: HeldPair) -> Actions
     actions
 }
 
-/// Adds a closed neighbour of this configuration.
-fn add_neighbour(neighbours: &mut Neighbours, config: Config) -> Result<usize, AddFault>
+/// Adds a closed neighbour of this configuration, for whom there is a place.
+fn add_kept(neighbours: &mut Neighbours, config: Config) -> Result<usize, AddFault>
     requires kept { AreKept neighbours.old.peers }
     ensures number { IfOk result (λ i. i ≡ length neighbours.old.peers) }
     ensures added { OnOk result (neighbours.new.peers ≡ with_new neighbours.old.peers config) }
@@ -121,6 +123,48 @@ fn add_neighbour(neighbours: &mut Neighbours, config: Config) -> Result<usize, A
             Ok(index)
         }
         Err(fault) => Err(fault),
+    }
+}
+
+/// Why no neighbour of this configuration can be added where memory is wanted for it.
+fn fault_of(neighbours: &Neighbours, config: &Config) -> AddFault
+    ensures known { (result ≡ add_faults.Known) ↔ IsKnown neighbours.now.peers config.now.peer }
+    ensures refuses { (result ≡ add_faults.Known) ⊎ (result ≡ add_faults.NoMemory) }
+{
+    match neighbours.find(config.peer_host()) {
+        Some(_) => AddFault::Known,
+        None => AddFault::NoMemory,
+    }
+}
+
+/// Adds a closed neighbour of this configuration, who met nobody.
+fn add_neighbour(
+    neighbours: &mut Neighbours,
+    known: &mut Acquaintances,
+    config: Config,
+) -> Result<usize, AddFault>
+    requires kept { AreKept neighbours.old.peers }
+    ensures number { IfOk result (λ i. i ≡ length neighbours.old.peers) }
+    ensures added { OnOk result (neighbours.new.peers ≡ with_new neighbours.old.peers config) }
+    ensures known { IsErrOf result add_faults.Known ↔ IsKnown neighbours.old.peers config.peer }
+    ensures refuses { IfErr result (λ f. (f ≡ add_faults.Known) ⊎ (f ≡ add_faults.NoMemory)) }
+    ensures unchanged { OnErr result (neighbours.new.peers ≡ neighbours.old.peers) }
+    ensures node { neighbours.new.node ≡ neighbours.old.node }
+    ensures kept { AreKept neighbours.new.peers }
+    ensures held { (c : Conn) (j : ℕ) → holds_at neighbours.new.peers c j ≡ true
+        → holds_at neighbours.old.peers c j ≡ true }
+    ensures unmet { OnOk result (known_of known.new ≡ with_nobody (known_of known.old)) }
+    ensures same { OnErr result (known_of known.new ≡ known_of known.old) }
+{
+    match known.reserve() {
+        Ok(()) => match add_kept(neighbours, config) {
+            Ok(index) => {
+                known.push();
+                Ok(index)
+            }
+            Err(fault) => Err(fault),
+        },
+        Err(_) => Err(fault_of(neighbours, &config)),
     }
 }
 
@@ -161,23 +205,29 @@ impl NodeSession {
         ensures known { IsErrOf result add_faults.Known ↔ IsKnown (node_session_of self.old).peers config.peer }
         ensures refuses { IfErr result (λ f. (f ≡ add_faults.Known) ⊎ (f ≡ add_faults.NoMemory)) }
         ensures unchanged { OnErr result (node_session_of self.new ≡ node_session_of self.old) }
+        // Nobody was met.
+        ensures unmet { OnOk result (node_known_of self.new ≡ with_nobody (node_known_of self.old)) }
+        ensures same { OnErr result (node_known_of self.new ≡ node_known_of self.old) }
     {
-        match add_neighbour(&mut self.neighbours, config) {
+        match add_neighbour(&mut self.neighbours, &mut self.known, config) {
             Ok(index) => Ok(index),
             Err(fault) => Err(fault),
         }
     }
 
     /// Takes the neighbour of this number out, where there is one, and answers what is to be closed: what it held,
-    /// which is no more there. Its number stays unused, and the others keep theirs. It never answers want of memory.
+    /// which is no more there. Its number stays unused, whom it met is forgotten, and the others keep theirs. It never
+    /// answers want of memory.
     pub fn remove(&mut self, index: usize) -> Option<Actions>
         ensures closes { option_map (λ actions. actions.items) result
             ≡ option_map closes_of (peer_at (node_session_of self.old).peers index) }
         ensures without { node_session_of self.new ≡ node_without index (node_session_of self.old) }
+        ensures forgotten { node_known_of self.new ≡ without_known (node_known_of self.old) index }
     {
         neighbours_are_apart(&self.neighbours);
         let held = held_at(&self.neighbours, index);
         let gone = self.neighbours.remove(index);
+        self.known.forget(index);
         shut_held(&mut self.intakes, held);
         match gone {
             Some(_) => Some(closes(held)),
@@ -187,7 +237,8 @@ impl NodeSession {
 
     /// The neighbour of the number is Closed, and what it held is no more there. It never answers want of memory.
     pub(crate) fn set_back(&mut self, index: usize)
-        ensures { node_session_of self.new ≡ node_set_back index (node_session_of self.old) }
+        ensures back { node_session_of self.new ≡ node_set_back index (node_session_of self.old) }
+        ensures known { node_known_of self.new ≡ node_known_of self.old }
     {
         neighbours_are_apart(&self.neighbours);
         let held = held_at(&self.neighbours, index);
@@ -197,7 +248,8 @@ impl NodeSession {
 
     /// Each neighbour is Closed, and no connection is there. It never answers want of memory.
     pub(crate) fn set_back_all(&mut self)
-        ensures { node_session_of self.new ≡ node_closed (node_session_of self.old) }
+        ensures back { node_session_of self.new ≡ node_closed (node_session_of self.old) }
+        ensures known { node_known_of self.new ≡ node_known_of self.old }
     {
         reset_neighbours(&mut self.neighbours);
         self.intakes.clear();

@@ -1,4 +1,4 @@
--- What the other side said of itself when a session was opened (RFC 6733, 5.3 and 8.16).
+-- What the other side said of itself when a peer was opened (RFC 6733, 5.3 and 8.16).
 use Rattle.std.specs.Prelude.{◌≡◌, ◌==◌, ℕ, Bool, true, false, not, ◌&&◌, cond, if◌then◌else◌, nat_eq, length, take}
 use Rattle.std.specs.Prelude.{Option, None, Some, is_some, List, []}
 use Rattle.dm_wire.specs.declared.message.Message.{Message}
@@ -6,14 +6,17 @@ use Rattle.dm_wire.specs.Whole.{message_in}
 use Rattle.dm_base.specs.Codes.{capabilities_exchange, origin_state_id}
 use Rattle.dm_base.specs.Senders.{number_told}
 use Rattle.dm_machine.specs.declared.connection.Conn.{Conn}
+use Rattle.dm_machine.specs.declared.state_name.State.{State}
 use Rattle.dm_machine.specs.Awaiting.{holds_cer}
 use Rattle.dm_machine.specs.Moves.{is_open}
+use Rattle.dm_peer.specs.declared.peer.Peer.{Peer}
+use Rattle.dm_peer.specs.Holding.{holds}
 use Rattle.dm_session.specs.Hearing.{IsWholeAt}
 use Rattle.dm_session.specs.Intakes.{Intake, IsFirst, IsFaulty}
 use Rattle.dm_session.specs.Sessions.{Session, Turn}
 
--- the octets of the CER or CEA by which a session was opened last, or none; the CER that waits for its CEA in an
--- election (5.6.4), where one does; and the Origin-State-Id that was said in the one before
+-- the octets of the CER or CEA by which a peer was opened last, or none; the CER that waits for its CEA in an election
+-- (5.6.4), where one does; and the Origin-State-Id that was said in the one before
 pub record Acquaintance : Type 0 where
   pub octets : List ℕ
   pub waiting : Option (List ℕ)
@@ -61,27 +64,36 @@ abbrev pub met_waiting : Option (List ℕ) → Acquaintance → Acquaintance
 met_waiting None a = a
 met_waiting (Some message) a = met_by message a
 
-abbrev pub is_open_session : Session → Bool
-is_open_session s = is_open s.peer.standing.core.state
+-- the message is a CER or CEA, and is told in a state that isn't open
+abbrev pub is_exchange_to : State → List ℕ → Bool
+is_exchange_to state message = not (is_open state) && spells_exchange message
 
--- a CER waits for its CEA
-abbrev pub awaits_election : Session → Bool
-awaits_election s = holds_cer s.peer.standing.core.state
+-- This message of connection c was told to a peer that wasn't open and is: it was opened by the message where it holds
+-- that connection behind it; else by the CER that waited, as where the message ends the own connection in an election
+-- (5.6.4).
+abbrev pub known_opened : Conn → Peer → List ℕ → Acquaintance → Acquaintance
+known_opened c q message a = cond (holds c q) (met_by message a) (met_waiting a.waiting a)
 
--- the message is a CER or CEA, and is told to a session that isn't open
-abbrev pub is_exchange_to : Session → List ℕ → Bool
-is_exchange_to s message = not (is_open_session s) && spells_exchange message
+-- What is known behind a CER or CEA of connection c, by the state in which it was told, which isn't open, and the peer
+-- behind it: where that is open, by what it was opened; and where a CER waits and none did before, it is this one.
+abbrev pub known_by : Conn → State → Peer → List ℕ → Acquaintance → Acquaintance
+known_by c state q message a =
+    cond (is_open q.standing.core.state) (known_opened c q message a)
+    (cond (not (holds_cer state) && holds_cer q.standing.core.state) (with_waiting message a) a)
 
--- What is known behind such a message: where the session is open, the other side was met by it; and where a CER waits
--- and none did before, it is this one.
-abbrev pub known_by : Session → Session → List ℕ → Acquaintance → Acquaintance
-known_by s t message a =
-    cond (is_open_session t) (met_by message a)
-    (cond (not (awaits_election s) && awaits_election t) (with_waiting message a) a)
+-- What is known behind what is no such message: an order's event, another message, a fault of a stream. Where the peer
+-- wasn't open and is, as an election is over, it was opened by the CER that waited; else what is known stays.
+abbrev pub known_after : State → Peer → Acquaintance → Acquaintance
+known_after state q a = cond (not (is_open state) && is_open q.standing.core.state) (met_waiting a.waiting a) a
 
--- behind any other message what is known stays
-abbrev pub known_at : Session → Session → List ℕ → Acquaintance → Acquaintance
-known_at s t message a = cond (is_exchange_to s message) (known_by s t message a) a
+-- what is known behind a message of connection c
+abbrev pub known_at : Conn → State → Peer → List ℕ → Acquaintance → Acquaintance
+known_at c state q message a =
+    cond (is_exchange_to state message) (known_by c state q message a) (known_after state q a)
+
+-- the state in which a session is told something
+abbrev pub session_state : Session → State
+session_state s = s.peer.standing.core.state
 
 -- the first message of connection c was told
 pub record MeetsMessage (c : Conn) (s t : Session) (a b : Acquaintance) : Type 0 where
@@ -90,20 +102,15 @@ pub record MeetsMessage (c : Conn) (s t : Session) (a b : Acquaintance) : Type 0
   pub rest : List ℕ
   pub there : s.intakes c.0 ≡ Some intake
   pub first : IsFirst intake message rest
-  pub known : b ≡ known_at s t message a
+  pub known : b ≡ known_at c (session_state s) t.peer message a
 
--- what is known behind a turn of connection c: at a fault it stays
+-- what is known behind a turn of connection c
 abbrev pub MeetsAs : Option Conn → Conn → Session → Session → Acquaintance → Acquaintance → Type 0
-MeetsAs None c s t a b = b ≡ a
+MeetsAs None c s t a b = b ≡ known_after (session_state s) t.peer a
 MeetsAs (Some d) c s t a b = MeetsMessage c s t a b
 
 abbrev pub KnownBehind : Conn → Session → Turn → Session → Acquaintance → Acquaintance → Type 0
 KnownBehind c s turn t a b = MeetsAs turn.arrived c s t a b
-
--- what is known behind an order: where it opened the session, as it ends an election, the other side was met by the CER
--- that waited
-abbrev pub known_after : Session → Session → Acquaintance → Acquaintance
-known_after s t a = cond (not (is_open_session s) && is_open_session t) (met_waiting a.waiting a) a
 
 -- a CER or CEA stands first on connection c of a session that isn't open
 pub record AwaitsExchange (c : Conn) (s : Session) : Type 0 where
@@ -112,23 +119,23 @@ pub record AwaitsExchange (c : Conn) (s : Session) : Type 0 where
   pub rest : List ℕ
   pub there : s.intakes c.0 ≡ Some intake
   pub first : IsFirst intake message rest
-  pub exchange : is_exchange_to s message ≡ true
+  pub exchange : is_exchange_to (session_state s) message ≡ true
 
 -- a CER or CEA stands first in the piece, and can be told where it lies to such a session
 pub record HearsExchange (c : Conn) (piece : List ℕ) (s : Session) : Type 0 where
   pub size : ℕ
   pub whole : IsWholeAt (s.intakes c.0) piece size
-  pub exchange : is_exchange_to s (take size piece) ≡ true
+  pub exchange : is_exchange_to (session_state s) (take size piece) ≡ true
 
 -- it is these octets; where there is none, they are none
 pub record IsAwaited (c : Conn) (s : Session) (octets : List ℕ) : Type 0 where
   pub first : (i : Intake) (message rest : List ℕ) → s.intakes c.0 ≡ Some i → IsFirst i message rest
-      → octets ≡ cond (is_exchange_to s message) message []
+      → octets ≡ cond (is_exchange_to (session_state s) message) message []
   pub faulty : (i : Intake) → s.intakes c.0 ≡ Some i → IsFaulty i → octets ≡ []
-  pub open_one : is_open_session s ≡ true → octets ≡ []
+  pub open_one : is_open (session_state s) ≡ true → octets ≡ []
 
--- what is known behind these octets, which are such a message or none, by whether a CER waited before
-abbrev pub known_if_any : List ℕ → Bool → Session → Acquaintance → Acquaintance
-known_if_any octets waited t a =
-    cond (length octets == 0) a
-    (cond (is_open_session t) (met_by octets a) (cond (not waited && awaits_election t) (with_waiting octets a) a))
+-- what is known behind what came on connection c, of which these octets are the CER or CEA that it was, in a state that
+-- isn't open, or none
+abbrev pub known_if_any : List ℕ → Conn → State → Peer → Acquaintance → Acquaintance
+known_if_any octets c state q a =
+    cond (length octets == 0) (known_after state q a) (known_by c state q octets a)

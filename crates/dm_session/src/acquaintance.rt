@@ -1,15 +1,38 @@
-//! Whom a session met: what the other side said of itself (RFC 6733, 5.3 and 8.16).
+//! Whom a peer met: what the other side said of itself (RFC 6733, 5.3 and 8.16).
 ghost use Rattle.std.specs.Prelude.{◌≡◌, None};
 ghost use Rattle.std.specs.Option.{MatchOption};
 ghost use Rattle.dm_wire.specs.declared.message.Message.{Message};
 ghost use Rattle.dm_base.specs.Senders.{HasAvps};
-ghost use Rattle.dm_session.specs.Acquaintances.{exchange_in};
+ghost use Rattle.dm_machine.specs.Awaiting.{holds_cer};
+ghost use Rattle.dm_machine.specs.Moves.{is_open};
+ghost use Rattle.dm_session.specs.Acquaintances.{exchange_in, is_exchange_to};
 
 use dm_base::SenderRef;
-use dm_peer::read_message;
+use dm_machine::{Conn, State};
+use dm_peer::{Peer, read_message};
 use dm_wire::Octets;
 use std::alloc::Global;
 use std::marker::Model;
+
+/// Whether a peer in this state is open.
+fn is_open(state: State) -> bool
+    ensures { result ≡ is_open state }
+{
+    match state {
+        State::ROpen | State::IOpen => true,
+        _ => false,
+    }
+}
+
+/// Whether a CER waits for its CEA in this state, in an election (RFC 6733, 5.6.4).
+fn is_in_election(state: State) -> bool
+    ensures { result ≡ holds_cer state }
+{
+    match state {
+        State::WaitConnAckElect | State::WaitReturns => true,
+        _ => false,
+    }
+}
 
 /// The CER or CEA that the octets spell, as what it says of its sender. It never answers want of memory.
 pub(crate) fn exchange_in(octets: &[u8]) -> Option<SenderRef<'_>>
@@ -22,7 +45,14 @@ pub(crate) fn exchange_in(octets: &[u8]) -> Option<SenderRef<'_>>
     }
 }
 
-/// What the other side said of itself: the CER or CEA by which a session was opened, of the last time that it was
+/// Whether the octets spell a CER or CEA and are told in a state that isn't open. It never answers want of memory.
+pub fn is_exchange_to(state: State, octets: &[u8]) -> bool
+    ensures { result ≡ is_exchange_to state octets.now }
+{
+    !is_open(state) && exchange_in(octets).is_some()
+}
+
+/// What the other side said of itself: the CER or CEA by which a peer was opened, of the last time that it was
 /// ([`Session::next_met`](crate::Session::next_met)). It stays when the connection ends, so that the next one can be
 /// told from it.
 #[derive(Debug, Drop)]
@@ -43,7 +73,8 @@ impl Model for Acquaintance {
 impl Acquaintance {
     ghost use Rattle.std.specs.Prelude.{◌≡◌};
     ghost use Rattle.dm_session.specs.Acquaintances.{nobody, exchange_in, state_in, began_anew};
-    ghost use Rattle.dm_session.specs.Acquaintances.{met_by, with_waiting, met_waiting};
+    ghost use Rattle.dm_session.specs.Acquaintances.{met_by, with_waiting, met_waiting, known_opened, known_by};
+    ghost use Rattle.dm_session.specs.Acquaintances.{known_after, known_if_any};
 
     /// Nobody was met. It never answers want of memory.
     pub fn new(alloc: Global) -> Acquaintance
@@ -93,7 +124,7 @@ impl Acquaintance {
     }
 
     /// The other side was met by this CER or CEA. It never answers want of memory.
-    pub(crate) fn meet(&mut self, exchange: Octets)
+    fn meet(&mut self, exchange: Octets)
         ensures { self.new ≡ met_by exchange self.old }
     {
         self.before = self.state();
@@ -102,18 +133,66 @@ impl Acquaintance {
     }
 
     /// This CER waits for its CEA. It never answers want of memory.
-    pub(crate) fn keep_waiting(&mut self, exchange: Octets)
+    fn keep_waiting(&mut self, exchange: Octets)
         ensures { self.new ≡ with_waiting exchange self.old }
     {
         self.waiting = Some(exchange);
     }
 
     /// The other side was met by the CER that waited, if one did. It never answers want of memory.
-    pub(crate) fn meet_waiting(&mut self)
+    fn meet_waiting(&mut self)
         ensures { self.new ≡ met_waiting self.old.waiting self.old }
     {
         if let Some(exchange) = self.waiting.take() {
             self.meet(exchange);
+        }
+    }
+
+    /// The peer is open, and wasn't before this CER or CEA of the connection: it was opened by that where it holds the
+    /// connection, and else by the CER that waited.
+    fn meet_opening(&mut self, exchange: Octets, conn: Conn, peer: &Peer)
+        ensures { self.new ≡ known_opened conn peer.now exchange self.old }
+    {
+        if peer.holds(conn) {
+            self.meet(exchange);
+        } else {
+            self.meet_waiting();
+        }
+    }
+
+    /// What is known behind a CER or CEA of the connection, which was told in this state, that isn't open.
+    fn meet_exchange(&mut self, exchange: Octets, conn: Conn, before: State, peer: &Peer)
+        ensures { self.new ≡ known_by conn before peer.now exchange self.old }
+    {
+        if peer.is_open() {
+            self.meet_opening(exchange, conn, peer);
+        } else if !is_in_election(before) && is_in_election(peer.state()) {
+            self.keep_waiting(exchange);
+        }
+    }
+
+    /// What is known behind what was told in this state to the peer and is no CER or CEA: where the peer wasn't open
+    /// and is, as an election is over (RFC 6733, 5.6.4), it was opened by the CER that waited. It never answers want of
+    /// memory.
+    pub fn meet_after(&mut self, before: State, peer: &Peer)
+        ensures { self.new ≡ known_after before peer.now self.old }
+    {
+        if !is_open(before) && peer.is_open() {
+            self.meet_waiting();
+        }
+    }
+
+    /// What is known behind what came on the connection and was told in this state to the peer: of a CER or CEA and a
+    /// state that isn't open `exchange` is a copy, else no octets. Where the peer wasn't open and is, it was opened by
+    /// that message, if it holds the connection, and else by the CER that waited, as where an election is over (RFC
+    /// 6733, 5.6.4); and where a CER waits and none did before, it is this one. It never answers want of memory.
+    pub fn meet_behind(&mut self, exchange: Octets, conn: Conn, before: State, peer: &Peer)
+        ensures { self.new ≡ known_if_any exchange conn before peer.now self.old }
+    {
+        if exchange.is_empty() {
+            self.meet_after(before, peer);
+        } else {
+            self.meet_exchange(exchange, conn, before, peer);
         }
     }
 }

@@ -11,7 +11,7 @@ mod session;
 mod taking;
 mod turn;
 
-pub use acquaintance::Acquaintance;
+pub use acquaintance::{Acquaintance, is_exchange_to};
 pub use dm_peer::{Action, Actions, Cause, Config, Conn, Peer, PeerFault};
 pub use intake::Front;
 pub use intakes::Intakes;

@@ -2,7 +2,7 @@
 ghost use Rattle.std.specs.Prelude.{◌≡◌, ◌⊎◌, true, cond, [], take, IfOk, IfErr, IfSome, IfNone, OnOk, OnErr};
 ghost use Rattle.std.specs.Option.{option_map};
 ghost use Rattle.dm_session.specs.Acquaintances.{IsAwaited, AwaitsExchange, HearsExchange, KnownBehind};
-ghost use Rattle.dm_session.specs.Acquaintances.{awaits_election, is_exchange_to, known_at, known_after, known_if_any};
+ghost use Rattle.dm_session.specs.Acquaintances.{session_state, is_exchange_to, known_at, known_after};
 ghost use Rattle.dm_session.specs.Hearing.{HearsWhole, HearTakesMemory, HearsNothing, IsWholeAt};
 ghost use Rattle.dm_session.specs.Orders.{as_turn, order_asked, Takes, RefusesOrder};
 ghost use Rattle.dm_session.specs.Seen.{session_of};
@@ -10,22 +10,12 @@ ghost use Rattle.dm_session.specs.Sessions.{TellsNext, NeedsMemory, NextTakesMem
 
 use crate::acquaintance::exchange_in;
 use crate::{Acquaintance, HeardTurn, Order, Session, Turn};
-use dm_machine::{Conn, State};
+use dm_machine::Conn;
 use dm_peer::{Actions, PeerFault};
 use dm_wire::Octets;
 use std::alloc::{AllocError, Global};
 
 impl Session {
-    /// Whether a CER waits for its CEA, in an election (RFC 6733, 5.6.4). It never answers want of memory.
-    fn is_in_election(&self) -> bool
-        ensures { result ≡ awaits_election (session_of self.now) }
-    {
-        match self.peer().state() {
-            State::WaitConnAckElect | State::WaitReturns => true,
-            _ => false,
-        }
-    }
-
     /// A copy of the CER or CEA that stands first on the connection, where the peer isn't open; else no octets.
     fn awaited(&self, alloc: Global, conn: Conn) -> Result<Octets, AllocError>
         ensures copied { IfOk result (λ octets. IsAwaited conn (session_of self.now) octets) }
@@ -34,21 +24,6 @@ impl Session {
         match self.exchange_at(conn) {
             Some(message) => Octets::from_slice(alloc, message),
             None => Ok(Octets::empty(alloc)),
-        }
-    }
-
-    /// What is known behind a CER or CEA that was told to a session that wasn't open, by whether a CER waited before;
-    /// behind no octets it stays. It never answers want of memory.
-    fn meet_behind(&self, exchange: Octets, waited: bool, acquaintance: &mut Acquaintance)
-        ensures { acquaintance.new ≡ known_if_any exchange waited (session_of self.now) acquaintance.old }
-    {
-        if exchange.is_empty() {
-            return;
-        }
-        if self.peer().is_open() {
-            acquaintance.meet(exchange);
-        } else if !waited && self.is_in_election() {
-            acquaintance.keep_waiting(exchange);
         }
     }
 
@@ -72,10 +47,10 @@ impl Session {
         ensures unmet { IfOk result (λ found. IfNone found (acquaintance.new ≡ acquaintance.old)) }
         ensures same { OnErr result (acquaintance.new ≡ acquaintance.old) }
     {
-        let waited = self.is_in_election();
+        let before = self.peer().state();
         match self.next(alloc, conn) {
             Ok(found) => {
-                self.meet_behind(exchange, waited, acquaintance);
+                acquaintance.meet_behind(exchange, conn, before, self.peer());
                 Ok(found)
             }
             Err(error) => Err(error),
@@ -83,10 +58,13 @@ impl Session {
     }
 
     /// Tells the next whole message that came on the connection, or the fault of its stream, as [`Session::next`] does;
-    /// and where the peer wasn't open and is open behind it, keeps the CER or CEA that was told as the acquaintance,
-    /// which gives what the other side said of itself (RFC 6733, 5.3), and whether it has begun anew since the time
-    /// before (8.16). A CER that waits for its CEA in an election (5.6.4) is kept as such, for
-    /// [`take_met`](Session::take_met). Else what is known stays, also when the connection ends and at `Order::Reset`.
+    /// and where the peer wasn't open and is open behind it, keeps the CER or CEA by which it was opened as the
+    /// acquaintance, which gives what the other side said of itself (RFC 6733, 5.3), and whether it has begun anew
+    /// since the time before (8.16). It was opened by the message that was told, where it holds its connection then;
+    /// else by the CER that waited for its CEA in an election (5.6.4), as where a message that is no good CEA, or a
+    /// fault, ends the connection that the peer opened. A CER that waits is kept as such, for
+    /// [`take_met`](Session::take_met) too. Else what is known stays, also when the connection ends and at
+    /// `Order::Reset`.
     ///
     /// Where memory is wanted nothing changes, neither the session nor what is known, and it can be told again.
     pub fn next_met(
@@ -118,8 +96,8 @@ impl Session {
     /// A copy of the message, where it is a CER or CEA and the peer isn't open; else no octets.
     fn exchange_told(&self, alloc: Global, message: &[u8]) -> Result<Octets, AllocError>
         ensures copied { IfOk result (λ octets.
-            octets ≡ cond (is_exchange_to (session_of self.now) message.now) message.now []) }
-        ensures memory { OnErr result (is_exchange_to (session_of self.now) message.now ≡ true) }
+            octets ≡ cond (is_exchange_to (session_state (session_of self.now)) message.now) message.now []) }
+        ensures memory { OnErr result (is_exchange_to (session_state (session_of self.now)) message.now ≡ true) }
     {
         if self.peer().is_open() {
             return Ok(Octets::empty(alloc));
@@ -142,19 +120,19 @@ impl Session {
     ) -> Result<HeardTurn, AllocError>
         requires whole { IsWholeAt ((session_of self.old).intakes conn.0) piece.now len }
         requires exchange { exchange
-            ≡ cond (is_exchange_to (session_of self.old) (take len piece.now)) (take len piece.now) [] }
+            ≡ cond (is_exchange_to (session_state (session_of self.old)) (take len piece.now)) (take len piece.now) [] }
         ensures heard { IfOk result (λ heard. HearsWhole conn piece.now (session_of self.old) (as_turn heard.turn)
             heard.len (session_of self.new)) }
         ensures unchanged { OnErr result (session_of self.new ≡ session_of self.old) }
         ensures memory { OnErr result (NeedsMemory conn (take len piece.now) (session_of self.old)) }
-        ensures met { IfOk result (λ heard. acquaintance.new ≡ known_at (session_of self.old) (session_of self.new)
-            (take heard.len piece.now) acquaintance.old) }
+        ensures met { IfOk result (λ heard. acquaintance.new ≡ known_at conn (session_state (session_of self.old))
+            (session_of self.new).peer (take heard.len piece.now) acquaintance.old) }
         ensures same { OnErr result (acquaintance.new ≡ acquaintance.old) }
     {
-        let waited = self.is_in_election();
+        let before = self.peer().state();
         match self.hear_whole(alloc, conn, piece, len) {
             Ok(heard) => {
-                self.meet_behind(exchange, waited, acquaintance);
+                acquaintance.meet_behind(exchange, conn, before, self.peer());
                 Ok(heard)
             }
             Err(error) => Err(error),
@@ -182,7 +160,8 @@ impl Session {
         ensures memory { OnErr result (HearTakesMemory conn piece.now (session_of self.old)
             ⊎ HearsExchange conn piece.now (session_of self.old)) }
         ensures met { IfOk result (λ found. IfSome found (λ heard. acquaintance.new
-            ≡ known_at (session_of self.old) (session_of self.new) (take heard.len piece.now) acquaintance.old)) }
+            ≡ known_at conn (session_state (session_of self.old)) (session_of self.new).peer
+            (take heard.len piece.now) acquaintance.old)) }
         ensures unmet { IfOk result (λ found. IfNone found (acquaintance.new ≡ acquaintance.old)) }
         ensures same { OnErr result (acquaintance.new ≡ acquaintance.old) }
     {
@@ -217,15 +196,13 @@ impl Session {
             ⊎ RefusesOrder (order_asked order.entry) (session_of self.old) fault) }
         ensures unchanged { OnErr result (session_of self.new ≡ session_of self.old) }
         ensures met { OnOk result (acquaintance.new
-            ≡ known_after (session_of self.old) (session_of self.new) acquaintance.old) }
+            ≡ known_after (session_state (session_of self.old)) (session_of self.new).peer acquaintance.old) }
         ensures same { OnErr result (acquaintance.new ≡ acquaintance.old) }
     {
-        let was_open = self.peer().is_open();
+        let before = self.peer().state();
         match self.take(alloc, order) {
             Ok(asks) => {
-                if !was_open && self.peer().is_open() {
-                    acquaintance.meet_waiting();
-                }
+                acquaintance.meet_after(before, self.peer());
                 Ok(asks)
             }
             Err(fault) => Err(fault),

@@ -34,10 +34,10 @@ returns-in-Err-clause-ruled c = λ policy concerned.
     elim c.in-Err.ensures.ruled [
       | inl memory ↦ inl memory
       | inr out ↦ inr (
-          c.args.index,
-          concerned,
-          subst (λ (e : PeerEvent). IsRuledOut ps c.args.index e c.in-Err.fault) c.told_of-told.ensures out,
-        )
+        c.args.index,
+        concerned,
+        subst (λ (e : PeerEvent). IsRuledOut ps c.args.index e c.in-Err.fault) c.told_of-told.ensures out,
+      )
     ]
 
 pub returns-in-Err-clause-silent : goal.returns-in-Err-clause-silent

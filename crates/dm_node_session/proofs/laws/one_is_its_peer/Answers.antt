@@ -1,5 +1,5 @@
 -- The laws as they are proved for events and for turns.
-use Rattle.dm_node_session.proofs.Alone.{does_as_its_peer, first_turns_as_its_peer, concerned_turns_as_its_peer}
+use Rattle.dm_node_session.proofs.OnePeer.{does_as_its_peer, first_turns_as_its_peer, concerned_turns_as_its_peer}
 use Rattle.dm_node_session.proofs.laws.one_is_its_peer.Goals as goal
 
 pub returns-clause-event : goal.returns-clause-event

@@ -1,4 +1,6 @@
 -- A neighbour more holds nothing.
+use Rattle.dm_node_session.specs.NodeKnown.{known_of}
+use Rattle.dm_node_session.proofs.NodeKnowing.{known_added}
 use Rattle.dm_node_session.proofs.node_session.NodeSession.add.Goals as goal
 
 pub invariant_of-self : goal.invariant_of-self
@@ -6,4 +8,7 @@ invariant_of-self c =
     record {
       held = λ i d held. c.args.self.now.held i d (c.add_neighbour.ensures.held d i held);
       kept = c.add_neighbour.ensures.kept;
+      met = known_added c.add_neighbour.result c.args.self.now.neighbours.peers _ c.args.config
+          (known_of c.args.self.now.known) _ c.add_neighbour.ensures.added c.add_neighbour.ensures.unchanged
+          c.add_neighbour.ensures.unmet c.add_neighbour.ensures.same c.args.self.now.met;
     }

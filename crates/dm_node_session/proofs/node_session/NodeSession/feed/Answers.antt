@@ -16,4 +16,5 @@ invariant_of-self c =
           (held_changed c.what_is_there_stays.ensures.changed ps c.args.conn.0 fed old c.args.self.now.held)
           c.args.self.now.held;
       kept = c.args.self.now.kept;
+      met = c.args.self.now.met;
     }

@@ -1,10 +1,14 @@
--- The message with which the piece begins is told, and nothing of it is kept.
-use Rattle.std.proofs.Common.{refl, sym, subst, ◌∙◌, take}
+-- The message with which the piece begins is told, nothing of it is kept, and whom it met is known.
+use Rattle.std.proofs.Common.{refl, sym, ap, subst, ◌∙◌, take, inl, inr}
+use Rattle.dm_session.specs.Acquaintances.{known_at}
 use Rattle.dm_session.specs.Held.{intakes_of}
 use Rattle.dm_node_session.specs.NodeHearing.{NodeHearsWhole}
-use Rattle.dm_node_session.specs.NodeSeen.{node_session_of}
+use Rattle.dm_node_session.specs.NodeKnown.{MeetsBy}
+use Rattle.dm_node_session.specs.NodeSeen.{node_session_of, node_known_of}
+use Rattle.dm_node_session.specs.NodeSessions.{NodeSession, NodeTurn}
 use Rattle.dm_node_session.specs.NodeTurns.{as_answer}
 use Rattle.dm_node_session.proofs.NodeHeard.{heard_where_it_lies}
+use Rattle.dm_node_session.proofs.NodeKnowing.{met_settled}
 use Rattle.dm_node_session.proofs.NodeStaying.{arrived_there, settled_as}
 use Rattle.dm_node_session.proofs.node_session.NodeSession.hear.Goals as goal
 
@@ -12,28 +16,41 @@ pub returns-clause-heard : goal.returns-clause-heard
 returns-clause-heard g c =
     let policy = g.S.Strangers.policy c.args.strangers.now in
     let old = node_session_of c.args.self.now in
-    let qs = c.tell_neighbours.new.neighbours.peers in
-    let answer = c.tell_neighbours.new.answer in
+    let qs = c.tell_message.new.neighbours.peers in
+    let answer = c.tell_message.new.answer in
     subst (λ turn. NodeHearsWhole policy c.args.conn c.args.piece.now old turn c.in-Some.len
     (node_session_of c.settle.new.self)) (sym c.of_message-turn.ensures)
     (heard_where_it_lies policy c.args.conn c.args.piece.now old (node_session_of c.settle.new.self) (as_answer answer)
     qs c.in-Some.len c.in-Some.ensures.whole c.in-Ok.ensures.told
-    (c.settle.ensures ∙ settled_as old c.tell_neighbours.new.neighbours.node qs answer.neighbour answer.actions.items _ _
-    c.tell_neighbours.ensures.node refl))
+    (c.settle.ensures.settled ∙
+    settled_as old c.tell_message.new.neighbours.node qs answer.neighbour answer.actions.items _ _
+    c.tell_message.ensures.node refl))
 
 pub invariant_of-self : goal.invariant_of-self
 invariant_of-self g c =
     let at = c.in-Some.ensures.whole in
     let old = intakes_of c.args.self.now.intakes in
     record {
-      held = c.tell_neighbours.ensures.held old c.args.self.now.held
+      held = c.tell_message.ensures.held old c.args.self.now.held
           (arrived_there c.args.conn (take c.in-Some.len c.args.piece.now) at.intake old at.there);
-      kept = c.tell_neighbours.ensures.kept;
+      kept = c.tell_message.ensures.kept;
+      met = c.tell_message.ensures.places;
     }
 
 pub returns-in-Err-clause-memory : goal.returns-in-Err-clause-memory
-returns-in-Err-clause-memory g c = (
-  c.in-Some.len,
-  c.in-Some.ensures.whole,
-  c.in-Err.ensures.memory c.args.conn (take c.in-Some.len c.args.piece.now) refl,
-)
+returns-in-Err-clause-memory g c =
+    elim c.in-Err.ensures.memory [
+      | inl wants ↦ inl (c.in-Some.len, c.in-Some.ensures.whole, wants)
+      | inr copied ↦ inr (record { size = c.in-Some.len; whole = c.in-Some.ensures.whole; copied = copied })
+    ]
+
+pub returns-clause-met : goal.returns-clause-met
+returns-clause-met g c =
+    let message = take c.in-Some.len c.args.piece.now in
+    let answer = as_answer c.tell_message.new.answer in
+    subst (λ (turn : NodeTurn). MeetsBy c.args.conn message turn.answer.neighbour (node_session_of c.args.self.now)
+    (node_session_of c.settle.new.self) (node_known_of c.args.self.now) (node_known_of c.settle.new.self))
+    (sym c.of_message-turn.ensures)
+    (met_settled (λ state q a. known_at c.args.conn state q message a) answer.neighbour
+    c.args.self.now.neighbours.peers c.tell_message.new.neighbours.peers _ (node_known_of c.args.self.now) _ _
+    (ap (λ (t : NodeSession). t.peers) c.settle.ensures.settled) c.settle.ensures.known c.in-Ok.ensures.met)

@@ -16,4 +16,5 @@ invariant_of-self c =
           (held_opened c.what_is_there_stays.ensures.opened ps max c.args.conn.0 old c.args.self.now.held)
           c.args.self.now.held;
       kept = c.args.self.now.kept;
+      met = c.args.self.now.met;
     }

@@ -1,7 +1,9 @@
 -- What the neighbour held goes, and what others hold is there.
 use Rattle.dm_session.specs.Held.{intakes_of}
 use Rattle.dm_node.specs.Holding.{peer_at}
+use Rattle.dm_node_session.specs.NodeKnown.{known_of}
 use Rattle.dm_node_session.proofs.NodeEmptying.{held_set, back_free}
+use Rattle.dm_node_session.proofs.NodeKnowing.{known_back}
 use Rattle.dm_node_session.proofs.node_session.NodeSession.set_back.Goals as goal
 
 pub invariant_of-self : goal.invariant_of-self
@@ -13,4 +15,6 @@ invariant_of-self c =
           (c.shut_held.ensures (peer_at ps c.args.index) c.held_at-held.ensures.held) c.neighbours_are_apart.ensures.apart
           (λ d. back_free d (peer_at ps c.args.index)) c.args.self.now.held;
       kept = c.reset_neighbour.ensures.kept;
+      met = known_back ps _ (known_of c.args.self.now.known) c.args.index c.args.self.now.met
+          c.reset_neighbour.ensures.back;
     }

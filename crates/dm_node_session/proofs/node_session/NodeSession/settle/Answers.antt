@@ -17,9 +17,10 @@ invariant_of-self c =
           c.args.answer.now.actions.items c.args.self.now.most (concerned_in ps c.args.answer.now.neighbour)
           (intakes_of c.args.self.now.intakes) c.args.self.now.held c.requires);
       kept = c.args.self.now.kept;
+      met = c.args.self.now.met;
     }
 
-pub returns : goal.returns
-returns c =
+pub returns-clause-settled : goal.returns-clause-settled
+returns-clause-settled c =
     let left = rw (c.leave.ensures, c.as_slice.ensures.value) at c.raise_for.ensures in
     ap (λ f. with_node_intakes f (node_session_of c.args.self.now)) left

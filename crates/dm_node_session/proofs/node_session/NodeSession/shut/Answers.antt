@@ -13,4 +13,5 @@ invariant_of-self c =
           (held_shut c.what_is_there_stays.ensures.shut ps c.args.conn (intakes_of c.args.self.now.intakes)
           c.args.self.now.held c.requires);
       kept = c.args.self.now.kept;
+      met = c.args.self.now.met;
     }

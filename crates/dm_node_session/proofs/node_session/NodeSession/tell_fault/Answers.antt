@@ -1,9 +1,13 @@
 -- The fault at the front is told, and what came goes.
-use Rattle.std.proofs.Common.{refl, sym, ◌∙◌, subst, []}
+use Rattle.std.proofs.Common.{refl, sym, ap, ◌∙◌, subst, []}
+use Rattle.dm_session.specs.Acquaintances.{known_after}
 use Rattle.dm_session.specs.Intakes.{broken_intake}
 use Rattle.dm_session.specs.Held.{intakes_of}
 use Rattle.dm_node_session.specs.NodeHeld.{AllHeldAreThere}
-use Rattle.dm_node_session.specs.NodeSeen.{node_session_of}
+use Rattle.dm_node_session.specs.NodeSeen.{node_session_of, node_known_of}
+use Rattle.dm_node_session.specs.NodeSessions.{NodeSession}
+use Rattle.dm_node_session.specs.NodeTurns.{as_answer}
+use Rattle.dm_node_session.proofs.NodeKnowing.{met_settled, none_calls}
 use Rattle.dm_node_session.proofs.NodeStaying.{held_with, arrived_there, settled_as}
 use Rattle.dm_node_session.proofs.node_session.NodeSession.tell_fault.Goals as goal
 
@@ -11,8 +15,8 @@ pub returns-in-Ok-clause-told : goal.returns-in-Ok-clause-told
 returns-in-Ok-clause-told g c =
     let at = c.requires in
     let old = node_session_of c.args.self.now in
-    let answer = c.tell_neighbours.new.answer in
-    let qs = c.tell_neighbours.new.neighbours.peers in
+    let answer = c.tell_event.new.answer in
+    let qs = c.tell_event.new.neighbours.peers in
     let gone = c.break_off.ensures at.0 at.1 in
     record {
       intake = at.0;
@@ -21,9 +25,9 @@ returns-in-Ok-clause-told g c =
       told = record {
         peers = qs;
         moved = c.in-Ok.ensures.told;
-        left = c.settle.ensures ∙
-            settled_as old c.tell_neighbours.new.neighbours.node qs answer.neighbour answer.actions.items _ _
-            c.tell_neighbours.ensures.node gone;
+        left = c.settle.ensures.settled ∙
+            settled_as old c.tell_event.new.neighbours.node qs answer.neighbour answer.actions.items _ _
+            c.tell_event.ensures.node gone;
       };
     }
 
@@ -31,15 +35,27 @@ pub invariant_of-self : goal.invariant_of-self
 invariant_of-self g c =
     let at = c.requires in
     let old = intakes_of c.args.self.now.intakes in
-    let qs = c.tell_neighbours.new.neighbours.peers in
+    let qs = c.tell_event.new.neighbours.peers in
     let gone = c.break_off.ensures at.0 at.1 in
-    let held = c.tell_neighbours.ensures.held old c.args.self.now.held
+    let held = c.tell_event.ensures.held old c.args.self.now.held
     (arrived_there c.args.conn [] at.0 old at.1) in
     record {
       held = subst (AllHeldAreThere qs) (sym gone)
           (held_with c.what_is_there_stays.ensures.told qs c.args.conn.0 (broken_intake at.0) old held);
-      kept = c.tell_neighbours.ensures.kept;
+      kept = c.tell_event.ensures.kept;
+      met = c.tell_event.ensures.places;
     }
 
 pub returns-in-Err-clause-memory : goal.returns-in-Err-clause-memory
 returns-in-Err-clause-memory g c = c.in-Err.ensures.memory c.args.conn [] refl
+
+pub returns-in-Ok-clause-met : goal.returns-in-Ok-clause-met
+returns-in-Ok-clause-met g c =
+    let answer = c.tell_event.new.answer in
+    met_settled known_after (as_answer answer).neighbour c.args.self.now.neighbours.peers
+    c.tell_event.new.neighbours.peers _ (node_known_of c.args.self.now) _ _
+    (ap (λ (t : NodeSession). t.peers) c.settle.ensures.settled) c.settle.ensures.known c.in-Ok.ensures.met
+
+-- no octets are no stranger's CER
+pub tell_event-requires-clause-calm : goal.tell_event-requires-clause-calm
+tell_event-requires-clause-calm g c = none_calls
