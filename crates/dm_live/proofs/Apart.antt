@@ -1,4 +1,4 @@
--- The line that asks who the other side is beside the lines of orders.
+-- The line that asks whom a neighbour met beside the lines of orders.
 use Rattle.std.proofs.Common.{◌≡◌, ℕ, true, false, nat_eq, List, [], ◌∷◌, codes, refl, sym, ap, ◌∙◌}
 use Rattle.dm_live.specs.declared.form.Form.{Form}
 use Rattle.dm_live.specs.declared.order_name.OrderName.{OrderName}
@@ -28,7 +28,8 @@ other names.Stop = refl
 other names.Submit = refl
 other names.Reset = refl
 
-pub no_order : (form : Form) (line : List ℕ) (a : AskedOfNode) → IsSender line → TellsOrder form a line → ⊥
-no_order form line a is (rest, tells, more) =
+pub no_order : (form : Form) (n : ℕ) (line : List ℕ) (a : AskedOfNode) → IsSender form n line
+    → TellsOrder form a line → ⊥
+no_order form n line a (asked, is, named) (rest, tells, more) =
     let same : codes "sender" ≡ name_word (order_name a.order) = ap first (sym is ∙ tells) in
     let never : true ≡ false = ap (λ w. nat_eq (fourth w) 100) same ∙ other (order_name a.order) in absurd (cc never)

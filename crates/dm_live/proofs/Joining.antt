@@ -18,7 +18,9 @@ use Rattle.dm_peer.specs.After.{fresh_standing}
 use Rattle.dm_peer.specs.Hosts.{config_fault}
 use Rattle.dm_live.specs.Beginnings.{config_fault_name, hosts_told, first_told, is_named_among, peer_fault, peers_fault}
 use Rattle.dm_live.specs.Beginnings.{node_told_fault, go_fault, is_several, IsNodeOf, IsConfiguredFor, IsNewFor}
-use Rattle.dm_live.specs.Beginnings.{AreNewFor, compares_hosts}
+use Rattle.dm_live.specs.Beginnings.{AreNewFor, AreUnmet, compares_hosts}
+use Rattle.dm_session.specs.Acquaintances.{Acquaintance}
+use Rattle.dm_node_session.specs.NodeKnown.{with_nobody}
 use Rattle.dm_live.specs.Beginnings.{BeginsForHosts}
 use Rattle.dm_live.specs.Joining.{AddsLike, RefusesHost}
 use Rattle.dm_live.specs.Settings.{Settings}
@@ -34,28 +36,17 @@ first_refused own [] f is =
 first_refused own (host ∷ hosts) f is =
     ap (λ v. option_or (option_or (option_map config_fault_name v) None) (peers_fault own (host ∷ []) hosts)) is
 
--- a peer alone, which is none of others
-alone_fits : (own : List ℕ) (peers : List (List ℕ)) → nat_lt 1 (length peers) ≡ false
-    → config_fault own (first_told peers) ≡ None → peers_fault own [] (hosts_told peers) ≡ None
-alone_fits own [] one is = ap (λ v. option_or (option_or (option_map config_fault_name v) None) None) is
-alone_fits own (host ∷ []) one is = ap (λ v. option_or (option_or (option_map config_fault_name v) None) None) is
-alone_fits own (host ∷ other ∷ hosts) one is = absurd (grind (arith, nat_tests))
+-- the hosts that are told, or none, whose name no host has
+hosts_fault : (own : List ℕ) (peers : List (List ℕ)) → config_fault own (first_told peers) ≡ None
+    → peers_fault own [] (hosts_told peers) ≡ peers_fault own [] peers
+hosts_fault own [] fits = ap (λ v. option_or (option_or (option_map config_fault_name v) None) None) fits
+hosts_fault own (host ∷ hosts) fits = refl
 
-pub one_goes : (s : Settings) → is_several s ≡ false → node_told_fault s ≡ None
-    → config_fault s.host (first_told s.peers) ≡ None → go_fault s ≡ None
-one_goes s one good fits =
-    ap (λ v. option_or v (peers_fault s.host [] (hosts_told s.peers))) good ∙ alone_fits s.host s.peers one fits
-
--- of several all are told
-all_told : (peers : List (List ℕ)) → nat_lt 1 (length peers) ≡ true → hosts_told peers ≡ peers
-all_told [] many = absurd (cc)
-all_told (host ∷ hosts) many = refl
-
-pub several_go : (s : Settings) → is_several s ≡ true → node_told_fault s ≡ None
+-- where there is such a node, and the first host can be a peer's, all hangs on the hosts
+pub goes_by_peers : (s : Settings) → node_told_fault s ≡ None → config_fault s.host (first_told s.peers) ≡ None
     → go_fault s ≡ peers_fault s.host [] s.peers
-several_go s many good =
-    ap (λ v. option_or v (peers_fault s.host [] (hosts_told s.peers))) good
-    ∙ ap (λ v. peers_fault s.host [] v) (all_told s.peers many)
+goes_by_peers s good fits =
+    ap (λ v. option_or v (peers_fault s.host [] (hosts_told s.peers))) good ∙ hosts_fault s.host s.peers fits
 
 -- a neighbour of a host has it, and no other host is known
 among_known : (s : Settings) (hosts : List (List ℕ)) (ps : List (Option Peer)) (host : List ℕ) → AreNewFor s hosts ps
@@ -181,3 +172,11 @@ pub joined : (s : Settings) (t : NodeSession) → Joining s [] t → BeginsForHo
 joined s t so =
     let Begun : List (List ℕ) → Type 0 = λ v. BeginsForHosts s v t in
     subst Begun (sym (append-nil so.before) ∙ so.whole) so.begun
+
+-- one more who was met by nobody
+pub unmet_more : (known new : List (Option Acquaintance)) → AreUnmet known → new ≡ with_nobody known → AreUnmet new
+unmet_more known new none is = subst AreUnmet (sym is) (all known none)
+  where
+    all : (known : List (Option Acquaintance)) → AreUnmet known → AreUnmet (with_nobody known)
+    all [] none = (refl, tt)
+    all (k ∷ known) none = (none.0, all known none.1)

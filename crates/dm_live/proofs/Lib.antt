@@ -2,7 +2,6 @@ pub mod Apart
 pub mod FirstLine
 pub mod Joined
 pub mod Joining
-pub mod NodeTurns
 pub mod Options
 pub mod Pieces
 pub mod Rests

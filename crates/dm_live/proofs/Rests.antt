@@ -4,7 +4,7 @@ use Rattle.dm_text.specs.Numbers.{TellsNumber, TellsLongNumber}
 use Rattle.dm_base.specs.declared.kind.Cause.{Cause}
 use Rattle.dm_base.specs.Built.{cause_number}
 use Rattle.dm_machine.specs.declared.connection.Conn.{Conn}
-use Rattle.dm_session.specs.Orders.{StartOrder, Octets, StopOrder, SubmitOrder}
+use Rattle.dm_live.specs.OrderLines.{StartOrder, Octets, StopOrder, SubmitOrder}
 use Rattle.dm_node_session.specs.declared.node_order.NodeOrder.{NodeOrder}
 use Rattle.dm_node_session.specs.declared.node_order.NodeOrder.TheVariants as order
 use Rattle.dm_live.specs.declared.form.Form.{Form}

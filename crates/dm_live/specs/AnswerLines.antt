@@ -1,4 +1,4 @@
--- What is printed of what a session does.
+-- What is printed of what a peer does.
 use Rattle.std.specs.Prelude.{ℕ, Option, None, Some, List, [], ◌∷◌, ◌++◌, codes}
 use Rattle.std.specs.Fmt.{decimal}
 use Rattle.std.specs.List.{flat_map}
@@ -10,7 +10,7 @@ use Rattle.dm_peer.specs.declared.actions.Action.TheVariants.{Connect, Send, Clo
 use Rattle.dm_peer.specs.declared.fault.PeerFault.{PeerFault}
 use Rattle.dm_peer.specs.declared.fault.PeerFault.TheVariants.{NotClosed, NotOpen, BadSubmit, NoMemory}
 use Rattle.dm_peer.specs.declared.peer.Peer.{Peer}
-use Rattle.dm_session.specs.Sessions.{Turn, own_of, other_of}
+use Rattle.dm_session.specs.Sessions.{own_of, other_of}
 
 -- the line of an action
 unfoldable pub action_line : Action → List ℕ
@@ -27,13 +27,6 @@ action_lines actions = flat_map action_line actions
 unfoldable pub arrival_line : Option Conn → List ℕ
 arrival_line None = []
 arrival_line (Some c) = codes "arrived " ++ decimal c.0 ++ 10 ∷ []
-
--- the lines of a message that was told, or of a fault
-abbrev pub turn_lines : Turn → List ℕ
-turn_lines turn = arrival_line turn.arrived ++ action_lines turn.actions
-
-abbrev pub turns_lines : List Turn → List ℕ
-turns_lines turns = flat_map turn_lines turns
 
 -- why an order is refused; want of memory has no words
 unfoldable pub refusal_line : PeerFault → List ℕ
@@ -52,7 +45,3 @@ unfoldable pub standing_words : Peer → List ℕ
 standing_words p =
     state_text p.standing.core.state ++ held_words (codes " i") (own_of p) ++ held_words (codes " r") (other_of p)
     ++ 10 ∷ []
-
--- how the peer stands
-unfoldable pub state_line : Peer → List ℕ
-state_line p = codes "state " ++ standing_words p

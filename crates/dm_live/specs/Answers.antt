@@ -1,11 +1,29 @@
 -- What an order's answer is.
-use Rattle.std.specs.Prelude.{◌≡◌, ◌⊎◌, ℕ, Option, None, Some, List, [], ◌∷◌, ◌++◌, codes}
+use Rattle.std.specs.Prelude.{◌≡◌, ◌⊎◌, ◌+◌, ℕ, Option, None, Some, List, [], ◌∷◌, ◌++◌, codes}
+use Rattle.std.specs.Fmt.{decimal}
+use Rattle.std.specs.List.{flat_map}
+use Rattle.std.specs.Option.{option_or}
 use Rattle.dm_machine.specs.declared.connection.Conn.{Conn}
-use Rattle.dm_peer.specs.declared.actions.Action.{Action}
-use Rattle.dm_peer.specs.declared.fault.PeerFault.{PeerFault}
-use Rattle.dm_session.specs.Sessions.{Session, Turn, TellsAlong, IsOut}
-use Rattle.dm_session.specs.Orders.{Order, Accept, Octets, Reset, Takes, RefusesOrder}
-use Rattle.dm_live.specs.AnswerLines.{action_lines, turns_lines, refusal_line, state_line}
+use Rattle.dm_node.specs.declared.fault.EventFault.{EventFault}
+use Rattle.dm_node.specs.declared.fault.EventFault.TheVariants as fault
+use Rattle.dm_node.specs.Holding.{peer_at}
+use Rattle.dm_node.specs.Policies.{Policy, no_strangers, told_the_first}
+use Rattle.dm_peer.specs.declared.peer.Peer.{Peer}
+use Rattle.dm_node_session.specs.declared.node_order.NodeOrder.{NodeOrder}
+use Rattle.dm_node_session.specs.declared.node_order.NodeOrder.TheVariants as order
+use Rattle.dm_node_session.specs.NodeKnown.{KnownAfterOrder, NodeKnownBehind}
+use Rattle.dm_node_session.specs.NodeOrders.{NodeTakes, NodeRefuses}
+use Rattle.dm_node_session.specs.NodeSessions.{NodeAnswer, NodeTurn, NodeTellsNext, NodeIsOut}
+use Rattle.dm_live.specs.AnswerLines.{action_lines, arrival_line, refusal_line, standing_words}
+use Rattle.dm_live.specs.declared.form.Form.{Form}
+use Rattle.dm_live.specs.declared.form.Form.TheVariants.{Alone, Several}
+use Rattle.dm_live.specs.Meetings.{Meeting}
+use Rattle.dm_live.specs.OrderLines.{Order, Accept, Octets, Reset, node_asked}
+
+-- what strangers send is told a peer that is alone; where there are several they are turned away
+abbrev pub policy_of : Form → Policy
+policy_of Alone = told_the_first
+policy_of Several = no_strangers
 
 -- the line of an order that tells no event, where it is one of those that tell one: its connection isn't there, or a
 -- Start's is there already
@@ -15,32 +33,123 @@ ignored_line (Octets c piece) = []
 ignored_line Reset = []
 ignored_line o = codes "ignored" ++ 10 ∷ []
 
--- the lines of what an order asks for
-abbrev pub asked_lines : Order → Option (List Action) → List ℕ
-asked_lines o None = ignored_line o
-asked_lines o (Some actions) = action_lines actions
+-- the neighbour that an event concerned, in front of the event's lines, where there are several; a stranger's have no
+-- such line
+unfoldable pub neighbour_line : Form → Option ℕ → List ℕ
+neighbour_line Alone who = []
+neighbour_line Several None = []
+neighbour_line Several (Some i) = codes "neighbour " ++ decimal i ++ 10 ∷ []
 
--- an order is taken, or refused, and this is printed of it
-abbrev pub TakesAs : Order → Session → Session → List ℕ → Type 0
-TakesAs o s t text =
-    ((asks : Option (List Action)) × Takes o s asks t × (text ≡ asked_lines o asks))
-    ⊎ ((f : PeerFault) × RefusesOrder o s f × (t ≡ s) × (text ≡ refusal_line f))
+-- what an event asked for
+abbrev pub event_lines : Form → NodeAnswer → List ℕ
+event_lines form answer = neighbour_line form answer.neighbour ++ action_lines answer.actions
 
--- what came on connection c is told turn by turn until nothing is left to tell, and this is printed of it
-abbrev pub TellsOut : Conn → Session → Session → List ℕ → Type 0
-TellsOut c s t text = (turns : List Turn) × TellsAlong c s turns t × IsOut c t × (text ≡ turns_lines turns)
+-- a message that was told, or a fault
+abbrev pub turn_lines : Form → NodeTurn → List ℕ
+turn_lines form turn =
+    neighbour_line form turn.answer.neighbour ++ arrival_line turn.arrived ++ action_lines turn.answer.actions
+
+-- one behind the other
+abbrev pub turns_lines : Form → List NodeTurn → List ℕ
+turns_lines form turns = flat_map (turn_lines form) turns
+
+-- what an order asks for
+abbrev pub asked_lines : Form → NodeOrder → Option NodeAnswer → List ℕ
+asked_lines form o None = ignored_line (node_asked o).order
+asked_lines form o (Some answer) = event_lines form answer
+
+-- whom it concerns: the one that was told the event, or that begins anew
+abbrev pub whom_asked : NodeOrder → Option NodeAnswer → Option ℕ
+whom_asked o (Some answer) = answer.neighbour
+whom_asked (order.Reset n) None = Some n
+whom_asked o None = None
+
+-- the neighbour that refuses an order; where nobody has the number that it names, none does
+abbrev pub refuser : NodeOrder → EventFault → Option ℕ
+refuser o (fault.Peer f) = (node_asked o).to
+refuser o f = None
+
+-- why an order is refused
+unfoldable pub event_refusal_line : EventFault → List ℕ
+event_refusal_line fault.NoNeighbour = codes "refused NoNeighbour" ++ 10 ∷ []
+event_refusal_line fault.Held = codes "refused Held" ++ 10 ∷ []
+event_refusal_line (fault.Peer f) = refusal_line f
+
+-- an order is taken, it concerns this neighbour, if any, and this is printed of it
+abbrev pub TakesSo : Form → NodeOrder → Meeting → Option ℕ → Meeting → List ℕ → Type 0
+TakesSo form o m who n text =
+    (asks : Option NodeAnswer) × NodeTakes o m.session asks n.session
+    × KnownAfterOrder asks m.session n.session m.known n.known × (who ≡ whom_asked o asks)
+    × (text ≡ asked_lines form o asks)
+
+-- or it is refused, and nothing changes
+abbrev pub RefusesSo : Form → NodeOrder → Meeting → Option ℕ → Meeting → List ℕ → Type 0
+RefusesSo form o m who n text =
+    (f : EventFault) × NodeRefuses o m.session f × (n ≡ m) × (who ≡ refuser o f)
+    × (text ≡ neighbour_line form (refuser o f) ++ event_refusal_line f)
+
+abbrev pub TakesAs : Form → NodeOrder → Meeting → Option ℕ → Meeting → List ℕ → Type 0
+TakesAs form o m who n text = TakesSo form o m who n text ⊎ RefusesSo form o m who n text
+
+-- one turn of connection c, and whom it met
+abbrev pub MeetsNext : Policy → Conn → Meeting → NodeTurn → Meeting → Type 0
+MeetsNext policy c m turn n =
+    NodeTellsNext policy c m.session turn n.session
+    × NodeKnownBehind c m.session turn n.session m.known n.known
+
+-- turn by turn
+abbrev pub MeetsAlong : Policy → Conn → Meeting → List NodeTurn → Meeting → Type 0
+MeetsAlong policy c m [] n = m ≡ n
+MeetsAlong policy c m (turn ∷ turns) n =
+    (k : Meeting) × MeetsNext policy c m turn k × MeetsAlong policy c k turns n
+
+-- what came on connection c is told turn by turn until nothing is left to tell
+abbrev pub MeetsOut : Policy → Conn → Meeting → List NodeTurn → Meeting → Type 0
+MeetsOut policy c m turns n = MeetsAlong policy c m turns n × NodeIsOut c n.session
 
 -- behind octets what came is told, behind another order nothing
-abbrev pub HearsOut : Order → Session → Session → List ℕ → Type 0
-HearsOut (Octets c piece) s t text = TellsOut c s t text
-HearsOut o s t text = (t ≡ s) × (text ≡ [])
+abbrev pub HearsOut : Policy → NodeOrder → Meeting → List NodeTurn → Meeting → Type 0
+HearsOut policy (order.Octets c piece) m turns n = MeetsOut policy c m turns n
+HearsOut policy o m turns n = (turns ≡ []) × (n ≡ m)
 
--- an order in a session, the session that it leaves, and its answer: what it comes to itself, what came on its
--- connection, and how the peer stands then
-pub record Answers (o : Order) (s t : Session) (text : List ℕ) : Type 0 where
-  pub between : Session
+-- whom the last one concerned that concerned a neighbour, an order and then turns
+abbrev pub whom_last : Option ℕ → List NodeTurn → Option ℕ
+whom_last who [] = who
+whom_last who (turn ∷ turns) = whom_last (option_or turn.answer.neighbour who) turns
+
+-- how the neighbour of a number stands, where there is one; a peer that is alone has no number
+unfoldable pub state_line : Form → ℕ → Option Peer → List ℕ
+state_line form i None = []
+state_line Alone i (Some p) = codes "state " ++ standing_words p
+state_line Several i (Some p) = codes "state " ++ decimal i ++ codes " " ++ standing_words p
+
+-- how several stand, from this number on
+abbrev pub states_lines : ℕ → List (Option Peer) → List ℕ
+states_lines i [] = []
+states_lines i (p ∷ ps) = state_line Several i p ++ states_lines (i + 1) ps
+
+-- how the one of several stands that was concerned, if any was
+abbrev pub concerned_state_line : Option ℕ → List (Option Peer) → List ℕ
+concerned_state_line None ps = []
+concerned_state_line (Some i) ps = state_line Several i (peer_at ps i)
+
+-- how several stand behind an order that concerned all, or the one that it concerned last
+abbrev pub several_states : NodeOrder → Option ℕ → List (Option Peer) → List ℕ
+several_states order.ResetAll who ps = states_lines 0 ps
+several_states o who ps = concerned_state_line who ps
+
+-- behind each order a peer alone is told
+abbrev pub states_behind : Form → NodeOrder → Option ℕ → List (Option Peer) → List ℕ
+states_behind Alone o who ps = state_line Alone 0 (peer_at ps 0)
+states_behind Several o who ps = several_states o who ps
+
+-- an order, what it makes of a session and of whom each neighbour met, and its answer: what it comes to itself, what
+-- came on its connection, and how whom that concerned last stands then
+pub record Answers (form : Form) (o : NodeOrder) (m n : Meeting) (text : List ℕ) : Type 0 where
+  pub between : Meeting
+  pub who : Option ℕ
   pub own : List ℕ
-  pub others : List ℕ
-  pub takes : TakesAs o s between own
-  pub hears : HearsOut o between t others
-  pub whole : text ≡ own ++ others ++ state_line t.peer
+  pub turns : List NodeTurn
+  pub takes : TakesAs form o m who between own
+  pub hears : HearsOut (policy_of form) o between turns n
+  pub whole : text ≡ own ++ turns_lines form turns ++ states_behind form o (whom_last who turns) n.session.peers

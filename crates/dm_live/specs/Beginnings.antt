@@ -1,7 +1,7 @@
 -- What a configuration makes.
-use Rattle.std.specs.Prelude.{◌≡◌, ℕ, Bool, true, false, ◌||◌, not, nat_eq, is_some, length, if◌then◌else◌, Option}
+use Rattle.std.specs.Prelude.{◌≡◌, ℕ, Bool, true, false, ◌||◌, not, cond, nat_eq, is_some, length, if◌then◌else◌, Option}
 use Rattle.std.specs.Prelude.{None, Some, List, [], ◌∷◌, ◌++◌, codes, bytes_eq, nat_lt}
-use Rattle.std.specs.List.{list_any}
+use Rattle.std.specs.List.{AllByRecursion, list_any}
 use Rattle.std.specs.Option.{option_map, option_or}
 use Rattle.dm_base.specs.Before.{lower}
 use Rattle.dm_base.specs.declared.node.Node.{Node}
@@ -16,8 +16,11 @@ use Rattle.dm_peer.specs.Hosts.{config_fault}
 use Rattle.dm_peer.specs.declared.peer.Peer.{Peer}
 use Rattle.dm_peer.specs.After.{fresh_standing}
 use Rattle.dm_node_session.specs.NodeSessions.{NodeSession}
+use Rattle.dm_session.specs.Acquaintances.{Acquaintance, nobody}
 use Rattle.dm_session.specs.Intakes.{none_there}
-use Rattle.dm_session.specs.Sessions.{Session}
+use Rattle.dm_live.specs.declared.form.Form.{Form}
+use Rattle.dm_live.specs.declared.form.Form.TheVariants.{Alone, Several}
+use Rattle.dm_live.specs.Meetings.{Meeting}
 use Rattle.dm_live.specs.Settings.{Settings}
 
 abbrev pub node_fault_name : NodeFault → List ℕ
@@ -122,14 +125,6 @@ pub record IsConfiguredFor (s : Settings) (host : List ℕ) (c : Config) : Type 
   pub first_id : c.first_id ≡ s.first_id
   pub compares : c.compares ≡ compares_hosts s
 
--- the session that the settings begin, where they tell one peer: it is closed, without connections
-pub record Begins (s : Settings) (t : Session) : Type 0 where
-  pub config : IsConfiguredFor s (first_told s.peers) t.peer.config
-  pub standing : t.peer.standing ≡ fresh_standing s.first_id
-  pub intakes : t.intakes ≡ none_there
-  pub first_max : t.first_max ≡ s.first_max
-  pub most : t.most ≡ s.most
-
 -- a closed peer of the configuration that they make for this host
 pub record IsNewFor (s : Settings) (host : List ℕ) (p : Peer) : Type 0 where
   pub config : IsConfiguredFor s host p.config
@@ -149,6 +144,15 @@ pub record BeginsForHosts (s : Settings) (hosts : List (List ℕ)) (t : NodeSess
   pub first_max : t.first_max ≡ s.first_max
   pub most : t.most ≡ s.most
 
--- the node's session that they begin, where they tell several peers
-abbrev pub BeginsNode : Settings → NodeSession → Type 0
-BeginsNode s t = BeginsForHosts s s.peers t
+-- nobody was met yet
+abbrev pub AreUnmet : List (Option Acquaintance) → Type 0
+AreUnmet known = AllByRecursion (λ k. k ≡ Some nobody) known
+
+-- what the settings begin: the session of their node with its peers, which met nobody yet
+pub record Begins (s : Settings) (m : Meeting) : Type 0 where
+  pub session : BeginsForHosts s s.peers m.session
+  pub unmet : AreUnmet m.known
+
+-- they tell one peer alone, or several
+abbrev pub form_told : Settings → Form
+form_told s = cond (is_several s) Several Alone

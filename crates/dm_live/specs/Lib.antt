@@ -7,7 +7,6 @@ pub mod Input
 pub mod Joining
 pub mod Laws
 pub mod Meetings
-pub mod NodeAnswers
 pub mod OrderLines
 pub mod SenderLines
 pub mod Served

@@ -5,8 +5,7 @@ use Rattle.dm_text.specs.Numbers.{TellsNumber, TellsLongNumber}
 use Rattle.dm_text.specs.Hexadecimal.{word_octets}
 use Rattle.dm_base.specs.Built.{cause_number}
 use Rattle.dm_machine.specs.declared.connection.Conn.{Conn}
-use Rattle.dm_session.specs.Orders.{Order, StartOrder, AckOrder, NackOrder, Accept, Octets, GoneOrder}
-use Rattle.dm_session.specs.Orders.{TimeoutOrder, TickOrder, StopOrder, SubmitOrder, Reset}
+use Rattle.dm_base.specs.declared.kind.Cause.{Cause}
 use Rattle.dm_node_session.specs.declared.node_order.NodeOrder.{NodeOrder}
 use Rattle.dm_node_session.specs.declared.node_order.NodeOrder.TheVariants as order
 use Rattle.dm_live.specs.declared.form.Form.{Form}
@@ -15,6 +14,20 @@ use Rattle.dm_live.specs.declared.order_line.OrderLine.{OrderLine}
 use Rattle.dm_live.specs.declared.order_line.OrderLine.TheVariants as line
 use Rattle.dm_live.specs.declared.order_name.OrderName.{OrderName}
 use Rattle.dm_live.specs.declared.order_name.OrderName.TheVariants as names
+
+-- what an order says, but for the neighbour that it names
+pub data Order : Type 0 where
+  StartOrder : Conn → Order
+  AckOrder : Conn → Order
+  NackOrder : Conn → Order
+  Accept : Conn → Order
+  Octets : Conn → List ℕ → Order
+  GoneOrder : Conn → Order
+  TimeoutOrder : Order
+  TickOrder : Order
+  StopOrder : Cause → Order
+  SubmitOrder : List ℕ → Order
+  Reset : Order
 
 -- the first word of an order's line
 abbrev pub name_word : OrderName → List ℕ

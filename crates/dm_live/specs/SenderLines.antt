@@ -1,4 +1,4 @@
--- What is printed of whom a session met (RFC 6733, 5.3 and 8.16).
+-- What is printed of whom a peer met (RFC 6733, 5.3 and 8.16).
 use Rattle.std.specs.Prelude.{◌≡◌, ℕ, Bool, true, false, Option, None, Some, List, [], ◌∷◌, ◌++◌, codes}
 use Rattle.std.specs.Fmt.{decimal}
 use Rattle.std.specs.List.{flat_map}
@@ -12,10 +12,13 @@ use Rattle.dm_base.specs.Kinds.{data_at, application_ids}
 use Rattle.dm_base.specs.Senders.{number_told, numbers_told}
 use Rattle.dm_text.specs.Words.{words}
 use Rattle.dm_session.specs.Acquaintances.{Acquaintance, exchange_in, state_in, began_anew}
+use Rattle.dm_live.specs.declared.form.Form.{Form}
+use Rattle.dm_live.specs.OrderLines.{NamesNeighbour}
 
--- the line that asks who the other side is
-abbrev pub IsSender : List ℕ → Type 0
-IsSender line = words line ≡ codes "sender" ∷ []
+-- the line that asks whom neighbour n met: its number stands behind the word where there are several
+abbrev pub IsSender : Form → ℕ → List ℕ → Type 0
+IsSender form n line =
+    (rest : List (List ℕ)) × (words line ≡ codes "sender" ∷ rest) × NamesNeighbour form n rest []
 
 -- a name and octets, a name and a number
 unfoldable pub octets_line : List ℕ → List ℕ → List ℕ
@@ -65,3 +68,8 @@ abbrev pub sender_lines : Acquaintance → List ℕ
 sender_lines a =
     exchange_lines (exchange_in a.octets) ++ number_line_if_any (codes "origin-state-before") a.before
     ++ anew_line (began_anew (state_in a.octets) a.before)
+
+-- or that nobody has the number
+unfoldable pub sender_answer : Option Acquaintance → List ℕ
+sender_answer None = codes "refused NoNeighbour" ++ 10 ∷ []
+sender_answer (Some a) = sender_lines a

@@ -4,25 +4,23 @@ use Rattle.std.specs.Fmt.{decimal}
 use Rattle.std.specs.Io.KnownBytes.{Appends}
 use Rattle.std.specs.Str.Lines.{lines}
 use Rattle.dm_text.specs.Words.{words}
-use Rattle.dm_session.specs.Acquaintances.{nobody}
 use Rattle.dm_node_session.specs.declared.node_order.NodeOrder.{NodeOrder}
-use Rattle.dm_node_session.specs.NodeSessions.{NodeSession}
 use Rattle.dm_live.specs.declared.fault.LiveFault.{LiveFault}
 use Rattle.dm_live.specs.declared.fault.LiveFault.TheVariants.{Write}
-use Rattle.dm_live.specs.declared.form.Form.TheVariants.{Alone, Several}
-use Rattle.dm_live.specs.Beginnings.{go_fault, is_several, Begins, BeginsNode}
-use Rattle.dm_live.specs.Meetings.{Meeting, AnswersMet}
-use Rattle.dm_live.specs.NodeAnswers.{AnswersNode}
-use Rattle.dm_live.specs.OrderLines.{AskedOfNode, node_asked, TellsOrder}
-use Rattle.dm_live.specs.SenderLines.{IsSender, sender_lines}
+use Rattle.dm_node_session.specs.NodeKnown.{acquaintance_at}
+use Rattle.dm_live.specs.declared.form.Form.{Form}
+use Rattle.dm_live.specs.Answers.{Answers}
+use Rattle.dm_live.specs.Beginnings.{go_fault, form_told, Begins}
+use Rattle.dm_live.specs.Meetings.{Meeting}
+use Rattle.dm_live.specs.OrderLines.{node_asked, TellsOrder}
+use Rattle.dm_live.specs.SenderLines.{IsSender, sender_answer}
 use Rattle.dm_live.specs.Settings.{Settings, no_settings, TellsSetting}
 
--- a run behind some of its lines: what the configuration says so far, or the session with whom it met, or the session
--- of a node of several neighbours
+-- a run behind some of its lines: what the configuration says so far, or the session with whom each neighbour met, and
+-- how many peers its lines are about
 pub data Stage : Type 0 where
   Drafting : Settings → Stage
-  Running : Meeting → Stage
-  RunningNode : NodeSession → Stage
+  Running : Form → Meeting → Stage
 
 -- an answer is closed by a line of a dot
 abbrev pub with_dot : List ℕ → List ℕ
@@ -49,21 +47,12 @@ GoesNot n line s t text =
 abbrev pub ready_answer : List ℕ
 ready_answer = with_dot (codes "ready" ++ 10 ∷ [])
 
--- it begins the session of the one peer, which met nobody yet
-pub record Goes (line : List ℕ) (s : Settings) (m : Meeting) (text : List ℕ) : Type 0 where
+-- it begins the session
+pub record Goes (line : List ℕ) (s : Settings) (form : Form) (m : Meeting) (text : List ℕ) : Type 0 where
   pub go : IsGo line
   pub good : go_fault s ≡ None
-  pub one : is_several s ≡ false
-  pub begins : Begins s m.session
-  pub unmet : m.known ≡ nobody
-  pub answer : text ≡ ready_answer
-
--- it begins the session of a node of several neighbours
-pub record GoesAsNode (line : List ℕ) (s : Settings) (t : NodeSession) (text : List ℕ) : Type 0 where
-  pub go : IsGo line
-  pub good : go_fault s ≡ None
-  pub several : is_several s ≡ true
-  pub begins : BeginsNode s t
+  pub form_is : form ≡ form_told s
+  pub begins : Begins s m
   pub answer : text ≡ ready_answer
 
 -- a line that says something of the configuration isn't answered
@@ -76,53 +65,37 @@ SaysNothing n line s t text =
     (IsGo line → ⊥) × ((u : Settings) → TellsSetting line s u → ⊥) × (t ≡ s) × (text ≡ bad_answer n)
 
 -- an order is told and answered
-abbrev pub IsTold : List ℕ → Meeting → Meeting → List ℕ → Type 0
-IsTold line s t text =
-    (a : AskedOfNode) × (answer : List ℕ) × TellsOrder Alone a line × AnswersMet a.order s t answer
+abbrev pub IsTold : Form → List ℕ → Meeting → Meeting → List ℕ → Type 0
+IsTold form line m n text =
+    (o : NodeOrder) × (answer : List ℕ) × TellsOrder form (node_asked o) line × Answers form o m n answer
     × (text ≡ with_dot answer)
 
--- whom the session met is answered, and nothing changes
-abbrev pub AsksSender : List ℕ → Meeting → Meeting → List ℕ → Type 0
-AsksSender line s t text = IsSender line × (t ≡ s) × (text ≡ with_dot (sender_lines s.known))
+-- whom a neighbour met is answered, and nothing changes
+abbrev pub AsksSender : Form → List ℕ → Meeting → Meeting → List ℕ → Type 0
+AsksSender form line m n text =
+    (i : ℕ) × IsSender form i line × (n ≡ m) × (text ≡ with_dot (sender_answer (acquaintance_at m.known i)))
 
 -- a line that tells neither changes nothing
-abbrev pub TellsNone : ℕ → List ℕ → Meeting → Meeting → List ℕ → Type 0
-TellsNone n line s t text =
-    (IsSender line → ⊥) × ((o : NodeOrder) → TellsOrder Alone (node_asked o) line → ⊥) × (t ≡ s)
-    × (text ≡ bad_answer n)
-
--- an order to a node is told and answered
-abbrev pub IsToldNode : List ℕ → NodeSession → NodeSession → List ℕ → Type 0
-IsToldNode line s t text =
-    (o : NodeOrder) × (answer : List ℕ) × TellsOrder Several (node_asked o) line × AnswersNode o s t answer
-    × (text ≡ with_dot answer)
-
--- a line that tells none changes nothing
-abbrev pub TellsNoneToNode : ℕ → List ℕ → NodeSession → NodeSession → List ℕ → Type 0
-TellsNoneToNode n line s t text =
-    ((o : NodeOrder) → TellsOrder Several (node_asked o) line → ⊥) × (t ≡ s) × (text ≡ bad_answer n)
+abbrev pub TellsNone : ℕ → Form → List ℕ → Meeting → Meeting → List ℕ → Type 0
+TellsNone number form line m n text =
+    ((i : ℕ) → IsSender form i line → ⊥) × ((o : NodeOrder) → TellsOrder form (node_asked o) line → ⊥) × (n ≡ m)
+    × (text ≡ bad_answer number)
 
 -- the line of this number before the session begins, if it doesn't begin it
 abbrev pub AnswersSetting : ℕ → List ℕ → Settings → Settings → List ℕ → Type 0
 AnswersSetting n line s t text = IsSet line s t text ⊎ SaysNothing n line s t text
 
 -- and behind that
-abbrev pub AnswersOrder : ℕ → List ℕ → Meeting → Meeting → List ℕ → Type 0
-AnswersOrder n line s t text = IsTold line s t text ⊎ (AsksSender line s t text ⊎ TellsNone n line s t text)
-
--- and behind that of a node
-abbrev pub AnswersNodeOrder : ℕ → List ℕ → NodeSession → NodeSession → List ℕ → Type 0
-AnswersNodeOrder n line s t text = IsToldNode line s t text ⊎ TellsNoneToNode n line s t text
+abbrev pub AnswersOrder : ℕ → Form → List ℕ → Meeting → Meeting → List ℕ → Type 0
+AnswersOrder number form line m n text =
+    IsTold form line m n text ⊎ (AsksSender form line m n text ⊎ TellsNone number form line m n text)
 
 -- the line of this number, what it makes of a run, and its answer
 abbrev pub AnswersLine : ℕ → List ℕ → Stage → Stage → List ℕ → Type 0
 AnswersLine n line (Drafting s) (Drafting t) text = AnswersSetting n line s t text ⊎ GoesNot n line s t text
-AnswersLine n line (Drafting s) (Running t) text = Goes line s t text
-AnswersLine n line (Drafting s) (RunningNode t) text = GoesAsNode line s t text
-AnswersLine n line (Running s) (Running t) text = AnswersOrder n line s t text
-AnswersLine n line (Running s) _ text = ⊥
-AnswersLine n line (RunningNode s) (RunningNode t) text = AnswersNodeOrder n line s t text
-AnswersLine n line (RunningNode s) _ text = ⊥
+AnswersLine n line (Drafting s) (Running form t) text = Goes line s form t text
+AnswersLine n line (Running form s) (Running shape t) text = (shape ≡ form) × AnswersOrder n form line s t text
+AnswersLine n line (Running form s) _ text = ⊥
 
 -- lines behind as many others, each answered in turn
 abbrev pub AnswersLines : ℕ → List (List ℕ) → Stage → Stage → List ℕ → Type 0

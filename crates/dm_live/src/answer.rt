@@ -1,155 +1,200 @@
 //! An order, told and answered.
-ghost use Rattle.std.specs.Prelude.{◌≡◌, ◌++◌, ℕ, List, true, false, IfOk, OnOk};
+ghost use Rattle.std.specs.Prelude.{◌≡◌, ◌++◌, ℕ, List, None, true, false, IfOk, IfSome, IfNone, OnOk};
+ghost use Rattle.std.specs.Option.{option_or};
 ghost use Rattle.std.specs.String.{string_bytes};
-ghost use Rattle.dm_session.specs.Orders.{order_asked};
-ghost use Rattle.dm_session.specs.Seen.{session_of};
-ghost use Rattle.dm_session.specs.Sessions.{Turn as OneTurn, IsOut};
-ghost use Rattle.dm_live.specs.AnswerLines.{turn_lines};
-ghost use Rattle.dm_live.specs.Answers.{ignored_line, Answers};
-ghost use Rattle.dm_live.specs.Meetings.{met_with, TakesMet, MeetsNext, MeetsOut, HearsMet, AnswersMet};
-ghost use Rattle.dm_live.specs.OrderLines.{told_order};
+ghost use Rattle.dm_node_session.specs.NodeSessions.{NodeTurn as OneTurn, NodeIsOut};
+ghost use Rattle.dm_node_session.specs.NodeTurns.{as_node_turn};
+ghost use Rattle.dm_live.specs.Answers.{TakesAs, MeetsNext, MeetsOut, HearsOut, Answers};
+ghost use Rattle.dm_live.specs.Answers.{turn_lines, turns_lines, whom_asked, whom_last, refuser, policy_of};
+ghost use Rattle.dm_live.specs.Meetings.{meeting_of};
+ghost use Rattle.dm_live.specs.OrderLines.{node_asked};
 
-use crate::answer_lines::{put_actions, put_refusal, put_state, put_turn};
-use crate::order_line::OrderLine;
+use crate::answer_lines::{
+    put_event, put_event_refusal, put_neighbour, put_states_behind, put_turn, put_untold,
+};
+use crate::form::Form;
 use dm_machine::Conn;
-use dm_session::{Acquaintance, Order, Session};
+use dm_node::Alone;
+use dm_node_session::{EventFault, NodeOrder, NodeSession, NodeTurn};
 use std::alloc::{AllocError, Global};
 
-/// Tells the session the order, and appends the order's answer.
+/// Tells the session the order, of so many peers, and appends the order's answer.
 ///
 /// Behind octets all that came on the connection is told, message by message. Where memory is wanted some of it may be
 /// told, and a front of the answer may stand in the text.
 pub fn answer_order(
     alloc: Global,
-    session: &mut Session,
-    order: &OrderLine,
+    form: Form,
+    session: &mut NodeSession,
+    order: NodeOrder<'_>,
     text: &mut String,
 ) -> Result<(), AllocError>
     ensures { OnOk result ((more : List ℕ)
-        × Answers (told_order order.now).order (session_of session.old) (session_of session.new) more
+        × Answers form order.entry (meeting_of session.old) (meeting_of session.new) more
         × (string_bytes text.new ≡ string_bytes text.old ++ more)) }
 {
-    let mut known = Acquaintance::new(alloc);
-    let done = answer_met(alloc, session, &mut known, order, text);
-    drop(known);
-    done
+    let who = take_order(alloc, form, session, order, text)?;
+    let last = hear_behind(alloc, form, session, order, who, text)?;
+    put_states_behind(text, form, session.neighbours(), order, last)
 }
 
-/// Tells the session the order, and appends the order's answer, as [`answer_order`] does, and keeps whom the session
-/// met (RFC 6733, 5.3 and 8.16).
-pub fn answer_met(
-    alloc: Global,
-    session: &mut Session,
-    known: &mut Acquaintance,
-    order: &OrderLine,
-    text: &mut String,
-) -> Result<(), AllocError>
-    ensures { OnOk result ((more : List ℕ)
-        × AnswersMet (told_order order.now).order (met_with (session_of session.old) known.old)
-        (met_with (session_of session.new) known.new) more
-        × (string_bytes text.new ≡ string_bytes text.old ++ more)) }
-{
-    take_order(alloc, session, known, order.peer_order(), text)?;
-    hear_behind(alloc, session, known, order, text)?;
-    put_state(text, session.peer())?;
-    Ok(())
-}
-
-/// Appends what an order comes to by itself.
+/// Appends what an order comes to by itself, and answers whom it concerns.
 fn take_order(
     alloc: Global,
-    session: &mut Session,
-    known: &mut Acquaintance,
-    order: Order<'_>,
+    form: Form,
+    session: &mut NodeSession,
+    order: NodeOrder<'_>,
     text: &mut String,
-) -> Result<(), AllocError>
-    ensures { OnOk result ((own : List ℕ)
-        × TakesMet (order_asked order.entry) (met_with (session_of session.old) known.old)
-        (met_with (session_of session.new) known.new) own
+) -> Result<Option<usize>, AllocError>
+    ensures { IfOk result (λ who. (own : List ℕ)
+        × TakesAs form order.entry (meeting_of session.old) who (meeting_of session.new) own
         × (string_bytes text.new ≡ string_bytes text.old ++ own)) }
 {
-    match session.take_met(alloc, order, known) {
-        Ok(Some(actions)) => put_actions(text, actions.as_slice()),
-        Ok(None) => put_ignored(text, order),
-        Err(fault) => put_refusal(text, fault),
+    match session.take(alloc, order) {
+        Ok(Some(answer)) => {
+            put_event(text, form, &answer)?;
+            Ok(answer.neighbour)
+        }
+        Ok(None) => {
+            put_untold(text, order)?;
+            Ok(set_back_by(order))
+        }
+        Err(fault) => {
+            let who = refused_by(order, fault);
+            put_neighbour(text, form, who)?;
+            put_event_refusal(text, fault)?;
+            Ok(who)
+        }
     }
 }
 
-/// Appends that an order told no event, where it is one of those that tell one.
-#[tactic(auto, unfolding(crate::specs::Answers::ignored_line))]
-fn put_ignored(text: &mut String, order: Order<'_>) -> Result<(), AllocError>
-    ensures { OnOk result (string_bytes text.new ≡ string_bytes text.old ++ ignored_line (order_asked order.entry)) }
+/// The neighbour that an order has begin anew, if it is such an order.
+fn set_back_by(order: NodeOrder<'_>) -> Option<usize>
+    ensures { result ≡ whom_asked order.entry None }
 {
     match order {
-        Order::Accept(_) | Order::Octets(_, _) | Order::Reset => Ok(()),
-        _ => text.push_str("ignored\n"),
+        NodeOrder::Reset(index) => Some(index),
+        _ => None,
     }
 }
 
-/// Tells what came on the connection of octets, and appends what that comes to; behind another order nothing.
+/// The neighbour that refuses an order with this fault; where nobody has the number that it names, none does.
+fn refused_by(order: NodeOrder<'_>, fault: EventFault) -> Option<usize>
+    ensures { result ≡ refuser order.entry fault }
+{
+    match fault {
+        EventFault::Peer(_) => named_by(order),
+        EventFault::NoNeighbour | EventFault::Held => None,
+    }
+}
+
+/// The number of the neighbour that an order names, if it names one.
+fn named_by(order: NodeOrder<'_>) -> Option<usize>
+    ensures { result ≡ (node_asked order.entry).to }
+{
+    match order {
+        NodeOrder::Start(index, _)
+        | NodeOrder::Timeout(index)
+        | NodeOrder::Tick(index)
+        | NodeOrder::Stop(index, _)
+        | NodeOrder::Submit(index, _)
+        | NodeOrder::Reset(index) => Some(index),
+        _ => None,
+    }
+}
+
+/// Tells what came on the connection of octets, and appends what that comes to; behind another order nothing. Answers
+/// whom it concerned last, `who` where nobody.
 fn hear_behind(
     alloc: Global,
-    session: &mut Session,
-    known: &mut Acquaintance,
-    order: &OrderLine,
+    form: Form,
+    session: &mut NodeSession,
+    order: NodeOrder<'_>,
+    who: Option<usize>,
     text: &mut String,
-) -> Result<(), AllocError>
-    ensures { OnOk result ((others : List ℕ)
-        × HearsMet (told_order order.now).order (met_with (session_of session.old) known.old)
-        (met_with (session_of session.new) known.new) others
-        × (string_bytes text.new ≡ string_bytes text.old ++ others)) }
+) -> Result<Option<usize>, AllocError>
+    ensures { IfOk result (λ last. (turns : List OneTurn)
+        × HearsOut (policy_of form) order.entry (meeting_of session.old) turns (meeting_of session.new)
+        × (last ≡ whom_last who turns)
+        × (string_bytes text.new ≡ string_bytes text.old ++ turns_lines form turns)) }
 {
     match order {
-        OrderLine::Octets(conn, _) => hear_out(alloc, session, known, *conn, text),
-        _ => Ok(()),
+        NodeOrder::Octets(conn, _) => hear_out(alloc, form, session, conn, who, text),
+        _ => Ok(who),
     }
 }
 
-/// Tells all that came on the connection, and appends what that comes to.
+/// Tells all that came on the connection, and appends what that comes to. Answers whom it concerned last, `who` where
+/// nobody.
 fn hear_out(
     alloc: Global,
-    session: &mut Session,
-    known: &mut Acquaintance,
+    form: Form,
+    session: &mut NodeSession,
     conn: Conn,
+    who: Option<usize>,
     text: &mut String,
-) -> Result<(), AllocError>
-    ensures { OnOk result ((others : List ℕ)
-        × MeetsOut conn (met_with (session_of session.old) known.old)
-        (met_with (session_of session.new) known.new) others
-        × (string_bytes text.new ≡ string_bytes text.old ++ others)) }
+) -> Result<Option<usize>, AllocError>
+    ensures { IfOk result (λ last. (turns : List OneTurn)
+        × MeetsOut (policy_of form) conn (meeting_of session.old) turns (meeting_of session.new)
+        × (last ≡ whom_last who turns)
+        × (string_bytes text.new ≡ string_bytes text.old ++ turns_lines form turns)) }
 {
+    let mut last = who;
     'turn: for _ in 0..u64::MAX {
-        if !hear_next(alloc, session, known, conn, text)? {
-            return Ok(());
+        if !hear_next(alloc, form, session, conn, &mut last, text)? {
+            return Ok(last);
         }
     }
     // More octets than any memory holds.
     Err(AllocError)
 }
 
-/// Tells the next message that came on the connection, or a fault, and appends what that comes to. False where there
-/// is none.
+/// Tells the next message that came on the connection, or a fault, and appends what that comes to; `last` is whom it
+/// concerned, where it concerned anybody. False where there is none.
 fn hear_next(
     alloc: Global,
-    session: &mut Session,
-    known: &mut Acquaintance,
+    form: Form,
+    session: &mut NodeSession,
     conn: Conn,
+    last: &mut Option<usize>,
     text: &mut String,
 ) -> Result<bool, AllocError>
     ensures told { IfOk result (λ more. more ≡ true → (turn : OneTurn)
-        × MeetsNext conn (met_with (session_of session.old) known.old) turn
-        (met_with (session_of session.new) known.new)
-        × (string_bytes text.new ≡ string_bytes text.old ++ turn_lines turn)) }
-    ensures out { IfOk result (λ more. more ≡ false → IsOut conn (session_of session.new)
-        × (met_with (session_of session.new) known.new ≡ met_with (session_of session.old) known.old)
+        × MeetsNext (policy_of form) conn (meeting_of session.old) turn (meeting_of session.new)
+        × (last.new ≡ option_or turn.answer.neighbour last.old)
+        × (string_bytes text.new ≡ string_bytes text.old ++ turn_lines form turn)) }
+    ensures out { IfOk result (λ more. more ≡ false → NodeIsOut conn (meeting_of session.new).session
+        × (meeting_of session.new ≡ meeting_of session.old) × (last.new ≡ last.old)
         × (string_bytes text.new ≡ string_bytes text.old)) }
 {
-    match session.next_met(alloc, conn, known) {
+    match next_turn(alloc, form, session, conn) {
         Ok(Some(turn)) => {
-            put_turn(text, &turn)?;
+            put_turn(text, form, &turn)?;
+            *last = turn.answer.neighbour.or(*last);
             Ok(true)
         }
         Ok(None) => Ok(false),
-        Err(_) => Err(AllocError),
+        Err(error) => Err(error),
+    }
+}
+
+/// Tells the next message that came on the connection, or a fault; None where there is none. What strangers send is told
+/// a peer that is alone.
+fn next_turn(
+    alloc: Global,
+    form: Form,
+    session: &mut NodeSession,
+    conn: Conn,
+) -> Result<Option<NodeTurn>, AllocError>
+    ensures told { IfOk result (λ found. IfSome found (λ turn. MeetsNext (policy_of form) conn
+        (meeting_of session.old) (as_node_turn turn) (meeting_of session.new))) }
+    ensures out { IfOk result (λ found. IfNone found (NodeIsOut conn (meeting_of session.old).session
+        × ((meeting_of session.new).session ≡ (meeting_of session.old).session))) }
+    ensures unmet { IfOk result (λ found. IfNone found (
+        (meeting_of session.new).known ≡ (meeting_of session.old).known)) }
+{
+    match form {
+        Form::Alone => session.next(alloc, &Alone, conn),
+        Form::Several => session.next(alloc, &(), conn),
     }
 }

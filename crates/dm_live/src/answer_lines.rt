@@ -1,18 +1,25 @@
 //! The lines of an answer.
-ghost use Rattle.std.specs.Prelude.{◌≡◌, ◌≢◌, ◌∷◌, ◌++◌, [], OnOk, codes};
+ghost use Rattle.std.specs.Prelude.{◌≡◌, ◌≢◌, ◌∷◌, ◌++◌, [], Some, OnOk, codes};
 ghost use Rattle.std.specs.Fmt.{decimal};
 ghost use Rattle.std.specs.String.{string_bytes};
 ghost use Rattle.hex.specs.Hex.{encode_lower};
 ghost use Rattle.dm_machine.specs.Printed.{state_text};
-ghost use Rattle.dm_session.specs.Orders.{as_turn};
-ghost use Rattle.dm_live.specs.AnswerLines.{action_line, action_lines, arrival_line, turn_lines, refusal_line};
+ghost use Rattle.dm_live.specs.AnswerLines.{action_line, action_lines, arrival_line, refusal_line};
+ghost use Rattle.dm_node.specs.Holding.{peer_at};
+ghost use Rattle.dm_node.specs.declared.fault.EventFault.TheVariants as faults;
+ghost use Rattle.dm_peer.specs.declared.fault.PeerFault.TheVariants as peer_faults;
+ghost use Rattle.dm_node_session.specs.NodeTurns.{as_answer, as_node_turn};
+ghost use Rattle.dm_live.specs.Answers.{ignored_line, neighbour_line, event_lines, turn_lines, event_refusal_line};
+ghost use Rattle.dm_live.specs.Answers.{state_line, states_lines, concerned_state_line, states_behind};
+ghost use Rattle.dm_live.specs.OrderLines.{node_asked};
 ghost use Rattle.dm_live.specs.Served.{fault_answer};
-ghost use Rattle.dm_live.specs.AnswerLines.{held_words, standing_words, state_line};
+ghost use Rattle.dm_live.specs.AnswerLines.{held_words, standing_words};
 
+use crate::form::Form;
 use crate::line_ends::{end_with_number, end_with_octets};
 use dm_machine::Conn;
+use dm_node_session::{EventFault, Neighbours, NodeActions, NodeOrder, NodeTurn};
 use dm_peer::{Action, Peer, PeerFault};
-use dm_session::Turn;
 use dm_text::put_decimal;
 use std::alloc::AllocError;
 
@@ -40,7 +47,7 @@ fn put_message(text: &mut String, conn: Conn, message: &[u8]) -> Result<(), Allo
 }
 
 /// Appends the lines of actions, in order.
-pub fn put_actions(text: &mut String, actions: &[Action]) -> Result<(), AllocError>
+fn put_actions(text: &mut String, actions: &[Action]) -> Result<(), AllocError>
     ensures { OnOk result (string_bytes text.new ≡ string_bytes text.old ++ action_lines actions.now) }
 {
     for action in actions {
@@ -51,7 +58,7 @@ pub fn put_actions(text: &mut String, actions: &[Action]) -> Result<(), AllocErr
 
 /// Appends that a whole message came, where one did.
 #[tactic(auto, unfolding(crate::specs::AnswerLines::arrival_line))]
-pub(crate) fn put_arrival(text: &mut String, arrived: Option<Conn>) -> Result<(), AllocError>
+fn put_arrival(text: &mut String, arrived: Option<Conn>) -> Result<(), AllocError>
     ensures { OnOk result (string_bytes text.new ≡ string_bytes text.old ++ arrival_line arrived) }
 {
     match arrived {
@@ -60,17 +67,9 @@ pub(crate) fn put_arrival(text: &mut String, arrived: Option<Conn>) -> Result<()
     }
 }
 
-/// Appends the lines of a message that was told, or of a fault.
-pub fn put_turn(text: &mut String, turn: &Turn) -> Result<(), AllocError>
-    ensures { OnOk result (string_bytes text.new ≡ string_bytes text.old ++ turn_lines (as_turn turn.now)) }
-{
-    put_arrival(text, turn.arrived)?;
-    put_actions(text, turn.actions.as_slice())
-}
-
 /// Appends why an order was refused. Want of memory has no words, and is answered as such.
 #[tactic(auto, unfolding(crate::specs::AnswerLines::refusal_line))]
-pub fn put_refusal(text: &mut String, fault: PeerFault) -> Result<(), AllocError>
+fn put_refusal(text: &mut String, fault: PeerFault) -> Result<(), AllocError>
     ensures words { OnOk result (string_bytes text.new ≡ string_bytes text.old ++ refusal_line fault) }
     ensures known { OnOk result (fault ≢ PeerFault.NoMemory) }
 {
@@ -105,17 +104,8 @@ fn put_held(text: &mut String, letter: &str, held: Option<Conn>) -> Result<(), A
     Ok(())
 }
 
-/// Appends how the peer stands.
-#[tactic(auto, unfolding(crate::specs::AnswerLines::state_line))]
-pub fn put_state(text: &mut String, peer: &Peer) -> Result<(), AllocError>
-    ensures { OnOk result (string_bytes text.new ≡ string_bytes text.old ++ state_line peer.now) }
-{
-    text.push_str("state ")?;
-    put_standing(text, peer)
-}
-
 /// Appends the peer's state, and the connections that it holds.
-pub(crate) fn put_standing(text: &mut String, peer: &Peer) -> Result<(), AllocError>
+fn put_standing(text: &mut String, peer: &Peer) -> Result<(), AllocError>
     ensures { OnOk result (string_bytes text.new ≡ string_bytes text.old ++ standing_words peer.now) }
 {
     text.push_str(peer.state().name())?;
@@ -123,4 +113,157 @@ pub(crate) fn put_standing(text: &mut String, peer: &Peer) -> Result<(), AllocEr
     put_held(text, " r", peer.accepted())?;
     text.push_str("\n")?;
     Ok(())
+}
+
+/// Appends which neighbour of several an event concerned, where it concerned one.
+#[tactic(auto, unfolding(crate::specs::Answers::neighbour_line))]
+pub(crate) fn put_neighbour(
+    text: &mut String,
+    form: Form,
+    index: Option<usize>,
+) -> Result<(), AllocError>
+    ensures { OnOk result (string_bytes text.new ≡ string_bytes text.old ++ neighbour_line form index) }
+{
+    match (form, index) {
+        (Form::Several, Some(index)) => end_with_number(text, "neighbour ", index as u64),
+        (Form::Several, None) => Ok(()),
+        (Form::Alone, _) => Ok(()),
+    }
+}
+
+/// Appends the lines of what an event asked for.
+pub(crate) fn put_event(
+    text: &mut String,
+    form: Form,
+    answer: &NodeActions,
+) -> Result<(), AllocError>
+    ensures { OnOk result (string_bytes text.new
+        ≡ string_bytes text.old ++ event_lines form (as_answer answer.now)) }
+{
+    put_neighbour(text, form, answer.neighbour)?;
+    put_actions(text, answer.actions.as_slice())
+}
+
+/// Appends the lines of a message that was told, or of a fault.
+pub(crate) fn put_turn(text: &mut String, form: Form, turn: &NodeTurn) -> Result<(), AllocError>
+    ensures { OnOk result (string_bytes text.new
+        ≡ string_bytes text.old ++ turn_lines form (as_node_turn turn.now)) }
+{
+    put_neighbour(text, form, turn.answer.neighbour)?;
+    put_arrival(text, turn.arrived)?;
+    put_actions(text, turn.answer.actions.as_slice())
+}
+
+/// Appends that an order told no event, where it is one of those that tell one.
+#[tactic(auto, unfolding(crate::specs::Answers::ignored_line))]
+pub(crate) fn put_untold(text: &mut String, order: NodeOrder<'_>) -> Result<(), AllocError>
+    ensures { OnOk result (string_bytes text.new
+        ≡ string_bytes text.old ++ ignored_line (node_asked order.entry).order) }
+{
+    match order {
+        NodeOrder::Accept(_)
+        | NodeOrder::Octets(_, _)
+        | NodeOrder::Reset(_)
+        | NodeOrder::ResetAll => Ok(()),
+        _ => text.push_str("ignored\n"),
+    }
+}
+
+/// Appends why an order was refused. Want of memory has no words, and is answered as such.
+#[tactic(auto, unfolding(crate::specs::Answers::event_refusal_line))]
+pub(crate) fn put_event_refusal(text: &mut String, fault: EventFault) -> Result<(), AllocError>
+    ensures words { OnOk result (string_bytes text.new ≡ string_bytes text.old ++ event_refusal_line fault) }
+    ensures known { OnOk result (fault ≢ faults.Peer peer_faults.NoMemory) }
+{
+    match fault {
+        EventFault::NoNeighbour => text.push_str("refused NoNeighbour\n"),
+        EventFault::Held => text.push_str("refused Held\n"),
+        EventFault::Peer(fault) => put_refusal(text, fault),
+    }
+}
+
+/// Appends how the neighbour of the number stands.
+#[tactic(auto, unfolding(crate::specs::Answers::state_line))]
+fn put_peer_state(text: &mut String, index: usize, peer: &Peer) -> Result<(), AllocError>
+    ensures { OnOk result (string_bytes text.new
+        ≡ string_bytes text.old ++ state_line Form.Several index (Some peer.now)) }
+{
+    text.push_str("state ")?;
+    put_decimal(text, index as u64)?;
+    text.push_str(" ")?;
+    put_standing(text, peer)
+}
+
+/// Appends how the neighbour of a place stands, where one is there.
+#[tactic(auto, unfolding(crate::specs::Answers::state_line))]
+fn put_place_state(text: &mut String, index: usize, place: &Option<Peer>) -> Result<(), AllocError>
+    ensures { OnOk result (string_bytes text.new ≡ string_bytes text.old ++ state_line Form.Several index place.now) }
+{
+    match place {
+        Some(peer) => put_peer_state(text, index, peer),
+        None => Ok(()),
+    }
+}
+
+/// Appends how each neighbour stands, in order.
+fn put_all_states(text: &mut String, places: &[Option<Peer>]) -> Result<(), AllocError>
+    ensures { OnOk result (string_bytes text.new ≡ string_bytes text.old ++ states_lines 0 places.now) }
+{
+    'place: for index in 0..places.len() {
+        put_place_state(text, index, &places[index])?;
+    }
+    Ok(())
+}
+
+/// Appends how the neighbour of the number stands, if there is one.
+#[tactic(auto, unfolding(crate::specs::Answers::state_line))]
+fn put_state_at(
+    text: &mut String,
+    neighbours: &Neighbours,
+    index: Option<usize>,
+) -> Result<(), AllocError>
+    ensures { OnOk result (string_bytes text.new
+        ≡ string_bytes text.old ++ concerned_state_line index neighbours.now.peers) }
+{
+    let Some(index) = index else {
+        return Ok(());
+    };
+    match neighbours.peer(index) {
+        Some(peer) => put_peer_state(text, index, peer),
+        None => Ok(()),
+    }
+}
+
+/// Appends how the peer stands that is alone.
+#[tactic(auto, unfolding(crate::specs::Answers::state_line))]
+fn put_state_alone(text: &mut String, neighbours: &Neighbours) -> Result<(), AllocError>
+    ensures { OnOk result (string_bytes text.new
+        ≡ string_bytes text.old ++ state_line Form.Alone 0 (peer_at neighbours.now.peers 0)) }
+{
+    match neighbours.peer(0) {
+        Some(peer) => {
+            text.push_str("state ")?;
+            put_standing(text, peer)
+        }
+        None => Ok(()),
+    }
+}
+
+/// Appends how each of several stands behind an order that concerned all, or else the one that it concerned last; and
+/// how a peer stands that is alone, behind each order.
+pub(crate) fn put_states_behind(
+    text: &mut String,
+    form: Form,
+    neighbours: &Neighbours,
+    order: NodeOrder<'_>,
+    last: Option<usize>,
+) -> Result<(), AllocError>
+    ensures { OnOk result (string_bytes text.new
+        ≡ string_bytes text.old ++ states_behind form order.entry last neighbours.now.peers) }
+{
+    match (form, order) {
+        (Form::Alone, _) => put_state_alone(text, neighbours),
+        (Form::Several, NodeOrder::ResetAll) => put_all_states(text, neighbours.iter().as_slice()),
+        (Form::Several, _) => put_state_at(text, neighbours, last),
+    }
 }

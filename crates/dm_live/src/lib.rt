@@ -1,4 +1,4 @@
-//! The library of the program `dmlive`: one peer with its connections, told by lines.
+//! The library of the program `dmlive`: a node with its connections, of one peer or of several, told by lines.
 #![tactic(auto)]
 
 mod answer;
@@ -11,9 +11,6 @@ mod input;
 pub mod laws;
 mod line_ends;
 mod live;
-mod node_answer;
-mod node_answer_lines;
-mod node_line;
 mod order_line;
 mod order_name;
 mod order_words;
@@ -24,11 +21,10 @@ mod serve;
 mod setting_name;
 mod setting_words;
 
-pub use crate::answer::{answer_met, answer_order};
+pub use crate::answer::answer_order;
 pub use crate::fault::LiveFault;
 pub use crate::form::Form;
 pub use crate::input::next_line;
-pub use crate::node_answer::answer_node;
 pub use crate::order_line::{OrderLine, read_order};
 pub use crate::order_name::OrderName;
 pub use crate::program::{Ended, run_program};

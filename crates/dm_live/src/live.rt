@@ -1,34 +1,30 @@
 //! A run of the program, line by line.
 ghost use Rattle.std.specs.Prelude.{◌≡◌, ◌++◌, ℕ, List, true, false, OnOk};
 ghost use Rattle.std.specs.String.{string_bytes};
-ghost use Rattle.dm_session.specs.Acquaintances.{nobody};
-ghost use Rattle.dm_session.specs.Seen.{session_of};
 ghost use Rattle.dm_live.specs.Drafts.{settings_of};
-ghost use Rattle.dm_live.specs.Meetings.{met_with};
+ghost use Rattle.dm_live.specs.Meetings.{meeting_of};
 ghost use Rattle.dm_live.specs.Served.{Drafting, IsGo};
 ghost use Rattle.dm_live.specs.Served.{AnswersSetting, AnswersOrder, AnswersLine};
 ghost use Rattle.dm_live.specs.Settings.{no_settings};
 ghost use Rattle.dm_live.specs.Stages.{stage_of};
 
-use crate::answer::answer_met;
+use crate::answer::answer_order;
 use crate::answer_lines::put_fault;
 use crate::begun::{Begun, begin};
 use crate::draft::Draft;
 use crate::form::Form;
-use crate::node_line::answer_node_line;
 use crate::order_line::read_order;
-use crate::sender_lines::{is_sender, put_sender};
-use dm_session::{Acquaintance, Session};
+use crate::sender_lines::{put_sender_at, read_sender};
+use dm_node_session::NodeSession;
 use dm_text::Words;
 use std::alloc::{AllocError, Global};
 use std::mem;
 
-/// What the configuration says so far, and the session behind its `go`, with whom it met.
+/// What the configuration says so far, and the session behind its `go`.
 #[derive(Drop)]
 pub(crate) struct Live {
     draft: Draft,
     begun: Begun,
-    known: Acquaintance,
 }
 
 impl Live {
@@ -39,7 +35,6 @@ impl Live {
         Live {
             draft: Draft::new(alloc),
             begun: Begun::Nothing,
-            known: Acquaintance::new(alloc),
         }
     }
 
@@ -55,29 +50,23 @@ impl Live {
             × AnswersLine number line.now (stage_of self.old) (stage_of self.new) answer
             × (string_bytes text.new ≡ string_bytes text.old ++ answer)) }
     {
-        match &mut self.begun {
-            Begun::OnePeer(session) => {
-                return answer_told(alloc, session, &mut self.known, number, line, text);
-            }
-            Begun::Node(session) => return answer_node_line(alloc, session, number, line, text),
-            Begun::Nothing => {}
+        if let Begun::Running(form, session) = &mut self.begun {
+            return answer_told(alloc, *form, session, number, line, text);
         }
         if is_go(line) {
             let begun = begin(alloc, &self.draft, number, text)?;
-            self.put_begun(alloc, begun);
+            self.put_begun(begun);
             return Ok(());
         }
         answer_setting(&mut self.draft, number, line, text)
     }
 
-    /// Goes on with this session, which met nobody yet. It takes no memory.
-    fn put_begun(&mut self, alloc: Global, begun: Begun)
+    /// Goes on with this session. It takes no memory.
+    fn put_begun(&mut self, begun: Begun)
         ensures draft { self.new.draft ≡ self.old.draft }
         ensures begun { self.new.begun ≡ begun }
-        ensures known { self.new.known ≡ nobody }
     {
         drop(mem::replace(&mut self.begun, begun));
-        drop(mem::replace(&mut self.known, Acquaintance::new(alloc)));
     }
 }
 
@@ -112,27 +101,26 @@ fn answer_setting(
     }
 }
 
-/// Answers who the other side is, or tells the order of a line and answers it, or answers a bad line.
+/// Answers whom a neighbour met, or tells the order of a line and answers it, or answers a bad line.
 fn answer_told(
     alloc: Global,
-    session: &mut Session,
-    known: &mut Acquaintance,
+    form: Form,
+    session: &mut NodeSession,
     number: u64,
     line: &[u8],
     text: &mut String,
 ) -> Result<(), AllocError>
     ensures { OnOk result ((answer : List ℕ)
-        × AnswersOrder number line.now (met_with (session_of session.old) known.old)
-        (met_with (session_of session.new) known.new) answer
+        × AnswersOrder number form line.now (meeting_of session.old) (meeting_of session.new) answer
         × (string_bytes text.new ≡ string_bytes text.old ++ answer)) }
 {
-    if is_sender(line) {
-        put_sender(alloc, text, known)?;
+    if let Some(index) = read_sender(form, line) {
+        put_sender_at(alloc, text, session.known(index))?;
         return text.push_str(".\n");
     }
-    match read_order(alloc, Form::Alone, line)? {
+    match read_order(alloc, form, line)? {
         Some(order) => {
-            answer_met(alloc, session, known, &order, text)?;
+            answer_order(alloc, form, session, order.order(), text)?;
             text.push_str(".\n")
         }
         None => put_fault(text, number, "Syntax"),

@@ -2,7 +2,6 @@
 ghost use Rattle.std.specs.Prelude.{◌≡◌, ◌≢◌, [], IfOk, IfSome, IfNone, MatchOption};
 ghost use Rattle.dm_text.specs.Words.{words};
 ghost use Rattle.dm_node_session.specs.declared.node_order.NodeOrder.{NodeOrder as AskedNodeOrder};
-ghost use Rattle.dm_session.specs.Orders.{order_asked};
 ghost use Rattle.dm_live.specs.OrderLines.{node_asked, told_order, TellsNamed, TellsOrder};
 
 use crate::form::Form;
@@ -14,7 +13,6 @@ use crate::order_words::{
 use dm_base::Cause;
 use dm_machine::Conn;
 use dm_node_session::NodeOrder;
-use dm_session::Order;
 use dm_text::{Words, read_hex_word, read_long_number};
 use dm_wire::Octets;
 use std::alloc::{AllocError, Global};
@@ -54,25 +52,6 @@ impl OrderLine {
             OrderLine::Submit(index, octets) => NodeOrder::Submit(*index, octets.as_slice()),
             OrderLine::Reset(index) => NodeOrder::Reset(*index),
             OrderLine::ResetAll => NodeOrder::ResetAll,
-        }
-    }
-
-    /// The order for the session of one peer, whatever its number. It never answers want of memory.
-    pub fn peer_order(&self) -> Order<'_>
-        ensures { order_asked result ≡ (told_order self.now).order }
-    {
-        match self {
-            OrderLine::Start(_, conn) => Order::Start(*conn),
-            OrderLine::Ack(conn) => Order::Ack(*conn),
-            OrderLine::Nack(conn) => Order::Nack(*conn),
-            OrderLine::Accept(conn) => Order::Accept(*conn),
-            OrderLine::Octets(conn, piece) => Order::Octets(*conn, piece.as_slice()),
-            OrderLine::Gone(conn) => Order::Gone(*conn),
-            OrderLine::Timeout(_) => Order::Timeout,
-            OrderLine::Tick(_) => Order::Tick,
-            OrderLine::Stop(_, cause) => Order::Stop(*cause),
-            OrderLine::Submit(_, octets) => Order::Submit(octets.as_slice()),
-            OrderLine::Reset(_) | OrderLine::ResetAll => Order::Reset,
         }
     }
 }

@@ -2,8 +2,9 @@
 ghost use Rattle.std.specs.Prelude.{◌≡◌, [], None, Some, IfOk, IfErr, OnOk};
 ghost use Rattle.dm_node.specs.Holding.{IsKnown};
 ghost use Rattle.dm_peer.specs.Hosts.{config_fault};
-ghost use Rattle.dm_node_session.specs.NodeSeen.{node_session_of};
-ghost use Rattle.dm_live.specs.Beginnings.{IsConfiguredFor, BeginsForHosts, peers_fault, first_told};
+ghost use Rattle.dm_node_session.specs.NodeSeen.{node_session_of, node_known_of};
+ghost use Rattle.dm_node_session.specs.NodeKnown.{with_nobody};
+ghost use Rattle.dm_live.specs.Beginnings.{IsConfiguredFor, BeginsForHosts, AreUnmet, peers_fault, first_told};
 ghost use Rattle.dm_live.specs.Drafts.{settings_of};
 ghost use Rattle.dm_live.specs.Joining.{AddsLike, RefusesHost};
 
@@ -21,6 +22,8 @@ fn add_peer(
 ) -> Result<Result<(), &'static str>, AllocError>
     ensures added { IfOk result (λ added. OnOk added (AddsLike template.now host.now (node_session_of session.old)
         (node_session_of session.new))) }
+    ensures unmet { IfOk result (λ added. OnOk added (node_known_of session.new
+        ≡ with_nobody (node_known_of session.old))) }
     ensures fit { IfOk result (λ added. OnOk added (config_fault template.now.node.host host.now ≡ None)) }
     ensures new { IfOk result (λ added. OnOk added (IsKnown (node_session_of session.old).peers host.now → ⊥)) }
     ensures fault { IfOk result (λ added. IfErr added (λ name.
@@ -46,8 +49,10 @@ fn add_peers(
 ) -> Result<Result<(), &'static str>, AllocError>
     requires made { IsConfiguredFor (settings_of draft.now) (first_told (settings_of draft.now).peers) template.now }
     requires none { BeginsForHosts (settings_of draft.now) [] (node_session_of session.old) }
+    requires nobody { AreUnmet (node_known_of session.old) }
     ensures begun { IfOk result (λ added. OnOk added (BeginsForHosts (settings_of draft.now)
         (settings_of draft.now).peers (node_session_of session.new))) }
+    ensures unmet { IfOk result (λ added. OnOk added (AreUnmet (node_known_of session.new))) }
     ensures good { IfOk result (λ added. OnOk added (peers_fault (settings_of draft.now).host []
         (settings_of draft.now).peers ≡ None)) }
     ensures fault { IfOk result (λ added. IfErr added (λ name. peers_fault (settings_of draft.now).host []
@@ -73,6 +78,7 @@ pub(crate) fn node_session(
     requires made { IsConfiguredFor (settings_of draft.now) (first_told (settings_of draft.now).peers) template.now }
     ensures begun { IfOk result (λ made. IfOk made (λ session. BeginsForHosts (settings_of draft.now)
         (settings_of draft.now).peers (node_session_of session))) }
+    ensures unmet { IfOk result (λ made. IfOk made (λ session. AreUnmet (node_known_of session))) }
     ensures good { IfOk result (λ made. OnOk made (peers_fault (settings_of draft.now).host []
         (settings_of draft.now).peers ≡ None)) }
     ensures fault { IfOk result (λ made. IfErr made (λ name. peers_fault (settings_of draft.now).host []

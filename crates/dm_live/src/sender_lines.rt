@@ -1,6 +1,7 @@
 //! The lines of who the other side is.
-ghost use Rattle.std.specs.Prelude.{◌≡◌, ◌++◌, List, true, false, OnOk, codes};
+ghost use Rattle.std.specs.Prelude.{◌≡◌, ◌++◌, ℕ, List, IfSome, IfNone, OnOk, codes};
 ghost use Rattle.std.specs.List.{flat_map};
+ghost use Rattle.std.specs.Option.{option_copied};
 ghost use Rattle.std.specs.String.{string_bytes};
 ghost use Rattle.dm_wire.specs.declared.avp.Avp.{Avp};
 ghost use Rattle.dm_base.specs.Codes.{supported_vendor_id};
@@ -9,24 +10,25 @@ ghost use Rattle.dm_base.specs.Senders.{HasAvps, numbers_told};
 ghost use Rattle.dm_session.specs.Acquaintances.{exchange_in};
 ghost use Rattle.dm_live.specs.SenderLines.{IsSender, octets_line, number_line, number_lines, number_line_if_any};
 ghost use Rattle.dm_live.specs.SenderLines.{name_lines, version_lines, ability_lines};
-ghost use Rattle.dm_live.specs.SenderLines.{exchange_lines, anew_line, sender_lines};
+ghost use Rattle.dm_live.specs.SenderLines.{exchange_lines, anew_line, sender_lines, sender_answer};
 
+use crate::form::Form;
 use crate::line_ends::{end_with_number, end_with_octets};
-use crate::order_words::is_nothing;
+use crate::order_words::neighbour_alone;
 use dm_base::SenderRef;
 use dm_session::Acquaintance;
 use dm_text::Words;
 use std::alloc::{AllocError, Global};
 
-/// Whether the line asks who the other side is.
-pub(crate) fn is_sender(line: &[u8]) -> bool
-    ensures told { result ≡ true → IsSender line.now }
-    ensures none { result ≡ false → IsSender line.now → ⊥ }
+/// The number of the neighbour of which the line asks whom it met; None where it asks nothing such.
+pub(crate) fn read_sender(form: Form, line: &[u8]) -> Option<usize>
+    ensures told { IfSome result (λ n. IsSender form n line.now) }
+    ensures none { IfNone result ((n : ℕ) → IsSender form n line.now → ⊥) }
 {
     let mut left = Words::new(line);
     match left.next() {
-        Some(word) => word == b"sender".as_slice() && is_nothing(&mut left),
-        None => false,
+        Some(b"sender") => neighbour_alone(form, &mut left),
+        _ => None,
     }
 }
 
@@ -164,14 +166,26 @@ fn put_anew(text: &mut String, is_anew: bool) -> Result<(), AllocError>
 }
 
 /// Appends who the other side is, or that nobody was met, and its Origin-State-Id of the time before.
-pub(crate) fn put_sender(
-    alloc: Global,
-    text: &mut String,
-    known: &Acquaintance,
-) -> Result<(), AllocError>
+fn put_sender(alloc: Global, text: &mut String, known: &Acquaintance) -> Result<(), AllocError>
     ensures { OnOk result (string_bytes text.new ≡ string_bytes text.old ++ sender_lines known.now) }
 {
     put_exchange(alloc, text, known)?;
     put_if_any(text, "origin-state-before", known.state_before())?;
     put_anew(text, known.is_anew())
+}
+
+/// Appends who the other side of a neighbour is, or that there is none of the number.
+#[tactic(auto, unfolding(crate::specs::SenderLines::sender_answer))]
+pub(crate) fn put_sender_at(
+    alloc: Global,
+    text: &mut String,
+    known: Option<&Acquaintance>,
+) -> Result<(), AllocError>
+    ensures { OnOk result (string_bytes text.new
+        ≡ string_bytes text.old ++ sender_answer (option_copied known.entry)) }
+{
+    match known {
+        Some(known) => put_sender(alloc, text, known),
+        None => text.push_str("refused NoNeighbour\n"),
+    }
 }

@@ -1,8 +1,8 @@
-//! What a session knows of the other side, which comes again.
+//! What a node knows of a neighbour, which comes again.
 
-use crate::session::{DWR_OF_B, R, asked, session};
+use crate::session::{DWR_OF_B, R, alone, asked};
+use dm_node_session::{Acquaintance, Alone, NodeOrder, NodeSession};
 use dm_peer::Conn;
-use dm_session::{Acquaintance, Order, Session};
 use std::process::Abort;
 
 /// The CER of b.example, of application 4, with Origin-State-Id 7, and with 8.
@@ -12,16 +12,15 @@ const CER_OF_7: &str =
 const CER_OF_8: &str =
     "0100007c800001010000000000000009000000090000010840000011622e6578616d706c65000000000001284000000f6578616d706c6500000001014000000e00017f00000100000000010a4000000c000000000000010d0000000e646d706565720000000001024000000c00000004000001164000000c00000008";
 
-/// How many turns are told of the piece that comes on the connection, one at most; whom they meet is known.
+/// How many turns are told of the piece that comes on the connection, one at most.
 fn told(
     rt: &(impl Abort + AllocGlobal),
-    session: &mut Session,
-    known: &mut Acquaintance,
+    session: &mut NodeSession,
     conn: Conn,
     piece: &[u8],
 ) -> usize {
-    let _kept = asked(rt, session, Order::Octets(conn, piece));
-    match session.next_met(rt.alloc(), conn, known) {
+    let _kept = asked(rt, session, NodeOrder::Octets(conn, piece));
+    match session.next(rt.alloc(), &Alone, conn) {
         Ok(Some(_)) => 1,
         Ok(None) => 0,
         Err(_) => 100,
@@ -31,30 +30,37 @@ fn told(
 /// The digits come on the connection in halves: how many turns are told at each.
 fn told_in_halves(
     rt: &(impl Abort + AllocGlobal),
-    session: &mut Session,
-    known: &mut Acquaintance,
+    session: &mut NodeSession,
     conn: Conn,
     digits: &str,
 ) -> (usize, usize) {
     let octets = hex::decode(rt.alloc(), digits.as_bytes()).expect(rt, "digits");
     let (front, back) = octets.as_slice().split_at(octets.len() / 2);
-    let first = told(rt, session, known, conn, front);
-    let second = told(rt, session, known, conn, back);
+    let first = told(rt, session, conn, front);
+    let second = told(rt, session, conn, back);
     drop(octets);
     (first, second)
 }
 
 /// The Origin-State-Id, the one before, and whether the other side has begun anew.
-fn states(known: &Acquaintance) -> (Option<u32>, Option<u32>, bool) {
-    (known.state(), known.state_before(), known.is_anew())
+fn states(session: &NodeSession) -> Option<(Option<u32>, Option<u32>, bool)> {
+    match session.known(0) {
+        Some(known) => Some((known.state(), known.state_before(), known.is_anew())),
+        None => None,
+    }
+}
+
+/// The Origin-State-Id that is known.
+fn state(session: &NodeSession) -> Option<u32> {
+    session.known(0).and_then(Acquaintance::state)
 }
 
 /// Of whom is known: how many octets the host and the realm have, and the first application.
 fn said(
     rt: &(impl Abort + AllocGlobal),
-    known: &Acquaintance,
+    session: &NodeSession,
 ) -> Option<(usize, usize, Option<u32>)> {
-    match known.sender() {
+    match session.known(0).and_then(Acquaintance::sender) {
         Some(sender) => match sender.applications(rt.alloc()) {
             Ok(ids) => {
                 let first = match ids.as_slice() {
@@ -77,31 +83,30 @@ fn met_once(
     (usize, usize),
     Option<(usize, usize, Option<u32>)>,
     (usize, usize),
-    (Option<u32>, Option<u32>, bool),
+    Option<(Option<u32>, Option<u32>, bool)>,
 ) {
-    let mut session = session(rt);
-    let mut known = Acquaintance::new(rt.alloc());
-    let _none = asked(rt, &mut session, Order::Accept(R));
-    let opened = told_in_halves(rt, &mut session, &mut known, R, CER_OF_7);
-    let watched = told_in_halves(rt, &mut session, &mut known, R, DWR_OF_B);
-    let found = said(rt, &known);
-    let states = states(&known);
-    drop(known);
+    let mut session = alone(rt);
+    let _none = asked(rt, &mut session, NodeOrder::Accept(R));
+    let opened = told_in_halves(rt, &mut session, R, CER_OF_7);
+    let watched = told_in_halves(rt, &mut session, R, DWR_OF_B);
+    let found = said(rt, &session);
+    let states = states(&session);
     drop(session);
     (opened, found, watched, states)
 }
 
 /// What is known behind a first connection with Origin-State-Id 7, and one of these digits that follows.
-fn met_again(rt: &(impl Abort + AllocGlobal), digits: &str) -> (Option<u32>, Option<u32>, bool) {
-    let mut session = session(rt);
-    let mut known = Acquaintance::new(rt.alloc());
-    let _none = asked(rt, &mut session, Order::Accept(R));
-    let _opened = told_in_halves(rt, &mut session, &mut known, R, CER_OF_7);
-    let _gone = asked(rt, &mut session, Order::Gone(R));
-    let _again = asked(rt, &mut session, Order::Accept(Conn(10)));
-    let _opened_again = told_in_halves(rt, &mut session, &mut known, Conn(10), digits);
-    let states = states(&known);
-    drop(known);
+fn met_again(
+    rt: &(impl Abort + AllocGlobal),
+    digits: &str,
+) -> Option<(Option<u32>, Option<u32>, bool)> {
+    let mut session = alone(rt);
+    let _none = asked(rt, &mut session, NodeOrder::Accept(R));
+    let _opened = told_in_halves(rt, &mut session, R, CER_OF_7);
+    let _gone = asked(rt, &mut session, NodeOrder::Gone(R));
+    let _again = asked(rt, &mut session, NodeOrder::Accept(Conn(10)));
+    let _opened_again = told_in_halves(rt, &mut session, Conn(10), digits);
+    let states = states(&session);
     drop(session);
     states
 }
@@ -111,39 +116,31 @@ fn met_again(rt: &(impl Abort + AllocGlobal), digits: &str) -> (Option<u32>, Opt
 fn met_at_nack(
     rt: &(impl Abort + AllocGlobal),
 ) -> ((usize, usize), Option<u32>, Option<u32>, Option<u32>) {
-    let mut session = session(rt);
-    let mut known = Acquaintance::new(rt.alloc());
+    let mut session = alone(rt);
     let own = Conn(0);
-    let _asked = asked(rt, &mut session, Order::Start(own));
-    let _none = asked(rt, &mut session, Order::Accept(R));
-    let crossed = told_in_halves(rt, &mut session, &mut known, R, CER_OF_7);
-    let waiting = known.state();
-    let _actions = session
-        .take_met(rt.alloc(), Order::Nack(own), &mut known)
-        .is_ok();
-    let met = known.state();
-    let _refused = session
-        .take_met(rt.alloc(), Order::Start(Conn(1)), &mut known)
-        .is_ok();
-    let later = known.state();
-    drop(known);
+    let _asked = asked(rt, &mut session, NodeOrder::Start(0, own));
+    let _none = asked(rt, &mut session, NodeOrder::Accept(R));
+    let crossed = told_in_halves(rt, &mut session, R, CER_OF_7);
+    let waiting = state(&session);
+    let _actions = asked(rt, &mut session, NodeOrder::Nack(own));
+    let met = state(&session);
+    let _refused = asked(rt, &mut session, NodeOrder::Start(0, Conn(1)));
+    let later = state(&session);
     drop(session);
     (crossed, waiting, met, later)
 }
 
 /// How many octets of a CER are told where it lies, and the Origin-State-Id that is known then.
 fn met_in_place(rt: &(impl Abort + AllocGlobal)) -> (Option<usize>, Option<u32>) {
-    let mut session = session(rt);
-    let mut known = Acquaintance::new(rt.alloc());
-    let _none = asked(rt, &mut session, Order::Accept(R));
+    let mut session = alone(rt);
+    let _none = asked(rt, &mut session, NodeOrder::Accept(R));
     let octets = hex::decode(rt.alloc(), CER_OF_8.as_bytes()).expect(rt, "digits");
-    let told = match session.hear_met(rt.alloc(), R, octets.as_slice(), &mut known) {
+    let told = match session.hear(rt.alloc(), &Alone, R, octets.as_slice()) {
         Ok(Some(heard)) => Some(heard.len),
         _ => None,
     };
     drop(octets);
-    let state = known.state();
-    drop(known);
+    let state = state(&session);
     drop(session);
     (told, state)
 }
@@ -166,17 +163,17 @@ fn cer_in_halves_is_known_behind_a_watchdog(rt: HostRuntime) {
             (0, 1),
             Some((9, 7, Some(4))),
             (0, 1),
-            (Some(7), None, false)
+            Some((Some(7), None, false))
         )
     );
 }
 
 #[test]
 fn another_state_has_begun_anew(rt: HostRuntime) {
-    assert_eq!(rt; met_again(&rt, CER_OF_8), (Some(8), Some(7), true));
+    assert_eq!(rt; met_again(&rt, CER_OF_8), Some((Some(8), Some(7), true)));
 }
 
 #[test]
 fn same_state_has_not_begun_anew(rt: HostRuntime) {
-    assert_eq!(rt; met_again(&rt, CER_OF_7), (Some(7), Some(7), false));
+    assert_eq!(rt; met_again(&rt, CER_OF_7), Some((Some(7), Some(7), false)));
 }

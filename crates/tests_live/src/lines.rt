@@ -1,8 +1,8 @@
-//! Orders in lines, answered over a session.
+//! Orders in lines to a peer alone, answered over the session of its node.
 
-use crate::session::session;
-use dm_live::{Form, answer_met, answer_order, read_order};
-use dm_session::{Acquaintance, Session};
+use crate::session::alone;
+use dm_live::{Form, answer_order, read_order};
+use dm_node_session::{Acquaintance, NodeSession};
 use std::process::Abort;
 
 /// The CER of b.example, of application 4, with number 9.
@@ -14,61 +14,34 @@ const ANSWERS: &str =
     "state Closed\narrived 9\nsend 9 0100007c000001010000000000000009000000090000010c4000000c000007d10000010840000011612e6578616d706c65000000000001284000000f6578616d706c6500000001014000000e00017f00000100000000010a4000000c000000000000010d0000000e646d6c6976650000000001024000000c00000004\nstate R-Open r9\n";
 
 /// Answers the line, where it tells an order.
-fn answer(rt: &(impl Abort + AllocGlobal), session: &mut Session, line: &str, text: &mut String) {
-    if let Some(order) = read_order(rt.alloc(), Form::Alone, line.as_bytes()).expect(rt, "memory") {
-        answer_order(rt.alloc(), session, &order, text).expect(rt, "memory");
-    }
-}
-
-/// Answers the line, where it tells an order, and keeps whom the session met.
-fn answer_and_know(
+fn answer(
     rt: &(impl Abort + AllocGlobal),
-    session: &mut Session,
-    known: &mut Acquaintance,
+    session: &mut NodeSession,
     line: &str,
     text: &mut String,
 ) {
     if let Some(order) = read_order(rt.alloc(), Form::Alone, line.as_bytes()).expect(rt, "memory") {
-        answer_met(rt.alloc(), session, known, &order, text).expect(rt, "memory");
+        answer_order(rt.alloc(), Form::Alone, session, order.order(), text).expect(rt, "memory");
     }
 }
 
-/// Whether the two lines are answered as they should be.
-fn is_answered(rt: &(impl Abort + AllocGlobal)) -> bool {
-    let mut session = session(rt);
+/// Whether the two lines are answered as they should be, and how many octets the host has that was met.
+fn met(rt: &(impl Abort + AllocGlobal)) -> (bool, Option<usize>) {
+    let mut session = alone(rt);
     let mut text = String::new(rt.alloc());
     answer(rt, &mut session, "accept 9", &mut text);
     answer(rt, &mut session, OCTETS, &mut text);
     let same = text.as_str() == ANSWERS;
-    drop(text);
-    drop(session);
-    same
-}
-
-/// Whether they are, and how many octets the host has that was met.
-fn met(rt: &(impl Abort + AllocGlobal)) -> (bool, Option<usize>) {
-    let mut session = session(rt);
-    let mut known = Acquaintance::new(rt.alloc());
-    let mut text = String::new(rt.alloc());
-    answer_and_know(rt, &mut session, &mut known, "accept 9", &mut text);
-    answer_and_know(rt, &mut session, &mut known, OCTETS, &mut text);
-    let same = text.as_str() == ANSWERS;
-    let host = match known.sender() {
+    let host = match session.known(0).and_then(Acquaintance::sender) {
         Some(sender) => Some(sender.host().len()),
         None => None,
     };
     drop(text);
-    drop(known);
     drop(session);
     (same, host)
 }
 
 #[test]
-fn lines_are_answered(rt: HostRuntime) {
-    assert!(rt; is_answered(&rt));
-}
-
-#[test]
-fn lines_are_answered_alike_where_the_host_is_kept(rt: HostRuntime) {
+fn lines_are_answered_and_the_host_is_kept(rt: HostRuntime) {
     assert_eq!(rt; met(&rt), (true, Some(9)));
 }

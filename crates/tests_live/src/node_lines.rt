@@ -1,7 +1,7 @@
 //! Orders to a node in lines, answered over its session.
 
 use crate::nodes::three;
-use dm_live::{Form, answer_node, read_order};
+use dm_live::{Form, answer_order, read_order};
 use dm_node_session::NodeSession;
 use std::process::Abort;
 
@@ -24,7 +24,7 @@ fn answer(
     if let Some(order) = read_order(rt.alloc(), Form::Several, line.as_bytes()).expect(
         rt, "memory",
     ) {
-        answer_node(rt.alloc(), session, order.order(), text).expect(rt, "memory");
+        answer_order(rt.alloc(), Form::Several, session, order.order(), text).expect(rt, "memory");
     }
 }
 

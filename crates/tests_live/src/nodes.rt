@@ -278,6 +278,38 @@ fn broken(
     (fault, behind, state)
 }
 
+/// How many octets the host has that the neighbour of the number met, if there is one and it met anybody.
+pub(crate) fn host_met(session: &NodeSession, index: usize) -> Option<usize> {
+    match session.known(index) {
+        Some(known) => match known.sender() {
+            Some(sender) => Some(sender.host().len()),
+            None => None,
+        },
+        None => None,
+    }
+}
+
+/// Two call, and a host that is taken in, and the first of them is removed: the octets of each host that was met.
+fn known(rt: &(impl Abort + AllocGlobal)) -> [Option<usize>; 4] {
+    let mut session = three(rt);
+    let policy = Open::new(config(rt, b"b.example"), 4);
+    let _first = called(rt, &mut session, Conn(1), b'b');
+    let _second = called(rt, &mut session, Conn(2), b'c');
+    let _none = asked(rt, &mut session, NodeOrder::Accept(Conn(3)));
+    came(rt, &mut session, Conn(3), CER_OF_B, b'z');
+    let _taken = turn(rt, &mut session, &policy, Conn(3));
+    drop(session.remove(0));
+    let hosts = [
+        host_met(&session, 0),
+        host_met(&session, 1),
+        host_met(&session, 2),
+        host_met(&session, 3),
+    ];
+    drop(policy);
+    drop(session);
+    hosts
+}
+
 /// How much is closed where b.example goes that called, whether its connection is there then, and whether that of
 /// c.example is.
 fn removed(rt: &(impl Abort + AllocGlobal)) -> (Option<usize>, bool, bool) {
@@ -353,6 +385,11 @@ fn stranger_is_answered_and_closed(rt: HostRuntime) {
 #[test]
 fn removed_neighbour_is_closed(rt: HostRuntime) {
     assert_eq!(rt; removed(&rt), (Some(1), false, true));
+}
+
+#[test]
+fn whom_each_neighbour_met_is_known(rt: HostRuntime) {
+    assert_eq!(rt; known(&rt), [None, Some(9), None, Some(9)]);
 }
 
 #[test]

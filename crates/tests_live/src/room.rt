@@ -1,7 +1,7 @@
 //! The room that an answer takes: that of the same text appended a piece after the other, so at most twice its octets.
-use crate::session::{CER_OF_B, session};
+use crate::session::{CER_OF_B, alone};
 use dm_live::{Form, answer_order, read_order};
-use dm_session::Session;
+use dm_node_session::NodeSession;
 use dm_text::Hexadecimal;
 use std::process::Abort;
 
@@ -21,16 +21,21 @@ fn request(rt: &(impl Abort + AllocGlobal), size: u32) -> Vec<u8> {
 }
 
 /// Appends the answer to the line, which tells an order.
-fn answer(rt: &(impl Abort + AllocGlobal), session: &mut Session, line: &str, text: &mut String) {
+fn answer(
+    rt: &(impl Abort + AllocGlobal),
+    session: &mut NodeSession,
+    line: &str,
+    text: &mut String,
+) {
     if let Some(order) = read_order(rt.alloc(), Form::Alone, line.as_bytes()).expect(rt, "memory") {
-        answer_order(rt.alloc(), session, &order, text).expect(rt, "memory");
+        answer_order(rt.alloc(), Form::Alone, session, order.order(), text).expect(rt, "memory");
     }
 }
 
 /// What is answered to the order of this name with the octets.
 fn answered(
     rt: &(impl Abort + AllocGlobal),
-    session: &mut Session,
+    session: &mut NodeSession,
     name: &str,
     octets: &[u8],
 ) -> String {
@@ -67,7 +72,7 @@ fn are_alike(one: String, other: String) -> bool {
 }
 
 /// Whether a request of so many octets that comes, and one that is submitted, are answered in that room.
-fn is_roomy(rt: &(impl Abort + AllocGlobal), session: &mut Session, size: u32) -> bool {
+fn is_roomy(rt: &(impl Abort + AllocGlobal), session: &mut NodeSession, size: u32) -> bool {
     let octets = request(rt, size);
     let came = answered(rt, session, "octets 9", octets.as_slice());
     let up = are_alike(came, handed_up(rt, octets.as_slice()));
@@ -77,9 +82,9 @@ fn is_roomy(rt: &(impl Abort + AllocGlobal), session: &mut Session, size: u32) -
     up && out
 }
 
-/// A session that has opened connection 9.
-fn opened(rt: &(impl Abort + AllocGlobal)) -> Session {
-    let mut session = session(rt);
+/// A node whose one neighbour has opened connection 9.
+fn opened(rt: &(impl Abort + AllocGlobal)) -> NodeSession {
+    let mut session = alone(rt);
     let mut text = String::new(rt.alloc());
     answer(rt, &mut session, "accept 9", &mut text);
     let cer = format!(in rt.alloc(); "octets 9 {CER_OF_B}").expect(rt, "memory");

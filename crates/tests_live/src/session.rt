@@ -1,8 +1,8 @@
-//! A session on its happy path, and on one that breaks.
+//! A node of one neighbour on its happy path, and on one that breaks.
 
 use dm_dict::Ip;
+use dm_node_session::{Alone, NodeOrder, NodeSession};
 use dm_peer::{Config, Conn, Node, State};
-use dm_session::{Order, Session};
 use std::process::Abort;
 
 /// The CER of b.example, of application 4, with number 9.
@@ -34,29 +34,36 @@ pub(crate) fn config(rt: &(impl Abort + AllocGlobal), host: &[u8]) -> Config {
     Config::new(rt.alloc(), node(rt), peer, 1).expect(rt, "a configuration")
 }
 
-/// A session of a.example for b.example; a message takes 1,000 octets at most before the capabilities exchange.
-pub(crate) fn session(rt: &(impl Abort + AllocGlobal)) -> Session {
+/// The node a.example with b.example alone; a message takes 1,000 octets at most before the capabilities exchange.
+pub(crate) fn alone(rt: &(impl Abort + AllocGlobal)) -> NodeSession {
     let config = config(rt, b"b.example");
-    Session::new(rt.alloc(), config, 1000, 16_777_212)
+    let mut session = NodeSession::new(rt.alloc(), node(rt), 1000, 16_777_212);
+    let _number = session.add(config).expect(rt, "a number");
+    session
+}
+
+/// The state of b.example.
+pub(crate) fn state(session: &NodeSession) -> Option<State> {
+    session.neighbours().state_of(0)
 }
 
 /// How many actions the order asks for; None where no event is told.
 pub(crate) fn asked(
     rt: &(impl Abort + AllocGlobal),
-    session: &mut Session,
-    order: Order<'_>,
+    session: &mut NodeSession,
+    order: NodeOrder<'_>,
 ) -> Option<usize> {
     match session.take(rt.alloc(), order) {
-        Ok(Some(actions)) => Some(actions.len()),
+        Ok(Some(answer)) => Some(answer.actions.len()),
         Ok(None) => None,
         Err(_) => Some(100),
     }
 }
 
 /// Of the next turn of the connection, whether it is a whole message, and how many actions it asks for.
-fn turn(rt: &(impl Abort + AllocGlobal), session: &mut Session) -> Option<(bool, usize)> {
-    match session.next(rt.alloc(), R) {
-        Ok(Some(turn)) => Some((turn.arrived.is_some(), turn.actions.len())),
+fn turn(rt: &(impl Abort + AllocGlobal), session: &mut NodeSession) -> Option<(bool, usize)> {
+    match session.next(rt.alloc(), &Alone, R) {
+        Ok(Some(turn)) => Some((turn.arrived.is_some(), turn.answer.actions.len())),
         Ok(None) => None,
         Err(_) => Some((false, 100)),
     }
@@ -65,26 +72,26 @@ fn turn(rt: &(impl Abort + AllocGlobal), session: &mut Session) -> Option<(bool,
 /// The turns behind each half of a CER, and the state then.
 fn cer_in_halves(
     rt: &(impl Abort + AllocGlobal),
-    session: &mut Session,
-) -> (Option<(bool, usize)>, Option<(bool, usize)>, State) {
+    session: &mut NodeSession,
+) -> (Option<(bool, usize)>, Option<(bool, usize)>, Option<State>) {
     let octets = hex::decode(rt.alloc(), CER_OF_B.as_bytes()).expect(rt, "digits");
     let (front, back) = octets.as_slice().split_at(octets.len() / 2);
-    let _first = asked(rt, session, Order::Octets(R, front));
+    let _first = asked(rt, session, NodeOrder::Octets(R, front));
     let before = turn(rt, session);
-    let _second = asked(rt, session, Order::Octets(R, back));
+    let _second = asked(rt, session, NodeOrder::Octets(R, back));
     let behind = turn(rt, session);
     drop(octets);
-    (before, behind, session.peer().state())
+    (before, behind, state(session))
 }
 
 /// Of the piece, how many octets are told where they lie, and how many actions that asks for.
 fn heard(
     rt: &(impl Abort + AllocGlobal),
-    session: &mut Session,
+    session: &mut NodeSession,
     piece: &[u8],
 ) -> Option<(usize, usize)> {
-    match session.hear(rt.alloc(), R, piece) {
-        Ok(Some(heard)) => Some((heard.len, heard.turn.actions.len())),
+    match session.hear(rt.alloc(), &Alone, R, piece) {
+        Ok(Some(heard)) => Some((heard.len, heard.turn.answer.actions.len())),
         Ok(None) => None,
         Err(_) => Some((0, 100)),
     }
@@ -93,20 +100,20 @@ fn heard(
 /// What is told where it lies of a CER; of its front, behind it; and of a CER where that front is kept. And the state.
 fn cer_in_place(
     rt: &(impl Abort + AllocGlobal),
-    session: &mut Session,
+    session: &mut NodeSession,
 ) -> (
     Option<(usize, usize)>,
     Option<(usize, usize)>,
     Option<(usize, usize)>,
-    State,
+    Option<State>,
 ) {
     let octets = hex::decode(rt.alloc(), CER_OF_B.as_bytes()).expect(rt, "digits");
     let whole = heard(rt, session, octets.as_slice());
     let front = heard(rt, session, &octets[..octets.len() / 2]);
-    let _kept = asked(rt, session, Order::Octets(R, &octets[..octets.len() / 2]));
+    let _kept = asked(rt, session, NodeOrder::Octets(R, &octets[..octets.len() / 2]));
     let behind = heard(rt, session, octets.as_slice());
     drop(octets);
-    (whole, front, behind, session.peer().state())
+    (whole, front, behind, state(session))
 }
 
 /// What an accepted connection comes to whose CER is told where it lies.
@@ -116,10 +123,10 @@ fn in_place(
     Option<(usize, usize)>,
     Option<(usize, usize)>,
     Option<(usize, usize)>,
-    State,
+    Option<State>,
 ) {
-    let mut session = session(rt);
-    let _none = asked(rt, &mut session, Order::Accept(R));
+    let mut session = alone(rt);
+    let _none = asked(rt, &mut session, NodeOrder::Accept(R));
     let came = cer_in_place(rt, &mut session);
     drop(session);
     came
@@ -128,9 +135,9 @@ fn in_place(
 /// What an accepted connection comes to whose CER comes in halves.
 fn accepted(
     rt: &(impl Abort + AllocGlobal),
-) -> (Option<(bool, usize)>, Option<(bool, usize)>, State) {
-    let mut session = session(rt);
-    let _none = asked(rt, &mut session, Order::Accept(R));
+) -> (Option<(bool, usize)>, Option<(bool, usize)>, Option<State>) {
+    let mut session = alone(rt);
+    let _none = asked(rt, &mut session, NodeOrder::Accept(R));
     let came = cer_in_halves(rt, &mut session);
     drop(session);
     came
@@ -140,25 +147,25 @@ fn accepted(
 fn broken(
     rt: &(impl Abort + AllocGlobal),
 ) -> (Option<(bool, usize)>, Option<(bool, usize)>, Option<usize>) {
-    let mut session = session(rt);
-    let _none = asked(rt, &mut session, Order::Accept(R));
-    let _piece = asked(rt, &mut session, Order::Octets(R, &[2]));
+    let mut session = alone(rt);
+    let _none = asked(rt, &mut session, NodeOrder::Accept(R));
+    let _piece = asked(rt, &mut session, NodeOrder::Octets(R, &[2]));
     let fault = turn(rt, &mut session);
-    let _more = asked(rt, &mut session, Order::Octets(R, &[2]));
+    let _more = asked(rt, &mut session, NodeOrder::Octets(R, &[2]));
     let again = turn(rt, &mut session);
-    let gone = asked(rt, &mut session, Order::Gone(R));
+    let gone = asked(rt, &mut session, NodeOrder::Gone(R));
     drop(session);
     (fault, again, gone)
 }
 
 /// How many actions a Nack of an open connection asks for, and then what a watchdog that comes on it is told as.
 fn nacked(rt: &(impl Abort + AllocGlobal)) -> (Option<usize>, Option<(bool, usize)>) {
-    let mut session = session(rt);
-    let _none = asked(rt, &mut session, Order::Accept(R));
+    let mut session = alone(rt);
+    let _none = asked(rt, &mut session, NodeOrder::Accept(R));
     let _opened = cer_in_halves(rt, &mut session);
-    let nacked = asked(rt, &mut session, Order::Nack(R));
+    let nacked = asked(rt, &mut session, NodeOrder::Nack(R));
     let octets = hex::decode(rt.alloc(), DWR_OF_B.as_bytes()).expect(rt, "digits");
-    let _fed = asked(rt, &mut session, Order::Octets(R, octets.as_slice()));
+    let _fed = asked(rt, &mut session, NodeOrder::Octets(R, octets.as_slice()));
     let told = turn(rt, &mut session);
     drop(octets);
     drop(session);
@@ -172,7 +179,7 @@ fn nack_of_an_open_connection_leaves_it(rt: HostRuntime) {
 
 #[test]
 fn cer_in_halves_opens(rt: HostRuntime) {
-    assert_eq!(rt; accepted(&rt), (None, Some((true, 1)), State::ROpen));
+    assert_eq!(rt; accepted(&rt), (None, Some((true, 1)), Some(State::ROpen)));
 }
 
 #[test]
@@ -182,5 +189,5 @@ fn fault_closes_once(rt: HostRuntime) {
 
 #[test]
 fn cer_in_place_opens(rt: HostRuntime) {
-    assert_eq!(rt; in_place(&rt), (Some((112, 1)), None, None, State::ROpen));
+    assert_eq!(rt; in_place(&rt), (Some((112, 1)), None, None, Some(State::ROpen)));
 }

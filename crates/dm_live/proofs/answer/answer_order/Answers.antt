@@ -1,5 +1,9 @@
-use Rattle.dm_live.proofs.Turns.{answered_so}
+use Rattle.dm_live.proofs.Turns.{answered}
 use Rattle.dm_live.proofs.answer.answer_order.Goals as goal
 
 pub returns : goal.returns
-returns c = answered_so _ _ _ _ _ _ c.answer_met-done.ensures
+returns c =
+    let own = c.in_ok-who.ensures in
+    let heard = c.in_ok-last.ensures in
+    answered _ _ _ _ _ _ _ _ _ _ _ _ _ _ _ own.1 heard.1 heard.2 c.neighbours.ensures.peers own.2 heard.3
+    c.put_states_behind.ensures

@@ -1,9 +1,0 @@
-use Rattle.dm_live.proofs.NodeTurns.{node_answered}
-use Rattle.dm_live.proofs.node_answer.answer_node.Goals as goal
-
-pub returns : goal.returns
-returns c =
-    let own = c.in_ok-who.ensures in
-    let heard = c.in_ok-last.ensures in
-    node_answered _ _ _ _ _ _ _ _ _ _ _ _ _ _ own.1 heard.1 heard.2 c.neighbours.ensures.peers own.2 heard.3
-    c.put_states_behind.ensures
