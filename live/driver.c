@@ -879,7 +879,7 @@ static const char HELP[] =
     "  Runs the Diameter peer dmlive over TCP. What is handed up goes to standard output, a message a line, in\n"
     "  hexadecimal; such lines of standard input are submitted (`start` calls, `stop C` disconnects for cause C,\n"
     "  `sender` asks who the other side is, which standard error says). With several lines `peer` the number of the\n"
-    "  neighbour stands in front of each message, and behind `start` and `stop`; `sender` asks nobody then.\n"
+    "  neighbour stands in front of each message, and behind `start`, `stop` and `sender`.\n"
     "  SIGTERM disconnects and ends it.\n"
     "  -v, --verbose          a line on standard error for each event; twice: long ones whole\n"
     "  -n, --count COUNT      ends when standard input has ended and so many messages were handed up\n"

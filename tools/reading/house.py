@@ -256,7 +256,7 @@ def unused_in(path, text, traits):
     text = re.sub(r"//[^\n]*" if is_source else r"(?m)(?:^|(?<=\s))--(?:\s.*)?$", "", text)
     rest = IMPORT.sub("", text)
     said = ghost_text(rest) if is_source else rest
-    words, ghost_words = words_of(rest, ""), words_of(said, "≢+-")
+    words, ghost_words = words_of(rest, ""), words_of(said, "≢+→-")
     for it in IMPORT.finditer(text):
         is_ghost = it[2] or not is_source
         for name in [] if it[1] else brought_in(it[3]):

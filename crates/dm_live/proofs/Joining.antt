@@ -1,9 +1,8 @@
 -- The neighbours that a configuration tells, one by one.
 use Rattle.std.proofs.Common.{◌≡◌, inl, inr, ℕ, zero, suc, Bool, true, false, ◌||◌, if◌then◌else◌, Option, None, Some}
-use Rattle.std.proofs.Common.{List, [], ◌∷◌, ◌++◌, length, codes, ap, ◌∙◌, sym, subst, refl, append_assoc, append-nil, arith}
-use Rattle.std.specs.Prelude.{bytes_eq, nat_lt}
+use Rattle.std.proofs.Common.{List, [], ◌∷◌, ◌++◌, codes, ap, ◌∙◌, sym, subst, refl, append_assoc, append-nil}
+use Rattle.std.specs.Prelude.{bytes_eq}
 use Rattle.std.specs.Option.{option_map, option_or}
-use Rattle.std.proofs.lemmas.Bool.Decides.{nat_tests}
 use Rattle.std.proofs.lemmas.Slice.Eq.{bytes_eq-Decides}
 use Rattle.dm_base.specs.Before.{lower}
 use Rattle.dm_base.specs.declared.node.Node.{Node}
@@ -17,9 +16,9 @@ use Rattle.dm_peer.specs.declared.peer.Peer.{Peer}
 use Rattle.dm_peer.specs.After.{fresh_standing}
 use Rattle.dm_peer.specs.Hosts.{config_fault}
 use Rattle.dm_live.specs.Beginnings.{config_fault_name, hosts_told, first_told, is_named_among, peer_fault, peers_fault}
-use Rattle.dm_live.specs.Beginnings.{node_told_fault, go_fault, is_several, IsNodeOf, IsConfiguredFor, IsNewFor}
+use Rattle.dm_live.specs.Beginnings.{node_told_fault, go_fault, IsNodeOf, IsConfiguredFor, IsNewFor}
 use Rattle.dm_live.specs.Beginnings.{AreNewFor, AreUnmet, compares_hosts}
-use Rattle.dm_session.specs.Acquaintances.{Acquaintance}
+use Rattle.dm_slots.specs.Acquaintances.{Acquaintance}
 use Rattle.dm_node_session.specs.NodeKnown.{with_nobody}
 use Rattle.dm_live.specs.Beginnings.{BeginsForHosts}
 use Rattle.dm_live.specs.Joining.{AddsLike, RefusesHost}

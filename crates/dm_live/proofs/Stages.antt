@@ -2,7 +2,7 @@
 use Rattle.std.proofs.Common.{◌≡◌, inl, inr, ℕ, Bool, false, Result, Ok, Err, IfOk, OnOk}
 use Rattle.std.proofs.Common.{is_ok, if◌then◌else◌}
 use Rattle.std.proofs.Common.{List, ◌++◌, ◌∷◌, [], Option, codes, ap, ◌∙◌, sym, subst, refl, append_assoc}
-use Rattle.dm_session.specs.Acquaintances.{Acquaintance}
+use Rattle.dm_slots.specs.Acquaintances.{Acquaintance}
 use Rattle.dm_node_session.specs.declared.node_order.NodeOrder.{NodeOrder}
 use Rattle.dm_node_session.specs.NodeKnown.{acquaintance_at}
 use Rattle.dm_value.specs.declared.address.Ip.{Ip}

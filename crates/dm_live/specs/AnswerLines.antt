@@ -10,7 +10,7 @@ use Rattle.dm_peer.specs.declared.actions.Action.TheVariants.{Connect, Send, Clo
 use Rattle.dm_peer.specs.declared.fault.PeerFault.{PeerFault}
 use Rattle.dm_peer.specs.declared.fault.PeerFault.TheVariants.{NotClosed, NotOpen, BadSubmit, NoMemory}
 use Rattle.dm_peer.specs.declared.peer.Peer.{Peer}
-use Rattle.dm_session.specs.Sessions.{own_of, other_of}
+use Rattle.dm_slots.specs.Raised.{own_of, other_of}
 
 -- the line of an action
 unfoldable pub action_line : Action → List ℕ

@@ -1,6 +1,6 @@
 -- What a configuration makes.
-use Rattle.std.specs.Prelude.{◌≡◌, ℕ, Bool, true, false, ◌||◌, not, cond, nat_eq, is_some, length, if◌then◌else◌, Option}
-use Rattle.std.specs.Prelude.{None, Some, List, [], ◌∷◌, ◌++◌, codes, bytes_eq, nat_lt}
+use Rattle.std.specs.Prelude.{◌≡◌, ℕ, Bool, true, false, ◌||◌, not, cond, nat_eq, is_some, length, if◌then◌else◌}
+use Rattle.std.specs.Prelude.{Option, None, Some, List, [], ◌∷◌, ◌++◌, codes, bytes_eq, nat_lt}
 use Rattle.std.specs.List.{AllByRecursion, list_any}
 use Rattle.std.specs.Option.{option_map, option_or}
 use Rattle.dm_base.specs.Before.{lower}
@@ -16,8 +16,8 @@ use Rattle.dm_peer.specs.Hosts.{config_fault}
 use Rattle.dm_peer.specs.declared.peer.Peer.{Peer}
 use Rattle.dm_peer.specs.After.{fresh_standing}
 use Rattle.dm_node_session.specs.NodeSessions.{NodeSession}
-use Rattle.dm_session.specs.Acquaintances.{Acquaintance, nobody}
-use Rattle.dm_session.specs.Intakes.{none_there}
+use Rattle.dm_slots.specs.Acquaintances.{Acquaintance, nobody}
+use Rattle.dm_slots.specs.Intakes.{none_there}
 use Rattle.dm_live.specs.declared.form.Form.{Form}
 use Rattle.dm_live.specs.declared.form.Form.TheVariants.{Alone, Several}
 use Rattle.dm_live.specs.Meetings.{Meeting}

@@ -1,6 +1,6 @@
 -- A node's session beside whom each neighbour met.
 use Rattle.std.specs.Prelude.{Option, List}
-use Rattle.dm_session.specs.Acquaintances.{Acquaintance}
+use Rattle.dm_slots.specs.Acquaintances.{Acquaintance}
 use Rattle.dm_node_session.specs.declared.node_session.NodeSession as declared
 use Rattle.dm_node_session.specs.NodeSeen.{node_session_of, node_known_of}
 use Rattle.dm_node_session.specs.NodeSessions.{NodeSession}

@@ -11,7 +11,7 @@ use Rattle.dm_base.specs.Codes.{product_name, supported_vendor_id, vendor_id}
 use Rattle.dm_base.specs.Kinds.{data_at, application_ids}
 use Rattle.dm_base.specs.Senders.{number_told, numbers_told}
 use Rattle.dm_text.specs.Words.{words}
-use Rattle.dm_session.specs.Acquaintances.{Acquaintance, exchange_in, state_in, began_anew}
+use Rattle.dm_slots.specs.Acquaintances.{Acquaintance, exchange_in, state_in, began_anew}
 use Rattle.dm_live.specs.declared.form.Form.{Form}
 use Rattle.dm_live.specs.OrderLines.{NamesNeighbour}
 

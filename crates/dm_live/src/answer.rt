@@ -178,8 +178,8 @@ fn hear_next(
     }
 }
 
-/// Tells the next message that came on the connection, or a fault; None where there is none. What strangers send is told
-/// a peer that is alone.
+/// Tells the next message that came on the connection, or a fault; None where there is none. What strangers send is
+/// told a peer that is alone.
 fn next_turn(
     alloc: Global,
     form: Form,

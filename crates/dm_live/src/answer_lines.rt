@@ -3,7 +3,6 @@ ghost use Rattle.std.specs.Prelude.{◌≡◌, ◌≢◌, ◌∷◌, ◌++◌, [
 ghost use Rattle.std.specs.Fmt.{decimal};
 ghost use Rattle.std.specs.String.{string_bytes};
 ghost use Rattle.hex.specs.Hex.{encode_lower};
-ghost use Rattle.dm_machine.specs.Printed.{state_text};
 ghost use Rattle.dm_live.specs.AnswerLines.{action_line, action_lines, arrival_line, refusal_line};
 ghost use Rattle.dm_node.specs.Holding.{peer_at};
 ghost use Rattle.dm_node.specs.declared.fault.EventFault.TheVariants as faults;

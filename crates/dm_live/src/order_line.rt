@@ -1,5 +1,5 @@
 //! The lines of orders.
-ghost use Rattle.std.specs.Prelude.{◌≡◌, ◌≢◌, [], IfOk, IfSome, IfNone, MatchOption};
+ghost use Rattle.std.specs.Prelude.{◌≡◌, ◌≢◌, IfOk, IfSome, IfNone, MatchOption};
 ghost use Rattle.dm_text.specs.Words.{words};
 ghost use Rattle.dm_node_session.specs.declared.node_order.NodeOrder.{NodeOrder as AskedNodeOrder};
 ghost use Rattle.dm_live.specs.OrderLines.{node_asked, told_order, TellsNamed, TellsOrder};

@@ -7,7 +7,7 @@ ghost use Rattle.dm_wire.specs.declared.avp.Avp.{Avp};
 ghost use Rattle.dm_base.specs.Codes.{supported_vendor_id};
 ghost use Rattle.dm_base.specs.Kinds.{application_ids};
 ghost use Rattle.dm_base.specs.Senders.{HasAvps, numbers_told};
-ghost use Rattle.dm_session.specs.Acquaintances.{exchange_in};
+ghost use Rattle.dm_slots.specs.Acquaintances.{exchange_in};
 ghost use Rattle.dm_live.specs.SenderLines.{IsSender, octets_line, number_line, number_lines, number_line_if_any};
 ghost use Rattle.dm_live.specs.SenderLines.{name_lines, version_lines, ability_lines};
 ghost use Rattle.dm_live.specs.SenderLines.{exchange_lines, anew_line, sender_lines, sender_answer};
@@ -16,7 +16,7 @@ use crate::form::Form;
 use crate::line_ends::{end_with_number, end_with_octets};
 use crate::order_words::neighbour_alone;
 use dm_base::SenderRef;
-use dm_session::Acquaintance;
+use dm_slots::Acquaintance;
 use dm_text::Words;
 use std::alloc::{AllocError, Global};
 

@@ -10,7 +10,6 @@ use Rattle.dm_machine.specs.Connection.{Hold, NotHeld, Pending, Made, OpenAsI, C
 use Rattle.dm_machine.specs.Openings.{is_hold, names_it, LeavesOthersAlone}
 use Rattle.dm_machine.specs.Node.{is_shaped}
 use Rattle.dm_machine.specs.Moves as moves
-use Rattle.dm_machine.specs.Moves.{machine_outcome}
 use Rattle.dm_peer.specs.declared.actions.Action.{Action}
 use Rattle.dm_peer.specs.declared.peer.Peer.{Peer}
 use Rattle.dm_peer.specs.Configs.{wins}

@@ -1,5 +1,5 @@
 //! One neighbour more.
-ghost use Rattle.std.specs.Prelude.{◌≡◌, ◌⊎◌, ◌↔◌, ◌<◌, ◌∷◌, [], ◌++◌, ℕ, List, Some, Err, length, IfOk, IfErr};
+ghost use Rattle.std.specs.Prelude.{◌≡◌, ◌⊎◌, ◌↔◌, ◌<◌, ◌∷◌, [], ◌++◌, ℕ, List, Some, length, IfOk, IfErr};
 ghost use Rattle.std.specs.Prelude.{IsErrOf, OnOk, OnErr, vec_len, vec_capacity, if◌then◌else◌};
 ghost use Rattle.dm_base.specs.Before.{lower};
 ghost use Rattle.dm_node.specs.Holding.{host_at, IsKnown, AreApart, AreUnlike};

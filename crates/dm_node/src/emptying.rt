@@ -1,5 +1,5 @@
 //! A neighbour taken out, or set back.
-ghost use Rattle.std.specs.Prelude.{◌≡◌, ℕ, ◌<◌, None, Some, map, option_map};
+ghost use Rattle.std.specs.Prelude.{◌≡◌, option_map};
 ghost use Rattle.dm_node.specs.Emptying.{without_peer, set_back, with_set_back, all_set_back};
 ghost use Rattle.dm_node.specs.Holding.{peer_at};
 

@@ -1,13 +1,8 @@
 //! Which neighbour holds a connection, which has a host, and which has a number.
-ghost use Rattle.std.specs.Prelude.{◌≡◌, ◌<◌, ◌∷◌, [], ◌++◌, ℕ, true, false, None, Some, List, length, IsSome};
-ghost use Rattle.std.specs.Prelude.{IfSome, IfOk, IfErr, OnOk, OnErr, vec_len, vec_capacity};
+ghost use Rattle.std.specs.Prelude.{◌≡◌, ℕ, true, false, IsSome};
+ghost use Rattle.std.specs.Prelude.{IfSome};
 ghost use Rattle.std.specs.Option.{IfNone, option_copied};
-ghost use Rattle.dm_base.specs.Before.{lower};
-ghost use Rattle.dm_machine.specs.Connection.{hold_of};
-ghost use Rattle.dm_node.specs.Holding.{peer_at, holds, holds_it, holds_at, host_of, host_at, AreApart, AreUnlike};
-ghost use Rattle.dm_node.specs.declared.fault.AddFault.TheVariants.{Known};
-ghost use Rattle.dm_peer.specs.After.{fresh_standing};
-ghost use Rattle.dm_peer.specs.declared.peer.Peer.{Peer};
+ghost use Rattle.dm_node.specs.Holding.{peer_at, holds_it, holds_at};
 
 use dm_peer::{Conn, Peer};
 

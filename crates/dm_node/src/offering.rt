@@ -1,5 +1,5 @@
 //! Whether a host that is no neighbour may become one.
-ghost use Rattle.std.specs.Prelude.{◌≡◌, ℕ, IfSome, IfNone, IfOk, OnErr, IsSome};
+ghost use Rattle.std.specs.Prelude.{ℕ, IfSome, IfNone, IfOk, OnErr, IsSome};
 ghost use Rattle.dm_machine.specs.declared.connection.Conn.{Conn};
 ghost use Rattle.dm_node.specs.Calling.{caller_of};
 ghost use Rattle.dm_node.specs.Policies.{IsMadeFor, IsUnfit, MakesFor, MakesNoneFor};

@@ -1,7 +1,6 @@
 //! The neighbours of a node, with what finds one by its host and by a connection.
-ghost use Rattle.std.specs.Prelude.{◌≡◌, ◌⊎◌, ◌↔◌, ℕ, ◌<◌, None, Some, Err, IsSome, IfSome, IfNone, IfOk, IfErr};
+ghost use Rattle.std.specs.Prelude.{◌≡◌, ◌⊎◌, ◌↔◌, ℕ, Some, IsSome, IfSome, IfNone, IfOk, IfErr};
 ghost use Rattle.std.specs.Prelude.{IsErrOf, OnOk, OnErr, true, false, ◌++◌, ◌∷◌, [], length};
-ghost use Rattle.std.specs.Option.{option_copied};
 ghost use Rattle.dm_base.specs.Before.{lower};
 ghost use Rattle.dm_machine.specs.declared.connection.Conn.{Conn};
 ghost use Rattle.dm_node.specs.Adding.{with_new};

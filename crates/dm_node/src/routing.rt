@@ -1,5 +1,5 @@
 //! Whose an event is.
-ghost use Rattle.std.specs.Prelude.{◌≡◌, ℕ, true, None, Some, Err, IsSome, IfOk, IfErr, IfSome, IfNone};
+ghost use Rattle.std.specs.Prelude.{◌≡◌, ℕ, None, Some, Err, IsSome, IfOk, IfErr, IfSome, IfNone};
 ghost use Rattle.dm_node.specs.Holding.{peer_at};
 ghost use Rattle.dm_node.specs.Rosters.{IsRoster};
 ghost use Rattle.dm_node.specs.Telling.{told_of, IsCallOf, IsPorter, IsFirstFor, IsAddressed};

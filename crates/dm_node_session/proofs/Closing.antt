@@ -20,7 +20,7 @@ use Rattle.dm_peer.specs.Holding.{is_held, holds, closes_conn}
 use Rattle.dm_peer.specs.Kept.{IsKept}
 use Rattle.dm_peer.specs.Said.{Heard}
 use Rattle.dm_peer.specs.Steps.{EachEventIsOneStep, Follows, IsStep, deed_of}
-use Rattle.dm_session.specs.Intakes.{actions_close}
+use Rattle.dm_slots.specs.Intakes.{actions_close}
 
 -- octets came on the connection
 abbrev pub CameOn : PeerEvent → Conn → Type 0

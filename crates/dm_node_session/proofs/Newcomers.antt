@@ -25,8 +25,8 @@ use Rattle.dm_peer.specs.Kept.{IsKept}
 use Rattle.dm_peer.specs.Said.{Heard}
 use Rattle.dm_peer.specs.Settled.{FreshIsSettled, EachEventKeepsSettled}
 use Rattle.dm_peer.specs.Steps.{EachEventIsOneStep, Follows, IsStep}
-use Rattle.dm_session.specs.Intakes.{Intakes, is_there, actions_close}
-use Rattle.dm_session.specs.Naming.{NamesThere}
+use Rattle.dm_slots.specs.Intakes.{Intakes, is_there, actions_close}
+use Rattle.dm_slots.specs.Naming.{NamesThere}
 use Rattle.dm_node_session.specs.NodeHeld.{AllHeldAreThere, AreKept}
 use Rattle.dm_node_session.proofs.Closing.{ClosesItsOwn, closes_shaped}
 use Rattle.dm_node_session.proofs.NodeEmptying.{grown}

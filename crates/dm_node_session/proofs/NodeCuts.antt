@@ -10,8 +10,8 @@ use Rattle.dm_machine.specs.declared.connection.Conn.{Conn}
 use Rattle.dm_node.specs.Policies.{Policy}
 use Rattle.dm_peer.specs.declared.actions.Action.{Action}
 use Rattle.dm_peer.specs.declared.peer.Peer.{Peer}
-use Rattle.dm_session.specs.Intakes.{Intake, Intakes, is_conn_number, with_intake, changed, fed_intake, broken_intake, with_max, actions_close, left_by, raised_at}
-use Rattle.dm_session.specs.Sessions.{own_of, other_of}
+use Rattle.dm_slots.specs.Intakes.{Intake, Intakes, is_conn_number, with_intake, changed, fed_intake, broken_intake, with_max, actions_close, left_by, raised_at}
+use Rattle.dm_slots.specs.Raised.{own_of, other_of}
 use Rattle.dm_node_session.specs.NodeStreams.{NodeTellsAlong, NodeCutsAlike}
 use Rattle.dm_node_session.specs.NodeSessions.{NodeSession, NodeTurn, NodeAnswer, NodeTellsMessage, NodeTellsFault, NodeTellsAs, concerned_in, raised_for, node_fed, node_settled, with_node_intakes}
 

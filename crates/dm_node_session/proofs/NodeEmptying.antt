@@ -14,7 +14,7 @@ use Rattle.dm_peer.specs.Settled.{FreshIsSettled}
 use Rattle.dm_peer.specs.Spelled.{FreshIsFitting}
 use Rattle.dm_peer.specs.declared.config.Config.{Config}
 use Rattle.dm_peer.specs.declared.peer.Peer.{Peer}
-use Rattle.dm_session.specs.Intakes.{Intake, Intakes, is_there}
+use Rattle.dm_slots.specs.Intakes.{Intake, Intakes, is_there}
 use Rattle.dm_node_session.specs.NodeHeld.{AllHeldAreThere, AreKept}
 use Rattle.dm_node_session.specs.NodeOrders.{left_by_peer}
 use Rattle.dm_node_session.proofs.NodeMoving.{two_truths, unlike}

@@ -7,8 +7,8 @@ use Rattle.dm_node.specs.declared.events.NodeEvent.{NodeEvent}
 use Rattle.dm_node.specs.declared.events.NodeEvent.TheVariants as event
 use Rattle.dm_node.specs.Policies.{Policy}
 use Rattle.dm_peer.specs.declared.peer.Peer.{Peer}
-use Rattle.dm_session.specs.Intakes.{Intake, Intakes, is_there, is_conn_number, with_intake, broken_intake, changed, taken_down, fed_intake, with_max, actions_close, left_by, raised_at}
-use Rattle.dm_session.specs.Sessions.{own_of, other_of}
+use Rattle.dm_slots.specs.Intakes.{Intake, Intakes, is_there, is_conn_number, with_intake, broken_intake, changed, taken_down, fed_intake, with_max, actions_close, left_by, raised_at}
+use Rattle.dm_slots.specs.Raised.{own_of, other_of}
 use Rattle.dm_node_session.specs.declared.node_order.NodeOrder.{NodeOrder}
 use Rattle.dm_node_session.specs.declared.node_order.NodeOrder.TheVariants as order
 use Rattle.dm_node_session.specs.NodeEnding.{IsOnConn}

@@ -9,8 +9,8 @@ use Rattle.dm_machine.specs.declared.connection.Conn.{Conn}
 use Rattle.dm_node.specs.Policies.{Policy}
 use Rattle.dm_node.specs.Strangers.{NodeMoves}
 use Rattle.dm_peer.specs.declared.peer.Peer.{Peer}
-use Rattle.dm_session.specs.Hearing.{IsWholeIn, IsWholeAt}
-use Rattle.dm_session.specs.Intakes.{Intake, with_intake, fed_intake}
+use Rattle.dm_slots.specs.Hearing.{IsWholeIn, IsWholeAt}
+use Rattle.dm_slots.specs.Intakes.{Intake, with_intake, fed_intake}
 use Rattle.dm_node_session.specs.NodeHearing.{NodeHearsWhole, NodeHeardAlike}
 use Rattle.dm_node_session.specs.NodeSessions.{NodeSession, NodeAnswer, NodeTellsMessage, NodeTellsNext, node_fed, node_settled, with_node_intakes}
 use Rattle.dm_node_session.proofs.NodeCuts.{longer, there_fed, fed_twice, next_fed}

@@ -1,5 +1,5 @@
 -- Whom neighbours met, place by place.
-use Rattle.std.proofs.Common.{◌≡◌, ◌<◌, ◌⊎◌, inl, inr, ℕ, zero, suc, Bool, true, false, cond, not, ◌&&◌, ◌==◌, nat_eq, true≢false}
+use Rattle.std.proofs.Common.{◌≡◌, ◌<◌, inl, inr, ℕ, zero, suc, Bool, true, false, cond, not, ◌&&◌, ◌==◌, nat_eq, true≢false}
 use Rattle.std.proofs.Common.{Result, Ok, Err, OnOk, OnErr, Bor}
 use Rattle.std.proofs.Common.{Option, None, Some, IsSome, is_some, List, [], ◌∷◌, ◌++◌, length, map, option_map}
 use Rattle.std.proofs.Common.{refl, sym, ap, ◌∙◌, subst, arith}
@@ -31,8 +31,8 @@ use Rattle.dm_peer.specs.declared.actions.Action.{Action}
 use Rattle.dm_peer.specs.declared.config.Config.{Config}
 use Rattle.dm_peer.specs.declared.peer.Peer.{Peer}
 use Rattle.dm_peer.specs.Events.{PeerEvent, Arrived}
-use Rattle.dm_session.specs.Acquaintances.{Acquaintance, nobody, exchange_of, spells_exchange, is_exchange_to}
-use Rattle.dm_session.specs.Acquaintances.{known_by, known_after, known_at, known_if_any}
+use Rattle.dm_slots.specs.Acquaintances.{Acquaintance, nobody, exchange_of, spells_exchange, is_exchange_to}
+use Rattle.dm_slots.specs.Acquaintances.{known_by, known_after, known_at, known_if_any}
 use Rattle.dm_node_session.specs.NodeKnown.{AreKnown, acquaintance_at, with_nobody, with_known, given_place, peer_state, MeetsAny, IsCopied}
 use Rattle.dm_node_session.specs.NodeKnown.{KnownAfterOrder}
 use Rattle.dm_node_session.specs.NodeOrders.{ShutsUnheld}

@@ -12,8 +12,8 @@ use Rattle.dm_peer.specs.declared.peer.Peer.{Peer}
 use Rattle.dm_peer.specs.Events.{PeerEvent, Arrived}
 use Rattle.dm_peer.specs.Holding.{holds, names_conn, OthersStayUnheld, ClosedIsUnheld}
 use Rattle.dm_peer.specs.Kept.{IsKept}
-use Rattle.dm_session.specs.Intakes.{Intakes, is_there, actions_close}
-use Rattle.dm_session.specs.Naming.{NamesThere}
+use Rattle.dm_slots.specs.Intakes.{Intakes, is_there, actions_close}
+use Rattle.dm_slots.specs.Naming.{NamesThere}
 use Rattle.dm_node_session.specs.NodeHeld.{AllHeldAreThere, AreKept}
 use Rattle.dm_node_session.proofs.Closing.{CameOn, ClosesItsOwn, closes_as}
 

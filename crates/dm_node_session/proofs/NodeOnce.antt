@@ -22,7 +22,7 @@ use Rattle.dm_peer.specs.Events.{PeerEvent, Arrived}
 use Rattle.dm_peer.specs.Holding.{holds}
 use Rattle.dm_peer.specs.Settled.{IsSettled, LeavesSettled}
 use Rattle.dm_peer.specs.Steps.{EachEventIsOneStep, Follows}
-use Rattle.dm_session.specs.Intakes.{Intake, IsFirst, IsFaulty, IsToldOut, with_intake, broken_intake}
+use Rattle.dm_slots.specs.Intakes.{Intake, IsFirst, IsFaulty, IsToldOut, with_intake, broken_intake}
 use Rattle.dm_node_session.specs.NodeLaws.{AreSoundNeighbours}
 use Rattle.dm_node_session.specs.NodeStreams.{NodeTellsAlong, NodeTellsPieces}
 use Rattle.dm_node_session.specs.NodeSessions.{NodeSession, NodeAnswer, NodeTurn, NodeTellsOctets, NodeTellsMessage, NodeTellsFault, NodeTellsAs, NodeIsOut, node_fed, node_settled, with_node_intakes}

@@ -16,7 +16,7 @@ use Rattle.dm_peer.specs.declared.fault.PeerFault.TheVariants.{NoMemory}
 use Rattle.dm_peer.specs.declared.peer.Peer.{Peer}
 use Rattle.dm_peer.specs.Events.{Gone}
 use Rattle.dm_peer.specs.Holding.{GoneIsUnheld}
-use Rattle.dm_session.specs.Intakes.{Intake, Intakes, is_there, taken_down, with_intake, new_intake}
+use Rattle.dm_slots.specs.Intakes.{Intake, Intakes, is_there, taken_down, with_intake, new_intake}
 use Rattle.dm_node_session.specs.declared.node_order.NodeOrder.{NodeOrder}
 use Rattle.dm_node_session.specs.declared.node_order.NodeOrder.TheVariants as order
 use Rattle.dm_node_session.specs.NodeHeld.{AllHeldAreThere, AreKept}

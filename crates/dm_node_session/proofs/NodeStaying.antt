@@ -6,10 +6,10 @@ use Rattle.dm_node.specs.Holding.{holds_at}
 use Rattle.dm_node.specs.Telling.{IsFree}
 use Rattle.dm_peer.specs.declared.actions.Action.{Action}
 use Rattle.dm_peer.specs.declared.peer.Peer.{Peer}
-use Rattle.dm_session.specs.Intakes.{Intake, Intakes, is_there, opened, taken_down, changed, with_intake, actions_close, left_by}
+use Rattle.dm_slots.specs.Intakes.{Intake, Intakes, is_there, opened, taken_down, changed, with_intake, actions_close, left_by}
 use Rattle.dm_peer.specs.Events.{PeerEvent, Arrived, Start}
-use Rattle.dm_session.specs.Naming.{NamesThere, NamesAtMost}
-use Rattle.dm_session.specs.Staying.{OpeningKeeps, ChangingKeeps, TellingKeeps, RaisingKeeps, ClosingKeeps, ShuttingKeeps}
+use Rattle.dm_slots.specs.Naming.{NamesThere, NamesAtMost}
+use Rattle.dm_slots.specs.Staying.{OpeningKeeps, ChangingKeeps, TellingKeeps, RaisingKeeps, ClosingKeeps, ShuttingKeeps}
 use Rattle.dm_node_session.specs.NodeHeld.{AllHeldAreThere}
 use Rattle.dm_base.specs.declared.node.Node.{Node}
 use Rattle.dm_node_session.specs.NodeSessions.{NodeSession, raised_for, node_settled, with_node_intakes}

@@ -21,8 +21,8 @@ use Rattle.dm_peer.specs.Events.{PeerEvent, Arrived}
 use Rattle.dm_peer.specs.Holding.{OthersStayUnheld, ClosedIsUnheld}
 use Rattle.dm_peer.specs.Kept.{IsKept}
 use Rattle.dm_peer.specs.Refusing.{RefusesByRule, fault_at}
-use Rattle.dm_session.specs.Intakes.{Intakes, actions_close}
-use Rattle.dm_session.specs.Naming.{NamesThere}
+use Rattle.dm_slots.specs.Intakes.{Intakes, actions_close}
+use Rattle.dm_slots.specs.Naming.{NamesThere}
 use Rattle.dm_node_session.specs.NodeHeld.{AllHeldAreThere, AreKept}
 use Rattle.dm_node_session.specs.NodeSessions.{TakesMemoryAt}
 use Rattle.dm_node_session.proofs.Closing.{CameOn, ClosesItsOwn}

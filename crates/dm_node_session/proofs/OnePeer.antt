@@ -15,8 +15,7 @@ use Rattle.dm_peer.specs.Acts.{Moved, acts}
 use Rattle.dm_peer.specs.Events.{PeerEvent, Arrived}
 use Rattle.dm_peer.specs.Holding.{holds}
 use Rattle.dm_peer.specs.Settled.{IsSettled}
-use Rattle.dm_session.specs.Sessions.{TellsAs, settled}
-use Rattle.dm_node_session.specs.NodeLaws.{AreSoundNeighbours, session_with, TellsAsItsPeer, OneDoesAsItsPeer}
+use Rattle.dm_node_session.specs.NodeLaws.{AreSoundNeighbours, DoesAsItsPeer, TurnsAsItsPeer, OneDoesAsItsPeer}
 use Rattle.dm_node_session.specs.NodeSessions.{NodeSession, NodeAnswer, NodeTellsOctets, NodeTellsAs, node_settled}
 use Rattle.dm_node_session.proofs.NodeMoving.{free_of}
 use Rattle.dm_node_session.proofs.NodeTold.{by_event}
@@ -57,29 +56,14 @@ told_alone e p ps qs k actions one told =
     at_first p qs k e actions (subst (λ l. PeerIsTold l qs k e actions) one told)
 
 -- and so its session is left as that of its peer
-settled_alone : (p q : Peer) (s t : NodeSession) (who : Option ℕ) (qs : List (Option Peer)) (actions : List Action) →
-    who ≡ Some 0 → qs ≡ Some q ∷ [] → t ≡ node_settled who qs actions s →
-    session_with q t ≡ settled q actions (session_with p s)
-settled_alone p q s t who qs actions first one left =
-    ap (session_with q) left
-    ∙ ap (λ w. session_with q (node_settled w qs actions s)) first
-    ∙ ap (λ l. session_with q (node_settled (Some 0) l actions s)) one
-    ∙ same
-  where
-    same : session_with q (node_settled (Some 0) (Some q ∷ []) actions s) ≡ settled q actions (session_with p s)
-    same = refl
-
 tells_alone : (e : PeerEvent) (p : Peer) (s t : NodeSession) (answer : NodeAnswer) (qs : List (Option Peer)) (k : ℕ) →
     MovesAlone p e answer.actions k qs → answer.neighbour ≡ Some k →
-    t ≡ node_settled answer.neighbour qs answer.actions s → TellsAsItsPeer e p s answer t
+    t ≡ node_settled answer.neighbour qs answer.actions s → DoesAsItsPeer e p s answer.actions t
 tells_alone e p s t answer qs k alone is left = (
   alone.next,
-  ap (λ (v : NodeSession). v.peers) left ∙ alone.left,
-  record {
-    next = alone.next;
-    acted = alone.acted;
-    left = settled_alone p alone.next s t answer.neighbour qs answer.actions (is ∙ ap Some alone.first) alone.left left;
-  },
+  alone.acted,
+  left ∙ ap (λ w. node_settled w qs answer.actions s) (is ∙ ap Some alone.first)
+      ∙ ap (λ l. node_settled (Some 0) l answer.actions s) alone.left,
 )
 
 -- an event that concerns nobody is nothing to the peer
@@ -98,7 +82,7 @@ rests_alone (event.Arrived c octets) p was none nobody = absurd (none c octets.n
 
 abbrev DoesOrRests : NodeEvent → Peer → NodeSession → NodeAnswer → NodeSession → Type 0
 DoesOrRests e p s answer t =
-    ((answer.neighbour ≡ Some 0) × TellsAsItsPeer (told_of e) p s answer t)
+    ((answer.neighbour ≡ Some 0) × DoesAsItsPeer (told_of e) p s answer.actions t)
     ⊎ ((answer.neighbour ≡ None) × (answer.actions ≡ []) × (t ≡ s) × (acts p (told_of e) ≡ Moved [] p))
 
 plain_alone : (e : NodeEvent) (p : Peer) (s t : NodeSession) (answer : NodeAnswer) (qs : List (Option Peer)) →
@@ -164,7 +148,7 @@ first_alone c octets n p ps qs None actions one m =
 
 first_told : (c : Conn) (octets : List ℕ) (p : Peer) (s t : NodeSession) (answer : NodeAnswer) →
     s.peers ≡ Some p ∷ [] → NodeTellsOctets told_the_first c octets s answer t →
-    (answer.neighbour ≡ Some 0) × TellsAsItsPeer (Arrived c octets) p s answer t
+    (answer.neighbour ≡ Some 0) × DoesAsItsPeer (Arrived c octets) p s answer.actions t
 first_told c octets p s t answer one tells =
     let alone = first_alone c octets s.node p s.peers tells.peers answer.neighbour answer.actions one tells.moved in (
       alone.1 ∙ ap Some alone.2.first,
@@ -183,57 +167,22 @@ concerned_alone policy c octets n p ps qs None actions one m is = absurd (cc is)
 
 concerned_told : (policy : Policy) (c : Conn) (octets : List ℕ) (p : Peer) (s t : NodeSession) (answer : NodeAnswer) →
     s.peers ≡ Some p ∷ [] → NodeTellsOctets policy c octets s answer t → answer.neighbour ≡ Some 0 →
-    TellsAsItsPeer (Arrived c octets) p s answer t
+    DoesAsItsPeer (Arrived c octets) p s answer.actions t
 concerned_told policy c octets p s t answer one tells is =
     let alone = concerned_alone policy c octets s.node p s.peers tells.peers answer.neighbour answer.actions one
     tells.moved is in
     tells_alone (Arrived c octets) p s t answer tells.peers alone.0 alone.2 alone.1 tells.left
 
--- a turn is one of the session of the peer where its octets are told so
-abbrev pub TurnsAlone : Option Conn → Conn → Peer → NodeSession → NodeAnswer → NodeSession → Type 0
-TurnsAlone arrived c p s answer t =
-    (q : Peer) × (t.peers ≡ Some q ∷ []) × TellsAs arrived c (session_with p s) answer.actions (session_with q t)
-
+-- a turn is one of the peer where its octets are told so
 pub first_turns_as_its_peer : (arrived : Option Conn) (c : Conn) (p : Peer) (s t : NodeSession) (answer : NodeAnswer) →
     s.peers ≡ Some p ∷ [] → NodeTellsAs told_the_first arrived c s answer t →
-    (answer.neighbour ≡ Some 0) × TurnsAlone arrived c p s answer t
+    (answer.neighbour ≡ Some 0) × TurnsAsItsPeer arrived c p s answer.actions t
 first_turns_as_its_peer None c p s t answer one h =
     let both = first_told c [] p _ t answer one h.told in
-    let told = both.1 in (
-      both.0,
-      (told.0, told.1, record { intake = h.intake; there = h.there; faulty = h.faulty; told = told.2 }),
-    )
+    (both.0, record { intake = h.intake; there = h.there; faulty = h.faulty; told = both.1 })
 first_turns_as_its_peer (Some d) c p s t answer one h =
-    let both = first_told c h.1.message p _ t answer one h.1.told in
-    let told = both.1 in (
+    let both = first_told c h.1.message p _ t answer one h.1.told in (
       both.0,
-      (
-        told.0,
-        told.1,
-        (
-          h.0,
-          record {
-            intake = h.1.intake;
-            message = h.1.message;
-            rest = h.1.rest;
-            there = h.1.there;
-            first = h.1.first;
-            told = told.2;
-          },
-        ),
-      ),
-    )
-
-pub concerned_turns_as_its_peer : (policy : Policy) (arrived : Option Conn) (c : Conn) (p : Peer) (s t : NodeSession)
-    (answer : NodeAnswer) → s.peers ≡ Some p ∷ [] → NodeTellsAs policy arrived c s answer t →
-    answer.neighbour ≡ Some 0 → TurnsAlone arrived c p s answer t
-concerned_turns_as_its_peer policy None c p s t answer one h is =
-    let told = concerned_told policy c [] p _ t answer one h.told is in
-    (told.0, told.1, record { intake = h.intake; there = h.there; faulty = h.faulty; told = told.2 })
-concerned_turns_as_its_peer policy (Some d) c p s t answer one h is =
-    let told = concerned_told policy c h.1.message p _ t answer one h.1.told is in (
-      told.0,
-      told.1,
       (
         h.0,
         record {
@@ -242,7 +191,26 @@ concerned_turns_as_its_peer policy (Some d) c p s t answer one h is =
           rest = h.1.rest;
           there = h.1.there;
           first = h.1.first;
-          told = told.2;
+          told = both.1;
         },
       ),
+    )
+
+pub concerned_turns_as_its_peer : (policy : Policy) (arrived : Option Conn) (c : Conn) (p : Peer) (s t : NodeSession)
+    (answer : NodeAnswer) → s.peers ≡ Some p ∷ [] → NodeTellsAs policy arrived c s answer t →
+    answer.neighbour ≡ Some 0 → TurnsAsItsPeer arrived c p s answer.actions t
+concerned_turns_as_its_peer policy None c p s t answer one h is =
+    let told = concerned_told policy c [] p _ t answer one h.told is in
+    record { intake = h.intake; there = h.there; faulty = h.faulty; told = told }
+concerned_turns_as_its_peer policy (Some d) c p s t answer one h is =
+    let told = concerned_told policy c h.1.message p _ t answer one h.1.told is in (
+      h.0,
+      record {
+        intake = h.1.intake;
+        message = h.1.message;
+        rest = h.1.rest;
+        there = h.1.there;
+        first = h.1.first;
+        told = told;
+      },
     )

@@ -19,9 +19,9 @@ use Rattle.dm_node.specs.Telling.{IsFree}
 use Rattle.dm_peer.specs.declared.actions.Action.{Action}
 use Rattle.dm_peer.specs.declared.peer.Peer.{Peer}
 use Rattle.dm_peer.specs.Holding.{is_held, holds, ClosedIsUnheld}
-use Rattle.dm_session.specs.Intakes.{Intake, Intakes, is_conn_number, with_intake, with_max, actions_close, left_by, raised_at}
-use Rattle.dm_session.specs.Sessions.{own_of, other_of}
-use Rattle.dm_session.specs.Staying.{ClosingKeeps}
+use Rattle.dm_slots.specs.Intakes.{Intake, Intakes, is_conn_number, with_intake, with_max, actions_close, left_by, raised_at}
+use Rattle.dm_slots.specs.Raised.{own_of, other_of}
+use Rattle.dm_slots.specs.Staying.{ClosingKeeps}
 use Rattle.dm_node_session.specs.NodeLaws.{AreSoundNeighbours, IsLeftAlone}
 use Rattle.dm_node_session.specs.NodeSessions.{NodeSession, NodeAnswer, NodeTells, NodeTellsOctets, NodeTellsAs, concerned_in, raised_for, node_settled, with_node_intakes}
 use Rattle.dm_node_session.proofs.Closing.{ClosesItsOwn}

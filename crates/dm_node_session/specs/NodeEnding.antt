@@ -2,7 +2,7 @@
 use Rattle.std.specs.Prelude.{◌≡◌, true, Option, None}
 use Rattle.dm_machine.specs.declared.connection.Conn.{Conn}
 use Rattle.dm_node.specs.Policies.{Policy}
-use Rattle.dm_session.specs.Intakes.{actions_close}
+use Rattle.dm_slots.specs.Intakes.{actions_close}
 use Rattle.dm_node_session.specs.declared.node_order.NodeOrder.{NodeOrder}
 use Rattle.dm_node_session.specs.declared.node_order.NodeOrder.TheVariants as order
 use Rattle.dm_node_session.specs.NodeOrders.{NodeTakes}

@@ -2,8 +2,8 @@
 use Rattle.std.specs.Prelude.{◌≡◌, ℕ, Some, IfSome, List, length, take, drop}
 use Rattle.dm_machine.specs.declared.connection.Conn.{Conn}
 use Rattle.dm_node.specs.Policies.{Policy}
-use Rattle.dm_session.specs.Hearing.{IsWholeIn, IsWholeAt, IsNotWhole}
-use Rattle.dm_session.specs.Intakes.{Intake}
+use Rattle.dm_slots.specs.Hearing.{IsWholeIn, IsWholeAt, IsNotWhole}
+use Rattle.dm_slots.specs.Intakes.{Intake}
 use Rattle.dm_node_session.specs.NodeSessions.{NodeSession, NodeTurn, NodeTellsNext, TakesMemoryAt, node_fed}
 
 -- the piece begins with a whole message of connection c, of so many octets, which is told as if just it had come

@@ -4,7 +4,7 @@ use Rattle.dm_machine.specs.declared.connection.Conn.{Conn}
 use Rattle.dm_node.specs.Holding.{peer_at, holds_at}
 use Rattle.dm_peer.specs.declared.peer.Peer.{Peer}
 use Rattle.dm_peer.specs.Kept.{IsKept}
-use Rattle.dm_session.specs.Intakes.{Intakes, is_there}
+use Rattle.dm_slots.specs.Intakes.{Intakes, is_there}
 
 -- each connection that a neighbour holds is there
 abbrev pub AllHeldAreThere : List (Option Peer) → Intakes → Type 0

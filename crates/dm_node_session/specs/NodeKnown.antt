@@ -1,5 +1,5 @@
 -- Whom each neighbour of a node met (RFC 6733, 5.3 and 8.16).
-use Rattle.std.specs.Prelude.{◌≡◌, ◌<◌, ℕ, Bool, true, false, cond, is_some, nat_lt, Option, None, Some, List, []}
+use Rattle.std.specs.Prelude.{◌≡◌, ◌<◌, ℕ, true, false, cond, is_some, nat_lt, Option, None, Some, List, []}
 use Rattle.std.specs.Prelude.{◌∷◌, ◌++◌, length, map, take, option_map, slice_get, slice_set, vec_len, vec_capacity}
 use Rattle.std.specs.Option.{option_flatten}
 use Rattle.dm_machine.specs.declared.connection.Conn.{Conn}
@@ -10,9 +10,9 @@ use Rattle.dm_node.specs.Holding.{peer_at}
 use Rattle.dm_node.specs.Policies.{Policy}
 use Rattle.dm_node.specs.Telling.{IsAddressed}
 use Rattle.dm_peer.specs.declared.peer.Peer.{Peer}
-use Rattle.dm_session.specs.Acquaintances.{Acquaintance, nobody, spells_exchange, known_at, known_after}
-use Rattle.dm_session.specs.Hearing.{IsWholeAt}
-use Rattle.dm_session.specs.Intakes.{Intake, IsFirst}
+use Rattle.dm_slots.specs.Acquaintances.{Acquaintance, nobody, spells_exchange, known_at, known_after}
+use Rattle.dm_slots.specs.Hearing.{IsWholeAt}
+use Rattle.dm_slots.specs.Intakes.{Intake, IsFirst}
 use Rattle.dm_node_session.specs.declared.known.Acquaintances as declared
 use Rattle.dm_node_session.specs.NodeSessions.{NodeSession, NodeAnswer, NodeTurn}
 
@@ -21,8 +21,8 @@ abbrev pub known_of : declared.Acquaintances → List (Option Acquaintance)
 known_of k = k.places.items
 
 -- there is room for a place more
-abbrev pub HasRoom : declared.Acquaintances → Type 0
-HasRoom k = vec_len k.places < vec_capacity k.places
+abbrev pub HasSparePlace : declared.Acquaintances → Type 0
+HasSparePlace k = vec_len k.places < vec_capacity k.places
 
 -- a place is taken just where the neighbour's is
 abbrev pub AreKnown : List (Option Peer) → List (Option Acquaintance) → Type 0

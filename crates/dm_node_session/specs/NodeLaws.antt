@@ -9,9 +9,11 @@ use Rattle.dm_node.specs.Telling.{told_of}
 use Rattle.dm_peer.specs.declared.peer.Peer.{Peer}
 use Rattle.dm_peer.specs.Acts.{Moved, acts}
 use Rattle.dm_peer.specs.Events.{PeerEvent, Arrived}
-use Rattle.dm_session.specs.Sessions.{Session, Tells, TellsNext}
+use Rattle.dm_peer.specs.declared.actions.Action.{Action}
+use Rattle.dm_slots.specs.Intakes.{Intake, IsFirst, IsFaulty, broken_intake, with_intake}
 use Rattle.dm_node_session.specs.NodeHeld.{AreKept}
 use Rattle.dm_node_session.specs.NodeSessions.{NodeSession, NodeAnswer, NodeTurn, NodeTells, NodeTellsNext}
+use Rattle.dm_node_session.specs.NodeSessions.{node_settled, with_node_intakes}
 
 -- what holds of the neighbours of each session: no connection is held by two, no two have one host, and each is kept
 pub record AreSoundNeighbours (ps : List (Option Peer)) : Type 0 where
@@ -36,42 +38,56 @@ NextLeavesOthers =
     → AreSoundNeighbours t.peers → NodeTellsNext policy c s turn t → (turn.answer.neighbour ≡ Some j → ⊥)
     → IsLeftAlone j s t
 
--- the session of a node, as a session of this peer
-abbrev pub session_with : Peer → NodeSession → Session
-session_with p s = record { peer = p; intakes = s.intakes; first_max = s.first_max; most = s.most }
+-- The one neighbour does what its peer does by itself, with the same actions: what these close is no more there, and
+-- what it holds takes longer messages where it is open.
+abbrev pub DoesAsItsPeer : PeerEvent → Peer → NodeSession → List Action → NodeSession → Type 0
+DoesAsItsPeer e p s actions t =
+    (q : Peer) × (acts p e ≡ Moved actions q) × (t ≡ node_settled (Some 0) (Some q ∷ []) actions s)
 
--- the event is told as a session of the peer tells it, with the same actions, and the same connections are there then
-abbrev pub TellsAsItsPeer : PeerEvent → Peer → NodeSession → NodeAnswer → NodeSession → Type 0
-TellsAsItsPeer e p s answer t =
-    (q : Peer) × (t.peers ≡ Some q ∷ []) × Tells e (session_with p s) answer.actions (session_with q t)
-
--- A node of one neighbour does at the event of an order what the session of its peer does; or the event concerns
--- nobody, the peer does nothing at it, and neither did the node.
+-- A node of one neighbour does at the event of an order what its peer does; or the event concerns nobody, the peer does
+-- nothing at it, and neither did the node.
 abbrev pub OneDoesAsItsPeer : Type 0
 OneDoesAsItsPeer =
     (e : NodeEvent) (p : Peer) (s t : NodeSession) (answer : NodeAnswer) → AreSoundNeighbours s.peers
     → ((c : Conn) (octets : List ℕ) → told_of e ≡ Arrived c octets → ⊥)
     → s.peers ≡ Some p ∷ [] → NodeTells e s answer t
-    → ((answer.neighbour ≡ Some 0) × TellsAsItsPeer (told_of e) p s answer t)
+    → ((answer.neighbour ≡ Some 0) × DoesAsItsPeer (told_of e) p s answer.actions t)
     ⊎ ((answer.neighbour ≡ None) × (answer.actions ≡ []) × (t ≡ s) × (acts p (told_of e) ≡ Moved [] p))
 
--- one turn of a node of one neighbour is that of the session of its peer
-abbrev pub TurnsAsItsPeer : Conn → Peer → NodeSession → NodeTurn → NodeSession → Type 0
-TurnsAsItsPeer c p s turn t =
-    (q : Peer) × (t.peers ≡ Some q ∷ [])
-    × TellsNext c (session_with p s) (record { arrived = turn.arrived; actions = turn.answer.actions })
-    (session_with q t)
+-- the first message that came on connection c is told as it stands
+pub record TurnsAtMessage (c : Conn) (p : Peer) (s : NodeSession) (actions : List Action) (t : NodeSession) : Type 0
+  where
+    pub intake : Intake
+    pub message : List ℕ
+    pub rest : List ℕ
+    pub there : s.intakes c.0 ≡ Some intake
+    pub first : IsFirst intake message rest
+    pub told : DoesAsItsPeer (Arrived c message) p
+        (with_node_intakes (with_intake c.0 (Some (record intake { octets = rest })) s.intakes) s) actions t
+
+-- or the fault of its stream, as octets that spell no message, and what came is thrown away
+pub record TurnsAtFault (c : Conn) (p : Peer) (s : NodeSession) (actions : List Action) (t : NodeSession) : Type 0 where
+  pub intake : Intake
+  pub there : s.intakes c.0 ≡ Some intake
+  pub faulty : IsFaulty intake
+  pub told : DoesAsItsPeer (Arrived c []) p
+      (with_node_intakes (with_intake c.0 (Some (broken_intake intake)) s.intakes) s) actions t
+
+-- one turn of a node of one neighbour is that of its peer
+abbrev pub TurnsAsItsPeer : Option Conn → Conn → Peer → NodeSession → List Action → NodeSession → Type 0
+TurnsAsItsPeer None c p s actions t = TurnsAtFault c p s actions t
+TurnsAsItsPeer (Some d) c p s actions t = (d ≡ c) × TurnsAtMessage c p s actions t
 
 -- So is each where the neighbour is the porter, whoever sends what came, and whatever that is.
 abbrev pub OneTurnsAsItsPeer : Type 0
 OneTurnsAsItsPeer =
     (c : Conn) (p : Peer) (s t : NodeSession) (turn : NodeTurn)
     → s.peers ≡ Some p ∷ [] → NodeTellsNext told_the_first c s turn t
-    → (turn.answer.neighbour ≡ Some 0) × TurnsAsItsPeer c p s turn t
+    → (turn.answer.neighbour ≡ Some 0) × TurnsAsItsPeer turn.arrived c p s turn.answer.actions t
 
 -- And so is each by any policy that concerns the neighbour.
 abbrev pub ConcernedTurnsAsItsPeer : Type 0
 ConcernedTurnsAsItsPeer =
     (policy : Policy) (c : Conn) (p : Peer) (s t : NodeSession) (turn : NodeTurn)
     → s.peers ≡ Some p ∷ [] → NodeTellsNext policy c s turn t → turn.answer.neighbour ≡ Some 0
-    → TurnsAsItsPeer c p s turn t
+    → TurnsAsItsPeer turn.arrived c p s turn.answer.actions t

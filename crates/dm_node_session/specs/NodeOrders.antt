@@ -12,8 +12,8 @@ use Rattle.dm_node.specs.Telling.{IsFree}
 use Rattle.dm_peer.specs.declared.actions.Action.{Action}
 use Rattle.dm_peer.specs.declared.actions.Action.TheVariants.{Close}
 use Rattle.dm_peer.specs.declared.peer.Peer.{Peer}
-use Rattle.dm_session.specs.Intakes.{Intakes, none_there, is_there, opened, taken_down}
-use Rattle.dm_session.specs.Sessions.{own_of, other_of}
+use Rattle.dm_slots.specs.Intakes.{Intakes, none_there, is_there, opened, taken_down}
+use Rattle.dm_slots.specs.Raised.{own_of, other_of}
 use Rattle.dm_node_session.specs.declared.node_order.NodeOrder.{NodeOrder}
 use Rattle.dm_node_session.specs.declared.node_order.NodeOrder.TheVariants as order
 use Rattle.dm_node_session.specs.NodeSessions.{NodeSession, NodeAnswer, NodeTells, node_fed, with_node_intakes}

@@ -1,7 +1,7 @@
 -- The session of a node, as definitions see it.
 use Rattle.std.specs.Prelude.{Option, List}
-use Rattle.dm_session.specs.Acquaintances.{Acquaintance}
-use Rattle.dm_session.specs.Held.{intakes_of}
+use Rattle.dm_slots.specs.Acquaintances.{Acquaintance}
+use Rattle.dm_slots.specs.Held.{intakes_of}
 use Rattle.dm_node_session.specs.declared.node_session.NodeSession as declared
 use Rattle.dm_node_session.specs.NodeKnown.{known_of}
 use Rattle.dm_node_session.specs.NodeSessions.{NodeSession}

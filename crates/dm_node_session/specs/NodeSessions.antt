@@ -12,9 +12,9 @@ use Rattle.dm_peer.specs.declared.actions.Action.{Action}
 use Rattle.dm_peer.specs.declared.peer.Peer.{Peer}
 use Rattle.dm_peer.specs.Acts.{acts, wants_memory}
 use Rattle.dm_peer.specs.Events.{Arrived}
-use Rattle.dm_session.specs.Intakes.{Intake, Intakes, IsFirst, IsFaulty, IsToldOut, with_intake, changed, fed_intake}
-use Rattle.dm_session.specs.Intakes.{broken_intake, left_by}
-use Rattle.dm_session.specs.Sessions.{raised}
+use Rattle.dm_slots.specs.Intakes.{Intake, Intakes, IsFirst, IsFaulty, IsToldOut, with_intake, changed, fed_intake}
+use Rattle.dm_slots.specs.Intakes.{broken_intake, left_by}
+use Rattle.dm_slots.specs.Raised.{raised}
 
 -- the node that answers strangers, its neighbours in order of adding, its connections, and the greatest Message Lengths
 -- before the capabilities exchange and behind it

@@ -4,8 +4,7 @@ ghost use Rattle.std.specs.Option.{option_map};
 ghost use Rattle.dm_node.specs.Telling.{IsStrangeCer, told_of};
 ghost use Rattle.dm_node.specs.declared.fault.EventFault.TheVariants as faults;
 ghost use Rattle.dm_peer.specs.declared.fault.PeerFault.TheVariants as peer_faults;
-ghost use Rattle.dm_session.specs.Naming.{NamesThere, NamesAtMost};
-ghost use Rattle.dm_node_session.specs.declared.node_order.NodeOrder.TheVariants as orders;
+ghost use Rattle.dm_slots.specs.Naming.{NamesThere, NamesAtMost};
 ghost use Rattle.dm_node_session.specs.NodeOrders.{NodeTakes, NodeTellsOnce, NodeTellsIfThere, NodeTellsStart};
 ghost use Rattle.dm_node_session.specs.NodeOrders.{NodeRefuses, NodeRefusesOnce, NodeRefusesIfThere, ShutsUnheld};
 ghost use Rattle.dm_node_session.specs.NodeOrders.{NodeTellsNack, NodeTellsEnd};
@@ -21,13 +20,13 @@ use dm_node::laws::neighbours_are_apart;
 use dm_node::{EventFault, NodeActions, NodeEvent};
 use dm_peer::PeerFault;
 use dm_peer::laws::each_event_names_what_it_takes;
-use dm_session::laws::what_is_there_stays;
+use dm_slots::laws::what_is_there_stays;
 use std::alloc::Global;
 
 impl NodeSession {
     ghost use Rattle.std.specs.Prelude.{false};
     ghost use Rattle.dm_node.specs.declared.events.NodeEvent.TheVariants.{Start, Nack, Gone};
-    ghost use Rattle.dm_session.specs.Intakes.{is_there};
+    ghost use Rattle.dm_slots.specs.Intakes.{is_there};
 
     /// Takes an order, and answers what it asks for, and of which neighbour; None where no event is told. What came on
     /// a connection is told message by message by [`NodeSession::next`]. Where the neighbour wasn't open and is open

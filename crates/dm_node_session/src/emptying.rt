@@ -1,5 +1,5 @@
 //! Neighbours that come, go, or begin anew, with the connections that they hold.
-ghost use Rattle.std.specs.Prelude.{◌≡◌, ◌⊎◌, ◌↔◌, ◌++◌, ◌||◌, ℕ, true, false, Option, None, Some, length};
+ghost use Rattle.std.specs.Prelude.{◌≡◌, ◌⊎◌, ◌↔◌, ◌++◌, ◌||◌, ℕ, true, false, Option, None, length};
 ghost use Rattle.std.specs.Prelude.{IsErrOf, OnOk, OnErr, IfOk, IfErr, option_map, ◌<◌, if◌then◌else◌};
 ghost use Rattle.dm_machine.specs.declared.connection.Conn.{Conn};
 ghost use Rattle.dm_node.specs.Adding.{with_new};
@@ -8,12 +8,12 @@ ghost use Rattle.dm_node.specs.Holding.{peer_at, holds, holds_it, holds_at, IsKn
 ghost use Rattle.dm_node.specs.declared.fault.AddFault.TheVariants as add_faults;
 ghost use Rattle.dm_peer.specs.Places.{is_on};
 ghost use Rattle.dm_peer.specs.declared.peer.Peer.{Peer};
-ghost use Rattle.dm_session.specs.Held.{intakes_of};
-ghost use Rattle.dm_session.specs.Sessions.{own_of, other_of};
+ghost use Rattle.dm_slots.specs.Held.{intakes_of};
+ghost use Rattle.dm_slots.specs.Raised.{own_of, other_of};
 ghost use Rattle.dm_node_session.specs.NodeOrders.{left_by_peer, close_if_any, closes_of, closes_of_any};
 ghost use Rattle.dm_node_session.specs.NodeOrders.{node_set_back, node_closed, node_without};
 ghost use Rattle.dm_node_session.specs.NodeHeld.{AreKept};
-ghost use Rattle.dm_node_session.specs.NodeKnown.{known_of, AreKnown, with_nobody, without_known};
+ghost use Rattle.dm_node_session.specs.NodeKnown.{known_of, with_nobody, without_known};
 ghost use Rattle.dm_node_session.specs.NodeSeen.{node_session_of, node_known_of};
 ghost use Rattle.dm_node_session.specs.NodeSessions.{with_node_peers};
 
@@ -27,7 +27,7 @@ use dm_node::laws::neighbours_are_apart;
 use dm_node::{AddFault, Neighbours};
 use dm_peer::laws::{each_event_keeps_settled, each_send_is_spelled};
 use dm_peer::{Action, Actions, Config, Peer};
-use dm_session::Intakes;
+use dm_slots::Intakes;
 
 /// The connections that a peer holds, the one that it opened first.
 #[derive(Clone, Copy)]

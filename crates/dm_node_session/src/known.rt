@@ -1,13 +1,13 @@
 //! Whom each neighbour met, by number.
-ghost use Rattle.std.specs.Prelude.{◌≡◌, [], true, false, nat_lt, length, option_map, OnOk};
+ghost use Rattle.std.specs.Prelude.{◌≡◌, [], false, nat_lt, length, option_map, OnOk};
 ghost use Rattle.std.specs.Option.{option_copied};
-ghost use Rattle.dm_session.specs.Acquaintances.{known_after, known_if_any};
-ghost use Rattle.dm_node_session.specs.NodeKnown.{known_of, HasRoom, acquaintance_at, with_nobody, without_known};
+ghost use Rattle.dm_slots.specs.Acquaintances.{known_after, known_if_any};
+ghost use Rattle.dm_node_session.specs.NodeKnown.{known_of, HasSparePlace, acquaintance_at, with_nobody, without_known};
 ghost use Rattle.dm_node_session.specs.NodeKnown.{with_known, given_place};
 
 use dm_machine::{Conn, State};
 use dm_peer::Peer;
-use dm_session::Acquaintance;
+use dm_slots::Acquaintance;
 use dm_wire::Octets;
 use std::alloc::{AllocError, Global};
 
@@ -72,7 +72,7 @@ impl Acquaintances {
     /// There is room for a place more.
     pub(crate) fn reserve(&mut self) -> Result<(), AllocError>
         ensures same { known_of self.new ≡ known_of self.old }
-        ensures room { OnOk result (HasRoom self.new) }
+        ensures room { OnOk result (HasSparePlace self.new) }
     {
         match self.places.reserve(1) {
             Ok(()) => Ok(()),
@@ -82,7 +82,7 @@ impl Acquaintances {
 
     /// A place more, behind the others, of whom nobody was met. It takes no memory.
     pub(crate) fn push(&mut self)
-        requires { HasRoom self.old }
+        requires { HasSparePlace self.old }
         ensures { known_of self.new ≡ with_nobody (known_of self.old) }
     {
         let alloc = *self.places.allocator();
@@ -91,7 +91,7 @@ impl Acquaintances {
 
     /// The neighbour of the number has a place: one that was taken in has a new one. It takes no memory.
     pub(crate) fn give_place(&mut self, index: usize)
-        requires { nat_lt index (length (known_of self.old)) ≡ false → HasRoom self.old }
+        requires { nat_lt index (length (known_of self.old)) ≡ false → HasSparePlace self.old }
         ensures { known_of self.new ≡ given_place index (known_of self.old) }
     {
         if !self.has_place(index) {

@@ -15,7 +15,7 @@ use dm_node::laws::neighbours_are_apart;
 use dm_peer::laws::{
     each_event_is_one_step, each_event_keeps_settled, each_event_names_what_it_takes,
 };
-use dm_session::laws::what_is_there_stays;
+use dm_slots::laws::what_is_there_stays;
 
 /// Each connection that a neighbour holds is there: what comes on it is kept and told.
 pub fn held_are_there(session: &NodeSession)

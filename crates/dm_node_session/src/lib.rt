@@ -15,7 +15,7 @@ mod telling;
 
 pub use dm_node::{AddFault, Alone, EventFault, Neighbours, NodeActions, Open, Strangers};
 pub use dm_peer::{Action, Actions, Cause, Config, Conn, Peer, PeerFault};
-pub use dm_session::Acquaintance;
+pub use dm_slots::Acquaintance;
 pub use node_order::NodeOrder;
 pub use node_session::NodeSession;
 pub use node_turn::{HeardNodeTurn, NodeTurn};

@@ -11,11 +11,12 @@ ghost use Rattle.dm_node.specs.declared.fault.EventFault.TheVariants as faults;
 ghost use Rattle.dm_peer.specs.declared.fault.PeerFault.TheVariants as peer_faults;
 ghost use Rattle.dm_peer.specs.declared.peer.Peer.{Peer as OnePeer};
 ghost use Rattle.dm_peer.specs.Events.{Arrived};
-ghost use Rattle.dm_session.specs.Acquaintances.{is_exchange_to, known_after, known_at, known_if_any};
-ghost use Rattle.dm_session.specs.Intakes.{Intakes as AllIntakes, actions_close};
-ghost use Rattle.dm_session.specs.Naming.{NamesThere};
+ghost use Rattle.dm_slots.specs.Acquaintances.{is_exchange_to, known_after, known_at, known_if_any};
+ghost use Rattle.dm_slots.specs.Intakes.{Intakes as AllIntakes, actions_close};
+ghost use Rattle.dm_slots.specs.Naming.{NamesThere};
 ghost use Rattle.dm_node_session.specs.NodeHeld.{AllHeldAreThere, AreKept};
-ghost use Rattle.dm_node_session.specs.NodeKnown.{known_of, HasRoom, AreKnown, with_known, given_place, peer_state};
+ghost use Rattle.dm_node_session.specs.NodeKnown.{known_of, HasSparePlace, AreKnown, with_known};
+ghost use Rattle.dm_node_session.specs.NodeKnown.{given_place, peer_state};
 ghost use Rattle.dm_node_session.specs.NodeKnown.{MeetsAny, IsCopied};
 ghost use Rattle.dm_node_session.specs.NodeSessions.{TakesMemoryAt};
 
@@ -24,7 +25,7 @@ use crate::telling::tell_neighbours;
 use dm_machine::{Conn, State};
 use dm_node::laws::{neighbours_are_apart, one_is_concerned};
 use dm_node::{EventFault, Neighbours, NodeActions, NodeEvent, Strangers};
-use dm_session::is_exchange_to;
+use dm_slots::is_exchange;
 use dm_wire::Octets;
 use std::alloc::{AllocError, Global};
 
@@ -62,11 +63,11 @@ fn copied(
     octets: &[u8],
 ) -> Result<Octets, AllocError>
     ensures copied { IfOk result (λ copy. copy ≡ cond (is_exchange_to before octets.now) octets.now []) }
-    ensures room { OnOk result (is_exchange_to before octets.now ≡ true → HasRoom known.new) }
+    ensures room { OnOk result (is_exchange_to before octets.now ≡ true → HasSparePlace known.new) }
     ensures same { known_of known.new ≡ known_of known.old }
     ensures memory { OnErr result (is_exchange_to before octets.now ≡ true) }
 {
-    if !is_exchange_to(before, octets) {
+    if !is_exchange(before, octets) {
         return Ok(Octets::empty(alloc));
     }
     match known.reserve() {
@@ -84,7 +85,7 @@ fn meet(
     conn: Conn,
     before: State,
 )
-    requires { (i : ℕ) → who ≡ Some i → nat_lt i (length (known_of known.old)) ≡ false → HasRoom known.old }
+    requires { (i : ℕ) → who ≡ Some i → nat_lt i (length (known_of known.old)) ≡ false → HasSparePlace known.old }
     ensures met { (i : ℕ) (q : OnePeer) → who ≡ Some i → peer_at neighbours.now.peers i ≡ Some q → known_of known.new
         ≡ with_known i (known_if_any exchange conn before q) (given_place i (known_of known.old)) }
     ensures unmet { who ≡ None → known_of known.new ≡ known_of known.old }

@@ -1,6 +1,6 @@
 //! A node of many neighbours with its connections.
 ghost use Rattle.std.proofs.Props.{props};
-ghost use Rattle.dm_session.specs.Held.{intakes_of};
+ghost use Rattle.dm_slots.specs.Held.{intakes_of};
 ghost use Rattle.dm_node_session.specs.NodeHeld.{AllHeldAreThere, AreKept};
 ghost use Rattle.dm_node_session.specs.NodeKnown.{known_of, AreKnown};
 
@@ -11,8 +11,8 @@ use crate::telling::{no_actions, raise_for};
 use dm_base::Node;
 use dm_machine::Conn;
 use dm_node::{Neighbours, NodeActions, NodeEvent, Strangers};
-use dm_session::laws::what_is_there_stays;
-use dm_session::{Acquaintance, Front, Intakes};
+use dm_slots::laws::what_is_there_stays;
+use dm_slots::{Acquaintance, Front, Intakes};
 use std::alloc::{AllocError, Global};
 
 /// A node of many neighbours with its connections: what came on each and wasn't told yet, and whom each neighbour met.
@@ -35,8 +35,8 @@ impl NodeSession {
     ghost use Rattle.dm_machine.specs.declared.connection.Conn.{Conn};
     ghost use Rattle.dm_node.specs.Holding.{peer_at};
     ghost use Rattle.dm_node.specs.Telling.{IsFree};
-    ghost use Rattle.dm_session.specs.Acquaintances.{known_after};
-    ghost use Rattle.dm_session.specs.Intakes.{Intake, IsFaulty, none_there, is_there, actions_close};
+    ghost use Rattle.dm_slots.specs.Acquaintances.{known_after};
+    ghost use Rattle.dm_slots.specs.Intakes.{Intake, IsFaulty, none_there, is_there, actions_close};
     ghost use Rattle.dm_node_session.specs.NodeKnown.{acquaintance_at, MeetsAny, NodeKnownBehind, AwaitsExchangeAt};
     ghost use Rattle.dm_node_session.specs.NodeOrders.{node_opened, node_shut};
     ghost use Rattle.dm_node_session.specs.NodeSeen.{node_session_of, node_known_of};

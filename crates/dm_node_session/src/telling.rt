@@ -9,10 +9,10 @@ ghost use Rattle.dm_node.specs.declared.fault.EventFault.TheVariants as faults;
 ghost use Rattle.dm_peer.specs.declared.fault.PeerFault.TheVariants as peer_faults;
 ghost use Rattle.dm_peer.specs.Events.{Arrived};
 ghost use Rattle.dm_peer.specs.Kept.{IsKept};
-ghost use Rattle.dm_session.specs.Held.{intakes_of};
-ghost use Rattle.dm_session.specs.Intakes.{Intakes as AllIntakes, actions_close};
-ghost use Rattle.dm_session.specs.Naming.{NamesThere};
-ghost use Rattle.dm_session.specs.Sessions.{raised};
+ghost use Rattle.dm_slots.specs.Held.{intakes_of};
+ghost use Rattle.dm_slots.specs.Intakes.{Intakes as AllIntakes, actions_close};
+ghost use Rattle.dm_slots.specs.Naming.{NamesThere};
+ghost use Rattle.dm_slots.specs.Raised.{raised};
 ghost use Rattle.dm_node_session.specs.NodeHeld.{AllHeldAreThere, AreKept};
 ghost use Rattle.dm_node_session.specs.NodeSessions.{TakesMemoryAt, concerned_in, raised_for};
 
@@ -25,7 +25,7 @@ use dm_peer::laws::{
     each_event_is_one_step, each_event_keeps_settled, each_event_names_what_it_takes,
     every_peer_is_kept, refusals_go_by_rule,
 };
-use dm_session::Intakes;
+use dm_slots::Intakes;
 use std::alloc::Global;
 
 /// What holds of the neighbour of the number, if there is one.

@@ -1,5 +1,5 @@
 //! How far a chunk may be, and how much may wait.
-use crate::flows::{chunk_of, put_message};
+use crate::flows::{chunk_of, push_message};
 use dm_association::SctpFlow;
 use std::alloc::{AllocError, Global};
 use std::process::Abort;
@@ -10,7 +10,7 @@ fn told(alloc: Global, tsns: &[u32]) -> Result<Vec<u8>, AllocError> {
     let mut flow = SctpFlow::new(alloc);
     let mut text = Vec::new(alloc);
     for index in 0..tsns.len() {
-        put_message(
+        push_message(
             &mut flow,
             &mut text,
             chunk_of(tsns[index], "BE", 0, 46, b"m"),
@@ -55,10 +55,10 @@ fn told_of_large(alloc: Global, count: u32, last: usize) -> Result<(usize, u64),
     octets.resize(65_536, 7)?;
     flow.begin(0);
     for tsn in 0..count {
-        put_message(&mut flow, &mut text, chunk_of(tsn, "B", 0, 46, &octets))?;
+        push_message(&mut flow, &mut text, chunk_of(tsn, "B", 0, 46, &octets))?;
     }
     if last <= octets.len() {
-        put_message(
+        push_message(
             &mut flow,
             &mut text,
             chunk_of(count, "B", 0, 46, &octets[..last]),

@@ -25,7 +25,11 @@ fn push_whole(framer: &mut Framer, told: &mut Vec<u8>) -> Result<(), FrameFault>
 }
 
 /// The same after each of the pieces.
-fn push_whole_by_pieces(framer: &mut Framer, pieces: &[&[u8]], told: &mut Vec<u8>) -> Result<(), FrameFault> {
+fn push_whole_by_pieces(
+    framer: &mut Framer,
+    pieces: &[&[u8]],
+    told: &mut Vec<u8>,
+) -> Result<(), FrameFault> {
     for piece in pieces {
         framer.feed(piece)?;
         push_whole(framer, told)?;

@@ -110,7 +110,11 @@ fn cer_in_place(
     let octets = hex::decode(rt.alloc(), CER_OF_B.as_bytes()).expect(rt, "digits");
     let whole = heard(rt, session, octets.as_slice());
     let front = heard(rt, session, &octets[..octets.len() / 2]);
-    let _kept = asked(rt, session, NodeOrder::Octets(R, &octets[..octets.len() / 2]));
+    let _kept = asked(
+        rt,
+        session,
+        NodeOrder::Octets(R, &octets[..octets.len() / 2]),
+    );
     let behind = heard(rt, session, octets.as_slice());
     drop(octets);
     (whole, front, behind, state(session))
@@ -189,5 +193,8 @@ fn fault_closes_once(rt: HostRuntime) {
 
 #[test]
 fn cer_in_place_opens(rt: HostRuntime) {
-    assert_eq!(rt; in_place(&rt), (Some((112, 1)), None, None, Some(State::ROpen)));
+    assert_eq!(rt;
+        in_place(&rt),
+        (Some((112, 1)), None, None, Some(State::ROpen))
+    );
 }

@@ -1,5 +1,5 @@
 //! Rules of more entries than are counted in one walk without memory: all calls say the same of a message.
-use super::counters::push_definition;
+use super::counters::put_definition;
 use dm_dict::{Dictionary, Failed, Judged, Verdict};
 use dm_wire::{Avp, AvpList, Header, Message, MessageRef, Octets};
 use std::process::Abort;
@@ -8,7 +8,7 @@ use std::process::Abort;
 fn long_rule(rt: &(impl Abort + AllocGlobal), size: u16) -> String {
     let mut text = String::new(rt.alloc());
     for place in 0..size {
-        push_definition(rt, &mut text, place);
+        put_definition(rt, &mut text, place);
     }
     text.push_str("< Q > ::= < Diameter Header: 300, REQ >")
         .expect(rt, "memory");

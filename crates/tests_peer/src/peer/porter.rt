@@ -104,7 +104,10 @@ fn assert_alone(rt: &(impl Abort + AllocGlobal)) {
     add(rt, &mut session, b"b.example");
     let mut twin = peer(rt, b"a.example", b"b.example", 4);
     for first in FIRST {
-        assert!(rt; does_as_its_peer(rt, &mut session, &mut twin, first), "at {first:?}");
+        assert!(rt;
+            does_as_its_peer(rt, &mut session, &mut twin, first),
+            "at {first:?}"
+        );
     }
     drop(twin);
     drop(session);

@@ -1,11 +1,11 @@
-use Rattle.std.proofs.Common.{ℕ, Option, MatchOption, IfNone, IfSome, subst}
+use Rattle.std.proofs.Common.{ℕ, Option, MatchOption, subst}
 use Rattle.dm_node_session.specs.declared.node_order.NodeOrder.{NodeOrder}
 use Rattle.dm_live.specs.declared.order_line.OrderLine.{OrderLine}
 use Rattle.dm_live.specs.Meetings.{meeting_of}
 use Rattle.dm_live.specs.OrderLines.{node_asked, told_order, TellsOrder}
 use Rattle.dm_live.specs.SenderLines.{IsSender}
-use Rattle.dm_live.proofs.Options.{some-holds, none-holds}
-use Rattle.dm_live.proofs.Stages.{told_line, untold_line, sender_line}
+use Rattle.dm_live.proofs.Options.{none-holds}
+use Rattle.dm_live.proofs.Stages.{told_line, untold_line}
 use Rattle.dm_live.proofs.live.answer_told.Goals as goal
 
 pub returns-in_ok-answer_order-in-Some-2 : goal.returns-in_ok-answer_order-in-Some-2

@@ -1,5 +1,5 @@
 -- Both are shut.
-use Rattle.dm_session.specs.Held.{intakes_of}
+use Rattle.dm_slots.specs.Held.{intakes_of}
 use Rattle.dm_node_session.proofs.NodeEmptying.{shut_both}
 use Rattle.dm_node_session.proofs.emptying.shut_held.Goals as goal
 

@@ -1,7 +1,7 @@
 -- The connection is the one that is shut.
 use Rattle.std.proofs.Common.{◌∙◌, ap, sym, None, cond}
 use Rattle.dm_peer.specs.Places.{is_on}
-use Rattle.dm_session.specs.Held.{intakes_of}
+use Rattle.dm_slots.specs.Held.{intakes_of}
 use Rattle.dm_node_session.proofs.emptying.shut_if_any.Goals as goal
 
 pub returns-in-Some : goal.returns-in-Some

@@ -1,6 +1,6 @@
 -- Whom the event met.
 use Rattle.dm_node.specs.Telling.{Concerns}
-use Rattle.dm_session.specs.Acquaintances.{known_after}
+use Rattle.dm_slots.specs.Acquaintances.{known_after}
 use Rattle.dm_node_session.specs.NodeKnown.{known_of}
 use Rattle.dm_node_session.proofs.NodeKnowing.{IsStateOf, meets_after, known_told}
 use Rattle.dm_node_session.proofs.meeting.tell_event.Goals as goal

@@ -2,7 +2,7 @@
 use Rattle.std.proofs.Common.{◌∙◌, ap, sym, inl, inr, refl, length}
 use Rattle.std.specs.Prelude.{nat_lt}
 use Rattle.dm_node.specs.Telling.{IsAddressed}
-use Rattle.dm_session.specs.Acquaintances.{known_at}
+use Rattle.dm_slots.specs.Acquaintances.{known_at}
 use Rattle.dm_node_session.specs.NodeKnown.{known_of}
 use Rattle.dm_node_session.proofs.NodeKnowing.{IsStateOf, meets, known_moved, room_for, is_copied}
 use Rattle.dm_node_session.proofs.meeting.tell_message.Goals as goal

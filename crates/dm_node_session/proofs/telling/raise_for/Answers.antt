@@ -1,6 +1,6 @@
 -- The peer is the one at the number.
 use Rattle.std.proofs.Common.{◌∙◌, sym, ap}
-use Rattle.dm_session.specs.Held.{intakes_of}
+use Rattle.dm_slots.specs.Held.{intakes_of}
 use Rattle.dm_node_session.specs.NodeSessions.{concerned_in, raised_for}
 use Rattle.dm_node_session.proofs.telling.raise_for.Goals as goal
 

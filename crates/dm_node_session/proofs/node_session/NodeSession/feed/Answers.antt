@@ -1,6 +1,6 @@
 -- What is there stays there.
-use Rattle.dm_session.specs.Intakes.{fed_intake, changed}
-use Rattle.dm_session.specs.Held.{intakes_of}
+use Rattle.dm_slots.specs.Intakes.{fed_intake, changed}
+use Rattle.dm_slots.specs.Held.{intakes_of}
 use Rattle.dm_node_session.specs.NodeHeld.{AllHeldAreThere}
 use Rattle.dm_node_session.proofs.NodeStaying.{held_changed, done_or_not}
 use Rattle.dm_node_session.proofs.node_session.NodeSession.feed.Goals as goal

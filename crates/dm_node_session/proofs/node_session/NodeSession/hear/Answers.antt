@@ -1,7 +1,7 @@
 -- The message with which the piece begins is told, nothing of it is kept, and whom it met is known.
 use Rattle.std.proofs.Common.{refl, sym, ap, subst, ◌∙◌, take, inl, inr}
-use Rattle.dm_session.specs.Acquaintances.{known_at}
-use Rattle.dm_session.specs.Held.{intakes_of}
+use Rattle.dm_slots.specs.Acquaintances.{known_at}
+use Rattle.dm_slots.specs.Held.{intakes_of}
 use Rattle.dm_node_session.specs.NodeHearing.{NodeHearsWhole}
 use Rattle.dm_node_session.specs.NodeKnown.{MeetsBy}
 use Rattle.dm_node_session.specs.NodeSeen.{node_session_of, node_known_of}

@@ -1,7 +1,7 @@
 -- What stands at the front is told, and goes, and whom it met is known.
 use Rattle.std.proofs.Common.{refl, sym, ap, ◌∙◌, subst, inl, inr}
-use Rattle.dm_session.specs.Acquaintances.{known_at}
-use Rattle.dm_session.specs.Held.{intakes_of}
+use Rattle.dm_slots.specs.Acquaintances.{known_at}
+use Rattle.dm_slots.specs.Held.{intakes_of}
 use Rattle.dm_node_session.specs.NodeHeld.{AllHeldAreThere}
 use Rattle.dm_node_session.specs.NodeKnown.{NodeMeetsMessage, NodeMeetsAs, NodeKnownBehind}
 use Rattle.dm_node_session.specs.NodeSeen.{node_session_of, node_known_of}

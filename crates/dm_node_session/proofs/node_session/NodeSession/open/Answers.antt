@@ -1,6 +1,6 @@
 -- One more may be there.
-use Rattle.dm_session.specs.Intakes.{opened}
-use Rattle.dm_session.specs.Held.{intakes_of}
+use Rattle.dm_slots.specs.Intakes.{opened}
+use Rattle.dm_slots.specs.Held.{intakes_of}
 use Rattle.dm_node_session.specs.NodeHeld.{AllHeldAreThere}
 use Rattle.dm_node_session.proofs.NodeStaying.{held_opened, done_or_not}
 use Rattle.dm_node_session.proofs.node_session.NodeSession.open.Goals as goal

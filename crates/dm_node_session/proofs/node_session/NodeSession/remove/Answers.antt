@@ -1,6 +1,6 @@
 -- What the neighbour held goes, and what others hold is there.
 use Rattle.std.proofs.Common.{refl, sym, subst}
-use Rattle.dm_session.specs.Held.{intakes_of}
+use Rattle.dm_slots.specs.Held.{intakes_of}
 use Rattle.dm_node.specs.Holding.{peer_at}
 use Rattle.dm_node_session.specs.NodeKnown.{known_of, AreKnown}
 use Rattle.dm_node_session.specs.NodeSeen.{node_session_of}

@@ -1,5 +1,5 @@
 -- What the neighbour held goes, and what others hold is there.
-use Rattle.dm_session.specs.Held.{intakes_of}
+use Rattle.dm_slots.specs.Held.{intakes_of}
 use Rattle.dm_node.specs.Holding.{peer_at}
 use Rattle.dm_node_session.specs.NodeKnown.{known_of}
 use Rattle.dm_node_session.proofs.NodeEmptying.{held_set, back_free}

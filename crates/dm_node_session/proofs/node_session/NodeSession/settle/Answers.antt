@@ -1,6 +1,6 @@
 -- What is left, and what is raised.
 use Rattle.std.proofs.Common.{ap, sym, subst}
-use Rattle.dm_session.specs.Held.{intakes_of}
+use Rattle.dm_slots.specs.Held.{intakes_of}
 use Rattle.dm_node_session.specs.NodeHeld.{AllHeldAreThere}
 use Rattle.dm_node_session.specs.NodeSeen.{node_session_of}
 use Rattle.dm_node_session.specs.NodeSessions.{concerned_in, with_node_intakes}

@@ -1,6 +1,6 @@
 -- What nobody holds may go.
 use Rattle.std.proofs.Common.{sym, subst}
-use Rattle.dm_session.specs.Held.{intakes_of}
+use Rattle.dm_slots.specs.Held.{intakes_of}
 use Rattle.dm_node_session.specs.NodeHeld.{AllHeldAreThere}
 use Rattle.dm_node_session.proofs.NodeStaying.{held_shut}
 use Rattle.dm_node_session.proofs.node_session.NodeSession.shut.Goals as goal

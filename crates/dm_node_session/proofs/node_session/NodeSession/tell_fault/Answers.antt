@@ -1,8 +1,8 @@
 -- The fault at the front is told, and what came goes.
 use Rattle.std.proofs.Common.{refl, sym, ap, ◌∙◌, subst, []}
-use Rattle.dm_session.specs.Acquaintances.{known_after}
-use Rattle.dm_session.specs.Intakes.{broken_intake}
-use Rattle.dm_session.specs.Held.{intakes_of}
+use Rattle.dm_slots.specs.Acquaintances.{known_after}
+use Rattle.dm_slots.specs.Intakes.{broken_intake}
+use Rattle.dm_slots.specs.Held.{intakes_of}
 use Rattle.dm_node_session.specs.NodeHeld.{AllHeldAreThere}
 use Rattle.dm_node_session.specs.NodeSeen.{node_session_of, node_known_of}
 use Rattle.dm_node_session.specs.NodeSessions.{NodeSession}

@@ -1,7 +1,7 @@
 -- The event is told by no policy, what is held behind it is there, and whom it met is known.
 use Rattle.std.proofs.Common.{refl, ap, ◌∙◌}
-use Rattle.dm_session.specs.Acquaintances.{known_after}
-use Rattle.dm_session.specs.Held.{intakes_of}
+use Rattle.dm_slots.specs.Acquaintances.{known_after}
+use Rattle.dm_slots.specs.Held.{intakes_of}
 use Rattle.dm_node_session.specs.NodeSeen.{node_session_of, node_known_of}
 use Rattle.dm_node_session.specs.NodeSessions.{NodeSession}
 use Rattle.dm_node_session.specs.NodeTurns.{as_answer}

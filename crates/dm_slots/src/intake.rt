@@ -1,0 +1,126 @@
+//! What came on a connection and wasn't told yet.
+ghost use Rattle.std.specs.Prelude.{◌≡◌, ◌≤◌, ℕ, List, length, take, drop, IfSome, IfNone, OnOk, OnErr};
+ghost use Rattle.dm_slots.specs.Intakes.{new_intake, fed_intake, broken_intake, with_max, IsFirst};
+ghost use Rattle.dm_slots.specs.Fronts.{IsFront};
+ghost use Rattle.dm_slots.specs.Hearing.{IsWholeIn, IsNotWhole};
+
+use dm_framer::{Framer, front_len};
+use std::alloc::{AllocError, Global};
+use std::marker::Model;
+
+/// What stands at the front of what came.
+#[derive(Clone, Copy)]
+pub enum Front<'a> {
+    /// No whole message yet.
+    Nothing,
+    /// A message.
+    Message(&'a [u8]),
+    /// What no message begins with.
+    Fault,
+}
+
+/// What came on a connection and wasn't told yet.
+#[derive(Debug, Drop)]
+pub(crate) struct Intake {
+    framer: Framer,
+    is_broken: bool,
+}
+
+impl Model for Intake {
+    ghost use Rattle.std.specs.Prelude.{◌≡◌, None};
+    ghost use Rattle.dm_slots.specs.Intakes.{Intake};
+
+    ghost Value = { Intake };
+
+    ghost view = { λ i. record { octets = i.framer.octets; max = i.framer.max; is_broken = i.is_broken } };
+
+    ghost invariant = { λ i. i.framer.fault ≡ None };
+}
+
+impl Intake {
+    /// Nothing came; messages of at most `max` octets may. It never answers want of memory.
+    pub(crate) fn new(alloc: Global, max: u32) -> Intake
+        ensures { result ≡ new_intake max }
+    {
+        Intake {
+            framer: Framer::new(alloc, max),
+            is_broken: false,
+        }
+    }
+
+    /// Keeps a piece. Behind a fault it is thrown away.
+    pub(crate) fn feed(&mut self, piece: &[u8]) -> Result<(), AllocError>
+        ensures fed { OnOk result (self.new ≡ fed_intake piece.now self.old) }
+        ensures unchanged { OnErr result (self.new ≡ self.old) }
+    {
+        if self.is_broken {
+            return Ok(());
+        }
+        match self.framer.feed(piece) {
+            Ok(()) => Ok(()),
+            Err(_) => Err(AllocError),
+        }
+    }
+
+    /// What stands at the front. It never answers want of memory.
+    pub(crate) fn front(&self) -> Front<'_>
+        ensures { IsFront self.now result }
+    {
+        if self.is_broken {
+            return Front::Nothing;
+        }
+        match self.framer.front() {
+            Ok(Some(message)) => Front::Message(message),
+            Ok(None) => Front::Nothing,
+            Err(_) => Front::Fault,
+        }
+    }
+
+    /// How many octets of the piece the whole message takes with which it begins, where nothing is kept before it. It
+    /// never answers want of memory.
+    pub(crate) fn whole_in(&self, piece: &[u8]) -> Option<usize>
+        ensures within { IfSome result (λ size. size ≤ length piece.now) }
+        ensures whole { IfSome result (λ size.
+            IsWholeIn self.now piece.now (take size piece.now) (drop size piece.now)) }
+        ensures none { IfNone result (IsNotWhole self.now piece.now) }
+    {
+        if self.is_broken || !self.framer.is_empty() {
+            return None;
+        }
+        match front_len(piece, self.framer.max()) {
+            Ok(found) => found,
+            Err(_) => None,
+        }
+    }
+
+    /// Lets the front message go. It never answers want of memory.
+    pub(crate) fn skip(&mut self)
+        ensures { (message rest : List ℕ) → IsFirst self.old message rest
+            → self.new ≡ record self.old { octets = rest } }
+    {
+        self.framer.skip();
+    }
+
+    /// A fault was told: what came, and what comes, is thrown away. It never answers want of memory.
+    pub(crate) fn break_off(&mut self, alloc: Global)
+        ensures { self.new ≡ broken_intake self.old }
+    {
+        let max = self.framer.max();
+        self.framer = Framer::new(alloc, max);
+        self.is_broken = true;
+    }
+
+    /// The greatest Message Length. It never answers want of memory.
+    pub(crate) fn max(&self) -> u32
+        ensures { result ≡ self.now.max }
+    {
+        self.framer.max()
+    }
+
+    /// Sets the greatest Message Length. It never answers want of memory.
+    pub(crate) fn set_max(&mut self, max: u32)
+        ensures { self.new ≡ with_max max self.old }
+    {
+        self.framer.set_max(max);
+    }
+}

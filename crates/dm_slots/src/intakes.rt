@@ -1,0 +1,207 @@
+//! The connections that are there, by number.
+ghost use Rattle.std.specs.Prelude.{◌≡◌, ◌∷◌, [], ℕ, true, List, Some, IfSome, IfNone, cond, OnOk, OnErr};
+ghost use Rattle.std.specs.Option.{option_copied};
+ghost use Rattle.dm_slots.specs.Intakes.{none_there, is_there, opened, taken_down, changed, raised_at, left_by};
+ghost use Rattle.dm_slots.specs.Intakes.{fed_intake, broken_intake, with_intake, Intake as OneIntake, IsFirst};
+ghost use Rattle.dm_slots.specs.Fronts.{IsFrontAt};
+ghost use Rattle.dm_slots.specs.Hearing.{IsWholeAt, IsNotWhole};
+ghost use Rattle.dm_slots.specs.Held.{intakes_of};
+
+use crate::intake::{Front, Intake};
+use dm_machine::Conn;
+use dm_peer::Action;
+use indexmap::IndexMap;
+use std::alloc::{AllocError, Global};
+
+/// The connections that are there, by number, each with what came on it and wasn't told yet. Who drives peers has them
+/// beside those.
+#[derive(Drop)]
+pub struct Intakes {
+    map: IndexMap<u64, Intake>,
+    /// Where the connection stood whose limit was asked for last. Who looks one up looks there first.
+    last: usize,
+}
+
+impl Intakes {
+    /// No connections. It never answers want of memory.
+    pub fn new(alloc: Global) -> Intakes
+        ensures { intakes_of result ≡ none_there }
+    {
+        Intakes {
+            map: IndexMap::new(alloc),
+            last: 0,
+        }
+    }
+
+    /// What came on the connection, where it is there.
+    fn get(&self, conn: Conn) -> Option<&Intake>
+        ensures { option_copied result ≡ intakes_of self.now conn.0 }
+    {
+        match self.map.get_index(self.last) {
+            Some((number, intake)) if *number == conn.0 => Some(intake),
+            _ => self.map.get(&conn.0),
+        }
+    }
+
+    /// Whether the connection is there. It never answers want of memory.
+    pub fn has(&self, conn: Conn) -> bool
+        ensures { result ≡ is_there conn.0 (intakes_of self.now) }
+    {
+        self.get(conn).is_some()
+    }
+
+    #[tactic(auto, using(crate::proofs::Steps::front_there, crate::proofs::Steps::front_none))]
+    /// What stands at the front of what came on the connection; Nothing where it isn't there. It never answers want of
+    /// memory.
+    pub fn front(&self, conn: Conn) -> Front<'_>
+        ensures { IsFrontAt (intakes_of self.now conn.0) result }
+    {
+        match self.get(conn) {
+            Some(intake) => intake.front(),
+            None => Front::Nothing,
+        }
+    }
+
+    #[tactic(auto, using(crate::proofs::Steps::whole, crate::proofs::Steps::not_whole, crate::proofs::Steps::nowhere))]
+    /// How many octets of the piece the whole message takes with which it begins, where the connection is there and
+    /// nothing is kept of it. It never answers want of memory.
+    pub fn whole_in(&self, conn: Conn, piece: &[u8]) -> Option<usize>
+        ensures whole { IfSome result (λ size. IsWholeAt (intakes_of self.now conn.0) piece.now size) }
+        ensures none { IfNone result (IfSome (intakes_of self.now conn.0) (λ i. IsNotWhole i piece.now)) }
+    {
+        match self.get(conn) {
+            Some(intake) => intake.whole_in(piece),
+            None => None,
+        }
+    }
+
+    /// The connection is there: as it was, or, if it wasn't, as a new one for messages of at most `max` octets.
+    pub fn open(&mut self, alloc: Global, conn: Conn, max: u32) -> Result<(), AllocError>
+        ensures opened { OnOk result (intakes_of self.new ≡ opened max conn.0 (intakes_of self.old)) }
+        ensures unchanged { OnErr result (intakes_of self.new ≡ intakes_of self.old) }
+    {
+        if self.has(conn) {
+            return Ok(());
+        }
+        match self.map.insert(conn.0, Intake::new(alloc, max)) {
+            Ok(_) => Ok(()),
+            Err(_) => Err(AllocError),
+        }
+    }
+
+    /// The connection is no more there. It never answers want of memory.
+    pub fn shut(&mut self, conn: Conn)
+        ensures { intakes_of self.new ≡ taken_down conn.0 (intakes_of self.old) }
+    {
+        let _gone = self.map.swap_remove(&conn.0);
+    }
+
+    /// No connection is there. It never answers want of memory.
+    pub fn clear(&mut self)
+        ensures { intakes_of self.new ≡ none_there }
+    {
+        self.map.clear();
+    }
+
+    /// Keeps a piece that came on the connection, where it is there.
+    pub fn feed(&mut self, conn: Conn, piece: &[u8]) -> Result<(), AllocError>
+        ensures fed { OnOk result (intakes_of self.new ≡ changed conn.0 (fed_intake piece.now) (intakes_of self.old)) }
+        ensures unchanged { OnErr result (intakes_of self.new ≡ intakes_of self.old) }
+    {
+        match self.map.get_mut(&conn.0) {
+            Some(intake) => intake.feed(piece),
+            None => Ok(()),
+        }
+    }
+
+    /// Lets the front message of the connection go. It never answers want of memory.
+    pub fn skip(&mut self, conn: Conn)
+        ensures { (intake : OneIntake) (message rest : List ℕ) → intakes_of self.old conn.0 ≡ Some intake
+            → IsFirst intake message rest
+            → intakes_of self.new ≡ with_intake conn.0 (Some (record intake { octets = rest })) (intakes_of self.old) }
+    {
+        if let Some(intake) = self.map.get_mut(&conn.0) {
+            intake.skip();
+        }
+    }
+
+    /// A fault of the connection was told. It never answers want of memory.
+    pub fn break_off(&mut self, alloc: Global, conn: Conn)
+        ensures { (intake : OneIntake) → intakes_of self.old conn.0 ≡ Some intake
+            → intakes_of self.new ≡ with_intake conn.0 (Some (broken_intake intake)) (intakes_of self.old) }
+    {
+        if let Some(intake) = self.map.get_mut(&conn.0) {
+            intake.break_off(alloc);
+        }
+    }
+
+    /// Whether the connection is there and takes messages of at most `max` octets already. Where it stands is noted.
+    fn is_raised(&mut self, conn: Conn, max: u32) -> bool
+        ensures raised { result ≡ true → (i : OneIntake) × (intakes_of self.old conn.0 ≡ Some i) × (i.max ≡ max) }
+        ensures same { intakes_of self.new ≡ intakes_of self.old }
+    {
+        match self.map.get_index(self.last) {
+            Some((number, intake)) if *number == conn.0 => intake.max() == max,
+            _ => match self.map.get_full(&conn.0) {
+                Some((index, _, intake)) => {
+                    let is_raised = intake.max() == max;
+                    self.last = index;
+                    is_raised
+                }
+                None => false,
+            },
+        }
+    }
+
+    /// The connection, where it is there, takes messages of at most `max` octets.
+    fn set_max(&mut self, conn: Conn, max: u32)
+        ensures { intakes_of self.new ≡ raised_at max (Some conn) (intakes_of self.old) }
+    {
+        if let Some(intake) = self.map.get_mut(&conn.0) {
+            intake.set_max(max);
+        }
+    }
+
+    /// The connection, if it is one and there, takes messages of at most `max` octets. It never answers want of memory.
+    pub fn raise(&mut self, conn: Option<Conn>, max: u32)
+        ensures { intakes_of self.new ≡ raised_at max conn (intakes_of self.old) }
+    {
+        if let Some(conn) = conn {
+            if !self.is_raised(conn, max) {
+                self.set_max(conn, max);
+            }
+        }
+    }
+
+    /// Where the peer is open, both connections that it may hold take messages of at most `max` octets. It never
+    /// answers want of memory.
+    pub fn raise_open(&mut self, is_open: bool, own: Option<Conn>, other: Option<Conn>, max: u32)
+        ensures { intakes_of self.new
+            ≡ cond is_open (raised_at max other (raised_at max own (intakes_of self.old))) (intakes_of self.old) }
+    {
+        if is_open {
+            self.raise(own, max);
+            self.raise(other, max);
+        }
+    }
+
+    #[tactic(auto, using(crate::proofs::Steps::left_close))]
+    /// What the action closes is no more there. It never answers want of memory.
+    fn leave_one(&mut self, action: &Action)
+        ensures { intakes_of self.new ≡ left_by (action.now ∷ []) (intakes_of self.old) }
+    {
+        if let Action::Close(conn) = action {
+            self.shut(*conn);
+        }
+    }
+
+    /// What the actions close is no more there. It never answers want of memory.
+    pub fn leave(&mut self, actions: &[Action])
+        ensures { intakes_of self.new ≡ left_by actions.now (intakes_of self.old) }
+    {
+        if let [action, rest @ ..] = actions {
+            self.leave_one(action);
+            self.leave(rest);
+        }
+    }
+}

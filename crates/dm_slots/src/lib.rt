@@ -1,0 +1,12 @@
+//! Connections by number, each with what came on it and wasn't told yet, and whom a peer met (RFC 6733, 5.6).
+#![tactic(auto)]
+
+mod acquaintance;
+mod intake;
+mod intakes;
+pub mod laws;
+
+pub use acquaintance::{Acquaintance, is_exchange};
+pub use dm_peer::{Action, Conn};
+pub use intake::Front;
+pub use intakes::Intakes;
