@@ -36,18 +36,8 @@ extern "C" {
         ticks: u32,
         times: u32,
     ) -> usize;
-    #[cfg(any(session, node))]
+    #[cfg(node)]
     fn ours_hand(first: *const u8, len: usize, octets: *const u8, octets_len: usize, size: usize, times: u32) -> usize;
-    #[cfg(session)]
-    fn ours_session(
-        first: *const u8,
-        len: usize,
-        octets: *const u8,
-        octets_len: usize,
-        size: usize,
-        hears: bool,
-        times: u32,
-    ) -> usize;
     #[cfg(node)]
     fn ours_add(hosts: *const u8, len: usize) -> usize;
     #[cfg(node)]
@@ -258,15 +248,10 @@ fn ours(operation: &str, text: &str, octets: &[u8], times: u32, size: usize) -> 
                 };
                 ours_on(first.as_ptr(), first.len(), at, len, operation == "submit", ticks, times)
             }
-            #[cfg(any(session, node))]
+            #[cfg(node)]
             "hand" => {
                 let first = capabilities(1);
                 ours_hand(first.as_ptr(), first.len(), at, len, size, times)
-            }
-            #[cfg(session)]
-            "take" | "hear" => {
-                let first = capabilities(1);
-                ours_session(first.as_ptr(), first.len(), at, len, size, operation == "hear", times)
             }
             _ => panic!("no operation {operation}"),
         }
