@@ -1,26 +1,24 @@
 -- Where a run of two peers over octets falls quiet both are Closed, or both open on one link.
-use Rattle.std.proofs.Common.{◌≡◌, ◌<◌, ◌^◌, ℕ, Bool, true, false, not, ◌&&◌, Option, None, Some, IfSome, List, refl, inl, inr}
+use Rattle.std.proofs.Common.{◌≡◌, ◌<◌, ◌^◌, ℕ, true, false, Option, None, Some, IfSome, List, refl, inl, inr}
 use Rattle.std.proofs.lemmas.Bool.{cases_Bool, and_from}
 use Rattle.std.proofs.lemmas.Option.{IfSome_then}
-use Rattle.dm_base.specs.Fit.{is_number}
 use Rattle.dm_peer.specs.declared.config.Config.{Config}
 use Rattle.dm_peer.specs.declared.peer.Peer.{Peer}
 use Rattle.dm_peer.specs.Configs.{wins}
 use Rattle.dm_two_peers.specs.Links.{Side, A, B}
 use Rattle.dm_two_peers.specs.Worlds.{World, peer_on}
-use Rattle.dm_two_peers.specs.Happens.{Happening, run}
+use Rattle.dm_two_peers.specs.Happens.{run}
 use Rattle.dm_two_peers.specs.Laws.{world_of}
-use Rattle.dm_two_peers.specs.Quiet.{is_quiet}
 use Rattle.dm_two_peers.specs.Joining.{is_returning}
-use Rattle.dm_two_peers.specs.ClosedOrOpen.{AreClosedOrOpen, EachQuietRunIsClosedOrOpen}
+use Rattle.dm_two_peers.specs.ClosedOrOpen.{EachQuietRunIsClosedOrOpen}
 use Rattle.dm_octet_peers.specs.Octets.{octet_peers}
-use Rattle.dm_octet_peers.specs.Talking.{ArePaired, ArePeers}
+use Rattle.dm_octet_peers.specs.Talking.{ArePeers}
 use Rattle.dm_octet_peers.specs.Laws.{OctetsAreElecting, fresh_peer}
 use Rattle.dm_octet_peers.specs.Matching.{octet_requests, is_matching, OctetAnswersMatch, EachOctetQuietRunIsClosedOrOpen}
 use Rattle.dm_octet_peers.proofs.KeepingWorld.{fresh_stands, is_below}
 use Rattle.dm_octet_peers.proofs.Returning.{not_lost}
 use Rattle.dm_octet_peers.proofs.Joining.{other_wins}
-use Rattle.dm_octet_peers.proofs.CanOpen.{RunLaws, IsPeerWorld, each_run_good}
+use Rattle.dm_octet_peers.proofs.CanOpen.{RunLaws, each_run_good}
 
 -- one of the two didn't lose its election to the other
 one_won : OctetsAreElecting → (w : World Peer (List ℕ)) → ArePeers w →

@@ -1,59 +1,35 @@
 -- Peers over octets match their answers: what a step does to a connection that it doesn't close.
-use Rattle.std.proofs.Common.{◌≡◌, ◌⊎◌, inl, inr, ℕ, ◌==◌, Bool, true, false, not, ◌&&◌, ◌||◌, nat_eq, if◌then◌else◌}
-use Rattle.std.proofs.Common.{Option, None, Some, List, [], ◌∷◌, ◌++◌, refl, sym, ap, subst, ◌∙◌, arith}
-use Rattle.std.specs.Prelude.{is_none}
-use Rattle.std.specs.List.{list_any}
-use Rattle.std.proofs.lemmas.Bool.{and_parts, eqb-true, or_cases, cases_Bool}
+use Rattle.std.proofs.Common.{◌≡◌, ℕ, ◌==◌, Bool, true, false, not, ◌&&◌, ◌||◌, nat_eq, if◌then◌else◌}
+use Rattle.std.proofs.Common.{Option, None, Some, List, [], ◌∷◌, refl, sym, ap, subst, ◌∙◌, arith}
+use Rattle.std.proofs.lemmas.Bool.{and_parts, eqb-true}
 use Rattle.std.proofs.lemmas.Bool.Decides.{nat_tests}
 use Rattle.dm_wire.specs.declared.message.Header.{Header}
 use Rattle.dm_wire.specs.declared.message.Message.{Message}
 use Rattle.dm_wire.specs.Whole.{message_in}
-use Rattle.dm_base.specs.Codes.{capabilities_exchange, disconnect_peer, success}
-use Rattle.dm_base.specs.Fit.{is_number}
-use Rattle.dm_base.specs.Built.{built_cer, built_cea, built_dpr, built_answer}
+use Rattle.dm_base.specs.Codes.{capabilities_exchange}
 use Rattle.dm_machine.specs.declared.inputs.Input.TheVariants as input
-use Rattle.dm_machine.specs.declared.inputs.Word.TheVariants as word
-use Rattle.dm_machine.specs.declared.outputs.Command.{Command}
 use Rattle.dm_machine.specs.declared.state_name.State.{State}
-use Rattle.dm_machine.specs.declared.state_name.State.TheVariants as state
-use Rattle.dm_machine.specs.Node.{Node, is_shaped}
-use Rattle.dm_machine.specs.Forms.{EachShapeIsAForm}
-use Rattle.dm_machine.specs.Awaiting.{awaits_cea, awaits_dpa, holds_cer, number_after, waiting_after}
-use Rattle.dm_machine.specs.Unread.{reads_first, ClosesUnread}
-use Rattle.dm_machine.specs.Connection.{Hold, ConnOrder, hold_of, orders_to, if_ordered, with_order, concern_of}
+use Rattle.dm_machine.specs.Awaiting.{awaits_dpa, number_after}
+use Rattle.dm_machine.specs.Connection.{Hold, ConnOrder, hold_of, concern_of}
 use Rattle.dm_machine.specs.Connection as machine
-use Rattle.dm_machine.specs.Openings.{is_hold, has_order}
+use Rattle.dm_machine.specs.Openings.{is_hold}
 use Rattle.dm_machine.specs.Ordered.{OrdersAreToldApart}
-use Rattle.dm_machine.specs.Changes.{changed_to, EachConnectionChangesAsAllowed}
-use Rattle.dm_machine.specs.EachStep.{EachStepHolds}
 use Rattle.dm_machine.specs.Upward.{is_open_hold}
-use Rattle.dm_machine.specs.Moves as moves
-use Rattle.dm_machine.specs.Moves.{is_open, machine_outcome}
+use Rattle.dm_machine.specs.Moves.{is_open}
 use Rattle.dm_peer.specs.declared.peer.Peer.{Peer}
-use Rattle.dm_peer.specs.Configs.{wins}
 use Rattle.dm_peer.specs.Events as told
-use Rattle.dm_peer.specs.Events.{cause_in}
-use Rattle.dm_peer.specs.Octets.{octets_of}
-use Rattle.dm_peer.specs.Said.{Heard, heard_in, word_heard, header_heard}
-use Rattle.dm_peer.specs.Sent.{cer_answered, header_of}
-use Rattle.dm_peer.specs.After.{request_in, is_cer, is_dpr, standing_after}
-use Rattle.dm_peer.specs.Acts.{input_of, standing_at, is_made, is_unread}
+use Rattle.dm_peer.specs.Said.{Heard, heard_in, word_heard}
+use Rattle.dm_peer.specs.Acts.{input_of, is_made, is_unread}
 use Rattle.dm_peer.specs.Cases.{Hears, unread, no_message, message, bare}
 use Rattle.dm_two_peers.specs.Machine.{conn}
 use Rattle.dm_two_peers.specs.Machine as two
 use Rattle.dm_two_peers.specs.Peers.{Event, StartEvent, StopEvent, TimeoutEvent, TickEvent, AckEvent, NackEvent, GoneEvent, SubmitEvent, ArrivedEvent, concern_by}
-use Rattle.dm_two_peers.specs.Delivery.{is_closing_hold, is_unmade}
-use Rattle.dm_two_peers.specs.Requests.{heard_on, Owes, waits, gives}
+use Rattle.dm_two_peers.specs.Delivery.{is_closing_hold}
+use Rattle.dm_two_peers.specs.Requests.{heard_on}
 use Rattle.dm_octet_peers.specs.Octets.{of_event}
-use Rattle.dm_octet_peers.specs.Talking.{is_standing}
-use Rattle.dm_octet_peers.specs.Matching.{has_fit, is_numbered_so, base_kind, is_good_dpr, is_good_dpa, waiting_number}
-use Rattle.dm_octet_peers.specs.Matching.{octet_requests, is_matching}
-use Rattle.dm_octet_peers.proofs.Bases.{heard_header}
-use Rattle.dm_octet_peers.proofs.MatchingTable.{is_ack, is_start, is_stop, brings_word, brings_cer, brings_dpr, brings_dpa}
-use Rattle.dm_octet_peers.proofs.MatchingTable.{is_silent, just_one, IsWell, step_is_well}
+use Rattle.dm_octet_peers.specs.Matching.{has_fit, is_numbered_so, waiting_number}
+use Rattle.dm_octet_peers.proofs.MatchingTable.{is_ack, is_start, is_stop, brings_word, is_silent, just_one}
 use Rattle.dm_octet_peers.proofs.MatchingStates.{is_state_for, is_stop_input, same}
-use Rattle.dm_octet_peers.proofs.MatchingOrders.{all_said}
-use Rattle.dm_octet_peers.proofs.MatchingMessages.{MessageLaws, cer_is, cea_is, dpr_is, dpa_is, dpr_heard, dpa_heard, dpr_asks}
 
 pub if_is : (a b : Bool) → (not a || b) ≡ true → a ≡ true → b ≡ true
 if_is true b h e = h

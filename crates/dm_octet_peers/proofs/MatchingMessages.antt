@@ -1,6 +1,6 @@
 -- What a node builds is read as what it is; what is heard of a good DPR or DPA, and which messages may be a DPR.
 use Rattle.std.proofs.Common.{◌≡◌, ◌<◌, ◌^◌, ℕ, Bool, true, false, not, ◌&&◌, nat_eq, nat_lt, nat_le, if◌then◌else◌, Option, None, Some, is_some, List, ◌∷◌, ◌++◌, drop, refl, sym, ap, subst, ◌∙◌, arith}
-use Rattle.std.specs.Prelude.{option_map, Result, Ok, Err, pos}
+use Rattle.std.specs.Prelude.{option_map, Result, Ok}
 use Rattle.std.proofs.lemmas.Bool.{and_parts, and_from, eqb-true}
 use Rattle.std.proofs.lemmas.Bool.Decides.{nat_tests}
 use Rattle.dm_wire.specs.declared.avp.Avp.{Avp}
@@ -10,7 +10,7 @@ use Rattle.dm_wire.specs.Limits.{HeaderFits}
 use Rattle.dm_wire.specs.Members.{members}
 use Rattle.dm_wire.specs.RoundTrip.{CanonicalSpells}
 use Rattle.dm_wire.specs.Spelling.{be}
-use Rattle.dm_wire.specs.Canonical.{flag_octet, header_flags, message_size, canonical_list, canonical_message}
+use Rattle.dm_wire.specs.Canonical.{flag_octet, message_size, canonical_list, canonical_message}
 use Rattle.dm_wire.specs.Whole.{has_header, header_in, with_header, message_in, SpelledIsIn}
 use Rattle.dm_dict.specs.Faults.{Fault, faults, first}
 use Rattle.dm_base.specs.declared.node.Node as base
@@ -24,7 +24,7 @@ use Rattle.dm_base.specs.Commands.{base_command, is_base_command}
 use Rattle.dm_base.specs.Fit.{is_number}
 use Rattle.dm_base.specs.Kinds.{caps_of, number_at, kind_by, kind_of, kind_or_fault, kind, IsBase}
 use Rattle.dm_base.specs.Spelled.{HasSpelling}
-use Rattle.dm_base.specs.Built.{request_header, answer_header, cause_number, built_cer, built_dwr, built_dpr, built_cea, built_answer, built_error}
+use Rattle.dm_base.specs.Built.{request_header, answer_header, built_cer, built_dwr, built_dpr, built_cea, built_answer, built_error}
 use Rattle.dm_base.specs.Laws.{CerIsSpelled, CeaIsSpelled, DprIsSpelled, AnswerIsSpelled, DprIsOwn, DpaIsOwn}
 use Rattle.dm_machine.specs.declared.inputs.Word.{Word}
 use Rattle.dm_machine.specs.declared.inputs.Word.TheVariants.{Dpr, Dpa, Cea, CeaFailed}

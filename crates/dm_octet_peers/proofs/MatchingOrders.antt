@@ -1,5 +1,5 @@
 -- What is sent on a connection goes by what it is ordered, and it is closed where it is ordered so.
-use Rattle.std.proofs.Common.{◌≡◌, ℕ, ◌==◌, Bool, true, false, ◌||◌, Option, None, Some, List, [], ◌∷◌, ◌++◌, map}
+use Rattle.std.proofs.Common.{◌≡◌, ℕ, ◌==◌, Bool, true, false, ◌||◌, Option, None, List, [], ◌∷◌, ◌++◌, map}
 use Rattle.std.proofs.Common.{if◌then◌else◌, refl, sym, ap, ◌∙◌}
 use Rattle.dm_base.specs.Codes.{success}
 use Rattle.dm_base.specs.Built.{built_cer, built_dwr, built_dpr, built_cea, built_answer}

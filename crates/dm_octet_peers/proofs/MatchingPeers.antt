@@ -1,10 +1,9 @@
 -- Peers over octets match their answers at every event.
-use Rattle.std.proofs.Common.{◌≡◌, ◌⊎◌, inl, inr, ℕ, ◌==◌, Bool, true, false, not, ◌&&◌, ◌||◌, nat_eq, if◌then◌else◌}
-use Rattle.std.proofs.Common.{Option, None, Some, List, [], ◌∷◌, map, refl, sym, ap, subst, ◌∙◌, arith}
+use Rattle.std.proofs.Common.{◌≡◌, inl, ℕ, ◌==◌, Bool, true, false, not, ◌&&◌, ◌||◌, nat_eq, if◌then◌else◌}
+use Rattle.std.proofs.Common.{Option, None, Some, List, [], map, refl, sym, ap, subst, ◌∙◌}
 use Rattle.std.specs.Prelude.{is_none}
 use Rattle.std.specs.Option.{option_eq}
 use Rattle.std.proofs.lemmas.Bool.{and_parts, and_from, eqb-true}
-use Rattle.std.proofs.lemmas.Bool.Decides.{nat_tests}
 use Rattle.dm_wire.specs.declared.message.Header.{Header}
 use Rattle.dm_wire.specs.declared.message.Message.{Message}
 use Rattle.dm_wire.specs.Whole.{message_in}
@@ -16,9 +15,8 @@ use Rattle.dm_machine.specs.declared.outputs.Command.{Command}
 use Rattle.dm_machine.specs.Node.{Node, is_shaped}
 use Rattle.dm_machine.specs.Shape.{KeepsShape, EachStepKeepsShape}
 use Rattle.dm_machine.specs.Awaiting.{awaits_dpa, holds_cer, number_after}
-use Rattle.dm_machine.specs.Connection.{Hold, hold_of, orders_to}
+use Rattle.dm_machine.specs.Connection.{Hold, hold_of}
 use Rattle.dm_machine.specs.Connection as machine
-use Rattle.dm_machine.specs.Openings.{has_order}
 use Rattle.dm_machine.specs.Moves as moves
 use Rattle.dm_machine.specs.Moves.{machine_outcome}
 use Rattle.dm_peer.specs.declared.peer.Peer.{Peer}
@@ -28,14 +26,13 @@ use Rattle.dm_peer.specs.Events as told
 use Rattle.dm_peer.specs.Said.{Heard}
 use Rattle.dm_peer.specs.Sent.{actions_of}
 use Rattle.dm_peer.specs.After.{awaited_of, request_in, is_dpr, standing_after}
-use Rattle.dm_peer.specs.Acts.{Outcome, Moved, Refused, acts, input_of, outcome_of, standing_at, steps, turned, is_made}
+use Rattle.dm_peer.specs.Acts.{Outcome, acts, input_of, outcome_of, standing_at, steps, turned, is_made}
 use Rattle.dm_peer.specs.Acts.{is_unawaited, is_dropped}
 use Rattle.dm_peer.specs.Cases.{Hears, Case, step, drop, refusal, EachEventIsACase}
 use Rattle.dm_two_peers.specs.Machine.{conn}
 use Rattle.dm_two_peers.specs.Machine as two
 use Rattle.dm_two_peers.specs.Peers.{Event, ArrivedEvent, Action, ActsBy, concern_by, deed_in, closes_at}
-use Rattle.dm_two_peers.specs.Delivery.{IsCarrier}
-use Rattle.dm_two_peers.specs.Requests.{heard_on, sent_on, StillAwaits, waits, still, MatchesOn}
+use Rattle.dm_two_peers.specs.Requests.{heard_on, sent_on, waits, still, MatchesOn}
 use Rattle.dm_octet_peers.specs.Octets.{of_event, as_actions, as_reply, octet_peers}
 use Rattle.dm_octet_peers.specs.Talking.{is_standing}
 use Rattle.dm_octet_peers.specs.Matching.{has_fit, is_numbered_so, base_kind, is_good_dpr, is_good_dpa, octet_requests}

@@ -1,6 +1,5 @@
 -- What a connection is to a node goes by its state, and so do the numbers that are awaited.
 use Rattle.std.proofs.Common.{◌≡◌, ℕ, ◌==◌, Bool, true, false, not, ◌&&◌, ◌||◌, IsTrue, if◌then◌else◌, List, refl, subst}
-use Rattle.std.specs.Prelude.{⊤}
 use Rattle.dm_machine.specs.declared.state_name.State.{State}
 use Rattle.dm_machine.specs.declared.state_name.State.TheVariants as state
 use Rattle.dm_machine.specs.declared.connection.Conn.{Conn}

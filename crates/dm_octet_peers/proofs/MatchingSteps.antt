@@ -1,16 +1,14 @@
 -- At each step and each drop peers over octets match their answers.
 use Rattle.std.proofs.Common.{◌≡◌, ◌⊎◌, inl, inr, ℕ, ◌==◌, Bool, true, false, not, ◌&&◌, ◌||◌, nat_eq, if◌then◌else◌}
-use Rattle.std.proofs.Common.{Option, None, Some, List, [], ◌∷◌, ◌++◌, map, refl, sym, ap, subst, ◌∙◌}
+use Rattle.std.proofs.Common.{Option, None, Some, List, [], ◌∷◌, ◌++◌, refl, sym, ap, subst, ◌∙◌}
 use Rattle.std.specs.Prelude.{is_none}
 use Rattle.std.specs.List.{list_any}
 use Rattle.std.proofs.lemmas.Bool.{and_parts, eqb-true, or_cases, cases_Bool}
 use Rattle.dm_wire.specs.declared.message.Header.{Header}
 use Rattle.dm_wire.specs.declared.message.Message.{Message}
-use Rattle.dm_wire.specs.Whole.{message_in}
-use Rattle.dm_base.specs.Codes.{capabilities_exchange, disconnect_peer, success}
+use Rattle.dm_base.specs.Codes.{disconnect_peer, success}
 use Rattle.dm_base.specs.Fit.{is_number}
 use Rattle.dm_base.specs.Built.{built_cer, built_cea, built_dpr, built_answer}
-use Rattle.dm_machine.specs.declared.inputs.Input.TheVariants as input
 use Rattle.dm_machine.specs.declared.inputs.Word.{Word}
 use Rattle.dm_machine.specs.declared.inputs.Word.TheVariants as word
 use Rattle.dm_machine.specs.declared.outputs.Command.{Command}
@@ -19,7 +17,7 @@ use Rattle.dm_machine.specs.declared.state_name.State.{State}
 use Rattle.dm_machine.specs.declared.state_name.State.TheVariants as state
 use Rattle.dm_machine.specs.Node.{Node, is_shaped}
 use Rattle.dm_machine.specs.Forms.{EachShapeIsAForm}
-use Rattle.dm_machine.specs.Awaiting.{awaits_cea, awaits_dpa, holds_cer, number_after, waiting_after}
+use Rattle.dm_machine.specs.Awaiting.{awaits_cea, awaits_dpa, holds_cer}
 use Rattle.dm_machine.specs.Unread.{reads_first, ClosesUnread}
 use Rattle.dm_machine.specs.Connection.{Hold, ConnOrder, hold_of, orders_to, if_ordered, with_order, Concern, concern_of}
 use Rattle.dm_machine.specs.Connection as machine
@@ -32,7 +30,6 @@ use Rattle.dm_machine.specs.Moves as moves
 use Rattle.dm_machine.specs.Moves.{is_open, machine_outcome}
 use Rattle.dm_peer.specs.declared.peer.Peer.{Peer}
 use Rattle.dm_peer.specs.Configs.{wins}
-use Rattle.dm_peer.specs.Events as told
 use Rattle.dm_peer.specs.Events.{octets_in, cause_in}
 use Rattle.dm_peer.specs.Octets.{octets_of}
 use Rattle.dm_peer.specs.Said.{Heard, heard_in, word_heard, header_heard}
@@ -47,9 +44,8 @@ use Rattle.dm_two_peers.specs.Delivery.{is_closing_hold, is_unmade}
 use Rattle.dm_two_peers.specs.Requests.{heard_on, IsEnding, StillAwaits, AsksCea, Owes, waits, gives, AwaitsEnd, still, asks}
 use Rattle.dm_two_peers.specs.Requests.{HeardEnd, MatchesOn}
 use Rattle.dm_octet_peers.specs.Octets.{of_event}
-use Rattle.dm_octet_peers.specs.Talking.{is_standing}
 use Rattle.dm_octet_peers.specs.Matching.{has_fit, is_numbered_so, base_kind, is_good_dpr, is_good_dpa, waiting_number}
-use Rattle.dm_octet_peers.specs.Matching.{octet_requests, is_matching}
+use Rattle.dm_octet_peers.specs.Matching.{octet_requests}
 use Rattle.dm_octet_peers.proofs.Bases.{heard_header}
 use Rattle.dm_octet_peers.proofs.MatchingTable.{is_ack, is_start, is_stop, brings_word, brings_cer, brings_dpr, brings_dpa}
 use Rattle.dm_octet_peers.proofs.MatchingTable.{is_submit, is_silent, just_one, IsWell, step_is_well}
@@ -61,7 +57,7 @@ use Rattle.dm_octet_peers.proofs.Walking.{is_submit_event}
 use Rattle.dm_octet_peers.proofs.Matching.{if_is, both, not_is, not_both, self, made_by, taken_by, unheld_by, pending_by}
 use Rattle.dm_octet_peers.proofs.Matching.{silent_by, one_by, closing_state, open_state, new_number, old_number, same_yes}
 use Rattle.dm_octet_peers.proofs.Matching.{same_no, Spoken, deaf, wordless, speaks, Came, came_of, word_there, ack_there}
-use Rattle.dm_octet_peers.proofs.Matching.{start_there, stop_there, word_no_stop, spelled_passes, spelled_none, IsCerOf}
+use Rattle.dm_octet_peers.proofs.Matching.{start_there, stop_there, word_no_stop, spelled_passes, spelled_none}
 use Rattle.dm_octet_peers.proofs.Matching.{cer_parts, waits_number, waiting_parts}
 
 pub record StepLaws : Type 0 where

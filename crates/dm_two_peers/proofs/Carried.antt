@@ -9,8 +9,7 @@ use Rattle.dm_two_peers.specs.Machine.{conn, Node, LinkConcern, MakesLink, EndsL
 use Rattle.dm_two_peers.specs.Machine.{is_tie_held}
 use Rattle.dm_two_peers.specs.Links.{Side, A, B, flip, opens, LinkPhase, LinkPending, LinkUp, LinkCancelled, End, Fresh, Open, Shut}
 use Rattle.dm_two_peers.specs.Links.{Link, View}
-use Rattle.dm_two_peers.specs.Peers.{Event, StartEvent, StopEvent, TimeoutEvent, TickEvent, AckEvent, NackEvent, GoneEvent, SubmitEvent, ArrivedEvent, Action, Send}
-use Rattle.dm_two_peers.specs.Peers.{Close, Connect, Reply, ActsBy, Declines, Peers, concern_by, deed_in, sends_at}
+use Rattle.dm_two_peers.specs.Peers.{Event, ArrivedEvent, Action, Send, Close, Connect, Peers}
 use Rattle.dm_two_peers.specs.Peers as peers
 use Rattle.dm_two_peers.specs.Worlds.{World, peer_on}
 use Rattle.dm_two_peers.specs.Happens.{Happening, Loses, own_view}

@@ -2,10 +2,10 @@
 use Rattle.std.proofs.Common.{◌≡◌, ℕ, ◌==◌, Bool, true, false, ◌&&◌, ◌||◌, IsTrue, if◌then◌else◌, Option, Some, None}
 use Rattle.std.proofs.Common.{List, [], ◌∷◌, ◌++◌, slice_get, refl, ap, ◌∙◌, arith}
 use Rattle.std.specs.Prelude.{option_map}
-use Rattle.std.proofs.lemmas.Bool.{cases_Bool, and_parts, or_cases, eqb-true}
+use Rattle.std.proofs.lemmas.Bool.{and_parts, eqb-true}
 use Rattle.dm_two_peers.specs.Machine.{Node}
 use Rattle.dm_two_peers.specs.Links.{Side, A, B, flip, Link, View, link_of, by_side}
-use Rattle.dm_two_peers.specs.Peers.{Event, Action, Send, Close, Connect, Reply, ActsBy, Peers, concern_by}
+use Rattle.dm_two_peers.specs.Peers.{Action, Send, Close, Connect, Peers}
 use Rattle.dm_two_peers.specs.Peers as peers
 use Rattle.dm_two_peers.specs.Steps.{with_sent, with_close}
 use Rattle.dm_two_peers.specs.Worlds.{World, peer_on, with_peer, Put, PutMessage, Disconnect, change_at, takes_more, put_if}

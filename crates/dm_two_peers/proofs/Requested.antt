@@ -6,7 +6,7 @@ use Rattle.dm_machine.specs.Connection.{Hold, NotHeld, Pending, Made, Taken}
 use Rattle.dm_two_peers.specs.Machine.{LinkConcern, StartsLink, MakesLink}
 use Rattle.dm_two_peers.specs.Links.{End, Fresh}
 use Rattle.dm_two_peers.specs.Delivery.{is_closing_hold, is_unmade}
-use Rattle.dm_two_peers.specs.Requests.{Requests, IsEnding, StillAwaits, AsksCea, Owes, waits, gives, AwaitsEnd, still, asks}
+use Rattle.dm_two_peers.specs.Requests.{Requests, IsEnding, Owes, waits, gives, AwaitsEnd, still, asks}
 use Rattle.dm_two_peers.specs.Requests.{HeardEnd, MatchesOn}
 
 -- the CER of the number is under way to a fresh end, or waits for its CEA there, or the CEA is in front

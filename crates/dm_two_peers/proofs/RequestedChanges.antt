@@ -1,44 +1,32 @@
 -- Losses, restarts, pieces, and what comes to a shut end keep what is under way of the exchanges on each link.
-use Rattle.std.proofs.Common.{◌≡◌, ◌⊎◌, inl, inr, ℕ, ◌+◌, ◌==◌, Bool, true, false, not, ◌&&◌, if◌then◌else◌, nat_lt}
-use Rattle.std.proofs.Common.{Option, Some, None, List, [], ◌∷◌, ◌++◌, length, slice_get, refl, sym, ap, subst, ◌∙◌, arith}
+use Rattle.std.proofs.Common.{◌≡◌, ℕ, ◌==◌, Bool, true, false, not, ◌&&◌, if◌then◌else◌}
+use Rattle.std.proofs.Common.{Some, List, [], slice_get, refl, sym, ap, subst, ◌∙◌}
 use Rattle.std.proofs.lemmas.Bool.{and_parts, eqb-true}
-use Rattle.std.proofs.lemmas.Bool.Decides.{nat_tests}
-use Rattle.std.proofs.lemmas.Option.{slice_get-map, slice_get_within}
-use Rattle.dm_machine.specs.Connection.{Hold, hold_of}
-use Rattle.dm_two_peers.specs.Machine.{conn, LinkConcern, Elsewhere, MakesLink, FailsLink, EndsLink, HeardOnLink, concern_if_named}
-use Rattle.dm_two_peers.specs.Links.{Side, A, B, flip, opens, LinkPhase, LinkPending, LinkUp, LinkCancelled, End, Fresh, Open, Shut}
-use Rattle.dm_two_peers.specs.Links.{Mark, NoMark, Coming, Delivered, Link, View, view_of, by_side, new_link}
-use Rattle.dm_two_peers.specs.Peers.{Event, StartEvent, StopEvent, TimeoutEvent, TickEvent, AckEvent, NackEvent, GoneEvent, SubmitEvent, ArrivedEvent, Action, Reply}
-use Rattle.dm_two_peers.specs.Peers.{ActsBy, Declines, Peers, concern_by}
+use Rattle.std.proofs.lemmas.Option.{slice_get-map}
+use Rattle.dm_two_peers.specs.Machine.{conn, LinkConcern, Elsewhere, EndsLink, HeardOnLink}
+use Rattle.dm_two_peers.specs.Links.{Side, A, flip, opens, LinkPhase, LinkPending, LinkUp, LinkCancelled, Shut}
+use Rattle.dm_two_peers.specs.Links.{Mark, NoMark, Coming, Delivered, Link, View, view_of, by_side}
+use Rattle.dm_two_peers.specs.Peers.{Event, GoneEvent, ArrivedEvent, Peers, concern_by}
 use Rattle.dm_two_peers.specs.Steps.{marked, entered}
-use Rattle.dm_two_peers.specs.Worlds.{World, Put, Disconnect, put_if, peer_on, with_peer, with_links, change_at, enter}
-use Rattle.dm_two_peers.specs.Worlds.{perform, After, DoneWith, Ignored, NoLink, after_reply, tell, after_drop}
-use Rattle.dm_two_peers.specs.Happens.{Happening, Starts, Stops, TimesOut, Ticks, Restarts, Acks, Nacks, Delivers, Pieces}
-use Rattle.dm_two_peers.specs.Happens.{Loses, Submits, Next, NextMessage, NextDisconnect, NextNothing, next_in, comes}
-use Rattle.dm_two_peers.specs.Happens.{deliver_next, take_part, deliver_part, lost_link, are_shut, restarted}
-use Rattle.dm_two_peers.specs.Happens.{restart_links, if_up, if_pending, at_link, own_view, happens, world_after}
-use Rattle.dm_two_peers.specs.Follows.{IsMachine}
-use Rattle.dm_two_peers.specs.Facts.{Standing, turned_over, is_empty, is_sound_standing, is_up, is_shut, is_none}
+use Rattle.dm_two_peers.specs.Worlds.{World, Put, peer_on, with_peer, with_links, change_at, enter}
+use Rattle.dm_two_peers.specs.Worlds.{After, DoneWith, after_drop}
+use Rattle.dm_two_peers.specs.Happens.{take_part, lost_link, restarted, restart_links, own_view, world_after}
+use Rattle.dm_two_peers.specs.Facts.{Standing, turned_over, is_sound_standing, is_up, is_shut, is_none}
 use Rattle.dm_two_peers.specs.Requests.{Requests, AnswersMatch}
-use Rattle.dm_two_peers.proofs.Columns.{acted, words_at, is_closed_at, summed, phase_after, mark_after}
+use Rattle.dm_two_peers.proofs.Columns.{phase_after, mark_after}
 use Rattle.dm_two_peers.proofs.Every.{all_true, every_bool, every_tie, every_phase, every_end, every_mark, every_standing}
 use Rattle.dm_two_peers.proofs.Every.{at_standing}
-use Rattle.dm_two_peers.proofs.StandingSteps.{when, is_when, is_handed}
+use Rattle.dm_two_peers.proofs.StandingSteps.{when, is_when}
 use Rattle.dm_two_peers.proofs.StandingOthers.{closes_own}
-use Rattle.dm_two_peers.proofs.Views.{acted_summed}
-use Rattle.dm_two_peers.proofs.Stepped.{IsStart, entered_at, performed_at}
+use Rattle.dm_two_peers.proofs.Stepped.{IsStart, entered_at}
 use Rattle.dm_two_peers.proofs.Lists.{mapped_some, change_at-tested}
-use Rattle.dm_two_peers.proofs.StartKeeps.{appended_at}
 use Rattle.dm_two_peers.proofs.Happenings.{restarted_at}
-use Rattle.dm_two_peers.proofs.Keeps.{Hands}
-use Rattle.dm_two_peers.proofs.Events.{side_sound, hands_at}
-use Rattle.dm_two_peers.proofs.Comings.{standing_at, handed_heard, handed_ended, next_is_message}
-use Rattle.dm_two_peers.proofs.Comings.{next_is_disconnect, opens_self}
-use Rattle.dm_two_peers.proofs.Comings as comings
+use Rattle.dm_two_peers.proofs.Events.{side_sound}
+use Rattle.dm_two_peers.proofs.Comings.{standing_at}
 use Rattle.dm_two_peers.proofs.Mirrors.{view_own}
 use Rattle.dm_two_peers.proofs.Carried.{IsCarrying}
-use Rattle.dm_two_peers.proofs.RequestedViews.{IsUnmarked, AskBoth, passes, step_asks, never_closed}
-use Rattle.dm_two_peers.proofs.RequestedTold.{AskAt, AllAsk, from_side, from_links, turn_of_step, told_asks}
+use Rattle.dm_two_peers.proofs.RequestedViews.{IsUnmarked, never_closed}
+use Rattle.dm_two_peers.proofs.RequestedTold.{AskAt, AllAsk, from_side, from_links}
 
 -- where an end is shut, a disconnect is in the direction from it
 abbrev shut_marks : Standing → Bool

@@ -1,26 +1,25 @@
 -- Every happening keeps what is under way of the exchanges on each link.
-use Rattle.std.proofs.Common.{◌≡◌, ◌⊎◌, inl, inr, ℕ, ◌+◌, ◌==◌, Bool, true, false, if◌then◌else◌, nat_lt}
+use Rattle.std.proofs.Common.{◌≡◌, inl, inr, ℕ, ◌+◌, ◌==◌, Bool, true, false, if◌then◌else◌, nat_lt}
 use Rattle.std.proofs.Common.{Option, Some, None, List, [], ◌∷◌, ◌++◌, length, slice_get, refl, sym, ap, subst, ◌∙◌, arith}
 use Rattle.std.proofs.lemmas.Bool.Decides.{nat_tests}
 use Rattle.std.proofs.lemmas.Option.{slice_get_within}
 use Rattle.dm_machine.specs.Connection.{hold_of}
-use Rattle.dm_two_peers.specs.Machine.{conn, LinkConcern, Elsewhere, StartsLink, MakesLink, FailsLink, EndsLink, HeardOnLink}
+use Rattle.dm_two_peers.specs.Machine.{conn, Elsewhere, StartsLink, MakesLink, FailsLink, EndsLink, HeardOnLink}
 use Rattle.dm_two_peers.specs.Links.{Side, A, B, flip, opens, LinkPhase, LinkPending, LinkUp, LinkCancelled, End, Fresh, Open, Shut}
-use Rattle.dm_two_peers.specs.Links.{Coming, Link, View, by_side, new_link}
+use Rattle.dm_two_peers.specs.Links.{Coming, Link, by_side, new_link}
 use Rattle.dm_two_peers.specs.Peers.{Event, StartEvent, StopEvent, TimeoutEvent, TickEvent, AckEvent, NackEvent, GoneEvent, SubmitEvent, ArrivedEvent, Action, Reply}
 use Rattle.dm_two_peers.specs.Peers.{ActsBy, Declines, Peers, concern_by}
-use Rattle.dm_two_peers.specs.Worlds.{World, Put, Disconnect, put_if, peer_on, with_peer, with_links, change_at}
-use Rattle.dm_two_peers.specs.Worlds.{perform, After, DoneWith, Ignored, NoLink, after_reply, tell}
+use Rattle.dm_two_peers.specs.Worlds.{World, Disconnect, put_if, peer_on, perform, After, Ignored, after_reply, tell}
 use Rattle.dm_two_peers.specs.Happens.{Happening, Starts, Stops, TimesOut, Ticks, Restarts, Acks, Nacks, Delivers, Pieces}
 use Rattle.dm_two_peers.specs.Happens.{Loses, Submits, Next, NextMessage, NextDisconnect, NextNothing, next_in, comes}
-use Rattle.dm_two_peers.specs.Happens.{deliver_next, deliver_part, lost_link, are_shut, restart_puts}
-use Rattle.dm_two_peers.specs.Happens.{if_up, if_pending, at_link, own_view, happens, world_after}
+use Rattle.dm_two_peers.specs.Happens.{deliver_next, deliver_part, are_shut, restart_puts}
+use Rattle.dm_two_peers.specs.Happens.{if_up, if_pending, at_link, own_view, happens}
 use Rattle.dm_two_peers.specs.Facts.{is_empty, is_shut}
 use Rattle.dm_two_peers.specs.Requests.{Requests, AnswersMatch, MatchesOn}
 use Rattle.dm_two_peers.proofs.Columns.{acted, words_at, is_closed_at, summed, phase_after}
 use Rattle.dm_two_peers.proofs.StandingSteps.{is_handed}
 use Rattle.dm_two_peers.proofs.Views.{acted_summed}
-use Rattle.dm_two_peers.proofs.Stepped.{IsStart, performed_at}
+use Rattle.dm_two_peers.proofs.Stepped.{performed_at}
 use Rattle.dm_two_peers.proofs.Lists.{mapped_some}
 use Rattle.dm_two_peers.proofs.StartKeeps.{appended_at}
 use Rattle.dm_two_peers.proofs.Keeps.{Hands}
@@ -30,7 +29,7 @@ use Rattle.dm_two_peers.proofs.Comings.{next_is_disconnect, opens_self}
 use Rattle.dm_two_peers.proofs.Comings as comings
 use Rattle.dm_two_peers.proofs.Mirrors.{view_own}
 use Rattle.dm_two_peers.proofs.Carried.{IsCarrying}
-use Rattle.dm_two_peers.proofs.RequestedViews.{IsUnmarked, passes, step_asks}
+use Rattle.dm_two_peers.proofs.RequestedViews.{passes, step_asks}
 use Rattle.dm_two_peers.proofs.RequestedTold.{from_side, turn_of_step, told_asks}
 use Rattle.dm_two_peers.proofs.RequestedChanges.{All, At, KeepsAll, part_asks, loss_asks, word_drops, end_drops}
 use Rattle.dm_two_peers.proofs.RequestedChanges.{restart_asks}

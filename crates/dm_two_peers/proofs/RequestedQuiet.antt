@@ -1,6 +1,6 @@
 -- Where nothing is under way, two peers that match their answers are both Closed, or both open on one link.
 use Rattle.std.proofs.Common.{IsTrue, ◌≡◌, ◌⊎◌, inl, inr, ℕ, ◌==◌, Bool, true, false, not, ◌&&◌, if◌then◌else◌, Option}
-use Rattle.std.proofs.Common.{Some, None, IfSome, List, [], ◌∷◌, ◌++◌, slice_get, refl, sym, ap, subst, ◌∙◌, arith}
+use Rattle.std.proofs.Common.{Some, None, IfSome, List, [], ◌∷◌, slice_get, refl, sym, ap, subst, ◌∙◌, arith}
 use Rattle.std.specs.List.{list_any}
 use Rattle.std.proofs.lemmas.Bool.{and_parts}
 use Rattle.std.proofs.lemmas.Bool.Decides.{nat_tests}
@@ -9,8 +9,7 @@ use Rattle.dm_machine.specs.declared.state_name.State.{State}
 use Rattle.dm_machine.specs.declared.state_name.State.TheVariants as state
 use Rattle.dm_machine.specs.Connection.{Hold, NotHeld, Made, Taken, hold_as, hold_in, hold_of}
 use Rattle.dm_two_peers.specs.Machine.{conn, Role, Initiated, Accepted, Node, held_as, is_same_role, is_open, tie_of, tie_as, is_tie_held}
-use Rattle.dm_two_peers.specs.Machine.{closed_node}
-use Rattle.dm_two_peers.specs.Links.{Side, A, B, flip, opens, Mark, NoMark, Coming, Delivered, End, Link, view_of}
+use Rattle.dm_two_peers.specs.Links.{Side, A, B, opens, Mark, NoMark, Coming, Delivered, End, Link, view_of}
 use Rattle.dm_two_peers.specs.Peers.{Peers}
 use Rattle.dm_two_peers.specs.Worlds.{World, peer_on, After, DoneWith, Ignored, NoLink}
 use Rattle.dm_two_peers.specs.Happens.{Happening, own_view, happens, world_after, RunEnd, ran_on, run_from, run}
@@ -34,13 +33,13 @@ use Rattle.dm_two_peers.proofs.Events.{side_sound}
 use Rattle.dm_two_peers.proofs.Comings.{standing_at}
 use Rattle.dm_two_peers.proofs.OpenNodes.{held_there}
 use Rattle.dm_two_peers.proofs.Depths.{all_at}
-use Rattle.dm_two_peers.proofs.Sharing.{still_at, not_pending, seen_both, shares}
+use Rattle.dm_two_peers.proofs.Sharing.{still_at, not_pending, seen_both}
 use Rattle.dm_two_peers.proofs.Happenings.{happens_sound}
 use Rattle.dm_two_peers.proofs.BothPeers.{happening_both}
 use Rattle.dm_two_peers.proofs.Joining.{quiet_is_joined_proof}
 use Rattle.dm_two_peers.proofs.Carried.{IsCarrying, carrier, same_left, up_is}
 use Rattle.dm_two_peers.proofs.Requested.{Awaits, asked, kept, given, Asks}
-use Rattle.dm_two_peers.proofs.RequestedViews.{IsUnmarked, AskEach}
+use Rattle.dm_two_peers.proofs.RequestedViews.{IsUnmarked}
 use Rattle.dm_two_peers.proofs.RequestedHappenings.{Asked, happening_asks}
 
 -- to an end that is open no disconnect was delivered

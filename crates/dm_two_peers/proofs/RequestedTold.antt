@@ -1,23 +1,21 @@
 -- What a side is told keeps what is under way of the exchanges on each link.
-use Rattle.std.proofs.Common.{IsTrue, ◌≡◌, ◌⊎◌, inl, inr, ℕ, ◌==◌, Bool, true, false, not, ◌&&◌, ◌||◌, if◌then◌else◌}
-use Rattle.std.proofs.Common.{Option, Some, None, List, [], ◌∷◌, ◌++◌, map, length, slice_get, refl, sym, ap, subst, ◌∙◌}
+use Rattle.std.proofs.Common.{◌≡◌, ℕ, ◌==◌, Bool, true, false, not, ◌&&◌, ◌||◌, if◌then◌else◌}
+use Rattle.std.proofs.Common.{Option, Some, None, List, [], ◌∷◌, slice_get, refl, sym, ap, subst, ◌∙◌}
 use Rattle.std.proofs.lemmas.Bool.{and_parts, eqb-true}
 use Rattle.dm_machine.specs.Connection.{Hold, hold_of}
 use Rattle.dm_machine.specs.Connection as hold
 use Rattle.dm_two_peers.specs.Machine.{Conn, conn, LinkConcern, Elsewhere, MakesLink, FailsLink, EndsLink, HeardOnLink, tie_of, tie_as}
 use Rattle.dm_two_peers.specs.Machine.{is_tie_held}
-use Rattle.dm_two_peers.specs.Links.{Side, A, B, flip, opens, LinkPhase, LinkUp, Link, View, view_of, by_side}
+use Rattle.dm_two_peers.specs.Links.{Side, A, B, flip, opens, Link, View, view_of, by_side}
 use Rattle.dm_two_peers.specs.Peers.{Event, StartEvent, StopEvent, TimeoutEvent, TickEvent, AckEvent, NackEvent, GoneEvent, SubmitEvent, ArrivedEvent, Action, Send}
 use Rattle.dm_two_peers.specs.Peers.{Close, Connect, Reply, ActsBy, Declines, Peers, concern_by}
 use Rattle.dm_two_peers.specs.Peers as peers
 use Rattle.dm_two_peers.specs.Steps.{settled_view}
 use Rattle.dm_two_peers.specs.Worlds.{World, peer_on, with_peer, with_links, enter, perform, settle, after_reply, tell}
 use Rattle.dm_two_peers.specs.Happens.{own_view, world_after}
-use Rattle.dm_two_peers.specs.Facts.{Standing, turned_over, is_empty, is_sound_standing, is_pending, is_up, is_shut}
-use Rattle.dm_two_peers.specs.Facts.{is_none}
-use Rattle.dm_two_peers.specs.Delivery.{is_unmade}
+use Rattle.dm_two_peers.specs.Facts.{Standing, turned_over, is_empty, is_sound_standing, is_pending}
 use Rattle.dm_two_peers.specs.Requests.{Requests, heard_on, sent_on, MatchesOn, AnswersMatch}
-use Rattle.dm_two_peers.proofs.Columns.{words_at, is_closed_at, stepped, summed, entered_columns}
+use Rattle.dm_two_peers.proofs.Columns.{words_at, is_closed_at, stepped}
 use Rattle.dm_two_peers.proofs.Every.{all_true, every_bool, every_tie, every_phase, every_end, every_mark, every_standing}
 use Rattle.dm_two_peers.proofs.Every.{at_standing}
 use Rattle.dm_two_peers.proofs.StandingSteps.{when, is_when, is_handed}
@@ -26,7 +24,6 @@ use Rattle.dm_two_peers.proofs.Checks.{step_at}
 use Rattle.dm_two_peers.proofs.Views.{acted_entered}
 use Rattle.dm_two_peers.proofs.Stepped.{IsStart, at_start, stepped_at}
 use Rattle.dm_two_peers.proofs.Lists.{mapped_some}
-use Rattle.dm_two_peers.proofs.Pairs.{mirror, links_after}
 use Rattle.dm_two_peers.proofs.Keeps.{Hands}
 use Rattle.dm_two_peers.proofs.Events.{side_sound}
 use Rattle.dm_two_peers.proofs.Comings.{standing_at}

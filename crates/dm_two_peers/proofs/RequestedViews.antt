@@ -1,17 +1,17 @@
 -- A step of one side keeps what is under way of the exchanges, as both sides see the link.
-use Rattle.std.proofs.Common.{◌≡◌, ℕ, Bool, true, false, not, ◌&&◌, Option, Some, None, List, [], ◌∷◌, ◌++◌, refl, sym}
+use Rattle.std.proofs.Common.{◌≡◌, Bool, true, false, Option, Some, None, List, [], ◌∷◌, ◌++◌, refl, sym}
 use Rattle.std.proofs.Common.{ap, subst, ◌∙◌}
 use Rattle.dm_machine.specs.Connection.{Hold, NotHeld, Pending}
-use Rattle.dm_two_peers.specs.Machine.{LinkConcern, Elsewhere, StartsLink, MakesLink, FailsLink, EndsLink, HeardOnLink}
-use Rattle.dm_two_peers.specs.Links.{LinkPhase, LinkUp, LinkCancelled, End, Fresh, Open, Shut, Mark, NoMark, Coming, Delivered}
+use Rattle.dm_two_peers.specs.Machine.{LinkConcern, Elsewhere, MakesLink, FailsLink, EndsLink, HeardOnLink}
+use Rattle.dm_two_peers.specs.Links.{LinkPhase, LinkUp, LinkCancelled, Fresh, Open, Mark, NoMark, Coming, Delivered}
 use Rattle.dm_two_peers.specs.Links as links
 use Rattle.dm_two_peers.specs.Links.{View}
 use Rattle.dm_two_peers.specs.Steps.{queued, own_settled, settled_view}
 use Rattle.dm_two_peers.specs.Delivery.{is_unmade}
 use Rattle.dm_two_peers.specs.Requests.{Requests, MatchesOn}
-use Rattle.dm_two_peers.proofs.Columns.{entered_columns, phase_at, outgoing_mark_at, phase_after, mark_after, summed}
+use Rattle.dm_two_peers.proofs.Columns.{entered_columns, phase_after, mark_after, summed}
 use Rattle.dm_two_peers.proofs.Pairs.{mirror}
-use Rattle.dm_two_peers.proofs.Requested.{Asks, HeardFrom, nothing, front, own_asks, acked_asks, other_asks}
+use Rattle.dm_two_peers.proofs.Requested.{Asks, nothing, front, own_asks, acked_asks, other_asks}
 
 -- a link that is up and has no disconnect
 pub record IsUnmarked {M : Type 0} (v : View M) : Type 0 where
