@@ -5,8 +5,7 @@ use Rattle.dm_machine.specs.declared.state_name.State.{State}
 use Rattle.dm_machine.specs.declared.state_name.State.TheVariants.{Closed, WaitConnAck, WaitICea, WaitConnAckElect}
 use Rattle.dm_machine.specs.declared.state_name.State.TheVariants.{WaitReturns, ROpen, IOpen, Closing}
 use Rattle.dm_machine.specs.Node.{is_held_in, is_count_of}
-use Rattle.dm_machine.specs.Connection.{Hold, NotHeld, Pending, OpenAsI, OpenAsR, ClosingAsI, ClosingAsR, hold_as}
-use Rattle.dm_machine.specs.Connection.{hold_in}
+use Rattle.dm_machine.specs.Connection.{Hold, NotHeld, Pending, OpenAsI, OpenAsR, ClosingAsI, ClosingAsR, hold_in}
 use Rattle.dm_machine.specs.Connection as machine
 use Rattle.dm_two_peers.specs.Machine.{conn, Conn, Role, Initiated, Accepted, Node, held_as, is_shaped, tie_as, tie_of}
 use Rattle.dm_two_peers.specs.Machine.{is_tie_held}

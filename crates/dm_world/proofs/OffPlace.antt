@@ -1,12 +1,12 @@
 -- An event that its state doesn't take is refused.
-use Rattle.std.proofs.Common.{◌≡◌, Bool, true, false, Option, None, Some, refl, sym, ap, ◌∙◌}
+use Rattle.std.proofs.Common.{◌≡◌, false, None, Some, refl, ◌∙◌}
 use Rattle.std.specs.Prelude.{IsTrue}
 use Rattle.dm_machine.specs.Node.{is_shaped}
 use Rattle.dm_machine.specs.declared.state_name.State.{State}
 use Rattle.dm_machine.specs.declared.state_name.State.TheVariants as state
-use Rattle.dm_peer.specs.Acts.{Outcome, Moved, Refused, acts, can_submit}
+use Rattle.dm_peer.specs.Acts.{Outcome, Moved, Refused, acts}
 use Rattle.dm_peer.specs.Events.{PeerEvent, Start, Stop, Timeout, Tick, Ack, Nack, Arrived, Gone, Submit}
-use Rattle.dm_peer.specs.Refusing.{refusal_of, start_refusal, open_refusal, submit_refusal, fault_at, RefusesByRule}
+use Rattle.dm_peer.specs.Refusing.{refusal_of, fault_at, RefusesByRule}
 use Rattle.dm_peer.specs.declared.fault.PeerFault.{PeerFault}
 use Rattle.dm_peer.specs.declared.fault.PeerFault.TheVariants.{NotClosed, NotOpen}
 use Rattle.dm_peer.specs.declared.peer.Peer.{Peer}
@@ -17,7 +17,6 @@ use Rattle.dm_world.specs.declared.pair.Pair.{Pair}
 use Rattle.dm_world.specs.Asking.{peer_of, IsAnswerOf}
 use Rattle.dm_world.specs.InPlace.{is_in_place}
 use Rattle.dm_world.specs.Views.{as_world}
-use Rattle.dm_wire.specs.Whole.{message_in}
 
 -- it has a rule that refuses it
 ruled : (s : State) (e : PeerEvent) → is_in_place s e ≡ false → (f : PeerFault) × (refusal_of s e ≡ Some f)

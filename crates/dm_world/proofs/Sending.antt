@@ -5,10 +5,9 @@ use Rattle.std.proofs.lemmas.Bool.Decides.{nat_tests}
 use Rattle.dm_machine.specs.declared.inputs.Word.{Word}
 use Rattle.dm_machine.specs.declared.outputs.Command.{Command}
 use Rattle.dm_machine.specs.declared.outputs.Command.TheVariants as command
-use Rattle.dm_machine.specs.Moves.{machine_outcome}
 use Rattle.dm_machine.specs.Moves as moves
 use Rattle.dm_machine.specs.Connection as machine
-use Rattle.dm_machine.specs.Connection.{Hold, AtConnection, if_ordered, order_to, with_order, orders_to, hold_of}
+use Rattle.dm_machine.specs.Connection.{Hold, AtConnection, if_ordered, with_order, orders_to, hold_of}
 use Rattle.dm_machine.specs.Openings.{LeavesOthersAlone, is_hold, names_it}
 use Rattle.dm_machine.specs.Shape.{KeepsShape}
 use Rattle.dm_peer.specs.declared.actions.Action as declared_action

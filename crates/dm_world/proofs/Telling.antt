@@ -11,8 +11,7 @@ use Rattle.dm_peer.specs.Events as told
 use Rattle.dm_two_peers.specs.Machine.{Conn, conn}
 use Rattle.dm_two_peers.specs.Links.{Side, A, B, flip, Link, new_link}
 use Rattle.dm_two_peers.specs.Peers.{Event, StartEvent, ActsBy, Declines}
-use Rattle.dm_two_peers.specs.Worlds.{World, peer_on, with_peer, Put, enter, perform, settle, puts_of, puts_at_entry}
-use Rattle.dm_two_peers.specs.Worlds.{After, DoneWith, Ignored, after_reply}
+use Rattle.dm_two_peers.specs.Worlds.{peer_on, with_peer, enter, perform, puts_of, puts_at_entry, DoneWith, after_reply}
 use Rattle.dm_two_peers.specs.Worlds as worlds
 use Rattle.dm_world.specs.declared.fault.Effect as effect_of
 use Rattle.dm_world.specs.declared.fault.Effect.TheVariants as effect

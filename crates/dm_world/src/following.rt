@@ -1,12 +1,9 @@
 //! An event that a side's peer took is followed on the links: it reaches the one that it names, and what the peer asks
 //! for is done.
-ghost use Rattle.std.specs.Prelude.{◌≡◌, ℕ, ◌+◌, IsTrue, false, [], ◌∷◌, length, map};
+ghost use Rattle.std.specs.Prelude.{◌≡◌, ℕ, ◌+◌, IsTrue, false, [], ◌∷◌};
 ghost use Rattle.dm_peer.specs.Events.{event_told};
-ghost use Rattle.dm_two_peers.specs.Links.{by_side};
-ghost use Rattle.dm_two_peers.specs.Machine.{HeardOnLink};
 ghost use Rattle.dm_two_peers.specs.Peers.{deed_in, sends_at};
-ghost use Rattle.dm_two_peers.specs.Steps.{settled_view};
-ghost use Rattle.dm_two_peers.specs.Worlds.{enter, perform, change_at};
+ghost use Rattle.dm_two_peers.specs.Worlds.{enter, perform};
 ghost use Rattle.dm_octet_peers.specs.Frames.{SendFrames};
 ghost use Rattle.dm_octet_peers.specs.Octets.{as_action, as_actions, as_event};
 ghost use Rattle.dm_world.specs.Rooms.{HasRoom, HasRoomFor, CanSend, named};

@@ -1,5 +1,5 @@
 //! The connect of a link that comes about, which makes an end, and a Restart, which goes over the ends that were made.
-ghost use Rattle.std.specs.Prelude.{◌≡◌, ◌++◌, IfOk, IfErr, OnErr, slice_get};
+ghost use Rattle.std.specs.Prelude.{◌≡◌, IfOk, IfErr, OnErr, slice_get};
 ghost use Rattle.dm_two_peers.specs.Facts.{IsSoundWorld};
 ghost use Rattle.dm_two_peers.specs.Happens.{happens, Acks, restart_links};
 ghost use Rattle.dm_two_peers.specs.Worlds.{with_peer, peer_on};
