@@ -1,10 +1,9 @@
 -- Which dictionary judges a message.
-use Rattle.std.proofs.Common.{◌≡◌, ℕ, Bool, true, false, Option, None, Some, if◌then◌else◌, refl, sym, ◌∙◌, ap}
-use Rattle.dm_wire.specs.declared.message.Header.{Header}
+use Rattle.std.proofs.Common.{◌≡◌, Bool, true, false, if◌then◌else◌, refl, sym, ◌∙◌, ap}
 use Rattle.dm_tables.specs.Definitions.{Definitions}
 use Rattle.dm_tables.specs.Base.{base_definitions}
 use Rattle.dm_base.specs.Commands.{is_base_command}
-use Rattle.dm_dictionaries.specs.Choosing.{Choices, own_or_other, definitions_of, judging}
+use Rattle.dm_dictionaries.specs.Choosing.{own_or_other, definitions_of}
 use Rattle.dm_dictionaries.specs.Laws.{BaseCommandsGoByBase, OneAloneJudgesAll, OwnJudgesItsApplication}
 
 chosen_base : (b : Bool) (base other : Definitions) → b ≡ true → (if b then base else other) ≡ base

@@ -1,8 +1,7 @@
 //! The date and the time of day of a time (RFC 3339, 5.6).
-ghost use Rattle.std.specs.Prelude.{◌≡◌, ◌++◌, ◌%◌, ◌^◌, IsTrue, codes, OnOk};
-ghost use Rattle.std.specs.Fmt.{signed_decimal};
+ghost use Rattle.std.specs.Prelude.{◌≡◌, ◌++◌, IsTrue, OnOk};
 ghost use Rattle.std.specs.String.{string_bytes};
-ghost use Rattle.dm_value.specs.Dates.{two_digits, from_1900, utc_at};
+ghost use Rattle.dm_value.specs.Dates.{two_digits, utc_at};
 ghost use Rattle.dm_trace.specs.Dates.{since_1900, is_dated, full_date, time_of_day, date_and_time};
 
 use dm_text::put_decimal;

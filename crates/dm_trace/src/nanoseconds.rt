@@ -1,9 +1,8 @@
 //! Times in nanoseconds, and the time from one to another.
-ghost use Rattle.std.specs.Prelude.{◌≡◌, ◌^◌, ◌<◌, ◌≤◌, ◌/◌, ◌++◌, ◌≤ℤ◌, ◌-ℤ◌, pos, neg_ℤ, codes, OnOk};
+ghost use Rattle.std.specs.Prelude.{◌≡◌, ◌^◌, ◌<◌, ◌≤◌, ◌++◌, ◌≤ℤ◌, ◌-ℤ◌, pos, neg_ℤ, OnOk};
 ghost use Rattle.std.specs.Option.{SomeIff};
 ghost use Rattle.std.specs.String.{string_bytes};
 ghost use Rattle.dm_capture.specs.Times.{units_per_second};
-ghost use Rattle.dm_trace.specs.Digits.{last_digits};
 ghost use Rattle.dm_trace.specs.Elapsed.{nanoseconds_of, instant_of, seconds_text, signed_seconds_text, elapsed_text};
 
 use crate::digits::put_last_digits;

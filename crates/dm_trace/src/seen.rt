@@ -1,6 +1,5 @@
 //! When, between whom and in which packet a message was seen.
-ghost use Rattle.std.specs.Prelude.{◌≡◌, ◌++◌, codes, OnOk};
-ghost use Rattle.std.specs.Fmt.{decimal};
+ghost use Rattle.std.specs.Prelude.{◌≡◌, ◌++◌, OnOk};
 ghost use Rattle.std.specs.String.{string_bytes};
 ghost use Rattle.dm_trace.specs.Fronts.{transport_word, ends_text, place_text, front_text};
 
