@@ -1,10 +1,9 @@
 //! What the control bits of a segment do to both directions of its connection (RFC 9293, 3.5 and 3.6).
-ghost use Rattle.std.specs.Prelude.{◌≡◌, length, OnOk, OnErr};
+ghost use Rattle.std.specs.Prelude.{◌≡◌, OnOk, OnErr};
 ghost use Rattle.dm_flows.specs.Connections.{is_unended, is_same_syn, is_answering_syn, after_syn};
 ghost use Rattle.dm_flows.specs.Connections.{controlled, first_number};
 ghost use Rattle.dm_flows.specs.Connections.{HearsSegment, LeavesSegment};
 ghost use Rattle.dm_flows.specs.Tcps.{segment_seen};
-ghost use Rattle.dm_flows.specs.Windows.{sequence_behind};
 
 use crate::closing::Closing;
 use crate::flow::{Flow, number_behind};

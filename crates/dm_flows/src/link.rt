@@ -1,5 +1,5 @@
 //! What stands in front of an IP packet on a link.
-ghost use Rattle.std.specs.Prelude.{◌≡◌, ◌≤◌, length, drop, IfOk, IfErr};
+ghost use Rattle.std.specs.Prelude.{◌≡◌, ◌≤◌, length, IfOk, IfErr};
 ghost use Rattle.dm_flows.specs.Links.{link_kind, HoldsIp, HasLinkFault, IsTyped, IsNoneTyped};
 ghost use Rattle.dm_flows.specs.Links.{IsBehind, IsNoneBehind};
 

@@ -1,5 +1,5 @@
 //! SCTP packets (RFC 9260, 3.1).
-ghost use Rattle.std.specs.Prelude.{◌≡◌, ◌≤◌, length, IfOk, IfErr};
+ghost use Rattle.std.specs.Prelude.{IfOk, IfErr};
 ghost use Rattle.dm_flows.specs.Ips.{carried_of};
 ghost use Rattle.dm_flows.specs.Sctps.{sctp_seen, CarriesSctp, CarriesNoSctp, IsSctp, IsNoSctp};
 

@@ -1,5 +1,5 @@
 //! DATA chunks of an SCTP packet (RFC 9260, 3.2 and 3.3.1).
-ghost use Rattle.std.specs.Prelude.{◌≡◌, ◌<◌, ◌≤◌, ℕ, length, IfSome, IfNone, IsTrue};
+ghost use Rattle.std.specs.Prelude.{◌≡◌, ◌<◌, ◌≤◌, ℕ, length, IfSome, IfNone};
 ghost use Rattle.dm_flows.specs.Sctps.{chunk_length, has_flag, behind_chunk, data_chunk, data_seen, IsData};
 ghost use Rattle.dm_flows.specs.Sctps.{IsWholeChunk, HasData, HasNoData};
 

@@ -1,6 +1,6 @@
 //! EtherTypes, and the tags in front of them.
-ghost use Rattle.std.specs.Prelude.{◌≡◌, ◌⊎◌, ◌↔◌, ℕ, List, IsTrue, IfSome, IfNone};
-ghost use Rattle.dm_flows.specs.Links.{IsTagType, HasTags, EndsInTags};
+ghost use Rattle.std.specs.Prelude.{ℕ, IfSome, IfNone};
+ghost use Rattle.dm_flows.specs.Links.{HasTags, EndsInTags};
 
 use byteorder::{BigEndian, ByteOrder};
 

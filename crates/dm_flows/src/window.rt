@@ -1,5 +1,5 @@
 //! One direction of a connection: octets by number, handed out in order (RFC 9293, 3.4).
-ghost use Rattle.std.specs.Prelude.{◌≡◌, ◌≤◌, ◌++◌, ℕ, [], length, None, IfErr, OnOk, OnErr};
+ghost use Rattle.std.specs.Prelude.{◌≡◌, ◌≤◌, ◌++◌, [], length, None, IfErr, OnOk, OnErr};
 ghost use Rattle.dm_flows.specs.Windows.{slot, known_octets, place_ahead, passed_of, lies_far_behind, arrival_from};
 ghost use Rattle.dm_flows.specs.Windows.{IsTooFar, TakesOctets, HandsTo, HandsStraight, TakesThrough, LeavesThrough};
 
